@@ -1,3 +1,5 @@
+pub mod Covers
+pub mod Fresh
 pub mod Later
 pub mod Left
 pub mod Sizes
