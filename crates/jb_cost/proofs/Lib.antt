@@ -1,3 +1,5 @@
+pub mod Ceilings
+pub mod Costs
 pub mod Covers
 pub mod Fresh
 pub mod Later
