@@ -5,3 +5,4 @@ pub mod Fresh
 pub mod Later
 pub mod Left
 pub mod Sizes
+pub mod Worst
