@@ -127,8 +127,12 @@ mod tests {
         words.put(5, Word::Free)?;
         words.put(7, Word::Copy(Payload::of(rt.alloc(), b"abcd")?))?;
         assert_eq!(rt; words.len(), 2);
-        let [(5, Word::Free), (7, Word::Copy(payload))] = words.entries() else {
-            panic!(rt; "the homes rise, and 7 has its last word");
+        let [(first, _), (second, _)] = words.entries() else {
+            panic!(rt; "two homes have a word");
+        };
+        assert_eq!(rt; (*first, *second), (5, 7));
+        let Some(Word::Copy(payload)) = words.get(7) else {
+            panic!(rt; "the last word of 7 is a copy");
         };
         let mut block = [9, 9, 9, 9];
         assert_eq!(rt; payload.len(), 4);
