@@ -1,0 +1,3 @@
+pub mod Cost
+pub mod Footprint
+pub mod Met

@@ -1,0 +1,5 @@
+pub mod Padded
+pub mod Placed
+pub mod Size
+pub mod Word
+pub mod Words
