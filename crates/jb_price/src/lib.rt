@@ -2,5 +2,7 @@
 #![tactic(auto)]
 
 mod certificate;
+mod print;
 
 pub use certificate::{Cert, CertAnswer};
+pub use print::print_cert;
