@@ -1,5 +1,5 @@
 -- The parts of a text, which is a list of bytes: its lines, its words, and the numbers in them.
-use Rattle.std.specs.Prelude.{ℕ, ◌+◌, ◌-◌, ◌*◌, ◌^◌, ◌==◌, ◌&&◌, nat_lt, if◌then◌else◌, List, [], ◌∷◌, length, take, drop, slice_index, Option, Some, None}
+use Rattle.std.specs.Prelude.{◌≡◌, ℕ, ◌<◌, ◌≤◌, ◌+◌, ◌-◌, ◌*◌, ◌^◌, ◌==◌, ◌&&◌, nat_lt, if◌then◌else◌, List, [], ◌∷◌, length, take, drop, slice_index, Option, Some, None}
 use Rattle.std.specs.Char.{is_ascii_digit}
 use Rattle.std.specs.Str.{bytes_eq}
 
@@ -27,6 +27,17 @@ lines (b ∷ bs) = if b == 10 then [] ∷ lines bs else grow b (lines bs)
 unfoldable pub words : List ℕ → List (List ℕ)
 words [] = [] ∷ []
 words (b ∷ bs) = if b == 32 then [] ∷ words bs else grow b (words bs)
+
+-- the words of what stands behind a space, if there is one
+abbrev pub words_in : Option (List ℕ) → List (List ℕ)
+words_in None = []
+words_in (Some text) = words text
+
+-- a text's first line, and the text behind it
+pub record FirstLine (text line rest : List ℕ) : Type 0 where
+  pub parts : lines text ≡ line ∷ lines rest
+  pub within : length line + length rest ≤ length text
+  pub shorter : length rest < length text
 
 -- what stands behind a word at the front of a line
 abbrev pub behind_word : List ℕ → List ℕ → Option (List ℕ)

@@ -1,7 +1,8 @@
 //! The parts of a text: its lines, its pieces, and the decimal numbers in them.
 
-ghost use Rattle.std.specs.Prelude.{◌≡◌, drop};
-ghost use Rattle.jb_handle.specs.Parts.{before, onward, number_of, number_from, with_digit as with_digit_of};
+ghost use Rattle.std.specs.Prelude.{◌≡◌, ◌<◌, [], ◌∷◌, length, MatchOption, IfSome};
+ghost use Rattle.std.specs.Option.{option_copied};
+ghost use Rattle.jb_handle.specs.Parts.{before, onward, lines, words, words_in, FirstLine, number_of, number_from, with_digit as with_digit_of};
 
 /// The bytes before the first `stop`, and those from it on: all of them and none, where there is no `stop`.
 pub fn part(bytes: &[u8], stop: u8) -> (&[u8], &[u8])
@@ -16,15 +17,30 @@ pub fn part(bytes: &[u8], stop: u8) -> (&[u8], &[u8])
     bytes.split_at(bytes.len())
 }
 
-/// The first line of a text, without the LF at its end, and the text behind it.
-pub fn next_line(text: &[u8]) -> (&[u8], &[u8])
-    ensures line { result.0.now ≡ before 10 text.now }
-    ensures rest { result.1.now ≡ drop 1 (onward 10 text.now) }
+/// The first line of a text, without the LF at its end, and the text behind it; `None` where nothing is left.
+pub fn next_line(text: &[u8]) -> Option<(&[u8], &[u8])>
+    ensures { MatchOption result (lines text.now ≡ []) (λ next. FirstLine text.now next.0.now next.1.now) }
 {
-    let (line, rest) = part(text, b'\n');
-    match rest {
-        [_, rest @ ..] => (line, rest),
-        [] => (line, rest),
+    if text.is_empty() {
+        return None;
+    }
+    let (line, behind) = part(text, b'\n');
+    match behind {
+        [_, rest @ ..] => Some((line, rest)),
+        [] => Some((line, behind)),
+    }
+}
+
+/// The first word of a text whose words are parted by single spaces, and the text behind the space after it, where
+/// there is one.
+pub fn next_word(text: &[u8]) -> (&[u8], Option<&[u8]>)
+    ensures words { words text.now ≡ result.0.now ∷ words_in (option_copied result.1) }
+    ensures shorter { IfSome result.1 (λ rest. length rest.now < length text.now) }
+{
+    let (word, behind) = part(text, b' ');
+    match behind {
+        [_, rest @ ..] => (word, Some(rest)),
+        [] => (word, None),
     }
 }
 
