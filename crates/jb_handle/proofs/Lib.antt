@@ -1,2 +1,4 @@
-pub mod Splits
+pub mod LastWord
 pub mod Numerals
+pub mod Rising
+pub mod Splits

@@ -1,4 +1,15 @@
-//! A handle of a jbd2 journal: the words that it leaves at home blocks, and the text that lists a queue of them.
+//! What a handle leaves behind: the last word on each home block that it touched, and the handles that wait in a queue.
 #![tactic(auto)]
 
+mod payload;
+mod size;
+mod stopped;
 pub mod text;
+mod word;
+mod words;
+
+pub use payload::Payload;
+pub use size::is_within_size;
+pub use stopped::Stopped;
+pub use word::Word;
+pub use words::Words;
