@@ -6,7 +6,7 @@ use Rattle.jb_handle.specs.declared.fault.Cause.TheVariants.{BlockSizeLine, Limi
 use Rattle.jb_handle.specs.declared.fault.QueueFault.{QueueFault}
 use Rattle.jb_handle.specs.declared.stopped.Stopped.{Stopped}
 use Rattle.jb_handle.specs.Parts.{lines, FirstLine}
-use Rattle.jb_handle.specs.Queue.{Gives, Reports, at_line, handle_of, after_lines, ◌>>=◌}
+use Rattle.jb_handle.specs.Queue.{Gives, Reports, handle_of, after_lines}
 use Rattle.jb_handle.specs.Word.{WordMap}
 
 pub lines-goes : (width : Width) (size : ℕ) (had : List Stopped) (line : List ℕ) (more : List (List ℕ)) (left : WordMap) → handle_of width size line ≡ Ok left → after_lines width size had (line ∷ more) ≡ after_lines width size (had ++ record { ticket = length had; words = left } ∷ []) more

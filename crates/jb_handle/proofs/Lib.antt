@@ -5,3 +5,4 @@ pub mod Ops
 pub mod Rising
 pub mod Splits
 pub mod Trees
+pub mod Weights

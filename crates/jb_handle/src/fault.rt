@@ -21,6 +21,7 @@ pub enum Cause {
 
 impl From<Memory> for Cause {
     ghost use Rattle.jb_handle.specs.declared.fault.Cause.TheVariants.{Memory as OutOfMemory};
+
     ghost from_gives = { λ _ cause. cause ≡ OutOfMemory };
 
     fn from(_refused: Memory) -> Cause {

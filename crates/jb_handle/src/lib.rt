@@ -14,7 +14,7 @@ mod words;
 
 pub use fault::{Cause, QueueFault};
 pub use payload::Payload;
-pub use queue_text::{read_queue, QueueText};
+pub use queue_text::{QueueText, read_queue};
 pub use size::is_within_size;
 pub use stopped::Stopped;
 pub use word::Word;

@@ -13,7 +13,12 @@ use jb_block::{BlockSize, Width};
 use std::alloc::Global;
 
 // The home block that a word of a handle's line names, and the word that it leaves there.
-pub fn read_op(alloc: Global, text: &[u8], bs: BlockSize, width: Width) -> Result<(u64, Word), Cause>
+pub fn read_op(
+    alloc: Global,
+    text: &[u8],
+    bs: BlockSize,
+    width: Width,
+) -> Result<(u64, Word), Cause>
     ensures { Gives result (op_of width (bytes_of bs) text.now) }
 {
     match text {

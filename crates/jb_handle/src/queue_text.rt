@@ -104,7 +104,12 @@ fn read_limit(line: &[u8]) -> Option<u32>
 }
 
 // The handles of the lines of a text, which are those from the third of a queue text on.
-fn read_handles(alloc: Global, text: &[u8], bs: BlockSize, width: Width) -> Result<Vec<Stopped>, QueueFault>
+fn read_handles(
+    alloc: Global,
+    text: &[u8],
+    bs: BlockSize,
+    width: Width,
+) -> Result<Vec<Stopped>, QueueFault>
     ensures ok { IfOk result (λ handles. after_lines width (bytes_of bs) [] (lines text.now) ≡ Ok handles.items) }
     ensures err { IfErr result (Reports (after_lines width (bytes_of bs) [] (lines text.now))) }
 {
@@ -121,7 +126,10 @@ fn read_handles(alloc: Global, text: &[u8], bs: BlockSize, width: Width) -> Resu
                     });
                 };
             }
-            Err(cause) => return Err(QueueFault { line: at + 3, cause }),
+            Err(cause) => return Err(QueueFault {
+                line: at + 3,
+                cause,
+            }),
         }
         rest = behind;
     }

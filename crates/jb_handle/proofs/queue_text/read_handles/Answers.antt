@@ -1,6 +1,5 @@
-use Rattle.std.proofs.Common.{◌≡◌, rules, sym, ap, ◌∙◌, ℕ, length}
+use Rattle.std.proofs.Common.{◌≡◌, rules, sym, ap, ◌∙◌, length}
 use Rattle.jb_block.specs.Size.{bytes_of}
-use Rattle.jb_handle.specs.Parts.{lines}
 use Rattle.jb_handle.specs.Queue.{after_lines}
 use Rattle.jb_handle.proofs.Handles.{lines-end, line-goes, line-first, line-reports}
 use Rattle.jb_handle.proofs.queue_text.read_handles.Goals as goal
@@ -19,7 +18,7 @@ pub loop-line-preserved : goal.loop-line-preserved
 loop-line-preserved c =
     let at : c.len-at.result ≡ length c.loop-line.handles.items = search rules in
     line-goes c.args.width (bytes_of c.args.bs) c.loop-line.handles.items c.loop-line.rest.now c.in-Some.line.now c.in-Some.behind.now _ c.len-at.result c.in-Some.ensures c.loop-line.invariant at
-        c.in-Ok.words _ c.in-Ok.ensures c.in-Ok-push.ensures.items
+    c.in-Ok.words _ c.in-Ok.ensures c.in-Ok-push.ensures.items
 
 pub returns-clause-ok : goal.returns-clause-ok
 returns-clause-ok c =
