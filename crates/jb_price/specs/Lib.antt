@@ -1,1 +1,2 @@
 pub mod Certificate
+pub mod Reading

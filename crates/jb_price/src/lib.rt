@@ -2,7 +2,11 @@
 #![tactic(auto)]
 
 mod certificate;
+mod fault;
 mod print;
+mod read;
 
 pub use certificate::{Cert, CertAnswer};
+pub use fault::CertFault;
 pub use print::print_cert;
+pub use read::read_cert;
