@@ -3,6 +3,7 @@
 
 mod certificate;
 mod fault;
+pub mod laws;
 mod print;
 mod read;
 
