@@ -6,6 +6,8 @@ mod fault;
 pub mod laws;
 mod print;
 mod read;
+#[cfg(test)]
+mod text_tests;
 
 pub use certificate::{Cert, CertAnswer};
 pub use fault::CertFault;
