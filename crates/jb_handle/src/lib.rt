@@ -5,6 +5,8 @@ mod fault;
 mod gathered;
 mod op_text;
 mod payload;
+#[cfg(test)]
+mod queue_tests;
 mod queue_text;
 mod size;
 mod stopped;
