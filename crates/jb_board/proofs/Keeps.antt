@@ -3,7 +3,7 @@ use Rattle.std.proofs.Common.{◌≡◌, ℕ, ◌≤◌, ◌≢◌, List, [], �
 use Rattle.std.proofs.Math.Nat.{le-max_left, le-max_right, max-le}
 use mathlib.Core.Option.{some, none, some-ne-none}
 use lib.ListN.{get_elem?}
-use Rattle.atomic_table.specs.Table.{State, Me, Act, keeps, step, Allows, Splits, Joins, Enters as Arrivals}
+use Rattle.atomic_table.specs.Table.{State, Me, keeps, step, Allows, Splits, Joins, Enters as Arrivals}
 use Rattle.atomic_table.proofs.Lists.{at_set, at_snoc, set_again}
 use Rattle.jb_board.specs.declared.front.Front.{Front}
 use Rattle.jb_board.specs.Front.{front, InOrder, IsWithin}

@@ -28,7 +28,7 @@ pub struct BoardSeat {
 impl Board {
     ghost use Rattle.jb_board.specs.Front.{front, InOrder, IsWithin};
     ghost use Rattle.jb_board.specs.Seats.{board_id, seat_board, seat_view};
-    ghost use Rattle.jb_board.specs.Steps.{raised_settled, raised_taken, raised_stopped};
+    ghost use Rattle.jb_board.specs.Steps.{saw_settled, saw_taken, saw_stopped, raised_settled, raised_taken, raised_stopped};
 
     /// A board on which no ticket is counted, with its first seat.
     pub fn new(alloc: Global) -> Result<(Board, BoardSeat), Memory>
@@ -78,15 +78,9 @@ impl Board {
         ensures ordered { InOrder result }
         ensures rises { IsWithin (seat_view seat.old) result }
     {
-        let settled = self
-            .table
-            .shared
-            .load::<LoadSettled>(&mut seat.seat, SETTLED);
-        let taken = self.table.shared.load::<LoadTaken>(&mut seat.seat, TAKEN);
-        let stopped = self
-            .table
-            .shared
-            .load::<LoadStopped>(&mut seat.seat, STOPPED);
+        let settled = self.load_settled(seat);
+        let taken = self.load_taken(seat);
+        let stopped = self.load_stopped(seat);
         Front {
             settled,
             taken,
@@ -129,5 +123,36 @@ impl Board {
         self.table
             .shared
             .fetch_max::<RaiseSettled>(&mut seat.seat, SETTLED, count);
+    }
+
+    fn load_settled(&self, seat: &mut BoardSeat) -> u64
+        requires { seat_board seat.old ≡ board_id self.now }
+        ensures board { seat_board seat.new ≡ seat_board seat.old }
+        ensures view { seat_view seat.new ≡ saw_settled (seat_view seat.old) result }
+        ensures rises { (seat_view seat.old).settled ≤ result }
+    {
+        self.table
+            .shared
+            .load::<LoadSettled>(&mut seat.seat, SETTLED)
+    }
+
+    fn load_taken(&self, seat: &mut BoardSeat) -> u64
+        requires { seat_board seat.old ≡ board_id self.now }
+        ensures board { seat_board seat.new ≡ seat_board seat.old }
+        ensures view { seat_view seat.new ≡ saw_taken (seat_view seat.old) result }
+        ensures rises { (seat_view seat.old).taken ≤ result }
+    {
+        self.table.shared.load::<LoadTaken>(&mut seat.seat, TAKEN)
+    }
+
+    fn load_stopped(&self, seat: &mut BoardSeat) -> u64
+        requires { seat_board seat.old ≡ board_id self.now }
+        ensures board { seat_board seat.new ≡ seat_board seat.old }
+        ensures view { seat_view seat.new ≡ saw_stopped (seat_view seat.old) result }
+        ensures rises { (seat_view seat.old).stopped ≤ result }
+    {
+        self.table
+            .shared
+            .load::<LoadStopped>(&mut seat.seat, STOPPED)
     }
 }
