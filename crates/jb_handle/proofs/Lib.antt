@@ -1,2 +1,4 @@
 pub mod LastWord
 pub mod Rising
+pub mod Admitted
+pub mod LastOp

@@ -1,13 +1,24 @@
 //! What a handle leaves behind: the last word on each home block that it touched, and the handles that wait in a queue.
 #![tactic(auto)]
 
+mod changes;
+mod handle;
+pub mod laws;
+mod op;
 mod payload;
+mod shape;
 mod size;
 mod stopped;
+#[cfg(test)]
+mod tests;
 mod word;
 mod words;
 
+pub use changes::{Changes, TouchFault};
+pub use handle::Handle;
+pub use op::Op;
 pub use payload::Payload;
+pub use shape::Shape;
 pub use size::is_within_size;
 pub use stopped::Stopped;
 pub use word::Word;
