@@ -1,5 +1,7 @@
+pub mod Admitted
 pub mod Handles
 pub mod Joins
+pub mod LastOp
 pub mod LastWord
 pub mod Numerals
 pub mod Ops
