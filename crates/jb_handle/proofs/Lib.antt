@@ -1,3 +1,12 @@
+pub mod Admitted
+pub mod Handles
+pub mod Joins
+pub mod LastOp
 pub mod LastWord
+pub mod Numerals
+pub mod Ops
 pub mod Rising
+pub mod Splits
 pub mod Touched
+pub mod Trees
+pub mod Weights
