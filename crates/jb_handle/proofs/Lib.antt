@@ -1,4 +1,5 @@
 pub mod Admitted
+pub mod Front
 pub mod Handles
 pub mod Joins
 pub mod LastOp

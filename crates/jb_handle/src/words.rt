@@ -1,4 +1,4 @@
-ghost use Rattle.std.specs.Prelude.{◌≡◌, IfOk, IfErr, OnOk, OnErr, T, IsTrue, ◌↔◌, length, ◌<◌, ℕ};
+ghost use Rattle.std.specs.Prelude.{◌≡◌, IfOk, IfErr, OnOk, OnErr, T, IsTrue, ◌↔◌, length, ◌<◌, ◌^◌, ℕ};
 ghost use Rattle.std.specs.Ordering.{nat_cmp};
 ghost use Rattle.std.specs.Option.{option_copied};
 ghost use Rattle.std.specs.FinMap as map;
@@ -56,7 +56,8 @@ impl Words {
 
     /// How many home blocks have a word.
     pub fn len(&self) -> usize
-        ensures { result ≡ map.len self.now }
+        ensures value { result ≡ map.len self.now }
+        ensures bound { result < 2 ^ 63 }
     {
         self.entries().len()
     }
