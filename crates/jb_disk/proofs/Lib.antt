@@ -1,0 +1,4 @@
+pub mod Buffers
+pub mod Counts
+pub mod Goings
+pub mod Moments

@@ -1,0 +1,9 @@
+pub mod Calls
+pub mod Faults
+pub mod History
+pub mod Image
+pub mod Kept
+pub mod Lives
+pub mod Memory
+pub mod Time
+pub mod Writes
