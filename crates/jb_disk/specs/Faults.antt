@@ -13,3 +13,7 @@ pub record MoreFaults (old new : ℕ) : Type 0 where
 -- the count stays where the call succeeds and rises where it fails
 abbrev pub CountsFault : {T E : Type 0} → Result T E → ℕ → ℕ → Type 0
 CountsFault result old new = MatchResult result (λ _. new ≡ old) (λ _. MoreFaults old new)
+
+-- two counts of the same disk as one, which stays at the top too
+abbrev pub counted : ℕ → ℕ → ℕ
+counted below own = min (below + own) (2 ^ 64 - 1)

@@ -1,10 +1,10 @@
 //! What a disk is taken to be: whole blocks of 512-byte sectors, and what a crash may leave of them.
-ghost use Rattle.std.specs.Prelude.{◌≡◌, ◌<◌, ◌≤◌, ℕ, List, length, OnOk, set};
+ghost use Rattle.std.specs.Prelude.{Bool, false, IsTrue, IsErr, ◌≡◌, ◌<◌, ◌≤◌, ℕ, List, length, OnOk, set};
 ghost use Rattle.jb_block.specs.Size.{bytes_of, IsBlockSize};
 ghost use Rattle.jb_disk.specs.Image.{Image, block, Torn, Same, Only, HasShape};
 ghost use Rattle.jb_disk.specs.Time.{Goes};
 ghost use Rattle.jb_disk.specs.Faults.{CountsFault};
-ghost use Rattle.jb_disk.specs.Kept.{Kept};
+ghost use Rattle.jb_disk.specs.Kept.{Kept, Untouched};
 
 use crate::Fault;
 use jb_block::BlockSize;
@@ -38,6 +38,9 @@ pub trait Disk {
     /// The images that a crash at some moment from that one on might have left.
     ghost left_since: { Self → ℕ → Image → Type 0 };
 
+    /// The next read, write or sync fails and is not tried.
+    ghost is_stopped: { Self → Bool } = { λ _. false };
+
     /// The size of the disk's blocks.
     fn block_size(&self) -> BlockSize
         ensures { bytes_of result ≡ size self.now };
@@ -52,6 +55,7 @@ pub trait Disk {
         requires place { place < count self.old }
         requires block { length buf.old ≡ size self.old }
         ensures kept { Kept size count honest self.old self.new }
+        ensures stopped { IsTrue (is_stopped self.old) → IsErr result × Untouched newest may_leave moment self.old self.new }
         ensures faults { CountsFault result (faults self.old) (faults self.new) }
         ensures found { honest self.old → OnOk result (buf.new ≡ block (newest self.old) place) }
         ensures newest { honest self.old → newest self.new ≡ newest self.old }
@@ -64,6 +68,7 @@ pub trait Disk {
         requires place { place < count self.old }
         requires block { length bytes.now ≡ size self.old }
         ensures kept { Kept size count honest self.old self.new }
+        ensures stopped { IsTrue (is_stopped self.old) → IsErr result × Untouched newest may_leave moment self.old self.new }
         ensures faults { CountsFault result (faults self.old) (faults self.new) }
         ensures written { honest self.old → OnOk result (newest self.new ≡ set (newest self.old) place bytes.now) }
         ensures torn { honest self.old → Torn place bytes.now (newest self.old) (newest self.new) }
@@ -73,6 +78,7 @@ pub trait Disk {
     /// of what was written before it.
     fn sync(&mut self) -> Result<(), Fault>
         ensures kept { Kept size count honest self.old self.new }
+        ensures stopped { IsTrue (is_stopped self.old) → IsErr result × Untouched newest may_leave moment self.old self.new }
         ensures faults { CountsFault result (faults self.old) (faults self.new) }
         ensures newest { honest self.old → newest self.new ≡ newest self.old }
         ensures durable { honest self.old → OnOk result (Only (newest self.old) (may_leave self.new)) }
