@@ -10,4 +10,5 @@ pub mod Memory
 pub mod Once
 pub mod OneFault
 pub mod Time
+pub mod Versions
 pub mod Writes
