@@ -12,11 +12,11 @@ use Rattle.jb_disk.specs.declared.memory.Call.{Call}
 use Rattle.std.specs.Vec.{with_item}
 
 -- as many buffers as blocks
-buffers_count : (count size : ℕ) (c : Image) (buffers : List (Vec ℕ Global)) → HasShape count size c → image_of buffers ≡ c → length buffers ≡ count
+pub buffers_count : (count size : ℕ) (c : Image) (buffers : List (Vec ℕ Global)) → HasShape count size c → image_of buffers ≡ c → length buffers ≡ count
 buffers_count count size c buffers shape is = sym (length-map buffers (λ b. b.items)) ∙ ap length is ∙ shape.blocks
 
 -- the buffer at a place holds the block there
-buffer_at : (count size : ℕ) (c : Image) (buffers : List (Vec ℕ Global)) (place : ℕ) (b : Vec ℕ Global) → HasShape count size c → image_of buffers ≡ c → place < count → b ≡ get_or buffers place b → b.items ≡ block c place
+pub buffer_at : (count size : ℕ) (c : Image) (buffers : List (Vec ℕ Global)) (place : ℕ) (b : Vec ℕ Global) → HasShape count size c → image_of buffers ≡ c → place < count → b ≡ get_or buffers place b → b.items ≡ block c place
 buffer_at count size c buffers place b shape is inside here =
     let within : place < length buffers = omega (arith, buffers_count count size c buffers shape is, inside) in
     ap (λ v. v.items) here ∙ sym (get_or-map (λ v. v.items) buffers place b [] within) ∙ ap (λ image. block image place) is

@@ -1,12 +1,11 @@
 -- Blocks by their sectors.
-use Rattle.std.proofs.Common.{◌≡◌, ◌<◌, ◌≤◌, ℕ, zero, suc, ◌+◌, ◌-◌, ◌*◌, List, [], ◌∷◌, ◌++◌, length, take, drop, refl, sym, ◌∙◌, ap, subst, arith, append_assoc, length-append, length-drop}
+use Rattle.std.proofs.Common.{◌≡◌, ◌<◌, ◌≤◌, ℕ, zero, suc, ◌+◌, ◌-◌, ◌*◌, List, [], ◌∷◌, ◌++◌, length, take, drop, refl, sym, ◌∙◌, ap, arith, append_assoc, length-append, length-drop}
 use Rattle.std.proofs.lemmas.List.{take-append-le, take-take, drop-take, drop-drop, take-append-drop, length-take-le}
 use Rattle.std.proofs.Math.Seq.{drop-append_seam, take-append_seam}
+use Rattle.std.proofs.lemmas.Slice.{take-put_mid, drop-put_mid}
+use borrow.Rule.Slice.PartMut.{put_mid}
 use Rattle.jb_disk.specs.Image.{sector}
-
--- a block with its k-th sector replaced by that of another
-abbrev pub put_sector : ℕ → List ℕ → List ℕ → List ℕ
-put_sector k from to = take (512 * k) to ++ (sector k from ++ drop (512 * k + 512) to)
+use Rattle.jb_disk.specs.Mixing.{put_sector}
 
 length-sector : (k : ℕ) (bytes : List ℕ) → 512 * k + 512 ≤ length bytes → length (sector k bytes) ≡ 512
 length-sector k bytes within =
@@ -19,8 +18,15 @@ length-before k bytes within = length-take-le (512 * k) bytes (omega (arith, wit
 pub length-put_sector : (k : ℕ) (from to : List ℕ) → length from ≡ length to → 512 * k + 512 ≤ length to → length (put_sector k from to) ≡ length to
 length-put_sector k from to same within =
     let from_within : 512 * k + 512 ≤ length from = omega (arith, same, within) in
-    omega (arith, length-append (take (512 * k) to) (sector k from ++ drop (512 * k + 512) to), length-append (sector k from) (drop (512 * k + 512) to),
-      length-before k to within, length-sector k from from_within, length-drop (512 * k + 512) to, within)
+    omega (
+      arith,
+      length-append (take (512 * k) to) (sector k from ++ drop (512 * k + 512) to),
+      length-append (sector k from) (drop (512 * k + 512) to),
+      length-before k to within,
+      length-sector k from from_within,
+      length-drop (512 * k + 512) to,
+      within,
+    )
 
 -- the sector is the other's
 pub put_sector-same : (k : ℕ) (from to : List ℕ) → length from ≡ length to → 512 * k + 512 ≤ length to → sector k (put_sector k from to) ≡ sector k from
@@ -28,7 +34,7 @@ put_sector-same k from to same within =
     let from_within : 512 * k + 512 ≤ length from = omega (arith, same, within) in
     let rest : List ℕ = sector k from ++ drop (512 * k + 512) to in
     let behind : drop (512 * k) (put_sector k from to) ≡ rest
-        = ap (λ n. drop n (take (512 * k) to ++ rest)) (sym (length-before k to within)) ∙ drop-append_seam (take (512 * k) to) rest in
+    = ap (λ n. drop n (take (512 * k) to ++ rest)) (sym (length-before k to within)) ∙ drop-append_seam (take (512 * k) to) rest in
     ap (take 512) behind ∙ ap (λ n. take n rest) (sym (length-sector k from from_within)) ∙ take-append_seam (sector k from) (drop (512 * k + 512) to)
 
 -- a sector lies in the part of the block up to its end
@@ -56,10 +62,10 @@ put_sector-above j k from to same above within =
     let behind : 512 * k + 512 ≤ 512 * j = omega (arith, above) in
     let front : List ℕ = take (512 * k) to ++ sector k from in
     let size : length front ≡ 512 * k + 512
-        = omega (arith, length-append (take (512 * k) to) (sector k from), length-before k to within, length-sector k from from_within) in
+    = omega (arith, length-append (take (512 * k) to) (sector k from), length-before k to within, length-sector k from from_within) in
     let back : drop (512 * k + 512) (put_sector k from to) ≡ drop (512 * k + 512) to
-        = ap (drop (512 * k + 512)) (sym (append_assoc (take (512 * k) to) (sector k from) (drop (512 * k + 512) to)))
-        ∙ ap (λ n. drop n (front ++ drop (512 * k + 512) to)) (sym size) ∙ drop-append_seam front (drop (512 * k + 512) to) in
+    = ap (drop (512 * k + 512)) (sym (append_assoc (take (512 * k) to) (sector k from) (drop (512 * k + 512) to)))
+    ∙ ap (λ n. drop n (front ++ drop (512 * k + 512) to)) (sym size) ∙ drop-append_seam front (drop (512 * k + 512) to) in
     sector_of_back j (512 * k + 512) (put_sector k from to) behind
     ∙ ap (λ bytes. take 512 (drop (512 * j - (512 * k + 512)) bytes)) back
     ∙ sym (sector_of_back j (512 * k + 512) to behind)
@@ -79,5 +85,18 @@ same_sectors zero a b few same each = none_left a (omega (arith, few)) ∙ sym (
 same_sectors (suc n) a b few same each =
     let front : take 512 a ≡ take 512 b = each 0 (omega arith) in
     let back : drop 512 a ≡ drop 512 b = same_sectors n (drop 512 a) (drop 512 b) (omega (arith, few, length-drop 512 a)) (length-drop 512 a ∙ ap (λ m. m - 512) same ∙ sym (length-drop 512 b))
-        (λ k below. sym (sector-suc k a) ∙ each (suc k) (omega (arith, below)) ∙ sector-suc k b) in
+    (λ k below. sym (sector-suc k a) ∙ each (suc k) (omega (arith, below)) ∙ sector-suc k b) in
     sym (take-append-drop 512 a) ∙ ap (λ x. x ++ drop 512 a) front ∙ ap (λ y. take 512 b ++ y) back ∙ take-append-drop 512 b
+
+-- what a copy over the part of a slice makes of it
+pub put_mid-sector : (k m : ℕ) (to from ys : List ℕ) → m ≡ 512 → length from ≡ length to → 512 * k + 512 ≤ length to → ys ≡ take m (drop (512 * k) from)
+    → put_mid (512 * k) m to ys ≡ put_sector k from to
+put_mid-sector k m to from ys size same within is =
+    let from_within : 512 * k + 512 ≤ length from = omega (arith, same, within) in
+    let ys_is : ys ≡ sector k from = is ∙ ap (λ n. take n (drop (512 * k) from)) size in
+    let ys_size : length ys ≡ 512 = ap length ys_is ∙ length-sector k from from_within in
+    sym (take-append-drop (512 * k + 512) (put_mid (512 * k) m to ys))
+    ∙ ap (λ x. x ++ drop (512 * k + 512) (put_mid (512 * k) m to ys)) (take-put_mid (512 * k) m to ys (512 * k + 512) (omega (arith, ys_size)) (omega (arith, within)))
+    ∙ ap (λ y. take (512 * k) to ++ ys ++ y) (drop-put_mid (512 * k) m to ys (512 * k + 512) (omega (arith, size)) (omega (arith, within)) (omega (arith, ys_size, size)))
+    ∙ append_assoc (take (512 * k) to) ys (drop (512 * k + 512) to)
+    ∙ ap (λ s. take (512 * k) to ++ (s ++ drop (512 * k + 512) to)) ys_is

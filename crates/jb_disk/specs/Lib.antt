@@ -7,6 +7,7 @@ pub mod Image
 pub mod Kept
 pub mod Lives
 pub mod Memory
+pub mod Mixing
 pub mod Once
 pub mod OneFault
 pub mod Time

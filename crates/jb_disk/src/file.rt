@@ -85,13 +85,19 @@ impl Disk for FileDisk {
         let at = place * u64::from(self.size.bytes());
         let whole = buf.len();
         let answer = self.file.read_at(buf, at);
-        settle(matches!(answer, Ok(moved) if moved == whole), &mut self.faults)
+        settle(
+            matches!(answer, Ok(moved) if moved == whole),
+            &mut self.faults,
+        )
     }
 
     fn write(&mut self, place: u64, bytes: &[u8]) -> Result<(), Fault> {
         let at = place * u64::from(self.size.bytes());
         let answer = self.file.write_at(bytes, at);
-        settle(matches!(answer, Ok(moved) if moved == bytes.len()), &mut self.faults)
+        settle(
+            matches!(answer, Ok(moved) if moved == bytes.len()),
+            &mut self.faults,
+        )
     }
 
     fn sync(&mut self) -> Result<(), Fault> {

@@ -8,6 +8,7 @@ mod file;
 mod fuse;
 mod memory;
 mod one_fault;
+mod sector;
 
 pub use clock::{Clock, FixedClock};
 pub use disk::Disk;

@@ -4,8 +4,10 @@ ghost use Rattle.jb_block.specs.Size.{bytes_of};
 ghost use Rattle.jb_disk.specs.Calls.{steps_of, image_of};
 ghost use Rattle.jb_disk.specs.Image.{HasShape};
 ghost use Rattle.jb_disk.specs.History.{Wrote, Synced, newest_of, MayLeave, LeftSince, IsSound};
+ghost use Rattle.jb_disk.specs.Versions.{IsChosen};
 ghost use Rattle.jb_disk.specs.Lives.{is_block_size, newest_stays, left_has_shape, left_since_now, left_only_now};
 
+use crate::sector::{copy_of, crash_image};
 use crate::{Disk, Fault};
 use jb_block::{BlockSize, Memory};
 use std::alloc::Global;
@@ -24,7 +26,7 @@ pub struct MemoryDisk {
 
 /// A write or a sync that succeeded.
 #[derive(Drop)]
-enum Call {
+pub(crate) enum Call {
     Write(u64, Vec<u8>),
     Sync,
 }
@@ -56,6 +58,29 @@ impl MemoryDisk {
             first: zeros(alloc, size, blocks)?,
             newest: zeros(alloc, size, blocks)?,
             calls: Vec::new(alloc),
+            faults: 0,
+        })
+    }
+
+    /// The disk after a crash at this moment, in which nothing is pending. Of the sectors that have
+    /// been written since the last sync the k-th, by place and then within the block, gets its
+    /// `choice[k]`-th version, counted round; number 0, and no number, is what it held at the sync.
+    pub fn crash(&self, choice: &[u32]) -> Result<MemoryDisk, Memory>
+        ensures sound { IfOk result IsSound }
+        ensures size { IfOk result (λ disk. disk.size ≡ self.now.size) }
+        ensures count { IfOk result (λ disk. disk.count ≡ self.now.count) }
+        ensures chosen { IfOk result (λ disk. IsChosen self.now choice.now disk.first) }
+        ensures allowed { IfOk result (λ disk. MayLeave self.now.first self.now.steps disk.first) }
+        ensures fresh { IfOk result (λ disk. (disk.steps ≡ []) × (disk.faults ≡ 0)) }
+    {
+        let first = crash_image(self.alloc, self.size, &self.first, &self.calls, choice)?;
+        let newest = copy_of(self.alloc, &first)?;
+        Ok(MemoryDisk {
+            alloc: self.alloc,
+            size: self.size,
+            first,
+            newest,
+            calls: Vec::new(self.alloc),
             faults: 0,
         })
     }
