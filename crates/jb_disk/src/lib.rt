@@ -9,6 +9,8 @@ mod fuse;
 mod memory;
 mod one_fault;
 mod sector;
+#[cfg(test)]
+mod tests;
 
 pub use clock::{Clock, FixedClock};
 pub use disk::Disk;

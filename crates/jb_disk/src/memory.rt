@@ -154,7 +154,7 @@ impl Disk for MemoryDisk {
 fn zeros(alloc: Global, size: BlockSize, blocks: u64) -> Result<Vec<Vec<u8>>, Memory>
     ensures { IfOk result (λ image. image_of image.items ≡ replicate blocks (replicate (bytes_of size) 0)) }
 {
-    let mut image = Vec::new(alloc);
+    let mut image = Vec::with_capacity(alloc, blocks as usize)?;
     for _place in 0..blocks {
         image.push(vec![in alloc; 0; size.bytes() as usize]?)?;
     }
