@@ -1,0 +1,31 @@
+-- Which command a list of words asks for, by what clap finds in it.
+use Rattle.std.specs.Prelude.{List, Option, None, codes, if◌then◌else◌, option_and_then, option_map}
+use Rattle.std.specs.Str.{bytes_eq}
+use Rattle.clap.specs.Words.{Row, Text, first_of, subcommand_of}
+use Rattle.jb_words.specs.App.{jb_app}
+use Rattle.jb_words.specs.declared.plain.Plain.{Plain}
+use Rattle.jb_words.specs.declared.plain.Plain.TheVariants.{Cost}
+
+-- a command with its words
+pub data Asked : Type 0 where
+  AsksCost : Text → Asked
+
+-- what a value of the program's own type asks for
+abbrev pub asks : Plain → Asked
+asks (Cost file) = AsksCost file.now
+
+-- `cost FILE`
+abbrev pub cost_asked : List Row → Option Asked
+cost_asked rows = option_map (λ file. AsksCost file) (first_of (codes "FILE") rows)
+
+-- the command of this name, with the words that stand under the names of its arguments
+abbrev pub asked : Text → List Row → Option Asked
+asked name rows = if bytes_eq name (codes "cost") then cost_asked rows else None
+
+-- the command that a parse found
+abbrev pub asked_of : Option (Text × List Row) → Option Asked
+asked_of found = option_and_then (λ (p : Text × List Row). asked p.0 p.1) found
+
+-- the command that clap finds in the words
+abbrev pub asked_in : List Text → Option Asked
+asked_in words = asked_of (subcommand_of jb_app words)
