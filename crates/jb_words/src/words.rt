@@ -1,8 +1,8 @@
 ghost use Rattle.std.specs.Prelude.{◌≡◌, ◌⊎◌, IfErr, IfOk, None, Some, [], map, option_map};
-ghost use Rattle.clap.specs.Faults.{fault_of};
-ghost use Rattle.clap.specs.Kinds.{FailsBy, HasKind};
+ghost use Rattle.clap.specs.Kinds.{FailsBy};
 ghost use Rattle.clap.specs.Words.{app_of, first_of, found_of, rows_of, subcommand_of, subcommand_rows_of};
 ghost use Rattle.jb_words.specs.App.{jb_app};
+ghost use Rattle.jb_words.specs.Faults.{HasKind, faults_in};
 ghost use Rattle.jb_words.specs.Named.{asked_in, asked_of, asks, cost_asked};
 
 use crate::commands::jb_command;
@@ -18,8 +18,8 @@ use std::convert::AsStr;
 /// What clap says of the words: help and the version too, and want of memory as `ErrorKind::OutOfMemory`.
 pub fn parse<'a, S: AsStr>(alloc: Global, words: &'a [S]) -> Result<Plain<'a>, Error>
     ensures asked { IfOk result (λ plain. asked_in (map S.text words.entry.now) ≡ Some (asks plain)) }
-    ensures taken { IfOk result (λ _. fault_of jb_app (map S.text words.entry.now) ≡ []) }
-    ensures refused { IfErr result (λ error. HasKind (fault_of jb_app (map S.text words.entry.now)) error
+    ensures taken { IfOk result (λ _. faults_in (map S.text words.entry.now) ≡ []) }
+    ensures refused { IfErr result (λ error. HasKind (faults_in (map S.text words.entry.now)) error
         ⊎ (asked_in (map S.text words.entry.now) ≡ None)) }
 {
     let mut command = jb_command(alloc)?;
@@ -37,7 +37,7 @@ fn matches_of<'a, S: AsStr>(
 ) -> Result<ArgMatches<'a>, Error>
     requires { app_of command.old ≡ jb_app }
     ensures found { IfOk result (λ m. subcommand_rows_of m ≡ subcommand_of jb_app (map S.text words.entry.now)) }
-    ensures faults { FailsBy (fault_of jb_app (map S.text words.entry.now)) result }
+    ensures faults { FailsBy (faults_in (map S.text words.entry.now)) result }
 {
     command.try_get_matches_from_mut(words)
 }

@@ -1,0 +1,3 @@
+pub mod Appended
+pub mod Refused
+pub mod Taken

@@ -1,0 +1,5 @@
+pub mod Cost
+pub mod Puts
+pub mod Runs
+pub mod Said
+pub mod Stops

@@ -1,0 +1,23 @@
+//! The commands of `jb` over a runtime, an input and two outputs, so that tests and the program run them alike.
+#![tactic(auto)]
+
+mod answer;
+mod command_line;
+mod cost;
+mod putting;
+mod reading;
+mod refusal;
+mod running;
+mod stop;
+
+pub use answer::Answer;
+pub use command_line::run;
+pub use cost::cost_answer;
+pub use jb_words::Plain;
+pub use reading::{ReadFault, TEXT_LIMIT, read_within};
+pub use refusal::refuse_words;
+pub use running::{perform, run_plain};
+pub use stop::Stop;
+
+#[cfg(test)]
+mod rows;
