@@ -19,7 +19,11 @@ pub struct Answer {
 ///
 /// # Errors
 /// `Stop::WriteFault` where standard output took only the beginning of its text.
-pub fn tell<'a, O: Write, E: Write>(answer: &Answer, out: &mut O, err: &mut E) -> Result<u8, Stop<'a>>
+pub fn tell<'a, O: Write, E: Write>(
+    answer: &Answer,
+    out: &mut O,
+    err: &mut E,
+) -> Result<u8, Stop<'a>>
     ensures { Tells (said answer.now) (record { out = O.contents out.old; err = E.contents err.old })
         (record { out = O.contents out.new; err = E.contents err.new }) result }
 {

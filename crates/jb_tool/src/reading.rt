@@ -1,5 +1,4 @@
 ghost use Rattle.std.specs.Prelude.{◌<◌, ◌≤◌, ◌≡◌, IfErr, IfOk, IfSome, length};
-
 ghost use Rattle.jb_tool.specs.Runs.{HasNoText, IsText, known_behind};
 
 use crate::stop::Stop;
@@ -24,7 +23,11 @@ pub enum ReadFault {
 ///
 /// # Errors
 /// `Reader` where a read failed, `TooLong` where there are more bytes than `limit`, `Memory` where a growth was refused.
-pub fn read_within<R: Read>(alloc: Global, reader: &mut R, limit: usize) -> Result<Vec<u8>, ReadFault>
+pub fn read_within<R: Read>(
+    alloc: Global,
+    reader: &mut R,
+    limit: usize,
+) -> Result<Vec<u8>, ReadFault>
     requires { limit < 4294967296 }
     ensures all { IfOk result (λ text. IfSome (R.remaining reader.old) (λ bytes. text.items ≡ bytes)) }
     ensures within { IfOk result (λ text. length text.items ≤ limit) }
@@ -48,7 +51,11 @@ pub const TEXT_LIMIT: usize = 16_777_216;
 /// # Errors
 /// `Stop::CannotRead` where the file cannot be opened or read, `Stop::TooLong` where it has more than `TEXT_LIMIT`
 /// bytes, `Stop::Memory` where a growth was refused.
-pub fn read_text<'a, R: Files + AllocGlobal, I: Read>(rt: &R, name: &'a str, input: &mut I) -> Result<Vec<u8>, Stop<'a>>
+pub fn read_text<'a, R: Files + AllocGlobal, I: Read>(
+    rt: &R,
+    name: &'a str,
+    input: &mut I,
+) -> Result<Vec<u8>, Stop<'a>>
     ensures text { IfOk result (λ text. IsText (known_behind name.entry.now (I.remaining input.old)) text.items) }
     ensures none { IfErr result (HasNoText name.entry.now (known_behind name.entry.now (I.remaining input.old))) }
 {

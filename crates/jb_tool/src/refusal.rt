@@ -13,7 +13,11 @@ pub fn refuse_words<E: Write>(kind: ErrorKind, err: &mut E) -> u8
     ensures memory { kind ≢ ErrorKind.InvalidData → (result ≡ 1) × PutsPart (E.contents err.old) (E.contents err.new) (line_of Memory) }
 {
     if kind == ErrorKind::InvalidData {
-        put_line(err, "error: ", "invalid UTF-8 was detected in one or more arguments");
+        put_line(
+            err,
+            "error: ",
+            "invalid UTF-8 was detected in one or more arguments",
+        );
         return 2;
     }
     Stop::Memory.tell(err);

@@ -21,6 +21,7 @@ pub enum Stop<'a> {
 impl<'a> From<AllocError> for Stop<'a> {
     ghost use Rattle.std.specs.Prelude.{◌≡◌};
     ghost use Rattle.jb_tool.specs.declared.stop.Stop.TheVariants.{Memory};
+
     ghost from_gives = { λ _ stop. stop ≡ Memory };
 
     fn from(_: AllocError) -> Stop<'a> {

@@ -8,10 +8,18 @@ fn words_on_one_block_are_counted_once(rt: HostRuntime) {
         ("7", 0, "cost 7 limit 7 fits\n"),
         ("6", 1, "cost 7 limit 6 over\n"),
     ] {
-        let text = format!(in rt.alloc(); "bs 1024\nlimit {limit}\n{handles}").expect(&rt, "a text");
-        assert!(rt; runs(&rt, &["cost", "-"], text.as_bytes(), status, out, ""), "limit {limit}");
+        let text = format!(in rt.alloc(); "bs 1024\nlimit {limit}\n{handles}").expect(
+            &rt, "a text",
+        );
+        assert!(rt;
+            runs(&rt, &["cost", "-"], text.as_bytes(), status, out, ""),
+            "limit {limit}"
+        );
         let words: [&str; 0] = [];
-        assert!(rt; runs(&rt, &words, text.as_bytes(), status, out, ""), "no words, limit {limit}");
+        assert!(rt;
+            runs(&rt, &words, text.as_bytes(), status, out, ""),
+            "no words, limit {limit}"
+        );
     }
 }
 
@@ -42,6 +50,9 @@ fn a_full_descriptor_and_a_full_revoke_block_end_where_the_format_says(rt: HostR
         ("r", 253, 0, "cost 3 limit 128 fits\n"),
     ] {
         let text = one_handle(rt.alloc(), letter, count).expect(&rt, "a text");
-        assert!(rt; runs(&rt, &["cost", "-"], text.as_bytes(), status, out, ""), "{letter} {count}");
+        assert!(rt;
+            runs(&rt, &["cost", "-"], text.as_bytes(), status, out, ""),
+            "{letter} {count}"
+        );
     }
 }

@@ -4,7 +4,8 @@ use std::io::ErrorKind;
 
 #[test]
 fn words_that_are_no_command_are_answered_on_standard_error(rt: HostRuntime) {
-    let err = "error: the following required arguments were not provided:\n  <FILE>\n\nUsage: jb cost <FILE>\n\nFor more information, try '--help'.\n";
+    let err =
+        "error: the following required arguments were not provided:\n  <FILE>\n\nUsage: jb cost <FILE>\n\nFor more information, try '--help'.\n";
     assert!(rt; runs(&rt, &["cost"], b"", 2, "", err));
 }
 
@@ -16,7 +17,11 @@ fn the_version_is_answered_on_standard_output(rt: HostRuntime) {
 #[test]
 fn words_that_the_system_cannot_hand_over_are_told(rt: HostRuntime) {
     for (kind, status, line) in [
-        (ErrorKind::InvalidData, 2, "error: invalid UTF-8 was detected in one or more arguments\n"),
+        (
+            ErrorKind::InvalidData,
+            2,
+            "error: invalid UTF-8 was detected in one or more arguments\n",
+        ),
         (ErrorKind::OutOfMemory, 1, "jb: Memory\n"),
     ] {
         let mut err = Vec::new(rt.alloc());

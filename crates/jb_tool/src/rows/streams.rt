@@ -52,7 +52,11 @@ impl Write for Torn {
         if self.left == 0 {
             return Err(Error::from(ErrorKind::BrokenPipe));
         }
-        let taken = if buf.len() < self.left { buf.len() } else { self.left };
+        let taken = if buf.len() < self.left {
+            buf.len()
+        } else {
+            self.left
+        };
         self.left -= taken;
         Ok(taken)
     }
@@ -71,7 +75,11 @@ fn told_by<O: Write>(rt: &HostRuntime, words: &[&str], out: &mut O) -> (u8, Vec<
 
 #[test]
 fn an_output_that_fails_is_told(rt: HostRuntime) {
-    for words in [["cost", "-"].as_slice(), ["--help"].as_slice(), ["--version"].as_slice()] {
+    for words in [
+        ["cost", "-"].as_slice(),
+        ["--help"].as_slice(),
+        ["--version"].as_slice(),
+    ] {
         let (status, err) = told_by(&rt, words, &mut Full);
         assert!(rt; status == 1 && err.as_slice() == "jb: WriteFault\n".as_bytes());
         let (status, err) = told_by(&rt, words, &mut Stuck);
