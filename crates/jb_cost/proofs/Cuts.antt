@@ -1,6 +1,6 @@
 -- A cut grows by one piece more at its end.
 use Rattle.std.proofs.Common.{◌≡◌, ℕ, ◌+◌, ◌<◌, ◌≤◌, List, [], ◌∷◌, ◌++◌, sym, subst, ap, ◌∙◌, refl, arith}
-use Rattle.jb_cost.specs.Cut.{RisesTo, EachFrom, total_from, IsCut, EachPiece, total, FitsCut, IsReached}
+use Rattle.jb_cost.specs.Cut.{RisesTo, EachFrom, total_from, IsReached}
 
 -- a rising list doesn't pass its end
 pub rises-le : (n a : ℕ) (bs : List ℕ) → RisesTo n a bs → a ≤ n
@@ -22,11 +22,14 @@ total-push c n m a (b ∷ bs) rises = let rest = total-push c n m b bs rises.1 i
 -- a cut that fits, with one piece more that fits
 pub reached-push : (c : ℕ → ℕ → ℕ) (limit n m p : ℕ) → IsReached c limit n p → n < m → c n m ≤ limit → IsReached c limit m (p + c n m)
 reached-push c limit n m p ([], fitting, sum) less fits = absurd fitting.cut
-reached-push c limit n m p (a ∷ bs, fitting, sum) less fits =
-    (a ∷ (bs ++ (m ∷ [])), record {
-      cut = (fitting.cut.0, rises-push n m a bs fitting.cut.1 less);
-      fits = each-push (λ i j. c i j ≤ limit) n m a bs fitting.cut.1 fitting.fits fits;
-    }, let more = total-push c n m a bs fitting.cut.1 in more ∙ ap (λ t. t + c n m) sum)
+reached-push c limit n m p (a ∷ bs, fitting, sum) less fits = (
+  a ∷ (bs ++ (m ∷ [])),
+  record {
+    cut = (fitting.cut.0, rises-push n m a bs fitting.cut.1 less);
+    fits = each-push (λ i j. c i j ≤ limit) n m a bs fitting.cut.1 fitting.fits fits;
+  },
+  let more = total-push c n m a bs fitting.cut.1 in more ∙ ap (λ t. t + c n m) sum,
+)
 
 -- no handles are cut into no pieces, which cost nothing
 pub reached-none : (c : ℕ → ℕ → ℕ) (limit : ℕ) → IsReached c limit 0 0

@@ -1,6 +1,9 @@
 -- Cuts of a list of handles into groups, the cuts that no other beats, and the prices that show it.
 -- Here `c i j` is what the handles from i up to, but without, j cost as one group, and `limit` is the most that a group may cost.
-use Rattle.std.specs.Prelude.{◌≡◌, ℕ, ◌+◌, ◌<◌, ◌≤◌, List, [], ◌∷◌, length, Option, Some, None, slice_index_or}
+use Rattle.std.specs.Prelude.{◌≡◌, ℕ, ◌+◌, ◌<◌, ◌≤◌, List, [], ◌∷◌, length, Option, Some, None, slice_index_or, slice_range}
+use Rattle.jb_handle.specs.declared.stopped.Stopped.{Stopped}
+use Rattle.jb_cost.specs.declared.geometry.Geometry.{Geometry}
+use Rattle.jb_cost.specs.Cost.{cost}
 
 -- the bounds rise from a up to n
 abbrev pub RisesTo : ℕ → ℕ → List ℕ → Type 0
@@ -31,6 +34,10 @@ EachPiece P (a ∷ bs) = EachFrom P a bs
 abbrev pub total : (ℕ → ℕ → ℕ) → List ℕ → ℕ
 total c [] = 0
 total c (a ∷ bs) = total_from c a bs
+
+-- what the handles from i up to, but without, j cost as one group
+abbrev pub piece_cost : Geometry → List Stopped → ℕ → ℕ → ℕ
+piece_cost g hs i j = cost g (slice_range hs i j)
 
 -- the price that a list of prices has for the first i handles
 abbrev pub price : List (Option ℕ) → ℕ → Option ℕ

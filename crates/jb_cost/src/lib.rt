@@ -1,2 +1,6 @@
-//! What handles cost as one group of a journal, in log blocks, and the cuts of a list of handles into groups.
+//! How many log blocks handles take as one group.
 #![tactic(auto)]
+
+mod geometry;
+
+pub use geometry::Geometry;

@@ -1,4 +1,4 @@
-use Rattle.std.proofs.Common.{◌≡◌, ℕ, ◌<◌, length, slice_index, List, [], ◌∷◌, ◌++◌, reverse, ap, ◌∙◌, refl, rules, arith}
+use Rattle.std.proofs.Common.{◌≡◌, ◌<◌, slice_index, [], ◌∷◌, ◌++◌, reverse, ap, ◌∙◌, refl, rules, arith}
 use Rattle.std.proofs.lemmas.List.{reverse-append}
 use Rattle.jb_plan.proofs.bounds.bounds_to.Goals as goal
 

@@ -1,0 +1,19 @@
+-- The log blocks that a list of handles takes as one group.
+use Rattle.std.specs.Prelude.{ℕ, ◌+◌, List}
+use Rattle.std.specs.Int.{div_ceil}
+use Rattle.std.specs.FinSet as set
+use Rattle.jb_handle.specs.declared.stopped.Stopped.{Stopped}
+use Rattle.jb_handle.specs.Words.{copies, frees}
+use Rattle.jb_cost.specs.declared.geometry.Geometry.{Geometry}
+
+-- the blocks of a group of so many copies and so many frees: the commit block, the copies, the descriptors, the revoke blocks
+abbrev pub blocks_of : Geometry → ℕ → ℕ → ℕ
+blocks_of g copies frees = 1 + copies + div_ceil copies g.t + div_ceil frees g.r
+
+-- the blocks of the handles as one group
+abbrev pub cost : Geometry → List Stopped → ℕ
+cost g hs = blocks_of g (set.len (copies hs)) (set.len (frees hs))
+
+-- the blocks of a handle whose credits are all copies
+abbrev pub worst_cost_of : Geometry → ℕ → ℕ
+worst_cost_of g credits = 1 + credits + div_ceil credits g.t

@@ -1,0 +1,120 @@
+-- Entries whose homes rise: where a search among them ends, what is found there, and what is put there.
+use Rattle.std.proofs.Common.{◌≡◌, ℕ, zero, suc, ◌<◌, Bool, true, false, ◌&&◌, T, List, [], ◌∷◌, length, get_or, set, Some, None, Result, Ok, Err, sym, ap, subst, refl, ◌∙◌, arith}
+use Rattle.std.specs.List.{insert}
+use Rattle.std.specs.List.Sorted.{IsSearchInRange, IsBinarySearchResult, IsNonDecreasingBy, IsStrictlySortedBy}
+use Rattle.std.specs.List.{AllByRecursion}
+use Rattle.std.specs.Map.{keys_of}
+use Rattle.std.proofs.Common.{Less}
+use Rattle.std.specs.Ordering.{nat_cmp, ordering_index, is_lt}
+use Rattle.std.specs.FinMap as map
+use Rattle.std.specs.FinMap.Entries.{below_all, is_sorted-put}
+use Rattle.std.specs.Cmp.{nat_cmp_total}
+use Rattle.std.proofs.lemmas.Cmp.{ranked}
+use Rattle.std.proofs.lemmas.Bool.Decides.{nat_tests}
+use Rattle.jb_handle.specs.Placed.{StandsAt, GoesTo, IsPlaced}
+
+both_parts : (a b : Bool) → T (a && b) → T a × T b
+both_parts true true h = (tt, tt)
+both_parts true false h = absurd h
+both_parts false b h = absurd h
+
+both : (a b : Bool) → T a → T b → T (a && b)
+both true b p q = q
+both false b p q = absurd p
+
+is_lt-less : (x y : ℕ) → T (is_lt (nat_cmp x y)) → x < y
+is_lt-less x y h = grind (arith, nat_tests, h)
+
+less-is_lt : (x y : ℕ) → x < y → T (is_lt (nat_cmp x y))
+less-is_lt x y h = grind (arith, nat_tests)
+
+module _ {W : Type 0} where
+  -- a home below all is below each
+  below-each : (b : ℕ) (es : List (ℕ × W)) → T (below_all nat_cmp b es) → (j : ℕ) (d : ℕ × W) → j < length es → b < (get_or es j d).0
+  below-each b [] h j d lt = absurd (omega arith)
+  below-each b (e ∷ es) h zero d lt = is_lt-less b e.0 (both_parts _ _ h).0
+  below-each b (e ∷ es) h (suc j) d lt = below-each b es (both_parts _ _ h).1 j d (omega arith)
+
+  -- each home is below the later ones
+  pub homes-rise : (es : List (ℕ × W)) → T (map.is_sorted nat_cmp es) → (i j : ℕ) (d : ℕ × W) → i < j → j < length es → (get_or es i d).0 < (get_or es j d).0
+  homes-rise [] h i j d less lt = absurd (omega arith)
+  homes-rise (e ∷ es) h i zero d less lt = absurd (omega arith)
+  homes-rise (e ∷ es) h zero (suc j) d less lt = below-each e.0 es (both_parts _ _ h).0 j d (omega arith)
+  homes-rise (e ∷ es) h (suc i) (suc j) d less lt = homes-rise es (both_parts _ _ h).1 i j d (omega arith) (omega arith)
+
+  module _ (es : List (ℕ × W)) (rising : T (map.is_sorted nat_cmp es)) (b : ℕ) where
+    -- the comparisons with b rise along the list, as a binary search asks
+    comparisons-rise : IsNonDecreasingBy (λ e. ordering_index (nat_cmp e.0 b)) es
+    comparisons-rise i j d le lt = grind (arith, nat_tests, homes-rise es rising i j d, λ (same : i ≡ j). ap (λ k. (get_or es k d).0) same)
+
+    pub searched : (r : Result ℕ ℕ) → IsSearchInRange r (length es) → IsBinarySearchResult (λ e. nat_cmp e.0 b) es r → IsPlaced es b r
+    searched (Ok at) inside equal = record { inside = inside; home = λ d. ranked _ b _ (sym (equal d)) }
+    searched (Err at) inside parted = record {
+      inside = inside;
+      before = λ j d lt. ranked _ b _ (sym ((parted comparisons-rise).0 j d (omega arith) lt));
+      after = λ j d le lt. ranked _ b _ (sym ((parted comparisons-rise).1 j d le lt));
+    }
+
+  rising-tail : (e : ℕ × W) (es : List (ℕ × W)) → T (map.is_sorted nat_cmp (e ∷ es)) → T (map.is_sorted nat_cmp es)
+  rising-tail e es h = (both_parts _ _ h).1
+
+  -- the tail of what stands, or goes, one place later
+  stands-tail : (e : ℕ × W) (es : List (ℕ × W)) (b i : ℕ) → StandsAt (e ∷ es) b (suc i) → StandsAt es b i
+  stands-tail e es b i h = record { inside = omega (arith, h.inside); home = h.home }
+
+  goes-tail : (e : ℕ × W) (es : List (ℕ × W)) (b i : ℕ) → GoesTo (e ∷ es) b (suc i) → GoesTo es b i
+  goes-tail e es b i h = record { inside = omega (arith, h.inside); before = λ j d lt. h.before (suc j) d (omega arith); after = λ j d le lt. h.after (suc j) d (omega arith) (omega arith) }
+
+  -- where the home stands, its word is found and replaced
+  pub find-stands : (es : List (ℕ × W)) → T (map.is_sorted nat_cmp es) → (b i : ℕ) (d : ℕ × W) → StandsAt es b i → map.find nat_cmp b es ≡ Some (get_or es i d).1
+  find-stands [] s b i d h = absurd (omega (arith, h.inside))
+  find-stands (e ∷ es) s b zero d h = grind (arith, nat_tests, h.home d)
+  find-stands (e ∷ es) s b (suc i) d h =
+      let later : e.0 < b = omega (arith, homes-rise (e ∷ es) s 0 (suc i) d (omega arith) h.inside, h.home d) in
+      grind (arith, nat_tests, find-stands es (rising-tail e es s) b i d (stands-tail e es b i h))
+
+  pub put-stands : (es : List (ℕ × W)) → T (map.is_sorted nat_cmp es) → (b i : ℕ) (w : W) → StandsAt es b i → map.put nat_cmp b w es ≡ set es i (b, w)
+  put-stands [] s b i w h = absurd (omega (arith, h.inside))
+  put-stands (e ∷ es) s b zero w h = grind (arith, nat_tests, h.home e)
+  put-stands (e ∷ es) s b (suc i) w h =
+      let later : e.0 < b = omega (arith, homes-rise (e ∷ es) s 0 (suc i) e (omega arith) h.inside, h.home e) in
+      grind (arith, nat_tests, put-stands es (rising-tail e es s) b i w (stands-tail e es b i h))
+
+  -- where it would go, nothing is found, and its word is put there
+  pub find-goes : (es : List (ℕ × W)) (b i : ℕ) → GoesTo es b i → map.find nat_cmp b es ≡ None
+  find-goes [] b i h = refl
+  find-goes (e ∷ es) b zero h =
+      let below : b < e.0 = h.after 0 e (omega arith) (omega arith) in
+      let tail : GoesTo es b 0 = record { inside = omega arith; before = λ j d lt. absurd (omega arith); after = λ j d le lt. h.after (suc j) d (omega arith) (omega arith) } in
+      grind (arith, nat_tests, find-goes es b 0 tail)
+  find-goes (e ∷ es) b (suc i) h =
+      let below : e.0 < b = h.before 0 e (omega arith) in
+      grind (arith, nat_tests, find-goes es b i (goes-tail e es b i h))
+
+  pub put-goes : (es : List (ℕ × W)) (b i : ℕ) (w : W) → GoesTo es b i → map.put nat_cmp b w es ≡ insert es i (b, w)
+  put-goes [] b zero w h = refl
+  put-goes [] b (suc i) w h = absurd (omega (arith, h.inside))
+  put-goes (e ∷ es) b zero w h = let below : b < e.0 = h.after 0 e (omega arith) (omega arith) in grind (arith, nat_tests)
+  put-goes (e ∷ es) b (suc i) w h =
+      let below : e.0 < b = h.before 0 e (omega arith) in
+      grind (arith, nat_tests, put-goes es b i w (goes-tail e es b i h))
+
+  -- the map of entries among which a word was put
+  pub view-put : (es fs : List (ℕ × W)) → T (map.is_sorted nat_cmp es) → (b : ℕ) (w : W) → map.put nat_cmp b w es ≡ fs → T (map.is_sorted nat_cmp fs) × (map.from_sorted {R = nat_cmp} fs ≡ map.insert (map.from_sorted es) b w)
+  view-put es fs rising b w is =
+      let still : T (map.is_sorted nat_cmp fs) = subst (λ gs. T (map.is_sorted nat_cmp gs)) is (is_sorted-put nat_cmp nat_cmp_total b w es rising) in
+      let put_there : map.entries (map.insert (map.from_sorted {R = nat_cmp} es) b w) ≡ fs = map.entries-insert nat_cmp_total _ b w ∙ ap (map.put nat_cmp b w) (map.entries-from_sorted nat_cmp es rising) ∙ is in
+      (still, map.same_entries_map _ _ (map.entries-from_sorted nat_cmp fs still ∙ sym put_there))
+
+  pub view-empty : ◌≡◌ {A = map.FinMap nat_cmp W} (map.from_sorted []) map.empty
+  view-empty = map.empty_of_len _ (map.len-entries _ ∙ ap length (map.entries-from_sorted nat_cmp [] tt))
+
+  below-all : (b : ℕ) (es : List (ℕ × W)) → AllByRecursion (λ x. nat_cmp b x ≡ Less) (keys_of es) → T (below_all nat_cmp b es)
+  below-all b [] h = tt
+  below-all b (e ∷ es) h = both _ _ (less-is_lt b e.0 (ranked b e.0 Less (sym h.0))) (below-all b es h.1)
+
+  -- a tree keeps its entries in this order
+  pub ordered-rise : (es : List (ℕ × W)) → IsStrictlySortedBy nat_cmp (keys_of es) → T (map.is_sorted nat_cmp es)
+  unfolding IsStrictlySortedBy
+  ordered-rise [] h = tt
+  ordered-rise (e ∷ es) h = both _ _ (below-all e.0 es h.0) (ordered-rise es h.1)

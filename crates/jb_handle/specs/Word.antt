@@ -1,0 +1,37 @@
+-- The words that one handle leaves.
+use Rattle.std.specs.Prelude.{◌≡◌, refl, ℕ, Bool, true, false, List, Option, Some, None}
+use Rattle.std.specs.Ordering.{nat_cmp}
+use Rattle.std.specs.Coded.{Coded, code_by, coded_ℕ, coded_list, coded_option}
+use Rattle.std.specs.FinMap as map
+use Rattle.jb_handle.specs.declared.word.Word.{Word}
+use Rattle.jb_handle.specs.declared.word.Word.TheVariants.{Copy, Free}
+
+-- what a handle leaves at each home that it touched
+abbrev pub WordMap : Type 0
+WordMap = map.FinMap nat_cmp Word
+
+-- whether a word is a copy
+abbrev pub is_copy : Word → Bool
+is_copy (Copy bytes) = true
+is_copy Free = false
+
+-- the bytes of a copy, or nothing
+abbrev pub to_option : Word → Option (List ℕ)
+to_option (Copy bytes) = Some bytes
+to_option Free = None
+
+-- a copy of these bytes, or free
+abbrev pub from_option : Option (List ℕ) → Word
+from_option (Some bytes) = Copy bytes
+from_option None = Free
+
+abbrev pub back : (w : Word) → from_option (to_option w) ≡ w
+back (Copy bytes) = refl
+back Free = refl
+
+-- a word can be told by its bytes, as a Model's value must
+abbrev pub word_code : Coded Word
+word_code = code_by (Option (List ℕ)) (coded_option (coded_list coded_ℕ)) to_option from_option back
+
+abbrev pub words_code : Coded WordMap
+words_code = map.code coded_ℕ word_code

@@ -1,0 +1,14 @@
+//! What a handle leaves behind: the last word on each home block that it touched, and the handles that wait in a queue.
+#![tactic(auto)]
+
+mod payload;
+mod size;
+mod stopped;
+mod word;
+mod words;
+
+pub use payload::Payload;
+pub use size::is_within_size;
+pub use stopped::Stopped;
+pub use word::Word;
+pub use words::Words;

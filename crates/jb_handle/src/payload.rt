@@ -1,0 +1,64 @@
+ghost use Rattle.std.specs.Prelude.{◌≡◌, List, ℕ, ◌-◌, ◌≤◌, ◌++◌, length, replicate, IfOk};
+ghost use Rattle.jb_handle.specs.Padded.{padded};
+
+use jb_block::Memory;
+use std::alloc::Global;
+use std::marker::Model;
+
+/// What a block is to hold: some first bytes, and zeros behind them up to the block's length. Only
+/// the first bytes take memory.
+#[derive(Drop)]
+pub struct Payload {
+    bytes: Vec<u8>,
+    len: usize,
+}
+
+impl Model for Payload {
+    ghost Value = { List ℕ };
+
+    ghost view = { λ a. padded a.len a.bytes.items };
+
+    ghost invariant = { λ a. length a.bytes.items ≤ a.len };
+}
+
+impl Payload {
+    /// These bytes, and zeros behind them up to `len` bytes in all. Takes no memory of its own.
+    pub fn padded(bytes: Vec<u8>, len: usize) -> Payload
+        requires fits { length bytes.items ≤ len }
+        ensures { result ≡ padded len bytes.items }
+    {
+        Payload { bytes, len }
+    }
+
+    /// A whole block's bytes.
+    ///
+    /// # Errors
+    ///
+    /// `Memory` where there is none for a copy of them.
+    pub fn of(alloc: Global, block: &[u8]) -> Result<Payload, Memory>
+        ensures { IfOk result (λ payload. payload ≡ block.now) }
+    {
+        let bytes = block.to_vec(alloc)?;
+        Ok(Payload {
+            bytes,
+            len: block.len(),
+        })
+    }
+
+    /// How many bytes the block has, zeros included.
+    pub fn len(&self) -> usize
+        ensures { result ≡ length self.now }
+    {
+        self.len
+    }
+
+    /// Writes the bytes over a block of their number.
+    pub fn copy_into(&self, block: &mut [u8])
+        requires fits { length block.old ≡ length self.now }
+        ensures { block.new ≡ self.now }
+    {
+        let (front, back) = block.split_at_mut(self.bytes.len());
+        front.copy_from_slice(&self.bytes);
+        back.fill(0);
+    }
+}

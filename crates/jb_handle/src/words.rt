@@ -1,0 +1,113 @@
+ghost use Rattle.std.specs.Prelude.{◌≡◌, IfOk, IfErr, OnOk, OnErr, T, IsTrue, ◌↔◌, length, ◌<◌, ℕ};
+ghost use Rattle.std.specs.Ordering.{nat_cmp};
+ghost use Rattle.std.specs.Option.{option_copied};
+ghost use Rattle.std.specs.FinMap as map;
+ghost use Rattle.jb_handle.specs.Placed.{IsPlaced};
+
+use crate::word::Word;
+use jb_block::Memory;
+use std::alloc::Global;
+use std::collections::BTreeMap;
+use std::marker::Model;
+
+/// What a handle leaves at each home block that it touched: home block numbers that rise, each with
+/// its last word.
+#[derive(Drop)]
+pub struct Words {
+    entries: Vec<(u64, Word)>,
+}
+
+impl Model for Words {
+    ghost use Rattle.std.specs.Prelude.{T};
+    ghost use Rattle.std.specs.Ordering.{nat_cmp};
+    ghost use Rattle.std.specs.FinMap as map;
+    ghost use Rattle.jb_handle.specs.Word.{WordMap, words_code};
+
+    ghost Value = { WordMap };
+
+    ghost coded = { words_code };
+
+    ghost view = { λ a. map.from_sorted a.entries.items };
+
+    ghost invariant = { λ a. T (map.is_sorted nat_cmp a.entries.items) };
+}
+
+impl Words {
+    /// No words. Takes no memory.
+    pub fn new(alloc: Global) -> Words
+        ensures { result ≡ map.empty }
+    {
+        Words {
+            entries: Vec::new(alloc),
+        }
+    }
+
+    /// The words of a tree, in the order of their homes.
+    ///
+    /// # Errors
+    ///
+    /// `Memory` where there is none for the list.
+    pub fn from_tree(alloc: Global, tree: BTreeMap<u64, Word>) -> Result<Words, Memory>
+        ensures { IfOk result (λ words. map.entries words ≡ tree.entries) }
+    {
+        let entries = tree.into_iter().collect(alloc)?;
+        Ok(Words { entries })
+    }
+
+    /// How many home blocks have a word.
+    pub fn len(&self) -> usize
+        ensures { result ≡ map.len self.now }
+    {
+        self.entries().len()
+    }
+
+    /// Whether no home block has a word.
+    pub fn is_empty(&self) -> bool
+        ensures { IsTrue result ↔ (map.len self.now ≡ 0) }
+    {
+        self.len() == 0
+    }
+
+    /// The home blocks, in rising order, each with its word.
+    pub fn entries(&self) -> &[(u64, Word)]
+        ensures { result.now ≡ map.entries self.now }
+    {
+        &self.entries
+    }
+
+    /// The word of a home block, or `None` where it has none.
+    pub fn get(&self, home: u64) -> Option<&Word>
+        ensures { option_copied result ≡ map.get self.now home }
+    {
+        match place_of(&self.entries, home) {
+            Ok(at) => Some(&self.entries[at].1),
+            Err(_) => None,
+        }
+    }
+
+    /// Puts a word in the place of the one that the home block had, or as its first.
+    ///
+    /// # Errors
+    ///
+    /// `Memory` where there is none for a further word; the words are as they were.
+    pub fn put(&mut self, home: u64, word: Word) -> Result<(), Memory>
+        ensures ok { OnOk result (self.new ≡ map.insert self.old home word) }
+        ensures err { OnErr result (self.new ≡ self.old) }
+    {
+        match place_of(&self.entries, home) {
+            Ok(at) => {
+                self.entries[at] = (home, word);
+                Ok(())
+            }
+            Err(at) => Ok(self.entries.insert(at, (home, word))?),
+        }
+    }
+}
+
+// Where the home block stands in a list of rising homes, or where it would go.
+fn place_of(entries: &[(u64, Word)], home: u64) -> Result<usize, usize>
+    requires rising { T (map.is_sorted nat_cmp entries.now) }
+    ensures { IsPlaced entries.now home result }
+{
+    entries.binary_search_by_key(&home, |&(at, _)| at)
+}
