@@ -1,3 +1,4 @@
 pub mod Bounds
 pub mod Cuts
 pub mod Leftwards
+pub mod Pieces
