@@ -1,13 +1,12 @@
 -- The pieces of a list of handles: what they weigh, and what they cost.
-use Rattle.std.proofs.Common.{take-add, length-take-le, length-drop, zero, suc, ◌≡◌, ℕ, ◌+◌, ◌-◌, ◌*◌, ◌/◌, ◌%◌, ◌^◌, ◌<◌, ◌≤◌, min, List, [], ◌∷◌, ◌++◌, length, take, drop, get_or, slice_range, sum_by, refl, sym, ap, ◌∙◌, subst, arith, inl, inr, length-append, drop-drop, add-one}
+use Rattle.std.proofs.Common.{take-add, length-take-le, length-drop, zero, suc, ◌≡◌, ℕ, ◌+◌, ◌-◌, ◌*◌, ◌<◌, ◌≤◌, List, [], ◌∷◌, ◌++◌, length, take, drop, get_or, slice_range, refl, sym, ap, ◌∙◌, arith, inl, inr, add-one}
 use Rattle.std.specs.Int.{div_ceil}
 use Rattle.std.specs.FinSet as set
 use Rattle.std.specs.FinMap as map
-use Rattle.std.proofs.Math.Nat.{eq-or-lt_of_le, mul-le-mul_right, mul-le-mul_left, eq-zero-or-pos}
+use Rattle.std.proofs.Math.Nat.{mul-le-mul_left, eq-zero-or-pos}
 use Rattle.std.proofs.Math.Seq.{drop-cons}
 use Rattle.std.proofs.lemmas.Grind.{div_ceil_times}
 use Rattle.std.proofs.lemmas.List.Sums.{sum_by-append, sum_by-take-le}
-use Rattle.std.proofs.lemmas.List.{take-append-drop}
 use Rattle.jb_handle.specs.declared.stopped.Stopped.{Stopped}
 use Rattle.jb_handle.specs.Words.{copies, frees}
 use Rattle.jb_handle.specs.Size.{weight}
@@ -68,15 +67,15 @@ div_ceil-self : (t x : ℕ) → 1 ≤ t → div_ceil x t ≤ x
 div_ceil-self t x positive =
     elim (eq-zero-or-pos (div_ceil x t)) [ inl none ↦ omega (arith, none) | inr some ↦ more some ]
   where
-  more : 0 < div_ceil x t → div_ceil x t ≤ x
-  more some =
-      let k : ℕ = div_ceil x t - 1 in
-      let most = (div_ceil_times x t positive).1 in
-      let e : div_ceil x t ≡ k + 1 = omega arith in
-      let times : k * 1 ≤ k * t = mul-le-mul_left k positive in
-      let parted : (k + 1) * t ≡ k * t + t = omega arith in
-      let same : div_ceil x t * t ≡ (k + 1) * t = ap (λ n. n * t) e in
-      omega (arith, most, e)
+    more : 0 < div_ceil x t → div_ceil x t ≤ x
+    more some =
+        let k : ℕ = div_ceil x t - 1 in
+        let most = (div_ceil_times x t positive).1 in
+        let e : div_ceil x t ≡ k + 1 = omega arith in
+        let times : k * 1 ≤ k * t = mul-le-mul_left k positive in
+        let parted : (k + 1) * t ≡ k * t + t = omega arith in
+        let same : div_ceil x t * t ≡ (k + 1) * t = ap (λ n. n * t) e in
+        omega (arith, most, e)
 
 -- some handles cost at most twice what they weigh
 pub cost-weight : (g : Geometry) (hs : List Stopped) → 0 < length hs → cost g hs ≤ 2 * weight hs
