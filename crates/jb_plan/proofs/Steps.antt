@@ -192,25 +192,25 @@ module _ (c : ℕ → ℕ → ℕ) (limit : ℕ) where
   -- the table of no handles
   pub table-start : (w : ℕ → ℕ) → IsTable c limit w 0 (Some 0 ∷ []) (0 ∷ [])
   table-start w = record {
-      steps = steps-start;
-      number = refl;
-      starts = refl;
-      back = λ j above within. absurd (let h : ⊥ = omega arith in h);
-      within = λ j p below is. first j p below is;
-    }
+    steps = steps-start;
+    number = refl;
+    starts = refl;
+    back = λ j above within. absurd (let h : ⊥ = omega arith in h);
+    within = λ j p below is. first j p below is;
+  }
     where
-    first : (j p : ℕ) → j < 1 → price (Some 0 ∷ []) j ≡ Some p → p ≤ w j
-    first j p below is =
-        let none : j ≡ 0 = omega arith in
-        let same : 0 ≡ p = let both : Some 0 ≡ Some p = ap (price (Some 0 ∷ [])) (sym none) ∙ is in cc in
-        omega arith
+      first : (j p : ℕ) → j < 1 → price (Some 0 ∷ []) j ≡ Some p → p ≤ w j
+      first j p below is =
+          let none : j ≡ 0 = omega arith in
+          let same : 0 ≡ p = let both : Some 0 ≡ Some p = ap (price (Some 0 ∷ [])) (sym none) ∙ is in cc in
+          omega arith
 
   -- the table of one handle more
   pub table-more : (w : ℕ → ℕ) (n : ℕ) (ps : List (Option ℕ)) (froms : List ℕ) (best : Option Step) → IsTable c limit w n ps froms → BestFrom c limit ps 0 (n + 1) best → ((i : ℕ) → i < n + 1 → c i (n + 1) + w i ≤ w (n + 1)) → IsTable c limit w (n + 1) (ps ++ (price_of best ∷ [])) (froms ++ (from_of best ∷ []))
   table-more w n ps froms best table found grows = record {
-      steps = steps-more ps froms n best table.steps table.number table.starts found;
-      number = simp length-append (omega (arith, table.number));
-      starts = simp length-append (omega (arith, table.starts));
-      back = back-more ps froms n best table.back table.starts found;
-      within = within-more w ps n best table.within table.number grows found;
-    }
+    steps = steps-more ps froms n best table.steps table.number table.starts found;
+    number = simp length-append (omega (arith, table.number));
+    starts = simp length-append (omega (arith, table.starts));
+    back = back-more ps froms n best table.back table.starts found;
+    within = within-more w ps n best table.within table.number grows found;
+  }

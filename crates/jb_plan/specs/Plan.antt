@@ -1,5 +1,5 @@
 -- What a plan says of a queue of n handles.
-use Rattle.std.specs.Prelude.{◌≡◌, ℕ, ◌≤◌, List, Option}
+use Rattle.std.specs.Prelude.{◌≡◌, ℕ, List, Option}
 use Rattle.jb_cost.specs.Cut.{EachPiece, total, FitsCut, IsLeastCut, IsFirstToAttain}
 use Rattle.jb_plan.specs.declared.planned.Answer.{Answer}
 use Rattle.jb_plan.specs.declared.planned.Answer.TheVariants.{Cut, NoCut}

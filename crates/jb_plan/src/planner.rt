@@ -21,7 +21,12 @@ use std::alloc::Global;
 /// # Errors
 ///
 /// `Memory` where there is none for the prices, the bounds or the footprint of a group.
-pub fn plan(alloc: Global, handles: &[Stopped], geometry: Geometry, limit: u32) -> Result<Planned, Memory>
+pub fn plan(
+    alloc: Global,
+    handles: &[Stopped],
+    geometry: Geometry,
+    limit: u32,
+) -> Result<Planned, Memory>
     requires size { IsWithinSize handles.now }
     ensures prices { IfOk result (λ planned. ArePrices (piece_cost geometry handles.now) limit (length handles.now) planned.prices.items) }
     ensures answer { IfOk result (λ planned. Answers (piece_cost geometry handles.now) limit (length handles.now) planned.prices.items planned.answer) }

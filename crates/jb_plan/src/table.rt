@@ -17,7 +17,12 @@ pub(crate) struct Table {
 }
 
 // The table of a whole queue, from its front on: each end needs the prices before it.
-pub(crate) fn table_of(alloc: Global, handles: &[Stopped], geometry: Geometry, limit: u32) -> Result<Table, Memory>
+pub(crate) fn table_of(
+    alloc: Global,
+    handles: &[Stopped],
+    geometry: Geometry,
+    limit: u32,
+) -> Result<Table, Memory>
     requires size { IsWithinSize handles.now }
     ensures { IfOk result (λ table. IsTable (piece_cost geometry handles.now) limit (most_of handles.now) (length handles.now) table.prices.items table.froms.items) }
 {
@@ -37,7 +42,14 @@ pub(crate) fn table_of(alloc: Global, handles: &[Stopped], geometry: Geometry, l
 
 // The best last group of a cut of the first `end` handles. The group grows leftwards, which never
 // makes it cheaper, so the first one over the limit ends the search.
-fn best_step(alloc: Global, handles: &[Stopped], end: usize, geometry: Geometry, limit: u32, prices: &[Option<u64>]) -> Result<Option<Step>, Memory>
+fn best_step(
+    alloc: Global,
+    handles: &[Stopped],
+    end: usize,
+    geometry: Geometry,
+    limit: u32,
+    prices: &[Option<u64>],
+) -> Result<Option<Step>, Memory>
     requires size { IsWithinSize handles.now }
     requires end_in { end ≤ length handles.now }
     requires number { length prices.now ≡ end }

@@ -1,7 +1,6 @@
-use Rattle.std.proofs.Common.{◌≡◌, ℕ, length, Some, None, sym, ap, ◌∙◌, subst, arith}
+use Rattle.std.proofs.Common.{◌≡◌, length, slice_index, None, sym, ◌∙◌, subst, arith}
 use Rattle.std.proofs.lemmas.List.{get_or_read}
-use Rattle.jb_cost.specs.Cut.{piece_cost, price}
-use Rattle.jb_plan.specs.Plan.{Answers}
+use Rattle.jb_cost.specs.Cut.{piece_cost, EachPiece}
 use Rattle.jb_plan.proofs.Steps.{prices-steps, answers-cut, answers-none}
 use Rattle.jb_plan.proofs.planner.plan.Goals as goal
 use Rattle.jb_plan.proofs.planner.plan.Goals.{in-Some+in_ok-bounds-in-Some, in-None}
@@ -20,7 +19,9 @@ returns-clause-answer c =
     let table = c.in_ok-table.ensures in
     let read = get_or_read ps n c.index.result.now (omega (arith, table.number)) c.index.ensures None in
     elim c.match-index.branch [
-    | in-Some+in_ok-bounds-in-Some w ↦
-      rw w.answer-is (answers-cut cost c.args.limit ps froms n w.in-Some.total w.in_ok-bounds-in-Some.bounds.items table.steps (sym read ∙ w.in-Some.is) w.in_ok-bounds-in-Some.ensures.cut w.in_ok-bounds-in-Some.ensures.steps)
-    | in-None w ↦ rw w.answer-is (answers-none cost c.args.limit ps froms n table.steps (sym read ∙ w.in-None.is))
+      | in-Some+in_ok-bounds-in-Some w ↦
+          let bounds = w.in_ok-bounds-in-Some.bounds.items in
+          let back = subst (λ fs. EachPiece (λ i j. slice_index fs j ≡ i) bounds) w.deref.ensures.value w.in_ok-bounds-in-Some.ensures.steps in
+          rw w.answer-is (answers-cut cost c.args.limit ps froms n w.in-Some.total bounds table.steps (sym read ∙ w.in-Some.is) w.in_ok-bounds-in-Some.ensures.cut back)
+      | in-None w ↦ rw w.answer-is (answers-none cost c.args.limit ps froms n table.steps (sym read ∙ w.in-None.is))
     ]

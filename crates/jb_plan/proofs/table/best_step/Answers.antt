@@ -1,9 +1,9 @@
-use Rattle.std.proofs.Common.{◌≡◌, ℕ, ◌+◌, ◌-◌, ◌^◌, ◌<◌, ◌≤◌, length, get_or, slice_range, Some, None, Ok, sym, ap, ◌∙◌, subst, rules, arith, le_refl}
+use Rattle.std.proofs.Common.{◌≡◌, ◌+◌, ◌-◌, ◌^◌, ◌<◌, ◌≤◌, length, slice_range, subst, arith}
 use Rattle.jb_handle.specs.Size.{weight}
 use Rattle.jb_cost.specs.Cut.{piece_cost}
-use Rattle.jb_cost.proofs.Pieces.{piece-none, piece-dearer, weight-take}
-use Rattle.jb_plan.specs.Step.{BestFrom, better_step}
-use Rattle.jb_plan.proofs.Best.{best-start, best-more, best-all}
+use Rattle.jb_cost.proofs.Pieces.{piece-dearer, weight-take}
+use Rattle.jb_plan.specs.Step.{BestFrom}
+use Rattle.jb_plan.proofs.Best.{best-more, best-all}
 use Rattle.jb_plan.proofs.Walk.{room-left, covered-left, cost-of_left}
 use Rattle.jb_plan.proofs.table.best_step.Goals as goal
 
@@ -46,6 +46,6 @@ returns-then-cost-from c =
     let added = c.in_ok-cost.ensures.ok g (slice_range hs k c.args.end) c.loop-from.invariant.covers in
     let cost : c.in_ok-cost.cost ≡ piece_cost g hs (k - 1) c.args.end = cost-of_left g hs h k c.args.end c.loop-from-test.true c.loop-from.auto.from c.requires.end_in c.index-handles-from.is c.in_ok-cost.cost added.1 in
     best-all (piece_cost g hs) c.args.limit c.args.prices.now k c.args.end c.loop-from.best c.loop-from.invariant.tried
-      (λ i earlier.
-        let dearer = piece-dearer g hs h (k - 1 - i) i (k - 1) c.args.end c.requires.end_in (omega arith) (omega arith) in
-        omega (arith, c.if-cost-from.true, c.from.ensures))
+    (λ i earlier.
+    let dearer = piece-dearer g hs h (k - 1 - i) i (k - 1) c.args.end c.requires.end_in (omega arith) (omega arith) in
+    omega (arith, c.if-cost-from.true, c.from.ensures))

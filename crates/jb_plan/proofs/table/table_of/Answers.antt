@@ -1,6 +1,6 @@
-use Rattle.std.proofs.Common.{◌≡◌, ℕ, ◌+◌, ◌<◌, ◌≤◌, [], ◌∷◌, ◌++◌, length, ap, ◌∙◌, subst, sym, arith}
+use Rattle.std.proofs.Common.{◌≡◌, ◌+◌, [], ◌∷◌, ◌++◌, ap, ◌∙◌, sym, arith}
 use Rattle.jb_cost.specs.Cut.{piece_cost}
-use Rattle.jb_plan.specs.Step.{IsTable, most_of, price_of, from_of}
+use Rattle.jb_plan.specs.Step.{most_of, price_of, from_of}
 use Rattle.jb_plan.proofs.Steps.{table-more}
 use Rattle.jb_cost.proofs.Pieces.{piece-within}
 use Rattle.jb_plan.proofs.table.table_of.Goals as goal

@@ -1,4 +1,3 @@
-use Rattle.std.proofs.Common.{◌≡◌}
 use Rattle.jb_cost.specs.Cut.{piece_cost}
 use Rattle.jb_plan.specs.Step.{IsTable, most_of}
 use Rattle.jb_plan.proofs.table.table_of.Given as goal
