@@ -4,6 +4,7 @@
 mod payload;
 mod size;
 mod stopped;
+pub mod text;
 mod word;
 mod words;
 
