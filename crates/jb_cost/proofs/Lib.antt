@@ -5,3 +5,4 @@ pub mod Left
 pub mod Leftwards
 pub mod Pieces
 pub mod Sizes
+pub mod Walk

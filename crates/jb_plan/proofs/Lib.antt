@@ -1,3 +1,2 @@
 pub mod Best
 pub mod Steps
-pub mod Walk

@@ -4,7 +4,7 @@ use Rattle.jb_cost.specs.Cut.{piece_cost}
 use Rattle.jb_cost.proofs.Pieces.{piece-dearer, weight-take}
 use Rattle.jb_plan.specs.Step.{BestFrom}
 use Rattle.jb_plan.proofs.Best.{best-more, best-all}
-use Rattle.jb_plan.proofs.Walk.{room-left, covered-left, cost-of_left}
+use Rattle.jb_cost.proofs.Walk.{room-left, stepped-left}
 use Rattle.jb_plan.proofs.table.best_step.Goals as goal
 
 pub add_left-requires : goal.add_left-requires
@@ -28,14 +28,12 @@ loop-from-preserved c =
     let h = c.index-handles-from.result in
     let k = c.loop-from.from in
     let added = c.in_ok-cost.ensures.ok g (slice_range hs k c.args.end) c.loop-from.invariant.covers in
-    let cost : c.in_ok-cost.cost ≡ piece_cost g hs (k - 1) c.args.end = cost-of_left g hs h k c.args.end c.loop-from-test.true c.loop-from.auto.from c.requires.end_in c.index-handles-from.is c.in_ok-cost.cost added.1 in
+    let stepped = stepped-left g hs h k c.args.end c.loop-from-test.true c.loop-from.auto.from c.requires.end_in c.index-handles-from.is c.add_left.new.self c.in_ok-cost.cost added in
+    let cost = stepped.1 in
     let back : k ≡ k - 1 + 1 = omega arith in
     let tried = subst (λ n. BestFrom (piece_cost g hs) c.args.limit c.args.prices.now n c.args.end c.loop-from.best) back c.loop-from.invariant.tried in
     let more = best-more (piece_cost g hs) c.args.limit c.args.prices.now (k - 1) c.args.end c.loop-from.best tried (omega arith) (omega (arith, c.if-cost-from.false, c.from.ensures)) in
-    record {
-      covers = covered-left g hs h k c.args.end c.loop-from-test.true c.loop-from.auto.from c.requires.end_in c.index-handles-from.is c.add_left.new.self added.0;
-      tried = rw (c.better-best.ensures, cost) more;
-    }
+    record { covers = stepped.0; tried = rw (c.better-best.ensures, cost) more; }
 
 pub returns-then-cost-from : goal.returns-then-cost-from
 returns-then-cost-from c =
@@ -44,8 +42,8 @@ returns-then-cost-from c =
     let h = c.index-handles-from.result in
     let k = c.loop-from.from in
     let added = c.in_ok-cost.ensures.ok g (slice_range hs k c.args.end) c.loop-from.invariant.covers in
-    let cost : c.in_ok-cost.cost ≡ piece_cost g hs (k - 1) c.args.end = cost-of_left g hs h k c.args.end c.loop-from-test.true c.loop-from.auto.from c.requires.end_in c.index-handles-from.is c.in_ok-cost.cost added.1 in
+    let cost = (stepped-left g hs h k c.args.end c.loop-from-test.true c.loop-from.auto.from c.requires.end_in c.index-handles-from.is c.add_left.new.self c.in_ok-cost.cost added).1 in
     best-all (piece_cost g hs) c.args.limit c.args.prices.now k c.args.end c.loop-from.best c.loop-from.invariant.tried
-    (λ i earlier.
-    let dearer = piece-dearer g hs h (k - 1 - i) i (k - 1) c.args.end c.requires.end_in (omega arith) (omega arith) in
-    omega (arith, c.if-cost-from.true, c.from.ensures))
+      (λ i earlier.
+        let dearer = piece-dearer g hs h (k - 1 - i) i (k - 1) c.args.end c.requires.end_in (omega arith) (omega arith) in
+        omega (arith, c.if-cost-from.true, c.from.ensures))

@@ -26,10 +26,8 @@ module _ (g : Geometry) (hs : List Stopped) (h : Stopped) (k j : ℕ) (positive 
       let most = weight-part hs (k - 1) j (omega arith) in
       omega (arith, small)
 
-  -- what it covers with this handle
-  pub covered-left : (footprint : Covered) → footprint ≡ covered_by g (h ∷ slice_range hs k j) → footprint ≡ covered_by g (slice_range hs (k - 1) j)
-  covered-left footprint covers = covers ∙ ap (covered_by g) (sym (piece-before hs h k j positive before within is))
-
-  -- what the piece costs with this handle
-  pub cost-of_left : (blocks : ℕ) → blocks ≡ cost g (h ∷ slice_range hs k j) → blocks ≡ piece_cost g hs (k - 1) j
-  cost-of_left blocks is_cost = is_cost ∙ ap (cost g) (sym (piece-before hs h k j positive before within is))
+  -- with this handle it is the footprint of the piece that begins there, and what it tells is the piece's cost
+  pub stepped-left : (footprint : Covered) (blocks : ℕ) → (footprint ≡ covered_by g (h ∷ slice_range hs k j)) × (blocks ≡ cost g (h ∷ slice_range hs k j)) → (footprint ≡ covered_by g (slice_range hs (k - 1) j)) × (blocks ≡ piece_cost g hs (k - 1) j)
+  stepped-left footprint blocks added =
+      let front = sym (piece-before hs h k j positive before within is) in
+      (added.0 ∙ ap (covered_by g) front, added.1 ∙ ap (cost g) front)
