@@ -1,20 +1,14 @@
 -- The pieces of a list of handles: what they weigh, and what they cost.
-use Rattle.std.proofs.Common.{take-add, length-take-le, length-drop, zero, suc, ◌≡◌, ℕ, ◌+◌, ◌-◌, ◌*◌, ◌<◌, ◌≤◌, List, [], ◌∷◌, ◌++◌, length, take, drop, get_or, slice_range, refl, sym, ap, ◌∙◌, arith, inl, inr, add-one}
-use Rattle.std.specs.Int.{div_ceil}
-use Rattle.std.specs.FinSet as set
+use Rattle.std.proofs.Common.{take-add, length-take-le, length-drop, zero, suc, ◌≡◌, ℕ, ◌+◌, ◌-◌, ◌*◌, ◌<◌, ◌≤◌, List, [], ◌∷◌, ◌++◌, length, take, drop, get_or, slice_range, refl, sym, ap, ◌∙◌, arith, add-one}
 use Rattle.std.specs.FinMap as map
-use Rattle.std.proofs.Math.Nat.{mul-le-mul_left, eq-zero-or-pos}
 use Rattle.std.proofs.Math.Seq.{drop-cons}
-use Rattle.std.proofs.lemmas.Grind.{div_ceil_times}
 use Rattle.std.proofs.lemmas.List.Sums.{sum_by-append, sum_by-take-le}
 use Rattle.jb_handle.specs.declared.stopped.Stopped.{Stopped}
-use Rattle.jb_handle.specs.Words.{copies, frees}
 use Rattle.jb_handle.specs.Size.{weight}
 use Rattle.jb_cost.specs.declared.geometry.Geometry.{Geometry}
 use Rattle.jb_cost.specs.Cost.{cost}
 use Rattle.jb_cost.specs.Cut.{piece_cost}
-use Rattle.jb_cost.proofs.Left.{few}
-use Rattle.jb_cost.proofs.Leftwards.{cost-left}
+use Rattle.jb_cost.proofs.Costs.{cost-left, cost-few}
 
 -- a piece that begins one handle earlier has this handle in front
 pub piece-left : (hs : List Stopped) (d : Stopped) (i j : ℕ) → i < j → i < length hs → slice_range hs i j ≡ get_or hs i d ∷ slice_range hs (i + 1) j
@@ -63,32 +57,9 @@ weight-part hs i j within =
     let most = weight-take hs j in
     omega arith
 
-div_ceil-self : (t x : ℕ) → 1 ≤ t → div_ceil x t ≤ x
-div_ceil-self t x positive =
-    elim (eq-zero-or-pos (div_ceil x t)) [ inl none ↦ omega (arith, none) | inr some ↦ more some ]
-  where
-    more : 0 < div_ceil x t → div_ceil x t ≤ x
-    more some =
-        let k : ℕ = div_ceil x t - 1 in
-        let most = (div_ceil_times x t positive).1 in
-        let e : div_ceil x t ≡ k + 1 = omega arith in
-        let times : k * 1 ≤ k * t = mul-le-mul_left k positive in
-        let parted : (k + 1) * t ≡ k * t + t = omega arith in
-        let same : div_ceil x t * t ≡ (k + 1) * t = ap (λ n. n * t) e in
-        omega (arith, most, e)
-
--- some handles cost at most twice what they weigh
-pub cost-weight : (g : Geometry) (hs : List Stopped) → 0 < length hs → cost g hs ≤ 2 * weight hs
-cost-weight g hs some =
-    let all = few hs in
-    let tags = div_ceil-self g.t (set.len (copies hs)) g.tags in
-    let entries = div_ceil-self g.r (set.len (frees hs)) g.entries in
-    omega arith
-
 -- a piece costs at most twice what it weighs
 pub piece-within : (g : Geometry) (hs : List Stopped) (i j : ℕ) → i < j → j ≤ length hs → piece_cost g hs i j + 2 * weight (take i hs) ≤ 2 * weight (take j hs)
 piece-within g hs i j before within =
     let parts = weight-piece hs i j (omega arith) in
     let long : length (slice_range hs i j) ≡ j - i = length-take-le (j - i) (drop i hs) (simp length-drop (omega arith)) in
-    let most = cost-weight g (slice_range hs i j) (omega arith) in
-    omega (arith, most)
+    omega (arith, cost-few g (slice_range hs i j))

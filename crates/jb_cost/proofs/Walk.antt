@@ -1,30 +1,22 @@
 -- A footprint that goes leftwards over the handles of a piece.
 use Rattle.std.proofs.Common.{◌≡◌, ℕ, ◌+◌, ◌-◌, ◌^◌, ◌<◌, ◌≤◌, List, ◌∷◌, length, get_or, slice_range, sym, ap, ◌∙◌, arith}
-use Rattle.std.proofs.lemmas.List.Sums.{sum_by-cons}
-use Rattle.std.specs.FinSet as set
 use Rattle.std.specs.FinMap as map
 use Rattle.jb_handle.specs.declared.stopped.Stopped.{Stopped}
-use Rattle.jb_handle.specs.Words.{copies, frees}
 use Rattle.jb_handle.specs.Size.{weight, IsWithinSize}
 use Rattle.jb_cost.specs.declared.geometry.Geometry.{Geometry}
 use Rattle.jb_cost.specs.Cost.{cost}
 use Rattle.jb_cost.specs.Cut.{piece_cost}
 use Rattle.jb_cost.specs.Footprint.{Covered, covered_by}
 use Rattle.jb_cost.proofs.Pieces.{piece-before, weight-part}
-use Rattle.jb_cost.proofs.Left.{few}
+use Rattle.jb_cost.proofs.Covers.{room-left as has-room}
 
 module _ (g : Geometry) (hs : List Stopped) (h : Stopped) (k j : ℕ) (positive : 0 < k) (before : k ≤ j) (within : j ≤ length hs) (is : h ≡ get_or hs (k - 1) h) where
   -- the footprint has room for the words of the handle before it
-  pub room-left : (footprint : Covered) → IsWithinSize hs → footprint ≡ covered_by g (slice_range hs k j) → set.len footprint.copies + set.len footprint.frees + map.len h.words ≤ 2 ^ 62
-  unfolding covered_by
+  pub room-left : (footprint : Covered) → IsWithinSize hs → footprint ≡ covered_by g (slice_range hs k j) → footprint.copies + footprint.frees + map.len h.words ≤ 2 ^ 62
   room-left footprint small covers =
-      let copied : set.len footprint.copies ≡ set.len (copies (slice_range hs k j)) = ap (λ (f : Covered). set.len f.copies) covers in
-      let freed : set.len footprint.frees ≡ set.len (frees (slice_range hs k j)) = ap (λ (f : Covered). set.len f.frees) covers in
-      let all = few (slice_range hs k j) in
       let whole : weight (slice_range hs (k - 1) j) ≡ weight (h ∷ slice_range hs k j) = ap weight (piece-before hs h k j positive before within is) in
-      let parts : weight (h ∷ slice_range hs k j) ≡ map.len h.words + 1 + weight (slice_range hs k j) = sum_by-cons (λ h. map.len h.words + 1) h (slice_range hs k j) in
       let most = weight-part hs (k - 1) j (omega arith) in
-      omega (arith, small)
+      has-room g (slice_range hs k j) footprint covers h (omega (arith, small))
 
   -- with this handle it is the footprint of the piece that begins there, and what it tells is the piece's cost
   pub stepped-left : (footprint : Covered) (blocks : ℕ) → (footprint ≡ covered_by g (h ∷ slice_range hs k j)) × (blocks ≡ cost g (h ∷ slice_range hs k j)) → (footprint ≡ covered_by g (slice_range hs (k - 1) j)) × (blocks ≡ piece_cost g hs (k - 1) j)
