@@ -1,9 +1,12 @@
 //! How many log blocks handles take as one group.
 #![tactic(auto)]
 
+mod footprint;
 mod geometry;
 mod group;
 mod last_words;
+mod met;
 
+pub use footprint::Footprint;
 pub use geometry::Geometry;
 pub use group::group_cost;
