@@ -12,7 +12,8 @@ use Rattle.jb_handle.specs.declared.fault.QueueFault.{QueueFault}
 use Rattle.jb_handle.specs.declared.stopped.Stopped.{Stopped}
 use Rattle.jb_handle.specs.declared.word.Word.{Word}
 use Rattle.jb_handle.specs.Parts.{grow, lines, words}
-use Rattle.jb_handle.specs.Queue.{op_of, after_ops, handle_of, behind_h, after_lines, first_of}
+use Rattle.jb_handle.specs.Parts.{first_of}
+use Rattle.jb_handle.specs.Queue.{op_of, after_ops, handle_of, behind_h, after_lines}
 use Rattle.jb_handle.specs.Size.{weight}
 use Rattle.jb_handle.specs.Word.{WordMap}
 use Rattle.jb_handle.proofs.Splits.{lines-nil, lines-stop, lines-goes, words-nil, words-stop, words-goes}

@@ -1,5 +1,5 @@
 -- What the text of a queue says, step by step: its lines from the first on, and the words of a line from the left.
-use Rattle.std.specs.Prelude.{◌≡◌, ℕ, ◌+◌, ◌^◌, ◌≤◌, ◌==◌, ◌&&◌, nat_lt, nat_le, Bool, if◌then◌else◌, List, [], ◌∷◌, ◌++◌, length, codes, Option, option_map, Some, None, Result, Ok, Err}
+use Rattle.std.specs.Prelude.{◌≡◌, ℕ, ◌+◌, ◌^◌, ◌≤◌, ◌==◌, ◌&&◌, nat_lt, nat_le, Bool, if◌then◌else◌, List, [], ◌∷◌, ◌++◌, length, codes, Option, Some, None, Result, Ok, Err}
 use Rattle.std.specs.FinMap as map
 use Rattle.hex.specs.Hex.{decode_of}
 use Rattle.hex.specs.declared.error.FromHexError.{FromHexError}
@@ -15,14 +15,8 @@ use Rattle.jb_handle.specs.declared.stopped.Stopped.{Stopped}
 use Rattle.jb_handle.specs.declared.word.Word.{Word}
 use Rattle.jb_handle.specs.declared.word.Word.TheVariants.{Copy, Free}
 use Rattle.jb_handle.specs.Padded.{padded}
-use Rattle.jb_handle.specs.Parts.{before, onward, lines, words, behind_word, and_then, number_of}
+use Rattle.jb_handle.specs.Parts.{◌>>=◌, before, onward, lines, words, behind_word, first_of, and_then, number_of}
 use Rattle.jb_handle.specs.Word.{WordMap}
-
--- the ? of the logic: the second step, if the first gave a value
-infixl 10 ◌>>=◌
-abbrev pub ◌>>=◌ : {A B E : Type 0} → Result A E → (A → Result B E) → Result B E
-Ok x >>= f = f x
-Err e >>= f = Err e
 
 -- a value, or the cause of a fault in its place
 abbrev pub or_cause : {A : Type 0} → Cause → Option A → Result A Cause
@@ -119,11 +113,6 @@ size_of line = size_of_number (number_behind (codes "bs ") line)
 -- the limit that a line gives: the most log blocks that a group may take
 abbrev pub limit_of : List ℕ → Option ℕ
 limit_of line = and_then (number_behind (codes "limit ") line) (λ limit. where_true (nat_le 3 limit && nat_le limit 2147483646) limit)
-
--- what the first of some lines gives, and the lines behind it
-abbrev pub first_of : {A : Type 0} → (List ℕ → Option A) → List (List ℕ) → Option (A × List (List ℕ))
-first_of read [] = None
-first_of read (line ∷ more) = option_map (λ x. (x, more)) (read line)
 
 -- a queue as a value
 pub record Queue : Type 0 where

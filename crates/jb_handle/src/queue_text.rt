@@ -6,7 +6,8 @@ ghost use Rattle.jb_block.specs.Size.{bytes_of};
 ghost use Rattle.jb_handle.specs.Parts.{lines, words};
 ghost use Rattle.jb_handle.specs.Size.{weight};
 ghost use Rattle.jb_handle.specs.QueueText.{value_of};
-ghost use Rattle.jb_handle.specs.Queue.{Gives, Reports, after_ops, handle_of, queue_of, after_lines, first_of, size_of, limit_of};
+ghost use Rattle.jb_handle.specs.Parts.{first_of};
+ghost use Rattle.jb_handle.specs.Queue.{Gives, Reports, after_ops, handle_of, queue_of, after_lines, size_of, limit_of};
 
 use crate::fault::{Cause, QueueFault};
 use crate::gathered::Gathered;
