@@ -6,5 +6,4 @@ ghost use Rattle.jb_price.specs.Verdict.{PlannedIsAccepted};
 /// totals: such a certificate has none of the faults, so every certificate of a plan is accepted.
 pub fn planned()
     ensures { PlannedIsAccepted }
-{
-}
+{}

@@ -2,9 +2,9 @@
 #![tactic(auto)]
 
 mod certificate;
-mod checker;
 mod check_cut;
 mod check_prices;
+mod checker;
 pub mod laws;
 mod print;
 mod verdict;
