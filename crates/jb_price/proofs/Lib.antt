@@ -1,3 +1,4 @@
+pub mod Each
 pub mod Undercutting
 pub mod Verdicts
 pub mod Walks

@@ -1,4 +1,5 @@
 pub mod Certificate
 pub mod FirstUndercut
+pub mod Reading
 pub mod Sum
 pub mod Verdict
