@@ -1,4 +1,5 @@
 pub mod Handles
+pub mod Joins
 pub mod LastWord
 pub mod Numerals
 pub mod Ops
