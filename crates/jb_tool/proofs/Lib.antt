@@ -1,3 +1,4 @@
 pub mod Appended
+pub mod Best
 pub mod Refused
 pub mod Taken

@@ -2,7 +2,7 @@
 use Rattle.std.proofs.Common.{◌≡◌, ◌⊎◌, ℕ, List, [], Option, Some, None, Err, IfSome, refl, subst, inl, inr}
 use Rattle.jb_words.specs.Faults.{HasKind, Kinds, kind_of}
 use Rattle.jb_words.specs.Named.{Asked}
-use Rattle.jb_words.specs.Named.Asked.{AsksCost}
+use Rattle.jb_words.specs.Named.Asked.{AsksCost, AsksPlan}
 use Rattle.jb_words.specs.declared.ErrorKind.TheVariants.{OutOfMemory}
 use Rattle.jb_words.specs.declared.Error.{Error}
 use Rattle.jb_tool.specs.Runs.{Closes, Runs}
@@ -13,6 +13,7 @@ use Rattle.jb_tool.specs.declared.stop.Stop.TheVariants.{Memory}
 memory_runs : (asked : Asked) (input : Option (List ℕ)) (old new : Held) (status : ℕ) → Closes (Err Memory) old new status
     → Runs asked input old new status
 memory_runs (AsksCost file) input old new status closed = (Err Memory, old, inr (Memory, refl, tt, refl), closed)
+memory_runs (AsksPlan file) input old new status closed = (Err Memory, old, inr (Memory, refl, tt, refl), closed)
 
 pub refused_runs : (kinds : Kinds) (error : Error) (asked : Option Asked) (input : Option (List ℕ)) (old new : Held) (status : ℕ)
     → HasKind kinds error ⊎ (asked ≡ None) → kinds ≡ [] → (kind_of error ≡ OutOfMemory → Closes (Err Memory) old new status)

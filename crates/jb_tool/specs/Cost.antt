@@ -6,9 +6,8 @@ use Rattle.jb_block.specs.Size.{bytes_of}
 use Rattle.jb_block.specs.Width.{entry_len, is_wide, tag_len}
 use Rattle.jb_handle.specs.Queue.{Queue, queue_of}
 use Rattle.jb_handle.specs.Words.{copies, frees}
-use Rattle.jb_handle.specs.declared.fault.Cause.{Cause}
-use Rattle.jb_handle.specs.declared.fault.Cause.TheVariants.{BlockSizeLine, LimitLine, HandleLine, OpWord, DataWord, Memory}
 use Rattle.jb_handle.specs.declared.fault.QueueFault.{QueueFault}
+use Rattle.jb_tool.specs.Faulty.{queue_fault}
 use Rattle.jb_tool.specs.Said.{Said}
 
 -- how many tags a full descriptor of the queue's journal holds
@@ -35,23 +34,6 @@ cost_line cost limit = record {
   status = if nat_lt limit cost then 1 else 0;
   out = codes "cost " ++ (decimal cost ++ (codes " limit " ++ (decimal limit ++ verdict cost limit)));
   err = [];
-}
-
--- the name of what is wrong with a line
-abbrev pub cause_name : Cause → List ℕ
-cause_name BlockSizeLine = codes "BlockSizeLine"
-cause_name LimitLine = codes "LimitLine"
-cause_name HandleLine = codes "HandleLine"
-cause_name OpWord = codes "OpWord"
-cause_name DataWord = codes "DataWord"
-cause_name Memory = codes "Memory"
-
--- what every command over a queue text says where the text has a fault: its first one
-abbrev pub queue_fault : QueueFault → Said
-queue_fault fault = record {
-  status = 2;
-  out = [];
-  err = codes "jb: queue line " ++ (decimal fault.line ++ (codes ": " ++ (cause_name fault.cause ++ codes "\n")));
 }
 
 -- what `jb cost` says of a queue, or of its first fault

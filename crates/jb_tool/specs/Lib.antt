@@ -1,4 +1,6 @@
 pub mod Cost
+pub mod Faulty
+pub mod Plan
 pub mod Puts
 pub mod Runs
 pub mod Said

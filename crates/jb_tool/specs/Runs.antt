@@ -2,8 +2,9 @@
 use Rattle.std.specs.Prelude.{◌≡◌, ◌<◌, ◌≤◌, ◌⊎◌, ℕ, List, Option, None, Result, Ok, Err, IfSome, codes, if◌then◌else◌, length}
 use Rattle.std.specs.Str.{bytes_eq}
 use Rattle.jb_words.specs.Named.{Asked}
-use Rattle.jb_words.specs.Named.Asked.{AsksCost}
+use Rattle.jb_words.specs.Named.Asked.{AsksCost, AsksPlan}
 use Rattle.jb_tool.specs.Cost.{cost_said}
+use Rattle.jb_tool.specs.Plan.{PlanSays}
 use Rattle.jb_tool.specs.Puts.{PutsPart}
 use Rattle.jb_tool.specs.Said.{Held, Said, Tells}
 use Rattle.jb_tool.specs.Stops.{line_of, status_of}
@@ -30,9 +31,9 @@ HasNoText name known Memory = Unit {0}
 HasNoText name known WriteFault = ⊥
 
 -- a command told what it has to say of the text behind this name, or ended without a word for want of the text or of memory
-abbrev pub Ends : (List ℕ → Said) → List ℕ → Option (List ℕ) → Held → Held → Result ℕ Stop → Type 0
-Ends says name input old new end =
-    ((text : List ℕ) × IsText (known_behind name input) text × Tells (says text) old new end)
+abbrev pub Ends : (List ℕ → Said → Type 0) → List ℕ → Option (List ℕ) → Held → Held → Result ℕ Stop → Type 0
+Ends Says name input old new end =
+    ((text : List ℕ) × (words : Said) × IsText (known_behind name input) text × Says text words × Tells words old new end)
     ⊎ ((stop : Stop) × (end ≡ Err stop) × HasNoText name (known_behind name input) stop × (new ≡ old))
 
 -- the program's status, and the line of a command that ended without an answer
@@ -43,7 +44,8 @@ Closes (Err stop) old new status =
 
 -- how the command that the words ask for ends
 abbrev pub EndsAsked : Asked → Option (List ℕ) → Held → Held → Result ℕ Stop → Type 0
-EndsAsked (AsksCost file) = Ends cost_said file
+EndsAsked (AsksCost file) = Ends (λ text words. words ≡ cost_said text) file
+EndsAsked (AsksPlan file) = Ends PlanSays file
 
 -- the whole run of the command that the words ask for
 abbrev pub Runs : Asked → Option (List ℕ) → Held → Held → ℕ → Type 0

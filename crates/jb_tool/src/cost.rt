@@ -1,12 +1,12 @@
-ghost use Rattle.std.specs.Prelude.{◌≡◌, ◌≢◌, ◌^◌, ◌<◌, IfOk, length};
-ghost use Rattle.jb_handle.specs.declared.fault.Cause.TheVariants.{Memory as OutOfMemory};
+ghost use Rattle.std.specs.Prelude.{◌≡◌, ◌^◌, ◌<◌, IfOk, length};
 ghost use Rattle.jb_tool.specs.Said.{said};
-ghost use Rattle.jb_tool.specs.Cost.{cause_name, cost_line, cost_said, queue_fault};
+ghost use Rattle.jb_tool.specs.Cost.{cost_line, cost_said};
 
 use crate::answer::Answer;
+use crate::queue_fault::fault_told;
 use jb_block::Memory;
 use jb_cost::{Geometry, group_cost};
-use jb_handle::{Cause, QueueFault, read_queue};
+use jb_handle::read_queue;
 use std::alloc::Global;
 
 /// What `jb cost` says of the bytes of a queue text: the log blocks that all its handles take as one group, and whether
@@ -47,28 +47,4 @@ fn cost_told(alloc: Global, cost: u64, limit: u32) -> Result<Answer, Memory>
             err: String::new(alloc),
         })
     }
-}
-
-/// What every command over a queue text says of its first fault, status 2.
-///
-/// # Errors
-/// `Memory` where that is the fault, and where a growth was refused.
-pub fn fault_told(alloc: Global, fault: QueueFault) -> Result<Answer, Memory>
-    ensures said { IfOk result (λ answer. said answer ≡ queue_fault fault) }
-    ensures told { IfOk result (λ _. fault.cause ≢ OutOfMemory) }
-{
-    let line = fault.line;
-    let cause = match fault.cause {
-        Cause::BlockSizeLine => "BlockSizeLine",
-        Cause::LimitLine => "LimitLine",
-        Cause::HandleLine => "HandleLine",
-        Cause::OpWord => "OpWord",
-        Cause::DataWord => "DataWord",
-        Cause::Memory => return Err(Memory),
-    };
-    Ok(Answer {
-        status: 2,
-        out: String::new(alloc),
-        err: format!(in alloc; "jb: queue line {line}: {cause}\n")?,
-    })
 }

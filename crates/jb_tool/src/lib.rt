@@ -4,7 +4,9 @@
 mod answer;
 mod command_line;
 mod cost;
+mod plan;
 mod putting;
+mod queue_fault;
 mod reading;
 mod refusal;
 mod running;
@@ -14,6 +16,7 @@ pub use answer::Answer;
 pub use command_line::run;
 pub use cost::cost_answer;
 pub use jb_words::Plain;
+pub use plan::plan_answer;
 pub use reading::{ReadFault, TEXT_LIMIT, read_within};
 pub use refusal::refuse_words;
 pub use running::{perform, run_plain};

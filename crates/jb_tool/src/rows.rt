@@ -2,6 +2,7 @@
 
 mod costs;
 mod files;
+mod plans;
 mod refusals;
 mod streams;
 mod texts;

@@ -4,6 +4,7 @@ ghost use Rattle.jb_tool.specs.Runs.{EndsAsked, Runs};
 
 use crate::answer::tell;
 use crate::cost::cost_answer;
+use crate::plan::plan_answer;
 use crate::reading::read_text;
 use crate::stop::Stop;
 use jb_words::Plain;
@@ -29,6 +30,11 @@ pub fn perform<'a, R: Files + AllocGlobal, I: Read, O: Write, E: Write>(
         Plain::Cost { file } => {
             let text = read_text(rt, file, input)?;
             let answer = cost_answer(rt.alloc(), text.as_slice())?;
+            tell(&answer, out, err)
+        }
+        Plain::Plan { file } => {
+            let text = read_text(rt, file, input)?;
+            let answer = plan_answer(rt.alloc(), text.as_slice())?;
             tell(&answer, out, err)
         }
     }

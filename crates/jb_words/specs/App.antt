@@ -20,4 +20,7 @@ jb_top =
 
 -- `jb` with its commands
 abbrev pub jb_app : App
-jb_app = with_subcommand jb_top (file_app (codes "cost")).top
+jb_app =
+    let cost = (file_app (codes "cost")).top in
+    let plan = (file_app (codes "plan")).top in
+    with_subcommand (with_subcommand jb_top cost) plan

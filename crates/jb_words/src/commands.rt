@@ -49,5 +49,11 @@ pub fn jb_command<'a>(alloc: Global) -> Result<Command<'a>, AllocError>
         "cost",
         "Prints the log blocks that the queue takes as one group",
     )?;
-    jb.subcommand(cost)
+    let plan = over_file(
+        alloc,
+        "plan",
+        "Prints a least cut of the queue into groups, with its prices",
+    )?;
+    let jb = jb.subcommand(cost)?;
+    jb.subcommand(plan)
 }

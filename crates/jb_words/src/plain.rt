@@ -6,4 +6,9 @@ pub enum Plain<'a> {
         /// The queue text, or `-` for standard input.
         file: &'a str,
     },
+    /// `jb plan FILE`: a cut of the queue into groups that no other cut beats, with its certificate.
+    Plan {
+        /// The queue text, or `-` for standard input.
+        file: &'a str,
+    },
 }

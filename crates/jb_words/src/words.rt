@@ -3,7 +3,7 @@ ghost use Rattle.clap.specs.Kinds.{FailsBy};
 ghost use Rattle.clap.specs.Words.{app_of, first_of, found_of, rows_of, subcommand_of, subcommand_rows_of};
 ghost use Rattle.jb_words.specs.App.{jb_app};
 ghost use Rattle.jb_words.specs.Faults.{HasKind, faults_in};
-ghost use Rattle.jb_words.specs.Named.{asked_in, asked_of, asks, cost_asked};
+ghost use Rattle.jb_words.specs.Named.{asked_in, asked_of, asks};
 
 use crate::commands::jb_command;
 use crate::plain::Plain;
@@ -48,18 +48,10 @@ fn plain_of<'a>(matches: &ArgMatches<'a>) -> Option<Plain<'a>>
 {
     let (name, found) = matches.subcommand()?;
     match name {
-        "cost" => cost_of(found),
+        "cost" => Some(Plain::Cost { file: word_of(found, "FILE")? }),
+        "plan" => Some(Plain::Plan { file: word_of(found, "FILE")? }),
         _ => None,
     }
-}
-
-// The words of `jb cost`.
-fn cost_of<'a>(found: &ArgMatches<'a>) -> Option<Plain<'a>>
-    ensures { option_map asks result ≡ cost_asked (rows_of (found_of found.now)) }
-{
-    Some(Plain::Cost {
-        file: word_of(found, "FILE")?,
-    })
 }
 
 // The word that was given under this name.
