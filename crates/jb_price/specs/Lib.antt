@@ -1,3 +1,6 @@
 pub mod Certificate
+pub mod FirstUndercut
 pub mod ReadBack
 pub mod Reading
+pub mod Sum
+pub mod Verdict

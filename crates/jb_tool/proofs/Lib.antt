@@ -1,0 +1,4 @@
+pub mod Appended
+pub mod Best
+pub mod Refused
+pub mod Taken
