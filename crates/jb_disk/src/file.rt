@@ -1,5 +1,5 @@
 //! A file of the operating system as a disk.
-ghost use Rattle.std.specs.Prelude.{◌≡◌, ◌<◌, ◌*◌, ◌^◌, [], is_ok, IfOk};
+ghost use Rattle.std.specs.Prelude.{◌≡◌, ◌<◌, ◌*◌, ◌/◌, ◌^◌, ◌↔◌, [], is_ok, IsTrue, Ok, IfOk};
 ghost use Rattle.jb_block.specs.Size.{bytes_of};
 ghost use Rattle.jb_disk.specs.Faults.{CountsFault};
 ghost use Rattle.jb_disk.specs.Lives.{is_block_size};
@@ -7,6 +7,7 @@ ghost use Rattle.jb_disk.specs.Lives.{is_block_size};
 use crate::{Disk, Fault};
 use jb_block::BlockSize;
 use std::fs::File;
+use std::io;
 use std::os::unix::fs::FileExt;
 
 /// An open file as a disk. Its blocks are the whole blocks of the length that it had when it was
@@ -34,11 +35,10 @@ impl FileDisk {
         let Ok(metadata) = file.metadata() else {
             return Err(Fault);
         };
-        let blocks = metadata.len() / u64::from(size.bytes());
         Ok(FileDisk {
             file,
             size,
-            blocks,
+            blocks: whole_blocks(metadata.len(), size),
             faults: 0,
         })
     }
@@ -85,25 +85,34 @@ impl Disk for FileDisk {
         let at = place * u64::from(self.size.bytes());
         let whole = buf.len();
         let answer = self.file.read_at(buf, at);
-        settle(
-            matches!(answer, Ok(moved) if moved == whole),
-            &mut self.faults,
-        )
+        settle(is_whole(&answer, whole), &mut self.faults)
     }
 
     fn write(&mut self, place: u64, bytes: &[u8]) -> Result<(), Fault> {
         let at = place * u64::from(self.size.bytes());
         let answer = self.file.write_at(bytes, at);
-        settle(
-            matches!(answer, Ok(moved) if moved == bytes.len()),
-            &mut self.faults,
-        )
+        settle(is_whole(&answer, bytes.len()), &mut self.faults)
     }
 
     fn sync(&mut self) -> Result<(), Fault> {
         let answer = self.file.sync_data();
         settle(answer.is_ok(), &mut self.faults)
     }
+}
+
+// How many whole blocks so many bytes have.
+fn whole_blocks(len: u64, size: BlockSize) -> u64
+    ensures value { result ≡ len / bytes_of size }
+    ensures addressed { result * bytes_of size < 2 ^ 64 }
+{
+    len / u64::from(size.bytes())
+}
+
+// Whether so many bytes were moved, and no fewer.
+fn is_whole(answer: &io::Result<usize>, len: usize) -> bool
+    ensures { IsTrue result ↔ (answer.now ≡ Ok len) }
+{
+    matches!(answer, Ok(moved) if *moved == len)
 }
 
 // Counts a fault where the call did not succeed.
