@@ -9,3 +9,6 @@ pub mod Rising
 pub mod Splits
 pub mod Trees
 pub mod Weights
+pub mod SpelledOps
+pub mod SpelledHandles
+pub mod SpelledText
