@@ -1,6 +1,6 @@
 -- A handle's line is read exactly where it spells its words.
-use Rattle.std.proofs.Common.{◌≡◌, ◌≢◌, ◌⊎◌, ◌∙◌, sym, ap, ℕ, ◌+◌, ◌^◌, ◌<◌, ◌≤◌, ◌==◌, Bool, true, false, cond, if◌then◌else◌, List, [], ◌∷◌, ◌++◌, length, refl, arith, append_assoc, Option, Some, None, Result, Ok, Err, inl, inr}
-use Rattle.std.specs.Prelude.{codes, decimal}
+use Rattle.std.proofs.Common.{◌≡◌, ◌∙◌, sym, ap, ℕ, ◌==◌, Bool, true, false, cond, if◌then◌else◌, List, [], ◌∷◌, ◌++◌, refl, arith, Option, Some, None, Result, Ok, Err, inl, inr}
+use Rattle.std.specs.Prelude.{codes}
 use Rattle.std.specs.Option.{option_or}
 use Rattle.std.specs.List.{AllByRecursion}
 use Rattle.std.specs.Ordering.{nat_cmp, eq_by_cmp}
@@ -8,7 +8,6 @@ use Rattle.std.specs.Cmp.{nat_cmp_total}
 use Rattle.std.specs.FinMap as map
 use Rattle.std.specs.FinMap.{nat_cmp-IsAntisymmetric}
 use Rattle.std.proofs.lemmas.Bool.{cases_eq, eqb-true}
-use Rattle.std.proofs.lemmas.List.{append-nil}
 use Rattle.std.proofs.lemmas.Bool.Decides.{nat_tests}
 use Rattle.jb_block.specs.declared.width.Width.{Width}
 use Rattle.jb_handle.specs.declared.fault.Cause.{Cause}
@@ -18,7 +17,7 @@ use Rattle.jb_handle.specs.Parts.{words, grow, spaced}
 use Rattle.jb_handle.specs.Queue.{op_of, after_ops, behind_h, handle_of}
 use Rattle.jb_handle.specs.Spelling.{Op, Each, SpellsOp, SpellsHandle, last_op}
 use Rattle.jb_handle.specs.Word.{WordMap}
-use Rattle.jb_handle.proofs.Joins.{Without, words-put, words-one}
+use Rattle.jb_handle.proofs.Joins.{Without, words-spaced}
 use Rattle.jb_handle.proofs.Ops.{ops-goes, ops-fails, ops-end, tested}
 use Rattle.jb_handle.proofs.SpelledOps.{op-is, op-from, op-clear, IsStop, space-stops}
 use Rattle.jb_handle.proofs.Splits.{words-nil, words-stop, words-goes}
@@ -31,13 +30,9 @@ grow-spaced b text (piece ∷ more) is = let tail : piece ++ spaced more ≡ tex
 pub spaced-words : (text : List ℕ) → spaced (words text) ≡ 32 ∷ text
 spaced-words [] = ap spaced words-nil
 spaced-words (b ∷ text) = elim (cases_eq b 32) [
-    | inl same ↦ ap spaced (words-stop b text same) ∙ ap (λ bs. 32 ∷ bs) (spaced-words text) ∙ ap (λ first. 32 ∷ first ∷ text) (sym same)
-    | inr other ↦ ap spaced (words-goes b text other) ∙ grow-spaced b text (words text) (spaced-words text)
-  ]
-
-pub words-spaced : (word : List ℕ) (more : List (List ℕ)) → AllByRecursion (Without 32) (word ∷ more) → words (word ++ spaced more) ≡ word ∷ more
-words-spaced word [] clear = ap words (append-nil word) ∙ words-one word clear.0
-words-spaced word (next ∷ more) clear = words-put word (next ++ spaced more) clear.0 ∙ ap (λ ws. word ∷ ws) (words-spaced next more clear.1)
+  | inl same ↦ ap spaced (words-stop b text same) ∙ ap (λ bs. 32 ∷ bs) (spaced-words text) ∙ ap (λ first. 32 ∷ first ∷ text) (sym same)
+  | inr other ↦ ap spaced (words-goes b text other) ∙ grow-spaced b text (words text) (spaced-words text)
+]
 
 -- what a map has after an op, and after all
 insert-last : (had : WordMap) (op : Op) (b : ℕ) → map.get (map.insert had op.0 op.1) b ≡ option_or (if op.0 == b then Some op.1 else None) (map.get had b)

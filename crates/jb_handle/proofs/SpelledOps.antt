@@ -1,11 +1,11 @@
 -- A word is read exactly where it spells an op.
-use Rattle.std.proofs.Common.{subst, ◌≡◌, ◌⊎◌, ◌≢◌, ◌∙◌, sym, ap, ℕ, ◌+◌, ◌^◌, ◌<◌, ◌≤◌, ◌==◌, ◌&&◌, nat_lt, nat_le, Bool, true, false, if◌then◌else◌, List, [], ◌∷◌, ◌++◌, length, refl, arith, append_assoc, Option, Some, None, Result, Ok, Err, inl, inr}
+use Rattle.std.proofs.Common.{subst, ◌≡◌, ◌⊎◌, ◌∙◌, sym, ap, ℕ, ◌^◌, ◌<◌, ◌≤◌, ◌==◌, ◌&&◌, nat_lt, nat_le, Bool, true, false, if◌then◌else◌, List, [], ◌∷◌, ◌++◌, length, refl, arith, Option, Some, None, Result, Ok, Err, inl, inr}
 use Rattle.std.specs.Prelude.{codes, decimal}
 use Rattle.std.specs.Char.{is_ascii_digit}
 use Rattle.std.specs.List.{AllByRecursion}
 use Rattle.std.proofs.lemmas.List.Elements.{recursion_from_All}
 use Rattle.std.proofs.lemmas.List.{append-nil}
-use Rattle.std.proofs.lemmas.Bool.{eq-eqb, eqb-true, ne_eqb, lt-ltb, ltb-true, cases_eq, cases_Bool}
+use Rattle.std.proofs.lemmas.Bool.{eqb-true, lt-ltb, ltb-true, cases_eq}
 use Rattle.std.proofs.lemmas.Bool.Decides.{nat_tests}
 use Rattle.hex.specs.Hex.{decode_of, is_hex_digit}
 use Rattle.hex.proofs.HexLemmas.{decode_of-ok}
@@ -14,12 +14,11 @@ use Rattle.jb_block.specs.declared.width.Width.{Width}
 use Rattle.jb_block.specs.declared.width.Width.TheVariants.{Narrow, Wide}
 use Rattle.jb_handle.specs.declared.fault.Cause.{Cause}
 use Rattle.jb_handle.specs.declared.fault.Cause.TheVariants.{OpWord, DataWord}
-use Rattle.jb_handle.specs.declared.word.Word.{Word}
 use Rattle.jb_handle.specs.declared.word.Word.TheVariants.{Copy, Free}
 use Rattle.jb_handle.specs.Padded.{padded}
 use Rattle.jb_handle.specs.Parts.{◌>>=◌, before, onward, number_of, and_then}
 use Rattle.jb_handle.specs.Queue.{is_home, home_of, or_cause, where_true, data_of, fitting, op_of}
-use Rattle.jb_handle.specs.Spelling.{IsHome, Op, SpellsZeros, SpellsBytes, SpellsFree, SpellsOp}
+use Rattle.jb_handle.specs.Spelling.{IsHome, Op, SpellsOp}
 use Rattle.jb_handle.proofs.Joins.{Without, is_clear, literal-without, without-append, before-put, onward-put, before-whole, onward-none, decimal-without}
 use Rattle.jb_handle.proofs.Numerals.{number-is_decimal, decimal-is_number}
 use Rattle.jb_handle.proofs.Splits.{parted, onward-nil, onward-goes, onward-stops}
@@ -74,21 +73,21 @@ free-from width size home fits = rw (home-from width home fits) refl
 
 pub op-from : (width : Width) (size : ℕ) (text : List ℕ) (op : Op) → SpellsOp width size text op → op_of width size text ≡ Ok op
 op-from width size text op spells = elim spells.form [
-    | inl zeros ↦ ap (op_of width size) zeros.0 ∙ zeros-from width size op.0 spells.home ∙ ap (λ word. Ok (op.0, word)) (sym zeros.1)
-    | inr (inl has) ↦ ap (op_of width size) has.spelled ∙ bytes-from width size op.0 has.digits has.bytes spells.home has.decoded has.some has.within ∙ ap (λ word. Ok (op.0, word)) (sym has.left)
-    | inr (inr free) ↦ ap (op_of width size) free.0 ∙ free-from width size op.0 spells.home ∙ ap (λ word. Ok (op.0, word)) (sym free.1)
-  ]
+  | inl zeros ↦ ap (op_of width size) zeros.0 ∙ zeros-from width size op.0 spells.home ∙ ap (λ word. Ok (op.0, word)) (sym zeros.1)
+  | inr (inl has) ↦ ap (op_of width size) has.spelled ∙ bytes-from width size op.0 has.digits has.bytes spells.home has.decoded has.some has.within ∙ ap (λ word. Ok (op.0, word)) (sym has.left)
+  | inr (inr free) ↦ ap (op_of width size) free.0 ∙ free-from width size op.0 spells.home ∙ ap (λ word. Ok (op.0, word)) (sym free.1)
+]
 
 -- what is read to an op spells it
 onward-case : (stop : ℕ) (bs : List ℕ) → (onward stop bs ≡ []) ⊎ ((behind : List ℕ) × (onward stop bs ≡ stop ∷ behind))
 onward-case stop [] = inl (onward-nil stop)
 onward-case stop (b ∷ bs) = elim (cases_eq b stop) [
-    | inl same ↦ inr (bs, onward-stops stop b bs same ∙ ap (λ first. first ∷ bs) same)
-    | inr other ↦ elim (onward-case stop bs) [
-        | inl none ↦ inl (onward-goes stop b bs other ∙ none)
-        | inr found ↦ inr (found.0, onward-goes stop b bs other ∙ found.1)
-      ]
+  | inl same ↦ inr (bs, onward-stops stop b bs same ∙ ap (λ first. first ∷ bs) same)
+  | inr other ↦ elim (onward-case stop bs) [
+    | inl none ↦ inl (onward-goes stop b bs other ∙ none)
+    | inr found ↦ inr (found.0, onward-goes stop b bs other ∙ found.1)
   ]
+]
 
 picked : (first second : Bool) (write free : Result Op Cause) (op : Op) → (if first then write else if second then free else Err OpWord) ≡ Ok op → ((first ≡ true) × (write ≡ Ok op)) ⊎ ((second ≡ true) × (free ≡ Ok op))
 picked true second write free op is = inl (refl, is)
@@ -151,8 +150,8 @@ pub op-is : (width : Width) (size : ℕ) (text : List ℕ) (op : Op) → op_of w
 op-is width size [] op is = cc
 op-is width size (letter ∷ rest) op is =
     elim (picked (letter == 119) (letter == 114)
-        (home_of width (before 61 rest) >>= λ b. data_of size (onward 61 rest) >>= λ bytes. Ok (b, Copy bytes))
-        (home_of width rest >>= λ b. Ok (b, Free)) op is) [
+    (home_of width (before 61 rest) >>= λ b. data_of size (onward 61 rest) >>= λ bytes. Ok (b, Copy bytes))
+    (home_of width rest >>= λ b. Ok (b, Free)) op is) [
       | inl write ↦
           let parts = write-case (home_of width (before 61 rest)) (data_of size (onward 61 rest)) op write.1 in
           let same : letter ≡ 119 = eqb-true letter 119 write.0 in
