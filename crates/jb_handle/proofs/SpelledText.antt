@@ -70,7 +70,7 @@ are-lines all text (inl whole) are = ap lines whole ∙ ended-lines all are
 are-lines all text (inr whole) are = ap lines whole ∙ joined-lines all are
 
 -- what stands behind a word makes the line with it
-behind-is : (word line rest : List ℕ) → behind_word word line ≡ Some rest → line ≡ word ++ rest
+pub behind-is : (word line rest : List ℕ) → behind_word word line ≡ Some rest → line ≡ word ++ rest
 behind-is word line rest is = from (bytes_eq (take (length word) line) word) refl is
   where
     from : (test : Bool) → bytes_eq (take (length word) line) word ≡ test → (if test then Some (drop (length word) line) else None) ≡ Some rest → line ≡ word ++ rest

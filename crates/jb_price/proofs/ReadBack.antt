@@ -53,14 +53,14 @@ price-without stop other clear None fits = clear
 price-without stop other clear (Some n) fits = decimal-without stop n other fits
 
 -- the line of the prices, without its LF
-prices-back : (prices : List (Option ℕ)) → 0 < length prices → AllByRecursion PriceFits prices → prices_in (codes "prices" ++ spaced (map price_text prices)) ≡ Some prices
+pub prices-back : (prices : List (Option ℕ)) → 0 < length prices → AllByRecursion PriceFits prices → prices_in (codes "prices" ++ spaced (map price_text prices)) ≡ Some prices
 prices-back [] some fits = let never : ⊥ = omega arith in absurd never
 prices-back (price ∷ prices) some fits =
     ap (after_each price_of []) (words-spaced (price_text price) (map price_text prices)
     (each-clear 32 price_text PriceFits (price-without 32 refl (literal-without 32 (codes "none") refl)) (price ∷ prices) fits))
     ∙ each-back price_of price_text PriceFits price-back [] (price ∷ prices) fits
 
-bounds-back : (bounds : List ℕ) → 0 < length bounds → AllByRecursion Fits64 bounds → cut_in (codes "cut" ++ spaced (map decimal bounds)) ≡ Some (Some bounds)
+pub bounds-back : (bounds : List ℕ) → 0 < length bounds → AllByRecursion Fits64 bounds → cut_in (codes "cut" ++ spaced (map decimal bounds)) ≡ Some (Some bounds)
 bounds-back [] some fits = let never : ⊥ = omega arith in absurd never
 bounds-back (bound ∷ bounds) some fits =
     rw (decimal-not_none bound (spaced (map decimal bounds)) fits.0) (
@@ -68,21 +68,21 @@ bounds-back (bound ∷ bounds) some fits =
     (each-clear 32 decimal Fits64 (λ n. decimal-without 32 n refl) (bound ∷ bounds) fits))
     ∙ ap (option_map Some) (each-back number_of decimal Fits64 decimal-is_number [] (bound ∷ bounds) fits))
 
-total-back : (total : ℕ) → Fits64 total → total_in (codes "total " ++ decimal total) ≡ Some total
+pub total-back : (total : ℕ) → Fits64 total → total_in (codes "total " ++ decimal total) ≡ Some total
 total-back total fits = decimal-is_number total fits
 
 -- the lines of a certificate's text
-first-clear : (prices : List (Option ℕ)) → AllByRecursion PriceFits prices → Without 10 (codes "prices" ++ spaced (map price_text prices))
+pub first-clear : (prices : List (Option ℕ)) → AllByRecursion PriceFits prices → Without 10 (codes "prices" ++ spaced (map price_text prices))
 first-clear prices fits =
     without-append 10 (codes "prices") (spaced (map price_text prices)) (literal-without 10 (codes "prices") refl)
     (spaced-without 10 (map price_text prices) (λ same. cc) (each-clear 10 price_text PriceFits (price-without 10 refl (literal-without 10 (codes "none") refl)) prices fits))
 
-second-clear : (bounds : List ℕ) → AllByRecursion Fits64 bounds → Without 10 (codes "cut" ++ spaced (map decimal bounds))
+pub second-clear : (bounds : List ℕ) → AllByRecursion Fits64 bounds → Without 10 (codes "cut" ++ spaced (map decimal bounds))
 second-clear bounds fits =
     without-append 10 (codes "cut") (spaced (map decimal bounds)) (literal-without 10 (codes "cut") refl)
     (spaced-without 10 (map decimal bounds) (λ same. cc) (each-clear 10 decimal Fits64 (λ n. decimal-without 10 n refl) bounds fits))
 
-third-clear : (total : ℕ) → Fits64 total → Without 10 (codes "total " ++ decimal total)
+pub third-clear : (total : ℕ) → Fits64 total → Without 10 (codes "total " ++ decimal total)
 third-clear total fits = without-append 10 (codes "total ") (decimal total) (literal-without 10 (codes "total ") refl) (decimal-without 10 total refl fits)
 
 prices-lines : (prices : List (Option ℕ)) (rest : List ℕ) → AllByRecursion PriceFits prices → lines (prices_line prices ++ rest) ≡ (codes "prices" ++ spaced (map price_text prices)) ∷ lines rest

@@ -1,3 +1,4 @@
 pub mod Certificate
 pub mod ReadBack
 pub mod Reading
+pub mod Spelling
