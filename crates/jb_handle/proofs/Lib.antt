@@ -12,3 +12,4 @@ pub mod Weights
 pub mod SpelledOps
 pub mod SpelledHandles
 pub mod SpelledText
+pub mod Touched
