@@ -9,3 +9,4 @@ pub mod Left
 pub mod Pieces
 pub mod Sizes
 pub mod Walk
+pub mod Worst
