@@ -6,10 +6,10 @@ pub mod LastWord
 pub mod Numerals
 pub mod Ops
 pub mod Rising
+pub mod SpelledHandles
+pub mod SpelledOps
+pub mod SpelledText
 pub mod Splits
+pub mod Touched
 pub mod Trees
 pub mod Weights
-pub mod SpelledOps
-pub mod SpelledHandles
-pub mod SpelledText
-pub mod Touched

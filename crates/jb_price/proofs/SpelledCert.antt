@@ -1,5 +1,5 @@
 -- A certificate's text is read exactly where it spells a claim.
-use Rattle.std.proofs.Common.{subst, ◌≡◌, ◌≢◌, ◌↔◌, ◌∙◌, sym, ap, ℕ, ◌+◌, ◌<◌, ◌^◌, ◌==◌, Bool, true, false, if◌then◌else◌, List, [], ◌∷◌, ◌++◌, length, map, refl, arith, append_assoc, Option, option_map, Some, None, Result, Ok, Err}
+use Rattle.std.proofs.Common.{subst, ◌≡◌, ◌↔◌, ◌∙◌, sym, ap, ℕ, ◌+◌, ◌<◌, ◌==◌, Bool, true, false, if◌then◌else◌, List, [], ◌∷◌, ◌++◌, length, map, refl, arith, append_assoc, Option, option_map, Some, None, Result, Ok, Err}
 use Rattle.std.specs.Prelude.{codes, decimal}
 use Rattle.std.specs.List.{AllByRecursion}
 use Rattle.std.specs.Option.{option_and_then}
@@ -9,12 +9,12 @@ use Rattle.std.proofs.lemmas.List.{append-nil}
 use Rattle.std.proofs.lemmas.Slice.Eq.{bytes_eq-Decides}
 use Rattle.jb_handle.specs.Parts.{◌>>=◌, lines, words, spaced, behind_word, first_of, number_of}
 use Rattle.jb_handle.specs.Spelling.{AreLines}
-use Rattle.jb_handle.proofs.Joins.{Without, literal-without}
+use Rattle.jb_handle.proofs.Joins.{literal-without}
 use Rattle.jb_handle.proofs.Numerals.{number-is_decimal}
 use Rattle.jb_handle.proofs.SpelledHandles.{spaced-words}
 use Rattle.jb_handle.proofs.SpelledText.{behind-is, lines-are, are-lines, IsLine}
 use Rattle.jb_price.specs.declared.fault.CertFault.{CertFault}
-use Rattle.jb_price.specs.declared.fault.CertFault.TheVariants.{Syntax, Length}
+use Rattle.jb_price.specs.declared.fault.CertFault.TheVariants.{Length}
 use Rattle.jb_price.specs.Certificate.{price_text}
 use Rattle.jb_price.specs.Reading.{Claim, after_each, price_of, prices_in, bounds_in, cut_in, total_in, on_line, at_end, with_total, claim_in, for_handles, read_of}
 use Rattle.jb_price.specs.ReadBack.{Fits64, PriceFits}
@@ -120,7 +120,7 @@ total-case text line [] bounds cut (Some total) are is gives =
     let said : ◌≡◌ {A = Option (List ℕ × ℕ)} (Some (bounds, total)) cut = cc in
     let third = total-is line total is in
     subst (λ c. ((codes "cut " ++ text) ∷ line ∷ [] ≡ cut_lines c) × CutFits c) said
-        (ap (λ bs. (codes "cut" ++ bs) ∷ line ∷ []) are.0 ∙ ap (λ bs. (codes "cut" ++ spaced (map decimal bounds)) ∷ bs ∷ []) third.0, (are.1, are.2, third.1))
+    (ap (λ bs. (codes "cut" ++ bs) ∷ line ∷ []) are.0 ∙ ap (λ bs. (codes "cut" ++ spaced (map decimal bounds)) ∷ bs ∷ []) third.0, (are.1, are.2, third.1))
 
 tail-is : (text : List ℕ) (more : List (List ℕ)) (bounds : Option (List ℕ)) (cut : Option (List ℕ × ℕ)) → BoundsAre text bounds → with_total bounds more ≡ Ok cut → ((codes "cut " ++ text) ∷ more ≡ cut_lines cut) × CutFits cut
 tail-is text [] None cut are gives =

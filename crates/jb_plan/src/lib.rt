@@ -1,0 +1,13 @@
+//! A cut of a queue of handles into groups that no other cut beats in log blocks, and the prices that show it.
+#![tactic(auto)]
+
+mod bounds;
+mod planned;
+mod planner;
+mod step;
+mod table;
+#[cfg(test)]
+mod tests;
+
+pub use planned::{Answer, Planned};
+pub use planner::plan;
