@@ -7,6 +7,9 @@ pub mod LastWord
 pub mod Numerals
 pub mod Ops
 pub mod Rising
+pub mod SpelledHandles
+pub mod SpelledOps
+pub mod SpelledText
 pub mod Splits
 pub mod Touched
 pub mod Trees

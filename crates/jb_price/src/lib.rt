@@ -4,6 +4,8 @@
 mod certificate;
 mod check_cut;
 mod check_prices;
+#[cfg(test)]
+mod check_tests;
 mod checker;
 mod fault;
 pub mod laws;
