@@ -2,3 +2,4 @@ pub mod Appended
 pub mod Best
 pub mod Refused
 pub mod Taken
+pub mod Verdicts

@@ -1,3 +1,4 @@
+pub mod Check
 pub mod Cost
 pub mod Faulty
 pub mod Plan

@@ -2,7 +2,8 @@
 use Rattle.std.specs.Prelude.{◌≡◌, ◌<◌, ◌≤◌, ◌⊎◌, ℕ, List, Option, None, Result, Ok, Err, IfSome, codes, if◌then◌else◌, length}
 use Rattle.std.specs.Str.{bytes_eq}
 use Rattle.jb_words.specs.Named.{Asked}
-use Rattle.jb_words.specs.Named.Asked.{AsksCost, AsksPlan}
+use Rattle.jb_words.specs.Named.Asked.{AsksCheck, AsksCost, AsksPlan}
+use Rattle.jb_tool.specs.Check.{CheckSays}
 use Rattle.jb_tool.specs.Cost.{cost_said}
 use Rattle.jb_tool.specs.Plan.{PlanSays}
 use Rattle.jb_tool.specs.Puts.{PutsPart}
@@ -36,6 +37,13 @@ Ends Says name input old new end =
     ((text : List ℕ) × (words : Said) × IsText (known_behind name input) text × Says text words × Tells words old new end)
     ⊎ ((stop : Stop) × (end ≡ Err stop) × HasNoText name (known_behind name input) stop × (new ≡ old))
 
+-- a command over the texts of two files told what it has to say of them, or ended without a word for want of a text or of
+-- memory
+abbrev pub EndsOfTwo : (List ℕ → List ℕ → Said → Type 0) → List ℕ → List ℕ → Held → Held → Result ℕ Stop → Type 0
+EndsOfTwo Says name other old new end =
+    ((text text' : List ℕ) × (words : Said) × IsText None text × IsText None text' × Says text text' words × Tells words old new end)
+    ⊎ ((stop : Stop) × (end ≡ Err stop) × (HasNoText name None stop ⊎ HasNoText other None stop) × (new ≡ old))
+
 -- the program's status, and the line of a command that ended without an answer
 abbrev pub Closes : Result ℕ Stop → Held → Held → ℕ → Type 0
 Closes (Ok told) old new status = (status ≡ told) × (new ≡ old)
@@ -46,6 +54,7 @@ Closes (Err stop) old new status =
 abbrev pub EndsAsked : Asked → Option (List ℕ) → Held → Held → Result ℕ Stop → Type 0
 EndsAsked (AsksCost file) = Ends (λ text words. words ≡ cost_said text) file
 EndsAsked (AsksPlan file) = Ends PlanSays file
+EndsAsked (AsksCheck file cert) = λ _. EndsOfTwo CheckSays file cert
 
 -- the whole run of the command that the words ask for
 abbrev pub Runs : Asked → Option (List ℕ) → Held → Held → ℕ → Type 0

@@ -2,6 +2,7 @@
 #![tactic(auto)]
 
 mod answer;
+mod check;
 mod command_line;
 mod cost;
 mod plan;
@@ -13,6 +14,7 @@ mod running;
 mod stop;
 
 pub use answer::Answer;
+pub use check::check_answer;
 pub use command_line::run;
 pub use cost::cost_answer;
 pub use jb_words::Plain;

@@ -1,4 +1,4 @@
-ghost use Rattle.std.specs.Prelude.{◌<◌, ◌≤◌, ◌≡◌, IfErr, IfOk, IfSome, length};
+ghost use Rattle.std.specs.Prelude.{◌<◌, ◌≤◌, ◌≡◌, Err, IfErr, IfOk, IfSome, None, length};
 ghost use Rattle.jb_tool.specs.Runs.{HasNoText, IsText, known_behind};
 
 use crate::stop::Stop;
@@ -49,8 +49,7 @@ pub const TEXT_LIMIT: usize = 16_777_216;
 /// The text of the file of this name; `-` is standard input.
 ///
 /// # Errors
-/// `Stop::CannotRead` where the file cannot be opened or read, `Stop::TooLong` where it has more than `TEXT_LIMIT`
-/// bytes, `Stop::Memory` where a growth was refused.
+/// As those of `read_file`.
 pub fn read_text<'a, R: Files + AllocGlobal, I: Read>(
     rt: &R,
     name: &'a str,
@@ -59,26 +58,38 @@ pub fn read_text<'a, R: Files + AllocGlobal, I: Read>(
     ensures text { IfOk result (λ text. IsText (known_behind name.entry.now (I.remaining input.old)) text.items) }
     ensures none { IfErr result (HasNoText name.entry.now (known_behind name.entry.now (I.remaining input.old))) }
 {
-    let read = if name == "-" {
-        read_within(rt.alloc(), input, TEXT_LIMIT)
+    if name == "-" {
+        read_as(rt.alloc(), input, name)
     } else {
         read_file(rt, name)
-    };
-    match read {
+    }
+}
+
+/// The text of the file of this name.
+///
+/// # Errors
+/// `Stop::CannotRead` where the file cannot be opened or read, `Stop::TooLong` where it has more than `TEXT_LIMIT`
+/// bytes, `Stop::Memory` where a growth was refused.
+pub fn read_file<'a, R: Files + AllocGlobal>(rt: &R, name: &'a str) -> Result<Vec<u8>, Stop<'a>>
+    ensures text { IfOk result (λ text. IsText None text.items) }
+    ensures none { IfErr result (HasNoText name.entry.now None) }
+{
+    match File::open(rt, name) {
+        Ok(mut file) => read_as(rt.alloc(), &mut file, name),
+        Err(error) if error.kind() == ErrorKind::OutOfMemory => Err(Stop::Memory),
+        Err(_) => Err(Stop::CannotRead(name)),
+    }
+}
+
+// The whole of a reader, as the text of this name.
+fn read_as<'a, R: Read>(alloc: Global, reader: &mut R, name: &'a str) -> Result<Vec<u8>, Stop<'a>>
+    ensures text { IfOk result (λ text. IsText (R.remaining reader.old) text.items) }
+    ensures none { IfErr result (HasNoText name.entry.now (R.remaining reader.old)) }
+{
+    match read_within(alloc, reader, TEXT_LIMIT) {
         Ok(text) => Ok(text),
         Err(ReadFault::Reader) => Err(Stop::CannotRead(name)),
         Err(ReadFault::TooLong) => Err(Stop::TooLong(name)),
         Err(ReadFault::Memory) => Err(Stop::Memory),
-    }
-}
-
-// The whole of a file.
-fn read_file<R: Files + AllocGlobal>(rt: &R, name: &str) -> Result<Vec<u8>, ReadFault>
-    ensures within { IfOk result (λ text. length text.items ≤ 16777216) }
-{
-    match File::open(rt, name) {
-        Ok(mut file) => read_within(rt.alloc(), &mut file, TEXT_LIMIT),
-        Err(error) if error.kind() == ErrorKind::OutOfMemory => Err(ReadFault::Memory),
-        Err(_) => Err(ReadFault::Reader),
     }
 }

@@ -10,6 +10,10 @@ required_word name = record (new_rule name) { required = true }
 abbrev pub file_app : Text → App
 file_app name = with_rule (new_app name) (required_word (codes "FILE"))
 
+-- `check FILE CERT`
+abbrev pub check_app : App
+check_app = with_rule (file_app (codes "check")) (required_word (codes "CERT"))
+
 -- `jb`: its words begin with a command, and it has a version
 abbrev pub jb_top : App
 jb_top =
@@ -23,4 +27,4 @@ abbrev pub jb_app : App
 jb_app =
     let cost = (file_app (codes "cost")).top in
     let plan = (file_app (codes "plan")).top in
-    with_subcommand (with_subcommand jb_top cost) plan
+    with_subcommand (with_subcommand (with_subcommand jb_top cost) plan) check_app.top

@@ -1,7 +1,7 @@
 ghost use Rattle.std.specs.Prelude.{◌≡◌, IfOk, codes, false};
 ghost use Rattle.clap.specs.Words.{app_of, rule_of};
 ghost use Rattle.clap.specs.declared.builder.command.Command.TheViews.{out-Command as fields_of};
-ghost use Rattle.jb_words.specs.App.{file_app, jb_app, jb_top, required_word as word_rule};
+ghost use Rattle.jb_words.specs.App.{check_app, file_app, jb_app, jb_top, required_word as word_rule};
 
 use clap::{Arg, Command};
 use std::alloc::{AllocError, Global};
@@ -14,13 +14,26 @@ fn required_word<'a>(alloc: Global, name: &'a str) -> Arg<'a>
     Arg::new(alloc, name).required(true)
 }
 
-// A command over one file.
-fn over_file<'a>(alloc: Global, name: &'a str, about: &'a str) -> Result<Command<'a>, AllocError>
+// A command over one queue text.
+fn over_queue<'a>(alloc: Global, name: &'a str, about: &'a str) -> Result<Command<'a>, AllocError>
     ensures app { IfOk result (λ c. app_of c ≡ file_app name.entry.now) }
     ensures own { IfOk result (λ c. (fields_of c).has_globals ≡ false) }
 {
     let file = required_word(alloc, "FILE").help("A queue text, or - for standard input");
     Command::new(alloc, name).about(about).arg(file)
+}
+
+// `jb check`.
+fn check<'a>(alloc: Global) -> Result<Command<'a>, AllocError>
+    ensures app { IfOk result (λ c. app_of c ≡ check_app) }
+    ensures own { IfOk result (λ c. (fields_of c).has_globals ≡ false) }
+{
+    let file = required_word(alloc, "FILE").help("A queue text");
+    let cert = required_word(alloc, "CERT").help("A certificate, as jb plan prints it");
+    let command = Command::new(alloc, "check")
+        .about("Checks a certificate of the queue, whoever made it")
+        .arg(file)?;
+    command.arg(cert)
 }
 
 // `jb` without its commands.
@@ -44,16 +57,17 @@ pub fn jb_command<'a>(alloc: Global) -> Result<Command<'a>, AllocError>
     ensures own { IfOk result (λ c. (fields_of c).has_globals ≡ false) }
 {
     let jb = jb_alone(alloc)?;
-    let cost = over_file(
+    let cost = over_queue(
         alloc,
         "cost",
         "Prints the log blocks that the queue takes as one group",
     )?;
-    let plan = over_file(
+    let plan = over_queue(
         alloc,
         "plan",
         "Prints a least cut of the queue into groups, with its prices",
     )?;
     let jb = jb.subcommand(cost)?;
-    jb.subcommand(plan)
+    let jb = jb.subcommand(plan)?;
+    jb.subcommand(check(alloc)?)
 }

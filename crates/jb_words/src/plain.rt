@@ -11,4 +11,11 @@ pub enum Plain<'a> {
         /// The queue text, or `-` for standard input.
         file: &'a str,
     },
+    /// `jb check FILE CERT`: whether a certificate of the queue is right, or its first fault.
+    Check {
+        /// The queue text.
+        file: &'a str,
+        /// The text of the certificate.
+        cert: &'a str,
+    },
 }

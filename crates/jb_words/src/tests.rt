@@ -32,6 +32,10 @@ fn words_that_are_no_command_are_refused(rt: HostRuntime) {
             "error: the following required arguments were not provided:\n  <FILE>\n\nUsage: jb cost <FILE>\n\nFor more information, try '--help'.\n",
         ),
         (
+            ["check", "a"].as_slice(),
+            "error: the following required arguments were not provided:\n  <CERT>\n\nUsage: jb check <FILE> <CERT>\n\nFor more information, try '--help'.\n",
+        ),
+        (
             ["cost", "a", "b"].as_slice(),
             "error: unexpected argument 'b' found\n\nUsage: jb cost <FILE>\n\nFor more information, try '--help'.\n",
         ),
@@ -56,7 +60,7 @@ fn help_and_the_version_are_no_mistakes(rt: HostRuntime) {
         ),
         (
             ["help"].as_slice(),
-            "A block journal in jbd2's format\n\nUsage: jb <COMMAND>\n\nCommands:\n  cost  Prints the log blocks that the queue takes as one group\n  help  Print this message or the help of the given subcommand(s)\n\nOptions:\n  -h, --help     Print help\n  -V, --version  Print version\n",
+            "A block journal in jbd2's format\n\nUsage: jb <COMMAND>\n\nCommands:\n  cost   Prints the log blocks that the queue takes as one group\n  plan   Prints a least cut of the queue into groups, with its prices\n  check  Checks a certificate of the queue, whoever made it\n  help   Print this message or the help of the given subcommand(s)\n\nOptions:\n  -h, --help     Print help\n  -V, --version  Print version\n",
         ),
     ] {
         let (is_mistake, text) = said(rt.alloc(), words).expect(&rt, "a text");

@@ -3,7 +3,7 @@ ghost use Rattle.clap.specs.Kinds.{FailsBy};
 ghost use Rattle.clap.specs.Words.{app_of, first_of, found_of, rows_of, subcommand_of, subcommand_rows_of};
 ghost use Rattle.jb_words.specs.App.{jb_app};
 ghost use Rattle.jb_words.specs.Faults.{HasKind, faults_in};
-ghost use Rattle.jb_words.specs.Named.{asked_in, asked_of, asks};
+ghost use Rattle.jb_words.specs.Named.{asked_in, asked_of, asks, check_in};
 
 use crate::commands::jb_command;
 use crate::plain::Plain;
@@ -48,10 +48,25 @@ fn plain_of<'a>(matches: &ArgMatches<'a>) -> Option<Plain<'a>>
 {
     let (name, found) = matches.subcommand()?;
     match name {
-        "cost" => Some(Plain::Cost { file: word_of(found, "FILE")? }),
-        "plan" => Some(Plain::Plan { file: word_of(found, "FILE")? }),
+        "cost" => Some(Plain::Cost {
+            file: word_of(found, "FILE")?,
+        }),
+        "plan" => Some(Plain::Plan {
+            file: word_of(found, "FILE")?,
+        }),
+        "check" => check_of(found),
         _ => None,
     }
+}
+
+// The words of `jb check`.
+fn check_of<'a>(found: &ArgMatches<'a>) -> Option<Plain<'a>>
+    ensures { option_map asks result ≡ check_in (rows_of (found_of found.now)) }
+{
+    Some(Plain::Check {
+        file: word_of(found, "FILE")?,
+        cert: word_of(found, "CERT")?,
+    })
 }
 
 // The word that was given under this name.

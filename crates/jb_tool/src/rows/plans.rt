@@ -1,10 +1,13 @@
-use super::runs;
+use super::{checked, runs};
 use std::alloc::{AllocError, Global};
 
-// Whether the plan of these handles within this limit is told by this status and this text.
+// Whether the plan of these handles within this limit is told by this status and this text, and the text is accepted.
 fn plans(rt: &HostRuntime, limit: u32, handles: &str, status: u8, out: &str) -> bool {
     match format!(in rt.alloc(); "bs 1024\nlimit {limit}\n{handles}") {
-        Ok(text) => runs(rt, &["plan", "-"], text.as_bytes(), status, out, ""),
+        Ok(text) => {
+            runs(rt, &["plan", "-"], text.as_bytes(), status, out, "")
+                && checked(rt, "worked", (text.as_str(), out), 0, "accepted\n", "")
+        }
         Err(_) => false,
     }
 }
@@ -64,6 +67,16 @@ fn two_thousand_handles_are_one_group_where_they_fit(rt: HostRuntime) {
     out.push_str("\ncut 0 2000\ntotal 9\n")
         .expect(&rt, "two lines");
     assert!(rt; runs(&rt, &["plan", "-"], text.as_bytes(), 0, out.as_str(), ""));
+    assert!(rt;
+        checked(
+            &rt,
+            "one_group",
+            (text.as_str(), out.as_str()),
+            0,
+            "accepted\n",
+            ""
+        )
+    );
 }
 
 #[test]
@@ -79,4 +92,14 @@ fn two_thousand_handles_are_groups_of_one_where_no_two_fit(rt: HostRuntime) {
     }
     out.push_str("\ntotal 6000\n").expect(&rt, "a line");
     assert!(rt; runs(&rt, &["plan", "-"], text.as_bytes(), 0, out.as_str(), ""));
+    assert!(rt;
+        checked(
+            &rt,
+            "groups_of_one",
+            (text.as_str(), out.as_str()),
+            0,
+            "accepted\n",
+            ""
+        )
+    );
 }
