@@ -2,5 +2,8 @@
 #![tactic(auto)]
 
 mod geometry;
+mod group;
+mod last_words;
 
 pub use geometry::Geometry;
+pub use group::group_cost;

@@ -1,4 +1,5 @@
-pub mod LastWord
-pub mod Rising
 pub mod Admitted
 pub mod LastOp
+pub mod LastWord
+pub mod Rising
+pub mod Touched

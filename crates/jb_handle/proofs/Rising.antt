@@ -4,7 +4,8 @@ use Rattle.std.specs.List.{insert}
 use Rattle.std.specs.List.Sorted.{IsSearchInRange, IsBinarySearchResult, IsNonDecreasingBy, IsStrictlySortedBy}
 use Rattle.std.specs.List.{AllByRecursion}
 use Rattle.std.specs.Map.{keys_of}
-use Rattle.std.proofs.Common.{Less}
+use Rattle.std.proofs.Common.{◌+◌, add-one, Less, take, cond, nat_eq}
+use Rattle.std.specs.Ordering.{eq_by_cmp}
 use Rattle.std.specs.Ordering.{nat_cmp, ordering_index, is_lt}
 use Rattle.std.specs.FinMap as map
 use Rattle.std.specs.FinMap.Entries.{below_all, is_sorted-put}
@@ -13,7 +14,7 @@ use Rattle.std.proofs.lemmas.Cmp.{ranked}
 use Rattle.std.proofs.lemmas.Bool.Decides.{nat_tests}
 use Rattle.jb_handle.specs.Placed.{StandsAt, GoesTo, IsPlaced}
 
-both_parts : (a b : Bool) → T (a && b) → T a × T b
+pub both_parts : (a b : Bool) → T (a && b) → T a × T b
 both_parts true true h = (tt, tt)
 both_parts true false h = absurd h
 both_parts false b h = absurd h
@@ -22,11 +23,17 @@ both : (a b : Bool) → T a → T b → T (a && b)
 both true b p q = q
 both false b p q = absurd p
 
-is_lt-less : (x y : ℕ) → T (is_lt (nat_cmp x y)) → x < y
+pub is_lt-less : (x y : ℕ) → T (is_lt (nat_cmp x y)) → x < y
 is_lt-less x y h = grind (arith, nat_tests, h)
 
 less-is_lt : (x y : ℕ) → x < y → T (is_lt (nat_cmp x y))
 less-is_lt x y h = grind (arith, nat_tests)
+
+tied-cond : {A : Type 0} (q b : ℕ) (x y : A) → cond (eq_by_cmp nat_cmp q b) x y ≡ cond (nat_eq q b) x y
+tied-cond q b x y = grind (arith, nat_tests)
+
+apart-cond : {A : Type 0} (q a b : ℕ) (x y z : A) → a < b → cond (nat_eq q a) x (cond (nat_eq q b) y z) ≡ cond (nat_eq q b) y (cond (nat_eq q a) x z)
+apart-cond q a b x y z less = grind (arith, nat_tests)
 
 module _ {W : Type 0} where
   -- a home below all is below each
@@ -118,3 +125,17 @@ module _ {W : Type 0} where
   unfolding IsStrictlySortedBy
   ordered-rise [] h = tt
   ordered-rise (e ∷ es) h = both _ _ (below-all e.0 es h.0) (ordered-rise es h.1)
+
+  found-next : (es : List (ℕ × W)) → T (map.is_sorted nat_cmp es) → (i : ℕ) (d : ℕ × W) → i < length es → (q : ℕ) → map.find nat_cmp q (take (suc i) es) ≡ cond (nat_eq q (get_or es i d).0) (Some (get_or es i d).1) (map.find nat_cmp q (take i es))
+  found-next [] h i d lt q = absurd (omega arith)
+  found-next (e ∷ es) h zero d lt q = tied-cond q e.0 _ _
+  found-next (e ∷ es) h (suc i) d lt q =
+      let less : e.0 < (get_or es i d).0 = homes-rise (e ∷ es) h 0 (suc i) d (omega arith) lt in
+      ap (cond (eq_by_cmp nat_cmp q e.0) (Some e.1)) (found-next es (rising-tail e es h) i d (omega arith) q)
+      ∙ tied-cond q e.0 _ _
+      ∙ apart-cond q e.0 (get_or es i d).0 _ _ _ less
+      ∙ ap (cond (nat_eq q (get_or es i d).0) (Some (get_or es i d).1)) (sym (tied-cond q e.0 _ _))
+
+  -- what is found among one entry more
+  pub find-take : (es : List (ℕ × W)) → T (map.is_sorted nat_cmp es) → (i : ℕ) (d : ℕ × W) → i < length es → (q : ℕ) → map.find nat_cmp q (take (i + 1) es) ≡ cond (nat_eq q (get_or es i d).0) (Some (get_or es i d).1) (map.find nat_cmp q (take i es))
+  find-take es h i d lt q = rw add-one (found-next es h i d lt q)

@@ -1,0 +1,30 @@
+use Rattle.std.proofs.Common.{◌≡◌, ◌<◌, ◌≤◌, length, ◌∙◌, arith}
+use Rattle.std.specs.FinSet as set
+use Rattle.jb_handle.specs.Words.{is_copied, is_freed, copies, frees}
+use Rattle.jb_cost.specs.Cost.{blocks_of}
+use Rattle.jb_cost.proofs.Later.{later-handle}
+use Rattle.jb_cost.proofs.Left.{few}
+use Rattle.jb_cost.proofs.Sizes.{len-copied, len-freed}
+use Rattle.jb_cost.proofs.group.group_cost.Goals as goal
+
+pub loop-handle-preserved : goal.loop-handle-preserved
+loop-handle-preserved c =
+    let inside : c.loop-handle.handle-index < length c.args.handles.now = omega arith in
+    record {
+      copies = λ q. c.in_ok-put_all.ensures.copies q ∙ later-handle is_copied c.args.handles.now _ c.handle-item.result c.handle-item.is inside q _ (c.loop-handle.invariant.copies q);
+      frees = λ q. c.in_ok-put_all.ensures.frees q ∙ later-handle is_freed c.args.handles.now _ c.handle-item.result c.handle-item.is inside q _ (c.loop-handle.invariant.frees q);
+    }
+
+pub blocks-cost-requires : goal.blocks-cost-requires
+blocks-cost-requires c =
+    let whole : length c.args.handles.now ≤ c.loop-handle.handle-index = omega arith in
+    let copied : c.len.result ≡ set.len (copies c.args.handles.now) = c.len.ensures.len ∙ len-copied _ c.len.ensures.ordered c.args.handles.now _ whole c.loop-handle.invariant.copies in
+    let freed : c.len-2.result ≡ set.len (frees c.args.handles.now) = c.len-2.ensures.len ∙ len-freed _ c.len-2.ensures.ordered c.args.handles.now _ whole c.loop-handle.invariant.frees in
+    record { small = omega (arith, copied, freed, few c.args.handles.now, c.requires.size) }
+
+pub returns : goal.returns
+returns c =
+    let whole : length c.args.handles.now ≤ c.loop-handle.handle-index = omega arith in
+    let copied : c.len.result ≡ set.len (copies c.args.handles.now) = c.len.ensures.len ∙ len-copied _ c.len.ensures.ordered c.args.handles.now _ whole c.loop-handle.invariant.copies in
+    let freed : c.len-2.result ≡ set.len (frees c.args.handles.now) = c.len-2.ensures.len ∙ len-freed _ c.len-2.ensures.ordered c.args.handles.now _ whole c.loop-handle.invariant.frees in
+    c.blocks-cost.ensures ∙ (λ i. blocks_of c.args.geometry (copied i) (freed i))

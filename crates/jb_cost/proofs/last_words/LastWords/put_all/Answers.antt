@@ -1,0 +1,26 @@
+use Rattle.std.proofs.Common.{◌<◌, T, length, sym, subst, ◌∙◌, arith}
+use Rattle.std.specs.Ordering.{nat_cmp}
+use Rattle.std.specs.FinMap as map
+use Rattle.jb_handle.specs.Words.{is_copied, is_freed}
+use Rattle.jb_cost.proofs.Later.{copies-next, frees-next, later-whole}
+use Rattle.std.specs.BTreeSet.{contains}
+use Rattle.jb_cost.proofs.last_words.LastWords.put_all.Goals as goal
+
+pub loop-home-preserved : goal.loop-home-preserved
+loop-home-preserved c =
+    let rising : T (map.is_sorted nat_cmp c.entries-home-items.result.now) = subst (λ es. T (map.is_sorted nat_cmp es)) (sym c.entries-home-items.ensures) (map.entries_sorted c.args.words.now) in
+    let inside : c.loop-home.home-index < length c.entries-home-items.result.now = omega arith in
+    record {
+      copies = λ q. c.in_ok-put.ensures.copies q ∙ copies-next _ rising _ _ c.loop-home-item.is inside q _ _ (c.loop-home.invariant.copies q);
+      frees = λ q. c.in_ok-put.ensures.frees q ∙ frees-next _ rising _ _ c.loop-home-item.is inside q _ _ (c.loop-home.invariant.frees q);
+    }
+
+pub returns-clause-copies : goal.returns-clause-copies
+returns-clause-copies c q =
+    c.loop-home.invariant.copies q
+    ∙ later-whole is_copied c.args.words.now _ c.entries-home-items.ensures c.loop-home.home-index q (contains nat_cmp c.args.self.now.copies q) (omega arith)
+
+pub returns-clause-frees : goal.returns-clause-frees
+returns-clause-frees c q =
+    c.loop-home.invariant.frees q
+    ∙ later-whole is_freed c.args.words.now _ c.entries-home-items.ensures c.loop-home.home-index q (contains nat_cmp c.args.self.now.frees q) (omega arith)

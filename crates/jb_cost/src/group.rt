@@ -1,0 +1,28 @@
+ghost use Rattle.std.specs.Prelude.{◌≡◌, IfOk};
+ghost use Rattle.jb_handle.specs.Size.{IsWithinSize};
+ghost use Rattle.jb_cost.specs.Cost.{cost};
+
+use crate::geometry::Geometry;
+use crate::last_words::LastWords;
+use jb_block::Memory;
+use jb_handle::Stopped;
+use std::alloc::Global;
+
+/// How many log blocks the handles take as one group: a commit block, a copy of each home block
+/// whose last word is a copy, the descriptors that name the copies, and the revoke blocks that name
+/// the home blocks whose last word is free.
+///
+/// # Errors
+///
+/// `Memory` where there is none for the sets of home blocks.
+pub fn group_cost(alloc: Global, handles: &[Stopped], geometry: Geometry) -> Result<u64, Memory>
+    requires size { IsWithinSize handles.now }
+    ensures { IfOk result (λ blocks. blocks ≡ cost geometry handles.now) }
+{
+    let mut last = LastWords::new(alloc);
+    for handle in handles {
+        last.put_all(&handle.words)?;
+    }
+    let cost = geometry.blocks(last.copies.len() as u64, last.frees.len() as u64);
+    Ok(cost)
+}

@@ -1,0 +1,90 @@
+-- Which homes handles touch, copy and free.
+use Rattle.std.proofs.Common.{◌≡◌, ℕ, Bool, true, false, not, ◌&&◌, ◌||◌, List, [], ◌∷◌, ◌++◌, Option, Some, None, is_some, refl, sym, ap, ◌∙◌}
+use Rattle.std.specs.List.{flat_map}
+use Rattle.std.specs.Option.{option_or}
+use Rattle.std.specs.Ordering.{nat_cmp, eq_by_cmp}
+use Rattle.std.specs.Cmp.{nat_cmp_total}
+use Rattle.std.specs.List.{list_any}
+use Rattle.std.specs.FinMap as map
+use Rattle.std.specs.FinSet as set
+use Rattle.std.proofs.lemmas.List.Folds.{list_any-append}
+use Rattle.jb_handle.specs.declared.word.Word.{Word}
+use Rattle.jb_handle.specs.declared.word.Word.TheVariants.{Copy, Free}
+use Rattle.jb_handle.specs.declared.stopped.Stopped.{Stopped}
+use Rattle.jb_handle.specs.Word.{is_copy}
+use Rattle.jb_handle.specs.Words.{word, touched, is_copied, is_freed, copies, frees}
+
+-- whether there is a word, of this kind
+abbrev pub is_of : (Word → Bool) → Option Word → Bool
+is_of kind None = false
+is_of kind (Some w) = kind w
+
+-- the homes whose last word is of this kind
+abbrev pub homes_of : (Word → Bool) → List Stopped → set.FinSet nat_cmp
+homes_of kind hs = set.retain (touched hs) (λ b. is_of kind (word hs b))
+
+-- whether a word is free
+abbrev pub is_free : Word → Bool
+is_free w = not (is_copy w)
+
+copied-is_of : (w : Option Word) → is_of is_copy w ≡ is_copied w
+copied-is_of None = refl
+copied-is_of (Some (Copy bytes)) = refl
+copied-is_of (Some Free) = refl
+
+freed-is_of : (w : Option Word) → is_of is_free w ≡ is_freed w
+freed-is_of None = refl
+freed-is_of (Some (Copy bytes)) = refl
+freed-is_of (Some Free) = refl
+
+pub copies-homes_of : (hs : List Stopped) → homes_of is_copy hs ≡ copies hs
+copies-homes_of hs i = set.retain (touched hs) (λ b. copied-is_of (word hs b) i)
+
+pub frees-homes_of : (hs : List Stopped) → homes_of is_free hs ≡ frees hs
+frees-homes_of hs i = set.retain (touched hs) (λ b. freed-is_of (word hs b) i)
+
+or-some : {W : Type 0} (x y : Option W) → (is_some y || is_some x) ≡ is_some (option_or x y)
+or-some None None = refl
+or-some None (Some w) = refl
+or-some (Some v) None = refl
+or-some (Some v) (Some w) = refl
+
+any-word : (hs : List Stopped) (q : ℕ) → list_any (eq_by_cmp nat_cmp q) (flat_map (λ h. map.keys h.words) hs) ≡ is_some (word hs q)
+any-word [] q = refl
+any-word (h ∷ hs) q =
+    list_any-append (eq_by_cmp nat_cmp q) (map.keys h.words) _
+    ∙ (λ i. sym (map.contains_key-keys h.words q) i || any-word hs q i)
+    ∙ or-some (word hs q) (map.get h.words q)
+
+-- a home is touched where it has a word
+pub contains-touched : (hs : List Stopped) (q : ℕ) → set.contains (touched hs) q ≡ is_some (word hs q)
+contains-touched hs q = set.contains-from_list nat_cmp_total _ q ∙ any-word hs q
+
+some-and : (kind : Word → Bool) (w : Option Word) → (is_some w && is_of kind w) ≡ is_of kind w
+some-and kind None = refl
+some-and kind (Some w) = refl
+
+pub contains-homes_of : (kind : Word → Bool) (hs : List Stopped) (q : ℕ) → set.contains (homes_of kind hs) q ≡ is_of kind (word hs q)
+contains-homes_of kind hs q =
+    set.contains-retain (touched hs) (λ b. is_of kind (word hs b)) q (λ x tied. ap (λ b. is_of kind (word hs b)) (sym (set.nat_cmp-IsAntisymmetric q x tied)))
+    ∙ ap (λ b. b && is_of kind (word hs q)) (contains-touched hs q)
+    ∙ some-and kind (word hs q)
+
+pub contains-copies : (hs : List Stopped) (q : ℕ) → set.contains (copies hs) q ≡ is_copied (word hs q)
+contains-copies hs q = ap (λ s. set.contains s q) (sym (copies-homes_of hs)) ∙ contains-homes_of is_copy hs q ∙ copied-is_of (word hs q)
+
+pub contains-frees : (hs : List Stopped) (q : ℕ) → set.contains (frees hs) q ≡ is_freed (word hs q)
+contains-frees hs q = ap (λ s. set.contains s q) (sym (frees-homes_of hs)) ∙ contains-homes_of is_free hs q ∙ freed-is_of (word hs q)
+
+or-none : {W : Type 0} (x : Option W) → x ≡ option_or x None
+or-none None = refl
+or-none (Some w) = refl
+
+or-assoc : {W : Type 0} (x y z : Option W) → option_or (option_or x y) z ≡ option_or x (option_or y z)
+or-assoc None y z = refl
+or-assoc (Some w) y z = refl
+
+-- a handle behind the others has the last word
+pub word-append : (hs : List Stopped) (h : Stopped) (q : ℕ) → word (hs ++ h ∷ []) q ≡ option_or (map.get h.words q) (word hs q)
+word-append [] h q = or-none _
+word-append (g ∷ hs) h q = ap (λ w. option_or w (map.get g.words q)) (word-append hs h q) ∙ or-assoc (map.get h.words q) (word hs q) (map.get g.words q)
