@@ -1,0 +1,55 @@
+-- The steps by which cuts reach an end: the best one from the starts that were tried, and the best ones to each end.
+use Rattle.std.specs.Prelude.{◌≡◌, ℕ, ◌+◌, ◌<◌, ◌≤◌, List, Option, Some, None, nat_lt, if◌then◌else◌, length, slice_index}
+use Rattle.jb_cost.specs.Cut.{price}
+use Rattle.jb_plan.specs.declared.step.Step.{Step}
+
+-- s goes to the end from its own start, at the start's price and the group's cost
+pub record Leads (c : ℕ → ℕ → ℕ) (limit : ℕ) (ps : List (Option ℕ)) (end : ℕ) (s : Step) : Type 0 where
+  pub before : s.from < end
+  pub fits : c s.from end ≤ limit
+  pub sum : (p : ℕ) × (price ps s.from ≡ Some p) × (s.price ≡ p + c s.from end)
+
+-- no start from low on is better, and none before its own is as good
+pub record IsBest (c : ℕ → ℕ → ℕ) (limit : ℕ) (ps : List (Option ℕ)) (low end : ℕ) (s : Step) : Type 0 where
+  pub leads : Leads c limit ps end s
+  pub least : (i p : ℕ) → low ≤ i → i < end → c i end ≤ limit → price ps i ≡ Some p → s.price ≤ p + c i end
+  pub first : (i p : ℕ) → low ≤ i → i < s.from → c i end ≤ limit → price ps i ≡ Some p → s.price < p + c i end
+
+-- the best step to the end from low on, or that no start from there leads to it
+abbrev pub BestFrom : (ℕ → ℕ → ℕ) → ℕ → List (Option ℕ) → ℕ → ℕ → Option Step → Type 0
+BestFrom c limit ps low end None = (i p : ℕ) → low ≤ i → i < end → c i end ≤ limit → price ps i ≡ Some p → ⊥
+BestFrom c limit ps low end (Some s) = IsBest c limit ps low end s
+
+-- the better of a step and one from an earlier start, the earlier one where they are as good
+abbrev pub better_step : Option Step → Option ℕ → ℕ → ℕ → Option Step
+better_step best None cost from = best
+better_step None (Some p) cost from = Some (record { from = from; price = p + cost })
+better_step (Some s) (Some p) cost from = if nat_lt s.price (p + cost) then Some s else Some (record { from = from; price = p + cost })
+
+-- the step to j, by its price and by the list of starts
+abbrev pub step_of : List ℕ → ℕ → Option ℕ → Option Step
+step_of froms j None = None
+step_of froms j (Some p) = Some (record { from = slice_index froms j; price = p })
+
+-- prices and starts are those of the best steps to the ends up to n
+pub record AreSteps (c : ℕ → ℕ → ℕ) (limit : ℕ) (ps : List (Option ℕ)) (froms : List ℕ) (n : ℕ) : Type 0 where
+  pub start : price ps 0 ≡ Some 0
+  pub each : (j : ℕ) → 0 < j → j ≤ n → BestFrom c limit ps 0 j (step_of froms j (price ps j))
+
+-- the price of a step, if there is one
+abbrev pub price_of : Option Step → Option ℕ
+price_of None = None
+price_of (Some s) = Some s.price
+
+-- where a step begins, and 0 where there is none
+abbrev pub from_of : Option Step → ℕ
+from_of None = 0
+from_of (Some s) = s.from
+
+-- each start lies before its end
+abbrev pub GoBack : List ℕ → Type 0
+GoBack froms = (j : ℕ) → 0 < j → j < length froms → slice_index froms j < j
+
+-- each price is at most what the handles before it weigh
+abbrev pub AreWithin : (ℕ → ℕ) → List (Option ℕ) → Type 0
+AreWithin w ps = (j p : ℕ) → j < length ps → price ps j ≡ Some p → p ≤ w j

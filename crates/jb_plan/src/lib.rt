@@ -1,0 +1,8 @@
+//! A cut of a queue of handles into groups that no other cut beats in log blocks, and the prices that show it.
+#![tactic(auto)]
+
+mod bounds;
+mod planned;
+mod step;
+
+pub use planned::{Answer, Planned};
