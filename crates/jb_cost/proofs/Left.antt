@@ -12,9 +12,9 @@ use Rattle.std.proofs.lemmas.Bool.{both_ways}
 use Rattle.std.proofs.lemmas.Bool.Decides.{nat_tests}
 use Rattle.jb_handle.specs.declared.word.Word.{Word}
 use Rattle.jb_handle.specs.declared.stopped.Stopped.{Stopped}
-use Rattle.jb_handle.specs.Word.{is_copy}
+use Rattle.jb_handle.specs.Word.{is_copy, is_free}
 use Rattle.jb_handle.specs.Words.{word, touched, copies, frees}
-use Rattle.jb_handle.proofs.Touched.{is_of, is_free, homes_of, copies-homes_of, frees-homes_of, contains-homes_of, contains-touched, contains-copies, contains-frees}
+use Rattle.jb_handle.proofs.Touched.{is_of, homes_of, copies-homes_of, frees-homes_of, contains-homes_of, contains-touched, contains-copies, contains-frees}
 use Rattle.jb_handle.specs.Size.{weight}
 use Rattle.jb_cost.specs.Met.{is_new, new_homes}
 use Rattle.jb_handle.proofs.Rising.{both_parts, is_lt-less}
@@ -151,10 +151,10 @@ new-few met (e ∷ es) =
     let one = one-kind (is_copy e.1) (not (set.contains met e.0)) in
     rw (sum_by-cons (λ x. cond (is_new is_copy met x) 1 0) e es, sum_by-cons (λ x. cond (is_new is_free met x) 1 0) e es) (omega (arith, rest, one))
 
-no-copies : set.len (copies []) ≡ 0
+pub no-copies : set.len (copies []) ≡ 0
 no-copies = ap set.len (set.same_set nat_cmp_total set.nat_cmp-IsAntisymmetric (copies []) set.empty (λ q. contains-copies [] q ∙ sym (set.contains-empty nat_cmp q))) ∙ set.len-empty nat_cmp
 
-no-frees : set.len (frees []) ≡ 0
+pub no-frees : set.len (frees []) ≡ 0
 no-frees = ap set.len (set.same_set nat_cmp_total set.nat_cmp-IsAntisymmetric (frees []) set.empty (λ q. contains-frees [] q ∙ sym (set.contains-empty nat_cmp q))) ∙ set.len-empty nat_cmp
 
 -- handles copy and free no more homes than they touch

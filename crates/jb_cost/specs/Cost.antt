@@ -1,8 +1,11 @@
 -- The log blocks that a list of handles takes as one group.
-use Rattle.std.specs.Prelude.{ℕ, ◌+◌, List}
+use Rattle.std.specs.Prelude.{ℕ, ◌+◌, List, IsTrue}
+use Rattle.std.specs.List.{All}
+use Rattle.std.specs.FinMap as map
 use Rattle.std.specs.Int.{div_ceil}
 use Rattle.std.specs.FinSet as set
 use Rattle.jb_handle.specs.declared.stopped.Stopped.{Stopped}
+use Rattle.jb_handle.specs.Word.{WordMap, is_copy}
 use Rattle.jb_handle.specs.Words.{copies, frees}
 use Rattle.jb_cost.specs.declared.geometry.Geometry.{Geometry}
 
@@ -17,3 +20,7 @@ cost g hs = blocks_of g (set.len (copies hs)) (set.len (frees hs))
 -- the blocks of a handle whose credits are all copies
 abbrev pub worst_cost_of : Geometry → ℕ → ℕ
 worst_cost_of g credits = 1 + credits + div_ceil credits g.t
+
+-- each word is a copy
+abbrev pub AreCopies : WordMap → Type 0
+AreCopies words = All (λ e. IsTrue (is_copy e.1)) (map.entries words)

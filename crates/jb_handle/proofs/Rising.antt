@@ -139,3 +139,12 @@ module _ {W : Type 0} where
   -- what is found among one entry more
   pub find-take : (es : List (ℕ × W)) → T (map.is_sorted nat_cmp es) → (i : ℕ) (d : ℕ × W) → i < length es → (q : ℕ) → map.find nat_cmp q (take (i + 1) es) ≡ cond (nat_eq q (get_or es i d).0) (Some (get_or es i d).1) (map.find nat_cmp q (take i es))
   find-take es h i d lt q = rw add-one (found-next es h i d lt q)
+
+  -- no home stands among the entries before it
+  pub find-before : (es : List (ℕ × W)) → T (map.is_sorted nat_cmp es) → (i : ℕ) (d : ℕ × W) → i < length es → map.find nat_cmp (get_or es i d).0 (take i es) ≡ None
+  find-before [] h i d lt = absurd (omega arith)
+  find-before (e ∷ es) h zero d lt = refl
+  find-before (e ∷ es) h (suc i) d lt =
+      let less : e.0 < (get_or es i d).0 = homes-rise (e ∷ es) h 0 (suc i) d (omega arith) lt in
+      let apart : eq_by_cmp nat_cmp (get_or es i d).0 e.0 ≡ false = grind (arith, nat_tests) in
+      rw apart (find-before es (rising-tail e es h) i d (omega arith))

@@ -11,7 +11,7 @@ use Rattle.std.proofs.lemmas.List.Folds.{list_any-append}
 use Rattle.jb_handle.specs.declared.word.Word.{Word}
 use Rattle.jb_handle.specs.declared.word.Word.TheVariants.{Copy, Free}
 use Rattle.jb_handle.specs.declared.stopped.Stopped.{Stopped}
-use Rattle.jb_handle.specs.Word.{is_copy}
+use Rattle.jb_handle.specs.Word.{is_copy, is_free}
 use Rattle.jb_handle.specs.Words.{word, touched, is_copied, is_freed, copies, frees}
 
 -- whether there is a word, of this kind
@@ -22,10 +22,6 @@ is_of kind (Some w) = kind w
 -- the homes whose last word is of this kind
 abbrev pub homes_of : (Word → Bool) → List Stopped → set.FinSet nat_cmp
 homes_of kind hs = set.retain (touched hs) (λ b. is_of kind (word hs b))
-
--- whether a word is free
-abbrev pub is_free : Word → Bool
-is_free w = not (is_copy w)
 
 copied-is_of : (w : Option Word) → is_of is_copy w ≡ is_copied w
 copied-is_of None = refl

@@ -1,5 +1,5 @@
 -- The words that one handle leaves.
-use Rattle.std.specs.Prelude.{◌≡◌, refl, ℕ, Bool, true, false, List, Option, Some, None}
+use Rattle.std.specs.Prelude.{◌≡◌, refl, ℕ, Bool, true, false, not, List, Option, Some, None}
 use Rattle.std.specs.Ordering.{nat_cmp}
 use Rattle.std.specs.Coded.{Coded, code_by, coded_ℕ, coded_list, coded_option}
 use Rattle.std.specs.FinMap as map
@@ -14,6 +14,10 @@ WordMap = map.FinMap nat_cmp Word
 abbrev pub is_copy : Word → Bool
 is_copy (Copy bytes) = true
 is_copy Free = false
+
+-- whether a word is free
+abbrev pub is_free : Word → Bool
+is_free w = not (is_copy w)
 
 -- the bytes of a copy, or nothing
 abbrev pub to_option : Word → Option (List ℕ)
