@@ -1,10 +1,12 @@
+pub mod Bounds
 pub mod Ceilings
 pub mod Costs
 pub mod Covers
+pub mod Cuts
 pub mod Fresh
 pub mod Later
 pub mod Left
+pub mod Pieces
 pub mod Sizes
-pub mod Bounds
-pub mod Cuts
 pub mod Worst
+pub mod Walk

@@ -11,9 +11,9 @@ mod size;
 mod stopped;
 #[cfg(test)]
 mod tests;
+pub mod text;
 mod word;
 mod words;
-
 pub use changes::{Changes, TouchFault};
 pub use handle::Handle;
 pub use op::Op;

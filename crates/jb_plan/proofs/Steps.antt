@@ -8,7 +8,7 @@ use Rattle.jb_cost.specs.Cut.{RisesTo, EachFrom, total_from, IsCut, EachPiece, t
 use Rattle.jb_cost.proofs.Cuts.{rises-le, reached-push, reached-none}
 use Rattle.jb_cost.proofs.Bounds.{hold-fewer, lower, price-exact}
 use Rattle.jb_plan.specs.declared.step.Step.{Step}
-use Rattle.jb_plan.specs.Step.{IsBest, BestFrom, step_of, AreSteps, price_of, from_of, GoBack, AreWithin}
+use Rattle.jb_plan.specs.Step.{IsBest, BestFrom, step_of, AreSteps, price_of, from_of, GoBack, AreWithin, IsTable}
 
 price-kept : (ps more : List (Option ℕ)) (i : ℕ) → i < length ps → price (ps ++ more) i ≡ price ps i
 price-kept ps more i less = get_or-append ps more None i less
@@ -188,3 +188,29 @@ module _ (c : ℕ → ℕ → ℕ) (limit : ℕ) where
 
       last : j ≡ n + 1 → p ≤ w j
       last same = subst (λ k. p ≤ w k) (sym same) (now best found (sym (price-new ps (n + 1) (price_of best) prices) ∙ (ap (price (ps ++ (price_of best ∷ []))) (sym same) ∙ is)))
+
+  -- the table of no handles
+  pub table-start : (w : ℕ → ℕ) → IsTable c limit w 0 (Some 0 ∷ []) (0 ∷ [])
+  table-start w = record {
+    steps = steps-start;
+    number = refl;
+    starts = refl;
+    back = λ j above within. absurd (let h : ⊥ = omega arith in h);
+    within = λ j p below is. first j p below is;
+  }
+    where
+      first : (j p : ℕ) → j < 1 → price (Some 0 ∷ []) j ≡ Some p → p ≤ w j
+      first j p below is =
+          let none : j ≡ 0 = omega arith in
+          let same : 0 ≡ p = let both : Some 0 ≡ Some p = ap (price (Some 0 ∷ [])) (sym none) ∙ is in cc in
+          omega arith
+
+  -- the table of one handle more
+  pub table-more : (w : ℕ → ℕ) (n : ℕ) (ps : List (Option ℕ)) (froms : List ℕ) (best : Option Step) → IsTable c limit w n ps froms → BestFrom c limit ps 0 (n + 1) best → ((i : ℕ) → i < n + 1 → c i (n + 1) + w i ≤ w (n + 1)) → IsTable c limit w (n + 1) (ps ++ (price_of best ∷ [])) (froms ++ (from_of best ∷ []))
+  table-more w n ps froms best table found grows = record {
+    steps = steps-more ps froms n best table.steps table.number table.starts found;
+    number = simp length-append (omega (arith, table.number));
+    starts = simp length-append (omega (arith, table.starts));
+    back = back-more ps froms n best table.back table.starts found;
+    within = within-more w ps n best table.within table.number grows found;
+  }

@@ -1,5 +1,7 @@
 -- The steps by which cuts reach an end: the best one from the starts that were tried, and the best ones to each end.
-use Rattle.std.specs.Prelude.{◌≡◌, ℕ, ◌+◌, ◌<◌, ◌≤◌, List, Option, Some, None, nat_lt, if◌then◌else◌, length, slice_index}
+use Rattle.std.specs.Prelude.{◌≡◌, ℕ, ◌+◌, ◌*◌, ◌<◌, ◌≤◌, List, Option, Some, None, nat_lt, if◌then◌else◌, length, take, slice_index}
+use Rattle.jb_handle.specs.declared.stopped.Stopped.{Stopped}
+use Rattle.jb_handle.specs.Size.{weight}
 use Rattle.jb_cost.specs.Cut.{price}
 use Rattle.jb_plan.specs.declared.step.Step.{Step}
 
@@ -50,6 +52,18 @@ from_of (Some s) = s.from
 abbrev pub GoBack : List ℕ → Type 0
 GoBack froms = (j : ℕ) → 0 < j → j < length froms → slice_index froms j < j
 
--- each price is at most what the handles before it weigh
+-- twice what the first j handles weigh: they cost no more, however they are cut
+abbrev pub most_of : List Stopped → ℕ → ℕ
+most_of hs j = 2 * weight (take j hs)
+
+-- each price is at most w of its number of handles
 abbrev pub AreWithin : (ℕ → ℕ) → List (Option ℕ) → Type 0
 AreWithin w ps = (j p : ℕ) → j < length ps → price ps j ≡ Some p → p ≤ w j
+
+-- the table of the best steps to the ends up to n
+pub record IsTable (c : ℕ → ℕ → ℕ) (limit : ℕ) (w : ℕ → ℕ) (n : ℕ) (ps : List (Option ℕ)) (froms : List ℕ) : Type 0 where
+  pub steps : AreSteps c limit ps froms n
+  pub number : length ps ≡ n + 1
+  pub starts : length froms ≡ n + 1
+  pub back : GoBack froms
+  pub within : AreWithin w ps

@@ -3,6 +3,9 @@
 
 mod bounds;
 mod planned;
+mod planner;
 mod step;
+mod table;
 
 pub use planned::{Answer, Planned};
+pub use planner::plan;

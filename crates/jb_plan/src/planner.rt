@@ -1,0 +1,47 @@
+ghost use Rattle.std.specs.Prelude.{◌≡◌, ℕ, length, IfOk};
+ghost use Rattle.jb_handle.specs.Size.{IsWithinSize};
+ghost use Rattle.jb_cost.specs.Cut.{piece_cost, ArePrices};
+ghost use Rattle.jb_plan.specs.Plan.{Answers};
+
+use crate::bounds::bounds_to;
+use crate::planned::{Answer, Planned};
+use crate::table::table_of;
+use jb_block::Memory;
+use jb_cost::Geometry;
+use jb_handle::Stopped;
+use std::alloc::Global;
+
+/// Cuts a queue of stopped handles, in their order, into groups within the limit that take the
+/// fewest log blocks in all, and gives the least numbers of blocks for each first part of the queue.
+///
+/// A group within the limit may stand between two bounds whatever the handles around it, so the least
+/// number for an end is the best of those before it and one group more. Of several bounds that are as
+/// good the least comes before an end. The limit and the numbers are in log blocks.
+///
+/// # Errors
+///
+/// `Memory` where there is none for the prices, the bounds or the footprint of a group.
+pub fn plan(
+    alloc: Global,
+    handles: &[Stopped],
+    geometry: Geometry,
+    limit: u32,
+) -> Result<Planned, Memory>
+    requires size { IsWithinSize handles.now }
+    ensures prices { IfOk result (λ planned. ArePrices (piece_cost geometry handles.now) limit (length handles.now) planned.prices.items) }
+    ensures answer { IfOk result (λ planned. Answers (piece_cost geometry handles.now) limit (length handles.now) planned.prices.items planned.answer) }
+{
+    let end = handles.len();
+    let table = table_of(alloc, handles, geometry, limit)?;
+    let answer = match table.prices[end] {
+        Some(total) => {
+            let bounds = bounds_to(alloc, &table.froms, end)?;
+            Answer::Cut { bounds, total }
+        }
+        None => Answer::NoCut,
+    };
+    Ok(Planned {
+        answer,
+        prices: table.prices,
+    })
+}

@@ -1,0 +1,3 @@
+pub mod Undercutting
+pub mod Verdicts
+pub mod Walks

@@ -1,0 +1,7 @@
+use Rattle.std.proofs.Common.{◌≡◌, ◌++◌, drop, map}
+use Rattle.std.specs.Prelude.{codes, decimal, string_bytes}
+use Rattle.jb_price.specs.Certificate.{spaced}
+use Rattle.jb_price.proofs.print.push_bounds.Given as goal
+
+abbrev pub invariant-loop-bound : goal.invariant-loop-bound
+invariant-loop-bound l = string_bytes l.text ++ spaced (map decimal (drop l.bound-index l.bounds)) ≡ string_bytes l.fn.text ++ (codes "cut" ++ spaced (map decimal l.bounds))

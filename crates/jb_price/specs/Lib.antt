@@ -1,0 +1,4 @@
+pub mod Certificate
+pub mod FirstUndercut
+pub mod Sum
+pub mod Verdict

@@ -1,0 +1,69 @@
+ghost use Rattle.std.specs.Prelude.{◌≡◌, ◌+◌, ◌<◌, ◌≤◌, ◌↔◌, ℕ, length, IfOk, IsTrue, MatchOption};
+ghost use Rattle.jb_handle.specs.Size.{IsWithinSize};
+ghost use Rattle.jb_cost.specs.Cut.{piece_cost};
+ghost use Rattle.jb_price.specs.Verdict.{IsDearer};
+ghost use Rattle.jb_price.specs.FirstUndercut.{LeastTo, FirstAmong, earlier_of};
+
+use jb_block::Memory;
+use jb_cost::{Footprint, Geometry};
+use jb_handle::Stopped;
+use std::alloc::Global;
+
+// The first undercut of the prices: the least first bound, and of its second bounds the least.
+pub(crate) fn first_undercut(alloc: Global, handles: &[Stopped], geometry: Geometry, limit: u32, prices: &[Option<u64>]) -> Result<Option<(usize, usize)>, Memory>
+    requires size { IsWithinSize handles.now }
+    requires number { length prices.now ≡ length handles.now + 1 }
+    ensures { IfOk result (λ found. FirstAmong (piece_cost geometry handles.now) limit (length handles.now) prices.now (length handles.now) found) }
+{
+    let mut first: Option<(usize, usize)> = None;
+    for last in 0..handles.len() {
+        let found = least_undercut(alloc, handles, last + 1, geometry, limit, prices)?;
+        first = earlier(first, found, last + 1);
+    }
+    Ok(first)
+}
+
+// The earlier of the first undercut so far and one of a later end: at the same first bound that with
+// the lesser end.
+fn earlier(first: Option<(usize, usize)>, found: Option<usize>, end: usize) -> Option<(usize, usize)>
+    ensures { result ≡ earlier_of first found end }
+{
+    match (first, found) {
+        (first, None) => first,
+        (Some((from, to)), Some(other)) if from <= other => Some((from, to)),
+        (_, Some(other)) => Some((other, end)),
+    }
+}
+
+// The least bound from which the handles up to `end` are an undercut. The piece grows leftwards, which
+// never makes it cheaper, so the first one over the limit ends the search.
+fn least_undercut(alloc: Global, handles: &[Stopped], end: usize, geometry: Geometry, limit: u32, prices: &[Option<u64>]) -> Result<Option<usize>, Memory>
+    requires size { IsWithinSize handles.now }
+    requires end_in { end ≤ length handles.now }
+    requires number { length prices.now ≡ length handles.now + 1 }
+    ensures { IfOk result (λ found. LeastTo (piece_cost geometry handles.now) limit (length handles.now) prices.now 0 end found) }
+{
+    let mut footprint = Footprint::new(alloc, geometry);
+    let mut least = None;
+    for from in (0..end).rev() {
+        let cost = footprint.add_left(&handles[from])?;
+        if cost > u64::from(limit) {
+            break;
+        }
+        if is_cheaper(prices[from], cost, prices[end]) {
+            least = Some(from);
+        }
+    }
+    Ok(least)
+}
+
+// Whether a price and the cost of a group come to less than the price of the group's end.
+fn is_cheaper(price: Option<u64>, cost: u64, end: Option<u64>) -> bool
+    ensures { IsTrue result ↔ ((p : ℕ) × (price ≡ Some p) × IsDearer end (p + cost)) }
+{
+    match (price, end) {
+        (None, _) => false,
+        (Some(_), None) => true,
+        (Some(price), Some(end)) => u128::from(price) + u128::from(cost) < u128::from(end),
+    }
+}

@@ -1,0 +1,60 @@
+ghost use Rattle.std.specs.Prelude.{◌≡◌, ◌+◌, ℕ, length, IfOk};
+ghost use Rattle.jb_handle.specs.Size.{IsWithinSize};
+ghost use Rattle.jb_cost.specs.Cut.{piece_cost, price};
+ghost use Rattle.jb_price.specs.Verdict.{CutSays, Says, IsRight};
+
+use crate::certificate::{Cert, CertAnswer};
+use crate::check_cut::{is_cut, sum_of, Sum};
+use crate::check_prices::first_undercut;
+use crate::verdict::{Reason, Verdict};
+use jb_block::Memory;
+use jb_cost::Geometry;
+use jb_handle::Stopped;
+use std::alloc::Global;
+
+/// Checks a certificate of a queue of stopped handles against a limit in log blocks, and names the
+/// first of its faults. Nobody has to trust its maker: where it is accepted, no cut of the queue into
+/// groups within the limit takes fewer log blocks than the claimed one, or no such cut exists.
+///
+/// Sums are taken in 128 bits, so that no number of a certificate wraps.
+///
+/// # Errors
+///
+/// `Memory` where there is none for the footprint of a group.
+pub fn check(alloc: Global, handles: &[Stopped], geometry: Geometry, limit: u32, cert: &Cert) -> Result<Verdict, Memory>
+    requires size { IsWithinSize handles.now }
+    requires number { length cert.now.prices.items ≡ length handles.now + 1 }
+    ensures verdict { IfOk result (λ verdict. Says (piece_cost geometry handles.now) limit (length handles.now) cert.now.prices.items cert.now.answer verdict) }
+    ensures accepted { IfOk result (λ verdict. verdict ≡ Verdict.Accepted → IsRight (piece_cost geometry handles.now) limit (length handles.now) cert.now.answer) }
+{
+    if cert.prices[0] != Some(0) {
+        return Ok(Verdict::Refused(Reason::OpeningPrice));
+    }
+    if let Some((from, to)) = first_undercut(alloc, handles, geometry, limit, &cert.prices)? {
+        return Ok(Verdict::Refused(Reason::Undercut(from, to)));
+    }
+    let end_price = cert.prices[handles.len()];
+    match &cert.answer {
+        CertAnswer::Cut { bounds, total } => check_cut(alloc, handles, geometry, limit, end_price, bounds, *total),
+        CertAnswer::NoCut => match end_price {
+            None => Ok(Verdict::Accepted),
+            Some(_) => Ok(Verdict::Refused(Reason::EndPrice)),
+        },
+    }
+}
+
+// Checks a claimed cut and its total against the last price.
+fn check_cut(alloc: Global, handles: &[Stopped], geometry: Geometry, limit: u32, end_price: Option<u64>, bounds: &[usize], total: u64) -> Result<Verdict, Memory>
+    requires size { IsWithinSize handles.now }
+    ensures { IfOk result (λ verdict. CutSays (piece_cost geometry handles.now) limit (length handles.now) end_price bounds.now total verdict) }
+{
+    if !is_cut(bounds, handles.len()) {
+        return Ok(Verdict::Refused(Reason::NotACut));
+    }
+    match sum_of(alloc, handles, geometry, limit, bounds)? {
+        Sum::Over(from, to) => Ok(Verdict::Refused(Reason::OverLimit(from, to))),
+        Sum::Within(sum) if sum != u128::from(total) => Ok(Verdict::Refused(Reason::TotalDiffers)),
+        Sum::Within(_) if end_price != Some(total) => Ok(Verdict::Refused(Reason::EndPrice)),
+        Sum::Within(_) => Ok(Verdict::Accepted),
+    }
+}
