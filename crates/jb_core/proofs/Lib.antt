@@ -1,2 +1,4 @@
 pub mod Pieces
 pub mod Moves
+pub mod Sounds
+pub mod Exact

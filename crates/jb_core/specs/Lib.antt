@@ -1,3 +1,8 @@
 pub mod Line
-pub mod Stops
+pub mod Machine
 pub mod Parted
+pub mod Sound
+pub mod Steps
+pub mod Stops
+pub mod Exactly
+pub mod State

@@ -63,6 +63,20 @@ impl Stops {
         &self.handles[self.taken_end..]
     }
 
+    /// How many groups are settled.
+    pub fn settled(&self) -> usize
+        ensures { result ≡ length self.now.settled }
+    {
+        self.settled
+    }
+
+    /// How many groups are taken and not settled.
+    pub fn taken(&self) -> usize
+        ensures { result ≡ length self.now.taken }
+    {
+        self.ends.len() - self.settled
+    }
+
     /// Makes room for one more handle.
     pub fn reserve(&mut self) -> Result<(), Memory>
         ensures same { IsSame self.old self.new }
