@@ -1,28 +1,22 @@
 -- How a cut is judged, bound by bound.
 use Rattle.std.proofs.Common.{◌≡◌, ℕ, zero, suc, ◌+◌, ◌-◌, ◌<◌, ◌≤◌, List, [], ◌∷◌, length, take, drop, get_or, sym, refl, ap, subst, ◌∙◌, arith}
 use Rattle.std.proofs.Math.Seq.{drop-cons}
+use Rattle.std.proofs.Math.ListN.{drop_of_length-le}
+use Rattle.std.proofs.lemmas.List.Sums.{sum_by-take-le, sum_by-take-drop}
+use Rattle.std.specs.FinMap as map
+use Rattle.jb_handle.specs.Size.{IsWithinSize}
 use Rattle.jb_handle.specs.declared.stopped.Stopped.{Stopped}
 use Rattle.jb_cost.specs.Cut.{RisesTo, EachFrom, total_from, total, FitsCut, IsLeastCut}
 use Rattle.jb_cost.proofs.Cuts.{rises-le}
 use Rattle.jb_core.specs.Exactly.{CostsExactly, GoesOn}
 
 module _ (c : ℕ → ℕ → ℕ) (limit n : ℕ) where
-  -- no bounds, or other first bounds than 0, are no cut
-  pub not-empty : (blocks : ℕ) → CostsExactly c limit n blocks [] → ⊥
-  not-empty blocks whole = whole.0.cut
-
-  pub first-is : (blocks : ℕ) (bounds : List ℕ) → 0 < length bounds → CostsExactly c limit n blocks bounds → get_or bounds 0 0 ≡ 0
-  first-is blocks [] there whole = absurd (let h : ⊥ = omega arith in h)
-  first-is blocks (a ∷ bs) there whole = whole.0.cut.0
-
   -- a cut is judged by what is behind its first bound
-  pub begins-to : (blocks : ℕ) (bounds : List ℕ) → 0 < length bounds → get_or bounds 0 0 ≡ 0 → CostsExactly c limit n blocks bounds → GoesOn c limit n 0 blocks (drop 1 bounds)
-  begins-to blocks [] there first whole = absurd (let h : ⊥ = omega arith in h)
-  begins-to blocks (a ∷ bs) there first whole = subst (λ x. GoesOn c limit n x blocks bs) first record { rises = whole.0.cut.1; fits = whole.0.fits; sum = whole.1 }
+  pub begins-to : (blocks a : ℕ) (bs : List ℕ) → CostsExactly c limit n blocks (a ∷ bs) → (a ≡ 0) × GoesOn c limit n 0 blocks bs
+  begins-to blocks a bs whole = (whole.0.cut.0, subst (λ x. GoesOn c limit n x blocks bs) whole.0.cut.0 record { rises = whole.0.cut.1; fits = whole.0.fits; sum = whole.1 })
 
-  pub begins-from : (blocks : ℕ) (bounds : List ℕ) → 0 < length bounds → get_or bounds 0 0 ≡ 0 → GoesOn c limit n 0 blocks (drop 1 bounds) → CostsExactly c limit n blocks bounds
-  begins-from blocks [] there first on = absurd (let h : ⊥ = omega arith in h)
-  begins-from blocks (a ∷ bs) there first on =
+  pub begins-from : (blocks a : ℕ) (bs : List ℕ) → a ≡ 0 → GoesOn c limit n 0 blocks bs → CostsExactly c limit n blocks (a ∷ bs)
+  begins-from blocks a bs first on =
       let here : GoesOn c limit n a blocks bs = subst (λ x. GoesOn c limit n x blocks bs) (sym first) on in
       (record { cut = (first, here.rises); fits = here.fits }, here.sum)
 
@@ -58,3 +52,17 @@ module _ (c : ℕ → ℕ → ℕ) (limit n : ℕ) where
     fitting = whole.0;
     least = λ other fitting. let low = least.least other fitting in let sum = whole.1 in omega arith
   }
+
+-- the ends from a place on are the one there and those behind it
+pub ends-at : (ends : List ℕ) (i : ℕ) → i < length ends → drop i ends ≡ get_or ends i 0 ∷ drop (i + 1) ends
+ends-at ends i there = drop-cons ends i 0 there ∙ ap (λ k. get_or ends i 0 ∷ drop k ends) (let same : suc i ≡ i + 1 = omega arith in same)
+
+pub ends-over : (ends : List ℕ) (i : ℕ) → length ends ≤ i → drop i ends ≡ []
+ends-over ends i le = drop_of_length-le ends le
+
+-- a piece of a list of handles weighs no more than the list
+pub piece-size : (hs : List Stopped) (a n : ℕ) → IsWithinSize hs → IsWithinSize (take n (drop a hs))
+piece-size hs a n size =
+    let part = sum_by-take-le (λ (h : Stopped). map.len h.words + 1) (drop a hs) n in
+    let rest = sum_by-take-drop (λ (h : Stopped). map.len h.words + 1) hs a in
+    omega (arith, part, rest, size)

@@ -1,9 +1,9 @@
 -- Each event leaves the machine sound.
-use Rattle.std.proofs.Common.{◌≡◌, ℕ, zero, suc, ◌+◌, ◌-◌, ◌^◌, ◌<◌, ◌≤◌, Bool, true, false, not, nat_lt, nat_le, cond, ◌||◌, List, [], ◌∷◌, ◌++◌, length, take, drop, sum, Option, Some, None, is_some, is_none, Ordering, Less, Equal, Greater, sym, refl, ap, subst, ◌∙◌, le_refl, le_trans, arith}
+use Rattle.std.proofs.Common.{◌≡◌, ℕ, zero, suc, ◌+◌, ◌-◌, ◌^◌, ◌<◌, ◌≤◌, Bool, true, false, not, nat_lt, nat_le, cond, ◌||◌, ◌⊎◌, inl, inr, List, [], ◌∷◌, ◌++◌, length, take, drop, sum, Option, Some, None, is_some, is_none, Ordering, Less, Equal, Greater, sym, refl, ap, subst, ◌∙◌, le_refl, le_trans, arith}
 use Rattle.std.proofs.lemmas.Bool.Decides.{nat_tests}
 use Rattle.std.proofs.lemmas.List.{length-append, length-drop, append_assoc, append-nil}
 use Rattle.std.proofs.Math.Seq.{drop-append-add}
-use Rattle.std.proofs.lemmas.List.Sums.{sum_by-append, sum_by-take-drop}
+use Rattle.std.proofs.lemmas.List.Sums.{sum_by-append, sum_by-take-drop, sum_by-cons}
 use Rattle.std.proofs.lemmas.Map.Entries.{sum_by-insert_entry, sum_by-remove_entry, sum_by-set_value}
 use Rattle.std.specs.List.{sum_by}
 use Rattle.std.specs.List.Sorted.{IsStrictlySortedBy}
@@ -17,13 +17,17 @@ use Rattle.jb_handle.specs.declared.op.Op.{Op}
 use Rattle.jb_handle.specs.declared.stopped.Stopped.{Stopped}
 use Rattle.jb_handle.specs.Held.{Held, held, first_of}
 use Rattle.jb_handle.specs.Held as handle
+use Rattle.jb_handle.specs.Size.{weight, IsWithinSize}
 use Rattle.jb_cost.specs.Cut.{IsCut}
 use Rattle.jb_core.specs.declared.event.CoreFault.{CoreFault}
 use Rattle.jb_core.specs.declared.event.CoreFault.TheVariants.{Busy, TooManyCredits, Full}
 use Rattle.jb_core.specs.declared.event.Event.TheVariants.{Open, Touch, Stop, Abandon, Take, Settle, Checkpoint, Crash, Restart}
 use Rattle.jb_core.specs.Line.{joined, pieces, count}
-use Rattle.jb_core.specs.Machine.{Machine, handle_at, held_at, reserved, is_full, refusal_up, stopped_at, after, after_take}
+use Rattle.jb_core.specs.Machine.{Machine, handle_at, held_at, reserved, is_full, refusal_up, fault_of, stopped_at, after, after_take}
 use Rattle.jb_core.specs.Sound.{Covers, waiting, IsBare, IsSound}
+use Rattle.jb_handle.specs.declared.changes.TouchFault.{TouchFault}
+use Rattle.jb_handle.specs.declared.changes.TouchFault.TheVariants as touch
+use Rattle.jb_core.specs.Steps.{Refuses}
 use Rattle.jb_core.specs.State.{machine_of, IsKept}
 use Rattle.jb_core.specs.declared.state.State.TheInside.{Inside}
 use Rattle.jb_core.proofs.Pieces.{joined-cut}
@@ -42,6 +46,27 @@ covers-drop (suc k) [] [] a = tt
 covers-drop (suc k) [] (h ∷ hs) a = absurd a
 covers-drop (suc k) (c ∷ cs) [] a = absurd a
 covers-drop (suc k) (c ∷ cs) (h ∷ hs) a = covers-drop k cs hs a.1
+
+covers-weight : (cs : List ℕ) (hs : List Stopped) → Covers cs hs → weight hs ≤ sum cs + length hs
+covers-weight [] [] a = le_refl 0
+covers-weight [] (h ∷ hs) a = absurd a
+covers-weight (c ∷ cs) [] a = absurd a
+covers-weight (c ∷ cs) (h ∷ hs) a =
+    let rest = covers-weight cs hs a.1 in
+    let touched = a.0 in
+    let left = sum_by-cons (λ (g : Stopped). map.len g.words + 1) h hs in
+    let right = sum_by-cons (λ (x : ℕ). x) c cs in
+    omega arith
+
+-- the planner takes any queue of a machine
+pub queue-size : (m : Machine) → IsSound m → IsWithinSize m.queue
+queue-size m sound =
+    let all = covers-weight m.credits (waiting m) sound.covered in
+    let parts = sum_by-append (λ (g : Stopped). map.len g.words + 1) (joined m.taken) m.queue in
+    let room = sound.room in
+    let in_life = sound.in_life in
+    let tickets = sound.tickets in
+    omega arith
 
 -- ---- groups joined
 
@@ -106,6 +131,20 @@ opens true b c x y z is = absurd (let h : ⊥ = cc in h)
 opens false true c x y z is = absurd (let h : ⊥ = cc in h)
 opens false false true x y z is = absurd (let h : ⊥ = cc in h)
 opens false false false x y z is = (refl, refl, refl)
+
+pub none-left : {A : Type 0} (xs : List A) → length xs ≤ 0 → xs ≡ []
+none-left [] le = refl
+none-left (x ∷ xs) le = absurd (let h : ⊥ = omega arith in h)
+
+-- a change that its handle refuses is refused by the machine, with the same fault
+pub touch-refuses : (m : Machine) (seat : ℕ) (op : Op) (h : Held) → m.up ≡ true → handle_at m seat ≡ Some h → (fault : TouchFault) → (fault ≡ touch.Memory) ⊎ (handle.refusal h op ≡ Some fault) → Refuses m (Touch seat op) (fault_of fault)
+touch-refuses m seat op h up there touch.Memory why = tt
+touch-refuses m seat op h up there (touch.NoCredit credits) (inl is) = absurd (let h : ⊥ = cc in h)
+touch-refuses m seat op h up there (touch.NoCredit credits) (inr is) = rw (up, there) (rw is refl)
+touch-refuses m seat op h up there (touch.OutOfRange home) (inl is) = absurd (let h : ⊥ = cc in h)
+touch-refuses m seat op h up there (touch.OutOfRange home) (inr is) = rw (up, there) (rw is refl)
+touch-refuses m seat op h up there touch.Length (inl is) = absurd (let h : ⊥ = cc in h)
+touch-refuses m seat op h up there touch.Length (inr is) = rw (up, there) (rw is refl)
 
 -- ---- events
 

@@ -1,7 +1,7 @@
 ghost use Rattle.std.specs.Prelude.{◌↔◌, length, IfOk, IsTrue};
 ghost use Rattle.jb_handle.specs.Size.{IsWithinSize};
 ghost use Rattle.jb_cost.specs.Cut.{IsLeastCut, piece_cost};
-ghost use Rattle.jb_core.specs.Exactly.{CostsExactly};
+ghost use Rattle.jb_core.specs.Exactly.{CostsExactly, GoesOn};
 
 use jb_block::Memory;
 use jb_cost::{Geometry, group_cost};
@@ -31,7 +31,7 @@ pub fn is_least(
 }
 
 // Whether the bounds are a cut of the handles into groups within the limit that takes so many log
-// blocks. What is left of the blocks goes down, so that no sum can pass 64 bits.
+// blocks.
 fn costs_exactly(
     alloc: Global,
     handles: &[Stopped],
@@ -43,17 +43,42 @@ fn costs_exactly(
     requires size { IsWithinSize handles.now }
     ensures { IfOk result (λ yes. IsTrue yes ↔ CostsExactly (piece_cost geometry handles.now) limit (length handles.now) blocks bounds.now) }
 {
-    if bounds.is_empty() || bounds[0] != 0 {
+    let Some((&first, ends)) = bounds.split_first() else {
+        return Ok(false);
+    };
+    if first != 0 {
         return Ok(false);
     }
+    goes_on(alloc, handles, ends, geometry, limit, blocks)
+}
+
+// The same of the bounds behind the first one. What is left of the blocks goes down, so that no sum
+// can pass 64 bits.
+fn goes_on(
+    alloc: Global,
+    handles: &[Stopped],
+    ends: &[usize],
+    geometry: Geometry,
+    limit: u32,
+    blocks: u64,
+) -> Result<bool, Memory>
+    requires size { IsWithinSize handles.now }
+    ensures { IfOk result (λ yes. IsTrue yes ↔ GoesOn (piece_cost geometry handles.now) limit (length handles.now) 0 blocks ends.now) }
+{
     let mut start = 0;
     let mut left = blocks;
-    for &end in &bounds[1..] {
-        if end <= start || end > handles.len() {
+    for &end in ends {
+        if end <= start {
+            return Ok(false);
+        }
+        if end > handles.len() {
             return Ok(false);
         }
         let cost = group_cost(alloc, &handles[start..end], geometry)?;
-        if cost > u64::from(limit) || cost > left {
+        if cost > u64::from(limit) {
+            return Ok(false);
+        }
+        if cost > left {
             return Ok(false);
         }
         left -= cost;

@@ -129,10 +129,10 @@ impl State {
         let Some(changes) = self.handles.get_mut(&seat) else {
             return Err(CoreFault::NoHandle);
         };
-        match changes.apply(op) {
-            Ok(()) => Ok(Reply::Plain),
-            Err(fault) => Err(core_fault(fault)),
+        if let Err(fault) = changes.apply(op) {
+            return Err(core_fault(fault));
         }
+        Ok(Reply::Plain)
     }
 
     pub(crate) fn stop(&mut self, seat: u64) -> Result<Reply, CoreFault>
@@ -172,10 +172,10 @@ impl State {
             Ok(false) => return Err(CoreFault::NotLeast),
             Err(_) => return Err(CoreFault::Memory),
         }
-        match self.stops.take(bounds) {
-            Ok(()) => Ok(Reply::Plain),
-            Err(_) => Err(CoreFault::Memory),
-        }
+        let Ok(()) = self.stops.take(bounds) else {
+            return Err(CoreFault::Memory);
+        };
+        Ok(Reply::Plain)
     }
 
     pub(crate) fn checkpoint(&mut self) -> Result<Reply, CoreFault>
