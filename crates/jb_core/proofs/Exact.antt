@@ -50,7 +50,7 @@ module _ (c : ℕ → ℕ → ℕ) (limit n : ℕ) where
   pub least-from : (best bounds : List ℕ) (blocks : ℕ) → IsLeastCut c limit n best → total c best ≡ blocks → CostsExactly c limit n blocks bounds → IsLeastCut c limit n bounds
   least-from best bounds blocks least is whole = record {
     fitting = whole.0;
-    least = λ other fitting. let low = least.least other fitting in let sum = whole.1 in omega arith
+    least = λ other fitting. let low = least.least other fitting in let sum = whole.1 in omega arith;
   }
 
 -- the ends from a place on are the one there and those behind it

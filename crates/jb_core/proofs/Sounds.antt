@@ -88,7 +88,7 @@ cut-joined (a ∷ bs) xs cut = joined-cut a bs xs cut.0 cut.1
 abbrev pub credits_of : Held → ℕ
 credits_of h = h.credits
 
-found-none : {A : Type 0} (found : Option A) → is_some found ≡ false → found ≡ None
+pub found-none : {A : Type 0} (found : Option A) → is_some found ≡ false → found ≡ None
 found-none None is = refl
 found-none (Some x) is = absurd (let h : ⊥ = cc in h)
 
@@ -126,7 +126,7 @@ up-not-down : (m n : Machine) → m.up ≡ true → n.up ≡ m.up → n.up ≡ f
 up-not-down m n up same down = let e : true ≡ false = sym up ∙ sym same ∙ down in absurd (let h : ⊥ = cc in h)
 
 -- what the three tests of an Open let pass
-opens : (a b c : Bool) (x y z : CoreFault) → first_of ((a, x) ∷ (b, y) ∷ (c, z) ∷ []) ≡ None → (a ≡ false) × (b ≡ false) × (c ≡ false)
+pub opens : (a b c : Bool) (x y z : CoreFault) → first_of ((a, x) ∷ (b, y) ∷ (c, z) ∷ []) ≡ None → (a ≡ false) × (b ≡ false) × (c ≡ false)
 opens true b c x y z is = absurd (let h : ⊥ = cc in h)
 opens false true c x y z is = absurd (let h : ⊥ = cc in h)
 opens false false true x y z is = absurd (let h : ⊥ = cc in h)
@@ -173,7 +173,7 @@ module _ (m : Machine) (sound : IsSound m) (up : m.up ≡ true) where
         in_life = sound.in_life;
         lives = sound.lives;
         home = sound.home;
-        down = up-not-down m (after m (Open seat credits)) up refl
+        down = up-not-down m (after m (Open seat credits)) up refl;
       }
 
   -- a change leaves the credits of its handle
@@ -191,7 +191,7 @@ module _ (m : Machine) (sound : IsSound m) (up : m.up ≡ true) where
         in_life = sound.in_life;
         lives = sound.lives;
         home = sound.home;
-        down = up-not-down m (after m (Touch seat op)) up refl
+        down = up-not-down m (after m (Touch seat op)) up refl;
       }
 
   -- without a handle, its credits are left over
@@ -210,7 +210,7 @@ module _ (m : Machine) (sound : IsSound m) (up : m.up ≡ true) where
     in_life = sound.in_life;
     lives = sound.lives;
     home = sound.home;
-    down = up-not-down m (after m (Abandon seat)) up refl
+    down = up-not-down m (after m (Abandon seat)) up refl;
   }
 
   pub stop-reserved : (seat : ℕ) (h : Held) → handle_at m seat ≡ Some h → reserved (after m (Stop seat)) ≡ reserved m
@@ -235,7 +235,7 @@ module _ (m : Machine) (sound : IsSound m) (up : m.up ≡ true) where
         in_life = let in_life = sound.in_life in let same = ap length line in omega arith;
         lives = sound.lives;
         home = sound.home;
-        down = up-not-down m (after m (Stop seat)) up refl
+        down = up-not-down m (after m (Stop seat)) up refl;
       }
 
   pub take-sound : (bounds : List ℕ) → m.taken ≡ [] → IsCut (length m.queue) bounds → IsSound (after_take m bounds)
@@ -249,7 +249,7 @@ module _ (m : Machine) (sound : IsSound m) (up : m.up ≡ true) where
         in_life = let in_life = sound.in_life in let same = ap length line in omega arith;
         lives = sound.lives;
         home = sound.home;
-        down = up-not-down m (after_take m bounds) up refl
+        down = up-not-down m (after_take m bounds) up refl;
       }
 
   pub settle-reserved : (n : ℕ) → reserved (after m (Settle n)) + sum (take (count (take n m.taken)) m.credits) ≡ reserved m
@@ -267,7 +267,7 @@ module _ (m : Machine) (sound : IsSound m) (up : m.up ≡ true) where
         in_life = let in_life = sound.in_life in let same = ap length line in let fewer = length-drop (count (take n m.taken)) (waiting m) in omega arith;
         lives = let lives = sound.lives in omega arith;
         home = let home = sound.home in omega arith;
-        down = up-not-down m (after m (Settle n)) up refl
+        down = up-not-down m (after m (Settle n)) up refl;
       }
 
   pub checkpoint-sound : m.checkpointed < length m.settled → IsSound (after m Checkpoint)
@@ -279,7 +279,7 @@ module _ (m : Machine) (sound : IsSound m) (up : m.up ≡ true) where
     in_life = sound.in_life;
     lives = sound.lives;
     home = omega arith;
-    down = up-not-down m (after m Checkpoint) up refl
+    down = up-not-down m (after m Checkpoint) up refl;
   }
 
 module _ (m : Machine) (sound : IsSound m) where
@@ -294,7 +294,7 @@ module _ (m : Machine) (sound : IsSound m) where
         in_life = omega arith;
         lives = let lives = sound.lives in omega arith;
         home = let home = sound.home in omega arith;
-        down = λ down. record { handles = refl; taken = refl; queue = refl; credits = refl }
+        down = λ down. record { handles = refl; taken = refl; queue = refl; credits = refl };
       }
 
   pub restart-sound : m.up ≡ false → IsSound (after m Restart)
@@ -309,7 +309,7 @@ module _ (m : Machine) (sound : IsSound m) where
         in_life = let same = ap length none in omega arith;
         lives = le_refl (length m.settled);
         home = le_refl (length m.settled);
-        down = λ up. absurd (let h : ⊥ = cc in h)
+        down = λ up. absurd (let h : ⊥ = cc in h);
       }
 
 -- how a state is kept, told of the machine that it stands for

@@ -6,3 +6,5 @@ pub mod Steps
 pub mod Stops
 pub mod Exactly
 pub mod State
+pub mod Lives
+pub mod Ran

@@ -110,7 +110,7 @@ after m (Stop seat) = record m {
   handles = remove_entry (is_at (nat_cmp seat)) m.handles;
   queue = m.queue ++ stopped_at m seat ∷ [];
   credits = m.credits ++ (held_at m seat).credits ∷ [];
-  next = m.next + 1
+  next = m.next + 1;
 }
 after m (Abandon seat) = record m { handles = remove_entry (is_at (nat_cmp seat)) m.handles }
 after m (Take bounds) = after_take m bounds.items

@@ -19,7 +19,7 @@ machine_of s = record {
   earlier = s.earlier;
   checkpointed = s.checkpointed;
   next = s.next;
-  credits = s.stops.credits
+  credits = s.stops.credits;
 }
 
 -- the machine is sound, and what is reserved is counted

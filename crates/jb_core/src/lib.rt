@@ -3,7 +3,13 @@
 
 mod event;
 mod least;
+mod running;
 mod state;
 mod stops;
 mod sums;
+#[cfg(test)]
+mod tests;
+
 pub use event::{CoreFault, Event, Reply};
+pub use running::{run, step};
+pub use state::State;

@@ -1,4 +1,4 @@
-ghost use Rattle.std.specs.Prelude.{◌≡◌, ◌-◌, ◌/◌, true, false, [], length};
+ghost use Rattle.std.specs.Prelude.{◌≡◌, true, length};
 ghost use Rattle.jb_core.specs.Machine.{fault_of};
 
 use crate::event::{CoreFault, Reply};
@@ -49,22 +49,14 @@ impl Model for State {
 }
 
 impl State {
-    ghost use Rattle.jb_block.specs.Size.{bytes_of};
-    ghost use Rattle.jb_block.specs.Width.{is_wide, tag_len, entry_len};
-    ghost use Rattle.jb_core.specs.Machine.{Machine, is_full};
-    ghost use Rattle.jb_core.specs.Sound.{IsSound};
-    ghost use Rattle.jb_core.specs.Steps.{Steps, StepsTake, IsMost};
+    ghost use Rattle.jb_core.specs.Machine.{is_full};
+    ghost use Rattle.jb_core.specs.Steps.{Steps, StepsTake};
+    ghost use Rattle.jb_core.specs.Ran.{IsStart};
     ghost use Rattle.jb_core.specs.declared.event.Event.TheVariants.{Open, Touch, Stop, Abandon, Take, Settle, Checkpoint, Crash, Restart};
 
     /// A machine that is up, with nothing open, queued, taken or settled. Takes no memory.
     pub fn new(alloc: Global, shape: Shape) -> State
-        ensures up { (result.up ≡ true) × (result.shape ≡ shape) }
-        ensures handles { (result.handles ≡ []) × (result.queue ≡ []) × (result.credits ≡ []) }
-        ensures groups { (result.taken ≡ []) × (result.settled ≡ []) }
-        ensures counts { (result.earlier ≡ 0) × (result.checkpointed ≡ 0) × (result.next ≡ 0) }
-        ensures tags { result.geometry.t ≡ (bytes_of shape.bs - 28) / tag_len (is_wide shape.width) }
-        ensures entries { result.geometry.r ≡ (bytes_of shape.bs - 16) / entry_len (is_wide shape.width) }
-        ensures most { IsMost result.geometry shape.limit result.most }
+        ensures { IsStart shape result }
     {
         let geometry = Geometry::of(shape.bs, shape.width);
         State {
@@ -87,6 +79,34 @@ impl State {
         ensures { result ≡ self.now.up }
     {
         self.up
+    }
+
+    /// How many groups are settled, by this life and by earlier ones.
+    pub fn settled(&self) -> usize
+        ensures { result ≡ length self.now.settled }
+    {
+        self.stops.settled()
+    }
+
+    /// How many of the settled groups earlier lives settled.
+    pub fn earlier(&self) -> usize
+        ensures { result ≡ self.now.earlier }
+    {
+        self.earlier
+    }
+
+    /// How many groups are taken and not settled.
+    pub fn taken(&self) -> usize
+        ensures { result ≡ length self.now.taken }
+    {
+        self.stops.taken()
+    }
+
+    /// The handles that no group has yet, in the order of their stops.
+    pub fn queue(&self) -> &[Stopped]
+        ensures { result.now ≡ self.now.queue }
+    {
+        self.stops.queue()
     }
 
     pub(crate) fn open(&mut self, seat: u64, credits: u32) -> Result<Reply, CoreFault>
@@ -166,7 +186,13 @@ impl State {
         if self.stops.taken() > 0 {
             return Err(CoreFault::BatchOut);
         }
-        let least = is_least(self.alloc, self.stops.queue(), bounds, self.geometry, self.shape.limit);
+        let least = is_least(
+            self.alloc,
+            self.stops.queue(),
+            bounds,
+            self.geometry,
+            self.shape.limit,
+        );
         match least {
             Ok(true) => {}
             Ok(false) => return Err(CoreFault::NotLeast),

@@ -14,4 +14,4 @@ invariant_of-self-2 c =
     let same = stop-reserved (machine_of c.self.inside) c.self.invariant.sound up c.args.seat c.in-Some.changes there in
     let counted : c.self.inside.reserved ≡ reserved (after (machine_of c.self.inside) (Stop c.args.seat)) = omega (arith, same, c.self.invariant.counted) in
     kept-by _ (after (machine_of c.self.inside) (Stop c.args.seat)) (search rules)
-      (stop-sound (machine_of c.self.inside) c.self.invariant.sound up c.args.seat c.in-Some.changes there c.into_words-words.ensures.kept.within) counted c.remove.ensures.ordered
+    (stop-sound (machine_of c.self.inside) c.self.invariant.sound up c.args.seat c.in-Some.changes there c.into_words-words.ensures.kept.within) counted c.remove.ensures.ordered
