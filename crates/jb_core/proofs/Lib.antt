@@ -1,0 +1,6 @@
+pub mod Pieces
+pub mod Moves
+pub mod Sounds
+pub mod Exact
+pub mod Seats
+pub mod Wholes

@@ -1,0 +1,227 @@
+-- What becomes of the line where groups are settled, taken and lost.
+use Rattle.std.proofs.Common.{◌≡◌, ℕ, zero, suc, ◌+◌, ◌-◌, ◌<◌, ◌≤◌, List, [], ◌∷◌, ◌++◌, map, length, take, drop, get_or, slice_range, le_refl, sym, refl, ap, subst, ◌∙◌, arith}
+use Rattle.std.proofs.lemmas.List.{take-append-drop, length-drop, length-append, take_all, take-take, take-append-le, drop-append-le}
+use Rattle.std.proofs.Math.Seq.{take-nil, drop-append_seam, drop-length}
+use Rattle.jb_handle.specs.declared.stopped.Stopped.{Stopped}
+use Rattle.jb_cost.specs.Cut.{RisesTo, IsCut}
+use Rattle.jb_cost.proofs.Cuts.{rises-le}
+use Rattle.jb_core.specs.Line.{Line, joined, pieces_from, pieces, count, IsSettled, IsTaken, IsPushed}
+use Rattle.jb_core.specs.Stops.{line_of, IsInLine}
+use Rattle.jb_core.specs.declared.stops.Stops.TheInside.{Inside}
+use Rattle.jb_core.specs.Parted.{IsParted}
+use Rattle.jb_core.proofs.Pieces.{rises-append, pieces-append, take-pieces, drop-pieces, length-pieces, joined-pieces, pieces-take, pieces-shift, rises-shift, drop-add}
+
+-- a slice from a place on
+pub rest-is : {A : Type 0} (i : ℕ) (xs : List A) → take (length xs - i) (drop i xs) ≡ drop i xs
+rest-is i xs = take_all (length xs - i) (drop i xs) (let same = length-drop i xs in omega arith)
+
+pub take-add : {A : Type 0} (a b : ℕ) (xs : List A) → take (a + b) xs ≡ take a xs ++ take b (drop a xs)
+take-add zero b xs = ap (λ n. take n xs) (let same : 0 + b ≡ b = omega arith in same)
+take-add (suc a) b [] = ap (λ n. take n []) (let same : suc a + b ≡ suc (a + b) = omega arith in same) ∙ sym (take-nil b)
+take-add (suc a) b (x ∷ xs) = ap (λ n. take n (x ∷ xs)) (let same : suc a + b ≡ suc (a + b) = omega arith in same) ∙ ap (λ ys. x ∷ ys) (take-add a b xs)
+
+module _ (ends : List ℕ) (s m t n end : ℕ) (first : RisesTo m 0 (take s ends)) (parts : IsParted t m n (drop s ends) end) where
+  pub settled-rises : RisesTo end 0 (take (s + n) ends)
+  settled-rises = subst (RisesTo end 0) (sym (take-add s n ends)) (rises-append m end 0 (take s ends) (take n (drop s ends)) first parts.first)
+
+  pub taken-rises : RisesTo t end (drop (s + n) ends)
+  taken-rises = subst (RisesTo t end) (sym (drop-add s n ends)) parts.rest
+
+  module _ {A : Type 0} (xs : List A) where
+    pub settled-pieces : pieces_from 0 (take (s + n) ends) xs ≡ pieces_from 0 (take s ends) xs ++ take n (pieces_from m (drop s ends) xs)
+    settled-pieces =
+        ap (λ es. pieces_from 0 es xs) (take-add s n ends)
+        ∙ pieces-append m 0 (take s ends) (take n (drop s ends)) xs first
+        ∙ ap (λ ps. pieces_from 0 (take s ends) xs ++ ps) (sym (take-pieces n m (drop s ends) xs))
+
+    pub taken-pieces : pieces_from end (drop (s + n) ends) xs ≡ drop n (pieces_from m (drop s ends) xs)
+    taken-pieces = ap (λ es. pieces_from end es xs) (drop-add s n ends) ∙ sym (drop-pieces n end m (drop s ends) xs parts.first)
+
+    -- as many handles as lie between the two ends
+    pub settled-count : t ≤ length xs → length (joined (take n (pieces_from m (drop s ends) xs))) ≡ end - m
+    settled-count inside =
+        let whole = ap length (joined-pieces end m (take n (drop s ends)) xs parts.first) in
+        let parted = length-append (joined (pieces_from m (take n (drop s ends)) xs)) (drop end xs) in
+        let one = length-drop end xs in
+        let two = length-drop m xs in
+        let high = parts.high in
+        let low = parts.low in
+        ap (λ ps. length (joined ps)) (take-pieces n m (drop s ends) xs) ∙ (let same : length (joined (pieces_from m (take n (drop s ends)) xs)) ≡ end - m = omega arith in same)
+
+-- the numbers behind m, once those up to end are gone
+pub drop-between : {A : Type 0} (m end k : ℕ) (xs : List A) → m ≤ end → k ≡ end - m → drop end xs ≡ drop k (drop m xs)
+drop-between m end k xs low is = ap (λ n. drop n xs) (let same : end ≡ m + k = omega arith in same) ∙ drop-add m k xs
+
+-- after the first n taken groups were settled, which end at `end`
+abbrev pub settled_to : Inside → ℕ → ℕ → Inside
+settled_to s n end = record { handles = s.handles; granted = s.granted; ends = s.ends; taken_end = s.taken_end; settled = s.settled + n; settled_end = end }
+
+-- the ends of the taken groups
+abbrev pub taken_ends : Inside → List ℕ
+taken_ends s = drop s.settled s.ends.items
+
+-- as many groups are taken as there are ends of taken groups
+pub groups-there : (s : Inside) (l : Line) (n : ℕ) → line_of s ≡ l → n ≤ length l.taken → n ≤ length (taken_ends s)
+groups-there s l n is there =
+    let groups : n ≤ length (line_of s).taken = subst (λ (k : Line). n ≤ length k.taken) (sym is) there in
+    let same = length-pieces s.settled_end (taken_ends s) s.handles.items in
+    omega (arith, groups, same)
+
+-- the ends of the taken groups, parted where the search for an end parts them
+pub parts-of : (s : Inside) → IsInLine s → (n end : ℕ) (es : List ℕ) → es ≡ s.ends.items
+    → ((last : ℕ) → RisesTo last s.settled_end (drop s.settled es) → IsParted last s.settled_end n (drop s.settled es) end)
+    → IsParted s.taken_end s.settled_end n (taken_ends s) end
+parts-of s kept n end es is found =
+    subst (λ xs. IsParted s.taken_end s.settled_end n (drop s.settled xs) end) is (found s.taken_end (subst (λ xs. RisesTo s.taken_end s.settled_end (drop s.settled xs)) (sym is) kept.taken))
+
+module _ (s : Inside) (kept : IsInLine s) (n end : ℕ) (there : n ≤ length (taken_ends s)) (parts : IsParted s.taken_end s.settled_end n (taken_ends s) end) where
+  pub settled-kept : IsInLine (settled_to s n end)
+  settled-kept = record {
+    counted = let left = length-drop s.settled s.ends.items in let counted = kept.counted in omega arith;
+    settled = settled-rises s.ends.items s.settled s.settled_end s.taken_end n end kept.settled parts;
+    taken = taken-rises s.ends.items s.settled s.settled_end s.taken_end n end kept.settled parts;
+    inside = kept.inside;
+    paired = kept.paired;
+  }
+
+  taken_count : count (take n (line_of s).taken) ≡ end - s.settled_end
+  taken_count = settled-count s.ends.items s.settled s.settled_end s.taken_end n end kept.settled parts s.handles.items kept.inside
+
+  pub settled-line : IsSettled n (line_of s) (line_of (settled_to s n end))
+  settled-line = record {
+    settled = settled-pieces s.ends.items s.settled s.settled_end s.taken_end n end kept.settled parts s.handles.items;
+    taken = taken-pieces s.ends.items s.settled s.settled_end s.taken_end n end kept.settled parts s.handles.items;
+    queue = refl;
+    credits = drop-between s.settled_end end (count (take n (line_of s).taken)) s.granted.items parts.low taken_count;
+  }
+
+  pub settled-credits : slice_range s.granted.items s.settled_end end ≡ take (count (take n (line_of s).taken)) (line_of s).credits
+  settled-credits = ap (λ k. take k (drop s.settled_end s.granted.items)) (sym taken_count)
+
+length-first : {A : Type 0} (n : ℕ) (xs : List A) → n ≤ length xs → length (take n xs) ≡ n
+length-first n xs le = let whole = ap length (take-append-drop n xs) in let parts = length-append (take n xs) (drop n xs) in let rest = length-drop n xs in omega (arith, le)
+
+nothing-behind : {A : Type 0} (n : ℕ) (xs : List A) → drop n (take n xs) ≡ []
+nothing-behind zero xs = refl
+nothing-behind (suc n) [] = refl
+nothing-behind (suc n) (x ∷ xs) = nothing-behind n xs
+
+-- ---- the handles that are not settled are dropped
+
+module _ (s : Inside) (kept : IsInLine s) (t : Inside) (handles : t.handles.items ≡ take s.settled_end s.handles.items) (ends : t.ends.items ≡ take s.settled s.ends.items)
+    (settled : t.settled ≡ s.settled) (settled_end : t.settled_end ≡ s.settled_end) where
+  same-ends : take t.settled t.ends.items ≡ take s.settled s.ends.items
+  same-ends = ap (λ n. take n t.ends.items) settled ∙ ap (take s.settled) ends ∙ take-take s.settled s.settled s.ends.items (le_refl s.settled)
+
+  pub cut-settled : (line_of t).settled ≡ (line_of s).settled
+  cut-settled = ap (λ es. pieces_from 0 es t.handles.items) same-ends ∙ ap (pieces_from 0 (take s.settled s.ends.items)) handles ∙ pieces-take s.settled_end 0 (take s.settled s.ends.items) s.handles.items kept.settled
+
+  settled-inside : s.settled_end ≤ length s.handles.items
+  settled-inside = let before : s.settled_end ≤ s.taken_end = rises-le s.taken_end s.settled_end (taken_ends s) kept.taken in let inside = kept.inside in omega arith
+
+  pub cut-kept : t.taken_end ≡ s.settled_end → t.granted.items ≡ take s.settled_end s.granted.items → IsInLine t
+  cut-kept taken_end granted =
+      let held = ap length handles in
+      let given = ap length granted in
+      let first = length-first s.settled_end s.handles.items settled-inside in
+      let inside = settled-inside in
+      let paired = kept.paired in
+      let credits = length-first s.settled_end s.granted.items (omega arith) in
+      let none : drop t.settled t.ends.items ≡ [] = ap (λ n. drop n t.ends.items) settled ∙ ap (drop s.settled) ends ∙ nothing-behind s.settled s.ends.items in
+      record {
+        counted = let counted = length-first s.settled s.ends.items kept.counted in let same = ap length ends in omega (arith, settled);
+        settled = subst (λ es. RisesTo t.settled_end 0 es) (sym same-ends) (subst (λ m. RisesTo m 0 (take s.settled s.ends.items)) (sym settled_end) kept.settled);
+        taken = subst (λ es. RisesTo t.taken_end t.settled_end es) (sym none) (settled_end ∙ sym taken_end);
+        inside = omega (arith, taken_end, held, first);
+        paired = given ∙ credits ∙ sym (held ∙ first);
+      }
+
+-- ---- a handle comes to the queue's end
+
+longer-pieces : {A : Type 0} (e a : ℕ) (es : List ℕ) (xs ys : List A) → RisesTo e a es → e ≤ length xs → pieces_from a es (xs ++ ys) ≡ pieces_from a es xs
+longer-pieces e a es xs ys rises inside = sym (pieces-take e a es (xs ++ ys) rises) ∙ ap (pieces_from a es) (take-append-le e xs ys inside) ∙ pieces-take e a es xs rises
+
+pub push-line : (s : Inside) → IsInLine s → (t : Inside) (handle : Stopped) (credits : ℕ)
+    → t.handles.items ≡ s.handles.items ++ handle ∷ [] → t.granted.items ≡ s.granted.items ++ credits ∷ []
+    → t.ends.items ≡ s.ends.items → t.taken_end ≡ s.taken_end → t.settled ≡ s.settled → t.settled_end ≡ s.settled_end
+    → IsPushed handle credits (line_of s) (line_of t)
+push-line s kept t handle credits handles granted ends taken_end settled settled_end =
+    let before : s.settled_end ≤ s.taken_end = rises-le s.taken_end s.settled_end (taken_ends s) kept.taken in
+    let inside = kept.inside in
+    let paired = kept.paired in
+    record {
+      settled = rw (handles, ends, settled) (longer-pieces s.settled_end 0 (take s.settled s.ends.items) s.handles.items (handle ∷ []) kept.settled (omega arith));
+      taken = rw (handles, ends, settled, settled_end) (longer-pieces s.taken_end s.settled_end (taken_ends s) s.handles.items (handle ∷ []) kept.taken kept.inside);
+      queue = rw (handles, taken_end) (drop-append-le s.taken_end s.handles.items (handle ∷ []) kept.inside);
+      credits = rw (granted, settled_end) (drop-append-le s.settled_end s.granted.items (credits ∷ []) (omega arith));
+    }
+
+-- ---- the queue is taken
+
+pub rises-below : (n a : ℕ) (bs : List ℕ) → RisesTo n a bs → (k d : ℕ) → k < length bs → get_or bs k d ≤ n
+rises-below n a [] rises k d there = absurd (let h : ⊥ = omega arith in h)
+rises-below n a (b ∷ bs) rises zero d there = rises-le n b bs rises.1
+rises-below n a (b ∷ bs) rises (suc k) d there = rises-below n b bs rises.1 k d (omega arith)
+
+-- the ends of a cut, behind its opening 0
+pub cut-rises : (n : ℕ) (bounds : List ℕ) → IsCut n bounds → RisesTo n 0 (drop 1 bounds)
+cut-rises n [] cut = absurd cut
+cut-rises n (a ∷ bs) cut = subst (λ x. RisesTo n x bs) cut.0 cut.1
+
+cut-pieces : {A : Type 0} (n : ℕ) (bounds : List ℕ) (xs : List A) → IsCut n bounds → pieces_from 0 (drop 1 bounds) xs ≡ pieces bounds xs
+cut-pieces n [] xs cut = absurd cut
+cut-pieces n (a ∷ bs) xs cut = ap (λ x. pieces_from x bs xs) (sym cut.0)
+
+module _ (s : Inside) (kept : IsInLine s) (bounds : List ℕ) (cut : IsCut (length (line_of s).queue) bounds) (none : (line_of s).taken ≡ []) (t : Inside)
+    (handles : t.handles.items ≡ s.handles.items) (granted : t.granted.items ≡ s.granted.items) (ends : t.ends.items ≡ s.ends.items ++ map (λ end. s.taken_end + end) (drop 1 bounds))
+    (taken_end : t.taken_end ≡ length s.handles.items) (settled : t.settled ≡ s.settled) (settled_end : t.settled_end ≡ s.settled_end) where
+  no-ends : length (taken_ends s) ≡ 0
+  no-ends = sym (length-pieces s.settled_end (taken_ends s) s.handles.items) ∙ ap length none
+
+  all-settled : s.settled ≡ length s.ends.items
+  all-settled = let left = length-drop s.settled s.ends.items in let counted = kept.counted in let empty = no-ends in omega arith
+
+  end-settled : (es : List ℕ) → length es ≡ 0 → RisesTo s.taken_end s.settled_end es → s.settled_end ≡ s.taken_end
+  end-settled [] empty rises = rises
+  end-settled (e ∷ es) empty rises = absurd (let h : ⊥ = omega arith in h)
+
+  all-end : s.settled_end ≡ s.taken_end
+  all-end = end-settled (taken_ends s) no-ends kept.taken
+
+  more : List ℕ
+  more = map (λ end. s.taken_end + end) (drop 1 bounds)
+
+  new-ends : drop t.settled t.ends.items ≡ map (λ end. s.taken_end + end) (drop 1 bounds)
+  new-ends = rw (ends, settled, all-settled) (drop-append_seam s.ends.items (map (λ end. s.taken_end + end) (drop 1 bounds)))
+
+  old-ends : take t.settled t.ends.items ≡ take s.settled s.ends.items
+  old-ends = rw (ends, settled) (take-append-le s.settled s.ends.items (map (λ end. s.taken_end + end) (drop 1 bounds)) kept.counted)
+
+  behind : s.taken_end + length (line_of s).queue ≡ length s.handles.items
+  behind = let left = length-drop s.taken_end s.handles.items in let inside = kept.inside in omega arith
+
+  from-end : s.taken_end + 0 ≡ t.settled_end
+  from-end = omega (arith, all-end, settled_end)
+
+  pub take-kept : IsInLine t
+  take-kept = record {
+    counted = let counted = kept.counted in let longer = ap length ends ∙ length-append s.ends.items (map (λ end. s.taken_end + end) (drop 1 bounds)) in omega (arith, settled);
+    settled = subst (λ es. RisesTo t.settled_end 0 es) (sym old-ends) (subst (λ m. RisesTo m 0 (take s.settled s.ends.items)) (sym settled_end) kept.settled);
+    taken = subst (λ es. RisesTo t.taken_end t.settled_end es) (sym new-ends) (subst (λ a. RisesTo t.taken_end a (map (λ end. s.taken_end + end) (drop 1 bounds))) from-end
+        (subst (λ n. RisesTo n (s.taken_end + 0) (map (λ end. s.taken_end + end) (drop 1 bounds))) (behind ∙ sym taken_end) (rises-shift s.taken_end (length (line_of s).queue) 0 (drop 1 bounds) (cut-rises (length (line_of s).queue) bounds cut))));
+    inside = let same = ap length handles in omega (arith, taken_end);
+    paired = ap length granted ∙ kept.paired ∙ sym (ap length handles);
+  }
+
+  pub take-line : IsTaken bounds (line_of s) (line_of t)
+  take-line = record {
+    settled = ap (λ es. pieces_from 0 es t.handles.items) old-ends ∙ ap (pieces_from 0 (take s.settled s.ends.items)) handles;
+    taken =
+        ap (λ es. pieces_from t.settled_end es t.handles.items) new-ends
+        ∙ ap (λ a. pieces_from a (map (λ end. s.taken_end + end) (drop 1 bounds)) t.handles.items) (sym from-end)
+        ∙ ap (pieces_from (s.taken_end + 0) (map (λ end. s.taken_end + end) (drop 1 bounds))) handles
+        ∙ pieces-shift s.taken_end 0 (drop 1 bounds) s.handles.items
+        ∙ cut-pieces (length (line_of s).queue) bounds (drop s.taken_end s.handles.items) cut;
+    queue = ap (λ xs. drop t.taken_end xs) handles ∙ ap (λ n. drop n s.handles.items) taken_end ∙ drop-length s.handles.items;
+    credits = ap (λ xs. drop t.settled_end xs) granted ∙ ap (λ n. drop n s.granted.items) settled_end;
+  }

@@ -1,0 +1,290 @@
+-- Over every run the machine keeps its lives whole.
+use Rattle.std.proofs.Common.{◌≡◌, ℕ, suc, ◌+◌, ◌≤◌, ◌<◌, Bool, true, false, not, cond, nat_lt, nat_le, ◌==◌, ◌||◌, List, [], ◌∷◌, ◌++◌, map, length, take, drop, Option, Some, None, is_some, is_none, Result, Ok, Err, sym, refl, ap, subst, ◌∙◌, le_refl, arith}
+use Rattle.std.proofs.lemmas.Bool.Decides.{nat_tests}
+use Rattle.std.proofs.lemmas.List.{length-append, append_assoc, append-nil, map-append, take-append-drop, take-append-le, drop-append-le}
+use Rattle.std.proofs.Math.Seq.{drop-length, take-length}
+use Rattle.std.specs.Option.{unwrap_or}
+use Rattle.std.specs.Ordering.{nat_cmp}
+use Rattle.std.specs.BTreeMap.{is_at}
+use Rattle.std.specs.FinMap as map
+use Rattle.jb_handle.specs.declared.shape.Shape.{Shape}
+use Rattle.jb_handle.specs.declared.op.Op.{Op}
+use Rattle.jb_handle.specs.declared.stopped.Stopped.{Stopped}
+use Rattle.jb_handle.specs.Held.{Held, held, home_of, word_of, first_of}
+use Rattle.jb_handle.specs.Held as handle
+use Rattle.jb_handle.specs.LastOp.{words_by}
+use Rattle.jb_cost.specs.Cut.{IsCut}
+use Rattle.jb_core.specs.declared.event.Event.{Event}
+use Rattle.jb_core.specs.declared.event.Event.TheVariants.{Open, Touch, Stop, Abandon, Take, Settle, Checkpoint, Crash, Restart}
+use Rattle.jb_core.specs.declared.event.Reply.{Reply}
+use Rattle.jb_core.specs.declared.event.Reply.TheVariants.{Plain, Ticket}
+use Rattle.jb_core.specs.declared.event.CoreFault.{CoreFault}
+use Rattle.jb_core.specs.declared.event.CoreFault.TheVariants.{Down, Up, Busy, NoHandle, TooManyCredits, Full, Empty, BatchOut}
+use Rattle.jb_core.specs.Line.{joined, pieces}
+use Rattle.jb_core.specs.Machine.{Machine, handle_at, held_at, reserved, is_full, fault_of, refusal, refusal_by, refusal_up, refusal_down, stopped_at, after, after_take, reply_of}
+use Rattle.jb_core.specs.Sound.{IsBare}
+use Rattle.jb_core.specs.Steps.{Steps, IsLeast}
+use Rattle.jb_core.specs.Lives.{Log, Answer, is_seat, ops_of, ticket_in, stop_order, past_orders, stopped_by, handles_of, settled_now, PastKept, IsWhole, log_from}
+use Rattle.jb_core.specs.Ran.{IsStart, Ran}
+use Rattle.jb_core.proofs.Sounds.{opens, found-none, cut-joined, none-left}
+use Rattle.jb_core.proofs.Seats.{seat-self, Once, AreBy, once-insert, once-set, once-remove, by-same, by-found, by-remove, by-insert, by-set}
+
+-- how a machine stands to its log between two events
+record Stands (log : Log) (m : Machine) : Type 0 where
+  handles : AreBy log m.handles
+  once : Once m.handles
+  lives : m.earlier ≤ length m.settled
+  bare : m.up ≡ false → IsBare m
+  whole : IsWhole log m
+
+joined-append : {A : Type 0} (xs ys : List (List A)) → joined (xs ++ ys) ≡ joined xs ++ joined ys
+joined-append [] ys = refl
+joined-append (x ∷ xs) ys = ap (λ zs. x ++ zs) (joined-append xs ys) ∙ sym (append_assoc x (joined xs) (joined ys))
+
+-- ---- what an accepted event tells
+
+first-false : (a : Bool) (x : CoreFault) (rest : List (Bool × CoreFault)) → first_of ((a, x) ∷ rest) ≡ None → (a ≡ false) × (first_of rest ≡ None)
+first-false true x rest is = absurd (let h : ⊥ = cc in h)
+first-false false x rest is = (refl, is)
+
+found-some : (found : Option Held) → is_none found ≡ false → (h : Held) × (found ≡ Some h)
+found-some None is = absurd (let h : ⊥ = cc in h)
+found-some (Some h) is = (h, refl)
+
+-- only a machine that is up accepts an event other than Restart
+accepted : (m : Machine) (e : Event) → refusal_down e ≡ Some Down → refusal m e ≡ None → (m.up ≡ true) × (refusal_up m e ≡ None)
+accepted m e other none = at m.up refl none
+  where
+    at : (b : Bool) → m.up ≡ b → refusal_by b m e ≡ None → (m.up ≡ true) × (refusal_up m e ≡ None)
+    at true up is = (up, is)
+    at false down is = let both : Some Down ≡ None = sym other ∙ is in absurd (let h : ⊥ = cc in h)
+
+-- only one that is down accepts Restart
+restarted : (m : Machine) → refusal m Restart ≡ None → m.up ≡ false
+restarted m none = at m.up refl none
+  where
+    at : (b : Bool) → m.up ≡ b → refusal_by b m Restart ≡ None → m.up ≡ false
+    at true up is = absurd (let h : ⊥ = cc in h)
+    at false down is = down
+
+still-up : {A : Type 0} (b : Bool) → b ≡ true → b ≡ false → A
+still-up b up down = let both : true ≡ false = sym up ∙ down in absurd (let h : ⊥ = cc in h)
+
+there-at : (m : Machine) (seat : ℕ) (h : Held) → handle_at m seat ≡ Some h → held_at m seat ≡ h
+there-at m seat h there = ap (λ found. unwrap_or found (held 0 m.shape map.empty)) there
+
+-- the words of a seat's handle are those of its changes
+held-by : (log : Log) (m : Machine) (seat : ℕ) (h : Held) → handle_at m seat ≡ Some h → AreBy log m.handles → (held_at m seat).words ≡ words_by (ops_of seat log)
+held-by log m seat h there by = ap (λ (g : Held). g.words) (there-at m seat h there) ∙ by-found log seat m.handles h there by
+
+-- ---- each event
+
+module _ (log : Log) (m : Machine) (s : Stands log m) where
+  refused : (e : Event) (fault : CoreFault) → Stands ((e, Err fault) ∷ log) m
+  refused e fault = record {
+    handles = by-same log ((e, Err fault) ∷ log) m.handles (λ x. refl) s.handles;
+    once = s.once;
+    lives = s.lives;
+    bare = s.bare;
+    whole = record { up = s.whole.up; crashed = s.whole.crashed; past = s.whole.past };
+  }
+
+  opened : (seat credits : ℕ) (reply : Reply) → refusal m (Open seat credits) ≡ None → Stands ((Open seat credits, Ok reply) ∷ log) (after m (Open seat credits))
+  opened seat credits reply none =
+      let granted = accepted m (Open seat credits) refl none in
+      let tests = opens (is_some (handle_at m seat)) (nat_lt m.most credits) (is_full m credits) Busy (TooManyCredits m.most) (Full (reserved m)) granted.1 in
+      let free = found-none (handle_at m seat) tests.0 in
+      record {
+        handles = by-insert log ((Open seat credits, Ok reply) ∷ log) seat (λ x apart. rw apart refl) (held credits m.shape map.empty) (rw (seat-self seat) refl) m.handles free s.handles;
+        once = once-insert seat (held credits m.shape map.empty) m.handles free s.once;
+        lives = s.lives;
+        bare = still-up m.up granted.0;
+        whole = record { up = s.whole.up; crashed = s.whole.crashed; past = s.whole.past };
+      }
+
+  touched : (seat : ℕ) (op : Op) (reply : Reply) → refusal m (Touch seat op) ≡ None → Stands ((Touch seat op, Ok reply) ∷ log) (after m (Touch seat op))
+  touched seat op reply none =
+      let granted = accepted m (Touch seat op) refl none in
+      let found = found-some (handle_at m seat) (first-false (is_none (handle_at m seat)) NoHandle _ granted.1).0 in
+      let words = held-by log m seat found.0 found.1 s.handles in
+      record {
+        handles = by-set log ((Touch seat op, Ok reply) ∷ log) seat (λ x apart. rw apart refl) (handle.after (held_at m seat) op)
+            (rw (seat-self seat) (ap (λ ws. map.insert ws (home_of op) (word_of op)) words)) m.handles s.once s.handles;
+        once = once-set seat (handle.after (held_at m seat) op) (is_at (nat_cmp seat)) m.handles s.once;
+        lives = s.lives;
+        bare = still-up m.up granted.0;
+        whole = record { up = s.whole.up; crashed = s.whole.crashed; past = s.whole.past };
+      }
+
+  stopped : (seat : ℕ) (reply : Reply) → refusal m (Stop seat) ≡ None → reply ≡ Ticket m.next → Stands ((Stop seat, Ok reply) ∷ log) (after m (Stop seat))
+  stopped seat reply none is =
+      let granted = accepted m (Stop seat) refl none in
+      let found = found-some (handle_at m seat) (first-false (is_none (handle_at m seat)) NoHandle _ granted.1).0 in
+      let words = held-by log m seat found.0 found.1 s.handles in
+      let ticket : m.next ≡ ticket_in reply = ap ticket_in (sym is) in
+      let one : stopped_at m seat ≡ stopped_by (ticket_in reply, ops_of seat log) = λ i. record { ticket = ticket i; words = words i } in
+      record {
+        handles = by-same log ((Stop seat, Ok reply) ∷ log) _ (λ x. refl) (by-remove log (is_at (nat_cmp seat)) m.handles s.handles);
+        once = once-remove (is_at (nat_cmp seat)) m.handles s.once;
+        lives = s.lives;
+        bare = still-up m.up granted.0;
+        whole = record {
+          up = λ up.
+              ap (λ xs. settled_now m ++ xs) (sym (append_assoc (joined m.taken) m.queue (stopped_at m seat ∷ [])))
+              ∙ sym (append_assoc (settled_now m) (joined m.taken ++ m.queue) (stopped_at m seat ∷ []))
+              ∙ ap (λ xs. xs ++ stopped_at m seat ∷ []) (s.whole.up up)
+              ∙ ap (λ x. handles_of (stop_order log) ++ x ∷ []) one
+              ∙ sym (map-append stopped_by (stop_order log) ((ticket_in reply, ops_of seat log) ∷ []));
+          crashed = still-up m.up granted.0;
+          past = s.whole.past;
+        };
+      }
+
+  abandoned : (seat : ℕ) (reply : Reply) → refusal m (Abandon seat) ≡ None → Stands ((Abandon seat, Ok reply) ∷ log) (after m (Abandon seat))
+  abandoned seat reply none =
+      let granted = accepted m (Abandon seat) refl none in
+      record {
+        handles = by-same log ((Abandon seat, Ok reply) ∷ log) _ (λ x. refl) (by-remove log (is_at (nat_cmp seat)) m.handles s.handles);
+        once = once-remove (is_at (nat_cmp seat)) m.handles s.once;
+        lives = s.lives;
+        bare = still-up m.up granted.0;
+        whole = record { up = s.whole.up; crashed = s.whole.crashed; past = s.whole.past };
+      }
+
+  taken : (bounds : _) (reply : Reply) → refusal m (Take bounds) ≡ None → IsLeast m (Take bounds) → Stands ((Take bounds, Ok reply) ∷ log) (after m (Take bounds))
+  taken bounds reply none least =
+      let granted = accepted m (Take bounds) refl none in
+      let full = first-false (length m.queue == 0) Empty _ granted.1 in
+      let out = (first-false (not (length m.taken == 0)) BatchOut [] full.1).0 in
+      let free : m.taken ≡ [] = none-left m.taken (let empty : length m.taken ≡ 0 = grind (arith, nat_tests) in omega arith) in
+      record {
+        handles = by-same log ((Take bounds, Ok reply) ∷ log) m.handles (λ x. refl) s.handles;
+        once = s.once;
+        lives = s.lives;
+        bare = still-up m.up granted.0;
+        whole = record {
+          up = λ up.
+              ap (λ xs. settled_now m ++ xs) (append-nil (joined (pieces bounds.items m.queue)) ∙ cut-joined bounds.items m.queue least.fitting.cut ∙ ap (λ gs. joined gs ++ m.queue) (sym free))
+              ∙ s.whole.up up;
+          crashed = still-up m.up granted.0;
+          past = s.whole.past;
+        };
+      }
+
+  -- groups join the settled ones
+  more-settled : (n : ℕ) → joined (drop m.earlier (m.settled ++ take n m.taken)) ≡ settled_now m ++ joined (take n m.taken)
+  more-settled n = ap joined (drop-append-le m.earlier m.settled (take n m.taken) s.lives) ∙ joined-append (drop m.earlier m.settled) (take n m.taken)
+
+  parts-joined : (n : ℕ) → (settled_now m ++ joined (take n m.taken)) ++ (joined (drop n m.taken) ++ m.queue) ≡ settled_now m ++ (joined m.taken ++ m.queue)
+  parts-joined n =
+      append_assoc (settled_now m) (joined (take n m.taken)) (joined (drop n m.taken) ++ m.queue)
+      ∙ ap (λ xs. settled_now m ++ xs) (sym (append_assoc (joined (take n m.taken)) (joined (drop n m.taken)) m.queue)
+      ∙ ap (λ xs. xs ++ m.queue) (sym (joined-append (take n m.taken) (drop n m.taken)) ∙ ap joined (take-append-drop n m.taken)))
+
+  longer : (n : ℕ) → m.earlier ≤ length (m.settled ++ take n m.taken)
+  longer n = let lives = s.lives in let all = length-append m.settled (take n m.taken) in omega arith
+
+  same-past : (n : ℕ) → PastKept (past_orders log) (take m.earlier (m.settled ++ take n m.taken))
+  same-past n = subst (PastKept (past_orders log)) (sym (take-append-le m.earlier m.settled (take n m.taken) s.lives)) s.whole.past
+
+  settled : (n : ℕ) (reply : Reply) → refusal m (Settle n) ≡ None → Stands ((Settle n, Ok reply) ∷ log) (after m (Settle n))
+  settled n reply none =
+      let granted = accepted m (Settle n) refl none in
+      record {
+        handles = by-same log ((Settle n, Ok reply) ∷ log) m.handles (λ x. refl) s.handles;
+        once = s.once;
+        lives = longer n;
+        bare = still-up m.up granted.0;
+        whole = record {
+          up = λ up. ap (λ xs. xs ++ (joined (drop n m.taken) ++ m.queue)) (more-settled n) ∙ parts-joined n ∙ s.whole.up up;
+          crashed = still-up m.up granted.0;
+          past = same-past n;
+        };
+      }
+
+  checkpointed : (reply : Reply) → refusal m Checkpoint ≡ None → Stands ((Checkpoint, Ok reply) ∷ log) (after m Checkpoint)
+  checkpointed reply none =
+      let granted = accepted m Checkpoint refl none in
+      record {
+        handles = by-same log ((Checkpoint, Ok reply) ∷ log) m.handles (λ x. refl) s.handles;
+        once = s.once;
+        lives = s.lives;
+        bare = still-up m.up granted.0;
+        whole = record { up = s.whole.up; crashed = s.whole.crashed; past = s.whole.past };
+      }
+
+  crashed : (n : ℕ) (reply : Reply) → refusal m (Crash n) ≡ None → Stands ((Crash n, Ok reply) ∷ log) (after m (Crash n))
+  crashed n reply none =
+      let granted = accepted m (Crash n) refl none in
+      record {
+        handles = tt;
+        once = tt;
+        lives = longer n;
+        bare = λ down. record { handles = refl; taken = refl; queue = refl; credits = refl };
+        whole = record {
+          up = λ up. still-up false up refl;
+          crashed = λ down. (joined (drop n m.taken) ++ m.queue, ap (λ xs. xs ++ (joined (drop n m.taken) ++ m.queue)) (more-settled n) ∙ parts-joined n ∙ s.whole.up granted.0);
+          past = same-past n;
+        };
+      }
+
+  back : (reply : Reply) → refusal m Restart ≡ None → Stands ((Restart, Ok reply) ∷ log) (after m Restart)
+  back reply none =
+      let down = restarted m none in
+      let bare = s.bare down in
+      let prefix = s.whole.crashed down in
+      record {
+        handles = by-same log ((Restart, Ok reply) ∷ log) m.handles (λ x. refl) s.handles;
+        once = s.once;
+        lives = le_refl (length m.settled);
+        bare = λ up. still-up true refl up;
+        whole = record {
+          up = λ up. rw (drop-length m.settled, bare.taken, bare.queue) refl;
+          crashed = λ is. still-up true refl is;
+          past = subst (PastKept (stop_order log ∷ past_orders log)) (sym (take-length m.settled)) (m.earlier, prefix.0, prefix.1, s.whole.past);
+        };
+      }
+
+  happens : (e : Event) (reply : Reply) → refusal m e ≡ None → IsLeast m e → reply ≡ reply_of m e → Stands ((e, Ok reply) ∷ log) (after m e)
+  happens (Open seat credits) reply none least is = opened seat credits reply none
+  happens (Touch seat op) reply none least is = touched seat op reply none
+  happens (Stop seat) reply none least is = stopped seat reply none is
+  happens (Abandon seat) reply none least is = abandoned seat reply none
+  happens (Take bounds) reply none least is = taken bounds reply none least
+  happens (Settle n) reply none least is = settled n reply none
+  happens Checkpoint reply none least is = checkpointed reply none
+  happens (Crash n) reply none least is = crashed n reply none
+  happens Restart reply none least is = back reply none
+
+  stepped : (e : Event) (answer : Answer) (n : Machine) → Steps e m answer n → Stands ((e, answer) ∷ log) n
+  stepped e (Ok reply) n step = subst (Stands ((e, Ok reply) ∷ log)) (sym step.2) (happens e reply step.0 step.1 step.3)
+  stepped e (Err fault) n step = subst (Stands ((e, Err fault) ∷ log)) (sym step.1) (refused e fault)
+
+-- ---- runs
+
+begun : (shape : Shape) (m : Machine) → IsStart shape m → Stands [] m
+begun shape m start = record {
+  handles = subst (AreBy []) (sym start.handles) tt;
+  once = subst Once (sym start.handles) tt;
+  lives = let none = start.earlier in omega arith;
+  bare = still-up m.up start.up;
+  whole = record {
+    up = λ up. rw (start.settled, start.earlier, start.taken, start.queue) refl;
+    crashed = still-up m.up start.up;
+    past = rw (start.settled, start.earlier) refl;
+  };
+}
+
+stands : (shape : Shape) (log : Log) (m : Machine) → Ran shape log m → Stands log m
+stands shape [] m start = begun shape m start
+stands shape (last ∷ earlier) m (before, ran, step) = stepped earlier before (stands shape earlier before ran) last.0 last.1 m step
+
+pub whole : (shape : Shape) (log : Log) (m : Machine) → Ran shape log m → IsWhole log m
+whole shape log m ran = (stands shape log m ran).whole
+
+-- one event more
+pub log-more : (log : Log) (events : List Event) (answers : List Answer) (e : Event) (a : Answer) → length events ≡ length answers → log_from log (events ++ e ∷ []) (answers ++ a ∷ []) ≡ (e, a) ∷ log_from log events answers
+log-more log [] [] e a same = refl
+log-more log [] (b ∷ answers) e a same = absurd (let h : ⊥ = omega arith in h)
+log-more log (d ∷ events) [] e a same = absurd (let h : ⊥ = omega arith in h)
+log-more log (d ∷ events) (b ∷ answers) e a same = log-more ((d, b) ∷ log) events answers e a (omega arith)

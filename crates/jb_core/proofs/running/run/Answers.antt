@@ -1,0 +1,17 @@
+use Rattle.std.proofs.Common.{rules, ◌≡◌, List, [], ◌∷◌, ◌++◌, length, sym, ap, subst, ◌∙◌, arith}
+use Rattle.std.proofs.lemmas.List.{length-append}
+use Rattle.jb_core.specs.Lives.{Log, Answer, log_from}
+use Rattle.jb_core.specs.Ran.{Ran}
+use Rattle.jb_core.proofs.Wholes.{log-more}
+use Rattle.jb_core.proofs.running.run.Goals as goal
+
+pub loop-event-preserved : goal.loop-event-preserved
+loop-event-preserved c =
+    let items : c.push.new.self.items ≡ c.loop-event.answers.items ++ c.step-answer.result ∷ [] = search rules in
+    let events = length-append c.loop-event.yielded (c.in-Some.event ∷ []) in
+    let answers = ap length items ∙ length-append c.loop-event.answers.items (c.step-answer.result ∷ []) in
+    record {
+      same = omega (arith, events, answers, c.loop-event.invariant.same);
+      ran = rw items (subst (λ (log : Log). Ran c.args.shape log c.step-answer.new.state) (sym (log-more [] c.loop-event.yielded c.loop-event.answers.items c.in-Some.event c.step-answer.result c.loop-event.invariant.same))
+          (c.loop-event.state, c.loop-event.invariant.ran, c.step-answer.ensures));
+    }

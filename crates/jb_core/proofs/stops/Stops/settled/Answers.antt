@@ -1,0 +1,11 @@
+use Rattle.std.proofs.Common.{◌≡◌, length, take, sym, ap, ◌∙◌}
+use Rattle.std.proofs.lemmas.List.{length-take-le}
+use Rattle.jb_core.specs.Line.{Line}
+use Rattle.jb_core.proofs.Pieces.{length-pieces}
+use Rattle.jb_core.proofs.stops.Stops.settled.Goals as goal
+
+pub returns : goal.returns
+returns c =
+    sym (length-take-le c.self.inside.settled c.self.inside.ends.items c.self.invariant.counted)
+    ∙ sym (length-pieces 0 (take c.self.inside.settled c.self.inside.ends.items) c.self.inside.handles.items)
+    ∙ ap (λ (l : Line). length l.settled) c.self.view_is

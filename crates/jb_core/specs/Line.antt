@@ -1,0 +1,65 @@
+-- The handles that have stopped, in line: settled in groups, taken in groups, and queued.
+use Rattle.std.specs.Prelude.{◌≡◌, ℕ, ◌+◌, Bool, List, [], ◌∷◌, ◌++◌, length, take, drop, slice_range}
+use Rattle.jb_handle.specs.declared.stopped.Stopped.{Stopped}
+
+-- the lists one after the other
+abbrev pub joined : {A : Type 0} → List (List A) → List A
+joined [] = []
+joined (xs ∷ rest) = xs ++ joined rest
+
+-- the pieces of a list from a on, each up to one of the ends
+abbrev pub pieces_from : {A : Type 0} → ℕ → List ℕ → List A → List (List A)
+pieces_from a [] xs = []
+pieces_from a (b ∷ bs) xs = slice_range xs a b ∷ pieces_from b bs xs
+
+-- the pieces of a list between bounds
+abbrev pub pieces : {A : Type 0} → List ℕ → List A → List (List A)
+pieces [] xs = []
+pieces (a ∷ bs) xs = pieces_from a bs xs
+
+-- what has stopped and was not lost; the credits of the handles that are not settled, in order; and whether a further handle has room
+pub record Line : Type 0 where
+  pub settled : List (List Stopped)
+  pub taken : List (List Stopped)
+  pub queue : List Stopped
+  pub credits : List ℕ
+  pub room : Bool
+
+-- how many handles the groups have
+abbrev pub count : List (List Stopped) → ℕ
+count groups = length (joined groups)
+
+-- the same handles, with room or without
+pub record IsSame (old new : Line) : Type 0 where
+  pub settled : new.settled ≡ old.settled
+  pub taken : new.taken ≡ old.taken
+  pub queue : new.queue ≡ old.queue
+  pub credits : new.credits ≡ old.credits
+
+-- a handle of so many credits has come to the queue's end
+pub record IsPushed (handle : Stopped) (granted : ℕ) (old new : Line) : Type 0 where
+  pub settled : new.settled ≡ old.settled
+  pub taken : new.taken ≡ old.taken
+  pub queue : new.queue ≡ old.queue ++ handle ∷ []
+  pub credits : new.credits ≡ old.credits ++ granted ∷ []
+
+-- the queue's pieces have become the taken groups
+pub record IsTaken (bounds : List ℕ) (old new : Line) : Type 0 where
+  pub settled : new.settled ≡ old.settled
+  pub taken : new.taken ≡ pieces bounds old.queue
+  pub queue : new.queue ≡ []
+  pub credits : new.credits ≡ old.credits
+
+-- the first n taken groups have joined the settled ones
+pub record IsSettled (n : ℕ) (old new : Line) : Type 0 where
+  pub settled : new.settled ≡ old.settled ++ take n old.taken
+  pub taken : new.taken ≡ drop n old.taken
+  pub queue : new.queue ≡ old.queue
+  pub credits : new.credits ≡ drop (count (take n old.taken)) old.credits
+
+-- the first n taken groups have joined the settled ones, and the rest is lost
+pub record IsCrashed (n : ℕ) (old new : Line) : Type 0 where
+  pub settled : new.settled ≡ old.settled ++ take n old.taken
+  pub taken : new.taken ≡ []
+  pub queue : new.queue ≡ []
+  pub credits : new.credits ≡ []

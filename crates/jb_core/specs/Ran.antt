@@ -1,0 +1,29 @@
+-- Runs of the machine.
+use Rattle.std.specs.Prelude.{◌≡◌, ℕ, ◌-◌, ◌/◌, true, List, [], ◌∷◌}
+use Rattle.jb_block.specs.Size.{bytes_of}
+use Rattle.jb_block.specs.Width.{is_wide, tag_len, entry_len}
+use Rattle.jb_handle.specs.declared.shape.Shape.{Shape}
+use Rattle.jb_core.specs.Machine.{Machine}
+use Rattle.jb_core.specs.Steps.{Steps, IsMost}
+use Rattle.jb_core.specs.Lives.{Log}
+
+-- a machine that is up and has done nothing, in the journal of a shape
+pub record IsStart (shape : Shape) (m : Machine) : Type 0 where
+  pub same_shape : m.shape ≡ shape
+  pub tags : m.geometry.t ≡ (bytes_of shape.bs - 28) / tag_len (is_wide shape.width)
+  pub entries : m.geometry.r ≡ (bytes_of shape.bs - 16) / entry_len (is_wide shape.width)
+  pub most : IsMost m.geometry shape.limit m.most
+  pub up : m.up ≡ true
+  pub handles : m.handles ≡ []
+  pub queue : m.queue ≡ []
+  pub taken : m.taken ≡ []
+  pub settled : m.settled ≡ []
+  pub earlier : m.earlier ≡ 0
+  pub checkpointed : m.checkpointed ≡ 0
+  pub next : m.next ≡ 0
+  pub credits : m.credits ≡ []
+
+-- the machine has come from its start by these events, with these answers; the newest stand first
+abbrev pub Ran : Shape → Log → Machine → Type 0
+Ran shape [] m = IsStart shape m
+Ran shape (last ∷ earlier) m = (before : Machine) × Ran shape earlier before × Steps last.0 before last.1 m

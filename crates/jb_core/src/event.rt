@@ -1,0 +1,94 @@
+use jb_handle::Op;
+
+/// Something that can happen to the machine, in one step.
+#[derive(Drop)]
+pub enum Event {
+    /// A seat begins a handle of so many credits (`jbd2_journal_start`).
+    Open {
+        /// Whose handle it is.
+        seat: u64,
+        /// How many different home blocks it may touch.
+        credits: u32,
+    },
+    /// The seat's handle changes a home block.
+    Touch {
+        /// Whose handle it is.
+        seat: u64,
+        /// The change.
+        op: Op,
+    },
+    /// The seat's handle is done: it gets the next ticket and joins the queue (`jbd2_journal_stop`).
+    Stop {
+        /// Whose handle it is.
+        seat: u64,
+    },
+    /// The seat's handle is dropped with all of its changes.
+    Abandon {
+        /// Whose handle it is.
+        seat: u64,
+    },
+    /// A committer takes the whole queue, cut into groups at these bounds.
+    Take {
+        /// 0 first, then the end of each group, counted in handles.
+        bounds: Vec<usize>,
+    },
+    /// The first taken groups are committed.
+    Settle {
+        /// How many groups.
+        n: usize,
+    },
+    /// The oldest settled group that is not counted yet is written home.
+    Checkpoint,
+    /// The machine stops where it stands: some taken groups were committed, and all that is not
+    /// settled is lost.
+    Crash {
+        /// How many groups were committed.
+        n: usize,
+    },
+    /// The machine comes up again, over what is settled. Tickets begin at 0 again.
+    Restart,
+}
+
+/// What an event answers that is not refused.
+#[derive(Clone, Copy, Debug, PartialEq, Eq)]
+pub enum Reply {
+    /// It is done.
+    Plain,
+    /// It is done, and the handle has this ticket.
+    Ticket(u64),
+}
+
+/// Why an event is refused. The machine is as it was. Where several hold, the first is answered.
+#[derive(Clone, Copy, Debug, PartialEq, Eq)]
+pub enum CoreFault {
+    /// The machine is down, and the event is no restart.
+    Down,
+    /// The machine is up, and needs no restart.
+    Up,
+    /// The seat has an open handle.
+    Busy,
+    /// The seat has no open handle.
+    NoHandle,
+    /// More credits than a handle may have, which are these.
+    TooManyCredits(u32),
+    /// So many credits are reserved that there is no room for more, or no ticket is left.
+    Full(u64),
+    /// The home block is new to the handle, and all of its credits, so many, are used.
+    NoCredit(u32),
+    /// The home block of this number is none of the journal's.
+    OutOfRange(u64),
+    /// The bytes are not as many as a block has.
+    Length,
+    /// Nothing is queued.
+    Empty,
+    /// Groups are taken that are not settled.
+    BatchOut,
+    /// The bounds are no least cut of the queue.
+    NotLeast,
+    /// Fewer groups are taken than that.
+    Amount,
+    /// Every settled group is counted as written home.
+    Nothing,
+    /// There was no memory for the step.
+    Memory,
+}

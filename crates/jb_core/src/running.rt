@@ -1,0 +1,66 @@
+ghost use Rattle.std.specs.Prelude.{[], IfOk};
+ghost use Rattle.jb_core.specs.Steps.{Steps};
+ghost use Rattle.jb_core.specs.Lives.{log_from, IsWhole};
+ghost use Rattle.jb_core.specs.Ran.{Ran};
+
+use crate::event::{CoreFault, Event, Reply};
+use crate::state::State;
+use jb_block::Memory;
+use jb_handle::Shape;
+use std::alloc::Global;
+
+/// Lets one event happen to the machine.
+///
+/// # Errors
+///
+/// The first refusal of the event, in the order of `CoreFault`, and the machine is as it was.
+pub fn step(state: &mut State, event: Event) -> Result<Reply, CoreFault>
+    ensures { Steps event state.old result state.new }
+{
+    if !state.is_up() {
+        return match event {
+            Event::Restart => state.restart(),
+            _ => Err(CoreFault::Down),
+        };
+    }
+    match event {
+        Event::Open { seat, credits } => state.open(seat, credits),
+        Event::Touch { seat, op } => state.touch(seat, op),
+        Event::Stop { seat } => state.stop(seat),
+        Event::Abandon { seat } => state.abandon(seat),
+        Event::Take { bounds } => state.take(&bounds),
+        Event::Settle { n } => state.settle(n),
+        Event::Checkpoint => state.checkpoint(),
+        Event::Crash { n } => state.crash(n),
+        Event::Restart => state.restart(),
+    }
+}
+
+#[tactic(auto, using(crate::proofs::Wholes::whole))]
+/// Lets a list of events happen to a new machine, one after the other, and gives the machine and the
+/// answers.
+///
+/// # Errors
+///
+/// `Memory` where a step answers it, or where there is none for the answers.
+pub fn run(
+    alloc: Global,
+    shape: Shape,
+    events: Vec<Event>,
+) -> Result<(State, Vec<Result<Reply, CoreFault>>), Memory>
+    ensures ran { IfOk result (λ end. Ran shape (log_from [] events.items end.1.items) end.0) }
+    ensures whole { IfOk result (λ end. IsWhole (log_from [] events.items end.1.items) end.0) }
+{
+    let mut state = State::new(alloc, shape);
+    let mut answers = Vec::new(alloc);
+    for event in events {
+        let answer = step(&mut state, event);
+        if let Err(CoreFault::Memory) = answer {
+            return Err(Memory);
+        }
+        let Ok(()) = answers.push(answer) else {
+            return Err(Memory);
+        };
+    }
+    Ok((state, answers))
+}

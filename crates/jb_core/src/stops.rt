@@ -1,0 +1,146 @@
+//! The handles that have stopped, in the order of their stops: the settled ones, then the taken ones, then the queue.
+ghost use Rattle.std.specs.Prelude.{◌≡◌, ◌≤◌, ◌<◌, ◌^◌, [], length, take, sum, OnOk, OnErr, IsTrue};
+ghost use Rattle.jb_cost.specs.Cut.{IsCut};
+
+use crate::sums::{end_after, push_ends, sum_between};
+use jb_block::Memory;
+use jb_handle::Stopped;
+use std::alloc::Global;
+use std::marker::Model;
+
+/// All handles in one list, so that a handle never moves when its group is taken or settled.
+#[derive(Drop)]
+pub struct Stops {
+    handles: Vec<Stopped>,
+    // the credits of each handle
+    granted: Vec<u32>,
+    // where each group ends, counted in handles
+    ends: Vec<usize>,
+    // where the last group ends
+    taken_end: usize,
+    // how many groups are settled, and where the last of these ends
+    settled: usize,
+    settled_end: usize,
+}
+
+impl Model for Stops {
+    ghost use Rattle.std.specs.Coded.{codes};
+    ghost use Rattle.jb_handle.specs.Word.{words_code};
+    ghost use Rattle.jb_core.specs.Line.{Line};
+    ghost use Rattle.jb_core.specs.Stops.{line_of, IsInLine};
+
+    ghost Value = { Line };
+
+    ghost coded = { Prim.hlevel (codes, words_code) };
+
+    ghost view = { line_of };
+
+    ghost invariant = { IsInLine };
+}
+
+impl Stops {
+    ghost use Rattle.jb_core.specs.Line.{IsSame, IsPushed, IsTaken, IsSettled, IsCrashed, count};
+
+    /// No handle has stopped. Takes no memory.
+    pub fn new(alloc: Global) -> Stops
+        ensures groups { (result.settled ≡ []) × (result.taken ≡ []) }
+        ensures rest { (result.queue ≡ []) × (result.credits ≡ []) }
+    {
+        Stops {
+            handles: Vec::new(alloc),
+            granted: Vec::new(alloc),
+            ends: Vec::new(alloc),
+            taken_end: 0,
+            settled: 0,
+            settled_end: 0,
+        }
+    }
+
+    /// The handles that no group has yet, in the order of their stops.
+    pub fn queue(&self) -> &[Stopped]
+        ensures { result.now ≡ self.now.queue }
+    {
+        &self.handles[self.taken_end..]
+    }
+
+    /// How many groups are settled.
+    pub fn settled(&self) -> usize
+        ensures { result ≡ length self.now.settled }
+    {
+        self.settled
+    }
+
+    /// How many groups are taken and not settled.
+    pub fn taken(&self) -> usize
+        ensures { result ≡ length self.now.taken }
+    {
+        self.ends.len() - self.settled
+    }
+
+    /// Makes room for one more handle.
+    pub fn reserve(&mut self) -> Result<(), Memory>
+        ensures same { IsSame self.old self.new }
+        ensures ok { OnOk result (IsTrue self.new.room) }
+    {
+        self.handles.reserve(1)?;
+        self.granted.reserve(1)?;
+        Ok(())
+    }
+
+    /// Puts a handle at the queue's end, for which there is room.
+    pub fn push(&mut self, handle: Stopped, credits: u32)
+        requires room { IsTrue self.old.room }
+        ensures { IsPushed handle credits self.old self.new }
+    {
+        self.handles.push_reserved(handle);
+        self.granted.push_reserved(credits);
+    }
+
+    /// Makes the pieces of the queue between the bounds the taken groups.
+    pub fn take(&mut self, bounds: &[usize]) -> Result<(), Memory>
+        requires cut { IsCut (length self.old.queue) bounds.now }
+        requires none { self.old.taken ≡ [] }
+        ensures ok { OnOk result (IsTaken bounds.now self.old self.new) }
+        ensures err { OnErr result (IsSame self.old self.new) }
+    {
+        let end = self.handles.len();
+        push_ends(&mut self.ends, self.taken_end, &bounds[1..])?;
+        self.taken_end = end;
+        Ok(())
+    }
+
+    /// Settles the first `n` taken groups, and says how many credits their handles had.
+    pub fn settle(&mut self, n: usize) -> u64
+        requires there { n ≤ length self.old.taken }
+        requires fits { sum self.old.credits < 2 ^ 64 }
+        ensures settled { IsSettled n self.old self.new }
+        ensures credits { result ≡ sum (take (count (take n self.old.taken)) self.old.credits) }
+    {
+        let end = end_after(&self.ends, self.settled, self.settled_end, n);
+        let credits = sum_between(&self.granted, self.settled_end, end);
+        self.settled += n;
+        self.settled_end = end;
+        credits
+    }
+
+    /// Settles the first `n` taken groups, and drops all other handles that are not settled.
+    pub fn crash(&mut self, n: usize)
+        requires there { n ≤ length self.old.taken }
+        requires fits { sum self.old.credits < 2 ^ 64 }
+        ensures { IsCrashed n self.old self.new }
+    {
+        self.settle(n);
+        self.drop_rest();
+    }
+
+    // Drops all handles that are not settled.
+    fn drop_rest(&mut self)
+        ensures settled { self.new.settled ≡ self.old.settled }
+        ensures lost { (self.new.taken ≡ []) × (self.new.queue ≡ []) × (self.new.credits ≡ []) }
+    {
+        self.ends.truncate(self.settled);
+        self.handles.truncate(self.settled_end);
+        self.granted.truncate(self.settled_end);
+        self.taken_end = self.settled_end;
+    }
+}
