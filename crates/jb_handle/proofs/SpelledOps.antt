@@ -15,7 +15,7 @@ use Rattle.jb_block.specs.declared.width.Width.TheVariants.{Narrow, Wide}
 use Rattle.jb_handle.specs.declared.fault.Cause.{Cause}
 use Rattle.jb_handle.specs.declared.fault.Cause.TheVariants.{OpWord, DataWord}
 use Rattle.jb_handle.specs.declared.word.Word.TheVariants.{Copy, Free}
-use Rattle.jb_handle.specs.Padded.{padded}
+use Rattle.jb_block.specs.Fields.{padded}
 use Rattle.jb_handle.specs.Parts.{◌>>=◌, before, onward, number_of, and_then}
 use Rattle.jb_handle.specs.Queue.{is_home, home_of, or_cause, where_true, data_of, fitting, op_of}
 use Rattle.jb_handle.specs.Spelling.{IsHome, Op, SpellsOp}

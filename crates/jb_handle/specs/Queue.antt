@@ -15,7 +15,7 @@ use Rattle.jb_handle.specs.declared.fault.QueueFault.{QueueFault}
 use Rattle.jb_handle.specs.declared.stopped.Stopped.{Stopped}
 use Rattle.jb_handle.specs.declared.word.Word.{Word}
 use Rattle.jb_handle.specs.declared.word.Word.TheVariants.{Copy, Free}
-use Rattle.jb_handle.specs.Padded.{padded}
+use Rattle.jb_block.specs.Fields.{padded}
 use Rattle.jb_handle.specs.Parts.{◌>>=◌, before, onward, lines, words, behind_word, first_of, and_then, number_of}
 use Rattle.jb_handle.specs.Word.{WordMap}
 

@@ -9,7 +9,7 @@ use Rattle.jb_block.specs.Size.{bytes_of}
 use Rattle.jb_handle.specs.declared.stopped.Stopped.{Stopped}
 use Rattle.jb_handle.specs.declared.word.Word.{Word}
 use Rattle.jb_handle.specs.declared.word.Word.TheVariants.{Copy, Free}
-use Rattle.jb_handle.specs.Padded.{padded}
+use Rattle.jb_block.specs.Fields.{padded}
 use Rattle.jb_handle.specs.Parts.{spaced}
 use Rattle.jb_handle.specs.Queue.{Queue}
 use Rattle.jb_handle.specs.Word.{WordMap}

@@ -1,5 +1,5 @@
 ghost use Rattle.std.specs.Prelude.{◌≡◌, List, ℕ, ◌-◌, ◌≤◌, ◌++◌, length, replicate, take, IfOk};
-ghost use Rattle.jb_handle.specs.Padded.{padded};
+ghost use Rattle.jb_block.specs.Fields.{padded};
 
 use jb_block::Memory;
 use std::alloc::Global;
