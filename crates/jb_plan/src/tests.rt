@@ -69,6 +69,51 @@ fn plans_are_those_worked_by_hand(rt: HostRuntime) -> Result<(), Fail> {
     Ok(())
 }
 
+// So many handles, of which each writes the next of seven home blocks.
+fn seven_in_turn(alloc: Global, handles: u64) -> Result<Vec<Stopped>, Memory> {
+    let mut queue = Vec::new(alloc);
+    for ticket in 0..handles {
+        let mut words = Words::new(alloc);
+        words.put(
+            ticket % 7,
+            Word::Copy(Payload::padded(Vec::new(alloc), 1024)),
+        )?;
+        queue.push(Stopped { ticket, words })?;
+    }
+    Ok(queue)
+}
+
+#[test]
+fn two_thousand_handles_share_seven_blocks(rt: HostRuntime) -> Result<(), Fail> {
+    let alloc = rt.alloc();
+    let geometry = Geometry::of(BlockSize::OneKib, Width::Narrow);
+    let queue = seven_in_turn(alloc, 2000)?;
+    assert!(rt; is_within_size(&queue));
+    let planned = plan(alloc, &queue, geometry, 9)?;
+    assert!(rt; planned.prices.first() == Some(&Some(0)));
+    for (handles, price) in (1u64..).zip(planned.prices.iter().skip(1)) {
+        assert!(rt;
+            *price == Some(handles.min(7) + 2),
+            "the price of {handles}"
+        );
+    }
+    let bounds = vec![in alloc; 0, 2000]?;
+    assert!(rt; planned.answer == Answer::Cut { bounds, total: 9 });
+    let planned = plan(alloc, &queue, geometry, 3)?;
+    for (thrice, price) in (0u64..).step_by(3).zip(&planned.prices) {
+        assert!(rt; *price == Some(thrice), "the price {thrice}");
+    }
+    let bounds = (0..2001).collect(alloc)?;
+    assert!(rt;
+        planned.answer
+            == Answer::Cut {
+                bounds,
+                total: 6000
+            }
+    );
+    Ok(())
+}
+
 // What a handle does to a home block.
 #[derive(Clone, Copy, PartialEq, Eq)]
 enum Change {
