@@ -20,6 +20,7 @@ mod tests;
 pub mod text;
 mod word;
 mod words;
+
 pub use changes::{Changes, TouchFault};
 pub use fault::{Cause, QueueFault};
 pub use handle::Handle;
