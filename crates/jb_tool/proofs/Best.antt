@@ -1,5 +1,5 @@
 -- The certificate of a plan is the best one.
-use Rattle.std.proofs.Common.{◌≡◌, ℕ, List, Option, subst, sym, ap, refl}
+use Rattle.std.proofs.Common.{◌≡◌, ℕ, List, Option, subst, sym, ap}
 use Rattle.jb_cost.specs.Cut.{ArePrices}
 use Rattle.jb_plan.specs.Plan.{Answers}
 use Rattle.jb_plan.specs.declared.planned.Answer.{Answer}

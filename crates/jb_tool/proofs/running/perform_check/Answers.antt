@@ -1,4 +1,4 @@
-use Rattle.std.proofs.Common.{[], arith, inl, rules}
+use Rattle.std.proofs.Common.{[], arith, inl}
 use Rattle.jb_handle.specs.QueueText.{value_of}
 use Rattle.jb_tool.specs.Said.{said}
 use Rattle.jb_tool.proofs.Verdicts.{says_of_fault, says_of_queue}
