@@ -2,9 +2,11 @@
 use Rattle.std.proofs.Common.{◌≡◌, ◌≢◌, ◌∙◌, sym, ap, ℕ, ◌^◌, ◌<◌, ◌==◌, if◌then◌else◌, Bool, true, false, List, [], ◌∷◌, ◌++◌, refl}
 use Rattle.std.specs.Char.{is_ascii_digit}
 use Rattle.std.specs.Fmt.{decimal}
+use Rattle.std.specs.List.{AllByRecursion}
+use Rattle.std.proofs.lemmas.List.{append-nil}
 use Rattle.std.proofs.lemmas.Bool.{eq-eqb}
 use Rattle.std.proofs.lemmas.Fmt.{digits_decimal}
-use Rattle.jb_handle.specs.Parts.{before, onward, grow, lines, words}
+use Rattle.jb_handle.specs.Parts.{before, onward, grow, lines, words, spaced}
 use Rattle.jb_handle.proofs.Splits.{before-nil, before-goes, before-stops, onward-nil, onward-goes, onward-stops, lines-nil, lines-stop, lines-goes, words-nil, words-stop, words-goes}
 use Rattle.jb_handle.proofs.Numerals.{AreDigits, numerals}
 
@@ -31,6 +33,10 @@ literal-without stop (b ∷ bs) clear =
 pub without-append : (stop : ℕ) (front back : List ℕ) → Without stop front → Without stop back → Without stop (front ++ back)
 without-append stop [] back clear rest = rest
 without-append stop (b ∷ front) back clear rest = (clear.0, without-append stop front back clear.1 rest)
+
+pub spaced-without : (stop : ℕ) (pieces : List (List ℕ)) → 32 ≢ stop → AllByRecursion (Without stop) pieces → Without stop (spaced pieces)
+spaced-without stop [] other clear = tt
+spaced-without stop (piece ∷ more) other clear = (other, without-append stop piece (spaced more) clear.0 (spaced-without stop more other clear.1))
 
 pub before-put : (stop : ℕ) (piece rest : List ℕ) → Without stop piece → before stop (piece ++ stop ∷ rest) ≡ piece
 before-put stop [] rest clear = before-stops stop stop rest refl
@@ -65,6 +71,11 @@ words-put (b ∷ word) rest clear = words-goes b (word ++ 32 ∷ rest) clear.0 �
 pub words-one : (word : List ℕ) → Without 32 word → words word ≡ word ∷ []
 words-one [] clear = words-nil
 words-one (b ∷ word) clear = words-goes b word clear.0 ∙ ap (grow b) (words-one word clear.1)
+
+-- spaced words are parted at their spaces
+pub words-spaced : (word : List ℕ) (more : List (List ℕ)) → AllByRecursion (Without 32) (word ∷ more) → words (word ++ spaced more) ≡ word ∷ more
+words-spaced word [] clear = ap words (append-nil word) ∙ words-one word clear.0
+words-spaced word (next ∷ more) clear = words-put word (next ++ spaced more) clear.0 ∙ ap (λ ws. word ∷ ws) (words-spaced next more clear.1)
 
 -- a numeral has no byte but digits
 pub digits-without : (stop : ℕ) (digits : List ℕ) → is_ascii_digit stop ≡ false → AreDigits digits → Without stop digits

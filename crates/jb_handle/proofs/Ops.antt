@@ -1,5 +1,5 @@
 -- The words of a handle, read one by one.
-use Rattle.std.proofs.Common.{◌≡◌, ◌∙◌, sym, ap, ℕ, ◌+◌, List, [], ◌∷◌, length, refl, Option, Some, None, Result, Ok, Err}
+use Rattle.std.proofs.Common.{◌≡◌, ◌∙◌, sym, ap, ℕ, ◌+◌, List, [], ◌∷◌, length, refl, Option, Some, None, Result, Ok, Err, Bool, true, false, if◌then◌else◌}
 use Rattle.std.specs.Borrow.{Bor}
 use Rattle.std.specs.Option.{option_copied}
 use Rattle.std.specs.FinMap as map
@@ -53,3 +53,8 @@ gives-on Memory part whole on given = tt
 pub ops-whole : (width : Width) (size : ℕ) (had : WordMap) (rest : Option (Bor (List ℕ))) (whole : Result WordMap Cause) → ((text : Bor (List ℕ)) → rest ≡ Some text → ⊥) → after_ops width size had (words_in (option_copied rest)) ≡ whole → whole ≡ Ok had
 ops-whole width size had None whole ended so_far = sym so_far ∙ ops-end width size had
 ops-whole width size had (Some text) whole ended so_far = absurd (ended text refl)
+
+-- what is read where a test holds, and else is a fault
+pub tested : (test : Bool) (cause : Cause) (x : Result WordMap Cause) (now : WordMap) → (if test then x else Err cause) ≡ Ok now → (test ≡ true) × (x ≡ Ok now)
+tested true cause x now is = (refl, is)
+tested false cause x now is = cc

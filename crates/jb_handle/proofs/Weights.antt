@@ -1,5 +1,5 @@
 -- A queue weighs at most half as much as its text is long.
-use Rattle.std.proofs.Common.{◌≡◌, ◌∙◌, sym, ap, ℕ, ◌+◌, ◌*◌, ◌≤◌, ◌==◌, List, [], ◌∷◌, ◌++◌, length, arith, refl, Option, option_map, Some, None, Result, Ok, Err, inl, inr, Bool, true, false, cond, if◌then◌else◌}
+use Rattle.std.proofs.Common.{◌≡◌, ◌∙◌, sym, ap, ℕ, ◌+◌, ◌*◌, ◌≤◌, ◌==◌, List, [], ◌∷◌, ◌++◌, length, arith, refl, Option, option_map, Some, None, Result, Ok, Err, inl, inr, Bool, true, false, cond}
 use Rattle.std.specs.Ordering.{nat_cmp}
 use Rattle.std.specs.Cmp.{nat_cmp_total}
 use Rattle.std.specs.FinMap as map
@@ -17,7 +17,7 @@ use Rattle.jb_handle.specs.Queue.{op_of, after_ops, handle_of, behind_h, after_l
 use Rattle.jb_handle.specs.Size.{weight}
 use Rattle.jb_handle.specs.Word.{WordMap}
 use Rattle.jb_handle.proofs.Splits.{lines-nil, lines-stop, lines-goes, words-nil, words-stop, words-goes}
-use Rattle.jb_handle.proofs.Ops.{ops-goes, ops-fails, ops-end}
+use Rattle.jb_handle.proofs.Ops.{ops-goes, ops-fails, ops-end, tested}
 use Rattle.jb_handle.proofs.Handles.{lines-fails, lines-end}
 use Rattle.jb_handle.proofs.Handles.{lines-goes as handles-go}
 
@@ -78,19 +78,15 @@ no-words : map.len (map.empty {X = Word} {R = nat_cmp}) ≡ 0
 no-words = map.len-empty nat_cmp Word
 
 -- the words of a handle weigh no more than half of its line
-test-gives : (test : Bool) (cause : Cause) (x : Result WordMap Cause) (now : WordMap) → (if test then x else Err cause) ≡ Ok now → x ≡ Ok now
-test-gives true cause x now is = is
-test-gives false cause x now is = cc
-
 pub handle-weight : (width : Width) (size : ℕ) (line : List ℕ) (now : WordMap) → handle_of width size line ≡ Ok now → 2 * (map.len now + 1) ≤ length line + 1
 handle-weight width size [] now reads = cc
 handle-weight width size (b ∷ []) now reads =
-    let empty = test-gives (b == 104) HandleLine (Ok map.empty) now reads in
+    let empty = (tested (b == 104) HandleLine (Ok map.empty) now reads).1 in
     let same : map.empty {X = Word} {R = nat_cmp} ≡ now = cc in
     omega (arith, ap map.len same, no-words)
 handle-weight width size (b ∷ c ∷ text) now reads =
-    let behind = test-gives (b == 104) HandleLine (behind_h width size (c ∷ text)) now reads in
-    let ops = test-gives (c == 32) HandleLine (after_ops width size map.empty (words text)) now behind in
+    let behind = (tested (b == 104) HandleLine (behind_h width size (c ∷ text)) now reads).1 in
+    let ops = (tested (c == 32) HandleLine (after_ops width size map.empty (words text)) now behind).1 in
     let light = ops-weight width size map.empty (words text) now ops in
     omega (arith, light, no-words, words-total text)
 

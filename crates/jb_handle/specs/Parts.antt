@@ -1,5 +1,5 @@
 -- The parts of a text, which is a list of bytes: its lines, its words, and the numbers in them.
-use Rattle.std.specs.Prelude.{◌≡◌, ℕ, ◌<◌, ◌≤◌, ◌+◌, ◌-◌, ◌*◌, ◌^◌, ◌==◌, ◌&&◌, nat_lt, if◌then◌else◌, List, [], ◌∷◌, length, take, drop, slice_index, Option, option_map, Some, None, Result, Ok, Err}
+use Rattle.std.specs.Prelude.{◌≡◌, ℕ, ◌<◌, ◌≤◌, ◌+◌, ◌-◌, ◌*◌, ◌^◌, ◌==◌, ◌&&◌, nat_lt, if◌then◌else◌, List, [], ◌∷◌, ◌++◌, length, take, drop, slice_index, Option, option_map, Some, None, Result, Ok, Err}
 use Rattle.std.specs.Char.{is_ascii_digit}
 use Rattle.std.specs.Str.{bytes_eq}
 
@@ -33,6 +33,11 @@ lines (b ∷ bs) = if b == 10 then [] ∷ lines bs else grow b (lines bs)
 unfoldable pub words : List ℕ → List (List ℕ)
 words [] = [] ∷ []
 words (b ∷ bs) = if b == 32 then [] ∷ words bs else grow b (words bs)
+
+-- words, each with one space before it
+abbrev pub spaced : List (List ℕ) → List ℕ
+spaced [] = []
+spaced (word ∷ more) = 32 ∷ (word ++ spaced more)
 
 -- the words of what stands behind a space, if there is one
 abbrev pub words_in : Option (List ℕ) → List (List ℕ)

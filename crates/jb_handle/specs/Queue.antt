@@ -1,5 +1,6 @@
 -- What the text of a queue says, step by step: its lines from the first on, and the words of a line from the left.
 use Rattle.std.specs.Prelude.{◌≡◌, ℕ, ◌+◌, ◌^◌, ◌≤◌, ◌==◌, ◌&&◌, nat_lt, nat_le, Bool, if◌then◌else◌, List, [], ◌∷◌, ◌++◌, length, codes, Option, Some, None, Result, Ok, Err}
+use Rattle.std.specs.Option.{option_and_then}
 use Rattle.std.specs.FinMap as map
 use Rattle.hex.specs.Hex.{decode_of}
 use Rattle.hex.specs.declared.error.FromHexError.{FromHexError}
@@ -94,21 +95,13 @@ after_lines width size had (line ∷ more) = do
 abbrev pub size_of_bytes : ℕ → Option BlockSize
 size_of_bytes n = if n == 1024 then Some OneKib else if n == 2048 then Some TwoKib else if n == 4096 then Some FourKib else None
 
-abbrev pub size_of_number : Option ℕ → Option BlockSize
-size_of_number None = None
-size_of_number (Some n) = size_of_bytes n
-
 -- the number behind a word that a line begins with
 abbrev pub number_behind : List ℕ → List ℕ → Option ℕ
-number_behind word line = number_in (behind_word word line)
-  where
-    number_in : Option (List ℕ) → Option ℕ
-    number_in None = None
-    number_in (Some digits) = number_of digits
+number_behind word line = option_and_then number_of (behind_word word line)
 
 -- the block size that a line gives
 abbrev pub size_of : List ℕ → Option BlockSize
-size_of line = size_of_number (number_behind (codes "bs ") line)
+size_of line = option_and_then size_of_bytes (number_behind (codes "bs ") line)
 
 -- the limit that a line gives: the most log blocks that a group may take
 abbrev pub limit_of : List ℕ → Option ℕ

@@ -1,5 +1,5 @@
 -- What is printed is read back.
-use Rattle.std.proofs.Common.{◌≡◌, ◌≢◌, ◌∙◌, sym, ap, ℕ, ◌+◌, ◌<◌, ◌==◌, true, false, List, [], ◌∷◌, ◌++◌, length, map, refl, arith, append_assoc, Option, option_map, Some, None, Ok}
+use Rattle.std.proofs.Common.{◌≡◌, ◌∙◌, sym, ap, ℕ, ◌+◌, ◌<◌, ◌==◌, true, false, List, [], ◌∷◌, ◌++◌, length, map, refl, arith, append_assoc, Option, option_map, Some, None, Ok}
 use Rattle.std.specs.Prelude.{codes, decimal}
 use Rattle.std.specs.Char.{is_ascii_digit}
 use Rattle.std.specs.List.{AllByRecursion}
@@ -7,26 +7,18 @@ use Rattle.std.specs.Str.{bytes_eq}
 use Rattle.std.proofs.lemmas.Bool.{ne_eqb, eq-eqb}
 use Rattle.std.proofs.lemmas.Fmt.{digits_decimal, decimal_nonempty}
 use Rattle.std.proofs.lemmas.List.{append-nil}
-use Rattle.jb_handle.specs.Parts.{lines, words, number_of}
-use Rattle.jb_handle.proofs.Joins.{Without, without-append, lines-put, words-put, words-one, literal-without, decimal-without}
+use Rattle.jb_handle.specs.Parts.{lines, number_of}
+use Rattle.jb_handle.proofs.Joins.{Without, without-append, spaced-without, words-spaced, lines-put, literal-without, decimal-without}
 use Rattle.jb_handle.proofs.Numerals.{AreDigits, numerals, decimal-is_number}
 use Rattle.jb_handle.proofs.Splits.{lines-nil}
 use Rattle.jb_price.specs.declared.certificate.Cert.{Cert}
 use Rattle.jb_price.specs.declared.certificate.CertAnswer.{CertAnswer}
 use Rattle.jb_price.specs.declared.certificate.CertAnswer.TheVariants.{Cut, NoCut}
-use Rattle.jb_price.specs.Certificate.{spaced, price_text, prices_line, answer_lines, cert_text}
+use Rattle.jb_handle.specs.Parts.{spaced}
+use Rattle.jb_price.specs.Certificate.{price_text, prices_line, answer_lines, cert_text}
 use Rattle.jb_price.specs.Reading.{after_each, price_of, prices_in, cut_in, total_in, claim_in, claim_of, cut_of, read_of}
 use Rattle.jb_price.specs.ReadBack.{Fits64, PriceFits, HasBound, AnswerFits, HasText}
 use Rattle.jb_price.proofs.Each.{each-goes, each-end}
-
-spaced-without : (stop : ℕ) (ws : List (List ℕ)) → 32 ≢ stop → AllByRecursion (Without stop) ws → Without stop (spaced ws)
-spaced-without stop [] other clear = tt
-spaced-without stop (w ∷ ws) other clear = (other, without-append stop w (spaced ws) clear.0 (spaced-without stop ws other clear.1))
-
--- spaced words are parted at their spaces
-words-spaced : (word : List ℕ) (ws : List (List ℕ)) → Without 32 word → AllByRecursion (Without 32) ws → words (word ++ spaced ws) ≡ word ∷ ws
-words-spaced word [] clear rest = ap words (append-nil word) ∙ words-one word clear
-words-spaced word (w ∷ ws) clear rest = words-put word (w ++ spaced ws) clear ∙ ap (λ xs. word ∷ xs) (words-spaced w ws rest.0 rest.1)
 
 -- words that show values are read to these values
 each-back : {A : Type 0} (read : List ℕ → Option A) (show : A → List ℕ) (P : A → Type 0) → ((x : A) → P x → read (show x) ≡ Some x) → (had xs : List A) → AllByRecursion P xs → after_each read had (map show xs) ≡ Some (had ++ xs)
@@ -61,38 +53,36 @@ price-without stop other clear None fits = clear
 price-without stop other clear (Some n) fits = decimal-without stop n other fits
 
 -- the line of the prices, without its LF
-prices-back : (prices : List (Option ℕ)) → 0 < length prices → AllByRecursion PriceFits prices → prices_in (codes "prices" ++ spaced (map price_text prices)) ≡ Some prices
+pub prices-back : (prices : List (Option ℕ)) → 0 < length prices → AllByRecursion PriceFits prices → prices_in (codes "prices" ++ spaced (map price_text prices)) ≡ Some prices
 prices-back [] some fits = let never : ⊥ = omega arith in absurd never
 prices-back (price ∷ prices) some fits =
     ap (after_each price_of []) (words-spaced (price_text price) (map price_text prices)
-    (price-without 32 refl (literal-without 32 (codes "none") refl) price fits.0)
-    (each-clear 32 price_text PriceFits (price-without 32 refl (literal-without 32 (codes "none") refl)) prices fits.1))
+    (each-clear 32 price_text PriceFits (price-without 32 refl (literal-without 32 (codes "none") refl)) (price ∷ prices) fits))
     ∙ each-back price_of price_text PriceFits price-back [] (price ∷ prices) fits
 
-bounds-back : (bounds : List ℕ) → 0 < length bounds → AllByRecursion Fits64 bounds → cut_in (codes "cut" ++ spaced (map decimal bounds)) ≡ Some (Some bounds)
+pub bounds-back : (bounds : List ℕ) → 0 < length bounds → AllByRecursion Fits64 bounds → cut_in (codes "cut" ++ spaced (map decimal bounds)) ≡ Some (Some bounds)
 bounds-back [] some fits = let never : ⊥ = omega arith in absurd never
 bounds-back (bound ∷ bounds) some fits =
     rw (decimal-not_none bound (spaced (map decimal bounds)) fits.0) (
     ap (λ ws. option_map Some (after_each number_of [] ws)) (words-spaced (decimal bound) (map decimal bounds)
-    (decimal-without 32 bound refl fits.0)
-    (each-clear 32 decimal Fits64 (λ n. decimal-without 32 n refl) bounds fits.1))
+    (each-clear 32 decimal Fits64 (λ n. decimal-without 32 n refl) (bound ∷ bounds) fits))
     ∙ ap (option_map Some) (each-back number_of decimal Fits64 decimal-is_number [] (bound ∷ bounds) fits))
 
-total-back : (total : ℕ) → Fits64 total → total_in (codes "total " ++ decimal total) ≡ Some total
+pub total-back : (total : ℕ) → Fits64 total → total_in (codes "total " ++ decimal total) ≡ Some total
 total-back total fits = decimal-is_number total fits
 
 -- the lines of a certificate's text
-first-clear : (prices : List (Option ℕ)) → AllByRecursion PriceFits prices → Without 10 (codes "prices" ++ spaced (map price_text prices))
+pub first-clear : (prices : List (Option ℕ)) → AllByRecursion PriceFits prices → Without 10 (codes "prices" ++ spaced (map price_text prices))
 first-clear prices fits =
     without-append 10 (codes "prices") (spaced (map price_text prices)) (literal-without 10 (codes "prices") refl)
     (spaced-without 10 (map price_text prices) (λ same. cc) (each-clear 10 price_text PriceFits (price-without 10 refl (literal-without 10 (codes "none") refl)) prices fits))
 
-second-clear : (bounds : List ℕ) → AllByRecursion Fits64 bounds → Without 10 (codes "cut" ++ spaced (map decimal bounds))
+pub second-clear : (bounds : List ℕ) → AllByRecursion Fits64 bounds → Without 10 (codes "cut" ++ spaced (map decimal bounds))
 second-clear bounds fits =
     without-append 10 (codes "cut") (spaced (map decimal bounds)) (literal-without 10 (codes "cut") refl)
     (spaced-without 10 (map decimal bounds) (λ same. cc) (each-clear 10 decimal Fits64 (λ n. decimal-without 10 n refl) bounds fits))
 
-third-clear : (total : ℕ) → Fits64 total → Without 10 (codes "total " ++ decimal total)
+pub third-clear : (total : ℕ) → Fits64 total → Without 10 (codes "total " ++ decimal total)
 third-clear total fits = without-append 10 (codes "total ") (decimal total) (literal-without 10 (codes "total ") refl) (decimal-without 10 total refl fits)
 
 prices-lines : (prices : List (Option ℕ)) (rest : List ℕ) → AllByRecursion PriceFits prices → lines (prices_line prices ++ rest) ≡ (codes "prices" ++ spaced (map price_text prices)) ∷ lines rest

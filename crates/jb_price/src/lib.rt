@@ -11,6 +11,8 @@ mod fault;
 pub mod laws;
 mod print;
 mod read;
+#[cfg(test)]
+mod text_tests;
 mod verdict;
 
 pub use certificate::{Cert, CertAnswer};

@@ -1,0 +1,4 @@
+pub mod Front
+pub mod Rule
+pub mod Seats
+pub mod Steps

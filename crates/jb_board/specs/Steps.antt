@@ -1,0 +1,53 @@
+-- The kinds of step on a board: what each does to the view of the seat that steps, and what it tells.
+use Rattle.std.specs.Prelude.{◌≡◌, ℕ, ◌≤◌, max}
+use Rattle.atomic_table.specs.Table.{Me, Step}
+use Rattle.jb_board.specs.declared.front.Front.{Front}
+use Rattle.jb_board.specs.Front.{front}
+
+-- A count was read: the view takes it, and the counts above it are at least as high.
+
+abbrev pub saw_settled : Front → ℕ → Front
+saw_settled v found = front found (max v.taken found) (max v.stopped found)
+
+abbrev pub saw_taken : Front → ℕ → Front
+saw_taken v found = front v.settled found (max v.stopped found)
+
+abbrev pub saw_stopped : Front → ℕ → Front
+saw_stopped v found = front v.settled v.taken found
+
+-- A count was raised: the view's is at least so high.
+
+abbrev pub raised_settled : Front → ℕ → Front
+raised_settled v count = front (max v.settled count) v.taken v.stopped
+
+abbrev pub raised_taken : Front → ℕ → Front
+raised_taken v count = front v.settled (max v.taken count) v.stopped
+
+abbrev pub raised_stopped : Front → ℕ → Front
+raised_stopped v count = front v.settled v.taken (max v.stopped count)
+
+-- what a step tells: of the step, the seat before, the number found in the word, and the seat after
+abbrev pub Told : Type 1
+Told = Step (Unit {0}) → Me (Unit {0}) Front → ℕ → Me (Unit {0}) Front → Type 0
+
+-- a new seat has seen nothing
+abbrev pub Enters : Told
+Enters step me found after = after.0 ≡ front 0 0 0
+
+abbrev pub SeesSettled : Told
+SeesSettled step me found after = (me.0.settled ≤ found) × (after ≡ (saw_settled me.0 found, me.1))
+
+abbrev pub SeesTaken : Told
+SeesTaken step me found after = (me.0.taken ≤ found) × (after ≡ (saw_taken me.0 found, me.1))
+
+abbrev pub SeesStopped : Told
+SeesStopped step me found after = (me.0.stopped ≤ found) × (after ≡ (saw_stopped me.0 found, me.1))
+
+abbrev pub RaisesSettled : Told
+RaisesSettled step me found after = after ≡ (raised_settled me.0 step.first, me.1)
+
+abbrev pub RaisesTaken : Told
+RaisesTaken step me found after = after ≡ (raised_taken me.0 step.first, me.1)
+
+abbrev pub RaisesStopped : Told
+RaisesStopped step me found after = after ≡ (raised_stopped me.0 step.first, me.1)

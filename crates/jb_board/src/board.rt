@@ -1,0 +1,158 @@
+ghost use Rattle.std.specs.Prelude.{◌≡◌, ◌≤◌, [], IfOk};
+
+use crate::front::Front;
+use crate::rule::{Counts, SETTLED, STOPPED, TAKEN};
+use crate::steps::{
+    Entry, Kept, LoadSettled, LoadStopped, LoadTaken, RaiseSettled, RaiseStopped, RaiseTaken, Same,
+};
+use atomic_table::{Seat, Table};
+use jb_block::Memory;
+use std::alloc::Global;
+
+/// Three counts that only rise, each a word of its own that threads read and raise in single steps. At
+/// every moment settled <= taken <= stopped, and no seat has seen more than the counts are.
+#[derive(Drop)]
+pub struct Board {
+    table: Table<(), Front, (), Counts, Global>,
+    ghost three_words: { table.shared.table_id.words ≡ 3 },
+}
+
+/// With what one thread steps on its board. It has no bytes: its view, the counts that it is sure of,
+/// exists in contracts alone. A seat may be let go, or given to another thread.
+#[derive(Drop)]
+pub struct BoardSeat {
+    seat: Seat<(), Front>,
+    ghost no_slots: { seat.me.1 ≡ [] },
+}
+
+impl Board {
+    ghost use Rattle.jb_board.specs.Front.{front, InOrder, IsWithin};
+    ghost use Rattle.jb_board.specs.Seats.{board_id, seat_board, seat_view};
+    ghost use Rattle.jb_board.specs.Steps.{saw_settled, saw_taken, saw_stopped, raised_settled, raised_taken, raised_stopped};
+
+    /// A board on which no ticket is counted, with its first seat.
+    pub fn new(alloc: Global) -> Result<(Board, BoardSeat), Memory>
+        ensures board { IfOk result (λ made. seat_board made.1 ≡ board_id made.0) }
+        ensures view { IfOk result (λ made. seat_view made.1 ≡ front 0 0 0) }
+    {
+        let (table, seat) = Table::of_words(alloc, &[0, 0, 0], &())?;
+        Ok((Board { table }, BoardSeat { seat }))
+    }
+
+    /// A seat that has seen nothing yet, for a thread that has no seat to split one off from.
+    pub fn enter(&self) -> BoardSeat
+        ensures board { seat_board result ≡ board_id self.now }
+        ensures view { seat_view result ≡ front 0 0 0 }
+    {
+        let (_, seat) = self.table.shared.load_new_seat::<Entry>(STOPPED);
+        BoardSeat { seat }
+    }
+
+    /// One more seat, which is sure of what `seat` is sure of.
+    pub fn split(&self, seat: &mut BoardSeat) -> BoardSeat
+        requires { seat_board seat.old ≡ board_id self.now }
+        ensures board { seat_board result ≡ board_id self.now }
+        ensures view { seat_view result ≡ seat_view seat.old }
+        ensures kept { (seat_board seat.new ≡ seat_board seat.old) × (seat_view seat.new ≡ seat_view seat.old) }
+    {
+        let seat = self.table.shared.split_seat::<Same>(&mut seat.seat);
+        BoardSeat { seat }
+    }
+
+    /// Ends the seat `other`; `seat` stays as it is.
+    pub fn join(&self, seat: &mut BoardSeat, other: BoardSeat)
+        requires here { seat_board seat.old ≡ board_id self.now }
+        requires other { seat_board other ≡ board_id self.now }
+        ensures kept { (seat_board seat.new ≡ seat_board seat.old) × (seat_view seat.new ≡ seat_view seat.old) }
+    {
+        let BoardSeat { seat: other } = other;
+        self.table.shared.join_seat::<Kept>(&mut seat.seat, other);
+    }
+
+    /// Reads the three counts, settled first and stopped last. They are in order, though other threads
+    /// may raise them meanwhile, and none is below what the seat was sure of.
+    pub fn look(&self, seat: &mut BoardSeat) -> Front
+        requires { seat_board seat.old ≡ board_id self.now }
+        ensures board { seat_board seat.new ≡ seat_board seat.old }
+        ensures view { seat_view seat.new ≡ result }
+        ensures ordered { InOrder result }
+        ensures rises { IsWithin (seat_view seat.old) result }
+    {
+        let settled = self.load_settled(seat);
+        let taken = self.load_taken(seat);
+        let stopped = self.load_stopped(seat);
+        Front {
+            settled,
+            taken,
+            stopped,
+        }
+    }
+
+    /// Raises the count of stopped tickets to `count`, or leaves it where it is higher.
+    pub fn raise_stopped(&self, seat: &mut BoardSeat, count: u64)
+        requires { seat_board seat.old ≡ board_id self.now }
+        ensures board { seat_board seat.new ≡ seat_board seat.old }
+        ensures view { seat_view seat.new ≡ raised_stopped (seat_view seat.old) count }
+    {
+        self.table
+            .shared
+            .fetch_max::<RaiseStopped>(&mut seat.seat, STOPPED, count);
+    }
+
+    /// Raises the count of taken tickets to `count`, or leaves it where it is higher. So many tickets
+    /// have stopped, as the seat is sure.
+    pub fn raise_taken(&self, seat: &mut BoardSeat, count: u64)
+        requires here { seat_board seat.old ≡ board_id self.now }
+        requires stopped { count ≤ (seat_view seat.old).stopped }
+        ensures board { seat_board seat.new ≡ seat_board seat.old }
+        ensures view { seat_view seat.new ≡ raised_taken (seat_view seat.old) count }
+    {
+        self.table
+            .shared
+            .fetch_max::<RaiseTaken>(&mut seat.seat, TAKEN, count);
+    }
+
+    /// Raises the count of settled tickets to `count`, or leaves it where it is higher. So many tickets
+    /// were taken, as the seat is sure.
+    pub fn raise_settled(&self, seat: &mut BoardSeat, count: u64)
+        requires here { seat_board seat.old ≡ board_id self.now }
+        requires taken { count ≤ (seat_view seat.old).taken }
+        ensures board { seat_board seat.new ≡ seat_board seat.old }
+        ensures view { seat_view seat.new ≡ raised_settled (seat_view seat.old) count }
+    {
+        self.table
+            .shared
+            .fetch_max::<RaiseSettled>(&mut seat.seat, SETTLED, count);
+    }
+
+    fn load_settled(&self, seat: &mut BoardSeat) -> u64
+        requires { seat_board seat.old ≡ board_id self.now }
+        ensures board { seat_board seat.new ≡ seat_board seat.old }
+        ensures view { seat_view seat.new ≡ saw_settled (seat_view seat.old) result }
+        ensures rises { (seat_view seat.old).settled ≤ result }
+    {
+        self.table
+            .shared
+            .load::<LoadSettled>(&mut seat.seat, SETTLED)
+    }
+
+    fn load_taken(&self, seat: &mut BoardSeat) -> u64
+        requires { seat_board seat.old ≡ board_id self.now }
+        ensures board { seat_board seat.new ≡ seat_board seat.old }
+        ensures view { seat_view seat.new ≡ saw_taken (seat_view seat.old) result }
+        ensures rises { (seat_view seat.old).taken ≤ result }
+    {
+        self.table.shared.load::<LoadTaken>(&mut seat.seat, TAKEN)
+    }
+
+    fn load_stopped(&self, seat: &mut BoardSeat) -> u64
+        requires { seat_board seat.old ≡ board_id self.now }
+        ensures board { seat_board seat.new ≡ seat_board seat.old }
+        ensures view { seat_view seat.new ≡ saw_stopped (seat_view seat.old) result }
+        ensures rises { (seat_view seat.old).stopped ≤ result }
+    {
+        self.table
+            .shared
+            .load::<LoadStopped>(&mut seat.seat, STOPPED)
+    }
+}

@@ -1,0 +1,22 @@
+//! The rule of the board's words, which holds between any two steps.
+//! Word 0 is the count of stopped tickets, word 1 of taken and word 2 of settled ones.
+use crate::front::Front;
+use atomic_table::TableRule;
+
+pub const STOPPED: usize = 0;
+
+pub const TAKEN: usize = 1;
+
+pub const SETTLED: usize = 2;
+
+/// The counts are in order, and no seat's view is above them.
+pub struct Counts;
+
+impl TableRule<(), Front, ()> for Counts {
+    ghost use Rattle.jb_board.specs.Front.{front};
+    ghost use Rattle.jb_board.specs.Rule.{IsKept};
+
+    ghost holds = { λ _ table. IsKept table.words table.views };
+
+    ghost first = { λ _. front 0 0 0 };
+}

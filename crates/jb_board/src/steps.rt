@@ -1,0 +1,67 @@
+//! What each kind of step does to the view of the seat that steps.
+ghost use Rattle.jb_board.specs.Front.{front};
+ghost use Rattle.jb_board.specs.Steps.{Enters, SeesSettled, SeesTaken, SeesStopped, RaisesSettled, RaisesTaken, RaisesStopped};
+
+use crate::front::Front;
+use atomic_table::{Join, Play, Split};
+
+/// A new seat has seen nothing.
+pub struct Entry;
+
+impl Play<(), Front> for Entry {
+    ghost then = { Enters };
+}
+
+pub struct LoadSettled;
+
+impl Play<(), Front> for LoadSettled {
+    ghost then = { SeesSettled };
+}
+
+pub struct LoadTaken;
+
+impl Play<(), Front> for LoadTaken {
+    ghost then = { SeesTaken };
+}
+
+pub struct LoadStopped;
+
+impl Play<(), Front> for LoadStopped {
+    ghost then = { SeesStopped };
+}
+
+pub struct RaiseSettled;
+
+impl Play<(), Front> for RaiseSettled {
+    ghost then = { RaisesSettled };
+}
+
+pub struct RaiseTaken;
+
+impl Play<(), Front> for RaiseTaken {
+    ghost then = { RaisesTaken };
+}
+
+pub struct RaiseStopped;
+
+impl Play<(), Front> for RaiseStopped {
+    ghost then = { RaisesStopped };
+}
+
+/// The new seat starts with the view of the one that it is split off from.
+pub struct Same;
+
+impl Split<Front> for Same {
+    ghost left = { λ v. v };
+
+    ghost right = { λ v. v };
+}
+
+/// The seat that is kept keeps its view, and the other one is spent.
+pub struct Kept;
+
+impl Join<Front> for Kept {
+    ghost both = { λ v w. v };
+
+    ghost spent = { front 0 0 0 };
+}

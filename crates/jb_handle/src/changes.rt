@@ -1,0 +1,191 @@
+ghost use Rattle.std.specs.Prelude.{◌≡◌, ◌≤◌, ◌⊎◌, Some, None, length, OnOk, OnErr, IfErr};
+ghost use Rattle.std.specs.FinMap as map;
+
+use crate::op::Op;
+use crate::payload::Payload;
+use crate::shape::Shape;
+use crate::word::Word;
+use crate::words::Words;
+use std::alloc::Global;
+use std::marker::Model;
+
+/// Why a handle does not take a change. The handle is as it was.
+#[derive(Clone, Copy, Debug, PartialEq, Eq)]
+pub enum TouchFault {
+    /// The home block is new to the handle, and all of its credits, so many blocks, are used.
+    NoCredit(u32),
+    /// The home block of this number is none of the journal's.
+    OutOfRange(u64),
+    /// The bytes are not as many as a block has.
+    Length,
+    /// There was no memory for the change.
+    Memory,
+}
+
+/// What a handle has changed so far: its credits, which bound how many different blocks it may touch,
+/// and the last word on each block that it touched. It may be let go, and kept in a map.
+#[derive(Drop)]
+pub struct Changes {
+    credits: u32,
+    shape: Shape,
+    words: Words,
+    alloc: Global,
+}
+
+impl Model for Changes {
+    ghost use Rattle.std.specs.Coded.{codes};
+    ghost use Rattle.jb_handle.specs.Word.{words_code};
+    ghost use Rattle.jb_handle.specs.Held.{Held, held, IsKept};
+
+    ghost Value = { Held };
+
+    ghost coded = { Prim.hlevel (codes, words_code) };
+
+    ghost view = { λ c. held c.credits c.shape c.words };
+
+    ghost invariant = { λ c. IsKept (held c.credits c.shape c.words) };
+}
+
+impl Changes {
+    ghost use Rattle.jb_handle.specs.Held.{Held, held, touched, IsKept, put_at, after, refusal, refusal_at};
+    ghost use Rattle.jb_handle.specs.declared.op.Op.TheVariants.{Write, Revoke};
+    ghost use Rattle.jb_handle.specs.declared.changes.TouchFault.TheVariants.{Memory};
+
+    /// No changes, and so many credits. Takes no memory.
+    pub fn new(alloc: Global, credits: u32, shape: Shape) -> Changes
+        ensures { result ≡ held credits shape map.empty }
+    {
+        Changes {
+            credits,
+            shape,
+            words: Words::new(alloc),
+            alloc,
+        }
+    }
+
+    /// How many different home blocks may be touched.
+    pub fn credits(&self) -> u32
+        ensures { result ≡ self.now.credits }
+    {
+        self.credits
+    }
+
+    /// What the changes have to fit.
+    pub fn shape(&self) -> Shape
+        ensures { result ≡ self.now.shape }
+    {
+        self.shape
+    }
+
+    /// How many home blocks were touched.
+    pub fn touched(&self) -> u32
+        ensures value { result ≡ touched self.now }
+        ensures within { result ≤ self.now.credits }
+    {
+        self.words.len() as u32
+    }
+
+    /// The last word on each home block that was touched.
+    pub fn words(&self) -> &Words
+        ensures words { result.now ≡ self.now.words }
+        ensures kept { IsKept self.now }
+    {
+        &self.words
+    }
+
+    /// The same, without the rest.
+    pub fn into_words(self) -> Words
+        ensures words { result ≡ self.words }
+        ensures kept { IsKept self }
+    {
+        self.words
+    }
+
+    /// Takes a change.
+    ///
+    /// # Errors
+    ///
+    /// The first of these, and the changes are as they were: `NoCredit`, `OutOfRange`, `Length`, and
+    /// `Memory` where there is none for a further block.
+    pub fn apply(&mut self, op: Op) -> Result<(), TouchFault>
+        ensures ok { OnOk result (self.new ≡ after self.old op) }
+        ensures granted { OnOk result (refusal self.old op ≡ None) }
+        ensures err { OnErr result (self.new ≡ self.old) }
+        ensures refused { IfErr result (λ fault. (fault ≡ Memory) ⊎ (refusal self.old op ≡ Some fault)) }
+    {
+        match op {
+            Op::Write(home, payload) => {
+                self.admit(home, Some(payload.len()))?;
+                self.put(home, Word::Copy(payload))
+            }
+            Op::Revoke(home) => self.revoke(home),
+        }
+    }
+
+    /// The home block is to hold these bytes (`jbd2_journal_dirty_metadata`). It cancels a revoke of
+    /// the block.
+    ///
+    /// # Errors
+    ///
+    /// The first of these, and the changes are as they were: `NoCredit`, `OutOfRange`, `Length`, and
+    /// `Memory` where there is none for a copy of the bytes or for a further block.
+    pub fn write(&mut self, home: u64, bytes: &[u8]) -> Result<(), TouchFault>
+        ensures ok { OnOk result (self.new ≡ after self.old (Write home bytes.now)) }
+        ensures granted { OnOk result (refusal self.old (Write home bytes.now) ≡ None) }
+        ensures err { OnErr result (self.new ≡ self.old) }
+        ensures refused { IfErr result (λ fault. (fault ≡ Memory) ⊎ (refusal self.old (Write home bytes.now) ≡ Some fault)) }
+    {
+        self.admit(home, Some(bytes.len()))?;
+        let Ok(payload) = Payload::of(self.alloc, bytes) else {
+            return Err(TouchFault::Memory);
+        };
+        self.put(home, Word::Copy(payload))
+    }
+
+    /// The home block is freed (`jbd2_journal_revoke`). It drops a copy of the block.
+    ///
+    /// # Errors
+    ///
+    /// The first of these, and the changes are as they were: `NoCredit`, `OutOfRange`, and `Memory`
+    /// where there is none for a further block.
+    pub fn revoke(&mut self, home: u64) -> Result<(), TouchFault>
+        ensures ok { OnOk result (self.new ≡ after self.old (Revoke home)) }
+        ensures granted { OnOk result (refusal self.old (Revoke home) ≡ None) }
+        ensures err { OnErr result (self.new ≡ self.old) }
+        ensures refused { IfErr result (λ fault. (fault ≡ Memory) ⊎ (refusal self.old (Revoke home) ≡ Some fault)) }
+    {
+        self.admit(home, None)?;
+        self.put(home, Word::Free)
+    }
+
+    // The first reason against a change of this home block, by a write of so many bytes or a revoke.
+    fn admit(&self, home: u64, len: Option<usize>) -> Result<(), TouchFault>
+        ensures ok { OnOk result (refusal_at self.now home len ≡ None) }
+        ensures err { IfErr result (λ fault. refusal_at self.now home len ≡ Some fault) }
+        ensures kept { IsKept self.now }
+    {
+        if self.words.get(home).is_none() && self.touched() >= self.credits {
+            return Err(TouchFault::NoCredit(self.credits));
+        }
+        if home >= self.shape.homes {
+            return Err(TouchFault::OutOfRange(home));
+        }
+        match len {
+            Some(len) if len != self.shape.bs.bytes() as usize => Err(TouchFault::Length),
+            _ => Ok(()),
+        }
+    }
+
+    // Puts a word on a home block for which it was admitted.
+    fn put(&mut self, home: u64, word: Word) -> Result<(), TouchFault>
+        requires kept { IsKept (put_at self.old home word) }
+        ensures ok { OnOk result (self.new ≡ put_at self.old home word) }
+        ensures err { OnErr result (self.new ≡ self.old) }
+        ensures refused { IfErr result (λ fault. fault ≡ Memory) }
+    {
+        match self.words.put(home, word) {
+            Ok(()) => Ok(()),
+            Err(_) => Err(TouchFault::Memory),
+        }
+    }
+}

@@ -1,0 +1,104 @@
+ghost use Rattle.std.specs.Prelude.{◌≡◌, ◌≤◌, ◌⊎◌, Some, None, OnOk, OnErr, IfErr};
+ghost use Rattle.std.specs.FinMap as map;
+
+use crate::changes::{Changes, TouchFault};
+use crate::shape::Shape;
+use crate::words::Words;
+use std::alloc::Global;
+
+/// An open handle (`handle_t`): the seat of the thread that works with it, and its changes. It must be
+/// spent: it is ended, or given to whoever stops or drops it, and cannot be let go by accident.
+#[must_use]
+pub struct Handle<S> {
+    seat: S,
+    changes: Changes,
+}
+
+impl<S> Handle<S> {
+    ghost use Rattle.jb_handle.specs.Handle.{holder, changes_of};
+    ghost use Rattle.jb_handle.specs.Held.{held, touched, after, refusal};
+    ghost use Rattle.jb_handle.specs.declared.op.Op.TheVariants.{Write, Revoke};
+    ghost use Rattle.jb_handle.specs.declared.changes.TouchFault.TheVariants.{Memory};
+
+    /// A handle of so many credits (`jbd2_journal_start`), without changes. Takes no memory.
+    pub fn new(alloc: Global, seat: S, credits: u32, shape: Shape) -> Handle<S>
+        ensures seat { holder result ≡ seat }
+        ensures changes { changes_of result ≡ held credits shape map.empty }
+    {
+        Handle {
+            seat,
+            changes: Changes::new(alloc, credits, shape),
+        }
+    }
+
+    /// How many different home blocks the handle may touch.
+    pub fn credits(&self) -> u32
+        ensures { result ≡ (changes_of self.now).credits }
+    {
+        self.changes.credits()
+    }
+
+    /// How many home blocks the handle has touched.
+    pub fn touched(&self) -> u32
+        ensures value { result ≡ touched (changes_of self.now) }
+        ensures within { result ≤ (changes_of self.now).credits }
+    {
+        self.changes.touched()
+    }
+
+    /// The seat that the handle was made with.
+    pub fn seat(&self) -> &S
+        ensures { result.now ≡ holder self.now }
+    {
+        &self.seat
+    }
+
+    /// The last word on each home block that the handle touched.
+    pub fn words(&self) -> &Words
+        ensures { result.now ≡ (changes_of self.now).words }
+    {
+        self.changes.words()
+    }
+
+    /// The home block is to hold these bytes (`jbd2_journal_dirty_metadata`). It cancels a revoke of
+    /// the block.
+    ///
+    /// # Errors
+    ///
+    /// The first of these, and the handle is as it was: `NoCredit`, `OutOfRange`, `Length`, and
+    /// `Memory` where there is none for a copy of the bytes or for a further block.
+    pub fn write(&mut self, home: u64, bytes: &[u8]) -> Result<(), TouchFault>
+        ensures seat { holder self.new ≡ holder self.old }
+        ensures ok { OnOk result (changes_of self.new ≡ after (changes_of self.old) (Write home bytes.now)) }
+        ensures granted { OnOk result (refusal (changes_of self.old) (Write home bytes.now) ≡ None) }
+        ensures err { OnErr result (changes_of self.new ≡ changes_of self.old) }
+        ensures refused { IfErr result (λ fault. (fault ≡ Memory) ⊎ (refusal (changes_of self.old) (Write home bytes.now) ≡ Some fault)) }
+    {
+        self.changes.write(home, bytes)
+    }
+
+    /// The home block is freed (`jbd2_journal_revoke`). It drops a copy of the block.
+    ///
+    /// # Errors
+    ///
+    /// The first of these, and the handle is as it was: `NoCredit`, `OutOfRange`, and `Memory` where
+    /// there is none for a further block.
+    pub fn revoke(&mut self, home: u64) -> Result<(), TouchFault>
+        ensures seat { holder self.new ≡ holder self.old }
+        ensures ok { OnOk result (changes_of self.new ≡ after (changes_of self.old) (Revoke home)) }
+        ensures granted { OnOk result (refusal (changes_of self.old) (Revoke home) ≡ None) }
+        ensures err { OnErr result (changes_of self.new ≡ changes_of self.old) }
+        ensures refused { IfErr result (λ fault. (fault ≡ Memory) ⊎ (refusal (changes_of self.old) (Revoke home) ≡ Some fault)) }
+    {
+        self.changes.revoke(home)
+    }
+
+    /// Takes the handle apart, into its seat and its words.
+    pub fn end(self) -> (S, Words)
+        ensures seat { result.0 ≡ holder self }
+        ensures words { result.1 ≡ (changes_of self).words }
+    {
+        let Handle { seat, changes } = self;
+        (seat, changes.into_words())
+    }
+}
