@@ -1,5 +1,8 @@
 -- What costs do when handles are added, and how large they are.
-use Rattle.std.proofs.Common.{ℕ, ◌+◌, ◌*◌, ◌≤◌, List, ◌∷◌, length, arith}
+use Rattle.std.proofs.Common.{◌≡◌, ℕ, suc, ◌+◌, ◌*◌, ◌<◌, ◌≤◌, List, ◌∷◌, length, get_or, drop, sym, ap, subst, ◌∙◌, arith}
+use Rattle.std.specs.FinMap as map
+use Rattle.std.proofs.Math.Seq.{drop-cons}
+use Rattle.std.proofs.lemmas.List.Sums.{sum_by-take-drop}
 use Rattle.std.specs.FinSet as set
 use Rattle.jb_handle.specs.declared.stopped.Stopped.{Stopped}
 use Rattle.jb_handle.specs.Size.{weight}
@@ -28,3 +31,9 @@ cost-weight g h hs = omega (arith, cost-few g (h ∷ hs))
 -- copies alone are the dearest words
 pub worst-bounds : (g : Geometry) (c f credits : ℕ) → c + f ≤ credits → blocks_of g c f ≤ worst_cost_of g credits
 worst-bounds g c f credits within = omega (arith, ceil-mono c credits g.t g.tags (omega arith), ceil-self f g.r g.entries)
+
+-- a handle and those behind it are no heavier than the whole list
+pub weight-from : (hs : List Stopped) (s : ℕ) (h : Stopped) → h ≡ get_or hs s h → s < length hs → weight (h ∷ drop (suc s) hs) ≤ weight hs
+weight-from hs s h here inside =
+    let whole : drop s hs ≡ h ∷ drop (suc s) hs = drop-cons hs s h inside ∙ ap (λ x. x ∷ drop (suc s) hs) (sym here) in
+    subst (λ gs. weight gs ≤ weight hs) whole (omega (arith, sum_by-take-drop (λ x. map.len x.words + 1) hs s))

@@ -8,5 +8,5 @@ pub mod Later
 pub mod Left
 pub mod Pieces
 pub mod Sizes
-pub mod Worst
 pub mod Walk
+pub mod Worst

@@ -7,6 +7,8 @@ mod geometry;
 mod group;
 mod last_words;
 mod met;
+#[cfg(test)]
+mod tests;
 
 pub use credits::{most_credits, worst_cost};
 pub use footprint::Footprint;

@@ -1,7 +1,16 @@
 pub mod Admitted
+pub mod Front
+pub mod Handles
+pub mod Joins
 pub mod LastOp
 pub mod LastWord
 pub mod Numerals
+pub mod Ops
 pub mod Rising
+pub mod SpelledHandles
+pub mod SpelledOps
+pub mod SpelledText
 pub mod Splits
 pub mod Touched
+pub mod Trees
+pub mod Weights

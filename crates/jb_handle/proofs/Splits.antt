@@ -88,11 +88,11 @@ parted stop (b ∷ bs) = elim (cases_eq b stop) [
 pub parted-length : (stop : ℕ) (bs : List ℕ) → length (before stop bs) + length (onward stop bs) ≡ length bs
 parted-length stop bs = sym (length-append (before stop bs) (onward stop bs)) ∙ ap length (parted stop bs)
 
-lines-stop : (b : ℕ) (bs : List ℕ) → b ≡ 10 → lines (b ∷ bs) ≡ [] ∷ lines bs
+pub lines-stop : (b : ℕ) (bs : List ℕ) → b ≡ 10 → lines (b ∷ bs) ≡ [] ∷ lines bs
 unfolding lines
 lines-stop b bs same = rw (eq-eqb b 10 same) refl
 
-lines-goes : (b : ℕ) (bs : List ℕ) → b ≢ 10 → lines (b ∷ bs) ≡ grow b (lines bs)
+pub lines-goes : (b : ℕ) (bs : List ℕ) → b ≢ 10 → lines (b ∷ bs) ≡ grow b (lines bs)
 unfolding lines
 lines-goes b bs other = rw (ne_eqb b 10 other) refl
 
@@ -111,11 +111,11 @@ lines-part b (c ∷ bs) = elim (cases_eq b 10) [
   | inr other ↦ lines-goes b (c ∷ bs) other ∙ ap (grow b) (lines-part c bs) ∙ rw (before-goes 10 b (c ∷ bs) other, onward-goes 10 b (c ∷ bs) other) refl
 ]
 
-words-stop : (b : ℕ) (bs : List ℕ) → b ≡ 32 → words (b ∷ bs) ≡ [] ∷ words bs
+pub words-stop : (b : ℕ) (bs : List ℕ) → b ≡ 32 → words (b ∷ bs) ≡ [] ∷ words bs
 unfolding words
 words-stop b bs same = rw (eq-eqb b 32 same) refl
 
-words-goes : (b : ℕ) (bs : List ℕ) → b ≢ 32 → words (b ∷ bs) ≡ grow b (words bs)
+pub words-goes : (b : ℕ) (bs : List ℕ) → b ≢ 32 → words (b ∷ bs) ≡ grow b (words bs)
 unfolding words
 words-goes b bs other = rw (ne_eqb b 32 other) refl
 

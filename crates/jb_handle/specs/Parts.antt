@@ -1,7 +1,13 @@
 -- The parts of a text, which is a list of bytes: its lines, its words, and the numbers in them.
-use Rattle.std.specs.Prelude.{◌≡◌, ℕ, ◌<◌, ◌≤◌, ◌+◌, ◌-◌, ◌*◌, ◌^◌, ◌==◌, ◌&&◌, nat_lt, if◌then◌else◌, List, [], ◌∷◌, length, take, drop, slice_index, Option, Some, None}
+use Rattle.std.specs.Prelude.{◌≡◌, ℕ, ◌<◌, ◌≤◌, ◌+◌, ◌-◌, ◌*◌, ◌^◌, ◌==◌, ◌&&◌, nat_lt, if◌then◌else◌, List, [], ◌∷◌, ◌++◌, length, take, drop, slice_index, Option, option_map, Some, None, Result, Ok, Err}
 use Rattle.std.specs.Char.{is_ascii_digit}
 use Rattle.std.specs.Str.{bytes_eq}
+
+-- the ? of the logic: the second step, if the first gave a value
+infixl 10 ◌>>=◌
+abbrev pub ◌>>=◌ : {A B E : Type 0} → Result A E → (A → Result B E) → Result B E
+Ok x >>= f = f x
+Err e >>= f = Err e
 
 -- the bytes before the first `stop`
 unfoldable pub before : ℕ → List ℕ → List ℕ
@@ -28,6 +34,11 @@ unfoldable pub words : List ℕ → List (List ℕ)
 words [] = [] ∷ []
 words (b ∷ bs) = if b == 32 then [] ∷ words bs else grow b (words bs)
 
+-- words, each with one space before it
+abbrev pub spaced : List (List ℕ) → List ℕ
+spaced [] = []
+spaced (word ∷ more) = 32 ∷ (word ++ spaced more)
+
 -- the words of what stands behind a space, if there is one
 abbrev pub words_in : Option (List ℕ) → List (List ℕ)
 words_in None = []
@@ -42,6 +53,11 @@ pub record FirstLine (text line rest : List ℕ) : Type 0 where
 -- what stands behind a word at the front of a line
 abbrev pub behind_word : List ℕ → List ℕ → Option (List ℕ)
 behind_word word line = if bytes_eq (take (length word) line) word then Some (drop (length word) line) else None
+
+-- what the first of some lines gives, and the lines behind it
+abbrev pub first_of : {A : Type 0} → (List ℕ → Option A) → List (List ℕ) → Option (A × List (List ℕ))
+first_of read [] = None
+first_of read (line ∷ more) = option_map (λ x. (x, more)) (read line)
 
 -- a number of at most 64 bits with one more digit behind it
 abbrev pub with_digit : ℕ → ℕ → Option ℕ

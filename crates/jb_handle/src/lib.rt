@@ -2,10 +2,16 @@
 #![tactic(auto)]
 
 mod changes;
+mod fault;
+mod gathered;
 mod handle;
 pub mod laws;
 mod op;
+mod op_text;
 mod payload;
+#[cfg(test)]
+mod queue_tests;
+mod queue_text;
 mod shape;
 mod size;
 mod stopped;
@@ -14,10 +20,13 @@ mod tests;
 pub mod text;
 mod word;
 mod words;
+
 pub use changes::{Changes, TouchFault};
+pub use fault::{Cause, QueueFault};
 pub use handle::Handle;
 pub use op::Op;
 pub use payload::Payload;
+pub use queue_text::{QueueText, read_queue};
 pub use shape::Shape;
 pub use size::is_within_size;
 pub use stopped::Stopped;

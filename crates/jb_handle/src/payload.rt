@@ -1,5 +1,5 @@
-ghost use Rattle.std.specs.Prelude.{◌≡◌, List, ℕ, ◌-◌, ◌≤◌, ◌++◌, length, replicate, IfOk};
-ghost use Rattle.jb_handle.specs.Padded.{padded};
+ghost use Rattle.std.specs.Prelude.{◌≡◌, List, ℕ, ◌-◌, ◌≤◌, ◌++◌, length, replicate, take, IfOk};
+ghost use Rattle.jb_block.specs.Fields.{padded};
 
 use jb_block::Memory;
 use std::alloc::Global;
@@ -50,6 +50,17 @@ impl Payload {
         ensures { result ≡ length self.now }
     {
         self.len
+    }
+
+    /// The first four bytes, by which a block of the journal's own is told.
+    pub fn front(&self) -> [u8; 4]
+        requires long { 4 ≤ length self.now }
+        ensures { result ≡ take 4 self.now }
+    {
+        let mut front = [0; 4];
+        let kept = self.bytes.len().min(front.len());
+        front[..kept].copy_from_slice(&self.bytes[..kept]);
+        front
     }
 
     /// Writes the bytes over a block of their number.

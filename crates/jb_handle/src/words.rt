@@ -1,4 +1,4 @@
-ghost use Rattle.std.specs.Prelude.{◌≡◌, IfOk, IfErr, OnOk, OnErr, T, IsTrue, ◌↔◌, length, ◌<◌, ℕ};
+ghost use Rattle.std.specs.Prelude.{◌≡◌, IfOk, IfErr, OnOk, OnErr, T, IsTrue, ◌↔◌, length, ◌<◌, ◌^◌, ℕ};
 ghost use Rattle.std.specs.Ordering.{nat_cmp};
 ghost use Rattle.std.specs.Option.{option_copied};
 ghost use Rattle.std.specs.FinMap as map;
@@ -56,7 +56,8 @@ impl Words {
 
     /// How many home blocks have a word.
     pub fn len(&self) -> usize
-        ensures { result ≡ map.len self.now }
+        ensures value { result ≡ map.len self.now }
+        ensures bound { result < 2 ^ 63 }
     {
         self.entries().len()
     }
@@ -110,4 +111,55 @@ fn place_of(entries: &[(u64, Word)], home: u64) -> Result<usize, usize>
     ensures { IsPlaced entries.now home result }
 {
     entries.binary_search_by_key(&home, |&(at, _)| at)
+}
+
+#[cfg(test)]
+mod tests {
+    use super::Words;
+    use crate::payload::Payload;
+    use crate::word::Word;
+    use std::collections::BTreeMap;
+    use std::test::Fail;
+
+    #[test]
+    fn keeps_the_last_word_of_each_home(rt: HostRuntime) -> Result<(), Fail> {
+        let mut words = Words::new(rt.alloc());
+        words.put(7, Word::Free)?;
+        words.put(5, Word::Free)?;
+        words.put(7, Word::Copy(Payload::of(rt.alloc(), b"abcd")?))?;
+        assert_eq!(rt; words.len(), 2);
+        let [(first, _), (second, _)] = words.entries() else {
+            panic!(rt; "two homes have a word");
+        };
+        assert_eq!(rt; (*first, *second), (5, 7));
+        let Some(Word::Copy(payload)) = words.get(7) else {
+            panic!(rt; "the last word of 7 is a copy");
+        };
+        let mut block = [9, 9, 9, 9];
+        assert_eq!(rt; payload.len(), 4);
+        payload.copy_into(&mut block);
+        assert_eq!(rt; block, *b"abcd");
+        assert!(rt; words.get(5).is_some());
+        assert!(rt; words.get(6).is_none());
+        Ok(())
+    }
+
+    #[test]
+    fn lists_a_tree(rt: HostRuntime) -> Result<(), Fail> {
+        let mut tree = BTreeMap::new(rt.alloc());
+        tree.insert(9, Word::Free)?;
+        let mut bytes = Vec::new(rt.alloc());
+        bytes.push(1)?;
+        tree.insert(3, Word::Copy(Payload::padded(bytes, 3)))?;
+        let words = Words::from_tree(rt.alloc(), tree)?;
+        let Some(Word::Copy(payload)) = words.get(3) else {
+            panic!(rt; "3 has a copy");
+        };
+        let mut block = [9, 9, 9];
+        assert_eq!(rt; payload.len(), 3);
+        payload.copy_into(&mut block);
+        assert_eq!(rt; block, [1, 0, 0]);
+        assert_eq!(rt; words.len(), 2);
+        Ok(())
+    }
 }

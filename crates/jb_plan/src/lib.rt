@@ -6,6 +6,8 @@ mod planned;
 mod planner;
 mod step;
 mod table;
+#[cfg(test)]
+mod tests;
 
 pub use planned::{Answer, Planned};
 pub use planner::plan;

@@ -16,7 +16,8 @@ use std::alloc::Global;
 ///
 /// A group within the limit may stand between two bounds whatever the handles around it, so the least
 /// number for an end is the best of those before it and one group more. Of several bounds that are as
-/// good the least comes before an end. The limit and the numbers are in log blocks.
+/// good the least comes before an end. The limit (`j_max_transaction_buffers` of `include/linux/jbd2.h`)
+/// and the numbers are in log blocks.
 ///
 /// # Errors
 ///

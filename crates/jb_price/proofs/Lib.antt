@@ -1,3 +1,6 @@
+pub mod Each
+pub mod ReadBack
+pub mod SpelledCert
 pub mod Undercutting
 pub mod Verdicts
 pub mod Walks

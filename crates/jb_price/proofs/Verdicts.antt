@@ -1,14 +1,15 @@
 -- What follows from the verdicts: an accepted answer is right, and a right answer with least totals is accepted.
-use Rattle.std.proofs.Common.{◌≡◌, ℕ, ◌+◌, ◌<◌, ◌≤◌, List, [], ◌∷◌, Option, Some, None, ◌⊎◌, inl, inr, sym, ap, ◌∙◌, subst, refl, arith}
+use Rattle.std.proofs.Common.{◌≡◌, ℕ, ◌+◌, ◌≤◌, List, [], ◌∷◌, Option, Some, None, Result, Ok, Err, IfOk, ◌⊎◌, inl, inr, sym, ap, ◌∙◌, subst, refl, arith}
+use Rattle.std.specs.declared.alloc.AllocError.{AllocError}
 use Rattle.std.proofs.lemmas.Bool.{cases_lt}
-use Rattle.jb_cost.specs.Cut.{IsCut, EachFrom, EachPiece, total, price, FitsCut, IsLeastCut, IsReached, IsPrice, ArePrices, Hold}
+use Rattle.jb_cost.specs.Cut.{EachFrom, EachPiece, total, price, IsPrice, ArePrices, Hold}
 use Rattle.jb_cost.proofs.Bounds.{lower, exact-hold}
 use Rattle.jb_price.specs.declared.certificate.CertAnswer.{CertAnswer}
 use Rattle.jb_price.specs.declared.certificate.CertAnswer.TheVariants.{Cut, NoCut}
 use Rattle.jb_price.specs.declared.verdict.Verdict.{Verdict}
 use Rattle.jb_price.specs.declared.verdict.Verdict.TheVariants.{Accepted, Refused}
 use Rattle.jb_price.specs.declared.verdict.Reason.TheVariants.{OpeningPrice, Undercut, NotACut, OverLimit, TotalDiffers, EndPrice}
-use Rattle.jb_price.specs.Verdict.{IsDearer, FirstOverFrom, IsFirstOver, Undercuts, IsFirstUndercut, PricesHold, CutSays, NoneSays, AnswerSays, Says, IsRight}
+use Rattle.jb_price.specs.Verdict.{IsDearer, FirstOverFrom, IsFirstOver, PricesHold, AnswerSays, Says, IsRight}
 
 -- a price is dearer than what it is, or it is at most that
 dearer-or : (q : Option ℕ) (p : ℕ) → IsDearer q p ⊎ ((r : ℕ) × (q ≡ Some r) × (r ≤ p))
@@ -34,22 +35,36 @@ module _ (c : ℕ → ℕ → ℕ) (limit n : ℕ) (ps : List (Option ℕ)) wher
   -- prices without an undercut bound every cut that fits
   hold : PricesHold c limit n ps → Hold c limit n ps
   hold prices = record {
-      start = prices.opening;
-      step = λ i j p before within is fits. elim (dearer-or (price ps j) (p + c i j)) [
+    start = prices.opening;
+    step = λ i j p before within is fits. elim (dearer-or (price ps j) (p + c i j)) [
       | inl dearer ↦ absurd (prices.no_undercut i j (record { before = before; within = within; fits = fits; cheaper = (p, is, dearer) }))
       | inr most ↦ most
-      ];
-    }
+    ];
+  }
+
+  -- where the prices hold, what a verdict says of the answer it says of the certificate
+  pub says-answer : (answer : CertAnswer) → PricesHold c limit n ps → (verdict : Verdict) → AnswerSays c limit n ps answer verdict → Says c limit n ps answer verdict
+  says-answer answer prices Accepted says = (prices, says)
+  says-answer (Cut bounds sum) prices (Refused OpeningPrice) says = absurd says
+  says-answer NoCut prices (Refused OpeningPrice) says = absurd says
+  says-answer (Cut bounds sum) prices (Refused (Undercut i j)) says = absurd says
+  says-answer NoCut prices (Refused (Undercut i j)) says = absurd says
+  says-answer answer prices (Refused NotACut) says = (prices, says)
+  says-answer answer prices (Refused (OverLimit i j)) says = (prices, says)
+  says-answer answer prices (Refused TotalDiffers) says = (prices, says)
+  says-answer answer prices (Refused EndPrice) says = (prices, says)
 
   pub right-accepted : (answer : CertAnswer) → Says c limit n ps answer Accepted → IsRight c limit n answer
-  right-accepted (Cut bounds sum) (prices, holds) =
-      (record {
-        fitting = holds.fitting;
-        least = λ other fitting.
+  right-accepted (Cut bounds sum) (prices, holds) = (
+    record {
+      fitting = holds.fitting;
+      least = λ other fitting.
           let low = lower c limit n ps (hold prices) other fitting in
           let same = some-same (price ps n) sum low.0 holds.end_price low.1 in
           omega (arith, holds.sums, low.2);
-      }, holds.sums)
+    },
+    holds.sums,
+  )
   right-accepted NoCut (prices, none) = λ other fitting. let low = lower c limit n ps (hold prices) other fitting in none-some (price ps n) low.0 none low.1
 
   prices-exact : ArePrices c limit n ps → PricesHold c limit n ps
@@ -58,28 +73,28 @@ module _ (c : ℕ → ℕ → ℕ) (limit n : ℕ) (ps : List (Option ℕ)) wher
       record {
         opening = exact.start;
         no_undercut = λ i j u.
-          let p = u.cheaper.0 in
-          let most = exact.step i j p u.before u.within u.cheaper.1 u.fits in
-          let dearer : IsDearer (Some most.0) (p + c i j) = subst (λ q. IsDearer q (p + c i j)) most.1 u.cheaper.2 in
-          omega (arith, dearer, most.2);
+            let p = u.cheaper.0 in
+            let most = exact.step i j p u.before u.within u.cheaper.1 u.fits in
+            let dearer : IsDearer (Some most.0) (p + c i j) = subst (λ q. IsDearer q (p + c i j)) most.1 u.cheaper.2 in
+            omega (arith, dearer, most.2);
       }
 
   answer-exact : (answer : CertAnswer) → ArePrices c limit n ps → IsRight c limit n answer → AnswerSays c limit n ps answer Accepted
   answer-exact (Cut bounds sum) are (least, sums) =
       record { fitting = least.fitting; sums = sums; end_price = go (price ps n) refl (are.each n (omega arith)) }
     where
-    go : (found : Option ℕ) → price ps n ≡ found → IsPrice c limit n found → price ps n ≡ Some sum
-    go None is none = absurd (none bounds.items least.fitting)
-    go (Some p) is exact =
-        let low : p ≤ total c bounds.items = exact.1 bounds.items least.fitting in
-        let high : total c bounds.items ≤ total c exact.0.0 = least.least exact.0.0 exact.0.1 in
-        let same : p ≡ sum = omega (arith, exact.0.2, sums) in
-        is ∙ ap Some same
+      go : (found : Option ℕ) → price ps n ≡ found → IsPrice c limit n found → price ps n ≡ Some sum
+      go None is none = absurd (none bounds.items least.fitting)
+      go (Some p) is exact =
+          let low : p ≤ total c bounds.items = exact.1 bounds.items least.fitting in
+          let high : total c bounds.items ≤ total c exact.0.0 = least.least exact.0.0 exact.0.1 in
+          let same : p ≡ sum = omega (arith, exact.0.2, sums) in
+          is ∙ ap Some same
   answer-exact NoCut are none = go (price ps n) refl (are.each n (omega arith))
     where
-    go : (found : Option ℕ) → price ps n ≡ found → IsPrice c limit n found → price ps n ≡ None
-    go None is exact = is
-    go (Some p) is exact = absurd (none exact.0.0 exact.0.1)
+      go : (found : Option ℕ) → price ps n ≡ found → IsPrice c limit n found → price ps n ≡ None
+      go None is exact = is
+      go (Some p) is exact = absurd (none exact.0.0 exact.0.1)
 
   only-accepted : (answer : CertAnswer) → PricesHold c limit n ps → AnswerSays c limit n ps answer Accepted → (verdict : Verdict) → Says c limit n ps answer verdict → verdict ≡ Accepted
   only-accepted answer prices holds Accepted says = refl
@@ -99,3 +114,8 @@ module _ (c : ℕ → ℕ → ℕ) (limit n : ℕ) (ps : List (Option ℕ)) wher
       let prices = prices-exact are in
       let holds = answer-exact answer are right in
       ((prices, holds), only-accepted answer prices holds)
+
+-- what follows from each value follows where there is one
+pub where-ok : (result : Result Verdict AllocError) (P Q : Verdict → Type 0) → ((verdict : Verdict) → P verdict → Q verdict) → IfOk result P → IfOk result Q
+where-ok (Ok verdict) P Q gives holds = gives verdict holds
+where-ok (Err refused) P Q gives holds = tt

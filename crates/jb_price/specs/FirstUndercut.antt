@@ -1,5 +1,5 @@
 -- The first undercut among those that were looked at.
-use Rattle.std.specs.Prelude.{◌≡◌, ℕ, ◌<◌, ◌≤◌, List, Option, Some, None, nat_le, if◌then◌else◌}
+use Rattle.std.specs.Prelude.{ℕ, ◌<◌, ◌≤◌, List, Option, Some, None, nat_le, if◌then◌else◌}
 use Rattle.jb_price.specs.Verdict.{Undercuts}
 
 -- the earlier of the first undercut so far and one to a later end, from i

@@ -1,12 +1,11 @@
 -- What each verdict says of a certificate: the first of six faults that it has, or that it has none.
 -- Here `c i j` is what the handles from i up to, but without, j cost as one group, and n is the number of handles.
 use Rattle.std.specs.Prelude.{◌≡◌, ◌≢◌, ℕ, ◌+◌, ◌<◌, ◌≤◌, ◌⊎◌, List, [], ◌∷◌, Option, Some, None}
-use Rattle.jb_cost.specs.Cut.{IsCut, EachPiece, total, price, FitsCut, IsLeastCut, ArePrices}
+use Rattle.jb_cost.specs.Cut.{IsCut, total, price, FitsCut, IsLeastCut, ArePrices}
 use Rattle.jb_price.specs.declared.certificate.CertAnswer.{CertAnswer}
 use Rattle.jb_price.specs.declared.certificate.CertAnswer.TheVariants.{Cut, NoCut}
 use Rattle.jb_price.specs.declared.verdict.Verdict.{Verdict}
 use Rattle.jb_price.specs.declared.verdict.Verdict.TheVariants.{Accepted, Refused}
-use Rattle.jb_price.specs.declared.verdict.Reason.{Reason}
 use Rattle.jb_price.specs.declared.verdict.Reason.TheVariants.{OpeningPrice, Undercut, NotACut, OverLimit, TotalDiffers, EndPrice}
 
 -- the price is none, or more than p

@@ -38,7 +38,13 @@ pub(crate) enum Sum {
 }
 
 // Adds up what the groups of a cut take, up to the first that is over the limit.
-pub(crate) fn sum_of(alloc: Global, handles: &[Stopped], geometry: Geometry, limit: u32, bounds: &[usize]) -> Result<Sum, Memory>
+pub(crate) fn sum_of(
+    alloc: Global,
+    handles: &[Stopped],
+    geometry: Geometry,
+    limit: u32,
+    bounds: &[usize],
+) -> Result<Sum, Memory>
     requires size { IsWithinSize handles.now }
     requires cut { IsCut (length handles.now) bounds.now }
     ensures { IfOk result (λ sum. SumSays (piece_cost geometry handles.now) limit bounds.now sum) }
@@ -57,7 +63,13 @@ pub(crate) fn sum_of(alloc: Global, handles: &[Stopped], geometry: Geometry, lim
 }
 
 // The log blocks that some handles take as one group.
-fn piece_blocks(alloc: Global, handles: &[Stopped], geometry: Geometry, from: usize, to: usize) -> Result<u64, Memory>
+fn piece_blocks(
+    alloc: Global,
+    handles: &[Stopped],
+    geometry: Geometry,
+    from: usize,
+    to: usize,
+) -> Result<u64, Memory>
     requires size { IsWithinSize handles.now }
     requires some { from < to }
     requires to_in { to ≤ length handles.now }

@@ -10,7 +10,13 @@ use jb_handle::Stopped;
 use std::alloc::Global;
 
 // The first undercut of the prices: the least first bound, and of its second bounds the least.
-pub(crate) fn first_undercut(alloc: Global, handles: &[Stopped], geometry: Geometry, limit: u32, prices: &[Option<u64>]) -> Result<Option<(usize, usize)>, Memory>
+pub(crate) fn first_undercut(
+    alloc: Global,
+    handles: &[Stopped],
+    geometry: Geometry,
+    limit: u32,
+    prices: &[Option<u64>],
+) -> Result<Option<(usize, usize)>, Memory>
     requires size { IsWithinSize handles.now }
     requires number { length prices.now ≡ length handles.now + 1 }
     ensures { IfOk result (λ found. FirstAmong (piece_cost geometry handles.now) limit (length handles.now) prices.now (length handles.now) found) }
@@ -25,7 +31,11 @@ pub(crate) fn first_undercut(alloc: Global, handles: &[Stopped], geometry: Geome
 
 // The earlier of the first undercut so far and one of a later end: at the same first bound that with
 // the lesser end.
-fn earlier(first: Option<(usize, usize)>, found: Option<usize>, end: usize) -> Option<(usize, usize)>
+fn earlier(
+    first: Option<(usize, usize)>,
+    found: Option<usize>,
+    end: usize,
+) -> Option<(usize, usize)>
     ensures { result ≡ earlier_of first found end }
 {
     match (first, found) {
@@ -37,7 +47,14 @@ fn earlier(first: Option<(usize, usize)>, found: Option<usize>, end: usize) -> O
 
 // The least bound from which the handles up to `end` are an undercut. The piece grows leftwards, which
 // never makes it cheaper, so the first one over the limit ends the search.
-fn least_undercut(alloc: Global, handles: &[Stopped], end: usize, geometry: Geometry, limit: u32, prices: &[Option<u64>]) -> Result<Option<usize>, Memory>
+fn least_undercut(
+    alloc: Global,
+    handles: &[Stopped],
+    end: usize,
+    geometry: Geometry,
+    limit: u32,
+    prices: &[Option<u64>],
+) -> Result<Option<usize>, Memory>
     requires size { IsWithinSize handles.now }
     requires end_in { end ≤ length handles.now }
     requires number { length prices.now ≡ length handles.now + 1 }

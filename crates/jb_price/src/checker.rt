@@ -1,10 +1,10 @@
 ghost use Rattle.std.specs.Prelude.{◌≡◌, ◌+◌, ℕ, length, IfOk};
 ghost use Rattle.jb_handle.specs.Size.{IsWithinSize};
 ghost use Rattle.jb_cost.specs.Cut.{piece_cost, price};
-ghost use Rattle.jb_price.specs.Verdict.{CutSays, Says, IsRight};
+ghost use Rattle.jb_price.specs.Verdict.{CutSays, AnswerSays, Says, IsRight};
 
 use crate::certificate::{Cert, CertAnswer};
-use crate::check_cut::{is_cut, sum_of, Sum};
+use crate::check_cut::{Sum, is_cut, sum_of};
 use crate::check_prices::first_undercut;
 use crate::verdict::{Reason, Verdict};
 use jb_block::Memory;
@@ -21,30 +21,59 @@ use std::alloc::Global;
 /// # Errors
 ///
 /// `Memory` where there is none for the footprint of a group.
-pub fn check(alloc: Global, handles: &[Stopped], geometry: Geometry, limit: u32, cert: &Cert) -> Result<Verdict, Memory>
+pub fn check(
+    alloc: Global,
+    handles: &[Stopped],
+    geometry: Geometry,
+    limit: u32,
+    cert: &Cert,
+) -> Result<Verdict, Memory>
     requires size { IsWithinSize handles.now }
     requires number { length cert.now.prices.items ≡ length handles.now + 1 }
     ensures verdict { IfOk result (λ verdict. Says (piece_cost geometry handles.now) limit (length handles.now) cert.now.prices.items cert.now.answer verdict) }
     ensures accepted { IfOk result (λ verdict. verdict ≡ Verdict.Accepted → IsRight (piece_cost geometry handles.now) limit (length handles.now) cert.now.answer) }
 {
-    if cert.prices[0] != Some(0) {
+    let Some(0) = cert.prices[0] else {
         return Ok(Verdict::Refused(Reason::OpeningPrice));
+    };
+    match first_undercut(alloc, handles, geometry, limit, &cert.prices)? {
+        Some((from, to)) => Ok(Verdict::Refused(Reason::Undercut(from, to))),
+        None => check_answer(alloc, handles, geometry, limit, cert),
     }
-    if let Some((from, to)) = first_undercut(alloc, handles, geometry, limit, &cert.prices)? {
-        return Ok(Verdict::Refused(Reason::Undercut(from, to)));
-    }
+}
+
+// Checks the answer of a certificate whose prices no group undercuts.
+fn check_answer(
+    alloc: Global,
+    handles: &[Stopped],
+    geometry: Geometry,
+    limit: u32,
+    cert: &Cert,
+) -> Result<Verdict, Memory>
+    requires size { IsWithinSize handles.now }
+    requires number { length cert.now.prices.items ≡ length handles.now + 1 }
+    ensures { IfOk result (λ verdict. AnswerSays (piece_cost geometry handles.now) limit (length handles.now) cert.now.prices.items cert.now.answer verdict) }
+{
     let end_price = cert.prices[handles.len()];
-    match &cert.answer {
-        CertAnswer::Cut { bounds, total } => check_cut(alloc, handles, geometry, limit, end_price, bounds, *total),
-        CertAnswer::NoCut => match end_price {
-            None => Ok(Verdict::Accepted),
-            Some(_) => Ok(Verdict::Refused(Reason::EndPrice)),
-        },
+    match (&cert.answer, end_price) {
+        (CertAnswer::Cut { bounds, total }, _) => check_cut(
+            alloc, handles, geometry, limit, end_price, bounds, *total,
+        ),
+        (CertAnswer::NoCut, None) => Ok(Verdict::Accepted),
+        (CertAnswer::NoCut, Some(_)) => Ok(Verdict::Refused(Reason::EndPrice)),
     }
 }
 
 // Checks a claimed cut and its total against the last price.
-fn check_cut(alloc: Global, handles: &[Stopped], geometry: Geometry, limit: u32, end_price: Option<u64>, bounds: &[usize], total: u64) -> Result<Verdict, Memory>
+fn check_cut(
+    alloc: Global,
+    handles: &[Stopped],
+    geometry: Geometry,
+    limit: u32,
+    end_price: Option<u64>,
+    bounds: &[usize],
+    total: u64,
+) -> Result<Verdict, Memory>
     requires size { IsWithinSize handles.now }
     ensures { IfOk result (λ verdict. CutSays (piece_cost geometry handles.now) limit (length handles.now) end_price bounds.now total verdict) }
 {

@@ -1,10 +1,28 @@
-//! Laws over the meaning of certificates and verdicts alone.
+//! Laws over the definitions alone. Their functions do nothing: the law is the contract.
 
+ghost use Rattle.std.specs.Prelude.{◌≡◌, ◌↔◌, ◌+◌, ℕ, List, length, Ok};
+ghost use Rattle.jb_price.specs.declared.certificate.Cert.{Cert};
+ghost use Rattle.jb_price.specs.Certificate.{cert_text};
+ghost use Rattle.jb_price.specs.Reading.{Claim, read_of, claim_of};
+ghost use Rattle.jb_price.specs.Spelling.{SpellsClaim};
+ghost use Rattle.jb_price.specs.ReadBack.{HasText};
 ghost use Rattle.jb_price.specs.Verdict.{PlannedIsAccepted};
 
+/// The text of a certificate with a price, whose claimed cut has a number, says the same certificate: read for one
+/// handle fewer than prices, it gives it back.
+#[tactic(auto, using(crate::proofs::ReadBack::read_back))]
+pub fn read_back()
+    ensures { (cert : Cert) (handles : ℕ) → HasText cert → length cert.prices.items ≡ handles + 1 → read_of handles (cert_text cert) ≡ Ok (claim_of cert) }
+{}
+
+/// A certificate's text is read to exactly the claim that it spells by the grammar: a line of prices, a line of
+/// bounds and one of their total, or `cut none`; the last LF may be missing. Any other text has a fault.
+pub fn spelled()
+    ensures { (handles : ℕ) (text : List ℕ) (claim : Claim) → (read_of handles text ≡ Ok claim) ↔ SpellsClaim handles text claim }
+{}
+
 /// A cut that no cut beats, or the answer that none fits, is accepted with prices that are least
-/// totals: such a certificate has none of the faults, so every certificate of a plan is accepted.
+/// totals: such a certificate has none of the six faults, so every certificate of a plan is accepted.
 pub fn planned()
     ensures { PlannedIsAccepted }
-{
-}
+{}

@@ -2,14 +2,22 @@
 #![tactic(auto)]
 
 mod certificate;
-mod checker;
 mod check_cut;
 mod check_prices;
+#[cfg(test)]
+mod check_tests;
+mod checker;
+mod fault;
 pub mod laws;
 mod print;
+mod read;
+#[cfg(test)]
+mod text_tests;
 mod verdict;
 
 pub use certificate::{Cert, CertAnswer};
 pub use checker::check;
+pub use fault::CertFault;
 pub use print::print_cert;
+pub use read::read_cert;
 pub use verdict::{Reason, Verdict};

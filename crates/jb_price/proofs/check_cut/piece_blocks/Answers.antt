@@ -1,4 +1,4 @@
-use Rattle.std.proofs.Common.{◌≡◌, ℕ, ◌-◌, ◌<◌, ◌≤◌, slice_range, subst, sym, ap, ◌∙◌, arith}
+use Rattle.std.proofs.Common.{◌≡◌, slice_range, ap, ◌∙◌, arith}
 use Rattle.jb_cost.specs.Cut.{piece_cost}
 use Rattle.jb_cost.proofs.Walk.{room-left, stepped-left}
 use Rattle.jb_price.proofs.check_cut.piece_blocks.Goals as goal

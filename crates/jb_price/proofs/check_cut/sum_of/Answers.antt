@@ -1,8 +1,14 @@
-use Rattle.std.proofs.Common.{◌≡◌, ℕ, ◌-◌, ◌≤◌, length, take, drop, slice_index, arith}
+use Rattle.std.proofs.Common.{◌+◌, ◌-◌, length, take, drop, slice_index, subst}
 use Rattle.jb_cost.specs.Cut.{RisesTo}
 use Rattle.jb_cost.proofs.Cuts.{rises-le}
 use Rattle.jb_price.proofs.Walks.{drop-next}
 use Rattle.jb_price.proofs.check_cut.sum_of.Goals as goal
 
 pub piece_blocks-requires-clause-to_in : goal.piece_blocks-requires-clause-to_in
-piece_blocks-requires-clause-to_in c = ?
+piece_blocks-requires-clause-to_in c =
+    let n = length c.args.handles.now in
+    let items = take (length c.args.bounds.now - 1) (drop 1 c.args.bounds.now) in
+    let i = c.loop-to.to-index in
+    let to = slice_index items i in
+    let rises = subst (RisesTo n c.loop-to.from) (drop-next items i c.loop-to-test.true) c.loop-to.invariant.rises in
+    rises-le n to (drop (i + 1) items) rises.1

@@ -1,4 +1,4 @@
-use Rattle.std.proofs.Common.{◌≡◌, length}
+use Rattle.std.proofs.Common.{length}
 use Rattle.jb_cost.specs.Cut.{piece_cost}
 use Rattle.jb_price.proofs.Undercutting.{first-more}
 use Rattle.jb_price.proofs.check_prices.first_undercut.Goals as goal

@@ -1,6 +1,7 @@
 use Rattle.std.proofs.Common.{◌≡◌, ◌++◌, drop, map}
 use Rattle.std.specs.Prelude.{codes, string_bytes}
-use Rattle.jb_price.specs.Certificate.{price_text, spaced}
+use Rattle.jb_handle.specs.Parts.{spaced}
+use Rattle.jb_price.specs.Certificate.{price_text}
 use Rattle.jb_price.proofs.print.push_prices.Given as goal
 
 abbrev pub invariant-loop-price : goal.invariant-loop-price

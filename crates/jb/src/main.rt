@@ -1,0 +1,19 @@
+//! `jb`: a block journal in jbd2's format, from the command line.
+#![tactic(auto)]
+
+use std::process::ExitCode;
+use std::{env, io};
+
+// The words after the program's name.
+fn words(rt: &HostRuntime) -> io::Result<Vec<String>> {
+    Ok(env::args(rt)?.skip(1).collect(rt.alloc())?)
+}
+
+fn main(rt: HostRuntime) -> ExitCode {
+    let (mut input, mut out, mut err) = (rt.stdin(), rt.stdout(), rt.stderr());
+    let status = match words(&rt) {
+        Ok(words) => jb_tool::run(&rt, words.as_slice(), &mut input, &mut out, &mut err),
+        Err(error) => jb_tool::refuse_words(error.kind(), &mut err),
+    };
+    ExitCode::from(status)
+}

@@ -1,0 +1,102 @@
+-- How the blocks of an image take their versions, block by block.
+use Rattle.std.proofs.Common.{◌≡◌, ◌≢◌, ◌<◌, ◌≤◌, ℕ, suc, ◌+◌, ◌*◌, ◌%◌, List, [], ◌∷◌, length, get_or, set, take, drop, ◌++◌, refl, sym, ◌∙◌, ap, subst, ⊎_elim, arith, min, add-zero, Vec, Global, Bor, ◌==◌, true, false, get_or-set_same, get_or-set_other}
+use Rattle.std.proofs.lemmas.Bool.{cases_lt}
+use Rattle.std.proofs.lemmas.List.{drop-drop, drop_all, get_or-drop, get_or-map}
+use Rattle.std.proofs.lemmas.Bool.Decides.{nat_tests}
+use Rattle.std.proofs.lemmas.Nat.{mod_below}
+use Rattle.std.proofs.Math.Nat.{add-mul}
+use Rattle.std.proofs.Math.Seq.{take-append_seam}
+use Rattle.jb_disk.specs.Image.{Image, block, sector, HasShape}
+use Rattle.jb_disk.specs.Mixing.{bytes_of_writes, table_of, writes_at, any_below}
+use Rattle.jb_disk.specs.Versions.{version, one_if_any}
+use Rattle.jb_disk.specs.Writes.{shape_set}
+
+-- the blocks below a place have their versions, and the others are as they were
+pub record AreChosen (sectors count place : ℕ) (old : Image) (table : List (List (List ℕ))) (choice rest : List ℕ) (now : Image) : Type 0 where
+  pub shape : HasShape count (512 * sectors) now
+  pub chosen : (p k : ℕ) → p < place → k < sectors → sector k (block now p) ≡ sector k (version (block old p ∷ writes_at table p) (get_or choice (any_below table p * sectors + k) 0))
+  pub ahead : (p : ℕ) → place ≤ p → block now p ≡ block old p
+  pub numbers : rest ≡ drop (any_below table place * sectors) choice
+
+pub chosen-start : (sectors count : ℕ) (old : Image) (table : List (List (List ℕ))) (choice : List ℕ) → HasShape count (512 * sectors) old → AreChosen sectors count 0 old table choice choice old
+chosen-start sectors count old table choice shape = record {
+  shape = shape;
+  chosen = λ p k below less. absurd (let h : ⊥ = omega (arith, below) in h);
+  ahead = λ p above. refl;
+  numbers = let none : 0 ≡ 0 * sectors = omega arith in ap (λ n. drop n choice) none;
+}
+
+-- a number of a ring of one
+only_first : (bytes : List ℕ) (number : ℕ) → version (bytes ∷ []) number ≡ bytes
+only_first bytes number =
+    let first : number % 1 ≡ 0 = omega (arith, mod_below number 1 (omega arith)) in
+    ap (λ n. get_or (bytes ∷ []) n []) first
+
+next_place : (sectors count place : ℕ) (old : Image) (table : List (List (List ℕ))) (choice rest : List ℕ) (now : Image) → AreChosen sectors count (suc place) old table choice rest now → AreChosen sectors count (place + 1) old table choice rest now
+next_place sectors count place old table choice rest now are =
+    let sum : suc place ≡ place + 1 = omega arith in
+    subst (λ n. AreChosen sectors count n old table choice rest now) sum are
+
+-- a block without writes takes no number
+pub chosen-none : (sectors count place : ℕ) (old : Image) (table : List (List (List ℕ))) (choice rest : List ℕ) (now : Image) → AreChosen sectors count place old table choice rest now
+    → writes_at table place ≡ [] → AreChosen sectors count (place + 1) old table choice rest now
+chosen-none sectors count place old table choice rest now are none = next_place sectors count place old table choice rest now (record {
+  shape = are.shape;
+  chosen = λ p k below less. ⊎_elim (λ earlier. are.chosen p k earlier less)
+      (λ reaches. let here : place ≡ p = omega (arith, below, reaches) in
+      ap (sector k) (are.ahead p reaches
+      ∙ sym (only_first (block old p) (get_or choice (any_below table p * sectors + k) 0))
+      ∙ ap (λ ws. version (block old p ∷ ws) (get_or choice (any_below table p * sectors + k) 0)) (sym (ap (writes_at table) (sym here) ∙ none)))) (cases_lt p place);
+  ahead = λ p above. are.ahead p (omega (arith, above));
+  numbers = are.numbers ∙ ap (λ n. drop (n * sectors) choice) (sym (ap (λ ws. any_below table place + one_if_any ws) none ∙ add-zero (any_below table place)));
+})
+
+-- a block with writes takes as many as it has sectors
+pub chosen-some : (sectors count place : ℕ) (old : Image) (table : List (List (List ℕ))) (choice rest : List ℕ) (now : Image) (bytes : List ℕ) → AreChosen sectors count place old table choice rest now
+    → place < count → one_if_any (writes_at table place) ≡ 1 → length bytes ≡ 512 * sectors
+    → ((k : ℕ) → k < sectors → sector k bytes ≡ sector k (version (block now place ∷ writes_at table place) (get_or rest k 0)))
+    → AreChosen sectors count (place + 1) old table choice (drop sectors rest) (set now place bytes)
+chosen-some sectors count place old table choice rest now bytes are inside some size each =
+    let within : place < length now = omega (arith, are.shape.blocks, inside) in
+    next_place sectors count place old table choice (drop sectors rest) (set now place bytes) (record {
+      shape = shape_set count (512 * sectors) now place bytes are.shape inside size;
+      chosen = λ p k below less. ⊎_elim
+          (λ earlier. let other : p ≢ place = omega (arith, earlier) in
+          ap (sector k) (get_or-set_other now place p bytes [] other) ∙ are.chosen p k earlier less)
+          (λ reaches. let here : place ≡ p = omega (arith, below, reaches) in
+          subst (λ q. sector k (block (set now place bytes) q) ≡ sector k (version (block old q ∷ writes_at table q) (get_or choice (any_below table q * sectors + k) 0))) here
+          (ap (sector k) (get_or-set_same now place bytes [] within) ∙ each k less
+          ∙ ap (λ b. sector k (version (b ∷ writes_at table place) (get_or rest k 0))) (are.ahead place (omega arith))
+          ∙ ap (λ n. sector k (version (block old place ∷ writes_at table place) n))
+          (ap (λ r. get_or r k 0) are.numbers ∙ get_or-drop (any_below table place * sectors) choice k 0))) (cases_lt p place);
+      ahead = λ p above. let other : p ≢ place = omega (arith, above) in get_or-set_other now place p bytes [] other ∙ are.ahead p (omega (arith, above));
+      numbers =
+          let product : (any_below table place + one_if_any (writes_at table place)) * sectors ≡ any_below table place * sectors + sectors
+          = ap (λ n. (any_below table place + n) * sectors) some ∙ add-mul (any_below table place) 1 sectors ∙ ap (λ n. any_below table place * sectors + n) (let one : 1 * sectors ≡ sectors = omega arith in one) in
+          ap (drop sectors) are.numbers ∙ drop-drop sectors (any_below table place * sectors) choice ∙ ap (λ n. drop n choice) (sym product);
+    })
+
+pub drop-min : (n : ℕ) (xs : List ℕ) → drop (min n (length xs)) xs ≡ drop n xs
+drop-min n xs = ⊎_elim
+    (λ less. let is : min n (length xs) ≡ n = omega (arith, less) in ap (λ m. drop m xs) is)
+    (λ reaches. let is : min n (length xs) ≡ length xs = omega (arith, reaches) in
+    ap (λ m. drop m xs) is ∙ drop_all (length xs) xs (omega arith) ∙ sym (drop_all n xs reaches)) (cases_lt n (length xs))
+
+-- the writes of a place in the table, and whether there are any
+pub writes_here : (count : ℕ) (table : List (Vec (Bor (List ℕ)) Global)) (place : ℕ) (v : Vec (Bor (List ℕ)) Global) → length table ≡ count → place < count → v ≡ get_or table place v
+    → writes_at (table_of table) place ≡ bytes_of_writes v.items
+writes_here count table place v size inside is =
+    let within : place < length table = omega (arith, size, inside) in
+    get_or-map (λ x. bytes_of_writes x.items) table place v [] within ∙ ap (λ x. bytes_of_writes x.items) (sym is)
+
+pub none_here : (writes : List (Bor (List ℕ))) → (length writes == 0) ≡ true → bytes_of_writes writes ≡ []
+none_here [] empty = refl
+none_here (w ∷ writes) empty = absurd (let h : ⊥ = grind (arith, nat_tests) in h)
+
+pub some_here : (writes : List (Bor (List ℕ))) → (length writes == 0) ≡ false → one_if_any (bytes_of_writes writes) ≡ 1
+some_here [] some = absurd (let h : ⊥ = cc in h)
+some_here (w ∷ writes) some = refl
+
+-- what a call wrote to the slice of a `Vec` is what the `Vec` holds
+pub written_back : {X : Type 0} (n : ℕ) (xs ys : List X) → n ≡ length xs → take n (xs ++ ys) ≡ xs
+written_back n xs ys size = ap (λ m. take m (xs ++ ys)) size ∙ take-append_seam xs ys

@@ -1,0 +1,14 @@
+pub mod Buffers
+pub mod Choices
+pub mod Counts
+pub mod Crashes
+pub mod Goings
+pub mod Listed
+pub mod Mixes
+pub mod Moments
+pub mod Outcomes
+pub mod Replays
+pub mod Sectors
+pub mod Syncs
+pub mod Tables
+pub mod Undoing

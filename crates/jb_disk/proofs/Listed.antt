@@ -1,0 +1,42 @@
+-- The steps of a list of calls, call by call.
+use Rattle.std.proofs.Common.{◌≡◌, ◌<◌, ℕ, ◌+◌, List, [], ◌∷◌, ◌++◌, length, get_or, take, drop, map, reverse, sym, ◌∙◌, ap, subst}
+use Rattle.std.proofs.lemmas.List.{take_more, take-append-drop, map-append, reverse-append}
+use Rattle.jb_disk.specs.Calls.{step_of, steps_of}
+use Rattle.jb_disk.specs.History.{Step, Wrote, Synced, AreWhole}
+use Rattle.jb_disk.specs.declared.memory.Call.{Call}
+
+pub steps_of-append : (a b : List Call) → steps_of (a ++ b) ≡ steps_of b ++ steps_of a
+steps_of-append a b = ap reverse (map-append step_of a b) ∙ reverse-append (map step_of a) (map step_of b)
+
+-- one call more
+pub steps_of-more : (calls : List Call) (i : ℕ) (call : Call) → i < length calls → call ≡ get_or calls i call → steps_of (take (i + 1) calls) ≡ step_of call ∷ steps_of (take i calls)
+steps_of-more calls i call inside is =
+    ap steps_of (take_more calls i call inside ∙ ap (λ x. take i calls ++ x ∷ []) (sym is)) ∙ steps_of-append (take i calls) (call ∷ [])
+
+pub whole-older : (count size : ℕ) (newer older : List Step) → AreWhole count size (newer ++ older) → AreWhole count size older
+whole-older count size [] older whole = whole
+whole-older count size (Wrote place bytes ∷ newer) older whole = whole-older count size newer older whole.2
+whole-older count size (Synced ∷ newer) older whole = whole-older count size newer older whole
+
+pub whole-newer : (count size : ℕ) (newer older : List Step) → AreWhole count size (newer ++ older) → AreWhole count size newer
+whole-newer count size [] older whole = tt
+whole-newer count size (Wrote place bytes ∷ newer) older whole = (whole.0, whole.1, whole-newer count size newer older whole.2)
+whole-newer count size (Synced ∷ newer) older whole = whole-newer count size newer older whole
+
+pub steps_of-split : (calls : List Call) (i : ℕ) → steps_of calls ≡ steps_of (drop i calls) ++ steps_of (take i calls)
+steps_of-split calls i = ap steps_of (sym (take-append-drop i calls)) ∙ steps_of-append (take i calls) (drop i calls)
+
+-- a part of the calls is whole too
+pub whole-take : (count size : ℕ) (calls : List Call) (i : ℕ) → AreWhole count size (steps_of calls) → AreWhole count size (steps_of (take i calls))
+whole-take count size calls i whole =
+    whole-older count size (steps_of (drop i calls)) (steps_of (take i calls)) (subst (AreWhole count size) (steps_of-split calls i) whole)
+
+pub whole-drop : (count size : ℕ) (calls : List Call) (i : ℕ) → AreWhole count size (steps_of calls) → AreWhole count size (steps_of (drop i calls))
+whole-drop count size calls i whole =
+    whole-newer count size (steps_of (drop i calls)) (steps_of (take i calls)) (subst (AreWhole count size) (steps_of-split calls i) whole)
+
+-- the step of each call is one of them
+pub whole-at : (count size : ℕ) (calls : List Call) (i : ℕ) (call : Call) → AreWhole count size (steps_of calls) → i < length calls → call ≡ get_or calls i call → AreWhole count size (step_of call ∷ [])
+whole-at count size calls i call whole inside is =
+    whole-newer count size (step_of call ∷ []) (steps_of (take i calls))
+    (subst (AreWhole count size) (steps_of-more calls i call inside is) (whole-take count size calls (i + 1) whole))

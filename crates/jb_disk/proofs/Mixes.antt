@@ -1,0 +1,68 @@
+-- How a block takes its versions, sector by sector.
+use Rattle.std.proofs.Common.{◌≡◌, ◌<◌, ◌≤◌, ℕ, zero, suc, ◌+◌, ◌-◌, ◌*◌, ◌%◌, List, [], ◌∷◌, length, get_or, refl, sym, ◌∙◌, ap, subst, ⊎_elim, arith, Bor, All, Bool, true, false, cond, ◌++◌}
+use Rattle.std.proofs.lemmas.Bool.{cases_lt}
+use Rattle.std.proofs.lemmas.List.Elements.{All-append}
+use Rattle.std.proofs.lemmas.Nat.{mod_below}
+use Rattle.std.proofs.lemmas.List.{length-map, get_or-map}
+use Rattle.jb_disk.specs.Image.{sector}
+use Rattle.jb_disk.specs.Mixing.{put_sector, bytes_of_writes}
+use Rattle.jb_disk.specs.Versions.{version}
+use Rattle.jb_disk.proofs.Sectors.{put_sector-same, put_sector-below, put_sector-above}
+
+-- the sectors below the k-th have their versions, and the others are as they were
+pub record IsMixed (k : ℕ) (old : List ℕ) (contents : List (List ℕ)) (choice now : List ℕ) : Type 0 where
+  pub chosen : (j : ℕ) → j < k → sector j now ≡ sector j (version (old ∷ contents) (get_or choice j 0))
+  pub rest : (j : ℕ) → k ≤ j → sector j now ≡ sector j old
+
+pub mixed-start : (old : List ℕ) (contents : List (List ℕ)) (choice : List ℕ) → IsMixed 0 old contents choice old
+mixed-start old contents choice = record { chosen = λ j below. absurd (let h : ⊥ = omega (arith, below) in h); rest = λ j above. refl }
+
+-- a sector that keeps what it had
+pub mixed-keep : (k : ℕ) (old : List ℕ) (contents : List (List ℕ)) (choice now : List ℕ) → IsMixed k old contents choice now → version (old ∷ contents) (get_or choice k 0) ≡ old → IsMixed (k + 1) old contents choice now
+mixed-keep k old contents choice now mixed is = record {
+  chosen = λ j below. ⊎_elim (mixed.chosen j)
+      (λ reaches. let here : k ≡ j = omega (arith, below, reaches) in
+      mixed.rest j reaches ∙ ap (sector j) (sym (ap (λ i. version (old ∷ contents) (get_or choice i 0)) (sym here) ∙ is))) (cases_lt j k);
+  rest = λ j above. mixed.rest j (omega (arith, above));
+}
+
+-- a sector that takes a write's
+pub mixed-put : (k : ℕ) (old : List ℕ) (contents : List (List ℕ)) (choice now bytes : List ℕ) → IsMixed k old contents choice now
+    → version (old ∷ contents) (get_or choice k 0) ≡ bytes → length bytes ≡ length now → 512 * k + 512 ≤ length now → IsMixed (k + 1) old contents choice (put_sector k bytes now)
+mixed-put k old contents choice now bytes mixed is same within = record {
+  chosen = λ j below. ⊎_elim (λ less. put_sector-below j k bytes now less within ∙ mixed.chosen j less)
+      (λ reaches. let here : k ≡ j = omega (arith, below, reaches) in
+      subst (λ i. sector i (put_sector k bytes now) ≡ sector i (version (old ∷ contents) (get_or choice i 0))) here
+      (put_sector-same k bytes now same within ∙ ap (sector k) (sym is))) (cases_lt j k);
+  rest = λ j above. put_sector-above j k bytes now same (omega (arith, above)) within ∙ mixed.rest j (omega (arith, above));
+}
+
+-- the version of a number, by whether it is the first
+pub version-first : (old : List ℕ) (contents : List (List ℕ)) (number : ℕ) → number % (length contents + 1) ≡ 0 → version (old ∷ contents) number ≡ old
+version-first old contents number is =
+    let sum : suc (length contents) ≡ length contents + 1 = omega arith in
+    ap (λ n. get_or (old ∷ contents) n []) (ap (λ m. number % m) sum ∙ is)
+
+pub version-later : (old : List ℕ) (writes : List (Bor (List ℕ))) (number : ℕ) (d : Bor (List ℕ)) → (number % (length writes + 1) ≡ 0 → ⊥)
+    → version (old ∷ bytes_of_writes writes) number ≡ (get_or writes (number % (length writes + 1) - 1) d).now
+version-later old writes number d later =
+    let size : suc (length (bytes_of_writes writes)) ≡ length writes + 1 = omega (arith, length-map writes (λ v. v.now)) in
+    let below : number % (length writes + 1) < length writes + 1 = mod_below number (length writes + 1) (omega arith) in
+    let split : number % (length writes + 1) ≡ suc (number % (length writes + 1) - 1) = omega (arith, later) in
+    let inside : number % (length writes + 1) - 1 < length writes = omega (arith, below, later) in
+    ap (λ m. get_or (old ∷ bytes_of_writes writes) (number % m) []) size
+    ∙ ap (λ n. get_or (old ∷ bytes_of_writes writes) n []) split
+    ∙ get_or-map (λ v. v.now) writes (number % (length writes + 1) - 1) d [] inside
+
+-- a version is as long as all contents
+all_cons : (size : ℕ) (old : List ℕ) (contents : List (List ℕ)) → length old ≡ size → All (λ b. length b ≡ size) contents → All (λ b. length b ≡ size) (old ∷ contents)
+all_cons size old contents first later zero d below = first
+all_cons size old contents first later (suc k) d below = later k d (omega (arith, below))
+
+pub version-size : (size : ℕ) (old : List ℕ) (contents : List (List ℕ)) (number : ℕ) → length old ≡ size → All (λ b. length b ≡ size) contents → length (version (old ∷ contents) number) ≡ size
+version-size size old contents number first later =
+    all_cons size old contents first later (number % length (old ∷ contents)) [] (mod_below number (length (old ∷ contents)) (omega arith))
+
+pub all_more : (size : ℕ) (more : Bool) (contents : List (List ℕ)) (bytes : List ℕ) → All (λ b. length b ≡ size) contents → length bytes ≡ size → All (λ b. length b ≡ size) (cond more (contents ++ bytes ∷ []) contents)
+all_more size false contents bytes all whole = all
+all_more size true contents bytes all whole = All-append (λ b. length b ≡ size) contents (bytes ∷ []) all (all_cons size bytes [] whole (λ j e less. absurd (let h : ⊥ = omega (arith, less) in h)))

@@ -1,0 +1,20 @@
+-- The list of writes and syncs that a disk in memory keeps, as the steps of its life.
+use Rattle.std.specs.Prelude.{ℕ, List, map, reverse, Vec}
+use Rattle.std.specs.declared.alloc.Global.{Global}
+use Rattle.jb_disk.specs.Image.{Image}
+use Rattle.jb_disk.specs.History.{Step, Wrote, Synced}
+use Rattle.jb_disk.specs.declared.memory.Call.{Call}
+use Rattle.jb_disk.specs.declared.memory.Call.TheVariants.{Write, Sync}
+
+-- the step of one call
+abbrev pub step_of : Call → Step
+step_of (Write place bytes) = Wrote place bytes.items
+step_of Sync = Synced
+
+-- the steps of these calls, which stand in their order
+abbrev pub steps_of : List Call → List Step
+steps_of calls = reverse (map step_of calls)
+
+-- the blocks of a list of buffers
+abbrev pub image_of : List (Vec ℕ Global) → Image
+image_of blocks = map (λ b. b.items) blocks

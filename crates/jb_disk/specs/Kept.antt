@@ -1,0 +1,16 @@
+-- What each call of a disk keeps, whatever the disk answers.
+use Rattle.std.specs.Prelude.{◌≡◌, ◌↔◌, ℕ}
+use Rattle.jb_disk.specs.Image.{Image}
+
+-- the size of the blocks, their number, and honesty in both directions
+pub record Kept {D : Type 0} (size count : D → ℕ) (honest : D → Type 0) (old new : D) : Type 0 where
+  pub same_size : size new ≡ size old
+  pub same_count : count new ≡ count old
+  pub stays_honest : honest old → honest new
+  pub was_honest : honest new → honest old
+
+-- a call that was refused before it was tried: the contents and the moment are those of before
+pub record Untouched {D : Type 0} (newest : D → Image) (may_leave : D → Image → Type 0) (moment : D → ℕ) (old new : D) : Type 0 where
+  pub same_newest : newest new ≡ newest old
+  pub same_images : (c : Image) → may_leave new c ↔ may_leave old c
+  pub same_moment : moment new ≡ moment old

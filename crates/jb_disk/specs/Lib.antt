@@ -1,0 +1,15 @@
+pub mod Calls
+pub mod Faults
+pub mod File
+pub mod Fuse
+pub mod History
+pub mod Image
+pub mod Kept
+pub mod Lives
+pub mod Memory
+pub mod Mixing
+pub mod Once
+pub mod OneFault
+pub mod Time
+pub mod Versions
+pub mod Writes

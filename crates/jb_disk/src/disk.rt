@@ -1,0 +1,101 @@
+//! What a disk is taken to be: whole blocks of 512-byte sectors, and what a crash may leave of them.
+ghost use Rattle.std.specs.Prelude.{Bool, false, IsTrue, IsErr, ◌≡◌, ◌<◌, ◌≤◌, ℕ, List, length, OnOk, set};
+ghost use Rattle.jb_block.specs.Size.{bytes_of, IsBlockSize};
+ghost use Rattle.jb_disk.specs.Image.{Image, block, Torn, Same, Only, HasShape};
+ghost use Rattle.jb_disk.specs.Time.{Goes};
+ghost use Rattle.jb_disk.specs.Faults.{CountsFault};
+ghost use Rattle.jb_disk.specs.Kept.{Kept, Untouched};
+
+use crate::Fault;
+use jb_block::BlockSize;
+
+/// A disk of equal blocks, read and written one whole block at a time.
+///
+/// The clauses on contents hold of an honest disk, and each call keeps honesty in both directions.
+/// The clauses on size, number of blocks and faults hold of any disk.
+pub trait Disk {
+    /// How many bytes a block has.
+    ghost size: { Self → ℕ };
+
+    /// How many blocks there are.
+    ghost count: { Self → ℕ };
+
+    /// How many calls have failed; the count stays at 2^64 - 1.
+    ghost faults: { Self → ℕ };
+
+    /// The disk gives what was written, and a crash leaves no more than the clauses below allow.
+    ghost honest: { Self → Type 0 };
+
+    /// The blocks as reads give them.
+    ghost newest: { Self → Image };
+
+    /// The images that a crash at this moment may leave.
+    ghost may_leave: { Self → Image → Type 0 };
+
+    /// The moment, as a number that doesn't fall.
+    ghost moment: { Self → ℕ };
+
+    /// The images that a crash at some moment from that one on might have left.
+    ghost left_since: { Self → ℕ → Image → Type 0 };
+
+    /// The next read, write or sync fails and is not tried.
+    ghost is_stopped: { Self → Bool } = { λ _. false };
+
+    /// The size of the disk's blocks.
+    fn block_size(&self) -> BlockSize
+        ensures { bytes_of result ≡ size self.now };
+
+    /// How many blocks the disk has. Their places are 0 and on, up to but without this number.
+    fn blocks(&self) -> u64
+        ensures { result ≡ count self.now };
+
+    /// Reads the block at `place` into `buf`, which has the length of one block. After a fault `buf`
+    /// may hold anything.
+    fn read(&mut self, place: u64, buf: &mut [u8]) -> Result<(), Fault>
+        requires place { place < count self.old }
+        requires block { length buf.old ≡ size self.old }
+        ensures kept { Kept size count honest self.old self.new }
+        ensures stopped { IsTrue (is_stopped self.old) → IsErr result × Untouched newest may_leave moment self.old self.new }
+        ensures faults { CountsFault result (faults self.old) (faults self.new) }
+        ensures found { honest self.old → OnOk result (buf.new ≡ block (newest self.old) place) }
+        ensures newest { honest self.old → newest self.new ≡ newest self.old }
+        ensures goes { honest self.old → Goes may_leave moment left_since Same self.old self.new };
+
+    /// Writes `bytes`, which has the length of one block, to the block at `place`. Until a sync
+    /// succeeds, a crash may leave each of its sectors as it was or as it is written; after a fault a
+    /// read may find either, too.
+    fn write(&mut self, place: u64, bytes: &[u8]) -> Result<(), Fault>
+        requires place { place < count self.old }
+        requires block { length bytes.now ≡ size self.old }
+        ensures kept { Kept size count honest self.old self.new }
+        ensures stopped { IsTrue (is_stopped self.old) → IsErr result × Untouched newest may_leave moment self.old self.new }
+        ensures faults { CountsFault result (faults self.old) (faults self.new) }
+        ensures written { honest self.old → OnOk result (newest self.new ≡ set (newest self.old) place bytes.now) }
+        ensures torn { honest self.old → Torn place bytes.now (newest self.old) (newest self.new) }
+        ensures goes { honest self.old → Goes may_leave moment left_since (Torn place bytes.now) self.old self.new };
+
+    /// Makes the newest content the only one that a crash may leave. A sync that fails promises nothing
+    /// of what was written before it.
+    fn sync(&mut self) -> Result<(), Fault>
+        ensures kept { Kept size count honest self.old self.new }
+        ensures stopped { IsTrue (is_stopped self.old) → IsErr result × Untouched newest may_leave moment self.old self.new }
+        ensures faults { CountsFault result (faults self.old) (faults self.new) }
+        ensures newest { honest self.old → newest self.new ≡ newest self.old }
+        ensures durable { honest self.old → OnOk result (Only (newest self.old) (may_leave self.new)) }
+        ensures goes { honest self.old → Goes may_leave moment left_since Same self.old self.new };
+
+    /// The size is one that a journal's blocks may have.
+    ghost has_size: { (disk : Self) → IsBlockSize (size disk) };
+
+    /// A crash may leave what a read gives.
+    ghost newest_may_stay: { (disk : Self) → honest disk → may_leave disk (newest disk) };
+
+    /// What a crash may leave has as many blocks as the disk, each of the disk's size.
+    ghost has_shape: { (disk : Self) (c : Image) → honest disk → may_leave disk c → HasShape (count disk) (size disk) c };
+
+    /// This moment is one of those since an earlier one.
+    ghost counts_now: { (disk : Self) (t : ℕ) (c : Image) → honest disk → t ≤ moment disk → may_leave disk c → left_since disk t c };
+
+    /// Since this moment there is no other.
+    ghost only_now: { (disk : Self) (c : Image) → honest disk → left_since disk (moment disk) c → may_leave disk c };
+}

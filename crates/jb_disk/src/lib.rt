@@ -1,0 +1,21 @@
+//! Disks of whole blocks: what a read gives, what a crash may leave, and the disks that tests are run on.
+#![tactic(auto)]
+
+mod clock;
+mod disk;
+mod fault;
+mod file;
+mod fuse;
+mod memory;
+mod one_fault;
+mod sector;
+#[cfg(test)]
+mod tests;
+
+pub use clock::{Clock, FixedClock};
+pub use disk::Disk;
+pub use fault::Fault;
+pub use file::FileDisk;
+pub use fuse::FuseDisk;
+pub use memory::MemoryDisk;
+pub use one_fault::OneFaultDisk;

@@ -1,0 +1,149 @@
+//! The disks as a program meets them: crash rows by hand, failing calls by number, a real file.
+
+use crate::{Clock, Disk, Fault, FileDisk, FixedClock, FuseDisk, MemoryDisk, OneFaultDisk};
+use jb_block::{BlockSize, Stamp};
+use std::alloc::Global;
+use std::fs;
+use std::fs::{File, OpenOptions};
+use std::test::Fail;
+
+// Fills a block with one byte. A place that the disk doesn't have is a fault too.
+fn fill<D: Disk>(disk: &mut D, place: u64, byte: u8) -> Result<(), Fault> {
+    if place >= disk.blocks() {
+        return Err(Fault);
+    }
+    let size = disk.block_size().bytes() as usize;
+    disk.write(place, &[byte; 4096][..size])
+}
+
+// The first and the last byte of the first two sectors of a block.
+fn look<D: Disk>(disk: &mut D, place: u64) -> Result<[u8; 4], Fault> {
+    if place >= disk.blocks() {
+        return Err(Fault);
+    }
+    let size = disk.block_size().bytes() as usize;
+    let mut bytes = [0; 4096];
+    disk.read(place, &mut bytes[..size])?;
+    Ok([bytes[0], bytes[511], bytes[512], bytes[1023]])
+}
+
+// Which of three calls, a write, a sync and a read, succeed.
+fn three_calls<D: Disk>(disk: &mut D) -> [bool; 3] {
+    let written = fill(disk, 1, 7).is_ok();
+    let synced = disk.sync().is_ok();
+    let read = look(disk, 1).is_ok();
+    [written, synced, read]
+}
+
+// Two blocks of which the first was written twice and the second once since they were zeros.
+fn pending(alloc: Global) -> Result<MemoryDisk, Fail> {
+    let mut disk = MemoryDisk::new(alloc, BlockSize::OneKib, 2)?;
+    let written = fill(&mut disk, 0, 1).is_ok() && fill(&mut disk, 1, 2).is_ok();
+    if written && fill(&mut disk, 0, 3).is_ok() {
+        return Ok(disk);
+    }
+    Ok(MemoryDisk::new(alloc, BlockSize::OneKib, 0)?)
+}
+
+#[test]
+fn a_crash_takes_the_chosen_version_of_each_sector(rt: HostRuntime) -> Result<(), Fail> {
+    let disk = pending(rt.alloc())?;
+    let rows: [(&[u32], [u8; 4], [u8; 4]); 6] = [
+        (&[], [0, 0, 0, 0], [0, 0, 0, 0]),
+        (&[1], [1, 1, 0, 0], [0, 0, 0, 0]),
+        (&[0, 1], [0, 0, 1, 1], [0, 0, 0, 0]),
+        (&[0, 0, 1], [0, 0, 0, 0], [2, 2, 0, 0]),
+        (&[2, 2, 1, 1], [3, 3, 3, 3], [2, 2, 2, 2]),
+        (&[5, 7, 3, 8], [3, 3, 1, 1], [2, 2, 0, 0]),
+    ];
+    for (choice, first, second) in rows {
+        let mut left = disk.crash(choice)?;
+        assert_eq!(rt; look(&mut left, 0), Ok(first));
+        assert_eq!(rt; look(&mut left, 1), Ok(second));
+    }
+    Ok(())
+}
+
+#[test]
+fn a_sync_leaves_only_what_is_written_behind_it(rt: HostRuntime) -> Result<(), Fail> {
+    let mut disk = pending(rt.alloc())?;
+    assert_eq!(rt; disk.sync(), Ok(()));
+    assert_eq!(rt; fill(&mut disk, 1, 4), Ok(()));
+    let mut left = disk.crash(&[0, 1, 1, 1])?;
+    assert_eq!(rt; look(&mut left, 0), Ok([3, 3, 3, 3]));
+    assert_eq!(rt; look(&mut left, 1), Ok([2, 2, 4, 4]));
+    assert_eq!(rt; look(&mut left.crash(&[1, 1, 1, 1])?, 1), Ok([2, 2, 4, 4]));
+    Ok(())
+}
+
+#[test]
+fn a_fuse_fails_every_call_from_one_on(rt: HostRuntime) -> Result<(), Fail> {
+    let rows = [
+        (0, [false, false, false], [0; 4]),
+        (1, [true, false, false], [7; 4]),
+        (2, [true, true, false], [7; 4]),
+        (3, [true, true, true], [7; 4]),
+    ];
+    for (calls, succeed, content) in rows {
+        let mut disk = FuseDisk::of(MemoryDisk::new(rt.alloc(), BlockSize::TwoKib, 2)?, calls);
+        assert_eq!(rt; three_calls(&mut disk), succeed, "at {calls}");
+        assert_eq!(rt; look(&mut disk.into_inner(), 1), Ok(content), "at {calls}");
+    }
+    Ok(())
+}
+
+#[test]
+fn one_fault_fails_one_call(rt: HostRuntime) -> Result<(), Fail> {
+    let rows = [
+        (0, [false, true, true], [0; 4]),
+        (1, [true, false, true], [7; 4]),
+        (2, [true, true, false], [7; 4]),
+        (3, [true, true, true], [7; 4]),
+    ];
+    for (call, succeed, content) in rows {
+        let mut disk = OneFaultDisk::of(MemoryDisk::new(rt.alloc(), BlockSize::FourKib, 2)?, call);
+        assert_eq!(rt; three_calls(&mut disk), succeed, "at {call}");
+        assert_eq!(rt; look(&mut disk.into_inner(), 1), Ok(content), "at {call}");
+    }
+    Ok(())
+}
+
+#[test]
+fn a_file_is_read_written_synced_and_opened_again(rt: HostRuntime) -> Result<(), Fail> {
+    const PATH: &str = "data/blocks.img";
+    let _ = fs::create_dir(&rt, "data");
+    fs::write(&rt, PATH, [9; 2500].as_slice())?;
+    let mut disk = opened(OpenOptions::new().read(true).write(true).open(&rt, PATH)?);
+    assert_eq!(rt; disk.as_ref().map_or(0, |disk| disk.blocks()), 2);
+    if let Some(disk) = &mut disk {
+        assert_eq!(rt; three_calls(disk), [true, true, true]);
+        assert_eq!(rt; look(disk, 0), Ok([9; 4]));
+    }
+    let mut again = opened(File::open(&rt, PATH)?);
+    if let Some(disk) = &mut again {
+        assert_eq!(rt; look(disk, 1), Ok([7; 4]));
+        assert_eq!(rt; three_calls(disk), [false, true, true]);
+    }
+    assert_eq!(rt; fs::metadata(&rt, PATH)?.len(), 2500);
+    fs::write(&rt, PATH, [9; 1023].as_slice())?;
+    if let Some(disk) = &mut again {
+        assert_eq!(rt; look(disk, 0), Err(Fault));
+    }
+    assert_eq!(rt;
+        opened(File::open(&rt, PATH)?).map_or(9, |disk| disk.blocks()),
+        0
+    );
+    fs::remove_file(&rt, PATH)?;
+    let _ = fs::remove_dir(&rt, "data");
+    Ok(())
+}
+
+fn opened(file: File) -> Option<FileDisk> {
+    FileDisk::of(file, BlockSize::OneKib).ok()
+}
+
+#[test]
+fn a_fixed_clock_stands_still(rt: HostRuntime) {
+    let stamp = Stamp { sec: 5, nsec: 6 };
+    assert_eq!(rt; FixedClock { stamp }.now(), stamp);
+}

@@ -1,0 +1,69 @@
+-- The handles of a queue, read line by line.
+use Rattle.std.proofs.Common.{◌≡◌, ◌∙◌, sym, ap, ℕ, ◌+◌, ◌≤◌, List, [], ◌∷◌, ◌++◌, length, length-append, arith, refl, Result, Ok, Err}
+use Rattle.jb_block.specs.declared.width.Width.{Width}
+use Rattle.jb_handle.specs.declared.fault.Cause.{Cause}
+use Rattle.jb_handle.specs.declared.fault.Cause.TheVariants.{BlockSizeLine, LimitLine, HandleLine, OpWord, DataWord, Memory}
+use Rattle.jb_handle.specs.declared.fault.QueueFault.{QueueFault}
+use Rattle.jb_handle.specs.declared.stopped.Stopped.{Stopped}
+use Rattle.jb_handle.specs.Parts.{lines, FirstLine}
+use Rattle.jb_handle.specs.Queue.{Gives, Reports, handle_of, after_lines}
+use Rattle.jb_handle.specs.Word.{WordMap}
+
+pub lines-goes : (width : Width) (size : ℕ) (had : List Stopped) (line : List ℕ) (more : List (List ℕ)) (left : WordMap) → handle_of width size line ≡ Ok left → after_lines width size had (line ∷ more) ≡ after_lines width size (had ++ record { ticket = length had; words = left } ∷ []) more
+unfolding after_lines
+lines-goes width size had line more left is = rw is refl
+
+pub lines-fails : (width : Width) (size : ℕ) (had : List Stopped) (line : List ℕ) (more : List (List ℕ)) (cause : Cause) → handle_of width size line ≡ Err cause → after_lines width size had (line ∷ more) ≡ Err (record { line = length had + 3; cause = cause })
+unfolding after_lines
+lines-fails width size had line more cause is = rw is refl
+
+pub lines-end : (width : Width) (size : ℕ) (had : List Stopped) → after_lines width size had [] ≡ Ok had
+unfolding after_lines
+lines-end width size had = refl
+
+line-of : QueueFault → ℕ
+line-of fault = fault.line
+
+-- a fault of further lines does not stand before them
+fails-later : (width : Width) (size : ℕ) (had : List Stopped) (line : List ℕ) (more : List (List ℕ)) (other : QueueFault) (h : Result WordMap Cause) → handle_of width size line ≡ h → after_lines width size had (line ∷ more) ≡ Err other
+    → ((had' : List Stopped) → after_lines width size had' more ≡ Err other → length had' + 3 ≤ other.line) → length had + 3 ≤ other.line
+fails-later width size had line more other (Ok left) is fails later =
+    let further = later (had ++ record { ticket = length had; words = left } ∷ []) (sym (lines-goes width size had line more left is) ∙ fails) in
+    omega (arith, further, length-append had (record { ticket = length had; words = left } ∷ []))
+fails-later width size had line more other (Err cause) is fails later =
+    let same : ◌≡◌ {A = Result (List Stopped) QueueFault} (Err (record { line = length had + 3; cause = cause })) (Err other) = sym (lines-fails width size had line more cause is) ∙ fails in
+    let fault : ◌≡◌ {A = QueueFault} (record { line = length had + 3; cause = cause }) other = cc in
+    let at : length had + 3 ≡ other.line = ap (λ f. f.line) fault in
+    omega (arith, at)
+
+pub lines-later : (width : Width) (size : ℕ) (had : List Stopped) (left : List (List ℕ)) (other : QueueFault) → after_lines width size had left ≡ Err other → length had + 3 ≤ other.line
+lines-later width size had [] other fails = let never : ◌≡◌ {A = Result (List Stopped) QueueFault} (Ok had) (Err other) = sym (lines-end width size had) ∙ fails in cc
+lines-later width size had (line ∷ more) other fails =
+    fails-later width size had line more other (handle_of width size line) refl fails (λ had' further. lines-later width size had' more other further)
+
+module _ (width : Width) (size : ℕ) (had : List Stopped) (rest line behind : List ℕ) (whole : Result (List Stopped) QueueFault) (at : ℕ)
+    (first : FirstLine rest line behind) (so_far : after_lines width size had (lines rest) ≡ whole) (is : at ≡ length had) where
+  from_line : after_lines width size had (line ∷ lines behind) ≡ whole
+  from_line = ap (after_lines width size had) (sym first.parts) ∙ so_far
+
+  -- the handle of a line is pushed at those before it
+  pub line-goes : (left : WordMap) (now : List Stopped) → handle_of width size line ≡ Ok left → now ≡ had ++ record { ticket = at; words = left } ∷ [] → after_lines width size now (lines behind) ≡ whole
+  line-goes left now given pushed =
+      ap (λ hs. after_lines width size hs (lines behind)) (pushed ∙ ap (λ n. had ++ record { ticket = n; words = left } ∷ []) is)
+      ∙ sym (lines-goes width size had line (lines behind) left given) ∙ from_line
+
+  line-fails : (cause : Cause) → handle_of width size line ≡ Err cause → whole ≡ Err (record { line = at + 3; cause = cause })
+  line-fails cause given = sym from_line ∙ lines-fails width size had line (lines behind) cause given ∙ ap (λ n. Err (record { line = n + 3; cause = cause })) (sym is)
+
+  -- want of memory at a line stands before each fault that is left
+  pub line-first : (other : QueueFault) → whole ≡ Err other → at + 3 ≤ other.line
+  line-first other fails = let later = lines-later width size had (lines rest) other (so_far ∙ fails) in omega (arith, later, is)
+
+  -- a fault of a line is the first of the whole
+  pub line-reports : (cause : Cause) → Gives {A = WordMap} (Err cause) (handle_of width size line) → Reports whole (record { line = at + 3; cause = cause })
+  line-reports BlockSizeLine given = line-fails BlockSizeLine given
+  line-reports LimitLine given = line-fails LimitLine given
+  line-reports HandleLine given = line-fails HandleLine given
+  line-reports OpWord given = line-fails OpWord given
+  line-reports DataWord given = line-fails DataWord given
+  line-reports Memory given = line-first

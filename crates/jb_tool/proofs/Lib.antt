@@ -1,0 +1,5 @@
+pub mod Appended
+pub mod Best
+pub mod Refused
+pub mod Taken
+pub mod Verdicts

@@ -1,0 +1,22 @@
+-- The status and the line of each way in which a command ends without an answer.
+use Rattle.std.specs.Prelude.{ℕ, List, ◌++◌, codes}
+use Rattle.jb_tool.specs.declared.stop.Stop.{Stop}
+use Rattle.jb_tool.specs.declared.stop.Stop.TheVariants.{CannotRead, TooLong, Memory, WriteFault}
+
+-- the exit status
+abbrev pub status_of : Stop → ℕ
+status_of (CannotRead name) = 2
+status_of (TooLong name) = 2
+status_of Memory = 1
+status_of WriteFault = 1
+
+-- the line on standard error
+abbrev pub line_of : Stop → List ℕ
+line_of (CannotRead name) = codes "jb: cannot read " ++ (name.now ++ codes "\n")
+line_of (TooLong name) = codes "jb: too long " ++ (name.now ++ codes "\n")
+line_of Memory = codes "jb: " ++ (codes "Memory" ++ codes "\n")
+line_of WriteFault = codes "jb: " ++ (codes "WriteFault" ++ codes "\n")
+
+-- the line for a word of the command line that is not UTF-8
+abbrev pub not_utf8 : List ℕ
+not_utf8 = codes "error: " ++ (codes "invalid UTF-8 was detected in one or more arguments" ++ codes "\n")

@@ -1,0 +1,63 @@
+ghost use Rattle.std.specs.Prelude.{◌≡◌, ◌≢◌, Err, IfSome, [], codes, map};
+ghost use Rattle.jb_words.specs.Faults.{faults_in, kind_of};
+ghost use Rattle.jb_words.specs.Named.{asked_in};
+ghost use Rattle.jb_words.specs.Named.Asked.{AsksCost};
+ghost use Rattle.jb_tool.specs.Runs.{Closes, Runs};
+ghost use Rattle.jb_tool.specs.declared.stop.Stop.TheVariants.{Memory as StopMemory};
+
+use crate::running::run_plain;
+use crate::stop::Stop;
+use jb_words::{Error, ErrorKind, Plain, parse};
+use std::convert::AsStr;
+use std::io::{Read, Write};
+use std::rt::Files;
+
+/// Runs `jb` with these words, the program's name left out, and gives its exit status. With no words it acts as
+/// `jb cost -`. Words that are no command are answered by clap's text: status 2 and `err`, or status 0 and `out` for
+/// help and the version.
+pub fn run<R: Files + AllocGlobal, S: AsStr, I: Read, O: Write, E: Write>(
+    rt: &R,
+    words: &[S],
+    input: &mut I,
+    out: &mut O,
+    err: &mut E,
+) -> u8
+    ensures bare { words.now ≡ [] → Runs (AsksCost (codes "-")) (I.remaining input.old)
+        (record { out = O.contents out.old; err = E.contents err.old })
+        (record { out = O.contents out.new; err = E.contents err.new }) result }
+    ensures asked { words.now ≢ [] → faults_in (map S.text words.now) ≡ []
+        → IfSome (asked_in (map S.text words.now)) (λ asked. Runs asked (I.remaining input.old)
+        (record { out = O.contents out.old; err = E.contents err.old })
+        (record { out = O.contents out.new; err = E.contents err.new }) result) }
+{
+    if words.is_empty() {
+        return run_plain(rt, Plain::Cost { file: "-" }, input, out, err);
+    }
+    match parse(rt.alloc(), words) {
+        Ok(plain) => run_plain(rt, plain, input, out, err),
+        Err(error) => tell_refusal(&error, out, err),
+    }
+}
+
+// Writes what clap says of the words, and gives the exit status.
+fn tell_refusal<O: Write, E: Write>(error: &Error, out: &mut O, err: &mut E) -> u8
+    ensures memory { kind_of error.now ≡ ErrorKind.OutOfMemory → Closes (Err StopMemory)
+        (record { out = O.contents out.old; err = E.contents err.old })
+        (record { out = O.contents out.new; err = E.contents err.new }) result }
+    ensures mistake { kind_of error.now ≢ ErrorKind.OutOfMemory → kind_of error.now ≢ ErrorKind.DisplayHelp
+        → kind_of error.now ≢ ErrorKind.DisplayVersion → (result ≡ 2) × (out.new ≡ out.old) }
+{
+    if error.kind() == ErrorKind::OutOfMemory {
+        Stop::Memory.tell(err);
+        return Stop::Memory.status();
+    }
+    if error.use_stderr() {
+        let _ignored = write!(err, "{error}");
+        return 2;
+    }
+    if write!(out, "{error}").is_err() || out.flush().is_err() {
+        Stop::WriteFault.tell(err);
+        return Stop::WriteFault.status();
+    }
+    0
+}

@@ -1,0 +1,14 @@
+//! The command line of `jb`: the words that clap takes, each command as a value, and clap's refusals.
+#![tactic(auto)]
+
+mod commands;
+mod plain;
+mod words;
+
+pub use clap::Error;
+pub use clap::error::ErrorKind;
+pub use plain::Plain;
+pub use words::parse;
+
+#[cfg(test)]
+mod tests;

@@ -1,0 +1,77 @@
+ghost use Rattle.std.specs.Prelude.{◌≡◌, ◌⊎◌, IfErr, IfOk, None, Some, [], map, option_map};
+ghost use Rattle.clap.specs.Kinds.{FailsBy};
+ghost use Rattle.clap.specs.Words.{app_of, first_of, found_of, rows_of, subcommand_of, subcommand_rows_of};
+ghost use Rattle.jb_words.specs.App.{jb_app};
+ghost use Rattle.jb_words.specs.Faults.{HasKind, faults_in};
+ghost use Rattle.jb_words.specs.Named.{asked_in, asked_of, asks, check_in};
+
+use crate::commands::jb_command;
+use crate::plain::Plain;
+use clap::error::ErrorKind;
+use clap::{ArgMatches, Command, Error};
+use std::alloc::Global;
+use std::convert::AsStr;
+
+/// The command that the words after the program's name ask for.
+///
+/// # Errors
+/// What clap says of the words: help and the version too, and want of memory as `ErrorKind::OutOfMemory`.
+pub fn parse<'a, S: AsStr>(alloc: Global, words: &'a [S]) -> Result<Plain<'a>, Error>
+    ensures asked { IfOk result (λ plain. asked_in (map S.text words.entry.now) ≡ Some (asks plain)) }
+    ensures taken { IfOk result (λ _. faults_in (map S.text words.entry.now) ≡ []) }
+    ensures refused { IfErr result (λ error. HasKind (faults_in (map S.text words.entry.now)) error
+        ⊎ (asked_in (map S.text words.entry.now) ≡ None)) }
+{
+    let mut command = jb_command(alloc)?;
+    let matches = matches_of(&mut command, words)?;
+    match plain_of(&matches) {
+        Some(plain) => Ok(plain),
+        None => Err(command.error(ErrorKind::MissingSubcommand, "no command was given")?),
+    }
+}
+
+// What clap makes of the words.
+fn matches_of<'a, S: AsStr>(
+    command: &mut Command<'a>,
+    words: &'a [S],
+) -> Result<ArgMatches<'a>, Error>
+    requires { app_of command.old ≡ jb_app }
+    ensures found { IfOk result (λ m. subcommand_rows_of m ≡ subcommand_of jb_app (map S.text words.entry.now)) }
+    ensures faults { FailsBy (faults_in (map S.text words.entry.now)) result }
+{
+    command.try_get_matches_from_mut(words)
+}
+
+// The command that clap found, with its words.
+fn plain_of<'a>(matches: &ArgMatches<'a>) -> Option<Plain<'a>>
+    ensures { option_map asks result ≡ asked_of (subcommand_rows_of matches.now) }
+{
+    let (name, found) = matches.subcommand()?;
+    match name {
+        "cost" => Some(Plain::Cost {
+            file: word_of(found, "FILE")?,
+        }),
+        "plan" => Some(Plain::Plan {
+            file: word_of(found, "FILE")?,
+        }),
+        "check" => check_of(found),
+        _ => None,
+    }
+}
+
+// The words of `jb check`.
+fn check_of<'a>(found: &ArgMatches<'a>) -> Option<Plain<'a>>
+    ensures { option_map asks result ≡ check_in (rows_of (found_of found.now)) }
+{
+    Some(Plain::Check {
+        file: word_of(found, "FILE")?,
+        cert: word_of(found, "CERT")?,
+    })
+}
+
+// The word that was given under this name.
+fn word_of<'a>(found: &ArgMatches<'a>, name: &str) -> Option<&'a str>
+    ensures { option_map (λ word. word.now) result ≡ first_of name.now (rows_of (found_of found.now)) }
+{
+    found.get_str(name)
+}
