@@ -1,7 +1,7 @@
 -- What becomes of the line where groups are settled, taken and lost.
-use Rattle.std.proofs.Common.{◌≡◌, ℕ, zero, suc, ◌+◌, ◌-◌, ◌<◌, ◌≤◌, List, [], ◌∷◌, ◌++◌, map, length, take, drop, get_or, slice_range, le_refl, sym, refl, ap, subst, ◌∙◌, arith}
+use Rattle.std.proofs.Common.{◌≡◌, ℕ, zero, suc, ◌+◌, ◌-◌, ◌<◌, ◌≤◌, List, [], ◌∷◌, ◌++◌, map, length, take, drop, get_or, slice_range, slice_get, Option, Some, None, le_refl, sym, refl, ap, subst, ◌∙◌, arith}
 use Rattle.std.proofs.lemmas.List.{take-append-drop, length-drop, length-append, take_all, take-take, take-append-le, drop-append-le}
-use Rattle.std.proofs.Math.Seq.{take-nil, drop-append_seam, drop-length}
+use Rattle.std.proofs.Math.Seq.{drop-cons, take-nil, drop-append_seam, drop-length}
 use Rattle.jb_handle.specs.declared.stopped.Stopped.{Stopped}
 use Rattle.jb_cost.specs.Cut.{RisesTo, IsCut}
 use Rattle.jb_cost.proofs.Cuts.{rises-le}
@@ -225,3 +225,44 @@ module _ (s : Inside) (kept : IsInLine s) (bounds : List ℕ) (cut : IsCut (leng
     queue = ap (λ xs. drop t.taken_end xs) handles ∙ ap (λ n. drop n s.handles.items) taken_end ∙ drop-length s.handles.items;
     credits = ap (λ xs. drop t.settled_end xs) granted ∙ ap (λ n. drop n s.granted.items) settled_end;
   }
+
+-- ---- a group is read
+
+get-first : {A : Type 0} (xs : List A) (i : ℕ) (x : A) (rest : List A) → drop i xs ≡ x ∷ rest → slice_get xs i ≡ Some x
+get-first [] zero x rest is = absurd (let h : ⊥ = cc in h)
+get-first [] (suc i) x rest is = absurd (let h : ⊥ = cc in h)
+get-first (y ∷ ys) zero x rest is = ap Some (let same : y ≡ x = cc in same)
+get-first (y ∷ ys) (suc i) x rest is = get-first ys i x rest is
+
+get-over : {A : Type 0} (xs : List A) (i : ℕ) → length xs ≤ i → slice_get xs i ≡ None
+get-over [] i le = refl
+get-over (x ∷ xs) zero le = absurd (let h : ⊥ = omega arith in h)
+get-over (x ∷ xs) (suc i) le = get-over xs i (omega arith)
+
+module _ (s : Inside) (kept : IsInLine s) where
+  all-rise : RisesTo s.taken_end 0 s.ends.items
+  all-rise = subst (RisesTo s.taken_end 0) (take-append-drop s.settled s.ends.items) (rises-append s.settled_end s.taken_end 0 (take s.settled s.ends.items) (taken_ends s) kept.settled kept.taken)
+
+  all-pieces : pieces_from 0 s.ends.items s.handles.items ≡ (line_of s).settled ++ (line_of s).taken
+  all-pieces = ap (λ es. pieces_from 0 es s.handles.items) (sym (take-append-drop s.settled s.ends.items)) ∙ pieces-append s.settled_end 0 (take s.settled s.ends.items) (taken_ends s) s.handles.items kept.settled
+
+  pub no-group : (i : ℕ) → length s.ends.items ≤ i → slice_get ((line_of s).settled ++ (line_of s).taken) i ≡ None
+  no-group i over = let same = length-pieces 0 s.ends.items s.handles.items in rw (sym all-pieces) (get-over (pieces_from 0 s.ends.items s.handles.items) i (omega arith))
+
+  module _ (i start : ℕ) (there : i < length s.ends.items) (found : (last : ℕ) → RisesTo last 0 s.ends.items → IsParted last 0 i s.ends.items start) where
+    group-ends : drop i s.ends.items ≡ get_or s.ends.items i 0 ∷ drop (suc i) s.ends.items
+    group-ends = drop-cons s.ends.items i 0 there
+
+    group-rises : RisesTo s.taken_end start (get_or s.ends.items i 0 ∷ drop (suc i) s.ends.items)
+    group-rises = subst (RisesTo s.taken_end start) group-ends (found s.taken_end all-rise).rest
+
+    pub group-inside : (start ≤ get_or s.ends.items i 0) × (get_or s.ends.items i 0 ≤ length s.handles.items)
+    group-inside =
+        let below = group-rises.0 in
+        let above = rises-le s.taken_end (get_or s.ends.items i 0) (drop (suc i) s.ends.items) group-rises.1 in
+        let inside = kept.inside in
+        (omega arith, omega arith)
+
+    pub group-is : slice_get ((line_of s).settled ++ (line_of s).taken) i ≡ Some (slice_range s.handles.items start (get_or s.ends.items i 0))
+    group-is = rw (sym all-pieces) (get-first (pieces_from 0 s.ends.items s.handles.items) i _ _
+        (drop-pieces i start 0 s.ends.items s.handles.items (found s.taken_end all-rise).first ∙ ap (λ es. pieces_from start es s.handles.items) group-ends))

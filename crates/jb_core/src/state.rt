@@ -1,4 +1,5 @@
-ghost use Rattle.std.specs.Prelude.{◌≡◌, true, length};
+ghost use Rattle.std.specs.Option.{option_copied};
+ghost use Rattle.std.specs.Prelude.{slice_get, ◌++◌, ◌≡◌, true, length};
 ghost use Rattle.jb_core.specs.Machine.{fault_of};
 
 use crate::event::{CoreFault, Reply};
@@ -100,6 +101,14 @@ impl State {
         ensures { result ≡ length self.now.taken }
     {
         self.stops.taken()
+    }
+
+    /// The handles of a group, in the order of their stops, or `None` where there is no such group.
+    /// The settled groups come first, then the taken ones.
+    pub fn group(&self, i: usize) -> Option<&[Stopped]>
+        ensures { option_copied result ≡ slice_get (self.now.settled ++ self.now.taken) i }
+    {
+        self.stops.group(i)
     }
 
     /// The handles that no group has yet, in the order of their stops.

@@ -1,5 +1,6 @@
 //! The handles that have stopped, in the order of their stops: the settled ones, then the taken ones, then the queue.
-ghost use Rattle.std.specs.Prelude.{◌≡◌, ◌≤◌, ◌<◌, ◌^◌, [], length, take, sum, OnOk, OnErr, IsTrue};
+ghost use Rattle.std.specs.Option.{option_copied};
+ghost use Rattle.std.specs.Prelude.{slice_get, slice_range, ◌++◌, ◌≡◌, ◌≤◌, ◌<◌, ◌^◌, [], length, take, sum, OnOk, OnErr, IsTrue};
 ghost use Rattle.jb_cost.specs.Cut.{IsCut};
 
 use crate::sums::{end_after, push_ends, sum_between};
@@ -77,6 +78,17 @@ impl Stops {
         self.ends.len() - self.settled
     }
 
+    /// The handles of a group: the settled groups come first, then the taken ones.
+    pub fn group(&self, i: usize) -> Option<&[Stopped]>
+        ensures { option_copied result ≡ slice_get (self.now.settled ++ self.now.taken) i }
+    {
+        if i >= self.ends.len() {
+            return None;
+        }
+        let start = end_after(&self.ends, 0, 0, i);
+        Some(part(&self.handles, start, self.ends[i]))
+    }
+
     /// Makes room for one more handle.
     pub fn reserve(&mut self) -> Result<(), Memory>
         ensures same { IsSame self.old self.new }
@@ -143,4 +155,12 @@ impl Stops {
         self.granted.truncate(self.settled_end);
         self.taken_end = self.settled_end;
     }
+}
+
+// The handles from one place up to, but without, another.
+fn part(handles: &[Stopped], from: usize, to: usize) -> &[Stopped]
+    requires { (from ≤ to) × (to ≤ length handles.now) }
+    ensures { result.now ≡ slice_range handles.now from to }
+{
+    &handles[from..to]
 }

@@ -75,7 +75,9 @@ fn a_crash_keeps_what_was_settled(rt: HostRuntime) -> Result<(), Fail> {
     ];
     assert!(rt; answers.as_slice() == wanted.as_slice());
     assert!(rt; state.is_up() && state.settled() == 1 && state.earlier() == 1);
-    assert!(rt; state.taken() == 0 && state.queue().is_empty());
+    assert!(rt; state.taken() == 0 && state.queue().is_empty() && state.group(1).is_none());
+    let kept = state.group(0).map_or(0, |handles| handles.len());
+    assert!(rt; kept == 2);
     Ok(())
 }
 
