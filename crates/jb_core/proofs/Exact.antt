@@ -1,12 +1,12 @@
 -- How a cut is judged, bound by bound.
-use Rattle.std.proofs.Common.{◌≡◌, ℕ, zero, suc, ◌+◌, ◌-◌, ◌<◌, ◌≤◌, List, [], ◌∷◌, length, take, drop, get_or, sym, refl, ap, subst, ◌∙◌, arith}
+use Rattle.std.proofs.Common.{◌≡◌, ℕ, suc, ◌+◌, ◌-◌, ◌<◌, ◌≤◌, List, [], ◌∷◌, length, take, drop, get_or, sym, ap, subst, ◌∙◌, arith}
 use Rattle.std.proofs.Math.Seq.{drop-cons}
 use Rattle.std.proofs.Math.ListN.{drop_of_length-le}
 use Rattle.std.proofs.lemmas.List.Sums.{sum_by-take-le, sum_by-take-drop}
 use Rattle.std.specs.FinMap as map
 use Rattle.jb_handle.specs.Size.{IsWithinSize}
 use Rattle.jb_handle.specs.declared.stopped.Stopped.{Stopped}
-use Rattle.jb_cost.specs.Cut.{RisesTo, EachFrom, total_from, total, FitsCut, IsLeastCut}
+use Rattle.jb_cost.specs.Cut.{total, IsLeastCut}
 use Rattle.jb_cost.proofs.Cuts.{rises-le}
 use Rattle.jb_core.specs.Exactly.{CostsExactly, GoesOn}
 

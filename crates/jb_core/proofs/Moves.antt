@@ -1,5 +1,5 @@
 -- What becomes of the line where groups are settled, taken and lost.
-use Rattle.std.proofs.Common.{◌≡◌, ℕ, zero, suc, ◌+◌, ◌-◌, ◌<◌, ◌≤◌, List, [], ◌∷◌, ◌++◌, map, length, take, drop, get_or, slice_range, slice_get, Option, Some, None, le_refl, sym, refl, ap, subst, ◌∙◌, arith}
+use Rattle.std.proofs.Common.{◌≡◌, ℕ, zero, suc, ◌+◌, ◌-◌, ◌<◌, ◌≤◌, List, [], ◌∷◌, ◌++◌, map, length, take, drop, get_or, slice_range, slice_get, Some, None, le_refl, sym, refl, ap, subst, ◌∙◌, arith}
 use Rattle.std.proofs.lemmas.List.{take-append-drop, length-drop, length-append, take_all, take-take, take-append-le, drop-append-le}
 use Rattle.std.proofs.Math.Seq.{drop-cons, take-nil, drop-append_seam, drop-length}
 use Rattle.jb_handle.specs.declared.stopped.Stopped.{Stopped}

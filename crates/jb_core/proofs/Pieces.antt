@@ -1,12 +1,11 @@
 -- Pieces of a list: joined, of a longer list, of a part of the list, and parted themselves.
-use Rattle.std.proofs.Common.{◌≡◌, ℕ, zero, suc, ◌+◌, ◌-◌, ◌<◌, ◌≤◌, List, [], ◌∷◌, ◌++◌, map, length, take, drop, get_or, slice_range, sym, refl, ap, subst, ◌∙◌, le_trans, arith}
-use Rattle.std.proofs.lemmas.List.{take-append-drop, length-drop}
+use Rattle.std.proofs.Common.{◌≡◌, ℕ, zero, suc, ◌+◌, ◌-◌, ◌<◌, ◌≤◌, List, [], ◌∷◌, ◌++◌, map, length, take, drop, get_or, slice_range, sym, refl, ap, subst, ◌∙◌, arith}
 use Rattle.std.proofs.lemmas.List.Folds.{drop_split}
 use Rattle.std.proofs.Math.Seq.{drop-length, drop-nil}
 use mathlib.Core.List.{append_assoc, append-nil}
 use Rattle.jb_cost.specs.Cut.{RisesTo}
 use Rattle.jb_cost.proofs.Cuts.{rises-le}
-use Rattle.jb_core.specs.Line.{joined, pieces_from, pieces}
+use Rattle.jb_core.specs.Line.{joined, pieces_from}
 use Rattle.jb_core.specs.Parted.{IsParted}
 
 module _ {A : Type 0} where

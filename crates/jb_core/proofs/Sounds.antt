@@ -1,5 +1,5 @@
 -- Each event leaves the machine sound.
-use Rattle.std.proofs.Common.{◌≡◌, ℕ, zero, suc, ◌+◌, ◌-◌, ◌^◌, ◌<◌, ◌≤◌, Bool, true, false, not, nat_lt, nat_le, cond, ◌||◌, ◌⊎◌, inl, inr, List, [], ◌∷◌, ◌++◌, length, take, drop, sum, Option, Some, None, is_some, is_none, Ordering, Less, Equal, Greater, sym, refl, ap, subst, ◌∙◌, le_refl, le_trans, arith}
+use Rattle.std.proofs.Common.{◌≡◌, ℕ, zero, suc, ◌+◌, ◌^◌, ◌<◌, ◌≤◌, Bool, true, false, nat_lt, nat_le, cond, ◌||◌, ◌⊎◌, inl, inr, List, [], ◌∷◌, ◌++◌, length, take, drop, sum, Option, Some, None, is_some, Ordering, Less, Equal, Greater, sym, refl, ap, subst, ◌∙◌, le_refl, arith}
 use Rattle.std.proofs.lemmas.Bool.Decides.{nat_tests}
 use Rattle.std.proofs.lemmas.List.{length-append, length-drop, append_assoc, append-nil}
 use Rattle.std.proofs.Math.Seq.{drop-append-add}
@@ -21,7 +21,7 @@ use Rattle.jb_handle.specs.Size.{weight, IsWithinSize}
 use Rattle.jb_cost.specs.Cut.{IsCut}
 use Rattle.jb_core.specs.declared.event.CoreFault.{CoreFault}
 use Rattle.jb_core.specs.declared.event.CoreFault.TheVariants.{Busy, TooManyCredits, Full}
-use Rattle.jb_core.specs.declared.event.Event.TheVariants.{Open, Touch, Stop, Abandon, Take, Settle, Checkpoint, Crash, Restart}
+use Rattle.jb_core.specs.declared.event.Event.TheVariants.{Open, Touch, Stop, Abandon, Settle, Checkpoint, Crash, Restart}
 use Rattle.jb_core.specs.Line.{joined, pieces, count}
 use Rattle.jb_core.specs.Machine.{Machine, handle_at, held_at, reserved, is_full, refusal_up, fault_of, stopped_at, after, after_take}
 use Rattle.jb_core.specs.Sound.{Covers, waiting, IsBare, IsSound}

@@ -1,5 +1,5 @@
 -- Over every run the machine keeps its lives whole.
-use Rattle.std.proofs.Common.{◌≡◌, ℕ, suc, ◌+◌, ◌≤◌, ◌<◌, Bool, true, false, not, cond, nat_lt, nat_le, ◌==◌, ◌||◌, List, [], ◌∷◌, ◌++◌, map, length, take, drop, Option, Some, None, is_some, is_none, Result, Ok, Err, sym, refl, ap, subst, ◌∙◌, le_refl, arith}
+use Rattle.std.proofs.Common.{◌≡◌, ℕ, ◌≤◌, Bool, true, false, not, nat_lt, ◌==◌, List, [], ◌∷◌, ◌++◌, length, take, drop, Option, Some, None, is_some, is_none, Ok, Err, sym, refl, ap, subst, ◌∙◌, le_refl, arith}
 use Rattle.std.proofs.lemmas.Bool.Decides.{nat_tests}
 use Rattle.std.proofs.lemmas.List.{length-append, append_assoc, append-nil, map-append, take-append-drop, take-append-le, drop-append-le}
 use Rattle.std.proofs.Math.Seq.{drop-length, take-length}
@@ -9,22 +9,20 @@ use Rattle.std.specs.BTreeMap.{is_at}
 use Rattle.std.specs.FinMap as map
 use Rattle.jb_handle.specs.declared.shape.Shape.{Shape}
 use Rattle.jb_handle.specs.declared.op.Op.{Op}
-use Rattle.jb_handle.specs.declared.stopped.Stopped.{Stopped}
 use Rattle.jb_handle.specs.Held.{Held, held, home_of, word_of, first_of}
 use Rattle.jb_handle.specs.Held as handle
 use Rattle.jb_handle.specs.LastOp.{words_by}
-use Rattle.jb_cost.specs.Cut.{IsCut}
 use Rattle.jb_core.specs.declared.event.Event.{Event}
 use Rattle.jb_core.specs.declared.event.Event.TheVariants.{Open, Touch, Stop, Abandon, Take, Settle, Checkpoint, Crash, Restart}
 use Rattle.jb_core.specs.declared.event.Reply.{Reply}
-use Rattle.jb_core.specs.declared.event.Reply.TheVariants.{Plain, Ticket}
+use Rattle.jb_core.specs.declared.event.Reply.TheVariants.{Ticket}
 use Rattle.jb_core.specs.declared.event.CoreFault.{CoreFault}
-use Rattle.jb_core.specs.declared.event.CoreFault.TheVariants.{Down, Up, Busy, NoHandle, TooManyCredits, Full, Empty, BatchOut}
+use Rattle.jb_core.specs.declared.event.CoreFault.TheVariants.{Down, Busy, NoHandle, TooManyCredits, Full, Empty, BatchOut}
 use Rattle.jb_core.specs.Line.{joined, pieces}
-use Rattle.jb_core.specs.Machine.{Machine, handle_at, held_at, reserved, is_full, fault_of, refusal, refusal_by, refusal_up, refusal_down, stopped_at, after, after_take, reply_of}
+use Rattle.jb_core.specs.Machine.{Machine, handle_at, held_at, reserved, is_full, refusal, refusal_by, refusal_up, refusal_down, stopped_at, after, reply_of}
 use Rattle.jb_core.specs.Sound.{IsBare}
 use Rattle.jb_core.specs.Steps.{Steps, IsLeast}
-use Rattle.jb_core.specs.Lives.{Log, Answer, is_seat, ops_of, ticket_in, stop_order, past_orders, stopped_by, handles_of, settled_now, PastKept, IsWhole, log_from}
+use Rattle.jb_core.specs.Lives.{Log, Answer, ops_of, ticket_in, stop_order, past_orders, stopped_by, handles_of, settled_now, PastKept, IsWhole, log_from}
 use Rattle.jb_core.specs.Ran.{IsStart, Ran}
 use Rattle.jb_core.proofs.Sounds.{opens, found-none, cut-joined, none-left}
 use Rattle.jb_core.proofs.Seats.{seat-self, Once, AreBy, once-insert, once-set, once-remove, by-same, by-found, by-remove, by-insert, by-set}

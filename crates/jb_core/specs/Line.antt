@@ -1,5 +1,5 @@
 -- The handles that have stopped, in line: settled in groups, taken in groups, and queued.
-use Rattle.std.specs.Prelude.{◌≡◌, ℕ, ◌+◌, Bool, List, [], ◌∷◌, ◌++◌, length, take, drop, slice_range}
+use Rattle.std.specs.Prelude.{◌≡◌, ℕ, Bool, List, [], ◌∷◌, ◌++◌, length, take, drop, slice_range}
 use Rattle.jb_handle.specs.declared.stopped.Stopped.{Stopped}
 
 -- the lists one after the other

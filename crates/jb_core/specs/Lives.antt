@@ -1,12 +1,12 @@
 -- The lives of a machine, by its events and answers alone, and how the machine stands to them.
-use Rattle.std.specs.Prelude.{◌≡◌, ℕ, ◌≤◌, Bool, true, false, cond, List, [], ◌∷◌, ◌++◌, map, take, drop, Result, Ok, Err}
+use Rattle.std.specs.Prelude.{◌≡◌, ℕ, Bool, true, false, cond, List, [], ◌∷◌, ◌++◌, map, take, drop, Result, Ok, Err}
 use Rattle.std.specs.Ordering.{nat_cmp}
 use Rattle.std.specs.BTreeMap.{is_at}
 use Rattle.jb_handle.specs.declared.op.Op.{Op}
 use Rattle.jb_handle.specs.declared.stopped.Stopped.{Stopped}
 use Rattle.jb_handle.specs.LastOp.{words_by}
 use Rattle.jb_core.specs.declared.event.Event.{Event}
-use Rattle.jb_core.specs.declared.event.Event.TheVariants.{Open, Touch, Stop, Crash, Restart}
+use Rattle.jb_core.specs.declared.event.Event.TheVariants.{Open, Touch, Stop, Restart}
 use Rattle.jb_core.specs.declared.event.Reply.{Reply}
 use Rattle.jb_core.specs.declared.event.Reply.TheVariants.{Plain, Ticket}
 use Rattle.jb_core.specs.declared.event.CoreFault.{CoreFault}

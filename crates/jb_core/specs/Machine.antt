@@ -1,5 +1,5 @@
 -- The machine: what it is made of, which events it refuses, and what the others make of it.
-use Rattle.std.specs.Prelude.{◌≡◌, ℕ, ◌+◌, ◌^◌, Bool, true, false, not, nat_lt, nat_le, ◌==◌, ◌||◌, List, [], ◌∷◌, ◌++◌, length, take, drop, sum, Option, Some, None, is_some, is_none}
+use Rattle.std.specs.Prelude.{ℕ, ◌+◌, ◌^◌, Bool, true, false, not, nat_lt, nat_le, ◌==◌, ◌||◌, List, [], ◌∷◌, ◌++◌, length, take, drop, sum, Option, Some, None, is_some, is_none}
 use Rattle.std.specs.List.{sum_by}
 use Rattle.std.specs.Option.{unwrap_or, option_map}
 use Rattle.std.specs.Ordering.{nat_cmp}
@@ -7,7 +7,6 @@ use Rattle.std.specs.BTreeMap.{insert_entry, is_at}
 use Rattle.std.specs.Map.{lookup, set_value, remove_entry, values_of}
 use Rattle.std.specs.FinMap as map
 use Rattle.jb_handle.specs.declared.shape.Shape.{Shape}
-use Rattle.jb_handle.specs.declared.op.Op.{Op}
 use Rattle.jb_handle.specs.declared.stopped.Stopped.{Stopped}
 use Rattle.jb_handle.specs.declared.changes.TouchFault.{TouchFault}
 use Rattle.jb_handle.specs.declared.changes.TouchFault.TheVariants as touch

@@ -1,5 +1,5 @@
 -- How the machine is kept.
-use Rattle.std.specs.Prelude.{◌≡◌, ◌<◌, ◌^◌}
+use Rattle.std.specs.Prelude.{◌≡◌}
 use Rattle.std.specs.Ordering.{nat_cmp}
 use Rattle.std.specs.BTreeMap.{IsOrdered}
 use Rattle.jb_core.specs.Machine.{Machine, reserved}

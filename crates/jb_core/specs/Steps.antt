@@ -1,5 +1,5 @@
 -- One event on the machine, with its answer.
-use Rattle.std.specs.Prelude.{◌≡◌, ℕ, ◌≤◌, length, List, [], ◌∷◌, Option, Some, None, Result, Ok, Err}
+use Rattle.std.specs.Prelude.{◌≡◌, ℕ, ◌≤◌, length, List, Some, None, Result, Ok, Err}
 use Rattle.jb_cost.specs.Cut.{IsLeastCut, piece_cost}
 use Rattle.jb_cost.specs.Cost.{worst_cost_of}
 use Rattle.jb_cost.specs.declared.geometry.Geometry.{Geometry}

@@ -1,6 +1,5 @@
 -- How the line is kept: all handles in one list, and the places where the groups end.
-use Rattle.std.specs.Prelude.{◌≡◌, ℕ, ◌≤◌, nat_lt, ◌&&◌, List, length, take, drop, vec_len, vec_capacity}
-use Rattle.jb_handle.specs.declared.stopped.Stopped.{Stopped}
+use Rattle.std.specs.Prelude.{◌≡◌, ◌≤◌, nat_lt, ◌&&◌, length, take, drop, vec_len, vec_capacity}
 use Rattle.jb_cost.specs.Cut.{RisesTo}
 use Rattle.jb_core.specs.Line.{Line, pieces_from}
 use Rattle.jb_core.specs.declared.stops.Stops.TheInside.{Inside}

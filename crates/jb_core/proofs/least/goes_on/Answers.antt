@@ -1,9 +1,7 @@
-use Rattle.std.proofs.Common.{rules, ◌≡◌, ℕ, ◌+◌, ◌-◌, ◌<◌, ◌≤◌, List, [], ◌∷◌, length, drop, get_or, sym, ap, subst, ◌∙◌, arith}
-use Rattle.jb_handle.specs.declared.stopped.Stopped.{Stopped}
-use Rattle.jb_cost.specs.declared.geometry.Geometry.{Geometry}
+use Rattle.std.proofs.Common.{rules, length, subst, arith}
 use Rattle.jb_cost.specs.Cut.{piece_cost}
 use Rattle.jb_core.specs.Exactly.{GoesOn}
-use Rattle.jb_core.proofs.Exact.{ends-at, ends-over, piece-size, next-to, next-from, on-rises, on-fits, end-to, end-from}
+use Rattle.jb_core.proofs.Exact.{ends-at, piece-size, next-to, next-from, on-rises, on-fits}
 use Rattle.jb_core.proofs.least.goes_on.Goals as goal
 
 pub returns-then-end-start : goal.returns-then-end-start

@@ -1,4 +1,4 @@
-use Rattle.std.proofs.Common.{◌≡◌, ◌≤◌, drop, length}
+use Rattle.std.proofs.Common.{◌≤◌, drop, length}
 use Rattle.jb_cost.specs.Cut.{piece_cost}
 use Rattle.jb_core.specs.Exactly.{GoesOn}
 use Rattle.jb_core.proofs.least.goes_on.Given as goal

@@ -1,6 +1,6 @@
-use Rattle.std.proofs.Common.{rules, ◌≡◌, List, [], ◌∷◌, ◌++◌, length, sym, ap, subst, ◌∙◌, arith}
+use Rattle.std.proofs.Common.{rules, ◌≡◌, [], ◌∷◌, ◌++◌, length, sym, ap, subst, ◌∙◌, arith}
 use Rattle.std.proofs.lemmas.List.{length-append}
-use Rattle.jb_core.specs.Lives.{Log, Answer, log_from}
+use Rattle.jb_core.specs.Lives.{Log}
 use Rattle.jb_core.specs.Ran.{Ran}
 use Rattle.jb_core.proofs.Wholes.{log-more}
 use Rattle.jb_core.proofs.running.run.Goals as goal

@@ -1,6 +1,5 @@
-use Rattle.std.proofs.Common.{rules, ◌≡◌, ℕ, ◌+◌, ◌-◌, ◌<◌, ◌≤◌, suc, sym, refl, ap, ◌∙◌, subst, length, drop, slice_index_or, Fits, w64, arith}
-use Rattle.std.proofs.lemmas.List.{length-drop, get_or-drop}
-use Rattle.jb_cost.specs.Cut.{RisesTo}
+use Rattle.std.proofs.Common.{◌≡◌, ◌+◌, ◌-◌, suc, sym, refl, ap, ◌∙◌, subst, drop, slice_index_or, arith}
+use Rattle.std.proofs.lemmas.List.{get_or-drop}
 use Rattle.jb_core.specs.Parted.{IsParted}
 use Rattle.jb_cost.proofs.Cuts.{rises-le}
 use Rattle.jb_core.proofs.Pieces.{rises-part}

@@ -1,7 +1,5 @@
-use Rattle.std.proofs.Common.{rules, ◌≡◌, ℕ, ◌+◌, ◌-◌, ◌≤◌, true, false, Some, None, refl, sym, ap, subst, ◌∙◌, take, sum, arith}
-use Rattle.jb_handle.specs.Held.{Held}
-use Rattle.jb_core.specs.Line.{Line, count}
-use Rattle.jb_core.specs.Machine.{Machine, handle_at, reserved, after, after_take}
+use Rattle.std.proofs.Common.{rules, ◌≡◌, ◌+◌, true, None, ap, ◌∙◌, arith}
+use Rattle.jb_core.specs.Machine.{Machine, handle_at, reserved, after}
 use Rattle.jb_core.specs.State.{machine_of}
 use Rattle.jb_core.specs.declared.event.Event.TheVariants.{Open}
 use Rattle.jb_core.proofs.Sounds.{kept-by, open-sound, open-reserved}

@@ -1,14 +1,11 @@
-use Rattle.std.proofs.Common.{rules, ◌≡◌, ℕ, ◌+◌, ◌-◌, ◌≤◌, true, false, Some, None, refl, sym, ap, subst, ◌∙◌, take, sum, arith}
-use Rattle.jb_handle.specs.Held.{Held}
-use Rattle.jb_core.specs.Line.{Line, count}
-use Rattle.jb_core.specs.Machine.{Machine, handle_at, held_at, reserved, after, after_take}
+use Rattle.std.proofs.Common.{rules, ◌≡◌, true, Some, sym, ap, ◌∙◌, arith}
+use Rattle.jb_core.specs.Machine.{Machine, handle_at, held_at, reserved, after}
 use Rattle.jb_core.specs.State.{machine_of}
 use Rattle.std.specs.Ordering.{nat_cmp}
 use Rattle.std.specs.Option.{unwrap_or}
 use Rattle.std.specs.FinMap as map
 use Rattle.jb_handle.specs.Held.{held, after as held_after}
 use Rattle.std.specs.BTreeMap.{is_at}
-use Rattle.std.specs.Map.{set_value}
 use Rattle.std.proofs.lemmas.Map.Steps.{set_value_same}
 use Rattle.jb_core.specs.declared.event.Event.TheVariants.{Touch}
 use Rattle.jb_core.proofs.Sounds.{kept-by, touch-sound, touch-reserved, touch-refuses}

@@ -1,10 +1,8 @@
-use Rattle.std.proofs.Common.{rules, ◌≡◌, ℕ, ◌≤◌, ◌<◌, ◌++◌, List, length, drop, slice_get, slice_range, get_or, Option, Some, None, sym, ap, subst, ◌∙◌, arith}
+use Rattle.std.proofs.Common.{rules, ◌≡◌, ◌++◌, length, slice_get, slice_range, get_or, Some, sym, ap, subst, ◌∙◌, arith}
 use Rattle.std.proofs.lemmas.List.{get_or_default}
-use Rattle.jb_handle.specs.declared.stopped.Stopped.{Stopped}
 use Rattle.jb_cost.specs.Cut.{RisesTo}
 use Rattle.jb_core.specs.Line.{Line}
 use Rattle.jb_core.specs.Parted.{IsParted}
-use Rattle.jb_core.specs.Stops.{line_of}
 use Rattle.jb_core.proofs.Moves.{no-group, group-inside, group-is}
 use Rattle.jb_core.proofs.stops.Stops.group.Goals as goal
 

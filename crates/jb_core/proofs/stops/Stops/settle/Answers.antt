@@ -1,8 +1,7 @@
-use Rattle.std.proofs.Common.{◌≡◌, ℕ, ◌+◌, ◌≤◌, length, take, drop, sum, slice_range, sym, ap, subst, ◌∙◌, Fits, w64, arith}
+use Rattle.std.proofs.Common.{◌≡◌, ◌≤◌, length, take, sum, slice_range, ap, subst, ◌∙◌, arith}
 use Rattle.std.proofs.lemmas.List.{length-drop}
 use Rattle.jb_core.specs.Line.{Line, IsSettled, count}
 use Rattle.jb_core.specs.Stops.{line_of}
-use Rattle.jb_core.specs.Parted.{IsParted}
 use Rattle.jb_core.proofs.Moves.{taken_ends, settled_to, groups-there, parts-of, settled-kept, settled-line, settled-credits}
 use Rattle.jb_core.proofs.stops.Stops.settle.Goals as goal
 

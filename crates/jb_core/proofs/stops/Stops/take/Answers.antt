@@ -1,4 +1,4 @@
-use Rattle.std.proofs.Common.{rules, ◌≡◌, ℕ, ◌-◌, ◌+◌, ◌++◌, ◌≤◌, List, [], map, refl, sym, ap, ◌∙◌, subst, length, take, drop, get_or, arith}
+use Rattle.std.proofs.Common.{rules, ◌≡◌, ◌+◌, ◌++◌, map, refl, sym, ap, ◌∙◌, subst, length, drop, arith}
 use Rattle.std.proofs.lemmas.List.{length-drop}
 use Rattle.jb_cost.specs.Cut.{IsCut}
 use Rattle.jb_core.specs.Line.{Line, IsTaken}
