@@ -11,7 +11,7 @@ pub returns-in_default-put : goal.returns-in_default-put
 returns-in_default-put g c =
     let bits = codes " " ++ (decimal c.args.bits ++ codes "\n") in
     let word = part_first (g.W.Write.contents c.put.new.writer) _ (decimal c.args.word) bits
-        (rw c.format.ensures.text at (rw c.as_bytes-2.ensures.value at c.in_default-put.ensures.puts)) in
+    (rw c.format.ensures.text at (rw c.as_bytes-2.ensures.value at c.in_default-put.ensures.puts)) in
     record {
       puts = part_behind _ (g.W.Write.contents c.put.new.writer) _ (codes "jb: Super Feature ") (decimal c.args.word ++ bits)
           (rw c.as_bytes.ensures.value at c.in-Ok.ensures.puts) word;
@@ -23,8 +23,8 @@ returns g c =
     let last = g.W.Write.contents c.put-2.new.writer in
     let bits = codes " " ++ (decimal c.args.bits ++ codes "\n") in
     let word = part_behind middle last _ (decimal c.args.word) bits
-        (rw c.format.ensures.text at (rw c.as_bytes-2.ensures.value at c.in-Ok-put.ensures.puts))
-        (rw c.from.ensures at c.put_number_line.ensures.puts) in
+    (rw c.format.ensures.text at (rw c.as_bytes-2.ensures.value at c.in-Ok-put.ensures.puts))
+    (rw c.from.ensures at c.put_number_line.ensures.puts) in
     record {
       puts = part_behind _ middle _ (codes "jb: Super Feature ") (decimal c.args.word ++ bits)
           (rw c.as_bytes.ensures.value at c.in-Ok.ensures.puts) word;
