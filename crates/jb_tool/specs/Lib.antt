@@ -1,8 +1,10 @@
 pub mod Check
 pub mod Cost
+pub mod Dump
 pub mod Faulty
 pub mod Plan
 pub mod Puts
 pub mod Runs
 pub mod Said
 pub mod Stops
+pub mod SuperLine

@@ -2,15 +2,16 @@
 use Rattle.std.specs.Prelude.{◌≡◌, ◌<◌, ◌≤◌, ◌⊎◌, ℕ, List, Option, None, Result, Ok, Err, IfSome, codes, if◌then◌else◌, length}
 use Rattle.std.specs.Str.{bytes_eq}
 use Rattle.jb_words.specs.Named.{Asked}
-use Rattle.jb_words.specs.Named.Asked.{AsksCheck, AsksCost, AsksPlan}
+use Rattle.jb_words.specs.Named.Asked.{AsksCheck, AsksCost, AsksDump, AsksPlan}
 use Rattle.jb_tool.specs.Check.{CheckSays}
 use Rattle.jb_tool.specs.Cost.{cost_said}
+use Rattle.jb_tool.specs.Dump.{DumpsFile}
 use Rattle.jb_tool.specs.Plan.{PlanSays}
 use Rattle.jb_tool.specs.Puts.{PutsPart}
 use Rattle.jb_tool.specs.Said.{Held, Said, Tells}
 use Rattle.jb_tool.specs.Stops.{line_of, status_of}
 use Rattle.jb_tool.specs.declared.stop.Stop.{Stop}
-use Rattle.jb_tool.specs.declared.stop.Stop.TheVariants.{CannotRead, TooLong, Memory, WriteFault}
+use Rattle.jb_tool.specs.declared.stop.Stop.TheVariants.{CannotRead, TooLong, ReadFault, Super, BadRevoke, Memory, WriteFault}
 
 -- the most bytes of a text
 abbrev pub text_limit : ℕ
@@ -28,6 +29,9 @@ IsText known text = IfSome known (λ bytes. text ≡ bytes) × (length text ≤ 
 abbrev pub HasNoText : List ℕ → Option (List ℕ) → Stop → Type 0
 HasNoText name known (TooLong told) = (told.now ≡ name) × IfSome known (λ bytes. text_limit < length bytes)
 HasNoText name known (CannotRead told) = told.now ≡ name
+HasNoText name known ReadFault = ⊥
+HasNoText name known (Super fault) = ⊥
+HasNoText name known (BadRevoke place) = ⊥
 HasNoText name known Memory = Unit {0}
 HasNoText name known WriteFault = ⊥
 
@@ -44,6 +48,10 @@ EndsOfTwo Says name other old new end =
     ((text text' : List ℕ) × (words : Said) × IsText None text × IsText None text' × Says text text' words × Tells words old new end)
     ⊎ ((stop : Stop) × (end ≡ Err stop) × (HasNoText name None stop ⊎ HasNoText other None stop) × (new ≡ old))
 
+-- standard output holds what a dump of the file writes, and standard error is left alone
+abbrev pub EndsOfDump : List ℕ → Held → Held → Result ℕ Stop → Type 0
+EndsOfDump name old new end = DumpsFile name old.out new.out end × (new.err ≡ old.err)
+
 -- the program's status, and the line of a command that ended without an answer
 abbrev pub Closes : Result ℕ Stop → Held → Held → ℕ → Type 0
 Closes (Ok told) old new status = (status ≡ told) × (new ≡ old)
@@ -55,6 +63,7 @@ abbrev pub EndsAsked : Asked → Option (List ℕ) → Held → Held → Result 
 EndsAsked (AsksCost file) = Ends (λ text words. words ≡ cost_said text) file
 EndsAsked (AsksPlan file) = Ends PlanSays file
 EndsAsked (AsksCheck file cert) = λ _. EndsOfTwo CheckSays file cert
+EndsAsked (AsksDump file) = λ _. EndsOfDump file
 
 -- the whole run of the command that the words ask for
 abbrev pub Runs : Asked → Option (List ℕ) → Held → Held → ℕ → Type 0

@@ -5,6 +5,8 @@ mod answer;
 mod check;
 mod command_line;
 mod cost;
+mod dumping;
+mod fault_line;
 mod plan;
 mod putting;
 mod queue_fault;

@@ -2,6 +2,7 @@
 
 mod checks;
 mod costs;
+mod dumps;
 mod files;
 mod plans;
 mod refusals;
@@ -21,8 +22,13 @@ fn runs(rt: &HostRuntime, words: &[&str], input: &[u8], status: u8, out: &str, e
 
 // A file of this name and text, in the folder that tests have for their files.
 fn file(rt: &HostRuntime, name: &str, text: &str) -> Option<PathBuf> {
+    bytes_file(rt, name, text.as_bytes())
+}
+
+// A file of this name with these bytes, in that folder.
+fn bytes_file(rt: &HostRuntime, name: &str, bytes: &[u8]) -> Option<PathBuf> {
     let path = env::temp_dir(rt).ok()?.join(rt.alloc(), name).ok()?;
-    fs::write(rt, path.as_str(), text).ok()?;
+    fs::write(rt, path.as_str(), bytes).ok()?;
     Some(path)
 }
 

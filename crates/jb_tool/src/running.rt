@@ -6,6 +6,7 @@ ghost use Rattle.jb_tool.specs.Runs.{EndsAsked, EndsOfTwo, Runs};
 use crate::answer::tell;
 use crate::check::check_answer;
 use crate::cost::cost_answer;
+use crate::dumping::dump_file;
 use crate::plan::plan_answer;
 use crate::queue_fault::fault_told;
 use crate::reading::{read_file, read_text};
@@ -42,6 +43,7 @@ pub fn perform<'a, R: Files + AllocGlobal, I: Read, O: Write, E: Write>(
             tell(&answer, out, err)
         }
         Plain::Check { file, cert } => perform_check(rt, file, cert, out, err),
+        Plain::Dump { file } => dump_file(rt, file, out),
     }
 }
 

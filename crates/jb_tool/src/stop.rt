@@ -1,7 +1,9 @@
 ghost use Rattle.std.specs.Prelude.{◌≡◌};
 ghost use Rattle.jb_tool.specs.Puts.{PutsPart};
 
+use crate::fault_line::{put_number_line, put_super_line};
 use crate::putting::put_line;
+use jb_super::SuperFault;
 use std::alloc::AllocError;
 use std::io::Write;
 
@@ -12,6 +14,13 @@ pub enum Stop<'a> {
     CannotRead(&'a str),
     /// The file of this name has more bytes than a text may have.
     TooLong(&'a str),
+    /// A read of the journal failed.
+    ReadFault,
+    /// Journal block 0 is refused for this; `Geometry` also where there are fewer blocks than `s_maxlen`.
+    Super(SuperFault),
+    /// The block at this place of the journal, of a committed transaction, is a revoke block whose `r_count` is above the
+    /// block size.
+    BadRevoke(u64),
     /// A growth was refused.
     Memory,
     /// Standard output could not be written.
@@ -38,6 +47,7 @@ impl<'a> Stop<'a> {
     {
         match self {
             Stop::CannotRead(_) | Stop::TooLong(_) => 2,
+            Stop::ReadFault | Stop::Super(_) | Stop::BadRevoke(_) => 1,
             Stop::Memory | Stop::WriteFault => 1,
         }
     }
@@ -49,6 +59,9 @@ impl<'a> Stop<'a> {
         match self {
             Stop::CannotRead(name) => put_line(err, "jb: cannot read ", name),
             Stop::TooLong(name) => put_line(err, "jb: too long ", name),
+            Stop::ReadFault => put_line(err, "jb: ", "ReadFault"),
+            Stop::Super(fault) => put_super_line(err, fault),
+            Stop::BadRevoke(place) => put_number_line(err, "jb: BadRevoke ", place),
             Stop::Memory => put_line(err, "jb: ", "Memory"),
             Stop::WriteFault => put_line(err, "jb: ", "WriteFault"),
         }

@@ -14,6 +14,10 @@ file_app name = with_rule (new_app name) (required_word (codes "FILE"))
 abbrev pub check_app : App
 check_app = with_rule (file_app (codes "check")) (required_word (codes "CERT"))
 
+-- `dump FILE`
+abbrev pub dump_app : App
+dump_app = file_app (codes "dump")
+
 -- `jb`: its words begin with a command, and it has a version
 abbrev pub jb_top : App
 jb_top =
@@ -22,9 +26,13 @@ jb_top =
       top = record bare.top { no_binary_name = true; has_version = true; subcommand_required = true };
     }
 
--- `jb` with its commands
-abbrev pub jb_app : App
-jb_app =
+-- `jb` with its commands over queue texts
+abbrev pub queues_app : App
+queues_app =
     let cost = (file_app (codes "cost")).top in
     let plan = (file_app (codes "plan")).top in
     with_subcommand (with_subcommand (with_subcommand jb_top cost) plan) check_app.top
+
+-- `jb` with its commands
+abbrev pub jb_app : App
+jb_app = with_subcommand queues_app dump_app.top

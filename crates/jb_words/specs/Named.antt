@@ -4,19 +4,21 @@ use Rattle.std.specs.Str.{bytes_eq}
 use Rattle.clap.specs.Words.{Row, Text, first_of, subcommand_of}
 use Rattle.jb_words.specs.App.{jb_app}
 use Rattle.jb_words.specs.declared.plain.Plain.{Plain}
-use Rattle.jb_words.specs.declared.plain.Plain.TheVariants.{Check, Cost, Plan}
+use Rattle.jb_words.specs.declared.plain.Plain.TheVariants.{Check, Cost, Dump, Plan}
 
 -- a command with its words
 pub data Asked : Type 0 where
   AsksCost : Text → Asked
   AsksPlan : Text → Asked
   AsksCheck : Text → Text → Asked
+  AsksDump : Text → Asked
 
 -- what a value of the program's own type asks for
 abbrev pub asks : Plain → Asked
 asks (Cost file) = AsksCost file.now
 asks (Plan file) = AsksPlan file.now
 asks (Check file cert) = AsksCheck file.now cert.now
+asks (Dump file) = AsksDump file.now
 
 -- the file of a command over one file
 abbrev pub file_in : List Row → Option Text
@@ -33,6 +35,7 @@ asked name rows =
     if bytes_eq name (codes "cost") then option_map (λ file. AsksCost file) (file_in rows)
     else if bytes_eq name (codes "plan") then option_map (λ file. AsksPlan file) (file_in rows)
     else if bytes_eq name (codes "check") then check_in rows
+    else if bytes_eq name (codes "dump") then option_map (λ file. AsksDump file) (file_in rows)
     else None
 
 -- the command that a parse found

@@ -1,7 +1,7 @@
 ghost use Rattle.std.specs.Prelude.{◌≡◌, IfOk, codes, false};
 ghost use Rattle.clap.specs.Words.{app_of, rule_of};
 ghost use Rattle.clap.specs.declared.builder.command.Command.TheViews.{out-Command as fields_of};
-ghost use Rattle.jb_words.specs.App.{check_app, file_app, jb_app, jb_top, required_word as word_rule};
+ghost use Rattle.jb_words.specs.App.{check_app, dump_app, file_app, jb_app, jb_top, queues_app, required_word as word_rule};
 
 use clap::{Arg, Command};
 use std::alloc::{AllocError, Global};
@@ -14,13 +14,35 @@ fn required_word<'a>(alloc: Global, name: &'a str) -> Arg<'a>
     Arg::new(alloc, name).required(true)
 }
 
+// A command over one file.
+fn over_file<'a>(
+    alloc: Global,
+    name: &'a str,
+    about: &'a str,
+    help: &'a str,
+) -> Result<Command<'a>, AllocError>
+    ensures app { IfOk result (λ c. app_of c ≡ file_app name.entry.now) }
+    ensures own { IfOk result (λ c. (fields_of c).has_globals ≡ false) }
+{
+    let file = required_word(alloc, "FILE").help(help);
+    Command::new(alloc, name).about(about).arg(file)
+}
+
 // A command over one queue text.
 fn over_queue<'a>(alloc: Global, name: &'a str, about: &'a str) -> Result<Command<'a>, AllocError>
     ensures app { IfOk result (λ c. app_of c ≡ file_app name.entry.now) }
     ensures own { IfOk result (λ c. (fields_of c).has_globals ≡ false) }
 {
-    let file = required_word(alloc, "FILE").help("A queue text, or - for standard input");
-    Command::new(alloc, name).about(about).arg(file)
+    over_file(alloc, name, about, "A queue text, or - for standard input")
+}
+
+// `jb dump`.
+fn dump<'a>(alloc: Global) -> Result<Command<'a>, AllocError>
+    ensures app { IfOk result (λ c. app_of c ≡ dump_app) }
+    ensures own { IfOk result (λ c. (fields_of c).has_globals ≡ false) }
+{
+    let about = "Prints the committed transactions of a journal, block by block";
+    over_file(alloc, "dump", about, "A file with the whole journal")
 }
 
 // `jb check`.
@@ -51,9 +73,9 @@ fn jb_alone<'a>(alloc: Global) -> Result<Command<'a>, AllocError>
     )
 }
 
-/// The command line of `jb`, as clap reads it.
-pub fn jb_command<'a>(alloc: Global) -> Result<Command<'a>, AllocError>
-    ensures app { IfOk result (λ c. app_of c ≡ jb_app) }
+// `jb` with its commands over queue texts.
+fn jb_over_queues<'a>(alloc: Global) -> Result<Command<'a>, AllocError>
+    ensures app { IfOk result (λ c. app_of c ≡ queues_app) }
     ensures own { IfOk result (λ c. (fields_of c).has_globals ≡ false) }
 {
     let jb = jb_alone(alloc)?;
@@ -70,4 +92,13 @@ pub fn jb_command<'a>(alloc: Global) -> Result<Command<'a>, AllocError>
     let jb = jb.subcommand(cost)?;
     let jb = jb.subcommand(plan)?;
     jb.subcommand(check(alloc)?)
+}
+
+/// The command line of `jb`, as clap reads it.
+pub fn jb_command<'a>(alloc: Global) -> Result<Command<'a>, AllocError>
+    ensures app { IfOk result (λ c. app_of c ≡ jb_app) }
+    ensures own { IfOk result (λ c. (fields_of c).has_globals ≡ false) }
+{
+    let jb = jb_over_queues(alloc)?;
+    jb.subcommand(dump(alloc)?)
 }

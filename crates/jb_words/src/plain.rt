@@ -18,4 +18,9 @@ pub enum Plain<'a> {
         /// The text of the certificate.
         cert: &'a str,
     },
+    /// `jb dump FILE`: the text of a journal.
+    Dump {
+        /// The file with the whole journal.
+        file: &'a str,
+    },
 }

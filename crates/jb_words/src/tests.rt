@@ -59,8 +59,12 @@ fn help_and_the_version_are_no_mistakes(rt: HostRuntime) {
             "Prints the log blocks that the queue takes as one group\n\nUsage: jb cost <FILE>\n\nArguments:\n  <FILE>  A queue text, or - for standard input\n\nOptions:\n  -h, --help  Print help\n",
         ),
         (
+            ["dump", "-h"].as_slice(),
+            "Prints the committed transactions of a journal, block by block\n\nUsage: jb dump <FILE>\n\nArguments:\n  <FILE>  A file with the whole journal\n\nOptions:\n  -h, --help  Print help\n",
+        ),
+        (
             ["help"].as_slice(),
-            "A block journal in jbd2's format\n\nUsage: jb <COMMAND>\n\nCommands:\n  cost   Prints the log blocks that the queue takes as one group\n  plan   Prints a least cut of the queue into groups, with its prices\n  check  Checks a certificate of the queue, whoever made it\n  help   Print this message or the help of the given subcommand(s)\n\nOptions:\n  -h, --help     Print help\n  -V, --version  Print version\n",
+            "A block journal in jbd2's format\n\nUsage: jb <COMMAND>\n\nCommands:\n  cost   Prints the log blocks that the queue takes as one group\n  plan   Prints a least cut of the queue into groups, with its prices\n  check  Checks a certificate of the queue, whoever made it\n  dump   Prints the committed transactions of a journal, block by block\n  help   Print this message or the help of the given subcommand(s)\n\nOptions:\n  -h, --help     Print help\n  -V, --version  Print version\n",
         ),
     ] {
         let (is_mistake, text) = said(rt.alloc(), words).expect(&rt, "a text");

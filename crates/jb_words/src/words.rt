@@ -55,6 +55,9 @@ fn plain_of<'a>(matches: &ArgMatches<'a>) -> Option<Plain<'a>>
             file: word_of(found, "FILE")?,
         }),
         "check" => check_of(found),
+        "dump" => Some(Plain::Dump {
+            file: word_of(found, "FILE")?,
+        }),
         _ => None,
     }
 }
