@@ -80,6 +80,43 @@ expect full
 fs kib4 4096 4 4096
 session kib4 'jw -b 3001,3002 two.4096\njw -r 3002\njw -b 3002,3003 other.4096 -r 3001'
 expect kib4
+# With few inodes and the journal at block 2000, so that blocks from 41 on are free; in 41 to 46 stands `before NN`: NAME BS MIB
+near() {
+  rm -f "$1.img"
+  mkfs.ext4 -q -b "$2" -O ^metadata_csum,^64bit,^resize_inode -N 16 -J size="$3",location=2000 \
+    -U 00010203-0405-0607-0809-0a0b0c0d0e0f -E nodiscard,lazy_itable_init=0 "$1.img" 4096 >/dev/null
+  for b in 41 42 43 44 45 46; do
+    printf 'before %s\n' $b | dd of="$1.img" bs="$2" seek=$b conv=notrunc status=none
+  done
+}
+# what a test of jb_recover needs of it: the rows of an image that has these six home blocks alone, before and after debugfs's replay: NAME BS
+near_rows() {
+  for state in img replayed.img; do
+    dd if="$1.$state" of=homes bs="$2" skip=41 count=6 status=none
+    $ref rows_at "$2" 41 homes
+  done >"$1.homes.txt"
+  $ref rows_at "$2" 0 "$1.journal" >"$1.rows.txt"
+  cp "$1.img" "$1.fsck.img"
+  e2fsck -E journal_only -y "$1.fsck.img" >/dev/null || true
+  dd if="$1.fsck.img" of=homes.fsck bs="$2" skip=41 count=6 status=none
+  cmp homes homes.fsck
+  rm homes homes.fsck "$1.fsck.img"
+}
+# Four transactions: an escape, revokes in a later transaction, a copy again, and a revoke of its own transaction's copy.
+near near 1024 1
+session near 'jw -b 41,42 two.1024\njw -r 41,42\njw -b 42,43 other.1024\njw -b 44,45 third.1024 -r 44,46'
+expect near
+near_rows near 1024
+# Copies of one home in two transactions; the last transaction is left without its commit block.
+near nearopen 1024 1
+session nearopen 'jw -b 41,42 two.1024\njw -b 42,43 other.1024\njw -c -b 43,44 third.1024'
+expect nearopen
+near_rows nearopen 1024
+# In blocks of 4,096 bytes: a revoke, a copy again, and a revoke in the transaction behind.
+near near4 4096 4
+session near4 'jw -b 41,42 two.4096\njw -r 42\njw -b 42,43 other.4096 -r 41'
+expect near4
+near_rows near4 4096
 # Only mke2fs: a clean journal.
 fs clean 1024 1 4096
 expect clean
