@@ -2,7 +2,7 @@
 use Rattle.std.proofs.Common.{◌≡◌, ◌⊎◌, ℕ, List, [], Option, Some, None, Err, IfSome, refl, subst, inl, inr}
 use Rattle.jb_words.specs.Faults.{HasKind, Kinds, kind_of}
 use Rattle.jb_words.specs.Named.{Asked}
-use Rattle.jb_words.specs.Named.Asked.{AsksCheck, AsksCost, AsksDump, AsksPlan}
+use Rattle.jb_words.specs.Named.Asked.{AsksCheck, AsksCost, AsksDump, AsksFormat, AsksPlan, AsksRecover}
 use Rattle.jb_words.specs.declared.ErrorKind.TheVariants.{OutOfMemory}
 use Rattle.jb_words.specs.declared.Error.{Error}
 use Rattle.jb_tool.specs.Runs.{Closes, Runs}
