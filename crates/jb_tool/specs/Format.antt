@@ -24,11 +24,12 @@ abbrev pub format_stop : FormatFault → Stop
 format_stop NotWritten = DeviceFault
 format_stop NoGeometry = Geometry
 
--- the file of this name was not made
-abbrev pub IsUnmade : List ℕ → Stop → Type 0
-IsUnmade name (CannotMake told) = told.now ≡ name
-IsUnmade name Memory = Unit {0}
-IsUnmade name _ = ⊥
+-- the file of this name was not made: an option is bad, or none is and the system refuses the file
+abbrev pub IsUnmade : List ℕ → Options → Stop → Type 0
+IsUnmade name o BadOption = AreGood o → ⊥
+IsUnmade name o (CannotMake told) = AreGood o × (told.now ≡ name)
+IsUnmade name o Memory = Unit {0}
+IsUnmade name o _ = ⊥
 
 -- a disk of some number of blocks answered so for a journal of so many
 abbrev pub Answers : ℕ → Result Unit FormatFault → Type 0
@@ -39,9 +40,8 @@ abbrev pub TellsFormat : Options → Result Unit FormatFault → Held → Held �
 TellsFormat o (Ok made) old new end = Tells (formatted (asked_limit o)) old new end ⊎ ((end ≡ Err Memory) × (new ≡ old))
 TellsFormat o (Err fault) old new end = (end ≡ Err (format_stop fault)) × (new ≡ old)
 
--- a bad option is told, and nothing else was done; or the file was not made; or what the making of the journal answered is told
+-- the file was not made, and nothing was done; or what the making of the journal in it answered is told
 abbrev pub EndsOfFormat : List ℕ → Options → Held → Held → Result ℕ Stop → Type 0
 EndsOfFormat name o old new end =
-    ((AreGood o → ⊥) × (end ≡ Err BadOption) × (new ≡ old))
-    ⊎ (AreGood o × ((stop : Stop) × (end ≡ Err stop) × IsUnmade name stop × (new ≡ old)))
+    ((stop : Stop) × (end ≡ Err stop) × IsUnmade name o stop × (new ≡ old))
     ⊎ (AreGood o × ((answer : Result Unit FormatFault) × Answers o.journal answer × TellsFormat o answer old new end))

@@ -1,20 +1,23 @@
-ghost use Rattle.std.specs.Prelude.{◌≡◌, ◌↔◌, ℕ, set, IfErr, IfOk, OnOk, Err, false};
+ghost use Rattle.std.specs.Prelude.{◌≡◌, ◌↔◌, ℕ, [], set, string_bytes, IfErr, IfOk, OnOk, Err, false};
 ghost use Rattle.jb_disk.specs.File.{size_of};
 ghost use Rattle.jb_recover.specs.Formatted.{new_block, HasRoom};
 ghost use Rattle.jb_recover.specs.declared.fault.FormatFault.TheVariants.{Geometry as NoGeometry};
 ghost use Rattle.jb_super.specs.Geometry.{limit_of};
 ghost use Rattle.jb_super.specs.Superblock.{new_super};
-ghost use Rattle.jb_words.specs.Named.{options_said};
-ghost use Rattle.jb_tool.specs.Format.{EndsOfFormat, IsUnmade, format_stop};
+ghost use Rattle.jb_words.specs.Named.{Options, options_said};
+ghost use Rattle.jb_tool.specs.Format.{EndsOfFormat, IsUnmade, format_stop, formatted};
+ghost use Rattle.jb_tool.specs.Options.{AreGood};
+ghost use Rattle.jb_tool.specs.Said.{said};
 
 use crate::answer::{Answer, tell};
 use crate::options::{NewImage, new_image};
 use crate::stop::Stop;
-use jb_block::Width;
+use jb_block::{Memory, Width};
 use jb_disk::{Disk, FileDisk};
 use jb_recover::{FormatFault, format};
 use jb_super::Super;
 use jb_words::FormatOptions;
+use std::alloc::Global;
 use std::fs::File;
 use std::io::{ErrorKind, Write};
 use std::rt::Files;
@@ -44,20 +47,28 @@ pub(crate) fn format_image<'a, R: Files<File = File> + AllocGlobal, O: Write, E:
     let Some(new) = new_image(options) else {
         return Err(Stop::BadOption);
     };
-    let mut line = String::with_capacity(rt.alloc(), LINE)?;
+    let line = String::with_capacity(rt.alloc(), LINE)?;
     let mut disk = make_file(rt, image, &new)?;
     match make_journal(&mut disk, &new) {
         Ok(limit) => {
-            write!(line, "formatted limit {limit}\n")?;
-            let answer = Answer {
-                status: 0,
-                out: line,
-                err: String::new(rt.alloc()),
-            };
+            let answer = formatted_told(rt.alloc(), line, limit)?;
             tell(&answer, out, err)
         }
         Err(fault) => Err(stop_of(fault)),
     }
+}
+
+// The line of a new journal with this limit, in the room that was had for it.
+fn formatted_told(alloc: Global, mut line: String, limit: u32) -> Result<Answer, Memory>
+    requires { string_bytes line ≡ [] }
+    ensures said { IfOk result (λ answer. said answer ≡ formatted limit) }
+{
+    write!(line, "formatted limit {limit}\n")?;
+    Ok(Answer {
+        status: 0,
+        out: line,
+        err: String::new(alloc),
+    })
 }
 
 // The new file of this name and of the image's length, as a disk. Its blocks are zeros that take no room as yet.
@@ -66,7 +77,7 @@ fn make_file<'a, R: Files<File = File> + AllocGlobal>(
     name: &'a str,
     new: &NewImage,
 ) -> Result<FileDisk, Stop<'a>>
-    ensures unmade { IfErr result (IsUnmade name.entry.now) }
+    ensures unmade { IfErr result (λ stop. (o : Options) → AreGood o → IsUnmade name.entry.now o stop) }
     ensures size { IfOk result (λ disk. size_of disk ≡ new.now.size) }
 {
     let file = match File::create_new(rt, name) {

@@ -1,10 +1,12 @@
-ghost use Rattle.std.specs.Prelude.{◌≡◌, IfErr, IfOk};
-ghost use Rattle.jb_tool.specs.Recover.{EndsOfRecover, HasSuper, IsUnread, recover_stop};
+ghost use Rattle.std.specs.Prelude.{◌≡◌, [], string_bytes, IfErr, IfOk};
+ghost use Rattle.jb_tool.specs.Recover.{EndsOfRecover, HasSuper, IsUnread, recover_stop, recovered};
+ghost use Rattle.jb_tool.specs.Said.{said};
 
 use crate::answer::{Answer, tell};
 use crate::stop::Stop;
+use jb_block::Memory;
 use jb_disk::FileDisk;
-use jb_recover::{RecoverFault, recover};
+use jb_recover::{RecoverFault, Recovered, recover};
 use jb_super::Super;
 use std::alloc::Global;
 use std::fs::{File, OpenOptions};
@@ -36,25 +38,33 @@ pub(crate) fn recover_image<'a, R: Files<File = File> + AllocGlobal, O: Write, E
         (record { out = O.contents out.old; err = E.contents err.old })
         (record { out = O.contents out.new; err = E.contents err.new }) result }
 {
-    let mut line = String::with_capacity(rt.alloc(), LINE)?;
+    let line = String::with_capacity(rt.alloc(), LINE)?;
     let mut disk = open_image(rt, image)?;
     match recover(rt.alloc(), &mut disk) {
         Ok(told) => {
-            let (transactions, copies) = (told.transactions, told.copies);
-            let (revoked, next) = (told.revoked, told.next);
-            write!(
-                line,
-                "transactions {transactions} copies {copies} revoked {revoked} next {next}\n"
-            )?;
-            let answer = Answer {
-                status: 0,
-                out: line,
-                err: String::new(rt.alloc()),
-            };
+            let answer = recovered_told(rt.alloc(), line, told)?;
             tell(&answer, out, err)
         }
         Err(fault) => Err(stop_of(fault)),
     }
+}
+
+// The line of a recovery, in the room that was had for it.
+fn recovered_told(alloc: Global, mut line: String, told: Recovered) -> Result<Answer, Memory>
+    requires { string_bytes line ≡ [] }
+    ensures said { IfOk result (λ answer. said answer ≡ recovered told) }
+{
+    let (transactions, copies) = (told.transactions, told.copies);
+    let (revoked, next) = (told.revoked, told.next);
+    write!(
+        line,
+        "transactions {transactions} copies {copies} revoked {revoked} next {next}\n"
+    )?;
+    Ok(Answer {
+        status: 0,
+        out: line,
+        err: String::new(alloc),
+    })
 }
 
 // The file of this name, as a disk of the block size that its first bytes say.

@@ -15,5 +15,5 @@ returns-in-Geometry g c = record { puts = rw c.in-Geometry.is c.put_line-in-Geom
 
 pub returns-in-Feature : goal.returns-in-Feature
 returns-in-Feature g c = record {
-  puts = rw c.in-Feature.is (rw (c.from-in-Feature.ensures, c.from-in-Feature-2.ensures) at c.put_pair_line-in-Feature.ensures.puts);
+  puts = rw c.in-Feature.is (rw (c.from-in-Feature.ensures, c.from-in-Feature-2.ensures) at c.put_pair_line.ensures.puts);
 }
