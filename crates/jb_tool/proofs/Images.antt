@@ -1,5 +1,5 @@
 -- How the commands over an image end, from what their parts answer.
-use Rattle.std.proofs.Common.{◌≡◌, ◌∙◌, ◌↔◌, ℕ, List, [], Result, Ok, Err, is_ok, true≢false, refl, sym, subst, ap, ap₂, inl, inr}
+use Rattle.std.proofs.Common.{◌≡◌, ◌∙◌, ◌↔◌, ℕ, List, [], Result, Ok, Err, is_ok, true≢false, refl, subst, ap, ap₂, inl, inr}
 use Rattle.jb_recover.specs.Formatted.{HasRoom}
 use Rattle.jb_recover.specs.declared.fault.FormatFault.{FormatFault}
 use Rattle.jb_recover.specs.declared.fault.FormatFault.TheVariants.{Geometry as NoGeometry}
@@ -9,7 +9,7 @@ use Rattle.jb_super.specs.Superblock.{new_super}
 use Rattle.jb_words.specs.Named.{Options}
 use Rattle.jb_tool.specs.Format.{Answers, EndsOfFormat, asked_limit, format_stop, formatted}
 use Rattle.jb_tool.specs.Options.{AreGood, IsAskedBy}
-use Rattle.jb_tool.specs.Recover.{EndsOfRecover, HasSuper, recovered}
+use Rattle.jb_tool.specs.Recover.{EndsOfRecover, recovered}
 use Rattle.jb_tool.specs.Said.{Held, Said, Tells}
 use Rattle.jb_tool.specs.declared.options.NewImage.{NewImage}
 use Rattle.jb_tool.specs.declared.stop.Stop.{Stop}
@@ -47,6 +47,6 @@ formats_not name o image count fault stop held good asked room told =
     inr (good, (Err fault, subst (λ journal. Answers journal (Err fault)) asked.journal made, (ap Err told, refl)))
 
 -- a recovery, and the line about it
-pub recovers : (name : List ℕ) (told : Recovered) (words : Said) (old new : Held) (end : Result ℕ Stop) → HasSuper → words ≡ recovered told
+pub recovers : (name : List ℕ) (told : Recovered) (words : Said) (old new : Held) (end : Result ℕ Stop) → words ≡ recovered told
     → Tells words old new end → EndsOfRecover name old new end
-recovers name told words old new end super said tells = inr (super, (Ok told, inl (subst (λ (w : Said). Tells w old new end) said tells)))
+recovers name told words old new end said tells = inr (Ok told, inl (subst (λ (w : Said). Tells w old new end) said tells))

@@ -5,7 +5,6 @@ use Rattle.jb_recover.specs.declared.fault.RecoverFault.TheVariants.{DeviceFault
 use Rattle.jb_recover.specs.declared.recovered.Recovered.{Recovered}
 use Rattle.jb_super.specs.Faults.{super_in}
 use Rattle.jb_super.specs.Superblock.{Superblock}
-use Rattle.jb_super.specs.declared.fault.SuperFault.{SuperFault}
 use Rattle.jb_tool.specs.Said.{Held, Said, Tells}
 use Rattle.jb_tool.specs.declared.stop.Stop.{Stop}
 use Rattle.jb_tool.specs.declared.stop.Stop.TheVariants.{BadRevoke, CannotRead, DeviceFault, HomeOutOfRange, Memory, Super}
@@ -34,9 +33,9 @@ IsUnread name (Super fault) = (front : List ℕ) × (super_in front ≡ Err faul
 IsUnread name Memory = Unit {0}
 IsUnread name _ = ⊥
 
--- some first bytes of the image are a superblock
-abbrev pub HasSuper : Type 0
-HasSuper = (front : List ℕ) × (sb : Superblock) × (super_in front ≡ Ok sb)
+-- some first bytes are a superblock, which says this block size
+abbrev pub SaysSize : ℕ → Type 0
+SaysSize size = (front : List ℕ) × (sb : Superblock) × (super_in front ≡ Ok sb) × (size ≡ sb.block_size)
 
 -- what is told of what the recovery answered; memory for the line may be wanting
 abbrev pub TellsRecovery : Result Recovered RecoverFault → Held → Held → Result ℕ Stop → Type 0
@@ -47,4 +46,4 @@ TellsRecovery (Err fault) old new end = (end ≡ Err (recover_stop fault)) × (n
 abbrev pub EndsOfRecover : List ℕ → Held → Held → Result ℕ Stop → Type 0
 EndsOfRecover name old new end =
     ((stop : Stop) × (end ≡ Err stop) × IsUnread name stop × (new ≡ old))
-    ⊎ (HasSuper × ((answer : Result Recovered RecoverFault) × TellsRecovery answer old new end))
+    ⊎ ((answer : Result Recovered RecoverFault) × TellsRecovery answer old new end)

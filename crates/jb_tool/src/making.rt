@@ -101,10 +101,7 @@ fn make_journal<D: Disk>(disk: &mut D, new: &NewImage) -> Result<u32, FormatFaul
     ensures written { D.honest disk.old → OnOk result (D.newest disk.new ≡ set (D.newest disk.old) 0 (new_block false (D.size disk.old) new.now.journal new.now.max new.now.uuid)) }
 {
     let size = disk.block_size();
-    match format(disk, new.journal, new.max, new.uuid, Width::Narrow) {
-        Ok(()) => {}
-        Err(fault) => return Err(fault),
-    }
+    format(disk, new.journal, new.max, new.uuid, Width::Narrow)?;
     match Super::new(size, new.journal, new.max, new.uuid) {
         Some(sb) => Ok(sb.limit()),
         None => Err(FormatFault::Geometry),

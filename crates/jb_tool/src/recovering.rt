@@ -1,5 +1,7 @@
-ghost use Rattle.std.specs.Prelude.{◌≡◌, [], string_bytes, IfErr, IfOk};
-ghost use Rattle.jb_tool.specs.Recover.{EndsOfRecover, HasSuper, IsUnread, recover_stop, recovered};
+ghost use Rattle.std.specs.Prelude.{◌≡◌, [], string_bytes, take, IfErr, IfOk, IfSome};
+ghost use Rattle.jb_block.specs.Size.{bytes_of};
+ghost use Rattle.jb_disk.specs.File.{size_of};
+ghost use Rattle.jb_tool.specs.Recover.{EndsOfRecover, IsUnread, SaysSize, recover_stop, recovered};
 ghost use Rattle.jb_tool.specs.Said.{said};
 
 use crate::answer::{Answer, tell};
@@ -73,7 +75,7 @@ fn open_image<'a, R: Files<File = File> + AllocGlobal>(
     name: &'a str,
 ) -> Result<FileDisk, Stop<'a>>
     ensures unread { IfErr result (IsUnread name.entry.now) }
-    ensures front { IfOk result (λ _. HasSuper) }
+    ensures size { IfOk result (λ disk. SaysSize (bytes_of (size_of disk))) }
 {
     let mut file = match OpenOptions::new().read(true).write(true).open(rt, name) {
         Ok(file) => file,
@@ -94,6 +96,7 @@ fn open_image<'a, R: Files<File = File> + AllocGlobal>(
 // The first bytes of an image, as many as a superblock has or fewer.
 fn front_of<'a, R: Read>(alloc: Global, image: &mut R, name: &'a str) -> Result<Vec<u8>, Stop<'a>>
     ensures unread { IfErr result (IsUnread name.entry.now) }
+    ensures front { IfOk result (λ front. IfSome (R.remaining image.old) (λ bytes. front.items ≡ take 1024 bytes)) }
 {
     let mut front = Vec::new(alloc);
     let mut limited = image.take(FRONT);

@@ -112,17 +112,19 @@ fn a_file_that_is_there_is_left_alone(rt: HostRuntime) -> Result<(), Fail> {
     );
     assert!(rt; fs::read(&rt, path.as_str())?.as_slice() == "not an image".as_bytes());
     fs::remove_file(&rt, path.as_str())?;
-    assert!(rt;
-        formatted(
-            &rt,
-            ".",
-            sizes,
-            ["--max", "0"],
-            2,
-            "",
-            "jb: cannot make .\n"
-        )
-    );
+    for (name, err) in [
+        (".", "jb: cannot make .\n"),
+        ("", "jb: cannot make \n"),
+        (
+            "no-such-folder/a.img",
+            "jb: cannot make no-such-folder/a.img\n",
+        ),
+    ] {
+        assert!(rt;
+            formatted(&rt, name, sizes, ["--max", "0"], 2, "", err),
+            "{name}"
+        );
+    }
     Ok(())
 }
 
@@ -251,6 +253,18 @@ fn a_refused_image_stays_as_it_was(rt: HostRuntime) -> Result<(), Fail> {
         assert!(rt; fs::read(&rt, path.as_str())?.as_slice() == cut);
         fs::remove_file(&rt, path.as_str())?;
     }
+    Ok(())
+}
+
+#[test]
+fn an_image_without_a_whole_block_is_short(rt: HostRuntime) -> Result<(), Fail> {
+    let mut image = Vec::new(rt.alloc());
+    add_block(&mut image, &[MAGIC, 4, 0, 4096, 33, 1, 2, 0, 0, 0, 1, 0])?;
+    let path = bytes_file(&rt, "short.img", image.as_slice()).expect(&rt, "a file");
+    let err = "jb: Super ShortBlock\n";
+    assert!(rt; recovered(&rt, path.as_str(), 1, "", err));
+    assert!(rt; fs::read(&rt, path.as_str())?.as_slice() == image.as_slice());
+    fs::remove_file(&rt, path.as_str())?;
     Ok(())
 }
 
