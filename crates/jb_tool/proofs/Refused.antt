@@ -2,7 +2,7 @@
 use Rattle.std.proofs.Common.{◌≡◌, ◌⊎◌, ℕ, List, [], Option, Some, None, Err, IfSome, refl, subst, inl, inr}
 use Rattle.jb_words.specs.Faults.{HasKind, Kinds, kind_of}
 use Rattle.jb_words.specs.Named.{Asked}
-use Rattle.jb_words.specs.Named.Asked.{AsksCheck, AsksCost, AsksDump, AsksPlan}
+use Rattle.jb_words.specs.Named.Asked.{AsksCheck, AsksCost, AsksDump, AsksFormat, AsksPlan, AsksRecover}
 use Rattle.jb_words.specs.declared.ErrorKind.TheVariants.{OutOfMemory}
 use Rattle.jb_words.specs.declared.Error.{Error}
 use Rattle.jb_tool.specs.Runs.{Closes, Runs}
@@ -15,6 +15,8 @@ memory_runs : (asked : Asked) (input : Option (List ℕ)) (old new : Held) (stat
 memory_runs (AsksCost file) input old new status closed = (Err Memory, old, inr (Memory, refl, tt, refl), closed)
 memory_runs (AsksPlan file) input old new status closed = (Err Memory, old, inr (Memory, refl, tt, refl), closed)
 memory_runs (AsksCheck file cert) input old new status closed = (Err Memory, old, inr (Memory, refl, inl tt, refl), closed)
+memory_runs (AsksFormat image options) input old new status closed = (Err Memory, old, inl (Memory, refl, tt, refl), closed)
+memory_runs (AsksRecover image) input old new status closed = (Err Memory, old, inl (Memory, refl, tt, refl), closed)
 memory_runs (AsksDump file) input old new status closed = (Err Memory, old, (inr (Memory, refl, tt, refl), refl), closed)
 
 pub refused_runs : (kinds : Kinds) (error : Error) (asked : Option Asked) (input : Option (List ℕ)) (old new : Held) (status : ℕ)

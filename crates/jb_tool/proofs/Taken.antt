@@ -18,3 +18,9 @@ pub whole : (known : Option (List ℕ)) (text : List ℕ) (limit : ℕ) → IfSo
     → length text ≤ limit → IfSome known (λ bytes. text ≡ bytes)
 whole None text limit is within = tt
 whole (Some xs) text limit is within = uncut xs text limit is within
+
+-- a reader that was cut at a limit gave the beginning of what it had
+pub beginning : (known : Option (List ℕ)) (text : List ℕ) (limit : ℕ) → IfSome (option_map (take limit) known) (λ xs. text ≡ [] ++ xs)
+    → IfSome known (λ bytes. text ≡ take limit bytes)
+beginning None text limit is = tt
+beginning (Some xs) text limit is = is

@@ -4,7 +4,7 @@ use Rattle.jb_dump.specs.Dumps.{Dumps}
 use Rattle.jb_dump.specs.declared.fault.DumpFault.{DumpFault}
 use Rattle.jb_dump.specs.declared.fault.DumpFault.TheVariants.{ReadFault as NotRead, WriteFault as NotWritten, Super as BadSuper, BadRevoke as BadRevokeAt, Memory as OutOfMemory}
 use Rattle.jb_tool.specs.declared.stop.Stop.{Stop}
-use Rattle.jb_tool.specs.declared.stop.Stop.TheVariants.{CannotRead, TooLong, ReadFault, Super, BadRevoke, Memory, WriteFault}
+use Rattle.jb_tool.specs.declared.stop.Stop.TheVariants.{CannotRead, ReadFault, Super, BadRevoke, Memory, WriteFault}
 
 -- the stop that a fault of a dump is told as
 abbrev pub stop_for : DumpFault → Stop
@@ -22,12 +22,8 @@ end_by (Err fault) = Err (stop_for fault)
 -- the file of this name was not opened
 abbrev pub IsUnopened : List ℕ → Stop → Type 0
 IsUnopened name (CannotRead told) = told.now ≡ name
-IsUnopened name (TooLong told) = ⊥
-IsUnopened name ReadFault = ⊥
-IsUnopened name (Super fault) = ⊥
-IsUnopened name (BadRevoke place) = ⊥
 IsUnopened name Memory = Unit {0}
-IsUnopened name WriteFault = ⊥
+IsUnopened name _ = ⊥
 
 -- some bytes were read, and what a dump writes of them was written; or the file was not opened, and nothing was written
 abbrev pub DumpsFile : List ℕ → Option (List ℕ) → Option (List ℕ) → Result ℕ Stop → Type 0

@@ -2,8 +2,11 @@ pub mod Check
 pub mod Cost
 pub mod Dump
 pub mod Faulty
+pub mod Format
+pub mod Options
 pub mod Plan
 pub mod Puts
+pub mod Recover
 pub mod Runs
 pub mod Said
 pub mod Stops

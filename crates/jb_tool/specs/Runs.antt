@@ -2,16 +2,18 @@
 use Rattle.std.specs.Prelude.{◌≡◌, ◌<◌, ◌≤◌, ◌⊎◌, ℕ, List, Option, None, Result, Ok, Err, IfSome, codes, if◌then◌else◌, length}
 use Rattle.std.specs.Str.{bytes_eq}
 use Rattle.jb_words.specs.Named.{Asked}
-use Rattle.jb_words.specs.Named.Asked.{AsksCheck, AsksCost, AsksDump, AsksPlan}
+use Rattle.jb_words.specs.Named.Asked.{AsksCheck, AsksCost, AsksDump, AsksFormat, AsksPlan, AsksRecover}
 use Rattle.jb_tool.specs.Check.{CheckSays}
 use Rattle.jb_tool.specs.Cost.{cost_said}
 use Rattle.jb_tool.specs.Dump.{DumpsFile}
+use Rattle.jb_tool.specs.Format.{EndsOfFormat}
 use Rattle.jb_tool.specs.Plan.{PlanSays}
 use Rattle.jb_tool.specs.Puts.{PutsPart}
+use Rattle.jb_tool.specs.Recover.{EndsOfRecover}
 use Rattle.jb_tool.specs.Said.{Held, Said, Tells}
 use Rattle.jb_tool.specs.Stops.{line_of, status_of}
 use Rattle.jb_tool.specs.declared.stop.Stop.{Stop}
-use Rattle.jb_tool.specs.declared.stop.Stop.TheVariants.{CannotRead, TooLong, ReadFault, Super, BadRevoke, Memory, WriteFault}
+use Rattle.jb_tool.specs.declared.stop.Stop.TheVariants.{CannotRead, TooLong, Memory}
 
 -- the most bytes of a text
 abbrev pub text_limit : ℕ
@@ -29,11 +31,8 @@ IsText known text = IfSome known (λ bytes. text ≡ bytes) × (length text ≤ 
 abbrev pub HasNoText : List ℕ → Option (List ℕ) → Stop → Type 0
 HasNoText name known (TooLong told) = (told.now ≡ name) × IfSome known (λ bytes. text_limit < length bytes)
 HasNoText name known (CannotRead told) = told.now ≡ name
-HasNoText name known ReadFault = ⊥
-HasNoText name known (Super fault) = ⊥
-HasNoText name known (BadRevoke place) = ⊥
 HasNoText name known Memory = Unit {0}
-HasNoText name known WriteFault = ⊥
+HasNoText name known _ = ⊥
 
 -- a command told what it has to say of the text behind this name, or ended without a word for want of the text or of memory
 abbrev pub Ends : (List ℕ → Said → Type 0) → List ℕ → Option (List ℕ) → Held → Held → Result ℕ Stop → Type 0
@@ -64,6 +63,8 @@ EndsAsked (AsksCost file) = Ends (λ text words. words ≡ cost_said text) file
 EndsAsked (AsksPlan file) = Ends PlanSays file
 EndsAsked (AsksCheck file cert) = λ _. EndsOfTwo CheckSays file cert
 EndsAsked (AsksDump file) = λ _. EndsOfDump file
+EndsAsked (AsksFormat image options) = λ _. EndsOfFormat image options
+EndsAsked (AsksRecover image) = λ _. EndsOfRecover image
 
 -- the whole run of the command that the words ask for
 abbrev pub Runs : Asked → Option (List ℕ) → Held → Held → ℕ → Type 0

@@ -9,13 +9,14 @@ use crate::running::run_plain;
 use crate::stop::Stop;
 use jb_words::{Error, ErrorKind, Plain, parse};
 use std::convert::AsStr;
+use std::fs::File;
 use std::io::{Read, Write};
 use std::rt::Files;
 
 /// Runs `jb` with these words, the program's name left out, and gives its exit status. With no words it acts as
 /// `jb cost -`. Words that are no command are answered by clap's text: status 2 and `err`, or status 0 and `out` for
 /// help and the version.
-pub fn run<R: Files + AllocGlobal, S: AsStr, I: Read, O: Write, E: Write>(
+pub fn run<R: Files<File = File> + AllocGlobal, S: AsStr, I: Read, O: Write, E: Write>(
     rt: &R,
     words: &[S],
     input: &mut I,

@@ -1,6 +1,6 @@
 ghost use Rattle.std.specs.Prelude.{◌++◌, codes, decimal};
 ghost use Rattle.jb_tool.specs.Puts.{PutsPart};
-ghost use Rattle.jb_tool.specs.SuperLine.{feature_line, super_line};
+ghost use Rattle.jb_tool.specs.SuperLine.{pair_line, super_line};
 
 use crate::putting::{put, put_line};
 use itoa::Buffer;
@@ -29,20 +29,27 @@ pub(crate) fn put_super_line<W: Write>(writer: &mut W, fault: SuperFault)
             put_number_line(writer, "jb: Super BlockSize ", u64::from(size));
         }
         SuperFault::Geometry => put_line(writer, "jb: Super ", "Geometry"),
-        SuperFault::Feature { word, bits } => put_feature_line(writer, word, bits),
+        SuperFault::Feature { word, bits } => {
+            put_pair_line(
+                writer,
+                "jb: Super Feature ",
+                u64::from(word),
+                u64::from(bits),
+            );
+        }
     }
 }
 
-// Writes the line of a feature word with bits that are not taken.
-fn put_feature_line<W: Write>(writer: &mut W, word: u32, bits: u32)
-    ensures puts { PutsPart (W.contents writer.old) (W.contents writer.new) (feature_line word bits) }
+/// Writes a line that ends with two numbers, as far as the writer takes it, and takes no memory.
+pub(crate) fn put_pair_line<W: Write>(writer: &mut W, cause: &str, first: u64, second: u64)
+    ensures puts { PutsPart (W.contents writer.old) (W.contents writer.new) (pair_line cause.now first second) }
 {
     let mut digits = Buffer::new();
-    let Ok(()) = put(writer, "jb: Super Feature ".as_bytes()) else {
+    let Ok(()) = put(writer, cause.as_bytes()) else {
         return;
     };
-    let Ok(()) = put(writer, digits.format(word).as_bytes()) else {
+    let Ok(()) = put(writer, digits.format(first).as_bytes()) else {
         return;
     };
-    put_number_line(writer, " ", u64::from(bits));
+    put_number_line(writer, " ", second);
 }

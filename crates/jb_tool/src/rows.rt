@@ -4,14 +4,31 @@ mod checks;
 mod costs;
 mod dumps;
 mod files;
+mod images;
 mod plans;
 mod refusals;
 mod streams;
 mod texts;
 
 use crate::run;
+use std::alloc::AllocError;
 use std::path::PathBuf;
 use std::{env, fs};
+
+// The magic number with which each block of a journal's own begins.
+const MAGIC: u32 = 0xC03B_3998;
+
+// The UUID of the journals here.
+const UUID: [u32; 4] = [0x0001_0203, 0x0405_0607, 0x0809_0A0B, 0x0C0D_0E0F];
+
+// Adds a block of 1,024 bytes that begins with these words, and is zero behind them.
+fn add_block(journal: &mut Vec<u8>, words: &[u32]) -> Result<(), AllocError> {
+    let end = journal.len() + 1024;
+    for word in words {
+        journal.extend_from_slice(&word.to_be_bytes())?;
+    }
+    journal.resize(end, 0)
+}
 
 // Whether a run with these words and this input ends with this status, and writes just these two texts.
 fn runs(rt: &HostRuntime, words: &[&str], input: &[u8], status: u8, out: &str, err: &str) -> bool {

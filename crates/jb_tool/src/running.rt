@@ -7,12 +7,15 @@ use crate::answer::tell;
 use crate::check::check_answer;
 use crate::cost::cost_answer;
 use crate::dumping::dump_file;
+use crate::making::format_image;
 use crate::plan::plan_answer;
 use crate::queue_fault::fault_told;
 use crate::reading::{read_file, read_text};
+use crate::recovering::recover_image;
 use crate::stop::Stop;
 use jb_handle::read_queue;
 use jb_words::Plain;
+use std::fs::File;
 use std::io::{Read, Write};
 use std::rt::Files;
 
@@ -20,7 +23,7 @@ use std::rt::Files;
 ///
 /// # Errors
 /// The reason where the command ends without an answer; nothing was written then, but for `Stop::WriteFault`.
-pub fn perform<'a, R: Files + AllocGlobal, I: Read, O: Write, E: Write>(
+pub fn perform<'a, R: Files<File = File> + AllocGlobal, I: Read, O: Write, E: Write>(
     rt: &R,
     plain: Plain<'a>,
     input: &mut I,
@@ -44,6 +47,8 @@ pub fn perform<'a, R: Files + AllocGlobal, I: Read, O: Write, E: Write>(
         }
         Plain::Check { file, cert } => perform_check(rt, file, cert, out, err),
         Plain::Dump { file } => dump_file(rt, file, out),
+        Plain::Format { image, options } => format_image(rt, image, options, out, err),
+        Plain::Recover { image } => recover_image(rt, image, out, err),
     }
 }
 
@@ -74,7 +79,7 @@ fn perform_check<'a, R: Files + AllocGlobal, O: Write, E: Write>(
 }
 
 /// Runs a command and gives the program's exit status; a command that ends without an answer has its line on `err`.
-pub fn run_plain<R: Files + AllocGlobal, I: Read, O: Write, E: Write>(
+pub fn run_plain<R: Files<File = File> + AllocGlobal, I: Read, O: Write, E: Write>(
     rt: &R,
     plain: Plain<'_>,
     input: &mut I,

@@ -1,6 +1,7 @@
 -- The command line of `jb`, in the words by which clap's contracts tell what a parse finds.
-use Rattle.std.specs.Prelude.{true, codes}
+use Rattle.std.specs.Prelude.{true, codes, [], ◌∷◌, Some}
 use Rattle.clap.specs.Words.{App, Rule, Text, new_app, new_rule, with_rule, with_subcommand}
+use Rattle.clap.specs.declared.builder.value_parser.ValueParser.TheVariants.{Unsigned}
 
 -- a word that has to be there
 abbrev pub required_word : Text → Rule
@@ -17,6 +18,50 @@ check_app = with_rule (file_app (codes "check")) (required_word (codes "CERT"))
 -- `dump FILE`
 abbrev pub dump_app : App
 dump_app = file_app (codes "dump")
+
+-- an option with a number that has to fit 64 bits
+abbrev pub number_option : Text → Rule
+number_option name = record (new_rule name) {
+  long = Some name;
+  value_names = 1;
+  parser = Some (Unsigned 0 18446744073709551615);
+}
+
+-- the same, where it has to be there
+abbrev pub required_number : Text → Rule
+required_number name = record (number_option name) { required = true }
+
+-- `--max N`, 0 where it is left out
+abbrev pub max_option : Rule
+max_option = record (number_option (codes "max")) { defaults = codes "0" ∷ [] }
+
+-- `--uuid HEX`, 32 zeros where it is left out
+abbrev pub uuid_option : Rule
+uuid_option = record (new_rule (codes "uuid")) {
+  long = Some (codes "uuid");
+  value_names = 1;
+  defaults = codes "00000000000000000000000000000000" ∷ [];
+}
+
+-- a command over one image
+abbrev pub image_app : Text → App
+image_app name = with_rule (new_app name) (required_word (codes "IMAGE"))
+
+-- `format IMAGE --bs N`
+abbrev pub sized_app : App
+sized_app = with_rule (image_app (codes "format")) (required_number (codes "bs"))
+
+-- `format IMAGE --bs N --journal N --homes N`
+abbrev pub laid_out_app : App
+laid_out_app = with_rule (with_rule sized_app (required_number (codes "journal"))) (required_number (codes "homes"))
+
+-- `format IMAGE --bs N --journal N --homes N [--max N] [--uuid HEX]`
+abbrev pub format_app : App
+format_app = with_rule (with_rule laid_out_app max_option) uuid_option
+
+-- `recover IMAGE`
+abbrev pub recover_app : App
+recover_app = image_app (codes "recover")
 
 -- `jb`: its words begin with a command, and it has a version
 abbrev pub jb_top : App
@@ -35,4 +80,4 @@ queues_app =
 
 -- `jb` with its commands
 abbrev pub jb_app : App
-jb_app = with_subcommand queues_app dump_app.top
+jb_app = with_subcommand (with_subcommand (with_subcommand queues_app dump_app.top) format_app.top) recover_app.top

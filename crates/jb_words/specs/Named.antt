@@ -1,10 +1,22 @@
 -- Which command a list of words asks for, by what clap finds in it.
-use Rattle.std.specs.Prelude.{List, Option, None, codes, if◌then◌else◌, option_and_then, option_map}
+use Rattle.std.specs.Prelude.{ℕ, ◌^◌, ◌&&◌, List, length, nat_lt, Option, Some, None, codes, if◌then◌else◌, option_and_then, option_map}
+use Rattle.std.specs.Char.{digit_value}
+use Rattle.std.specs.List.{list_all}
 use Rattle.std.specs.Str.{bytes_eq}
-use Rattle.clap.specs.Words.{Row, Text, first_of, subcommand_of}
+use Rattle.std.specs.Str.Parse.{digits_value, without_leading_plus}
+use Rattle.clap.specs.Words.{Row, Text, first_of, one_of, subcommand_of}
 use Rattle.jb_words.specs.App.{jb_app}
+use Rattle.jb_words.specs.declared.plain.FormatOptions.{FormatOptions}
 use Rattle.jb_words.specs.declared.plain.Plain.{Plain}
-use Rattle.jb_words.specs.declared.plain.Plain.TheVariants.{Check, Cost, Dump, Plan}
+use Rattle.jb_words.specs.declared.plain.Plain.TheVariants.{Check, Cost, Dump, Format, Plan, Recover}
+
+-- the options of `format` as they were given
+pub record Options : Type 0 where
+  pub bs : ℕ
+  pub journal : ℕ
+  pub homes : ℕ
+  pub max : ℕ
+  pub uuid : Text
 
 -- a command with its words
 pub data Asked : Type 0 where
@@ -12,6 +24,12 @@ pub data Asked : Type 0 where
   AsksPlan : Text → Asked
   AsksCheck : Text → Text → Asked
   AsksDump : Text → Asked
+  AsksFormat : Text → Options → Asked
+  AsksRecover : Text → Asked
+
+-- what a value of the program's own options says
+abbrev pub options_said : FormatOptions → Options
+options_said o = record { bs = o.bs; journal = o.journal; homes = o.homes; max = o.max; uuid = o.uuid.now }
 
 -- what a value of the program's own type asks for
 abbrev pub asks : Plain → Asked
@@ -19,6 +37,8 @@ asks (Cost file) = AsksCost file.now
 asks (Plan file) = AsksPlan file.now
 asks (Check file cert) = AsksCheck file.now cert.now
 asks (Dump file) = AsksDump file.now
+asks (Format image options) = AsksFormat image.now (options_said options)
+asks (Recover image) = AsksRecover image.now
 
 -- the file of a command over one file
 abbrev pub file_in : List Row → Option Text
@@ -29,6 +49,29 @@ abbrev pub check_in : List Row → Option Asked
 check_in rows =
     option_and_then (λ file. option_map (λ cert. AsksCheck file cert) (first_of (codes "CERT") rows)) (file_in rows)
 
+-- the number that a text writes in decimal digits, perhaps behind a plus, where it fits 64 bits
+abbrev pub number_said : Text → Option ℕ
+number_said text =
+    let digits = without_leading_plus text in
+    if nat_lt 0 (length digits) && (list_all (λ d. nat_lt (digit_value d) 10) digits && nat_lt (digits_value 10 digits) (2 ^ 64))
+    then Some (digits_value 10 digits) else None
+
+-- the number under a name
+abbrev pub number_in : Text → List Row → Option ℕ
+number_in name rows = option_and_then number_said (one_of name rows)
+
+-- the options of `format`
+abbrev pub options_in : List Row → Option Options
+options_in rows =
+    option_and_then (λ bs. option_and_then (λ journal. option_and_then (λ homes. option_and_then (λ max.
+    option_map (λ uuid. record { bs = bs; journal = journal; homes = homes; max = max; uuid = uuid }) (first_of (codes "uuid") rows))
+    (number_in (codes "max") rows)) (number_in (codes "homes") rows)) (number_in (codes "journal") rows)) (number_in (codes "bs") rows)
+
+-- `format IMAGE ..`
+abbrev pub format_in : List Row → Option Asked
+format_in rows =
+    option_and_then (λ image. option_map (λ options. AsksFormat image options) (options_in rows)) (first_of (codes "IMAGE") rows)
+
 -- the command of this name, with the words that stand under the names of its arguments
 abbrev pub asked : Text → List Row → Option Asked
 asked name rows =
@@ -36,6 +79,8 @@ asked name rows =
     else if bytes_eq name (codes "plan") then option_map (λ file. AsksPlan file) (file_in rows)
     else if bytes_eq name (codes "check") then check_in rows
     else if bytes_eq name (codes "dump") then option_map (λ file. AsksDump file) (file_in rows)
+    else if bytes_eq name (codes "format") then format_in rows
+    else if bytes_eq name (codes "recover") then option_map (λ image. AsksRecover image) (first_of (codes "IMAGE") rows)
     else None
 
 -- the command that a parse found

@@ -3,11 +3,14 @@ ghost use Rattle.clap.specs.Words.{app_of, rule_of};
 ghost use Rattle.clap.specs.declared.builder.command.Command.TheViews.{out-Command as fields_of};
 ghost use Rattle.jb_words.specs.App.{check_app, dump_app, file_app, jb_app, jb_top, queues_app, required_word as word_rule};
 
+mod images;
+
 use clap::{Arg, Command};
+use images::{format, recover};
 use std::alloc::{AllocError, Global};
 
-// A word that has to be there, by the name that usage shows.
-fn required_word<'a>(alloc: Global, name: &'a str) -> Arg<'a>
+/// A word that has to be there, by the name that usage shows.
+pub(crate) fn required_word<'a>(alloc: Global, name: &'a str) -> Arg<'a>
     ensures rule { rule_of result ≡ word_rule name.entry.now }
     ensures own { result.global ≡ false }
 {
@@ -100,5 +103,7 @@ pub fn jb_command<'a>(alloc: Global) -> Result<Command<'a>, AllocError>
     ensures own { IfOk result (λ c. (fields_of c).has_globals ≡ false) }
 {
     let jb = jb_over_queues(alloc)?;
-    jb.subcommand(dump(alloc)?)
+    let jb = jb.subcommand(dump(alloc)?)?;
+    let jb = jb.subcommand(format(alloc)?)?;
+    jb.subcommand(recover(alloc)?)
 }

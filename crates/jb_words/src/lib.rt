@@ -7,7 +7,7 @@ mod words;
 
 pub use clap::Error;
 pub use clap::error::ErrorKind;
-pub use plain::Plain;
+pub use plain::{FormatOptions, Plain};
 pub use words::parse;
 
 #[cfg(test)]

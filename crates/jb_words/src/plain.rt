@@ -23,4 +23,31 @@ pub enum Plain<'a> {
         /// The file with the whole journal.
         file: &'a str,
     },
+    /// `jb format IMAGE ..`: a new file with a journal and home blocks.
+    Format {
+        /// The file to make.
+        image: &'a str,
+        /// What it is to be.
+        options: FormatOptions<'a>,
+    },
+    /// `jb recover IMAGE`: the home blocks of an image as the committed transactions of its journal leave them.
+    Recover {
+        /// The file with the journal and the home blocks.
+        image: &'a str,
+    },
+}
+
+/// The options of `jb format` as they were given, not judged as yet.
+#[derive(Clone, Copy, Debug, PartialEq, Eq)]
+pub struct FormatOptions<'a> {
+    /// `--bs`: how many bytes a block has.
+    pub bs: u64,
+    /// `--journal`: how many blocks the journal has, its superblock counted.
+    pub journal: u64,
+    /// `--homes`: how many blocks stand behind the journal.
+    pub homes: u64,
+    /// `--max`: the most log blocks of a transaction, 0 for a quarter of the log.
+    pub max: u64,
+    /// `--uuid`: the journal's UUID in hexadecimal digits.
+    pub uuid: &'a str,
 }

@@ -3,10 +3,10 @@ ghost use Rattle.clap.specs.Kinds.{FailsBy};
 ghost use Rattle.clap.specs.Words.{app_of, first_of, found_of, rows_of, subcommand_of, subcommand_rows_of};
 ghost use Rattle.jb_words.specs.App.{jb_app};
 ghost use Rattle.jb_words.specs.Faults.{HasKind, faults_in};
-ghost use Rattle.jb_words.specs.Named.{asked_in, asked_of, asks, check_in};
+ghost use Rattle.jb_words.specs.Named.{asked_in, asked_of, asks, check_in, format_in, number_in, options_in, options_said};
 
 use crate::commands::jb_command;
-use crate::plain::Plain;
+use crate::plain::{FormatOptions, Plain};
 use clap::error::ErrorKind;
 use clap::{ArgMatches, Command, Error};
 use std::alloc::Global;
@@ -58,6 +58,10 @@ fn plain_of<'a>(matches: &ArgMatches<'a>) -> Option<Plain<'a>>
         "dump" => Some(Plain::Dump {
             file: word_of(found, "FILE")?,
         }),
+        "format" => format_of(found),
+        "recover" => Some(Plain::Recover {
+            image: word_of(found, "IMAGE")?,
+        }),
         _ => None,
     }
 }
@@ -70,6 +74,36 @@ fn check_of<'a>(found: &ArgMatches<'a>) -> Option<Plain<'a>>
         file: word_of(found, "FILE")?,
         cert: word_of(found, "CERT")?,
     })
+}
+
+// The words of `jb format`.
+fn format_of<'a>(found: &ArgMatches<'a>) -> Option<Plain<'a>>
+    ensures { option_map asks result ≡ format_in (rows_of (found_of found.now)) }
+{
+    Some(Plain::Format {
+        image: word_of(found, "IMAGE")?,
+        options: options_of(found)?,
+    })
+}
+
+// The options of `jb format`.
+fn options_of<'a>(found: &ArgMatches<'a>) -> Option<FormatOptions<'a>>
+    ensures { option_map options_said result ≡ options_in (rows_of (found_of found.now)) }
+{
+    Some(FormatOptions {
+        bs: number_of(found, "bs")?,
+        journal: number_of(found, "journal")?,
+        homes: number_of(found, "homes")?,
+        max: number_of(found, "max")?,
+        uuid: word_of(found, "uuid")?,
+    })
+}
+
+// The number that was given under this name.
+fn number_of(found: &ArgMatches<'_>, name: &str) -> Option<u64>
+    ensures { result ≡ number_in name.now (rows_of (found_of found.now)) }
+{
+    found.get_one(name)
 }
 
 // The word that was given under this name.

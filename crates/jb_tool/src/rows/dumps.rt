@@ -1,10 +1,6 @@
-use super::{bytes_file, runs};
+use super::{MAGIC, UUID, add_block, bytes_file, runs};
 use std::alloc::{AllocError, Global};
 use std::fs;
-
-const MAGIC: u32 = 0xC03B_3998;
-
-const UUID: [u32; 4] = [0x0001_0203, 0x0405_0607, 0x0809_0A0B, 0x0C0D_0E0F];
 
 // A transaction of one copy, of a block that begins with the magic, and one revoke; its commit stamp is zero.
 const REVOKE: &[u32] = &[MAGIC, 5, 2, 20, 7];
@@ -14,15 +10,6 @@ const DESCRIPTOR: &[u32] = &[MAGIC, 1, 2, 5, 9, UUID[0], UUID[1], UUID[2], UUID[
 const COPY: &[u32] = &[0, 0x0102_0304];
 
 const COMMIT: &[u32] = &[MAGIC, 2, 2];
-
-// Adds a block of 1,024 bytes that begins with these words, and is zero behind them.
-fn add_block(journal: &mut Vec<u8>, words: &[u32]) -> Result<(), AllocError> {
-    let end = journal.len() + 1024;
-    for word in words {
-        journal.extend_from_slice(&word.to_be_bytes())?;
-    }
-    journal.resize(end, 0)
-}
 
 // A journal of 33 blocks where front and back have four: its superblock with this start and these incompatible features,
 // the front, 28 blocks of zeros, and the back.

@@ -12,3 +12,8 @@ returns-in-BlockSize g c = record {
 
 pub returns-in-Geometry : goal.returns-in-Geometry
 returns-in-Geometry g c = record { puts = rw c.in-Geometry.is c.put_line-in-Geometry.ensures.puts }
+
+pub returns-in-Feature : goal.returns-in-Feature
+returns-in-Feature g c = record {
+  puts = rw c.in-Feature.is (rw (c.from-in-Feature.ensures, c.from-in-Feature-2.ensures) at c.put_pair_line.ensures.puts);
+}
