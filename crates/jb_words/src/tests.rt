@@ -24,58 +24,58 @@ fn a_command_with_its_word_is_taken(rt: HostRuntime) {
     }
 }
 
+// Whether the words are taken as `jb format a.img` with these options.
+fn is_format(alloc: Global, words: &[&str], options: FormatOptions<'_>) -> bool {
+    let image = "a.img";
+    let plain = Plain::Format { image, options };
+    matches!(parse(alloc, words), Ok(given) if given == plain)
+}
+
 #[test]
 fn the_options_of_a_new_image_are_read_in_any_order(rt: HostRuntime) {
-    let uuid = "000102030405060708090A0b0c0d0e0f";
-    let all = FormatOptions {
+    let words = [
+        "format",
+        "--uuid",
+        "000102030405060708090A0b0c0d0e0f",
+        "--max=6",
+        "a.img",
+        "--homes",
+        "16",
+        "--journal",
+        "33",
+        "--bs",
+        "1024",
+    ];
+    let options = FormatOptions {
         bs: 1024,
         journal: 33,
         homes: 16,
         max: 6,
-        uuid,
+        uuid: "000102030405060708090A0b0c0d0e0f",
     };
-    let few = FormatOptions {
+    assert!(rt; is_format(rt.alloc(), &words, options));
+}
+
+#[test]
+fn options_that_are_left_out_are_zeros(rt: HostRuntime) {
+    let words = [
+        "format",
+        "a.img",
+        "--bs",
+        "+1024",
+        "--journal",
+        "033",
+        "--homes",
+        "16",
+    ];
+    let options = FormatOptions {
+        bs: 1024,
+        journal: 33,
+        homes: 16,
         max: 0,
         uuid: "00000000000000000000000000000000",
-        ..all
     };
-    for (words, options) in [
-        (
-            [
-                "format",
-                "--uuid",
-                uuid,
-                "--max=6",
-                "a.img",
-                "--homes",
-                "16",
-                "--journal",
-                "33",
-                "--bs",
-                "1024",
-            ]
-            .as_slice(),
-            all,
-        ),
-        (
-            [
-                "format",
-                "a.img",
-                "--bs",
-                "+1024",
-                "--journal",
-                "033",
-                "--homes",
-                "16",
-            ]
-            .as_slice(),
-            few,
-        ),
-    ] {
-        let image = "a.img";
-        let plain = Plain::Format { image, options };
-        assert!(rt; matches!(parse(rt.alloc(), words), Ok(given) if given == plain));
-    }
+    assert!(rt; is_format(rt.alloc(), &words, options));
 }
 
 #[test]
