@@ -12,36 +12,42 @@ impl Play<(), Front> for Entry {
     ghost then = { Enters };
 }
 
+/// A load of the settled count: the view takes it.
 pub struct LoadSettled;
 
 impl Play<(), Front> for LoadSettled {
     ghost then = { SeesSettled };
 }
 
+/// A load of the taken count: the view takes it.
 pub struct LoadTaken;
 
 impl Play<(), Front> for LoadTaken {
     ghost then = { SeesTaken };
 }
 
+/// A load of the stopped count: the view takes it.
 pub struct LoadStopped;
 
 impl Play<(), Front> for LoadStopped {
     ghost then = { SeesStopped };
 }
 
+/// A raise of the settled count: the view is raised to the value.
 pub struct RaiseSettled;
 
 impl Play<(), Front> for RaiseSettled {
     ghost then = { RaisesSettled };
 }
 
+/// A raise of the taken count: the view is raised to the value.
 pub struct RaiseTaken;
 
 impl Play<(), Front> for RaiseTaken {
     ghost then = { RaisesTaken };
 }
 
+/// A raise of the stopped count: the view is raised to the value.
 pub struct RaiseStopped;
 
 impl Play<(), Front> for RaiseStopped {

@@ -32,7 +32,7 @@ impl Model for Gathered {
 }
 
 impl Gathered {
-    // No words.
+    /// No words.
     pub fn new(alloc: Global) -> Gathered
         ensures { result ≡ map.empty }
     {
@@ -41,7 +41,7 @@ impl Gathered {
         }
     }
 
-    // Puts a word in the place of the one that the home block had, or as its first.
+    /// Puts a word in the place of the one that the home block had, or as its first.
     pub fn put(&mut self, home: u64, word: Word) -> Result<(), Memory>
         ensures { OnOk result (self.new ≡ map.insert self.old home word) }
     {
