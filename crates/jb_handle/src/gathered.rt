@@ -49,7 +49,7 @@ impl Gathered {
         Ok(())
     }
 
-    // The words in the order of their homes.
+    /// The words in the order of their homes. `Memory` where a growth was refused.
     pub fn into_words(self, alloc: Global) -> Result<Words, Memory>
         ensures { IfOk result (λ words. words ≡ self) }
     {

@@ -12,7 +12,8 @@ use hex::FromHexError;
 use jb_block::{BlockSize, Width};
 use std::alloc::Global;
 
-// The home block that a word of a handle's line names, and the word that it leaves there.
+/// The home block that a word of a handle's line names, and the word that it leaves there; or the cause for
+/// which it is no such word.
 pub fn read_op(
     alloc: Global,
     text: &[u8],
