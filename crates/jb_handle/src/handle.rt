@@ -1,4 +1,4 @@
-ghost use Rattle.std.specs.Prelude.{◌≡◌, ◌≤◌, ◌⊎◌, Some, None, OnOk, OnErr, IfErr};
+ghost use Rattle.std.specs.Prelude.{◌≡◌, ◌⊎◌, Some, None, false, OnOk, OnErr, IfErr};
 ghost use Rattle.std.specs.FinMap as map;
 
 use crate::changes::{Changes, TouchFault};
@@ -81,6 +81,7 @@ impl<S> Handle<S> {
         ensures granted { OnOk result (refusal (changes_of self.old) (Write home bytes.now) ≡ None) }
         ensures err { OnErr result (changes_of self.new ≡ changes_of self.old) }
         ensures refused { IfErr result (λ fault. (fault ≡ Memory) ⊎ (refusal (changes_of self.old) (Write home bytes.now) ≡ Some fault)) }
+        ensures memory { IfErr result (λ fault. fault ≡ Memory → refusal (changes_of self.old) (Write home bytes.now) ≡ None) }
     {
         self.changes.write(home, bytes)
     }
@@ -90,13 +91,14 @@ impl<S> Handle<S> {
     /// # Errors
     ///
     /// The first of these, and the handle is as it was: `NoCredit`, `OutOfRange`, and `Memory` where
-    /// there is none for a further block.
+    /// the block is new and there is none for it.
     pub fn revoke(&mut self, home: u64) -> Result<(), TouchFault>
         ensures seat { holder self.new ≡ holder self.old }
         ensures ok { OnOk result (changes_of self.new ≡ after (changes_of self.old) (Revoke home)) }
         ensures granted { OnOk result (refusal (changes_of self.old) (Revoke home) ≡ None) }
         ensures err { OnErr result (changes_of self.new ≡ changes_of self.old) }
         ensures refused { IfErr result (λ fault. (fault ≡ Memory) ⊎ (refusal (changes_of self.old) (Revoke home) ≡ Some fault)) }
+        ensures memory { IfErr result (λ fault. fault ≡ Memory → (refusal (changes_of self.old) (Revoke home) ≡ None) × (map.contains_key (changes_of self.old).words home ≡ false)) }
     {
         self.changes.revoke(home)
     }
