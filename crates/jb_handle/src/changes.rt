@@ -80,7 +80,7 @@ impl Changes {
     /// How many home blocks were touched.
     pub fn touched(&self) -> u32
         ensures value { result ≡ touched self.now }
-        ensures within { result ≤ self.now.credits }
+        ensures kept { IsKept self.now }
     {
         self.words.len() as u32
     }

@@ -16,7 +16,7 @@ pub struct Handle<S> {
 
 impl<S> Handle<S> {
     ghost use Rattle.jb_handle.specs.Handle.{holder, changes_of};
-    ghost use Rattle.jb_handle.specs.Held.{held, touched, after, refusal};
+    ghost use Rattle.jb_handle.specs.Held.{held, touched, after, refusal, IsKept};
     ghost use Rattle.jb_handle.specs.declared.op.Op.TheVariants.{Write, Revoke};
     ghost use Rattle.jb_handle.specs.declared.changes.TouchFault.TheVariants.{Memory};
 
@@ -38,10 +38,17 @@ impl<S> Handle<S> {
         self.changes.credits()
     }
 
+    /// What the changes of the handle have to fit.
+    pub fn shape(&self) -> Shape
+        ensures { result ≡ (changes_of self.now).shape }
+    {
+        self.changes.shape()
+    }
+
     /// How many home blocks the handle has touched.
     pub fn touched(&self) -> u32
         ensures value { result ≡ touched (changes_of self.now) }
-        ensures within { result ≤ (changes_of self.now).credits }
+        ensures kept { IsKept (changes_of self.now) }
     {
         self.changes.touched()
     }
@@ -55,7 +62,8 @@ impl<S> Handle<S> {
 
     /// The last word on each home block that the handle touched.
     pub fn words(&self) -> &Words
-        ensures { result.now ≡ (changes_of self.now).words }
+        ensures words { result.now ≡ (changes_of self.now).words }
+        ensures kept { IsKept (changes_of self.now) }
     {
         self.changes.words()
     }
@@ -97,6 +105,7 @@ impl<S> Handle<S> {
     pub fn end(self) -> (S, Words)
         ensures seat { result.0 ≡ holder self }
         ensures words { result.1 ≡ (changes_of self).words }
+        ensures kept { IsKept (changes_of self) }
     {
         let Handle { seat, changes } = self;
         (seat, changes.into_words())
