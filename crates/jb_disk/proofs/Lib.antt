@@ -10,6 +10,7 @@ pub mod Outcomes
 pub mod Reached
 pub mod Replays
 pub mod Sectors
+pub mod Stepping
 pub mod Syncs
 pub mod Tables
 pub mod Undoing
