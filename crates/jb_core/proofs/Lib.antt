@@ -1,4 +1,4 @@
-pub mod Pieces
+pub mod Parts
 pub mod Moves
 pub mod Sounds
 pub mod Exact

@@ -1,9 +1,8 @@
 -- Each event leaves the machine sound.
-use Rattle.std.proofs.Common.{◌≡◌, ℕ, zero, suc, ◌+◌, ◌^◌, ◌<◌, ◌≤◌, Bool, true, false, nat_lt, nat_le, cond, ◌||◌, ◌⊎◌, inl, inr, List, [], ◌∷◌, ◌++◌, length, take, drop, sum, Option, Some, None, is_some, Ordering, Less, Equal, Greater, sym, refl, ap, subst, ◌∙◌, le_refl, arith}
+use Rattle.std.proofs.Common.{◌≡◌, ℕ, suc, ◌+◌, ◌^◌, ◌<◌, ◌≤◌, Bool, true, false, nat_lt, nat_le, cond, ◌||◌, ◌⊎◌, inl, inr, List, [], ◌∷◌, ◌++◌, length, take, drop, sum, Option, Some, None, is_some, Ordering, Less, Equal, Greater, sym, refl, ap, subst, ◌∙◌, le_refl, arith}
 use Rattle.std.proofs.lemmas.Bool.Decides.{nat_tests}
 use Rattle.std.proofs.lemmas.List.{length-append, length-drop, append_assoc, append-nil}
-use Rattle.std.proofs.Math.Seq.{drop-append-add}
-use Rattle.std.proofs.lemmas.List.Sums.{sum_by-append, sum_by-take-drop, sum_by-cons}
+use Rattle.std.proofs.lemmas.List.Sums.{sum_by-append, sum_by-take-drop}
 use Rattle.std.proofs.lemmas.Map.Entries.{sum_by-insert_entry, sum_by-remove_entry, sum_by-set_value}
 use Rattle.std.specs.List.{sum_by}
 use Rattle.std.specs.List.Sorted.{IsStrictlySortedBy}
@@ -17,46 +16,23 @@ use Rattle.jb_handle.specs.declared.op.Op.{Op}
 use Rattle.jb_handle.specs.declared.stopped.Stopped.{Stopped}
 use Rattle.jb_handle.specs.Held.{Held, held, first_of}
 use Rattle.jb_handle.specs.Held as handle
-use Rattle.jb_handle.specs.Size.{weight, IsWithinSize}
+use Rattle.jb_handle.specs.Size.{IsWithinSize}
 use Rattle.jb_cost.specs.Cut.{IsCut}
 use Rattle.jb_core.specs.declared.event.CoreFault.{CoreFault}
 use Rattle.jb_core.specs.declared.event.CoreFault.TheVariants.{Busy, TooManyCredits, Full}
 use Rattle.jb_core.specs.declared.event.Event.TheVariants.{Open, Touch, Stop, Abandon, Settle, Checkpoint, Crash, Restart}
-use Rattle.jb_core.specs.Line.{joined, pieces, count}
+use Rattle.jb_cost.specs.Credits.{Covers}
+use Rattle.jb_cost.specs.Pieces.{joined, pieces}
+use Rattle.jb_core.specs.Line.{count}
 use Rattle.jb_core.specs.Machine.{Machine, handle_at, held_at, reserved, is_full, refusal_up, fault_of, stopped_at, after, after_take}
-use Rattle.jb_core.specs.Sound.{Covers, waiting, IsBare, IsSound}
+use Rattle.jb_core.specs.Sound.{waiting, IsBare, IsSound}
 use Rattle.jb_handle.specs.declared.changes.TouchFault.{TouchFault}
 use Rattle.jb_handle.specs.declared.changes.TouchFault.TheVariants as touch
 use Rattle.jb_core.specs.Steps.{Refuses}
 use Rattle.jb_core.specs.State.{machine_of, IsKept}
 use Rattle.jb_core.specs.declared.state.State.TheInside.{Inside}
-use Rattle.jb_core.proofs.Pieces.{joined-cut}
-
--- ---- handles within their credits
-
-covers-append : (cs ds : List ℕ) (hs ks : List Stopped) → Covers cs hs → Covers ds ks → Covers (cs ++ ds) (hs ++ ks)
-covers-append [] ds [] ks a b = b
-covers-append [] ds (h ∷ hs) ks a b = absurd a
-covers-append (c ∷ cs) ds [] ks a b = absurd a
-covers-append (c ∷ cs) ds (h ∷ hs) ks a b = (a.0, covers-append cs ds hs ks a.1 b)
-
-covers-drop : (k : ℕ) (cs : List ℕ) (hs : List Stopped) → Covers cs hs → Covers (drop k cs) (drop k hs)
-covers-drop zero cs hs a = a
-covers-drop (suc k) [] [] a = tt
-covers-drop (suc k) [] (h ∷ hs) a = absurd a
-covers-drop (suc k) (c ∷ cs) [] a = absurd a
-covers-drop (suc k) (c ∷ cs) (h ∷ hs) a = covers-drop k cs hs a.1
-
-covers-weight : (cs : List ℕ) (hs : List Stopped) → Covers cs hs → weight hs ≤ sum cs + length hs
-covers-weight [] [] a = le_refl 0
-covers-weight [] (h ∷ hs) a = absurd a
-covers-weight (c ∷ cs) [] a = absurd a
-covers-weight (c ∷ cs) (h ∷ hs) a =
-    let rest = covers-weight cs hs a.1 in
-    let touched = a.0 in
-    let left = sum_by-cons (λ (g : Stopped). map.len g.words + 1) h hs in
-    let right = sum_by-cons (λ (x : ℕ). x) c cs in
-    omega arith
+use Rattle.jb_cost.proofs.Granted.{covers-append, covers-drop, covers-weight}
+use Rattle.jb_cost.proofs.Joined.{drop-joined, cut-joined}
 
 -- the planner takes any queue of a machine
 pub queue-size : (m : Machine) → IsSound m → IsWithinSize m.queue
@@ -67,21 +43,6 @@ queue-size m sound =
     let in_life = sound.in_life in
     let tickets = sound.tickets in
     omega arith
-
--- ---- groups joined
-
-pub drop-joined : {A : Type 0} (n : ℕ) (gs : List (List A)) (q : List A) → drop (length (joined (take n gs))) (joined gs ++ q) ≡ joined (drop n gs) ++ q
-drop-joined zero gs q = refl
-drop-joined (suc n) [] q = refl
-drop-joined (suc n) (g ∷ gs) q =
-    ap (λ k. drop k ((g ++ joined gs) ++ q)) (length-append g (joined (take n gs)))
-    ∙ ap (drop (length g + length (joined (take n gs)))) (append_assoc g (joined gs) q)
-    ∙ drop-append-add g (joined gs ++ q) (length (joined (take n gs)))
-    ∙ drop-joined n gs q
-
-pub cut-joined : {A : Type 0} (bounds : List ℕ) (xs : List A) → IsCut (length xs) bounds → joined (pieces bounds xs) ≡ xs
-cut-joined [] xs cut = absurd cut
-cut-joined (a ∷ bs) xs cut = joined-cut a bs xs cut.0 cut.1
 
 -- ---- the open handles
 

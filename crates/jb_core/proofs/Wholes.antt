@@ -18,13 +18,14 @@ use Rattle.jb_core.specs.declared.event.Reply.{Reply}
 use Rattle.jb_core.specs.declared.event.Reply.TheVariants.{Ticket}
 use Rattle.jb_core.specs.declared.event.CoreFault.{CoreFault}
 use Rattle.jb_core.specs.declared.event.CoreFault.TheVariants.{Down, Busy, NoHandle, TooManyCredits, Full, Empty, BatchOut}
-use Rattle.jb_core.specs.Line.{joined, pieces}
+use Rattle.jb_cost.specs.Pieces.{joined, pieces}
+use Rattle.jb_cost.proofs.Joined.{joined-append, cut-joined}
 use Rattle.jb_core.specs.Machine.{Machine, handle_at, held_at, reserved, is_full, refusal, refusal_by, refusal_up, refusal_down, stopped_at, after, reply_of}
 use Rattle.jb_core.specs.Sound.{IsBare}
 use Rattle.jb_core.specs.Steps.{Steps, IsLeast}
 use Rattle.jb_core.specs.Lives.{Log, Answer, ops_of, ticket_in, stop_order, past_orders, stopped_by, handles_of, settled_now, PastKept, IsWhole, log_from}
 use Rattle.jb_core.specs.Ran.{IsStart, Ran}
-use Rattle.jb_core.proofs.Sounds.{opens, found-none, cut-joined, none-left}
+use Rattle.jb_core.proofs.Sounds.{opens, found-none, none-left}
 use Rattle.jb_core.proofs.Seats.{seat-self, Once, AreBy, once-insert, once-set, once-remove, by-same, by-found, by-remove, by-insert, by-set}
 
 -- how a machine stands to its log between two events
@@ -34,10 +35,6 @@ record Stands (log : Log) (m : Machine) : Type 0 where
   lives : m.earlier ≤ length m.settled
   bare : m.up ≡ false → IsBare m
   whole : IsWhole log m
-
-joined-append : {A : Type 0} (xs ys : List (List A)) → joined (xs ++ ys) ≡ joined xs ++ joined ys
-joined-append [] ys = refl
-joined-append (x ∷ xs) ys = ap (λ zs. x ++ zs) (joined-append xs ys) ∙ sym (append_assoc x (joined xs) (joined ys))
 
 -- ---- what an accepted event tells
 

@@ -10,7 +10,7 @@ use Rattle.jb_core.specs.declared.event.Event.TheVariants.{Open, Touch, Stop, Re
 use Rattle.jb_core.specs.declared.event.Reply.{Reply}
 use Rattle.jb_core.specs.declared.event.Reply.TheVariants.{Plain, Ticket}
 use Rattle.jb_core.specs.declared.event.CoreFault.{CoreFault}
-use Rattle.jb_core.specs.Line.{joined}
+use Rattle.jb_cost.specs.Pieces.{joined}
 use Rattle.jb_core.specs.Machine.{Machine}
 
 -- what the machine answered to an event

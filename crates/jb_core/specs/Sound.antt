@@ -1,17 +1,9 @@
 -- What holds of the machine between any two events.
-use Rattle.std.specs.Prelude.{◌≡◌, ℕ, ◌+◌, ◌^◌, ◌≤◌, false, List, [], ◌∷◌, ◌++◌, length}
-use Rattle.std.specs.FinMap as map
+use Rattle.std.specs.Prelude.{◌≡◌, ◌+◌, ◌^◌, ◌≤◌, false, List, [], ◌++◌, length}
 use Rattle.jb_handle.specs.declared.stopped.Stopped.{Stopped}
-use Rattle.jb_core.specs.Line.{joined}
+use Rattle.jb_cost.specs.Credits.{IsMost, Covers}
+use Rattle.jb_cost.specs.Pieces.{joined}
 use Rattle.jb_core.specs.Machine.{Machine, reserved}
-use Rattle.jb_core.specs.Steps.{IsMost}
-
--- each handle has touched no more homes than its credits
-abbrev pub Covers : List ℕ → List Stopped → Type 0
-Covers [] [] = Unit {0}
-Covers [] (h ∷ hs) = ⊥
-Covers (c ∷ cs) [] = ⊥
-Covers (c ∷ cs) (h ∷ hs) = (map.len h.words ≤ c) × Covers cs hs
 
 -- the handles that are taken or queued, in the order of their stops
 abbrev pub waiting : Machine → List Stopped

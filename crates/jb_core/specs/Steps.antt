@@ -1,8 +1,6 @@
 -- One event on the machine, with its answer.
-use Rattle.std.specs.Prelude.{◌≡◌, ℕ, ◌≤◌, length, List, Some, None, Result, Ok, Err}
+use Rattle.std.specs.Prelude.{◌≡◌, ℕ, length, List, Some, None, Result, Ok, Err}
 use Rattle.jb_cost.specs.Cut.{IsLeastCut, piece_cost}
-use Rattle.jb_cost.specs.Cost.{worst_cost_of}
-use Rattle.jb_cost.specs.declared.geometry.Geometry.{Geometry}
 use Rattle.jb_core.specs.declared.event.Event.{Event}
 use Rattle.jb_core.specs.declared.event.Event.TheVariants.{Take}
 use Rattle.jb_core.specs.declared.event.Reply.{Reply}
@@ -37,8 +35,3 @@ StepsTake bounds old (Ok reply) new = (refusal_take old ≡ None) × IsLeastOf o
 StepsTake bounds old (Err Memory) new = new ≡ old
 StepsTake bounds old (Err NotLeast) new = ((refusal_take old ≡ None) × (IsLeastOf old bounds → ⊥)) × (new ≡ old)
 StepsTake bounds old (Err fault) new = (refusal_take old ≡ Some fault) × (new ≡ old)
-
--- the greatest number of credits whose worst cost is within the limit
-pub record IsMost (g : Geometry) (limit most : ℕ) : Type 0 where
-  pub within : worst_cost_of g most ≤ limit
-  pub greatest : (credits : ℕ) → worst_cost_of g credits ≤ limit → credits ≤ most
