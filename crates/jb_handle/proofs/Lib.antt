@@ -1,9 +1,11 @@
 pub mod Admitted
 pub mod Front
+pub mod Gathering
 pub mod Handles
 pub mod Joins
 pub mod LastOp
 pub mod LastWord
+pub mod Listed
 pub mod Numerals
 pub mod Ops
 pub mod Rising
