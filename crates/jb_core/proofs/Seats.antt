@@ -21,7 +21,7 @@ pub seat-swap : (a b : ℕ) → is_seat a b ≡ false → is_seat b a ≡ false
 seat-swap a b apart = unsigned_tied b a ∙ (let test : (a == b) ≡ false = sym (unsigned_tied a b) ∙ apart in let other : (b == a) ≡ false = grind (arith, nat_tests) in other)
 
 -- a look-up that misses passes over the first entry
-missed : (b : Bool) (h : Held) (rest : Option Held) → cond b (Some h) rest ≡ None → (b ≡ false) × (rest ≡ None)
+pub missed : (b : Bool) (h : Held) (rest : Option Held) → cond b (Some h) rest ≡ None → (b ≡ false) × (rest ≡ None)
 missed true h rest is = absurd (let h : ⊥ = cc in h)
 missed false h rest is = (refl, is)
 

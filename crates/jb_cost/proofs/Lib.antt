@@ -4,6 +4,8 @@ pub mod Costs
 pub mod Covers
 pub mod Cuts
 pub mod Fresh
+pub mod Granted
+pub mod Joined
 pub mod Later
 pub mod Left
 pub mod Pieces

@@ -13,6 +13,7 @@ pub mod SpelledHandles
 pub mod SpelledOps
 pub mod SpelledText
 pub mod Splits
+pub mod Tickets
 pub mod Touched
 pub mod Trees
 pub mod Weights

@@ -1,20 +1,15 @@
--- Pieces of a list: joined, of a longer list, of a part of the list, and parted themselves.
-use Rattle.std.proofs.Common.{◌≡◌, ℕ, zero, suc, ◌+◌, ◌-◌, ◌<◌, ◌≤◌, List, [], ◌∷◌, ◌++◌, map, length, take, drop, get_or, slice_range, sym, refl, ap, subst, ◌∙◌, arith}
+-- Pieces of a list: joined, of a longer list, of a part of the list, further on, and parted themselves.
+use Rattle.std.proofs.Common.{◌≡◌, ℕ, zero, suc, ◌+◌, ◌-◌, ◌≤◌, List, [], ◌∷◌, ◌++◌, map, length, take, drop, slice_range, sym, refl, ap, subst, ◌∙◌, arith}
+use Rattle.std.proofs.lemmas.List.{drop-drop, length-append}
 use Rattle.std.proofs.lemmas.List.Folds.{drop_split}
-use Rattle.std.proofs.Math.Seq.{drop-length, drop-nil}
+use Rattle.std.proofs.Math.Seq.{drop-length, drop-append-add}
 use mathlib.Core.List.{append_assoc, append-nil}
-use Rattle.jb_cost.specs.Cut.{RisesTo}
+use Rattle.jb_cost.specs.Cut.{RisesTo, IsCut}
+use Rattle.jb_cost.specs.Pieces.{joined, pieces_from, pieces}
 use Rattle.jb_cost.proofs.Cuts.{rises-le}
-use Rattle.jb_core.specs.Line.{joined, pieces_from}
-use Rattle.jb_core.specs.Parted.{IsParted}
 
 module _ {A : Type 0} where
-  -- ---- lists
-
-  pub drop-add : (a b : ℕ) (xs : List A) → drop (a + b) xs ≡ drop b (drop a xs)
-  drop-add zero b xs = ap (λ n. drop n xs) (let same : 0 + b ≡ b = omega arith in same)
-  drop-add (suc a) b [] = ap (λ n. drop n []) (let same : suc a + b ≡ suc (a + b) = omega arith in same) ∙ sym (drop-nil b)
-  drop-add (suc a) b (x ∷ xs) = ap (λ n. drop n (x ∷ xs)) (let same : suc a + b ≡ suc (a + b) = omega arith in same) ∙ drop-add a b xs
+  -- ---- a part of a list
 
   -- what is taken of the rest of the first e is taken of the rest, up to e
   take-within : (n a e : ℕ) (xs : List A) → a + n ≤ e → take n (drop a (take e xs)) ≡ take n (drop a xs)
@@ -25,8 +20,6 @@ module _ {A : Type 0} where
   take-within (suc n) (suc a) zero xs le = absurd (let h : ⊥ = omega arith in h)
   take-within (suc n) (suc a) (suc e) [] le = refl
   take-within (suc n) (suc a) (suc e) (x ∷ xs) le = take-within (suc n) a e xs (omega arith)
-
-  -- ---- pieces of a part, and of a longer list
 
   pub pieces-take : (e a : ℕ) (es : List ℕ) (xs : List A) → RisesTo e a es → pieces_from a es (take e xs) ≡ pieces_from a es xs
   pieces-take e a [] xs rises = refl
@@ -55,7 +48,21 @@ module _ {A : Type 0} where
   length-pieces a [] xs = refl
   length-pieces a (b ∷ bs) xs = ap suc (length-pieces b bs xs)
 
-  -- ---- pieces joined
+  -- ---- lists joined
+
+  pub joined-append : (xss yss : List (List A)) → joined (xss ++ yss) ≡ joined xss ++ joined yss
+  joined-append [] yss = refl
+  joined-append (xs ∷ xss) yss = ap (λ zs. xs ++ zs) (joined-append xss yss) ∙ sym (append_assoc xs (joined xss) (joined yss))
+
+  -- behind the first lists stand the others
+  pub drop-joined : (n : ℕ) (xss : List (List A)) (ys : List A) → drop (length (joined (take n xss))) (joined xss ++ ys) ≡ joined (drop n xss) ++ ys
+  drop-joined zero xss ys = refl
+  drop-joined (suc n) [] ys = refl
+  drop-joined (suc n) (xs ∷ xss) ys =
+      ap (λ k. drop k ((xs ++ joined xss) ++ ys)) (length-append xs (joined (take n xss)))
+      ∙ ap (drop (length xs + length (joined (take n xss)))) (append_assoc xs (joined xss) ys)
+      ∙ drop-append-add xs (joined xss ++ ys) (length (joined (take n xss)))
+      ∙ drop-joined n xss ys
 
   pub joined-pieces : (e a : ℕ) (es : List ℕ) (xs : List A) → RisesTo e a es → joined (pieces_from a es xs) ++ drop e xs ≡ drop a xs
   joined-pieces e a [] xs is = ap (λ x. drop x xs) (sym is)
@@ -65,12 +72,13 @@ module _ {A : Type 0} where
       ∙ sym (drop_split xs a b (let less = is.0 in omega arith))
 
   -- the pieces of a cut of a list make the list
-  pub joined-cut : (a : ℕ) (es : List ℕ) (xs : List A) → a ≡ 0 → RisesTo (length xs) a es → joined (pieces_from a es xs) ≡ xs
-  joined-cut a es xs none rises =
+  pub cut-joined : (bounds : List ℕ) (xs : List A) → IsCut (length xs) bounds → joined (pieces bounds xs) ≡ xs
+  cut-joined [] xs cut = absurd cut
+  cut-joined (a ∷ bs) xs cut =
       sym (append-nil _)
-      ∙ ap (λ ys. joined (pieces_from a es xs) ++ ys) (sym (drop-length xs))
-      ∙ joined-pieces (length xs) a es xs rises
-      ∙ ap (λ x. drop x xs) none
+      ∙ ap (λ ys. joined (pieces_from a bs xs) ++ ys) (sym (drop-length xs))
+      ∙ joined-pieces (length xs) a bs xs cut.1
+      ∙ ap (λ x. drop x xs) cut.0
 
   -- ---- pieces further on
 
@@ -78,7 +86,7 @@ module _ {A : Type 0} where
   pieces-shift base a [] xs = refl
   pieces-shift base a (b ∷ bs) xs =
       let same : (base + b) - (base + a) ≡ b - a = omega arith in
-      let first : slice_range xs (base + a) (base + b) ≡ slice_range (drop base xs) a b = ap (λ n. take n (drop (base + a) xs)) same ∙ ap (take (b - a)) (drop-add base a xs) in
+      let first : slice_range xs (base + a) (base + b) ≡ slice_range (drop base xs) a b = ap (λ n. take n (drop (base + a) xs)) same ∙ ap (take (b - a)) (sym (drop-drop a base xs)) in
       ap (λ p. p ∷ pieces_from (base + b) (map (λ e. base + e) bs) xs) first ∙ ap (λ ps. slice_range (drop base xs) a b ∷ ps) (pieces-shift base b bs xs)
 
 pub rises-shift : (base n a : ℕ) (es : List ℕ) → RisesTo n a es → RisesTo (base + n) (base + a) (map (λ e. base + e) es)
@@ -88,11 +96,3 @@ rises-shift base n a (b ∷ bs) is = (let less = is.0 in omega arith, rises-shif
 pub rises-append : (m e a : ℕ) (es fs : List ℕ) → RisesTo m a es → RisesTo e m fs → RisesTo e a (es ++ fs)
 rises-append m e a [] fs is rises = subst (λ x. RisesTo e x fs) (sym is) rises
 rises-append m e a (b ∷ bs) fs is rises = (is.0, rises-append m e b bs fs is.1 rises)
-
--- a rising list, parted behind one of its ends
-pub rises-part : (n e a : ℕ) (es : List ℕ) → RisesTo e a es → n < length es → IsParted e a (suc n) es (get_or es n 0)
-rises-part n e a [] is there = absurd (let h : ⊥ = omega arith in h)
-rises-part zero e a (b ∷ bs) is there = record { first = (is.0, refl); rest = is.1; low = let less = is.0 in omega arith; high = rises-le e b bs is.1 }
-rises-part (suc n) e a (b ∷ bs) is there =
-    let p = rises-part n e b bs is.1 (omega arith) in
-    record { first = (is.0, p.first); rest = p.rest; low = let less = is.0 in let low : b ≤ get_or bs n 0 = p.low in omega arith; high = p.high }
