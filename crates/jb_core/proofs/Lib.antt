@@ -1,6 +1,7 @@
 pub mod Parts
 pub mod Moves
 pub mod Accepted
+pub mod Entries
 pub mod Reserved
 pub mod Groups
 pub mod Sounds

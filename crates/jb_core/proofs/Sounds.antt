@@ -30,7 +30,8 @@ use Rattle.jb_core.specs.Machine.{Machine, handle_at, held_at, reserved, is_full
 use Rattle.jb_core.specs.Sound.{waiting, stopped_now, IsGranted, IsSound}
 use Rattle.jb_core.proofs.Accepted.{found-none, found-some, or-false, first-false, opens, still-up, there-at}
 use Rattle.jb_core.proofs.Groups.{more-settled, parts-joined}
-use Rattle.jb_core.proofs.Reserved.{credits_of, length-insert_entry, length-remove_entry, open-reserved, touch-reserved, gone-reserved, stop-reserved, settle-reserved}
+use Rattle.jb_core.proofs.Entries.{length-insert_entry, length-remove_entry}
+use Rattle.jb_core.proofs.Reserved.{credits_of, open-reserved, touch-reserved, gone-reserved, stop-reserved, settle-reserved}
 
 -- an accepted change leaves a handle within its credits and its shape
 after-kept : (h : Held) (op : Op) → IsKept h → handle.refusal h op ≡ None → IsKept (handle.after h op)
