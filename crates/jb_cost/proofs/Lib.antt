@@ -7,6 +7,7 @@ pub mod Fresh
 pub mod Later
 pub mod Left
 pub mod Pieces
+pub mod Refusals
 pub mod Sizes
 pub mod Walk
 pub mod Worst
