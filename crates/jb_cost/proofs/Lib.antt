@@ -3,11 +3,17 @@ pub mod Ceilings
 pub mod Costs
 pub mod Covers
 pub mod Cuts
+pub mod Following
 pub mod Fresh
 pub mod Later
 pub mod Left
+pub mod Owning
+pub mod Picked
 pub mod Pieces
 pub mod Refusals
 pub mod Sizes
+pub mod Starts
+pub mod Taking
 pub mod Walk
+pub mod Walking
 pub mod Worst
