@@ -28,7 +28,7 @@ use Rattle.jb_cost.specs.LastTouches.{IsSound, Tells, homes_of}
 use Rattle.jb_cost.proofs.Left.{few}
 use Rattle.jb_cost.proofs.Picked.{passes, len-of_kind}
 use Rattle.jb_cost.proofs.Pieces.{piece-none, weight-part}
-use Rattle.jb_cost.proofs.Starts.{least-one}
+use Rattle.jb_cost.proofs.Starts.{least-one, least-as}
 
 -- a piece that ends one handle later has this handle at its end
 pub piece-right : (hs : List Stopped) (h : Stopped) (i n : ℕ) → i ≤ n → n < length hs → h ≡ get_or hs n h → slice_range hs i (n + 1) ≡ slice_range hs i n ++ h ∷ []
@@ -125,3 +125,13 @@ module _ (g : Geometry) (hs : List Stopped) (n : ℕ) (ps : List (Option ℕ)) (
   -- handles within the size own no more homes
   pub homes-few : IsWithinSize hs → homes_of t ≤ 2 ^ 62
   homes-few size = omega (arith, size, few (slice_range hs 0 n), weight-part hs 0 n (omega arith), copies-piece 0 (omega arith), frees-piece 0 (omega arith))
+
+-- the prices of the starts that were put in are all that counts
+pub tells-as : (g : Geometry) (hs : List Stopped) (n : ℕ) (ps qs : List (Option ℕ)) (t : LastTouches) → ((i : ℕ) → i < n → price qs i ≡ price ps i) → Tells g hs n ps t → Tells g hs n qs t
+tells-as g hs n ps qs t same tells = record {
+  geometry = tells.geometry;
+  number = tells.number;
+  within = tells.within;
+  follows = tells.follows;
+  leasts = λ k below. least-as ps qs (stretch_at t.stretches.items k).from (k + 1) (λ i before. same i (omega arith)) (stretch_at t.stretches.items k).least (tells.leasts k below);
+}

@@ -145,3 +145,14 @@ best-same c d limit ps end same (Some s) tried =
       least = λ i p above below fits is. let e = same i below in omega (arith, tried.least i p above below (omega arith) is);
       first = λ i p above before fits is. let e = same i (omega (arith, before, tried.before)) in omega (arith, tried.first i p above before (omega arith) is);
     }
+
+-- least prices look only at the prices below their end
+pub least-as : (ps qs : List (Option ℕ)) (low high : ℕ) → ((i : ℕ) → i < high → price qs i ≡ price ps i) → (s : Option Priced) → LeastPrice ps low high s → LeastPrice qs low high s
+least-as ps qs low high same None none = λ i p above below is. none i p above below (sym (same i below) ∙ is)
+least-as ps qs low high same (Some s) least = record {
+  above = least.above;
+  below = least.below;
+  is = same s.from least.below ∙ least.is;
+  least = λ i p above below is. least.least i p above below (sym (same i below) ∙ is);
+  first = λ i p above before is. least.first i p above before (sym (same i (omega (arith, before, least.below))) ∙ is);
+}

@@ -20,7 +20,8 @@ use std::alloc::Global;
 ///
 /// # Errors
 ///
-/// `Memory` where there is none for the footprint of a group; then the opening price is 0.
+/// `Memory` where there is none for the last touches of the handles or for the home blocks of a
+/// group; then the opening price is 0.
 pub fn check(
     alloc: Global,
     handles: &[Stopped],

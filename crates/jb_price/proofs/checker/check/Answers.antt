@@ -3,7 +3,7 @@ use Rattle.std.proofs.lemmas.List.{get_or_read}
 use Rattle.jb_cost.specs.Cut.{Hold, piece_cost, price}
 use Rattle.jb_price.specs.declared.verdict.Verdict.TheVariants.{Accepted}
 use Rattle.jb_price.specs.FirstUndercut.{FirstAmong}
-use Rattle.jb_price.specs.Verdict.{PricesHold, AnswerSays, Says, IsRight}
+use Rattle.jb_price.specs.Verdict.{AnswerSays, Says, IsRight}
 use Rattle.jb_price.proofs.Verdicts.{hold, prices-hold, says-answer, right-accepted, where-ok}
 use Rattle.jb_price.proofs.checker.check.Goals as goal
 
