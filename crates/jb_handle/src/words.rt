@@ -14,7 +14,7 @@ use std::marker::Model;
 
 /// What a handle leaves at each home block that it touched: home block numbers that rise, each with
 /// its last word.
-#[derive(Drop)]
+#[derive(Debug, Drop)]
 pub struct Words {
     entries: Vec<(u64, Word)>,
 }
