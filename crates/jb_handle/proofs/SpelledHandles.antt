@@ -15,7 +15,7 @@ use Rattle.jb_handle.specs.declared.fault.Cause.TheVariants.{HandleLine}
 use Rattle.jb_handle.specs.declared.word.Word.{Word}
 use Rattle.jb_handle.specs.Parts.{words, grow, spaced}
 use Rattle.jb_handle.specs.Queue.{op_of, after_ops, behind_h, handle_of}
-use Rattle.jb_handle.specs.Spelling.{Op, Each, SpellsOp, SpellsHandle, last_op}
+use Rattle.jb_handle.specs.Spelling.{Entry, Each, SpellsOp, SpellsHandle, last_op}
 use Rattle.jb_handle.specs.Word.{WordMap}
 use Rattle.jb_handle.proofs.Joins.{Without, words-spaced}
 use Rattle.jb_handle.proofs.Ops.{ops-goes, ops-fails, ops-end, tested}
@@ -35,7 +35,7 @@ spaced-words (b ∷ text) = elim (cases_eq b 32) [
 ]
 
 -- what a map has after an op, and after all
-insert-last : (had : WordMap) (op : Op) (b : ℕ) → map.get (map.insert had op.0 op.1) b ≡ option_or (if op.0 == b then Some op.1 else None) (map.get had b)
+insert-last : (had : WordMap) (op : Entry) (b : ℕ) → map.get (map.insert had op.0 op.1) b ≡ option_or (if op.0 == b then Some op.1 else None) (map.get had b)
 insert-last had op b =
     let order : eq_by_cmp nat_cmp b op.0 ≡ (op.0 == b) = grind (arith, nat_tests) in
     map.get-insert nat_cmp_total had op.0 op.1 b ∙ ap (λ test. cond test (Some op.1) (map.get had b)) order ∙ chosen (op.0 == b) op.1 (map.get had b)
@@ -50,11 +50,11 @@ or-assoc (Some word) second third = refl
 
 -- the ops that words are read to
 pub record ReadsOps (width : Width) (size : ℕ) (had now : WordMap) (texts : List (List ℕ)) : Type 0 where
-  pub ops : List Op
+  pub ops : List Entry
   pub each : Each (SpellsOp width size) texts ops
   pub left : (b : ℕ) → map.get now b ≡ option_or (last_op ops b) (map.get had b)
 
-ops-case : (width : Width) (size : ℕ) (had now : WordMap) (text : List ℕ) (texts : List (List ℕ)) (op : Result Op Cause) → op_of width size text ≡ op → after_ops width size had (text ∷ texts) ≡ Ok now
+ops-case : (width : Width) (size : ℕ) (had now : WordMap) (text : List ℕ) (texts : List (List ℕ)) (op : Result Entry Cause) → op_of width size text ≡ op → after_ops width size had (text ∷ texts) ≡ Ok now
     → ((had' : WordMap) → after_ops width size had' texts ≡ Ok now → ReadsOps width size had' now texts) → ReadsOps width size had now (text ∷ texts)
 ops-case width size had now text texts (Err cause) is reads later =
     let never : ◌≡◌ {A = Result WordMap Cause} (Err cause) (Ok now) = sym (ops-fails width size had text texts cause is) ∙ reads in cc
@@ -75,18 +75,18 @@ ops-are width size had now (text ∷ texts) reads =
     ops-case width size had now text texts (op_of width size text) refl reads (λ had' further. ops-are width size had' now texts further)
 
 -- and back: words that spell ops are read to what these leave
-abbrev pub put_all : WordMap → List Op → WordMap
+abbrev pub put_all : WordMap → List Entry → WordMap
 put_all had [] = had
 put_all had (op ∷ ops) = put_all (map.insert had op.0 op.1) ops
 
-ops-read : (width : Width) (size : ℕ) (had : WordMap) (texts : List (List ℕ)) (ops : List Op) → Each (SpellsOp width size) texts ops → after_ops width size had texts ≡ Ok (put_all had ops)
+ops-read : (width : Width) (size : ℕ) (had : WordMap) (texts : List (List ℕ)) (ops : List Entry) → Each (SpellsOp width size) texts ops → after_ops width size had texts ≡ Ok (put_all had ops)
 ops-read width size had [] [] each = ops-end width size had
 ops-read width size had [] (op ∷ ops) each = absurd each
 ops-read width size had (text ∷ texts) [] each = absurd each
 ops-read width size had (text ∷ texts) (op ∷ ops) each =
     ops-goes width size had text texts op (op-from width size text op each.0) ∙ ops-read width size (map.insert had op.0 op.1) texts ops each.1
 
-put-last : (had : WordMap) (ops : List Op) (b : ℕ) → map.get (put_all had ops) b ≡ option_or (last_op ops b) (map.get had b)
+put-last : (had : WordMap) (ops : List Entry) (b : ℕ) → map.get (put_all had ops) b ≡ option_or (last_op ops b) (map.get had b)
 put-last had [] b = refl
 put-last had (op ∷ ops) b =
     put-last (map.insert had op.0 op.1) ops b ∙ ap (option_or (last_op ops b)) (insert-last had op b)
@@ -122,11 +122,11 @@ handle-is width size (b ∷ c ∷ rest) now reads =
     }
 
 -- the words that ops leave are known by the last one on each block
-same-words : (ops : List Op) (now : WordMap) → ((b : ℕ) → map.get now b ≡ last_op ops b) → put_all map.empty ops ≡ now
+same-words : (ops : List Entry) (now : WordMap) → ((b : ℕ) → map.get now b ≡ last_op ops b) → put_all map.empty ops ≡ now
 same-words ops now left = map.same_map nat_cmp_total nat_cmp-IsAntisymmetric (put_all map.empty ops) now
     (λ b. put-last map.empty ops b ∙ ap (option_or (last_op ops b)) (map.get-empty nat_cmp b) ∙ or-none (last_op ops b) ∙ sym (left b))
 
-pub texts-clear : (width : Width) (size stop : ℕ) (is : IsStop stop) (texts : List (List ℕ)) (ops : List Op) → Each (SpellsOp width size) texts ops → AllByRecursion (Without stop) texts
+pub texts-clear : (width : Width) (size stop : ℕ) (is : IsStop stop) (texts : List (List ℕ)) (ops : List Entry) → Each (SpellsOp width size) texts ops → AllByRecursion (Without stop) texts
 texts-clear width size stop is [] [] each = tt
 texts-clear width size stop is [] (op ∷ ops) each = absurd each
 texts-clear width size stop is (text ∷ texts) [] each = absurd each
@@ -135,7 +135,7 @@ texts-clear width size stop is (text ∷ texts) (op ∷ ops) each = (op-clear wi
 pub handle-from : (width : Width) (size : ℕ) (line : List ℕ) (now : WordMap) → SpellsHandle width size line now → handle_of width size line ≡ Ok now
 handle-from width size line now spells = ap (handle_of width size) spells.spelled ∙ from spells.texts spells.ops spells.each ∙ ap Ok (same-words spells.ops now spells.left)
   where
-    from : (texts : List (List ℕ)) (ops : List Op) → Each (SpellsOp width size) texts ops → handle_of width size (codes "h" ++ spaced texts) ≡ Ok (put_all map.empty ops)
+    from : (texts : List (List ℕ)) (ops : List Entry) → Each (SpellsOp width size) texts ops → handle_of width size (codes "h" ++ spaced texts) ≡ Ok (put_all map.empty ops)
     from [] [] each = refl
     from [] (op ∷ ops) each = absurd each
     from (text ∷ texts) ops each =

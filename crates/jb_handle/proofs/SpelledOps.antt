@@ -17,8 +17,8 @@ use Rattle.jb_handle.specs.declared.fault.Cause.TheVariants.{OpWord, DataWord}
 use Rattle.jb_handle.specs.declared.word.Word.TheVariants.{Copy, Free}
 use Rattle.jb_block.specs.Fields.{padded}
 use Rattle.jb_handle.specs.Parts.{◌>>=◌, before, onward, number_of, and_then}
-use Rattle.jb_handle.specs.Queue.{is_home, home_of, or_cause, where_true, data_of, fitting, op_of}
-use Rattle.jb_handle.specs.Spelling.{IsHome, Op, SpellsOp}
+use Rattle.jb_handle.specs.Queue.{is_home, home_named, or_cause, where_true, data_of, fitting, op_of}
+use Rattle.jb_handle.specs.Spelling.{IsHome, Entry, SpellsOp}
 use Rattle.jb_handle.proofs.Joins.{Without, is_clear, literal-without, without-append, before-put, onward-put, before-whole, onward-none, decimal-without}
 use Rattle.jb_handle.proofs.Numerals.{number-is_decimal, decimal-is_number}
 use Rattle.jb_handle.proofs.Splits.{parted, onward-nil, onward-goes, onward-stops}
@@ -36,7 +36,7 @@ true-is_home : (width : Width) (home : ℕ) → is_home width home ≡ true → 
 true-is_home Narrow home test = ltb-true _ _ test
 true-is_home Wide home test = ltb-true _ _ test
 
-home-from : (width : Width) (home : ℕ) → IsHome width home → home_of width (decimal home) ≡ Ok home
+home-from : (width : Width) (home : ℕ) → IsHome width home → home_named width (decimal home) ≡ Ok home
 home-from width home fits = rw (decimal-is_number home (home-fits width home fits), is_home-true width home fits) refl
 
 kept : (test : Bool) (n home : ℕ) → or_cause OpWord (where_true test n) ≡ Ok home → (test ≡ true) × (n ≡ home)
@@ -49,7 +49,7 @@ home-case width (Some n) home is =
     let both = kept (is_home width n) n home is in
     (ap Some both.1, true-is_home width home (ap (is_home width) (sym both.1) ∙ both.0))
 
-home-is : (width : Width) (digits : List ℕ) (home : ℕ) → home_of width digits ≡ Ok home → (digits ≡ decimal home) × IsHome width home
+home-is : (width : Width) (digits : List ℕ) (home : ℕ) → home_named width digits ≡ Ok home → (digits ≡ decimal home) × IsHome width home
 home-is width digits home is =
     let found = home-case width (number_of digits) home is in
     ((number-is_decimal digits home found.0).0, found.1)
@@ -71,7 +71,7 @@ bytes-from width size home digits bytes fits decoded some within =
 free-from : (width : Width) (size home : ℕ) → IsHome width home → op_of width size (codes "r" ++ decimal home) ≡ Ok (home, Free)
 free-from width size home fits = rw (home-from width home fits) refl
 
-pub op-from : (width : Width) (size : ℕ) (text : List ℕ) (op : Op) → SpellsOp width size text op → op_of width size text ≡ Ok op
+pub op-from : (width : Width) (size : ℕ) (text : List ℕ) (op : Entry) → SpellsOp width size text op → op_of width size text ≡ Ok op
 op-from width size text op spells = elim spells.form [
   | inl zeros ↦ ap (op_of width size) zeros.0 ∙ zeros-from width size op.0 spells.home ∙ ap (λ word. Ok (op.0, word)) (sym zeros.1)
   | inr (inl has) ↦ ap (op_of width size) has.spelled ∙ bytes-from width size op.0 has.digits has.bytes spells.home has.decoded has.some has.within ∙ ap (λ word. Ok (op.0, word)) (sym has.left)
@@ -89,23 +89,23 @@ onward-case stop (b ∷ bs) = elim (cases_eq b stop) [
   ]
 ]
 
-picked : (first second : Bool) (write free : Result Op Cause) (op : Op) → (if first then write else if second then free else Err OpWord) ≡ Ok op → ((first ≡ true) × (write ≡ Ok op)) ⊎ ((second ≡ true) × (free ≡ Ok op))
+picked : (first second : Bool) (write free : Result Entry Cause) (op : Entry) → (if first then write else if second then free else Err OpWord) ≡ Ok op → ((first ≡ true) × (write ≡ Ok op)) ⊎ ((second ≡ true) × (free ≡ Ok op))
 picked true second write free op is = inl (refl, is)
 picked false true write free op is = inr (refl, is)
 picked false false write free op is = cc
 
-write-case : (home : Result ℕ Cause) (block : Result (List ℕ) Cause) (op : Op) → (home >>= λ b. block >>= λ bytes. Ok (b, Copy bytes)) ≡ Ok op → (home ≡ Ok op.0) × (bytes : List ℕ) × (block ≡ Ok bytes) × (op.1 ≡ Copy bytes)
+write-case : (home : Result ℕ Cause) (block : Result (List ℕ) Cause) (op : Entry) → (home >>= λ b. block >>= λ bytes. Ok (b, Copy bytes)) ≡ Ok op → (home ≡ Ok op.0) × (bytes : List ℕ) × (block ≡ Ok bytes) × (op.1 ≡ Copy bytes)
 write-case (Err cause) block op is = cc
 write-case (Ok b) (Err cause) op is = cc
 write-case (Ok b) (Ok bytes) op is =
-    let pair : ◌≡◌ {A = Op} (b, Copy bytes) op = cc in
-    (ap (λ (o : Op). Ok o.0) pair, bytes, refl, ap (λ (o : Op). o.1) (sym pair))
+    let pair : ◌≡◌ {A = Entry} (b, Copy bytes) op = cc in
+    (ap (λ (o : Entry). Ok o.0) pair, bytes, refl, ap (λ (o : Entry). o.1) (sym pair))
 
-free-case : (home : Result ℕ Cause) (op : Op) → (home >>= λ b. Ok (b, Free)) ≡ Ok op → (home ≡ Ok op.0) × (op.1 ≡ Free)
+free-case : (home : Result ℕ Cause) (op : Entry) → (home >>= λ b. Ok (b, Free)) ≡ Ok op → (home ≡ Ok op.0) × (op.1 ≡ Free)
 free-case (Err cause) op is = cc
 free-case (Ok b) op is =
-    let pair : ◌≡◌ {A = Op} (b, Free) op = cc in
-    (ap (λ (o : Op). Ok o.0) pair, ap (λ (o : Op). o.1) (sym pair))
+    let pair : ◌≡◌ {A = Entry} (b, Free) op = cc in
+    (ap (λ (o : Entry). Ok o.0) pair, ap (λ (o : Entry). o.1) (sym pair))
 
 fitted : (test : Bool) (size : ℕ) (raw bytes : List ℕ) → ◌≡◌ {A = Result (List ℕ) Cause} (if test then Ok (padded size raw) else Err DataWord) (Ok bytes) → (test ≡ true) × (bytes ≡ padded size raw)
 fitted true size raw bytes is = (refl, cc)
@@ -118,7 +118,7 @@ bytes-case size (Ok raw) bytes is =
     (raw, refl, grind (arith, nat_tests, both.0), grind (arith, nat_tests, both.0), both.1)
 
 -- a word with no `=` behind its number writes zeros, and one with it its bytes
-write-is : (width : Width) (size : ℕ) (rest : List ℕ) (op : Op) (block : List ℕ) → home_of width (before 61 rest) ≡ Ok op.0 → data_of size (onward 61 rest) ≡ Ok block → op.1 ≡ Copy block → SpellsOp width size (119 ∷ rest) op
+write-is : (width : Width) (size : ℕ) (rest : List ℕ) (op : Entry) (block : List ℕ) → home_named width (before 61 rest) ≡ Ok op.0 → data_of size (onward 61 rest) ≡ Ok block → op.1 ≡ Copy block → SpellsOp width size (119 ∷ rest) op
 write-is width size rest op block home read left =
     let found = home-is width (before 61 rest) op.0 home in
     let whole = parted 61 rest in
@@ -146,18 +146,18 @@ write-is width size rest op block home read left =
           }
     ]
 
-pub op-is : (width : Width) (size : ℕ) (text : List ℕ) (op : Op) → op_of width size text ≡ Ok op → SpellsOp width size text op
+pub op-is : (width : Width) (size : ℕ) (text : List ℕ) (op : Entry) → op_of width size text ≡ Ok op → SpellsOp width size text op
 op-is width size [] op is = cc
 op-is width size (letter ∷ rest) op is =
     elim (picked (letter == 119) (letter == 114)
-    (home_of width (before 61 rest) >>= λ b. data_of size (onward 61 rest) >>= λ bytes. Ok (b, Copy bytes))
-    (home_of width rest >>= λ b. Ok (b, Free)) op is) [
+    (home_named width (before 61 rest) >>= λ b. data_of size (onward 61 rest) >>= λ bytes. Ok (b, Copy bytes))
+    (home_named width rest >>= λ b. Ok (b, Free)) op is) [
       | inl write ↦
-          let parts = write-case (home_of width (before 61 rest)) (data_of size (onward 61 rest)) op write.1 in
+          let parts = write-case (home_named width (before 61 rest)) (data_of size (onward 61 rest)) op write.1 in
           let same : letter ≡ 119 = eqb-true letter 119 write.0 in
           rw same (write-is width size rest op parts.1 parts.0 parts.2 parts.3)
       | inr free ↦
-          let parts = free-case (home_of width rest) op free.1 in
+          let parts = free-case (home_named width rest) op free.1 in
           let found = home-is width rest op.0 parts.0 in
           let same : letter ≡ 114 = eqb-true letter 114 free.0 in
           record { home = found.1; form = inr (inr (rw same (ap (λ bs. 114 ∷ bs) found.0), parts.1)) }
@@ -180,7 +180,7 @@ hex-clear stop [] other are = tt
 hex-clear stop (digit ∷ digits) other are =
     (λ same. let never : true ≡ false = sym are.0 ∙ ap is_hex_digit same ∙ other in cc, hex-clear stop digits other are.1)
 
-pub op-clear : (width : Width) (size stop : ℕ) → IsStop stop → (text : List ℕ) (op : Op) → SpellsOp width size text op → Without stop text
+pub op-clear : (width : Width) (size stop : ℕ) → IsStop stop → (text : List ℕ) (op : Entry) → SpellsOp width size text op → Without stop text
 op-clear width size stop is text op spells =
     let letters = literal-without stop (codes "wr=") is.letters in
     let number = decimal-without stop op.0 is.digit (home-fits width op.0 spells.home) in

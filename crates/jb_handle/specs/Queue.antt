@@ -39,8 +39,8 @@ is_home Narrow home = nat_lt home (2 ^ 32)
 is_home Wide home = nat_lt home (2 ^ 64)
 
 -- the home block that digits name
-abbrev pub home_of : Width → List ℕ → Result ℕ Cause
-home_of width digits = or_cause OpWord (and_then (number_of digits) (λ home. where_true (is_home width home) home))
+abbrev pub home_named : Width → List ℕ → Result ℕ Cause
+home_named width digits = or_cause OpWord (and_then (number_of digits) (λ home. where_true (is_home width home) home))
 
 -- a block that begins with decoded bytes: one at least, and no more than a block has
 abbrev pub fitting : ℕ → Result (List ℕ) FromHexError → Result (List ℕ) Cause
@@ -58,11 +58,11 @@ abbrev pub op_of : Width → ℕ → List ℕ → Result (ℕ × Word) Cause
 op_of width size [] = Err OpWord
 op_of width size (letter ∷ rest) =
     if letter == 119 then (do
-      home ← home_of width (before 61 rest)
+      home ← home_named width (before 61 rest)
       bytes ← data_of size (onward 61 rest)
       Ok (home, Copy bytes))
     else if letter == 114 then (do
-      home ← home_of width rest
+      home ← home_named width rest
       Ok (home, Free))
     else Err OpWord
 

@@ -20,15 +20,15 @@ IsHome Narrow home = home < 2 ^ 32
 IsHome Wide home = home < 2 ^ 64
 
 -- a home block, and the word that is left at it
-abbrev pub Op : Type 0
-Op = ℕ × Word
+abbrev pub Entry : Type 0
+Entry = ℕ × Word
 
 -- `w5`: a block of zeros
-abbrev pub SpellsZeros : ℕ → List ℕ → Op → Type 0
+abbrev pub SpellsZeros : ℕ → List ℕ → Entry → Type 0
 SpellsZeros size text op = (text ≡ codes "w" ++ decimal op.0) × (op.1 ≡ Copy (padded size []))
 
 -- `w5=c03b`: a block that begins with the bytes of hexadecimal digits, one byte at least
-pub record SpellsBytes (size : ℕ) (text : List ℕ) (op : Op) : Type 0 where
+pub record SpellsBytes (size : ℕ) (text : List ℕ) (op : Entry) : Type 0 where
   pub digits : List ℕ
   pub bytes : List ℕ
   pub spelled : text ≡ codes "w" ++ (decimal op.0 ++ (codes "=" ++ digits))
@@ -38,11 +38,11 @@ pub record SpellsBytes (size : ℕ) (text : List ℕ) (op : Op) : Type 0 where
   pub left : op.1 ≡ Copy (padded size bytes)
 
 -- `r5`: the block is free
-abbrev pub SpellsFree : List ℕ → Op → Type 0
+abbrev pub SpellsFree : List ℕ → Entry → Type 0
 SpellsFree text op = (text ≡ codes "r" ++ decimal op.0) × (op.1 ≡ Free)
 
 -- a word of a handle's line
-pub record SpellsOp (width : Width) (size : ℕ) (text : List ℕ) (op : Op) : Type 0 where
+pub record SpellsOp (width : Width) (size : ℕ) (text : List ℕ) (op : Entry) : Type 0 where
   pub home : IsHome width op.0
   pub form : SpellsZeros size text op ⊎ (SpellsBytes size text op ⊎ SpellsFree text op)
 
@@ -54,14 +54,14 @@ Each R (x ∷ xs) [] = ⊥
 Each R (x ∷ xs) (y ∷ ys) = R x y × Each R xs ys
 
 -- the word of the last op on home b
-abbrev pub last_op : List Op → ℕ → Option Word
+abbrev pub last_op : List Entry → ℕ → Option Word
 last_op [] b = None
 last_op (op ∷ ops) b = option_or (last_op ops b) (if op.0 == b then Some op.1 else None)
 
 -- a handle's line: `h`, and its words, each behind a space; the last one on a block counts
 pub record SpellsHandle (width : Width) (size : ℕ) (line : List ℕ) (words : WordMap) : Type 0 where
   pub texts : List (List ℕ)
-  pub ops : List Op
+  pub ops : List Entry
   pub spelled : line ≡ codes "h" ++ spaced texts
   pub each : Each (SpellsOp width size) texts ops
   pub left : (b : ℕ) → map.get words b ≡ last_op ops b

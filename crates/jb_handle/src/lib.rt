@@ -10,14 +10,10 @@ pub mod laws;
 mod op;
 mod op_text;
 mod payload;
-#[cfg(test)]
-mod queue_tests;
 mod queue_text;
 mod shape;
 mod size;
 mod stopped;
-#[cfg(test)]
-mod tests;
 pub mod text;
 mod word;
 mod words;

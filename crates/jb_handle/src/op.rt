@@ -1,7 +1,7 @@
 use crate::payload::Payload;
 
 /// A change of one home block by a handle.
-#[derive(Drop)]
+#[derive(Debug, Drop)]
 pub enum Op {
     /// The home block is to hold these bytes (`jbd2_journal_dirty_metadata`). It cancels a revoke of
     /// the block in the same handle.

@@ -2,7 +2,7 @@
 
 ghost use Rattle.std.specs.Prelude.{◌≡◌};
 ghost use Rattle.jb_block.specs.Size.{bytes_of};
-ghost use Rattle.jb_handle.specs.Queue.{Gives, home_of, is_home, data_of, op_of};
+ghost use Rattle.jb_handle.specs.Queue.{Gives, home_named, is_home, data_of, op_of};
 
 use crate::fault::Cause;
 use crate::payload::Payload;
@@ -39,7 +39,7 @@ pub fn read_op(
 
 // The home block that digits name.
 fn read_home(digits: &[u8], width: Width) -> Result<u64, Cause>
-    ensures { Gives result (home_of width digits.now) }
+    ensures { Gives result (home_named width digits.now) }
 {
     match number(digits) {
         Some(home) if is_home(home, width) => Ok(home),

@@ -7,7 +7,7 @@ use std::marker::Model;
 
 /// What a block is to hold: some first bytes, and zeros behind them up to the block's length. Only
 /// the first bytes take memory.
-#[derive(Drop)]
+#[derive(Debug, Drop)]
 pub struct Payload {
     bytes: Vec<u8>,
     len: usize,

@@ -19,7 +19,7 @@ use jb_block::{BlockSize, Width};
 use std::alloc::Global;
 
 /// A queue of stopped handles with the journal's profile, as a text gives them.
-#[derive(Drop)]
+#[derive(Debug, Drop)]
 pub struct QueueText {
     /// The size of a block.
     pub bs: BlockSize,

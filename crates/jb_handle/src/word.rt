@@ -5,7 +5,7 @@ use crate::shape::Shape;
 use jb_block::Memory;
 
 /// The last word of a handle on a home block.
-#[derive(Drop)]
+#[derive(Debug, Drop)]
 pub enum Word {
     /// The block was changed: it is logged as a copy that holds these bytes.
     Copy(Payload),

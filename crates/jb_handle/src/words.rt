@@ -14,7 +14,7 @@ use std::marker::Model;
 
 /// What a handle leaves at each home block that it touched: home block numbers that rise, each with
 /// its last word.
-#[derive(Drop)]
+#[derive(Debug, Drop)]
 pub struct Words {
     entries: Vec<(u64, Word)>,
 }
@@ -140,55 +140,4 @@ fn place_of(entries: &[(u64, Word)], home: u64) -> Result<usize, usize>
     ensures { IsPlaced entries.now home result }
 {
     entries.binary_search_by_key(&home, |&(at, _)| at)
-}
-
-#[cfg(test)]
-mod tests {
-    use super::Words;
-    use crate::payload::Payload;
-    use crate::word::Word;
-    use std::collections::BTreeMap;
-    use std::test::Fail;
-
-    #[test]
-    fn keeps_the_last_word_of_each_home(rt: HostRuntime) -> Result<(), Fail> {
-        let mut words = Words::new(rt.alloc());
-        words.put(7, Word::Free)?;
-        words.put(5, Word::Free)?;
-        words.put(7, Word::Copy(Payload::of(rt.alloc(), b"abcd")?))?;
-        assert_eq!(rt; words.len(), 2);
-        let [(first, _), (second, _)] = words.entries() else {
-            panic!(rt; "two homes have a word");
-        };
-        assert_eq!(rt; (*first, *second), (5, 7));
-        let Some(Word::Copy(payload)) = words.get(7) else {
-            panic!(rt; "the last word of 7 is a copy");
-        };
-        let mut block = [9, 9, 9, 9];
-        assert_eq!(rt; payload.len(), 4);
-        payload.copy_into(&mut block);
-        assert_eq!(rt; block, *b"abcd");
-        assert!(rt; words.get(5).is_some());
-        assert!(rt; words.get(6).is_none());
-        Ok(())
-    }
-
-    #[test]
-    fn lists_a_tree(rt: HostRuntime) -> Result<(), Fail> {
-        let mut tree = BTreeMap::new(rt.alloc());
-        tree.insert(9, Word::Free)?;
-        let mut bytes = Vec::new(rt.alloc());
-        bytes.push(1)?;
-        tree.insert(3, Word::Copy(Payload::padded(bytes, 3)))?;
-        let words = Words::from_tree(rt.alloc(), tree)?;
-        let Some(Word::Copy(payload)) = words.get(3) else {
-            panic!(rt; "3 has a copy");
-        };
-        let mut block = [9, 9, 9];
-        assert_eq!(rt; payload.len(), 3);
-        payload.copy_into(&mut block);
-        assert_eq!(rt; block, [1, 0, 0]);
-        assert_eq!(rt; words.len(), 2);
-        Ok(())
-    }
 }
