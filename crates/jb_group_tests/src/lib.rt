@@ -1,0 +1,7 @@
+//! Tests of the groups of a log.
+#![tactic(auto)]
+
+#[cfg(test)]
+mod images;
+#[cfg(test)]
+mod logs;
