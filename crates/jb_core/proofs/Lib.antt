@@ -1,6 +1,12 @@
-pub mod Pieces
+pub mod Parts
 pub mod Moves
+pub mod Accepted
+pub mod Entries
+pub mod Reserved
+pub mod Groups
 pub mod Sounds
+pub mod Runs
+pub mod Touches
 pub mod Exact
 pub mod Seats
 pub mod Wholes

@@ -1,31 +1,27 @@
 -- What becomes of the line where groups are settled, taken and lost.
 use Rattle.std.proofs.Common.{◌≡◌, ℕ, zero, suc, ◌+◌, ◌-◌, ◌<◌, ◌≤◌, List, [], ◌∷◌, ◌++◌, map, length, take, drop, get_or, slice_range, slice_get, Some, None, le_refl, sym, refl, ap, subst, ◌∙◌, arith}
-use Rattle.std.proofs.lemmas.List.{take-append-drop, length-drop, length-append, take_all, take-take, take-append-le, drop-append-le}
-use Rattle.std.proofs.Math.Seq.{drop-cons, take-nil, drop-append_seam, drop-length}
+use Rattle.std.proofs.lemmas.List.{take-append-drop, drop-drop, length-drop, length-append, take_all, take-take, take-append-le, drop-append-le}
+use Rattle.std.proofs.Math.Seq.{drop-cons, take-add, drop-append_seam, drop-length}
 use Rattle.jb_handle.specs.declared.stopped.Stopped.{Stopped}
 use Rattle.jb_cost.specs.Cut.{RisesTo, IsCut}
 use Rattle.jb_cost.proofs.Cuts.{rises-le}
-use Rattle.jb_core.specs.Line.{Line, joined, pieces_from, pieces, count, IsSettled, IsTaken, IsPushed}
+use Rattle.jb_cost.specs.Pieces.{joined, pieces_from, pieces}
+use Rattle.jb_core.specs.Line.{Line, count, IsSettled, IsTaken, IsPushed}
 use Rattle.jb_core.specs.Stops.{line_of, IsInLine}
 use Rattle.jb_core.specs.declared.stops.Stops.TheInside.{Inside}
 use Rattle.jb_core.specs.Parted.{IsParted}
-use Rattle.jb_core.proofs.Pieces.{rises-append, pieces-append, take-pieces, drop-pieces, length-pieces, joined-pieces, pieces-take, pieces-shift, rises-shift, drop-add}
+use Rattle.jb_cost.proofs.Joined.{rises-append, pieces-append, take-pieces, drop-pieces, length-pieces, joined-pieces, pieces-take, pieces-shift, rises-shift}
 
 -- a slice from a place on
 pub rest-is : {A : Type 0} (i : ℕ) (xs : List A) → take (length xs - i) (drop i xs) ≡ drop i xs
 rest-is i xs = take_all (length xs - i) (drop i xs) (let same = length-drop i xs in omega arith)
-
-pub take-add : {A : Type 0} (a b : ℕ) (xs : List A) → take (a + b) xs ≡ take a xs ++ take b (drop a xs)
-take-add zero b xs = ap (λ n. take n xs) (let same : 0 + b ≡ b = omega arith in same)
-take-add (suc a) b [] = ap (λ n. take n []) (let same : suc a + b ≡ suc (a + b) = omega arith in same) ∙ sym (take-nil b)
-take-add (suc a) b (x ∷ xs) = ap (λ n. take n (x ∷ xs)) (let same : suc a + b ≡ suc (a + b) = omega arith in same) ∙ ap (λ ys. x ∷ ys) (take-add a b xs)
 
 module _ (ends : List ℕ) (s m t n end : ℕ) (first : RisesTo m 0 (take s ends)) (parts : IsParted t m n (drop s ends) end) where
   pub settled-rises : RisesTo end 0 (take (s + n) ends)
   settled-rises = subst (RisesTo end 0) (sym (take-add s n ends)) (rises-append m end 0 (take s ends) (take n (drop s ends)) first parts.first)
 
   pub taken-rises : RisesTo t end (drop (s + n) ends)
-  taken-rises = subst (RisesTo t end) (sym (drop-add s n ends)) parts.rest
+  taken-rises = subst (RisesTo t end) (drop-drop n s ends) parts.rest
 
   module _ {A : Type 0} (xs : List A) where
     pub settled-pieces : pieces_from 0 (take (s + n) ends) xs ≡ pieces_from 0 (take s ends) xs ++ take n (pieces_from m (drop s ends) xs)
@@ -35,7 +31,7 @@ module _ (ends : List ℕ) (s m t n end : ℕ) (first : RisesTo m 0 (take s ends
         ∙ ap (λ ps. pieces_from 0 (take s ends) xs ++ ps) (sym (take-pieces n m (drop s ends) xs))
 
     pub taken-pieces : pieces_from end (drop (s + n) ends) xs ≡ drop n (pieces_from m (drop s ends) xs)
-    taken-pieces = ap (λ es. pieces_from end es xs) (drop-add s n ends) ∙ sym (drop-pieces n end m (drop s ends) xs parts.first)
+    taken-pieces = ap (λ es. pieces_from end es xs) (sym (drop-drop n s ends)) ∙ sym (drop-pieces n end m (drop s ends) xs parts.first)
 
     -- as many handles as lie between the two ends
     pub settled-count : t ≤ length xs → length (joined (take n (pieces_from m (drop s ends) xs))) ≡ end - m
@@ -50,7 +46,7 @@ module _ (ends : List ℕ) (s m t n end : ℕ) (first : RisesTo m 0 (take s ends
 
 -- the numbers behind m, once those up to end are gone
 pub drop-between : {A : Type 0} (m end k : ℕ) (xs : List A) → m ≤ end → k ≡ end - m → drop end xs ≡ drop k (drop m xs)
-drop-between m end k xs low is = ap (λ n. drop n xs) (let same : end ≡ m + k = omega arith in same) ∙ drop-add m k xs
+drop-between m end k xs low is = ap (λ n. drop n xs) (let same : end ≡ m + k = omega arith in same) ∙ sym (drop-drop k m xs)
 
 -- after the first n taken groups were settled, which end at `end`
 abbrev pub settled_to : Inside → ℕ → ℕ → Inside

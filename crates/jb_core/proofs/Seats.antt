@@ -1,5 +1,5 @@
 -- The open handles by their seats: one for a seat, and each with the words of its changes.
-use Rattle.std.proofs.Common.{◌≡◌, ℕ, Bool, true, false, cond, ◌==◌, List, [], ◌∷◌, Option, Some, None, Ordering, Less, Equal, Greater, sym, refl, ap, subst, ◌∙◌, arith}
+use Rattle.std.proofs.Common.{◌≡◌, ℕ, Bool, true, false, cond, ◌==◌, List, [], ◌∷◌, Some, None, Ordering, Less, Equal, Greater, sym, refl, ap, subst, ◌∙◌, arith}
 use Rattle.std.proofs.lemmas.Bool.Decides.{nat_tests}
 use Rattle.std.specs.Ordering.{nat_cmp, match_ordering, is_eq}
 use Rattle.std.specs.Cmp.{unsigned_tied}
@@ -8,6 +8,7 @@ use Rattle.std.specs.Map.{lookup, set_value, remove_entry}
 use Rattle.jb_handle.specs.Held.{Held}
 use Rattle.jb_handle.specs.LastOp.{words_by}
 use Rattle.jb_core.specs.Lives.{Log, is_seat, ops_of}
+use Rattle.jb_core.proofs.Entries.{missed}
 
 -- ---- seats
 
@@ -19,11 +20,6 @@ seat-self a = unsigned_tied a a ∙ (let test : (a == a) ≡ true = grind (arith
 
 pub seat-swap : (a b : ℕ) → is_seat a b ≡ false → is_seat b a ≡ false
 seat-swap a b apart = unsigned_tied b a ∙ (let test : (a == b) ≡ false = sym (unsigned_tied a b) ∙ apart in let other : (b == a) ≡ false = grind (arith, nat_tests) in other)
-
--- a look-up that misses passes over the first entry
-missed : (b : Bool) (h : Held) (rest : Option Held) → cond b (Some h) rest ≡ None → (b ≡ false) × (rest ≡ None)
-missed true h rest is = absurd (let h : ⊥ = cc in h)
-missed false h rest is = (refl, is)
 
 -- ---- one handle for a seat
 

@@ -1,297 +1,221 @@
 -- Each event leaves the machine sound.
-use Rattle.std.proofs.Common.{◌≡◌, ℕ, zero, suc, ◌+◌, ◌^◌, ◌<◌, ◌≤◌, Bool, true, false, nat_lt, nat_le, cond, ◌||◌, ◌⊎◌, inl, inr, List, [], ◌∷◌, ◌++◌, length, take, drop, sum, Option, Some, None, is_some, Ordering, Less, Equal, Greater, sym, refl, ap, subst, ◌∙◌, le_refl, arith}
+use Rattle.std.proofs.Common.{◌≡◌, ℕ, ◌+◌, ◌^◌, ◌<◌, ◌≤◌, true, false, nat_lt, nat_le, List, [], ◌∷◌, ◌++◌, length, take, drop, Some, None, is_some, is_none, All, IfSome, sym, refl, ap, subst, ◌∙◌, le_refl, arith}
 use Rattle.std.proofs.lemmas.Bool.Decides.{nat_tests}
-use Rattle.std.proofs.lemmas.List.{length-append, length-drop, append_assoc, append-nil}
-use Rattle.std.proofs.Math.Seq.{drop-append-add}
-use Rattle.std.proofs.lemmas.List.Sums.{sum_by-append, sum_by-take-drop, sum_by-cons}
-use Rattle.std.proofs.lemmas.Map.Entries.{sum_by-insert_entry, sum_by-remove_entry, sum_by-set_value}
-use Rattle.std.specs.List.{sum_by}
-use Rattle.std.specs.List.Sorted.{IsStrictlySortedBy}
-use Rattle.std.specs.Option.{unwrap_or, option_map}
-use Rattle.std.specs.Ordering.{nat_cmp, match_ordering}
-use Rattle.std.specs.Cmp.{nat_cmp_total}
-use Rattle.std.specs.BTreeMap.{insert_entry, is_at, IsOrdered}
-use Rattle.std.specs.Map.{lookup, set_value, remove_entry, keys_of, values_of}
+use Rattle.std.proofs.lemmas.List.{length-append, append_assoc, append-nil}
+use Rattle.std.proofs.lemmas.List.Elements.{All-nil, All-push, All-drop, All-same}
+use Rattle.std.proofs.Math.Seq.{drop-length}
+use Rattle.std.proofs.lemmas.Map.{length-set_value}
+use Rattle.std.proofs.lemmas.Map.Views.{All-values-insert_entry, All-values-set_value, All-map-remove_entry, IfSome-lookup_from_All}
+use Rattle.std.specs.Ordering.{nat_cmp}
+use Rattle.std.specs.BTreeMap.{is_at}
+use Rattle.std.specs.Map.{values_of}
 use Rattle.std.specs.FinMap as map
 use Rattle.jb_handle.specs.declared.op.Op.{Op}
-use Rattle.jb_handle.specs.declared.stopped.Stopped.{Stopped}
-use Rattle.jb_handle.specs.Held.{Held, held, first_of}
+use Rattle.jb_handle.specs.declared.op.Op.TheVariants.{Write, Revoke}
+use Rattle.jb_handle.specs.Held.{Held, held, IsKept, Fits}
 use Rattle.jb_handle.specs.Held as handle
-use Rattle.jb_handle.specs.Size.{weight, IsWithinSize}
+use Rattle.jb_handle.specs.Tickets.{TicketsFrom}
+use Rattle.jb_handle.proofs.Admitted.{kept-new, copy-kept, free-kept}
+use Rattle.jb_handle.proofs.Tickets.{tickets-append, tickets-first}
 use Rattle.jb_cost.specs.Cut.{IsCut}
-use Rattle.jb_core.specs.declared.event.CoreFault.{CoreFault}
-use Rattle.jb_core.specs.declared.event.CoreFault.TheVariants.{Busy, TooManyCredits, Full}
+use Rattle.jb_cost.specs.Credits.{Covers}
+use Rattle.jb_cost.specs.Pieces.{joined, pieces}
+use Rattle.jb_cost.proofs.Granted.{covers-append, covers-drop}
+use Rattle.jb_cost.proofs.Joined.{drop-joined, cut-joined}
 use Rattle.jb_core.specs.declared.event.Event.TheVariants.{Open, Touch, Stop, Abandon, Settle, Checkpoint, Crash, Restart}
-use Rattle.jb_core.specs.Line.{joined, pieces, count}
-use Rattle.jb_core.specs.Machine.{Machine, handle_at, held_at, reserved, is_full, refusal_up, fault_of, stopped_at, after, after_take}
-use Rattle.jb_core.specs.Sound.{Covers, waiting, IsBare, IsSound}
-use Rattle.jb_handle.specs.declared.changes.TouchFault.{TouchFault}
-use Rattle.jb_handle.specs.declared.changes.TouchFault.TheVariants as touch
-use Rattle.jb_core.specs.Steps.{Refuses}
-use Rattle.jb_core.specs.State.{machine_of, IsKept}
-use Rattle.jb_core.specs.declared.state.State.TheInside.{Inside}
-use Rattle.jb_core.proofs.Pieces.{joined-cut}
+use Rattle.jb_core.specs.declared.event.CoreFault.TheVariants.{Busy, NoHandle, TooManyCredits, Full, Nothing}
+use Rattle.jb_core.specs.Line.{count}
+use Rattle.jb_core.specs.Lives.{settled_now}
+use Rattle.jb_core.specs.Machine.{Machine, handle_at, held_at, reserved, is_full, refusal_up, stopped_at, after, after_take}
+use Rattle.jb_core.specs.Sound.{waiting, stopped_now, IsGranted, IsSound}
+use Rattle.jb_core.proofs.Accepted.{found-none, found-some, or-false, first-false, opens, still-up, there-at}
+use Rattle.jb_core.proofs.Groups.{more-settled, parts-joined}
+use Rattle.jb_core.proofs.Entries.{length-insert_entry, length-remove_entry}
+use Rattle.jb_core.proofs.Reserved.{credits_of, open-reserved, touch-reserved, gone-reserved, stop-reserved, settle-reserved}
 
--- ---- handles within their credits
-
-covers-append : (cs ds : List ℕ) (hs ks : List Stopped) → Covers cs hs → Covers ds ks → Covers (cs ++ ds) (hs ++ ks)
-covers-append [] ds [] ks a b = b
-covers-append [] ds (h ∷ hs) ks a b = absurd a
-covers-append (c ∷ cs) ds [] ks a b = absurd a
-covers-append (c ∷ cs) ds (h ∷ hs) ks a b = (a.0, covers-append cs ds hs ks a.1 b)
-
-covers-drop : (k : ℕ) (cs : List ℕ) (hs : List Stopped) → Covers cs hs → Covers (drop k cs) (drop k hs)
-covers-drop zero cs hs a = a
-covers-drop (suc k) [] [] a = tt
-covers-drop (suc k) [] (h ∷ hs) a = absurd a
-covers-drop (suc k) (c ∷ cs) [] a = absurd a
-covers-drop (suc k) (c ∷ cs) (h ∷ hs) a = covers-drop k cs hs a.1
-
-covers-weight : (cs : List ℕ) (hs : List Stopped) → Covers cs hs → weight hs ≤ sum cs + length hs
-covers-weight [] [] a = le_refl 0
-covers-weight [] (h ∷ hs) a = absurd a
-covers-weight (c ∷ cs) [] a = absurd a
-covers-weight (c ∷ cs) (h ∷ hs) a =
-    let rest = covers-weight cs hs a.1 in
-    let touched = a.0 in
-    let left = sum_by-cons (λ (g : Stopped). map.len g.words + 1) h hs in
-    let right = sum_by-cons (λ (x : ℕ). x) c cs in
-    omega arith
-
--- the planner takes any queue of a machine
-pub queue-size : (m : Machine) → IsSound m → IsWithinSize m.queue
-queue-size m sound =
-    let all = covers-weight m.credits (waiting m) sound.covered in
-    let parts = sum_by-append (λ (g : Stopped). map.len g.words + 1) (joined m.taken) m.queue in
-    let room = sound.room in
-    let in_life = sound.in_life in
-    let tickets = sound.tickets in
-    omega arith
-
--- ---- groups joined
-
-pub drop-joined : {A : Type 0} (n : ℕ) (gs : List (List A)) (q : List A) → drop (length (joined (take n gs))) (joined gs ++ q) ≡ joined (drop n gs) ++ q
-drop-joined zero gs q = refl
-drop-joined (suc n) [] q = refl
-drop-joined (suc n) (g ∷ gs) q =
-    ap (λ k. drop k ((g ++ joined gs) ++ q)) (length-append g (joined (take n gs)))
-    ∙ ap (drop (length g + length (joined (take n gs)))) (append_assoc g (joined gs) q)
-    ∙ drop-append-add g (joined gs ++ q) (length (joined (take n gs)))
-    ∙ drop-joined n gs q
-
-pub cut-joined : {A : Type 0} (bounds : List ℕ) (xs : List A) → IsCut (length xs) bounds → joined (pieces bounds xs) ≡ xs
-cut-joined [] xs cut = absurd cut
-cut-joined (a ∷ bs) xs cut = joined-cut a bs xs cut.0 cut.1
-
--- ---- the open handles
-
-abbrev pub credits_of : Held → ℕ
-credits_of h = h.credits
-
-pub found-none : {A : Type 0} (found : Option A) → is_some found ≡ false → found ≡ None
-found-none None is = refl
-found-none (Some x) is = absurd (let h : ⊥ = cc in h)
-
-or-false : (a b : Bool) → (a || b) ≡ false → (a ≡ false) × (b ≡ false)
-or-false true b is = absurd (let h : ⊥ = cc in h)
-or-false false b is = (refl, is)
-
-length-insert_entry : (es : List (ℕ × Held)) (k : ℕ) (v : Held) → length (insert_entry nat_cmp es k v) ≤ length es + 1
-length-insert_entry [] k v = le_refl 1
-length-insert_entry (e ∷ es) k v = at (nat_cmp k e.0) (length-insert_entry es k v)
-  where
-    at : (o : Ordering) → length (insert_entry nat_cmp es k v) ≤ length es + 1 → length (match_ordering o ((k, v) ∷ e ∷ es) ((e.0, v) ∷ es) (e ∷ insert_entry nat_cmp es k v)) ≤ suc (length es) + 1
-    at Less rest = omega arith
-    at Equal rest = omega arith
-    at Greater rest = omega arith
-
-length-set_value : (test : ℕ → Bool) (es : List (ℕ × Held)) (v : Held) → length (set_value test es v) ≡ length es
-length-set_value test [] v = refl
-length-set_value test (e ∷ es) v = at (test e.0) (length-set_value test es v)
-  where
-    at : (b : Bool) → length (set_value test es v) ≡ length es → length (cond b ((e.0, v) ∷ es) (e ∷ set_value test es v)) ≡ suc (length es)
-    at true rest = refl
-    at false rest = ap suc rest
-
-length-remove_entry : (test : ℕ → Bool) (es : List (ℕ × Held)) (v : Held) → lookup test es ≡ Some v → length (remove_entry test es) + 1 ≡ length es
-length-remove_entry test [] v is = absurd (let h : ⊥ = cc in h)
-length-remove_entry test (e ∷ es) v is = at (test e.0) (length-remove_entry test es v) is
-  where
-    at : (b : Bool) → (lookup test es ≡ Some v → length (remove_entry test es) + 1 ≡ length es) → cond b (Some e.1) (lookup test es) ≡ Some v → length (cond b es (e ∷ remove_entry test es)) + 1 ≡ suc (length es)
-    at true rest is = omega arith
-    at false rest is = let r = rest is in omega arith
-
--- a machine that is up is not down
-up-not-down : (m n : Machine) → m.up ≡ true → n.up ≡ m.up → n.up ≡ false → IsBare n
-up-not-down m n up same down = let e : true ≡ false = sym up ∙ sym same ∙ down in absurd (let h : ⊥ = cc in h)
-
--- what the three tests of an Open let pass
-pub opens : (a b c : Bool) (x y z : CoreFault) → first_of ((a, x) ∷ (b, y) ∷ (c, z) ∷ []) ≡ None → (a ≡ false) × (b ≡ false) × (c ≡ false)
-opens true b c x y z is = absurd (let h : ⊥ = cc in h)
-opens false true c x y z is = absurd (let h : ⊥ = cc in h)
-opens false false true x y z is = absurd (let h : ⊥ = cc in h)
-opens false false false x y z is = (refl, refl, refl)
-
-pub none-left : {A : Type 0} (xs : List A) → length xs ≤ 0 → xs ≡ []
-none-left [] le = refl
-none-left (x ∷ xs) le = absurd (let h : ⊥ = omega arith in h)
-
--- a change that its handle refuses is refused by the machine, with the same fault
-pub touch-refuses : (m : Machine) (seat : ℕ) (op : Op) (h : Held) → m.up ≡ true → handle_at m seat ≡ Some h → (fault : TouchFault) → (fault ≡ touch.Memory) ⊎ (handle.refusal h op ≡ Some fault) → Refuses m (Touch seat op) (fault_of fault)
-touch-refuses m seat op h up there touch.Memory why = tt
-touch-refuses m seat op h up there (touch.NoCredit credits) (inl is) = absurd (let h : ⊥ = cc in h)
-touch-refuses m seat op h up there (touch.NoCredit credits) (inr is) = rw (up, there) (rw is refl)
-touch-refuses m seat op h up there (touch.OutOfRange home) (inl is) = absurd (let h : ⊥ = cc in h)
-touch-refuses m seat op h up there (touch.OutOfRange home) (inr is) = rw (up, there) (rw is refl)
-touch-refuses m seat op h up there touch.Length (inl is) = absurd (let h : ⊥ = cc in h)
-touch-refuses m seat op h up there touch.Length (inr is) = rw (up, there) (rw is refl)
-
--- ---- events
-
-module _ (m : Machine) (sound : IsSound m) (up : m.up ≡ true) where
-  -- the credits of a new handle are reserved
-  pub open-reserved : (seat credits : ℕ) → IsStrictlySortedBy nat_cmp (keys_of m.handles) → handle_at m seat ≡ None → reserved (after m (Open seat credits)) ≡ reserved m + credits
-  open-reserved seat credits ordered none =
-      let all = sum_by-insert_entry credits_of nat_cmp_total m.handles seat (held credits m.shape map.empty) ordered in
-      let before : unwrap_or (option_map credits_of (lookup (is_at (nat_cmp seat)) m.handles)) 0 ≡ 0 = ap (λ found. unwrap_or (option_map credits_of found) 0) none in
-      omega (arith, all, before)
-
-  pub open-sound : (seat credits : ℕ) → IsStrictlySortedBy nat_cmp (keys_of m.handles) → refusal_up m (Open seat credits) ≡ None → IsSound (after m (Open seat credits))
-  open-sound seat credits ordered granted =
-      let tests = opens (is_some (handle_at m seat)) (nat_lt m.most credits) (is_full m credits) Busy (TooManyCredits m.most) (Full (reserved m)) granted in
-      let full = or-false (nat_lt 2147483646 (reserved m + credits)) (nat_le (2 ^ 61) (m.next + length m.handles)) tests.2 in
-      let room : nat_lt 2147483646 (reserved m + credits) ≡ false = full.0 in
-      let fits : reserved m + credits ≤ 2147483646 = grind (arith, nat_tests) in
-      let tickets : nat_le (2 ^ 61) (m.next + length m.handles) ≡ false = full.1 in
-      let left : m.next + length m.handles < 2 ^ 61 = grind (arith, nat_tests) in
-      let longer = length-insert_entry m.handles seat (held credits m.shape map.empty) in
-      record {
-        most = sound.most;
-        covered = sound.covered;
-        room = let same = open-reserved seat credits ordered (found-none (handle_at m seat) tests.0) in omega (arith, same, fits);
-        tickets = omega (arith, longer, left);
-        in_life = sound.in_life;
-        lives = sound.lives;
-        home = sound.home;
-        down = up-not-down m (after m (Open seat credits)) up refl;
-      }
-
-  -- a change leaves the credits of its handle
-  pub touch-reserved : (seat : ℕ) (h w : Held) → handle_at m seat ≡ Some h → w.credits ≡ h.credits → sum_by credits_of (values_of (set_value (is_at (nat_cmp seat)) m.handles w)) ≡ sum_by credits_of (values_of m.handles)
-  touch-reserved seat h w there same = let all = sum_by-set_value credits_of (is_at (nat_cmp seat)) m.handles h w there in omega (arith, all, same)
-
-  pub touch-sound : (seat : ℕ) (op : Op) (h : Held) → handle_at m seat ≡ Some h → IsSound (after m (Touch seat op))
-  touch-sound seat op h there =
-      let held_there : held_at m seat ≡ h = ap (λ found. unwrap_or found (held 0 m.shape map.empty)) there in
-      record {
-        most = sound.most;
-        covered = sound.covered;
-        room = let same = touch-reserved seat h (handle.after (held_at m seat) op) there (ap credits_of held_there) in let room = sound.room in omega arith;
-        tickets = let same = length-set_value (is_at (nat_cmp seat)) m.handles (handle.after (held_at m seat) op) in let tickets = sound.tickets in omega arith;
-        in_life = sound.in_life;
-        lives = sound.lives;
-        home = sound.home;
-        down = up-not-down m (after m (Touch seat op)) up refl;
-      }
-
-  -- without a handle, its credits are left over
-  pub gone-reserved : (seat : ℕ) (h : Held) → handle_at m seat ≡ Some h → sum_by credits_of (values_of (remove_entry (is_at (nat_cmp seat)) m.handles)) + h.credits ≡ sum_by credits_of (values_of m.handles)
-  gone-reserved seat h there =
-      let all = sum_by-remove_entry credits_of (is_at (nat_cmp seat)) m.handles in
-      let before : unwrap_or (option_map credits_of (lookup (is_at (nat_cmp seat)) m.handles)) 0 ≡ h.credits = ap (λ found. unwrap_or (option_map credits_of found) 0) there in
-      omega (arith, all, before)
-
-  pub abandon-sound : (seat : ℕ) (h : Held) → handle_at m seat ≡ Some h → IsSound (after m (Abandon seat))
-  abandon-sound seat h there = record {
-    most = sound.most;
-    covered = sound.covered;
-    room = let all = gone-reserved seat h there in let room = sound.room in omega arith;
-    tickets = let fewer = length-remove_entry (is_at (nat_cmp seat)) m.handles h there in let tickets = sound.tickets in omega arith;
-    in_life = sound.in_life;
-    lives = sound.lives;
-    home = sound.home;
-    down = up-not-down m (after m (Abandon seat)) up refl;
-  }
-
-  pub stop-reserved : (seat : ℕ) (h : Held) → handle_at m seat ≡ Some h → reserved (after m (Stop seat)) ≡ reserved m
-  stop-reserved seat h there =
-      let all = gone-reserved seat h there in
-      let more = sum_by-append (λ (x : ℕ). x) m.credits ((held_at m seat).credits ∷ []) in
-      let same : (held_at m seat).credits ≡ h.credits = ap (λ found. (unwrap_or found (held 0 m.shape map.empty)).credits) there in
-      let one : sum ((held_at m seat).credits ∷ []) ≡ (held_at m seat).credits = omega arith in
-      omega (arith, all, more, same, one)
-
-  pub stop-sound : (seat : ℕ) (h : Held) → handle_at m seat ≡ Some h → map.len h.words ≤ h.credits → IsSound (after m (Stop seat))
-  stop-sound seat h there within =
-      let held_there : held_at m seat ≡ h = ap (λ found. unwrap_or found (held 0 m.shape map.empty)) there in
-      let line : joined m.taken ++ (m.queue ++ stopped_at m seat ∷ []) ≡ waiting m ++ stopped_at m seat ∷ [] = sym (append_assoc (joined m.taken) m.queue (stopped_at m seat ∷ [])) in
-      let longer = length-append (waiting m) (stopped_at m seat ∷ []) in
-      record {
-        most = sound.most;
-        covered = subst (Covers (m.credits ++ (held_at m seat).credits ∷ [])) (sym line)
-            (covers-append m.credits ((held_at m seat).credits ∷ []) (waiting m) (stopped_at m seat ∷ []) sound.covered (subst (λ (g : Held). map.len g.words ≤ g.credits) (sym held_there) within, tt));
-        room = let same = stop-reserved seat h there in let room = sound.room in omega arith;
-        tickets = let fewer = length-remove_entry (is_at (nat_cmp seat)) m.handles h there in let tickets = sound.tickets in omega arith;
-        in_life = let in_life = sound.in_life in let same = ap length line in omega arith;
-        lives = sound.lives;
-        home = sound.home;
-        down = up-not-down m (after m (Stop seat)) up refl;
-      }
-
-  pub take-sound : (bounds : List ℕ) → m.taken ≡ [] → IsCut (length m.queue) bounds → IsSound (after_take m bounds)
-  take-sound bounds none cut =
-      let line : joined (pieces bounds m.queue) ++ [] ≡ waiting m = append-nil (joined (pieces bounds m.queue)) ∙ cut-joined bounds m.queue cut ∙ ap (λ gs. joined gs ++ m.queue) (sym none) in
-      record {
-        most = sound.most;
-        covered = subst (Covers m.credits) (sym line) sound.covered;
-        room = sound.room;
-        tickets = sound.tickets;
-        in_life = let in_life = sound.in_life in let same = ap length line in omega arith;
-        lives = sound.lives;
-        home = sound.home;
-        down = up-not-down m (after_take m bounds) up refl;
-      }
-
-  pub settle-reserved : (n : ℕ) → reserved (after m (Settle n)) + sum (take (count (take n m.taken)) m.credits) ≡ reserved m
-  settle-reserved n = let parts = sum_by-take-drop (λ (x : ℕ). x) m.credits (count (take n m.taken)) in omega arith
-
-  pub settle-sound : (n : ℕ) → IsSound (after m (Settle n))
-  settle-sound n =
-      let line : drop (count (take n m.taken)) (waiting m) ≡ joined (drop n m.taken) ++ m.queue = drop-joined n m.taken m.queue in
-      let longer = length-append m.settled (take n m.taken) in
-      record {
-        most = sound.most;
-        covered = subst (Covers (drop (count (take n m.taken)) m.credits)) line (covers-drop (count (take n m.taken)) m.credits (waiting m) sound.covered);
-        room = let parts = settle-reserved n in let room = sound.room in omega arith;
-        tickets = sound.tickets;
-        in_life = let in_life = sound.in_life in let same = ap length line in let fewer = length-drop (count (take n m.taken)) (waiting m) in omega arith;
-        lives = let lives = sound.lives in omega arith;
-        home = let home = sound.home in omega arith;
-        down = up-not-down m (after m (Settle n)) up refl;
-      }
-
-  pub checkpoint-sound : m.checkpointed < length m.settled → IsSound (after m Checkpoint)
-  checkpoint-sound there = record {
-    most = sound.most;
-    covered = sound.covered;
-    room = sound.room;
-    tickets = sound.tickets;
-    in_life = sound.in_life;
-    lives = sound.lives;
-    home = omega arith;
-    down = up-not-down m (after m Checkpoint) up refl;
-  }
+-- an accepted change leaves a handle within its credits and its shape
+after-kept : (h : Held) (op : Op) → IsKept h → handle.refusal h op ≡ None → IsKept (handle.after h op)
+after-kept h (Write home bytes) kept none = copy-kept h home bytes kept none
+after-kept h (Revoke home) kept none = free-kept h home kept none
 
 module _ (m : Machine) (sound : IsSound m) where
+  -- what a seat holds is within what was granted
+  pub granted-at : (seat : ℕ) (h : Held) → handle_at m seat ≡ Some h → IsGranted m.shape m.most h
+  granted-at seat h there = subst (λ found. IfSome found (IsGranted m.shape m.most)) there (IfSome-lookup_from_All (IsGranted m.shape m.most) (is_at (nat_cmp seat)) m.handles sound.granted)
+
+  granted-held : (seat : ℕ) (h : Held) → handle_at m seat ≡ Some h → IsGranted m.shape m.most (held_at m seat)
+  granted-held seat h there = subst (IsGranted m.shape m.most) (sym (there-at m seat h there)) (granted-at seat h there)
+
+  module _ (up : m.up ≡ true) where
+    pub open-sound : (seat credits : ℕ) → refusal_up m (Open seat credits) ≡ None → IsSound (after m (Open seat credits))
+    open-sound seat credits passed =
+        let tests = opens (is_some (handle_at m seat)) (nat_lt m.most credits) (is_full m credits) Busy (TooManyCredits m.most) (Full (reserved m)) passed in
+        let full = or-false (nat_lt 2147483646 (reserved m + credits)) (nat_le (2 ^ 61) (m.next + length m.handles)) tests.2 in
+        let room : nat_lt 2147483646 (reserved m + credits) ≡ false = full.0 in
+        let fits : reserved m + credits ≤ 2147483646 = grind (arith, nat_tests) in
+        let tickets : nat_le (2 ^ 61) (m.next + length m.handles) ≡ false = full.1 in
+        let left : m.next + length m.handles < 2 ^ 61 = grind (arith, nat_tests) in
+        let more : nat_lt m.most credits ≡ false = tests.1 in
+        let few : credits ≤ m.most = grind (arith, nat_tests) in
+        let within = sound.most.within in
+        let limit = m.shape.most in
+        let longer = length-insert_entry m.handles seat (held credits m.shape map.empty) in
+        record {
+          most = sound.most;
+          granted = All-values-insert_entry nat_cmp seat (held credits m.shape map.empty) (IsGranted m.shape m.most) m.handles sound.granted
+              (record { few = few; same_shape = refl; kept = kept-new credits m.shape (omega arith) });
+          few = sound.few;
+          covered = sound.covered;
+          fits = sound.fits;
+          room = let same = open-reserved m seat credits (found-none (handle_at m seat) tests.0) in omega (arith, same, fits);
+          tickets = omega (arith, longer, left);
+          numbered = sound.numbered;
+          counted = sound.counted;
+          lives = sound.lives;
+          home = sound.home;
+          down = still-up m.up up;
+        }
+
+    pub touch-sound : (seat : ℕ) (op : Op) → refusal_up m (Touch seat op) ≡ None → IsSound (after m (Touch seat op))
+    touch-sound seat op passed =
+        let first = first-false (is_none (handle_at m seat)) NoHandle _ passed in
+        let found = found-some (handle_at m seat) first.0 in
+        let none = found-none (handle.refusal (held_at m seat) op) (first-false (is_some (handle.refusal (held_at m seat) op)) _ [] first.1).0 in
+        let granted = granted-held seat found.0 found.1 in
+        record {
+          most = sound.most;
+          granted = All-values-set_value (is_at (nat_cmp seat)) (IsGranted m.shape m.most) m.handles (handle.after (held_at m seat) op) sound.granted
+              (record { few = granted.few; same_shape = granted.same_shape; kept = after-kept (held_at m seat) op granted.kept none });
+          few = sound.few;
+          covered = sound.covered;
+          fits = sound.fits;
+          room = let same = touch-reserved m seat found.0 (handle.after (held_at m seat) op) found.1 (ap credits_of (there-at m seat found.0 found.1)) in let room = sound.room in omega arith;
+          tickets = let same = length-set_value (is_at (nat_cmp seat)) m.handles (handle.after (held_at m seat) op) in let tickets = sound.tickets in omega arith;
+          numbered = sound.numbered;
+          counted = sound.counted;
+          lives = sound.lives;
+          home = sound.home;
+          down = still-up m.up up;
+        }
+
+    gone-granted : (seat : ℕ) → All (IsGranted m.shape m.most) (values_of (after m (Abandon seat)).handles)
+    gone-granted seat = All-map-remove_entry (is_at (nat_cmp seat)) (λ (e : ℕ × Held). e.1) (IsGranted m.shape m.most) m.handles sound.granted
+
+    pub abandon-sound : (seat : ℕ) → refusal_up m (Abandon seat) ≡ None → IsSound (after m (Abandon seat))
+    abandon-sound seat passed =
+        let found = found-some (handle_at m seat) (first-false (is_none (handle_at m seat)) NoHandle [] passed).0 in
+        record {
+          most = sound.most;
+          granted = gone-granted seat;
+          few = sound.few;
+          covered = sound.covered;
+          fits = sound.fits;
+          room = let all = gone-reserved m seat found.0 found.1 in let room = sound.room in omega arith;
+          tickets = let fewer = length-remove_entry (is_at (nat_cmp seat)) m.handles found.0 found.1 in let tickets = sound.tickets in omega arith;
+          numbered = sound.numbered;
+          counted = sound.counted;
+          lives = sound.lives;
+          home = sound.home;
+          down = still-up m.up up;
+        }
+
+    pub stop-sound : (seat : ℕ) → refusal_up m (Stop seat) ≡ None → IsSound (after m (Stop seat))
+    stop-sound seat passed =
+        let found = found-some (handle_at m seat) (first-false (is_none (handle_at m seat)) NoHandle [] passed).0 in
+        let granted = granted-held seat found.0 found.1 in
+        let line : waiting m ++ stopped_at m seat ∷ [] ≡ joined m.taken ++ (m.queue ++ stopped_at m seat ∷ []) = append_assoc (joined m.taken) m.queue (stopped_at m seat ∷ []) in
+        let all : stopped_now m ++ stopped_at m seat ∷ [] ≡ stopped_now (after m (Stop seat)) = append_assoc (settled_now m) (waiting m) (stopped_at m seat ∷ []) ∙ ap (λ hs. settled_now m ++ hs) line in
+        let counted = sound.counted up in
+        let longer = length-append (stopped_now m) (stopped_at m seat ∷ []) in
+        record {
+          most = sound.most;
+          granted = gone-granted seat;
+          few = All-push (λ credits. credits ≤ m.most) m.credits (held_at m seat).credits sound.few granted.few;
+          covered = subst (Covers (m.credits ++ (held_at m seat).credits ∷ [])) line
+              (covers-append m.credits ((held_at m seat).credits ∷ []) (waiting m) (stopped_at m seat ∷ []) sound.covered (granted.kept.within, tt));
+          fits = All-same (λ h. Fits m.shape h.words) _ _ (sym line) (All-push (λ h. Fits m.shape h.words) (waiting m) (stopped_at m seat) sound.fits
+              (subst (λ shape. Fits shape (held_at m seat).words) granted.same_shape granted.kept.fits));
+          room = let same = stop-reserved m seat found.0 found.1 in let room = sound.room in omega arith;
+          tickets = let fewer = length-remove_entry (is_at (nat_cmp seat)) m.handles found.0 found.1 in let tickets = sound.tickets in omega arith;
+          numbered = subst (TicketsFrom 0) all (tickets-append 0 (stopped_now m) (stopped_at m seat ∷ []) sound.numbered (omega arith, tt));
+          counted = λ _. let same = ap length all in omega arith;
+          lives = sound.lives;
+          home = sound.home;
+          down = still-up m.up up;
+        }
+
+    pub take-sound : (bounds : List ℕ) → m.taken ≡ [] → IsCut (length m.queue) bounds → IsSound (after_take m bounds)
+    take-sound bounds none cut =
+        let line : waiting m ≡ joined (pieces bounds m.queue) ++ [] = ap (λ gs. joined gs ++ m.queue) none ∙ sym (cut-joined bounds m.queue cut) ∙ sym (append-nil (joined (pieces bounds m.queue))) in
+        let all : stopped_now m ≡ stopped_now (after_take m bounds) = ap (λ hs. settled_now m ++ hs) line in
+        record {
+          most = sound.most;
+          granted = sound.granted;
+          few = sound.few;
+          covered = subst (Covers m.credits) line sound.covered;
+          fits = All-same (λ h. Fits m.shape h.words) _ _ (sym line) sound.fits;
+          room = sound.room;
+          tickets = sound.tickets;
+          numbered = subst (TicketsFrom 0) all sound.numbered;
+          counted = λ is. sym (ap length all) ∙ sound.counted is;
+          lives = sound.lives;
+          home = sound.home;
+          down = still-up m.up up;
+        }
+
+    pub settle-sound : (n : ℕ) → IsSound (after m (Settle n))
+    settle-sound n =
+        let line : drop (count (take n m.taken)) (waiting m) ≡ joined (drop n m.taken) ++ m.queue = drop-joined n m.taken m.queue in
+        let all : stopped_now m ≡ stopped_now (after m (Settle n)) = sym (parts-joined m sound.lives n) ∙ ap (λ xs. xs ++ (joined (drop n m.taken) ++ m.queue)) (sym (more-settled m sound.lives n)) in
+        let longer = length-append m.settled (take n m.taken) in
+        record {
+          most = sound.most;
+          granted = sound.granted;
+          few = All-drop (λ credits. credits ≤ m.most) (count (take n m.taken)) m.credits sound.few;
+          covered = subst (Covers (drop (count (take n m.taken)) m.credits)) line (covers-drop (count (take n m.taken)) m.credits (waiting m) sound.covered);
+          fits = All-same (λ h. Fits m.shape h.words) _ _ (sym line) (All-drop (λ h. Fits m.shape h.words) (count (take n m.taken)) (waiting m) sound.fits);
+          room = let parts = settle-reserved m n in let room = sound.room in omega arith;
+          tickets = sound.tickets;
+          numbered = subst (TicketsFrom 0) all sound.numbered;
+          counted = λ is. sym (ap length all) ∙ sound.counted is;
+          lives = let lives = sound.lives in omega arith;
+          home = let home = sound.home in omega arith;
+          down = still-up m.up up;
+        }
+
+    pub checkpoint-sound : refusal_up m Checkpoint ≡ None → IsSound (after m Checkpoint)
+    checkpoint-sound passed =
+        let test : nat_le (length m.settled) m.checkpointed ≡ false = (first-false (nat_le (length m.settled) m.checkpointed) Nothing [] passed).0 in
+        let more : m.checkpointed < length m.settled = grind (arith, nat_tests) in
+        record {
+          most = sound.most;
+          granted = sound.granted;
+          few = sound.few;
+          covered = sound.covered;
+          fits = sound.fits;
+          room = sound.room;
+          tickets = sound.tickets;
+          numbered = sound.numbered;
+          counted = sound.counted;
+          lives = sound.lives;
+          home = omega (arith, more);
+          down = still-up m.up up;
+        }
+
   pub crash-sound : (n : ℕ) → IsSound (after m (Crash n))
   crash-sound n =
       let longer = length-append m.settled (take n m.taken) in
+      let kept : settled_now m ++ joined (take n m.taken) ≡ stopped_now (after m (Crash n)) = sym (more-settled m sound.lives n) ∙ sym (append-nil _) in
       record {
         most = sound.most;
+        granted = All-nil (IsGranted m.shape m.most);
+        few = All-nil (λ credits. credits ≤ m.most);
         covered = tt;
+        fits = All-nil (λ h. Fits m.shape h.words);
         room = omega arith;
         tickets = let tickets = sound.tickets in omega arith;
-        in_life = omega arith;
+        numbered = subst (TicketsFrom 0) kept (tickets-first 0 (settled_now m ++ joined (take n m.taken)) (joined (drop n m.taken) ++ m.queue) (subst (TicketsFrom 0) (sym (parts-joined m sound.lives n)) sound.numbered));
+        counted = λ up. still-up false up refl;
         lives = let lives = sound.lives in omega arith;
         home = let home = sound.home in omega arith;
         down = λ down. record { handles = refl; taken = refl; queue = refl; credits = refl };
@@ -300,18 +224,18 @@ module _ (m : Machine) (sound : IsSound m) where
   pub restart-sound : m.up ≡ false → IsSound (after m Restart)
   restart-sound down =
       let bare = sound.down down in
-      let none : waiting m ≡ [] = ap (λ gs. joined gs ++ m.queue) bare.taken ∙ bare.queue in
+      let none : stopped_now (after m Restart) ≡ [] = rw (drop-length m.settled, bare.taken, bare.queue) refl in
       record {
         most = sound.most;
+        granted = sound.granted;
+        few = sound.few;
         covered = sound.covered;
+        fits = sound.fits;
         room = sound.room;
         tickets = let same = ap length bare.handles in omega arith;
-        in_life = let same = ap length none in omega arith;
+        numbered = subst (TicketsFrom 0) (sym none) tt;
+        counted = λ _. ap length none;
         lives = le_refl (length m.settled);
         home = le_refl (length m.settled);
-        down = λ up. absurd (let h : ⊥ = cc in h);
+        down = λ is. still-up true refl is;
       }
-
--- how a state is kept, told of the machine that it stands for
-pub kept-by : (t : Inside) (m : Machine) → machine_of t ≡ m → IsSound m → t.reserved ≡ reserved m → IsOrdered nat_cmp t.handles → IsKept t
-kept-by t m is sound counted ordered = record { sound = subst IsSound (sym is) sound; counted = counted ∙ ap reserved (sym is); ordered = ordered }

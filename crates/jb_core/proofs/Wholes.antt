@@ -1,9 +1,7 @@
 -- Over every run the machine keeps its lives whole.
-use Rattle.std.proofs.Common.{◌≡◌, ℕ, ◌≤◌, Bool, true, false, not, nat_lt, ◌==◌, List, [], ◌∷◌, ◌++◌, length, take, drop, Option, Some, None, is_some, is_none, Ok, Err, sym, refl, ap, subst, ◌∙◌, le_refl, arith}
-use Rattle.std.proofs.lemmas.Bool.Decides.{nat_tests}
-use Rattle.std.proofs.lemmas.List.{length-append, append_assoc, append-nil, map-append, take-append-drop, take-append-le, drop-append-le}
+use Rattle.std.proofs.Common.{◌≡◌, ℕ, ◌≤◌, true, false, nat_lt, List, [], ◌∷◌, ◌++◌, length, take, drop, Some, None, is_some, is_none, Ok, Err, sym, refl, ap, subst, ◌∙◌, le_refl, arith}
+use Rattle.std.proofs.lemmas.List.{length-append, append_assoc, append-nil, map-append, take-append-le}
 use Rattle.std.proofs.Math.Seq.{drop-length, take-length}
-use Rattle.std.specs.Option.{unwrap_or}
 use Rattle.std.specs.Ordering.{nat_cmp}
 use Rattle.std.specs.BTreeMap.{is_at}
 use Rattle.std.specs.FinMap as map
@@ -17,14 +15,16 @@ use Rattle.jb_core.specs.declared.event.Event.TheVariants.{Open, Touch, Stop, Ab
 use Rattle.jb_core.specs.declared.event.Reply.{Reply}
 use Rattle.jb_core.specs.declared.event.Reply.TheVariants.{Ticket}
 use Rattle.jb_core.specs.declared.event.CoreFault.{CoreFault}
-use Rattle.jb_core.specs.declared.event.CoreFault.TheVariants.{Down, Busy, NoHandle, TooManyCredits, Full, Empty, BatchOut}
-use Rattle.jb_core.specs.Line.{joined, pieces}
-use Rattle.jb_core.specs.Machine.{Machine, handle_at, held_at, reserved, is_full, refusal, refusal_by, refusal_up, refusal_down, stopped_at, after, reply_of}
+use Rattle.jb_core.specs.declared.event.CoreFault.TheVariants.{Busy, NoHandle, TooManyCredits, Full}
+use Rattle.jb_cost.specs.Pieces.{joined, pieces}
+use Rattle.jb_cost.proofs.Joined.{cut-joined}
+use Rattle.jb_core.specs.Machine.{Machine, handle_at, held_at, reserved, is_full, refusal, stopped_at, after, reply_of}
 use Rattle.jb_core.specs.Sound.{IsBare}
 use Rattle.jb_core.specs.Steps.{Steps, IsLeast}
 use Rattle.jb_core.specs.Lives.{Log, Answer, ops_of, ticket_in, stop_order, past_orders, stopped_by, handles_of, settled_now, PastKept, IsWhole, log_from}
 use Rattle.jb_core.specs.Ran.{IsStart, Ran}
-use Rattle.jb_core.proofs.Sounds.{opens, found-none, cut-joined, none-left}
+use Rattle.jb_core.proofs.Accepted.{found-none, found-some, first-false, opens, none-taken, accepted, restarted, still-up, there-at}
+use Rattle.jb_core.proofs.Groups.{more-settled, parts-joined}
 use Rattle.jb_core.proofs.Seats.{seat-self, Once, AreBy, once-insert, once-set, once-remove, by-same, by-found, by-remove, by-insert, by-set}
 
 -- how a machine stands to its log between two events
@@ -34,42 +34,6 @@ record Stands (log : Log) (m : Machine) : Type 0 where
   lives : m.earlier ≤ length m.settled
   bare : m.up ≡ false → IsBare m
   whole : IsWhole log m
-
-joined-append : {A : Type 0} (xs ys : List (List A)) → joined (xs ++ ys) ≡ joined xs ++ joined ys
-joined-append [] ys = refl
-joined-append (x ∷ xs) ys = ap (λ zs. x ++ zs) (joined-append xs ys) ∙ sym (append_assoc x (joined xs) (joined ys))
-
--- ---- what an accepted event tells
-
-first-false : (a : Bool) (x : CoreFault) (rest : List (Bool × CoreFault)) → first_of ((a, x) ∷ rest) ≡ None → (a ≡ false) × (first_of rest ≡ None)
-first-false true x rest is = absurd (let h : ⊥ = cc in h)
-first-false false x rest is = (refl, is)
-
-found-some : (found : Option Held) → is_none found ≡ false → (h : Held) × (found ≡ Some h)
-found-some None is = absurd (let h : ⊥ = cc in h)
-found-some (Some h) is = (h, refl)
-
--- only a machine that is up accepts an event other than Restart
-accepted : (m : Machine) (e : Event) → refusal_down e ≡ Some Down → refusal m e ≡ None → (m.up ≡ true) × (refusal_up m e ≡ None)
-accepted m e other none = at m.up refl none
-  where
-    at : (b : Bool) → m.up ≡ b → refusal_by b m e ≡ None → (m.up ≡ true) × (refusal_up m e ≡ None)
-    at true up is = (up, is)
-    at false down is = let both : Some Down ≡ None = sym other ∙ is in absurd (let h : ⊥ = cc in h)
-
--- only one that is down accepts Restart
-restarted : (m : Machine) → refusal m Restart ≡ None → m.up ≡ false
-restarted m none = at m.up refl none
-  where
-    at : (b : Bool) → m.up ≡ b → refusal_by b m Restart ≡ None → m.up ≡ false
-    at true up is = absurd (let h : ⊥ = cc in h)
-    at false down is = down
-
-still-up : {A : Type 0} (b : Bool) → b ≡ true → b ≡ false → A
-still-up b up down = let both : true ≡ false = sym up ∙ down in absurd (let h : ⊥ = cc in h)
-
-there-at : (m : Machine) (seat : ℕ) (h : Held) → handle_at m seat ≡ Some h → held_at m seat ≡ h
-there-at m seat h there = ap (λ found. unwrap_or found (held 0 m.shape map.empty)) there
 
 -- the words of a seat's handle are those of its changes
 held-by : (log : Log) (m : Machine) (seat : ℕ) (h : Held) → handle_at m seat ≡ Some h → AreBy log m.handles → (held_at m seat).words ≡ words_by (ops_of seat log)
@@ -152,9 +116,7 @@ module _ (log : Log) (m : Machine) (s : Stands log m) where
   taken : (bounds : _) (reply : Reply) → refusal m (Take bounds) ≡ None → IsLeast m (Take bounds) → Stands ((Take bounds, Ok reply) ∷ log) (after m (Take bounds))
   taken bounds reply none least =
       let granted = accepted m (Take bounds) refl none in
-      let full = first-false (length m.queue == 0) Empty _ granted.1 in
-      let out = (first-false (not (length m.taken == 0)) BatchOut [] full.1).0 in
-      let free : m.taken ≡ [] = none-left m.taken (let empty : length m.taken ≡ 0 = grind (arith, nat_tests) in omega arith) in
+      let free = none-taken m granted.1 in
       record {
         handles = by-same log ((Take bounds, Ok reply) ∷ log) m.handles (λ x. refl) s.handles;
         once = s.once;
@@ -168,16 +130,6 @@ module _ (log : Log) (m : Machine) (s : Stands log m) where
           past = s.whole.past;
         };
       }
-
-  -- groups join the settled ones
-  more-settled : (n : ℕ) → joined (drop m.earlier (m.settled ++ take n m.taken)) ≡ settled_now m ++ joined (take n m.taken)
-  more-settled n = ap joined (drop-append-le m.earlier m.settled (take n m.taken) s.lives) ∙ joined-append (drop m.earlier m.settled) (take n m.taken)
-
-  parts-joined : (n : ℕ) → (settled_now m ++ joined (take n m.taken)) ++ (joined (drop n m.taken) ++ m.queue) ≡ settled_now m ++ (joined m.taken ++ m.queue)
-  parts-joined n =
-      append_assoc (settled_now m) (joined (take n m.taken)) (joined (drop n m.taken) ++ m.queue)
-      ∙ ap (λ xs. settled_now m ++ xs) (sym (append_assoc (joined (take n m.taken)) (joined (drop n m.taken)) m.queue)
-      ∙ ap (λ xs. xs ++ m.queue) (sym (joined-append (take n m.taken) (drop n m.taken)) ∙ ap joined (take-append-drop n m.taken)))
 
   longer : (n : ℕ) → m.earlier ≤ length (m.settled ++ take n m.taken)
   longer n = let lives = s.lives in let all = length-append m.settled (take n m.taken) in omega arith
@@ -194,7 +146,7 @@ module _ (log : Log) (m : Machine) (s : Stands log m) where
         lives = longer n;
         bare = still-up m.up granted.0;
         whole = record {
-          up = λ up. ap (λ xs. xs ++ (joined (drop n m.taken) ++ m.queue)) (more-settled n) ∙ parts-joined n ∙ s.whole.up up;
+          up = λ up. ap (λ xs. xs ++ (joined (drop n m.taken) ++ m.queue)) (more-settled m s.lives n) ∙ parts-joined m s.lives n ∙ s.whole.up up;
           crashed = still-up m.up granted.0;
           past = same-past n;
         };
@@ -221,7 +173,7 @@ module _ (log : Log) (m : Machine) (s : Stands log m) where
         bare = λ down. record { handles = refl; taken = refl; queue = refl; credits = refl };
         whole = record {
           up = λ up. still-up false up refl;
-          crashed = λ down. (joined (drop n m.taken) ++ m.queue, ap (λ xs. xs ++ (joined (drop n m.taken) ++ m.queue)) (more-settled n) ∙ parts-joined n ∙ s.whole.up granted.0);
+          crashed = λ down. (joined (drop n m.taken) ++ m.queue, ap (λ xs. xs ++ (joined (drop n m.taken) ++ m.queue)) (more-settled m s.lives n) ∙ parts-joined m s.lives n ∙ s.whole.up granted.0);
           past = same-past n;
         };
       }

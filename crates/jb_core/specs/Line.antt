@@ -1,21 +1,7 @@
 -- The handles that have stopped, in line: settled in groups, taken in groups, and queued.
-use Rattle.std.specs.Prelude.{◌≡◌, ℕ, Bool, List, [], ◌∷◌, ◌++◌, length, take, drop, slice_range}
+use Rattle.std.specs.Prelude.{◌≡◌, ℕ, Bool, List, [], ◌∷◌, ◌++◌, length, take, drop}
 use Rattle.jb_handle.specs.declared.stopped.Stopped.{Stopped}
-
--- the lists one after the other
-abbrev pub joined : {A : Type 0} → List (List A) → List A
-joined [] = []
-joined (xs ∷ rest) = xs ++ joined rest
-
--- the pieces of a list from a on, each up to one of the ends
-abbrev pub pieces_from : {A : Type 0} → ℕ → List ℕ → List A → List (List A)
-pieces_from a [] xs = []
-pieces_from a (b ∷ bs) xs = slice_range xs a b ∷ pieces_from b bs xs
-
--- the pieces of a list between bounds
-abbrev pub pieces : {A : Type 0} → List ℕ → List A → List (List A)
-pieces [] xs = []
-pieces (a ∷ bs) xs = pieces_from a bs xs
+use Rattle.jb_cost.specs.Pieces.{joined, pieces}
 
 -- what has stopped and was not lost; the credits of the handles that are not settled, in order; and whether a further handle has room
 pub record Line : Type 0 where

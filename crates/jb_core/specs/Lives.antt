@@ -10,12 +10,17 @@ use Rattle.jb_core.specs.declared.event.Event.TheVariants.{Open, Touch, Stop, Re
 use Rattle.jb_core.specs.declared.event.Reply.{Reply}
 use Rattle.jb_core.specs.declared.event.Reply.TheVariants.{Plain, Ticket}
 use Rattle.jb_core.specs.declared.event.CoreFault.{CoreFault}
-use Rattle.jb_core.specs.Line.{joined}
+use Rattle.jb_core.specs.declared.event.CoreFault.TheVariants.{Memory}
+use Rattle.jb_cost.specs.Pieces.{joined}
 use Rattle.jb_core.specs.Machine.{Machine}
 
 -- what the machine answered to an event
 abbrev pub Answer : Type 0
 Answer = Result Reply CoreFault
+
+-- an answer that is known: memory did not run out
+abbrev pub IsKnown : Answer → Type 0
+IsKnown answer = answer ≡ Err Memory → ⊥
 
 -- events with their answers, the newest first
 abbrev pub Log : Type 0

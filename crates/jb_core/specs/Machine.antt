@@ -13,13 +13,14 @@ use Rattle.jb_handle.specs.declared.changes.TouchFault.TheVariants as touch
 use Rattle.jb_handle.specs.Held.{Held, held, first_of}
 use Rattle.jb_handle.specs.Held as handle
 use Rattle.jb_cost.specs.declared.geometry.Geometry.{Geometry}
+use Rattle.jb_cost.specs.Pieces.{pieces}
 use Rattle.jb_core.specs.declared.event.Event.{Event}
 use Rattle.jb_core.specs.declared.event.Event.TheVariants.{Open, Touch, Stop, Abandon, Take, Settle, Checkpoint, Crash, Restart}
 use Rattle.jb_core.specs.declared.event.Reply.{Reply}
 use Rattle.jb_core.specs.declared.event.Reply.TheVariants.{Plain, Ticket}
 use Rattle.jb_core.specs.declared.event.CoreFault.{CoreFault}
 use Rattle.jb_core.specs.declared.event.CoreFault.TheVariants.{Down, Up, Busy, NoHandle, TooManyCredits, Full, NoCredit, OutOfRange, Length, Empty, BatchOut, Amount, Nothing, Memory}
-use Rattle.jb_core.specs.Line.{pieces, count}
+use Rattle.jb_core.specs.Line.{count}
 
 -- What a machine is made of. The first three never change
 pub record Machine : Type 0 where

@@ -4,7 +4,8 @@ use Rattle.jb_block.specs.Size.{bytes_of}
 use Rattle.jb_block.specs.Width.{is_wide, tag_len, entry_len}
 use Rattle.jb_handle.specs.declared.shape.Shape.{Shape}
 use Rattle.jb_core.specs.Machine.{Machine}
-use Rattle.jb_core.specs.Steps.{Steps, IsMost}
+use Rattle.jb_cost.specs.Credits.{IsMost}
+use Rattle.jb_core.specs.Steps.{Steps}
 use Rattle.jb_core.specs.Lives.{Log}
 
 -- a machine that is up and has done nothing, in the journal of a shape

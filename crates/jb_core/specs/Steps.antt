@@ -1,15 +1,15 @@
 -- One event on the machine, with its answer.
-use Rattle.std.specs.Prelude.{◌≡◌, ℕ, ◌≤◌, length, List, Some, None, Result, Ok, Err}
+use Rattle.std.specs.Prelude.{◌≡◌, ℕ, false, length, List, Some, None, Result, Ok, Err}
+use Rattle.std.specs.FinMap as map
+use Rattle.jb_handle.specs.Held.{home_of}
 use Rattle.jb_cost.specs.Cut.{IsLeastCut, piece_cost}
-use Rattle.jb_cost.specs.Cost.{worst_cost_of}
-use Rattle.jb_cost.specs.declared.geometry.Geometry.{Geometry}
 use Rattle.jb_core.specs.declared.event.Event.{Event}
-use Rattle.jb_core.specs.declared.event.Event.TheVariants.{Take}
+use Rattle.jb_core.specs.declared.event.Event.TheVariants.{Open, Touch, Stop, Take}
 use Rattle.jb_core.specs.declared.event.Reply.{Reply}
 use Rattle.jb_core.specs.declared.event.Reply.TheVariants.{Plain}
 use Rattle.jb_core.specs.declared.event.CoreFault.{CoreFault}
 use Rattle.jb_core.specs.declared.event.CoreFault.TheVariants.{NotLeast, Memory}
-use Rattle.jb_core.specs.Machine.{Machine, refusal, refusal_take, after, after_take, reply_of}
+use Rattle.jb_core.specs.Machine.{Machine, held_at, refusal, refusal_take, after, after_take, reply_of}
 
 -- the bounds are a cut of the queue that fits the limit, and no other that fits takes fewer log blocks
 abbrev pub IsLeastOf : Machine → List ℕ → Type 0
@@ -20,9 +20,18 @@ abbrev pub IsLeast : Machine → Event → Type 0
 IsLeast m (Take bounds) = IsLeastOf m bounds.items
 IsLeast m other = Unit {0}
 
--- the fault is the first whose fact holds; want of memory is no fact of the machine
+-- an event that may take memory: a handle begins, changes a home block that is new to it, or joins the queue, or the queue is taken
+abbrev pub Grows : Machine → Event → Type 0
+Grows m (Open seat credits) = Unit {0}
+Grows m (Touch seat op) = map.contains_key (held_at m seat).words (home_of op) ≡ false
+Grows m (Stop seat) = Unit {0}
+Grows m (Take bounds) = Unit {0}
+Grows m other = ⊥
+
+-- The fault is the first whose fact holds. Memory is no fact of the machine: it may be answered where nothing but a
+-- cut that is not least refuses an event that takes memory
 abbrev pub Refuses : Machine → Event → CoreFault → Type 0
-Refuses m event Memory = Unit {0}
+Refuses m event Memory = Grows m event × (refusal m event ≡ None)
 Refuses m event NotLeast = (refusal m event ≡ None) × (IsLeast m event → ⊥)
 Refuses m event fault = refusal m event ≡ Some fault
 
@@ -34,11 +43,6 @@ Steps event old (Err fault) new = Refuses old event fault × (new ≡ old)
 -- the same of a Take, by its bounds
 abbrev pub StepsTake : List ℕ → Machine → Result Reply CoreFault → Machine → Type 0
 StepsTake bounds old (Ok reply) new = (refusal_take old ≡ None) × IsLeastOf old bounds × (new ≡ after_take old bounds) × (reply ≡ Plain)
-StepsTake bounds old (Err Memory) new = new ≡ old
+StepsTake bounds old (Err Memory) new = (refusal_take old ≡ None) × (new ≡ old)
 StepsTake bounds old (Err NotLeast) new = ((refusal_take old ≡ None) × (IsLeastOf old bounds → ⊥)) × (new ≡ old)
 StepsTake bounds old (Err fault) new = (refusal_take old ≡ Some fault) × (new ≡ old)
-
--- the greatest number of credits whose worst cost is within the limit
-pub record IsMost (g : Geometry) (limit most : ℕ) : Type 0 where
-  pub within : worst_cost_of g most ≤ limit
-  pub greatest : (credits : ℕ) → worst_cost_of g credits ≤ limit → credits ≤ most

@@ -1,7 +1,8 @@
 -- How the line is kept: all handles in one list, and the places where the groups end.
 use Rattle.std.specs.Prelude.{◌≡◌, ◌≤◌, nat_lt, ◌&&◌, length, take, drop, vec_len, vec_capacity}
 use Rattle.jb_cost.specs.Cut.{RisesTo}
-use Rattle.jb_core.specs.Line.{Line, pieces_from}
+use Rattle.jb_cost.specs.Pieces.{pieces_from}
+use Rattle.jb_core.specs.Line.{Line}
 use Rattle.jb_core.specs.declared.stops.Stops.TheInside.{Inside}
 
 abbrev pub line_of : Inside → Line

@@ -1,4 +1,7 @@
-use jb_handle::Op;
+ghost use Rattle.std.specs.Prelude.{◌≡◌};
+
+use jb_block::Memory;
+use jb_handle::{Op, TouchFault};
 
 /// Something that can happen to the machine, in one step.
 #[derive(Drop)]
@@ -91,4 +94,29 @@ pub enum CoreFault {
     Nothing,
     /// There was no memory for the step.
     Memory,
+}
+
+impl From<TouchFault> for CoreFault {
+    ghost use Rattle.jb_core.specs.Machine.{fault_of};
+
+    ghost from_gives = { λ fault given. given ≡ fault_of fault };
+
+    fn from(fault: TouchFault) -> CoreFault {
+        match fault {
+            TouchFault::NoCredit(credits) => CoreFault::NoCredit(credits),
+            TouchFault::OutOfRange(home) => CoreFault::OutOfRange(home),
+            TouchFault::Length => CoreFault::Length,
+            TouchFault::Memory => CoreFault::Memory,
+        }
+    }
+}
+
+impl From<Memory> for CoreFault {
+    ghost use Rattle.jb_core.specs.declared.event.CoreFault.TheVariants.{Memory};
+
+    ghost from_gives = { λ _ given. given ≡ Memory };
+
+    fn from(_: Memory) -> CoreFault {
+        CoreFault::Memory
+    }
 }

@@ -2,13 +2,12 @@
 #![tactic(auto)]
 
 mod event;
+pub mod laws;
 mod least;
 mod running;
 mod state;
 mod stops;
 mod sums;
-#[cfg(test)]
-mod tests;
 
 pub use event::{CoreFault, Event, Reply};
 pub use running::{run, step};

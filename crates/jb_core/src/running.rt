@@ -1,6 +1,6 @@
-ghost use Rattle.std.specs.Prelude.{[], IfOk};
+ghost use Rattle.std.specs.Prelude.{◌≡◌, [], length, All, IfOk};
 ghost use Rattle.jb_core.specs.Steps.{Steps};
-ghost use Rattle.jb_core.specs.Lives.{log_from, IsWhole};
+ghost use Rattle.jb_core.specs.Lives.{log_from, IsKnown, IsWhole};
 ghost use Rattle.jb_core.specs.Ran.{Ran};
 
 use crate::event::{CoreFault, Event, Reply};
@@ -13,7 +13,8 @@ use std::alloc::Global;
 ///
 /// # Errors
 ///
-/// The first refusal of the event, in the order of `CoreFault`, and the machine is as it was.
+/// The first refusal of the event, in the order of `CoreFault`, and the machine is as it was. `Memory`
+/// where there is none for a handle that begins, changes a block or joins the queue, or for a Take.
 pub fn step(state: &mut State, event: Event) -> Result<Reply, CoreFault>
     ensures { Steps event state.old result state.new }
 {
@@ -37,17 +38,19 @@ pub fn step(state: &mut State, event: Event) -> Result<Reply, CoreFault>
 }
 
 #[tactic(auto, using(crate::proofs::Wholes::whole))]
-/// Lets a list of events happen to a new machine, one after the other, and gives the machine and the
-/// answers.
+/// Lets a list of events happen to a new machine, one after the other, and gives the machine and an
+/// answer for each event.
 ///
 /// # Errors
 ///
-/// `Memory` where a step answers it, or where there is none for the answers.
+/// `Memory` where a step answers it, which ends the run, or where there is none for the answers.
 pub fn run(
     alloc: Global,
     shape: Shape,
     events: Vec<Event>,
 ) -> Result<(State, Vec<Result<Reply, CoreFault>>), Memory>
+    ensures each { IfOk result (λ end. length end.1.items ≡ length events.items) }
+    ensures known { IfOk result (λ end. All IsKnown end.1.items) }
     ensures ran { IfOk result (λ end. Ran shape (log_from [] events.items end.1.items) end.0) }
     ensures whole { IfOk result (λ end. IsWhole (log_from [] events.items end.1.items) end.0) }
 {
@@ -55,7 +58,7 @@ pub fn run(
     let mut answers = Vec::new(alloc);
     for event in events {
         let answer = step(&mut state, event);
-        if let Err(CoreFault::Memory) = answer {
+        if answer == Err(CoreFault::Memory) {
             return Err(Memory);
         }
         let Ok(()) = answers.push(answer) else {

@@ -1,12 +1,11 @@
 ghost use Rattle.std.specs.Option.{option_copied};
 ghost use Rattle.std.specs.Prelude.{slice_get, ◌++◌, ◌≡◌, true, length};
-ghost use Rattle.jb_core.specs.Machine.{fault_of};
 
 use crate::event::{CoreFault, Reply};
 use crate::least::is_least;
 use crate::stops::Stops;
 use jb_cost::{Geometry, most_credits};
-use jb_handle::{Changes, Op, Shape, Stopped, TouchFault};
+use jb_handle::{Changes, Op, Shape, Stopped};
 use std::alloc::Global;
 use std::collections::BTreeMap;
 use std::marker::Model;
@@ -53,6 +52,7 @@ impl State {
     ghost use Rattle.jb_core.specs.Machine.{is_full};
     ghost use Rattle.jb_core.specs.Steps.{Steps, StepsTake};
     ghost use Rattle.jb_core.specs.Ran.{IsStart};
+    ghost use Rattle.jb_core.specs.Sound.{IsSound};
     ghost use Rattle.jb_core.specs.declared.event.Event.TheVariants.{Open, Touch, Stop, Abandon, Take, Settle, Checkpoint, Crash, Restart};
 
     /// A machine that is up, with nothing open, queued, taken or settled. Takes no memory.
@@ -75,9 +75,10 @@ impl State {
         }
     }
 
-    /// Whether the machine is up.
+    /// Whether the machine is up. A state is sound.
     pub fn is_up(&self) -> bool
-        ensures { result ≡ self.now.up }
+        ensures up { result ≡ self.now.up }
+        ensures sound { IsSound self.now }
     {
         self.up
     }
@@ -158,9 +159,7 @@ impl State {
         let Some(changes) = self.handles.get_mut(&seat) else {
             return Err(CoreFault::NoHandle);
         };
-        if let Err(fault) = changes.apply(op) {
-            return Err(core_fault(fault));
-        }
+        changes.apply(op)?;
         Ok(Reply::Plain)
     }
 
@@ -171,9 +170,7 @@ impl State {
         if !self.handles.contains_key(&seat) {
             return Err(CoreFault::NoHandle);
         }
-        let Ok(()) = self.stops.reserve() else {
-            return Err(CoreFault::Memory);
-        };
+        self.stops.reserve()?;
         let Some(changes) = self.handles.remove(&seat) else {
             return Err(CoreFault::NoHandle);
         };
@@ -201,15 +198,11 @@ impl State {
             bounds,
             self.geometry,
             self.shape.limit,
-        );
-        match least {
-            Ok(true) => {}
-            Ok(false) => return Err(CoreFault::NotLeast),
-            Err(_) => return Err(CoreFault::Memory),
+        )?;
+        if !least {
+            return Err(CoreFault::NotLeast);
         }
-        let Ok(()) = self.stops.take(bounds) else {
-            return Err(CoreFault::Memory);
-        };
+        self.stops.take(bounds)?;
         Ok(Reply::Plain)
     }
 
@@ -273,17 +266,5 @@ impl State {
         self.reserved = 0;
         self.up = false;
         Ok(Reply::Plain)
-    }
-}
-
-// A handle's refusal, as the machine answers it.
-fn core_fault(fault: TouchFault) -> CoreFault
-    ensures { result ≡ fault_of fault }
-{
-    match fault {
-        TouchFault::NoCredit(credits) => CoreFault::NoCredit(credits),
-        TouchFault::OutOfRange(home) => CoreFault::OutOfRange(home),
-        TouchFault::Length => CoreFault::Length,
-        TouchFault::Memory => CoreFault::Memory,
     }
 }

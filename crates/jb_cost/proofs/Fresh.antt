@@ -77,14 +77,14 @@ count-more p es i e here inside =
 pub set-contains : (met : BTreeSet ℕ) (q : ℕ) → set.contains (set.from_list {R = nat_cmp} met.keys) q ≡ tree.contains nat_cmp met q
 set-contains met q = set.contains-from_list nat_cmp_total met.keys q
 
-tied-is : (q b : ℕ) → is_eq (nat_cmp b q) ≡ nat_eq q b
+pub tied-is : (q b : ℕ) → is_eq (nat_cmp b q) ≡ nat_eq q b
 tied-is q b = grind (arith, nat_tests)
 
 turned : (b : Bool) → cond (not b) 1 0 ≡ cond {A = ℕ} b 0 1
 turned true = refl
 turned false = refl
 
-one-kind : (b : Bool) → cond b 1 0 + cond b 0 1 ≡ 1
+pub one-kind : (b : Bool) → cond b 1 0 + cond b 0 1 ≡ 1
 one-kind true = refl
 one-kind false = refl
 

@@ -1,4 +1,4 @@
-ghost use Rattle.std.specs.Prelude.{◌≡◌, ℕ, List, [], ◌∷◌, ◌+◌, ◌^◌, ◌≤◌, IfOk, OnErr};
+ghost use Rattle.std.specs.Prelude.{◌≡◌, ℕ, List, [], ◌∷◌, ◌+◌, ◌^◌, ◌<◌, ◌≤◌, IfOk, OnErr};
 ghost use Rattle.std.specs.FinMap as map;
 ghost use Rattle.jb_handle.specs.declared.stopped.Stopped.{Stopped as StoppedValue};
 ghost use Rattle.jb_cost.specs.declared.geometry.Geometry.{Geometry as GeometryValue};
@@ -57,11 +57,13 @@ impl Footprint {
     ///
     /// # Errors
     ///
-    /// `Memory` where there is none for the handle's home blocks; the footprint is as it was.
+    /// `Memory` where there is none for the handle's home blocks, of which there is one then; the
+    /// footprint is as it was.
     pub fn add_left(&mut self, handle: &Stopped) -> Result<u64, Memory>
         requires room { self.old.copies + self.old.frees + map.len handle.now.words ≤ 2 ^ 62 }
         ensures ok { IfOk result (λ blocks. (g : GeometryValue) (hs : List StoppedValue) → self.old ≡ covered_by g hs → (self.new ≡ covered_by g (handle.now ∷ hs)) × (blocks ≡ cost g (handle.now ∷ hs))) }
         ensures err { OnErr result (self.new ≡ self.old) }
+        ensures grows { OnErr result (0 < map.len handle.now.words) }
     {
         match meet(&mut self.homes, &mut self.fresh, &handle.words) {
             Ok(met) => {

@@ -1,4 +1,6 @@
-ghost use Rattle.std.specs.Prelude.{◌≡◌, IfOk};
+ghost use Rattle.std.specs.Prelude.{◌≡◌, ◌<◌, IfOk, OnErr};
+ghost use Rattle.std.specs.List.{Any};
+ghost use Rattle.std.specs.FinMap as map;
 ghost use Rattle.jb_handle.specs.Size.{IsWithinSize};
 ghost use Rattle.jb_cost.specs.Cost.{cost};
 
@@ -14,10 +16,11 @@ use std::alloc::Global;
 ///
 /// # Errors
 ///
-/// `Memory` where there is none for the sets of home blocks.
+/// `Memory` where there is none for the sets of home blocks; then some handle touches a home block.
 pub fn group_cost(alloc: Global, handles: &[Stopped], geometry: Geometry) -> Result<u64, Memory>
     requires size { IsWithinSize handles.now }
-    ensures { IfOk result (λ blocks. blocks ≡ cost geometry handles.now) }
+    ensures blocks { IfOk result (λ blocks. blocks ≡ cost geometry handles.now) }
+    ensures grows { OnErr result (Any (λ h. 0 < map.len h.words) handles.now) }
 {
     let mut last = LastWords::new(alloc);
     for handle in handles {

@@ -1,4 +1,4 @@
-ghost use Rattle.std.specs.Prelude.{◌≡◌, ℕ, Bool, not, if◌then◌else◌, nat_eq, IfOk, OnOk};
+ghost use Rattle.std.specs.Prelude.{◌≡◌, ℕ, Bool, not, if◌then◌else◌, nat_eq, ◌<◌, IfOk, OnOk, OnErr};
 ghost use Rattle.std.specs.Ordering.{nat_cmp};
 ghost use Rattle.std.specs.FinMap as map;
 ghost use Rattle.std.specs.BTreeSet.{contains, IsEmpty};
@@ -31,6 +31,7 @@ impl LastWords {
 
     // Puts the words of a further handle.
     pub(crate) fn put_all(&mut self, words: &Words) -> Result<(), Memory>
+        ensures grows { OnErr result (0 < map.len words.now) }
         ensures copies { OnOk result ((q : ℕ) → contains nat_cmp self.new.copies q ≡ later is_copied (map.get words.now q) (contains nat_cmp self.old.copies q)) }
         ensures frees { OnOk result ((q : ℕ) → contains nat_cmp self.new.frees q ≡ later is_freed (map.get words.now q) (contains nat_cmp self.old.frees q)) }
     {

@@ -1,4 +1,4 @@
-ghost use Rattle.std.specs.Prelude.{◌≡◌, ℕ, ◌+◌, ◌≤◌, false, not, ◌&&◌, ◌||◌, IfOk, OnOk, OnErr, nat_eq};
+ghost use Rattle.std.specs.Prelude.{◌≡◌, ℕ, ◌+◌, ◌<◌, ◌≤◌, false, not, ◌&&◌, ◌||◌, IfOk, OnOk, OnErr, nat_eq};
 ghost use Rattle.std.specs.List.{list_any};
 ghost use Rattle.std.specs.Ordering.{nat_cmp};
 ghost use Rattle.std.specs.FinMap as map;
@@ -28,6 +28,7 @@ pub(crate) fn meet(
     ensures homes { OnOk result ((q : ℕ) → contains nat_cmp homes.new q ≡ (contains nat_cmp homes.old q || map.contains_key words.now q)) }
     ensures copies { IfOk result (λ met. met.copies ≡ new_homes is_copy (set.from_list homes.old.keys) (map.entries words.now)) }
     ensures frees { IfOk result (λ met. met.frees ≡ new_homes is_free (set.from_list homes.old.keys) (map.entries words.now)) }
+    ensures grows { OnErr result (0 < map.len words.now) }
     ensures few { IfOk result (λ met. met.copies + met.frees ≤ map.len words.now) }
     ensures partly { OnErr result ((q : ℕ) → contains nat_cmp homes.new q ≡ (contains nat_cmp homes.old q || list_any (nat_eq q) fresh.new.items)) }
     ensures apart { OnErr result ((q : ℕ) → (contains nat_cmp homes.old q && list_any (nat_eq q) fresh.new.items) ≡ false) }

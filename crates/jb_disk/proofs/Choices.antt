@@ -18,16 +18,8 @@ pub record AreChosen (sectors count place : ℕ) (old : Image) (table : List (Li
   pub ahead : (p : ℕ) → place ≤ p → block now p ≡ block old p
   pub numbers : rest ≡ drop (any_below table place * sectors) choice
 
-pub chosen-start : (sectors count : ℕ) (old : Image) (table : List (List (List ℕ))) (choice : List ℕ) → HasShape count (512 * sectors) old → AreChosen sectors count 0 old table choice choice old
-chosen-start sectors count old table choice shape = record {
-  shape = shape;
-  chosen = λ p k below less. absurd (let h : ⊥ = omega (arith, below) in h);
-  ahead = λ p above. refl;
-  numbers = let none : 0 ≡ 0 * sectors = omega arith in ap (λ n. drop n choice) none;
-}
-
 -- a number of a ring of one
-only_first : (bytes : List ℕ) (number : ℕ) → version (bytes ∷ []) number ≡ bytes
+pub only_first : (bytes : List ℕ) (number : ℕ) → version (bytes ∷ []) number ≡ bytes
 only_first bytes number =
     let first : number % 1 ≡ 0 = omega (arith, mod_below number 1 (omega arith)) in
     ap (λ n. get_or (bytes ∷ []) n []) first

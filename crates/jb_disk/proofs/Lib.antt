@@ -7,6 +7,7 @@ pub mod Listed
 pub mod Mixes
 pub mod Moments
 pub mod Outcomes
+pub mod Reached
 pub mod Replays
 pub mod Sectors
 pub mod Stepping

@@ -1,5 +1,5 @@
 -- How a block takes its versions, sector by sector.
-use Rattle.std.proofs.Common.{◌≡◌, ◌<◌, ◌≤◌, ℕ, zero, suc, ◌+◌, ◌-◌, ◌*◌, ◌%◌, List, [], ◌∷◌, length, get_or, refl, sym, ◌∙◌, ap, subst, ⊎_elim, arith, Bor, All, Bool, true, false, cond, ◌++◌}
+use Rattle.std.proofs.Common.{◌≡◌, ◌<◌, ◌≤◌, ℕ, zero, suc, ◌+◌, ◌-◌, ◌*◌, ◌%◌, List, [], ◌∷◌, length, get_or, sym, ◌∙◌, ap, subst, ⊎_elim, arith, Bor, All, Bool, true, false, cond, ◌++◌}
 use Rattle.std.proofs.lemmas.Bool.{cases_lt}
 use Rattle.std.proofs.lemmas.List.Elements.{All-append}
 use Rattle.std.proofs.lemmas.Nat.{mod_below}
@@ -13,9 +13,6 @@ use Rattle.jb_disk.proofs.Sectors.{put_sector-same, put_sector-below, put_sector
 pub record IsMixed (k : ℕ) (old : List ℕ) (contents : List (List ℕ)) (choice now : List ℕ) : Type 0 where
   pub chosen : (j : ℕ) → j < k → sector j now ≡ sector j (version (old ∷ contents) (get_or choice j 0))
   pub rest : (j : ℕ) → k ≤ j → sector j now ≡ sector j old
-
-pub mixed-start : (old : List ℕ) (contents : List (List ℕ)) (choice : List ℕ) → IsMixed 0 old contents choice old
-mixed-start old contents choice = record { chosen = λ j below. absurd (let h : ⊥ = omega (arith, below) in h); rest = λ j above. refl }
 
 -- a sector that keeps what it had
 pub mixed-keep : (k : ℕ) (old : List ℕ) (contents : List (List ℕ)) (choice now : List ℕ) → IsMixed k old contents choice now → version (old ∷ contents) (get_or choice k 0) ≡ old → IsMixed (k + 1) old contents choice now
@@ -36,12 +33,6 @@ mixed-put k old contents choice now bytes mixed is same within = record {
       (put_sector-same k bytes now same within ∙ ap (sector k) (sym is))) (cases_lt j k);
   rest = λ j above. put_sector-above j k bytes now same (omega (arith, above)) within ∙ mixed.rest j (omega (arith, above));
 }
-
--- the version of a number, by whether it is the first
-pub version-first : (old : List ℕ) (contents : List (List ℕ)) (number : ℕ) → number % (length contents + 1) ≡ 0 → version (old ∷ contents) number ≡ old
-version-first old contents number is =
-    let sum : suc (length contents) ≡ length contents + 1 = omega arith in
-    ap (λ n. get_or (old ∷ contents) n []) (ap (λ m. number % m) sum ∙ is)
 
 pub version-later : (old : List ℕ) (writes : List (Bor (List ℕ))) (number : ℕ) (d : Bor (List ℕ)) → (number % (length writes + 1) ≡ 0 → ⊥)
     → version (old ∷ bytes_of_writes writes) number ≡ (get_or writes (number % (length writes + 1) - 1) d).now

@@ -62,7 +62,7 @@ synced_shape count size first (Wrote place bytes ∷ older) shape whole = synced
 synced_shape count size first (Synced ∷ older) shape whole = replay_shape count size first older shape whole
 
 -- where there is one version, that is it
-only_version : (bytes : List ℕ) (k : ℕ) (x : List ℕ) → IsAmong (bytes ∷ []) k x → x ≡ sector k bytes
+pub only_version : (bytes : List ℕ) (k : ℕ) (x : List ℕ) → IsAmong (bytes ∷ []) k x → x ≡ sector k bytes
 only_version bytes k x (n, below, is) =
     let first : n ≡ 0 = omega (arith, below) in
     is ∙ ap (λ m. sector k (get_or (bytes ∷ []) m [])) first

@@ -1,5 +1,5 @@
 -- A count of failed calls that stays at the top of a u64.
-use Rattle.std.specs.Prelude.{◌≡◌, ◌≤◌, ℕ, ◌+◌, ◌-◌, ◌^◌, min, Result, MatchResult}
+use Rattle.std.specs.Prelude.{◌≡◌, ◌≤◌, ℕ, Bool, true, false, ◌+◌, ◌-◌, ◌^◌, min, Result, MatchResult}
 
 -- the largest count
 abbrev pub most_faults : ℕ
@@ -13,6 +13,11 @@ pub record MoreFaults (old new : ℕ) : Type 0 where
 -- the count stays where the call succeeds and rises where it fails
 abbrev pub CountsFault : {T E : Type 0} → Result T E → ℕ → ℕ → Type 0
 CountsFault result old new = MatchResult result (λ _. new ≡ old) (λ _. MoreFaults old new)
+
+-- the same, by whether the call succeeds
+abbrev pub CountsCall : Bool → ℕ → ℕ → Type 0
+CountsCall true old new = new ≡ old
+CountsCall false old new = MoreFaults old new
 
 -- two counts of the same disk as one, which stays at the top too
 abbrev pub counted : ℕ → ℕ → ℕ

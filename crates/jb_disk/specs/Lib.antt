@@ -5,6 +5,7 @@ pub mod Fuse
 pub mod History
 pub mod Image
 pub mod Kept
+pub mod Laws
 pub mod Lives
 pub mod Memory
 pub mod Mixing

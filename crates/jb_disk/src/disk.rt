@@ -1,5 +1,5 @@
 //! What a disk is taken to be: whole blocks of 512-byte sectors, and what a crash may leave of them.
-ghost use Rattle.std.specs.Prelude.{Bool, false, IsTrue, IsErr, ◌≡◌, ◌<◌, ◌≤◌, ℕ, List, length, OnOk, set};
+ghost use Rattle.std.specs.Prelude.{Bool, false, is_ok, IsTrue, IsErr, ◌≡◌, ◌<◌, ◌≤◌, ℕ, List, length, OnOk, set};
 ghost use Rattle.jb_block.specs.Size.{bytes_of, IsBlockSize};
 ghost use Rattle.jb_disk.specs.Image.{Image, block, Torn, Same, Only, HasShape};
 ghost use Rattle.jb_disk.specs.Time.{Goes};
@@ -41,6 +41,10 @@ pub trait Disk {
     /// The next read, write or sync fails and is not tried.
     ghost is_stopped: { Self → Bool } = { λ _. false };
 
+    /// What a call does to what this kind of disk keeps of its own, by whether it succeeds; nothing is said
+    /// unless a disk says it.
+    ghost own: { Self → Self → Bool → Type 0 } = { λ _ _ _. Unit {0} };
+
     /// The size of the disk's blocks.
     fn block_size(&self) -> BlockSize
         ensures { bytes_of result ≡ size self.now };
@@ -57,6 +61,7 @@ pub trait Disk {
         ensures kept { Kept size count honest self.old self.new }
         ensures stopped { IsTrue (is_stopped self.old) → IsErr result × Untouched newest may_leave moment self.old self.new }
         ensures faults { CountsFault result (faults self.old) (faults self.new) }
+        ensures own { own self.old self.new (is_ok result) }
         ensures found { honest self.old → OnOk result (buf.new ≡ block (newest self.old) place) }
         ensures newest { honest self.old → newest self.new ≡ newest self.old }
         ensures goes { honest self.old → Goes may_leave moment left_since Same self.old self.new };
@@ -70,6 +75,7 @@ pub trait Disk {
         ensures kept { Kept size count honest self.old self.new }
         ensures stopped { IsTrue (is_stopped self.old) → IsErr result × Untouched newest may_leave moment self.old self.new }
         ensures faults { CountsFault result (faults self.old) (faults self.new) }
+        ensures own { own self.old self.new (is_ok result) }
         ensures written { honest self.old → OnOk result (newest self.new ≡ set (newest self.old) place bytes.now) }
         ensures torn { honest self.old → Torn place bytes.now (newest self.old) (newest self.new) }
         ensures goes { honest self.old → Goes may_leave moment left_since (Torn place bytes.now) self.old self.new };
@@ -80,6 +86,7 @@ pub trait Disk {
         ensures kept { Kept size count honest self.old self.new }
         ensures stopped { IsTrue (is_stopped self.old) → IsErr result × Untouched newest may_leave moment self.old self.new }
         ensures faults { CountsFault result (faults self.old) (faults self.new) }
+        ensures own { own self.old self.new (is_ok result) }
         ensures newest { honest self.old → newest self.new ≡ newest self.old }
         ensures durable { honest self.old → OnOk result (Only (newest self.old) (may_leave self.new)) }
         ensures goes { honest self.old → Goes may_leave moment left_since Same self.old self.new };

@@ -57,6 +57,10 @@ impl<D: Disk> Disk for FuseDisk<D> {
 
     ghost is_stopped = { λ f. f.left == 0 };
 
+    ghost use Rattle.jb_disk.specs.Fuse.{Burns};
+
+    ghost own = { λ old new ok. Burns D.faults old new ok };
+
     ghost has_size = { λ f. D.has_size f.disk };
 
     ghost newest_may_stay = { λ f. D.newest_may_stay f.disk };

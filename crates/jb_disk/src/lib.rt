@@ -6,6 +6,7 @@ mod disk;
 mod fault;
 mod file;
 mod fuse;
+pub mod laws;
 mod memory;
 mod one_fault;
 mod sector;

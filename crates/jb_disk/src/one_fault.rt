@@ -56,6 +56,10 @@ impl<D: Disk> Disk for OneFaultDisk<D> {
 
     ghost is_stopped = { λ f. is_next f.before };
 
+    ghost use Rattle.jb_disk.specs.OneFault.{Spends};
+
+    ghost own = { λ old new ok. Spends D.faults old new ok };
+
     ghost has_size = { λ f. D.has_size f.disk };
 
     ghost newest_may_stay = { λ f. D.newest_may_stay f.disk };

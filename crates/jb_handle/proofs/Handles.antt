@@ -1,5 +1,5 @@
 -- The handles of a queue, read line by line.
-use Rattle.std.proofs.Common.{◌≡◌, ◌∙◌, sym, ap, ℕ, ◌+◌, ◌≤◌, List, [], ◌∷◌, ◌++◌, length, length-append, arith, refl, Result, Ok, Err}
+use Rattle.std.proofs.Common.{◌≡◌, ◌∙◌, sym, ap, ℕ, suc, ◌+◌, ◌≤◌, List, [], ◌∷◌, ◌++◌, length, length-append, arith, refl, Result, Ok, Err}
 use Rattle.jb_block.specs.declared.width.Width.{Width}
 use Rattle.jb_handle.specs.declared.fault.Cause.{Cause}
 use Rattle.jb_handle.specs.declared.fault.Cause.TheVariants.{BlockSizeLine, LimitLine, HandleLine, OpWord, DataWord, Memory}
@@ -67,3 +67,12 @@ module _ (width : Width) (size : ℕ) (had : List Stopped) (rest line behind : L
   line-reports OpWord given = line-fails OpWord given
   line-reports DataWord given = line-fails DataWord given
   line-reports Memory given = line-first
+
+module _ (had : List Stopped) (rest line behind : List ℕ) (first : FirstLine rest line behind) where
+  -- a handle more is a line fewer
+  pub line-count : (now : List Stopped) (handle : Stopped) → now ≡ had ++ handle ∷ [] → (all : ℕ) → length had + length (lines rest) ≡ all → length now + length (lines behind) ≡ all
+  line-count now handle pushed all count = omega (arith, ap length first.parts, ap length pushed, length-append had (handle ∷ []))
+
+  -- the line that is read is one of the text's
+  pub line-within : (at : ℕ) → at ≡ length had → (all : ℕ) → length had + length (lines rest) ≡ all → (3 ≤ at + 3) × (at + 3 ≤ all + 2)
+  line-within at is all count = let one : length (lines rest) ≡ suc (length (lines behind)) = ap length first.parts in (omega arith, omega (arith, one))

@@ -7,7 +7,7 @@ use Rattle.std.specs.FinMap as map
 use Rattle.jb_handle.specs.declared.stopped.Stopped.{Stopped}
 use Rattle.jb_handle.specs.Words.{word, latest_first, words_of}
 
-or-cond : {W : Type 0} (b : Bool) (w : W) (x y : Option W) → cond b (Some w) (option_or x y) ≡ option_or (cond b (Some w) x) y
+pub or-cond : {W : Type 0} (b : Bool) (w : W) (x y : Option W) → cond b (Some w) (option_or x y) ≡ option_or (cond b (Some w) x) y
 or-cond true w x y = refl
 or-cond false w x y = refl
 

@@ -1,9 +1,11 @@
 pub mod Admitted
 pub mod Front
+pub mod Gathering
 pub mod Handles
 pub mod Joins
 pub mod LastOp
 pub mod LastWord
+pub mod Listed
 pub mod Numerals
 pub mod Ops
 pub mod Rising
@@ -11,6 +13,7 @@ pub mod SpelledHandles
 pub mod SpelledOps
 pub mod SpelledText
 pub mod Splits
+pub mod Tickets
 pub mod Touched
 pub mod Trees
 pub mod Weights

@@ -29,7 +29,7 @@ is_lt-less x y h = grind (arith, nat_tests, h)
 less-is_lt : (x y : ℕ) → x < y → T (is_lt (nat_cmp x y))
 less-is_lt x y h = grind (arith, nat_tests)
 
-tied-cond : {A : Type 0} (q b : ℕ) (x y : A) → cond (eq_by_cmp nat_cmp q b) x y ≡ cond (nat_eq q b) x y
+pub tied-cond : {A : Type 0} (q b : ℕ) (x y : A) → cond (eq_by_cmp nat_cmp q b) x y ≡ cond (nat_eq q b) x y
 tied-cond q b x y = grind (arith, nat_tests)
 
 apart-cond : {A : Type 0} (q a b : ℕ) (x y z : A) → a < b → cond (nat_eq q a) x (cond (nat_eq q b) y z) ≡ cond (nat_eq q b) y (cond (nat_eq q a) x z)

@@ -19,7 +19,8 @@ use Rattle.jb_handle.specs.declared.fault.QueueFault.{QueueFault}
 use Rattle.jb_handle.specs.declared.stopped.Stopped.{Stopped}
 use Rattle.jb_handle.specs.Parts.{◌>>=◌, lines, grow, spaced, first_of, behind_word, number_of, and_then}
 use Rattle.jb_handle.specs.Queue.{Queue, at_line, or_cause, where_true, size_of, limit_of, size_of_bytes, handle_of, after_lines, queue_of}
-use Rattle.jb_handle.specs.Spelling.{ended, joined, AreLines, Each, SpellsHandle, TicketsFrom, Spells}
+use Rattle.jb_handle.specs.Spelling.{ended, joined, AreLines, Each, SpellsHandle, Spells}
+use Rattle.jb_handle.specs.Tickets.{TicketsFrom}
 use Rattle.jb_handle.specs.Word.{WordMap}
 use Rattle.jb_handle.proofs.Handles.{lines-fails, lines-end}
 use Rattle.jb_handle.proofs.Handles.{lines-goes as handles-go}

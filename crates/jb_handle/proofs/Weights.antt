@@ -109,17 +109,21 @@ lines-weight width size had [] now reads =
 lines-weight width size had (line ∷ more) now reads =
     lines-case width size had line more now (handle_of width size line) refl reads (λ had' further. lines-weight width size had' more now further)
 
--- the lines behind the first are no longer than all
-behind-total : {A : Type 0} (line : List ℕ) (rest : List (List ℕ)) (given : Option A) (x : A) (more : List (List ℕ)) → ◌≡◌ {A = Option (A × List (List ℕ))} (Some (x, more)) (option_map (λ y. (y, rest)) given) → total more ≤ total (line ∷ rest)
-behind-total line rest None x more is = cc
-behind-total {A = A} line rest (Some y) x more is =
+-- the lines that are left after the first
+after-first : {A : Type 0} (rest : List (List ℕ)) (given : Option A) (x : A) (more : List (List ℕ)) → ◌≡◌ {A = Option (A × List (List ℕ))} (Some (x, more)) (option_map (λ y. (y, rest)) given) → more ≡ rest
+after-first rest None x more is = cc
+after-first {A = A} rest (Some y) x more is =
     let pair : ◌≡◌ {A = A × List (List ℕ)} (x, more) (y, rest) = cc in
-    let same : more ≡ rest = ap (λ (p : A × List (List ℕ)). p.1) pair in
-    omega (arith, ap total same)
+    ap (λ (p : A × List (List ℕ)). p.1) pair
+
+-- they are one fewer, and no longer than all
+pub first-length : {A : Type 0} (read : List ℕ → Option A) (pieces : List (List ℕ)) (x : A) (more : List (List ℕ)) → ◌≡◌ {A = Option (A × List (List ℕ))} (Some (x, more)) (first_of read pieces) → length pieces ≡ length more + 1
+first-length read [] x more is = cc
+first-length read (line ∷ rest) x more is = let all : length more ≡ length rest = ap length (after-first rest (read line) x more is) in omega (arith, all)
 
 pub first-total : {A : Type 0} (read : List ℕ → Option A) (pieces : List (List ℕ)) (x : A) (more : List (List ℕ)) → ◌≡◌ {A = Option (A × List (List ℕ))} (Some (x, more)) (first_of read pieces) → total more ≤ total pieces
 first-total read [] x more is = cc
-first-total read (line ∷ rest) x more is = behind-total line rest (read line) x more is
+first-total read (line ∷ rest) x more is = omega (arith, ap total (after-first rest (read line) x more is))
 
 -- and so is the queue of a text by half of it
 pub queue-weight : (width : Width) (size : ℕ) (handles : List Stopped) (text : List ℕ) (first second : List (List ℕ)) → total first ≤ total (lines text) → total second ≤ total first → after_lines width size [] second ≡ Ok handles → 2 * weight handles ≤ length text + 1

@@ -1,17 +1,17 @@
 -- The grammar of a queue text in its own words: which text spells which queue.
-use Rattle.std.specs.Prelude.{◌≡◌, ℕ, ◌+◌, ◌^◌, ◌<◌, ◌≤◌, ◌==◌, ◌⊎◌, if◌then◌else◌, List, [], ◌∷◌, ◌++◌, length, codes, decimal, Option, Some, None, Ok}
+use Rattle.std.specs.Prelude.{◌≡◌, ℕ, ◌^◌, ◌<◌, ◌≤◌, ◌==◌, ◌⊎◌, if◌then◌else◌, List, [], ◌∷◌, ◌++◌, length, codes, decimal, Option, Some, None, Ok}
 use Rattle.std.specs.Option.{option_or}
 use Rattle.std.specs.FinMap as map
 use Rattle.hex.specs.Hex.{decode_of}
 use Rattle.jb_block.specs.declared.width.Width.{Width}
 use Rattle.jb_block.specs.declared.width.Width.TheVariants.{Narrow, Wide}
 use Rattle.jb_block.specs.Size.{bytes_of}
-use Rattle.jb_handle.specs.declared.stopped.Stopped.{Stopped}
 use Rattle.jb_handle.specs.declared.word.Word.{Word}
 use Rattle.jb_handle.specs.declared.word.Word.TheVariants.{Copy, Free}
 use Rattle.jb_block.specs.Fields.{padded}
 use Rattle.jb_handle.specs.Parts.{spaced}
 use Rattle.jb_handle.specs.Queue.{Queue}
+use Rattle.jb_handle.specs.Tickets.{TicketsFrom}
 use Rattle.jb_handle.specs.Word.{WordMap}
 
 -- the home blocks that a journal of this width can have
@@ -80,11 +80,6 @@ joined (line ∷ next ∷ more) = line ++ 10 ∷ joined (next ∷ more)
 -- lines make a text, whose last LF may be missing
 abbrev pub AreLines : List (List ℕ) → List ℕ → Type 0
 AreLines all text = (text ≡ ended all) ⊎ (text ≡ joined all)
-
--- handles have the tickets from n on
-abbrev pub TicketsFrom : ℕ → List Stopped → Type 0
-TicketsFrom n [] = Unit {0}
-TicketsFrom n (h ∷ hs) = (h.ticket ≡ n) × TicketsFrom (n + 1) hs
 
 -- a queue text: a line of the block size, a line of the limit, and a line for each handle
 pub record Spells (text : List ℕ) (queue : Queue) : Type 0 where

@@ -1,8 +1,9 @@
 -- The words that one handle leaves.
-use Rattle.std.specs.Prelude.{◌≡◌, refl, ℕ, Bool, true, false, not, List, Option, Some, None}
+use Rattle.std.specs.Prelude.{◌≡◌, refl, ℕ, Bool, true, false, not, T, List, All, Option, Some, None}
 use Rattle.std.specs.Ordering.{nat_cmp}
 use Rattle.std.specs.Coded.{Coded, code_by, coded_ℕ, coded_list, coded_option}
 use Rattle.std.specs.FinMap as map
+use Rattle.jb_block.specs.Fields.{AreBytes}
 use Rattle.jb_handle.specs.declared.word.Word.{Word}
 use Rattle.jb_handle.specs.declared.word.Word.TheVariants.{Copy, Free}
 
@@ -18,6 +19,20 @@ is_copy Free = false
 -- whether a word is free
 abbrev pub is_free : Word → Bool
 is_free w = not (is_copy w)
+
+-- what a copy holds are bytes
+abbrev pub HasBytes : Word → Type 0
+HasBytes (Copy bytes) = AreBytes bytes
+HasBytes Free = Unit {0}
+
+-- the same of the word of an entry
+abbrev pub EntryHasBytes : ℕ × Word → Type 0
+EntryHasBytes entry = HasBytes entry.1
+
+-- entries as words are kept: their homes rise, and what a copy holds are bytes
+pub record AreWords (entries : List (ℕ × Word)) : Type 0 where
+  pub rising : T (map.is_sorted nat_cmp entries)
+  pub bytes : All EntryHasBytes entries
 
 -- the bytes of a copy, or nothing
 abbrev pub to_option : Word → Option (List ℕ)

@@ -1,4 +1,4 @@
-ghost use Rattle.std.specs.Prelude.{◌≡◌, ◌≤◌, ◌⊎◌, Some, None, length, OnOk, OnErr, IfErr};
+ghost use Rattle.std.specs.Prelude.{◌≡◌, ◌≢◌, ◌⊎◌, Some, None, false, OnOk, OnErr, IfErr};
 ghost use Rattle.std.specs.FinMap as map;
 
 use crate::op::Op;
@@ -6,6 +6,7 @@ use crate::payload::Payload;
 use crate::shape::Shape;
 use crate::word::Word;
 use crate::words::Words;
+use jb_block::Memory;
 use std::alloc::Global;
 use std::marker::Model;
 
@@ -20,6 +21,16 @@ pub enum TouchFault {
     Length,
     /// There was no memory for the change.
     Memory,
+}
+
+impl From<Memory> for TouchFault {
+    ghost use Rattle.jb_handle.specs.declared.changes.TouchFault.TheVariants.{Memory as OutOfMemory};
+
+    ghost from_gives = { λ _ fault. fault ≡ OutOfMemory };
+
+    fn from(_refused: Memory) -> TouchFault {
+        TouchFault::Memory
+    }
 }
 
 /// What a handle has changed so far: its credits, which bound how many different blocks it may touch,
@@ -47,9 +58,9 @@ impl Model for Changes {
 }
 
 impl Changes {
-    ghost use Rattle.jb_handle.specs.Held.{Held, held, touched, IsKept, put_at, after, refusal, refusal_at};
+    ghost use Rattle.jb_handle.specs.Held.{Held, held, touched, IsKept, put_at, after, home_of, refusal, refusal_at};
     ghost use Rattle.jb_handle.specs.declared.op.Op.TheVariants.{Write, Revoke};
-    ghost use Rattle.jb_handle.specs.declared.changes.TouchFault.TheVariants.{Memory};
+    ghost use Rattle.jb_handle.specs.declared.changes.TouchFault.TheVariants.{Memory as OutOfMemory};
 
     /// No changes, and so many credits. Takes no memory.
     pub fn new(alloc: Global, credits: u32, shape: Shape) -> Changes
@@ -80,7 +91,7 @@ impl Changes {
     /// How many home blocks were touched.
     pub fn touched(&self) -> u32
         ensures value { result ≡ touched self.now }
-        ensures within { result ≤ self.now.credits }
+        ensures kept { IsKept self.now }
     {
         self.words.len() as u32
     }
@@ -106,12 +117,13 @@ impl Changes {
     /// # Errors
     ///
     /// The first of these, and the changes are as they were: `NoCredit`, `OutOfRange`, `Length`, and
-    /// `Memory` where there is none for a further block.
+    /// `Memory` where the block is new and there is none for it.
     pub fn apply(&mut self, op: Op) -> Result<(), TouchFault>
         ensures ok { OnOk result (self.new ≡ after self.old op) }
         ensures granted { OnOk result (refusal self.old op ≡ None) }
         ensures err { OnErr result (self.new ≡ self.old) }
-        ensures refused { IfErr result (λ fault. (fault ≡ Memory) ⊎ (refusal self.old op ≡ Some fault)) }
+        ensures refused { IfErr result (λ fault. (fault ≡ OutOfMemory) ⊎ (refusal self.old op ≡ Some fault)) }
+        ensures memory { IfErr result (λ fault. fault ≡ OutOfMemory → (refusal self.old op ≡ None) × (map.contains_key self.old.words (home_of op) ≡ false)) }
     {
         match op {
             Op::Write(home, payload) => {
@@ -133,12 +145,11 @@ impl Changes {
         ensures ok { OnOk result (self.new ≡ after self.old (Write home bytes.now)) }
         ensures granted { OnOk result (refusal self.old (Write home bytes.now) ≡ None) }
         ensures err { OnErr result (self.new ≡ self.old) }
-        ensures refused { IfErr result (λ fault. (fault ≡ Memory) ⊎ (refusal self.old (Write home bytes.now) ≡ Some fault)) }
+        ensures refused { IfErr result (λ fault. (fault ≡ OutOfMemory) ⊎ (refusal self.old (Write home bytes.now) ≡ Some fault)) }
+        ensures memory { IfErr result (λ fault. fault ≡ OutOfMemory → refusal self.old (Write home bytes.now) ≡ None) }
     {
         self.admit(home, Some(bytes.len()))?;
-        let Ok(payload) = Payload::of(self.alloc, bytes) else {
-            return Err(TouchFault::Memory);
-        };
+        let payload = Payload::of(self.alloc, bytes)?;
         self.put(home, Word::Copy(payload))
     }
 
@@ -147,12 +158,13 @@ impl Changes {
     /// # Errors
     ///
     /// The first of these, and the changes are as they were: `NoCredit`, `OutOfRange`, and `Memory`
-    /// where there is none for a further block.
+    /// where the block is new and there is none for it.
     pub fn revoke(&mut self, home: u64) -> Result<(), TouchFault>
         ensures ok { OnOk result (self.new ≡ after self.old (Revoke home)) }
         ensures granted { OnOk result (refusal self.old (Revoke home) ≡ None) }
         ensures err { OnErr result (self.new ≡ self.old) }
-        ensures refused { IfErr result (λ fault. (fault ≡ Memory) ⊎ (refusal self.old (Revoke home) ≡ Some fault)) }
+        ensures refused { IfErr result (λ fault. (fault ≡ OutOfMemory) ⊎ (refusal self.old (Revoke home) ≡ Some fault)) }
+        ensures memory { IfErr result (λ fault. fault ≡ OutOfMemory → (refusal self.old (Revoke home) ≡ None) × (map.contains_key self.old.words home ≡ false)) }
     {
         self.admit(home, None)?;
         self.put(home, Word::Free)
@@ -162,6 +174,7 @@ impl Changes {
     fn admit(&self, home: u64, len: Option<usize>) -> Result<(), TouchFault>
         ensures ok { OnOk result (refusal_at self.now home len ≡ None) }
         ensures err { IfErr result (λ fault. refusal_at self.now home len ≡ Some fault) }
+        ensures reason { IfErr result (λ fault. fault ≢ OutOfMemory) }
         ensures kept { IsKept self.now }
     {
         if self.words.get(home).is_none() && self.touched() >= self.credits {
@@ -181,11 +194,9 @@ impl Changes {
         requires kept { IsKept (put_at self.old home word) }
         ensures ok { OnOk result (self.new ≡ put_at self.old home word) }
         ensures err { OnErr result (self.new ≡ self.old) }
-        ensures refused { IfErr result (λ fault. fault ≡ Memory) }
+        ensures refused { IfErr result (λ fault. fault ≡ OutOfMemory) }
+        ensures new { OnErr result (map.contains_key self.old.words home ≡ false) }
     {
-        match self.words.put(home, word) {
-            Ok(()) => Ok(()),
-            Err(_) => Err(TouchFault::Memory),
-        }
+        Ok(self.words.put(home, word)?)
     }
 }

@@ -1,6 +1,5 @@
-//! The words of a handle while they are read in any order.
-
-ghost use Rattle.std.specs.Prelude.{◌≡◌, IfOk, OnOk};
+ghost use Rattle.std.specs.Prelude.{◌≡◌, ◌<◌, ℕ, IfOk, OnOk, OnErr};
+ghost use Rattle.std.specs.Option.{option_or};
 ghost use Rattle.std.specs.FinMap as map;
 
 use crate::word::Word;
@@ -10,17 +9,16 @@ use std::alloc::Global;
 use std::collections::BTreeMap;
 use std::marker::Model;
 
-// Words by their home blocks: a further one costs the logarithm of their number.
+/// Words while they are gathered in any order: a further one costs the logarithm of their number, where
+/// [`Words::put`] moves what stands after it.
 #[derive(Drop)]
 pub struct Gathered {
     tree: BTreeMap<u64, Word>,
 }
 
 impl Model for Gathered {
-    ghost use Rattle.std.specs.Prelude.{T};
-    ghost use Rattle.std.specs.Ordering.{nat_cmp};
     ghost use Rattle.std.specs.FinMap as map;
-    ghost use Rattle.jb_handle.specs.Word.{WordMap, words_code};
+    ghost use Rattle.jb_handle.specs.Word.{WordMap, words_code, AreWords};
 
     ghost Value = { WordMap };
 
@@ -28,11 +26,11 @@ impl Model for Gathered {
 
     ghost view = { λ a. map.from_sorted a.tree.entries };
 
-    ghost invariant = { λ a. T (map.is_sorted nat_cmp a.tree.entries) };
+    ghost invariant = { λ a. AreWords a.tree.entries };
 }
 
 impl Gathered {
-    /// No words.
+    /// No words. Takes no memory.
     pub fn new(alloc: Global) -> Gathered
         ensures { result ≡ map.empty }
     {
@@ -42,16 +40,41 @@ impl Gathered {
     }
 
     /// Puts a word in the place of the one that the home block had, or as its first.
+    ///
+    /// # Errors
+    ///
+    /// `Memory` where there is none for a further word.
     pub fn put(&mut self, home: u64, word: Word) -> Result<(), Memory>
         ensures { OnOk result (self.new ≡ map.insert self.old home word) }
     {
+        word.holds_bytes();
         self.tree.insert(home, word)?;
         Ok(())
     }
 
-    /// The words in the order of their homes. `Memory` where a growth was refused.
+    /// Puts a copy of each word of a handle.
+    ///
+    /// # Errors
+    ///
+    /// `Memory` where there is none for a copy or a further word, and never for a handle without words.
+    pub fn put_all(&mut self, words: &Words) -> Result<(), Memory>
+        ensures ok { OnOk result ((home : ℕ) → map.get self.new home ≡ option_or (map.get words.now home) (map.get self.old home)) }
+        ensures err { OnErr result (0 < map.len words.now) }
+    {
+        for (home, word) in words.entries() {
+            self.put(*home, word.try_clone()?)?;
+        }
+        Ok(())
+    }
+
+    /// The words in the order of their homes.
+    ///
+    /// # Errors
+    ///
+    /// `Memory` where there is none for their list, and never for no words.
     pub fn into_words(self, alloc: Global) -> Result<Words, Memory>
-        ensures { IfOk result (λ words. words ≡ self) }
+        ensures ok { IfOk result (λ words. words ≡ self) }
+        ensures err { OnErr result (0 < map.len self) }
     {
         Words::from_tree(alloc, self.tree)
     }

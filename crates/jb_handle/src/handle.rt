@@ -1,4 +1,4 @@
-ghost use Rattle.std.specs.Prelude.{◌≡◌, ◌≤◌, ◌⊎◌, Some, None, OnOk, OnErr, IfErr};
+ghost use Rattle.std.specs.Prelude.{◌≡◌, ◌⊎◌, Some, None, false, OnOk, OnErr, IfErr};
 ghost use Rattle.std.specs.FinMap as map;
 
 use crate::changes::{Changes, TouchFault};
@@ -16,7 +16,7 @@ pub struct Handle<S> {
 
 impl<S> Handle<S> {
     ghost use Rattle.jb_handle.specs.Handle.{holder, changes_of};
-    ghost use Rattle.jb_handle.specs.Held.{held, touched, after, refusal};
+    ghost use Rattle.jb_handle.specs.Held.{held, touched, after, refusal, IsKept};
     ghost use Rattle.jb_handle.specs.declared.op.Op.TheVariants.{Write, Revoke};
     ghost use Rattle.jb_handle.specs.declared.changes.TouchFault.TheVariants.{Memory};
 
@@ -38,10 +38,17 @@ impl<S> Handle<S> {
         self.changes.credits()
     }
 
+    /// What the changes of the handle have to fit.
+    pub fn shape(&self) -> Shape
+        ensures { result ≡ (changes_of self.now).shape }
+    {
+        self.changes.shape()
+    }
+
     /// How many home blocks the handle has touched.
     pub fn touched(&self) -> u32
         ensures value { result ≡ touched (changes_of self.now) }
-        ensures within { result ≤ (changes_of self.now).credits }
+        ensures kept { IsKept (changes_of self.now) }
     {
         self.changes.touched()
     }
@@ -55,7 +62,8 @@ impl<S> Handle<S> {
 
     /// The last word on each home block that the handle touched.
     pub fn words(&self) -> &Words
-        ensures { result.now ≡ (changes_of self.now).words }
+        ensures words { result.now ≡ (changes_of self.now).words }
+        ensures kept { IsKept (changes_of self.now) }
     {
         self.changes.words()
     }
@@ -73,6 +81,7 @@ impl<S> Handle<S> {
         ensures granted { OnOk result (refusal (changes_of self.old) (Write home bytes.now) ≡ None) }
         ensures err { OnErr result (changes_of self.new ≡ changes_of self.old) }
         ensures refused { IfErr result (λ fault. (fault ≡ Memory) ⊎ (refusal (changes_of self.old) (Write home bytes.now) ≡ Some fault)) }
+        ensures memory { IfErr result (λ fault. fault ≡ Memory → refusal (changes_of self.old) (Write home bytes.now) ≡ None) }
     {
         self.changes.write(home, bytes)
     }
@@ -82,13 +91,14 @@ impl<S> Handle<S> {
     /// # Errors
     ///
     /// The first of these, and the handle is as it was: `NoCredit`, `OutOfRange`, and `Memory` where
-    /// there is none for a further block.
+    /// the block is new and there is none for it.
     pub fn revoke(&mut self, home: u64) -> Result<(), TouchFault>
         ensures seat { holder self.new ≡ holder self.old }
         ensures ok { OnOk result (changes_of self.new ≡ after (changes_of self.old) (Revoke home)) }
         ensures granted { OnOk result (refusal (changes_of self.old) (Revoke home) ≡ None) }
         ensures err { OnErr result (changes_of self.new ≡ changes_of self.old) }
         ensures refused { IfErr result (λ fault. (fault ≡ Memory) ⊎ (refusal (changes_of self.old) (Revoke home) ≡ Some fault)) }
+        ensures memory { IfErr result (λ fault. fault ≡ Memory → (refusal (changes_of self.old) (Revoke home) ≡ None) × (map.contains_key (changes_of self.old).words home ≡ false)) }
     {
         self.changes.revoke(home)
     }
@@ -97,6 +107,7 @@ impl<S> Handle<S> {
     pub fn end(self) -> (S, Words)
         ensures seat { result.0 ≡ holder self }
         ensures words { result.1 ≡ (changes_of self).words }
+        ensures kept { IsKept (changes_of self) }
     {
         let Handle { seat, changes } = self;
         (seat, changes.into_words())

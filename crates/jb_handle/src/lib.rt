@@ -5,6 +5,7 @@ mod changes;
 mod fault;
 mod gathered;
 mod handle;
+mod joined;
 pub mod laws;
 mod op;
 mod op_text;
@@ -23,6 +24,7 @@ mod words;
 
 pub use changes::{Changes, TouchFault};
 pub use fault::{Cause, QueueFault};
+pub use gathered::Gathered;
 pub use handle::Handle;
 pub use op::Op;
 pub use payload::Payload;

@@ -1,5 +1,5 @@
 ghost use Rattle.std.specs.Prelude.{◌≡◌, List, ℕ, ◌-◌, ◌≤◌, ◌++◌, length, replicate, take, IfOk};
-ghost use Rattle.jb_block.specs.Fields.{padded};
+ghost use Rattle.jb_block.specs.Fields.{padded, AreBytes};
 
 use jb_block::Memory;
 use std::alloc::Global;
@@ -45,6 +45,28 @@ impl Payload {
         })
     }
 
+    /// The same bytes once more.
+    ///
+    /// # Errors
+    ///
+    /// `Memory` where there is none for a copy of the first bytes.
+    pub fn try_clone(&self) -> Result<Payload, Memory>
+        ensures { IfOk result (λ payload. payload ≡ self.now) }
+    {
+        let bytes = self.bytes.clone()?;
+        Ok(Payload {
+            bytes,
+            len: self.len,
+        })
+    }
+
+    /// What a payload holds are bytes. It does nothing: the fact is its contract.
+    pub fn holds_bytes(&self)
+        ensures { AreBytes self.now }
+    {
+        are_bytes(&self.bytes);
+    }
+
     /// How many bytes the block has, zeros included.
     pub fn len(&self) -> usize
         ensures { result ≡ length self.now }
@@ -72,4 +94,11 @@ impl Payload {
         front.copy_from_slice(&self.bytes);
         back.fill(0);
     }
+}
+
+// What stands in a slice of bytes are bytes. It does nothing: the fact is its contract.
+fn are_bytes(bytes: &[u8])
+    ensures { AreBytes bytes.now }
+{
+    let _bytes = bytes;
 }

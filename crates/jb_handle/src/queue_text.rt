@@ -3,10 +3,10 @@
 ghost use Rattle.std.specs.Prelude.{◌≡◌, ◌*◌, ◌+◌, ◌≤◌, [], length, IfOk, IfErr, Ok, codes, option_map};
 ghost use Rattle.std.specs.FinMap as map;
 ghost use Rattle.jb_block.specs.Size.{bytes_of};
-ghost use Rattle.jb_handle.specs.Parts.{lines, words};
+ghost use Rattle.jb_handle.specs.declared.fault.Cause.TheVariants.{Memory as OutOfMemory};
+ghost use Rattle.jb_handle.specs.Parts.{first_of, lines, words};
 ghost use Rattle.jb_handle.specs.Size.{weight};
 ghost use Rattle.jb_handle.specs.QueueText.{value_of};
-ghost use Rattle.jb_handle.specs.Parts.{first_of};
 ghost use Rattle.jb_handle.specs.Queue.{Gives, Reports, after_ops, handle_of, queue_of, after_lines, size_of, limit_of};
 
 use crate::fault::{Cause, QueueFault};
@@ -37,11 +37,12 @@ pub struct QueueText {
 ///
 /// # Errors
 ///
-/// The first line that is not of the form, and what is wrong with it. `Memory` at a line says that a
+/// The first line that is not of the form, and what is wrong with it. `Memory` at a handle's line says that a
 /// growth was refused there, and that all lines before it are of the form.
 pub fn read_queue(alloc: Global, text: &[u8]) -> Result<QueueText, QueueFault>
     ensures ok { IfOk result (λ queue. queue_of text.now ≡ Ok (value_of queue)) }
     ensures err { IfErr result (Reports (queue_of text.now)) }
+    ensures memory { IfErr result (λ fault. fault.cause ≡ OutOfMemory → (3 ≤ fault.line) × (fault.line ≤ length (lines text.now))) }
     ensures within { IfOk result (λ queue. 2 * weight queue.handles.items ≤ length text.now + 1) }
 {
     let Some((bs, text)) = first_block_size(text) else {
@@ -113,6 +114,7 @@ fn read_handles(
 ) -> Result<Vec<Stopped>, QueueFault>
     ensures ok { IfOk result (λ handles. after_lines width (bytes_of bs) [] (lines text.now) ≡ Ok handles.items) }
     ensures err { IfErr result (Reports (after_lines width (bytes_of bs) [] (lines text.now))) }
+    ensures line { IfErr result (λ fault. (3 ≤ fault.line) × (fault.line ≤ length (lines text.now) + 2)) }
 {
     let mut handles = Vec::new(alloc);
     let mut rest = text;

@@ -1,6 +1,8 @@
-ghost use Rattle.std.specs.Prelude.{◌≡◌};
+ghost use Rattle.std.specs.Prelude.{◌≡◌, ◌↔◌, IfOk, IsTrue};
 
 use crate::payload::Payload;
+use crate::shape::Shape;
+use jb_block::Memory;
 
 /// The last word of a handle on a home block.
 #[derive(Drop)]
@@ -13,7 +15,8 @@ pub enum Word {
 }
 
 impl Word {
-    ghost use Rattle.jb_handle.specs.Word.{is_copy};
+    ghost use Rattle.jb_handle.specs.Word.{is_copy, HasBytes};
+    ghost use Rattle.jb_handle.specs.Held.{FitsWord};
 
     /// Whether it is a copy.
     pub fn is_copy(&self) -> bool
@@ -22,6 +25,41 @@ impl Word {
         match self {
             Word::Copy(_) => true,
             Word::Free => false,
+        }
+    }
+
+    /// Whether a shape has room for the word on this home block: the home is there, and a copy has the
+    /// bytes of a block.
+    pub fn fits(&self, home: u64, shape: Shape) -> bool
+        ensures { IsTrue result ↔ FitsWord shape home self.now }
+    {
+        let sized = match self {
+            Word::Copy(payload) => payload.len() == shape.bs.bytes() as usize,
+            Word::Free => true,
+        };
+        home < shape.homes && sized
+    }
+
+    /// The same word once more.
+    ///
+    /// # Errors
+    ///
+    /// `Memory` where there is none for a copy of its bytes.
+    pub fn try_clone(&self) -> Result<Word, Memory>
+        ensures { IfOk result (λ word. word ≡ self.now) }
+    {
+        match self {
+            Word::Copy(payload) => Ok(Word::Copy(payload.try_clone()?)),
+            Word::Free => Ok(Word::Free),
+        }
+    }
+
+    /// What a copy holds are bytes. It does nothing: the fact is its contract.
+    pub fn holds_bytes(&self)
+        ensures { HasBytes self.now }
+    {
+        if let Word::Copy(payload) = self {
+            payload.holds_bytes();
         }
     }
 }

@@ -1,9 +1,11 @@
-ghost use Rattle.std.specs.Prelude.{◌≡◌, IfOk, IfErr, OnOk, OnErr, T, IsTrue, ◌↔◌, length, ◌<◌, ◌^◌, ℕ};
+ghost use Rattle.std.specs.Prelude.{◌≡◌, IfOk, OnOk, OnErr, T, IsTrue, ◌↔◌, length, ◌<◌, ◌^◌, None, All};
 ghost use Rattle.std.specs.Ordering.{nat_cmp};
 ghost use Rattle.std.specs.Option.{option_copied};
 ghost use Rattle.std.specs.FinMap as map;
 ghost use Rattle.jb_handle.specs.Placed.{IsPlaced};
+ghost use Rattle.jb_handle.specs.Word.{EntryHasBytes};
 
+use crate::shape::Shape;
 use crate::word::Word;
 use jb_block::Memory;
 use std::alloc::Global;
@@ -18,10 +20,8 @@ pub struct Words {
 }
 
 impl Model for Words {
-    ghost use Rattle.std.specs.Prelude.{T};
-    ghost use Rattle.std.specs.Ordering.{nat_cmp};
     ghost use Rattle.std.specs.FinMap as map;
-    ghost use Rattle.jb_handle.specs.Word.{WordMap, words_code};
+    ghost use Rattle.jb_handle.specs.Word.{WordMap, words_code, AreWords};
 
     ghost Value = { WordMap };
 
@@ -29,10 +29,12 @@ impl Model for Words {
 
     ghost view = { λ a. map.from_sorted a.entries.items };
 
-    ghost invariant = { λ a. T (map.is_sorted nat_cmp a.entries.items) };
+    ghost invariant = { λ a. AreWords a.entries.items };
 }
 
 impl Words {
+    ghost use Rattle.jb_handle.specs.Held.{Fits};
+
     /// No words. Takes no memory.
     pub fn new(alloc: Global) -> Words
         ensures { result ≡ map.empty }
@@ -46,10 +48,15 @@ impl Words {
     ///
     /// # Errors
     ///
-    /// `Memory` where there is none for the list.
-    pub fn from_tree(alloc: Global, tree: BTreeMap<u64, Word>) -> Result<Words, Memory>
-        ensures { IfOk result (λ words. map.entries words ≡ tree.entries) }
+    /// `Memory` where there is none for the list, and never for an empty tree.
+    pub(crate) fn from_tree(alloc: Global, tree: BTreeMap<u64, Word>) -> Result<Words, Memory>
+        requires bytes { All EntryHasBytes tree.entries }
+        ensures ok { IfOk result (λ words. map.entries words ≡ tree.entries) }
+        ensures err { OnErr result (0 < length tree.entries) }
     {
+        if tree.is_empty() {
+            return Ok(Words::new(alloc));
+        }
         let entries = tree.into_iter().collect(alloc)?;
         Ok(Words { entries })
     }
@@ -76,6 +83,13 @@ impl Words {
         &self.entries
     }
 
+    /// What the copies hold are bytes. It does nothing: the fact is its contract.
+    pub fn hold_bytes(&self)
+        ensures { All EntryHasBytes (map.entries self.now) }
+    {
+        let _entries = &self.entries;
+    }
+
     /// The word of a home block, or `None` where it has none.
     pub fn get(&self, home: u64) -> Option<&Word>
         ensures { option_copied result ≡ map.get self.now home }
@@ -90,11 +104,14 @@ impl Words {
     ///
     /// # Errors
     ///
-    /// `Memory` where there is none for a further word; the words are as they were.
+    /// `Memory` where the home block had no word and there is none for a further one; the words are as
+    /// they were.
     pub fn put(&mut self, home: u64, word: Word) -> Result<(), Memory>
         ensures ok { OnOk result (self.new ≡ map.insert self.old home word) }
         ensures err { OnErr result (self.new ≡ self.old) }
+        ensures new { OnErr result (map.get self.old home ≡ None) }
     {
+        word.holds_bytes();
         match place_of(&self.entries, home) {
             Ok(at) => {
                 self.entries[at] = (home, word);
@@ -102,6 +119,18 @@ impl Words {
             }
             Err(at) => Ok(self.entries.insert(at, (home, word))?),
         }
+    }
+
+    /// Whether a shape has room for each word.
+    pub fn fit(&self, shape: Shape) -> bool
+        ensures { IsTrue result ↔ Fits shape self.now }
+    {
+        for (home, word) in self.entries() {
+            if !word.fits(*home, shape) {
+                return false;
+            }
+        }
+        true
     }
 }
 

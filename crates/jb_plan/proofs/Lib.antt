@@ -1,2 +1,2 @@
-pub mod Best
+pub mod Founds
 pub mod Steps

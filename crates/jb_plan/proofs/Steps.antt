@@ -7,8 +7,7 @@ use Rattle.std.proofs.lemmas.Bool.{cases_lt}
 use Rattle.jb_cost.specs.Cut.{RisesTo, EachFrom, total_from, IsCut, EachPiece, total, price, FitsCut, IsLeastCut, IsReached, ArePrices, Hold, IsFirstToAttain}
 use Rattle.jb_cost.proofs.Cuts.{rises-le, reached-push, reached-none}
 use Rattle.jb_cost.proofs.Bounds.{hold-fewer, lower, price-exact}
-use Rattle.jb_plan.specs.declared.step.Step.{Step}
-use Rattle.jb_plan.specs.Step.{IsBest, BestFrom, step_of, AreSteps, price_of, from_of, GoBack, AreWithin, IsTable}
+use Rattle.jb_plan.specs.Step.{Step, IsBest, BestFrom, step_of, AreSteps, price_of, from_of, GoBack, AreWithin, IsTable}
 
 price-kept : (ps more : List (Option ℕ)) (i : ℕ) → i < length ps → price (ps ++ more) i ≡ price ps i
 price-kept ps more i less = get_or-append ps more None i less

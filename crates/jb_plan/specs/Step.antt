@@ -1,9 +1,14 @@
 -- The steps by which cuts reach an end: the best one from the starts that were tried, and the best ones to each end.
-use Rattle.std.specs.Prelude.{◌≡◌, ℕ, ◌+◌, ◌*◌, ◌<◌, ◌≤◌, List, Option, Some, None, nat_lt, if◌then◌else◌, length, take, slice_index}
+use Rattle.std.specs.Prelude.{◌≡◌, ℕ, ◌+◌, ◌*◌, ◌<◌, ◌≤◌, List, Option, Some, None, length, take, slice_index}
 use Rattle.jb_handle.specs.declared.stopped.Stopped.{Stopped}
 use Rattle.jb_handle.specs.Size.{weight}
 use Rattle.jb_cost.specs.Cut.{price}
-use Rattle.jb_plan.specs.declared.step.Step.{Step}
+use Rattle.jb_cost.specs.declared.found.Found.{Found}
+
+-- the last group of a cut: where it begins, and what the whole cut takes
+pub record Step : Type 0 where
+  pub from : ℕ
+  pub price : ℕ
 
 -- s goes to the end from its own start, at the start's price and the group's cost
 pub record Leads (c : ℕ → ℕ → ℕ) (limit : ℕ) (ps : List (Option ℕ)) (end : ℕ) (s : Step) : Type 0 where
@@ -22,11 +27,10 @@ abbrev pub BestFrom : (ℕ → ℕ → ℕ) → ℕ → List (Option ℕ) → �
 BestFrom c limit ps low end None = (i p : ℕ) → low ≤ i → i < end → c i end ≤ limit → price ps i ≡ Some p → ⊥
 BestFrom c limit ps low end (Some s) = IsBest c limit ps low end s
 
--- the better of a step and one from an earlier start, the earlier one where they are as good
-abbrev pub better_step : Option Step → Option ℕ → ℕ → ℕ → Option Step
-better_step best None cost from = best
-better_step None (Some p) cost from = Some (record { from = from; price = p + cost })
-better_step (Some s) (Some p) cost from = if nat_lt s.price (p + cost) then Some s else Some (record { from = from; price = p + cost })
+-- the step from a start that was found
+abbrev pub step_from : Option Found → Option Step
+step_from None = None
+step_from (Some s) = Some (record { from = s.from; price = s.price + s.cost })
 
 -- the step to j, by its price and by the list of starts
 abbrev pub step_of : List ℕ → ℕ → Option ℕ → Option Step

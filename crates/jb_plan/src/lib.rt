@@ -4,7 +4,6 @@
 mod bounds;
 mod planned;
 mod planner;
-mod step;
 mod table;
 #[cfg(test)]
 mod tests;

@@ -2,7 +2,9 @@
 use Rattle.std.proofs.Common.{◌≡◌, ℕ, ◌+◌, ◌<◌, ◌≤◌, Bool, true, false, List, Option, Some, None, nat_le, if◌then◌else◌, inl, inr, sym, subst, ap, ◌∙◌, refl, arith}
 use Rattle.std.proofs.lemmas.Bool.{cases_lt, leb-true, leb-false}
 use Rattle.std.proofs.Math.Nat.{eq-or-lt_of_le}
+use Rattle.jb_cost.specs.declared.found.Found.{Found}
 use Rattle.jb_cost.specs.Cut.{price}
+use Rattle.jb_cost.specs.Starts.{BestStart}
 use Rattle.jb_price.specs.Verdict.{IsDearer, Undercuts}
 use Rattle.jb_price.specs.FirstUndercut.{LeastTo, FirstAmong, earlier_of}
 
@@ -79,3 +81,12 @@ module _ (c : ℕ → ℕ → ℕ) (limit n : ℕ) (ps : List (Option ℕ)) wher
             λ a b within below. up-to (λ b. Undercuts c limit n ps a b → ⊥) end (λ b within. looked.1 a b within (omega arith)) (λ u. least.1 a (omega arith) below u) b within,
             λ b below u. looked.1 i b (omega arith) more u,
           )
+
+  -- where the best start is no undercut, none is
+  pub none-cheaper : (end : ℕ) (best : Option Found) → BestStart (λ i. c i end) limit ps 0 end best → (((s : Found) × (best ≡ Some s) × IsDearer (price ps end) (s.price + s.cost)) → ⊥) → LeastTo c limit n ps 0 end None
+  none-cheaper end None none fair = λ i above u. none i u.cheaper.0 above u.before u.fits u.cheaper.1
+  none-cheaper end (Some s) best fair = λ i above u. fair (s, refl, dearer (price ps end) (u.cheaper.0 + c i end) (s.price + s.cost) (best.least i u.cheaper.0 above u.before u.fits u.cheaper.1) u.cheaper.2)
+    where
+      dearer : (q : Option ℕ) (p least : ℕ) → least ≤ p → IsDearer q p → IsDearer q least
+      dearer None p least most h = tt
+      dearer (Some q) p least most h = omega (arith, most, h)

@@ -9,6 +9,7 @@ use Rattle.jb_price.specs.declared.certificate.CertAnswer.TheVariants.{Cut, NoCu
 use Rattle.jb_price.specs.declared.verdict.Verdict.{Verdict}
 use Rattle.jb_price.specs.declared.verdict.Verdict.TheVariants.{Accepted, Refused}
 use Rattle.jb_price.specs.declared.verdict.Reason.TheVariants.{OpeningPrice, Undercut, NotACut, OverLimit, TotalDiffers, EndPrice}
+use Rattle.jb_price.specs.FirstUndercut.{FirstAmong}
 use Rattle.jb_price.specs.Verdict.{IsDearer, FirstOverFrom, IsFirstOver, PricesHold, AnswerSays, Says, IsRight}
 
 -- a price is dearer than what it is, or it is at most that
@@ -33,7 +34,7 @@ over-piece c limit (a ∷ bs) i j fits over = over-fits c limit a bs i j fits ov
 
 module _ (c : ℕ → ℕ → ℕ) (limit n : ℕ) (ps : List (Option ℕ)) where
   -- prices without an undercut bound every cut that fits
-  hold : PricesHold c limit n ps → Hold c limit n ps
+  pub hold : PricesHold c limit n ps → Hold c limit n ps
   hold prices = record {
     start = prices.opening;
     step = λ i j p before within is fits. elim (dearer-or (price ps j) (p + c i j)) [
@@ -41,6 +42,12 @@ module _ (c : ℕ → ℕ → ℕ) (limit n : ℕ) (ps : List (Option ℕ)) wher
       | inr most ↦ most
     ];
   }
+
+  -- the prices hold where the opening price is 0 and no first undercut was found
+  pub prices-hold : (first : Option (ℕ × ℕ)) → FirstAmong c limit n ps n first → first ≡ None → price ps 0 ≡ Some 0 → PricesHold c limit n ps
+  prices-hold first looked none opening =
+      let looked_all : FirstAmong c limit n ps n None = subst (λ found. FirstAmong c limit n ps n found) none looked in
+      record { opening = opening; no_undercut = λ i j u. looked_all i j u.within u }
 
   -- where the prices hold, what a verdict says of the answer it says of the certificate
   pub says-answer : (answer : CertAnswer) → PricesHold c limit n ps → (verdict : Verdict) → AnswerSays c limit n ps answer verdict → Says c limit n ps answer verdict

@@ -4,7 +4,7 @@ ghost use Rattle.jb_cost.specs.Cut.{IsCut, piece_cost};
 ghost use Rattle.jb_price.specs.Sum.{SumSays};
 
 use jb_block::Memory;
-use jb_cost::{Footprint, Geometry};
+use jb_cost::{Geometry, group_cost};
 use jb_handle::Stopped;
 use std::alloc::Global;
 
@@ -75,10 +75,5 @@ fn piece_blocks(
     requires to_in { to ≤ length handles.now }
     ensures { IfOk result (λ blocks. blocks ≡ piece_cost geometry handles.now from to) }
 {
-    let mut footprint = Footprint::new(alloc, geometry);
-    let mut blocks = 0;
-    for at in (from..to).rev() {
-        blocks = footprint.add_left(&handles[at])?;
-    }
-    Ok(blocks)
+    group_cost(alloc, &handles[from..to], geometry)
 }

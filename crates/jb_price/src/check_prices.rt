@@ -1,15 +1,17 @@
-ghost use Rattle.std.specs.Prelude.{◌≡◌, ◌+◌, ◌<◌, ◌≤◌, ◌↔◌, ℕ, length, IfOk, IsTrue, MatchOption};
+ghost use Rattle.std.specs.Prelude.{◌≡◌, ◌+◌, ◌<◌, ◌≤◌, ◌↔◌, ℕ, length, IfOk, Some, IsTrue, MatchOption};
 ghost use Rattle.jb_handle.specs.Size.{IsWithinSize};
+ghost use Rattle.jb_cost.specs.declared.found.Found.{Found as FoundValue};
 ghost use Rattle.jb_cost.specs.Cut.{piece_cost};
 ghost use Rattle.jb_price.specs.Verdict.{IsDearer};
 ghost use Rattle.jb_price.specs.FirstUndercut.{LeastTo, FirstAmong, earlier_of};
 
 use jb_block::Memory;
-use jb_cost::{Footprint, Geometry};
+use jb_cost::{Footprint, Found, Geometry, LastTouches};
 use jb_handle::Stopped;
 use std::alloc::Global;
 
-// The first undercut of the prices: the least first bound, and of its second bounds the least.
+// The first undercut of the prices: the least first bound, and of its second bounds the least. The
+// last touches tell for each end whether it has one, and only then the starts are looked at.
 pub(crate) fn first_undercut(
     alloc: Global,
     handles: &[Stopped],
@@ -21,12 +23,26 @@ pub(crate) fn first_undercut(
     requires number { length prices.now ≡ length handles.now + 1 }
     ensures { IfOk result (λ found. FirstAmong (piece_cost geometry handles.now) limit (length handles.now) prices.now (length handles.now) found) }
 {
+    let mut touches = LastTouches::new(alloc, geometry);
     let mut first: Option<(usize, usize)> = None;
     for last in 0..handles.len() {
-        let found = least_undercut(alloc, handles, last + 1, geometry, limit, prices)?;
-        first = earlier(first, found, last + 1);
+        touches.add(&handles[last], prices[last])?;
+        if undercuts(touches.best(limit), prices[last + 1]) {
+            let found = least_undercut(alloc, handles, last + 1, geometry, limit, prices)?;
+            first = earlier(first, found, last + 1);
+        }
     }
     Ok(first)
+}
+
+// Whether the best start comes to less than the price of the end. If it doesn't, none does.
+fn undercuts(best: Option<Found>, end: Option<u64>) -> bool
+    ensures { IsTrue result ↔ ((s : FoundValue) × (best ≡ Some s) × IsDearer end (s.price + s.cost)) }
+{
+    match best {
+        Some(best) => is_below(best.price, best.cost, end),
+        None => false,
+    }
 }
 
 // The earlier of the first undercut so far and one of a later end: at the same first bound that with
@@ -78,9 +94,18 @@ fn least_undercut(
 fn is_cheaper(price: Option<u64>, cost: u64, end: Option<u64>) -> bool
     ensures { IsTrue result ↔ ((p : ℕ) × (price ≡ Some p) × IsDearer end (p + cost)) }
 {
-    match (price, end) {
-        (None, _) => false,
-        (Some(_), None) => true,
-        (Some(price), Some(end)) => u128::from(price) + u128::from(cost) < u128::from(end),
+    match price {
+        Some(price) => is_below(price, cost, end),
+        None => false,
+    }
+}
+
+// Whether a price and a cost come to less than another price; without one they do.
+fn is_below(price: u64, cost: u64, end: Option<u64>) -> bool
+    ensures { IsTrue result ↔ IsDearer end (price + cost) }
+{
+    match end {
+        Some(end) => u128::from(price) + u128::from(cost) < u128::from(end),
+        None => true,
     }
 }

@@ -1,6 +1,6 @@
-ghost use Rattle.std.specs.Prelude.{◌≡◌, ◌+◌, ℕ, length, IfOk};
+ghost use Rattle.std.specs.Prelude.{◌≡◌, ◌+◌, ℕ, length, Some, IfOk, OnErr};
 ghost use Rattle.jb_handle.specs.Size.{IsWithinSize};
-ghost use Rattle.jb_cost.specs.Cut.{piece_cost, price};
+ghost use Rattle.jb_cost.specs.Cut.{Hold, piece_cost, price};
 ghost use Rattle.jb_price.specs.Verdict.{CutSays, AnswerSays, Says, IsRight};
 
 use crate::certificate::{Cert, CertAnswer};
@@ -20,7 +20,8 @@ use std::alloc::Global;
 ///
 /// # Errors
 ///
-/// `Memory` where there is none for the footprint of a group.
+/// `Memory` where there is none for the last touches of the handles or for the home blocks of a
+/// group; then the opening price is 0.
 pub fn check(
     alloc: Global,
     handles: &[Stopped],
@@ -32,6 +33,8 @@ pub fn check(
     requires number { length cert.now.prices.items ≡ length handles.now + 1 }
     ensures verdict { IfOk result (λ verdict. Says (piece_cost geometry handles.now) limit (length handles.now) cert.now.prices.items cert.now.answer verdict) }
     ensures accepted { IfOk result (λ verdict. verdict ≡ Verdict.Accepted → IsRight (piece_cost geometry handles.now) limit (length handles.now) cert.now.answer) }
+    ensures hold { IfOk result (λ verdict. verdict ≡ Verdict.Accepted → Hold (piece_cost geometry handles.now) limit (length handles.now) cert.now.prices.items) }
+    ensures opening { OnErr result (price cert.now.prices.items 0 ≡ Some 0) }
 {
     let Some(0) = cert.prices[0] else {
         return Ok(Verdict::Refused(Reason::OpeningPrice));

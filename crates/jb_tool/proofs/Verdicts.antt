@@ -1,5 +1,5 @@
 -- What a check says, from what its parts say.
-use Rattle.std.proofs.Common.{◌≡◌, ◌≢◌, ℕ, List, Result, Ok, Err, IfOk, length, refl}
+use Rattle.std.proofs.Common.{◌≡◌, ℕ, List, Option, Some, None, Result, Ok, Err, IfOk, length, refl}
 use Rattle.jb_cost.specs.Cut.{piece_cost}
 use Rattle.jb_cost.specs.declared.geometry.Geometry.{Geometry}
 use Rattle.jb_handle.specs.Queue.{Queue, Reports, ReportsBy, queue_of}
@@ -40,18 +40,19 @@ pub says_of_queue : (text claim : List ℕ) (q : Queue) (words : Said) → queue
     → CheckSays text claim words
 says_of_queue text claim q words is says = rw is says
 
-reported_by : {A : Type 0} (read : Result A QueueFault) (at : ℕ) (why : Cause) → ReportsBy read at why → why ≢ OutOfMemory
-    → read ≡ Err (record { line = at; cause = why })
-reported_by read at BlockSizeLine reports other = reports
-reported_by read at LimitLine reports other = reports
-reported_by read at HandleLine reports other = reports
-reported_by read at OpWord reports other = reports
-reported_by read at DataWord reports other = reports
-reported_by read at OutOfMemory reports other = absurd (other refl)
+-- a fault with words is the first of the text
+named_by : (read : Result Queue QueueFault) (at : ℕ) (why : Cause) (words : Said) → ReportsBy read at why
+    → queue_fault (record { line = at; cause = why }) ≡ Some words → read ≡ Err (record { line = at; cause = why })
+named_by read at BlockSizeLine words reports told = reports
+named_by read at LimitLine words reports told = reports
+named_by read at HandleLine words reports told = reports
+named_by read at OpWord words reports told = reports
+named_by read at DataWord words reports told = reports
+named_by read at OutOfMemory words reports told = absurd (let h : ⊥ = cc in h)
 
 -- what is said of both texts, where the first has a fault
 pub says_of_fault : (text claim : List ℕ) (fault : QueueFault) (words : Said) → Reports (queue_of text) fault
-    → fault.cause ≢ OutOfMemory → words ≡ queue_fault fault → CheckSays text claim words
-says_of_fault text claim fault words reports other told =
-    let is : queue_of text ≡ Err fault = reported_by (queue_of text) fault.line fault.cause reports other in
+    → queue_fault fault ≡ Some words → CheckSays text claim words
+says_of_fault text claim fault words reports told =
+    let is : queue_of text ≡ Err fault = named_by (queue_of text) fault.line fault.cause words reports told in
     rw is told

@@ -1,5 +1,5 @@
 -- What `jb check` says of a queue text and the text of a certificate.
-use Rattle.std.specs.Prelude.{◌≡◌, ℕ, List, [], ◌++◌, Result, Ok, Err, codes, decimal, length}
+use Rattle.std.specs.Prelude.{◌≡◌, ℕ, List, [], ◌++◌, Option, Some, None, Result, Ok, Err, codes, decimal, length}
 use Rattle.jb_cost.specs.Cut.{piece_cost}
 use Rattle.jb_cost.specs.declared.geometry.Geometry.{Geometry}
 use Rattle.jb_handle.specs.Queue.{Queue, queue_of}
@@ -31,15 +31,15 @@ abbrev pub verdict_text : Verdict → Said
 verdict_text Accepted = record { status = 0; out = codes "accepted\n"; err = [] }
 verdict_text (Refused reason) = record { status = 1; out = codes "refused " ++ reason_text reason; err = [] }
 
--- why a text is no certificate of the queue
-abbrev pub cert_cause : CertFault → List ℕ
-cert_cause (Syntax line) = codes "Syntax " ++ (decimal line ++ codes "\n")
-cert_cause Length = codes "Length\n"
-cert_cause Memory = codes "Memory\n"
+-- the line for a text that is no certificate of the queue, with the exit status
+abbrev pub no_cert : List ℕ → Said
+no_cert cause = record { status = 2; out = []; err = codes "jb: certificate: " ++ cause }
 
--- the line for such a text, with the exit status
-abbrev pub cert_fault : CertFault → Said
-cert_fault fault = record { status = 2; out = []; err = codes "jb: certificate: " ++ cert_cause fault }
+-- what is said of such a text; none is one for want of memory
+abbrev pub cert_fault : CertFault → Option Said
+cert_fault (Syntax line) = Some (no_cert (codes "Syntax " ++ (decimal line ++ codes "\n")))
+cert_fault Length = Some (no_cert (codes "Length\n"))
+cert_fault Memory = None
 
 -- the verdict on a certificate of the queue; where it is that the certificate is accepted, its answer is right
 pub record IsVerdictOn (q : Queue) (cert : Cert) (verdict : Verdict) : Type 0 where
@@ -52,7 +52,7 @@ pub record IsVerdictOn (q : Queue) (cert : Cert) (verdict : Verdict) : Type 0 wh
 abbrev pub SaysOfClaim : Queue → Result Claim CertFault → Said → Type 0
 SaysOfClaim q (Ok claim) words = (cert : Cert) × (verdict : Verdict) × (claim_of cert ≡ claim) × IsVerdictOn q cert verdict
     × (words ≡ verdict_text verdict)
-SaysOfClaim q (Err fault) words = words ≡ cert_fault fault
+SaysOfClaim q (Err fault) words = cert_fault fault ≡ Some words
 
 -- what `jb check` says of the bytes of the second text, where the first is a queue's
 abbrev pub SaysCheck : Queue → List ℕ → Said → Type 0
@@ -61,7 +61,7 @@ SaysCheck q claim words = SaysOfClaim q (read_of (length q.handles) claim) words
 -- what `jb check` says of a queue, or of the first fault of its text, whatever the certificate
 abbrev pub SaysOfBoth : Result Queue QueueFault → List ℕ → Said → Type 0
 SaysOfBoth (Ok q) claim words = SaysCheck q claim words
-SaysOfBoth (Err fault) claim words = words ≡ queue_fault fault
+SaysOfBoth (Err fault) claim words = queue_fault fault ≡ Some words
 
 -- what `jb check` says of the bytes of both texts
 abbrev pub CheckSays : List ℕ → List ℕ → Said → Type 0

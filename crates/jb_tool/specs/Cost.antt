@@ -1,5 +1,5 @@
 -- What `jb cost` says of a queue text.
-use Rattle.std.specs.Prelude.{ℕ, ◌+◌, ◌-◌, ◌/◌, List, [], ◌++◌, Result, Ok, Err, codes, decimal, nat_lt, if◌then◌else◌}
+use Rattle.std.specs.Prelude.{ℕ, ◌+◌, ◌-◌, ◌/◌, List, [], ◌++◌, Option, Some, Result, Ok, Err, codes, decimal, nat_lt, if◌then◌else◌}
 use Rattle.std.specs.Int.{div_ceil}
 use Rattle.std.specs.FinSet as set
 use Rattle.jb_block.specs.Size.{bytes_of}
@@ -37,10 +37,10 @@ cost_line cost limit = record {
 }
 
 -- what `jb cost` says of a queue, or of its first fault
-abbrev pub cost_of : Result Queue QueueFault → Said
-cost_of (Ok queue) = cost_line (queue_cost queue) queue.limit
+abbrev pub cost_of : Result Queue QueueFault → Option Said
+cost_of (Ok queue) = Some (cost_line (queue_cost queue) queue.limit)
 cost_of (Err fault) = queue_fault fault
 
 -- what `jb cost` says of the bytes of a text
-abbrev pub cost_said : List ℕ → Said
+abbrev pub cost_said : List ℕ → Option Said
 cost_said text = cost_of (queue_of text)

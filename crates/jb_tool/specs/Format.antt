@@ -1,47 +1,34 @@
--- How `jb format` ends.
-use Rattle.std.specs.Prelude.{◌≡◌, ◌⊎◌, ◌↔◌, ℕ, List, [], ◌++◌, Result, Ok, Err, codes, decimal}
-use Rattle.jb_recover.specs.Formatted.{HasRoom}
+-- How `jb format` ends on a disk.
+use Rattle.std.specs.Prelude.{◌≡◌, ◌↔◌, ℕ, false, List, [], ◌∷◌, Option, Result, Ok, Err, OnOk, codes, decimal, set}
+use Rattle.jb_disk.specs.Image.{Image, Only, Torn}
+use Rattle.jb_disk.specs.Kept.{Kept}
+use Rattle.jb_dump.specs.Lines.{spelled}
+use Rattle.jb_recover.specs.Formatted.{FormatFaults, HasRoom, new_block}
 use Rattle.jb_recover.specs.declared.fault.FormatFault.{FormatFault}
-use Rattle.jb_recover.specs.declared.fault.FormatFault.TheVariants.{DeviceFault as NotWritten, Geometry as NoGeometry}
+use Rattle.jb_recover.specs.declared.fault.FormatFault.TheVariants.{Geometry as NoGeometry}
 use Rattle.jb_super.specs.Geometry.{limit_of}
 use Rattle.jb_super.specs.Superblock.{new_super}
-use Rattle.jb_words.specs.Named.{Options}
-use Rattle.jb_tool.specs.Options.{AreGood}
-use Rattle.jb_tool.specs.Said.{Held, Said, Tells}
+use Rattle.jb_tool.specs.Said.{TellsLine}
+use Rattle.jb_tool.specs.Stops.{format_stop}
 use Rattle.jb_tool.specs.declared.stop.Stop.{Stop}
-use Rattle.jb_tool.specs.declared.stop.Stop.TheVariants.{BadOption, CannotMake, DeviceFault, Geometry, Memory}
 
--- what is said of a new journal with this limit
-abbrev pub formatted : ℕ → Said
-formatted limit = record { status = 0; out = codes "formatted limit " ++ (decimal limit ++ codes "\n"); err = [] }
+-- the line of a new journal with this limit
+abbrev pub formatted_line : ℕ → List ℕ
+formatted_line limit = spelled (codes "formatted limit " ∷ decimal limit ∷ codes "\n" ∷ [])
 
--- the limit of the journal that the options ask for
-abbrev pub asked_limit : Options → ℕ
-asked_limit o = limit_of (new_super o.bs o.journal o.max [])
+-- what the making of a journal with this limit answered is reported: its line, or its fault, and then nothing is written
+abbrev pub TellsFormat : ℕ → Result Unit FormatFault → Option (List ℕ) → Option (List ℕ) → Result ℕ Stop → Type 0
+TellsFormat limit (Ok made) held holds end = TellsLine (formatted_line limit) held holds end
+TellsFormat limit (Err fault) held holds end = (end ≡ Err (format_stop fault)) × (holds ≡ held)
 
--- the stop that a fault of making a journal is told as
-abbrev pub format_stop : FormatFault → Stop
-format_stop NotWritten = DeviceFault
-format_stop NoGeometry = Geometry
-
--- the file of this name was not made: an option is bad, or none is and the system refuses the file
-abbrev pub IsUnmade : List ℕ → Options → Stop → Type 0
-IsUnmade name o BadOption = AreGood o → ⊥
-IsUnmade name o (CannotMake told) = AreGood o × (told.now ≡ name)
-IsUnmade name o Memory = Unit {0}
-IsUnmade name o _ = ⊥
-
--- a disk of some number of blocks answered so for a journal of so many
-abbrev pub Answers : ℕ → Result Unit FormatFault → Type 0
-Answers journal answer = (count : ℕ) × ((answer ≡ Err NoGeometry) ↔ (HasRoom journal count → ⊥))
-
--- what is told of that answer; memory for the line may be wanting
-abbrev pub TellsFormat : Options → Result Unit FormatFault → Held → Held → Result ℕ Stop → Type 0
-TellsFormat o (Ok made) old new end = Tells (formatted (asked_limit o)) old new end ⊎ ((end ≡ Err Memory) × (new ≡ old))
-TellsFormat o (Err fault) old new end = (end ≡ Err (format_stop fault)) × (new ≡ old)
-
--- the file was not made, and nothing was done; or what the making of the journal in it answered is told
-abbrev pub EndsOfFormat : List ℕ → Options → Held → Held → Result ℕ Stop → Type 0
-EndsOfFormat name o old new end =
-    ((stop : Stop) × (end ≡ Err stop) × IsUnmade name o stop × (new ≡ old))
-    ⊎ (AreGood o × ((answer : Result Unit FormatFault) × Answers o.journal answer × TellsFormat o answer old new end))
+-- a journal of so many blocks was made on the disk, as the clauses of its making say of the answer, and that answer is reported
+pub record FormatsOn {D : Type 0} (size count faults : D → ℕ) (honest : D → Type 0) (newest : D → Image) (may_leave : D → Image → Type 0)
+    (journal most : ℕ) (uuid : List ℕ) (old new : D) (held holds : Option (List ℕ)) (end : Result ℕ Stop) : Type 0 where
+  pub answer : Result Unit FormatFault
+  pub room : (answer ≡ Err NoGeometry) ↔ (HasRoom journal (count old) → ⊥)
+  pub kept : Kept size count honest old new
+  pub fault_count : FormatFaults answer (faults old) (faults new)
+  pub written : honest old → OnOk answer (newest new ≡ set (newest old) 0 (new_block false (size old) journal most uuid))
+  pub torn : honest old → Torn 0 (new_block false (size old) journal most uuid) (newest old) (newest new)
+  pub durable : honest old → OnOk answer (Only (newest new) (may_leave new))
+  pub told : TellsFormat (limit_of (new_super (size old) journal most uuid)) answer held holds end

@@ -3,11 +3,11 @@ pub mod Cost
 pub mod Dump
 pub mod Faulty
 pub mod Format
+pub mod Images
 pub mod Options
 pub mod Plan
-pub mod Puts
 pub mod Recover
 pub mod Runs
 pub mod Said
 pub mod Stops
-pub mod SuperLine
+pub mod Texts

@@ -4,7 +4,7 @@ use Rattle.std.specs.List.{AllPass}
 use Rattle.hex.specs.Hex.{decode_of, is_hex_digit}
 use Rattle.jb_block.specs.Size.{bytes_of, IsBlockSize}
 use Rattle.jb_words.specs.Named.{Options}
-use Rattle.jb_tool.specs.declared.options.NewImage.{NewImage}
+use Rattle.jb_tool.specs.declared.answers.options.NewImage.{NewImage}
 
 -- one of the three block sizes, numbers that fit their fields, a UUID of 32 hexadecimal digits, and a length that a file
 -- may have

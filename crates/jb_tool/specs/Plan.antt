@@ -1,5 +1,5 @@
 -- What `jb plan` says of a queue text.
-use Rattle.std.specs.Prelude.{◌≡◌, ℕ, List, [], Option, Result, Ok, Err, length}
+use Rattle.std.specs.Prelude.{◌≡◌, ℕ, List, [], Option, Some, Result, Ok, Err, length}
 use Rattle.jb_cost.specs.Cut.{ArePrices, EachPiece, IsFirstToAttain, piece_cost}
 use Rattle.jb_cost.specs.declared.geometry.Geometry.{Geometry}
 use Rattle.jb_handle.specs.Queue.{Queue, queue_of}
@@ -52,7 +52,7 @@ plan_text cert = record { status = status_of_plan cert.answer; out = cert_text c
 -- what `jb plan` says of a queue, or of its first fault: the text of its best certificate
 abbrev pub SaysPlan : Result Queue QueueFault → Said → Type 0
 SaysPlan (Ok q) words = (cert : Cert) × IsBestOf q cert × (words ≡ plan_text cert)
-SaysPlan (Err fault) words = words ≡ queue_fault fault
+SaysPlan (Err fault) words = queue_fault fault ≡ Some words
 
 -- what `jb plan` says of the bytes of a text
 abbrev pub PlanSays : List ℕ → Said → Type 0

@@ -1,38 +1,22 @@
--- What a command over one text did: what it took from its input, what it told, and how it ended.
-use Rattle.std.specs.Prelude.{◌≡◌, ◌<◌, ◌≤◌, ◌⊎◌, ℕ, List, Option, None, Result, Ok, Err, IfSome, codes, if◌then◌else◌, length}
-use Rattle.std.specs.Str.{bytes_eq}
+-- What a whole run did: what it took from its input, what it wrote, and how it ended.
+use Rattle.std.specs.Prelude.{◌≡◌, ◌≢◌, ◌⊎◌, ℕ, List, [], Option, Some, None, Result, Ok, Err}
+use Rattle.jb_dump.specs.Puts.{PutsPart}
+use Rattle.jb_words.specs.Faults.{HasKind, Kinds, kind_of}
 use Rattle.jb_words.specs.Named.{Asked}
 use Rattle.jb_words.specs.Named.Asked.{AsksCheck, AsksCost, AsksDump, AsksFormat, AsksPlan, AsksRecover}
+use Rattle.jb_words.specs.declared.Error.{Error}
+use Rattle.jb_words.specs.declared.ErrorKind.{ErrorKind}
+use Rattle.jb_words.specs.declared.ErrorKind.TheVariants.{DisplayHelp, DisplayVersion, OutOfMemory}
 use Rattle.jb_tool.specs.Check.{CheckSays}
 use Rattle.jb_tool.specs.Cost.{cost_said}
 use Rattle.jb_tool.specs.Dump.{DumpsFile}
-use Rattle.jb_tool.specs.Format.{EndsOfFormat}
+use Rattle.jb_tool.specs.Images.{EndsOfFormat, EndsOfRecover}
 use Rattle.jb_tool.specs.Plan.{PlanSays}
-use Rattle.jb_tool.specs.Puts.{PutsPart}
-use Rattle.jb_tool.specs.Recover.{EndsOfRecover}
 use Rattle.jb_tool.specs.Said.{Held, Said, Tells}
 use Rattle.jb_tool.specs.Stops.{line_of, status_of}
+use Rattle.jb_tool.specs.Texts.{HasNoText, IsText, known_behind}
 use Rattle.jb_tool.specs.declared.stop.Stop.{Stop}
-use Rattle.jb_tool.specs.declared.stop.Stop.TheVariants.{CannotRead, TooLong, Memory}
-
--- the most bytes of a text
-abbrev pub text_limit : ℕ
-text_limit = 16777216
-
--- the bytes behind the name of a text, where they are known: `-` is standard input
-abbrev pub known_behind : List ℕ → Option (List ℕ) → Option (List ℕ)
-known_behind name input = if bytes_eq name (codes "-") then input else None
-
--- the text is all that was to be read
-abbrev pub IsText : Option (List ℕ) → List ℕ → Type 0
-IsText known text = IfSome known (λ bytes. text ≡ bytes) × (length text ≤ text_limit)
-
--- the text behind this name could not be had: it is too long, or the reading or the memory failed
-abbrev pub HasNoText : List ℕ → Option (List ℕ) → Stop → Type 0
-HasNoText name known (TooLong told) = (told.now ≡ name) × IfSome known (λ bytes. text_limit < length bytes)
-HasNoText name known (CannotRead told) = told.now ≡ name
-HasNoText name known Memory = Unit {0}
-HasNoText name known _ = ⊥
+use Rattle.jb_tool.specs.declared.stop.Stop.TheVariants.{Memory, WriteFault}
 
 -- a command told what it has to say of the text behind this name, or ended without a word for want of the text or of memory
 abbrev pub Ends : (List ℕ → Said → Type 0) → List ℕ → Option (List ℕ) → Held → Held → Result ℕ Stop → Type 0
@@ -47,9 +31,9 @@ EndsOfTwo Says name other old new end =
     ((text text' : List ℕ) × (words : Said) × IsText None text × IsText None text' × Says text text' words × Tells words old new end)
     ⊎ ((stop : Stop) × (end ≡ Err stop) × (HasNoText name None stop ⊎ HasNoText other None stop) × (new ≡ old))
 
--- standard output holds what a dump of the file writes, and standard error is left alone
-abbrev pub EndsOfDump : List ℕ → Held → Held → Result ℕ Stop → Type 0
-EndsOfDump name old new end = DumpsFile name old.out new.out end × (new.err ≡ old.err)
+-- standard output holds what the command wrote, and standard error is left alone
+abbrev pub OutAlone : (Option (List ℕ) → Option (List ℕ) → Result ℕ Stop → Type 0) → Held → Held → Result ℕ Stop → Type 0
+OutAlone Ends old new end = Ends old.out new.out end × (new.err ≡ old.err)
 
 -- the program's status, and the line of a command that ended without an answer
 abbrev pub Closes : Result ℕ Stop → Held → Held → ℕ → Type 0
@@ -59,14 +43,27 @@ Closes (Err stop) old new status =
 
 -- how the command that the words ask for ends
 abbrev pub EndsAsked : Asked → Option (List ℕ) → Held → Held → Result ℕ Stop → Type 0
-EndsAsked (AsksCost file) = Ends (λ text words. words ≡ cost_said text) file
+EndsAsked (AsksCost file) = Ends (λ text words. cost_said text ≡ Some words) file
 EndsAsked (AsksPlan file) = Ends PlanSays file
 EndsAsked (AsksCheck file cert) = λ _. EndsOfTwo CheckSays file cert
-EndsAsked (AsksDump file) = λ _. EndsOfDump file
-EndsAsked (AsksFormat image options) = λ _. EndsOfFormat image options
-EndsAsked (AsksRecover image) = λ _. EndsOfRecover image
+EndsAsked (AsksDump file) = λ _. OutAlone (DumpsFile file)
+EndsAsked (AsksFormat image options) = λ _. OutAlone (EndsOfFormat image options)
+EndsAsked (AsksRecover image) = λ _. OutAlone (EndsOfRecover image)
 
 -- the whole run of the command that the words ask for
 abbrev pub Runs : Asked → Option (List ℕ) → Held → Held → ℕ → Type 0
 Runs asked input old new status =
     (end : Result ℕ Stop) × (told : Held) × EndsAsked asked input old told end × Closes end told new status
+
+-- how a run ends whose words clap refuses for this reason: help and the version are for standard output, and all else of
+-- clap's texts for standard error
+pub record EndsRefused (kind : ErrorKind) (old new : Held) (status : ℕ) : Type 0 where
+  pub memory : kind ≡ OutOfMemory → Closes (Err Memory) old new status
+  pub shown : (kind ≡ DisplayHelp) ⊎ (kind ≡ DisplayVersion)
+      → ((status ≡ 0) × (new.err ≡ old.err)) ⊎ ((status ≡ 1) × PutsPart old.err new.err (line_of WriteFault))
+  pub mistake : kind ≢ OutOfMemory → kind ≢ DisplayHelp → kind ≢ DisplayVersion → (status ≡ 2) × (new.out ≡ old.out)
+
+-- the words were refused by one of the kinds of their first fault, or for want of memory, or as they ask for no command
+abbrev pub RefusesWords : Kinds → Option Asked → Held → Held → ℕ → Type 0
+RefusesWords kinds asked old new status =
+    (error : Error) × (HasKind kinds error ⊎ (asked ≡ None)) × EndsRefused (kind_of error) old new status

@@ -1,8 +1,8 @@
 -- What a command says, and what is known of the two outputs once it was written.
 use Rattle.std.specs.Prelude.{◌≡◌, ℕ, List, Option, Result, Ok, Err, string_bytes}
 use Rattle.std.specs.Io.KnownBytes.{Appends}
-use Rattle.jb_tool.specs.Puts.{PutsPart}
-use Rattle.jb_tool.specs.declared.answer.Answer.{Answer}
+use Rattle.jb_dump.specs.Puts.{PutsPart}
+use Rattle.jb_tool.specs.declared.answers.answer.Answer.{Answer}
 use Rattle.jb_tool.specs.declared.stop.Stop.{Stop}
 use Rattle.jb_tool.specs.declared.stop.Stop.TheVariants.{WriteFault}
 
@@ -27,3 +27,9 @@ Tells words old new (Ok status) =
     (status ≡ words.status) × Appends old.out new.out words.out × PutsPart old.err new.err words.err
 Tells words old new (Err WriteFault) = PutsPart old.out new.out words.out × (new.err ≡ old.err)
 Tells words old new (Err _) = ⊥
+
+-- the line is on standard output, with status 0; or standard output failed part of the way
+abbrev pub TellsLine : List ℕ → Option (List ℕ) → Option (List ℕ) → Result ℕ Stop → Type 0
+TellsLine line held holds (Ok status) = (status ≡ 0) × Appends held holds line
+TellsLine line held holds (Err WriteFault) = PutsPart held holds line
+TellsLine line held holds (Err _) = ⊥

@@ -1,8 +1,16 @@
--- The status and the line of each way in which a command ends without an answer.
-use Rattle.std.specs.Prelude.{ℕ, List, ◌++◌, codes, decimal}
+-- The status and the line of each way in which a command ends without an answer, and which faults end it so.
+use Rattle.std.specs.Prelude.{ℕ, List, [], ◌∷◌, codes, decimal}
+use Rattle.jb_dump.specs.Lines.{spelled}
+use Rattle.jb_dump.specs.declared.fault.DumpFault.{DumpFault}
+use Rattle.jb_dump.specs.declared.fault.DumpFault.TheVariants as dumping
+use Rattle.jb_recover.specs.declared.fault.FormatFault.{FormatFault}
+use Rattle.jb_recover.specs.declared.fault.FormatFault.TheVariants as formatting
+use Rattle.jb_recover.specs.declared.fault.RecoverFault.{RecoverFault}
+use Rattle.jb_recover.specs.declared.fault.RecoverFault.TheVariants as recovering
+use Rattle.jb_super.specs.declared.fault.SuperFault.{SuperFault}
+use Rattle.jb_super.specs.declared.fault.SuperFault.TheVariants as super
 use Rattle.jb_tool.specs.declared.stop.Stop.{Stop}
 use Rattle.jb_tool.specs.declared.stop.Stop.TheVariants.{CannotRead, CannotMake, BadOption, TooLong, ReadFault, Super, BadRevoke, HomeOutOfRange, Geometry, DeviceFault, Memory, WriteFault}
-use Rattle.jb_tool.specs.SuperLine.{pair_line, super_line}
 
 -- the exit status
 abbrev pub status_of : Stop → ℕ
@@ -19,21 +27,54 @@ status_of DeviceFault = 1
 status_of Memory = 1
 status_of WriteFault = 1
 
+-- the line of a superblock that is refused: the fault's name and its numbers; of a feature word, 1, 2 or 3, those of its
+-- bits that are not taken
+abbrev pub super_line : SuperFault → List ℕ
+super_line super.ShortBlock = spelled (codes "jb: Super ShortBlock\n" ∷ [])
+super_line super.NoMagic = spelled (codes "jb: Super NoMagic\n" ∷ [])
+super_line (super.NotVersion2 kind) = spelled (codes "jb: Super NotVersion2 " ∷ decimal kind ∷ codes "\n" ∷ [])
+super_line (super.BlockSize size) = spelled (codes "jb: Super BlockSize " ∷ decimal size ∷ codes "\n" ∷ [])
+super_line super.Geometry = spelled (codes "jb: Super Geometry\n" ∷ [])
+super_line (super.Feature word bits) =
+    spelled (codes "jb: Super Feature " ∷ decimal word ∷ codes " " ∷ decimal bits ∷ codes "\n" ∷ [])
+
 -- the line on standard error
 abbrev pub line_of : Stop → List ℕ
-line_of (CannotRead name) = codes "jb: cannot read " ++ (name.now ++ codes "\n")
-line_of (CannotMake name) = codes "jb: cannot make " ++ (name.now ++ codes "\n")
-line_of BadOption = codes "jb: " ++ (codes "bad option" ++ codes "\n")
-line_of (TooLong name) = codes "jb: too long " ++ (name.now ++ codes "\n")
-line_of ReadFault = codes "jb: " ++ (codes "ReadFault" ++ codes "\n")
+line_of (CannotRead name) = spelled (codes "jb: cannot read " ∷ name.now ∷ codes "\n" ∷ [])
+line_of (CannotMake name) = spelled (codes "jb: cannot make " ∷ name.now ∷ codes "\n" ∷ [])
+line_of BadOption = spelled (codes "jb: bad option\n" ∷ [])
+line_of (TooLong name) = spelled (codes "jb: too long " ∷ name.now ∷ codes "\n" ∷ [])
+line_of ReadFault = spelled (codes "jb: ReadFault\n" ∷ [])
 line_of (Super fault) = super_line fault
-line_of (BadRevoke place) = codes "jb: BadRevoke " ++ (decimal place ++ codes "\n")
-line_of (HomeOutOfRange home number) = pair_line (codes "jb: HomeOutOfRange ") home number
-line_of Geometry = codes "jb: " ++ (codes "Geometry" ++ codes "\n")
-line_of DeviceFault = codes "jb: " ++ (codes "DeviceFault" ++ codes "\n")
-line_of Memory = codes "jb: " ++ (codes "Memory" ++ codes "\n")
-line_of WriteFault = codes "jb: " ++ (codes "WriteFault" ++ codes "\n")
+line_of (BadRevoke place) = spelled (codes "jb: BadRevoke " ∷ decimal place ∷ codes "\n" ∷ [])
+line_of (HomeOutOfRange home number) =
+    spelled (codes "jb: HomeOutOfRange " ∷ decimal home ∷ codes " " ∷ decimal number ∷ codes "\n" ∷ [])
+line_of Geometry = spelled (codes "jb: Geometry\n" ∷ [])
+line_of DeviceFault = spelled (codes "jb: DeviceFault\n" ∷ [])
+line_of Memory = spelled (codes "jb: Memory\n" ∷ [])
+line_of WriteFault = spelled (codes "jb: WriteFault\n" ∷ [])
 
 -- the line for a word of the command line that is not UTF-8
 abbrev pub not_utf8 : List ℕ
-not_utf8 = codes "error: " ++ (codes "invalid UTF-8 was detected in one or more arguments" ++ codes "\n")
+not_utf8 = spelled (codes "error: invalid UTF-8 was detected in one or more arguments\n" ∷ [])
+
+-- the stop that a fault of a dump is reported as
+abbrev pub dump_stop : DumpFault → Stop
+dump_stop dumping.ReadFault = ReadFault
+dump_stop dumping.WriteFault = WriteFault
+dump_stop (dumping.Super fault) = Super fault
+dump_stop (dumping.BadRevoke place) = BadRevoke place
+dump_stop dumping.Memory = Memory
+
+-- the stop that a fault of making a journal is reported as
+abbrev pub format_stop : FormatFault → Stop
+format_stop formatting.DeviceFault = DeviceFault
+format_stop formatting.Geometry = Geometry
+
+-- the stop that a fault of a recovery is reported as
+abbrev pub recover_stop : RecoverFault → Stop
+recover_stop recovering.DeviceFault = DeviceFault
+recover_stop (recovering.Super fault) = Super fault
+recover_stop (recovering.BadRevoke place) = BadRevoke place
+recover_stop (recovering.HomeOutOfRange home number) = HomeOutOfRange home number
+recover_stop recovering.Memory = Memory

@@ -1,9 +1,11 @@
-ghost use Rattle.std.specs.Prelude.{◌≡◌, ◌≢◌, Err, IfSome, [], codes, map};
+ghost use Rattle.std.specs.Prelude.{◌≡◌, ◌≢◌, ◌⊎◌, Err, None, IfSome, [], codes, map};
 ghost use Rattle.jb_words.specs.Faults.{faults_in, kind_of};
 ghost use Rattle.jb_words.specs.Named.{asked_in};
 ghost use Rattle.jb_words.specs.Named.Asked.{AsksCost};
-ghost use Rattle.jb_tool.specs.Runs.{Closes, Runs};
-ghost use Rattle.jb_tool.specs.declared.stop.Stop.TheVariants.{Memory as StopMemory};
+ghost use Rattle.jb_dump.specs.Puts.{PutsPart};
+ghost use Rattle.jb_tool.specs.Runs.{Closes, RefusesWords, Runs};
+ghost use Rattle.jb_tool.specs.Stops.{line_of};
+ghost use Rattle.jb_tool.specs.declared.stop.Stop.TheVariants.{Memory as StopMemory, WriteFault};
 
 use crate::running::run_plain;
 use crate::stop::Stop;
@@ -29,7 +31,12 @@ pub fn run<R: Files<File = File> + AllocGlobal, S: AsStr, I: Read, O: Write, E: 
     ensures asked { words.now ≢ [] → faults_in (map S.text words.now) ≡ []
         → IfSome (asked_in (map S.text words.now)) (λ asked. Runs asked (I.remaining input.old)
         (record { out = O.contents out.old; err = E.contents err.old })
+        (record { out = O.contents out.new; err = E.contents err.new }) result
+        ⊎ Closes (Err StopMemory) (record { out = O.contents out.old; err = E.contents err.old })
         (record { out = O.contents out.new; err = E.contents err.new }) result) }
+    ensures refused { words.now ≢ [] → (faults_in (map S.text words.now) ≢ []) ⊎ (asked_in (map S.text words.now) ≡ None)
+        → RefusesWords (faults_in (map S.text words.now)) (asked_in (map S.text words.now)) (record { out = O.contents out.old; err = E.contents err.old })
+        (record { out = O.contents out.new; err = E.contents err.new }) result }
 {
     if words.is_empty() {
         return run_plain(rt, Plain::Cost { file: "-" }, input, out, err);
@@ -45,8 +52,10 @@ fn tell_refusal<O: Write, E: Write>(error: &Error, out: &mut O, err: &mut E) -> 
     ensures memory { kind_of error.now ≡ ErrorKind.OutOfMemory → Closes (Err StopMemory)
         (record { out = O.contents out.old; err = E.contents err.old })
         (record { out = O.contents out.new; err = E.contents err.new }) result }
+    ensures shown { (kind_of error.now ≡ ErrorKind.DisplayHelp) ⊎ (kind_of error.now ≡ ErrorKind.DisplayVersion)
+        → ((result ≡ 0) × (E.contents err.new ≡ E.contents err.old)) ⊎ ((result ≡ 1) × PutsPart (E.contents err.old) (E.contents err.new) (line_of WriteFault)) }
     ensures mistake { kind_of error.now ≢ ErrorKind.OutOfMemory → kind_of error.now ≢ ErrorKind.DisplayHelp
-        → kind_of error.now ≢ ErrorKind.DisplayVersion → (result ≡ 2) × (out.new ≡ out.old) }
+        → kind_of error.now ≢ ErrorKind.DisplayVersion → (result ≡ 2) × (O.contents out.new ≡ O.contents out.old) }
 {
     if error.kind() == ErrorKind::OutOfMemory {
         Stop::Memory.tell(err);

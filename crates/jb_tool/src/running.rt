@@ -3,16 +3,10 @@ ghost use Rattle.jb_words.specs.Named.{asks};
 ghost use Rattle.jb_tool.specs.Check.{CheckSays};
 ghost use Rattle.jb_tool.specs.Runs.{EndsAsked, EndsOfTwo, Runs};
 
-use crate::answer::tell;
-use crate::check::check_answer;
-use crate::cost::cost_answer;
-use crate::dumping::dump_file;
-use crate::making::format_image;
-use crate::plan::plan_answer;
-use crate::queue_fault::fault_told;
-use crate::reading::{read_file, read_text};
-use crate::recovering::recover_image;
+use crate::answers::{check_answer, cost_answer, fault_told, plan_answer};
+use crate::files::{dump_file, format_image, read_file, read_text, recover_image};
 use crate::stop::Stop;
+use crate::streams::tell;
 use jb_handle::read_queue;
 use jb_words::Plain;
 use std::fs::File;
@@ -47,8 +41,8 @@ pub fn perform<'a, R: Files<File = File> + AllocGlobal, I: Read, O: Write, E: Wr
         }
         Plain::Check { file, cert } => perform_check(rt, file, cert, out, err),
         Plain::Dump { file } => dump_file(rt, file, out),
-        Plain::Format { image, options } => format_image(rt, image, options, out, err),
-        Plain::Recover { image } => recover_image(rt, image, out, err),
+        Plain::Format { image, options } => format_image(rt, image, options, out),
+        Plain::Recover { image } => recover_image(rt, image, out),
     }
 }
 

@@ -1,11 +1,9 @@
 ghost use Rattle.std.specs.Prelude.{◌≡◌};
-ghost use Rattle.jb_tool.specs.Puts.{PutsPart};
 
-use crate::fault_line::{put_number_line, put_pair_line, put_super_line};
-use crate::putting::put_line;
+use jb_dump::DumpFault;
+use jb_recover::{FormatFault, RecoverFault};
 use jb_super::SuperFault;
 use std::alloc::AllocError;
-use std::io::Write;
 
 /// Why a command ends without an answer of its own.
 #[derive(Clone, Copy, Debug, PartialEq, Eq)]
@@ -48,8 +46,56 @@ impl<'a> From<AllocError> for Stop<'a> {
     }
 }
 
+impl<'a> From<DumpFault> for Stop<'a> {
+    ghost use Rattle.std.specs.Prelude.{◌≡◌};
+    ghost use Rattle.jb_tool.specs.Stops.{dump_stop};
+
+    ghost from_gives = { λ fault stop. stop ≡ dump_stop fault };
+
+    fn from(fault: DumpFault) -> Stop<'a> {
+        match fault {
+            DumpFault::ReadFault => Stop::ReadFault,
+            DumpFault::WriteFault => Stop::WriteFault,
+            DumpFault::Super(fault) => Stop::Super(fault),
+            DumpFault::BadRevoke(place) => Stop::BadRevoke(place),
+            DumpFault::Memory => Stop::Memory,
+        }
+    }
+}
+
+impl<'a> From<FormatFault> for Stop<'a> {
+    ghost use Rattle.std.specs.Prelude.{◌≡◌};
+    ghost use Rattle.jb_tool.specs.Stops.{format_stop};
+
+    ghost from_gives = { λ fault stop. stop ≡ format_stop fault };
+
+    fn from(fault: FormatFault) -> Stop<'a> {
+        match fault {
+            FormatFault::DeviceFault => Stop::DeviceFault,
+            FormatFault::Geometry => Stop::Geometry,
+        }
+    }
+}
+
+impl<'a> From<RecoverFault> for Stop<'a> {
+    ghost use Rattle.std.specs.Prelude.{◌≡◌};
+    ghost use Rattle.jb_tool.specs.Stops.{recover_stop};
+
+    ghost from_gives = { λ fault stop. stop ≡ recover_stop fault };
+
+    fn from(fault: RecoverFault) -> Stop<'a> {
+        match fault {
+            RecoverFault::DeviceFault => Stop::DeviceFault,
+            RecoverFault::Super(fault) => Stop::Super(fault),
+            RecoverFault::BadRevoke(place) => Stop::BadRevoke(place),
+            RecoverFault::HomeOutOfRange(home, number) => Stop::HomeOutOfRange(home, number),
+            RecoverFault::Memory => Stop::Memory,
+        }
+    }
+}
+
 impl<'a> Stop<'a> {
-    ghost use Rattle.jb_tool.specs.Stops.{line_of, status_of};
+    ghost use Rattle.jb_tool.specs.Stops.{status_of};
 
     /// The program's exit status: 2 where an option or a file was the reason, else 1.
     pub fn status(self) -> u8
@@ -61,28 +107,6 @@ impl<'a> Stop<'a> {
             Stop::ReadFault | Stop::Super(_) | Stop::BadRevoke(_) => 1,
             Stop::HomeOutOfRange(_, _) | Stop::Geometry | Stop::DeviceFault => 1,
             Stop::Memory | Stop::WriteFault => 1,
-        }
-    }
-
-    /// Writes the line that says why, without taking memory; a fault of the writer is ignored.
-    pub fn tell<E: Write>(self, err: &mut E)
-        ensures { PutsPart (E.contents err.old) (E.contents err.new) (line_of self.entry) }
-    {
-        match self {
-            Stop::CannotRead(name) => put_line(err, "jb: cannot read ", name),
-            Stop::TooLong(name) => put_line(err, "jb: too long ", name),
-            Stop::CannotMake(name) => put_line(err, "jb: cannot make ", name),
-            Stop::BadOption => put_line(err, "jb: ", "bad option"),
-            Stop::ReadFault => put_line(err, "jb: ", "ReadFault"),
-            Stop::Super(fault) => put_super_line(err, fault),
-            Stop::BadRevoke(place) => put_number_line(err, "jb: BadRevoke ", place),
-            Stop::HomeOutOfRange(home, number) => {
-                put_pair_line(err, "jb: HomeOutOfRange ", home, u64::from(number));
-            }
-            Stop::Geometry => put_line(err, "jb: ", "Geometry"),
-            Stop::DeviceFault => put_line(err, "jb: ", "DeviceFault"),
-            Stop::Memory => put_line(err, "jb: ", "Memory"),
-            Stop::WriteFault => put_line(err, "jb: ", "WriteFault"),
         }
     }
 }

@@ -31,7 +31,7 @@ returns-then-cost-from c = (
   λ whole.
       let on = subst (GoesOn (piece_cost c.args.geometry c.args.handles.now) c.args.limit (length c.args.handles.now) c.loop-end.start c.loop-end.left) (ends-at c.args.ends.now c.loop-end.end-index c.loop-end-test.true) (c.loop-end.invariant.to whole) in
       let fits = (on-fits _ _ _ _ _ _ _ on).0 in
-      absurd (let h : ⊥ = omega (arith, fits, c.in_ok-cost.ensures, c.from.ensures, c.if-cost-from.true) in h),
+      absurd (let h : ⊥ = omega (arith, fits, c.in_ok-cost.ensures.blocks, c.from.ensures, c.if-cost-from.true) in h),
 )
 
 pub returns-then-cost-left : goal.returns-then-cost-left
@@ -40,7 +40,7 @@ returns-then-cost-left c = (
   λ whole.
       let on = subst (GoesOn (piece_cost c.args.geometry c.args.handles.now) c.args.limit (length c.args.handles.now) c.loop-end.start c.loop-end.left) (ends-at c.args.ends.now c.loop-end.end-index c.loop-end-test.true) (c.loop-end.invariant.to whole) in
       let fits = (on-fits _ _ _ _ _ _ _ on).1 in
-      absurd (let h : ⊥ = omega (arith, fits, c.in_ok-cost.ensures, c.if-cost-left.true) in h),
+      absurd (let h : ⊥ = omega (arith, fits, c.in_ok-cost.ensures.blocks, c.if-cost-left.true) in h),
 )
 
 pub loop-end-preserved : goal.loop-end-preserved
@@ -48,9 +48,9 @@ loop-end-preserved c = record {
   inside = c.if-end-handles.false;
   to = λ whole.
       let on = subst (GoesOn (piece_cost c.args.geometry c.args.handles.now) c.args.limit (length c.args.handles.now) c.loop-end.start c.loop-end.left) (ends-at c.args.ends.now c.loop-end.end-index c.loop-end-test.true) (c.loop-end.invariant.to whole) in
-      rw c.in_ok-cost.ensures (next-to (piece_cost c.args.geometry c.args.handles.now) c.args.limit (length c.args.handles.now) c.loop-end.start c.loop-end.left _ _ on);
+      rw c.in_ok-cost.ensures.blocks (next-to (piece_cost c.args.geometry c.args.handles.now) c.args.limit (length c.args.handles.now) c.loop-end.start c.loop-end.left _ _ on);
   back = λ next.
       c.loop-end.invariant.back (rw (ends-at c.args.ends.now c.loop-end.end-index c.loop-end-test.true)
       (next-from (piece_cost c.args.geometry c.args.handles.now) c.args.limit (length c.args.handles.now) c.loop-end.start c.loop-end.left _ _ c.if-end-start.false
-      (omega (arith, c.in_ok-cost.ensures, c.from.ensures, c.if-cost-from.false)) (omega (arith, c.in_ok-cost.ensures, c.if-cost-left.false)) (rw c.in_ok-cost.ensures at next)));
+      (omega (arith, c.in_ok-cost.ensures.blocks, c.from.ensures, c.if-cost-from.false)) (omega (arith, c.in_ok-cost.ensures.blocks, c.if-cost-left.false)) (rw c.in_ok-cost.ensures.blocks at next)));
 }

@@ -2,7 +2,7 @@ use Rattle.std.proofs.Common.{◌≡◌, ◌+◌, ◌-◌, suc, sym, refl, ap, �
 use Rattle.std.proofs.lemmas.List.{get_or-drop}
 use Rattle.jb_core.specs.Parted.{IsParted}
 use Rattle.jb_cost.proofs.Cuts.{rises-le}
-use Rattle.jb_core.proofs.Pieces.{rises-part}
+use Rattle.jb_core.proofs.Parts.{rises-part}
 use Rattle.jb_core.proofs.sums.end_after.Goals as goal
 
 pub returns-then-n-eq0 : goal.returns-then-n-eq0

@@ -1,10 +1,12 @@
-use Rattle.std.proofs.Common.{◌≡◌, ◌<◌, ◌≤◌, length, ◌∙◌, arith}
+use Rattle.std.proofs.Common.{◌≡◌, ◌<◌, ◌≤◌, length, sym, ◌∙◌, arith}
 use Rattle.std.specs.FinSet as set
+use Rattle.std.proofs.lemmas.List.{get_or_read}
 use Rattle.jb_handle.specs.Words.{is_copied, is_freed, copies, frees}
 use Rattle.jb_cost.specs.Cost.{blocks_of}
 use Rattle.jb_cost.proofs.Later.{later-handle}
 use Rattle.jb_cost.proofs.Left.{few}
 use Rattle.jb_cost.proofs.Sizes.{len-copied, len-freed}
+use Rattle.jb_cost.proofs.Refusals.{on-refusal}
 use Rattle.jb_cost.proofs.group.group_cost.Goals as goal
 
 pub loop-handle-preserved : goal.loop-handle-preserved
@@ -22,9 +24,14 @@ blocks-cost-requires c =
     let freed : c.len-2.result ≡ set.len (frees c.args.handles.now) = c.len-2.ensures.len ∙ len-freed _ c.len-2.ensures.ordered c.args.handles.now _ whole c.loop-handle.invariant.frees in
     record { small = omega (arith, copied, freed, few c.args.handles.now, c.requires.size) }
 
-pub returns : goal.returns
-returns c =
+pub returns-clause-blocks : goal.returns-clause-blocks
+returns-clause-blocks c =
     let whole : length c.args.handles.now ≤ c.loop-handle.handle-index = omega arith in
     let copied : c.len.result ≡ set.len (copies c.args.handles.now) = c.len.ensures.len ∙ len-copied _ c.len.ensures.ordered c.args.handles.now _ whole c.loop-handle.invariant.copies in
     let freed : c.len-2.result ≡ set.len (frees c.args.handles.now) = c.len-2.ensures.len ∙ len-freed _ c.len-2.ensures.ordered c.args.handles.now _ whole c.loop-handle.invariant.frees in
     c.blocks-cost.ensures ∙ (λ i. blocks_of c.args.geometry (copied i) (freed i))
+
+pub returns-in_err-put_all-clause-grows : goal.returns-in_err-put_all-clause-grows
+returns-in_err-put_all-clause-grows c =
+    let inside : c.loop-handle.handle-index < length c.args.handles.now = omega arith in
+    on-refusal c.from_residual.result _ (c.loop-handle.handle-index, c.handle-item.result, inside, sym (get_or_read c.args.handles.now _ _ inside c.handle-item.is _), c.in_err-put_all.ensures.grows)

@@ -1,26 +1,39 @@
 use Rattle.std.proofs.Common.{◌≡◌, rules, sym, ap, ◌∙◌, length}
 use Rattle.jb_block.specs.Size.{bytes_of}
 use Rattle.jb_handle.specs.Queue.{after_lines}
-use Rattle.jb_handle.proofs.Handles.{lines-end, line-goes, line-first, line-reports}
+use Rattle.jb_handle.proofs.Handles.{lines-end, line-goes, line-first, line-reports, line-count, line-within}
 use Rattle.jb_handle.proofs.queue_text.read_handles.Goals as goal
 
 pub returns-in_default-push-clause-err : goal.returns-in_default-push-clause-err
 returns-in_default-push-clause-err c =
     let at : c.len-at.result ≡ length c.loop-line.handles.items = search rules in
-    line-first c.args.width (bytes_of c.args.bs) c.loop-line.handles.items c.loop-line.rest.now c.in-Some.line.now c.in-Some.behind.now _ c.len-at.result c.in-Some.ensures c.loop-line.invariant at
+    line-first c.args.width (bytes_of c.args.bs) c.loop-line.handles.items c.loop-line.rest.now c.in-Some.line.now c.in-Some.behind.now _ c.len-at.result c.in-Some.ensures c.loop-line.invariant.reads at
 
 pub returns-in-Err-clause-err : goal.returns-in-Err-clause-err
 returns-in-Err-clause-err c =
     let at : c.len-at.result ≡ length c.loop-line.handles.items = search rules in
-    line-reports c.args.width (bytes_of c.args.bs) c.loop-line.handles.items c.loop-line.rest.now c.in-Some.line.now c.in-Some.behind.now _ c.len-at.result c.in-Some.ensures c.loop-line.invariant at c.in-Err.cause c.in-Err.ensures
+    line-reports c.args.width (bytes_of c.args.bs) c.loop-line.handles.items c.loop-line.rest.now c.in-Some.line.now c.in-Some.behind.now _ c.len-at.result c.in-Some.ensures c.loop-line.invariant.reads at c.in-Err.cause c.in-Err.ensures
 
 pub loop-line-preserved : goal.loop-line-preserved
 loop-line-preserved c =
     let at : c.len-at.result ≡ length c.loop-line.handles.items = search rules in
-    line-goes c.args.width (bytes_of c.args.bs) c.loop-line.handles.items c.loop-line.rest.now c.in-Some.line.now c.in-Some.behind.now _ c.len-at.result c.in-Some.ensures c.loop-line.invariant at
-    c.in-Ok.words _ c.in-Ok.ensures c.in-Ok-push.ensures.items
+    record {
+      reads = line-goes c.args.width (bytes_of c.args.bs) c.loop-line.handles.items c.loop-line.rest.now c.in-Some.line.now c.in-Some.behind.now _ c.len-at.result c.in-Some.ensures c.loop-line.invariant.reads at
+          c.in-Ok.words _ c.in-Ok.ensures c.in-Ok-push.ensures.items;
+      count = line-count c.loop-line.handles.items c.loop-line.rest.now c.in-Some.line.now c.in-Some.behind.now c.in-Some.ensures _ _ c.in-Ok-push.ensures.items _ c.loop-line.invariant.count;
+    }
 
 pub returns-clause-ok : goal.returns-clause-ok
 returns-clause-ok c =
-    sym c.loop-line.invariant ∙ ap (after_lines c.args.width (bytes_of c.args.bs) c.loop-line.handles.items) c.in_default.ensures
+    sym c.loop-line.invariant.reads ∙ ap (after_lines c.args.width (bytes_of c.args.bs) c.loop-line.handles.items) c.in_default.ensures
     ∙ lines-end c.args.width (bytes_of c.args.bs) c.loop-line.handles.items
+
+pub returns-in_default-push-clause-line : goal.returns-in_default-push-clause-line
+returns-in_default-push-clause-line c =
+    let at : c.len-at.result ≡ length c.loop-line.handles.items = search rules in
+    line-within c.loop-line.handles.items c.loop-line.rest.now c.in-Some.line.now c.in-Some.behind.now c.in-Some.ensures c.len-at.result at _ c.loop-line.invariant.count
+
+pub returns-in-Err-clause-line : goal.returns-in-Err-clause-line
+returns-in-Err-clause-line c =
+    let at : c.len-at.result ≡ length c.loop-line.handles.items = search rules in
+    line-within c.loop-line.handles.items c.loop-line.rest.now c.in-Some.line.now c.in-Some.behind.now c.in-Some.ensures c.len-at.result at _ c.loop-line.invariant.count

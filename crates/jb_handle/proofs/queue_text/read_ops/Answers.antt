@@ -21,4 +21,4 @@ loop-rest-preserved c =
     c.in-Some.is c.next_word.ensures.words c.loop-rest.invariant (c.in_ok-home.home, c.in_ok-home.op) c.in_ok-home.ensures
 
 pub returns : goal.returns
-returns c = ops-whole c.args.width (bytes_of c.args.bs) c.loop-rest.gathered c.loop-rest.rest _ c.in_default.not-Some c.loop-rest.invariant ∙ ap Ok (sym c.in_ok-into_words.ensures)
+returns c = ops-whole c.args.width (bytes_of c.args.bs) c.loop-rest.gathered c.loop-rest.rest _ c.in_default.not-Some c.loop-rest.invariant ∙ ap Ok (sym c.in_ok-into_words.ensures.ok)

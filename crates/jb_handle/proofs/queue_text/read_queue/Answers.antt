@@ -1,8 +1,9 @@
+use Rattle.std.proofs.Common.{◌≡◌, ◌≤◌, ◌+◌, length, Err, rules, arith}
 use Rattle.jb_block.specs.Size.{bytes_of}
 use Rattle.jb_block.specs.declared.width.Width.TheVariants.{Narrow}
 use Rattle.jb_handle.specs.Parts.{lines}
 use Rattle.jb_handle.specs.Queue.{size_of, limit_of}
-use Rattle.jb_handle.proofs.Weights.{first-total, queue-weight}
+use Rattle.jb_handle.proofs.Weights.{first-length, first-total, queue-weight}
 use Rattle.jb_handle.proofs.queue_text.read_queue.Goals as goal
 
 pub returns-clause-within : goal.returns-clause-within
@@ -11,3 +12,11 @@ returns-clause-within c =
     (first-total size_of (lines c.args.text.now) c.in-Some.bs _ c.in-Some.ensures)
     (first-total limit_of (lines c.in-Some.text.now) c.in-Some-first_limit.limit _ c.in-Some-first_limit.ensures)
     c.in_ok-handles.ensures.ok
+
+pub returns-in_err-handles-clause-memory : goal.returns-in_err-handles-clause-memory
+returns-in_err-handles-clause-memory c =
+    let gave : c.from_residual.result ≡ Err c.in_err-handles.field-0.0 = search rules in
+    let one = first-length size_of (lines c.args.text.now) c.in-Some.bs _ c.in-Some.ensures in
+    let two = first-length limit_of (lines c.in-Some.text.now) c.in-Some-first_limit.limit _ c.in-Some-first_limit.ensures in
+    let line : (3 ≤ c.in_err-handles.field-0.0.line) × (c.in_err-handles.field-0.0.line ≤ length (lines c.in-Some-first_limit.text.now) + 2) = c.in_err-handles.ensures.line in
+    rw gave (λ memory. (line.0, omega (arith, line.1, one, two)))

@@ -1,10 +1,8 @@
-use Rattle.std.proofs.Common.{map}
-use Rattle.jb_words.specs.Faults.{faults_in}
-use Rattle.jb_words.specs.Named.{asked_in}
-use Rattle.jb_tool.proofs.Refused.{refused_runs}
 use Rattle.jb_tool.proofs.command_line.run.Goals as goal
 
-pub returns-in-Err-clause-asked : goal.returns-in-Err-clause-asked
-returns-in-Err-clause-asked g c =
-    let words = map g.S.AsStr.text c.args.words.now in
-    λ _ free. refused_runs (faults_in words) c.in-Err.error (asked_in words) _ _ _ _ c.in-Err.ensures.refused free c.tell_refusal.ensures.memory
+pub returns-in-Err-clause-refused : goal.returns-in-Err-clause-refused
+returns-in-Err-clause-refused g c = λ _ _. (
+  c.in-Err.error,
+  c.in-Err.ensures.refused,
+  record { memory = c.tell_refusal.ensures.memory; shown = c.tell_refusal.ensures.shown; mistake = c.tell_refusal.ensures.mistake },
+)

@@ -19,5 +19,5 @@ returns g c =
     let text = c.in_ok-text.text.items in
     let words = said c.in_ok-answer-in-Err.answer in
     let fault = rw c.as_slice.ensures.value at c.in-Err.ensures.err in
-    let says = says_of_fault text [] c.in-Err.fault words fault c.in_ok-answer-in-Err.ensures.told c.in_ok-answer-in-Err.ensures.said in
+    let says = says_of_fault text [] c.in-Err.fault words fault c.in_ok-answer-in-Err.ensures.said in
     record { ends = inl (text, [], words, c.in_ok-text.ensures.text, (tt, omega arith), says, c.tell-in-Err.ensures) }

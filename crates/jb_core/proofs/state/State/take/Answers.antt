@@ -1,14 +1,15 @@
-use Rattle.std.proofs.Common.{rules, ◌≡◌, true, ap, subst, ◌∙◌, arith}
-use Rattle.jb_core.specs.Machine.{Machine, after_take}
-use Rattle.jb_core.specs.State.{machine_of}
-use Rattle.std.proofs.Common.{List, [], length}
+use Rattle.std.proofs.Common.{rules, ◌≡◌, true, List, [], length, ap, subst, ◌∙◌, arith}
 use Rattle.jb_handle.specs.declared.stopped.Stopped.{Stopped}
 use Rattle.jb_cost.specs.Cut.{IsCut, IsLeastCut, piece_cost}
-use Rattle.jb_core.proofs.Sounds.{kept-by, take-sound, queue-size, none-left}
+use Rattle.jb_core.specs.Machine.{Machine, after_take}
+use Rattle.jb_core.specs.State.{machine_of}
+use Rattle.jb_core.proofs.Accepted.{none-left}
+use Rattle.jb_core.proofs.Sounds.{take-sound}
+use Rattle.jb_core.proofs.Runs.{kept-by, queue-size}
 use Rattle.jb_core.proofs.state.State.take.Goals as goal
 
-pub is_least-least-requires : goal.is_least-least-requires
-is_least-least-requires c = record { size = rw c.queue-2.ensures (queue-size (machine_of c.self.inside) c.self.invariant.sound) }
+pub is_least-requires : goal.is_least-requires
+is_least-requires c = let up : c.self.inside.up ≡ true = ap (λ (m : Machine). m.up) c.self.view_is ∙ c.requires in record { size = rw c.queue-2.ensures (queue-size (machine_of c.self.inside) c.self.invariant.sound up) }
 
 pub invariant_of-self-2 : goal.invariant_of-self-2
 invariant_of-self-2 c =

@@ -1,5 +1,5 @@
-use Rattle.std.proofs.Common.{rules, ◌≡◌, true, Some, sym, ap, ◌∙◌, arith}
-use Rattle.jb_core.specs.Machine.{Machine, handle_at, held_at, reserved, after}
+use Rattle.std.proofs.Common.{rules, ◌≡◌, true, Some, Err, sym, ap, ◌∙◌, arith}
+use Rattle.jb_core.specs.Machine.{Machine, fault_of, handle_at, held_at, reserved, after}
 use Rattle.jb_core.specs.State.{machine_of}
 use Rattle.std.specs.Ordering.{nat_cmp}
 use Rattle.std.specs.Option.{unwrap_or}
@@ -8,31 +8,34 @@ use Rattle.jb_handle.specs.Held.{held, after as held_after}
 use Rattle.std.specs.BTreeMap.{is_at}
 use Rattle.std.proofs.lemmas.Map.Steps.{set_value_same}
 use Rattle.jb_core.specs.declared.event.Event.TheVariants.{Touch}
-use Rattle.jb_core.proofs.Sounds.{kept-by, touch-sound, touch-reserved, touch-refuses}
+use Rattle.jb_core.proofs.Touches.{touch-refused}
+use Rattle.jb_core.proofs.Runs.{kept-by}
+use Rattle.jb_core.proofs.Sounds.{touch-sound}
+use Rattle.jb_core.proofs.Reserved.{touch-reserved}
 use Rattle.jb_core.proofs.state.State.touch.Goals as goal
 
-pub invariant_of-self-in-Err : goal.invariant_of-self-in-Err
-invariant_of-self-in-Err c =
+pub invariant_of-self-in_err-apply : goal.invariant_of-self-in_err-apply
+invariant_of-self-in_err-apply c =
     let there : handle_at (machine_of c.self.inside) c.args.seat ≡ Some c.in-Some.changes.now = search rules in
     let written = c.get_mut.follows.holds c.apply.new.self in
-    let same = written.0 ∙ set_value_same (is_at (nat_cmp c.args.seat)) c.self.inside.handles.entries c.apply.new.self (there ∙ ap Some (sym c.in-Err.ensures.err)) in
+    let same = written.0 ∙ set_value_same (is_at (nat_cmp c.args.seat)) c.self.inside.handles.entries c.apply.new.self (there ∙ ap Some (sym c.in_err-apply.ensures.err)) in
     kept-by _ (machine_of c.self.inside) (ap (λ es. record (machine_of c.self.inside) { handles = es }) same) c.self.invariant.sound c.self.invariant.counted written.4
 
-pub returns-in-Err : goal.returns-in-Err
-returns-in-Err c =
+pub returns-in_err-apply : goal.returns-in_err-apply
+returns-in_err-apply c =
     let there : handle_at (machine_of c.self.inside) c.args.seat ≡ Some c.in-Some.changes.now = search rules in
     let there_now : handle_at c.args.self.now c.args.seat ≡ Some c.in-Some.changes.now = ap (λ (m : Machine). handle_at m c.args.seat) (sym c.self.view_is) ∙ there in
+    let is : c.from_residual.result ≡ Err (fault_of c.in_err-apply.field-0.0) = search rules in
     let written = c.get_mut.follows.holds c.apply.new.self in
-    let same = written.0 ∙ set_value_same (is_at (nat_cmp c.args.seat)) c.self.inside.handles.entries c.apply.new.self (there ∙ ap Some (sym c.in-Err.ensures.err)) in (
-      rw c.core_fault.ensures (touch-refuses c.args.self.now c.args.seat c.args.op c.in-Some.changes.now c.requires there_now c.in-Err.fault c.in-Err.ensures.refused),
-      ap (λ es. record (machine_of c.self.inside) { handles = es }) same ∙ c.self.view_is,
-    )
+    let same = written.0 ∙ set_value_same (is_at (nat_cmp c.args.seat)) c.self.inside.handles.entries c.apply.new.self (there ∙ ap Some (sym c.in_err-apply.ensures.err)) in
+    touch-refused c.args.self.now c.args.seat c.args.op c.in-Some.changes.now c.requires there_now c.in_err-apply.field-0.0 c.in_err-apply.ensures.refused c.in_err-apply.ensures.memory c.from_residual.result is _
+    (ap (λ es. record (machine_of c.self.inside) { handles = es }) same ∙ c.self.view_is)
 
 pub invariant_of-self-2 : goal.invariant_of-self-2
 invariant_of-self-2 c =
     let up : c.self.inside.up ≡ true = ap (λ (m : Machine). m.up) c.self.view_is ∙ c.requires in
     let there : handle_at (machine_of c.self.inside) c.args.seat ≡ Some c.in-Some.changes.now = search rules in
     let written = c.get_mut.follows.holds c.apply.new.self in
-    let same = touch-reserved (machine_of c.self.inside) c.self.invariant.sound up c.args.seat c.in-Some.changes.now (held_after (held_at (machine_of c.self.inside) c.args.seat) c.args.op) there (ap (λ found. (unwrap_or found (held 0 c.self.inside.shape map.empty)).credits) there) in
+    let same = touch-reserved (machine_of c.self.inside) c.args.seat c.in-Some.changes.now (held_after (held_at (machine_of c.self.inside) c.args.seat) c.args.op) there (ap (λ found. (unwrap_or found (held 0 c.self.inside.shape map.empty)).credits) there) in
     let counted : c.self.inside.reserved ≡ reserved (after (machine_of c.self.inside) (Touch c.args.seat c.args.op)) = omega (arith, same, c.self.invariant.counted) in
-    kept-by _ (after (machine_of c.self.inside) (Touch c.args.seat c.args.op)) (search rules) (touch-sound (machine_of c.self.inside) c.self.invariant.sound up c.args.seat c.args.op c.in-Some.changes.now there) counted written.4
+    kept-by _ (after (machine_of c.self.inside) (Touch c.args.seat c.args.op)) (search rules) (touch-sound (machine_of c.self.inside) c.self.invariant.sound up c.args.seat c.args.op (search rules)) counted written.4

@@ -1,9 +1,10 @@
-use Rattle.std.proofs.Common.{◌<◌, T, length, sym, subst, ◌∙◌, arith}
+use Rattle.std.proofs.Common.{◌<◌, T, length, sym, ap, subst, ◌∙◌, arith}
 use Rattle.std.specs.Ordering.{nat_cmp}
 use Rattle.std.specs.FinMap as map
 use Rattle.jb_handle.specs.Words.{is_copied, is_freed}
 use Rattle.jb_cost.proofs.Later.{copies-next, frees-next, later-whole}
 use Rattle.std.specs.BTreeSet.{contains}
+use Rattle.jb_cost.proofs.Refusals.{on-refusal}
 use Rattle.jb_cost.proofs.last_words.LastWords.put_all.Goals as goal
 
 pub loop-home-preserved : goal.loop-home-preserved
@@ -24,3 +25,6 @@ pub returns-clause-frees : goal.returns-clause-frees
 returns-clause-frees c q =
     c.loop-home.invariant.frees q
     ∙ later-whole is_freed c.args.words.now _ c.entries-home-items.ensures c.loop-home.home-index q (contains nat_cmp c.args.self.now.frees q) (omega arith)
+
+pub returns-in_err-put-clause-grows : goal.returns-in_err-put-clause-grows
+returns-in_err-put-clause-grows c = on-refusal c.from_residual.result _ (omega (arith, ap length c.entries-home-items.ensures, map.len-entries c.args.words.now))

@@ -1,4 +1,4 @@
-use Rattle.std.proofs.Common.{◌≡◌, ℕ, List, T, Result, Ok, Err, IfOk, sym, ◌∙◌}
+use Rattle.std.proofs.Common.{◌≡◌, ℕ, List, T, Result, Ok, Err, IfOk, OnErr, ◌<◌, length, ap, subst, sym, ◌∙◌}
 use Rattle.std.specs.Ordering.{nat_cmp}
 use Rattle.std.specs.FinMap as map
 use Rattle.jb_handle.specs.declared.word.Word.{Word}
@@ -10,5 +10,13 @@ same-entries : {E : Type 0} (tree : List (ℕ × Word)) (words : WordMap) (r : R
 same-entries tree words (Ok m) rising is same = map.same_entries_map _ _ (same ∙ sym (map.entries-from_sorted nat_cmp tree rising)) ∙ is
 same-entries tree words (Err e) rising is same = tt
 
-pub returns : goal.returns
-returns c = same-entries c.self.inside.tree.entries c.args.self c.from_tree.result c.self.invariant c.self.view_is c.from_tree.ensures
+pub from_tree-requires : goal.from_tree-requires
+from_tree-requires c = record { bytes = c.self.invariant.bytes }
+
+pub returns-clause-ok : goal.returns-clause-ok
+returns-clause-ok c = same-entries c.self.inside.tree.entries c.args.self c.from_tree.result c.self.invariant.rising c.self.view_is c.from_tree.ensures.ok
+
+pub returns-clause-err : goal.returns-clause-err
+returns-clause-err c =
+    let size : length c.self.inside.tree.entries ≡ map.len c.args.self = ap length (sym (map.entries-from_sorted nat_cmp _ c.self.invariant.rising)) ∙ sym (map.len-entries _) ∙ ap map.len c.self.view_is in
+    subst (λ n. OnErr c.from_tree.result (0 < n)) size c.from_tree.ensures.err

@@ -1,8 +1,13 @@
-use Rattle.std.proofs.Common.{ap, ◌∙◌}
+use Rattle.std.proofs.Common.{ap, sym, subst, ◌∙◌}
 use Rattle.std.specs.Ordering.{nat_cmp}
 use Rattle.std.specs.FinMap as map
+use Rattle.jb_handle.specs.Word.{AreWords}
+use Rattle.jb_handle.proofs.Listed.{no-words}
 use Rattle.jb_handle.proofs.Rising.{view-empty}
 use Rattle.jb_handle.proofs.gathered.Gathered.new.Goals as goal
+
+pub invariant_of-result : goal.invariant_of-result
+invariant_of-result c = subst AreWords (sym c.new.ensures.empty) no-words
 
 pub returns : goal.returns
 returns c = ap (map.from_sorted {R = nat_cmp}) c.new.ensures.empty ∙ view-empty

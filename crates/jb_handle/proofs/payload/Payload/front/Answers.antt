@@ -1,6 +1,5 @@
-use Rattle.std.proofs.Common.{◌≡◌, ap, ◌∙◌, sym, subst, ◌≤◌, ◌++◌, drop, take, replicate, length, length-append, min, ◌-◌, ◌∷◌, [], ℕ, arith, rules}
+use Rattle.std.proofs.Common.{◌≡◌, ap, ◌∙◌, sym, subst, ◌≤◌, ◌++◌, drop, take, replicate, length, min, ◌-◌, rules}
 use Rattle.std.specs.Vec.{vec_len}
-use Rattle.std.proofs.lemmas.List.{length-replicate}
 use Rattle.jb_handle.proofs.Front.{take-padded, length-filled}
 use Rattle.jb_handle.proofs.payload.Payload.front.Goals as goal
 

@@ -4,4 +4,4 @@ use Rattle.std.specs.FinMap as map
 use Rattle.jb_handle.proofs.words.Words.entries.Goals as goal
 
 pub returns : goal.returns
-returns c = c.deref.ensures.value ∙ sym (map.entries-from_sorted nat_cmp _ c.self.invariant) ∙ ap map.entries c.self.view_is
+returns c = c.deref.ensures.value ∙ sym (map.entries-from_sorted nat_cmp _ c.self.invariant.rising) ∙ ap map.entries c.self.view_is

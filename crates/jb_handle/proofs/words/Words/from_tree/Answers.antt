@@ -1,15 +1,25 @@
-use Rattle.std.proofs.Common.{◌≡◌, rules, sym, ◌∙◌, subst, T}
+use Rattle.std.proofs.Common.{◌≡◌, [], ap, All, rules, sym, ◌∙◌, subst, T}
 use Rattle.std.specs.Ordering.{nat_cmp}
 use Rattle.std.specs.FinMap as map
-use Rattle.jb_handle.proofs.Rising.{ordered-rise}
+use Rattle.std.proofs.lemmas.List.{nil_from_length}
+use Rattle.jb_handle.specs.Word.{EntryHasBytes}
+use Rattle.jb_handle.proofs.Rising.{view-empty, ordered-rise}
 use Rattle.jb_handle.proofs.words.Words.from_tree.Goals as goal
 
 pub invariant_of-result : goal.invariant_of-result
 invariant_of-result c =
     let same : c.in_ok-entries.entries.items ≡ c.args.tree.entries = search rules in
-    subst (λ es. T (map.is_sorted nat_cmp es)) (sym same) (ordered-rise _ c.into_iter.ensures.into_iter_gives.5)
+    record {
+      rising = subst (λ es. T (map.is_sorted nat_cmp es)) (sym same) (ordered-rise _ c.into_iter.ensures.into_iter_gives.5);
+      bytes = subst (All EntryHasBytes) (sym same) c.requires.bytes;
+    }
 
-pub returns : goal.returns
-returns c =
+pub returns-clause-ok : goal.returns-clause-ok
+returns-clause-ok c =
     let same : c.in_ok-entries.entries.items ≡ c.args.tree.entries = search rules in
-    map.entries-from_sorted nat_cmp _ (invariant_of-result c) ∙ same
+    map.entries-from_sorted nat_cmp _ (invariant_of-result c).rising ∙ same
+
+pub returns-then-is_empty-clause-ok : goal.returns-then-is_empty-clause-ok
+returns-then-is_empty-clause-ok c =
+    let none : c.args.tree.entries ≡ [] = nil_from_length c.args.tree.entries (c.is_empty.ensures.0 c.if-is_empty.true) in
+    ap map.entries c.new.ensures ∙ ap map.entries (sym view-empty) ∙ map.entries-from_sorted nat_cmp [] tt ∙ sym none

@@ -1,8 +1,15 @@
-use Rattle.std.proofs.Common.{◌≡◌, [], rules, ap, ◌∙◌}
+use Rattle.std.proofs.Common.{◌≡◌, [], rules, subst, sym, ap, ◌∙◌}
 use Rattle.std.specs.Ordering.{nat_cmp}
 use Rattle.std.specs.FinMap as map
+use Rattle.jb_handle.proofs.Listed.{no-words}
+use Rattle.jb_handle.specs.Word.{AreWords}
 use Rattle.jb_handle.proofs.Rising.{view-empty}
 use Rattle.jb_handle.proofs.words.Words.new.Goals as goal
+
+pub invariant_of-result : goal.invariant_of-result
+invariant_of-result c =
+    let none : c.new.result.items ≡ [] = search rules in
+    subst AreWords (sym none) no-words
 
 pub returns : goal.returns
 returns c =

@@ -1,0 +1,45 @@
+-- The entries of a map by their keys: how many there are, and what they add up to.
+use Rattle.std.proofs.Common.{◌≡◌, ℕ, suc, ◌+◌, ◌≤◌, Bool, true, false, cond, List, [], ◌∷◌, length, Option, Some, None, Ordering, Less, Equal, Greater, refl, ap, le_refl, arith}
+use Rattle.std.proofs.lemmas.List.Sums.{sum_by-cons}
+use Rattle.std.specs.List.{sum_by}
+use Rattle.std.specs.Ordering.{nat_cmp, match_ordering, is_eq}
+use Rattle.std.specs.BTreeMap.{insert_entry, is_at}
+use Rattle.std.specs.Map.{lookup, remove_entry, values_of}
+
+-- a look-up that misses passes over the first entry
+pub missed : {V : Type 0} (b : Bool) (h : V) (rest : Option V) → cond b (Some h) rest ≡ None → (b ≡ false) × (rest ≡ None)
+missed true h rest is = absurd (let h : ⊥ = cc in h)
+missed false h rest is = (refl, is)
+
+-- a new key adds its value
+pub sum-insert : {V : Type 0} (f : V → ℕ) (es : List (ℕ × V)) (k : ℕ) (v : V) → lookup (is_at (nat_cmp k)) es ≡ None → sum_by f (values_of (insert_entry nat_cmp es k v)) ≡ sum_by f (values_of es) + f v
+sum-insert f [] k v none = let one = sum_by-cons f v [] in omega arith
+sum-insert f (e ∷ es) k v none =
+    let miss = missed (is_at (nat_cmp k) e.0) e.1 _ none in
+    at (nat_cmp k e.0) refl miss.0 (sum-insert f es k v miss.1)
+  where
+    at : (o : Ordering) → nat_cmp k e.0 ≡ o → is_at (nat_cmp k) e.0 ≡ false → sum_by f (values_of (insert_entry nat_cmp es k v)) ≡ sum_by f (values_of es) + f v
+        → sum_by f (values_of (match_ordering o ((k, v) ∷ e ∷ es) ((e.0, v) ∷ es) (e ∷ insert_entry nat_cmp es k v))) ≡ sum_by f (values_of (e ∷ es)) + f v
+    at Less is miss rest = let front = sum_by-cons f v (values_of (e ∷ es)) in omega (arith, front)
+    at Equal is miss rest = let hit : is_at (nat_cmp k) e.0 ≡ true = ap is_eq is in absurd (let h : ⊥ = cc in h)
+    at Greater is miss rest =
+        let new = sum_by-cons f e.1 (values_of (insert_entry nat_cmp es k v)) in
+        let old = sum_by-cons f e.1 (values_of es) in
+        omega (arith, new, old, rest)
+
+pub length-insert_entry : {V : Type 0} (es : List (ℕ × V)) (k : ℕ) (v : V) → length (insert_entry nat_cmp es k v) ≤ length es + 1
+length-insert_entry [] k v = le_refl 1
+length-insert_entry (e ∷ es) k v = at (nat_cmp k e.0) (length-insert_entry es k v)
+  where
+    at : (o : Ordering) → length (insert_entry nat_cmp es k v) ≤ length es + 1 → length (match_ordering o ((k, v) ∷ e ∷ es) ((e.0, v) ∷ es) (e ∷ insert_entry nat_cmp es k v)) ≤ suc (length es) + 1
+    at Less rest = omega arith
+    at Equal rest = omega arith
+    at Greater rest = omega arith
+
+pub length-remove_entry : {V : Type 0} (test : ℕ → Bool) (es : List (ℕ × V)) (v : V) → lookup test es ≡ Some v → length (remove_entry test es) + 1 ≡ length es
+length-remove_entry test [] v is = absurd (let h : ⊥ = cc in h)
+length-remove_entry test (e ∷ es) v is = at (test e.0) (length-remove_entry test es v) is
+  where
+    at : (b : Bool) → (lookup test es ≡ Some v → length (remove_entry test es) + 1 ≡ length es) → cond b (Some e.1) (lookup test es) ≡ Some v → length (cond b es (e ∷ remove_entry test es)) + 1 ≡ suc (length es)
+    at true rest is = omega arith
+    at false rest is = let r = rest is in omega arith

@@ -1,0 +1,137 @@
+-- What the last touches tell of a queue's handles, and what the handles cost by them.
+use Rattle.std.proofs.Common.{◌≡◌, ℕ, ◌+◌, ◌-◌, ◌^◌, ◌<◌, ◌≤◌, Bool, true, false, cond, not, ◌&&◌, nat_le, List, [], ◌∷◌, ◌++◌, length, take, drop, get_or, slice_range, Option, Some, None, inl, inr, refl, sym, ap, subst, ◌∙◌, arith, length-drop}
+use Rattle.std.specs.Option.{option_map, option_or}
+use Rattle.std.specs.Ordering.{nat_cmp}
+use Rattle.std.specs.BTreeMap.{BTreeMap, get}
+use Rattle.std.specs.FinMap as map
+use Rattle.std.specs.FinSet as set
+use Rattle.std.proofs.lemmas.Bool.{cases_lt, le-leb, lt-leb}
+use Rattle.std.proofs.lemmas.List.{take_more, get_or-drop}
+use Rattle.std.proofs.Math.ListN.{get_or-append}
+use Rattle.std.proofs.Math.Seq.{get_or-append_seam}
+use Rattle.jb_handle.specs.declared.word.Word.{Word}
+use Rattle.jb_handle.specs.declared.word.Word.TheVariants.{Copy, Free}
+use Rattle.jb_handle.specs.declared.stopped.Stopped.{Stopped}
+use Rattle.jb_handle.specs.Size.{IsWithinSize}
+use Rattle.jb_handle.specs.Word.{is_copy}
+use Rattle.jb_handle.specs.Words.{word, is_copied, is_freed, copies, frees}
+use Rattle.jb_handle.proofs.Touched.{word-append, contains-copies, contains-frees}
+use Rattle.jb_cost.specs.declared.geometry.Geometry.{Geometry}
+use Rattle.jb_cost.specs.declared.owned.Touch.{Touch}
+use Rattle.jb_cost.specs.declared.stretch.Stretch.{Stretch}
+use Rattle.jb_cost.specs.declared.last_touches.LastTouches.{LastTouches}
+use Rattle.jb_cost.specs.Cost.{blocks_of}
+use Rattle.jb_cost.specs.Cut.{price, piece_cost}
+use Rattle.jb_cost.specs.Owned.{later_touch, left_since, is_since, kept, copies_of, frees_of, owned_from, owned_cost}
+use Rattle.jb_cost.specs.Starts.{LeastPrice, stretch_at, AreLeast, priced_of}
+use Rattle.jb_cost.specs.LastTouches.{IsSound, Tells, homes_of}
+use Rattle.jb_cost.proofs.Left.{few}
+use Rattle.jb_cost.proofs.Picked.{passes, len-of_kind}
+use Rattle.jb_cost.proofs.Pieces.{piece-none, weight-part}
+use Rattle.jb_cost.proofs.Starts.{least-one, least-as}
+
+-- a piece that ends one handle later has this handle at its end
+pub piece-right : (hs : List Stopped) (h : Stopped) (i n : ℕ) → i ≤ n → n < length hs → h ≡ get_or hs n h → slice_range hs i (n + 1) ≡ slice_range hs i n ++ h ∷ []
+piece-right hs h i n before within is =
+    let more : n + 1 - i ≡ n - i + 1 = omega arith in
+    let at : i + (n - i) ≡ n = omega arith in
+    let long : n - i < length (drop i hs) = simp length-drop (omega arith) in
+    let here : get_or (drop i hs) (n - i) h ≡ h = get_or-drop i hs (n - i) h ∙ ap (λ k. get_or hs k h) at ∙ sym is in
+    ap (λ k. take k (drop i hs)) more ∙ take_more (drop i hs) (n - i) h long ∙ ap (λ x. slice_range hs i n ++ x ∷ []) here
+
+left-early : (i : ℕ) (t : Touch) → i ≤ t.handle → left_since i (Some t) ≡ Some t.copy
+left-early i t early = ap (λ b. cond b (Some t.copy) None) (le-leb i t.handle early)
+
+left-late : (i : ℕ) (t : Touch) → t.handle < i → left_since i (Some t) ≡ None
+left-late i t late = ap (λ b. cond b (Some t.copy) None) (lt-leb i t.handle late)
+
+-- one handle more: at a home that it touches, and at another
+left-more : (i n : ℕ) (w : Option Word) (before : Option Touch) (found : Option Word) → i ≤ n → left_since i before ≡ option_map is_copy found → left_since i (later_touch n w before) ≡ option_map is_copy (option_or w found)
+left-more i n None before found early is = is
+left-more i n (Some w) before found early is = left-early i (record { handle = n; copy = is_copy w }) early
+
+left-none : (n : ℕ) (w : Option Word) (before : Option Touch) → ((t : Touch) → before ≡ Some t → t.handle < n) → left_since (n + 1) (later_touch n w before) ≡ None
+left-none n None None below = refl
+left-none n None (Some t) below = left-late (n + 1) t (let h = below t refl in omega arith)
+left-none n (Some w) before below = left-late (n + 1) (record { handle = n; copy = is_copy w }) (omega arith)
+
+pub follows-more : (hs : List Stopped) (h : Stopped) (n : ℕ) (last next : BTreeMap ℕ Touch) → n < length hs → h ≡ get_or hs n h → ((q : ℕ) (t : Touch) → get nat_cmp last q ≡ Some t → t.handle < n)
+    → ((q : ℕ) → get nat_cmp next q ≡ later_touch n (map.get h.words q) (get nat_cmp last q))
+    → ((i q : ℕ) → i ≤ n → left_since i (get nat_cmp last q) ≡ option_map is_copy (word (slice_range hs i n) q))
+    → (i q : ℕ) → i ≤ n + 1 → left_since i (get nat_cmp next q) ≡ option_map is_copy (word (slice_range hs i (n + 1)) q)
+follows-more hs h n last next within is below taken follows i q inside = elim (cases_lt n i) [
+  | inl late ↦
+      let same : i ≡ n + 1 = omega arith in
+      subst (λ k. left_since k (get nat_cmp next q) ≡ option_map is_copy (word (slice_range hs k (n + 1)) q)) (sym same)
+      (ap (left_since (n + 1)) (taken q) ∙ left-none n (map.get h.words q) (get nat_cmp last q) (below q) ∙ ap (λ gs. option_map is_copy (word gs q)) (sym (piece-none hs (n + 1))))
+  | inr early ↦
+      ap (left_since i) (taken q)
+      ∙ left-more i n (map.get h.words q) (get nat_cmp last q) (word (slice_range hs i n) q) early (follows i q early)
+      ∙ ap (option_map is_copy) (sym (word-append (slice_range hs i n) h q))
+      ∙ ap (λ gs. option_map is_copy (word gs q)) (sym (piece-right hs h i n early within is))
+]
+
+-- the stretch of one handle more is its own start alone
+pub leasts-more : (ps : List (Option ℕ)) (ss : List Stretch) (n : ℕ) (start : Option ℕ) → length ss ≡ n → AreLeast ps ss n → price ps n ≡ start → AreLeast ps (ss ++ record { from = n; least = priced_of n start } ∷ []) (n + 1)
+leasts-more ps ss n start long leasts is k below = elim (cases_lt k n) [
+  | inl less ↦ subst (λ (x : Stretch). LeastPrice ps x.from (k + 1) x.least) (sym (get_or-append ss (record { from = n; least = priced_of n start } ∷ []) _ k (omega (arith, less, long)))) (leasts k less)
+  | inr more ↦
+      let same : k ≡ length ss = omega (arith, more, long) in
+      let here : stretch_at (ss ++ record { from = n; least = priced_of n start } ∷ []) (length ss) ≡ record { from = n; least = priced_of n start } = get_or-append_seam ss (record { from = n; least = priced_of n start }) [] _ in
+      subst (λ j. LeastPrice ps (stretch_at (ss ++ record { from = n; least = priced_of n start } ∷ []) j).from (j + 1) (stretch_at (ss ++ record { from = n; least = priced_of n start } ∷ []) j).least) (sym same)
+      (subst (λ (x : Stretch). LeastPrice ps x.from (length ss + 1) x.least) (sym here) (subst (λ m. LeastPrice ps n (m + 1) (priced_of n start)) (sym long) (least-one ps n start is)))
+]
+
+-- whether what is left is of a kind
+holds : (Bool → Bool) → Option Bool → Bool
+holds kind None = false
+holds kind (Some copy) = kind copy
+
+holds-since : (kind : Bool → Bool) (i : ℕ) (t : Option Touch) → holds kind (left_since i t) ≡ passes (is_since kind i) t
+unfolding holds
+holds-since kind i None = refl
+holds-since kind i (Some t) = elim (nat_le i t.handle) as (λ b. holds kind (cond b (Some t.copy) None) ≡ (b && kind t.copy)) [ true ↦ refl | false ↦ refl ]
+
+copied-holds : (w : Option Word) → is_copied w ≡ holds kept (option_map is_copy w)
+unfolding holds
+copied-holds None = refl
+copied-holds (Some (Copy bytes)) = refl
+copied-holds (Some Free) = refl
+
+freed-holds : (w : Option Word) → is_freed w ≡ holds not (option_map is_copy w)
+unfolding holds
+freed-holds None = refl
+freed-holds (Some (Copy bytes)) = refl
+freed-holds (Some Free) = refl
+
+module _ (g : Geometry) (hs : List Stopped) (n : ℕ) (ps : List (Option ℕ)) (t : LastTouches) (sound : IsSound t) (tells : Tells g hs n ps t) where
+  -- the homes that the handles of a piece copy, and those that they free
+  pub copies-piece : (i : ℕ) → i ≤ n → set.len (copies (slice_range hs i n)) ≡ owned_from copies_of t.owned.items i
+  copies-piece i inside =
+      len-of_kind (is_since kept i) t.last.entries sound.ordered (copies (slice_range hs i n))
+      (λ q. contains-copies (slice_range hs i n) q ∙ copied-holds (word (slice_range hs i n) q) ∙ ap (holds kept) (sym (tells.follows i q inside)) ∙ holds-since kept i (get nat_cmp t.last q))
+      ∙ sym (sound.copies i)
+
+  pub frees-piece : (i : ℕ) → i ≤ n → set.len (frees (slice_range hs i n)) ≡ owned_from frees_of t.owned.items i
+  frees-piece i inside =
+      len-of_kind (is_since not i) t.last.entries sound.ordered (frees (slice_range hs i n))
+      (λ q. contains-frees (slice_range hs i n) q ∙ freed-holds (word (slice_range hs i n) q) ∙ ap (holds not) (sym (tells.follows i q inside)) ∙ holds-since not i (get nat_cmp t.last q))
+      ∙ sym (sound.frees i)
+
+  -- what a piece that ends with the last handle costs
+  pub cost-piece : (i : ℕ) → i ≤ n → piece_cost g hs i n ≡ owned_cost g t.owned.items i
+  cost-piece i inside = λ k. blocks_of g (copies-piece i inside k) (frees-piece i inside k)
+
+  -- handles within the size own no more homes
+  pub homes-few : IsWithinSize hs → homes_of t ≤ 2 ^ 62
+  homes-few size = omega (arith, size, few (slice_range hs 0 n), weight-part hs 0 n (omega arith), copies-piece 0 (omega arith), frees-piece 0 (omega arith))
+
+-- the prices of the starts that were put in are all that counts
+pub tells-as : (g : Geometry) (hs : List Stopped) (n : ℕ) (ps qs : List (Option ℕ)) (t : LastTouches) → ((i : ℕ) → i < n → price qs i ≡ price ps i) → Tells g hs n ps t → Tells g hs n qs t
+tells-as g hs n ps qs t same tells = record {
+  geometry = tells.geometry;
+  number = tells.number;
+  within = tells.within;
+  follows = tells.follows;
+  leasts = λ k below. least-as ps qs (stretch_at t.stretches.items k).from (k + 1) (λ i before. same i (omega arith)) (stretch_at t.stretches.items k).least (tells.leasts k below);
+}

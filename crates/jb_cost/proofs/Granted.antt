@@ -1,0 +1,32 @@
+-- Handles within their credits.
+use Rattle.std.proofs.Common.{ℕ, zero, suc, ◌+◌, ◌≤◌, List, [], ◌∷◌, ◌++◌, length, drop, sum, le_refl, arith}
+use Rattle.std.specs.FinMap as map
+use Rattle.std.proofs.lemmas.List.Sums.{sum_by-cons}
+use Rattle.jb_handle.specs.declared.stopped.Stopped.{Stopped}
+use Rattle.jb_handle.specs.Size.{weight}
+use Rattle.jb_cost.specs.Credits.{Covers}
+
+pub covers-append : (cs ds : List ℕ) (hs ks : List Stopped) → Covers cs hs → Covers ds ks → Covers (cs ++ ds) (hs ++ ks)
+covers-append [] ds [] ks a b = b
+covers-append [] ds (h ∷ hs) ks a b = absurd a
+covers-append (c ∷ cs) ds [] ks a b = absurd a
+covers-append (c ∷ cs) ds (h ∷ hs) ks a b = (a.0, covers-append cs ds hs ks a.1 b)
+
+pub covers-drop : (k : ℕ) (cs : List ℕ) (hs : List Stopped) → Covers cs hs → Covers (drop k cs) (drop k hs)
+covers-drop zero cs hs a = a
+covers-drop (suc k) [] [] a = tt
+covers-drop (suc k) [] (h ∷ hs) a = absurd a
+covers-drop (suc k) (c ∷ cs) [] a = absurd a
+covers-drop (suc k) (c ∷ cs) (h ∷ hs) a = covers-drop k cs hs a.1
+
+-- the handles weigh no more than their credits and one for each
+pub covers-weight : (cs : List ℕ) (hs : List Stopped) → Covers cs hs → weight hs ≤ sum cs + length hs
+covers-weight [] [] a = le_refl 0
+covers-weight [] (h ∷ hs) a = absurd a
+covers-weight (c ∷ cs) [] a = absurd a
+covers-weight (c ∷ cs) (h ∷ hs) a =
+    let rest = covers-weight cs hs a.1 in
+    let touched = a.0 in
+    let left = sum_by-cons (λ (g : Stopped). map.len g.words + 1) h hs in
+    let right = sum_by-cons (λ (x : ℕ). x) c cs in
+    omega arith

@@ -1,0 +1,158 @@
+-- The least prices of stretches that are joined, and the best start as one more stretch is looked at.
+use Rattle.std.proofs.Common.{◌≡◌, ℕ, ◌+◌, ◌<◌, ◌≤◌, Bool, true, false, List, Option, Some, None, nat_lt, if◌then◌else◌, inl, inr, sym, ap, ◌∙◌, refl, arith}
+use Rattle.std.proofs.lemmas.Bool.{ltb-true, ltb-false, cases_lt}
+use Rattle.jb_cost.specs.declared.stretch.Priced.{Priced}
+use Rattle.jb_cost.specs.declared.found.Found.{Found}
+use Rattle.jb_cost.specs.Cut.{price}
+use Rattle.jb_cost.specs.Starts.{priced_of, lesser_of, better_of, LeastPrice, BestStart}
+
+same-price : (ps : List (Option ℕ)) (i j p q : ℕ) → i ≡ j → price ps i ≡ Some p → price ps j ≡ Some q → p ≡ q
+same-price ps i j p q same is also = let both : Some p ≡ Some q = sym is ∙ ap (price ps) same ∙ also in cc
+
+-- a start alone
+pub least-one : (ps : List (Option ℕ)) (k : ℕ) (start : Option ℕ) → price ps k ≡ start → LeastPrice ps k (k + 1) (priced_of k start)
+least-one ps k None is = λ i p above below also.
+    let same : i ≡ k = omega arith in
+    let both : None ≡ Some p = sym is ∙ ap (price ps) (sym same) ∙ also in cc
+least-one ps k (Some q) is = record {
+  above = omega arith;
+  below = omega arith;
+  is = is;
+  least = λ i p above below also. let same = same-price ps i k p q (omega arith) also is in omega arith;
+  first = λ i p above before also. absurd (let h : ⊥ = omega arith in h);
+}
+
+-- the starts up to mid, and those from mid on
+module _ (ps : List (Option ℕ)) (low mid high : ℕ) (first_part : low ≤ mid) (last_part : mid ≤ high) where
+  pub least-joined : (first later : Option Priced) → LeastPrice ps low mid first → LeastPrice ps mid high later → LeastPrice ps low high (lesser_of first later)
+  least-joined None None none also = λ i p above below is. elim (cases_lt i mid) [ inl less ↦ none i p above less is | inr more ↦ also i p more below is ]
+  least-joined None (Some t) none least = record {
+    above = omega (arith, least.above);
+    below = least.below;
+    is = least.is;
+    least = λ i p above below is. elim (cases_lt i mid) [ inl less ↦ absurd (none i p above less is) | inr more ↦ least.least i p more below is ];
+    first = λ i p above before is. elim (cases_lt i mid) [ inl less ↦ absurd (none i p above less is) | inr more ↦ least.first i p more before is ];
+  }
+  least-joined (Some s) None least none = record {
+    above = least.above;
+    below = omega (arith, least.below);
+    is = least.is;
+    least = λ i p above below is. elim (cases_lt i mid) [ inl less ↦ least.least i p above less is | inr more ↦ absurd (none i p more below is) ];
+    first = least.first;
+  }
+  least-joined (Some s) (Some t) one other = pick (nat_lt t.price s.price) refl
+    where
+      pick : (test : Bool) → nat_lt t.price s.price ≡ test → LeastPrice ps low high (if test then Some t else Some s)
+      pick true e =
+          let less : t.price < s.price = ltb-true t.price s.price e in
+          record {
+            above = omega (arith, other.above);
+            below = other.below;
+            is = other.is;
+            least = λ i p above below is. elim (cases_lt i mid) [ inl before ↦ (let most = one.least i p above before is in omega arith) | inr more ↦ other.least i p more below is ];
+            first = λ i p above before is. elim (cases_lt i mid) [ inl sooner ↦ (let most = one.least i p above sooner is in omega arith) | inr more ↦ other.first i p more before is ];
+          }
+      pick false e =
+          let most : s.price ≤ t.price = ltb-false t.price s.price e in
+          record {
+            above = one.above;
+            below = omega (arith, one.below);
+            is = one.is;
+            least = λ i p above below is. elim (cases_lt i mid) [ inl before ↦ one.least i p above before is | inr more ↦ (let least = other.least i p more below is in omega arith) ];
+            first = one.first;
+          }
+
+module _ (c : ℕ → ℕ) (limit : ℕ) (ps : List (Option ℕ)) where
+  -- no start has been looked at
+  pub best-none : (end : ℕ) → BestStart c limit ps end end None
+  best-none end i p above below fits is = omega arith
+
+  -- the starts of one more stretch, which cost the same
+  module _ (from low end cost : ℕ) (back : from ≤ low) (within : low ≤ end) (fits : cost ≤ limit) (same : (i : ℕ) → from ≤ i → i < low → c i ≡ cost) where
+    pub best-stretch : (best : Option Found) (earlier : Option Priced) → LeastPrice ps from low earlier → BestStart c limit ps low end best → BestStart c limit ps from end (better_of best earlier cost)
+    best-stretch None None none tried = λ i p above below fit is. elim (cases_lt i low) [ inl less ↦ none i p above less is | inr more ↦ tried i p more below fit is ]
+    best-stretch (Some b) None none tried = record {
+      before = tried.before;
+      fits = tried.fits;
+      is = tried.is;
+      costs = tried.costs;
+      least = λ i p above below fit is. elim (cases_lt i low) [ inl less ↦ absurd (none i p above less is) | inr more ↦ tried.least i p more below fit is ];
+      first = λ i p above before fit is. elim (cases_lt i low) [ inl less ↦ absurd (none i p above less is) | inr more ↦ tried.first i p more before fit is ];
+    }
+    best-stretch None (Some s) least tried =
+        let here = same s.from least.above least.below in
+        record {
+          before = omega (arith, least.below);
+          fits = omega (arith, here);
+          is = least.is;
+          costs = sym here;
+          least = λ i p above below fit is. elim (cases_lt i low) [ inl less ↦ (let most = least.least i p above less is in omega (arith, same i above less)) | inr more ↦ absurd (tried i p more below fit is) ];
+          first = λ i p above before fit is. let less = least.first i p above before is in omega (arith, same i above (omega (arith, before, least.below)));
+        }
+    best-stretch (Some b) (Some s) least tried = pick (nat_lt (b.price + b.cost) (s.price + cost)) refl
+      where
+        pick : (test : Bool) → nat_lt (b.price + b.cost) (s.price + cost) ≡ test → BestStart c limit ps from end (if test then Some b else Some (record { from = s.from; price = s.price; cost = cost }))
+        pick true e =
+            let less : b.price + b.cost < s.price + cost = ltb-true (b.price + b.cost) (s.price + cost) e in
+            record {
+              before = tried.before;
+              fits = tried.fits;
+              is = tried.is;
+              costs = tried.costs;
+              least = λ i p above below fit is. elim (cases_lt i low) [ inl sooner ↦ (let most = least.least i p above sooner is in omega (arith, same i above sooner)) | inr more ↦ tried.least i p more below fit is ];
+              first = λ i p above before fit is. elim (cases_lt i low) [ inl sooner ↦ (let most = least.least i p above sooner is in omega (arith, same i above sooner)) | inr more ↦ tried.first i p more before fit is ];
+            }
+        pick false e =
+            let most : s.price + cost ≤ b.price + b.cost = ltb-false (b.price + b.cost) (s.price + cost) e in
+            let here = same s.from least.above least.below in
+            record {
+              before = omega (arith, least.below);
+              fits = omega (arith, here);
+              is = least.is;
+              costs = sym here;
+              least = λ i p above below fit is. elim (cases_lt i low) [ inl sooner ↦ (let lowest = least.least i p above sooner is in omega (arith, same i above sooner)) | inr more ↦ (let lowest = tried.least i p more below fit is in omega arith) ];
+              first = λ i p above before fit is. let lower = least.first i p above before is in omega (arith, same i above (omega (arith, before, least.below)));
+            }
+
+  -- no earlier start fits
+  pub best-all : (low end : ℕ) (best : Option Found) → BestStart c limit ps low end best → ((i : ℕ) → i < low → limit < c i) → BestStart c limit ps 0 end best
+  best-all low end best tried over = go best tried
+    where
+      late : (i : ℕ) → c i ≤ limit → low ≤ i
+      late i fits = elim (cases_lt i low) [ inl less ↦ absurd (let more = over i less in let h : ⊥ = omega arith in h) | inr above ↦ above ]
+
+      go : (best : Option Found) → BestStart c limit ps low end best → BestStart c limit ps 0 end best
+      go None tried = λ i p _ below fits is. tried i p (late i fits) below fits is
+      go (Some s) tried = record {
+        before = tried.before;
+        fits = tried.fits;
+        is = tried.is;
+        costs = tried.costs;
+        least = λ i p _ below fits is. tried.least i p (late i fits) below fits is;
+        first = λ i p _ below fits is. tried.first i p (late i fits) below fits is;
+      }
+
+-- the same by another way to tell the costs
+pub best-same : (c d : ℕ → ℕ) (limit : ℕ) (ps : List (Option ℕ)) (end : ℕ) → ((i : ℕ) → i < end → c i ≡ d i) → (best : Option Found) → BestStart c limit ps 0 end best → BestStart d limit ps 0 end best
+best-same c d limit ps end same None tried = λ i p above below fits is. tried i p above below (omega (arith, fits, same i below)) is
+best-same c d limit ps end same (Some s) tried =
+    let here = same s.from tried.before in
+    record {
+      before = tried.before;
+      fits = omega (arith, tried.fits, here);
+      is = tried.is;
+      costs = tried.costs ∙ here;
+      least = λ i p above below fits is. let e = same i below in omega (arith, tried.least i p above below (omega arith) is);
+      first = λ i p above before fits is. let e = same i (omega (arith, before, tried.before)) in omega (arith, tried.first i p above before (omega arith) is);
+    }
+
+-- least prices look only at the prices below their end
+pub least-as : (ps qs : List (Option ℕ)) (low high : ℕ) → ((i : ℕ) → i < high → price qs i ≡ price ps i) → (s : Option Priced) → LeastPrice ps low high s → LeastPrice qs low high s
+least-as ps qs low high same None none = λ i p above below is. none i p above below (sym (same i below) ∙ is)
+least-as ps qs low high same (Some s) least = record {
+  above = least.above;
+  below = least.below;
+  is = same s.from least.below ∙ least.is;
+  least = λ i p above below is. least.least i p above below (sym (same i below) ∙ is);
+  first = λ i p above before is. least.first i p above before (sym (same i (omega (arith, before, least.below))) ∙ is);
+}

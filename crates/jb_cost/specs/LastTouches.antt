@@ -1,0 +1,34 @@
+-- What the last touches of a queue's handles say: the costs of the groups that end with the last of them.
+use Rattle.std.specs.Prelude.{◌≡◌, ℕ, ◌+◌, ◌<◌, ◌≤◌, not, List, length, slice_range, Option, Some}
+use Rattle.std.specs.Option.{option_map}
+use Rattle.std.specs.Ordering.{nat_cmp}
+use Rattle.std.specs.BTreeMap.{IsOrdered, get}
+use Rattle.jb_handle.specs.declared.stopped.Stopped.{Stopped}
+use Rattle.jb_handle.specs.Word.{is_copy}
+use Rattle.jb_handle.specs.Words.{word}
+use Rattle.jb_cost.specs.declared.geometry.Geometry.{Geometry}
+use Rattle.jb_cost.specs.declared.owned.Touch.{Touch}
+use Rattle.jb_cost.specs.declared.last_touches.LastTouches.{LastTouches}
+use Rattle.jb_cost.specs.Owned.{Counts, copies_of, frees_of, kept, owned_from, left_since}
+use Rattle.jb_cost.specs.Starts.{GoBack, AreLeast}
+
+-- the homes that all handles own
+abbrev pub homes_of : LastTouches → ℕ
+homes_of t = owned_from copies_of t.owned.items 0 + owned_from frees_of t.owned.items 0
+
+-- the parts fit one another: each handle's homes are counted, and each stretch goes back over idle handles
+pub record IsSound (t : LastTouches) : Type 0 where
+  pub ordered : IsOrdered nat_cmp t.last
+  pub below : (q : ℕ) (touch : Touch) → get nat_cmp t.last q ≡ Some touch → touch.handle < length t.owned.items
+  pub copies : Counts copies_of kept t.owned.items t.last
+  pub frees : Counts frees_of not t.owned.items t.last
+  pub number : length t.stretches.items ≡ length t.owned.items
+  pub back : GoBack t.owned.items t.stretches.items
+
+-- the touches are those of the first n handles of a queue, and the prices those of a list
+pub record Tells (g : Geometry) (hs : List Stopped) (n : ℕ) (ps : List (Option ℕ)) (t : LastTouches) : Type 0 where
+  pub geometry : t.geometry ≡ g
+  pub number : length t.owned.items ≡ n
+  pub within : n ≤ length hs
+  pub follows : (i q : ℕ) → i ≤ n → left_since i (get nat_cmp t.last q) ≡ option_map is_copy (word (slice_range hs i n) q)
+  pub leasts : AreLeast ps t.stretches.items n

@@ -1,0 +1,80 @@
+use crate::best_start::best_start;
+use crate::found::Found;
+use crate::geometry::Geometry;
+use crate::owned::{Owned, Touch};
+use crate::stretch::{Priced, Stretch};
+use crate::take_over::take_over;
+use jb_block::Memory;
+use jb_handle::Stopped;
+use std::alloc::Global;
+use std::collections::BTreeMap;
+
+/// Which handle of a queue touched each home block last. It grows to the right, a handle at a time,
+/// and tells for each end where a last group begins best.
+///
+/// In a group that ends with the last handle a home block counts by the handle that touched it last,
+/// if that handle is in the group. So what a group costs changes only at the handles that own a home
+/// block, and between two of them the start with the least price is the best.
+#[derive(Drop)]
+pub struct LastTouches {
+    geometry: Geometry,
+    last: BTreeMap<u64, Touch>,
+    // by handle
+    owned: Vec<Owned>,
+    // by handle: the starts that cost as much as the one with this handle
+    stretches: Vec<Stretch>,
+}
+
+impl LastTouches {
+    ghost use Rattle.std.specs.Prelude.{◌≡◌, ℕ, ◌+◌, ◌^◌, ◌<◌, ◌≤◌, List, length, get_or, Option, OnOk};
+    ghost use Rattle.jb_handle.specs.declared.stopped.Stopped.{Stopped as StoppedValue};
+    ghost use Rattle.jb_cost.specs.declared.geometry.Geometry.{Geometry as GeometryValue};
+    ghost use Rattle.jb_cost.specs.Cut.{price, piece_cost};
+    ghost use Rattle.jb_cost.specs.Starts.{BestStart};
+    ghost use Rattle.jb_cost.specs.LastTouches.{IsSound, Tells, homes_of};
+
+    /// The last touches of no handles. Takes no memory.
+    pub fn new(alloc: Global, geometry: Geometry) -> LastTouches
+        ensures sound { IsSound result }
+        ensures tells { (hs : List StoppedValue) (ps : List (Option ℕ)) → Tells geometry hs 0 ps result }
+    {
+        LastTouches {
+            geometry,
+            last: BTreeMap::new(alloc),
+            owned: Vec::new(alloc),
+            stretches: Vec::new(alloc),
+        }
+    }
+
+    /// Puts the next handle of the queue behind the ones that are there. `start` is the price of a
+    /// group that begins with it: the log blocks of the handles before it, if they fit.
+    ///
+    /// # Errors
+    ///
+    /// `Memory` where there is none for a home block or for the handle. Nothing is said of the
+    /// touches then, and no other call of them is allowed.
+    pub fn add(&mut self, handle: &Stopped, start: Option<u64>) -> Result<(), Memory>
+        requires sound { IsSound self.old }
+        ensures sound { OnOk result (IsSound self.new) }
+        ensures tells { OnOk result ((g : GeometryValue) (hs : List StoppedValue) (n : ℕ) (ps : List (Option ℕ)) → Tells g hs n ps self.old → n < length hs → handle.now ≡ get_or hs n handle.now → price ps n ≡ start → Tells g hs (n + 1) ps self.new) }
+    {
+        let from = self.owned.len();
+        let gained = take_over(&mut self.last, &mut self.owned, &handle.words)?;
+        self.owned.push(gained)?;
+        let least = Priced::of(from, start);
+        self.stretches.push(Stretch { from, least })?;
+        Ok(())
+    }
+
+    /// The best start of a group that ends with the last handle: of those with a price, from which
+    /// the group takes at most `limit` log blocks, the one with the least sum of price and cost. Of
+    /// several that are as good it is the first.
+    pub fn best(&mut self, limit: u32) -> Option<Found>
+        requires sound { IsSound self.old }
+        requires few { homes_of self.old ≤ 2 ^ 62 }
+        ensures sound { IsSound self.new }
+        ensures tells { (g : GeometryValue) (hs : List StoppedValue) (n : ℕ) (ps : List (Option ℕ)) → Tells g hs n ps self.old → Tells g hs n ps self.new × BestStart (λ i. piece_cost g hs i n) limit ps 0 n result }
+    {
+        best_start(self.geometry, &self.owned, &mut self.stretches, limit)
+    }
+}

@@ -1,0 +1,40 @@
+// A start of a group, and its price.
+#[derive(Clone, Copy)]
+pub(crate) struct Priced {
+    pub(crate) from: usize,
+    pub(crate) price: u64,
+}
+
+impl Priced {
+    ghost use Rattle.std.specs.Prelude.{◌≡◌};
+    ghost use Rattle.jb_cost.specs.Starts.{priced_of, lesser_of};
+
+    // A start with its price, if it has one.
+    pub(crate) fn of(from: usize, price: Option<u64>) -> Option<Priced>
+        ensures { result ≡ priced_of from price }
+    {
+        match price {
+            Some(price) => Some(Priced { from, price }),
+            None => None,
+        }
+    }
+
+    // The one with the lesser price of two starts, the earlier one where they are as good.
+    pub(crate) fn lesser(earlier: Option<Priced>, later: Option<Priced>) -> Option<Priced>
+        ensures { result ≡ lesser_of earlier later }
+    {
+        let Some(first) = earlier else { return later };
+        match later {
+            Some(later) if later.price < first.price => Some(later),
+            _ => Some(first),
+        }
+    }
+}
+
+// The starts from `from` up to a handle: those between them are idle, so that a group costs the same
+// from each. The one with the least price stands for all.
+#[derive(Clone, Copy)]
+pub(crate) struct Stretch {
+    pub(crate) from: usize,
+    pub(crate) least: Option<Priced>,
+}

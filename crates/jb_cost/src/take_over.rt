@@ -1,0 +1,54 @@
+ghost use Rattle.std.specs.Prelude.{◌≡◌, ℕ, ◌+◌, ◌<◌, ◌≤◌, not, length, if◌then◌else◌, Option, Some, IfOk, OnOk};
+ghost use Rattle.std.specs.Option.{unwrap_or, option_map};
+ghost use Rattle.std.specs.Ordering.{nat_cmp};
+ghost use Rattle.std.specs.BTreeMap.{IsOrdered, get};
+ghost use Rattle.std.specs.FinMap as map;
+ghost use Rattle.jb_cost.specs.declared.owned.Touch.{Touch as TouchValue};
+ghost use Rattle.jb_cost.specs.Owned.{IsIdle, owned_at, owned_from, copies_of, frees_of, kept, counts_since, Counts, CountsBut, later_touch};
+
+use crate::owned::{Owned, Touch};
+use jb_block::Memory;
+use jb_handle::Words;
+use std::collections::BTreeMap;
+
+// Puts the words of a further handle. It owns their homes from now on, and a handle that owned one
+// of them has lost it. Gives what the new handle owns.
+pub(crate) fn take_over(
+    last: &mut BTreeMap<u64, Touch>,
+    owned: &mut Vec<Owned>,
+    words: &Words,
+) -> Result<Owned, Memory>
+    requires below { (q : ℕ) (t : TouchValue) → get nat_cmp last.old q ≡ Some t → t.handle < length owned.old.items }
+    requires copies { Counts copies_of kept owned.old.items last.old }
+    requires frees { Counts frees_of not owned.old.items last.old }
+    ensures number { length owned.new.items ≡ length owned.old.items }
+    ensures idle { (k : ℕ) → IsIdle (owned_at owned.old.items k) → IsIdle (owned_at owned.new.items k) }
+    ensures ordered { IsOrdered nat_cmp last.old → IsOrdered nat_cmp last.new }
+    ensures follows { OnOk result ((q : ℕ) → get nat_cmp last.new q ≡ later_touch (length owned.old.items) (map.get words.now q) (get nat_cmp last.old q)) }
+    ensures copies { IfOk result (λ gained. CountsBut copies_of kept (length owned.old.items) gained.copies owned.new.items last.new) }
+    ensures frees { IfOk result (λ gained. CountsBut frees_of not (length owned.old.items) gained.frees owned.new.items last.new) }
+{
+    let handle = owned.len();
+    let mut gained = Owned::none();
+    for (home, word) in words.entries() {
+        let copy = word.is_copy();
+        let before = last.insert(*home, Touch { handle, copy })?;
+        lose(owned, before);
+        gained = gained.with(copy);
+    }
+    Ok(gained)
+}
+
+// Takes a home from the handle that touched it last, if there is one.
+fn lose(owned: &mut Vec<Owned>, before: Option<Touch>)
+    requires inside { (t : TouchValue) → before ≡ Some t → t.handle < length owned.old.items }
+    requires copies { (t : TouchValue) → before ≡ Some t → (if t.copy then 1 else 0) ≤ (owned_at owned.old.items t.handle).copies }
+    requires frees { (t : TouchValue) → before ≡ Some t → (if t.copy then 0 else 1) ≤ (owned_at owned.old.items t.handle).frees }
+    ensures number { length owned.new.items ≡ length owned.old.items }
+    ensures idle { (k : ℕ) → IsIdle (owned_at owned.old.items k) → IsIdle (owned_at owned.new.items k) }
+    ensures copies { (i : ℕ) → owned_from copies_of owned.new.items i + unwrap_or (option_map (counts_since kept i) before) 0 ≡ owned_from copies_of owned.old.items i }
+    ensures frees { (i : ℕ) → owned_from frees_of owned.new.items i + unwrap_or (option_map (counts_since not i) before) 0 ≡ owned_from frees_of owned.old.items i }
+{
+    let Some(touch) = before else { return };
+    owned[touch.handle] = owned[touch.handle].without(touch.copy);
+}

@@ -1,0 +1,125 @@
+-- Each image that a crash may leave is reached by some choice of numbers.
+use Rattle.std.proofs.Common.{◌≡◌, ◌<◌, ◌≤◌, ◌↔◌, ℕ, zero, suc, ◌+◌, ◌*◌, ◌/◌, List, [], ◌∷◌, ◌++◌, length, get_or, refl, sym, ◌∙◌, ap, subst, ⊎_elim, arith, length-append}
+use Rattle.std.proofs.lemmas.Bool.{cases_lt}
+use Rattle.std.proofs.lemmas.List.{get_or-append-add, get_or_append_left}
+use Rattle.std.proofs.Math.Seq.{get_or-append_seam}
+use Rattle.std.proofs.Math.Nat.{add-mul, mod-eq_of_lt, mul-le-mul_right}
+use Rattle.jb_block.specs.Size.{bytes_of}
+use Rattle.jb_disk.specs.Image.{Image, block, sector, HasShape}
+use Rattle.jb_disk.specs.History.{History, Step, IsSound, MayLeave, AreWhole}
+use Rattle.jb_disk.specs.Laws.{TakesVersions}
+use Rattle.jb_disk.specs.Lives.{left_has_shape}
+use Rattle.jb_disk.specs.Versions.{IsAmong, IsChosen, one_if_any, synced, version, versions, written, written_below}
+use Rattle.jb_disk.proofs.Choices.{only_first}
+use Rattle.jb_disk.proofs.Crashes.{chosen_left, whole_sectors}
+use Rattle.jb_disk.proofs.Outcomes.{choice_left, image_takes, only_version}
+
+-- ---- the numbers of a choice, block by block
+
+-- the first so many values of a function
+abbrev row : (ℕ → ℕ) → ℕ → List ℕ
+row f zero = []
+row f (suc n) = row f n ++ f n ∷ []
+
+length-row : (f : ℕ → ℕ) (n : ℕ) → length (row f n) ≡ n
+length-row f zero = refl
+length-row f (suc n) = let all : length (row f n ++ f n ∷ []) ≡ length (row f n) + 1 = length-append (row f n) (f n ∷ []) in omega (arith, all, length-row f n)
+
+get_or-row : (f : ℕ → ℕ) (n k : ℕ) → k < n → get_or (row f n) k 0 ≡ f k
+get_or-row f zero k within = absurd (let h : ⊥ = omega (arith, within) in h)
+get_or-row f (suc n) k within = ⊎_elim
+    (λ less. get_or_append_left (row f n) (f n ∷ []) 0 k (omega (arith, less, length-row f n)) ∙ get_or-row f n k less)
+    (λ reaches. let here : n ≡ k = omega (arith, within, reaches) in
+    subst (λ i. get_or (row f n ++ f n ∷ []) i 0 ≡ f i) here
+    (ap (λ i. get_or (row f n ++ f n ∷ []) i 0) (sym (length-row f n)) ∙ get_or-append_seam (row f n) (f n) [] 0)) (cases_lt k n)
+
+-- those of one block: one for each sector, where it has been written
+abbrev of_block : List (List ℕ) → (ℕ → ℕ) → ℕ → List ℕ
+of_block [] f sectors = []
+of_block (_ ∷ _) f sectors = row f sectors
+
+length-of_block : (writes : List (List ℕ)) (f : ℕ → ℕ) (sectors : ℕ) → length (of_block writes f sectors) ≡ one_if_any writes * sectors
+length-of_block [] f sectors = omega arith
+length-of_block (_ ∷ _) f sectors = let one : 1 * sectors ≡ sectors = omega arith in length-row f sectors ∙ sym one
+
+get_or-of_block : (writes : List (List ℕ)) (f : ℕ → ℕ) (sectors k : ℕ) → one_if_any writes ≡ 1 → k < sectors → get_or (of_block writes f sectors) k 0 ≡ f k
+get_or-of_block [] f sectors k any within = absurd (let h : ⊥ = omega (arith, any) in h)
+get_or-of_block (_ ∷ _) f sectors k any within = get_or-row f sectors k within
+
+module _ (pick : ℕ → ℕ → ℕ) (steps : List Step) (sectors : ℕ) where
+  -- those of the blocks below a place
+  abbrev numbers : ℕ → List ℕ
+  numbers zero = []
+  numbers (suc place) = numbers place ++ of_block (written steps place) (pick place) sectors
+
+  length-numbers : (place : ℕ) → length (numbers place) ≡ written_below steps place * sectors
+  length-numbers zero = omega arith
+  length-numbers (suc place) =
+      length-append (numbers place) (of_block (written steps place) (pick place) sectors)
+      ∙ ap (λ n. n + length (of_block (written steps place) (pick place) sectors)) (length-numbers place)
+      ∙ ap (λ n. written_below steps place * sectors + n) (length-of_block (written steps place) (pick place) sectors)
+      ∙ sym (add-mul (written_below steps place) (one_if_any (written steps place)) sectors)
+
+  -- a written block below a place counts there
+  counted-below : (p place : ℕ) → p < place → one_if_any (written steps p) ≡ 1 → written_below steps p + 1 ≤ written_below steps place
+  counted-below p zero below any = absurd (let h : ⊥ = omega (arith, below) in h)
+  counted-below p (suc place) below any = ⊎_elim
+      (λ less. omega (arith, counted-below p place less any))
+      (λ reaches. let here : p ≡ place = omega (arith, below, reaches) in
+      subst (λ q. written_below steps p + 1 ≤ written_below steps q + one_if_any (written steps q)) here (omega (arith, any))) (cases_lt p place)
+
+  get_or-numbers : (count p k : ℕ) → p < count → k < sectors → one_if_any (written steps p) ≡ 1 → get_or (numbers count) (written_below steps p * sectors + k) 0 ≡ pick p k
+  get_or-numbers zero p k below within any = absurd (let h : ⊥ = omega (arith, below) in h)
+  get_or-numbers (suc count) p k below within any = ⊎_elim
+      (λ less.
+      let more : (written_below steps p + 1) * sectors ≤ written_below steps count * sectors = mul-le-mul_right sectors (counted-below p count less any) in
+      let spread : (written_below steps p + 1) * sectors ≡ written_below steps p * sectors + 1 * sectors = add-mul (written_below steps p) 1 sectors in
+      get_or_append_left (numbers count) (of_block (written steps count) (pick count) sectors) 0 (written_below steps p * sectors + k) (omega (arith, more, spread, within, length-numbers count))
+      ∙ get_or-numbers count p k less within any)
+      (λ reaches. let here : count ≡ p = omega (arith, below, reaches) in
+      subst (λ q. one_if_any (written steps q) ≡ 1 → get_or (numbers count ++ of_block (written steps count) (pick count) sectors) (written_below steps q * sectors + k) 0 ≡ pick q k) here
+      (λ some.
+      ap (λ n. get_or (numbers count ++ of_block (written steps count) (pick count) sectors) (n + k) 0) (sym (length-numbers count))
+      ∙ get_or-append-add (numbers count) (of_block (written steps count) (pick count) sectors) k 0
+      ∙ get_or-of_block (written steps count) (pick count) sectors k some within) any) (cases_lt p count)
+
+-- ---- the choice of an image
+
+-- a version that is among a block's is the one of its number
+named : (base : List ℕ) (writes : List (List ℕ)) (k number : ℕ) (x : List ℕ) (among : IsAmong (base ∷ writes) k x) → (one_if_any writes ≡ 1 → number ≡ among.0) → x ≡ sector k (version (base ∷ writes) number)
+named base [] k number x among is = only_version base k x among ∙ ap (sector k) (sym (only_first base number))
+named base (w ∷ writes) k number x among is =
+    among.2
+    ∙ ap (λ n. sector k (get_or (base ∷ w ∷ writes) n [])) (sym (mod-eq_of_lt among.1))
+    ∙ ap (λ n. sector k (version (base ∷ w ∷ writes) n)) (sym (is refl))
+
+left_shape : (h : History) (c : Image) → IsSound h → MayLeave h.first h.steps c → HasShape h.count (bytes_of h.size) c
+left_shape h c sound left = left_has_shape h.count (bytes_of h.size) h.first h.steps c sound.shape sound.whole left
+
+chosen : (h : History) (c : Image) → IsSound h → MayLeave h.first h.steps c → (choice : List ℕ) × IsChosen h choice c
+chosen h c sound left =
+    let sectors : ℕ = bytes_of h.size / 512 in
+    let among : (p k : ℕ) → IsAmong (versions h.first h.steps p) k (sector k (block c p)) = image_takes h.first h.steps c left in
+    let choice : List ℕ = numbers (λ p k. (among p k).0) h.steps sectors h.count in (
+      choice,
+      record {
+        shape = left_shape h c sound left;
+        each = λ place k inside less.
+            named (block (synced h.first h.steps) place) (written h.steps place) k (get_or choice (written_below h.steps place * sectors + k) 0) (sector k (block c place)) (among place k)
+            (get_or-numbers (λ p i. (among p i).0) h.steps sectors h.count place k inside less);
+      },
+    )
+
+pub left-versions : (h : History) (c : Image) → IsSound h → MayLeave h.first h.steps c ↔ TakesVersions h c
+left-versions h c sound = (
+  λ left. record { shape = left_shape h c sound left; each = λ place k inside less. image_takes h.first h.steps c left place k },
+  λ takes.
+      choice_left h.count (bytes_of h.size / 512) h.first h.steps c
+      (subst (λ s. HasShape h.count s h.first) (whole_sectors h.size) sound.shape)
+      (subst (λ s. AreWhole h.count s h.steps) (whole_sectors h.size) sound.whole)
+      (subst (λ s. HasShape h.count s c) (whole_sectors h.size) takes.shape)
+      takes.each,
+)
+
+pub left-chosen : (h : History) (c : Image) → IsSound h → MayLeave h.first h.steps c ↔ ((choice : List ℕ) × IsChosen h choice c)
+left-chosen h c sound = (chosen h c sound, λ is. chosen_left h is.0 c sound is.1)

@@ -1,0 +1,5 @@
+use Rattle.jb_disk.proofs.Reached.{left-versions, left-chosen}
+use Rattle.jb_disk.proofs.laws.crash.Goals as goal
+
+pub returns : goal.returns
+returns c = record { versions = left-versions; choices = left-chosen }

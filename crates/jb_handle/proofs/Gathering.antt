@@ -1,0 +1,72 @@
+-- The words of handles, gathered one after the other.
+use Rattle.std.proofs.Common.{◌≡◌, ℕ, zero, suc, ◌+◌, ◌<◌, ◌≤◌, cond, nat_eq, T, List, [], ◌∷◌, ◌++◌, length, get_or, take, Option, Some, None, Result, Ok, Err, OnErr, refl, sym, ap, ◌∙◌, arith}
+use Rattle.std.specs.Option.{option_or}
+use Rattle.std.specs.Ordering.{nat_cmp}
+use Rattle.std.specs.Cmp.{nat_cmp_total}
+use Rattle.std.specs.FinMap as map
+use Rattle.std.proofs.lemmas.List.{take_all, take_more}
+use Rattle.jb_handle.specs.declared.word.Word.{Word}
+use Rattle.jb_handle.specs.declared.stopped.Stopped.{Stopped}
+use Rattle.jb_handle.specs.Word.{WordMap}
+use Rattle.jb_handle.specs.Words.{word, words_of}
+use Rattle.jb_handle.proofs.LastWord.{or-cond, get-words_of}
+use Rattle.jb_handle.proofs.Rising.{find-take, tied-cond}
+use Rattle.jb_handle.proofs.Touched.{word-append}
+
+-- what holds anyway holds at a fault
+pub err-for : {A E P : Type 0} (r : Result A E) → P → OnErr r P
+err-for (Ok x) holds = tt
+err-for (Err e) holds = holds
+
+-- one word more of a handle
+pub word-more : (es : List (ℕ × Word)) → T (map.is_sorted nat_cmp es) → (i : ℕ) (e : ℕ × Word) → e ≡ get_or es i e → i < length es → (m n : WordMap) (w : Word) → w ≡ e.1 → n ≡ map.insert m e.0 w
+    → (q : ℕ) (before : Option Word) → map.get m q ≡ option_or (map.find nat_cmp q (take i es)) before → map.get n q ≡ option_or (map.find nat_cmp q (take (i + 1) es)) before
+word-more es rising i e here inside m n w same put q before so_far =
+    ap (λ x. map.get x q) put
+    ∙ map.get-insert nat_cmp_total m e.0 w q
+    ∙ tied-cond q e.0 (Some w) (map.get m q)
+    ∙ ap (λ x. cond (nat_eq q e.0) (Some x) (map.get m q)) same
+    ∙ ap (cond (nat_eq q e.0) (Some e.1)) so_far
+    ∙ or-cond (nat_eq q e.0) e.1 (map.find nat_cmp q (take i es)) before
+    ∙ ap (λ (x : ℕ × Word). option_or (cond (nat_eq q x.0) (Some x.1) (map.find nat_cmp q (take i es))) before) here
+    ∙ ap (λ found. option_or found before) (sym (find-take es rising i e inside q))
+
+-- all words of a handle
+pub words-whole : (words : WordMap) (es : List (ℕ × Word)) → es ≡ map.entries words → (i : ℕ) → length es ≤ i → (q : ℕ) (before : Option Word) → option_or (map.find nat_cmp q (take i es)) before ≡ option_or (map.get words q) before
+words-whole words es same i whole q before = ap (λ found. option_or found before) (ap (map.find nat_cmp q) (take_all i es whole ∙ same) ∙ sym (map.get-entries words q))
+
+-- a handle of which an entry was taken has words
+pub some-entry : (words : WordMap) (es : List (ℕ × Word)) → es ≡ map.entries words → (i : ℕ) → i < length es → 0 < map.len words
+some-entry words es same i inside = let all : map.len words ≡ length es = map.len-entries words ∙ ap length (sym same) in omega (arith, all)
+
+-- one handle more
+pub handle-more : (hs : List Stopped) (i : ℕ) (h : Stopped) → h ≡ get_or hs i h → i < length hs → (m n : WordMap) (q : ℕ) → map.get n q ≡ option_or (map.get h.words q) (map.get m q) → map.get m q ≡ word (take i hs) q → map.get n q ≡ word (take (i + 1) hs) q
+handle-more hs i h here inside m n q put so_far =
+    put
+    ∙ ap (option_or (map.get h.words q)) so_far
+    ∙ sym (word-append (take i hs) h q)
+    ∙ ap (λ gs. word gs q) (ap (λ g. take i hs ++ g ∷ []) here ∙ sym (take_more hs i h inside))
+
+-- all handles
+pub handles-whole : (hs : List Stopped) (i : ℕ) → length hs ≤ i → (m : WordMap) → ((q : ℕ) → map.get m q ≡ word (take i hs) q) → m ≡ words_of hs
+handles-whole hs i whole m so_far = map.same_map nat_cmp_total map.nat_cmp-IsAntisymmetric m (words_of hs) (λ q. so_far q ∙ ap (λ gs. word gs q) (take_all i hs whole) ∙ sym (get-words_of hs q))
+
+or-none : {W : Type 0} (x y : Option W) → option_or x y ≡ None → (x ≡ None) × (y ≡ None)
+or-none None y is = (refl, is)
+or-none {W} (Some w) y is = let never : ◌≡◌ {A = Option W} (Some w) None = is in absurd (let h : ⊥ = cc in h)
+
+-- where no handle has a word on a home, none of them has
+none-each : (hs : List Stopped) (i : ℕ) (d : Stopped) (q : ℕ) → i < length hs → word hs q ≡ None → map.get (get_or hs i d).words q ≡ None
+none-each [] i d q inside none = absurd (let h : ⊥ = omega arith in h)
+none-each (h ∷ hs) zero d q inside none = (or-none (word hs q) (map.get h.words q) none).1
+none-each (h ∷ hs) (suc i) d q inside none = none-each hs i d q (omega arith) (or-none (word hs q) (map.get h.words q) none).0
+
+-- handles of which one has words leave some
+pub some-words : (hs : List Stopped) (i : ℕ) (h : Stopped) → h ≡ get_or hs i h → i < length hs → 0 < map.len h.words → 0 < map.len (words_of hs)
+some-words hs i h here inside some = grind (arith, λ (none : map.len (words_of hs) ≡ 0). empty none)
+  where
+    empty : map.len (words_of hs) ≡ 0 → map.len h.words ≡ 0
+    empty none =
+        let nothing : words_of hs ≡ map.empty = map.empty_of_len (words_of hs) none in
+        let lacks : (q : ℕ) → map.get h.words q ≡ None = λ q. ap (λ (g : Stopped). map.get g.words q) here ∙ none-each hs i h q inside (sym (get-words_of hs q) ∙ ap (λ m. map.get m q) nothing ∙ map.get-empty nat_cmp q) in
+        ap map.len (map.same_map nat_cmp_total map.nat_cmp-IsAntisymmetric h.words map.empty (λ q. lacks q ∙ sym (map.get-empty nat_cmp q))) ∙ map.len-empty nat_cmp Word

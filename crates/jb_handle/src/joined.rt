@@ -1,0 +1,28 @@
+ghost use Rattle.std.specs.Prelude.{◌≡◌, ◌<◌, IfOk, OnErr};
+ghost use Rattle.std.specs.FinMap as map;
+ghost use Rattle.jb_handle.specs.Words.{words_of};
+
+use crate::gathered::Gathered;
+use crate::stopped::Stopped;
+use crate::words::Words;
+use jb_block::Memory;
+use std::alloc::Global;
+
+impl Words {
+    /// The words of a list of handles as those of one: of several words on one home block the last
+    /// handle's counts.
+    ///
+    /// # Errors
+    ///
+    /// `Memory` where there is none for a copy of the words, and never where no handle has a word.
+    pub fn joined(alloc: Global, handles: &[Stopped]) -> Result<Words, Memory>
+        ensures ok { IfOk result (λ words. words ≡ words_of handles.now) }
+        ensures err { OnErr result (0 < map.len (words_of handles.now)) }
+    {
+        let mut gathered = Gathered::new(alloc);
+        for handle in handles {
+            gathered.put_all(&handle.words)?;
+        }
+        gathered.into_words(alloc)
+    }
+}

@@ -1,0 +1,18 @@
+//! The commands over any disk, any reader and any writer: their contracts say what was called and which bytes were written.
+
+mod dumping;
+mod formatting;
+mod putting;
+mod reading;
+mod recovering;
+mod refusal;
+mod stop_line;
+mod telling;
+
+pub use dumping::dump_from;
+pub use formatting::format_on;
+pub(crate) use reading::read_as;
+pub use reading::{ReadFault, TEXT_LIMIT, read_within};
+pub use recovering::recover_on;
+pub use refusal::refuse_words;
+pub(crate) use telling::tell;

@@ -1,0 +1,254 @@
+//! New images, and images that are recovered.
+
+use crate::runs::{MAGIC, UUID, add_block, runs};
+use std::alloc::{AllocError, Global};
+use std::fs;
+use std::test::Fail;
+
+// The sizes of a new image, another option with its value, the status, and what is written.
+type Format = (
+    [&'static str; 3],
+    [&'static str; 2],
+    u8,
+    &'static str,
+    &'static str,
+);
+
+const SMALL: [&str; 3] = ["1024", "33", "16"];
+
+const NO_MAX: [&str; 2] = ["--max", "0"];
+
+const BAD_OPTION: &str = "jb: bad option\n";
+
+const FORMATS: &[Format] = &[
+    (SMALL, NO_MAX, 0, "formatted limit 8\n", ""),
+    (SMALL, ["--max", "6"], 0, "formatted limit 6\n", ""),
+    (SMALL, ["--max", "1"], 0, "formatted limit 3\n", ""),
+    (
+        SMALL,
+        ["--max", "4294967295"],
+        0,
+        "formatted limit 32\n",
+        "",
+    ),
+    (["1024", "8", "16"], NO_MAX, 1, "", "jb: Geometry\n"),
+    (["1024", "0", "16"], NO_MAX, 1, "", "jb: Geometry\n"),
+    (["512", "33", "16"], NO_MAX, 2, "", BAD_OPTION),
+    (["1025", "33", "16"], NO_MAX, 2, "", BAD_OPTION),
+    (["8192", "33", "16"], NO_MAX, 2, "", BAD_OPTION),
+    (["1024", "4294967296", "16"], NO_MAX, 2, "", BAD_OPTION),
+    (SMALL, ["--max", "4294967296"], 2, "", BAD_OPTION),
+    (["1024", "0", "9007199254740992"], NO_MAX, 2, "", BAD_OPTION),
+    (
+        ["4096", "4294967295", "18446744073709551615"],
+        NO_MAX,
+        2,
+        "",
+        BAD_OPTION,
+    ),
+    (SMALL, ["--uuid", ""], 2, "", BAD_OPTION),
+    (
+        SMALL,
+        ["--uuid", "000102030405060708090a0b0c0d0e0g"],
+        2,
+        "",
+        BAD_OPTION,
+    ),
+    (
+        SMALL,
+        ["--uuid", "000102030405060708090a0b0c0d0e"],
+        2,
+        "",
+        BAD_OPTION,
+    ),
+    (
+        SMALL,
+        ["--uuid", "000102030405060708090a0b0c0d0e0f10"],
+        2,
+        "",
+        BAD_OPTION,
+    ),
+];
+
+// Whether `jb format` with these sizes, in a file of this name, ends with this status and writes just these two texts.
+fn formatted(
+    rt: &HostRuntime,
+    image: &str,
+    sizes: [&str; 3],
+    more: [&str; 2],
+    status: u8,
+    out: &str,
+    err: &str,
+) -> bool {
+    let words = [
+        "format",
+        image,
+        "--bs",
+        sizes[0],
+        "--journal",
+        sizes[1],
+        "--homes",
+        sizes[2],
+        more[0],
+        more[1],
+    ];
+    runs(rt, &words, b"", status, out, err)
+}
+
+// Whether `jb recover` of a file ends with this status and writes just these two texts.
+fn recovered(rt: &HostRuntime, image: &str, status: u8, out: &str, err: &str) -> bool {
+    runs(rt, &["recover", image], b"", status, out, err)
+}
+
+#[test]
+fn each_format_answers_its_row(rt: HostRuntime) -> Result<(), Fail> {
+    for (sizes, more, status, out, err) in FORMATS {
+        assert!(rt;
+            formatted(&rt, "new.img", *sizes, *more, *status, out, err),
+            "{out}{err}"
+        );
+        if *status == 2 {
+            assert!(rt; !fs::exists(&rt, "new.img").unwrap_or(true));
+            continue;
+        }
+        let made = fs::read(&rt, "new.img")?;
+        // a journal that was refused leaves zeros: the homes alone, and for 8 blocks of journal these too
+        let blocks = match sizes[1] {
+            "33" => 49,
+            "8" => 24,
+            _ => 16,
+        };
+        assert_eq!(rt; made.len(), blocks * 1024);
+        assert!(rt; *status == 0 || made.iter().all(|byte| *byte == 0));
+        fs::remove_file(&rt, "new.img")?;
+    }
+    Ok(())
+}
+
+#[test]
+fn a_new_image_is_its_superblock_and_zeros_and_is_made_once(rt: HostRuntime) -> Result<(), Fail> {
+    let sizes = ["2048", "40", "1"];
+    let more = ["--uuid", "000102030405060708090A0b0c0d0e0f"];
+    assert!(rt; formatted(&rt, "front.img", sizes, more, 0, "formatted limit 9\n", ""));
+    let mut want = Vec::new(rt.alloc());
+    let words = [
+        MAGIC, 4, 0, 2048, 40, 1, 1, 0, 0, 0, 1, 0, UUID[0], UUID[1], UUID[2], UUID[3], 1, 0, 0, 0,
+    ];
+    add_block(&mut want, 2048, &words)?;
+    want.resize(41 * 2048, 0)?;
+    assert!(rt; fs::read(&rt, "front.img")?.as_slice() == want.as_slice());
+    let out = "transactions 0 copies 0 revoked 0 next 2\n";
+    assert!(rt; recovered(&rt, "front.img", 0, out, ""));
+    for (name, err) in [
+        ("front.img", "jb: cannot make front.img\n"),
+        (".", "jb: cannot make .\n"),
+        ("", "jb: cannot make \n"),
+        (
+            "no-such-folder/a.img",
+            "jb: cannot make no-such-folder/a.img\n",
+        ),
+    ] {
+        assert!(rt; formatted(&rt, name, SMALL, NO_MAX, 2, "", err), "{name}");
+    }
+    assert!(rt; fs::read(&rt, "front.img")?.as_slice() == want.as_slice());
+    Ok(())
+}
+
+// The incompatible features of an image, the count of its revoke block, the home of its copy, how many of its bytes the file
+// has, and what a recovery answers.
+type Recovery = (u32, u32, u32, usize, Result<&'static str, &'static str>);
+
+const WHOLE: usize = 49 * 1024;
+
+const RECOVERIES: &[Recovery] = &[
+    (
+        1,
+        20,
+        5,
+        WHOLE,
+        Ok("transactions 1 copies 1 revoked 0 next 4\n"),
+    ),
+    (
+        1,
+        20,
+        7,
+        WHOLE,
+        Ok("transactions 1 copies 0 revoked 1 next 4\n"),
+    ),
+    (16, 20, 5, WHOLE, Err("jb: Super Feature 2 16\n")),
+    (1, 1025, 5, WHOLE, Err("jb: BadRevoke 1\n")),
+    (1, 20, 16, WHOLE, Err("jb: HomeOutOfRange 16 2\n")),
+    (1, 20, 5, 20 * 1024, Err("jb: Super Geometry\n")),
+    (1, 20, 5, 33 * 1024 - 1, Err("jb: Super Geometry\n")),
+    (1, 20, 5, 33 * 1024, Err("jb: HomeOutOfRange 5 2\n")),
+    (1, 20, 5, 1023, Err("jb: Super ShortBlock\n")),
+    (1, 20, 5, 0, Err("jb: Super ShortBlock\n")),
+];
+
+// A superblock that says where its log begins, and with which number; a revoke of home 7 with this count, and a copy of a home
+// that begins with the magic, as one committed transaction of number 2 at the places 1 to 4 of 33 blocks of journal; and 16
+// home blocks, of which number 5 begins with these words.
+fn image(
+    alloc: Global,
+    log: [u32; 2],
+    incompat: u32,
+    count: u32,
+    home: u32,
+    words: &[u32],
+) -> Result<Vec<u8>, AllocError> {
+    let [number, start] = log;
+    let mut image = Vec::new(alloc);
+    let front = [
+        MAGIC, 4, 0, 1024, 33, 1, number, start, 0, 0, incompat, 0, UUID[0], UUID[1], UUID[2],
+        UUID[3],
+    ];
+    add_block(&mut image, 1024, &front)?;
+    add_block(&mut image, 1024, &[MAGIC, 5, 2, count, 7])?;
+    let tag = [MAGIC, 1, 2, home, 9, UUID[0], UUID[1], UUID[2], UUID[3]];
+    add_block(&mut image, 1024, &tag)?;
+    add_block(&mut image, 1024, &[0, 0x0102_0304])?;
+    add_block(&mut image, 1024, &[MAGIC, 2, 2])?;
+    image.resize(38 * 1024, 0)?;
+    add_block(&mut image, 1024, words)?;
+    image.resize(WHOLE, 0)?;
+    Ok(image)
+}
+
+#[test]
+fn each_recovery_answers_its_row_and_a_refused_image_stays(rt: HostRuntime) -> Result<(), Fail> {
+    for (incompat, count, home, len, answer) in RECOVERIES {
+        let bytes = image(rt.alloc(), [2, 1], *incompat, *count, *home, &[])?;
+        let cut = bytes.as_slice().get(..*len).unwrap_or(&[]);
+        fs::write(&rt, "log.img", cut)?;
+        match answer {
+            Ok(out) => {
+                // clean with number 3, and the copy in home 5 unless it is revoked
+                let words = [MAGIC, 0x0102_0304];
+                let words = if *home == 5 { &words[..] } else { &[] };
+                let want = image(rt.alloc(), [3, 0], *incompat, *count, *home, words)?;
+                assert!(rt; recovered(&rt, "log.img", 0, out, ""), "{out}");
+                assert!(rt;
+                    fs::read(&rt, "log.img")?.as_slice() == want.as_slice(),
+                    "{out}"
+                );
+                let out = "transactions 0 copies 0 revoked 0 next 4\n";
+                assert!(rt; recovered(&rt, "log.img", 0, out, ""));
+                assert!(rt; fs::read(&rt, "log.img")?.as_slice() == want.as_slice());
+            }
+            Err(err) => {
+                assert!(rt; recovered(&rt, "log.img", 1, "", err), "{err}");
+                assert!(rt; fs::read(&rt, "log.img")?.as_slice() == cut, "{err}");
+            }
+        }
+    }
+    let mut short = Vec::new(rt.alloc());
+    add_block(
+        &mut short,
+        1024,
+        &[MAGIC, 4, 0, 4096, 33, 1, 2, 0, 0, 0, 1, 0],
+    )?;
+    fs::write(&rt, "log.img", short.as_slice())?;
+    assert!(rt; recovered(&rt, "log.img", 1, "", "jb: Super ShortBlock\n"));
+    assert!(rt; fs::read(&rt, "log.img")?.as_slice() == short.as_slice());
+    Ok(())
+}

@@ -1,0 +1,15 @@
+//! Tests of the program by whole runs.
+#![tactic(auto)]
+
+#[cfg(test)]
+mod certificates;
+#[cfg(test)]
+mod images;
+#[cfg(test)]
+mod journals;
+#[cfg(test)]
+mod runs;
+#[cfg(test)]
+mod streams;
+#[cfg(test)]
+mod texts;
