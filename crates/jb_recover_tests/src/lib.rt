@@ -1,0 +1,21 @@
+//! Tests of recovery and of a new journal.
+#![tactic(auto)]
+
+#[cfg(test)]
+mod cases;
+#[cfg(test)]
+mod crashes;
+#[cfg(test)]
+mod disks;
+#[cfg(test)]
+mod faults;
+#[cfg(test)]
+mod foreign;
+#[cfg(test)]
+mod formats;
+#[cfg(test)]
+mod images;
+#[cfg(test)]
+mod small;
+#[cfg(test)]
+mod wraps;
