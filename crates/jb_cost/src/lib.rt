@@ -13,8 +13,6 @@ mod met;
 mod owned;
 mod stretch;
 mod take_over;
-#[cfg(test)]
-mod tests;
 
 pub use credits::{most_credits, worst_cost};
 pub use footprint::Footprint;

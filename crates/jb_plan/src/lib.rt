@@ -5,8 +5,6 @@ mod bounds;
 mod planned;
 mod planner;
 mod table;
-#[cfg(test)]
-mod tests;
 
 pub use planned::{Answer, Planned};
 pub use planner::plan;

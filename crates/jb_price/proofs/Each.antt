@@ -1,8 +1,9 @@
 -- The words of a line, read one by one.
-use Rattle.std.proofs.Common.{◌≡◌, ◌∙◌, sym, ap, ℕ, List, [], ◌∷◌, ◌++◌, refl, Option, Some, None, Err}
+use Rattle.std.proofs.Common.{◌≡◌, ◌∙◌, sym, ap, subst, ℕ, ◌+◌, ◌<◌, ◌==◌, Bool, true, false, if◌then◌else◌, List, [], ◌∷◌, ◌++◌, length, refl, arith, length-append, inl, inr, Option, IsSome, Some, None, Err}
 use Rattle.std.specs.Borrow.{Bor}
 use Rattle.std.specs.Option.{option_copied}
-use Rattle.jb_handle.specs.Parts.{words, words_in}
+use Rattle.std.proofs.lemmas.Bool.{cases_lt}
+use Rattle.jb_handle.specs.Parts.{words, words_in, first_of, grow}
 use Rattle.jb_price.specs.declared.fault.CertFault.TheVariants.{Syntax}
 use Rattle.jb_price.specs.Reading.{after_each, on_line}
 
@@ -38,3 +39,46 @@ module _ {A : Type 0} (read : List ℕ → Option A) (had : List A) where
 
       pub word-fails : (at : ℕ) → read word ≡ None → on_line at whole ≡ Err (Syntax at)
       word-fails at step = ap (on_line at) (sym from_word ∙ each-fails word behind step)
+
+-- the first word was read, or no word was looked at yet
+pub record Begun {A : Type 0} (read : List ℕ → Option A) (had : List A) (all left : List (List ℕ)) : Type 0 where
+  pub some : 0 < length had → IsSome (first_of read all)
+  pub fresh : length had ≡ 0 → left ≡ all
+
+pub begun-start : {A : Type 0} (read : List ℕ → Option A) (had : List A) (all : List (List ℕ)) → had ≡ [] → Begun read had all all
+begun-start read had all none = record { some = λ more. absurd (let long : length had ≡ 0 = ap length none in let h : ⊥ = omega arith in h); fresh = λ _. refl }
+
+no-words : (text : List ℕ) → words text ≡ [] → ⊥
+unfolding words
+no-words [] none = let h : ◌≡◌ {A = List (List ℕ)} ([] ∷ []) [] = none in cc
+no-words (b ∷ bs) none = go (b == 32) (words bs) none
+  where
+    go : (t : Bool) (ws : List (List ℕ)) → (if t then [] ∷ ws else grow b ws) ≡ [] → ⊥
+    go true ws h = cc
+    go false [] h = cc
+    go false (w ∷ ws) h = cc
+
+module _ {A : Type 0} (read : List ℕ → Option A) (had : List A) (all left : List (List ℕ)) (begun : Begun read had all left) where
+  -- a word is read
+  pub begun-some : (word : List ℕ) (behind : List (List ℕ)) (x : A) → left ≡ word ∷ behind → read word ≡ Some x → IsSome (first_of read all)
+  begun-some word behind x parts is = elim (cases_lt 0 (length had)) [
+    | inl more ↦ begun.some more
+    | inr none ↦ subst (λ ws. IsSome (first_of read ws)) (sym parts ∙ begun.fresh (omega (arith, none))) (rw is refl)
+  ]
+
+  pub begun-goes : (word : List ℕ) (behind : List (List ℕ)) (x : A) (now : List A) (rest : List (List ℕ)) → left ≡ word ∷ behind → read word ≡ Some x → now ≡ had ++ x ∷ [] → Begun read now all rest
+  begun-goes word behind x now rest parts is pushed = record {
+    some = λ _. begun-some word behind x parts is;
+    fresh = λ none. absurd (let long : length now ≡ length had + 1 = ap length pushed ∙ simp length-append refl in let h : ⊥ = omega arith in h);
+  }
+
+  -- all words were read
+  pub begun-ends : (text : List ℕ) (rest : Option (Bor (List ℕ))) → all ≡ words text → left ≡ words_in (option_copied rest) → ((text : Bor (List ℕ)) → rest ≡ Some text → ⊥) → IsSome (first_of read all)
+  begun-ends text rest whole is ended = elim (cases_lt 0 (length had)) [
+    | inl more ↦ begun.some more
+    | inr none ↦ absurd (no-words text (sym whole ∙ sym (begun.fresh (omega (arith, none))) ∙ is ∙ over rest ended))
+  ]
+    where
+      over : (rest' : Option (Bor (List ℕ))) → ((text : Bor (List ℕ)) → rest' ≡ Some text → ⊥) → words_in (option_copied rest') ≡ []
+      over None h = refl
+      over (Some text) h = absurd (h text refl)

@@ -1,5 +1,5 @@
 -- What the text of a certificate claims, line by line, or its first fault.
-use Rattle.std.specs.Prelude.{◌≡◌, ℕ, ◌+◌, ◌==◌, if◌then◌else◌, List, [], ◌∷◌, ◌++◌, length, codes, Option, option_map, Some, None, Result, Ok, Err}
+use Rattle.std.specs.Prelude.{◌≡◌, ℕ, ◌+◌, ◌==◌, if◌then◌else◌, List, [], ◌∷◌, ◌++◌, length, codes, Option, option_map, IsSome, Some, None, Result, Ok, Err}
 use Rattle.std.specs.Option.{option_and_then}
 use Rattle.std.specs.Str.{bytes_eq}
 use Rattle.jb_handle.specs.Parts.{◌>>=◌, lines, words, behind_word, first_of, number_of}
@@ -83,7 +83,15 @@ read_of handles text = do
   claim ← claim_in (lines text)
   for_handles handles claim
 
--- a fault is the first one of a text; want of memory says nothing of it
-abbrev pub Refuses : {A : Type 0} → Result A CertFault → CertFault → Type 0
-Refuses read Memory = Unit {0}
-Refuses read fault = read ≡ Err fault
+-- what the first word of a line of prices says, and the words after it
+abbrev pub first_price : List ℕ → Option (Option ℕ × List (List ℕ))
+first_price line = option_and_then (λ text. first_of price_of (words text)) (behind_word (codes "prices ") line)
+
+-- the first line of a text begins with a price, which is kept before anything else is looked at
+abbrev pub BeginsWithPrice : List ℕ → Type 0
+BeginsWithPrice text = IsSome (first_of first_price (lines text))
+
+-- a fault is the first one of a text; out of memory says of it only that something grows
+abbrev pub Refuses : {A : Type 0} → Type 0 → Result A CertFault → CertFault → Type 0
+Refuses grows read Memory = grows
+Refuses grows read fault = read ≡ Err fault

@@ -4,15 +4,11 @@
 mod certificate;
 mod check_cut;
 mod check_prices;
-#[cfg(test)]
-mod check_tests;
 mod checker;
 mod fault;
 pub mod laws;
 mod print;
 mod read;
-#[cfg(test)]
-mod text_tests;
 mod verdict;
 
 pub use certificate::{Cert, CertAnswer};

@@ -1,7 +1,7 @@
-ghost use Rattle.std.specs.Prelude.{◌≡◌, [], IfOk, IfErr, Some, None, Ok, option_map, map};
+ghost use Rattle.std.specs.Prelude.{◌≡◌, [], IfOk, OnOk, IfErr, IsSome, Some, None, Ok, option_map, map};
 ghost use Rattle.std.specs.Option.{option_copied};
 ghost use Rattle.jb_handle.specs.Parts.{lines, words, first_of, number_of};
-ghost use Rattle.jb_price.specs.Reading.{read_of, claim_of, claim_in, cut_of, price_of as price_of_word, prices_in, bounds_in, cut_in, total_in, after_each, on_line, at_end, with_total, Refuses};
+ghost use Rattle.jb_price.specs.Reading.{read_of, claim_of, claim_in, cut_of, price_of as price_of_word, prices_in, bounds_in, cut_in, total_in, after_each, on_line, at_end, with_total, first_price, BeginsWithPrice, Refuses};
 
 use crate::certificate::{Cert, CertAnswer};
 use crate::fault::CertFault;
@@ -13,10 +13,10 @@ use std::alloc::Global;
 /// # Errors
 ///
 /// `Syntax` with the first line that breaks the form; else `Length` where there is not one price more than
-/// handles; or `Memory`.
+/// handles; or `Memory`, once the first price was read.
 pub fn read_cert(alloc: Global, text: &[u8], handles: usize) -> Result<Cert, CertFault>
     ensures ok { IfOk result (λ cert. read_of handles text.now ≡ Ok (claim_of cert)) }
-    ensures err { IfErr result (Refuses (read_of handles text.now)) }
+    ensures err { IfErr result (Refuses (BeginsWithPrice text.now) (read_of handles text.now)) }
 {
     let cert = read_lines(alloc, text)?;
     if cert.prices.len().checked_sub(1) != Some(handles) {
@@ -28,7 +28,7 @@ pub fn read_cert(alloc: Global, text: &[u8], handles: usize) -> Result<Cert, Cer
 // The certificate that the lines of a text say.
 fn read_lines(alloc: Global, text: &[u8]) -> Result<Cert, CertFault>
     ensures ok { IfOk result (λ cert. claim_in (lines text.now) ≡ Ok (claim_of cert)) }
-    ensures err { IfErr result (Refuses (claim_in (lines text.now))) }
+    ensures err { IfErr result (Refuses (BeginsWithPrice text.now) (claim_in (lines text.now))) }
 {
     let Some((line, text)) = next_line(text) else {
         return Err(CertFault::Syntax(1));
@@ -47,7 +47,8 @@ fn read_lines(alloc: Global, text: &[u8]) -> Result<Cert, CertFault>
 // The prices of the first line.
 fn read_prices(alloc: Global, line: &[u8]) -> Result<Vec<Option<u64>>, CertFault>
     ensures ok { IfOk result (λ prices. prices_in line.now ≡ Some prices.items) }
-    ensures err { IfErr result (Refuses (on_line 1 (prices_in line.now))) }
+    ensures begun { OnOk result (IsSome (first_price line.now)) }
+    ensures err { IfErr result (Refuses (IsSome (first_price line.now)) (on_line 1 (prices_in line.now))) }
 {
     match line.strip_prefix(b"prices ") {
         Some(text) => price_list(alloc, text),
@@ -58,7 +59,8 @@ fn read_prices(alloc: Global, line: &[u8]) -> Result<Vec<Option<u64>>, CertFault
 // The prices that words say.
 fn price_list(alloc: Global, text: &[u8]) -> Result<Vec<Option<u64>>, CertFault>
     ensures ok { IfOk result (λ prices. after_each price_of_word [] (words text.now) ≡ Some prices.items) }
-    ensures err { IfErr result (Refuses (on_line 1 (after_each price_of_word [] (words text.now)))) }
+    ensures begun { OnOk result (IsSome (first_of price_of_word (words text.now))) }
+    ensures err { IfErr result (Refuses (IsSome (first_of price_of_word (words text.now))) (on_line 1 (after_each price_of_word [] (words text.now)))) }
 {
     let mut prices = Vec::new(alloc);
     let mut rest = Some(text);
@@ -88,7 +90,7 @@ fn price_of(word: &[u8]) -> Option<Option<u64>>
 // The bounds of the second line, or `None` where it says that there is no cut.
 fn read_cut(alloc: Global, line: &[u8]) -> Result<Option<Vec<usize>>, CertFault>
     ensures ok { IfOk result (λ cut. cut_in line.now ≡ Some (option_map (λ bounds. bounds.items) cut)) }
-    ensures err { IfErr result (Refuses (on_line 2 (cut_in line.now))) }
+    ensures err { IfErr result (Refuses (Unit {0}) (on_line 2 (cut_in line.now))) }
 {
     match line.strip_prefix(b"cut ") {
         Some(text) if text == b"none".as_slice() => Ok(None),
@@ -100,7 +102,7 @@ fn read_cut(alloc: Global, line: &[u8]) -> Result<Option<Vec<usize>>, CertFault>
 // The bounds that words say.
 fn bound_list(alloc: Global, text: &[u8]) -> Result<Vec<usize>, CertFault>
     ensures ok { IfOk result (λ bounds. after_each number_of [] (words text.now) ≡ Some bounds.items) }
-    ensures err { IfErr result (Refuses (on_line 2 (after_each number_of [] (words text.now)))) }
+    ensures err { IfErr result (Refuses (Unit {0}) (on_line 2 (after_each number_of [] (words text.now)))) }
 {
     let mut bounds = Vec::new(alloc);
     let mut rest = Some(text);
@@ -120,7 +122,7 @@ fn bound_list(alloc: Global, text: &[u8]) -> Result<Vec<usize>, CertFault>
 // The cut of these bounds, with the total of the third line, behind which none is left.
 fn read_total(bounds: Vec<usize>, text: &[u8]) -> Result<CertAnswer, CertFault>
     ensures ok { IfOk result (λ answer. with_total (Some bounds.items) (lines text.now) ≡ Ok (cut_of answer)) }
-    ensures err { IfErr result (Refuses (with_total (Some bounds.items) (lines text.now))) }
+    ensures err { IfErr result (Refuses ⊥ (with_total (Some bounds.items) (lines text.now))) }
 {
     let Some((line, rest)) = next_line(text) else {
         return Err(CertFault::Syntax(3));
@@ -144,7 +146,7 @@ fn total_of(line: &[u8]) -> Option<u64>
 // The answer that there is no cut, behind which no line is left.
 fn read_end(text: &[u8]) -> Result<CertAnswer, CertFault>
     ensures ok { IfOk result (λ answer. with_total None (lines text.now) ≡ Ok (cut_of answer)) }
-    ensures err { IfErr result (Refuses (with_total None (lines text.now))) }
+    ensures err { IfErr result (Refuses ⊥ (with_total None (lines text.now))) }
 {
     match next_line(text) {
         Some(_) => Err(CertFault::Syntax(3)),

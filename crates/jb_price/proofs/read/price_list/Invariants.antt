@@ -3,11 +3,15 @@ use Rattle.std.specs.Option.{option_copied}
 use Rattle.jb_handle.specs.Parts.{words, words_in}
 use Rattle.jb_handle.proofs.Ops.{left}
 use Rattle.jb_price.specs.Reading.{after_each, price_of}
+use Rattle.jb_price.proofs.Each.{Begun}
 use Rattle.jb_price.proofs.read.price_list.Given as goal
 
 -- the prices of the words are those that the rest says after the ones that were read
 abbrev pub invariant-loop-rest : goal.invariant-loop-rest
-invariant-loop-rest l = after_each price_of l.prices.items (words_in (option_copied l.rest)) ≡ after_each price_of [] (words l.fn.text)
+invariant-loop-rest l = record {
+  goes : after_each price_of l.prices.items (words_in (option_copied l.rest)) ≡ after_each price_of [] (words l.fn.text);
+  begun : Begun price_of l.prices.items (words l.fn.text) (words_in (option_copied l.rest));
+}
 
 abbrev pub decreases-loop-rest : goal.decreases-loop-rest
 decreases-loop-rest l = left l.rest

@@ -1,7 +1,8 @@
-use crate::{Answer, plan};
+use crate::plain::{PlainPlan, plan_plainly};
 use jb_block::{BlockSize, Memory, Width};
 use jb_cost::Geometry;
 use jb_handle::{Payload, Stopped, Word, Words, is_within_size, read_queue};
+use jb_plan::{Answer, Planned, plan};
 use std::alloc::Global;
 use std::test::Fail;
 
@@ -202,6 +203,27 @@ fn queue_of(alloc: Global, changes: &[Changes]) -> Result<Vec<Stopped>, Memory> 
     Ok(queue)
 }
 
+// Whether a plan has the prices of the plain planner, and its bounds.
+fn agree(planned: &Planned, plain: &PlainPlan) -> bool {
+    if planned.prices != plain.prices {
+        return false;
+    }
+    match &planned.answer {
+        Answer::Cut { bounds, total } => {
+            plain.prices.last() == Some(&Some(*total)) && comes_from(bounds, &plain.froms)
+        }
+        Answer::NoCut => plain.prices.last() == Some(&None),
+    }
+}
+
+// Whether the bounds begin with 0, end with the last end, and each comes from the one before it.
+fn comes_from(bounds: &[usize], froms: &[usize]) -> bool {
+    let mut pairs = bounds.iter().zip(bounds.iter().skip(1));
+    bounds.first() == Some(&0)
+        && bounds.last() == froms.len().checked_sub(1).as_ref()
+        && pairs.all(|(from, to)| froms.get(*to) == Some(from))
+}
+
 // How many queues there are of no handle, of one, and so on.
 const QUEUES: [u32; 5] = [1, 27, 729, 19_683, 531_441];
 
@@ -223,11 +245,51 @@ fn no_cut_of_a_short_queue_beats_the_plan(rt: HostRuntime) -> Result<(), Fail> {
                 planned.prices.last() == Some(&wanted),
                 "queue {number} of {handles}"
             );
-            let total = match planned.answer {
-                Answer::Cut { bounds: _, total } => Some(total),
-                Answer::NoCut => None,
-            };
-            assert!(rt; total == wanted, "queue {number} of {handles}");
+            let plain = plan_plainly(alloc, &queue, geometry, limit)?;
+            assert!(rt; agree(&planned, &plain), "queue {number} of {handles}");
+        }
+    }
+    Ok(())
+}
+
+// The next number of a sequence that looks like chance, the same at each run.
+fn next(seed: &mut u64) -> u64 {
+    *seed = seed
+        .wrapping_mul(6_364_136_223_846_793_005)
+        .wrapping_add(1_442_695_040_888_963_407);
+    *seed >> 33
+}
+
+// A handle of up to three words over so many homes.
+fn chance_handle(alloc: Global, seed: &mut u64, homes: u64) -> Result<Stopped, Memory> {
+    let mut words = Words::new(alloc);
+    for _ in 0..next(seed) % 4 {
+        let home = next(seed) % homes.max(1);
+        if next(seed) % 3 == 0 {
+            words.put(home, Word::Free)?;
+        } else {
+            words.put(home, Word::Copy(Payload::padded(Vec::new(alloc), 1024)))?;
+        }
+    }
+    Ok(Stopped { ticket: 0, words })
+}
+
+#[test]
+fn plans_of_longer_queues_are_those_of_a_plain_planner(rt: HostRuntime) -> Result<(), Fail> {
+    let alloc = rt.alloc();
+    let geometry = Geometry::of(BlockSize::OneKib, Width::Narrow);
+    let mut seed = 1;
+    for number in 0..400 {
+        let homes = 1 + next(&mut seed) % 12;
+        let mut queue = Vec::new(alloc);
+        for _ in 0..next(&mut seed) % 30 {
+            queue.push(chance_handle(alloc, &mut seed, homes)?)?;
+        }
+        assert!(rt; is_within_size(&queue));
+        for limit in [2, 3, 5, 8, 13, 1000] {
+            let planned = plan(alloc, &queue, geometry, limit)?;
+            let plain = plan_plainly(alloc, &queue, geometry, limit)?;
+            assert!(rt; agree(&planned, &plain), "queue {number}, limit {limit}");
         }
     }
     Ok(())

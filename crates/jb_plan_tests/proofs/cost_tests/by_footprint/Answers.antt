@@ -2,7 +2,7 @@ use Rattle.std.proofs.Common.{◌≡◌, ◌-◌, ◌<◌, ◌^◌, ◌≤◌, �
 use Rattle.jb_handle.specs.Size.{weight}
 use Rattle.jb_cost.proofs.Costs.{weight-from}
 use Rattle.jb_cost.proofs.Covers.{room-left}
-use Rattle.jb_cost.proofs.tests.by_footprint.Goals as goal
+use Rattle.jb_plan_tests.proofs.cost_tests.by_footprint.Goals as goal
 
 pub add_left-requires : goal.add_left-requires
 add_left-requires c =

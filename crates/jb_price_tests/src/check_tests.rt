@@ -1,6 +1,6 @@
-use crate::{Cert, CertAnswer, Reason, Verdict, check, read_cert};
 use jb_cost::Geometry;
 use jb_handle::{is_within_size, read_queue};
+use jb_price::{Cert, CertAnswer, Reason, Verdict, check, read_cert};
 use std::test::Fail;
 
 // A queue's text, a certificate's text, and what the check says.
@@ -109,12 +109,7 @@ fn verdicts_are_those_worked_by_hand(rt: HostRuntime) -> Result<(), Fail> {
         let verdict = check(alloc, handles, geometry, queue.limit, &cert)?;
         assert_eq!(rt; verdict, wanted, "for {text}");
     }
-    Ok(())
-}
-
-#[test]
-fn a_cut_without_bounds_is_none(rt: HostRuntime) -> Result<(), Fail> {
-    let alloc = rt.alloc();
+    // a cut without bounds has no text
     let queue = read_queue(alloc, b"bs 1024\nlimit 8\n").expect(&rt, "the text is of the form");
     assert!(rt; queue.handles.is_empty() && is_within_size(&queue.handles));
     let answer = CertAnswer::Cut {

@@ -1,4 +1,4 @@
-use crate::{Cert, CertAnswer, CertFault, print_cert, read_cert};
+use jb_price::{Cert, CertAnswer, CertFault, print_cert, read_cert};
 use std::alloc::Global;
 use std::test::Fail;
 
@@ -13,14 +13,20 @@ fn four_handles(alloc: Global) -> Result<Cert, Fail> {
 }
 
 #[test]
-fn certificates_are_printed_line_by_line(rt: HostRuntime) -> Result<(), Fail> {
+fn certificates_are_printed_and_read(rt: HostRuntime) -> Result<(), Fail> {
     let alloc = rt.alloc();
     let text = print_cert(alloc, &four_handles(alloc)?)?;
     assert_eq!(rt; text.as_str(), FOUR_HANDLES);
-    let prices = vec![in alloc; Some(0), None]?;
-    let answer = CertAnswer::NoCut;
-    let text = print_cert(alloc, &Cert { prices, answer })?;
+    let read = read_cert(alloc, FOUR_HANDLES.as_bytes(), 4);
+    assert!(rt; read == Ok(four_handles(alloc)?));
+    let no_cut = Cert {
+        prices: vec![in alloc; Some(0), None]?,
+        answer: CertAnswer::NoCut,
+    };
+    let text = print_cert(alloc, &no_cut)?;
     assert_eq!(rt; text.as_str(), "prices 0 none\ncut none\n");
+    let read = read_cert(alloc, "prices 0 none\ncut none".as_bytes(), 1);
+    assert!(rt; read == Ok(no_cut));
     let prices = vec![in alloc; Some(u64::MAX)]?;
     let bounds = vec![in alloc; 0]?;
     let answer = CertAnswer::Cut { bounds, total: 0 };
@@ -32,18 +38,6 @@ fn certificates_are_printed_line_by_line(rt: HostRuntime) -> Result<(), Fail> {
     Ok(())
 }
 
-#[test]
-fn certificates_are_read(rt: HostRuntime) -> Result<(), Fail> {
-    let alloc = rt.alloc();
-    let read = read_cert(alloc, FOUR_HANDLES.as_bytes(), 4);
-    assert!(rt; read == Ok(four_handles(alloc)?));
-    let read = read_cert(alloc, "prices 0 none\ncut none".as_bytes(), 1);
-    let prices = vec![in alloc; Some(0), None]?;
-    let answer = CertAnswer::NoCut;
-    assert!(rt; read == Ok(Cert { prices, answer }));
-    Ok(())
-}
-
 // The line that a prefix of `FOUR_HANDLES` breaks, by the prefix's length: 0 to 33 bytes.
 const BROKEN_LINES: [u64; 34] = [
     1, 1, 1, 1, 1, 1, 1, 1, 2, 1, 2, 1, 2, 1, 2, 1, 2, 2, 2, 2, 2, 2, 3, 2, 3, 2, 3, 3, 3, 3, 3, 3,
@@ -51,7 +45,7 @@ const BROKEN_LINES: [u64; 34] = [
 ];
 
 #[test]
-fn each_prefix_is_read_to_a_value_or_a_fault(rt: HostRuntime) {
+fn the_first_line_that_breaks_the_form_is_named(rt: HostRuntime) {
     let alloc = rt.alloc();
     let text = FOUR_HANDLES.as_bytes();
     for (end, line) in BROKEN_LINES.iter().enumerate() {
@@ -64,10 +58,6 @@ fn each_prefix_is_read_to_a_value_or_a_fault(rt: HostRuntime) {
     // Only the LF of the last line may be missing.
     let read = read_cert(alloc, "prices 0 4 6 6 9\ncut 0 1 4\ntotal 9".as_bytes(), 4);
     assert!(rt; read.is_ok());
-}
-
-#[test]
-fn the_first_line_that_breaks_the_form_is_named(rt: HostRuntime) {
     let table = [
         ("", CertFault::Syntax(1)),
         ("\n", CertFault::Syntax(1)),

@@ -1,0 +1,165 @@
+// The planner of jb in plain Rust, to be timed beside it: plan QUEUE prints the certificate.
+// It reads only well-formed queue texts without data.
+use std::collections::BTreeMap;
+use std::io::Write;
+
+#[derive(Clone, Copy)]
+struct Touch {
+    handle: usize,
+    copy: bool,
+}
+
+#[derive(Clone, Copy)]
+struct Owned {
+    copies: u64,
+    frees: u64,
+}
+
+#[derive(Clone, Copy)]
+struct Priced {
+    from: usize,
+    price: u64,
+}
+
+#[derive(Clone, Copy)]
+struct Stretch {
+    from: usize,
+    least: Option<Priced>,
+}
+
+struct Touches {
+    t: u64,
+    r: u64,
+    last: BTreeMap<u64, Touch>,
+    owned: Vec<Owned>,
+    stretches: Vec<Stretch>,
+}
+
+impl Touches {
+    fn add(&mut self, words: &[(u64, bool)], start: Option<u64>) {
+        let handle = self.owned.len();
+        let mut gained = Owned { copies: 0, frees: 0 };
+        for &(home, copy) in words {
+            if let Some(before) = self.last.insert(home, Touch { handle, copy }) {
+                let owner = &mut self.owned[before.handle];
+                if before.copy {
+                    owner.copies -= 1;
+                } else {
+                    owner.frees -= 1;
+                }
+            }
+            if copy {
+                gained.copies += 1;
+            } else {
+                gained.frees += 1;
+            }
+        }
+        self.owned.push(gained);
+        let least = start.map(|price| Priced { from: handle, price });
+        self.stretches.push(Stretch { from: handle, least });
+    }
+
+    fn joined(&self, start: usize) -> Stretch {
+        let mut joined = self.stretches[start];
+        while joined.from > 0 {
+            let owned = self.owned[joined.from - 1];
+            if owned.copies > 0 || owned.frees > 0 {
+                break;
+            }
+            let earlier = self.stretches[joined.from - 1];
+            let least = match (earlier.least, joined.least) {
+                (Some(first), Some(later)) if later.price < first.price => Some(later),
+                (None, later) => later,
+                (first, _) => first,
+            };
+            joined = Stretch { from: earlier.from, least };
+        }
+        joined
+    }
+
+    // The start, and the price of the end.
+    fn best(&mut self, limit: u64) -> Option<(usize, u64)> {
+        let mut best: Option<(usize, u64)> = None;
+        let mut copies = 0;
+        let mut frees = 0;
+        let mut low = self.owned.len();
+        while low > 0 {
+            let start = low - 1;
+            copies += self.owned[start].copies;
+            frees += self.owned[start].frees;
+            let cost = 1 + copies + copies.div_ceil(self.t) + frees.div_ceil(self.r);
+            if cost > limit {
+                break;
+            }
+            let stretch = self.joined(start);
+            self.stretches[start] = stretch;
+            if let Some(least) = stretch.least {
+                let sum = least.price + cost;
+                if best.is_none_or(|(_, kept)| kept >= sum) {
+                    best = Some((least.from, sum));
+                }
+            }
+            low = stretch.from;
+        }
+        best
+    }
+}
+
+fn words_of(line: &str) -> Vec<(u64, bool)> {
+    let mut words: Vec<(u64, bool)> = Vec::new();
+    for word in line.split(' ').skip(1) {
+        let home = word[1..].parse().expect("a number");
+        let copy = word.starts_with('w');
+        match words.binary_search_by_key(&home, |entry| entry.0) {
+            Ok(at) => words[at].1 = copy,
+            Err(at) => words.insert(at, (home, copy)),
+        }
+    }
+    words
+}
+
+fn main() {
+    let path = std::env::args().nth(1).expect("plan QUEUE");
+    let text = std::fs::read_to_string(path).expect("the file is read");
+    let mut lines = text.lines();
+    let bs: u64 = lines.next().and_then(|l| l[3..].parse().ok()).expect("bs N");
+    let limit: u64 = lines.next().and_then(|l| l[6..].parse().ok()).expect("limit N");
+    let queue: Vec<Vec<(u64, bool)>> = lines.map(words_of).collect();
+    let mut touches = Touches {
+        t: (bs - 28) / 8,
+        r: (bs - 16) / 4,
+        last: BTreeMap::new(),
+        owned: Vec::new(),
+        stretches: Vec::new(),
+    };
+    let mut prices = vec![Some(0)];
+    let mut froms = vec![0];
+    for (last, words) in queue.iter().enumerate() {
+        touches.add(words, prices[last]);
+        let best = touches.best(limit);
+        prices.push(best.map(|(_, sum)| sum));
+        froms.push(best.map_or(0, |(from, _)| from));
+    }
+    let mut out = String::from("prices");
+    for price in &prices {
+        match price {
+            Some(price) => out.push_str(&format!(" {price}")),
+            None => out.push_str(" none"),
+        }
+    }
+    match prices[queue.len()] {
+        Some(total) => {
+            let mut bounds = vec![queue.len()];
+            while bounds[bounds.len() - 1] > 0 {
+                bounds.push(froms[bounds[bounds.len() - 1]]);
+            }
+            out.push_str("\ncut");
+            for bound in bounds.iter().rev() {
+                out.push_str(&format!(" {bound}"));
+            }
+            out.push_str(&format!("\ntotal {total}\n"));
+        }
+        None => out.push_str("\ncut none\n"),
+    }
+    std::io::stdout().write_all(out.as_bytes()).expect("the certificate is written");
+}
