@@ -26,6 +26,7 @@ pub record FormatsOn {D : Type 0} (size count faults : D → ℕ) (honest : D �
     (journal most : ℕ) (uuid : List ℕ) (old new : D) (held holds : Option (List ℕ)) (end : Result ℕ Stop) : Type 0 where
   pub answer : Result Unit FormatFault
   pub room : (answer ≡ Err NoGeometry) ↔ (HasRoom journal (count old) → ⊥)
+  pub untouched : answer ≡ Err NoGeometry → new ≡ old
   pub kept : Kept size count honest old new
   pub fault_count : FormatFaults answer (faults old) (faults new)
   pub written : honest old → OnOk answer (newest new ≡ set (newest old) 0 (new_block false (size old) journal most uuid))

@@ -52,7 +52,7 @@ pub record RecoversFile (held holds : Option (List ℕ)) (end : Result ℕ Stop)
   pub old : FileDisk
   pub new : FileDisk
   pub size : SaysSize (bytes_of (size_of old))
-  pub recovers : RecoversOn (λ (f : FileDisk). bytes_of (size_of f)) count_of faults_of (λ _. ⊥) (λ _. []) (λ _ _. ⊥) old new held holds end
+  pub recovers : RecoversOn (λ (f : FileDisk). bytes_of (size_of f)) count_of faults_of (λ _. ⊥) (λ _. []) (λ _ _. ⊥) (λ _. 0) (λ _ _ _. ⊥) old new held holds end
 
 -- the image was not read, and nothing was done; or it was recovered, and the answer is reported
 abbrev pub EndsOfRecover : List ℕ → Option (List ℕ) → Option (List ℕ) → Result ℕ Stop → Type 0

@@ -14,6 +14,7 @@ returns-in-Some g c =
       formats = record {
         answer = Ok c.in-Ok.field-0;
         room = done.room;
+        untouched = done.untouched;
         kept = done.kept;
         fault_count = done.faults;
         written = done.written;
