@@ -4,8 +4,8 @@
     rt ci > gate.log 2>&1 & compare/gate_times.py
 
 It reads the list of processes every second and prints a row for each crate: seconds by the clock of its proof, of its
-tests' proof and of its edits, and processor seconds of all three. Of a prover that starts and ends between two looks
-nothing is seen.
+tests' proof (of NAME_tests in the row of NAME) and of its edits, and processor seconds of all three. Of a prover that
+starts and ends between two looks nothing is seen.
 """
 import os
 import re
@@ -28,9 +28,11 @@ def provers():
                 fields = it.read().rsplit(")", 1)[1].split()
         except (OSError, IndexError):
             continue
-        kind = "edits" if "/rt-edit-" in folder else "tests" if "--test" in words else "proof"
+        name = words[words.index("--crate-name") + 1]
+        is_of_tests = name.endswith("_tests") or "--test" in words
+        kind = "edits" if "/rt-edit-" in folder else "tests" if is_of_tests else "proof"
         seconds = sum(map(int, fields[11:15])) / TICK  # its own, and those of the copies of it that have ended
-        found[pid] = (fields[1], (pid, words[words.index("--crate-name") + 1], kind, seconds))
+        found[pid] = (fields[1], (pid, name.removesuffix("_tests"), kind, seconds))
     return [it for parent, it in found.values() if parent not in found]
 
 
@@ -61,7 +63,7 @@ def main():
             last, idle = now, 0 if is_at_work() else idle + 1
     except KeyboardInterrupt:
         pass
-    print("| Crate | Proof | With its tests | Edits | Processor seconds |\n|---|---|---|---|---|")
+    print("| Crate | Proof | Tests | Edits | Processor seconds |\n|---|---|---|---|---|")
     for crate in sorted({it[0] for it in clock}):
         row = [round(clock.get((crate, kind), 0)) for kind in ("proof", "tests", "edits")]
         row.append(round(sum(seconds for key, seconds in used.items() if key[1] == crate)))
