@@ -2,25 +2,30 @@ use crate::{Board, Front};
 use std::test::Fail;
 use std::thread;
 
+// These counts.
+fn counts(settled: u64, taken: u64, stopped: u64) -> Front {
+    Front {
+        settled,
+        taken,
+        stopped,
+    }
+}
+
 #[test]
 fn a_second_seat_sees_what_the_first_raised(rt: HostRuntime) -> Result<(), Fail> {
     let (board, mut first) = Board::new(rt.alloc())?;
     let mut second = board.split(&mut first);
+    assert!(rt; board.look(&mut second) == counts(0, 0, 0));
     board.raise_stopped(&mut first, 3);
+    assert!(rt; board.look(&mut second) == counts(0, 0, 3));
     board.raise_taken(&mut first, 2);
-    board.raise_settled(&mut first, 2);
+    assert!(rt; board.look(&mut second) == counts(0, 2, 3));
+    board.raise_settled(&mut first, 1);
     board.raise_stopped(&mut first, 1);
-    let seen = board.look(&mut second);
-    assert!(rt;
-        seen == Front {
-            settled: 2,
-            taken: 2,
-            stopped: 3
-        }
-    );
+    assert!(rt; board.look(&mut second) == counts(1, 2, 3));
     board.join(&mut first, second);
     let mut third = board.enter();
-    assert!(rt; board.look(&mut third) == seen);
+    assert!(rt; board.look(&mut third) == counts(1, 2, 3));
     Ok(())
 }
 

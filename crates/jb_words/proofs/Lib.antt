@@ -1,2 +1,3 @@
+pub mod Apps
 pub mod Faults
 pub mod Numerals

@@ -47,17 +47,13 @@ uuid_option = record (new_rule (codes "uuid")) {
 abbrev pub image_app : Text → App
 image_app name = with_rule (new_app name) (required_word (codes "IMAGE"))
 
--- `format IMAGE --bs N`
-abbrev pub sized_app : App
-sized_app = with_rule (image_app (codes "format")) (required_number (codes "bs"))
-
--- `format IMAGE --bs N --journal N --homes N`
-abbrev pub laid_out_app : App
-laid_out_app = with_rule (with_rule sized_app (required_number (codes "journal"))) (required_number (codes "homes"))
-
 -- `format IMAGE --bs N --journal N --homes N [--max N] [--uuid HEX]`
 abbrev pub format_app : App
-format_app = with_rule (with_rule laid_out_app max_option) uuid_option
+format_app =
+    let image = image_app (codes "format") in
+    let sized = with_rule image (required_number (codes "bs")) in
+    let parts = with_rule (with_rule sized (required_number (codes "journal"))) (required_number (codes "homes")) in
+    with_rule (with_rule parts max_option) uuid_option
 
 -- `recover IMAGE`
 abbrev pub recover_app : App
@@ -71,13 +67,10 @@ jb_top =
       top = record bare.top { no_binary_name = true; has_version = true; subcommand_required = true };
     }
 
--- `jb` with its commands over queue texts
-abbrev pub queues_app : App
-queues_app =
-    let cost = (file_app (codes "cost")).top in
-    let plan = (file_app (codes "plan")).top in
-    with_subcommand (with_subcommand (with_subcommand jb_top cost) plan) check_app.top
-
 -- `jb` with its commands
 abbrev pub jb_app : App
-jb_app = with_subcommand (with_subcommand (with_subcommand queues_app dump_app.top) format_app.top) recover_app.top
+jb_app =
+    let cost = (file_app (codes "cost")).top in
+    let plan = (file_app (codes "plan")).top in
+    let over_queues = with_subcommand (with_subcommand (with_subcommand jb_top cost) plan) check_app.top in
+    with_subcommand (with_subcommand (with_subcommand over_queues dump_app.top) format_app.top) recover_app.top

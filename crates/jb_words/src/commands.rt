@@ -1,51 +1,67 @@
 ghost use Rattle.std.specs.Prelude.{◌≡◌, IfOk, codes, false};
-ghost use Rattle.clap.specs.Words.{app_of, rule_of};
+ghost use Rattle.clap.specs.Words.{App, app_of, new_app, rule_of, with_rule, with_subcommand};
 ghost use Rattle.clap.specs.declared.builder.command.Command.TheViews.{out-Command as fields_of};
-ghost use Rattle.jb_words.specs.App.{check_app, dump_app, file_app, jb_app, jb_top, queues_app, required_word as word_rule};
+ghost use Rattle.jb_words.specs.App.{check_app, file_app, format_app, jb_app, jb_top, required_word as word_rule};
 
-mod images;
+mod options;
 
 use clap::{Arg, Command};
-use images::{format, recover};
+use options::{max_option, required_number, uuid_option};
 use std::alloc::{AllocError, Global};
 
-/// A word that has to be there, by the name that usage shows.
-pub(crate) fn required_word<'a>(alloc: Global, name: &'a str) -> Arg<'a>
+// A word that has to be there, by the name that usage shows.
+fn required_word<'a>(alloc: Global, name: &'a str, help: &'a str) -> Arg<'a>
     ensures rule { rule_of result ≡ word_rule name.entry.now }
     ensures own { result.global ≡ false }
 {
-    Arg::new(alloc, name).required(true)
+    Arg::new(alloc, name).required(true).help(help)
 }
 
-// A command over one file.
-fn over_file<'a>(
+// The command with one more argument.
+fn with<'a>(command: Command<'a>, arg: Arg<'a>) -> Result<Command<'a>, AllocError>
+    requires own { (fields_of command).has_globals ≡ false }
+    requires here { arg.global ≡ false }
+    ensures app { IfOk result (λ c. app_of c ≡ with_rule (app_of command.entry) (rule_of arg.entry)) }
+    ensures own { IfOk result (λ c. (fields_of c).has_globals ≡ false) }
+{
+    command.arg(arg)
+}
+
+// `jb` with one more command, where both could be made.
+fn also<'a>(
+    jb: Result<Command<'a>, AllocError>,
+    command: Result<Command<'a>, AllocError>,
+) -> Result<Command<'a>, AllocError>
+    requires jb { IfOk jb (λ c. (fields_of c).has_globals ≡ false) }
+    requires command { IfOk command (λ c. (fields_of c).has_globals ≡ false) }
+    ensures app { (a more : App) → IfOk jb.entry (λ c. app_of c ≡ a) → IfOk command.entry (λ c. app_of c ≡ more)
+        → IfOk result (λ c. app_of c ≡ with_subcommand a more.top) }
+    ensures own { IfOk result (λ c. (fields_of c).has_globals ≡ false) }
+{
+    let jb = jb?;
+    jb.subcommand(command?)
+}
+
+// A command without words.
+fn bare<'a>(alloc: Global, name: &'a str, about: &'a str) -> Command<'a>
+    ensures app { app_of result ≡ new_app name.entry.now }
+    ensures own { (fields_of result).has_globals ≡ false }
+{
+    Command::new(alloc, name).about(about)
+}
+
+// A command with one word.
+fn over<'a>(
     alloc: Global,
     name: &'a str,
     about: &'a str,
+    word: &'a str,
     help: &'a str,
 ) -> Result<Command<'a>, AllocError>
-    ensures app { IfOk result (λ c. app_of c ≡ file_app name.entry.now) }
+    ensures app { IfOk result (λ c. app_of c ≡ with_rule (new_app name.entry.now) (word_rule word.entry.now)) }
     ensures own { IfOk result (λ c. (fields_of c).has_globals ≡ false) }
 {
-    let file = required_word(alloc, "FILE").help(help);
-    Command::new(alloc, name).about(about).arg(file)
-}
-
-// A command over one queue text.
-fn over_queue<'a>(alloc: Global, name: &'a str, about: &'a str) -> Result<Command<'a>, AllocError>
-    ensures app { IfOk result (λ c. app_of c ≡ file_app name.entry.now) }
-    ensures own { IfOk result (λ c. (fields_of c).has_globals ≡ false) }
-{
-    over_file(alloc, name, about, "A queue text, or - for standard input")
-}
-
-// `jb dump`.
-fn dump<'a>(alloc: Global) -> Result<Command<'a>, AllocError>
-    ensures app { IfOk result (λ c. app_of c ≡ dump_app) }
-    ensures own { IfOk result (λ c. (fields_of c).has_globals ≡ false) }
-{
-    let about = "Prints the committed transactions of a journal, block by block";
-    over_file(alloc, "dump", about, "A file with the whole journal")
+    with(bare(alloc, name, about), required_word(alloc, word, help))
 }
 
 // `jb check`.
@@ -53,12 +69,28 @@ fn check<'a>(alloc: Global) -> Result<Command<'a>, AllocError>
     ensures app { IfOk result (λ c. app_of c ≡ check_app) }
     ensures own { IfOk result (λ c. (fields_of c).has_globals ≡ false) }
 {
-    let file = required_word(alloc, "FILE").help("A queue text");
-    let cert = required_word(alloc, "CERT").help("A certificate, as jb plan prints it");
-    let command = Command::new(alloc, "check")
-        .about("Checks a certificate of the queue, whoever made it")
-        .arg(file)?;
-    command.arg(cert)
+    let about = "Checks a certificate of the queue, whoever made it";
+    let command = over(alloc, "check", about, "FILE", "A queue text")?;
+    let help = "A certificate, as jb plan prints it";
+    with(command, required_word(alloc, "CERT", help))
+}
+
+// `jb format`.
+fn format<'a>(alloc: Global) -> Result<Command<'a>, AllocError>
+    ensures app { IfOk result (λ c. app_of c ≡ format_app) }
+    ensures own { IfOk result (λ c. (fields_of c).has_globals ≡ false) }
+{
+    let about = "Makes an image: a new journal, and home blocks of zeros behind it";
+    let help = "The file to make; one that is there is left alone";
+    let command = over(alloc, "format", about, "IMAGE", help)?;
+    let help = "Bytes of a block: 1024, 2048 or 4096";
+    let command = with(command, required_number(alloc, "bs", help))?;
+    let help = "Blocks of the journal, its superblock counted";
+    let command = with(command, required_number(alloc, "journal", help))?;
+    let help = "Home blocks behind the journal";
+    let command = with(command, required_number(alloc, "homes", help))?;
+    let command = with(command, max_option(alloc))?;
+    with(command, uuid_option(alloc))
 }
 
 // `jb` without its commands.
@@ -76,25 +108,13 @@ fn jb_alone<'a>(alloc: Global) -> Result<Command<'a>, AllocError>
     )
 }
 
-// `jb` with its commands over queue texts.
-fn jb_over_queues<'a>(alloc: Global) -> Result<Command<'a>, AllocError>
-    ensures app { IfOk result (λ c. app_of c ≡ queues_app) }
+// A command over one queue text.
+fn over_queue<'a>(alloc: Global, name: &'a str, about: &'a str) -> Result<Command<'a>, AllocError>
+    ensures app { IfOk result (λ c. app_of c ≡ file_app name.entry.now) }
     ensures own { IfOk result (λ c. (fields_of c).has_globals ≡ false) }
 {
-    let jb = jb_alone(alloc)?;
-    let cost = over_queue(
-        alloc,
-        "cost",
-        "Prints the log blocks that the queue takes as one group",
-    )?;
-    let plan = over_queue(
-        alloc,
-        "plan",
-        "Prints a least cut of the queue into groups, with its prices",
-    )?;
-    let jb = jb.subcommand(cost)?;
-    let jb = jb.subcommand(plan)?;
-    jb.subcommand(check(alloc)?)
+    let help = "A queue text, or - for standard input";
+    over(alloc, name, about, "FILE", help)
 }
 
 /// The command line of `jb`, as clap reads it.
@@ -102,8 +122,16 @@ pub fn jb_command<'a>(alloc: Global) -> Result<Command<'a>, AllocError>
     ensures app { IfOk result (λ c. app_of c ≡ jb_app) }
     ensures own { IfOk result (λ c. (fields_of c).has_globals ≡ false) }
 {
-    let jb = jb_over_queues(alloc)?;
-    let jb = jb.subcommand(dump(alloc)?)?;
-    let jb = jb.subcommand(format(alloc)?)?;
-    jb.subcommand(recover(alloc)?)
+    let about = "Prints the log blocks that the queue takes as one group";
+    let with_cost = also(jb_alone(alloc), over_queue(alloc, "cost", about));
+    let about = "Prints a least cut of the queue into groups, with its prices";
+    let with_plan = also(with_cost, over_queue(alloc, "plan", about));
+    let with_check = also(with_plan, check(alloc));
+    let about = "Prints the committed transactions of a journal, block by block";
+    let help = "A file with the whole journal";
+    let with_dump = also(with_check, over(alloc, "dump", about, "FILE", help));
+    let with_format = also(with_dump, format(alloc));
+    let about = "Writes home what an image's journal has committed, and empties its log";
+    let help = "A file with a journal and its home blocks";
+    also(with_format, over(alloc, "recover", about, "IMAGE", help))
 }

@@ -9,6 +9,3 @@ pub use clap::Error;
 pub use clap::error::ErrorKind;
 pub use plain::{FormatOptions, Plain};
 pub use words::parse;
-
-#[cfg(test)]
-mod tests;

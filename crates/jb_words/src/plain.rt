@@ -1,5 +1,5 @@
 /// A command with its words, each command of `jb` that runs by itself, without threads.
-#[derive(Clone, Copy, Debug, PartialEq, Eq)]
+#[derive(Clone, Copy)]
 pub enum Plain<'a> {
     /// `jb cost FILE`: the log blocks that the whole queue takes as one group.
     Cost {
@@ -38,7 +38,7 @@ pub enum Plain<'a> {
 }
 
 /// The options of `jb format` as they were given, not judged as yet.
-#[derive(Clone, Copy, Debug, PartialEq, Eq)]
+#[derive(Clone, Copy)]
 pub struct FormatOptions<'a> {
     /// `--bs`: how many bytes a block has.
     pub bs: u64,

@@ -9,7 +9,7 @@ use crate::commands::jb_command;
 use crate::plain::{FormatOptions, Plain};
 use clap::error::ErrorKind;
 use clap::{ArgMatches, Command, Error};
-use std::alloc::Global;
+use std::alloc::{AllocError, Global};
 use std::convert::AsStr;
 
 /// The command that the words after the program's name ask for.
@@ -20,26 +20,28 @@ pub fn parse<'a, S: AsStr>(alloc: Global, words: &'a [S]) -> Result<Plain<'a>, E
     ensures asked { IfOk result (λ plain. asked_in (map S.text words.entry.now) ≡ Some (asks plain)) }
     ensures taken { IfOk result (λ _. faults_in (map S.text words.entry.now) ≡ []) }
     ensures refused { IfErr result (λ error. HasKind (faults_in (map S.text words.entry.now)) error
-        ⊎ (asked_in (map S.text words.entry.now) ≡ None)) }
+        ⊎ ((faults_in (map S.text words.entry.now) ≡ []) × (asked_in (map S.text words.entry.now) ≡ None))) }
 {
-    let mut command = jb_command(alloc)?;
-    let matches = matches_of(&mut command, words)?;
+    let matches = matches_of(jb_command(alloc)?, words)?;
     match plain_of(&matches) {
         Some(plain) => Ok(plain),
-        None => Err(command.error(ErrorKind::MissingSubcommand, "no command was given")?),
+        None => Err(no_command(alloc)?),
     }
 }
 
+// What is said where clap found no command: it lets no such words through, but its contracts do not say so.
+fn no_command(alloc: Global) -> Result<Error, AllocError> {
+    let mut command = jb_command(alloc)?;
+    command.error(ErrorKind::MissingSubcommand, "no command was given")
+}
+
 // What clap makes of the words.
-fn matches_of<'a, S: AsStr>(
-    command: &mut Command<'a>,
-    words: &'a [S],
-) -> Result<ArgMatches<'a>, Error>
-    requires { app_of command.old ≡ jb_app }
+fn matches_of<'a, S: AsStr>(command: Command<'a>, words: &'a [S]) -> Result<ArgMatches<'a>, Error>
+    requires { app_of command ≡ jb_app }
     ensures found { IfOk result (λ m. subcommand_rows_of m ≡ subcommand_of jb_app (map S.text words.entry.now)) }
     ensures faults { FailsBy (faults_in (map S.text words.entry.now)) result }
 {
-    command.try_get_matches_from_mut(words)
+    command.try_get_matches_from(words)
 }
 
 // The command that clap found, with its words.

@@ -1,0 +1,74 @@
+#!/usr/bin/env python3
+"""What each crate takes of a gate: run it beside one, and end it with Ctrl-C, or let it end once the gate has.
+
+    rt ci > gate.log 2>&1 & compare/gate_times.py
+
+It reads the list of processes every second and prints a row for each crate: seconds by the clock of its proof, of its
+tests' proof (of NAME_tests in the row of NAME) and of its edits, and processor seconds of all three. Of a prover that
+starts and ends between two looks nothing is seen.
+"""
+import os
+import re
+import time
+
+TICK = os.sysconf("SC_CLK_TCK")
+
+
+def provers():
+    """Each prover that runs: its process, its crate, what it proves, and the processor seconds that it has used."""
+    found = {}
+    for pid in filter(str.isdigit, os.listdir("/proc")):
+        try:
+            with open(f"/proc/{pid}/cmdline", "rb") as it:
+                words = it.read().decode(errors="replace").split("\0")
+            if os.path.basename(words[0]) != "rattle" or "--crate-name" not in words:
+                continue
+            folder = os.readlink(f"/proc/{pid}/cwd")
+            with open(f"/proc/{pid}/stat", encoding="utf-8") as it:
+                fields = it.read().rsplit(")", 1)[1].split()
+        except (OSError, IndexError):
+            continue
+        name = words[words.index("--crate-name") + 1]
+        is_of_tests = name.endswith("_tests") or "--test" in words
+        kind = "edits" if "/rt-edit-" in folder else "tests" if is_of_tests else "proof"
+        seconds = sum(map(int, fields[11:15])) / TICK  # its own, and those of the copies of it that have ended
+        found[pid] = (fields[1], (pid, name.removesuffix("_tests"), kind, seconds))
+    return [it for parent, it in found.values() if parent not in found]
+
+
+def is_at_work():
+    """Whether a gate runs: a process of `rt ci`."""
+    for pid in filter(str.isdigit, os.listdir("/proc")):
+        try:
+            with open(f"/proc/{pid}/cmdline", "rb") as it:
+                words = it.read().decode(errors="replace").split("\0")
+        except OSError:
+            continue
+        if "ci" in words and any(re.search(r"(^|/)rt$", it) for it in words):
+            return True
+    return False
+
+
+def main():
+    clock, used, began = {}, {}, time.monotonic()
+    last, idle = began, 0
+    try:
+        while idle < 30:
+            time.sleep(1)
+            now, found = time.monotonic(), provers()
+            for crate, kind in {(it[1], it[2]) for it in found}:
+                clock[crate, kind] = clock.get((crate, kind), 0) + now - last
+            for pid, crate, kind, seconds in found:
+                used[pid, crate, kind] = max(used.get((pid, crate, kind), 0), seconds)
+            last, idle = now, 0 if is_at_work() else idle + 1
+    except KeyboardInterrupt:
+        pass
+    print("| Crate | Proof | Tests | Edits | Processor seconds |\n|---|---|---|---|---|")
+    for crate in sorted({it[0] for it in clock}):
+        row = [round(clock.get((crate, kind), 0)) for kind in ("proof", "tests", "edits")]
+        row.append(round(sum(seconds for key, seconds in used.items() if key[1] == crate)))
+        print(f"| {crate} | {' | '.join(map(str, row))} |")
+    print(f"\n{round(last - began - idle)} seconds in all, {round(sum(used.values()))} processor seconds of the prover.")
+
+
+main()

@@ -1,0 +1,12 @@
+use Rattle.std.proofs.Common.{ap₂, ◌∙◌}
+use Rattle.clap.specs.Words.{with_rule}
+use Rattle.jb_words.proofs.Apps.{rule-last}
+use Rattle.jb_words.proofs.commands.format.Goals as goal
+
+pub returns-clause-app : goal.returns-clause-app
+returns-clause-app c =
+    let sized = c.in_ok-command-2.ensures.app ∙ ap₂ with_rule c.in_ok-command.ensures.app c.required_number.ensures.rule in
+    let journal = c.in_ok-command-3.ensures.app ∙ ap₂ with_rule sized c.required_number-2.ensures.rule in
+    let homes = c.in_ok-command-4.ensures.app ∙ ap₂ with_rule journal c.required_number-3.ensures.rule in
+    let most = c.in_ok-command-5.ensures.app ∙ ap₂ with_rule homes c.max_option.ensures.rule in
+    rule-last c.with-5.result most c.uuid_option.ensures.rule c.with-5.ensures.app

@@ -1,0 +1,10 @@
+use Rattle.jb_words.proofs.commands.jb_command.Goals as goal
+
+pub returns-clause-app : goal.returns-clause-app
+returns-clause-app c =
+    let cost = c.also-with_cost.ensures.app _ _ c.jb_alone.ensures.app c.over_queue.ensures.app in
+    let plan = c.also-with_plan.ensures.app _ _ cost c.over_queue-2.ensures.app in
+    let check = c.also-with_check.ensures.app _ _ plan c.check.ensures.app in
+    let dump = c.also-with_dump.ensures.app _ _ check c.over.ensures.app in
+    let format = c.also-with_format.ensures.app _ _ dump c.format.ensures.app in
+    c.also.ensures.app _ _ format c.over-2.ensures.app

@@ -1,0 +1,81 @@
+use jb_words::{FormatOptions, Plain, parse};
+use std::alloc::Global;
+
+// The command that the words ask for, as one text: its name, and its words and options in the order of `Plain`.
+fn asked<'a>(alloc: Global, words: &'a [&'a str]) -> Option<(&'a str, &'a str, &'a str)> {
+    match parse(alloc, words).ok()? {
+        Plain::Cost { file } => Some(("cost", file, "")),
+        Plain::Plan { file } => Some(("plan", file, "")),
+        Plain::Check { file, cert } => Some(("check", file, cert)),
+        Plain::Dump { file } => Some(("dump", file, "")),
+        Plain::Format { image, options } => Some(("format", image, options.uuid)),
+        Plain::Recover { image } => Some(("recover", image, "")),
+    }
+}
+
+// The four numbers of a command that formats: --bs, --journal, --homes and --max.
+fn numbers(alloc: Global, words: &[&str]) -> Option<[u64; 4]> {
+    match parse(alloc, words).ok()? {
+        Plain::Format { options, .. } => {
+            let FormatOptions {
+                bs,
+                journal,
+                homes,
+                max,
+                ..
+            } = options;
+            Some([bs, journal, homes, max])
+        }
+        _ => None,
+    }
+}
+
+const ANY_ORDER: [&str; 11] = [
+    "format",
+    "--uuid",
+    "000102030405060708090A0b0c0d0e0f",
+    "--max=6",
+    "a.img",
+    "--homes",
+    "16",
+    "--journal",
+    "33",
+    "--bs",
+    "1024",
+];
+
+const LEFT_OUT: [&str; 8] = [
+    "format",
+    "a.img",
+    "--bs",
+    "+1024",
+    "--journal",
+    "033",
+    "--homes",
+    "16",
+];
+
+#[test]
+fn commands_with_their_words_are_taken(rt: HostRuntime) {
+    for (words, wanted) in [
+        (["cost", "queue.txt"].as_slice(), ("cost", "queue.txt", "")),
+        (["cost", "-"].as_slice(), ("cost", "-", "")),
+        (["cost", "--", "-x"].as_slice(), ("cost", "-x", "")),
+        (["plan", "-"].as_slice(), ("plan", "-", "")),
+        (["check", "a", "b"].as_slice(), ("check", "a", "b")),
+        (["dump", "a"].as_slice(), ("dump", "a", "")),
+        (["recover", "a.img"].as_slice(), ("recover", "a.img", "")),
+        (
+            ANY_ORDER.as_slice(),
+            ("format", "a.img", "000102030405060708090A0b0c0d0e0f"),
+        ),
+        (
+            LEFT_OUT.as_slice(),
+            ("format", "a.img", "00000000000000000000000000000000"),
+        ),
+    ] {
+        assert_eq!(rt; asked(rt.alloc(), words), Some(wanted));
+    }
+    assert_eq!(rt; numbers(rt.alloc(), &ANY_ORDER), Some([1024, 33, 16, 6]));
+    assert_eq!(rt; numbers(rt.alloc(), &LEFT_OUT), Some([1024, 33, 16, 0]));
+}
