@@ -10,8 +10,6 @@ pub mod laws;
 mod memory;
 mod one_fault;
 mod sector;
-#[cfg(test)]
-mod tests;
 
 pub use clock::{Clock, FixedClock};
 pub use disk::Disk;

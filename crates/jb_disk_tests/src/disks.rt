@@ -1,7 +1,7 @@
 //! The disks as a program meets them: crash rows by hand, failing calls by number, a real file.
 
-use crate::{Clock, Disk, Fault, FileDisk, FixedClock, FuseDisk, MemoryDisk, OneFaultDisk};
 use jb_block::{BlockSize, Stamp};
+use jb_disk::{Clock, Disk, Fault, FileDisk, FixedClock, FuseDisk, MemoryDisk, OneFaultDisk};
 use std::alloc::Global;
 use std::fs;
 use std::fs::{File, OpenOptions};
@@ -45,9 +45,10 @@ fn pending(alloc: Global) -> Result<MemoryDisk, Fail> {
     Ok(MemoryDisk::new(alloc, BlockSize::OneKib, 0)?)
 }
 
+/// The chosen version of each sector; and behind a sync only what is written after it.
 #[test]
 fn a_crash_takes_the_chosen_version_of_each_sector(rt: HostRuntime) -> Result<(), Fail> {
-    let disk = pending(rt.alloc())?;
+    let mut disk = pending(rt.alloc())?;
     let rows: [(&[u32], [u8; 4], [u8; 4]); 6] = [
         (&[], [0, 0, 0, 0], [0, 0, 0, 0]),
         (&[1], [1, 1, 0, 0], [0, 0, 0, 0]),
@@ -61,12 +62,6 @@ fn a_crash_takes_the_chosen_version_of_each_sector(rt: HostRuntime) -> Result<()
         assert_eq!(rt; look(&mut left, 0), Ok(first));
         assert_eq!(rt; look(&mut left, 1), Ok(second));
     }
-    Ok(())
-}
-
-#[test]
-fn a_sync_leaves_only_what_is_written_behind_it(rt: HostRuntime) -> Result<(), Fail> {
-    let mut disk = pending(rt.alloc())?;
     assert_eq!(rt; disk.sync(), Ok(()));
     assert_eq!(rt; fill(&mut disk, 1, 4), Ok(()));
     let mut left = disk.crash(&[0, 1, 1, 1])?;
@@ -76,34 +71,23 @@ fn a_sync_leaves_only_what_is_written_behind_it(rt: HostRuntime) -> Result<(), F
     Ok(())
 }
 
+/// Which of three calls succeed and what the block holds behind them, by the number of calls that pass a
+/// fuse, and by the number of the one call that fails.
 #[test]
-fn a_fuse_fails_every_call_from_one_on(rt: HostRuntime) -> Result<(), Fail> {
+fn calls_fail_by_their_number(rt: HostRuntime) -> Result<(), Fail> {
     let rows = [
-        (0, [false, false, false], [0; 4]),
-        (1, [true, false, false], [7; 4]),
-        (2, [true, true, false], [7; 4]),
-        (3, [true, true, true], [7; 4]),
+        (0, [false, false, false], [false, true, true], [0; 4]),
+        (1, [true, false, false], [true, false, true], [7; 4]),
+        (2, [true, true, false], [true, true, false], [7; 4]),
+        (3, [true, true, true], [true, true, true], [7; 4]),
     ];
-    for (calls, succeed, content) in rows {
+    for (calls, behind_a_fuse, but_one, content) in rows {
         let mut disk = FuseDisk::of(MemoryDisk::new(rt.alloc(), BlockSize::TwoKib, 2)?, calls);
-        assert_eq!(rt; three_calls(&mut disk), succeed, "at {calls}");
+        assert_eq!(rt; three_calls(&mut disk), behind_a_fuse, "at {calls}");
         assert_eq!(rt; look(&mut disk.into_inner(), 1), Ok(content), "at {calls}");
-    }
-    Ok(())
-}
-
-#[test]
-fn one_fault_fails_one_call(rt: HostRuntime) -> Result<(), Fail> {
-    let rows = [
-        (0, [false, true, true], [0; 4]),
-        (1, [true, false, true], [7; 4]),
-        (2, [true, true, false], [7; 4]),
-        (3, [true, true, true], [7; 4]),
-    ];
-    for (call, succeed, content) in rows {
-        let mut disk = OneFaultDisk::of(MemoryDisk::new(rt.alloc(), BlockSize::FourKib, 2)?, call);
-        assert_eq!(rt; three_calls(&mut disk), succeed, "at {call}");
-        assert_eq!(rt; look(&mut disk.into_inner(), 1), Ok(content), "at {call}");
+        let mut disk = OneFaultDisk::of(MemoryDisk::new(rt.alloc(), BlockSize::FourKib, 2)?, calls);
+        assert_eq!(rt; three_calls(&mut disk), but_one, "at {calls}");
+        assert_eq!(rt; look(&mut disk.into_inner(), 1), Ok(content), "at {calls}");
     }
     Ok(())
 }

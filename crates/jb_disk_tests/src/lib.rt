@@ -1,0 +1,5 @@
+//! Tests of the disks.
+#![tactic(auto)]
+
+#[cfg(test)]
+mod disks;
