@@ -24,10 +24,6 @@ cost-left g h hs = blocks-mono g _ _ _ _ (omega (arith, len-copies h hs)) (omega
 pub cost-few : (g : Geometry) (hs : List Stopped) → cost g hs + 2 * length hs ≤ 2 * weight hs + 1
 cost-few g hs = omega (arith, few hs, ceil-self (set.len (copies hs)) g.t g.tags, ceil-self (set.len (frees hs)) g.r g.entries)
 
--- some handles cost at most twice their weight
-pub cost-weight : (g : Geometry) (h : Stopped) (hs : List Stopped) → cost g (h ∷ hs) ≤ 2 * weight (h ∷ hs)
-cost-weight g h hs = omega (arith, cost-few g (h ∷ hs))
-
 -- copies alone are the dearest words
 pub worst-bounds : (g : Geometry) (c f credits : ℕ) → c + f ≤ credits → blocks_of g c f ≤ worst_cost_of g credits
 worst-bounds g c f credits within = omega (arith, ceil-mono c credits g.t g.tags (omega arith), ceil-self f g.r g.entries)

@@ -1,4 +1,4 @@
-ghost use Rattle.std.specs.Prelude.{◌≡◌, ◌↔◌, ◌<◌, ◌≤◌, ℕ, length, IfOk, IsTrue};
+ghost use Rattle.std.specs.Prelude.{◌≡◌, ◌↔◌, ◌<◌, ◌≤◌, ℕ, length, IfOk, OnErr, IsTrue};
 ghost use Rattle.jb_handle.specs.Size.{IsWithinSize};
 ghost use Rattle.jb_cost.specs.Cut.{IsCut, piece_cost};
 ghost use Rattle.jb_price.specs.Sum.{SumSays};
@@ -47,7 +47,8 @@ pub(crate) fn sum_of(
 ) -> Result<Sum, Memory>
     requires size { IsWithinSize handles.now }
     requires cut { IsCut (length handles.now) bounds.now }
-    ensures { IfOk result (λ sum. SumSays (piece_cost geometry handles.now) limit bounds.now sum) }
+    ensures grows { OnErr result (0 < length handles.now) }
+    ensures sum { IfOk result (λ sum. SumSays (piece_cost geometry handles.now) limit bounds.now sum) }
 {
     let mut sum: u128 = 0;
     let mut from = 0;

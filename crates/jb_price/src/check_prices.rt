@@ -1,4 +1,4 @@
-ghost use Rattle.std.specs.Prelude.{◌≡◌, ◌+◌, ◌<◌, ◌≤◌, ◌↔◌, ℕ, length, IfOk, Some, IsTrue, MatchOption};
+ghost use Rattle.std.specs.Prelude.{◌≡◌, ◌+◌, ◌<◌, ◌≤◌, ◌↔◌, ℕ, length, IfOk, OnErr, Some, IsTrue, MatchOption};
 ghost use Rattle.jb_handle.specs.Size.{IsWithinSize};
 ghost use Rattle.jb_cost.specs.declared.found.Found.{Found as FoundValue};
 ghost use Rattle.jb_cost.specs.Cut.{piece_cost};
@@ -21,7 +21,8 @@ pub(crate) fn first_undercut(
 ) -> Result<Option<(usize, usize)>, Memory>
     requires size { IsWithinSize handles.now }
     requires number { length prices.now ≡ length handles.now + 1 }
-    ensures { IfOk result (λ found. FirstAmong (piece_cost geometry handles.now) limit (length handles.now) prices.now (length handles.now) found) }
+    ensures grows { OnErr result (0 < length handles.now) }
+    ensures first { IfOk result (λ found. FirstAmong (piece_cost geometry handles.now) limit (length handles.now) prices.now (length handles.now) found) }
 {
     let mut touches = LastTouches::new(alloc, geometry);
     let mut first: Option<(usize, usize)> = None;

@@ -1,4 +1,4 @@
-ghost use Rattle.std.specs.Prelude.{◌≡◌, ◌+◌, ℕ, length, Some, IfOk, OnErr};
+ghost use Rattle.std.specs.Prelude.{◌≡◌, ◌+◌, ◌<◌, ℕ, length, Some, IfOk, OnErr};
 ghost use Rattle.jb_handle.specs.Size.{IsWithinSize};
 ghost use Rattle.jb_cost.specs.Cut.{Hold, piece_cost, price};
 ghost use Rattle.jb_price.specs.Verdict.{CutSays, AnswerSays, Says, IsRight};
@@ -21,7 +21,7 @@ use std::alloc::Global;
 /// # Errors
 ///
 /// `Memory` where there is none for the last touches of the handles or for the home blocks of a
-/// group; then the opening price is 0.
+/// group; then the opening price is 0, and there is a handle.
 pub fn check(
     alloc: Global,
     handles: &[Stopped],
@@ -35,6 +35,7 @@ pub fn check(
     ensures accepted { IfOk result (λ verdict. verdict ≡ Verdict.Accepted → IsRight (piece_cost geometry handles.now) limit (length handles.now) cert.now.answer) }
     ensures hold { IfOk result (λ verdict. verdict ≡ Verdict.Accepted → Hold (piece_cost geometry handles.now) limit (length handles.now) cert.now.prices.items) }
     ensures opening { OnErr result (price cert.now.prices.items 0 ≡ Some 0) }
+    ensures grows { OnErr result (0 < length handles.now) }
 {
     let Some(0) = cert.prices[0] else {
         return Ok(Verdict::Refused(Reason::OpeningPrice));
@@ -55,7 +56,8 @@ fn check_answer(
 ) -> Result<Verdict, Memory>
     requires size { IsWithinSize handles.now }
     requires number { length cert.now.prices.items ≡ length handles.now + 1 }
-    ensures { IfOk result (λ verdict. AnswerSays (piece_cost geometry handles.now) limit (length handles.now) cert.now.prices.items cert.now.answer verdict) }
+    ensures grows { OnErr result (0 < length handles.now) }
+    ensures verdict { IfOk result (λ verdict. AnswerSays (piece_cost geometry handles.now) limit (length handles.now) cert.now.prices.items cert.now.answer verdict) }
 {
     let end_price = cert.prices[handles.len()];
     match (&cert.answer, end_price) {
@@ -78,7 +80,8 @@ fn check_cut(
     total: u64,
 ) -> Result<Verdict, Memory>
     requires size { IsWithinSize handles.now }
-    ensures { IfOk result (λ verdict. CutSays (piece_cost geometry handles.now) limit (length handles.now) end_price bounds.now total verdict) }
+    ensures grows { OnErr result (0 < length handles.now) }
+    ensures verdict { IfOk result (λ verdict. CutSays (piece_cost geometry handles.now) limit (length handles.now) end_price bounds.now total verdict) }
 {
     if !is_cut(bounds, handles.len()) {
         return Ok(Verdict::Refused(Reason::NotACut));

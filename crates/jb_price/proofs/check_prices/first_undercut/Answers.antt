@@ -41,8 +41,8 @@ loop-last-preserved c =
       tells = best.0;
     }
 
-pub returns : goal.returns
-returns c =
+pub returns-clause-first : goal.returns-clause-first
+returns-clause-first c =
     let hs = c.args.handles.now in
     let whole : c.loop-last.last ≡ length hs = omega arith in
     subst (λ end. FirstAmong (piece_cost c.args.geometry hs) c.args.limit (length hs) c.args.prices.now end c.loop-last.first) whole c.loop-last.invariant.looked

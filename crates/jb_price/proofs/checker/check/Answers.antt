@@ -14,10 +14,10 @@ returns-in-None-clause-accepted c =
     let ps = c.args.cert.now.prices.items in
     let answer = c.args.cert.now.answer in
     let read : c.index.result.now ≡ price ps 0 = get_or_read ps 0 c.index.result.now (omega (arith, c.requires.number)) c.index.ensures None in
-    let prices = prices-hold cost c.args.limit n ps c.in_ok-from.field-0 (subst (λ list. FirstAmong cost c.args.limit n list n c.in_ok-from.field-0) c.deref.ensures.value c.in_ok-from.ensures) c.in-None.is (sym read ∙ cc) in
+    let prices = prices-hold cost c.args.limit n ps c.in_ok-from.field-0 (subst (λ list. FirstAmong cost c.args.limit n list n c.in_ok-from.field-0) c.deref.ensures.value c.in_ok-from.ensures.first) c.in-None.is (sym read ∙ cc) in
     where-ok c.check_answer.result (AnswerSays cost c.args.limit n ps answer) (λ verdict. verdict ≡ Accepted → IsRight cost c.args.limit n answer)
     (λ verdict says accepted. right-accepted cost c.args.limit n ps answer (subst (Says cost c.args.limit n ps answer) accepted (says-answer cost c.args.limit n ps answer prices verdict says)))
-    c.check_answer.ensures
+    c.check_answer.ensures.verdict
 
 pub returns-in-None-clause-hold : goal.returns-in-None-clause-hold
 returns-in-None-clause-hold c =
@@ -26,7 +26,7 @@ returns-in-None-clause-hold c =
     let ps = c.args.cert.now.prices.items in
     let answer = c.args.cert.now.answer in
     let read : c.index.result.now ≡ price ps 0 = get_or_read ps 0 c.index.result.now (omega (arith, c.requires.number)) c.index.ensures None in
-    let prices = prices-hold cost c.args.limit n ps c.in_ok-from.field-0 (subst (λ list. FirstAmong cost c.args.limit n list n c.in_ok-from.field-0) c.deref.ensures.value c.in_ok-from.ensures) c.in-None.is (sym read ∙ cc) in
+    let prices = prices-hold cost c.args.limit n ps c.in_ok-from.field-0 (subst (λ list. FirstAmong cost c.args.limit n list n c.in_ok-from.field-0) c.deref.ensures.value c.in_ok-from.ensures.first) c.in-None.is (sym read ∙ cc) in
     where-ok c.check_answer.result (AnswerSays cost c.args.limit n ps answer) (λ verdict. verdict ≡ Accepted → Hold cost c.args.limit n ps)
     (λ verdict says accepted. hold cost c.args.limit n ps prices)
-    c.check_answer.ensures
+    c.check_answer.ensures.verdict
