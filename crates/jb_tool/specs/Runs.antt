@@ -66,4 +66,4 @@ pub record EndsRefused (kind : ErrorKind) (old new : Held) (status : ℕ) : Type
 -- the words were refused by one of the kinds of their first fault, or for want of memory, or as they ask for no command
 abbrev pub RefusesWords : Kinds → Option Asked → Held → Held → ℕ → Type 0
 RefusesWords kinds asked old new status =
-    (error : Error) × (HasKind kinds error ⊎ (asked ≡ None)) × EndsRefused (kind_of error) old new status
+    (error : Error) × (HasKind kinds error ⊎ ((kinds ≡ []) × (asked ≡ None))) × EndsRefused (kind_of error) old new status
