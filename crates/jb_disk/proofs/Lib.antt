@@ -9,6 +9,7 @@ pub mod Moments
 pub mod Outcomes
 pub mod Replays
 pub mod Sectors
+pub mod Stepping
 pub mod Syncs
 pub mod Tables
 pub mod Undoing

@@ -10,6 +10,7 @@ pub mod Memory
 pub mod Mixing
 pub mod Once
 pub mod OneFault
+pub mod Steps
 pub mod Time
 pub mod Versions
 pub mod Writes

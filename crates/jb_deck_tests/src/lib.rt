@@ -1,0 +1,5 @@
+//! Tests of the journal.
+#![tactic(auto)]
+
+#[cfg(test)]
+mod batches;
