@@ -1,4 +1,5 @@
 //! Laws over the definitions alone, and a step of the machine as its shadow shows it.
+ghost use Rattle.jb_core.specs.Steps.{Steps};
 ghost use Rattle.jb_desk.specs.Events.{Shadowed, StepsShadow};
 
 use jb_core::{CoreFault, Event, Reply, State, step};
@@ -17,7 +18,8 @@ pub fn shadowed()
 /// Those of [`jb_core::step`]; the shadow is as it was.
 #[tactic(auto, using(crate::proofs::Shadows::stepped))]
 pub fn step_shadowed(state: &mut State, event: Event) -> Result<Reply, CoreFault>
-    ensures { StepsShadow event state.old result state.new }
+    ensures step { Steps event state.old result state.new }
+    ensures shadow { StepsShadow event state.old result state.new }
 {
     let _up = state.is_up();
     step(state, event)

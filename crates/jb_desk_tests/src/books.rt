@@ -106,7 +106,7 @@ fn stop(
     }
 }
 
-fn answer(alloc: Global, book: &mut Book, shape: Shape, call: Call) -> Answer {
+fn ask(alloc: Global, book: &mut Book, shape: Shape, call: Call) -> Answer {
     match call {
         Call::Open(seat, credits) => Answer::Begun(book.open(seat, credits)),
         Call::Stop(seat, credits, homes) => {
@@ -145,7 +145,7 @@ fn books_answer_as_worked_by_hand(rt: HostRuntime) -> Result<(), Fail> {
     for calls in &ROWS {
         let mut book = Book::new(rt.alloc(), shape, 32);
         for &(call, wanted) in *calls {
-            assert_eq!(rt; answer(rt.alloc(), &mut book, shape, call), wanted);
+            assert_eq!(rt; ask(rt.alloc(), &mut book, shape, call), wanted);
         }
     }
     Ok(())
