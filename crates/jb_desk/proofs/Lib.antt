@@ -1,0 +1,5 @@
+pub mod Accounts
+pub mod Cuts
+pub mod Follows
+pub mod Keeping
+pub mod Shadows

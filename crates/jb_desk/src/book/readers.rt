@@ -1,0 +1,74 @@
+//! What a book has.
+use crate::book::Book;
+use jb_deck::Entry;
+use jb_handle::Shape;
+
+impl Book {
+    ghost use Rattle.std.specs.Prelude.{◌≡◌, ◌↔◌, IsTrue};
+    ghost use Rattle.jb_desk.specs.Account.{IsSound, IsOver};
+    ghost use Rattle.jb_desk.specs.Shadow.{reserved};
+
+    /// The shape of the journal that its handles are for.
+    pub fn shape(&self) -> Shape
+        ensures { result ≡ self.now.shape }
+    {
+        self.shape
+    }
+
+    /// The next ticket: how many handles have stopped.
+    pub fn next(&self) -> u64
+        ensures { result ≡ self.now.shadow.next }
+    {
+        self.next
+    }
+
+    /// How many home blocks the handles that stopped had touched, added up.
+    pub fn changes(&self) -> u64
+        ensures { result ≡ self.now.changes }
+    {
+        self.changes
+    }
+
+    /// The tickets below it are settled or taken.
+    pub fn taken(&self) -> u64
+        ensures { result ≡ self.now.shadow.taken }
+    {
+        self.taken
+    }
+
+    /// The tickets below it are settled.
+    pub fn settled(&self) -> u64
+        ensures { result ≡ self.now.shadow.settled }
+    {
+        self.settled
+    }
+
+    /// The credits of the open, the queued and the taken handles. A book is sound.
+    pub fn reserved(&self) -> u64
+        ensures value { result ≡ reserved self.now.shadow }
+        ensures sound { IsSound self.now }
+    {
+        self.open_sum + self.line_sum
+    }
+
+    /// The groups that are settled, in the order of their tickets.
+    pub fn trail(&self) -> &[Entry]
+        ensures { result.now ≡ self.now.trail }
+    {
+        &self.trail
+    }
+
+    /// Whether the journal has failed.
+    pub fn is_aborted(&self) -> bool
+        ensures { result ≡ self.now.aborted }
+    {
+        self.aborted
+    }
+
+    /// Whether nothing more can happen: the book is shut, and no handle is open, queued or taken.
+    pub fn is_over(&self) -> bool
+        ensures { IsTrue result ↔ IsOver self.now }
+    {
+        self.shut && self.seats.is_empty() && self.credits.is_empty()
+    }
+}

@@ -1,0 +1,43 @@
+ghost use Rattle.std.specs.Prelude.{◌≡◌, ℕ, ◌+◌, ◌^◌, ◌≤◌, IfSome, IfNone};
+ghost use Rattle.jb_deck.specs.Done.{Follow, least_after};
+
+use jb_deck::Entry;
+
+/// Where the tickets of the entries end, and the least number of a group after them, where they begin
+/// at the ticket `first`, tile without a gap up to `limit` at most, and have numbers that rise from
+/// `least` on.
+pub fn past_of(entries: &[Entry], first: u64, least: u64, limit: u64) -> Option<(u64, u64)>
+    requires narrow { least ≤ 2 ^ 32 }
+    ensures follow { IfSome result (λ end. Follow first least end.0 entries.now) }
+    ensures within { IfSome result (λ end. end.0 ≤ limit) }
+    ensures least { IfSome result (λ end. (end.1 ≡ least_after least entries.now) × (end.1 ≤ 2 ^ 32)) }
+    ensures none { IfNone result ((past : ℕ) → Follow first least past entries.now → past ≤ limit → ⊥) }
+{
+    let mut past = first;
+    let mut next = least;
+    for &entry in entries {
+        if entry.first != past {
+            return None;
+        }
+        if entry.past <= past {
+            return None;
+        }
+        if u64::from(entry.number) < next {
+            return None;
+        }
+        past = entry.past;
+        next = after(entry.number);
+    }
+    if past > limit {
+        return None;
+    }
+    Some((past, next))
+}
+
+// The number after another.
+fn after(number: u32) -> u64
+    ensures value { result ≡ number + 1 }
+    ensures narrow { result ≤ 2 ^ 32 }
+{
+    u64::from(number) + 1
+}

@@ -1,0 +1,5 @@
+//! Tests of the desk's book.
+#![tactic(auto)]
+
+#[cfg(test)]
+mod books;
