@@ -155,31 +155,30 @@ const CHECKS: &[Check] = &[
     ),
 ];
 
-// Whether the check of this certificate of this queue ends with this status, and writes just these two texts.
+// The files of the two tests.
+const CHECKED: [&str; 2] = ["checked.queue", "checked.cert"];
+
+const PLANNED: [&str; 2] = ["planned.queue", "planned.cert"];
+
+// Whether the check of this certificate of this queue, in these files, ends with this status, and writes just these two texts.
 fn checked(
     rt: &HostRuntime,
+    files: [&str; 2],
     texts: (&str, &str),
     status: u8,
     out: &str,
     err: &str,
 ) -> Result<bool, Fail> {
-    fs::write(rt, "checked.queue", texts.0)?;
-    fs::write(rt, "checked.cert", texts.1)?;
-    Ok(runs(
-        rt,
-        &["check", "checked.queue", "checked.cert"],
-        b"",
-        status,
-        out,
-        err,
-    ))
+    fs::write(rt, files[0], texts.0)?;
+    fs::write(rt, files[1], texts.1)?;
+    Ok(runs(rt, &["check", files[0], files[1]], b"", status, out, err))
 }
 
 #[test]
 fn each_check_answers_its_row(rt: HostRuntime) -> Result<(), Fail> {
     for (queue, cert, status, out, err) in CHECKS {
         assert!(rt;
-            checked(&rt, (queue, cert), *status, out, err)?,
+            checked(&rt, CHECKED, (queue, cert), *status, out, err)?,
             "{out}{err}"
         );
     }
@@ -249,7 +248,7 @@ const PLANS: &[Plan] = &[
 // Whether the plan of this queue is this text, with this status, and the text is accepted.
 fn planned(rt: &HostRuntime, queue: &str, cert: &str, status: u8) -> Result<bool, Fail> {
     let told = runs(rt, &["plan", "-"], queue.as_bytes(), status, cert, "");
-    Ok(told && checked(rt, (queue, cert), 0, "accepted\n", "")?)
+    Ok(told && checked(rt, PLANNED, (queue, cert), 0, "accepted\n", "")?)
 }
 
 // Two thousand handles, each of a copy of one of seven home blocks in turn.

@@ -151,6 +151,7 @@ fn a_new_image_is_its_superblock_and_zeros_and_is_made_once(rt: HostRuntime) -> 
         assert!(rt; formatted(&rt, name, SMALL, NO_MAX, 2, "", err), "{name}");
     }
     assert!(rt; fs::read(&rt, "front.img")?.as_slice() == want.as_slice());
+    fs::remove_file(&rt, "front.img")?;
     Ok(())
 }
 
@@ -250,5 +251,6 @@ fn each_recovery_answers_its_row_and_a_refused_image_stays(rt: HostRuntime) -> R
     fs::write(&rt, "log.img", short.as_slice())?;
     assert!(rt; recovered(&rt, "log.img", 1, "", "jb: Super ShortBlock\n"));
     assert!(rt; fs::read(&rt, "log.img")?.as_slice() == short.as_slice());
+    fs::remove_file(&rt, "log.img")?;
     Ok(())
 }
