@@ -59,6 +59,7 @@ const AFTER: [Row; 3] = [
     (7, 0, [307, 307, 307, 307]),
 ];
 
+/// What its recovery reports.
 pub const COUNTS: Recovered = Recovered {
     transactions: 2,
     copies: 4,
@@ -66,6 +67,7 @@ pub const COUNTS: Recovered = Recovered {
     next: 5,
 };
 
+/// The image with the wrapped log, before its recovery.
 pub fn before(alloc: Global) -> Result<MemoryDisk, Fail> {
     let tables = [
         Table {
@@ -80,6 +82,7 @@ pub fn before(alloc: Global) -> Result<MemoryDisk, Fail> {
     image_of(alloc, BlockSize::OneKib, BLOCKS, &tables)
 }
 
+/// The same image, recovered.
 pub fn after(alloc: Global) -> Result<MemoryDisk, Fail> {
     let tables = [
         Table {
