@@ -60,10 +60,11 @@ for fs in *.img; do
 done
 
 # A journal that jb made, in a file system of mke2fs. Its first blocks are the journal; the homes are not used.
-for bs in 1024 4096; do
-  case $bs in 1024) old=near ;; *) old=near4 ;; esac
+for old in near near4 nearwide; do
+  case $old in near4) bs=4096 ;; *) bs=1024 ;; esac
+  case $old in nearwide) width=--wide ;; *) width= ;; esac
   rm -f "$work/made"
-  line=$("$jb" format "$work/made" --bs $bs --journal 1024 --homes 8 --uuid 000102030405060708090a0b0c0d0e0f)
+  line=$("$jb" format "$work/made" --bs $bs --journal 1024 --homes 8 $width --uuid 000102030405060708090a0b0c0d0e0f)
   [ "$line" = "formatted limit 255" ] || { echo "jb format says: $line"; bad=1; }
   line=$("$jb" recover "$work/made")
   [ "$line" = "transactions 0 copies 0 revoked 0 next 2" ] || { echo "jb recover of a new journal says: $line"; bad=1; }
@@ -71,6 +72,6 @@ for bs in 1024 4096; do
   cp $old.img "$work/made.img"
   $ref put "$work/made.journal" "$work/made.img" $old.places
   printf 'jo\njw -b 41,42 two.%s\njw -r 41\njw -b 43 third.%s\njc\n' $bs $bs | debugfs -w -f - "$work/made.img" >/dev/null 2>&1
-  recovered made$bs "$work/made.img"
+  recovered made-$old "$work/made.img"
 done
 exit $bad

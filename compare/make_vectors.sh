@@ -26,10 +26,10 @@ open(f"many.{bs}", "wb").write(b"".join(sharp(n % 100) if n % 3 == 0 else plain(
 P
 done
 
-# file system: NAME BS JOURNAL_MB BLOCKS
+# file system: NAME BS JOURNAL_MB BLOCKS [64bit]
 fs() {
   rm -f "$1.img"
-  mkfs.ext4 -q -b "$2" -O ^metadata_csum,^64bit -J size="$3" -U 00010203-0405-0607-0809-0a0b0c0d0e0f \
+  mkfs.ext4 -q -b "$2" -O "^metadata_csum,${5:-^64bit}" -J size="$3" -U 00010203-0405-0607-0809-0a0b0c0d0e0f \
     -E nodiscard,lazy_itable_init=0 "$1.img" "$4" >/dev/null
 }
 # one session: NAME COMMANDS
@@ -80,10 +80,20 @@ expect full
 fs kib4 4096 4 4096
 session kib4 'jw -b 3001,3002 two.4096\njw -r 3002\njw -b 3002,3003 other.4096 -r 3001'
 expect kib4
-# With few inodes and the journal at block 2000, so that blocks from 41 on are free; in 41 to 46 stands `before NN`: NAME BS MIB
+# With 64-bit block numbers: as `session`, and 260 copies (four descriptors) and as many revokes (three revoke blocks).
+fs wide 1024 1 4096 64bit
+session wide 'jw -b 3001,3002 two.1024\njw -r 3001,3002\njw -b 3002,3003 other.1024\njw -b 3004,3005 third.1024 -r 3003,3006'
+expect wide
+fs widefull 1024 1 4096 64bit
+session widefull "jw -b $(seq -s, 2000 2259) many.1024\njw -r $(seq -s, 2001 2260)"
+expect widefull
+fs wide4 4096 4 4096 64bit
+session wide4 'jw -b 3001,3002 two.4096\njw -r 3002\njw -b 3002,3003 other.4096 -r 3001'
+expect wide4
+# With few inodes and the journal at block 2000, so that blocks from 41 on are free; in 41 to 46 stands `before NN`: NAME BS MIB [64bit]
 near() {
   rm -f "$1.img"
-  mkfs.ext4 -q -b "$2" -O ^metadata_csum,^64bit,^resize_inode -N 16 -J size="$3",location=2000 \
+  mkfs.ext4 -q -b "$2" -O "^metadata_csum,${4:-^64bit},^resize_inode" -N 16 -J size="$3",location=2000 \
     -U 00010203-0405-0607-0809-0a0b0c0d0e0f -E nodiscard,lazy_itable_init=0 "$1.img" 4096 >/dev/null
   for b in 41 42 43 44 45 46; do
     printf 'before %s\n' $b | dd of="$1.img" bs="$2" seek=$b conv=notrunc status=none
@@ -117,6 +127,11 @@ near near4 4096 4
 session near4 'jw -b 41,42 two.4096\njw -r 42\njw -b 42,43 other.4096 -r 41'
 expect near4
 near_rows near4 4096
+# As `near`, with 64-bit block numbers.
+near nearwide 1024 1 64bit
+session nearwide 'jw -b 41,42 two.1024\njw -r 41,42\njw -b 42,43 other.1024\njw -b 44,45 third.1024 -r 44,46'
+expect nearwide
+near_rows nearwide 1024
 # Only mke2fs: a clean journal.
 fs clean 1024 1 4096
 expect clean
@@ -124,20 +139,21 @@ expect clean
 cp session.replayed.img after.img
 expect after
 
-# Random logs, written by jbref.py into the journal of a file system that debugfs has opened once.
-for seed in 1 2 3 4 5 6 12 8 9; do
-  case $seed in [89]) bs=4096 mb=4 ;; *) bs=1024 mb=1 ;; esac
-  name=random$seed
-  fs $name $bs $mb 4096
-  printf 'jo\njw -r 3000\njc\n' | debugfs -w -f - $name.img >/dev/null
-  debugfs -R "blocks <8>" $name.img | tr ' ' '\n' | grep . >$name.places
-  $ref random $seed $bs 1024 2000-4096 $name.journal
-  $ref put $name.journal $name.img $name.places
-  expect $name
-  debugfs -R "dump <8> $name.again" $name.img
-  cmp $name.again $name.journal
-  rm $name.again
-done
+# A random log, written by jbref.py into the journal of a file system that debugfs has opened once: NAME SEED [64bit]
+random_log() {
+  case $2 in [89]) bs=4096 mb=4 ;; *) bs=1024 mb=1 ;; esac
+  fs "$1" $bs $mb 4096 "${3:-^64bit}"
+  printf 'jo\njw -r 3000\njc\n' | debugfs -w -f - "$1.img" >/dev/null
+  debugfs -R "blocks <8>" "$1.img" | tr ' ' '\n' | grep . >"$1.places"
+  $ref random "$2" $bs 1024 2000-4096 "$1.journal" ${3:+wide}
+  $ref put "$1.journal" "$1.img" "$1.places"
+  expect "$1"
+  debugfs -R "dump <8> $1.again" "$1.img"
+  cmp "$1.again" "$1.journal"
+  rm "$1.again"
+}
+for seed in 1 2 3 4 5 6 12 8 9; do random_log random$seed $seed; done
+for seed in 1 3 12 8; do random_log randomwide$seed $seed 64bit; done
 
 # jbref.py's own replay beside debugfs's, before any jb is asked.
 for journal in *.journal; do
@@ -147,6 +163,6 @@ for journal in *.journal; do
 done
 
 # Test data of the small ones.
-for name in copies revoked session lost open kib4; do
+for name in copies revoked session lost open kib4 wide wide4; do
   $ref rows $name.journal $(echo $name | tr a-z A-Z) >$name.rows.txt
 done

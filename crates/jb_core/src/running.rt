@@ -1,4 +1,4 @@
-ghost use Rattle.std.specs.Prelude.{◌≡◌, [], length, All, IfOk};
+ghost use Rattle.std.specs.Prelude.{◌≡◌, ◌<◌, [], length, All, IfOk, OnErr};
 ghost use Rattle.jb_core.specs.Steps.{Steps};
 ghost use Rattle.jb_core.specs.Lives.{log_from, IsKnown, IsWhole};
 ghost use Rattle.jb_core.specs.Ran.{Ran};
@@ -43,7 +43,8 @@ pub fn step(state: &mut State, event: Event) -> Result<Reply, CoreFault>
 ///
 /// # Errors
 ///
-/// `Memory` where a step answers it, which ends the run, or where there is none for the answers.
+/// `Memory` where a step answers it, which ends the run, or where there is none for the answers; then
+/// there is an event.
 pub fn run(
     alloc: Global,
     shape: Shape,
@@ -52,6 +53,7 @@ pub fn run(
     ensures each { IfOk result (λ end. length end.1.items ≡ length events.items) }
     ensures known { IfOk result (λ end. All IsKnown end.1.items) }
     ensures ran { IfOk result (λ end. Ran shape (log_from [] events.items end.1.items) end.0) }
+    ensures grows { OnErr result (0 < length events.items) }
     ensures whole { IfOk result (λ end. IsWhole (log_from [] events.items end.1.items) end.0) }
 {
     let mut state = State::new(alloc, shape);

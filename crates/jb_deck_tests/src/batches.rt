@@ -1,7 +1,8 @@
 //! Batches and their plans, as they are worked by hand.
 
 use jb_deck::{Batch, PrepareFault, is_batch, prepare};
-use jb_handle::{Shape, read_queue};
+use jb_handle::Shape;
+use jb_queue::read_queue;
 use std::test::Fail;
 
 // A queue's text, its prices, and the bounds and the total of its cut, if one fits.

@@ -3,3 +3,9 @@
 
 #[cfg(test)]
 mod batches;
+#[cfg(test)]
+mod crashes;
+#[cfg(test)]
+mod images;
+#[cfg(test)]
+mod openings;

@@ -1,9 +1,12 @@
 -- Entries one after the other.
-use Rattle.std.proofs.Common.{◌≡◌, ℕ, suc, ◌+◌, ◌<◌, ◌≤◌, List, [], ◌∷◌, ◌++◌, length, drop, get_or, subst, sym, ap, refl, ◌∙◌, arith}
+use Rattle.std.proofs.Common.{◌≡◌, ℕ, suc, ◌+◌, ◌<◌, ◌≤◌, ◌==◌, ◌&&◌, List, [], ◌∷◌, ◌++◌, length, drop, get_or, subst, sym, ap, refl, inl, inr, ◌∙◌, arith}
 use Rattle.std.proofs.Math.ListN.{drop_of_length-le}
 use Rattle.std.proofs.Math.Seq.{drop-cons}
+use Rattle.std.proofs.lemmas.Bool.Decides.{Decides-and, Decides-eqb}
+use Rattle.std.specs.Bool.{Decides}
 use Rattle.jb_deck.specs.declared.done.Entry.{Entry}
 use Rattle.jb_deck.specs.Done.{Follow, least_after}
+use Rattle.jb_desk.specs.Account.{IsSettledBy}
 
 pub follow-append : (first least mid past : ℕ) (es fs : List Entry) → Follow first least mid es → Follow mid (least_after least es) past fs → Follow first least past (es ++ fs)
 follow-append first least mid past [] fs one two = subst (λ f. Follow f least past fs) (sym one) two
@@ -41,3 +44,25 @@ from-end first least es i over = subst (Follow first least first) (sym (drop_of_
 
 pub least-end : (least : ℕ) (es : List Entry) (i : ℕ) → length es ≤ i → least_after least (drop i es) ≡ least
 least-end least es i over = ap (least_after least) (drop_of_length-le es over)
+
+-- ---- the group of a ticket
+
+module _ (es : List Entry) (i : ℕ) (e : Entry) (there : i < length es) (is : e ≡ get_or es i e) (ticket : ℕ) where
+  pub settled-here : e.first ≤ ticket → ticket < e.past → IsSettledBy (drop i es) ticket e.number
+  settled-here first past = subst (λ xs. IsSettledBy xs ticket e.number) (sym (rest-is es i e there is)) (inl (first, past, refl))
+
+  pub settled-later : (number : ℕ) → IsSettledBy (drop (i + 1) es) ticket number → IsSettledBy (drop i es) ticket number
+  settled-later number later = subst (λ xs. IsSettledBy xs ticket number) (sym (rest-is es i e there is)) (inr later)
+
+-- ---- two entries
+
+entry-of : (a b : Entry) → (a.first ≡ b.first) × ((a.past ≡ b.past) × (a.number ≡ b.number)) → a ≡ b
+entry-of a b is = λ i. record { first = is.0 i; past = is.1.0 i; number = is.1.1 i }
+
+parts-of : (a b : Entry) → a ≡ b → (a.first ≡ b.first) × ((a.past ≡ b.past) × (a.number ≡ b.number))
+parts-of a b is = (ap (λ (e : Entry). e.first) is, (ap (λ (e : Entry). e.past) is, ap (λ (e : Entry). e.number) is))
+
+pub entry-Decides : (a b : Entry) → Decides ((a.first == b.first) && ((a.past == b.past) && (a.number == b.number))) (a ≡ b)
+entry-Decides a b =
+    let all = Decides-and (a.first == b.first) ((a.past == b.past) && (a.number == b.number)) (Decides-eqb a.first b.first) (Decides-and (a.past == b.past) (a.number == b.number) (Decides-eqb a.past b.past) (Decides-eqb a.number b.number)) in
+    (λ test. entry-of a b (all.0 test), λ is. all.1 (parts-of a b is))

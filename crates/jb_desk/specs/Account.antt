@@ -1,5 +1,5 @@
 -- What a book is as a value: what it has of the machine, what it was made with, its totals and its trail.
-use Rattle.std.specs.Prelude.{◌≡◌, ℕ, ◌+◌, ◌-◌, ◌^◌, ◌<◌, ◌≤◌, ◌||◌, Bool, true, false, nat_lt, nat_le, List, [], ◌∷◌, ◌++◌, length, drop, sum, All, Option, Some, None, is_some}
+use Rattle.std.specs.Prelude.{◌≡◌, ℕ, ◌+◌, ◌-◌, ◌^◌, ◌<◌, ◌≤◌, ◌⊎◌, ◌||◌, if◌then◌else◌, Bool, true, false, nat_lt, nat_le, List, [], ◌∷◌, ◌++◌, length, drop, sum, All, Option, Some, None, is_some}
 use Rattle.std.specs.List.{sum_by}
 use Rattle.std.specs.Map.{values_of}
 use Rattle.std.specs.FinMap as map
@@ -14,6 +14,8 @@ use Rattle.jb_deck.specs.Costs.{geometry_of}
 use Rattle.jb_deck.specs.Done.{Follow, least_after}
 use Rattle.jb_desk.specs.declared.fault.BeginFault.{BeginFault}
 use Rattle.jb_desk.specs.declared.fault.BeginFault.TheVariants.{Aborted, Closed, Busy, TooManyCredits, Full, Memory}
+use Rattle.jb_desk.specs.declared.fault.WaitFault.{WaitFault}
+use Rattle.jb_desk.specs.declared.fault.WaitFault.TheVariants as wait
 use Rattle.jb_desk.specs.declared.fault.EnqueueFault.{EnqueueFault}
 use Rattle.jb_desk.specs.declared.fault.EnqueueFault.TheVariants as stop
 use Rattle.jb_desk.specs.Shadow.{Shadow, credits_at, reserved, fresh, begun, dropped, stopped, took, settled_by, lost}
@@ -148,3 +150,18 @@ IsOver a = (a.shut ≡ true) × (a.shadow.seats ≡ []) × (a.shadow.credits ≡
 pub record Settles (a : Account) (past : ℕ) (entries : List Entry) : Type 0 where
   pub follow : Follow a.shadow.settled (least_after 0 a.trail) past entries
   pub within : past ≤ a.shadow.taken
+
+-- some group of the trail has the ticket, and this is its number
+abbrev pub IsSettledBy : List Entry → ℕ → ℕ → Type 0
+IsSettledBy [] ticket number = ⊥
+IsSettledBy (e ∷ es) ticket number = ((e.first ≤ ticket) × (ticket < e.past) × (number ≡ e.number)) ⊎ IsSettledBy es ticket number
+
+-- some handle has the ticket, and it may yet be settled
+pub record IsAwaited (a : Account) (ticket : ℕ) : Type 0 where
+  pub running : a.aborted ≡ false
+  pub waits : a.shadow.settled ≤ ticket
+  pub given : ticket < a.shadow.next
+
+-- what is answered of a ticket that is not settled and that nobody waits for any more
+abbrev pub fault_of : Account → WaitFault
+fault_of a = if a.aborted then wait.Aborted else wait.Unknown

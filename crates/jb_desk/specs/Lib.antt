@@ -1,4 +1,10 @@
 pub mod Account
 pub mod Book
+pub mod Closing
+pub mod Desks
 pub mod Events
+pub mod Progress
+pub mod Refusals
+pub mod Seats
 pub mod Shadow
+pub mod Stops

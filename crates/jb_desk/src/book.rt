@@ -1,4 +1,4 @@
-ghost use Rattle.std.specs.Prelude.{◌≡◌, ℕ, ◌≤◌, Some, None, true, OnOk, OnErr, IfOk, IfErr, IfSome, IfNone};
+ghost use Rattle.std.specs.Prelude.{◌≡◌, ℕ, ◌+◌, ◌^◌, ◌≤◌, Some, None, true, OnOk, OnErr, IfOk, IfErr, IfSome, IfNone};
 ghost use Rattle.jb_handle.specs.Handle.{holder, changes_of};
 ghost use Rattle.jb_deck.specs.Batch.{gathered};
 ghost use Rattle.jb_deck.specs.Costs.{HasCut};
@@ -158,6 +158,7 @@ impl Book {
         ensures ok { OnOk result (self.new ≡ queued seat (changes_of handle).words self.old) }
         ensures open { OnOk result (CanStop self.old seat (changes_of handle).words) }
         ensures given { IfOk result (λ given. (given.0 ≡ holder handle) × (given.1 ≡ self.old.shadow.next)) }
+        ensures few { IfOk result (λ given. given.1 ≤ 2 ^ 61) }
         ensures err { OnErr result (self.new ≡ self.old) }
         ensures back { IfErr result (λ back. back.0 ≡ handle) }
         ensures refused { IfErr result (λ back. RefusesStop self.old seat (changes_of handle).words back.1) }

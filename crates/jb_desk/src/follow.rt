@@ -1,5 +1,6 @@
-ghost use Rattle.std.specs.Prelude.{◌≡◌, ℕ, ◌+◌, ◌^◌, ◌≤◌, IfSome, IfNone};
+ghost use Rattle.std.specs.Prelude.{◌≡◌, ℕ, ◌+◌, ◌^◌, ◌<◌, ◌≤◌, ◌↔◌, IsTrue, IfSome, IfNone};
 ghost use Rattle.jb_deck.specs.Done.{Follow, least_after};
+ghost use Rattle.jb_desk.specs.Account.{IsSettledBy};
 
 use jb_deck::Entry;
 
@@ -32,6 +33,26 @@ pub fn past_of(entries: &[Entry], first: u64, least: u64, limit: u64) -> Option<
         return None;
     }
     Some((past, next))
+}
+
+/// The number of the entry that has the ticket, where the entries tile the tickets from 0 on.
+pub fn number_in(entries: &[Entry], ticket: u64) -> Option<u32>
+    ensures some { IfSome result (λ number. (settled : ℕ) → Follow 0 0 settled entries.now → IsSettledBy entries.now ticket number × (ticket < settled)) }
+    ensures none { IfNone result ((settled : ℕ) → Follow 0 0 settled entries.now → settled ≤ ticket) }
+{
+    for entry in entries {
+        if ticket < entry.past {
+            return Some(entry.number);
+        }
+    }
+    None
+}
+
+/// Whether two lists of entries are the same.
+pub fn are_same(these: &[Entry], those: &[Entry]) -> bool
+    ensures { IsTrue result ↔ (these.now ≡ those.now) }
+{
+    these == those
 }
 
 // The number after another.

@@ -2,10 +2,18 @@
 #![tactic(auto)]
 
 mod book;
+mod counter;
+mod desk;
+mod ended;
 mod fault;
 mod follow;
 pub mod laws;
 mod room;
+mod seat;
+mod works;
 
 pub use book::Book;
-pub use fault::{BeginFault, EnqueueFault, WrongBatch};
+pub use desk::{CloseFault, Closed, Desk};
+pub use ended::Ended;
+pub use fault::{BeginFault, EnqueueFault, SeatFault, StopFault, WaitFault, WrongBatch};
+pub use seat::{Left, Seat};

@@ -19,6 +19,11 @@ abbrev pub CountsCall : Bool → ℕ → ℕ → Type 0
 CountsCall true old new = new ≡ old
 CountsCall false old new = MoreFaults old new
 
+-- the count of a disk of its own: by one where a call fails, up to the largest count
+abbrev pub CountsOne : Bool → ℕ → ℕ → Type 0
+CountsOne true old new = new ≡ old
+CountsOne false old new = new ≡ min (old + 1) (2 ^ 64 - 1)
+
 -- two counts of the same disk as one, which stays at the top too
 abbrev pub counted : ℕ → ℕ → ℕ
 counted below own = min (below + own) (2 ^ 64 - 1)

@@ -1,6 +1,7 @@
 -- What a disk behind a fuse shows of its fields.
-use Rattle.std.specs.Prelude.{◌≡◌, ◌≢◌, ◌-◌, ℕ, Bool}
-use Rattle.jb_disk.specs.Faults.{CountsCall}
+use Rattle.std.specs.Prelude.{◌≡◌, ◌≢◌, ◌-◌, ℕ, Bool, false}
+use Rattle.jb_disk.specs.Called.{Called}
+use Rattle.jb_disk.specs.Faults.{CountsCall, CountsOne}
 use Rattle.jb_disk.specs.declared.fuse.FuseDisk.{FuseDisk}
 
 -- the disk that calls are passed on to
@@ -15,10 +16,13 @@ left_of f = f.left
 abbrev pub failed_of : {D : Type 0} → FuseDisk D → ℕ
 failed_of f = f.failed
 
--- A call: one less still passes. While any passed it is passed on, so that it fails where the disk behind the fuse
--- counts a fault, and the fuse counts none of its own. When none was left, that disk stays as it is.
-pub record Burns {D : Type 0} (faults : D → ℕ) (old new : FuseDisk D) (ok : Bool) : Type 0 where
+-- A call: one less still passes. While any passed it is passed on, once: it makes of the disk behind the fuse what that
+-- disk says of one call, fails where that disk counts a fault, and the fuse counts none of its own. When none was left,
+-- that disk stays as it is, and the fuse counts one.
+pub record Burns {D : Type 0} (faults : D → ℕ) (own : Called → D → D → Bool → Type 0) (call : Called) (old new : FuseDisk D) (ok : Bool) : Type 0 where
   pub left : left_of new ≡ left_of old - 1
+  pub once : left_of old ≢ 0 → own call (disk_of old) (disk_of new) ok
   pub passed : left_of old ≢ 0 → CountsCall ok (faults (disk_of old)) (faults (disk_of new))
-  pub own : left_of old ≢ 0 → failed_of new ≡ failed_of old
+  pub unfailed : left_of old ≢ 0 → failed_of new ≡ failed_of old
   pub blown : left_of old ≡ 0 → disk_of new ≡ disk_of old
+  pub counted : left_of old ≡ 0 → CountsOne false (failed_of old) (failed_of new)

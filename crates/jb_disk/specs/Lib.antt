@@ -1,3 +1,4 @@
+pub mod Called
 pub mod Calls
 pub mod Faults
 pub mod File

@@ -34,6 +34,13 @@ left_has_shape count size first (Wrote place bytes ∷ older) c shape whole left
     shape_torn count size left.0 c place bytes (left_has_shape count size first older left.0 shape whole.2 left.1) left.2
 left_has_shape count size first (Synced ∷ older) c shape whole left = subst (HasShape count size) (sym left) (replay_shape count size first older shape whole)
 
+-- and what any of the moments might have left
+pub since_has_shape : (count size : ℕ) (first : Image) (steps : List Step) (t : ℕ) (c : Image) → HasShape count size first → AreWhole count size steps → LeftSince first steps t c → HasShape count size c
+since_has_shape count size first [] t c shape whole left = left_has_shape count size first [] c shape whole left.1
+since_has_shape count size first (step ∷ older) t c shape whole (inl left) = left_has_shape count size first (step ∷ older) c shape whole left.1
+since_has_shape count size first (Wrote place bytes ∷ older) t c shape whole (inr left) = since_has_shape count size first older t c shape whole.2 left
+since_has_shape count size first (Synced ∷ older) t c shape whole (inr left) = since_has_shape count size first older t c shape whole left
+
 pub left_since_now : (first : Image) (steps : List Step) (t : ℕ) (c : Image) → t ≤ length steps → MayLeave first steps c → LeftSince first steps t c
 left_since_now first [] t c earlier left = (earlier, left)
 left_since_now first (step ∷ older) t c earlier left = inl (omega (arith, earlier), left)

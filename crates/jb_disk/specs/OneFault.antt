@@ -1,5 +1,6 @@
 -- What a disk that fails once shows of its fields.
 use Rattle.std.specs.Prelude.{◌≡◌, ℕ, Bool, true, false, Option}
+use Rattle.jb_disk.specs.Called.{Called}
 use Rattle.jb_disk.specs.Faults.{CountsCall}
 use Rattle.jb_disk.specs.Once.{is_next, next_of}
 use Rattle.jb_disk.specs.declared.one_fault.OneFaultDisk.{OneFaultDisk}
@@ -12,9 +13,10 @@ disk_of f = f.disk
 abbrev pub before_of : {D : Type 0} → OneFaultDisk D → Option ℕ
 before_of f = f.before
 
--- A call: the count goes on by one. Unless it is the one that fails, it is passed on, so that it fails where the disk
--- that calls are passed on to counts a fault; if it is, that disk stays as it is.
-pub record Spends {D : Type 0} (faults : D → ℕ) (old new : OneFaultDisk D) (ok : Bool) : Type 0 where
+-- A call: the count goes on by one. Unless it is the one that fails, it is passed on, once: it makes of the disk that calls
+-- are passed on to what that disk says of one call, and fails where it counts a fault; if it is, that disk stays as it is.
+pub record Spends {D : Type 0} (faults : D → ℕ) (own : Called → D → D → Bool → Type 0) (call : Called) (old new : OneFaultDisk D) (ok : Bool) : Type 0 where
   pub next : before_of new ≡ next_of (before_of old)
+  pub once : is_next (before_of old) ≡ false → own call (disk_of old) (disk_of new) ok
   pub passed : is_next (before_of old) ≡ false → CountsCall ok (faults (disk_of old)) (faults (disk_of new))
   pub failed : is_next (before_of old) ≡ true → disk_of new ≡ disk_of old

@@ -3,6 +3,7 @@ ghost use Rattle.std.specs.Prelude.{Bool, false, is_ok, IsTrue, IsErr, ◌≡◌
 ghost use Rattle.jb_block.specs.Size.{bytes_of, IsBlockSize};
 ghost use Rattle.jb_disk.specs.Image.{Image, block, Torn, Same, Only, HasShape};
 ghost use Rattle.jb_disk.specs.Time.{Goes};
+ghost use Rattle.jb_disk.specs.Called.{Called, Reads, Writes, Syncs};
 ghost use Rattle.jb_disk.specs.Faults.{CountsFault};
 ghost use Rattle.jb_disk.specs.Kept.{Kept, Untouched};
 
@@ -41,9 +42,9 @@ pub trait Disk {
     /// The next read, write or sync fails and is not tried.
     ghost is_stopped: { Self → Bool } = { λ _. false };
 
-    /// What a call does to what this kind of disk keeps of its own, by whether it succeeds; nothing is said
+    /// What one call does to what this kind of disk keeps of its own, by whether it succeeds; nothing is said
     /// unless a disk says it.
-    ghost own: { Self → Self → Bool → Type 0 } = { λ _ _ _. Unit {0} };
+    ghost own: { Called → Self → Self → Bool → Type 0 } = { λ _ _ _ _. Unit {0} };
 
     /// The size of the disk's blocks.
     fn block_size(&self) -> BlockSize
@@ -61,7 +62,7 @@ pub trait Disk {
         ensures kept { Kept size count honest self.old self.new }
         ensures stopped { IsTrue (is_stopped self.old) → IsErr result × Untouched newest may_leave moment self.old self.new }
         ensures faults { CountsFault result (faults self.old) (faults self.new) }
-        ensures own { own self.old self.new (is_ok result) }
+        ensures own { own (Reads place) self.old self.new (is_ok result) }
         ensures found { honest self.old → OnOk result (buf.new ≡ block (newest self.old) place) }
         ensures newest { honest self.old → newest self.new ≡ newest self.old }
         ensures goes { honest self.old → Goes may_leave moment left_since Same self.old self.new };
@@ -75,7 +76,7 @@ pub trait Disk {
         ensures kept { Kept size count honest self.old self.new }
         ensures stopped { IsTrue (is_stopped self.old) → IsErr result × Untouched newest may_leave moment self.old self.new }
         ensures faults { CountsFault result (faults self.old) (faults self.new) }
-        ensures own { own self.old self.new (is_ok result) }
+        ensures own { own (Writes place bytes.now) self.old self.new (is_ok result) }
         ensures written { honest self.old → OnOk result (newest self.new ≡ set (newest self.old) place bytes.now) }
         ensures torn { honest self.old → Torn place bytes.now (newest self.old) (newest self.new) }
         ensures goes { honest self.old → Goes may_leave moment left_since (Torn place bytes.now) self.old self.new };
@@ -86,7 +87,7 @@ pub trait Disk {
         ensures kept { Kept size count honest self.old self.new }
         ensures stopped { IsTrue (is_stopped self.old) → IsErr result × Untouched newest may_leave moment self.old self.new }
         ensures faults { CountsFault result (faults self.old) (faults self.new) }
-        ensures own { own self.old self.new (is_ok result) }
+        ensures own { own Syncs self.old self.new (is_ok result) }
         ensures newest { honest self.old → newest self.new ≡ newest self.old }
         ensures durable { honest self.old → OnOk result (Only (newest self.old) (may_leave self.new)) }
         ensures goes { honest self.old → Goes may_leave moment left_since Same self.old self.new };
@@ -99,6 +100,9 @@ pub trait Disk {
 
     /// What a crash may leave has as many blocks as the disk, each of the disk's size.
     ghost has_shape: { (disk : Self) (c : Image) → honest disk → may_leave disk c → HasShape (count disk) (size disk) c };
+
+    /// So has what a crash at some moment from that one on might have left.
+    ghost has_shape_since: { (disk : Self) (t : ℕ) (c : Image) → honest disk → left_since disk t c → HasShape (count disk) (size disk) c };
 
     /// This moment is one of those since an earlier one.
     ghost counts_now: { (disk : Self) (t : ℕ) (c : Image) → honest disk → t ≤ moment disk → may_leave disk c → left_since disk t c };

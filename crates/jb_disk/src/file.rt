@@ -1,7 +1,7 @@
 //! A file of the operating system as a disk.
 ghost use Rattle.std.specs.Prelude.{◌≡◌, ◌<◌, ◌*◌, ◌/◌, ◌^◌, ◌↔◌, [], is_ok, IsTrue, Ok, IfOk};
 ghost use Rattle.jb_block.specs.Size.{bytes_of};
-ghost use Rattle.jb_disk.specs.Faults.{CountsFault};
+ghost use Rattle.jb_disk.specs.Faults.{CountsFault, CountsOne};
 ghost use Rattle.jb_disk.specs.Lives.{is_block_size};
 
 use crate::{Disk, Fault};
@@ -63,11 +63,15 @@ impl Disk for FileDisk {
 
     ghost left_since = { λ _ _ _. ⊥ };
 
+    ghost own = { λ _ old new ok. CountsOne ok old.faults new.faults };
+
     ghost has_size = { λ f. is_block_size f.size };
 
     ghost newest_may_stay = { λ _ honest. absurd honest };
 
     ghost has_shape = { λ _ _ honest _. absurd honest };
+
+    ghost has_shape_since = { λ _ _ _ honest _. absurd honest };
 
     ghost counts_now = { λ _ _ _ honest _ _. absurd honest };
 
@@ -119,6 +123,7 @@ fn is_whole(answer: &io::Result<usize>, len: usize) -> bool
 fn settle(succeeded: bool, faults: &mut u64) -> Result<(), Fault>
     ensures variant { is_ok result ≡ succeeded }
     ensures faults { CountsFault result faults.old faults.new }
+    ensures one { CountsOne succeeded faults.old faults.new }
 {
     if succeeded {
         return Ok(());

@@ -1,6 +1,6 @@
 //! A disk that fails from some call on, as one that loses its power does.
-ghost use Rattle.std.specs.Prelude.{◌≡◌, ◌+◌, ◌-◌, ◌^◌, ◌==◌, ◌↔◌, ◌||◌, ℕ, min, IsErr};
-ghost use Rattle.jb_disk.specs.Faults.{CountsFault, counted};
+ghost use Rattle.std.specs.Prelude.{◌≡◌, ◌+◌, ◌-◌, ◌^◌, ◌==◌, ◌↔◌, ◌||◌, ℕ, min, is_ok, IsErr};
+ghost use Rattle.jb_disk.specs.Faults.{CountsFault, CountsOne, counted};
 
 use crate::{Disk, Fault};
 use jb_block::BlockSize;
@@ -59,13 +59,15 @@ impl<D: Disk> Disk for FuseDisk<D> {
 
     ghost use Rattle.jb_disk.specs.Fuse.{Burns};
 
-    ghost own = { λ old new ok. Burns D.faults old new ok };
+    ghost own = { λ call old new ok. Burns D.faults D.own call old new ok };
 
     ghost has_size = { λ f. D.has_size f.disk };
 
     ghost newest_may_stay = { λ f. D.newest_may_stay f.disk };
 
     ghost has_shape = { λ f. D.has_shape f.disk };
+
+    ghost has_shape_since = { λ f. D.has_shape_since f.disk };
 
     ghost counts_now = { λ f. D.counts_now f.disk };
 
@@ -100,6 +102,7 @@ fn burn(left: &mut u64, failed: &mut u64) -> Result<(), Fault>
     ensures blown { IsErr result ↔ (left.old ≡ 0) }
     ensures left { left.new ≡ left.old - 1 }
     ensures faults { CountsFault result failed.old failed.new }
+    ensures one { CountsOne (is_ok result) failed.old failed.new }
 {
     if *left == 0 {
         *failed = failed.saturating_add(1);

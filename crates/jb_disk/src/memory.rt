@@ -5,7 +5,7 @@ ghost use Rattle.jb_disk.specs.Calls.{steps_of, image_of};
 ghost use Rattle.jb_disk.specs.Image.{HasShape};
 ghost use Rattle.jb_disk.specs.History.{Wrote, Synced, newest_of, MayLeave, LeftSince, IsSound};
 ghost use Rattle.jb_disk.specs.Versions.{IsChosen};
-ghost use Rattle.jb_disk.specs.Lives.{is_block_size, newest_stays, left_has_shape, left_since_now, left_only_now};
+ghost use Rattle.jb_disk.specs.Lives.{is_block_size, newest_stays, left_has_shape, since_has_shape, left_since_now, left_only_now};
 
 use crate::sector::{copy_of, crash_image};
 use crate::{Disk, Fault};
@@ -44,11 +44,12 @@ impl Model for MemoryDisk {
 }
 
 impl MemoryDisk {
-    /// A disk of so many blocks of zeros.
+    /// A disk of so many blocks of zeros. One of no blocks takes no memory.
     pub fn new(alloc: Global, size: BlockSize, blocks: u64) -> Result<MemoryDisk, Memory>
         ensures sound { IfOk result IsSound }
         ensures size { IfOk result (λ disk. disk.size ≡ size) }
         ensures count { IfOk result (λ disk. disk.count ≡ blocks) }
+        ensures grows { OnErr result (0 < blocks) }
         ensures zeros { IfOk result (λ disk. disk.first ≡ replicate blocks (replicate (bytes_of size) 0)) }
         ensures fresh { IfOk result (λ disk. (disk.steps ≡ []) × (disk.faults ≡ 0)) }
     {
@@ -64,11 +65,13 @@ impl MemoryDisk {
 
     /// The disk after a crash at this moment, in which nothing is pending. Of the sectors that have
     /// been written since the last sync the k-th, by place and then within the block, gets its
-    /// `choice[k]`-th version, counted round; number 0, and no number, is what it held at the sync.
+    /// `choice[k]`-th version, counted round; number 0, and no number, is what it held at the sync. A disk
+    /// of no blocks takes no memory.
     pub fn crash(&self, choice: &[u32]) -> Result<MemoryDisk, Memory>
         ensures sound { IfOk result IsSound }
         ensures size { IfOk result (λ disk. disk.size ≡ self.now.size) }
         ensures count { IfOk result (λ disk. disk.count ≡ self.now.count) }
+        ensures grows { OnErr result (0 < self.now.count) }
         ensures chosen { IfOk result (λ disk. IsChosen self.now choice.now disk.first) }
         ensures allowed { IfOk result (λ disk. MayLeave self.now.first self.now.steps disk.first) }
         ensures fresh { IfOk result (λ disk. (disk.steps ≡ []) × (disk.faults ≡ 0)) }
@@ -103,11 +106,17 @@ impl Disk for MemoryDisk {
 
     ghost left_since = { λ h. LeftSince h.first h.steps };
 
+    ghost use Rattle.jb_disk.specs.Called.{CallMakes};
+
+    ghost own = { CallMakes };
+
     ghost has_size = { λ h. is_block_size h.size };
 
     ghost newest_may_stay = { λ h sound. newest_stays h.count (bytes_of h.size) h.first h.steps sound.shape sound.whole };
 
     ghost has_shape = { λ h c sound left. left_has_shape h.count (bytes_of h.size) h.first h.steps c sound.shape sound.whole left };
+
+    ghost has_shape_since = { λ h t c sound left. since_has_shape h.count (bytes_of h.size) h.first h.steps t c sound.shape sound.whole left };
 
     ghost counts_now = { λ h t c sound earlier left. left_since_now h.first h.steps t c earlier left };
 
@@ -152,7 +161,8 @@ impl Disk for MemoryDisk {
 
 // So many blocks of zeros.
 fn zeros(alloc: Global, size: BlockSize, blocks: u64) -> Result<Vec<Vec<u8>>, Memory>
-    ensures { IfOk result (λ image. image_of image.items ≡ replicate blocks (replicate (bytes_of size) 0)) }
+    ensures image { IfOk result (λ image. image_of image.items ≡ replicate blocks (replicate (bytes_of size) 0)) }
+    ensures grows { OnErr result (0 < blocks) }
 {
     let mut image = Vec::with_capacity(alloc, blocks as usize)?;
     for _place in 0..blocks {

@@ -58,13 +58,15 @@ impl<D: Disk> Disk for OneFaultDisk<D> {
 
     ghost use Rattle.jb_disk.specs.OneFault.{Spends};
 
-    ghost own = { λ old new ok. Spends D.faults old new ok };
+    ghost own = { λ call old new ok. Spends D.faults D.own call old new ok };
 
     ghost has_size = { λ f. D.has_size f.disk };
 
     ghost newest_may_stay = { λ f. D.newest_may_stay f.disk };
 
     ghost has_shape = { λ f. D.has_shape f.disk };
+
+    ghost has_shape_since = { λ f. D.has_shape_since f.disk };
 
     ghost counts_now = { λ f. D.counts_now f.disk };
 

@@ -1,5 +1,5 @@
 //! What a crash makes of the blocks of a disk in memory, sector by sector.
-ghost use Rattle.std.specs.Prelude.{◌≡◌, ◌<◌, ◌≤◌, ◌+◌, ◌*◌, ◌/◌, ◌∷◌, ℕ, List, [], length, take, drop, get_or, replicate, map, All, IfOk, MatchOption};
+ghost use Rattle.std.specs.Prelude.{◌≡◌, ◌<◌, ◌≤◌, ◌+◌, ◌*◌, ◌/◌, ◌∷◌, ℕ, List, [], length, take, drop, get_or, replicate, map, All, IfOk, OnErr, MatchOption};
 ghost use Rattle.jb_block.specs.Size.{bytes_of};
 ghost use Rattle.jb_disk.specs.Calls.{steps_of, image_of};
 ghost use Rattle.jb_disk.specs.History.{replay, AreWhole};
@@ -32,7 +32,8 @@ fn until_sync(calls: &[Call]) -> usize
 
 // A copy of these blocks.
 pub(crate) fn copy_of(alloc: Global, blocks: &[Vec<u8>]) -> Result<Vec<Vec<u8>>, Memory>
-    ensures { IfOk result (λ copy. image_of copy.items ≡ image_of blocks.now) }
+    ensures copy { IfOk result (λ copy. image_of copy.items ≡ image_of blocks.now) }
+    ensures grows { OnErr result (0 < length blocks.now) }
 {
     let mut copy = Vec::new(alloc);
     for block in blocks {
@@ -57,6 +58,7 @@ fn replay_calls(image: &mut [Vec<u8>], calls: &[Call])
 fn no_writes<'a>(alloc: Global, count: usize) -> Result<Vec<Vec<&'a [u8]>>, Memory>
     ensures places { IfOk result (λ table. length table.items ≡ count) }
     ensures none { IfOk result (λ table. (place : ℕ) → writes_at (table_of table.items) place ≡ []) }
+    ensures grows { OnErr result (0 < count) }
 {
     let mut table = Vec::new(alloc);
     for _place in 0..count {
@@ -75,6 +77,7 @@ fn writes_by_place<'a>(
     requires writes { AreWrites (steps_of calls.now) }
     ensures places { IfOk result (λ table. length table.items ≡ count) }
     ensures writes { IfOk result (λ table. (place : ℕ) → place < count → writes_at (table_of table.items) place ≡ written (steps_of calls.now) place) }
+    ensures grows { OnErr result (0 < count) }
 {
     let mut table = no_writes(alloc, count)?;
     for call in calls {
@@ -155,7 +158,8 @@ fn choose(image: &mut [Vec<u8>], writes: &[Vec<&[u8]>], sectors: usize, choice: 
 // The blocks that the calls lead to from these first ones.
 fn synced_image(alloc: Global, first: &[Vec<u8>], calls: &[Call]) -> Result<Vec<Vec<u8>>, Memory>
     requires { (size : ℕ) × HasShape (length first.now) size (image_of first.now) × AreWhole (length first.now) size (steps_of calls.now) }
-    ensures { IfOk result (λ image. image_of image.items ≡ replay (image_of first.now) (steps_of calls.now)) }
+    ensures synced { IfOk result (λ image. image_of image.items ≡ replay (image_of first.now) (steps_of calls.now)) }
+    ensures grows { OnErr result (0 < length first.now) }
 {
     let mut image = copy_of(alloc, first)?;
     replay_calls(&mut image, calls);
@@ -174,6 +178,7 @@ pub(crate) fn crash_image(
     requires whole { AreWhole (length first.now) (bytes_of size) (steps_of calls.now) }
     ensures count { IfOk result (λ image. length image.items ≡ length first.now) }
     ensures shape { IfOk result (λ image. HasShape (length first.now) (bytes_of size) (image_of image.items)) }
+    ensures grows { OnErr result (0 < length first.now) }
     ensures chosen { IfOk result (λ image. (place k : ℕ) → place < length first.now → k < bytes_of size / 512 → sector k (block_at (image_of image.items) place) ≡ sector k (version (versions (image_of first.now) (steps_of calls.now) place) (get_or choice.now (written_below (steps_of calls.now) place * (bytes_of size / 512) + k) 0))) }
 {
     let synced = until_sync(calls);

@@ -1,9 +1,7 @@
 //! Laws over the definitions alone. Their functions do nothing: the law is the contract.
-ghost use Rattle.std.specs.Prelude.{◌≡◌, ◌↔◌, ℕ, List, Ok};
+ghost use Rattle.std.specs.Prelude.{◌≡◌, ℕ, List};
 ghost use Rattle.std.specs.FinMap as map;
 ghost use Rattle.jb_handle.specs.LastOp.{last_word, words_by};
-ghost use Rattle.jb_handle.specs.Queue.{Queue, queue_of};
-ghost use Rattle.jb_handle.specs.Spelling.{Spells};
 ghost use Rattle.jb_handle.specs.declared.op.Op.{Op as OpValue};
 
 /// The words after any list of changes hold, at each home block, what its last change left: a write
@@ -11,11 +9,4 @@ ghost use Rattle.jb_handle.specs.declared.op.Op.{Op as OpValue};
 #[tactic(auto, using(crate::proofs::LastOp::word_by_last))]
 pub fn last_change_counts()
     ensures { (ops : List OpValue) (home : ℕ) → map.get (words_by ops) home ≡ last_word ops home }
-{}
-
-/// A queue text is read to exactly the queue that it spells by the grammar: numbers are decimals without leading
-/// zeros, bytes are hexadecimal digits, words stand behind single spaces, lines are parted by LF, and the last word
-/// of a handle on a block counts. Any other text has a fault.
-pub fn spelled()
-    ensures { (text : List ℕ) (queue : Queue) → (queue_of text ≡ Ok queue) ↔ Spells text queue }
 {}

@@ -1,30 +1,24 @@
-//! What a handle leaves behind: the last word on each home block that it touched, and the handles that wait in a queue.
+//! What a handle leaves behind: the last word on each home block that it touched.
 #![tactic(auto)]
 
 mod changes;
-mod fault;
 mod gathered;
 mod handle;
 mod joined;
 pub mod laws;
 mod op;
-mod op_text;
 mod payload;
-mod queue_text;
 mod shape;
 mod size;
 mod stopped;
-pub mod text;
 mod word;
 mod words;
 
 pub use changes::{Changes, TouchFault};
-pub use fault::{Cause, QueueFault};
 pub use gathered::Gathered;
 pub use handle::Handle;
 pub use op::Op;
 pub use payload::Payload;
-pub use queue_text::{QueueText, read_queue};
 pub use shape::Shape;
 pub use size::is_within_size;
 pub use stopped::Stopped;

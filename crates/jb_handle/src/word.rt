@@ -1,4 +1,4 @@
-ghost use Rattle.std.specs.Prelude.{◌≡◌, ◌↔◌, IfOk, IsTrue};
+ghost use Rattle.std.specs.Prelude.{◌≡◌, ◌↔◌, IfOk, OnErr, IsTrue};
 
 use crate::payload::Payload;
 use crate::shape::Shape;
@@ -44,9 +44,10 @@ impl Word {
     ///
     /// # Errors
     ///
-    /// `Memory` where there is none for a copy of its bytes.
+    /// `Memory` where there is none for a copy of its bytes, and never for a freed block.
     pub fn try_clone(&self) -> Result<Word, Memory>
-        ensures { IfOk result (λ word. word ≡ self.now) }
+        ensures same { IfOk result (λ word. word ≡ self.now) }
+        ensures grows { OnErr result (IsTrue (is_copy self.now)) }
     {
         match self {
             Word::Copy(payload) => Ok(Word::Copy(payload.try_clone()?)),

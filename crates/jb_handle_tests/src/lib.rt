@@ -1,7 +1,5 @@
-//! Tests of handles, their words and the texts of queues.
+//! Tests of handles and their words.
 #![tactic(auto)]
 
 #[cfg(test)]
 mod handles;
-#[cfg(test)]
-mod queues;

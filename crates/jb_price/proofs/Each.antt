@@ -3,7 +3,7 @@ use Rattle.std.proofs.Common.{◌≡◌, ◌∙◌, sym, ap, subst, ℕ, ◌+◌
 use Rattle.std.specs.Borrow.{Bor}
 use Rattle.std.specs.Option.{option_copied}
 use Rattle.std.proofs.lemmas.Bool.{cases_lt}
-use Rattle.jb_handle.specs.Parts.{words, words_in, first_of, grow}
+use Rattle.jb_text.specs.Parts.{words, words_in, first_of, grow}
 use Rattle.jb_price.specs.declared.fault.CertFault.TheVariants.{Syntax}
 use Rattle.jb_price.specs.Reading.{after_each, on_line}
 

@@ -7,14 +7,14 @@ use Rattle.std.specs.Str.{bytes_eq}
 use Rattle.std.proofs.lemmas.Bool.{ne_eqb, eq-eqb}
 use Rattle.std.proofs.lemmas.Fmt.{digits_decimal, decimal_nonempty}
 use Rattle.std.proofs.lemmas.List.{append-nil}
-use Rattle.jb_handle.specs.Parts.{lines, number_of}
-use Rattle.jb_handle.proofs.Joins.{Without, without-append, spaced-without, words-spaced, lines-put, literal-without, decimal-without}
-use Rattle.jb_handle.proofs.Numerals.{AreDigits, numerals, decimal-is_number}
-use Rattle.jb_handle.proofs.Splits.{lines-nil}
+use Rattle.jb_text.specs.Parts.{lines, number_of}
+use Rattle.jb_text.proofs.Joins.{Without, without-append, spaced-without, words-spaced, lines-put, literal-without, decimal-without}
+use Rattle.jb_text.proofs.Numerals.{AreDigits, numerals, decimal-is_number}
+use Rattle.jb_text.proofs.Splits.{lines-nil}
 use Rattle.jb_price.specs.declared.certificate.Cert.{Cert}
 use Rattle.jb_price.specs.declared.certificate.CertAnswer.{CertAnswer}
 use Rattle.jb_price.specs.declared.certificate.CertAnswer.TheVariants.{Cut, NoCut}
-use Rattle.jb_handle.specs.Parts.{spaced}
+use Rattle.jb_text.specs.Parts.{spaced}
 use Rattle.jb_price.specs.Certificate.{price_text, prices_line, answer_lines, cert_text}
 use Rattle.jb_price.specs.Reading.{after_each, price_of, prices_in, cut_in, total_in, claim_in, claim_of, cut_of, read_of}
 use Rattle.jb_price.specs.ReadBack.{Fits64, PriceFits, HasBound, AnswerFits, HasText}

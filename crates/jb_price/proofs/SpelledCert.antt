@@ -7,12 +7,12 @@ use Rattle.std.specs.Str.{bytes_eq}
 use Rattle.std.proofs.lemmas.Bool.{eq-eqb, eqb-true}
 use Rattle.std.proofs.lemmas.List.{append-nil}
 use Rattle.std.proofs.lemmas.Slice.Eq.{bytes_eq-Decides}
-use Rattle.jb_handle.specs.Parts.{◌>>=◌, lines, words, spaced, behind_word, first_of, number_of}
-use Rattle.jb_handle.specs.Spelling.{AreLines}
-use Rattle.jb_handle.proofs.Joins.{literal-without}
-use Rattle.jb_handle.proofs.Numerals.{number-is_decimal}
-use Rattle.jb_handle.proofs.SpelledHandles.{spaced-words}
-use Rattle.jb_handle.proofs.SpelledText.{behind-is, lines-are, are-lines, IsLine}
+use Rattle.jb_text.specs.Parts.{◌>>=◌, lines, words, spaced, behind_word, first_of, number_of}
+use Rattle.jb_text.specs.Lines.{AreLines}
+use Rattle.jb_text.proofs.Joins.{literal-without}
+use Rattle.jb_text.proofs.Numerals.{number-is_decimal}
+use Rattle.jb_text.proofs.Grammar.{spaced-words}
+use Rattle.jb_text.proofs.Grammar.{behind-is, lines-are, are-lines, IsLine}
 use Rattle.jb_price.specs.declared.fault.CertFault.{CertFault}
 use Rattle.jb_price.specs.declared.fault.CertFault.TheVariants.{Length}
 use Rattle.jb_price.specs.Certificate.{price_text}

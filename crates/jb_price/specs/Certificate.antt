@@ -1,6 +1,6 @@
 -- The text of a certificate: a line of prices, a line of the cut's bounds, and a line of its total.
 use Rattle.std.specs.Prelude.{ℕ, List, ◌++◌, map, codes, decimal, Option, Some, None}
-use Rattle.jb_handle.specs.Parts.{spaced}
+use Rattle.jb_text.specs.Parts.{spaced}
 use Rattle.jb_price.specs.declared.certificate.Cert.{Cert}
 use Rattle.jb_price.specs.declared.certificate.CertAnswer.{CertAnswer}
 use Rattle.jb_price.specs.declared.certificate.CertAnswer.TheVariants.{Cut, NoCut}

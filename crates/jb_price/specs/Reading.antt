@@ -2,7 +2,7 @@
 use Rattle.std.specs.Prelude.{◌≡◌, ℕ, ◌+◌, ◌==◌, if◌then◌else◌, List, [], ◌∷◌, ◌++◌, length, codes, Option, option_map, IsSome, Some, None, Result, Ok, Err}
 use Rattle.std.specs.Option.{option_and_then}
 use Rattle.std.specs.Str.{bytes_eq}
-use Rattle.jb_handle.specs.Parts.{◌>>=◌, lines, words, behind_word, first_of, number_of}
+use Rattle.jb_text.specs.Parts.{◌>>=◌, lines, words, behind_word, first_of, number_of}
 use Rattle.jb_price.specs.declared.certificate.Cert.{Cert}
 use Rattle.jb_price.specs.declared.certificate.CertAnswer.{CertAnswer}
 use Rattle.jb_price.specs.declared.certificate.CertAnswer.TheVariants.{Cut, NoCut}

@@ -1,8 +1,8 @@
 -- The grammar of a certificate's text in its own words: which text spells which claim.
 use Rattle.std.specs.Prelude.{◌≡◌, ℕ, ◌+◌, ◌<◌, List, [], ◌∷◌, ◌++◌, length, map, codes, decimal, Option, Some, None}
 use Rattle.std.specs.List.{AllByRecursion}
-use Rattle.jb_handle.specs.Parts.{spaced}
-use Rattle.jb_handle.specs.Spelling.{AreLines}
+use Rattle.jb_text.specs.Parts.{spaced}
+use Rattle.jb_text.specs.Lines.{AreLines}
 use Rattle.jb_price.specs.Certificate.{price_text}
 use Rattle.jb_price.specs.Reading.{Claim}
 use Rattle.jb_price.specs.ReadBack.{Fits64, PriceFits}

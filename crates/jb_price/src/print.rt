@@ -1,5 +1,5 @@
 ghost use Rattle.std.specs.Prelude.{◌≡◌, ◌++◌, ◌∷◌, map, codes, decimal, string_bytes, IfOk, OnOk};
-ghost use Rattle.jb_handle.specs.Parts.{spaced};
+ghost use Rattle.jb_text.specs.Parts.{spaced};
 ghost use Rattle.jb_price.specs.Certificate.{cert_text, prices_line, answer_lines, price_text};
 
 use crate::certificate::{Cert, CertAnswer};

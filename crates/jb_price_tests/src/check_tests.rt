@@ -1,5 +1,6 @@
 use jb_cost::Geometry;
-use jb_handle::{is_within_size, read_queue};
+use jb_handle::is_within_size;
+use jb_queue::read_queue;
 use jb_price::{Cert, CertAnswer, Reason, Verdict, check, read_cert};
 use std::test::Fail;
 

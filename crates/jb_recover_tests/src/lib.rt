@@ -16,6 +16,10 @@ mod formats;
 #[cfg(test)]
 mod images;
 #[cfg(test)]
+mod renumbers;
+#[cfg(test)]
 mod small;
+#[cfg(test)]
+mod widens;
 #[cfg(test)]
 mod wraps;

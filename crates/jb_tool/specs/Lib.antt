@@ -1,11 +1,7 @@
-pub mod Check
-pub mod Cost
 pub mod Dump
-pub mod Faulty
 pub mod Format
 pub mod Images
 pub mod Options
-pub mod Plan
 pub mod Recover
 pub mod Runs
 pub mod Said

@@ -3,8 +3,9 @@ use Rattle.std.specs.Prelude.{◌≡◌, ◌+◌, ◌*◌, ◌^◌, ◌<◌, len
 use Rattle.std.specs.List.{AllPass}
 use Rattle.hex.specs.Hex.{decode_of, is_hex_digit}
 use Rattle.jb_block.specs.Size.{bytes_of, IsBlockSize}
+use Rattle.jb_block.specs.Width.{is_wide}
 use Rattle.jb_words.specs.Named.{Options}
-use Rattle.jb_tool.specs.declared.answers.options.NewImage.{NewImage}
+use Rattle.jb_tool.specs.declared.options.NewImage.{NewImage}
 
 -- one of the three block sizes, numbers that fit their fields, a UUID of 32 hexadecimal digits, and a length that a file
 -- may have
@@ -21,4 +22,5 @@ pub record IsAskedBy (o : Options) (image : NewImage) : Type 0 where
   pub journal : image.journal ≡ o.journal
   pub max : image.max ≡ o.max
   pub uuid : decode_of o.uuid ≡ Ok image.uuid
+  pub width : is_wide image.width ≡ o.wide
   pub len : image.len ≡ (o.journal + o.homes) * o.bs

@@ -3,7 +3,7 @@ use Rattle.std.specs.Prelude.{◌≡◌, ◌⊎◌, ℕ, List, [], ◌∷◌, Op
 use Rattle.jb_disk.specs.Image.{Image, Only}
 use Rattle.jb_disk.specs.Kept.{Kept}
 use Rattle.jb_disk.specs.Time.{LeavesOnly}
-use Rattle.jb_dump.specs.Lines.{spelled}
+use Rattle.jb_io.specs.Parts.{spelled}
 use Rattle.jb_recover.specs.Outcomes.{RecoversAs}
 use Rattle.jb_recover.specs.Passes.{PassFaults}
 use Rattle.jb_recover.specs.Recovers.{Recovers}

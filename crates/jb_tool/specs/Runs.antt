@@ -1,18 +1,19 @@
 -- What a whole run did: what it took from its input, what it wrote, and how it ended.
 use Rattle.std.specs.Prelude.{◌≡◌, ◌≢◌, ◌⊎◌, ℕ, List, [], Option, Some, None, Result, Ok, Err}
-use Rattle.jb_dump.specs.Puts.{PutsPart}
+use Rattle.jb_io.specs.Puts.{PutsPart}
 use Rattle.jb_words.specs.Faults.{HasKind, Kinds, kind_of}
 use Rattle.jb_words.specs.Named.{Asked}
 use Rattle.jb_words.specs.Named.Asked.{AsksCheck, AsksCost, AsksDump, AsksFormat, AsksPlan, AsksRecover}
 use Rattle.jb_words.specs.declared.Error.{Error}
 use Rattle.jb_words.specs.declared.ErrorKind.{ErrorKind}
 use Rattle.jb_words.specs.declared.ErrorKind.TheVariants.{DisplayHelp, DisplayVersion, OutOfMemory}
-use Rattle.jb_tool.specs.Check.{CheckSays}
-use Rattle.jb_tool.specs.Cost.{cost_said}
+use Rattle.jb_answers.specs.Check.{CheckSays}
+use Rattle.jb_answers.specs.Cost.{cost_said}
 use Rattle.jb_tool.specs.Dump.{DumpsFile}
 use Rattle.jb_tool.specs.Images.{EndsOfFormat, EndsOfRecover}
-use Rattle.jb_tool.specs.Plan.{PlanSays}
-use Rattle.jb_tool.specs.Said.{Held, Said, Tells}
+use Rattle.jb_answers.specs.Plan.{PlanSays}
+use Rattle.jb_answers.specs.Said.{Said}
+use Rattle.jb_tool.specs.Said.{Held, Tells}
 use Rattle.jb_tool.specs.Stops.{line_of, status_of}
 use Rattle.jb_tool.specs.Texts.{HasNoText, IsText, known_behind}
 use Rattle.jb_tool.specs.declared.stop.Stop.{Stop}

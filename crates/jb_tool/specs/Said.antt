@@ -1,20 +1,10 @@
--- What a command says, and what is known of the two outputs once it was written.
-use Rattle.std.specs.Prelude.{◌≡◌, ℕ, List, Option, Result, Ok, Err, string_bytes}
+-- What is known of the two outputs once a command has said what it had to say.
+use Rattle.std.specs.Prelude.{◌≡◌, ℕ, List, Option, Result, Ok, Err}
 use Rattle.std.specs.Io.KnownBytes.{Appends}
-use Rattle.jb_dump.specs.Puts.{PutsPart}
-use Rattle.jb_tool.specs.declared.answers.answer.Answer.{Answer}
+use Rattle.jb_answers.specs.Said.{Said}
+use Rattle.jb_io.specs.Puts.{PutsPart}
 use Rattle.jb_tool.specs.declared.stop.Stop.{Stop}
 use Rattle.jb_tool.specs.declared.stop.Stop.TheVariants.{WriteFault}
-
--- an exit status, and the bytes for standard output and for standard error
-pub record Said : Type 0 where
-  pub status : ℕ
-  pub out : List ℕ
-  pub err : List ℕ
-
--- what an answer says
-abbrev pub said : Answer → Said
-said answer = record { status = answer.status; out = string_bytes answer.out; err = string_bytes answer.err }
 
 -- the bytes that standard output and standard error hold, each where they are known
 pub record Held : Type 0 where

@@ -1,6 +1,6 @@
 -- The status and the line of each way in which a command ends without an answer, and which faults end it so.
 use Rattle.std.specs.Prelude.{ℕ, List, [], ◌∷◌, codes, decimal}
-use Rattle.jb_dump.specs.Lines.{spelled}
+use Rattle.jb_io.specs.Parts.{spelled}
 use Rattle.jb_dump.specs.declared.fault.DumpFault.{DumpFault}
 use Rattle.jb_dump.specs.declared.fault.DumpFault.TheVariants as dumping
 use Rattle.jb_recover.specs.declared.fault.FormatFault.{FormatFault}

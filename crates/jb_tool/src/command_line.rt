@@ -2,7 +2,7 @@ ghost use Rattle.std.specs.Prelude.{◌≡◌, ◌≢◌, ◌⊎◌, Err, None, 
 ghost use Rattle.jb_words.specs.Faults.{faults_in, kind_of};
 ghost use Rattle.jb_words.specs.Named.{asked_in};
 ghost use Rattle.jb_words.specs.Named.Asked.{AsksCost};
-ghost use Rattle.jb_dump.specs.Puts.{PutsPart};
+ghost use Rattle.jb_io.specs.Puts.{PutsPart};
 ghost use Rattle.jb_tool.specs.Runs.{Closes, RefusesWords, Runs};
 ghost use Rattle.jb_tool.specs.Stops.{line_of};
 ghost use Rattle.jb_tool.specs.declared.stop.Stop.TheVariants.{Memory as StopMemory, WriteFault};

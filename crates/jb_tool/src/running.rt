@@ -1,13 +1,13 @@
 ghost use Rattle.std.specs.Prelude.{ℕ};
 ghost use Rattle.jb_words.specs.Named.{asks};
-ghost use Rattle.jb_tool.specs.Check.{CheckSays};
+ghost use Rattle.jb_answers.specs.Check.{CheckSays};
 ghost use Rattle.jb_tool.specs.Runs.{EndsAsked, EndsOfTwo, Runs};
 
-use crate::answers::{check_answer, cost_answer, fault_told, plan_answer};
 use crate::files::{dump_file, format_image, read_file, read_text, recover_image};
 use crate::stop::Stop;
 use crate::streams::tell;
-use jb_handle::read_queue;
+use jb_answers::{check_answer, cost_answer, fault_answer, plan_answer};
+use jb_queue::read_queue;
 use jb_words::Plain;
 use std::fs::File;
 use std::io::{Read, Write};
@@ -66,7 +66,7 @@ fn perform_check<'a, R: Files + AllocGlobal, O: Write, E: Write>(
             tell(&answer, out, err)
         }
         Err(fault) => {
-            let answer = fault_told(rt.alloc(), fault)?;
+            let answer = fault_answer(rt.alloc(), fault)?;
             tell(&answer, out, err)
         }
     }

@@ -6,7 +6,7 @@ use jb_super::SuperFault;
 use std::alloc::AllocError;
 
 /// Why a command ends without an answer of its own.
-#[derive(Clone, Copy, Debug, PartialEq, Eq)]
+#[derive(Clone, Copy, Debug)]
 pub enum Stop<'a> {
     /// The file of this name, or standard input for `-`, could not be opened or read.
     CannotRead(&'a str),

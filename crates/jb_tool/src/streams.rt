@@ -11,8 +11,8 @@ mod telling;
 
 pub use dumping::dump_from;
 pub use formatting::format_on;
+pub use reading::TEXT_LIMIT;
 pub(crate) use reading::read_as;
-pub use reading::{ReadFault, TEXT_LIMIT, read_within};
 pub use recovering::recover_on;
 pub use refusal::refuse_words;
 pub(crate) use telling::tell;

@@ -23,6 +23,7 @@ const BAD_OPTION: &str = "jb: bad option\n";
 const FORMATS: &[Format] = &[
     (SMALL, NO_MAX, 0, "formatted limit 8\n", ""),
     (SMALL, ["--max", "6"], 0, "formatted limit 6\n", ""),
+    (SMALL, ["--max=6", "--wide"], 0, "formatted limit 6\n", ""),
     (SMALL, ["--max", "1"], 0, "formatted limit 3\n", ""),
     (
         SMALL,
@@ -120,6 +121,15 @@ fn each_format_answers_its_row(rt: HostRuntime) -> Result<(), Fail> {
         };
         assert_eq!(rt; made.len(), blocks * 1024);
         assert!(rt; *status == 0 || made.iter().all(|byte| *byte == 0));
+        // the last byte of s_feature_incompat
+        let features = if *status != 0 {
+            0
+        } else if more[1] == "--wide" {
+            3
+        } else {
+            1
+        };
+        assert_eq!(rt; made.get(0x2B), Some(&features));
         fs::remove_file(&rt, "new.img")?;
     }
     Ok(())
@@ -177,6 +187,15 @@ const RECOVERIES: &[Recovery] = &[
         Ok("transactions 1 copies 0 revoked 1 next 4\n"),
     ),
     (16, 20, 5, WHOLE, Err("jb: Super Feature 2 16\n")),
+    (0x13, 20, 5, WHOLE, Err("jb: Super Feature 2 16\n")),
+    // of a wide tag the first word of the UUID is the high half of the home
+    (
+        3,
+        20,
+        5,
+        WHOLE,
+        Err("jb: HomeOutOfRange 283686884868101 2\n"),
+    ),
     (1, 1025, 5, WHOLE, Err("jb: BadRevoke 1\n")),
     (1, 20, 16, WHOLE, Err("jb: HomeOutOfRange 16 2\n")),
     (1, 20, 5, 20 * 1024, Err("jb: Super Geometry\n")),

@@ -1,10 +1,9 @@
 //! Runs over texts: the words, the input, and what each must answer.
 
 use crate::runs::runs;
-use jb_tool::{ReadFault, TEXT_LIMIT, read_within, refuse_words, run};
-use std::alloc::{AllocError, Global};
+use jb_io::{ReadFault, read_within};
+use jb_tool::{TEXT_LIMIT, refuse_words, run};
 use std::io::{self, ErrorKind, Read};
-use std::test::Fail;
 
 // The words and the input of a run, its status, and what it writes to standard output and to standard error.
 type Row = (
@@ -25,11 +24,19 @@ const ROWS: &[Row] = &[
         "cost 7 limit 7 fits\n",
         "",
     ),
+    (COST, b"", 2, "", "jb: queue line 1: BlockSizeLine\n"),
     (
-        COST,
-        b"bs 1024\nlimit 6\nh w1 w2 w3\nh w3 w4 w5\nh w1 w2\n",
+        &["plan", "-"],
+        b"bs 1024\nlimit 6\nh w1 w2\nh w3 w4\nh w3 w4\nh w3 w4 w5\n",
+        0,
+        "prices 0 4 6 6 9\ncut 0 1 4\ntotal 9\n",
+        "",
+    ),
+    (
+        &["plan", "-"],
+        b"bs 1024\nlimit 3\nh w1 w2\n",
         1,
-        "cost 7 limit 6 over\n",
+        "prices 0 none\ncut none\n",
         "",
     ),
     (
@@ -45,143 +52,6 @@ const ROWS: &[Row] = &[
         1,
         "cost 7 limit 6 over\n",
         "",
-    ),
-    (COST, b"bs 1024\nlimit 3\n", 0, "cost 1 limit 3 fits\n", ""),
-    (COST, b"bs 1024\nlimit 3", 0, "cost 1 limit 3 fits\n", ""),
-    (
-        COST,
-        b"bs 4096\nlimit 3\nh\nh\n",
-        0,
-        "cost 1 limit 3 fits\n",
-        "",
-    ),
-    (
-        COST,
-        b"bs 1024\nlimit 7\nh w1 w4294967295=aBcD",
-        0,
-        "cost 4 limit 7 fits\n",
-        "",
-    ),
-    (COST, b"", 2, "", "jb: queue line 1: BlockSizeLine\n"),
-    (
-        COST,
-        b"bs 1024\nlimit 2\n",
-        2,
-        "",
-        "jb: queue line 2: LimitLine\n",
-    ),
-    (
-        COST,
-        b"bs 1024\nlimit 7\nx\n",
-        2,
-        "",
-        "jb: queue line 3: HandleLine\n",
-    ),
-    (
-        COST,
-        b"bs 1024\nlimit 7\nh w01\n",
-        2,
-        "",
-        "jb: queue line 3: OpWord\n",
-    ),
-    (
-        COST,
-        b"bs 1024\nlimit 7\nh x2\n",
-        2,
-        "",
-        "jb: queue line 3: OpWord\n",
-    ),
-    (
-        COST,
-        b"bs 1024\nlimit 7\nh w1=c\n",
-        2,
-        "",
-        "jb: queue line 3: DataWord\n",
-    ),
-    (
-        COST,
-        b"bs 1024\nlimit 7\nh w1\nh w1=\nx\n",
-        2,
-        "",
-        "jb: queue line 4: DataWord\n",
-    ),
-    (COST, b"bs 1024\n", 2, "", "jb: queue line 2: LimitLine\n"),
-    (
-        COST,
-        b"bs 512\nlimit 2\n",
-        2,
-        "",
-        "jb: queue line 1: BlockSizeLine\n",
-    ),
-    (
-        COST,
-        b"bs 1024\r\nlimit 7\r\nh\r\n",
-        2,
-        "",
-        "jb: queue line 1: BlockSizeLine\n",
-    ),
-    (
-        COST,
-        b"bs 1024\nlimit 7\nh\tw1\n",
-        2,
-        "",
-        "jb: queue line 3: HandleLine\n",
-    ),
-    (
-        COST,
-        b"bs 1024\nlimit 7\nh w1\0\n",
-        2,
-        "",
-        "jb: queue line 3: OpWord\n",
-    ),
-    (
-        COST,
-        b"bs 1024\nlimit 7\nh \xff\xfe\n",
-        2,
-        "",
-        "jb: queue line 3: OpWord\n",
-    ),
-    (
-        COST,
-        b"bs 1024\nlimit 7\nh w1  w2\n",
-        2,
-        "",
-        "jb: queue line 3: OpWord\n",
-    ),
-    (
-        COST,
-        b"bs 1024\nlimit 7\nh \n",
-        2,
-        "",
-        "jb: queue line 3: OpWord\n",
-    ),
-    (
-        COST,
-        b"bs 1024\nlimit 7\n\n",
-        2,
-        "",
-        "jb: queue line 3: HandleLine\n",
-    ),
-    (
-        COST,
-        b"bs 1024\nlimit 7\nh w1 w",
-        2,
-        "",
-        "jb: queue line 3: OpWord\n",
-    ),
-    (
-        COST,
-        b"bs 1024\nlimit 7\nh w1 w2=0",
-        2,
-        "",
-        "jb: queue line 3: DataWord\n",
-    ),
-    (
-        COST,
-        b"bs 1024\nlimit 7\nh w4294967296\n",
-        2,
-        "",
-        "jb: queue line 3: OpWord\n",
     ),
     (
         &["plan", "-"],
@@ -243,33 +113,6 @@ fn each_run_answers_its_row(rt: HostRuntime) {
     for (words, input, status, out, err) in ROWS {
         assert!(rt; runs(&rt, words, input, *status, out, err), "{out}{err}");
     }
-}
-
-// One handle of words with this letter on the home blocks below `count`.
-fn one_handle(alloc: Global, letter: &str, count: u32) -> Result<String, AllocError> {
-    let mut text = String::from_str(alloc, "bs 1024\nlimit 128\nh")?;
-    for home in 0..count {
-        text.push_str(&format!(in alloc; " {letter}{home}")?)?;
-    }
-    Ok(text)
-}
-
-#[test]
-fn full_blocks_end_where_the_format_says(rt: HostRuntime) -> Result<(), Fail> {
-    for (letter, count, status, out) in [
-        ("w", 124, 0, "cost 126 limit 128 fits\n"),
-        ("w", 125, 0, "cost 128 limit 128 fits\n"),
-        ("w", 126, 1, "cost 129 limit 128 over\n"),
-        ("r", 252, 0, "cost 2 limit 128 fits\n"),
-        ("r", 253, 0, "cost 3 limit 128 fits\n"),
-    ] {
-        let text = one_handle(rt.alloc(), letter, count)?;
-        assert!(rt;
-            runs(&rt, COST, text.as_bytes(), status, out, ""),
-            "{letter} {count}"
-        );
-    }
-    Ok(())
 }
 
 #[test]

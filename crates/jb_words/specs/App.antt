@@ -1,6 +1,7 @@
 -- The command line of `jb`, in the words by which clap's contracts tell what a parse finds.
 use Rattle.std.specs.Prelude.{true, codes, [], ◌∷◌, Some}
 use Rattle.clap.specs.Words.{App, Rule, Text, new_app, new_rule, with_rule, with_subcommand}
+use Rattle.clap.specs.declared.builder.action.ArgAction.TheVariants.{SetTrue}
 use Rattle.clap.specs.declared.builder.value_parser.ValueParser.TheVariants.{Unsigned}
 
 -- a word that has to be there
@@ -43,17 +44,21 @@ uuid_option = record (new_rule (codes "uuid")) {
   defaults = codes "00000000000000000000000000000000" ∷ [];
 }
 
+-- `--wide`, which takes no value
+abbrev pub wide_flag : Rule
+wide_flag = record (new_rule (codes "wide")) { long = Some (codes "wide"); action = Some SetTrue }
+
 -- a command over one image
 abbrev pub image_app : Text → App
 image_app name = with_rule (new_app name) (required_word (codes "IMAGE"))
 
--- `format IMAGE --bs N --journal N --homes N [--max N] [--uuid HEX]`
+-- `format IMAGE --bs N --journal N --homes N [--max N] [--uuid HEX] [--wide]`
 abbrev pub format_app : App
 format_app =
     let image = image_app (codes "format") in
     let sized = with_rule image (required_number (codes "bs")) in
     let parts = with_rule (with_rule sized (required_number (codes "journal"))) (required_number (codes "homes")) in
-    with_rule (with_rule parts max_option) uuid_option
+    with_rule (with_rule (with_rule parts max_option) uuid_option) wide_flag
 
 -- `recover IMAGE`
 abbrev pub recover_app : App

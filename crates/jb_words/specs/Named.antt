@@ -1,5 +1,5 @@
 -- Which command a list of words asks for, by what clap finds in it.
-use Rattle.std.specs.Prelude.{ℕ, ◌^◌, ◌&&◌, List, length, nat_lt, Option, Some, None, codes, if◌then◌else◌, option_and_then, option_map}
+use Rattle.std.specs.Prelude.{ℕ, Bool, ◌^◌, ◌&&◌, List, length, nat_lt, Option, Some, None, codes, if◌then◌else◌, option_and_then, option_map}
 use Rattle.std.specs.Char.{digit_value}
 use Rattle.std.specs.List.{list_all}
 use Rattle.std.specs.Str.{bytes_eq}
@@ -17,6 +17,7 @@ pub record Options : Type 0 where
   pub homes : ℕ
   pub max : ℕ
   pub uuid : Text
+  pub wide : Bool
 
 -- a command with its words
 pub data Asked : Type 0 where
@@ -29,7 +30,7 @@ pub data Asked : Type 0 where
 
 -- what a value of the program's own options says
 abbrev pub options_said : FormatOptions → Options
-options_said o = record { bs = o.bs; journal = o.journal; homes = o.homes; max = o.max; uuid = o.uuid.now }
+options_said o = record { bs = o.bs; journal = o.journal; homes = o.homes; max = o.max; uuid = o.uuid.now; wide = o.wide }
 
 -- what a value of the program's own type asks for
 abbrev pub asks : Plain → Asked
@@ -60,11 +61,16 @@ number_said text =
 abbrev pub number_in : Text → List Row → Option ℕ
 number_in name rows = option_and_then number_said (one_of name rows)
 
+-- whether a flag was given, as clap enters it under its name
+abbrev pub flag_in : Text → List Row → Option Bool
+flag_in name rows = option_map (λ text. bytes_eq text (codes "true")) (first_of name rows)
+
 -- the options of `format`
 abbrev pub options_in : List Row → Option Options
 options_in rows =
     option_and_then (λ bs. option_and_then (λ journal. option_and_then (λ homes. option_and_then (λ max.
-    option_map (λ uuid. record { bs = bs; journal = journal; homes = homes; max = max; uuid = uuid }) (first_of (codes "uuid") rows))
+    option_and_then (λ uuid. option_map (λ wide. record { bs = bs; journal = journal; homes = homes; max = max; uuid = uuid; wide = wide })
+    (flag_in (codes "wide") rows)) (first_of (codes "uuid") rows))
     (number_in (codes "max") rows)) (number_in (codes "homes") rows)) (number_in (codes "journal") rows)) (number_in (codes "bs") rows)
 
 -- `format IMAGE ..`

@@ -6,7 +6,7 @@ ghost use Rattle.jb_words.specs.App.{check_app, file_app, format_app, jb_app, jb
 mod options;
 
 use clap::{Arg, Command};
-use options::{max_option, required_number, uuid_option};
+use options::{max_option, required_number, uuid_option, wide_flag};
 use std::alloc::{AllocError, Global};
 
 // A word that has to be there, by the name that usage shows.
@@ -90,7 +90,8 @@ fn format<'a>(alloc: Global) -> Result<Command<'a>, AllocError>
     let help = "Home blocks behind the journal";
     let command = with(command, required_number(alloc, "homes", help))?;
     let command = with(command, max_option(alloc))?;
-    with(command, uuid_option(alloc))
+    let command = with(command, uuid_option(alloc))?;
+    with(command, wide_flag(alloc))
 }
 
 // `jb` without its commands.

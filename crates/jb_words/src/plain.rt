@@ -50,4 +50,6 @@ pub struct FormatOptions<'a> {
     pub max: u64,
     /// `--uuid`: the journal's UUID in hexadecimal digits.
     pub uuid: &'a str,
+    /// `--wide`: whether the journal has block numbers of 64 bits.
+    pub wide: bool,
 }

@@ -3,7 +3,7 @@ ghost use Rattle.clap.specs.Kinds.{FailsBy};
 ghost use Rattle.clap.specs.Words.{app_of, first_of, found_of, rows_of, subcommand_of, subcommand_rows_of};
 ghost use Rattle.jb_words.specs.App.{jb_app};
 ghost use Rattle.jb_words.specs.Faults.{HasKind, faults_in};
-ghost use Rattle.jb_words.specs.Named.{asked_in, asked_of, asks, check_in, format_in, number_in, options_in, options_said};
+ghost use Rattle.jb_words.specs.Named.{asked_in, asked_of, asks, check_in, flag_in, format_in, number_in, options_in, options_said};
 
 use crate::commands::jb_command;
 use crate::plain::{FormatOptions, Plain};
@@ -98,6 +98,7 @@ fn options_of<'a>(found: &ArgMatches<'a>) -> Option<FormatOptions<'a>>
         homes: number_of(found, "homes")?,
         max: number_of(found, "max")?,
         uuid: word_of(found, "uuid")?,
+        wide: flag_of(found, "wide")?,
     })
 }
 
@@ -106,6 +107,13 @@ fn number_of(found: &ArgMatches<'_>, name: &str) -> Option<u64>
     ensures { result ≡ number_in name.now (rows_of (found_of found.now)) }
 {
     found.get_one(name)
+}
+
+// Whether the flag of this name was given: clap enters each flag that a command has, as `true` or `false`.
+fn flag_of(found: &ArgMatches<'_>, name: &str) -> Option<bool>
+    ensures { result ≡ flag_in name.now (rows_of (found_of found.now)) }
+{
+    Some(word_of(found, name)? == "true")
 }
 
 // The word that was given under this name.

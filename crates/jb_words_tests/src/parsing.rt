@@ -13,8 +13,8 @@ fn asked<'a>(alloc: Global, words: &'a [&'a str]) -> Option<(&'a str, &'a str, &
     }
 }
 
-// The four numbers of a command that formats: --bs, --journal, --homes and --max.
-fn numbers(alloc: Global, words: &[&str]) -> Option<[u64; 4]> {
+// The four numbers of a command that formats, --bs, --journal, --homes and --max, and whether --wide stands there.
+fn numbers(alloc: Global, words: &[&str]) -> Option<([u64; 4], bool)> {
     match parse(alloc, words).ok()? {
         Plain::Format { options, .. } => {
             let FormatOptions {
@@ -22,19 +22,21 @@ fn numbers(alloc: Global, words: &[&str]) -> Option<[u64; 4]> {
                 journal,
                 homes,
                 max,
+                wide,
                 ..
             } = options;
-            Some([bs, journal, homes, max])
+            Some(([bs, journal, homes, max], wide))
         }
         _ => None,
     }
 }
 
-const ANY_ORDER: [&str; 11] = [
+const ANY_ORDER: [&str; 12] = [
     "format",
     "--uuid",
     "000102030405060708090A0b0c0d0e0f",
     "--max=6",
+    "--wide",
     "a.img",
     "--homes",
     "16",
@@ -76,6 +78,12 @@ fn commands_with_their_words_are_taken(rt: HostRuntime) {
     ] {
         assert_eq!(rt; asked(rt.alloc(), words), Some(wanted));
     }
-    assert_eq!(rt; numbers(rt.alloc(), &ANY_ORDER), Some([1024, 33, 16, 6]));
-    assert_eq!(rt; numbers(rt.alloc(), &LEFT_OUT), Some([1024, 33, 16, 0]));
+    assert_eq!(rt;
+        numbers(rt.alloc(), &ANY_ORDER),
+        Some(([1024, 33, 16, 6], true))
+    );
+    assert_eq!(rt;
+        numbers(rt.alloc(), &LEFT_OUT),
+        Some(([1024, 33, 16, 0], false))
+    );
 }

@@ -67,7 +67,7 @@ fn what_is_no_command_is_answered_by_clap(rt: HostRuntime) {
         (
             ["format", "-h"].as_slice(),
             false,
-            "Makes an image: a new journal, and home blocks of zeros behind it\n\nUsage: jb format [OPTIONS] --bs <N> --journal <N> --homes <N> <IMAGE>\n\nArguments:\n  <IMAGE>  The file to make; one that is there is left alone\n\nOptions:\n      --bs <N>       Bytes of a block: 1024, 2048 or 4096\n      --journal <N>  Blocks of the journal, its superblock counted\n      --homes <N>    Home blocks behind the journal\n      --max <N>      The most log blocks of a transaction; 0 for a quarter of the log [default: 0]\n      --uuid <HEX>   The journal's UUID, as 32 hexadecimal digits [default: 00000000000000000000000000000000]\n  -h, --help         Print help\n",
+            "Makes an image: a new journal, and home blocks of zeros behind it\n\nUsage: jb format [OPTIONS] --bs <N> --journal <N> --homes <N> <IMAGE>\n\nArguments:\n  <IMAGE>  The file to make; one that is there is left alone\n\nOptions:\n      --bs <N>       Bytes of a block: 1024, 2048 or 4096\n      --journal <N>  Blocks of the journal, its superblock counted\n      --homes <N>    Home blocks behind the journal\n      --max <N>      The most log blocks of a transaction; 0 for a quarter of the log [default: 0]\n      --uuid <HEX>   The journal's UUID, as 32 hexadecimal digits [default: 00000000000000000000000000000000]\n      --wide         Block numbers of 64 bits\n  -h, --help         Print help\n",
         ),
         (
             ["help", "recover"].as_slice(),

@@ -1,12 +1,14 @@
 //! What a book has.
 use crate::book::Book;
+use crate::follow::number_in;
 use jb_deck::Entry;
 use jb_handle::Shape;
 
 impl Book {
-    ghost use Rattle.std.specs.Prelude.{◌≡◌, ◌↔◌, IsTrue};
-    ghost use Rattle.jb_desk.specs.Account.{IsSound, IsOver};
+    ghost use Rattle.std.specs.Prelude.{◌≡◌, ℕ, ◌<◌, ◌≤◌, ◌^◌, ◌↔◌, IfSome, IfNone, IsTrue};
+    ghost use Rattle.jb_desk.specs.Account.{IsSound, IsOver, IsSettledBy};
     ghost use Rattle.jb_desk.specs.Shadow.{reserved};
+    ghost use Rattle.jb_deck.specs.Done.{Follow};
 
     /// The shape of the journal that its handles are for.
     pub fn shape(&self) -> Shape
@@ -70,5 +72,30 @@ impl Book {
         ensures { IsTrue result ↔ IsOver self.now }
     {
         self.shut && self.seats.is_empty() && self.credits.is_empty()
+    }
+
+    /// Whether no handle is begun any more.
+    pub fn is_shut(&self) -> bool
+        ensures { result ≡ self.now.shut }
+    {
+        self.shut
+    }
+
+    /// The number of the transaction that settled a ticket. `None` where it is not settled.
+    pub fn number_of(&self, ticket: u64) -> Option<u32>
+        ensures some { IfSome result (λ number. IsSettledBy self.now.trail ticket number) }
+        ensures settled { IfSome result (λ _. (ticket < self.now.shadow.settled) × (ticket < 2 ^ 61)) }
+        ensures none { IfNone result (self.now.shadow.settled ≤ ticket) }
+    {
+        number_in(&self.trail, ticket)
+    }
+
+    /// Takes the book apart, into its trail.
+    pub fn into_trail(self) -> Vec<Entry>
+        ensures value { result.items ≡ self.trail }
+        ensures tiles { (past : ℕ) × Follow 0 0 past result.items × (past ≤ self.shadow.next) }
+    {
+        let Book { trail, .. } = self;
+        trail
     }
 }

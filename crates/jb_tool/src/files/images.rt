@@ -5,10 +5,11 @@ ghost use Rattle.jb_words.specs.Named.{Options, options_said};
 ghost use Rattle.jb_tool.specs.Images.{EndsOfFormat, EndsOfRecover, IsUnmade, IsUnread, SaysSize};
 ghost use Rattle.jb_tool.specs.Options.{AreGood};
 
-use crate::answers::{NewImage, new_image};
+use crate::options::{NewImage, new_image};
 use crate::stop::Stop;
 use crate::streams::{format_on, recover_on};
 use jb_disk::FileDisk;
+use jb_io::{ReadFault, read_front};
 use jb_super::Super;
 use jb_words::FormatOptions;
 use std::alloc::Global;
@@ -17,7 +18,7 @@ use std::io::{ErrorKind, Read, Write};
 use std::rt::Files;
 
 /// How many bytes of a file are read as a superblock.
-const FRONT: u64 = 1024;
+const FRONT: usize = 1024;
 
 /// Makes the image that the options ask for, in a new file of this name: a new journal, and home blocks of zeros after it.
 /// Tells the most log blocks of a transaction, and gives status 0.
@@ -38,7 +39,7 @@ pub(crate) fn format_image<'a, R: Files<File = File> + AllocGlobal, O: Write>(
         return Err(Stop::BadOption);
     };
     let mut disk = make_file(rt, image, &new)?;
-    format_on(&mut disk, new.journal, new.max, new.uuid, out)
+    format_on(&mut disk, new.journal, new.max, new.uuid, new.width, out)
 }
 
 /// Recovers the journal at the front of the file of this name, and tells what came of it.
@@ -109,11 +110,9 @@ fn front_of<'a, R: Read>(alloc: Global, image: &mut R, name: &'a str) -> Result<
     ensures unread { IfErr result (IsUnread name.entry.now) }
     ensures front { IfOk result (λ front. IfSome (R.remaining image.old) (λ bytes. front.items ≡ take 1024 bytes)) }
 {
-    let mut front = Vec::new(alloc);
-    let mut limited = image.take(FRONT);
-    match limited.read_to_end(&mut front) {
-        Ok(_) => Ok(front),
-        Err(error) if error.kind() == ErrorKind::OutOfMemory => Err(Stop::Memory),
+    match read_front(alloc, image, FRONT) {
+        Ok(front) => Ok(front),
+        Err(ReadFault::Memory) => Err(Stop::Memory),
         Err(_) => Err(Stop::CannotRead(name)),
     }
 }

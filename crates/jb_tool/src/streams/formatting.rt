@@ -1,5 +1,7 @@
 ghost use Rattle.std.specs.Prelude.{◌≡◌, ◌↔◌, ◌^◌, ◌<◌, ◌≤◌, IfSome, IsSome};
 ghost use Rattle.jb_block.specs.Size.{bytes_of};
+ghost use Rattle.jb_block.specs.Width.{is_wide};
+ghost use Rattle.jb_super.specs.Features.{of_width};
 ghost use Rattle.jb_super.specs.Geometry.{limit_of};
 ghost use Rattle.jb_super.specs.Superblock.{new_super};
 ghost use Rattle.jb_tool.specs.Format.{FormatsOn, formatted_line};
@@ -14,7 +16,7 @@ use jb_recover::format;
 use jb_super::Super;
 use std::io::Write;
 
-/// Makes a new journal of `journal` blocks at the front of a disk, with block numbers of 32 bits. Tells the most log blocks
+/// Makes a new journal of `journal` blocks at the front of a disk, with block numbers of this width. Tells the most log blocks
 /// of a transaction, and gives status 0. No memory is taken.
 ///
 /// # Errors
@@ -26,13 +28,14 @@ pub fn format_on<'a, D: Disk, O: Write>(
     journal: u32,
     max_transaction: u32,
     uuid: [u8; 16],
+    width: Width,
     out: &mut O,
 ) -> Result<u8, Stop<'a>>
-    ensures formats { FormatsOn D.size D.count D.faults D.honest D.newest D.may_leave journal max_transaction uuid disk.old disk.new
+    ensures formats { FormatsOn D.size D.count D.faults D.honest D.newest D.may_leave journal max_transaction uuid (is_wide width) disk.old disk.new
         (O.contents out.old) (O.contents out.new) result }
 {
-    let limit = new_limit(disk.block_size(), journal, max_transaction, uuid);
-    match format(disk, journal, max_transaction, uuid, Width::Narrow) {
+    let limit = new_limit(disk.block_size(), journal, max_transaction, uuid, width);
+    match format(disk, journal, max_transaction, uuid, width) {
         Ok(()) => match limit {
             Some(limit) => tell_formatted(limit, out),
             None => Err(Stop::Geometry),
@@ -42,11 +45,17 @@ pub fn format_on<'a, D: Disk, O: Write>(
 }
 
 // The most log blocks of a transaction of such a journal.
-fn new_limit(size: BlockSize, journal: u32, max_transaction: u32, uuid: [u8; 16]) -> Option<u32>
+fn new_limit(
+    size: BlockSize,
+    journal: u32,
+    max_transaction: u32,
+    uuid: [u8; 16],
+    width: Width,
+) -> Option<u32>
     ensures good { IsSome result ↔ ((9 ≤ journal) × (journal < 2 ^ 31)) }
-    ensures value { IfSome result (λ limit. limit ≡ limit_of (new_super (bytes_of size) journal max_transaction uuid)) }
+    ensures value { IfSome result (λ limit. limit ≡ limit_of (of_width (is_wide width) (new_super (bytes_of size) journal max_transaction uuid))) }
 {
-    Some(Super::new(size, journal, max_transaction, uuid)?.limit())
+    Some(Super::new(size, journal, max_transaction, uuid, width)?.limit())
 }
 
 // Writes the line of a new journal.

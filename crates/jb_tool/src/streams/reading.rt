@@ -1,45 +1,10 @@
-ghost use Rattle.std.specs.Prelude.{◌<◌, ◌≤◌, ◌≡◌, Err, IfErr, IfOk, IfSome, length};
+ghost use Rattle.std.specs.Prelude.{IfErr, IfOk};
 ghost use Rattle.jb_tool.specs.Texts.{HasNoText, IsText};
 
 use crate::stop::Stop;
+use jb_io::{ReadFault, read_within};
 use std::alloc::Global;
-use std::io::{ErrorKind, Read};
-
-/// Why a text could not be taken from a reader.
-#[derive(Clone, Copy, Debug, PartialEq, Eq)]
-pub enum ReadFault {
-    /// The reader answered an error.
-    Reader,
-    /// There are more bytes than the limit.
-    TooLong,
-    /// A growth was refused.
-    Memory,
-}
-
-/// The whole of a reader, where it has at most `limit` bytes; of a longer one, no more than one byte past the limit is
-/// read.
-///
-/// # Errors
-/// `Reader` where a read failed, `TooLong` where there are more bytes than `limit`, `Memory` where a growth was refused.
-pub fn read_within<R: Read>(
-    alloc: Global,
-    reader: &mut R,
-    limit: usize,
-) -> Result<Vec<u8>, ReadFault>
-    requires { limit < 4294967296 }
-    ensures all { IfOk result (λ text. IfSome (R.remaining reader.old) (λ bytes. text.items ≡ bytes)) }
-    ensures within { IfOk result (λ text. length text.items ≤ limit) }
-    ensures too_long { result ≡ Err ReadFault.TooLong → IfSome (R.remaining reader.old) (λ bytes. limit < length bytes) }
-{
-    let mut text = Vec::new(alloc);
-    let mut limited = reader.take(limit as u64 + 1);
-    match limited.read_to_end(&mut text) {
-        Ok(_) if text.len() <= limit => Ok(text),
-        Ok(_) => Err(ReadFault::TooLong),
-        Err(error) if error.kind() == ErrorKind::OutOfMemory => Err(ReadFault::Memory),
-        Err(_) => Err(ReadFault::Reader),
-    }
-}
+use std::io::Read;
 
 /// The most bytes that a text may have.
 pub const TEXT_LIMIT: usize = 16_777_216;

@@ -1,5 +1,5 @@
 ghost use Rattle.std.specs.Prelude.{◌≡◌, ◌≢◌};
-ghost use Rattle.jb_dump.specs.Puts.{PutsPart};
+ghost use Rattle.jb_io.specs.Puts.{PutsPart};
 ghost use Rattle.jb_tool.specs.Stops.{line_of, not_utf8};
 ghost use Rattle.jb_tool.specs.declared.stop.Stop.TheVariants.{Memory};
 

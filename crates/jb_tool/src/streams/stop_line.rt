@@ -1,6 +1,6 @@
 //! The line of each `Stop`.
 ghost use Rattle.std.specs.Prelude.{decimal};
-ghost use Rattle.jb_dump.specs.Puts.{PutsPart};
+ghost use Rattle.jb_io.specs.Puts.{PutsPart};
 ghost use Rattle.jb_tool.specs.Stops.{super_line};
 
 use crate::stop::Stop;
@@ -10,7 +10,7 @@ use jb_super::SuperFault;
 use std::io::Write;
 
 impl<'a> Stop<'a> {
-    ghost use Rattle.jb_dump.specs.Puts.{PutsPart};
+    ghost use Rattle.jb_io.specs.Puts.{PutsPart};
     ghost use Rattle.jb_tool.specs.Stops.{line_of};
 
     /// Writes the line that says why, without taking memory; a fault of the writer is ignored.

@@ -1,11 +1,11 @@
 ghost use Rattle.std.specs.Prelude.{map};
-ghost use Rattle.jb_dump.specs.Lines.{spelled};
-ghost use Rattle.jb_tool.specs.Said.{Tells, TellsLine, said};
+ghost use Rattle.jb_io.specs.Parts.{spelled};
+ghost use Rattle.jb_answers.specs.Said.{said};
+ghost use Rattle.jb_tool.specs.Said.{Tells, TellsLine};
 
-use crate::answers::Answer;
 use crate::stop::Stop;
-use crate::streams::putting::put_parts;
-use jb_dump::put;
+use jb_answers::Answer;
+use jb_io::{put, put_parts};
 use std::io::Write;
 
 /// Writes an answer and gives its status. A fault of standard error is ignored.

@@ -1,9 +1,9 @@
 //! The options of `jb format`.
 ghost use Rattle.std.specs.Prelude.{◌≡◌, codes, false};
 ghost use Rattle.clap.specs.Words.{rule_of};
-ghost use Rattle.jb_words.specs.App.{max_option as max_rule, number_option as number_rule, required_number as required_rule, uuid_option as uuid_rule};
+ghost use Rattle.jb_words.specs.App.{max_option as max_rule, number_option as number_rule, required_number as required_rule, uuid_option as uuid_rule, wide_flag as wide_rule};
 
-use clap::{Arg, value_parser};
+use clap::{Arg, ArgAction, value_parser};
 use std::alloc::Global;
 
 // What `--uuid` is where it is not given.
@@ -48,4 +48,15 @@ pub(crate) fn uuid_option<'a>(alloc: Global) -> Arg<'a>
         .value_name("HEX")
         .default_value(NO_UUID)
         .help("The journal's UUID, as 32 hexadecimal digits")
+}
+
+/// The flag for block numbers of 64 bits.
+pub(crate) fn wide_flag<'a>(alloc: Global) -> Arg<'a>
+    ensures rule { rule_of result ≡ wide_rule }
+    ensures own { result.global ≡ false }
+{
+    Arg::new(alloc, "wide")
+        .long("wide")
+        .action(ArgAction::SetTrue)
+        .help("Block numbers of 64 bits")
 }

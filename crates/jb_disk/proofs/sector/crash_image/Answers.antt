@@ -10,6 +10,7 @@ use Rattle.jb_disk.proofs.Buffers.{buffers_count}
 use Rattle.jb_disk.proofs.Choices.{written_back}
 use Rattle.jb_disk.proofs.Crashes.{rest_of_calls, whole_sectors, written_whole, chosen_by_history}
 use Rattle.jb_disk.proofs.Listed.{whole-take, whole-drop}
+use Rattle.jb_disk.proofs.Refusals.{on-refusal}
 use Rattle.jb_disk.proofs.Replays.{replaying_shape}
 use Rattle.jb_disk.proofs.sector.crash_image.Goals as goal
 
@@ -21,17 +22,24 @@ pub writes_by_place-requires-clause-whole : goal.writes_by_place-requires-clause
 writes_by_place-requires-clause-whole c =
     let shape = replaying_shape (length c.args.first.now) (bytes_of c.args.size) (image_of c.args.first.now) c.args.calls.now c.until_sync-synced.result c.requires.shape c.requires.whole in
     let count : c.len.result ≡ length c.args.first.now
-    = c.len.ensures ∙ c.in_ok-image.image.ok.0 ∙ buffers_count (length c.args.first.now) (bytes_of c.args.size) (replay (image_of c.args.first.now) (steps_of (take c.until_sync-synced.result c.args.calls.now))) c.in_ok-image.image.items shape c.in_ok-image.ensures in
+    = c.len.ensures ∙ c.in_ok-image.image.ok.0 ∙ buffers_count (length c.args.first.now) (bytes_of c.args.size) (replay (image_of c.args.first.now) (steps_of (take c.until_sync-synced.result c.args.calls.now))) c.in_ok-image.image.items shape c.in_ok-image.ensures.synced in
     let all : take (length c.args.calls.now - c.until_sync-synced.result) (drop c.until_sync-synced.result c.args.calls.now) ≡ drop c.until_sync-synced.result c.args.calls.now
     = take_all (length c.args.calls.now - c.until_sync-synced.result) (drop c.until_sync-synced.result c.args.calls.now) (omega (arith, length-drop c.until_sync-synced.result c.args.calls.now)) in (
       bytes_of c.args.size,
       rw (count, all) (whole-drop (length c.args.first.now) (bytes_of c.args.size) c.args.calls.now c.until_sync-synced.result c.requires.whole),
     )
 
+pub returns-in_err-writes-clause-grows : goal.returns-in_err-writes-clause-grows
+returns-in_err-writes-clause-grows c =
+    let shape = replaying_shape (length c.args.first.now) (bytes_of c.args.size) (image_of c.args.first.now) c.args.calls.now c.until_sync-synced.result c.requires.shape c.requires.whole in
+    let count : c.len.result ≡ length c.args.first.now
+    = c.len.ensures ∙ c.in_ok-image.image.ok.0 ∙ buffers_count (length c.args.first.now) (bytes_of c.args.size) (replay (image_of c.args.first.now) (steps_of (take c.until_sync-synced.result c.args.calls.now))) c.in_ok-image.image.items shape c.in_ok-image.ensures.synced in
+    on-refusal c.from_residual-in_err-writes.result _ (omega (arith, count, c.in_err-writes.ensures.grows))
+
 pub choose-requires-clause-shape : goal.choose-requires-clause-shape
 choose-requires-clause-shape c =
     let shape = replaying_shape (length c.args.first.now) (bytes_of c.args.size) (image_of c.args.first.now) c.args.calls.now c.until_sync-synced.result c.requires.shape c.requires.whole in
-    let image = ap image_of c.deref_mut.ensures.value ∙ c.in_ok-image.ensures in
+    let image = ap image_of c.deref_mut.ensures.value ∙ c.in_ok-image.ensures.synced in
     let count : length c.deref_mut.result.now ≡ length c.args.first.now
     = buffers_count (length c.args.first.now) (bytes_of c.args.size) (replay (image_of c.args.first.now) (steps_of (take c.until_sync-synced.result c.args.calls.now))) c.deref_mut.result.now shape image in
     subst (λ n. HasShape n (512 * (c.bytes.result / 512)) (image_of c.deref_mut.result.now)) (sym count)
@@ -57,7 +65,7 @@ returns-clause-count c =
     ap length (written_back c.in_ok-image.image.len c.choose.new.image (drop (length c.choose.new.image) c.in_ok-image.image.items)
     (c.in_ok-image.image.ok.0 ∙ sym (ap length c.deref_mut.ensures.value) ∙ sym c.choose.auto.image))
     ∙ c.choose.auto.image ∙ ap length c.deref_mut.ensures.value
-    ∙ buffers_count (length c.args.first.now) (bytes_of c.args.size) (replay (image_of c.args.first.now) (steps_of (take c.until_sync-synced.result c.args.calls.now))) c.in_ok-image.image.items shape c.in_ok-image.ensures
+    ∙ buffers_count (length c.args.first.now) (bytes_of c.args.size) (replay (image_of c.args.first.now) (steps_of (take c.until_sync-synced.result c.args.calls.now))) c.in_ok-image.image.items shape c.in_ok-image.ensures.synced
 
 pub returns-clause-shape : goal.returns-clause-shape
 returns-clause-shape c =
@@ -65,7 +73,7 @@ returns-clause-shape c =
     let back = written_back c.in_ok-image.image.len c.choose.new.image (drop (length c.choose.new.image) c.in_ok-image.image.items)
     (c.in_ok-image.image.ok.0 ∙ sym (ap length c.deref_mut.ensures.value) ∙ sym c.choose.auto.image) in
     let count : length c.deref_mut.result.now ≡ length c.args.first.now
-    = ap length c.deref_mut.ensures.value ∙ buffers_count (length c.args.first.now) (bytes_of c.args.size) (replay (image_of c.args.first.now) (steps_of (take c.until_sync-synced.result c.args.calls.now))) c.in_ok-image.image.items shape c.in_ok-image.ensures in
+    = ap length c.deref_mut.ensures.value ∙ buffers_count (length c.args.first.now) (bytes_of c.args.size) (replay (image_of c.args.first.now) (steps_of (take c.until_sync-synced.result c.args.calls.now))) c.in_ok-image.image.items shape c.in_ok-image.ensures.synced in
     let size : 512 * (c.bytes.result / 512) ≡ bytes_of c.args.size = ap (λ b. 512 * (b / 512)) c.bytes.ensures.value ∙ sym (whole_sectors c.args.size) in
     subst (λ image. HasShape (length c.args.first.now) (bytes_of c.args.size) (image_of image)) (sym back)
     (subst (λ n. HasShape n (bytes_of c.args.size) (image_of c.choose.new.image)) count
@@ -77,7 +85,7 @@ returns-clause-chosen c =
     let back = written_back c.in_ok-image.image.len c.choose.new.image (drop (length c.choose.new.image) c.in_ok-image.image.items)
     (c.in_ok-image.image.ok.0 ∙ sym (ap length c.deref_mut.ensures.value) ∙ sym c.choose.auto.image) in
     let items : length c.in_ok-image.image.items ≡ length c.args.first.now
-    = buffers_count (length c.args.first.now) (bytes_of c.args.size) (replay (image_of c.args.first.now) (steps_of (take c.until_sync-synced.result c.args.calls.now))) c.in_ok-image.image.items shape c.in_ok-image.ensures in
+    = buffers_count (length c.args.first.now) (bytes_of c.args.size) (replay (image_of c.args.first.now) (steps_of (take c.until_sync-synced.result c.args.calls.now))) c.in_ok-image.image.items shape c.in_ok-image.ensures.synced in
     let count : length c.deref_mut.result.now ≡ length c.args.first.now = ap length c.deref_mut.ensures.value ∙ items in
     let len : c.len.result ≡ length c.args.first.now = c.len.ensures ∙ c.in_ok-image.image.ok.0 ∙ items in
     let chosen = subst (λ b. (place k : ℕ) → place < length c.deref_mut.result.now → k < b / 512 → sector k (block (image_of c.choose.new.image) place) ≡ sector k (version (block (image_of c.deref_mut.result.now) place ∷ writes_at (table_of c.deref.result.now) place) (get_or c.args.choice.now (any_below (table_of c.deref.result.now) place * (b / 512) + k) 0)))
@@ -85,7 +93,7 @@ returns-clause-chosen c =
     subst (λ image. (place k : ℕ) → place < length c.args.first.now → k < bytes_of c.args.size / 512 → sector k (block (image_of image) place) ≡ sector k (version (versions (image_of c.args.first.now) (steps_of c.args.calls.now) place) (get_or c.args.choice.now (written_below (steps_of c.args.calls.now) place * (bytes_of c.args.size / 512) + k) 0)))
     (sym back)
     (chosen_by_history (length c.args.first.now) (bytes_of c.args.size / 512) (image_of c.args.first.now) (image_of c.deref_mut.result.now) (image_of c.choose.new.image) (steps_of c.args.calls.now) (table_of c.deref.result.now) c.args.choice.now
-    (c.until_sync-synced.ensures.before (image_of c.args.first.now) ∙ sym (ap image_of c.deref_mut.ensures.value ∙ c.in_ok-image.ensures))
+    (c.until_sync-synced.ensures.before (image_of c.args.first.now) ∙ sym (ap image_of c.deref_mut.ensures.value ∙ c.in_ok-image.ensures.synced))
     (λ p inside. ap (λ t. writes_at (table_of t) p) c.deref.ensures.value ∙ c.in_ok-writes.ensures.writes p (omega (arith, inside, len))
     ∙ ap (λ cs. written (steps_of cs) p) (rest_of_calls c.args.calls.now c.until_sync-synced.result) ∙ sym (c.until_sync-synced.ensures.behind p))
     (λ place k inside less. chosen place k (omega (arith, inside, count)) less))

@@ -7,7 +7,7 @@ use Rattle.jb_disk.proofs.sector.synced_image.Goals as goal
 
 pub replay_calls-requires : goal.replay_calls-requires
 replay_calls-requires c =
-    let image = ap image_of c.deref_mut.ensures.value ∙ c.in_ok-image.ensures in
+    let image = ap image_of c.deref_mut.ensures.value ∙ c.in_ok-image.ensures.copy in
     let count : length c.deref_mut.result.now ≡ length c.args.first.now
     = sym (length-map c.deref_mut.result.now (λ b. b.items)) ∙ ap length image ∙ length-map c.args.first.now (λ b. b.items) in (
       c.requires.0,

@@ -1,7 +1,7 @@
 use Rattle.std.proofs.Common.{◌≡◌, []}
 use Rattle.std.specs.Option.{option_copied}
-use Rattle.jb_handle.specs.Parts.{words, words_in, number_of}
-use Rattle.jb_handle.proofs.Ops.{left}
+use Rattle.jb_text.specs.Parts.{words, words_in, number_of}
+use Rattle.jb_text.proofs.Left.{left}
 use Rattle.jb_price.specs.Reading.{after_each}
 use Rattle.jb_price.proofs.read.bound_list.Given as goal
 

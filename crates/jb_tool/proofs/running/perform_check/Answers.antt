@@ -1,7 +1,7 @@
 use Rattle.std.proofs.Common.{[], arith, inl}
-use Rattle.jb_handle.specs.QueueText.{value_of}
-use Rattle.jb_tool.specs.Said.{said}
-use Rattle.jb_tool.proofs.Verdicts.{says_of_fault, says_of_queue}
+use Rattle.jb_queue.specs.QueueText.{value_of}
+use Rattle.jb_answers.specs.Said.{said}
+use Rattle.jb_answers.proofs.Verdicts.{says_of_fault, says_of_queue}
 use Rattle.jb_tool.proofs.running.perform_check.Goals as goal
 
 pub returns-in-Ok : goal.returns-in-Ok

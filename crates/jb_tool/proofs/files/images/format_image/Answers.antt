@@ -14,7 +14,7 @@ returns g c =
           uuid = c.in-Some.new.uuid;
           size = ap bytes_of c.in_ok-disk.ensures.size ∙ asked.size;
           digits = asked.uuid;
-          formats = rw (asked.journal, asked.max) at c.format_on.ensures.formats;
+          formats = rw (asked.journal, asked.max, asked.width) at c.format_on.ensures.formats;
         },
       );
     }

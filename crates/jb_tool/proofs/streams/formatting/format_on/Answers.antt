@@ -1,4 +1,6 @@
 use Rattle.std.proofs.Common.{◌∙◌, Ok, ap, subst}
+use Rattle.jb_block.specs.Width.{is_wide}
+use Rattle.jb_super.specs.Features.{of_width}
 use Rattle.jb_super.specs.Geometry.{limit_of}
 use Rattle.jb_super.specs.Superblock.{new_super}
 use Rattle.jb_tool.specs.Format.{formatted_line}
@@ -9,7 +11,7 @@ pub returns-in-Some : goal.returns-in-Some
 returns-in-Some g c =
     let done = c.in-Ok.ensures in
     let limit = c.in-Some.ensures.value
-    ∙ ap (λ size. limit_of (new_super size c.args.journal c.args.max_transaction c.args.uuid)) c.block_size.ensures in
+    ∙ ap (λ size. limit_of (of_width (is_wide c.args.width) (new_super size c.args.journal c.args.max_transaction c.args.uuid))) c.block_size.ensures in
     record {
       formats = record {
         answer = Ok c.in-Ok.field-0;

@@ -1,6 +1,6 @@
 use Rattle.std.proofs.Common.{map}
-use Rattle.jb_dump.specs.Lines.{spelled}
-use Rattle.jb_tool.proofs.Appended.{partly}
+use Rattle.jb_io.specs.Parts.{spelled}
+use Rattle.jb_io.proofs.PartByPart.{partly}
 use Rattle.jb_tool.proofs.streams.putting.put_line.Goals as goal
 
 pub returns : goal.returns

@@ -1,0 +1,5 @@
+pub mod Check
+pub mod Cost
+pub mod Faulty
+pub mod Plan
+pub mod Said

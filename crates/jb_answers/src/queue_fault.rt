@@ -1,0 +1,31 @@
+ghost use Rattle.std.specs.Prelude.{◌≡◌, IfOk, Some};
+ghost use Rattle.jb_answers.specs.Faulty.{queue_fault};
+ghost use Rattle.jb_answers.specs.Said.{said};
+
+use crate::answer::Answer;
+use jb_block::Memory;
+use jb_queue::{Cause, QueueFault};
+use std::alloc::Global;
+
+/// What every command over a queue text says of its first fault, status 2.
+///
+/// # Errors
+/// `Memory` where that is the fault, and where a growth was refused.
+pub fn fault_answer(alloc: Global, fault: QueueFault) -> Result<Answer, Memory>
+    ensures said { IfOk result (λ answer. queue_fault fault ≡ Some (said answer)) }
+{
+    let line = fault.line;
+    let cause = match fault.cause {
+        Cause::BlockSizeLine => "BlockSizeLine",
+        Cause::LimitLine => "LimitLine",
+        Cause::HandleLine => "HandleLine",
+        Cause::OpWord => "OpWord",
+        Cause::DataWord => "DataWord",
+        Cause::Memory => return Err(Memory),
+    };
+    Ok(Answer {
+        status: 2,
+        out: String::new(alloc),
+        err: format!(in alloc; "jb: queue line {line}: {cause}\n")?,
+    })
+}

@@ -1,0 +1,12 @@
+-- What contracts say of a desk: what tells it from every other, and the journal that its handles are for.
+use Rattle.jb_board.specs.Seats.{BoardId, board_id}
+use Rattle.jb_handle.specs.declared.shape.Shape.{Shape}
+use Rattle.jb_desk.specs.declared.desk.Desk.{Desk}
+
+-- the board of the desk, which tells it from every other
+abbrev pub desk_id : {D C H N : Type 0} → Desk D C H N → BoardId
+desk_id d = board_id d.board
+
+-- the shape of the journal
+abbrev pub shape_in : {D C H N : Type 0} → Desk D C H N → Shape
+shape_in d = d.shape

@@ -1,0 +1,256 @@
+ghost use Rattle.std.specs.Prelude.{◌≡◌, ◌≢◌, ℕ, ◌+◌, ◌<◌, ◌≤◌, ◌^◌, ◌⊎◌, true, None, IsTrue, ◌↔◌, OnOk, OnErr, IfOk, IfErr, IfSome, IfNone, vec_len};
+ghost use Rattle.std.specs.FinMap as map;
+ghost use Rattle.std.specs.List.{sum_by};
+ghost use Rattle.jb_handle.specs.Handle.{holder, changes_of};
+ghost use Rattle.jb_handle.specs.Held.{held, touched};
+
+mod progress;
+
+use crate::book::Book;
+use crate::fault::{BeginFault, EnqueueFault, StopFault, WaitFault};
+use crate::seat::{Left, Seat};
+use jb_board::BoardSeat;
+use jb_handle::{Handle, Shape};
+pub(crate) use progress::Progress;
+use std::alloc::Global;
+use std::sync::ledger;
+use std::sync::ledger::{Blank, Ledger, Share};
+
+// The most seats of a desk.
+const MOST: u64 = 1 << 61;
+
+/// What the first lock of a desk guards: the book, and the ledgers in which the handles that stopped
+/// and the blocks that they touched are counted. Of each ledger the parts that no seat has are spare.
+#[derive(Drop)]
+pub(crate) struct Counter<H: Ledger, N: Ledger> {
+    book: Book,
+    handles: ledger::Book<H>,
+    changes: ledger::Book<N>,
+    spare_handles: Share<H>,
+    spare_changes: Share<N>,
+    // how many seats were given
+    given: u64,
+    ghost handles_counted: { handles.total ≡ book.shadow.next },
+    ghost changes_counted: { changes.total ≡ book.changes },
+    ghost handles_left: { spare_handles.parts + given ≡ 2305843009213693953 },
+    ghost changes_left: { spare_changes.parts + given ≡ 2305843009213693953 },
+    ghost no_handles: { spare_handles.amount ≡ 0 },
+    ghost no_changes: { spare_changes.amount ≡ 0 },
+    ghost few: { given ≤ 2305843009213693952 },
+}
+
+impl<H: Ledger, N: Ledger> Counter<H, N> {
+    ghost use Rattle.jb_board.specs.Seats.{seat_board, seat_view};
+    ghost use Rattle.jb_desk.specs.Account.{granted_to, dropped_of, refusal, RefusesBegin, IsSettledBy, IsAwaited, fault_of};
+    ghost use Rattle.jb_desk.specs.Seats.{stops, changes, stops_left, changes_left};
+    ghost use Rattle.jb_desk.specs.Stops.{IsStopped, RefusesStopOf};
+
+    /// A book that nobody has asked anything, and two ledgers in which nothing is counted.
+    pub fn new(book: Book, handles: Blank, changes: Blank) -> Counter<H, N>
+        requires handles { (handles.name ≡ H.name) × (handles.parts ≡ H.parts) × (H.parts ≡ 2305843009213693953) }
+        requires changes { (changes.name ≡ N.name) × (changes.parts ≡ N.parts) × (N.parts ≡ 2305843009213693953) }
+        requires fresh { (book.shadow.next ≡ 0) × (book.changes ≡ 0) }
+        ensures { result.book ≡ book }
+    {
+        let (handles, spare_handles) = handles.open::<H>();
+        let (changes, spare_changes) = changes.open::<N>();
+        Counter {
+            book,
+            handles,
+            changes,
+            spare_handles,
+            spare_changes,
+            given: 0,
+        }
+    }
+
+    /// One more seat, with this place at the board. `None` where the book is shut, or where 2^61 seats
+    /// were given.
+    pub fn seat(&mut self, board: BoardSeat) -> Option<Seat<H, N>>
+        ensures seat { IfSome result (λ seat. (seat.board ≡ board) × (stops seat ≡ 0) × (changes seat ≡ 0)) }
+        ensures none { IfNone result ((self.old.book.shut ≡ true) ⊎ (2 ^ 61 ≤ self.old.given)) }
+        ensures book { self.new.book ≡ self.old.book }
+    {
+        if self.book.is_shut() || self.given >= MOST {
+            return None;
+        }
+        let number = self.given;
+        let Counter {
+            spare_handles,
+            spare_changes,
+            given,
+            ..
+        } = self;
+        let handles = spare_handles.split_off(1, 0);
+        let changes = spare_changes.split_off(1, 0);
+        *given += 1;
+        Some(Seat {
+            number,
+            board,
+            handles,
+            changes,
+        })
+    }
+
+    /// A seat leaves. A handle that the book still lists for it is dropped.
+    pub fn leave(&mut self, seat: Seat<H, N>) -> Left<H, N>
+        ensures left { (stops_left result ≡ stops seat) × (changes_left result ≡ changes seat) }
+        ensures book { self.new.book ≡ dropped_of seat.number self.old.book }
+    {
+        let Seat {
+            number,
+            board: _,
+            handles,
+            changes,
+        } = seat;
+        self.book.drop_open(number);
+        Left { handles, changes }
+    }
+
+    /// A seat begins a handle of so many credits.
+    ///
+    /// # Errors
+    ///
+    /// Those of [`Book::open`], with the seat, and nothing has changed.
+    pub fn begin(
+        &mut self,
+        alloc: Global,
+        shape: Shape,
+        seat: Seat<H, N>,
+        credits: u32,
+    ) -> Result<Handle<Seat<H, N>>, (Seat<H, N>, BeginFault)>
+        ensures ok { IfOk result (λ handle. (holder handle ≡ seat) × (changes_of handle ≡ held credits shape map.empty)) }
+        ensures book { OnOk result (self.new.book ≡ granted_to seat.number credits self.old.book) }
+        ensures granted { OnOk result (refusal self.old.book seat.number credits ≡ None) }
+        ensures back { IfErr result (λ back. back.0 ≡ seat) }
+        ensures refused { IfErr result (λ back. RefusesBegin self.old.book seat.number credits back.1) }
+        ensures err { OnErr result (self.new.book ≡ self.old.book) }
+    {
+        match self.book.open(seat.number, credits) {
+            Ok(()) => Ok(Handle::new(alloc, seat, credits, shape)),
+            Err(fault) => Err((seat, fault)),
+        }
+    }
+
+    /// A handle stops: it joins the queue and gets the next ticket, and its seat's shares count it and
+    /// the blocks that it touched.
+    ///
+    /// # Errors
+    ///
+    /// `Aborted` with the seat, and the handle is dropped; `NotOpen` and `Memory` with the handle, and
+    /// nothing has changed.
+    pub fn stop(&mut self, handle: Handle<Seat<H, N>>) -> Result<(Seat<H, N>, u64), StopFault<H, N>>
+        ensures ok { IfOk result (λ given. IsStopped handle self.old.book given.0 given.1 self.new.book) }
+        ensures refused { IfErr result (λ fault. RefusesStopOf handle self.old.book fault self.new.book) }
+    {
+        let number = handle.seat().number;
+        let touched = handle.touched();
+        let Counter {
+            book,
+            handles,
+            changes,
+            ..
+        } = self;
+        match book.enqueue(number, handle) {
+            Ok((mut seat, ticket)) => {
+                handles.add(&mut seat.handles, 1);
+                changes.add(&mut seat.changes, u64::from(touched));
+                Ok((seat, ticket))
+            }
+            Err((handle, EnqueueFault::Aborted)) => {
+                let (seat, _) = handle.end();
+                book.drop_open(number);
+                Err(StopFault::Aborted(seat))
+            }
+            Err((handle, EnqueueFault::NotOpen)) => Err(StopFault::NotOpen(handle)),
+            Err((handle, EnqueueFault::Memory)) => Err(StopFault::Memory(handle)),
+        }
+    }
+
+    /// A handle is dropped with all of its changes.
+    pub fn abandon(&mut self, handle: Handle<Seat<H, N>>) -> Seat<H, N>
+        ensures seat { result ≡ holder handle }
+        ensures book { self.new.book ≡ dropped_of result.number self.old.book }
+    {
+        let (seat, _) = handle.end();
+        self.book.drop_open(seat.number);
+        seat
+    }
+
+    /// From now on no seat is given and no handle is begun.
+    pub fn shut(&mut self)
+        ensures { self.new.book ≡ record self.old.book { shut = true } }
+    {
+        self.book.shut();
+    }
+
+    /// Whether a ticket that some handle has may yet be settled.
+    pub fn is_awaited(&self, ticket: u64) -> bool
+        ensures { IsTrue result ↔ IsAwaited self.now.book ticket }
+    {
+        !self.book.is_aborted() && self.book.settled() <= ticket && ticket < self.book.next()
+    }
+
+    /// The number of the transaction that settled a ticket.
+    ///
+    /// # Errors
+    ///
+    /// Where it is not settled: `Aborted` if the journal has failed, and otherwise `Unknown`.
+    pub fn number_of(&self, ticket: u64) -> Result<u32, WaitFault>
+        ensures ok { IfOk result (λ number. IsSettledBy self.now.book.trail ticket number) }
+        ensures few { OnOk result (ticket < 2 ^ 61) }
+        ensures err { IfErr result (λ fault. (self.now.book.shadow.settled ≤ ticket) × (fault ≡ fault_of self.now.book)) }
+    {
+        match self.book.number_of(ticket) {
+            Some(number) => Ok(number),
+            None if self.book.is_aborted() => Err(WaitFault::Aborted),
+            None => Err(WaitFault::Unknown),
+        }
+    }
+
+    /// How many seats were given.
+    pub fn given(&self) -> u64
+        ensures { result ≡ self.now.given }
+    {
+        self.given
+    }
+
+    /// The book.
+    pub fn book(&self) -> &Book
+        ensures { result.now ≡ self.now.book }
+    {
+        &self.book
+    }
+
+    /// Takes it apart where every seat that was given has left: into the book, and how many handles
+    /// stopped and how many blocks they had touched, which are the sums over what the seats left.
+    pub fn totals(self, lefts: Vec<Left<H, N>>) -> (Book, u64, u64)
+        requires parts { (H.parts ≡ 2305843009213693953) × (N.parts ≡ 2305843009213693953) }
+        requires all { vec_len lefts ≡ self.given }
+        ensures book { result.0 ≡ self.book }
+        ensures handles { (result.1 ≡ self.book.shadow.next) × (result.1 ≡ sum_by stops_left lefts.items) }
+        ensures changes { (result.2 ≡ self.book.changes) × (result.2 ≡ sum_by changes_left lefts.items) }
+    {
+        let Counter {
+            book,
+            mut handles,
+            mut changes,
+            mut spare_handles,
+            mut spare_changes,
+            given: _,
+        } = self;
+        for left in lefts {
+            let Left {
+                handles: stops,
+                changes: touched,
+            } = left;
+            spare_handles.merge(stops);
+            spare_changes.merge(touched);
+        }
+        handles.audit(&mut spare_handles);
+        changes.audit(&mut spare_changes);
+        let stops = book.next();
+        let touched = book.changes();
+        (book, stops, touched)
+    }
+}

@@ -1,0 +1,31 @@
+//! How far the book of a desk has come.
+ghost use Rattle.std.specs.Prelude.{◌≡◌};
+
+use crate::counter::Counter;
+use std::sync::ledger::Ledger;
+
+/// How far a book has come, as the thread that brings groups home sees it.
+#[derive(Clone, Copy, PartialEq, Eq)]
+pub(crate) struct Progress {
+    /// The tickets below it are settled.
+    pub(crate) settled: u64,
+    /// Nothing more can happen.
+    pub(crate) is_over: bool,
+    /// The journal has failed.
+    pub(crate) is_aborted: bool,
+}
+
+impl<H: Ledger, N: Ledger> Counter<H, N> {
+    ghost use Rattle.jb_desk.specs.Progress.{HasCome};
+
+    /// How far the book has come.
+    pub fn progress(&self) -> Progress
+        ensures { HasCome self.now.book result }
+    {
+        Progress {
+            settled: self.book.settled(),
+            is_over: self.book.is_over(),
+            is_aborted: self.book.is_aborted(),
+        }
+    }
+}

@@ -1,0 +1,205 @@
+ghost use Rattle.std.specs.Prelude.{◌≡◌, ◌≢◌, ℕ, ◌+◌, ◌<◌, ◌≤◌, ◌^◌, [], false, IfOk, IfErr};
+ghost use Rattle.std.specs.FinMap as map;
+ghost use Rattle.std.specs.List.{sum_by};
+ghost use Rattle.jb_handle.specs.Handle.{holder, changes_of};
+ghost use Rattle.jb_handle.specs.Held.{held, touched};
+ghost use Rattle.jb_board.specs.Front.{InOrder, IsWithin};
+
+mod checkpoints;
+mod closing;
+
+use crate::book::Book;
+use crate::counter::Counter;
+use crate::fault::{BeginFault, SeatFault, StopFault, WaitFault};
+use crate::seat::{Left, Seat};
+use crate::works::Works;
+pub use closing::{CloseFault, Closed};
+use jb_board::{Board, Front};
+use jb_deck::Deck;
+use jb_disk::{Clock, Disk};
+use jb_handle::{Handle, Shape};
+use std::alloc::Global;
+use std::sync::ledger::{Blank, Ledger};
+use std::sync::{Condvar, Mutex, Wait};
+
+/// The desk of a journal, at which any number of threads begin, change and stop handles while one
+/// commits what has stopped and one brings committed groups home. Two locks stand in it, one round the
+/// book of handles and one round the journal, and none of its calls holds the first while the disk is
+/// at work.
+#[derive(Drop)]
+pub struct Desk<D: Disk, C: Clock, H: Ledger, N: Ledger> {
+    counter: Mutex<Counter<H, N>>,
+    works: Mutex<Works<D, C>>,
+    // the book has changed
+    moved: Condvar,
+    board: Board,
+    shape: Shape,
+    alloc: Global,
+}
+
+impl<D: Disk, C: Clock, H: Ledger, N: Ledger> Desk<D, C, H, N> {
+    ghost use Rattle.jb_desk.specs.Desks.{desk_id, shape_in};
+    ghost use Rattle.jb_desk.specs.Seats.{stops, changes, desk_of, view_of, stops_left, changes_left};
+    ghost use Rattle.jb_desk.specs.Refusals.{HandsBack};
+
+    /// A desk over a journal that has committed nothing yet and has not failed. `handles` and `changes`
+    /// are new ledgers, in which the handles that stop and the blocks that they touched are counted.
+    ///
+    /// # Errors
+    ///
+    /// All four parts, where there is no memory for the board.
+    pub fn start(
+        alloc: Global,
+        handles: Blank,
+        changes: Blank,
+        deck: Deck<D>,
+        clock: C,
+    ) -> Result<Desk<D, C, H, N>, (Blank, Blank, Deck<D>, C)>
+        requires handles { (handles.name ≡ H.name) × (handles.parts ≡ H.parts) × (H.parts ≡ 2 ^ 61 + 1) }
+        requires changes { (changes.name ≡ N.name) × (changes.parts ≡ N.parts) × (N.parts ≡ 2 ^ 61 + 1) }
+        requires fresh { deck.trail ≡ [] }
+        requires running { deck.aborted ≡ false }
+        ensures shape { IfOk result (λ desk. shape_in desk ≡ deck.shape) }
+        ensures back { IfErr result (λ back. back ≡ (handles, changes, deck, clock)) }
+    {
+        let Ok((board, _)) = Board::new(alloc) else {
+            return Err((handles, changes, deck, clock));
+        };
+        let shape = deck.shape();
+        let book = Book::new(alloc, shape, u64::from(deck.usable()));
+        Ok(Desk {
+            counter: Mutex::new(Counter::new(book, handles, changes)),
+            works: Mutex::new(Works { deck, clock }),
+            moved: Condvar::new(),
+            board,
+            shape,
+            alloc,
+        })
+    }
+
+    /// A seat for a thread, with which nothing was stopped yet.
+    ///
+    /// # Errors
+    ///
+    /// `Closed` where the desk is shut, or where 2^61 seats were given.
+    pub fn seat<R: Wait>(&self, rt: &R) -> Result<Seat<H, N>, SeatFault>
+        ensures { IfOk result (λ seat. (desk_of seat ≡ desk_id self.now) × (stops seat ≡ 0) × (changes seat ≡ 0)) }
+    {
+        let seat = self.counter.lock(rt).seat(self.board.enter());
+        seat.ok_or(SeatFault::Closed)
+    }
+
+    /// A seat leaves. A handle that the book still lists for it is dropped.
+    pub fn leave<R: Wait>(&self, rt: &R, seat: Seat<H, N>) -> Left<H, N>
+        ensures { (stops_left result ≡ stops seat) × (changes_left result ≡ changes seat) }
+    {
+        let left = self.counter.lock(rt).leave(seat);
+        self.moved.notify_all();
+        left
+    }
+
+    /// From now on no seat is given and no handle is begun. Open handles may still stop.
+    pub fn shut<R: Wait>(&self, rt: &R) {
+        self.counter.lock(rt).shut();
+        self.moved.notify_all();
+    }
+
+    /// A seat begins a handle of so many credits (`jbd2_journal_start`).
+    ///
+    /// # Errors
+    ///
+    /// The first of these, with the seat: `Aborted`, `Closed`, `Busy`, `TooManyCredits`, `Full`, and
+    /// `Memory` where there is none for the seat in the book.
+    pub fn begin<R: Wait>(
+        &self,
+        rt: &R,
+        seat: Seat<H, N>,
+        credits: u32,
+    ) -> Result<Handle<Seat<H, N>>, (Seat<H, N>, BeginFault)>
+        ensures ok { IfOk result (λ handle. (holder handle ≡ seat) × (changes_of handle ≡ held credits (shape_in self.now) map.empty)) }
+        ensures back { IfErr result (λ back. back.0 ≡ seat) }
+    {
+        self.counter
+            .lock(rt)
+            .begin(self.alloc, self.shape, seat, credits)
+    }
+
+    /// A handle stops (`jbd2_journal_stop`): its changes wait to be committed, under the ticket that is
+    /// given with its seat. The seat's shares count it, and the blocks that it touched.
+    ///
+    /// # Errors
+    ///
+    /// The first of these: `Aborted` with the seat, and the handle is dropped with all of its changes;
+    /// `NotOpen` with the handle; and `Memory` with the handle, where there is none for it in the queue.
+    pub fn stop<R: Wait>(
+        &self,
+        rt: &R,
+        handle: Handle<Seat<H, N>>,
+    ) -> Result<(Seat<H, N>, u64), StopFault<H, N>>
+        requires { desk_of (holder handle) ≡ desk_id self.now }
+        ensures seat { IfOk result (λ given. desk_of given.0 ≡ desk_id self.now) }
+        ensures handles { IfOk result (λ given. stops given.0 ≡ stops (holder handle) + 1) }
+        ensures changes { IfOk result (λ given. changes given.0 ≡ changes (holder handle) + touched (changes_of handle)) }
+        ensures stopped { IfOk result (λ given. given.1 < (view_of given.0).stopped) }
+        ensures refused { IfErr result (HandsBack handle) }
+    {
+        let (mut seat, ticket) = self.counter.lock(rt).stop(handle)?;
+        self.moved.notify_all();
+        self.board.raise_stopped(&mut seat.board, ticket + 1);
+        Ok((seat, ticket))
+    }
+
+    /// A handle is dropped with all of its changes. Gives its seat back.
+    pub fn abandon<R: Wait>(&self, rt: &R, handle: Handle<Seat<H, N>>) -> Seat<H, N>
+        ensures { result ≡ holder handle }
+    {
+        let seat = self.counter.lock(rt).abandon(handle);
+        self.moved.notify_all();
+        seat
+    }
+
+    /// How far the handles have come. It waits for nobody, and never falls for the same seat.
+    pub fn front(&self, seat: &mut Seat<H, N>) -> Front
+        requires { desk_of seat.old ≡ desk_id self.now }
+        ensures desk { desk_of seat.new ≡ desk_of seat.old }
+        ensures view { view_of seat.new ≡ result }
+        ensures ordered { InOrder result }
+        ensures rises { IsWithin (view_of seat.old) result }
+        ensures counted { (stops seat.new ≡ stops seat.old) × (changes seat.new ≡ changes seat.old) }
+    {
+        self.board.look(&mut seat.board)
+    }
+
+    /// Waits until the handle with this ticket is committed, and gives the number of its transaction
+    /// (`jbd2_log_wait_commit`).
+    ///
+    /// # Errors
+    ///
+    /// `Aborted` where the journal has failed and the ticket is not settled; `Unknown` where no handle
+    /// has the ticket.
+    pub fn wait<R: Wait>(
+        &self,
+        rt: &R,
+        seat: &mut Seat<H, N>,
+        ticket: u64,
+    ) -> Result<u32, WaitFault>
+        requires { desk_of seat.old ≡ desk_id self.now }
+        ensures desk { desk_of seat.new ≡ desk_of seat.old }
+        ensures settled { IfOk result (λ _. ticket < (view_of seat.new).settled) }
+        ensures counted { (stops seat.new ≡ stops seat.old) × (changes seat.new ≡ changes seat.old) }
+    {
+        let number = self
+            .moved
+            .wait_while(
+                rt,
+                self.counter.lock(rt),
+                |counter| counter.is_awaited(ticket),
+            )
+            .number_of(ticket)?;
+        let count = ticket + 1;
+        self.board.raise_stopped(&mut seat.board, count);
+        self.board.raise_taken(&mut seat.board, count);
+        self.board.raise_settled(&mut seat.board, count);
+        Ok(number)
+    }
+}

@@ -1,0 +1,118 @@
+//! A desk is closed.
+ghost use Rattle.std.specs.Prelude.{◌≡◌, ◌≢◌, ℕ, ◌+◌, ◌≤◌, ◌^◌, IfOk, IfErr, vec_len};
+ghost use Rattle.std.specs.List.{sum_by};
+ghost use Rattle.jb_deck.specs.Done.{Follow};
+ghost use Rattle.jb_desk.specs.Seats.{stops_left, changes_left};
+ghost use Rattle.jb_desk.specs.Closing.{DiffersAs};
+
+use crate::counter::Counter;
+use crate::desk::Desk;
+use crate::follow::are_same;
+use crate::seat::Left;
+use crate::works::Works;
+use jb_deck::{Deck, Entry};
+use jb_disk::{Clock, Disk};
+use std::sync::Mutex;
+use std::sync::ledger::Ledger;
+
+/// What is left of a desk that was closed.
+#[derive(Drop)]
+pub struct Closed<D, C> {
+    /// The journal's disk.
+    pub disk: D,
+    /// The clock.
+    pub clock: C,
+    /// How many handles stopped.
+    pub handles: u64,
+    /// How many home blocks these had touched, added up.
+    pub changes: u64,
+    /// The groups that were settled, in the order of their tickets.
+    pub trail: Vec<Entry>,
+}
+
+/// Why a desk is not closed.
+#[derive(Drop)]
+pub enum CloseFault<D: Disk, C: Clock, H: Ledger, N: Ledger> {
+    /// A seat that was given has not left. Here are the desk and what the other seats left.
+    SeatsOut(Desk<D, C, H, N>, Vec<Left<H, N>>),
+    /// The groups that the journal has settled are not those of the book.
+    TrailsDiffer {
+        /// The journal.
+        deck: Deck<D>,
+        /// The clock.
+        clock: C,
+        /// The groups that are settled in the book.
+        book: Vec<Entry>,
+    },
+}
+
+impl<D: Disk, C: Clock, H: Ledger, N: Ledger> Desk<D, C, H, N> {
+    ghost use Rattle.jb_desk.specs.Seats.{stops_left, changes_left};
+    ghost use Rattle.jb_desk.specs.Closing.{IsNotClosed};
+
+    /// Closes the desk, where every seat that it gave has left. It writes nothing.
+    ///
+    /// # Errors
+    ///
+    /// `SeatsOut` where a seat's `Left` is missing, with the desk; `TrailsDiffer` where the journal has
+    /// settled other groups than the book.
+    pub fn close(self, lefts: Vec<Left<H, N>>) -> Result<Closed<D, C>, CloseFault<D, C, H, N>>
+        requires parts { (H.parts ≡ 2 ^ 61 + 1) × (N.parts ≡ 2 ^ 61 + 1) }
+        ensures handles { IfOk result (λ closed. closed.handles ≡ sum_by stops_left lefts.items) }
+        ensures changes { IfOk result (λ closed. closed.changes ≡ sum_by changes_left lefts.items) }
+        ensures trail { IfOk result (λ closed. (past : ℕ) × Follow 0 0 past closed.trail.items × (past ≤ closed.handles)) }
+        ensures refused { IfErr result (IsNotClosed self lefts) }
+    {
+        let Desk {
+            counter,
+            works,
+            moved,
+            board,
+            shape,
+            alloc,
+        } = self;
+        let counter = counter.into_inner();
+        if counter.given() != lefts.len() as u64 {
+            let desk = Desk {
+                counter: Mutex::new(counter),
+                works,
+                moved,
+                board,
+                shape,
+                alloc,
+            };
+            return Err(CloseFault::SeatsOut(desk, lefts));
+        }
+        close_parts(counter, works.into_inner(), lefts)
+    }
+}
+
+// Closes what the two locks guarded, where every seat that was given has left.
+fn close_parts<D: Disk, C: Clock, H: Ledger, N: Ledger>(
+    counter: Counter<H, N>,
+    works: Works<D, C>,
+    lefts: Vec<Left<H, N>>,
+) -> Result<Closed<D, C>, CloseFault<D, C, H, N>>
+    requires parts { (H.parts ≡ 2305843009213693953) × (N.parts ≡ 2305843009213693953) }
+    requires all { vec_len lefts ≡ counter.given }
+    ensures handles { IfOk result (λ closed. (closed.handles ≡ sum_by stops_left lefts.items) × (closed.handles ≡ counter.book.shadow.next)) }
+    ensures changes { IfOk result (λ closed. (closed.changes ≡ sum_by changes_left lefts.items) × (closed.changes ≡ counter.book.changes)) }
+    ensures trail { IfOk result (λ closed. (closed.trail.items ≡ counter.book.trail) × (closed.trail.items ≡ works.deck.trail)) }
+    ensures tiles { IfOk result (λ closed. (past : ℕ) × Follow 0 0 past closed.trail.items × (past ≤ closed.handles)) }
+    ensures given { IfOk result (λ closed. (closed.disk ≡ works.deck.disk) × (closed.clock ≡ works.clock)) }
+    ensures refused { IfErr result (DiffersAs counter works) }
+{
+    let (book, handles, changes) = counter.totals(lefts);
+    let Works { deck, clock } = works;
+    if !are_same(book.trail(), deck.trail()) {
+        let book = book.into_trail();
+        return Err(CloseFault::TrailsDiffer { deck, clock, book });
+    }
+    Ok(Closed {
+        disk: deck.close(),
+        clock,
+        handles,
+        changes,
+        trail: book.into_trail(),
+    })
+}

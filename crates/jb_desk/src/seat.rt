@@ -1,0 +1,27 @@
+//! What a thread has of a desk, and what it leaves there.
+ghost use Rattle.std.specs.Prelude.{◌≡◌};
+
+use jb_board::BoardSeat;
+use std::sync::ledger::{Ledger, Share};
+
+/// A thread's place at a desk: its number in the book, its seat at the board, and its shares of the
+/// two ledgers, in which its stops and the blocks that they touched are counted. It must be spent: it
+/// leaves the desk or goes into a handle, and cannot be let go by accident.
+#[must_use]
+pub struct Seat<H: Ledger, N: Ledger> {
+    pub(crate) number: u64,
+    pub(crate) board: BoardSeat,
+    pub(crate) handles: Share<H>,
+    pub(crate) changes: Share<N>,
+    ghost part_of_handles: { handles.parts ≡ 1 },
+    ghost part_of_changes: { changes.parts ≡ 1 },
+}
+
+/// What a seat leaves when it leaves its desk: its shares, by which the desk is closed.
+#[derive(Drop)]
+pub struct Left<H: Ledger, N: Ledger> {
+    pub(crate) handles: Share<H>,
+    pub(crate) changes: Share<N>,
+    ghost part_of_handles: { handles.parts ≡ 1 },
+    ghost part_of_changes: { changes.parts ≡ 1 },
+}

@@ -1,0 +1,4 @@
+use Rattle.jb_desk_tests.proofs.desks.+beside.Given as goal
+
+abbrev pub decreases-beside : goal.decreases-beside
+decreases-beside g l = l.count

@@ -1,0 +1,3 @@
+pub mod PartByPart
+pub mod Taken
+pub mod Written

@@ -1,0 +1,54 @@
+-- The words of a handle, read one by one.
+use Rattle.std.proofs.Common.{◌≡◌, ◌∙◌, sym, ap, ℕ, List, [], ◌∷◌, refl, Option, Some, None, Result, Ok, Err, Bool, true, false, if◌then◌else◌}
+use Rattle.std.specs.Borrow.{Bor}
+use Rattle.std.specs.Option.{option_copied}
+use Rattle.std.specs.FinMap as map
+use Rattle.jb_queue.specs.declared.fault.Cause.{Cause}
+use Rattle.jb_queue.specs.declared.fault.Cause.TheVariants.{BlockSizeLine, LimitLine, HandleLine, OpWord, DataWord, Memory}
+use Rattle.jb_handle.specs.declared.word.Word.{Word}
+use Rattle.jb_text.specs.Parts.{words, words_in}
+use Rattle.jb_queue.specs.Queue.{Gives, op_of, after_ops}
+use Rattle.jb_handle.specs.Word.{WordMap}
+
+pub ops-goes : (size : ℕ) (had : WordMap) (text : List ℕ) (texts : List (List ℕ)) (op : ℕ × Word) → op_of size text ≡ Ok op → after_ops size had (text ∷ texts) ≡ after_ops size (map.insert had op.0 op.1) texts
+unfolding after_ops
+ops-goes size had text texts op is = rw is refl
+
+pub ops-fails : (size : ℕ) (had : WordMap) (text : List ℕ) (texts : List (List ℕ)) (cause : Cause) → op_of size text ≡ Err cause → after_ops size had (text ∷ texts) ≡ Err cause
+unfolding after_ops
+ops-fails size had text texts cause is = rw is refl
+
+pub ops-end : (size : ℕ) (had : WordMap) → after_ops size had [] ≡ Ok had
+unfolding after_ops
+ops-end size had = refl
+
+-- the loop over the words: what is left gives the whole, after what was gathered
+module _ (size : ℕ) (had : WordMap) (rest : Option (Bor (List ℕ))) (text : Bor (List ℕ)) (word : List ℕ) (behind : List (List ℕ)) (whole : Result WordMap Cause)
+    (is : rest ≡ Some text) (parts : words text.now ≡ word ∷ behind) (so_far : after_ops size had (words_in (option_copied rest)) ≡ whole) where
+  from_word : after_ops size had (word ∷ behind) ≡ whole
+  from_word = ap (after_ops size had) (sym parts) ∙ ap (λ r. after_ops size had (words_in (option_copied r))) (sym is) ∙ so_far
+
+  pub op-goes : (op : ℕ × Word) → op_of size word ≡ Ok op → after_ops size (map.insert had op.0 op.1) behind ≡ whole
+  op-goes op step = sym (ops-goes size had word behind op step) ∙ from_word
+
+  pub op-fails : (cause : Cause) → op_of size word ≡ Err cause → whole ≡ Err cause
+  op-fails cause step = sym from_word ∙ ops-fails size had word behind cause step
+
+-- a fault of a part is one of the whole
+pub gives-on : {A B : Type 0} (cause : Cause) (part : Result A Cause) (whole : Result B Cause) → ((cause' : Cause) → part ≡ Err cause' → whole ≡ Err cause') → Gives {A = A} (Err cause) part → Gives {A = B} (Err cause) whole
+gives-on BlockSizeLine part whole on given = on BlockSizeLine given
+gives-on LimitLine part whole on given = on LimitLine given
+gives-on HandleLine part whole on given = on HandleLine given
+gives-on OpWord part whole on given = on OpWord given
+gives-on DataWord part whole on given = on DataWord given
+gives-on Memory part whole on given = tt
+
+-- the last word was the last
+pub ops-whole : (size : ℕ) (had : WordMap) (rest : Option (Bor (List ℕ))) (whole : Result WordMap Cause) → ((text : Bor (List ℕ)) → rest ≡ Some text → ⊥) → after_ops size had (words_in (option_copied rest)) ≡ whole → whole ≡ Ok had
+ops-whole size had None whole ended so_far = sym so_far ∙ ops-end size had
+ops-whole size had (Some text) whole ended so_far = absurd (ended text refl)
+
+-- what is read where a test holds, and else is a fault
+pub tested : (test : Bool) (cause : Cause) (x : Result WordMap Cause) (now : WordMap) → (if test then x else Err cause) ≡ Ok now → (test ≡ true) × (x ≡ Ok now)
+tested true cause x now is = (refl, is)
+tested false cause x now is = cc

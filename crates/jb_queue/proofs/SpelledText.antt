@@ -1,0 +1,256 @@
+-- A queue text is read exactly where it spells a queue.
+use Rattle.std.proofs.Common.{subst, ◌↔◌, ◌≡◌, ◌∙◌, sym, ap, ap₂, ℕ, ◌+◌, ◌^◌, ◌<◌, ◌≤◌, ◌==◌, ◌&&◌, nat_le, Bool, true, false, if◌then◌else◌, List, [], ◌∷◌, ◌++◌, length, length-append, refl, arith, append_assoc, Option, option_map, Some, None, Result, Ok, Err}
+use Rattle.std.specs.Prelude.{codes, decimal}
+use Rattle.std.specs.List.{AllByRecursion}
+use Rattle.std.specs.Option.{option_and_then}
+use Rattle.std.specs.Str.{bytes_eq}
+use Rattle.std.proofs.lemmas.Bool.{eqb-true}
+use Rattle.std.proofs.lemmas.Bool.Decides.{nat_tests}
+use Rattle.std.proofs.lemmas.List.{append-nil}
+use Rattle.std.proofs.lemmas.Slice.Eq.{bytes_eq-Decides}
+use Rattle.jb_block.specs.declared.size.BlockSize.{BlockSize}
+use Rattle.jb_block.specs.declared.size.BlockSize.TheVariants.{OneKib, TwoKib, FourKib}
+use Rattle.jb_block.specs.declared.width.Width.{Width}
+use Rattle.jb_block.specs.declared.width.Width.TheVariants.{Narrow, Wide}
+use Rattle.jb_block.specs.Size.{bytes_of}
+use Rattle.jb_queue.specs.declared.fault.Cause.{Cause}
+use Rattle.jb_queue.specs.declared.fault.Cause.TheVariants.{BlockSizeLine, LimitLine}
+use Rattle.jb_queue.specs.declared.fault.QueueFault.{QueueFault}
+use Rattle.jb_handle.specs.declared.stopped.Stopped.{Stopped}
+use Rattle.jb_text.specs.Parts.{◌>>=◌, before, onward, lines, spaced, first_of, behind_word, number_of, and_then}
+use Rattle.jb_queue.specs.Queue.{Queue, at_line, both_of, or_cause, where_true, format_behind, format_of, limit_of, size_of_bytes, width_behind, handle_of, after_lines, queue_of}
+use Rattle.jb_text.specs.Lines.{AreLines}
+use Rattle.jb_queue.specs.Spelling.{width_text, format_line, Each, SpellsHandle, Spells}
+use Rattle.jb_handle.specs.Tickets.{TicketsFrom}
+use Rattle.jb_handle.specs.Word.{WordMap}
+use Rattle.jb_queue.proofs.Handles.{lines-fails, lines-end}
+use Rattle.jb_queue.proofs.Handles.{lines-goes as handles-go}
+use Rattle.jb_text.proofs.Grammar.{lines-are, are-lines, IsLine, behind-is}
+use Rattle.jb_text.proofs.Joins.{Without, literal-without, without-append, before-put, onward-put, before-whole, onward-none, spaced-without, decimal-without}
+use Rattle.jb_text.proofs.Numerals.{number-is_decimal, decimal-is_number}
+use Rattle.jb_queue.proofs.SpelledHandles.{handle-is, handle-from, texts-clear}
+use Rattle.jb_queue.proofs.SpelledOps.{feed-stops}
+use Rattle.jb_text.proofs.Splits.{parted}
+
+number-case : (found : Option (List ℕ)) (n : ℕ) → option_and_then number_of found ≡ Some n → (found ≡ Some (decimal n)) × (n < 2 ^ 64)
+number-case None n is = cc
+number-case (Some digits) n is = let spelled = number-is_decimal digits n is in (ap Some spelled.0, spelled.1)
+
+-- the two first lines
+size-case : (n : Option ℕ) (size : BlockSize) → option_and_then size_of_bytes n ≡ Some size → n ≡ Some (bytes_of size)
+size-case None size is = cc
+size-case (Some n) size is = from (n == 1024) (n == 2048) (n == 4096) refl refl refl is
+  where
+    from : (one two four : Bool) → (n == 1024) ≡ one → (n == 2048) ≡ two → (n == 4096) ≡ four → (if one then Some OneKib else if two then Some TwoKib else if four then Some FourKib else None) ≡ Some size → Some n ≡ Some (bytes_of size)
+    from true two four a b c gives = let same : OneKib ≡ size = cc in ap Some (eqb-true n 1024 a ∙ ap bytes_of same)
+    from false true four a b c gives = let same : TwoKib ≡ size = cc in ap Some (eqb-true n 2048 b ∙ ap bytes_of same)
+    from false false true a b c gives = let same : FourKib ≡ size = cc in ap Some (eqb-true n 4096 c ∙ ap bytes_of same)
+    from false false false a b c gives = cc
+
+digits-case : (digits : List ℕ) (size : BlockSize) → option_and_then size_of_bytes (number_of digits) ≡ Some size → digits ≡ decimal (bytes_of size)
+digits-case digits size is = (number-is_decimal digits (bytes_of size) (size-case (number_of digits) size is)).0
+
+width-is : (text : List ℕ) (width : Width) → width_behind text ≡ Some width → text ≡ width_text width
+width-is [] width is = let same : Narrow ≡ width = cc in ap width_text same
+width-is (b ∷ bs) width is = from (bytes_eq (b ∷ bs) (codes " wide")) refl is
+  where
+    from : (test : Bool) → bytes_eq (b ∷ bs) (codes " wide") ≡ test → (if test then Some Wide else None) ≡ Some width → b ∷ bs ≡ width_text width
+    from false other gives = cc
+    from true holds gives =
+        let same : Wide ≡ width = cc in
+        (bytes_eq-Decides (b ∷ bs) (codes " wide")).0 holds ∙ ap width_text same
+
+both-is : (size : Option BlockSize) (width : Option Width) (format : BlockSize × Width) → both_of size width ≡ Some format → (size ≡ Some format.0) × (width ≡ Some format.1)
+both-is None width format is = cc
+both-is (Some size) None format is = cc
+both-is (Some size) (Some width) format is =
+    let same : ◌≡◌ {A = BlockSize × Width} (size, width) format = cc in
+    (ap (λ (f : BlockSize × Width). Some f.0) same, ap (λ (f : BlockSize × Width). Some f.1) same)
+
+behind-case : (found : Option (List ℕ)) (format : BlockSize × Width) → option_and_then format_behind found ≡ Some format → found ≡ Some (decimal (bytes_of format.0) ++ width_text format.1)
+behind-case None format is = cc
+behind-case (Some text) format is =
+    let both = both-is (option_and_then size_of_bytes (number_of (before 32 text))) (width_behind (onward 32 text)) format is in
+    ap Some (
+    sym (parted 32 text)
+    ∙ ap (λ bs. bs ++ onward 32 text) (digits-case (before 32 text) format.0 both.0)
+    ∙ ap (λ bs. decimal (bytes_of format.0) ++ bs) (width-is (onward 32 text) format.1 both.1)
+    )
+
+format-is : (line : List ℕ) (format : BlockSize × Width) → format_of line ≡ Some format → line ≡ format_line format.0 format.1
+format-is line format is =
+    behind-is (codes "bs ") line (decimal (bytes_of format.0) ++ width_text format.1) (behind-case (behind_word (codes "bs ") line) format is)
+
+size-fits : (size : BlockSize) → bytes_of size < 2 ^ 64
+size-fits OneKib = omega arith
+size-fits TwoKib = omega arith
+size-fits FourKib = omega arith
+
+size-back : (size : BlockSize) → option_and_then size_of_bytes (number_of (decimal (bytes_of size))) ≡ Some size
+size-back OneKib = rw (decimal-is_number 1024 (omega arith)) refl
+size-back TwoKib = rw (decimal-is_number 2048 (omega arith)) refl
+size-back FourKib = rw (decimal-is_number 4096 (omega arith)) refl
+
+parts-back : (size : BlockSize) (width : Width) → (before 32 (decimal (bytes_of size) ++ width_text width) ≡ decimal (bytes_of size)) × (onward 32 (decimal (bytes_of size) ++ width_text width) ≡ width_text width)
+parts-back size Narrow =
+    let clear = decimal-without 32 (bytes_of size) refl (size-fits size) in
+    let alone = append-nil (decimal (bytes_of size)) in
+    (ap (before 32) alone ∙ before-whole 32 (decimal (bytes_of size)) clear, ap (onward 32) alone ∙ onward-none 32 (decimal (bytes_of size)) clear)
+parts-back size Wide =
+    let clear = decimal-without 32 (bytes_of size) refl (size-fits size) in
+    (before-put 32 (decimal (bytes_of size)) (codes "wide") clear, onward-put 32 (decimal (bytes_of size)) (codes "wide") clear)
+
+width-back : (width : Width) → width_behind (width_text width) ≡ Some width
+width-back Narrow = refl
+width-back Wide = refl
+
+format-from : (size : BlockSize) (width : Width) → format_of (format_line size width) ≡ Some (size, width)
+format-from size width =
+    let parts = parts-back size width in
+    ap₂ (λ digits rest. both_of (option_and_then size_of_bytes (number_of digits)) (width_behind rest)) parts.0 parts.1
+    ∙ ap₂ both_of (size-back size) (width-back width)
+
+limit-case : (n : Option ℕ) (limit : ℕ) → and_then n (λ m. where_true (nat_le 3 m && nat_le m 2147483646) m) ≡ Some limit → (n ≡ Some limit) × (3 ≤ limit) × (limit ≤ 2147483646)
+limit-case None limit is = cc
+limit-case (Some m) limit is = from (nat_le 3 m && nat_le m 2147483646) refl is
+  where
+    from : (test : Bool) → (nat_le 3 m && nat_le m 2147483646) ≡ test → where_true test m ≡ Some limit → (Some m ≡ Some limit) × (3 ≤ limit) × (limit ≤ 2147483646)
+    from false other gives = cc
+    from true holds gives =
+        let same : m ≡ limit = cc in
+        (gives, grind (arith, nat_tests, holds, same), grind (arith, nat_tests, holds, same))
+
+limit-is : (line : List ℕ) (limit : ℕ) → limit_of line ≡ Some limit → (line ≡ codes "limit " ++ decimal limit) × (3 ≤ limit) × (limit ≤ 2147483646)
+limit-is line limit is =
+    let number = limit-case (option_and_then number_of (behind_word (codes "limit ") line)) limit is in
+    let found = number-case (behind_word (codes "limit ") line) limit number.0 in
+    (behind-is (codes "limit ") line (decimal limit) found.0, number.1, number.2)
+
+limit-from : (limit : ℕ) → 3 ≤ limit → limit ≤ 2147483646 → limit_of (codes "limit " ++ decimal limit) ≡ Some limit
+limit-from limit least most =
+    let holds : (nat_le 3 limit && nat_le limit 2147483646) ≡ true = grind (arith, nat_tests, least, most) in
+    rw (decimal-is_number limit (omega arith), holds) refl
+
+-- the handles that lines are read to
+pub record ReadsLines (size : ℕ) (had now : List Stopped) (left : List (List ℕ)) : Type 0 where
+  pub handles : List Stopped
+  pub whole : now ≡ had ++ handles
+  pub each : Each (λ line handle. SpellsHandle size line handle.words) left handles
+  pub tickets : TicketsFrom (length had) handles
+
+lines-case : (size : ℕ) (had now : List Stopped) (line : List ℕ) (more : List (List ℕ)) (h : Result WordMap Cause) → handle_of size line ≡ h → after_lines size had (line ∷ more) ≡ Ok now
+    → ((had' : List Stopped) → after_lines size had' more ≡ Ok now → ReadsLines size had' now more) → ReadsLines size had now (line ∷ more)
+lines-case size had now line more (Err cause) is reads later =
+    let never : ◌≡◌ {A = Result (List Stopped) QueueFault} (Err (record { line = length had + 3; cause = cause })) (Ok now) = sym (lines-fails size had line more cause is) ∙ reads in cc
+lines-case size had now line more (Ok left) is reads later =
+    let stopped : Stopped = record { ticket = length had; words = left } in
+    let further = later (had ++ stopped ∷ []) (sym (handles-go size had line more left is) ∙ reads) in
+    record {
+      handles = stopped ∷ further.handles;
+      whole = further.whole ∙ append_assoc had (stopped ∷ []) further.handles;
+      each = (handle-is size line left is, further.each);
+      tickets = (refl, subst (λ n. TicketsFrom n further.handles) (length-append had (stopped ∷ [])) further.tickets);
+    }
+
+handles-are : (size : ℕ) (had now : List Stopped) (left : List (List ℕ)) → after_lines size had left ≡ Ok now → ReadsLines size had now left
+handles-are size had now [] reads =
+    let both : ◌≡◌ {A = Result (List Stopped) QueueFault} (Ok had) (Ok now) = sym (lines-end size had) ∙ reads in
+    let same : now ≡ had = cc in
+    record { handles = []; whole = same ∙ sym (append-nil had); each = tt; tickets = tt }
+handles-are size had now (line ∷ more) reads =
+    lines-case size had now line more (handle_of size line) refl reads (λ had' further. handles-are size had' now more further)
+
+handles-from : (size : ℕ) (had : List Stopped) (left : List (List ℕ)) (handles : List Stopped) → Each (λ line handle. SpellsHandle size line handle.words) left handles → TicketsFrom (length had) handles → after_lines size had left ≡ Ok (had ++ handles)
+handles-from size had [] [] each tickets = lines-end size had ∙ ap Ok (sym (append-nil had))
+handles-from size had [] (h ∷ hs) each tickets = absurd each
+handles-from size had (line ∷ more) [] each tickets = absurd each
+handles-from size had (line ∷ more) (h ∷ hs) each tickets =
+    handles-go size had line more h.words (handle-from size line h.words each.0)
+    ∙ ap (λ n. after_lines size (had ++ record { ticket = n; words = h.words } ∷ []) more) (sym tickets.0)
+    ∙ handles-from size (had ++ h ∷ []) more hs each.1 (subst (λ n. TicketsFrom n hs) (sym (length-append had (h ∷ []))) tickets.1)
+    ∙ ap Ok (append_assoc had (h ∷ []) hs)
+
+-- the queue of a text, from behind its first line and its second
+abbrev pub behind_limit : BlockSize × Width → ℕ → List (List ℕ) → Result Queue QueueFault
+behind_limit format limit more = after_lines (bytes_of format.0) [] more >>= λ handles. Ok (record { size = format.0; limit = limit; width = format.1; handles = handles })
+
+abbrev pub behind_format : BlockSize × Width → List (List ℕ) → Result Queue QueueFault
+behind_format format rest = at_line 2 (or_cause LimitLine (first_of limit_of rest)) >>= λ limit. behind_limit format limit.0 limit.1
+
+third : (text : List ℕ) (queue : Queue) (one two : List ℕ) (more : List (List ℕ)) (format : BlockSize × Width) (limit : ℕ) (handles : Result (List Stopped) QueueFault)
+    → lines text ≡ one ∷ two ∷ more → format_of one ≡ Some format → limit_of two ≡ Some limit → after_lines (bytes_of format.0) [] more ≡ handles
+    → (handles >>= λ hs. Ok (record { size = format.0; limit = limit; width = format.1; handles = hs })) ≡ Ok queue → Spells text queue
+third text queue one two more format limit (Err fault) parts first second reads is = cc
+third text queue one two more format limit (Ok handles) parts first second reads is =
+    let are = handles-are (bytes_of format.0) [] handles more reads in
+    let limit_line = limit-is two limit second in
+    let said : Queue = record { size = format.0; limit = limit; width = format.1; handles = handles } in
+    let same : said ≡ queue = cc in
+    subst (Spells text) same (record {
+      handle_lines = more;
+      spelled = subst (λ ls. AreLines ls text) (parts ∙ ap (λ line. line ∷ two ∷ more) (format-is one format first) ∙ ap (λ line. format_line format.0 format.1 ∷ line ∷ more) limit_line.0) (lines-are text);
+      least = limit_line.1;
+      most = limit_line.2;
+      each = subst (λ hs. Each (λ line handle. SpellsHandle (bytes_of format.0) line handle.words) more hs) (sym are.whole) are.each;
+      tickets = subst (TicketsFrom 0) (sym are.whole) are.tickets;
+    })
+
+second : (text : List ℕ) (queue : Queue) (one two : List ℕ) (more : List (List ℕ)) (format : BlockSize × Width) (limit : Option ℕ)
+    → lines text ≡ one ∷ two ∷ more → format_of one ≡ Some format → limit_of two ≡ limit
+    → ◌>>=◌ {A = ℕ × List (List ℕ)} (at_line 2 (or_cause LimitLine (option_map (λ n. (n, more)) limit))) (λ found. behind_limit format found.0 found.1) ≡ Ok queue → Spells text queue
+second text queue one two more format None parts first is reads = cc
+second text queue one two more format (Some limit) parts first is reads = third text queue one two more format limit (after_lines (bytes_of format.0) [] more) parts first is refl reads
+
+first : (text : List ℕ) (queue : Queue) (one : List ℕ) (rest : List (List ℕ)) (format : Option (BlockSize × Width))
+    → lines text ≡ one ∷ rest → format_of one ≡ format
+    → ◌>>=◌ {A = (BlockSize × Width) × List (List ℕ)} (at_line 1 (or_cause BlockSizeLine (option_map (λ n. (n, rest)) format))) (λ found. behind_format found.0 found.1) ≡ Ok queue → Spells text queue
+first text queue one rest None parts is reads = cc
+first text queue one [] (Some format) parts is reads = cc
+first text queue one (two ∷ more) (Some format) parts is reads = second text queue one two more format (limit_of two) parts is refl reads
+
+by-lines : (text : List ℕ) (queue : Queue) (all : List (List ℕ)) → lines text ≡ all → (at_line 1 (or_cause BlockSizeLine (first_of format_of all)) >>= λ found. behind_format found.0 found.1) ≡ Ok queue → Spells text queue
+by-lines text queue [] parts reads = cc
+by-lines text queue (one ∷ rest) parts reads = first text queue one rest (format_of one) parts refl reads
+
+pub queue-is : (text : List ℕ) (queue : Queue) → queue_of text ≡ Ok queue → Spells text queue
+queue-is text queue reads = by-lines text queue (lines text) refl reads
+
+-- and back
+handle-line : (size : ℕ) (line : List ℕ) (words : WordMap) → SpellsHandle size line words → IsLine line
+handle-line size line words spells =
+    let clear = texts-clear size 10 feed-stops spells.texts spells.ops spells.each in
+    subst IsLine (sym spells.spelled) (omega arith, without-append 10 (codes "h") (spaced spells.texts) (literal-without 10 (codes "h") refl) (spaced-without 10 spells.texts (λ same. cc) clear))
+
+handle-lines : (size : ℕ) (left : List (List ℕ)) (handles : List Stopped) → Each (λ line handle. SpellsHandle size line handle.words) left handles → AllByRecursion IsLine left
+handle-lines size [] [] each = tt
+handle-lines size [] (h ∷ hs) each = absurd each
+handle-lines size (line ∷ more) [] each = absurd each
+handle-lines size (line ∷ more) (h ∷ hs) each = (handle-line size line h.words each.0, handle-lines size more hs each.1)
+
+number-line : (word : List ℕ) (n : ℕ) → 0 < length word → Without 10 word → n < 2 ^ 64 → IsLine (word ++ decimal n)
+number-line word n some clear fits = (omega (arith, length-append word (decimal n)), without-append 10 word (decimal n) clear (decimal-without 10 n refl fits))
+
+format-clear : (width : Width) → Without 10 (width_text width)
+format-clear Narrow = tt
+format-clear Wide = literal-without 10 (codes " wide") refl
+
+pub queue-from : (text : List ℕ) (queue : Queue) → Spells text queue → queue_of text ≡ Ok queue
+queue-from text queue spells =
+    let all = format_line queue.size queue.width ∷ (codes "limit " ++ decimal queue.limit) ∷ spells.handle_lines in
+    let number = decimal-without 10 (bytes_of queue.size) refl (size-fits queue.size) in
+    let numbered = without-append 10 (decimal (bytes_of queue.size)) (width_text queue.width) number (format-clear queue.width) in
+    let parts : lines text ≡ all = are-lines all text spells.spelled (
+      (
+        omega (arith, length-append (codes "bs ") (decimal (bytes_of queue.size) ++ width_text queue.width)),
+        without-append 10 (codes "bs ") (decimal (bytes_of queue.size) ++ width_text queue.width) (literal-without 10 (codes "bs ") refl) numbered,
+      ),
+      (
+        number-line (codes "limit ") queue.limit (omega arith) (literal-without 10 (codes "limit ") refl) (omega (arith, spells.most)),
+        handle-lines (bytes_of queue.size) spells.handle_lines queue.handles spells.each,
+      ),
+    ) in
+    ap (λ ls. at_line 1 (or_cause BlockSizeLine (first_of format_of ls)) >>= λ found. behind_format found.0 found.1) parts
+    ∙ rw (format-from queue.size queue.width, limit-from queue.limit spells.least spells.most, handles-from (bytes_of queue.size) [] spells.handle_lines queue.handles spells.each spells.tickets) refl
+
+pub spelled : (text : List ℕ) (queue : Queue) → (queue_of text ≡ Ok queue) ↔ Spells text queue
+spelled text queue = (queue-is text queue, queue-from text queue)

@@ -1,0 +1,132 @@
+-- A queue weighs at most half as much as its text is long.
+use Rattle.std.proofs.Common.{◌≡◌, ◌∙◌, sym, ap, ℕ, ◌+◌, ◌*◌, ◌≤◌, ◌==◌, List, [], ◌∷◌, ◌++◌, length, arith, refl, Option, option_map, Some, None, Result, Ok, Err, inl, inr, Bool, true, false, cond}
+use Rattle.std.specs.Ordering.{nat_cmp}
+use Rattle.std.specs.Cmp.{nat_cmp_total}
+use Rattle.std.specs.FinMap as map
+use Rattle.std.proofs.lemmas.Bool.{cases_eq}
+use Rattle.std.proofs.lemmas.List.Sums.{sum_by-append}
+use Rattle.jb_queue.specs.declared.fault.Cause.{Cause}
+use Rattle.jb_queue.specs.declared.fault.Cause.TheVariants.{HandleLine}
+use Rattle.jb_queue.specs.declared.fault.QueueFault.{QueueFault}
+use Rattle.jb_handle.specs.declared.stopped.Stopped.{Stopped}
+use Rattle.jb_handle.specs.declared.word.Word.{Word}
+use Rattle.jb_text.specs.Parts.{grow, lines, words}
+use Rattle.jb_text.specs.Parts.{first_of}
+use Rattle.jb_queue.specs.Queue.{op_of, after_ops, handle_of, behind_h, after_lines}
+use Rattle.jb_handle.specs.Size.{weight}
+use Rattle.jb_handle.specs.Word.{WordMap}
+use Rattle.jb_text.proofs.Splits.{lines-nil, lines-stop, lines-goes, words-nil, words-stop, words-goes}
+use Rattle.jb_queue.proofs.Ops.{ops-goes, ops-fails, ops-end, tested}
+use Rattle.jb_queue.proofs.Handles.{lines-fails, lines-end}
+use Rattle.jb_queue.proofs.Handles.{lines-goes as handles-go}
+
+-- the bytes of pieces, and one stop for each
+abbrev pub total : List (List ℕ) → ℕ
+total [] = 0
+total (piece ∷ more) = length piece + 1 + total more
+
+grow-total : (b n : ℕ) (pieces : List (List ℕ)) → total pieces ≤ n + 1 → total (grow b pieces) ≤ n + 2
+grow-total b n [] within = omega arith
+grow-total b n (piece ∷ more) within = omega arith
+
+pub lines-total : (text : List ℕ) → total (lines text) ≤ length text + 1
+lines-total [] = rw lines-nil (omega arith)
+lines-total (b ∷ text) = elim (cases_eq b 10) [
+  | inl same ↦ let further = lines-total text in rw (lines-stop b text same) (omega (arith, further))
+  | inr other ↦ let further = grow-total b (length text) (lines text) (lines-total text) in rw (lines-goes b text other) (omega (arith, further))
+]
+
+pub words-total : (text : List ℕ) → total (words text) ≤ length text + 1
+words-total [] = rw words-nil (omega arith)
+words-total (b ∷ text) = elim (cases_eq b 32) [
+  | inl same ↦ let further = words-total text in rw (words-stop b text same) (omega (arith, further))
+  | inr other ↦ let further = grow-total b (length text) (words text) (words-total text) in rw (words-goes b text other) (omega (arith, further))
+]
+
+-- one word more makes at most one home more
+one-more : (known : Bool) (had now : ℕ) → now ≡ cond known had (had + 1) → now ≤ had + 1
+one-more true had now is = omega arith
+one-more false had now is = omega arith
+
+len-insert-le : (had : WordMap) (home : ℕ) (word : Word) → map.len (map.insert had home word) ≤ map.len had + 1
+len-insert-le had home word = one-more (map.contains_key had home) (map.len had) (map.len (map.insert had home word)) (map.len-insert nat_cmp_total had home word)
+
+empty-op : (size : ℕ) (op : ℕ × Word) → op_of size [] ≡ Ok op → ⊥
+empty-op size op is = cc
+
+-- what a word of the line leaves, and those behind it, as the case of the word goes
+ops-case : (size : ℕ) (had : WordMap) (text : List ℕ) (texts : List (List ℕ)) (now : WordMap) (op : Result (ℕ × Word) Cause) → op_of size text ≡ op → after_ops size had (text ∷ texts) ≡ Ok now
+    → ((had' : WordMap) → after_ops size had' texts ≡ Ok now → 2 * map.len now ≤ 2 * map.len had' + total texts) → 2 * map.len now ≤ 2 * map.len had + total (text ∷ texts)
+ops-case size had [] texts now (Ok op) is reads later = absurd (empty-op size op is)
+ops-case size had (b ∷ text) texts now (Ok op) is reads later =
+    let further = later (map.insert had op.0 op.1) (sym (ops-goes size had (b ∷ text) texts op is) ∙ reads) in
+    let one = len-insert-le had op.0 op.1 in
+    omega (arith, further, one)
+ops-case size had text texts now (Err cause) is reads later =
+    let never : ◌≡◌ {A = Result WordMap Cause} (Err cause) (Ok now) = sym (ops-fails size had text texts cause is) ∙ reads in cc
+
+pub ops-weight : (size : ℕ) (had : WordMap) (texts : List (List ℕ)) (now : WordMap) → after_ops size had texts ≡ Ok now → 2 * map.len now ≤ 2 * map.len had + total texts
+ops-weight size had [] now reads =
+    let both : ◌≡◌ {A = Result WordMap Cause} (Ok had) (Ok now) = sym (ops-end size had) ∙ reads in
+    let same : had ≡ now = cc in
+    omega (arith, ap map.len same)
+ops-weight size had (text ∷ texts) now reads =
+    ops-case size had text texts now (op_of size text) refl reads (λ had' further. ops-weight size had' texts now further)
+
+no-words : map.len (map.empty {X = Word} {R = nat_cmp}) ≡ 0
+no-words = map.len-empty nat_cmp Word
+
+-- the words of a handle weigh no more than half of its line
+pub handle-weight : (size : ℕ) (line : List ℕ) (now : WordMap) → handle_of size line ≡ Ok now → 2 * (map.len now + 1) ≤ length line + 1
+handle-weight size [] now reads = cc
+handle-weight size (b ∷ []) now reads =
+    let empty = (tested (b == 104) HandleLine (Ok map.empty) now reads).1 in
+    let same : map.empty {X = Word} {R = nat_cmp} ≡ now = cc in
+    omega (arith, ap map.len same, no-words)
+handle-weight size (b ∷ c ∷ text) now reads =
+    let behind = (tested (b == 104) HandleLine (behind_h size (c ∷ text)) now reads).1 in
+    let ops = (tested (c == 32) HandleLine (after_ops size map.empty (words text)) now behind).1 in
+    let light = ops-weight size map.empty (words text) now ops in
+    omega (arith, light, no-words, words-total text)
+
+lines-case : (size : ℕ) (had : List Stopped) (line : List ℕ) (more : List (List ℕ)) (now : List Stopped) (left : Result WordMap Cause) → handle_of size line ≡ left → after_lines size had (line ∷ more) ≡ Ok now
+    → ((had' : List Stopped) → after_lines size had' more ≡ Ok now → 2 * weight now ≤ 2 * weight had' + total more) → 2 * weight now ≤ 2 * weight had + total (line ∷ more)
+lines-case size had line more now (Ok left) is reads later =
+    let stopped : Stopped = record { ticket = length had; words = left } in
+    let further = later (had ++ stopped ∷ []) (sym (handles-go size had line more left is) ∙ reads) in
+    let light = handle-weight size line left is in
+    let sums : weight (had ++ stopped ∷ []) ≡ weight had + (0 + (map.len left + 1)) = sum_by-append (λ h. map.len h.words + 1) had (stopped ∷ []) in
+    omega (arith, further, light, sums)
+lines-case size had line more now (Err cause) is reads later =
+    let never : ◌≡◌ {A = Result (List Stopped) QueueFault} (Err (record { line = length had + 3; cause = cause })) (Ok now) = sym (lines-fails size had line more cause is) ∙ reads in cc
+
+pub lines-weight : (size : ℕ) (had : List Stopped) (left : List (List ℕ)) (now : List Stopped) → after_lines size had left ≡ Ok now → 2 * weight now ≤ 2 * weight had + total left
+lines-weight size had [] now reads =
+    let both : ◌≡◌ {A = Result (List Stopped) QueueFault} (Ok had) (Ok now) = sym (lines-end size had) ∙ reads in
+    let same : had ≡ now = cc in
+    omega (arith, ap weight same)
+lines-weight size had (line ∷ more) now reads =
+    lines-case size had line more now (handle_of size line) refl reads (λ had' further. lines-weight size had' more now further)
+
+-- the lines that are left after the first
+after-first : {A : Type 0} (rest : List (List ℕ)) (given : Option A) (x : A) (more : List (List ℕ)) → ◌≡◌ {A = Option (A × List (List ℕ))} (Some (x, more)) (option_map (λ y. (y, rest)) given) → more ≡ rest
+after-first rest None x more is = cc
+after-first {A = A} rest (Some y) x more is =
+    let pair : ◌≡◌ {A = A × List (List ℕ)} (x, more) (y, rest) = cc in
+    ap (λ (p : A × List (List ℕ)). p.1) pair
+
+-- they are one fewer, and no longer than all
+pub first-length : {A : Type 0} (read : List ℕ → Option A) (pieces : List (List ℕ)) (x : A) (more : List (List ℕ)) → ◌≡◌ {A = Option (A × List (List ℕ))} (Some (x, more)) (first_of read pieces) → length pieces ≡ length more + 1
+first-length read [] x more is = cc
+first-length read (line ∷ rest) x more is = let all : length more ≡ length rest = ap length (after-first rest (read line) x more is) in omega (arith, all)
+
+pub first-total : {A : Type 0} (read : List ℕ → Option A) (pieces : List (List ℕ)) (x : A) (more : List (List ℕ)) → ◌≡◌ {A = Option (A × List (List ℕ))} (Some (x, more)) (first_of read pieces) → total more ≤ total pieces
+first-total read [] x more is = cc
+first-total read (line ∷ rest) x more is = omega (arith, ap total (after-first rest (read line) x more is))
+
+-- and so is the queue of a text by half of it
+pub queue-weight : (size : ℕ) (handles : List Stopped) (text : List ℕ) (first second : List (List ℕ)) → total first ≤ total (lines text) → total second ≤ total first → after_lines size [] second ≡ Ok handles → 2 * weight handles ≤ length text + 1
+queue-weight size handles text first second one two reads =
+    let light = lines-weight size [] second handles reads in
+    let whole = lines-total text in
+    omega (arith, light, whole, one, two)

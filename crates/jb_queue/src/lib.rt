@@ -1,0 +1,10 @@
+//! The text of a queue of handles: what it says, and its first fault.
+#![tactic(auto)]
+
+mod fault;
+pub mod laws;
+mod op_text;
+mod queue_text;
+
+pub use fault::{Cause, QueueFault};
+pub use queue_text::{QueueText, read_queue};

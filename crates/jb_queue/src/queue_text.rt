@@ -1,0 +1,188 @@
+//! The text of a queue: `bs 1024` or `bs 1024 wide`, `limit 7`, and a line of words for each handle, as `h w1 w2 r3`.
+
+ghost use Rattle.std.specs.Prelude.{◌≡◌, ◌*◌, ◌+◌, ◌≤◌, [], length, IfOk, IfErr, Ok, Err, codes, option_map};
+ghost use Rattle.std.specs.FinMap as map;
+ghost use Rattle.std.specs.Option.{option_and_then};
+ghost use Rattle.jb_block.specs.Size.{bytes_of};
+ghost use Rattle.jb_queue.specs.declared.fault.Cause.TheVariants.{HandleLine as NoHandleLine, Memory as OutOfMemory};
+ghost use Rattle.jb_text.specs.Parts.{first_of, lines, number_of, words};
+ghost use Rattle.jb_handle.specs.Size.{weight};
+ghost use Rattle.jb_queue.specs.QueueText.{value_of};
+ghost use Rattle.jb_queue.specs.Queue.{Gives, Reports, after_ops, handle_of, queue_of, after_lines, format_behind, format_of, limit_of, size_of_bytes, width_behind};
+
+use crate::fault::{Cause, QueueFault};
+use crate::op_text::read_op;
+use jb_block::{BlockSize, Width};
+use jb_handle::{Gathered, Stopped, Words};
+use jb_text::{next_line, next_word, number, part};
+use std::alloc::Global;
+
+/// A queue of stopped handles with the journal's profile, as a text gives them.
+#[derive(Debug, Drop)]
+pub struct QueueText {
+    /// The size of a block.
+    pub bs: BlockSize,
+    /// The most log blocks that a group may take.
+    pub limit: u32,
+    /// The width of the block numbers.
+    pub width: Width,
+    /// The handles in their order; a handle's ticket is its place, from 0 on.
+    pub handles: Vec<Stopped>,
+}
+
+/// Reads the text of a queue.
+///
+/// The handle on line k has the ticket k - 3. Of several words on one home block the last one counts.
+///
+/// # Errors
+///
+/// The first line that is not of the form, and what is wrong with it. `Memory` at a handle's line says that a
+/// growth was refused there, and that all lines before it are of the form.
+pub fn read_queue(alloc: Global, text: &[u8]) -> Result<QueueText, QueueFault>
+    ensures ok { IfOk result (λ queue. queue_of text.now ≡ Ok (value_of queue)) }
+    ensures err { IfErr result (Reports (queue_of text.now)) }
+    ensures memory { IfErr result (λ fault. fault.cause ≡ OutOfMemory → (3 ≤ fault.line) × (fault.line ≤ length (lines text.now))) }
+    ensures within { IfOk result (λ queue. 2 * weight queue.handles.items ≤ length text.now + 1) }
+{
+    let Some(((bs, width), text)) = first_format(text) else {
+        return Err(QueueFault {
+            line: 1,
+            cause: Cause::BlockSizeLine,
+        });
+    };
+    let Some((limit, text)) = first_limit(text) else {
+        return Err(QueueFault {
+            line: 2,
+            cause: Cause::LimitLine,
+        });
+    };
+    let handles = read_handles(alloc, text, bs)?;
+    Ok(QueueText {
+        bs,
+        limit,
+        width,
+        handles,
+    })
+}
+
+// The block size and the width on the first line of a text, and the text behind that line.
+fn first_format(text: &[u8]) -> Option<((BlockSize, Width), &[u8])>
+    ensures { option_map (λ p. (p.0, lines p.1.now)) result ≡ first_of format_of (lines text.now) }
+{
+    let (line, rest) = next_line(text)?;
+    Some((read_format(line)?, rest))
+}
+
+// The limit on the first line of a text, and the text behind that line.
+fn first_limit(text: &[u8]) -> Option<(u32, &[u8])>
+    ensures { option_map (λ p. (p.0, lines p.1.now)) result ≡ first_of limit_of (lines text.now) }
+{
+    let (line, rest) = next_line(text)?;
+    Some((read_limit(line)?, rest))
+}
+
+// The block size and the width that a line gives.
+fn read_format(line: &[u8]) -> Option<(BlockSize, Width)>
+    ensures { result ≡ format_of line.now }
+{
+    format_in(line.strip_prefix(b"bs ")?)
+}
+
+// The block size and the width that stand behind `bs `.
+fn format_in(text: &[u8]) -> Option<(BlockSize, Width)>
+    ensures { result ≡ format_behind text.now }
+{
+    let (digits, rest) = part(text, b' ');
+    Some((read_size(digits)?, read_width(rest)?))
+}
+
+// The width that stands behind a block size.
+fn read_width(text: &[u8]) -> Option<Width>
+    ensures { result ≡ width_behind text.now }
+{
+    match text {
+        [] => Some(Width::Narrow),
+        b" wide" => Some(Width::Wide),
+        _ => None,
+    }
+}
+
+// The block size that digits name.
+fn read_size(digits: &[u8]) -> Option<BlockSize>
+    ensures { result ≡ option_and_then size_of_bytes (number_of digits.now) }
+{
+    match number(digits)? {
+        1024 => Some(BlockSize::OneKib),
+        2048 => Some(BlockSize::TwoKib),
+        4096 => Some(BlockSize::FourKib),
+        _ => None,
+    }
+}
+
+// The limit that a line gives.
+fn read_limit(line: &[u8]) -> Option<u32>
+    ensures { result ≡ limit_of line.now }
+{
+    match number(line.strip_prefix(b"limit ")?)? {
+        limit @ 3..=2147483646 => Some(limit as u32),
+        _ => None,
+    }
+}
+
+// The handles of the lines of a text, which are those from the third of a queue text on.
+fn read_handles(alloc: Global, text: &[u8], bs: BlockSize) -> Result<Vec<Stopped>, QueueFault>
+    ensures ok { IfOk result (λ handles. after_lines (bytes_of bs) [] (lines text.now) ≡ Ok handles.items) }
+    ensures err { IfErr result (Reports (after_lines (bytes_of bs) [] (lines text.now))) }
+    ensures line { IfErr result (λ fault. (3 ≤ fault.line) × (fault.line ≤ length (lines text.now) + 2)) }
+{
+    let mut handles = Vec::new(alloc);
+    let mut rest = text;
+    while let Some((line, behind)) = next_line(rest) {
+        let at = handles.len() as u64;
+        match read_handle(alloc, line, bs) {
+            Ok(words) => {
+                let Ok(()) = handles.push(Stopped { ticket: at, words }) else {
+                    return Err(QueueFault {
+                        line: at + 3,
+                        cause: Cause::Memory,
+                    });
+                };
+            }
+            Err(cause) => return Err(QueueFault {
+                line: at + 3,
+                cause,
+            }),
+        }
+        rest = behind;
+    }
+    Ok(handles)
+}
+
+// The words of the handle that a line lists.
+fn read_handle(alloc: Global, line: &[u8], bs: BlockSize) -> Result<Words, Cause>
+    ensures gives { Gives result (handle_of (bytes_of bs) line.now) }
+    ensures handle { result ≡ Err OutOfMemory → handle_of (bytes_of bs) line.now ≡ Err NoHandleLine → ⊥ }
+{
+    match line {
+        [b'h'] => Ok(Words::new(alloc)),
+        [b'h', b' ', text @ ..] => read_ops(alloc, text, bs),
+        _ => Err(Cause::HandleLine),
+    }
+}
+
+// The words of a handle, from behind the first space of its line on.
+#[tactic(auto, using(crate::proofs::Clear::words_clear))]
+fn read_ops(alloc: Global, text: &[u8], bs: BlockSize) -> Result<Words, Cause>
+    ensures gives { Gives result (after_ops (bytes_of bs) map.empty (words text.now)) }
+    ensures clear { after_ops (bytes_of bs) map.empty (words text.now) ≡ Err NoHandleLine → ⊥ }
+{
+    let mut gathered = Gathered::new(alloc);
+    let mut rest = Some(text);
+    while let Some(text) = rest {
+        let (word, behind) = next_word(text);
+        let (home, op) = read_op(alloc, word, bs)?;
+        gathered.put(home, op)?;
+        rest = behind;
+    }
+    Ok(gathered.into_words(alloc)?)
+}

@@ -1,0 +1,5 @@
+//! Tests of queue texts.
+#![tactic(auto)]
+
+#[cfg(test)]
+mod queues;

@@ -1,0 +1,5 @@
+pub mod Grammar
+pub mod Joins
+pub mod Left
+pub mod Numerals
+pub mod Splits

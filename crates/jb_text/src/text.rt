@@ -1,0 +1,80 @@
+ghost use Rattle.std.specs.Prelude.{◌≡◌, ◌<◌, [], ◌∷◌, length, MatchOption, IfSome};
+ghost use Rattle.std.specs.Option.{option_copied};
+ghost use Rattle.jb_text.specs.Parts.{before, onward, lines, words, words_in, FirstLine, number_of, number_from, with_digit as with_digit_of};
+
+/// The bytes before the first `stop`, and those from it on: all of them and none, where there is no `stop`.
+pub fn part(bytes: &[u8], stop: u8) -> (&[u8], &[u8])
+    ensures front { result.0.now ≡ before stop bytes.now }
+    ensures back { result.1.now ≡ onward stop bytes.now }
+{
+    for at in 0..bytes.len() {
+        if bytes[at] == stop {
+            return bytes.split_at(at);
+        }
+    }
+    bytes.split_at(bytes.len())
+}
+
+/// The first line of a text, without the LF at its end, and the text behind it; `None` where nothing is left.
+pub fn next_line(text: &[u8]) -> Option<(&[u8], &[u8])>
+    ensures { MatchOption result (lines text.now ≡ []) (λ next. FirstLine text.now next.0.now next.1.now) }
+{
+    if text.is_empty() {
+        return None;
+    }
+    let (line, behind) = part(text, b'\n');
+    match behind {
+        [_, rest @ ..] => Some((line, rest)),
+        [] => Some((line, behind)),
+    }
+}
+
+/// The first word of a text whose words are parted by single spaces, and the text behind the space after it, where
+/// there is one.
+pub fn next_word(text: &[u8]) -> (&[u8], Option<&[u8]>)
+    ensures words { words text.now ≡ result.0.now ∷ words_in (option_copied result.1) }
+    ensures shorter { IfSome result.1 (λ rest. length rest.now < length text.now) }
+{
+    let (word, behind) = part(text, b' ');
+    match behind {
+        [_, rest @ ..] => (word, Some(rest)),
+        [] => (word, None),
+    }
+}
+
+/// The number of at most 64 bits that a text spells in decimal, without leading zeros; `None` for any other text.
+pub fn number(digits: &[u8]) -> Option<u64>
+    ensures { result ≡ number_of digits.now }
+{
+    if digits.is_empty() {
+        return None;
+    }
+    if digits.len() > 1 && digits[0] == b'0' {
+        return None;
+    }
+    digits_value(digits)
+}
+
+// The number that digits spell, leading zeros and all.
+fn digits_value(digits: &[u8]) -> Option<u64>
+    ensures { result ≡ number_from 0 digits.now }
+{
+    let mut value = 0;
+    for digit in digits {
+        match with_digit(value, *digit) {
+            Some(more) => value = more,
+            None => return None,
+        }
+    }
+    Some(value)
+}
+
+// The number with one more digit behind it.
+fn with_digit(value: u64, digit: u8) -> Option<u64>
+    ensures { result ≡ with_digit_of value digit }
+{
+    if !digit.is_ascii_digit() {
+        return None;
+    }
+    value.checked_mul(10)?.checked_add(u64::from(digit - b'0'))
+}

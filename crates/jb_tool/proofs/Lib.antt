@@ -1,4 +1,0 @@
-pub mod Appended
-pub mod Best
-pub mod Taken
-pub mod Verdicts
