@@ -2,8 +2,8 @@ use crate::plain::{PlainPlan, plan_plainly};
 use jb_block::{BlockSize, Memory, Width};
 use jb_cost::Geometry;
 use jb_handle::{Payload, Stopped, Word, Words, is_within_size};
-use jb_queue::read_queue;
 use jb_plan::{Answer, Planned, plan};
+use jb_queue::read_queue;
 use std::alloc::Global;
 use std::test::Fail;
 

@@ -1,7 +1,7 @@
 use jb_cost::Geometry;
 use jb_handle::is_within_size;
-use jb_queue::read_queue;
 use jb_price::{Cert, CertAnswer, Reason, Verdict, check, read_cert};
+use jb_queue::read_queue;
 use std::test::Fail;
 
 // A queue's text, a certificate's text, and what the check says.
