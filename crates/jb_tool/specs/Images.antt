@@ -1,12 +1,17 @@
--- How `jb format` and `jb recover` end over a file.
+-- How the commands over images end over a file.
 use Rattle.std.specs.Prelude.{◌≡◌, ◌⊎◌, ℕ, List, [], Option, Result, Ok, Err}
 use Rattle.hex.specs.Hex.{decode_of}
 use Rattle.jb_block.specs.Size.{bytes_of}
 use Rattle.jb_disk.specs.File.{count_of, faults_of, size_of}
 use Rattle.jb_disk.specs.declared.file.FileDisk.{FileDisk}
+use Rattle.jb_disk.specs.Image.{Image}
+use Rattle.jb_recover.specs.declared.change.ChangeFault.{ChangeFault}
+use Rattle.jb_recover.specs.Renumbering.{IsRenumbering, Renumbers, RenumbersAs}
+use Rattle.jb_recover.specs.Widening.{IsWidened, Widens, WidensAs}
 use Rattle.jb_super.specs.Faults.{super_in}
 use Rattle.jb_super.specs.Superblock.{Superblock}
 use Rattle.jb_words.specs.Named.{Options}
+use Rattle.jb_tool.specs.Change.{ChangesOn, renumbered_line, widened_line}
 use Rattle.jb_tool.specs.Format.{FormatsOn}
 use Rattle.jb_tool.specs.Options.{AreGood}
 use Rattle.jb_tool.specs.Recover.{RecoversOn}
@@ -58,3 +63,25 @@ pub record RecoversFile (held holds : Option (List ℕ)) (end : Result ℕ Stop)
 abbrev pub EndsOfRecover : List ℕ → Option (List ℕ) → Option (List ℕ) → Result ℕ Stop → Type 0
 EndsOfRecover name held holds end =
     ((stop : Stop) × (end ≡ Err stop) × IsUnread name stop × (holds ≡ held)) ⊎ RecoversFile held holds end
+
+-- the clean journal in a file was changed, in blocks of the size that its first bytes say. No clause says what a file holds: of
+-- its content nothing follows
+pub record ChangesFile {T : Type 0} (Does : ℕ → ℕ → Image → Image → Result T ChangeFault → Type 0) (IsMidst EndsAlike : ℕ → ℕ → Image → Image → Type 0)
+    (line : T → List ℕ) (held holds : Option (List ℕ)) (end : Result ℕ Stop) : Type 0 where
+  pub old : FileDisk
+  pub new : FileDisk
+  pub size : SaysSize (bytes_of (size_of old))
+  pub changes : ChangesOn (λ (f : FileDisk). bytes_of (size_of f)) count_of faults_of (λ _. ⊥) (λ _. []) (λ _ _. ⊥) (λ _. 0) (λ _ _ _. ⊥)
+      Does IsMidst EndsAlike line old new held holds end
+
+-- the image was not read, and nothing was done; or its journal was given its first number again, and the answer is reported
+abbrev pub EndsOfRenumber : List ℕ → Option (List ℕ) → Option (List ℕ) → Result ℕ Stop → Type 0
+EndsOfRenumber name held holds end =
+    ((stop : Stop) × (end ≡ Err stop) × IsUnread name stop × (holds ≡ held))
+    ⊎ ChangesFile Renumbers IsRenumbering RenumbersAs renumbered_line held holds end
+
+-- the image was not read, and nothing was done; or its journal was given block numbers of 64 bits, and the answer is reported
+abbrev pub EndsOfWiden : List ℕ → Option (List ℕ) → Option (List ℕ) → Result ℕ Stop → Type 0
+EndsOfWiden name held holds end =
+    ((stop : Stop) × (end ≡ Err stop) × IsUnread name stop × (holds ≡ held))
+    ⊎ ChangesFile Widens IsWidened WidensAs widened_line held holds end

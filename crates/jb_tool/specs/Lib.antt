@@ -1,3 +1,4 @@
+pub mod Change
 pub mod Dump
 pub mod Format
 pub mod Images

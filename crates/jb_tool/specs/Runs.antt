@@ -3,14 +3,14 @@ use Rattle.std.specs.Prelude.{◌≡◌, ◌≢◌, ◌⊎◌, ℕ, List, [], Op
 use Rattle.jb_io.specs.Puts.{PutsPart}
 use Rattle.jb_words.specs.Faults.{HasKind, Kinds, kind_of}
 use Rattle.jb_words.specs.Named.{Asked}
-use Rattle.jb_words.specs.Named.Asked.{AsksCheck, AsksCost, AsksDump, AsksFormat, AsksPlan, AsksRecover}
+use Rattle.jb_words.specs.Named.Asked.{AsksCheck, AsksCost, AsksDump, AsksFormat, AsksPlan, AsksRecover, AsksRenumber, AsksWiden}
 use Rattle.jb_words.specs.declared.Error.{Error}
 use Rattle.jb_words.specs.declared.ErrorKind.{ErrorKind}
 use Rattle.jb_words.specs.declared.ErrorKind.TheVariants.{DisplayHelp, DisplayVersion, OutOfMemory}
 use Rattle.jb_answers.specs.Check.{CheckSays}
 use Rattle.jb_answers.specs.Cost.{cost_said}
 use Rattle.jb_tool.specs.Dump.{DumpsFile}
-use Rattle.jb_tool.specs.Images.{EndsOfFormat, EndsOfRecover}
+use Rattle.jb_tool.specs.Images.{EndsOfFormat, EndsOfRecover, EndsOfRenumber, EndsOfWiden}
 use Rattle.jb_answers.specs.Plan.{PlanSays}
 use Rattle.jb_answers.specs.Said.{Said}
 use Rattle.jb_tool.specs.Said.{Held, Tells}
@@ -50,6 +50,8 @@ EndsAsked (AsksCheck file cert) = λ _. EndsOfTwo CheckSays file cert
 EndsAsked (AsksDump file) = λ _. OutAlone (DumpsFile file)
 EndsAsked (AsksFormat image options) = λ _. OutAlone (EndsOfFormat image options)
 EndsAsked (AsksRecover image) = λ _. OutAlone (EndsOfRecover image)
+EndsAsked (AsksRenumber image) = λ _. OutAlone (EndsOfRenumber image)
+EndsAsked (AsksWiden image) = λ _. OutAlone (EndsOfWiden image)
 
 -- the whole run of the command that the words ask for
 abbrev pub Runs : Asked → Option (List ℕ) → Held → Held → ℕ → Type 0

@@ -3,6 +3,8 @@ use Rattle.std.specs.Prelude.{ℕ, List, [], ◌∷◌, codes, decimal}
 use Rattle.jb_io.specs.Parts.{spelled}
 use Rattle.jb_dump.specs.declared.fault.DumpFault.{DumpFault}
 use Rattle.jb_dump.specs.declared.fault.DumpFault.TheVariants as dumping
+use Rattle.jb_recover.specs.declared.change.ChangeFault.{ChangeFault}
+use Rattle.jb_recover.specs.declared.change.ChangeFault.TheVariants as changing
 use Rattle.jb_recover.specs.declared.fault.FormatFault.{FormatFault}
 use Rattle.jb_recover.specs.declared.fault.FormatFault.TheVariants as formatting
 use Rattle.jb_recover.specs.declared.fault.RecoverFault.{RecoverFault}
@@ -10,7 +12,7 @@ use Rattle.jb_recover.specs.declared.fault.RecoverFault.TheVariants as recoverin
 use Rattle.jb_super.specs.declared.fault.SuperFault.{SuperFault}
 use Rattle.jb_super.specs.declared.fault.SuperFault.TheVariants as super
 use Rattle.jb_tool.specs.declared.stop.Stop.{Stop}
-use Rattle.jb_tool.specs.declared.stop.Stop.TheVariants.{CannotRead, CannotMake, BadOption, TooLong, ReadFault, Super, BadRevoke, HomeOutOfRange, Geometry, DeviceFault, Memory, WriteFault}
+use Rattle.jb_tool.specs.declared.stop.Stop.TheVariants.{CannotRead, CannotMake, BadOption, TooLong, ReadFault, Super, BadRevoke, HomeOutOfRange, NeedsRecovery, Geometry, DeviceFault, Memory, WriteFault}
 
 -- the exit status
 abbrev pub status_of : Stop → ℕ
@@ -22,6 +24,7 @@ status_of ReadFault = 1
 status_of (Super fault) = 1
 status_of (BadRevoke place) = 1
 status_of (HomeOutOfRange home number) = 1
+status_of NeedsRecovery = 1
 status_of Geometry = 1
 status_of DeviceFault = 1
 status_of Memory = 1
@@ -49,6 +52,7 @@ line_of (Super fault) = super_line fault
 line_of (BadRevoke place) = spelled (codes "jb: BadRevoke " ∷ decimal place ∷ codes "\n" ∷ [])
 line_of (HomeOutOfRange home number) =
     spelled (codes "jb: HomeOutOfRange " ∷ decimal home ∷ codes " " ∷ decimal number ∷ codes "\n" ∷ [])
+line_of NeedsRecovery = spelled (codes "jb: NeedsRecovery\n" ∷ [])
 line_of Geometry = spelled (codes "jb: Geometry\n" ∷ [])
 line_of DeviceFault = spelled (codes "jb: DeviceFault\n" ∷ [])
 line_of Memory = spelled (codes "jb: Memory\n" ∷ [])
@@ -78,3 +82,9 @@ recover_stop (recovering.Super fault) = Super fault
 recover_stop (recovering.BadRevoke place) = BadRevoke place
 recover_stop (recovering.HomeOutOfRange home number) = HomeOutOfRange home number
 recover_stop recovering.Memory = Memory
+
+-- the stop that a fault of a change of a clean journal is reported as
+abbrev pub change_stop : ChangeFault → Stop
+change_stop changing.DeviceFault = DeviceFault
+change_stop (changing.Super fault) = Super fault
+change_stop changing.NeedsRecovery = NeedsRecovery

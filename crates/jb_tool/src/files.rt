@@ -1,9 +1,11 @@
 //! The commands over files: each opens its files and hands them on.
 
+mod changes;
 mod images;
 mod journals;
 mod texts;
 
+pub(crate) use changes::{renumber_image, widen_image};
 pub(crate) use images::{format_image, recover_image};
 pub(crate) use journals::dump_file;
 pub(crate) use texts::{read_file, read_text};

@@ -12,4 +12,6 @@ pub use command_line::run;
 pub use jb_words::Plain;
 pub use running::{perform, run_plain};
 pub use stop::Stop;
-pub use streams::{TEXT_LIMIT, dump_from, format_on, recover_on, refuse_words};
+pub use streams::{
+    TEXT_LIMIT, dump_from, format_on, recover_on, refuse_words, renumber_on, widen_on,
+};

@@ -3,7 +3,9 @@ ghost use Rattle.jb_words.specs.Named.{asks};
 ghost use Rattle.jb_answers.specs.Check.{CheckSays};
 ghost use Rattle.jb_tool.specs.Runs.{EndsAsked, EndsOfTwo, Runs};
 
-use crate::files::{dump_file, format_image, read_file, read_text, recover_image};
+use crate::files::{
+    dump_file, format_image, read_file, read_text, recover_image, renumber_image, widen_image,
+};
 use crate::stop::Stop;
 use crate::streams::tell;
 use jb_answers::{check_answer, cost_answer, fault_answer, plan_answer};
@@ -43,6 +45,8 @@ pub fn perform<'a, R: Files<File = File> + AllocGlobal, I: Read, O: Write, E: Wr
         Plain::Dump { file } => dump_file(rt, file, out),
         Plain::Format { image, options } => format_image(rt, image, options, out),
         Plain::Recover { image } => recover_image(rt, image, out),
+        Plain::Renumber { image } => renumber_image(rt, image, out),
+        Plain::Widen { image } => widen_image(rt, image, out),
     }
 }
 

@@ -1,7 +1,7 @@
 ghost use Rattle.std.specs.Prelude.{◌≡◌};
 
 use jb_dump::DumpFault;
-use jb_recover::{FormatFault, RecoverFault};
+use jb_recover::{ChangeFault, FormatFault, RecoverFault};
 use jb_super::SuperFault;
 use std::alloc::AllocError;
 
@@ -25,6 +25,8 @@ pub enum Stop<'a> {
     BadRevoke(u64),
     /// A copy that is not revoked is for this home block, which the image does not have; its transaction has this number.
     HomeOutOfRange(u64, u32),
+    /// The log of the journal is not clean, and it is to be recovered first.
+    NeedsRecovery,
     /// The options make no journal: fewer than 9 blocks, or more than 2^31 - 1.
     Geometry,
     /// A call on an image that is used as a disk failed.
@@ -94,6 +96,21 @@ impl<'a> From<RecoverFault> for Stop<'a> {
     }
 }
 
+impl<'a> From<ChangeFault> for Stop<'a> {
+    ghost use Rattle.std.specs.Prelude.{◌≡◌};
+    ghost use Rattle.jb_tool.specs.Stops.{change_stop};
+
+    ghost from_gives = { λ fault stop. stop ≡ change_stop fault };
+
+    fn from(fault: ChangeFault) -> Stop<'a> {
+        match fault {
+            ChangeFault::DeviceFault => Stop::DeviceFault,
+            ChangeFault::Super(fault) => Stop::Super(fault),
+            ChangeFault::NeedsRecovery => Stop::NeedsRecovery,
+        }
+    }
+}
+
 impl<'a> Stop<'a> {
     ghost use Rattle.jb_tool.specs.Stops.{status_of};
 
@@ -105,8 +122,8 @@ impl<'a> Stop<'a> {
             Stop::CannotRead(_) | Stop::TooLong(_) => 2,
             Stop::CannotMake(_) | Stop::BadOption => 2,
             Stop::ReadFault | Stop::Super(_) | Stop::BadRevoke(_) => 1,
-            Stop::HomeOutOfRange(_, _) | Stop::Geometry | Stop::DeviceFault => 1,
-            Stop::Memory | Stop::WriteFault => 1,
+            Stop::HomeOutOfRange(_, _) | Stop::NeedsRecovery | Stop::Geometry => 1,
+            Stop::DeviceFault | Stop::Memory | Stop::WriteFault => 1,
         }
     }
 }

@@ -1,5 +1,6 @@
 //! The commands over any disk, any reader and any writer: their contracts say what was called and which bytes were written.
 
+mod changing;
 mod dumping;
 mod formatting;
 mod putting;
@@ -9,6 +10,7 @@ mod refusal;
 mod stop_line;
 mod telling;
 
+pub use changing::{renumber_on, widen_on};
 pub use dumping::dump_from;
 pub use formatting::format_on;
 pub use reading::TEXT_LIMIT;

@@ -1,7 +1,6 @@
 //! New images, and images that are recovered.
 
-use crate::runs::{MAGIC, UUID, add_block, runs};
-use std::alloc::{AllocError, Global};
+use crate::runs::{MAGIC, UUID, WHOLE, add_block, image, runs};
 use std::fs;
 use std::test::Fail;
 
@@ -169,8 +168,6 @@ fn a_new_image_is_its_superblock_and_zeros_and_is_made_once(rt: HostRuntime) -> 
 // has, and what a recovery answers.
 type Recovery = (u32, u32, u32, usize, Result<&'static str, &'static str>);
 
-const WHOLE: usize = 49 * 1024;
-
 const RECOVERIES: &[Recovery] = &[
     (
         1,
@@ -204,35 +201,6 @@ const RECOVERIES: &[Recovery] = &[
     (1, 20, 5, 1023, Err("jb: Super ShortBlock\n")),
     (1, 20, 5, 0, Err("jb: Super ShortBlock\n")),
 ];
-
-// A superblock that says where its log begins, and with which number; a revoke of home 7 with this count, and a copy of a home
-// that begins with the magic, as one committed transaction of number 2 at the places 1 to 4 of 33 blocks of journal; and 16
-// home blocks, of which number 5 begins with these words.
-fn image(
-    alloc: Global,
-    log: [u32; 2],
-    incompat: u32,
-    count: u32,
-    home: u32,
-    words: &[u32],
-) -> Result<Vec<u8>, AllocError> {
-    let [number, start] = log;
-    let mut image = Vec::new(alloc);
-    let front = [
-        MAGIC, 4, 0, 1024, 33, 1, number, start, 0, 0, incompat, 0, UUID[0], UUID[1], UUID[2],
-        UUID[3],
-    ];
-    add_block(&mut image, 1024, &front)?;
-    add_block(&mut image, 1024, &[MAGIC, 5, 2, count, 7])?;
-    let tag = [MAGIC, 1, 2, home, 9, UUID[0], UUID[1], UUID[2], UUID[3]];
-    add_block(&mut image, 1024, &tag)?;
-    add_block(&mut image, 1024, &[0, 0x0102_0304])?;
-    add_block(&mut image, 1024, &[MAGIC, 2, 2])?;
-    image.resize(38 * 1024, 0)?;
-    add_block(&mut image, 1024, words)?;
-    image.resize(WHOLE, 0)?;
-    Ok(image)
-}
 
 #[test]
 fn each_recovery_answers_its_row_and_a_refused_image_stays(rt: HostRuntime) -> Result<(), Fail> {

@@ -98,6 +98,14 @@ const ROWS: &[Row] = &[
     ),
     (&["recover", "."], b"", 2, "", "jb: cannot read .\n"),
     (&["recover", ""], b"", 2, "", "jb: cannot read \n"),
+    (
+        &["renumber", "no-such.img"],
+        b"",
+        2,
+        "",
+        "jb: cannot read no-such.img\n",
+    ),
+    (&["widen", "."], b"", 2, "", "jb: cannot read .\n"),
     (&["--version"], b"", 0, "jb 0.1.0\n", ""),
     (
         &["cost"],

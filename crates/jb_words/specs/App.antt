@@ -60,10 +60,6 @@ format_app =
     let parts = with_rule (with_rule sized (required_number (codes "journal"))) (required_number (codes "homes")) in
     with_rule (with_rule (with_rule parts max_option) uuid_option) wide_flag
 
--- `recover IMAGE`
-abbrev pub recover_app : App
-recover_app = image_app (codes "recover")
-
 -- `jb`: its words begin with a command, and it has a version
 abbrev pub jb_top : App
 jb_top =
@@ -78,4 +74,6 @@ jb_app =
     let cost = (file_app (codes "cost")).top in
     let plan = (file_app (codes "plan")).top in
     let over_queues = with_subcommand (with_subcommand (with_subcommand jb_top cost) plan) check_app.top in
-    with_subcommand (with_subcommand (with_subcommand over_queues dump_app.top) format_app.top) recover_app.top
+    let over_files = with_subcommand (with_subcommand over_queues dump_app.top) format_app.top in
+    let recovered = with_subcommand over_files (image_app (codes "recover")).top in
+    with_subcommand (with_subcommand recovered (image_app (codes "renumber")).top) (image_app (codes "widen")).top

@@ -8,7 +8,7 @@ use Rattle.clap.specs.Words.{Row, Text, first_of, one_of, subcommand_of}
 use Rattle.jb_words.specs.App.{jb_app}
 use Rattle.jb_words.specs.declared.plain.FormatOptions.{FormatOptions}
 use Rattle.jb_words.specs.declared.plain.Plain.{Plain}
-use Rattle.jb_words.specs.declared.plain.Plain.TheVariants.{Check, Cost, Dump, Format, Plan, Recover}
+use Rattle.jb_words.specs.declared.plain.Plain.TheVariants.{Check, Cost, Dump, Format, Plan, Recover, Renumber, Widen}
 
 -- the options of `format` as they were given
 pub record Options : Type 0 where
@@ -27,6 +27,8 @@ pub data Asked : Type 0 where
   AsksDump : Text → Asked
   AsksFormat : Text → Options → Asked
   AsksRecover : Text → Asked
+  AsksRenumber : Text → Asked
+  AsksWiden : Text → Asked
 
 -- what a value of the program's own options says
 abbrev pub options_said : FormatOptions → Options
@@ -40,10 +42,16 @@ asks (Check file cert) = AsksCheck file.now cert.now
 asks (Dump file) = AsksDump file.now
 asks (Format image options) = AsksFormat image.now (options_said options)
 asks (Recover image) = AsksRecover image.now
+asks (Renumber image) = AsksRenumber image.now
+asks (Widen image) = AsksWiden image.now
 
 -- the file of a command over one file
 abbrev pub file_in : List Row → Option Text
 file_in rows = first_of (codes "FILE") rows
+
+-- the file of a command over one image
+abbrev pub image_in : List Row → Option Text
+image_in rows = first_of (codes "IMAGE") rows
 
 -- `check FILE CERT`
 abbrev pub check_in : List Row → Option Asked
@@ -76,7 +84,7 @@ options_in rows =
 -- `format IMAGE ..`
 abbrev pub format_in : List Row → Option Asked
 format_in rows =
-    option_and_then (λ image. option_map (λ options. AsksFormat image options) (options_in rows)) (first_of (codes "IMAGE") rows)
+    option_and_then (λ image. option_map (λ options. AsksFormat image options) (options_in rows)) (image_in rows)
 
 -- the command of this name, with the words that stand under the names of its arguments
 abbrev pub asked : Text → List Row → Option Asked
@@ -86,7 +94,9 @@ asked name rows =
     else if bytes_eq name (codes "check") then check_in rows
     else if bytes_eq name (codes "dump") then option_map (λ file. AsksDump file) (file_in rows)
     else if bytes_eq name (codes "format") then format_in rows
-    else if bytes_eq name (codes "recover") then option_map (λ image. AsksRecover image) (first_of (codes "IMAGE") rows)
+    else if bytes_eq name (codes "recover") then option_map (λ image. AsksRecover image) (image_in rows)
+    else if bytes_eq name (codes "renumber") then option_map (λ image. AsksRenumber image) (image_in rows)
+    else if bytes_eq name (codes "widen") then option_map (λ image. AsksWiden image) (image_in rows)
     else None
 
 -- the command that a parse found

@@ -1,7 +1,7 @@
 ghost use Rattle.std.specs.Prelude.{◌≡◌, IfOk, codes, false};
 ghost use Rattle.clap.specs.Words.{App, app_of, new_app, rule_of, with_rule, with_subcommand};
 ghost use Rattle.clap.specs.declared.builder.command.Command.TheViews.{out-Command as fields_of};
-ghost use Rattle.jb_words.specs.App.{check_app, file_app, format_app, jb_app, jb_top, required_word as word_rule};
+ghost use Rattle.jb_words.specs.App.{check_app, file_app, format_app, image_app, jb_app, jb_top, required_word as word_rule};
 
 mod options;
 
@@ -118,6 +118,15 @@ fn over_queue<'a>(alloc: Global, name: &'a str, about: &'a str) -> Result<Comman
     over(alloc, name, about, "FILE", help)
 }
 
+// A command over one image that is there.
+fn over_image<'a>(alloc: Global, name: &'a str, about: &'a str) -> Result<Command<'a>, AllocError>
+    ensures app { IfOk result (λ c. app_of c ≡ image_app name.entry.now) }
+    ensures own { IfOk result (λ c. (fields_of c).has_globals ≡ false) }
+{
+    let help = "A file with a journal and its home blocks";
+    over(alloc, name, about, "IMAGE", help)
+}
+
 /// The command line of `jb`, as clap reads it.
 pub fn jb_command<'a>(alloc: Global) -> Result<Command<'a>, AllocError>
     ensures app { IfOk result (λ c. app_of c ≡ jb_app) }
@@ -133,6 +142,9 @@ pub fn jb_command<'a>(alloc: Global) -> Result<Command<'a>, AllocError>
     let with_dump = also(with_check, over(alloc, "dump", about, "FILE", help));
     let with_format = also(with_dump, format(alloc));
     let about = "Writes home what an image's journal has committed, and empties its log";
-    let help = "A file with a journal and its home blocks";
-    also(with_format, over(alloc, "recover", about, "IMAGE", help))
+    let with_recover = also(with_format, over_image(alloc, "recover", about));
+    let about = "Gives a clean journal, whose numbers may be spent, its first number again";
+    let with_renumber = also(with_recover, over_image(alloc, "renumber", about));
+    let about = "Gives a clean journal block numbers of 64 bits";
+    also(with_renumber, over_image(alloc, "widen", about))
 }

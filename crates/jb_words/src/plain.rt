@@ -35,6 +35,16 @@ pub enum Plain<'a> {
         /// The file with the journal and the home blocks.
         image: &'a str,
     },
+    /// `jb renumber IMAGE`: the journal of an image, clean, with its first number again.
+    Renumber {
+        /// The file with the journal and the home blocks.
+        image: &'a str,
+    },
+    /// `jb widen IMAGE`: the journal of an image, clean, with block numbers of 64 bits.
+    Widen {
+        /// The file with the journal and the home blocks.
+        image: &'a str,
+    },
 }
 
 /// The options of `jb format` as they were given, not judged as yet.

@@ -64,6 +64,12 @@ fn plain_of<'a>(matches: &ArgMatches<'a>) -> Option<Plain<'a>>
         "recover" => Some(Plain::Recover {
             image: word_of(found, "IMAGE")?,
         }),
+        "renumber" => Some(Plain::Renumber {
+            image: word_of(found, "IMAGE")?,
+        }),
+        "widen" => Some(Plain::Widen {
+            image: word_of(found, "IMAGE")?,
+        }),
         _ => None,
     }
 }

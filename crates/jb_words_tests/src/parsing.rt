@@ -10,6 +10,8 @@ fn asked<'a>(alloc: Global, words: &'a [&'a str]) -> Option<(&'a str, &'a str, &
         Plain::Dump { file } => Some(("dump", file, "")),
         Plain::Format { image, options } => Some(("format", image, options.uuid)),
         Plain::Recover { image } => Some(("recover", image, "")),
+        Plain::Renumber { image } => Some(("renumber", image, "")),
+        Plain::Widen { image } => Some(("widen", image, "")),
     }
 }
 
@@ -67,6 +69,8 @@ fn commands_with_their_words_are_taken(rt: HostRuntime) {
         (["check", "a", "b"].as_slice(), ("check", "a", "b")),
         (["dump", "a"].as_slice(), ("dump", "a", "")),
         (["recover", "a.img"].as_slice(), ("recover", "a.img", "")),
+        (["renumber", "a.img"].as_slice(), ("renumber", "a.img", "")),
+        (["widen", "--", "-"].as_slice(), ("widen", "-", "")),
         (
             ANY_ORDER.as_slice(),
             ("format", "a.img", "000102030405060708090A0b0c0d0e0f"),

@@ -44,6 +44,16 @@ fn what_is_no_command_is_answered_by_clap(rt: HostRuntime) {
             "error: the following required arguments were not provided:\n  <IMAGE>\n\nUsage: jb recover <IMAGE>\n\nFor more information, try '--help'.\n",
         ),
         (
+            ["renumber"].as_slice(),
+            true,
+            "error: the following required arguments were not provided:\n  <IMAGE>\n\nUsage: jb renumber <IMAGE>\n\nFor more information, try '--help'.\n",
+        ),
+        (
+            ["widen", "a", "b"].as_slice(),
+            true,
+            "error: unexpected argument 'b' found\n\nUsage: jb widen <IMAGE>\n\nFor more information, try '--help'.\n",
+        ),
+        (
             ["cost", "a", "b"].as_slice(),
             true,
             "error: unexpected argument 'b' found\n\nUsage: jb cost <FILE>\n\nFor more information, try '--help'.\n",
@@ -77,7 +87,7 @@ fn what_is_no_command_is_answered_by_clap(rt: HostRuntime) {
         (
             ["help"].as_slice(),
             false,
-            "A block journal in jbd2's format\n\nUsage: jb <COMMAND>\n\nCommands:\n  cost     Prints the log blocks that the queue takes as one group\n  plan     Prints a least cut of the queue into groups, with its prices\n  check    Checks a certificate of the queue, whoever made it\n  dump     Prints the committed transactions of a journal, block by block\n  format   Makes an image: a new journal, and home blocks of zeros behind it\n  recover  Writes home what an image's journal has committed, and empties its log\n  help     Print this message or the help of the given subcommand(s)\n\nOptions:\n  -h, --help     Print help\n  -V, --version  Print version\n",
+            "A block journal in jbd2's format\n\nUsage: jb <COMMAND>\n\nCommands:\n  cost      Prints the log blocks that the queue takes as one group\n  plan      Prints a least cut of the queue into groups, with its prices\n  check     Checks a certificate of the queue, whoever made it\n  dump      Prints the committed transactions of a journal, block by block\n  format    Makes an image: a new journal, and home blocks of zeros behind it\n  recover   Writes home what an image's journal has committed, and empties its log\n  renumber  Gives a clean journal, whose numbers may be spent, its first number again\n  widen     Gives a clean journal block numbers of 64 bits\n  help      Print this message or the help of the given subcommand(s)\n\nOptions:\n  -h, --help     Print help\n  -V, --version  Print version\n",
         ),
     ] {
         let (goes_to_err, text) = said(rt.alloc(), words).expect(&rt, "a text");

@@ -45,8 +45,7 @@ pub(crate) fn format_image<'a, R: Files<File = File> + AllocGlobal, O: Write>(
 /// Recovers the journal at the front of the file of this name, and tells what came of it.
 ///
 /// # Errors
-/// `Stop::CannotRead` where the file cannot be opened for reading and writing, or read; `Stop::Super` where its first bytes
-/// are no superblock; `Stop::Memory` where a growth was refused; and those of `recover_on`.
+/// Those of `open_image`, and those of `recover_on`.
 pub(crate) fn recover_image<'a, R: Files<File = File> + AllocGlobal, O: Write>(
     rt: &R,
     image: &'a str,
@@ -81,8 +80,12 @@ fn make_file<'a, R: Files<File = File> + AllocGlobal>(
     }
 }
 
-// The file of this name, as a disk of the block size that its first bytes say.
-fn open_image<'a, R: Files<File = File> + AllocGlobal>(
+/// The file of this name, as a disk of the block size that its first bytes say.
+///
+/// # Errors
+/// `Stop::CannotRead` where the file cannot be opened for reading and writing, or read; `Stop::Super` where its first bytes
+/// are no superblock; `Stop::Memory` where a growth was refused.
+pub(super) fn open_image<'a, R: Files<File = File> + AllocGlobal>(
     rt: &R,
     name: &'a str,
 ) -> Result<FileDisk, Stop<'a>>

@@ -32,6 +32,7 @@ impl<'a> Stop<'a> {
                 let (home, number) = (first.format(home), second.format(number));
                 put_line(err, &["jb: HomeOutOfRange ", home, " ", number, "\n"]);
             }
+            Stop::NeedsRecovery => put_line(err, &["jb: NeedsRecovery\n"]),
             Stop::Geometry => put_line(err, &["jb: Geometry\n"]),
             Stop::DeviceFault => put_line(err, &["jb: DeviceFault\n"]),
             Stop::Memory => put_line(err, &["jb: Memory\n"]),
