@@ -35,7 +35,7 @@ verdict_text (Refused reason) = record { status = 1; out = codes "refused " ++ r
 abbrev pub no_cert : List ℕ → Said
 no_cert cause = record { status = 2; out = []; err = codes "jb: certificate: " ++ cause }
 
--- what is said of such a text; none is one for want of memory
+-- what is said of such a text; none where memory ran out
 abbrev pub cert_fault : CertFault → Option Said
 cert_fault (Syntax line) = Some (no_cert (codes "Syntax " ++ (decimal line ++ codes "\n")))
 cert_fault Length = Some (no_cert (codes "Length\n"))

@@ -18,7 +18,7 @@ pub struct Board {
 }
 
 /// With what one thread steps on its board. It has no bytes: its view, the counts that it is sure of,
-/// exists in contracts alone. A seat may be let go, or given to another thread.
+/// exists in contracts only. A seat may be dropped, or given to another thread.
 #[derive(Drop)]
 pub struct BoardSeat {
     seat: Seat<(), Front>,

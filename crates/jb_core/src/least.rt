@@ -52,7 +52,7 @@ fn costs_exactly(
     goes_on(alloc, handles, ends, geometry, limit, blocks)
 }
 
-// The same of the bounds behind the first one. What is left of the blocks goes down, so that no sum
+// The same of the bounds after the first one. The blocks that are left go down, so that no sum
 // can pass 64 bits.
 fn goes_on(
     alloc: Global,

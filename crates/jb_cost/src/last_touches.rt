@@ -10,7 +10,7 @@ use std::alloc::Global;
 use std::collections::BTreeMap;
 
 /// Which handle of a queue touched each home block last. It grows to the right, a handle at a time,
-/// and tells for each end where a last group begins best.
+/// and finds for each end the best start of a last group.
 ///
 /// In a group that ends with the last handle a home block counts by the handle that touched it last,
 /// if that handle is in the group. So what a group costs changes only at the handles that own a home
@@ -46,7 +46,7 @@ impl LastTouches {
         }
     }
 
-    /// Puts the next handle of the queue behind the ones that are there. `start` is the price of a
+    /// Adds the next handle of the queue. `start` is the price of a
     /// group that begins with it: the log blocks of the handles before it, if they fit.
     ///
     /// # Errors

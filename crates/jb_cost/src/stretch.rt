@@ -32,7 +32,7 @@ impl Priced {
 }
 
 // The starts from `from` up to a handle: those between them are idle, so that a group costs the same
-// from each. The one with the least price stands for all.
+// from each. The one with the least price represents them all.
 #[derive(Clone, Copy)]
 pub(crate) struct Stretch {
     pub(crate) from: usize,

@@ -14,7 +14,7 @@ history_of a = record {
   faults = a.faults;
 }
 
--- the life is sound, and the blocks beside it are those that it leads to
+-- the history is sound, and the blocks kept with it are those that it leads to
 pub record IsKept (a : Inside) : Type 0 where
   pub sound : IsSound (history_of a)
   pub newest : image_of a.newest.items ≡ replay (image_of a.first.items) (steps_of a.calls.items)

@@ -33,7 +33,7 @@ pub trait Disk {
     /// The images that a crash at this moment may leave.
     ghost may_leave: { Self → Image → Type 0 };
 
-    /// The moment, as a number that doesn't fall.
+    /// The moment, as a number that does not fall.
     ghost moment: { Self → ℕ };
 
     /// The images that a crash at some moment from that one on might have left.

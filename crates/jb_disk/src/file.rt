@@ -11,7 +11,7 @@ use std::io;
 use std::os::unix::fs::FileExt;
 
 /// An open file as a disk. Its blocks are the whole blocks of the length that it had when it was
-/// made a disk; bytes behind them are neither read nor written.
+/// made a disk; bytes after them are neither read nor written.
 ///
 /// Each call makes one call of the system. A call that a signal interrupts, and a read or write that
 /// moves less than a block, is a fault: it is not tried again.
@@ -27,7 +27,7 @@ pub struct FileDisk {
 impl FileDisk {
     ghost use Rattle.jb_disk.specs.File.{size_of, faults_of};
 
-    /// The disk that `file` is, in blocks of this size. A fault where its length can't be told.
+    /// The disk that `file` is, in blocks of this size. A fault where its length cannot be read.
     pub fn of(file: File, size: BlockSize) -> Result<FileDisk, Fault>
         ensures size { IfOk result (λ disk. size_of disk ≡ size) }
         ensures fresh { IfOk result (λ disk. faults_of disk ≡ 0) }

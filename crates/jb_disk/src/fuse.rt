@@ -30,7 +30,7 @@ impl<D: Disk> FuseDisk<D> {
         }
     }
 
-    /// The disk behind the fuse.
+    /// The disk inside the fuse.
     pub fn into_inner(self) -> D
         ensures { result ≡ disk_of self }
     {

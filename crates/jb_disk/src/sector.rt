@@ -14,7 +14,7 @@ use std::alloc::Global;
 /// How many bytes a disk writes whole or not at all.
 const SECTOR: usize = 512;
 
-// How many of the calls stand up to and with the last sync.
+// How many calls there are up to the last sync, that one included.
 fn until_sync(calls: &[Call]) -> usize
     ensures within { result ≤ length calls.now }
     ensures before { (first : List (List ℕ)) → synced first (steps_of calls.now) ≡ replay first (steps_of (take result calls.now)) }
@@ -95,7 +95,7 @@ fn number_at(choice: &[u32], k: usize) -> u32
     choice.get(k).copied().unwrap_or(0)
 }
 
-// The numbers of a choice behind the first n.
+// The numbers of a choice after the first n.
 fn behind(choice: &[u32], n: usize) -> &[u32]
     ensures { result.now ≡ drop n choice.now }
 {
@@ -113,7 +113,7 @@ fn pick<'a>(writes: &[&'a [u8]], number: u32) -> Option<&'a [u8]>
     Some(writes[chosen - 1])
 }
 
-// Puts the k-th sector of one block in the place of another's.
+// Puts the k-th sector of one block over another's.
 fn copy_sector(to: &mut [u8], from: &[u8], k: usize)
     requires same { length from.now ≡ length to.old }
     requires within { 512 * k + 512 ≤ length to.old }

@@ -1,4 +1,4 @@
-//! The disks as a program meets them: crash rows by hand, failing calls by number, a real file.
+//! The disks as a program uses them: crash rows by hand, failing calls by number, a real file.
 
 use jb_block::{BlockSize, Stamp};
 use jb_disk::{Clock, Disk, Fault, FileDisk, FixedClock, FuseDisk, MemoryDisk, OneFaultDisk};
@@ -7,7 +7,7 @@ use std::fs;
 use std::fs::{File, OpenOptions};
 use std::test::Fail;
 
-// Fills a block with one byte. A place that the disk doesn't have is a fault too.
+// Fills a block with one byte. A place that the disk does not have is a fault too.
 fn fill<D: Disk>(disk: &mut D, place: u64, byte: u8) -> Result<(), Fault> {
     if place >= disk.blocks() {
         return Err(Fault);
@@ -45,7 +45,7 @@ fn pending(alloc: Global) -> Result<MemoryDisk, Fail> {
     Ok(MemoryDisk::new(alloc, BlockSize::OneKib, 0)?)
 }
 
-/// The chosen version of each sector; and behind a sync only what is written after it.
+/// The chosen version of each sector; and after a sync only what is written after it.
 #[test]
 fn a_crash_takes_the_chosen_version_of_each_sector(rt: HostRuntime) -> Result<(), Fail> {
     let mut disk = pending(rt.alloc())?;
@@ -71,7 +71,7 @@ fn a_crash_takes_the_chosen_version_of_each_sector(rt: HostRuntime) -> Result<()
     Ok(())
 }
 
-/// Which of three calls succeed and what the block holds behind them, by the number of calls that pass a
+/// Which of three calls succeed and what the block holds after them, by the number of calls that pass a
 /// fuse, and by the number of the one call that fails.
 #[test]
 fn calls_fail_by_their_number(rt: HostRuntime) -> Result<(), Fail> {

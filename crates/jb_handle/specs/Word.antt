@@ -48,7 +48,7 @@ abbrev pub back : (w : Word) → from_option (to_option w) ≡ w
 back (Copy bytes) = refl
 back Free = refl
 
--- a word can be told by its bytes, as a Model's value must
+-- words with the same bytes are equal, as a Model's value requires
 abbrev pub word_code : Coded Word
 word_code = code_by (Option (List ℕ)) (coded_option (coded_list coded_ℕ)) to_option from_option back
 

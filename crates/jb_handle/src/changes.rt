@@ -34,7 +34,7 @@ impl From<Memory> for TouchFault {
 }
 
 /// What a handle has changed so far: its credits, which bound how many different blocks it may touch,
-/// and the last word on each block that it touched. It may be let go, and kept in a map.
+/// and the last word on each block that it touched. It may be dropped, and kept in a map.
 #[derive(Drop)]
 pub struct Changes {
     credits: u32,

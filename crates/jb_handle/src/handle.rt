@@ -7,7 +7,7 @@ use crate::words::Words;
 use std::alloc::Global;
 
 /// An open handle (`handle_t`): the seat of the thread that works with it, and its changes. It must be
-/// spent: it is ended, or given to whoever stops or drops it, and cannot be let go by accident.
+/// used up: it is ended, or given to whoever stops or drops it, and cannot be dropped by accident.
 #[must_use]
 pub struct Handle<S> {
     seat: S,

@@ -52,7 +52,7 @@ abbrev pub from_of : Option Step → ℕ
 from_of None = 0
 from_of (Some s) = s.from
 
--- each start lies before its end
+-- each start is before its end
 abbrev pub GoBack : List ℕ → Type 0
 GoBack froms = (j : ℕ) → 0 < j → j < length froms → slice_index froms j < j
 

@@ -28,7 +28,7 @@ pub(crate) fn is_cut(bounds: &[usize], end: usize) -> bool
     from == end
 }
 
-// What the groups of a cut come to.
+// What the groups of a cut take.
 #[derive(Clone, Copy)]
 pub(crate) enum Sum {
     // All are within the limit: the log blocks that they take, added up.

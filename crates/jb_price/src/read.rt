@@ -12,7 +12,7 @@ use std::alloc::Global;
 ///
 /// # Errors
 ///
-/// `Syntax` with the first line that breaks the form; else `Length` where there is not one price more than
+/// `Syntax` with the first line that breaks the form; otherwise `Length` where there is not one price more than
 /// handles; or `Memory`, once the first price was read.
 pub fn read_cert(alloc: Global, text: &[u8], handles: usize) -> Result<Cert, CertFault>
     ensures ok { IfOk result (λ cert. read_of handles text.now ≡ Ok (claim_of cert)) }
@@ -119,7 +119,7 @@ fn bound_list(alloc: Global, text: &[u8]) -> Result<Vec<usize>, CertFault>
     Ok(bounds)
 }
 
-// The cut of these bounds, with the total of the third line, behind which none is left.
+// The cut of these bounds, with the total of the third line, after which no line is left.
 fn read_total(bounds: Vec<usize>, text: &[u8]) -> Result<CertAnswer, CertFault>
     ensures ok { IfOk result (λ answer. with_total (Some bounds.items) (lines text.now) ≡ Ok (cut_of answer)) }
     ensures err { IfErr result (Refuses ⊥ (with_total (Some bounds.items) (lines text.now))) }
@@ -143,7 +143,7 @@ fn total_of(line: &[u8]) -> Option<u64>
     number(line.strip_prefix(b"total ")?)
 }
 
-// The answer that there is no cut, behind which no line is left.
+// The answer that there is no cut, after which no line is left.
 fn read_end(text: &[u8]) -> Result<CertAnswer, CertFault>
     ensures ok { IfOk result (λ answer. with_total None (lines text.now) ≡ Ok (cut_of answer)) }
     ensures err { IfErr result (Refuses ⊥ (with_total None (lines text.now))) }

@@ -65,7 +65,7 @@ pub fn read_queue(alloc: Global, text: &[u8]) -> Result<QueueText, QueueFault>
     })
 }
 
-// The block size and the width on the first line of a text, and the text behind that line.
+// The block size and the width on the first line of a text, and the text after that line.
 fn first_format(text: &[u8]) -> Option<((BlockSize, Width), &[u8])>
     ensures { option_map (λ p. (p.0, lines p.1.now)) result ≡ first_of format_of (lines text.now) }
 {
@@ -73,7 +73,7 @@ fn first_format(text: &[u8]) -> Option<((BlockSize, Width), &[u8])>
     Some((read_format(line)?, rest))
 }
 
-// The limit on the first line of a text, and the text behind that line.
+// The limit on the first line of a text, and the text after that line.
 fn first_limit(text: &[u8]) -> Option<(u32, &[u8])>
     ensures { option_map (λ p. (p.0, lines p.1.now)) result ≡ first_of limit_of (lines text.now) }
 {
@@ -88,7 +88,7 @@ fn read_format(line: &[u8]) -> Option<(BlockSize, Width)>
     format_in(line.strip_prefix(b"bs ")?)
 }
 
-// The block size and the width that stand behind `bs `.
+// The block size and the width after `bs `.
 fn format_in(text: &[u8]) -> Option<(BlockSize, Width)>
     ensures { result ≡ format_behind text.now }
 {
@@ -96,7 +96,7 @@ fn format_in(text: &[u8]) -> Option<(BlockSize, Width)>
     Some((read_size(digits)?, read_width(rest)?))
 }
 
-// The width that stands behind a block size.
+// The width after a block size.
 fn read_width(text: &[u8]) -> Option<Width>
     ensures { result ≡ width_behind text.now }
 {
@@ -170,7 +170,7 @@ fn read_handle(alloc: Global, line: &[u8], bs: BlockSize) -> Result<Words, Cause
     }
 }
 
-// The words of a handle, from behind the first space of its line on.
+// The words of a handle, from after the first space of its line on.
 #[tactic(auto, using(crate::proofs::Clear::words_clear))]
 fn read_ops(alloc: Global, text: &[u8], bs: BlockSize) -> Result<Words, Cause>
     ensures gives { Gives result (after_ops (bytes_of bs) map.empty (words text.now)) }

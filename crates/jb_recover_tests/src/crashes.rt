@@ -117,7 +117,7 @@ fn after(alloc: Global, image: &Image<'_>) -> Result<MemoryDisk, Fail> {
     }
 }
 
-// Whether the image that a crash with this choice leaves recovers to the wanted one.
+// Whether the image that a crash with this choice leaves recovers to the expected one.
 fn mends(
     alloc: Global,
     disk: &MemoryDisk,
@@ -176,7 +176,7 @@ fn mends_some(alloc: Global, disk: &MemoryDisk, wanted: &mut MemoryDisk) -> Resu
     Ok(true)
 }
 
-// Whether what a crash after so many calls leaves recovers to the wanted image, and whether the recovery had ended.
+// Whether what a crash after so many calls leaves recovers to the expected image, and whether the recovery had ended.
 fn broken_off(alloc: Global, case: &Case<'_>, calls: u64) -> Result<(bool, bool), Fail> {
     let mut wanted = after(alloc, &case.image)?;
     let mut fuse = FuseDisk::of(before(alloc, &case.image)?, calls);

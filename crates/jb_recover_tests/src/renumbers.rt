@@ -51,7 +51,7 @@ const ENDS_AFTER: [Row; 4] = [
     (32, 40, [0, 0, 0, 0]),
 ];
 
-// A log that begins at place 2, behind a block that is not of it.
+// A log that begins at place 2, after a block that is not of it.
 const BEHIND: [Row; 3] = [
     (0, 1, [33, 2, 5, 0]),
     (1, 0, [MAGIC, 2, 4, 0]),

@@ -70,7 +70,7 @@ fn what_is_left(rt: HostRuntime) -> Result<(), Fail> {
     Ok(())
 }
 
-// Whether the image that a crash leaves keeps the homes by a recovery, and widens to the wanted one.
+// Whether the image that a crash leaves keeps the homes in a recovery, and widens to the expected one.
 fn keeps(
     alloc: Global,
     disk: &MemoryDisk,
