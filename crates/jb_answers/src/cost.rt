@@ -28,7 +28,7 @@ pub fn cost_answer(alloc: Global, text: &[u8]) -> Result<Answer, Memory>
     }
 }
 
-// The line about a cost and a limit.
+/// The line about a cost and a limit.
 fn cost_told(alloc: Global, cost: u64, limit: u32) -> Result<Answer, Memory>
     ensures said { IfOk result (λ answer. said answer ≡ cost_line cost limit) }
 {

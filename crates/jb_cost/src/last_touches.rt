@@ -19,9 +19,9 @@ use std::collections::BTreeMap;
 pub struct LastTouches {
     geometry: Geometry,
     last: BTreeMap<u64, Touch>,
-    // by handle
+    /// What each handle owns.
     owned: Vec<Owned>,
-    // by handle: the starts that cost as much as the one with this handle
+    /// For each handle the starts that cost as much as the one with it.
     stretches: Vec<Stretch>,
 }
 

@@ -104,7 +104,7 @@ impl Disk for FileDisk {
     }
 }
 
-// How many whole blocks so many bytes have.
+/// How many whole blocks so many bytes have.
 fn whole_blocks(len: u64, size: BlockSize) -> u64
     ensures value { result ≡ len / bytes_of size }
     ensures addressed { result * bytes_of size < 2 ^ 64 }
@@ -112,14 +112,14 @@ fn whole_blocks(len: u64, size: BlockSize) -> u64
     len / u64::from(size.bytes())
 }
 
-// Whether so many bytes were moved, and no fewer.
+/// Whether so many bytes were moved, and no fewer.
 fn is_whole(answer: &io::Result<usize>, len: usize) -> bool
     ensures { IsTrue result ↔ (answer.now ≡ Ok len) }
 {
     matches!(answer, Ok(moved) if *moved == len)
 }
 
-// Counts a fault where the call did not succeed.
+/// Counts a fault where the call did not succeed.
 fn settle(succeeded: bool, faults: &mut u64) -> Result<(), Fault>
     ensures variant { is_ok result ≡ succeeded }
     ensures faults { CountsFault result faults.old faults.new }

@@ -170,7 +170,7 @@ impl Changes {
         self.put(home, Word::Free)
     }
 
-    // The first reason against a change of this home block, by a write of so many bytes or a revoke.
+    /// The first reason against a change of this home block, by a write of so many bytes or a revoke.
     fn admit(&self, home: u64, len: Option<usize>) -> Result<(), TouchFault>
         ensures ok { OnOk result (refusal_at self.now home len ≡ None) }
         ensures err { IfErr result (λ fault. refusal_at self.now home len ≡ Some fault) }
@@ -189,7 +189,7 @@ impl Changes {
         }
     }
 
-    // Puts a word on a home block for which it was admitted.
+    /// Puts a word on a home block for which it was admitted.
     fn put(&mut self, home: u64, word: Word) -> Result<(), TouchFault>
         requires kept { IsKept (put_at self.old home word) }
         ensures ok { OnOk result (self.new ≡ put_at self.old home word) }

@@ -96,7 +96,7 @@ impl Payload {
     }
 }
 
-// A slice of bytes holds bytes. It does nothing: the fact is its contract.
+/// A slice of bytes holds bytes. It does nothing: the fact is its contract.
 fn are_bytes(bytes: &[u8])
     ensures { AreBytes bytes.now }
 {

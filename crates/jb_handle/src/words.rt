@@ -134,7 +134,7 @@ impl Words {
     }
 }
 
-// Where the home block is in a list of rising homes, or where it would be inserted.
+/// Where the home block is in a list of rising homes, or where it would be inserted.
 fn place_of(entries: &[(u64, Word)], home: u64) -> Result<usize, usize>
     requires rising { T (map.is_sorted nat_cmp entries.now) }
     ensures { IsPlaced entries.now home result }

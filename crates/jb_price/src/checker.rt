@@ -46,7 +46,7 @@ pub fn check(
     }
 }
 
-// Checks the answer of a certificate whose prices no group undercuts.
+/// Checks the answer of a certificate whose prices no group undercuts.
 fn check_answer(
     alloc: Global,
     handles: &[Stopped],
@@ -69,7 +69,7 @@ fn check_answer(
     }
 }
 
-// Checks a claimed cut and its total against the last price.
+/// Checks a claimed cut and its total against the last price.
 fn check_cut(
     alloc: Global,
     handles: &[Stopped],

@@ -55,7 +55,7 @@ pub fn number(digits: &[u8]) -> Option<u64>
     digits_value(digits)
 }
 
-// The number that digits spell, leading zeros and all.
+/// The number that digits spell, leading zeros and all.
 fn digits_value(digits: &[u8]) -> Option<u64>
     ensures { result ≡ number_from 0 digits.now }
 {
@@ -69,7 +69,7 @@ fn digits_value(digits: &[u8]) -> Option<u64>
     Some(value)
 }
 
-// The number with one more digit after it.
+/// The number with one more digit after it.
 fn with_digit(value: u64, digit: u8) -> Option<u64>
     ensures { result ≡ with_digit_of value digit }
 {
