@@ -41,7 +41,7 @@ cert_fault (Syntax line) = Some (no_cert (codes "Syntax " ++ (decimal line ++ co
 cert_fault Length = Some (no_cert (codes "Length\n"))
 cert_fault Memory = None
 
--- the verdict on a certificate of the queue; where it is that the certificate is accepted, its answer is right
+-- the verdict on a certificate of the queue; where it is accepted, its answer is right
 pub record IsVerdictOn (q : Queue) (cert : Cert) (verdict : Verdict) : Type 0 where
   pub geometry : Geometry
   pub own : IsGeometryOf q geometry

@@ -25,7 +25,7 @@ IsChosen c limit ps (Cut bounds sum) = EachPiece (IsFirstToAttain c limit ps) bo
 IsChosen c limit ps NoCut = Unit {0}
 
 -- the best certificate of n handles: price i is the least total over the cuts of the first i of them that fit, and no cut
--- that fits beats its cut; or it says that none fits, and none does
+-- that fits takes fewer blocks than its cut; or it says that none fits, and none does
 pub record IsBest (c : ℕ → ℕ → ℕ) (limit n : ℕ) (cert : Cert) : Type 0 where
   pub prices : ArePrices c limit n cert.prices.items
   pub right : IsRight c limit n cert.answer

@@ -15,7 +15,7 @@ use std::alloc::Global;
 /// fault, status 1; or why the text is no certificate of the queue, status 2.
 ///
 /// # Errors
-/// `Memory` where a growth was refused.
+/// `Memory` where memory ran out.
 pub fn check_answer(alloc: Global, queue: &QueueText, claim: &[u8]) -> Result<Answer, Memory>
     requires { IsWithinSize queue.now.handles.items }
     ensures said { IfOk result (λ answer. SaysCheck (value_of queue.now) claim.now (said answer)) }

@@ -13,11 +13,11 @@ use jb_price::{Cert, CertAnswer, print_cert};
 use jb_queue::{QueueText, read_queue};
 use std::alloc::Global;
 
-/// What `jb plan` says of the bytes of a queue text: the text of a certificate whose cut no cut beats, status 0, or that
+/// What `jb plan` says of the bytes of a queue text: the text of a certificate with a least cut, status 0, or that
 /// says that none fits, status 1; or the text's first fault, status 2.
 ///
 /// # Errors
-/// `Memory` where a growth was refused.
+/// `Memory` where memory ran out.
 pub fn plan_answer(alloc: Global, text: &[u8]) -> Result<Answer, Memory>
     requires { length text.now < 2 ^ 63 }
     ensures said { IfOk result (λ answer. PlanSays text.now (said answer)) }

@@ -17,7 +17,7 @@ pub struct Board {
     ghost three_words: { table.shared.table_id.words ≡ 3 },
 }
 
-/// With what one thread steps on its board. It has no bytes: its view, the counts that it is sure of,
+/// What one thread uses to step on its board. It has no bytes: its view, the counts that it is sure of,
 /// exists in contracts only. A seat may be dropped, or given to another thread.
 #[derive(Drop)]
 pub struct BoardSeat {

@@ -1,4 +1,4 @@
--- Ends that rise, parted.
+-- Ends that rise, divided in two.
 use Rattle.std.specs.Prelude.{ℕ, ◌≤◌, List, take, drop}
 use Rattle.jb_cost.specs.Cut.{RisesTo}
 

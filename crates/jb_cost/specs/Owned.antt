@@ -1,4 +1,4 @@
--- Which handle touched each home last, and how many homes each handle owns so.
+-- Which handle touched each home last, and how many homes each handle owns by that.
 use Rattle.std.specs.Prelude.{◌≡◌, ℕ, ◌+◌, Bool, ◌&&◌, cond, nat_le, List, drop, slice_index_or, Option, Some, None}
 use Rattle.std.specs.List.{sum_by}
 use Rattle.std.specs.BTreeMap.{BTreeMap, values}

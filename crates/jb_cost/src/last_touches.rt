@@ -51,7 +51,7 @@ impl LastTouches {
     ///
     /// # Errors
     ///
-    /// `Memory` where there is none for a home block or for the handle. Nothing is said of the
+    /// `Memory` where there is none for a home block or for the handle. Nothing is promised of the
     /// touches then, and no other call of them is allowed.
     pub fn add(&mut self, handle: &Stopped, start: Option<u64>) -> Result<(), Memory>
         requires sound { IsSound self.old }
@@ -68,7 +68,7 @@ impl LastTouches {
 
     /// The best start of a group that ends with the last handle: of those with a price, from which
     /// the group takes at most `limit` log blocks, the one with the least sum of price and cost. Of
-    /// several that are as good it is the first.
+    /// several with the same sum it is the first.
     pub fn best(&mut self, limit: u32) -> Option<Found>
         requires sound { IsSound self.old }
         requires few { homes_of self.old ≤ 2 ^ 62 }

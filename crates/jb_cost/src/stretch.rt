@@ -19,7 +19,7 @@ impl Priced {
         }
     }
 
-    /// The one with the lesser price of two starts, the earlier one where they are as good.
+    /// The one with the lesser price of two starts, the earlier one where the prices are equal.
     pub(crate) fn lesser(earlier: Option<Priced>, later: Option<Priced>) -> Option<Priced>
         ensures { result ≡ lesser_of earlier later }
     {

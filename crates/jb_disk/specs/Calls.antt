@@ -1,4 +1,4 @@
--- The list of writes and syncs that a disk in memory keeps, as the steps of its life.
+-- The list of writes and syncs that a disk in memory keeps, as its history.
 use Rattle.std.specs.Prelude.{ℕ, List, map, reverse, Vec}
 use Rattle.std.specs.declared.alloc.Global.{Global}
 use Rattle.jb_disk.specs.Image.{Image}

@@ -4,7 +4,7 @@ use Rattle.jb_disk.specs.History.{History, IsSound, replay}
 use Rattle.jb_disk.specs.Calls.{steps_of, image_of}
 use Rattle.jb_disk.specs.declared.memory.MemoryDisk.TheInside.{Inside}
 
--- the life of the disk with these fields
+-- the history of the disk with these fields
 abbrev pub history_of : Inside → History
 history_of a = record {
   size = a.size;

@@ -44,8 +44,8 @@ impl FileDisk {
     }
 }
 
-/// What a file holds is in no contract: of its contents the clauses of a disk say nothing, since no
-/// code can have the fact that it is honest. Its size, its number of blocks and its faults are proved.
+/// No contract says what a file holds: the clauses of a disk say nothing of its contents, since no
+/// code can know that it is honest. Its size, its number of blocks and its faults are proved.
 impl Disk for FileDisk {
     ghost size = { λ f. bytes_of f.size };
 

@@ -65,7 +65,7 @@ impl MemoryDisk {
 
     /// The disk after a crash at this moment, in which nothing is pending. Of the sectors that have
     /// been written since the last sync the k-th, by place and then within the block, gets its
-    /// `choice[k]`-th version, counted round; number 0, and no number, is what it held at the sync. A disk
+    /// `choice[k]`-th version, modulo their number; 0, or no number, is what it held at the sync. A disk
     /// of no blocks takes no memory.
     pub fn crash(&self, choice: &[u32]) -> Result<MemoryDisk, Memory>
         ensures sound { IfOk result IsSound }

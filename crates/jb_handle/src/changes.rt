@@ -10,7 +10,7 @@ use jb_block::Memory;
 use std::alloc::Global;
 use std::marker::Model;
 
-/// Why a handle does not take a change. The handle is as it was.
+/// Why a handle refuses a change. The handle is as it was.
 #[derive(Clone, Copy, Debug, PartialEq, Eq)]
 pub enum TouchFault {
     /// The home block is new to the handle, and all of its credits, so many blocks, are used.
@@ -134,7 +134,7 @@ impl Changes {
         }
     }
 
-    /// The home block is to hold these bytes (`jbd2_journal_dirty_metadata`). It cancels a revoke of
+    /// The home block gets these bytes (`jbd2_journal_dirty_metadata`). It cancels a revoke of
     /// the block.
     ///
     /// # Errors

@@ -53,7 +53,7 @@ impl<S> Handle<S> {
         self.changes.touched()
     }
 
-    /// The seat that the handle was made with.
+    /// The seat that the handle was made for.
     pub fn seat(&self) -> &S
         ensures { result.now ≡ holder self.now }
     {
@@ -68,7 +68,7 @@ impl<S> Handle<S> {
         self.changes.words()
     }
 
-    /// The home block is to hold these bytes (`jbd2_journal_dirty_metadata`). It cancels a revoke of
+    /// The home block gets these bytes (`jbd2_journal_dirty_metadata`). It cancels a revoke of
     /// the block.
     ///
     /// # Errors

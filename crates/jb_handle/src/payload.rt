@@ -60,7 +60,7 @@ impl Payload {
         })
     }
 
-    /// What a payload holds are bytes. It does nothing: the fact is its contract.
+    /// The numbers of a payload are bytes. It does nothing: the fact is its contract.
     pub fn holds_bytes(&self)
         ensures { AreBytes self.now }
     {

@@ -83,7 +83,7 @@ impl Words {
         &self.entries
     }
 
-    /// What the copies hold are bytes. It does nothing: the fact is its contract.
+    /// The numbers of the copies are bytes. It does nothing: the fact is its contract.
     pub fn hold_bytes(&self)
         ensures { All EntryHasBytes (map.entries self.now) }
     {

@@ -16,7 +16,7 @@ pub record Leads (c : ℕ → ℕ → ℕ) (limit : ℕ) (ps : List (Option ℕ)
   pub fits : c s.from end ≤ limit
   pub sum : (p : ℕ) × (price ps s.from ≡ Some p) × (s.price ≡ p + c s.from end)
 
--- no start from low on is better, and none before its own is as good
+-- no start from low on has a smaller sum, and none before its own has the same
 pub record IsBest (c : ℕ → ℕ → ℕ) (limit : ℕ) (ps : List (Option ℕ)) (low end : ℕ) (s : Step) : Type 0 where
   pub leads : Leads c limit ps end s
   pub least : (i p : ℕ) → low ≤ i → i < end → c i end ≤ limit → price ps i ≡ Some p → s.price ≤ p + c i end

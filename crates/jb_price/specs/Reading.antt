@@ -23,7 +23,7 @@ cut_of NoCut = None
 abbrev pub claim_of : Cert → Claim
 claim_of cert = record { prices = cert.prices.items; cut = cut_of cert.answer }
 
--- the price that a word says
+-- the price that a word gives
 abbrev pub price_of : List ℕ → Option (Option ℕ)
 price_of word = if bytes_eq word (codes "none") then Some None else option_map Some (number_of word)
 
@@ -91,7 +91,7 @@ first_price line = option_and_then (λ text. first_of price_of (words text)) (be
 abbrev pub BeginsWithPrice : List ℕ → Type 0
 BeginsWithPrice text = IsSome (first_of first_price (lines text))
 
--- a fault is the first one of a text; out of memory says of it only that something grows
+-- a fault is the first one of a text; `Memory` says only that something is kept
 abbrev pub Refuses : {A : Type 0} → Type 0 → Result A CertFault → CertFault → Type 0
 Refuses grows read Memory = grows
 Refuses grows read fault = read ≡ Err fault

@@ -1,13 +1,13 @@
 /// What the check of a certificate says of it.
 #[derive(Clone, Copy, Debug, PartialEq, Eq)]
 pub enum Verdict {
-    /// The claimed cut is one that no cut beats, or no cut fits, as claimed.
+    /// The claimed cut takes the fewest log blocks, or no cut fits, as claimed.
     Accepted,
     /// The first fault of the certificate.
     Refused(Reason),
 }
 
-/// The faults of a certificate, in the order in which they are looked for. Bounds count handles.
+/// The faults of a certificate, in the order in which they are tested. Bounds count handles.
 #[derive(Clone, Copy, Debug, PartialEq, Eq)]
 pub enum Reason {
     /// The price of no handles is not 0.

@@ -37,7 +37,7 @@ pub struct QueueText {
 /// # Errors
 ///
 /// The first line that is not of the form, and what is wrong with it. `Memory` at a handle's line says that a
-/// growth was refused there, and that all lines before it are of the form.
+/// memory ran out there, and that all lines before it are of the form.
 pub fn read_queue(alloc: Global, text: &[u8]) -> Result<QueueText, QueueFault>
     ensures ok { IfOk result (λ queue. queue_of text.now ≡ Ok (value_of queue)) }
     ensures err { IfErr result (Reports (queue_of text.now)) }

@@ -3,7 +3,7 @@ use Rattle.std.specs.Prelude.{◌≡◌, ℕ, ◌<◌, ◌≤◌, ◌+◌, ◌-�
 use Rattle.std.specs.Char.{is_ascii_digit}
 use Rattle.std.specs.Str.{bytes_eq}
 
--- the ? of the logic: the second step, if the first gave a value
+-- the second step, if the first gave a value
 infixl 10 ◌>>=◌
 abbrev pub ◌>>=◌ : {A B E : Type 0} → Result A E → (A → Result B E) → Result B E
 Ok x >>= f = f x
@@ -29,7 +29,7 @@ unfoldable pub lines : List ℕ → List (List ℕ)
 lines [] = []
 lines (b ∷ bs) = if b == 10 then [] ∷ lines bs else grow b (lines bs)
 
--- the words of a text, parted by single spaces; an empty text is one empty word
+-- the words of a text, separated by single spaces; an empty text is one empty word
 unfoldable pub words : List ℕ → List (List ℕ)
 words [] = [] ∷ []
 words (b ∷ bs) = if b == 32 then [] ∷ words bs else grow b (words bs)
