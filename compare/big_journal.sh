@@ -1,6 +1,7 @@
 #!/bin/sh
-# big_journal.sh DIR [JB]: in DIR a file system of 256 MiB (blocks of 4,096 bytes) whose journal of 64 MiB is full of
-# committed transactions (a hundred copies each, a revoke of up to two homes of the one before, some escapes):
+# big_journal.sh DIR [JB [MIB [BS [REVOKED]]]]: in DIR a file system of 256 MiB (blocks of BS bytes, 4,096) whose journal of MIB
+# MiB (64) is full of committed transactions (a hundred copies each, a revoke of up to REVOKED homes of the one before, 2, some
+# escapes):
 #   big.img      the file system, whose journal is to be recovered
 #   big.journal  its journal as a file
 #   big.image    big.journal followed by big.img, which is what `jb recover` takes
@@ -10,19 +11,20 @@ set -eu
 here=$(cd "$(dirname "$0")" && pwd)
 dir=${1:?usage: big_journal.sh DIR [JB]}
 jb=${2:-}
+mib=${3:-64} bs=${4:-4096} revoked=${5:-2}
 if [ -n "$jb" ]; then jb=$(realpath "$(command -v "$jb")"); fi
 ref="python3 $here/jbref.py"
 mkdir -p "$dir"
 cd "$dir"
 if [ ! -f big.image ]; then
   rm -f big.img
-  mkfs.ext4 -q -b 4096 -O ^metadata_csum,^64bit -J size=64 -U 00010203-0405-0607-0809-0a0b0c0d0e0f \
-    -E nodiscard,lazy_itable_init=0 big.img 65536 >/dev/null
+  mkfs.ext4 -q -b $bs -O ^metadata_csum,^64bit -J size=$mib -U 00010203-0405-0607-0809-0a0b0c0d0e0f \
+    -E nodiscard,lazy_itable_init=0 big.img $((268435456 / bs)) >/dev/null
   printf 'jo\njw -r 30000\njc\n' | debugfs -w -f - big.img >/dev/null 2>&1
   debugfs -R "blocks <8>" big.img 2>/dev/null | tr ' ' '\n' | grep . >big.places
-  dumpe2fs big.img 2>/dev/null | grep '^  Free blocks: ' | sed 's/.*: //' | tr -d ' ' | tr ',' '\n' |
+  dumpe2fs big.img 2>/dev/null | grep '^  Free blocks: ' | sed 's/.*: //' | tr -d ' ' | tr ',' '\n' | grep . |
     while IFS=- read -r low high; do seq "$low" "${high:-$low}"; done >big.free
-  $ref big 4096 16384 big.free big.journal
+  $ref big $bs $((mib * 1048576 / bs)) big.free big.journal $revoked
   $ref put big.journal big.img big.places
   $ref image big.journal big.img big.image
   $ref dump big.journal >big.dump
