@@ -1,0 +1,5 @@
+//! Tests of the reader of a log.
+#![tactic(auto)]
+
+#[cfg(test)]
+mod logs;
