@@ -4,7 +4,7 @@
 use std::process::ExitCode;
 use std::{env, io};
 
-// The words after the program's name.
+/// The words after the program's name.
 fn words(rt: &HostRuntime) -> io::Result<Vec<String>> {
     Ok(env::args(rt)?.skip(1).collect(rt.alloc())?)
 }

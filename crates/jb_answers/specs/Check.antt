@@ -35,13 +35,13 @@ verdict_text (Refused reason) = record { status = 1; out = codes "refused " ++ r
 abbrev pub no_cert : List ℕ → Said
 no_cert cause = record { status = 2; out = []; err = codes "jb: certificate: " ++ cause }
 
--- what is said of such a text; none is one for want of memory
+-- what is said of such a text; none where memory ran out
 abbrev pub cert_fault : CertFault → Option Said
 cert_fault (Syntax line) = Some (no_cert (codes "Syntax " ++ (decimal line ++ codes "\n")))
 cert_fault Length = Some (no_cert (codes "Length\n"))
 cert_fault Memory = None
 
--- the verdict on a certificate of the queue; where it is that the certificate is accepted, its answer is right
+-- the verdict on a certificate of the queue; where it is accepted, its answer is right
 pub record IsVerdictOn (q : Queue) (cert : Cert) (verdict : Verdict) : Type 0 where
   pub geometry : Geometry
   pub own : IsGeometryOf q geometry

@@ -5,7 +5,7 @@ use Rattle.jb_queue.specs.declared.fault.Cause.TheVariants.{BlockSizeLine, Limit
 use Rattle.jb_queue.specs.declared.fault.QueueFault.{QueueFault}
 use Rattle.jb_answers.specs.Said.{Said}
 
--- the name of what is wrong with a line; no text is wrong for want of memory
+-- the name of what is wrong with a line; running out of memory is no fault of a text
 abbrev pub cause_name : Cause → Option (List ℕ)
 cause_name BlockSizeLine = Some (codes "BlockSizeLine")
 cause_name LimitLine = Some (codes "LimitLine")

@@ -19,19 +19,19 @@ use Rattle.jb_answers.specs.Said.{Said}
 abbrev pub IsGeometryOf : Queue → Geometry → Type 0
 IsGeometryOf q g = (g.t ≡ tags_of q) × (g.r ≡ entries_of q)
 
--- each bound of the cut but the first stands behind the least one that may come before it
+-- each bound of the cut but the first comes after the least one that can come before it
 abbrev pub IsChosen : (ℕ → ℕ → ℕ) → ℕ → List (Option ℕ) → CertAnswer → Type 0
 IsChosen c limit ps (Cut bounds sum) = EachPiece (IsFirstToAttain c limit ps) bounds.items
 IsChosen c limit ps NoCut = Unit {0}
 
 -- the best certificate of n handles: price i is the least total over the cuts of the first i of them that fit, and no cut
--- that fits beats its cut; or it says that none fits, and none does
+-- that fits takes fewer blocks than its cut; or it says that none fits, and none does
 pub record IsBest (c : ℕ → ℕ → ℕ) (limit n : ℕ) (cert : Cert) : Type 0 where
   pub prices : ArePrices c limit n cert.prices.items
   pub right : IsRight c limit n cert.answer
   pub chosen : IsChosen c limit cert.prices.items cert.answer
 
--- the answer of a certificate that tells this plan
+-- the answer of a certificate of this plan
 abbrev pub told_as : PlanAnswer → CertAnswer
 told_as (PlanCut bounds sum) = Cut bounds sum
 told_as NoPlan = NoCut

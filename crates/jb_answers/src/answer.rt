@@ -1,4 +1,4 @@
-/// What a command has to say: its exit status and the whole of what it writes.
+/// What a command answers: its exit status and all that it writes.
 #[derive(Debug, Drop)]
 pub struct Answer {
     /// The program's exit status.

@@ -15,7 +15,7 @@ use std::alloc::Global;
 /// fault, status 1; or why the text is no certificate of the queue, status 2.
 ///
 /// # Errors
-/// `Memory` where a growth was refused.
+/// `Memory` where memory ran out.
 pub fn check_answer(alloc: Global, queue: &QueueText, claim: &[u8]) -> Result<Answer, Memory>
     requires { IsWithinSize queue.now.handles.items }
     ensures said { IfOk result (λ answer. SaysCheck (value_of queue.now) claim.now (said answer)) }
@@ -29,7 +29,7 @@ pub fn check_answer(alloc: Global, queue: &QueueText, claim: &[u8]) -> Result<An
     }
 }
 
-// The verdict on a certificate of a queue.
+/// The verdict on a certificate of a queue.
 fn verdict_on(alloc: Global, queue: &QueueText, cert: &Cert) -> Result<Verdict, Memory>
     requires size { IsWithinSize queue.now.handles.items }
     requires number { length cert.now.prices.items ≡ length queue.now.handles.items + 1 }
@@ -39,7 +39,7 @@ fn verdict_on(alloc: Global, queue: &QueueText, cert: &Cert) -> Result<Verdict, 
     check(alloc, queue.handles.as_slice(), geometry, queue.limit, cert)
 }
 
-// The line of a verdict.
+/// The line of a verdict.
 fn verdict_told(alloc: Global, verdict: Verdict) -> Result<Answer, Memory>
     ensures said { IfOk result (λ answer. said answer ≡ verdict_text verdict) }
 {
@@ -69,7 +69,7 @@ fn verdict_told(alloc: Global, verdict: Verdict) -> Result<Answer, Memory>
     })
 }
 
-// The line for a text that is no certificate of the queue.
+/// The line for a text that is no certificate of the queue.
 fn cert_fault_told(alloc: Global, fault: CertFault) -> Result<Answer, Memory>
     ensures said { IfOk result (λ answer. cert_fault fault ≡ Some (said answer)) }
 {

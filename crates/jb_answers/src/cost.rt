@@ -13,7 +13,7 @@ use std::alloc::Global;
 /// they fit the text's limit, status 0, or not, status 1; or the text's first fault, status 2.
 ///
 /// # Errors
-/// `Memory` where a growth was refused.
+/// `Memory` where memory ran out.
 pub fn cost_answer(alloc: Global, text: &[u8]) -> Result<Answer, Memory>
     requires { length text.now < 2 ^ 63 }
     ensures said { IfOk result (λ answer. cost_said text.now ≡ Some (said answer)) }
@@ -28,7 +28,7 @@ pub fn cost_answer(alloc: Global, text: &[u8]) -> Result<Answer, Memory>
     }
 }
 
-// The line about a cost and a limit.
+/// The line about a cost and a limit.
 fn cost_told(alloc: Global, cost: u64, limit: u32) -> Result<Answer, Memory>
     ensures said { IfOk result (λ answer. said answer ≡ cost_line cost limit) }
 {

@@ -1,4 +1,4 @@
-//! What the commands of `jb` over texts say of them: values alone.
+//! What the commands of `jb` over texts answer, as values.
 #![tactic(auto)]
 
 mod answer;

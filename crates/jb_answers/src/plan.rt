@@ -13,11 +13,11 @@ use jb_price::{Cert, CertAnswer, print_cert};
 use jb_queue::{QueueText, read_queue};
 use std::alloc::Global;
 
-/// What `jb plan` says of the bytes of a queue text: the text of a certificate whose cut no cut beats, status 0, or that
+/// What `jb plan` says of the bytes of a queue text: the text of a certificate with a least cut, status 0, or that
 /// says that none fits, status 1; or the text's first fault, status 2.
 ///
 /// # Errors
-/// `Memory` where a growth was refused.
+/// `Memory` where memory ran out.
 pub fn plan_answer(alloc: Global, text: &[u8]) -> Result<Answer, Memory>
     requires { length text.now < 2 ^ 63 }
     ensures said { IfOk result (λ answer. PlanSays text.now (said answer)) }
@@ -28,7 +28,7 @@ pub fn plan_answer(alloc: Global, text: &[u8]) -> Result<Answer, Memory>
     }
 }
 
-// The text of a queue's best certificate.
+/// The text of a queue's best certificate.
 fn plan_told(alloc: Global, queue: &QueueText) -> Result<Answer, Memory>
     requires { IsWithinSize queue.now.handles.items }
     ensures said { IfOk result (λ answer. SaysPlan (Ok (value_of queue.now)) (said answer)) }
@@ -42,7 +42,7 @@ fn plan_told(alloc: Global, queue: &QueueText) -> Result<Answer, Memory>
     })
 }
 
-// The exit status of a certificate: 1 where it says that no cut fits.
+/// The exit status of a certificate: 1 where it says that no cut fits.
 fn status_of(answer: &CertAnswer) -> u8
     ensures { result ≡ status_of_plan answer.now }
 {
@@ -52,7 +52,7 @@ fn status_of(answer: &CertAnswer) -> u8
     }
 }
 
-// The best certificate of a queue.
+/// The best certificate of a queue.
 fn best_cert(alloc: Global, queue: &QueueText) -> Result<Cert, Memory>
     requires { IsWithinSize queue.now.handles.items }
     ensures best { IfOk result (IsBestOf (value_of queue.now)) }
@@ -62,7 +62,7 @@ fn best_cert(alloc: Global, queue: &QueueText) -> Result<Cert, Memory>
     Ok(cert_of(planned))
 }
 
-// The certificate of a plan.
+/// The certificate of a plan.
 fn cert_of(planned: Planned) -> Cert
     ensures prices { result.prices ≡ planned.prices }
     ensures answer { result.answer ≡ told_as planned.answer }

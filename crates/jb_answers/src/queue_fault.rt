@@ -10,7 +10,7 @@ use std::alloc::Global;
 /// What every command over a queue text says of its first fault, status 2.
 ///
 /// # Errors
-/// `Memory` where that is the fault, and where a growth was refused.
+/// `Memory` where that is the fault, and where memory ran out.
 pub fn fault_answer(alloc: Global, fault: QueueFault) -> Result<Answer, Memory>
     ensures said { IfOk result (λ answer. queue_fault fault ≡ Some (said answer)) }
 {

@@ -15,7 +15,7 @@ const MIDDLE: &str = "bs 1024\nlimit 5\nh w1 w2 w3 w4\nh w9\nh r1 r2 r3 r4\n";
 
 const ALONE: &str = "bs 1024\nlimit 3\nh w1 w2\n";
 
-// The text of a queue and of a certificate, and what `jb check` says of them.
+/// The text of a queue and of a certificate, and what `jb check` says of them.
 const CHECKS: &[(&str, &str, Told)] = &[
     (
         GROWING,
@@ -116,7 +116,7 @@ const CHECKS: &[(&str, &str, Told)] = &[
     ),
 ];
 
-// Whether just this is said of a certificate of a queue.
+/// Whether just this is said of a certificate of a queue.
 fn checks(alloc: Global, queue: &str, cert: &str, told: (u8, &str, &str)) -> Result<bool, Memory> {
     if queue.len() >= SHORT {
         return Ok(false);
@@ -136,7 +136,7 @@ fn each_check_answers_its_row(rt: HostRuntime) -> Result<(), Fail> {
     Ok(())
 }
 
-// The text of a queue, and the certificate that its plan is to print.
+/// The text of a queue, and the certificate that its plan is to print.
 const PLANS: &[(&str, &str)] = &[
     ("bs 1024\nlimit 8\n", "prices 0\ncut 0\ntotal 0\n"),
     ("bs 1024\nlimit 8\nh\n", "prices 0 1\ncut 0 1\ntotal 1\n"),
@@ -161,7 +161,7 @@ const PLANS: &[(&str, &str)] = &[
     ),
 ];
 
-// Whether the plan of this queue is this text, with this status, and the text is accepted.
+/// Whether the plan of this queue is this text, with this status, and the text is accepted.
 fn plans(alloc: Global, queue: &str, cert: &str, status: u8) -> Result<bool, Memory> {
     if queue.len() >= SHORT {
         return Ok(false);
@@ -171,7 +171,7 @@ fn plans(alloc: Global, queue: &str, cert: &str, status: u8) -> Result<bool, Mem
     Ok(is_told(&plan, (status, cert, "")) && is_accepted)
 }
 
-// Two thousand handles, each of a copy of one of seven home blocks in turn.
+/// Two thousand handles, each of a copy of one of seven home blocks in turn.
 fn seven_in_turn(alloc: Global, limit: u32) -> Result<String, AllocError> {
     let mut text = format!(in alloc; "bs 1024\nlimit {limit}\n")?;
     for handle in 0..2000 {
@@ -180,7 +180,7 @@ fn seven_in_turn(alloc: Global, limit: u32) -> Result<String, AllocError> {
     Ok(text)
 }
 
-// Their certificate where they fit together: a price of 9 from the seventh on, and one group.
+/// Their certificate where they fit together: a price of 9 from the seventh on, and one group.
 fn one_group(alloc: Global) -> Result<String, AllocError> {
     let mut text = String::from_str(alloc, "prices 0 3 4 5 6 7 8")?;
     for _handle in 7..=2000 {
@@ -190,7 +190,7 @@ fn one_group(alloc: Global) -> Result<String, AllocError> {
     Ok(text)
 }
 
-// Their certificate where no two of them fit: 3 blocks for each, and as many groups.
+/// Their certificate where no two of them fit: 3 blocks for each, and as many groups.
 fn groups_of_one(alloc: Global) -> Result<String, AllocError> {
     let (mut text, mut cut) = (String::from_str(alloc, "prices 0")?, String::new(alloc));
     for handle in 0u32..2000 {
@@ -201,7 +201,7 @@ fn groups_of_one(alloc: Global) -> Result<String, AllocError> {
     Ok(text)
 }
 
-// One handle of copies of 84 home blocks, after a line of this block size.
+/// One handle of copies of 84 home blocks, after a line of this block size.
 fn eighty_four(alloc: Global, size: &str) -> Result<String, AllocError> {
     let mut text = format!(in alloc; "bs {size}\nlimit 87\nh")?;
     for home in 0..84 {
@@ -210,7 +210,7 @@ fn eighty_four(alloc: Global, size: &str) -> Result<String, AllocError> {
     Ok(text)
 }
 
-// The certificate of a queue of one handle that takes so many blocks.
+/// The certificate of a queue of one handle that takes so many blocks.
 fn one_price(alloc: Global, price: u32) -> Result<String, AllocError> {
     format!(in alloc; "prices 0 {price}\ncut 0 1\ntotal {price}\n")
 }

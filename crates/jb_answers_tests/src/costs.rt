@@ -105,7 +105,7 @@ const ROWS: &[(&[u8], Told)] = &[
     ),
 ];
 
-// Whether just this is said of a text.
+/// Whether just this is said of a text.
 fn costs(alloc: Global, text: &[u8], told: Told) -> Result<bool, Memory> {
     Ok(text.len() < SHORT && is_told(&cost_answer(alloc, text)?, told))
 }
@@ -118,7 +118,7 @@ fn each_cost_is_that_of_its_row(rt: HostRuntime) -> Result<(), Fail> {
     Ok(())
 }
 
-// One handle of words with this letter on the home blocks below `count`, after a line of this block size.
+/// One handle of words with this letter on the home blocks below `count`, after a line of this block size.
 fn one_handle(alloc: Global, size: &str, letter: &str, count: u32) -> Result<String, AllocError> {
     let mut text = format!(in alloc; "bs {size}\nlimit 128\nh")?;
     for home in 0..count {

@@ -5,7 +5,7 @@ use jb_answers::Answer;
 /// Each text here has fewer bytes.
 pub const SHORT: usize = 1_000_000;
 
-/// What is to be said: a status, and the texts for standard output and for standard error.
+/// The expected answer: a status, and the texts for standard output and for standard error.
 pub type Told = (u8, &'static str, &'static str);
 
 /// Whether the answer has this status and just these two texts.

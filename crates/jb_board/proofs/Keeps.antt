@@ -10,11 +10,11 @@ use Rattle.jb_board.specs.Front.{front, InOrder, IsWithin}
 use Rattle.jb_board.specs.Rule.{words_of, IsKept}
 use Rattle.jb_board.specs.Steps.{saw_settled, saw_taken, saw_stopped, raised_settled, raised_taken, raised_stopped, SeesSettled, SeesTaken, SeesStopped, RaisesSettled, RaisesTaken, RaisesStopped}
 
--- the rule, as the table is told of it
+-- the rule, as the table has it
 abbrev pub Holds : State (Unit {0}) Front → Type 0
 Holds s = IsKept s.words s.views
 
--- what a step makes of the counts and of the seat's view, and what it tells
+-- what a step makes of the counts and of the seat's view, and what it answers
 record Goes (now : Front) (word : ℕ) (f : ℕ → ℕ) (told : ℕ → Front → Type 0) : Type 0 where
   next : Front
   view : Front

@@ -4,7 +4,7 @@ use Rattle.jb_board.specs.declared.front.Front.{Front}
 use Rattle.jb_board.specs.declared.board.Board.{Board}
 use Rattle.jb_board.specs.declared.board.BoardSeat.{BoardSeat}
 
--- what tells one board from every other
+-- the identity of a board
 abbrev pub BoardId : Type 0
 BoardId = TableId
 

@@ -1,4 +1,4 @@
--- The kinds of step on a board: what each does to the view of the seat that steps, and what it tells.
+-- The kinds of step on a board: what each does to the view of its seat, and what it answers.
 use Rattle.std.specs.Prelude.{◌≡◌, ℕ, ◌≤◌, max}
 use Rattle.atomic_table.specs.Table.{Me, Step}
 use Rattle.jb_board.specs.declared.front.Front.{Front}
@@ -26,7 +26,7 @@ raised_taken v count = front v.settled (max v.taken count) v.stopped
 abbrev pub raised_stopped : Front → ℕ → Front
 raised_stopped v count = front v.settled v.taken (max v.stopped count)
 
--- what a step tells: of the step, the seat before, the number found in the word, and the seat after
+-- the relation of a step: the step, the seat before, the number found in the word, and the seat after
 abbrev pub Told : Type 1
 Told = Step (Unit {0}) → Me (Unit {0}) Front → ℕ → Me (Unit {0}) Front → Type 0
 

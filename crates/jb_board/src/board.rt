@@ -17,8 +17,8 @@ pub struct Board {
     ghost three_words: { table.shared.table_id.words ≡ 3 },
 }
 
-/// With what one thread steps on its board. It has no bytes: its view, the counts that it is sure of,
-/// exists in contracts alone. A seat may be let go, or given to another thread.
+/// What one thread uses to step on its board. It has no bytes: its view, the counts that it is sure of,
+/// exists in contracts only. A seat may be dropped, or given to another thread.
 #[derive(Drop)]
 pub struct BoardSeat {
     seat: Seat<(), Front>,

@@ -63,7 +63,7 @@ impl Split<Front> for Same {
     ghost right = { λ v. v };
 }
 
-/// The seat that is kept keeps its view, and the other one is spent.
+/// The seat that is kept keeps its view, and the other one is used up.
 pub struct Kept;
 
 impl Join<Front> for Kept {

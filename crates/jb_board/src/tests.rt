@@ -2,7 +2,7 @@ use crate::{Board, Front};
 use std::test::Fail;
 use std::thread;
 
-// These counts.
+/// These counts.
 fn counts(settled: u64, taken: u64, stopped: u64) -> Front {
     Front {
         settled,
@@ -29,8 +29,8 @@ fn a_second_seat_sees_what_the_first_raised(rt: HostRuntime) -> Result<(), Fail>
     Ok(())
 }
 
-// How many of `rounds` looks, each after a ticket was stopped, taken and settled, gave counts that are
-// out of order or below those of the look before.
+/// How many of `rounds` looks, each after a ticket was stopped, taken and settled, gave counts that are
+/// out of order or below those of the look before.
 fn faults(board: &Board, rounds: u64) -> u64 {
     let mut seat = board.enter();
     let mut last = board.look(&mut seat);

@@ -1,4 +1,4 @@
--- What an accepted event tells of the machine.
+-- What an accepted event shows of the machine.
 use Rattle.std.proofs.Common.{◌≡◌, ℕ, Bool, true, false, not, ◌==◌, List, [], ◌∷◌, length, ◌||◌, Option, Some, None, is_some, is_none, sym, refl, ap, ◌∙◌, ◌≤◌, arith}
 use Rattle.std.proofs.lemmas.Bool.Decides.{nat_tests}
 use Rattle.std.specs.Option.{unwrap_or}

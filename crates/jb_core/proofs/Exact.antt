@@ -11,7 +11,7 @@ use Rattle.jb_cost.proofs.Cuts.{rises-le}
 use Rattle.jb_core.specs.Exactly.{CostsExactly, GoesOn}
 
 module _ (c : ℕ → ℕ → ℕ) (limit n : ℕ) where
-  -- a cut is judged by what is behind its first bound
+  -- a cut is judged by what is after its first bound
   pub begins-to : (blocks a : ℕ) (bs : List ℕ) → CostsExactly c limit n blocks (a ∷ bs) → (a ≡ 0) × GoesOn c limit n 0 blocks bs
   begins-to blocks a bs whole = (whole.0.cut.0, subst (λ x. GoesOn c limit n x blocks bs) whole.0.cut.0 record { rises = whole.0.cut.1; fits = whole.0.fits; sum = whole.1 })
 
@@ -53,7 +53,7 @@ module _ (c : ℕ → ℕ → ℕ) (limit n : ℕ) where
     least = λ other fitting. let low = least.least other fitting in let sum = whole.1 in omega arith;
   }
 
--- the ends from a place on are the one there and those behind it
+-- the ends from a place on are the one there and those after it
 pub ends-at : (ends : List ℕ) (i : ℕ) → i < length ends → drop i ends ≡ get_or ends i 0 ∷ drop (i + 1) ends
 ends-at ends i there = drop-cons ends i 0 there ∙ ap (λ k. get_or ends i 0 ∷ drop k ends) (let same : suc i ≡ i + 1 = omega arith in same)
 

@@ -33,7 +33,7 @@ module _ (ends : List ℕ) (s m t n end : ℕ) (first : RisesTo m 0 (take s ends
     pub taken-pieces : pieces_from end (drop (s + n) ends) xs ≡ drop n (pieces_from m (drop s ends) xs)
     taken-pieces = ap (λ es. pieces_from end es xs) (sym (drop-drop n s ends)) ∙ sym (drop-pieces n end m (drop s ends) xs parts.first)
 
-    -- as many handles as lie between the two ends
+    -- as many handles as there are between the two ends
     pub settled-count : t ≤ length xs → length (joined (take n (pieces_from m (drop s ends) xs))) ≡ end - m
     settled-count inside =
         let whole = ap length (joined-pieces end m (take n (drop s ends)) xs parts.first) in
@@ -44,7 +44,7 @@ module _ (ends : List ℕ) (s m t n end : ℕ) (first : RisesTo m 0 (take s ends
         let low = parts.low in
         ap (λ ps. length (joined ps)) (take-pieces n m (drop s ends) xs) ∙ (let same : length (joined (pieces_from m (take n (drop s ends)) xs)) ≡ end - m = omega arith in same)
 
--- the numbers behind m, once those up to end are gone
+-- the numbers after m, once those up to end are taken away
 pub drop-between : {A : Type 0} (m end k : ℕ) (xs : List A) → m ≤ end → k ≡ end - m → drop end xs ≡ drop k (drop m xs)
 drop-between m end k xs low is = ap (λ n. drop n xs) (let same : end ≡ m + k = omega arith in same) ∙ sym (drop-drop k m xs)
 
@@ -159,7 +159,7 @@ rises-below n a [] rises k d there = absurd (let h : ⊥ = omega arith in h)
 rises-below n a (b ∷ bs) rises zero d there = rises-le n b bs rises.1
 rises-below n a (b ∷ bs) rises (suc k) d there = rises-below n b bs rises.1 k d (omega arith)
 
--- the ends of a cut, behind its opening 0
+-- the ends of a cut, after its opening 0
 pub cut-rises : (n : ℕ) (bounds : List ℕ) → IsCut n bounds → RisesTo n 0 (drop 1 bounds)
 cut-rises n [] cut = absurd cut
 cut-rises n (a ∷ bs) cut = subst (λ x. RisesTo n x bs) cut.0 cut.1

@@ -75,6 +75,6 @@ sounds shape [] m start = started shape m start
 sounds shape ((e, Ok reply) ∷ earlier) m (before, ran, step) = subst IsSound (sym step.2) (after-sound before (sounds shape earlier before ran) e step.0 step.1)
 sounds shape ((e, Err fault) ∷ earlier) m (before, ran, step) = subst IsSound (sym step.1) (sounds shape earlier before ran)
 
--- how a state is kept, said of the machine that it stands for
+-- how a state is kept, said of its machine
 pub kept-by : (t : Inside) (m : Machine) → machine_of t ≡ m → IsSound m → t.reserved ≡ reserved m → IsOrdered nat_cmp t.handles → IsStateKept t
 kept-by t m is sound counted ordered = record { sound = subst IsSound (sym is) sound; counted = counted ∙ ap reserved (sym is); ordered = ordered }

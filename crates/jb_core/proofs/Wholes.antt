@@ -27,7 +27,7 @@ use Rattle.jb_core.proofs.Accepted.{found-none, found-some, first-false, opens, 
 use Rattle.jb_core.proofs.Groups.{more-settled, parts-joined}
 use Rattle.jb_core.proofs.Seats.{seat-self, Once, AreBy, once-insert, once-set, once-remove, by-same, by-found, by-remove, by-insert, by-set}
 
--- how a machine stands to its log between two events
+-- how a machine agrees with its log between two events
 record Stands (log : Log) (m : Machine) : Type 0 where
   handles : AreBy log m.handles
   once : Once m.handles

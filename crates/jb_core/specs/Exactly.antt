@@ -6,7 +6,7 @@ use Rattle.jb_cost.specs.Cut.{RisesTo, EachFrom, total_from, total, FitsCut}
 abbrev pub CostsExactly : (ℕ → ℕ → ℕ) → ℕ → ℕ → ℕ → List ℕ → Type 0
 CostsExactly c limit n blocks bounds = FitsCut c limit n bounds × (total c bounds ≡ blocks)
 
--- the same of the bounds behind a
+-- the same of the bounds after a
 pub record GoesOn (c : ℕ → ℕ → ℕ) (limit n a blocks : ℕ) (bounds : List ℕ) : Type 0 where
   pub rises : RisesTo n a bounds
   pub fits : EachFrom (λ i j. c i j ≤ limit) a bounds

@@ -1,4 +1,4 @@
--- The lives of a machine, by its events and answers alone, and how the machine stands to them.
+-- The lives of a machine, by its events and answers alone, and how the machine agrees with them.
 use Rattle.std.specs.Prelude.{◌≡◌, ℕ, Bool, true, false, cond, List, [], ◌∷◌, ◌++◌, map, take, drop, Result, Ok, Err}
 use Rattle.std.specs.Ordering.{nat_cmp}
 use Rattle.std.specs.BTreeMap.{is_at}

@@ -24,7 +24,7 @@ pub record IsStart (shape : Shape) (m : Machine) : Type 0 where
   pub next : m.next ≡ 0
   pub credits : m.credits ≡ []
 
--- the machine has come from its start by these events, with these answers; the newest stand first
+-- these events, with these answers, lead from the machine's start to it; the newest is first
 abbrev pub Ran : Shape → Log → Machine → Type 0
 Ran shape [] m = IsStart shape m
 Ran shape (last ∷ earlier) m = (before : Machine) × Ran shape earlier before × Steps last.0 before last.1 m

@@ -14,7 +14,7 @@ line_of s = record {
   room = nat_lt (vec_len s.handles) (vec_capacity s.handles) && nat_lt (vec_len s.granted) (vec_capacity s.granted);
 }
 
--- the ends rise, those of the settled groups first, and lie within the handles, each of which has its credits
+-- the ends rise, those of the settled groups first, and are within the handles, each of which has its credits
 pub record IsInLine (s : Inside) : Type 0 where
   pub counted : s.settled ≤ length s.ends.items
   pub settled : RisesTo s.settled_end 0 (take s.settled s.ends.items)

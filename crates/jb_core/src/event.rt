@@ -42,7 +42,7 @@ pub enum Event {
     },
     /// The oldest settled group that is not counted yet is written home.
     Checkpoint,
-    /// The machine stops where it stands: some taken groups were committed, and all that is not
+    /// The machine stops: some taken groups were committed, and all that is not
     /// settled is lost.
     Crash {
         /// How many groups were committed.

@@ -30,8 +30,8 @@ pub fn is_least(
     }
 }
 
-// Whether the bounds are a cut of the handles into groups within the limit that takes so many log
-// blocks.
+/// Whether the bounds are a cut of the handles into groups within the limit that takes so many log
+/// blocks.
 fn costs_exactly(
     alloc: Global,
     handles: &[Stopped],
@@ -52,8 +52,8 @@ fn costs_exactly(
     goes_on(alloc, handles, ends, geometry, limit, blocks)
 }
 
-// The same of the bounds behind the first one. What is left of the blocks goes down, so that no sum
-// can pass 64 bits.
+/// The same of the bounds after the first one. The blocks that are left go down, so that no sum
+/// can pass 64 bits.
 fn goes_on(
     alloc: Global,
     handles: &[Stopped],

@@ -10,10 +10,10 @@ use std::alloc::Global;
 use std::collections::BTreeMap;
 use std::marker::Model;
 
-// The most credits that all handles together may reserve: as many log blocks as a journal can have.
+/// The most credits that all handles together may reserve: as many log blocks as a journal can have.
 const MOST_RESERVED: u64 = 2147483646;
 
-// The most tickets of a life.
+/// The most tickets of a life.
 const MOST_TICKETS: u64 = 1 << 61;
 
 /// A machine of handles: the open ones by their seats, and those that have stopped, in their order.
@@ -28,7 +28,7 @@ pub struct State {
     earlier: usize,
     checkpointed: usize,
     next: u64,
-    // the credits of the open, the queued and the taken handles
+    /// The credits of the open, the queued and the taken handles.
     reserved: u64,
     alloc: Global,
 }
@@ -144,7 +144,7 @@ impl State {
         }
     }
 
-    // Whether there is no room for so many credits more, or no ticket left.
+    /// Whether there is no room for so many credits more, or no ticket left.
     fn is_full(&self, credits: u32) -> bool
         ensures { result ≡ is_full self.now credits }
     {

@@ -13,13 +13,13 @@ use std::marker::Model;
 #[derive(Drop)]
 pub struct Stops {
     handles: Vec<Stopped>,
-    // the credits of each handle
+    /// The credits of each handle.
     granted: Vec<u32>,
-    // where each group ends, counted in handles
+    /// Where each group ends, counted in handles.
     ends: Vec<usize>,
-    // where the last group ends
+    /// Where the last group ends.
     taken_end: usize,
-    // how many groups are settled, and where the last of these ends
+    /// How many groups are settled, and where the last of these ends.
     settled: usize,
     settled_end: usize,
 }
@@ -145,7 +145,7 @@ impl Stops {
         self.drop_rest();
     }
 
-    // Drops all handles that are not settled.
+    /// Drops all handles that are not settled.
     fn drop_rest(&mut self)
         ensures settled { self.new.settled ≡ self.old.settled }
         ensures lost { (self.new.taken ≡ []) × (self.new.queue ≡ []) × (self.new.credits ≡ []) }
@@ -157,7 +157,7 @@ impl Stops {
     }
 }
 
-// The handles from one place up to, but without, another.
+/// The handles from one place up to, but without, another.
 fn part(handles: &[Stopped], from: usize, to: usize) -> &[Stopped]
     requires { (from ≤ to) × (to ≤ length handles.now) }
     ensures { result.now ≡ slice_range handles.now from to }

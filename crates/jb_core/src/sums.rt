@@ -26,7 +26,7 @@ pub fn end_after(ends: &[usize], from: usize, start: usize, n: usize) -> usize
     if n == 0 { start } else { ends[from + n - 1] }
 }
 
-/// Puts ends, counted from `base`, behind others.
+/// Appends ends, counted from `base`, to others.
 pub fn push_ends(ends: &mut Vec<usize>, base: usize, more: &[usize]) -> Result<(), Memory>
     requires { All (λ end. base + end < 2 ^ 64) more.now }
     ensures ok { OnOk result (ends.new.items ≡ ends.old.items ++ map (λ end. base + end) more.now) }

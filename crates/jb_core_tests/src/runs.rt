@@ -6,7 +6,7 @@ use jb_handle::{Op, Payload, Shape};
 use std::alloc::{AllocError, Global};
 use std::test::Fail;
 
-// What happens in a step: a write is of so many zeros to a home block.
+/// What happens in a step: a write is of so many zeros to a home block.
 #[derive(Clone, Copy)]
 enum Step {
     Open(u64, u32),
@@ -24,8 +24,8 @@ type Answer = Result<Reply, CoreFault>;
 
 const DONE: Answer = Ok(Reply::Plain);
 
-// The most log blocks of a group; the steps, with the answer to each; and what is left: the settled groups, those of
-// them that earlier lives settled, the taken groups, the queued handles, and the handles of the first group.
+/// The most log blocks of a group; the steps, with the answer to each; and what is left: the settled groups, those of
+/// them that earlier lives settled, the taken groups, the queued handles, and the handles of the first group.
 type Row = (u32, &'static [(Step, Answer)], [usize; 5]);
 
 const ROWS: [Row; 6] = [
@@ -110,7 +110,7 @@ const ROWS: [Row; 6] = [
     ),
 ];
 
-// A small journal whose groups take at most so many log blocks.
+/// A small journal whose groups take at most so many log blocks.
 fn shape(limit: u32) -> Option<Shape> {
     if limit < 3 {
         return None;
@@ -145,7 +145,7 @@ fn event(alloc: Global, step: Step) -> Result<Event, AllocError> {
     })
 }
 
-// What is left, as a row says it.
+/// What is left, as a row says it.
 fn left(state: &State) -> [usize; 5] {
     let first = state.group(0).map_or(0, |handles| handles.len());
     [

@@ -28,7 +28,7 @@ cost-few g hs = omega (arith, few hs, ceil-self (set.len (copies hs)) g.t g.tags
 pub worst-bounds : (g : Geometry) (c f credits : ℕ) → c + f ≤ credits → blocks_of g c f ≤ worst_cost_of g credits
 worst-bounds g c f credits within = omega (arith, ceil-mono c credits g.t g.tags (omega arith), ceil-self f g.r g.entries)
 
--- a handle and those behind it are no heavier than the whole list
+-- a handle and those after it are no heavier than the whole list
 pub weight-from : (hs : List Stopped) (s : ℕ) (h : Stopped) → h ≡ get_or hs s h → s < length hs → weight (h ∷ drop (suc s) hs) ≤ weight hs
 weight-from hs s h here inside =
     let whole : drop s hs ≡ h ∷ drop (suc s) hs = drop-cons hs s h inside ∙ ap (λ x. x ∷ drop (suc s) hs) (sym here) in

@@ -2,7 +2,7 @@
 use Rattle.std.proofs.Common.{◌≡◌, ℕ, ◌+◌, ◌<◌, ◌≤◌, List, [], ◌∷◌, ◌++◌, sym, subst, ap, ◌∙◌, refl, arith}
 use Rattle.jb_cost.specs.Cut.{RisesTo, EachFrom, total_from, IsReached}
 
--- a rising list doesn't pass its end
+-- a rising list does not pass its end
 pub rises-le : (n a : ℕ) (bs : List ℕ) → RisesTo n a bs → a ≤ n
 rises-le n a [] same = omega (arith, same)
 rises-le n a (b ∷ bs) rises = let rest : b ≤ n = rises-le n b bs rises.1 in omega (arith, rises.0)

@@ -54,7 +54,7 @@ module _ {A : Type 0} where
   joined-append [] yss = refl
   joined-append (xs ∷ xss) yss = ap (λ zs. xs ++ zs) (joined-append xss yss) ∙ sym (append_assoc xs (joined xss) (joined yss))
 
-  -- behind the first lists stand the others
+  -- after the first lists come the others
   pub drop-joined : (n : ℕ) (xss : List (List A)) (ys : List A) → drop (length (joined (take n xss))) (joined xss ++ ys) ≡ joined (drop n xss) ++ ys
   drop-joined zero xss ys = refl
   drop-joined (suc n) [] ys = refl

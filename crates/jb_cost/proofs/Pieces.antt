@@ -16,7 +16,7 @@ piece-left hs d i j before within =
     let e : j - i ≡ suc (j - (i + 1)) = omega arith in
     rw (drop-cons hs i d, e, add-one) refl
 
--- the same, from the bound behind the handle
+-- the same, from the bound after the handle
 pub piece-before : (hs : List Stopped) (h : Stopped) (k j : ℕ) → 0 < k → k ≤ j → j ≤ length hs → h ≡ get_or hs (k - 1) h → slice_range hs (k - 1) j ≡ h ∷ slice_range hs k j
 piece-before hs h k j positive before within is =
     let e : k - 1 + 1 ≡ k = omega arith in

@@ -132,7 +132,7 @@ module _ (c : ℕ → ℕ) (limit : ℕ) (ps : List (Option ℕ)) where
         first = λ i p _ below fits is. tried.first i p (late i fits) below fits is;
       }
 
--- the same by another way to tell the costs
+-- the same by another way to compute the costs
 pub best-same : (c d : ℕ → ℕ) (limit : ℕ) (ps : List (Option ℕ)) (end : ℕ) → ((i : ℕ) → i < end → c i ≡ d i) → (best : Option Found) → BestStart c limit ps 0 end best → BestStart d limit ps 0 end best
 best-same c d limit ps end same None tried = λ i p above below fits is. tried i p above below (omega (arith, fits, same i below)) is
 best-same c d limit ps end same (Some s) tried =

@@ -18,7 +18,7 @@ module _ (g : Geometry) (hs : List Stopped) (h : Stopped) (k j : ℕ) (positive 
       let most = weight-part hs (k - 1) j (omega arith) in
       has-room g (slice_range hs k j) footprint covers h (omega (arith, small))
 
-  -- with this handle it is the footprint of the piece that begins there, and what it tells is the piece's cost
+  -- with this handle it is the footprint of the piece that begins there, and what it answers is the piece's cost
   pub stepped-left : (footprint : Covered) (blocks : ℕ) → (footprint ≡ covered_by g (h ∷ slice_range hs k j)) × (blocks ≡ cost g (h ∷ slice_range hs k j)) → (footprint ≡ covered_by g (slice_range hs (k - 1) j)) × (blocks ≡ piece_cost g hs (k - 1) j)
   stepped-left footprint blocks added =
       let front = sym (piece-before hs h k j positive before within is) in

@@ -76,7 +76,7 @@ idle-copies os i k before within idle = idle-same copies_of os (λ o none. none.
 pub idle-frees : (os : List Owned) (i k : ℕ) → i ≤ k → k ≤ length os → AreIdle os i k → owned_from frees_of os i ≡ owned_from frees_of os k
 idle-frees os i k before within idle = idle-same frees_of os (λ o none. none.1) (k - i) i k (omega arith) within idle
 
--- a stretch in the place of another
+-- a stretch in place of another
 module _ (os : List Owned) (ss : List Stretch) (start : ℕ) (s : Stretch) (there : start < length ss) where
   pub set-back : GoBack os ss → s.from ≤ start → AreIdle os s.from start → GoBack os (set ss start s)
   set-back back before idle k below = elim (cases_eq k start) [

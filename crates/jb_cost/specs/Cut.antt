@@ -1,4 +1,4 @@
--- Cuts of a list of handles into groups, the cuts that no other beats, and the prices that show it.
+-- Cuts of a list of handles into groups, the cuts with the least total, and the prices that show it.
 -- Here `c i j` is what the handles from i up to, but without, j cost as one group, and `limit` is the most that a group may cost.
 use Rattle.std.specs.Prelude.{◌≡◌, ℕ, ◌+◌, ◌<◌, ◌≤◌, List, [], ◌∷◌, length, Option, Some, None, slice_index_or, slice_range}
 use Rattle.jb_handle.specs.declared.stopped.Stopped.{Stopped}
@@ -68,7 +68,7 @@ module _ (c : ℕ → ℕ → ℕ) (limit : ℕ) where
     pub number : length ps ≡ n + 1
     pub each : (i : ℕ) → i ≤ n → IsPrice i (price ps i)
 
-  -- prices that no piece undercuts: nothing costs nothing, and no piece within the limit leads from a price to a smaller one
+  -- prices that no piece undercuts: that of no handles is 0, and none within the limit leads to less than the price of its end
   pub record Hold (n : ℕ) (ps : List (Option ℕ)) : Type 0 where
     pub start : price ps 0 ≡ Some 0
     pub step : (i j p : ℕ) → i < j → j ≤ n → price ps i ≡ Some p → c i j ≤ limit → (q : ℕ) × (price ps j ≡ Some q) × (q ≤ p + c i j)

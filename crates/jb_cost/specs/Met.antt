@@ -1,4 +1,4 @@
--- Homes that are met again.
+-- Homes that are new to a set, by their words.
 use Rattle.std.specs.Prelude.{ℕ, Bool, not, ◌&&◌, List, Option, Some, None}
 use Rattle.std.specs.List.{count_by}
 use Rattle.std.specs.Ordering.{nat_cmp}

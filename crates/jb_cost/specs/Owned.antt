@@ -1,4 +1,4 @@
--- Which handle touched each home last, and how many homes each handle owns so.
+-- Which handle touched each home last, and how many homes each handle owns by that.
 use Rattle.std.specs.Prelude.{◌≡◌, ℕ, ◌+◌, Bool, ◌&&◌, cond, nat_le, List, drop, slice_index_or, Option, Some, None}
 use Rattle.std.specs.List.{sum_by}
 use Rattle.std.specs.BTreeMap.{BTreeMap, values}
@@ -32,7 +32,7 @@ frees_of o = o.frees
 abbrev pub owned_cost : Geometry → List Owned → ℕ → ℕ
 owned_cost g os i = blocks_of g (owned_from copies_of os i) (owned_from frees_of os i)
 
--- whether a touch is one of the handles from i on, and of a kind: the kind is told whether it left a copy
+-- whether a touch is one of the handles from i on, and of a kind: the kind is a test of whether it left a copy
 abbrev pub is_since : (Bool → Bool) → ℕ → Touch → Bool
 is_since kind i t = nat_le i t.handle && kind t.copy
 

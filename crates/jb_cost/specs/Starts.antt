@@ -13,13 +13,13 @@ abbrev pub priced_of : ℕ → Option ℕ → Option Priced
 priced_of from None = None
 priced_of from (Some p) = Some (record { from = from; price = p })
 
--- the one with the lesser price, the earlier one where they are as good
+-- the one with the lesser price, the earlier one where the prices are equal
 abbrev pub lesser_of : Option Priced → Option Priced → Option Priced
 lesser_of None later = later
 lesser_of (Some first) None = Some first
 lesser_of (Some first) (Some later) = if nat_lt later.price first.price then Some later else Some first
 
--- the better of the best start so far and an earlier one, whose group costs so much; the earlier one where they are as good
+-- the better of the best start so far and an earlier one, whose group costs so much; the earlier one where they are equal
 abbrev pub better_of : Option Found → Option Priced → ℕ → Option Found
 better_of best None cost = best
 better_of None (Some s) cost = Some (record { from = s.from; price = s.price; cost = cost })
@@ -40,7 +40,7 @@ module _ (ps : List (Option ℕ)) (low high : ℕ) where
   LeastPrice (Some s) = IsLeastPrice s
 
 module _ (c : ℕ → ℕ) (limit : ℕ) (ps : List (Option ℕ)) (low end : ℕ) where
-  -- the group from this start fits, no start from low on is better, and none before it is as good
+  -- the group from this start fits, no start from low on has a smaller sum, and none before it has the same
   pub record IsBestStart (s : Found) : Type 0 where
     pub before : s.from < end
     pub fits : c s.from ≤ limit

@@ -7,8 +7,8 @@ use crate::geometry::Geometry;
 use crate::owned::Owned;
 use crate::stretch::{Priced, Stretch};
 
-// The best start of a group that ends with the last handle. It goes leftwards over the handles that
-// own a home: with each of them a group costs more, so the first one over the limit ends the search.
+/// The best start of a group that ends with the last handle. It goes leftwards over the handles that
+/// own a home: with each of them a group costs more, so the first one over the limit ends the search.
 pub(crate) fn best_start(
     geometry: Geometry,
     owned: &[Owned],
@@ -40,8 +40,8 @@ pub(crate) fn best_start(
     best
 }
 
-// The stretch that ends with a handle, with those before it that have become idle. Each of these is
-// passed over for good once it is joined.
+/// The stretch that ends with a handle, with those before it that have become idle. Each of these is
+/// passed over for good once it is joined.
 fn joined(owned: &[Owned], stretches: &[Stretch], start: usize) -> Stretch
     requires number { length stretches.now ≡ length owned.now }
     requires inside { start < length owned.now }
@@ -61,7 +61,7 @@ fn joined(owned: &[Owned], stretches: &[Stretch], start: usize) -> Stretch
     joined
 }
 
-// Whether there is a handle before this one, and it owns nothing.
+/// Whether there is a handle before this one, and it owns nothing.
 fn is_idle_before(owned: &[Owned], handle: usize) -> bool
     requires { handle ≤ length owned.now }
     ensures { IsTrue result ↔ ((0 < handle) × IsIdle (owned_at owned.now (handle - 1))) }

@@ -20,7 +20,7 @@ use std::marker::Model;
 pub struct Footprint {
     geometry: Geometry,
     homes: BTreeSet<u64>,
-    // the homes of the handle in hand that no handle behind it touches
+    /// The homes of the new handle that no handle after it touches.
     fresh: Vec<u64>,
     copies: u64,
     frees: u64,

@@ -15,8 +15,8 @@ impl Found {
     ghost use Rattle.std.specs.Prelude.{◌≡◌, ◌+◌};
     ghost use Rattle.jb_cost.specs.Starts.{better_of};
 
-    // The better of the best start so far and an earlier one, whose group costs so much; the earlier
-    // one where they are as good.
+    /// The better of the best start so far and an earlier one, whose group costs so much; the earlier
+    /// one where they are equal.
     pub(crate) fn better(best: Option<Found>, earlier: Option<Priced>, cost: u64) -> Option<Found>
         ensures { result ≡ better_of best earlier cost }
     {

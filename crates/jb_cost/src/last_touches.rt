@@ -10,7 +10,7 @@ use std::alloc::Global;
 use std::collections::BTreeMap;
 
 /// Which handle of a queue touched each home block last. It grows to the right, a handle at a time,
-/// and tells for each end where a last group begins best.
+/// and finds for each end the best start of a last group.
 ///
 /// In a group that ends with the last handle a home block counts by the handle that touched it last,
 /// if that handle is in the group. So what a group costs changes only at the handles that own a home
@@ -19,9 +19,9 @@ use std::collections::BTreeMap;
 pub struct LastTouches {
     geometry: Geometry,
     last: BTreeMap<u64, Touch>,
-    // by handle
+    /// What each handle owns.
     owned: Vec<Owned>,
-    // by handle: the starts that cost as much as the one with this handle
+    /// For each handle the starts that cost as much as the one with it.
     stretches: Vec<Stretch>,
 }
 
@@ -46,12 +46,12 @@ impl LastTouches {
         }
     }
 
-    /// Puts the next handle of the queue behind the ones that are there. `start` is the price of a
+    /// Adds the next handle of the queue. `start` is the price of a
     /// group that begins with it: the log blocks of the handles before it, if they fit.
     ///
     /// # Errors
     ///
-    /// `Memory` where there is none for a home block or for the handle. Nothing is said of the
+    /// `Memory` where there is none for a home block or for the handle. Nothing is promised of the
     /// touches then, and no other call of them is allowed.
     pub fn add(&mut self, handle: &Stopped, start: Option<u64>) -> Result<(), Memory>
         requires sound { IsSound self.old }
@@ -68,7 +68,7 @@ impl LastTouches {
 
     /// The best start of a group that ends with the last handle: of those with a price, from which
     /// the group takes at most `limit` log blocks, the one with the least sum of price and cost. Of
-    /// several that are as good it is the first.
+    /// several with the same sum it is the first.
     pub fn best(&mut self, limit: u32) -> Option<Found>
         requires sound { IsSound self.old }
         requires few { homes_of self.old ≤ 2 ^ 62 }

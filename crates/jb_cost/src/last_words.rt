@@ -11,7 +11,7 @@ use jb_handle::{Word, Words};
 use std::alloc::Global;
 use std::collections::BTreeSet;
 
-// The homes by their last word.
+/// The homes by their last word.
 #[derive(Drop)]
 pub(crate) struct LastWords {
     pub(crate) copies: BTreeSet<u64>,
@@ -29,7 +29,7 @@ impl LastWords {
         }
     }
 
-    // Puts the words of a further handle.
+    /// Puts the words of a further handle.
     pub(crate) fn put_all(&mut self, words: &Words) -> Result<(), Memory>
         ensures grows { OnErr result (0 < map.len words.now) }
         ensures copies { OnOk result ((q : ℕ) → contains nat_cmp self.new.copies q ≡ later is_copied (map.get words.now q) (contains nat_cmp self.old.copies q)) }

@@ -11,15 +11,15 @@ use jb_block::Memory;
 use jb_handle::Words;
 use std::collections::BTreeSet;
 
-// How many homes were met for the first time, by their words.
+/// How many homes were met for the first time, by their words.
 #[derive(Drop)]
 pub(crate) struct Met {
     pub(crate) copies: u64,
     pub(crate) frees: u64,
 }
 
-// Puts the homes of the words among those that were met, and lists those that are new. Where memory
-// is refused, some may be among them already: the list says which.
+/// Puts the homes of the words among those that were met, and lists those that are new. Where memory
+/// is refused, some may be among them already: the list says which.
 pub(crate) fn meet(
     homes: &mut BTreeSet<u64>,
     fresh: &mut Vec<u64>,
@@ -50,7 +50,7 @@ pub(crate) fn meet(
     Ok(Met { copies, frees })
 }
 
-// Takes these homes out again.
+/// Takes these homes out again.
 pub(crate) fn part(homes: &mut BTreeSet<u64>, fresh: &[u64])
     ensures { (q : ℕ) → contains nat_cmp homes.new q ≡ (contains nat_cmp homes.old q && not (list_any (nat_eq q) fresh.now)) }
 {

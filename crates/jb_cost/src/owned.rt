@@ -1,12 +1,12 @@
-// The handle that touched a home block last, and whether it left a copy there.
+/// The handle that touched a home block last, and whether it left a copy there.
 #[derive(Clone, Copy)]
 pub(crate) struct Touch {
     pub(crate) handle: usize,
     pub(crate) copy: bool,
 }
 
-// How many home blocks a handle owns, which are those that no later handle touches: the ones where
-// it left a copy, and the ones that it freed.
+/// How many home blocks a handle owns, which are those that no later handle touches: the ones where
+/// it left a copy, and the ones that it freed.
 #[derive(Clone, Copy)]
 pub(crate) struct Owned {
     pub(crate) copies: u64,
@@ -27,7 +27,7 @@ impl Owned {
         }
     }
 
-    // With a home block more.
+    /// With a home block more.
     pub(crate) fn with(self, copy: bool) -> Owned
         requires room { self.copies + self.frees + 1 < 2 ^ 64 }
         ensures copies { result.copies ≡ self.copies + (if copy then 1 else 0) }
@@ -46,7 +46,7 @@ impl Owned {
         }
     }
 
-    // Without a home block that it owns.
+    /// Without a home block that it owns.
     pub(crate) fn without(self, copy: bool) -> Owned
         requires copies { (if copy then 1 else 0) ≤ self.copies }
         requires frees { (if copy then 0 else 1) ≤ self.frees }
@@ -66,7 +66,7 @@ impl Owned {
         }
     }
 
-    // What two handles own together.
+    /// What two handles own together.
     pub(crate) fn plus(self, other: Owned) -> Owned
         requires copies { self.copies + other.copies < 2 ^ 64 }
         requires frees { self.frees + other.frees < 2 ^ 64 }
@@ -79,7 +79,7 @@ impl Owned {
         }
     }
 
-    // Whether it owns nothing.
+    /// Whether it owns nothing.
     pub(crate) fn is_idle(self) -> bool
         ensures { IsTrue result ↔ IsIdle self }
     {

@@ -1,4 +1,4 @@
-// A start of a group, and its price.
+/// A start of a group, and its price.
 #[derive(Clone, Copy)]
 pub(crate) struct Priced {
     pub(crate) from: usize,
@@ -9,7 +9,7 @@ impl Priced {
     ghost use Rattle.std.specs.Prelude.{◌≡◌};
     ghost use Rattle.jb_cost.specs.Starts.{priced_of, lesser_of};
 
-    // A start with its price, if it has one.
+    /// A start with its price, if it has one.
     pub(crate) fn of(from: usize, price: Option<u64>) -> Option<Priced>
         ensures { result ≡ priced_of from price }
     {
@@ -19,7 +19,7 @@ impl Priced {
         }
     }
 
-    // The one with the lesser price of two starts, the earlier one where they are as good.
+    /// The one with the lesser price of two starts, the earlier one where the prices are equal.
     pub(crate) fn lesser(earlier: Option<Priced>, later: Option<Priced>) -> Option<Priced>
         ensures { result ≡ lesser_of earlier later }
     {
@@ -31,8 +31,8 @@ impl Priced {
     }
 }
 
-// The starts from `from` up to a handle: those between them are idle, so that a group costs the same
-// from each. The one with the least price stands for all.
+/// The starts from `from` up to a handle: those between them are idle, so that a group costs the same
+/// from each. The one with the least price represents them all.
 #[derive(Clone, Copy)]
 pub(crate) struct Stretch {
     pub(crate) from: usize,

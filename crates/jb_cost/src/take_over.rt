@@ -11,8 +11,8 @@ use jb_block::Memory;
 use jb_handle::Words;
 use std::collections::BTreeMap;
 
-// Puts the words of a further handle. It owns their homes from now on, and a handle that owned one
-// of them has lost it. Gives what the new handle owns.
+/// Puts the words of a further handle. It owns their homes from now on, and a handle that owned one
+/// of them has lost it. Gives what the new handle owns.
 pub(crate) fn take_over(
     last: &mut BTreeMap<u64, Touch>,
     owned: &mut Vec<Owned>,
@@ -39,7 +39,7 @@ pub(crate) fn take_over(
     Ok(gained)
 }
 
-// Takes a home from the handle that touched it last, if there is one.
+/// Takes a home from the handle that touched it last, if there is one.
 fn lose(owned: &mut Vec<Owned>, before: Option<Touch>)
     requires inside { (t : TouchValue) → before ≡ Some t → t.handle < length owned.old.items }
     requires copies { (t : TouchValue) → before ≡ Some t → (if t.copy then 1 else 0) ≤ (owned_at owned.old.items t.handle).copies }

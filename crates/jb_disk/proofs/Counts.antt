@@ -14,7 +14,7 @@ kept_on size count honest old mid new first second = record {
   was_honest = λ is. first.was_honest (second.was_honest is);
 }
 
--- a rise behind counts that did not fall
+-- a rise after counts that did not fall
 pub more_later : (old mid new : ℕ) → old ≤ mid → MoreFaults mid new → MoreFaults old new
 more_later old mid new no_fewer more = record { rises = omega (arith, no_fewer, more.rises); no_fewer = omega (arith, no_fewer, more.no_fewer) }
 

@@ -37,7 +37,7 @@ put_sector-same k from to same within =
     = ap (λ n. drop n (take (512 * k) to ++ rest)) (sym (length-before k to within)) ∙ drop-append_seam (take (512 * k) to) rest in
     ap (take 512) behind ∙ ap (λ n. take n rest) (sym (length-sector k from from_within)) ∙ take-append_seam (sector k from) (drop (512 * k + 512) to)
 
--- a sector lies in the part of the block up to its end
+-- a sector is in the part of the block up to its end
 sector_of_front : (j : ℕ) (bytes : List ℕ) → sector j bytes ≡ drop (512 * j) (take (512 * j + 512) bytes)
 sector_of_front j bytes = sym (drop-take (512 * j) 512 bytes)
 

@@ -1,4 +1,4 @@
--- Where the last sync stands in a list of calls.
+-- Where the last sync is in a list of calls.
 use Rattle.std.proofs.Common.{◌≡◌, ◌≤◌, ℕ, List, length, take, drop}
 use Rattle.jb_disk.specs.Calls.{steps_of}
 use Rattle.jb_disk.specs.History.{replay}

@@ -9,7 +9,7 @@ use Rattle.jb_disk.specs.Versions.{IsAmong}
 use Rattle.jb_disk.proofs.Sectors.{length-put_sector, put_sector-same, put_sector-below, put_sector-above}
 
 -- A block before a write of it that a crash cut short: of the first n sectors each is an older version, and the block
--- behind the write has it or the written one; the others are those behind the write.
+-- after the write has it or the written one; the others are those after the write.
 pub record Undone (sectors n : ℕ) (contents : List (List ℕ)) (bytes now x : List ℕ) : Type 0 where
   pub size : length x ≡ 512 * sectors
   pub among : (k : ℕ) → k < n → IsAmong contents k (sector k x)

@@ -8,13 +8,13 @@ pub data Called : Type 0 where
   Writes : ℕ → List ℕ → Called
   Syncs : Called
 
--- the life of a disk in memory after a call that succeeds: a write or a sync is one step more, and nothing else changes
+-- the history of a disk in memory after a call that succeeds: a write or a sync is one step more, and nothing else changes
 abbrev pub after_call : Called → History → History
 after_call (Reads place) h = h
 after_call (Writes place bytes) h = record h { steps = Wrote place bytes ∷ h.steps }
 after_call Syncs h = record h { steps = Synced ∷ h.steps }
 
--- its life after a call that fails: the count of faults rises by one, and nothing else changes
+-- its history after a call that fails: the count of faults rises by one, and nothing else changes
 abbrev pub after_fault : History → History
 after_fault h = record h { faults = min (h.faults + 1) (2 ^ 64 - 1) }
 

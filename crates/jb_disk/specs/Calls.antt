@@ -1,4 +1,4 @@
--- The list of writes and syncs that a disk in memory keeps, as the steps of its life.
+-- The list of writes and syncs that a disk in memory keeps, as its history.
 use Rattle.std.specs.Prelude.{ℕ, List, map, reverse, Vec}
 use Rattle.std.specs.declared.alloc.Global.{Global}
 use Rattle.jb_disk.specs.Image.{Image}
@@ -11,7 +11,7 @@ abbrev pub step_of : Call → Step
 step_of (Write place bytes) = Wrote place bytes.items
 step_of Sync = Synced
 
--- the steps of these calls, which stand in their order
+-- the steps of these calls, in their order
 abbrev pub steps_of : List Call → List Step
 steps_of calls = reverse (map step_of calls)
 

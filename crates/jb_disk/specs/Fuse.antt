@@ -1,4 +1,4 @@
--- What a disk behind a fuse shows of its fields.
+-- What contracts see of a disk with a fuse.
 use Rattle.std.specs.Prelude.{◌≡◌, ◌≢◌, ◌-◌, ℕ, Bool, false}
 use Rattle.jb_disk.specs.Called.{Called}
 use Rattle.jb_disk.specs.Faults.{CountsCall, CountsOne}
@@ -16,7 +16,7 @@ left_of f = f.left
 abbrev pub failed_of : {D : Type 0} → FuseDisk D → ℕ
 failed_of f = f.failed
 
--- A call: one less still passes. While any passed it is passed on, once: it makes of the disk behind the fuse what that
+-- A call: one fewer is left. While any was left, it is passed on, once: it makes of the disk inside the fuse what that
 -- disk says of one call, fails where that disk counts a fault, and the fuse counts none of its own. When none was left,
 -- that disk stays as it is, and the fuse counts one.
 pub record Burns {D : Type 0} (faults : D → ℕ) (own : Called → D → D → Bool → Type 0) (call : Called) (old new : FuseDisk D) (ok : Bool) : Type 0 where

@@ -1,4 +1,4 @@
--- The life of a disk in memory: what its blocks held first, and each write and sync since, the newest first.
+-- The history of a disk in memory: what its blocks held first, and each write and sync since, the newest first.
 use Rattle.std.specs.Prelude.{◌≡◌, ◌<◌, ◌≤◌, ◌⊎◌, ℕ, ◌+◌, List, [], ◌∷◌, length, set}
 use Rattle.jb_block.specs.declared.size.BlockSize.{BlockSize}
 use Rattle.jb_block.specs.Size.{bytes_of}

@@ -2,7 +2,7 @@
 use Rattle.std.specs.Prelude.{◌≡◌, ◌↔◌, ℕ}
 use Rattle.jb_disk.specs.Image.{Image}
 
--- the size of the blocks, their number, and honesty in both directions
+-- the size of the blocks, their number and honesty stay
 pub record Kept {D : Type 0} (size count : D → ℕ) (honest : D → Type 0) (old new : D) : Type 0 where
   pub same_size : size new ≡ size old
   pub same_count : count new ≡ count old

@@ -45,7 +45,7 @@ pub left_since_now : (first : Image) (steps : List Step) (t : ℕ) (c : Image) �
 left_since_now first [] t c earlier left = (earlier, left)
 left_since_now first (step ∷ older) t c earlier left = inl (omega (arith, earlier), left)
 
--- no moment lies behind the last
+-- no moment is after the last
 none_later : (first : Image) (steps : List Step) (t : ℕ) (c : Image) → LeftSince first steps t c → t ≤ length steps
 none_later first [] t c left = left.0
 none_later first (step ∷ older) t c (inl left) = omega (arith, left.0)

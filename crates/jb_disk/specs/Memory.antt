@@ -4,7 +4,7 @@ use Rattle.jb_disk.specs.History.{History, IsSound, replay}
 use Rattle.jb_disk.specs.Calls.{steps_of, image_of}
 use Rattle.jb_disk.specs.declared.memory.MemoryDisk.TheInside.{Inside}
 
--- the life of the disk with these fields
+-- the history of the disk with these fields
 abbrev pub history_of : Inside → History
 history_of a = record {
   size = a.size;
@@ -14,7 +14,7 @@ history_of a = record {
   faults = a.faults;
 }
 
--- the life is sound, and the blocks beside it are those that it leads to
+-- the history is sound, and the blocks kept with it are those that it leads to
 pub record IsKept (a : Inside) : Type 0 where
   pub sound : IsSound (history_of a)
   pub newest : image_of a.newest.items ≡ replay (image_of a.first.items) (steps_of a.calls.items)

@@ -1,9 +1,9 @@
--- How what a crash may leave goes on from call to call, for any disk with moments.
+-- How the images that a crash may leave change from call to call, for any disk with moments.
 use Rattle.std.specs.Prelude.{◌≤◌, ◌⊎◌, ℕ}
 use Rattle.jb_disk.specs.Image.{Image}
 
 -- One call: each image that a crash may leave now comes by the step from one that it could leave before,
--- and a crash since a moment before the call could have left what it could before, or what it may leave now.
+-- and a crash since a moment before the call could have left what it could before the call, or what it may leave now.
 pub record Goes {D : Type 0} (may_leave : D → Image → Type 0) (moment : D → ℕ) (left_since : D → ℕ → Image → Type 0)
     (step : Image → Image → Type 0) (old new : D) : Type 0 where
   pub crash : (c : Image) → may_leave new c → (d : Image) × may_leave old d × step d c

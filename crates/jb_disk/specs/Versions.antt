@@ -30,7 +30,7 @@ abbrev pub written_below : List Step → ℕ → ℕ
 written_below steps zero = 0
 written_below steps (suc place) = written_below steps place + one_if_any (written steps place)
 
--- the version that a number names, all numbers standing round the versions in a ring
+-- the version that a number names, modulo how many versions there are
 abbrev pub version : List (List ℕ) → ℕ → List ℕ
 version contents number = get_or contents (number % length contents) []
 

@@ -6,18 +6,18 @@ use jb_block::Stamp;
 
 /// A clock that gives the stamp of a commit.
 pub trait Clock {
-    /// The stamps that it may tell.
+    /// The stamps that it may give.
     ghost tells: { Self → Told → Type 0 };
 
-    /// The moment, as it stands in a commit block.
+    /// The moment, as it is written in a commit block.
     fn now(&self) -> Stamp
         ensures { tells self.now result };
 }
 
-/// A clock that stands still, for tests and for images that are to come out the same each time.
+/// A clock that always gives the same stamp, for tests and for images that have to be the same each time.
 #[derive(Clone, Copy, Debug, PartialEq, Eq)]
 pub struct FixedClock {
-    /// What it tells.
+    /// The stamp that it gives.
     pub stamp: Stamp,
 }
 

@@ -1,4 +1,4 @@
-//! What a disk is taken to be: whole blocks of 512-byte sectors, and what a crash may leave of them.
+//! What is assumed of a disk: whole blocks of 512-byte sectors, and what a crash may leave of them.
 ghost use Rattle.std.specs.Prelude.{Bool, false, is_ok, IsTrue, IsErr, ◌≡◌, ◌<◌, ◌≤◌, ℕ, List, length, OnOk, set};
 ghost use Rattle.jb_block.specs.Size.{bytes_of, IsBlockSize};
 ghost use Rattle.jb_disk.specs.Image.{Image, block, Torn, Same, Only, HasShape};
@@ -12,7 +12,7 @@ use jb_block::BlockSize;
 
 /// A disk of equal blocks, read and written one whole block at a time.
 ///
-/// The clauses on contents hold of an honest disk, and each call keeps honesty in both directions.
+/// The clauses on contents hold of an honest disk, and honesty stays over each call.
 /// The clauses on size, number of blocks and faults hold of any disk.
 pub trait Disk {
     /// How many bytes a block has.
@@ -33,7 +33,7 @@ pub trait Disk {
     /// The images that a crash at this moment may leave.
     ghost may_leave: { Self → Image → Type 0 };
 
-    /// The moment, as a number that doesn't fall.
+    /// The moment, as a number that does not fall.
     ghost moment: { Self → ℕ };
 
     /// The images that a crash at some moment from that one on might have left.
@@ -42,7 +42,7 @@ pub trait Disk {
     /// The next read, write or sync fails and is not tried.
     ghost is_stopped: { Self → Bool } = { λ _. false };
 
-    /// What one call does to what this kind of disk keeps of its own, by whether it succeeds; nothing is said
+    /// What one call does to the state of this kind of disk, by whether it succeeds; nothing is said
     /// unless a disk says it.
     ghost own: { Called → Self → Self → Bool → Type 0 } = { λ _ _ _ _. Unit {0} };
 

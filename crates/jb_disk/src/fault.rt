@@ -1,3 +1,3 @@
-/// A read, a write or a sync that did not succeed. A disk tells no more of it, and counts it.
+/// A read, a write or a sync that did not succeed. A disk gives no reason, and counts it.
 #[derive(Clone, Copy, Debug, PartialEq, Eq)]
 pub struct Fault;

@@ -11,7 +11,7 @@ use std::io;
 use std::os::unix::fs::FileExt;
 
 /// An open file as a disk. Its blocks are the whole blocks of the length that it had when it was
-/// made a disk; bytes behind them are neither read nor written.
+/// made a disk; bytes after them are neither read nor written.
 ///
 /// Each call makes one call of the system. A call that a signal interrupts, and a read or write that
 /// moves less than a block, is a fault: it is not tried again.
@@ -27,7 +27,7 @@ pub struct FileDisk {
 impl FileDisk {
     ghost use Rattle.jb_disk.specs.File.{size_of, faults_of};
 
-    /// The disk that `file` is, in blocks of this size. A fault where its length can't be told.
+    /// The disk that `file` is, in blocks of this size. A fault where its length cannot be read.
     pub fn of(file: File, size: BlockSize) -> Result<FileDisk, Fault>
         ensures size { IfOk result (λ disk. size_of disk ≡ size) }
         ensures fresh { IfOk result (λ disk. faults_of disk ≡ 0) }
@@ -44,8 +44,8 @@ impl FileDisk {
     }
 }
 
-/// What a file holds is in no contract: of its contents the clauses of a disk say nothing, since no
-/// code can have the fact that it is honest. Its size, its number of blocks and its faults are proved.
+/// No contract says what a file holds: the clauses of a disk say nothing of its contents, since no
+/// code can know that it is honest. Its size, its number of blocks and its faults are proved.
 impl Disk for FileDisk {
     ghost size = { λ f. bytes_of f.size };
 
@@ -104,7 +104,7 @@ impl Disk for FileDisk {
     }
 }
 
-// How many whole blocks so many bytes have.
+/// How many whole blocks so many bytes have.
 fn whole_blocks(len: u64, size: BlockSize) -> u64
     ensures value { result ≡ len / bytes_of size }
     ensures addressed { result * bytes_of size < 2 ^ 64 }
@@ -112,14 +112,14 @@ fn whole_blocks(len: u64, size: BlockSize) -> u64
     len / u64::from(size.bytes())
 }
 
-// Whether so many bytes were moved, and no fewer.
+/// Whether so many bytes were moved, and no fewer.
 fn is_whole(answer: &io::Result<usize>, len: usize) -> bool
     ensures { IsTrue result ↔ (answer.now ≡ Ok len) }
 {
     matches!(answer, Ok(moved) if *moved == len)
 }
 
-// Counts a fault where the call did not succeed.
+/// Counts a fault where the call did not succeed.
 fn settle(succeeded: bool, faults: &mut u64) -> Result<(), Fault>
     ensures variant { is_ok result ≡ succeeded }
     ensures faults { CountsFault result faults.old faults.new }

@@ -30,7 +30,7 @@ impl<D: Disk> FuseDisk<D> {
         }
     }
 
-    /// The disk behind the fuse.
+    /// The disk inside the fuse.
     pub fn into_inner(self) -> D
         ensures { result ≡ disk_of self }
     {
@@ -97,7 +97,7 @@ impl<D: Disk> Disk for FuseDisk<D> {
     }
 }
 
-// Takes one call from those that are left, or counts one that fails.
+/// Takes one call from those that are left, or counts one that fails.
 fn burn(left: &mut u64, failed: &mut u64) -> Result<(), Fault>
     ensures blown { IsErr result ↔ (left.old ≡ 0) }
     ensures left { left.new ≡ left.old - 1 }

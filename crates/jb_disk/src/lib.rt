@@ -1,4 +1,4 @@
-//! Disks of whole blocks: what a read gives, what a crash may leave, and the disks that tests are run on.
+//! Disks of whole blocks: what a read gives, what a crash may leave, and disks for tests.
 #![tactic(auto)]
 
 mod clock;

@@ -65,7 +65,7 @@ impl MemoryDisk {
 
     /// The disk after a crash at this moment, in which nothing is pending. Of the sectors that have
     /// been written since the last sync the k-th, by place and then within the block, gets its
-    /// `choice[k]`-th version, counted round; number 0, and no number, is what it held at the sync. A disk
+    /// `choice[k]`-th version, modulo their number; 0, or no number, is what it held at the sync. A disk
     /// of no blocks takes no memory.
     pub fn crash(&self, choice: &[u32]) -> Result<MemoryDisk, Memory>
         ensures sound { IfOk result IsSound }
@@ -159,7 +159,7 @@ impl Disk for MemoryDisk {
     }
 }
 
-// So many blocks of zeros.
+/// So many blocks of zeros.
 fn zeros(alloc: Global, size: BlockSize, blocks: u64) -> Result<Vec<Vec<u8>>, Memory>
     ensures image { IfOk result (λ image. image_of image.items ≡ replicate blocks (replicate (bytes_of size) 0)) }
     ensures grows { OnErr result (0 < blocks) }
@@ -171,7 +171,7 @@ fn zeros(alloc: Global, size: BlockSize, blocks: u64) -> Result<Vec<Vec<u8>>, Me
     Ok(image)
 }
 
-// Keeps one write at the end of the list.
+/// Keeps one write at the end of the list.
 fn note_write(alloc: Global, calls: &mut Vec<Call>, place: u64, bytes: &[u8]) -> Result<(), Memory>
     ensures ok { OnOk result (steps_of calls.new.items ≡ Wrote place bytes.now ∷ steps_of calls.old.items) }
     ensures err { OnErr result (calls.new.items ≡ calls.old.items) }
@@ -181,7 +181,7 @@ fn note_write(alloc: Global, calls: &mut Vec<Call>, place: u64, bytes: &[u8]) ->
     Ok(())
 }
 
-// Keeps one sync at the end of the list.
+/// Keeps one sync at the end of the list.
 fn note_sync(calls: &mut Vec<Call>) -> Result<(), Memory>
     ensures ok { OnOk result (steps_of calls.new.items ≡ Synced ∷ steps_of calls.old.items) }
     ensures err { OnErr result (calls.new.items ≡ calls.old.items) }

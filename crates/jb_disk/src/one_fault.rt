@@ -96,7 +96,7 @@ impl<D: Disk> Disk for OneFaultDisk<D> {
     }
 }
 
-// Takes one call from those before the one that fails, or fails that one.
+/// Takes one call from those before the one that fails, or fails that one.
 fn spend(before: &mut Option<u64>) -> Result<(), Fault>
     ensures fails { IsErr result ↔ (before.old ≡ Some 0) }
     ensures next { before.new ≡ next_of before.old }

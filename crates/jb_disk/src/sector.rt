@@ -14,7 +14,7 @@ use std::alloc::Global;
 /// How many bytes a disk writes whole or not at all.
 const SECTOR: usize = 512;
 
-// How many of the calls stand up to and with the last sync.
+/// How many calls there are up to the last sync, that one included.
 fn until_sync(calls: &[Call]) -> usize
     ensures within { result ≤ length calls.now }
     ensures before { (first : List (List ℕ)) → synced first (steps_of calls.now) ≡ replay first (steps_of (take result calls.now)) }
@@ -30,7 +30,7 @@ fn until_sync(calls: &[Call]) -> usize
     count
 }
 
-// A copy of these blocks.
+/// A copy of these blocks.
 pub(crate) fn copy_of(alloc: Global, blocks: &[Vec<u8>]) -> Result<Vec<Vec<u8>>, Memory>
     ensures copy { IfOk result (λ copy. image_of copy.items ≡ image_of blocks.now) }
     ensures grows { OnErr result (0 < length blocks.now) }
@@ -42,7 +42,7 @@ pub(crate) fn copy_of(alloc: Global, blocks: &[Vec<u8>]) -> Result<Vec<Vec<u8>>,
     Ok(copy)
 }
 
-// Writes to the blocks what the calls wrote.
+/// Writes to the blocks what the calls wrote.
 fn replay_calls(image: &mut [Vec<u8>], calls: &[Call])
     requires { (size : ℕ) × HasShape (length image.old) size (image_of image.old) × AreWhole (length image.old) size (steps_of calls.now) }
     ensures { image_of image.new ≡ replay (image_of image.old) (steps_of calls.now) }
@@ -54,7 +54,7 @@ fn replay_calls(image: &mut [Vec<u8>], calls: &[Call])
     }
 }
 
-// No writes of so many blocks.
+/// No writes of so many blocks.
 fn no_writes<'a>(alloc: Global, count: usize) -> Result<Vec<Vec<&'a [u8]>>, Memory>
     ensures places { IfOk result (λ table. length table.items ≡ count) }
     ensures none { IfOk result (λ table. (place : ℕ) → writes_at (table_of table.items) place ≡ []) }
@@ -67,7 +67,7 @@ fn no_writes<'a>(alloc: Global, count: usize) -> Result<Vec<Vec<&'a [u8]>>, Memo
     Ok(table)
 }
 
-// The writes of each of so many blocks, in order.
+/// The writes of each of so many blocks, in order.
 fn writes_by_place<'a>(
     alloc: Global,
     count: usize,
@@ -88,21 +88,21 @@ fn writes_by_place<'a>(
     Ok(table)
 }
 
-// The number that a choice gives to a sector, 0 where it has no more.
+/// The number that a choice gives to a sector, 0 where it has no more.
 fn number_at(choice: &[u32], k: usize) -> u32
     ensures { result ≡ get_or choice.now k 0 }
 {
     choice.get(k).copied().unwrap_or(0)
 }
 
-// The numbers of a choice behind the first n.
+/// The numbers of a choice after the first n.
 fn behind(choice: &[u32], n: usize) -> &[u32]
     ensures { result.now ≡ drop n choice.now }
 {
     &choice[n.min(choice.len())..]
 }
 
-// The write whose bytes a sector takes, or none where it keeps those of the sync.
+/// The write whose bytes a sector takes, or none where it keeps those of the sync.
 fn pick<'a>(writes: &[&'a [u8]], number: u32) -> Option<&'a [u8]>
     ensures { (old : List ℕ) → MatchOption result (version (old ∷ bytes_of_writes writes.now) number ≡ old) (λ w. version (old ∷ bytes_of_writes writes.now) number ≡ w.now) }
 {
@@ -113,7 +113,7 @@ fn pick<'a>(writes: &[&'a [u8]], number: u32) -> Option<&'a [u8]>
     Some(writes[chosen - 1])
 }
 
-// Puts the k-th sector of one block in the place of another's.
+/// Puts the k-th sector of one block over another's.
 fn copy_sector(to: &mut [u8], from: &[u8], k: usize)
     requires same { length from.now ≡ length to.old }
     requires within { 512 * k + 512 ≤ length to.old }
@@ -123,7 +123,7 @@ fn copy_sector(to: &mut [u8], from: &[u8], k: usize)
     to[at..at + SECTOR].copy_from_slice(&from[at..at + SECTOR]);
 }
 
-// Gives each sector of a block the version that the choice names.
+/// Gives each sector of a block the version that the choice names.
 fn mix(block: &mut [u8], writes: &[&[u8]], sectors: usize, choice: &[u32])
     requires size { length block.old ≡ 512 * sectors }
     requires whole { All (λ b. length b ≡ 512 * sectors) (bytes_of_writes writes.now) }
@@ -136,8 +136,8 @@ fn mix(block: &mut [u8], writes: &[&[u8]], sectors: usize, choice: &[u32])
     }
 }
 
-// Gives each sector of the blocks the version that the choice names: the sectors of the blocks that
-// have writes take its numbers in rising order.
+/// Gives each sector of the blocks the version that the choice names: the sectors of the blocks that
+/// have writes take its numbers in rising order.
 fn choose(image: &mut [Vec<u8>], writes: &[Vec<&[u8]>], sectors: usize, choice: &[u32])
     requires shape { HasShape (length image.old) (512 * sectors) (image_of image.old) }
     requires places { length writes.now ≡ length image.old }
@@ -155,7 +155,7 @@ fn choose(image: &mut [Vec<u8>], writes: &[Vec<&[u8]>], sectors: usize, choice: 
     }
 }
 
-// The blocks that the calls lead to from these first ones.
+/// The blocks that the calls lead to from these first ones.
 fn synced_image(alloc: Global, first: &[Vec<u8>], calls: &[Call]) -> Result<Vec<Vec<u8>>, Memory>
     requires { (size : ℕ) × HasShape (length first.now) size (image_of first.now) × AreWhole (length first.now) size (steps_of calls.now) }
     ensures synced { IfOk result (λ image. image_of image.items ≡ replay (image_of first.now) (steps_of calls.now)) }
@@ -166,7 +166,7 @@ fn synced_image(alloc: Global, first: &[Vec<u8>], calls: &[Call]) -> Result<Vec<
     Ok(image)
 }
 
-// The blocks that a crash leaves of these first blocks and calls, by the choice.
+/// The blocks that a crash leaves of these first blocks and calls, by the choice.
 pub(crate) fn crash_image(
     alloc: Global,
     size: BlockSize,

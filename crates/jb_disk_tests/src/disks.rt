@@ -1,4 +1,4 @@
-//! The disks as a program meets them: crash rows by hand, failing calls by number, a real file.
+//! The disks as a program uses them: crash rows by hand, failing calls by number, a real file.
 
 use jb_block::{BlockSize, Stamp};
 use jb_disk::{Clock, Disk, Fault, FileDisk, FixedClock, FuseDisk, MemoryDisk, OneFaultDisk};
@@ -7,7 +7,7 @@ use std::fs;
 use std::fs::{File, OpenOptions};
 use std::test::Fail;
 
-// Fills a block with one byte. A place that the disk doesn't have is a fault too.
+/// Fills a block with one byte. A place that the disk does not have is a fault too.
 fn fill<D: Disk>(disk: &mut D, place: u64, byte: u8) -> Result<(), Fault> {
     if place >= disk.blocks() {
         return Err(Fault);
@@ -16,7 +16,7 @@ fn fill<D: Disk>(disk: &mut D, place: u64, byte: u8) -> Result<(), Fault> {
     disk.write(place, &[byte; 4096][..size])
 }
 
-// The first and the last byte of the first two sectors of a block.
+/// The first and the last byte of the first two sectors of a block.
 fn look<D: Disk>(disk: &mut D, place: u64) -> Result<[u8; 4], Fault> {
     if place >= disk.blocks() {
         return Err(Fault);
@@ -27,7 +27,7 @@ fn look<D: Disk>(disk: &mut D, place: u64) -> Result<[u8; 4], Fault> {
     Ok([bytes[0], bytes[511], bytes[512], bytes[1023]])
 }
 
-// Which of three calls, a write, a sync and a read, succeed.
+/// Which of three calls, a write, a sync and a read, succeed.
 fn three_calls<D: Disk>(disk: &mut D) -> [bool; 3] {
     let written = fill(disk, 1, 7).is_ok();
     let synced = disk.sync().is_ok();
@@ -35,7 +35,7 @@ fn three_calls<D: Disk>(disk: &mut D) -> [bool; 3] {
     [written, synced, read]
 }
 
-// Two blocks of which the first was written twice and the second once since they were zeros.
+/// Two blocks of which the first was written twice and the second once since they were zeros.
 fn pending(alloc: Global) -> Result<MemoryDisk, Fail> {
     let mut disk = MemoryDisk::new(alloc, BlockSize::OneKib, 2)?;
     let written = fill(&mut disk, 0, 1).is_ok() && fill(&mut disk, 1, 2).is_ok();
@@ -45,7 +45,7 @@ fn pending(alloc: Global) -> Result<MemoryDisk, Fail> {
     Ok(MemoryDisk::new(alloc, BlockSize::OneKib, 0)?)
 }
 
-/// The chosen version of each sector; and behind a sync only what is written after it.
+/// The chosen version of each sector; and after a sync only what is written after it.
 #[test]
 fn a_crash_takes_the_chosen_version_of_each_sector(rt: HostRuntime) -> Result<(), Fail> {
     let mut disk = pending(rt.alloc())?;
@@ -71,7 +71,7 @@ fn a_crash_takes_the_chosen_version_of_each_sector(rt: HostRuntime) -> Result<()
     Ok(())
 }
 
-/// Which of three calls succeed and what the block holds behind them, by the number of calls that pass a
+/// Which of three calls succeed and what the block holds after them, by the number of calls that pass a
 /// fuse, and by the number of the one call that fails.
 #[test]
 fn calls_fail_by_their_number(rt: HostRuntime) -> Result<(), Fail> {

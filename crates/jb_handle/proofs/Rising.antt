@@ -65,14 +65,14 @@ module _ {W : Type 0} where
   rising-tail : (e : ℕ × W) (es : List (ℕ × W)) → T (map.is_sorted nat_cmp (e ∷ es)) → T (map.is_sorted nat_cmp es)
   rising-tail e es h = (both_parts _ _ h).1
 
-  -- the tail of what stands, or goes, one place later
+  -- the tail of what is, or would be inserted, one place later
   stands-tail : (e : ℕ × W) (es : List (ℕ × W)) (b i : ℕ) → StandsAt (e ∷ es) b (suc i) → StandsAt es b i
   stands-tail e es b i h = record { inside = omega (arith, h.inside); home = h.home }
 
   goes-tail : (e : ℕ × W) (es : List (ℕ × W)) (b i : ℕ) → GoesTo (e ∷ es) b (suc i) → GoesTo es b i
   goes-tail e es b i h = record { inside = omega (arith, h.inside); before = λ j d lt. h.before (suc j) d (omega arith); after = λ j d le lt. h.after (suc j) d (omega arith) (omega arith) }
 
-  -- where the home stands, its word is found and replaced
+  -- where the home is, its word is found and replaced
   pub find-stands : (es : List (ℕ × W)) → T (map.is_sorted nat_cmp es) → (b i : ℕ) (d : ℕ × W) → StandsAt es b i → map.find nat_cmp b es ≡ Some (get_or es i d).1
   find-stands [] s b i d h = absurd (omega (arith, h.inside))
   find-stands (e ∷ es) s b zero d h = grind (arith, nat_tests, h.home d)
@@ -140,7 +140,7 @@ module _ {W : Type 0} where
   pub find-take : (es : List (ℕ × W)) → T (map.is_sorted nat_cmp es) → (i : ℕ) (d : ℕ × W) → i < length es → (q : ℕ) → map.find nat_cmp q (take (i + 1) es) ≡ cond (nat_eq q (get_or es i d).0) (Some (get_or es i d).1) (map.find nat_cmp q (take i es))
   find-take es h i d lt q = rw add-one (found-next es h i d lt q)
 
-  -- no home stands among the entries before it
+  -- no home is among the entries before it
   pub find-before : (es : List (ℕ × W)) → T (map.is_sorted nat_cmp es) → (i : ℕ) (d : ℕ × W) → i < length es → map.find nat_cmp (get_or es i d).0 (take i es) ≡ None
   find-before [] h i d lt = absurd (omega arith)
   find-before (e ∷ es) h zero d lt = refl

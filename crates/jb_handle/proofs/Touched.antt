@@ -80,7 +80,7 @@ or-assoc : {W : Type 0} (x y z : Option W) → option_or (option_or x y) z ≡ o
 or-assoc None y z = refl
 or-assoc (Some w) y z = refl
 
--- a handle behind the others has the last word
+-- a handle after the others has the last word
 pub word-append : (hs : List Stopped) (h : Stopped) (q : ℕ) → word (hs ++ h ∷ []) q ≡ option_or (map.get h.words q) (word hs q)
 word-append [] h q = or-none _
 word-append (g ∷ hs) h q = ap (λ w. option_or w (map.get g.words q)) (word-append hs h q) ∙ or-assoc (map.get h.words q) (word hs q) (map.get g.words q)

@@ -1,8 +1,8 @@
--- What contracts say of an open handle: whose it is, and what it holds.
+-- What contracts see of an open handle: its seat, and its changes.
 use Rattle.jb_handle.specs.declared.handle.Handle.{Handle}
 use Rattle.jb_handle.specs.Held.{Held}
 
--- the seat that a handle was made with
+-- the seat that a handle was made for
 abbrev pub holder : {S : Type 0} → Handle S → S
 holder h = h.seat
 

@@ -1,4 +1,4 @@
--- What a handle holds while it is open, which changes it refuses, and what a change makes of it.
+-- The changes of an open handle, which further changes it refuses, and what a change makes of it.
 use Rattle.std.specs.Prelude.{◌≡◌, ℕ, ◌^◌, ◌<◌, ◌≤◌, Bool, true, false, not, nat_le, ◌==◌, ◌&&◌, List, [], ◌∷◌, length, Option, Some, None}
 use Rattle.std.specs.FinMap as map
 use Rattle.jb_block.specs.Size.{bytes_of}

@@ -8,6 +8,6 @@ use Rattle.jb_handle.specs.declared.stopped.Stopped.{Stopped}
 abbrev pub weight : List Stopped → ℕ
 weight hs = sum_by (λ h. map.len h.words + 1) hs
 
--- the size up to which a list of handles is taken
+-- the size up to which a list of handles is accepted
 abbrev pub IsWithinSize : List Stopped → Type 0
 IsWithinSize hs = weight hs ≤ 2 ^ 62

@@ -20,7 +20,7 @@ is_copy Free = false
 abbrev pub is_free : Word → Bool
 is_free w = not (is_copy w)
 
--- what a copy holds are bytes
+-- the numbers of a copy are bytes
 abbrev pub HasBytes : Word → Type 0
 HasBytes (Copy bytes) = AreBytes bytes
 HasBytes Free = Unit {0}
@@ -29,7 +29,7 @@ HasBytes Free = Unit {0}
 abbrev pub EntryHasBytes : ℕ × Word → Type 0
 EntryHasBytes entry = HasBytes entry.1
 
--- entries as words are kept: their homes rise, and what a copy holds are bytes
+-- entries as words are kept: their homes rise, and the numbers of a copy are bytes
 pub record AreWords (entries : List (ℕ × Word)) : Type 0 where
   pub rising : T (map.is_sorted nat_cmp entries)
   pub bytes : All EntryHasBytes entries
@@ -48,7 +48,7 @@ abbrev pub back : (w : Word) → from_option (to_option w) ≡ w
 back (Copy bytes) = refl
 back Free = refl
 
--- a word can be told by its bytes, as a Model's value must
+-- words with the same bytes are equal, as a Model's value requires
 abbrev pub word_code : Coded Word
 word_code = code_by (Option (List ℕ)) (coded_option (coded_list coded_ℕ)) to_option from_option back
 

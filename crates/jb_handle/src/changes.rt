@@ -10,7 +10,7 @@ use jb_block::Memory;
 use std::alloc::Global;
 use std::marker::Model;
 
-/// Why a handle does not take a change. The handle is as it was.
+/// Why a handle refuses a change. The handle is as it was.
 #[derive(Clone, Copy, Debug, PartialEq, Eq)]
 pub enum TouchFault {
     /// The home block is new to the handle, and all of its credits, so many blocks, are used.
@@ -34,7 +34,7 @@ impl From<Memory> for TouchFault {
 }
 
 /// What a handle has changed so far: its credits, which bound how many different blocks it may touch,
-/// and the last word on each block that it touched. It may be let go, and kept in a map.
+/// and the last word on each block that it touched. It may be dropped, and kept in a map.
 #[derive(Drop)]
 pub struct Changes {
     credits: u32,
@@ -134,7 +134,7 @@ impl Changes {
         }
     }
 
-    /// The home block is to hold these bytes (`jbd2_journal_dirty_metadata`). It cancels a revoke of
+    /// The home block gets these bytes (`jbd2_journal_dirty_metadata`). It cancels a revoke of
     /// the block.
     ///
     /// # Errors
@@ -170,7 +170,7 @@ impl Changes {
         self.put(home, Word::Free)
     }
 
-    // The first reason against a change of this home block, by a write of so many bytes or a revoke.
+    /// The first reason against a change of this home block, by a write of so many bytes or a revoke.
     fn admit(&self, home: u64, len: Option<usize>) -> Result<(), TouchFault>
         ensures ok { OnOk result (refusal_at self.now home len ≡ None) }
         ensures err { IfErr result (λ fault. refusal_at self.now home len ≡ Some fault) }
@@ -189,7 +189,7 @@ impl Changes {
         }
     }
 
-    // Puts a word on a home block for which it was admitted.
+    /// Puts a word on a home block for which it was admitted.
     fn put(&mut self, home: u64, word: Word) -> Result<(), TouchFault>
         requires kept { IsKept (put_at self.old home word) }
         ensures ok { OnOk result (self.new ≡ put_at self.old home word) }

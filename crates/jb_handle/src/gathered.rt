@@ -39,7 +39,7 @@ impl Gathered {
         }
     }
 
-    /// Puts a word in the place of the one that the home block had, or as its first.
+    /// Puts a word in place of the one that the home block had, or as its first.
     ///
     /// # Errors
     ///

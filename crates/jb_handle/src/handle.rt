@@ -7,7 +7,7 @@ use crate::words::Words;
 use std::alloc::Global;
 
 /// An open handle (`handle_t`): the seat of the thread that works with it, and its changes. It must be
-/// spent: it is ended, or given to whoever stops or drops it, and cannot be let go by accident.
+/// used up: it is ended, or given to whoever stops or drops it, and cannot be dropped by accident.
 #[must_use]
 pub struct Handle<S> {
     seat: S,
@@ -53,7 +53,7 @@ impl<S> Handle<S> {
         self.changes.touched()
     }
 
-    /// The seat that the handle was made with.
+    /// The seat that the handle was made for.
     pub fn seat(&self) -> &S
         ensures { result.now ≡ holder self.now }
     {
@@ -68,7 +68,7 @@ impl<S> Handle<S> {
         self.changes.words()
     }
 
-    /// The home block is to hold these bytes (`jbd2_journal_dirty_metadata`). It cancels a revoke of
+    /// The home block gets these bytes (`jbd2_journal_dirty_metadata`). It cancels a revoke of
     /// the block.
     ///
     /// # Errors

@@ -1,4 +1,4 @@
-//! What a handle leaves behind: the last word on each home block that it touched.
+//! What a handle leaves: the last word on each home block that it touched.
 #![tactic(auto)]
 
 mod changes;

@@ -5,7 +5,7 @@ use jb_block::Memory;
 use std::alloc::Global;
 use std::marker::Model;
 
-/// What a block is to hold: some first bytes, and zeros behind them up to the block's length. Only
+/// The content of a block: some first bytes, and zeros after them up to the block's length. Only
 /// the first bytes take memory.
 #[derive(Debug, Drop)]
 pub struct Payload {
@@ -22,7 +22,7 @@ impl Model for Payload {
 }
 
 impl Payload {
-    /// These bytes, and zeros behind them up to `len` bytes in all. Takes no memory of its own.
+    /// These bytes, and zeros after them up to `len` bytes in all. Takes no memory of its own.
     pub fn padded(bytes: Vec<u8>, len: usize) -> Payload
         requires fits { length bytes.items ≤ len }
         ensures { result ≡ padded len bytes.items }
@@ -60,7 +60,7 @@ impl Payload {
         })
     }
 
-    /// What a payload holds are bytes. It does nothing: the fact is its contract.
+    /// The numbers of a payload are bytes. It does nothing: the fact is its contract.
     pub fn holds_bytes(&self)
         ensures { AreBytes self.now }
     {
@@ -74,7 +74,7 @@ impl Payload {
         self.len
     }
 
-    /// The first four bytes, by which a block of the journal's own is told.
+    /// The first four bytes, by which the journal's own blocks are recognized.
     pub fn front(&self) -> [u8; 4]
         requires long { 4 ≤ length self.now }
         ensures { result ≡ take 4 self.now }
@@ -96,7 +96,7 @@ impl Payload {
     }
 }
 
-// What stands in a slice of bytes are bytes. It does nothing: the fact is its contract.
+/// A slice of bytes holds bytes. It does nothing: the fact is its contract.
 fn are_bytes(bytes: &[u8])
     ensures { AreBytes bytes.now }
 {

@@ -3,7 +3,7 @@ ghost use Rattle.jb_handle.specs.Size.{IsWithinSize};
 
 use crate::stopped::Stopped;
 
-// The most handles and touched blocks, added up, that a list of handles may have.
+/// The most handles and touched blocks, added up, that a list of handles may have.
 const MOST: u128 = 1 << 62;
 
 /// Whether the handles, and the home blocks that each touches, added up, are at most 2^62. The costs

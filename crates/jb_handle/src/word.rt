@@ -55,7 +55,7 @@ impl Word {
         }
     }
 
-    /// What a copy holds are bytes. It does nothing: the fact is its contract.
+    /// The numbers of a copy are bytes. It does nothing: the fact is its contract.
     pub fn holds_bytes(&self)
         ensures { HasBytes self.now }
     {

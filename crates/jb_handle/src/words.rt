@@ -83,7 +83,7 @@ impl Words {
         &self.entries
     }
 
-    /// What the copies hold are bytes. It does nothing: the fact is its contract.
+    /// The numbers of the copies are bytes. It does nothing: the fact is its contract.
     pub fn hold_bytes(&self)
         ensures { All EntryHasBytes (map.entries self.now) }
     {
@@ -100,7 +100,7 @@ impl Words {
         }
     }
 
-    /// Puts a word in the place of the one that the home block had, or as its first.
+    /// Puts a word in place of the one that the home block had, or as its first.
     ///
     /// # Errors
     ///
@@ -134,7 +134,7 @@ impl Words {
     }
 }
 
-// Where the home block stands in a list of rising homes, or where it would go.
+/// Where the home block is in a list of rising homes, or where it would be inserted.
 fn place_of(entries: &[(u64, Word)], home: u64) -> Result<usize, usize>
     requires rising { T (map.is_sorted nat_cmp entries.now) }
     ensures { IsPlaced entries.now home result }

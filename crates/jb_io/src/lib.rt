@@ -1,4 +1,4 @@
-//! Texts out of readers and into writers: all of a text or its beginning, and how far that went.
+//! Texts read from readers and written to writers: the whole text, or its beginning.
 #![tactic(auto)]
 
 mod parts;

@@ -3,21 +3,21 @@ ghost use Rattle.std.specs.Prelude.{◌<◌, ◌≤◌, ◌≡◌, ◌≢◌, Er
 use std::alloc::Global;
 use std::io::{ErrorKind, Read};
 
-/// Why a text could not be taken from a reader.
+/// Why a text could not be read.
 #[derive(Clone, Copy, Debug, PartialEq, Eq)]
 pub enum ReadFault {
     /// The reader answered an error.
     Reader,
     /// There are more bytes than the limit.
     TooLong,
-    /// A growth was refused.
+    /// Memory ran out.
     Memory,
 }
 
 /// The first bytes of a reader: `limit` of them, or all where it has fewer. No more are read.
 ///
 /// # Errors
-/// `Reader` where a read failed, `Memory` where a growth was refused.
+/// `Reader` where a read failed, `Memory` where memory ran out.
 pub fn read_front<R: Read>(
     alloc: Global,
     reader: &mut R,
@@ -40,7 +40,7 @@ pub fn read_front<R: Read>(
 /// read.
 ///
 /// # Errors
-/// `Reader` where a read failed, `TooLong` where there are more bytes than `limit`, `Memory` where a growth was refused.
+/// `Reader` where a read failed, `TooLong` where there are more bytes than `limit`, `Memory` where memory ran out.
 pub fn read_within<R: Read>(
     alloc: Global,
     reader: &mut R,

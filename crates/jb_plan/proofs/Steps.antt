@@ -134,7 +134,7 @@ module _ (c : ℕ → ℕ → ℕ) (limit : ℕ) where
         );
       }
 
-  -- the cut that goes back by the starts of the table is a least one, chosen as told
+  -- the cut that goes back by the starts of the table is a least one, chosen as said
   pub answers-cut : (ps : List (Option ℕ)) (froms : List ℕ) (n sum : ℕ) (bounds : List ℕ) → AreSteps c limit ps froms n → price ps n ≡ Some sum → IsCut n bounds → EachPiece (λ i j. slice_index froms j ≡ i) bounds → IsLeastCut c limit n bounds × (total c bounds ≡ sum) × EachPiece (IsFirstToAttain c limit ps) bounds
   answers-cut ps froms n sum [] steps is cut back = absurd cut
   answers-cut ps froms n sum (a ∷ bs) steps is cut back =
@@ -156,7 +156,7 @@ module _ (c : ℕ → ℕ → ℕ) (limit : ℕ) where
   pub answers-none : (ps : List (Option ℕ)) (froms : List ℕ) (n : ℕ) → AreSteps c limit ps froms n → price ps n ≡ None → (other : List ℕ) → FitsCut c limit n other → ⊥
   answers-none ps froms n steps is other fitting = let low = lower c limit n ps (hold-steps ps froms n steps) other fitting in let e : None ≡ Some low.0 = sym is ∙ low.1 in cc
 
-  -- the start of one step more lies before its end
+  -- the start of one step more is before its end
   pub back-more : (ps : List (Option ℕ)) (froms : List ℕ) (n : ℕ) (best : Option Step) → GoBack froms → length froms ≡ n + 1 → BestFrom c limit ps 0 (n + 1) best → GoBack (froms ++ (from_of best ∷ []))
   back-more ps froms n best back starts found j above within = elim (cases_lt j (n + 1)) [ inl less ↦ earlier less | inr more ↦ last (omega (arith, more, simp length-append at within)) ]
     where

@@ -16,7 +16,7 @@ pub record Leads (c : ℕ → ℕ → ℕ) (limit : ℕ) (ps : List (Option ℕ)
   pub fits : c s.from end ≤ limit
   pub sum : (p : ℕ) × (price ps s.from ≡ Some p) × (s.price ≡ p + c s.from end)
 
--- no start from low on is better, and none before its own is as good
+-- no start from low on has a smaller sum, and none before its own has the same
 pub record IsBest (c : ℕ → ℕ → ℕ) (limit : ℕ) (ps : List (Option ℕ)) (low end : ℕ) (s : Step) : Type 0 where
   pub leads : Leads c limit ps end s
   pub least : (i p : ℕ) → low ≤ i → i < end → c i end ≤ limit → price ps i ≡ Some p → s.price ≤ p + c i end
@@ -52,7 +52,7 @@ abbrev pub from_of : Option Step → ℕ
 from_of None = 0
 from_of (Some s) = s.from
 
--- each start lies before its end
+-- each start is before its end
 abbrev pub GoBack : List ℕ → Type 0
 GoBack froms = (j : ℕ) → 0 < j → j < length froms → slice_index froms j < j
 

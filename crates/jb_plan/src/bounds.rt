@@ -4,7 +4,7 @@ ghost use Rattle.jb_cost.specs.Cut.{IsCut, EachPiece};
 use jb_block::Memory;
 use std::alloc::Global;
 
-// The bounds of a cut that ends at `end`, of which `froms` tells the one before each.
+/// The bounds of a cut that ends at `end`, of which `froms` gives the one before each.
 pub(crate) fn bounds_to(alloc: Global, froms: &[usize], end: usize) -> Result<Vec<usize>, Memory>
     requires end_in { end < length froms.now }
     requires backwards { (j : ℕ) → 0 < j → j < length froms.now → slice_index froms.now j < j }

@@ -1,4 +1,4 @@
-//! A cut of a queue of handles into groups that no other cut beats in log blocks, and the prices that show it.
+//! A cut of a queue of handles into groups that takes the fewest log blocks, and the prices that show it.
 #![tactic(auto)]
 
 mod bounds;

@@ -8,14 +8,14 @@ use jb_cost::{Geometry, LastTouches};
 use jb_handle::Stopped;
 use std::alloc::Global;
 
-// The least number of log blocks for each first part of a queue, and where its last group begins.
+/// The least number of log blocks for each first part of a queue, and where its last group begins.
 #[derive(Drop)]
 pub(crate) struct Table {
     pub(crate) prices: Vec<Option<u64>>,
     pub(crate) froms: Vec<usize>,
 }
 
-// The table of a whole queue, from its front on: each end needs the prices before it.
+/// The table of a whole queue, from its front on: each end needs the prices before it.
 pub(crate) fn table_of(
     alloc: Global,
     handles: &[Stopped],

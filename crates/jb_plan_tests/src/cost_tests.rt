@@ -10,7 +10,7 @@ fn copy(alloc: Global) -> Word {
     Word::Copy(Payload::padded(Vec::new(alloc), 1024))
 }
 
-// A handle that writes some homes.
+/// A handle that writes some homes.
 fn handle(alloc: Global, writes: &[u64]) -> Result<Stopped, Memory> {
     let mut words = Words::new(alloc);
     for home in writes {
@@ -19,7 +19,7 @@ fn handle(alloc: Global, writes: &[u64]) -> Result<Stopped, Memory> {
     Ok(Stopped { ticket: 0, words })
 }
 
-// A handle that writes the homes from one up to another, and frees those below a third.
+/// A handle that writes the homes from one up to another, and frees those below a third.
 fn spread(alloc: Global, from: u64, to: u64, freed: u64) -> Result<Stopped, Memory> {
     let mut words = Words::new(alloc);
     for home in from..to {
@@ -31,7 +31,7 @@ fn spread(alloc: Global, from: u64, to: u64, freed: u64) -> Result<Stopped, Memo
     Ok(Stopped { ticket: 0, words })
 }
 
-// What a footprint says of the handles, put in from right to left.
+/// What a footprint says of the handles, put in from right to left.
 fn by_footprint(alloc: Global, handles: &[Stopped], geometry: Geometry) -> Result<u64, Memory>
     requires size { IsWithinSize handles.now }
 {
@@ -43,7 +43,7 @@ fn by_footprint(alloc: Global, handles: &[Stopped], geometry: Geometry) -> Resul
     Ok(cost)
 }
 
-// The homes from one up to another that are written, how many are freed, and the blocks.
+/// The homes from one up to another that are written, how many are freed, and the blocks.
 const SINGLE: [(u64, u64, u64, u64); 4] = [
     (0, 124, 0, 126),
     (0, 125, 0, 128),
@@ -77,7 +77,7 @@ fn costs_are_those_worked_by_hand(rt: HostRuntime) -> Result<(), Fail> {
     Ok(())
 }
 
-// What a handle leaves at a home: nothing, a copy, or that it is free.
+/// What a handle leaves at a home: nothing, a copy, or that it is free.
 fn put_choice(alloc: Global, words: &mut Words, home: u64, choice: u32) -> Result<(), Memory> {
     match choice % 3 {
         0 => Ok(()),
@@ -86,7 +86,7 @@ fn put_choice(alloc: Global, words: &mut Words, home: u64, choice: u32) -> Resul
     }
 }
 
-// One of the nine handles over two homes.
+/// One of the nine handles over two homes.
 fn choice(alloc: Global, number: u32) -> Result<Stopped, Memory> {
     let mut words = Words::new(alloc);
     put_choice(alloc, &mut words, 0, number)?;

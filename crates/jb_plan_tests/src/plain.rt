@@ -3,14 +3,14 @@ use jb_cost::{Geometry, group_cost};
 use jb_handle::{Stopped, is_within_size};
 use std::alloc::Global;
 
-// What a plain planner finds: it looks at all groups, and counts each from nothing.
+/// What a plain planner finds: it looks at all groups, and counts each from nothing.
 #[derive(Drop)]
 pub(crate) struct PlainPlan {
     pub(crate) prices: Vec<Option<u64>>,
     pub(crate) froms: Vec<usize>,
 }
 
-// The least price of each first part of a queue, and the first bound from which its last group attains it.
+/// The least price of each first part of a queue, and the first bound from which its last group attains it.
 pub(crate) fn plan_plainly(
     alloc: Global,
     handles: &[Stopped],
@@ -37,7 +37,7 @@ pub(crate) fn plan_plainly(
     Ok(PlainPlan { prices, froms })
 }
 
-// The price of a start and the cost of a group from there, if it has one and the group fits.
+/// The price of a start and the cost of a group from there, if it has one and the group fits.
 fn group_total(
     alloc: Global,
     group: &[Stopped],

@@ -7,7 +7,7 @@ use jb_queue::read_queue;
 use std::alloc::Global;
 use std::test::Fail;
 
-// A queue's text, its prices, and the bounds of its cut, if one fits.
+/// A queue's text, its prices, and the bounds of its cut, if one fits.
 type Row = (
     &'static str,
     &'static [Option<u64>],
@@ -71,7 +71,7 @@ fn plans_are_those_worked_by_hand(rt: HostRuntime) -> Result<(), Fail> {
     Ok(())
 }
 
-// So many handles, of which each writes the next of seven home blocks.
+/// So many handles, of which each writes the next of seven home blocks.
 fn seven_in_turn(alloc: Global, handles: u64) -> Result<Vec<Stopped>, Memory> {
     let mut queue = Vec::new(alloc);
     for ticket in 0..handles {
@@ -116,7 +116,7 @@ fn two_thousand_handles_share_seven_blocks(rt: HostRuntime) -> Result<(), Fail> 
     Ok(())
 }
 
-// What a handle does to a home block.
+/// What a handle does to a home block.
 #[derive(Clone, Copy, PartialEq, Eq)]
 enum Change {
     Nothing,
@@ -124,10 +124,10 @@ enum Change {
     Revoke,
 }
 
-// What a handle does to home blocks 0, 1 and 2.
+/// What a handle does to home blocks 0, 1 and 2.
 type Changes = [Change; 3];
 
-// The handle of each number below 27: a digit to the base 3 for each home block.
+/// The handle of each number below 27: a digit to the base 3 for each home block.
 fn changes_of(number: u32) -> Changes {
     [number % 3, number / 3 % 3, number / 9 % 3].map(|digit| match digit {
         0 => Change::Nothing,
@@ -148,7 +148,7 @@ fn handle_of(alloc: Global, ticket: u64, changes: Changes) -> Result<Stopped, Me
     Ok(Stopped { ticket, words })
 }
 
-// The log blocks of a group with at most three homes: each home by the last change to it.
+/// The log blocks of a group with at most three homes: each home by the last change to it.
 fn blocks(group: &[Changes]) -> u64 {
     let mut writes: u64 = 0;
     let mut revokes: u64 = 0;
@@ -167,7 +167,7 @@ fn blocks(group: &[Changes]) -> u64 {
     writes.min(3) + writes.min(1) + revokes.min(1) + 1
 }
 
-// What the cut with these bounds inside takes, or `None` where a group is over the limit.
+/// What the cut with these bounds inside takes, or `None` where a group is over the limit.
 fn total(queue: &[Changes], inside: [bool; 3], limit: u64) -> Option<u64> {
     let mut total: u64 = 0;
     let mut from = 0;
@@ -184,7 +184,7 @@ fn total(queue: &[Changes], inside: [bool; 3], limit: u64) -> Option<u64> {
     Some(total)
 }
 
-// The least total over all cuts of at most four handles.
+/// The least total over all cuts of at most four handles.
 fn least(queue: &[Changes], limit: u64) -> Option<u64> {
     let mut least: Option<u64> = None;
     for number in 0..8 {
@@ -204,7 +204,7 @@ fn queue_of(alloc: Global, changes: &[Changes]) -> Result<Vec<Stopped>, Memory> 
     Ok(queue)
 }
 
-// Whether a plan has the prices of the plain planner, and its bounds.
+/// Whether a plan has the prices of the plain planner, and its bounds.
 fn agree(planned: &Planned, plain: &PlainPlan) -> bool {
     if planned.prices != plain.prices {
         return false;
@@ -217,7 +217,7 @@ fn agree(planned: &Planned, plain: &PlainPlan) -> bool {
     }
 }
 
-// Whether the bounds begin with 0, end with the last end, and each comes from the one before it.
+/// Whether the bounds begin with 0, end with the last end, and each comes from the one before it.
 fn comes_from(bounds: &[usize], froms: &[usize]) -> bool {
     let mut pairs = bounds.iter().zip(bounds.iter().skip(1));
     bounds.first() == Some(&0)
@@ -225,7 +225,7 @@ fn comes_from(bounds: &[usize], froms: &[usize]) -> bool {
         && pairs.all(|(from, to)| froms.get(*to) == Some(from))
 }
 
-// How many queues there are of no handle, of one, and so on.
+/// How many queues there are of no handle, of one, and so on.
 const QUEUES: [u32; 5] = [1, 27, 729, 19_683, 531_441];
 
 #[test]
@@ -253,7 +253,7 @@ fn no_cut_of_a_short_queue_beats_the_plan(rt: HostRuntime) -> Result<(), Fail> {
     Ok(())
 }
 
-// The next number of a sequence that looks like chance, the same at each run.
+/// The next number of a sequence that looks like chance, the same at each run.
 fn next(seed: &mut u64) -> u64 {
     *seed = seed
         .wrapping_mul(6_364_136_223_846_793_005)
@@ -261,7 +261,7 @@ fn next(seed: &mut u64) -> u64 {
     *seed >> 33
 }
 
-// A handle of up to three words over so many homes.
+/// A handle of up to three words over so many homes.
 fn chance_handle(alloc: Global, seed: &mut u64, homes: u64) -> Result<Stopped, Memory> {
     let mut words = Words::new(alloc);
     for _ in 0..next(seed) % 4 {

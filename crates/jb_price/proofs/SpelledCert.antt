@@ -51,7 +51,7 @@ module _ {A : Type 0} (read : List ℕ → Option A) (show : A → List ℕ) (P 
       record { items = []; whole = same ∙ sym (append-nil had); shown = refl; fit = tt }
   each-is had now (w ∷ ws) reads = each-case had now w ws (read w) refl reads (λ had' further. each-is had' now ws further)
 
-  -- a line of words behind a text
+  -- a line of words after a text
   pub words-is : (text : List ℕ) (now : List A) → after_each read [] (words text) ≡ Some now → (32 ∷ text ≡ spaced (map show now)) × AllByRecursion P now
   words-is text now reads =
       let are = each-is [] now (words text) reads in
@@ -69,7 +69,7 @@ price-shows w p is = from (bytes_eq w (codes "none")) (number_of w) refl refl is
         let some : Some n ≡ p = cc in
         subst (λ q. (w ≡ price_text q) × PriceFits q) some (number-is_decimal w n number)
 
--- what is read behind a line's first word
+-- what is read after a line's first word
 behind-case : {A : Type 0} (found : Option (List ℕ)) (f : List ℕ → Option A) (x : A) → option_and_then f found ≡ Some x → (text : List ℕ) × (found ≡ Some text) × (f text ≡ Some x)
 behind-case None f x is = cc
 behind-case (Some text) f x is = (text, refl, is)
@@ -144,7 +144,7 @@ cut-case prices line more claim bounds (Ok cut) fit is total gives =
       cut_fits = behind.1;
     })
 
--- the claim of lines, from behind the first line and the second
+-- the claim of lines, from after the first line and the second
 abbrev pub behind_cut : List (Option ℕ) → Option (List ℕ) → List (List ℕ) → Result Claim CertFault
 behind_cut prices bounds more = with_total bounds more >>= λ cut. Ok (record { prices = prices; cut = cut })
 

@@ -23,7 +23,7 @@ cut_of NoCut = None
 abbrev pub claim_of : Cert → Claim
 claim_of cert = record { prices = cert.prices.items; cut = cut_of cert.answer }
 
--- the price that a word says
+-- the price that a word gives
 abbrev pub price_of : List ℕ → Option (Option ℕ)
 price_of word = if bytes_eq word (codes "none") then Some None else option_map Some (number_of word)
 
@@ -58,7 +58,7 @@ abbrev pub at_end : {A : Type 0} → ℕ → A → List (List ℕ) → Result A 
 at_end at x [] = Ok x
 at_end at x (line ∷ more) = Err (Syntax at)
 
--- the cut of the line of the bounds, and of the lines behind it
+-- the cut of the line of the bounds, and of the lines after it
 abbrev pub with_total : Option (List ℕ) → List (List ℕ) → Result (Option (List ℕ × ℕ)) CertFault
 with_total None more = at_end 3 None more
 with_total (Some bounds) more = do
@@ -87,11 +87,11 @@ read_of handles text = do
 abbrev pub first_price : List ℕ → Option (Option ℕ × List (List ℕ))
 first_price line = option_and_then (λ text. first_of price_of (words text)) (behind_word (codes "prices ") line)
 
--- the first line of a text begins with a price, which is kept before anything else is looked at
+-- the first line of a text begins with a price, the first thing that is kept
 abbrev pub BeginsWithPrice : List ℕ → Type 0
 BeginsWithPrice text = IsSome (first_of first_price (lines text))
 
--- a fault is the first one of a text; out of memory says of it only that something grows
+-- a fault is the first one of a text; `Memory` says only that something is kept
 abbrev pub Refuses : {A : Type 0} → Type 0 → Result A CertFault → CertFault → Type 0
 Refuses grows read Memory = grows
 Refuses grows read fault = read ≡ Err fault

@@ -11,7 +11,7 @@ use Rattle.jb_price.specs.ReadBack.{Fits64, PriceFits}
 abbrev pub first_line : List (Option ℕ) → List ℕ
 first_line prices = codes "prices" ++ spaced (map price_text prices)
 
--- the lines behind it: `cut none`, or a line of bounds and a line of their total
+-- the lines after it: `cut none`, or a line of bounds and a line of their total
 abbrev pub cut_lines : Option (List ℕ × ℕ) → List (List ℕ)
 cut_lines None = codes "cut none" ∷ []
 cut_lines (Some cut) = (codes "cut" ++ spaced (map decimal cut.0)) ∷ (codes "total " ++ decimal cut.1) ∷ []

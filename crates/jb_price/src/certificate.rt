@@ -1,4 +1,4 @@
-/// What a certificate claims of a queue: a cut that no cut beats, or that no cut fits the limit.
+/// What a certificate claims of a queue: a cut that takes the fewest log blocks, or that no cut fits the limit.
 #[derive(Debug, Drop, PartialEq, Eq)]
 pub enum CertAnswer {
     /// A cut, by the ends of its pieces, each a number of handles, and the log blocks of its groups added up.

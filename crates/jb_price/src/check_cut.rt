@@ -8,7 +8,7 @@ use jb_cost::{Geometry, group_cost};
 use jb_handle::Stopped;
 use std::alloc::Global;
 
-// Whether the bounds begin with 0, rise, and end with `end`.
+/// Whether the bounds begin with 0, rise, and end with `end`.
 pub(crate) fn is_cut(bounds: &[usize], end: usize) -> bool
     ensures { IsTrue result ↔ IsCut end bounds.now }
 {
@@ -28,16 +28,16 @@ pub(crate) fn is_cut(bounds: &[usize], end: usize) -> bool
     from == end
 }
 
-// What the groups of a cut come to.
+/// What the groups of a cut take.
 #[derive(Clone, Copy)]
 pub(crate) enum Sum {
-    // All are within the limit: the log blocks that they take, added up.
+    /// All are within the limit: the log blocks that they take, added up.
     Within(u128),
-    // The bounds of the first group over the limit.
+    /// The bounds of the first group over the limit.
     Over(usize, usize),
 }
 
-// Adds up what the groups of a cut take, up to the first that is over the limit.
+/// Adds up what the groups of a cut take, up to the first that is over the limit.
 pub(crate) fn sum_of(
     alloc: Global,
     handles: &[Stopped],
@@ -63,7 +63,7 @@ pub(crate) fn sum_of(
     Ok(Sum::Within(sum))
 }
 
-// The log blocks that some handles take as one group.
+/// The log blocks that some handles take as one group.
 fn piece_blocks(
     alloc: Global,
     handles: &[Stopped],

@@ -10,8 +10,8 @@ use jb_cost::{Footprint, Found, Geometry, LastTouches};
 use jb_handle::Stopped;
 use std::alloc::Global;
 
-// The first undercut of the prices: the least first bound, and of its second bounds the least. The
-// last touches tell for each end whether it has one, and only then the starts are looked at.
+/// The first undercut of the prices: the least first bound, and of its second bounds the least. The
+/// last touches say for each end whether it has one, and only then the starts are looked at.
 pub(crate) fn first_undercut(
     alloc: Global,
     handles: &[Stopped],
@@ -36,7 +36,7 @@ pub(crate) fn first_undercut(
     Ok(first)
 }
 
-// Whether the best start comes to less than the price of the end. If it doesn't, none does.
+/// Whether the best start costs less than the price of the end. If it does not, none does.
 fn undercuts(best: Option<Found>, end: Option<u64>) -> bool
     ensures { IsTrue result ↔ ((s : FoundValue) × (best ≡ Some s) × IsDearer end (s.price + s.cost)) }
 {
@@ -46,8 +46,8 @@ fn undercuts(best: Option<Found>, end: Option<u64>) -> bool
     }
 }
 
-// The earlier of the first undercut so far and one of a later end: at the same first bound that with
-// the lesser end.
+/// The earlier of the first undercut so far and one of a later end: at the same first bound that with
+/// the lesser end.
 fn earlier(
     first: Option<(usize, usize)>,
     found: Option<usize>,
@@ -62,8 +62,8 @@ fn earlier(
     }
 }
 
-// The least bound from which the handles up to `end` are an undercut. The piece grows leftwards, which
-// never makes it cheaper, so the first one over the limit ends the search.
+/// The least bound from which the handles up to `end` are an undercut. The piece grows leftwards, which
+/// never makes it cheaper, so the first one over the limit ends the search.
 fn least_undercut(
     alloc: Global,
     handles: &[Stopped],
@@ -91,7 +91,7 @@ fn least_undercut(
     Ok(least)
 }
 
-// Whether a price and the cost of a group come to less than the price of the group's end.
+/// Whether a price and the cost of a group add up to less than the price of the group's end.
 fn is_cheaper(price: Option<u64>, cost: u64, end: Option<u64>) -> bool
     ensures { IsTrue result ↔ ((p : ℕ) × (price ≡ Some p) × IsDearer end (p + cost)) }
 {
@@ -101,7 +101,7 @@ fn is_cheaper(price: Option<u64>, cost: u64, end: Option<u64>) -> bool
     }
 }
 
-// Whether a price and a cost come to less than another price; without one they do.
+/// Whether a price and a cost add up to less than another price; without one they do.
 fn is_below(price: u64, cost: u64, end: Option<u64>) -> bool
     ensures { IsTrue result ↔ IsDearer end (price + cost) }
 {

@@ -13,7 +13,7 @@ use jb_handle::Stopped;
 use std::alloc::Global;
 
 /// Checks a certificate of a queue of stopped handles against a limit in log blocks, and names the
-/// first of its faults. Nobody has to trust its maker: where it is accepted, no cut of the queue into
+/// first of its faults. Its maker need not be trusted: where it is accepted, no cut of the queue into
 /// groups within the limit takes fewer log blocks than the claimed one, or no such cut exists.
 ///
 /// Sums are taken in 128 bits, so that no number of a certificate wraps.
@@ -46,7 +46,7 @@ pub fn check(
     }
 }
 
-// Checks the answer of a certificate whose prices no group undercuts.
+/// Checks the answer of a certificate whose prices no group undercuts.
 fn check_answer(
     alloc: Global,
     handles: &[Stopped],
@@ -69,7 +69,7 @@ fn check_answer(
     }
 }
 
-// Checks a claimed cut and its total against the last price.
+/// Checks a claimed cut and its total against the last price.
 fn check_cut(
     alloc: Global,
     handles: &[Stopped],

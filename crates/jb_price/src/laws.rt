@@ -21,7 +21,7 @@ pub fn spelled()
     ensures { (handles : ℕ) (text : List ℕ) (claim : Claim) → (read_of handles text ≡ Ok claim) ↔ SpellsClaim handles text claim }
 {}
 
-/// A cut that no cut beats, or the answer that none fits, is accepted with prices that are least
+/// A least cut, or the answer that none fits, is accepted with prices that are least
 /// totals: such a certificate has none of the six faults, so every certificate of a plan is accepted.
 pub fn planned()
     ensures { PlannedIsAccepted }

@@ -1,4 +1,4 @@
-//! Certificates of a cut of a queue into groups: their text, and the check by which nobody has to trust their maker.
+//! Certificates of a cut of a queue into groups: their text, and a check that needs no trust in their maker.
 #![tactic(auto)]
 
 mod certificate;

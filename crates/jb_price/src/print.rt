@@ -17,7 +17,7 @@ pub fn print_cert(alloc: Global, cert: &Cert) -> Result<String, Memory>
     Ok(text)
 }
 
-// Writes the line of the prices behind the text.
+/// Adds the line of the prices to the text.
 fn push_prices(text: &mut String, prices: &[Option<u64>]) -> Result<(), Memory>
     ensures { OnOk result (string_bytes text.new ≡ string_bytes text.old ++ prices_line prices.now) }
 {
@@ -28,7 +28,7 @@ fn push_prices(text: &mut String, prices: &[Option<u64>]) -> Result<(), Memory>
     text.push_str("\n")
 }
 
-// Writes a space and a price behind the text.
+/// Adds a space and a price to the text.
 fn push_price(text: &mut String, price: Option<u64>) -> Result<(), Memory>
     ensures { OnOk result (string_bytes text.new ≡ string_bytes text.old ++ (32 ∷ price_text price)) }
 {
@@ -38,7 +38,7 @@ fn push_price(text: &mut String, price: Option<u64>) -> Result<(), Memory>
     }
 }
 
-// Writes the line of the cut behind the text, and that of its total.
+/// Adds the line of the cut to the text, and that of its total.
 fn push_answer(text: &mut String, answer: &CertAnswer) -> Result<(), Memory>
     ensures { OnOk result (string_bytes text.new ≡ string_bytes text.old ++ answer_lines answer.now) }
 {
@@ -51,7 +51,7 @@ fn push_answer(text: &mut String, answer: &CertAnswer) -> Result<(), Memory>
     }
 }
 
-// Writes the line of a cut behind the text, without the LF at its end.
+/// Adds the line of a cut to the text, without the LF at its end.
 fn push_bounds(text: &mut String, bounds: &[usize]) -> Result<(), Memory>
     ensures { OnOk result (string_bytes text.new ≡ string_bytes text.old ++ (codes "cut" ++ spaced (map decimal bounds.now))) }
 {

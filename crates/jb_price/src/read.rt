@@ -12,7 +12,7 @@ use std::alloc::Global;
 ///
 /// # Errors
 ///
-/// `Syntax` with the first line that breaks the form; else `Length` where there is not one price more than
+/// `Syntax` with the first line that breaks the form; otherwise `Length` where there is not one price more than
 /// handles; or `Memory`, once the first price was read.
 pub fn read_cert(alloc: Global, text: &[u8], handles: usize) -> Result<Cert, CertFault>
     ensures ok { IfOk result (λ cert. read_of handles text.now ≡ Ok (claim_of cert)) }
@@ -25,7 +25,7 @@ pub fn read_cert(alloc: Global, text: &[u8], handles: usize) -> Result<Cert, Cer
     Ok(cert)
 }
 
-// The certificate that the lines of a text say.
+/// The certificate that the lines of a text say.
 fn read_lines(alloc: Global, text: &[u8]) -> Result<Cert, CertFault>
     ensures ok { IfOk result (λ cert. claim_in (lines text.now) ≡ Ok (claim_of cert)) }
     ensures err { IfErr result (Refuses (BeginsWithPrice text.now) (claim_in (lines text.now))) }
@@ -44,7 +44,7 @@ fn read_lines(alloc: Global, text: &[u8]) -> Result<Cert, CertFault>
     Ok(Cert { prices, answer })
 }
 
-// The prices of the first line.
+/// The prices of the first line.
 fn read_prices(alloc: Global, line: &[u8]) -> Result<Vec<Option<u64>>, CertFault>
     ensures ok { IfOk result (λ prices. prices_in line.now ≡ Some prices.items) }
     ensures begun { OnOk result (IsSome (first_price line.now)) }
@@ -56,7 +56,7 @@ fn read_prices(alloc: Global, line: &[u8]) -> Result<Vec<Option<u64>>, CertFault
     }
 }
 
-// The prices that words say.
+/// The prices that words say.
 fn price_list(alloc: Global, text: &[u8]) -> Result<Vec<Option<u64>>, CertFault>
     ensures ok { IfOk result (λ prices. after_each price_of_word [] (words text.now) ≡ Some prices.items) }
     ensures begun { OnOk result (IsSome (first_of price_of_word (words text.now))) }
@@ -77,7 +77,7 @@ fn price_list(alloc: Global, text: &[u8]) -> Result<Vec<Option<u64>>, CertFault>
     Ok(prices)
 }
 
-// The price that a word says.
+/// The price that a word says.
 fn price_of(word: &[u8]) -> Option<Option<u64>>
     ensures { result ≡ price_of_word word.now }
 {
@@ -87,7 +87,7 @@ fn price_of(word: &[u8]) -> Option<Option<u64>>
     Some(Some(number(word)?))
 }
 
-// The bounds of the second line, or `None` where it says that there is no cut.
+/// The bounds of the second line, or `None` where it says that there is no cut.
 fn read_cut(alloc: Global, line: &[u8]) -> Result<Option<Vec<usize>>, CertFault>
     ensures ok { IfOk result (λ cut. cut_in line.now ≡ Some (option_map (λ bounds. bounds.items) cut)) }
     ensures err { IfErr result (Refuses (Unit {0}) (on_line 2 (cut_in line.now))) }
@@ -99,7 +99,7 @@ fn read_cut(alloc: Global, line: &[u8]) -> Result<Option<Vec<usize>>, CertFault>
     }
 }
 
-// The bounds that words say.
+/// The bounds that words say.
 fn bound_list(alloc: Global, text: &[u8]) -> Result<Vec<usize>, CertFault>
     ensures ok { IfOk result (λ bounds. after_each number_of [] (words text.now) ≡ Some bounds.items) }
     ensures err { IfErr result (Refuses (Unit {0}) (on_line 2 (after_each number_of [] (words text.now)))) }
@@ -119,7 +119,7 @@ fn bound_list(alloc: Global, text: &[u8]) -> Result<Vec<usize>, CertFault>
     Ok(bounds)
 }
 
-// The cut of these bounds, with the total of the third line, behind which none is left.
+/// The cut of these bounds, with the total of the third line, after which no line is left.
 fn read_total(bounds: Vec<usize>, text: &[u8]) -> Result<CertAnswer, CertFault>
     ensures ok { IfOk result (λ answer. with_total (Some bounds.items) (lines text.now) ≡ Ok (cut_of answer)) }
     ensures err { IfErr result (Refuses ⊥ (with_total (Some bounds.items) (lines text.now))) }
@@ -136,14 +136,14 @@ fn read_total(bounds: Vec<usize>, text: &[u8]) -> Result<CertAnswer, CertFault>
     }
 }
 
-// The total that a line says.
+/// The total that a line says.
 fn total_of(line: &[u8]) -> Option<u64>
     ensures { result ≡ total_in line.now }
 {
     number(line.strip_prefix(b"total ")?)
 }
 
-// The answer that there is no cut, behind which no line is left.
+/// The answer that there is no cut, after which no line is left.
 fn read_end(text: &[u8]) -> Result<CertAnswer, CertFault>
     ensures ok { IfOk result (λ answer. with_total None (lines text.now) ≡ Ok (cut_of answer)) }
     ensures err { IfErr result (Refuses ⊥ (with_total None (lines text.now))) }

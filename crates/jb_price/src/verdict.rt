@@ -1,27 +1,27 @@
 /// What the check of a certificate says of it.
 #[derive(Clone, Copy, Debug, PartialEq, Eq)]
 pub enum Verdict {
-    /// The claimed cut is one that no cut beats, or no cut fits, as claimed.
+    /// The claimed cut takes the fewest log blocks, or no cut fits, as claimed.
     Accepted,
     /// The first fault of the certificate.
     Refused(Reason),
 }
 
-/// The faults of a certificate, in the order in which they are looked for. Bounds count handles.
+/// The faults of a certificate, in the order in which they are tested. Bounds count handles.
 #[derive(Clone, Copy, Debug, PartialEq, Eq)]
 pub enum Reason {
-    /// The price of no handles isn't 0.
+    /// The price of no handles is not 0.
     OpeningPrice,
     /// The handles from the first bound up to the second fit one group, and with it the second bound
     /// costs less than its price: the least first bound, and of its second bounds the least.
     Undercut(usize, usize),
-    /// The bounds don't begin with 0, don't rise, or don't end with the number of handles.
+    /// The bounds do not begin with 0, do not rise, or do not end with the number of handles.
     NotACut,
     /// The handles from the first bound up to the second take more log blocks than the limit: the
     /// first such group of the cut.
     OverLimit(usize, usize),
-    /// The stated total isn't the sum of the groups' costs.
+    /// The stated total is not the sum of the groups' costs.
     TotalDiffers,
-    /// The last price isn't the total, or is a number where no cut is claimed.
+    /// The last price is not the total, or is a number where no cut is claimed.
     EndPrice,
 }

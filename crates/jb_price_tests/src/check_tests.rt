@@ -4,7 +4,7 @@ use jb_price::{Cert, CertAnswer, Reason, Verdict, check, read_cert};
 use jb_queue::read_queue;
 use std::test::Fail;
 
-// A queue's text, a certificate's text, and what the check says.
+/// A queue's text, a certificate's text, and what the check says.
 type Row = (&'static str, &'static str, Verdict);
 
 const FOUR: &str = "bs 1024\nlimit 6\nh w1 w2\nh w3 w4\nh w3 w4\nh w3 w4 w5\n";

@@ -2,7 +2,7 @@ use jb_price::{Cert, CertAnswer, CertFault, print_cert, read_cert};
 use std::alloc::Global;
 use std::test::Fail;
 
-// The certificate of the handles `w1 w2`, `w3 w4`, `w3 w4`, `w3 w4 w5` within 6 log blocks.
+/// The certificate of the handles `w1 w2`, `w3 w4`, `w3 w4`, `w3 w4 w5` within 6 log blocks.
 const FOUR_HANDLES: &str = "prices 0 4 6 6 9\ncut 0 1 4\ntotal 9\n";
 
 fn four_handles(alloc: Global) -> Result<Cert, Fail> {
@@ -38,7 +38,7 @@ fn certificates_are_printed_and_read(rt: HostRuntime) -> Result<(), Fail> {
     Ok(())
 }
 
-// The line that a prefix of `FOUR_HANDLES` breaks, by the prefix's length: 0 to 33 bytes.
+/// The line that a prefix of `FOUR_HANDLES` breaks, by the prefix's length: 0 to 33 bytes.
 const BROKEN_LINES: [u64; 34] = [
     1, 1, 1, 1, 1, 1, 1, 1, 2, 1, 2, 1, 2, 1, 2, 1, 2, 2, 2, 2, 2, 2, 3, 2, 3, 2, 3, 3, 3, 3, 3, 3,
     3, 3,

@@ -23,7 +23,7 @@ lines-end size had = refl
 line-of : QueueFault → ℕ
 line-of fault = fault.line
 
--- a fault of further lines does not stand before them
+-- a fault of further lines is not before them
 fails-later : (size : ℕ) (had : List Stopped) (line : List ℕ) (more : List (List ℕ)) (other : QueueFault) (h : Result WordMap Cause) → handle_of size line ≡ h → after_lines size had (line ∷ more) ≡ Err other
     → ((had' : List Stopped) → after_lines size had' more ≡ Err other → length had' + 3 ≤ other.line) → length had + 3 ≤ other.line
 fails-later size had line more other (Ok left) is fails later =
@@ -54,7 +54,7 @@ module _ (size : ℕ) (had : List Stopped) (rest line behind : List ℕ) (whole 
   line-fails : (cause : Cause) → handle_of size line ≡ Err cause → whole ≡ Err (record { line = at + 3; cause = cause })
   line-fails cause given = sym from_line ∙ lines-fails size had line (lines behind) cause given ∙ ap (λ n. Err (record { line = n + 3; cause = cause })) (sym is)
 
-  -- want of memory at a line stands before each fault that is left
+  -- `Memory` at a line is before each fault that is left
   line-first : (other : QueueFault) → whole ≡ Err other → at + 3 ≤ other.line
   line-first other fails = let later = lines-later size had (lines rest) other (so_far ∙ fails) in omega (arith, later, is)
 
@@ -71,7 +71,7 @@ module _ (size : ℕ) (had : List Stopped) (rest line behind : List ℕ) (whole 
       let bad : cause ≡ HandleLine = ap (λ f. f.cause) (one ∙ same) in
       clear (ap Err bad)
 
-  -- want of memory at a line that is a handle's
+  -- `Memory` at a line that is a handle's
   pub line-full : (h : Result WordMap Cause) → handle_of size line ≡ h → (h ≡ Err HandleLine → ⊥) → Reports whole (record { line = at + 3; cause = Memory })
   line-full h given clear = λ other fails. (line-first other fails, line-clear h given clear other fails)
 

@@ -95,7 +95,7 @@ bytes-case size (Ok raw) bytes is =
     let both = fitted (nat_lt 0 (length raw) && nat_le (length raw) size) size raw bytes is in
     (raw, refl, grind (arith, nat_tests, both.0), grind (arith, nat_tests, both.0), both.1)
 
--- a word with no `=` behind its number writes zeros, and one with it its bytes
+-- a word with no `=` after its number writes zeros, and one with it its bytes
 write-is : (size : ℕ) (rest : List ℕ) (op : Entry) (block : List ℕ) → home_named (before 61 rest) ≡ Ok op.0 → data_of size (onward 61 rest) ≡ Ok block → op.1 ≡ Copy block → SpellsOp size (119 ∷ rest) op
 write-is size rest op block home read left =
     let found = home-is (before 61 rest) op.0 home in

@@ -170,7 +170,7 @@ handles-from size had (line ∷ more) (h ∷ hs) each tickets =
     ∙ handles-from size (had ++ h ∷ []) more hs each.1 (subst (λ n. TicketsFrom n hs) (sym (length-append had (h ∷ []))) tickets.1)
     ∙ ap Ok (append_assoc had (h ∷ []) hs)
 
--- the queue of a text, from behind its first line and its second
+-- the queue of a text, from after its first line and its second
 abbrev pub behind_limit : BlockSize × Width → ℕ → List (List ℕ) → Result Queue QueueFault
 behind_limit format limit more = after_lines (bytes_of format.0) [] more >>= λ handles. Ok (record { size = format.0; limit = limit; width = format.1; handles = handles })
 

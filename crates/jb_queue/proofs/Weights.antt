@@ -54,7 +54,7 @@ len-insert-le had home word = one-more (map.contains_key had home) (map.len had)
 empty-op : (size : ℕ) (op : ℕ × Word) → op_of size [] ≡ Ok op → ⊥
 empty-op size op is = cc
 
--- what a word of the line leaves, and those behind it, as the case of the word goes
+-- what a word of the line leaves, and those after it, as the case of the word goes
 ops-case : (size : ℕ) (had : WordMap) (text : List ℕ) (texts : List (List ℕ)) (now : WordMap) (op : Result (ℕ × Word) Cause) → op_of size text ≡ op → after_ops size had (text ∷ texts) ≡ Ok now
     → ((had' : WordMap) → after_ops size had' texts ≡ Ok now → 2 * map.len now ≤ 2 * map.len had' + total texts) → 2 * map.len now ≤ 2 * map.len had + total (text ∷ texts)
 ops-case size had [] texts now (Ok op) is reads later = absurd (empty-op size op is)

@@ -48,8 +48,8 @@ abbrev pub data_of : ℕ → List ℕ → Result (List ℕ) Cause
 data_of size [] = Ok (padded size [])
 data_of size (equals ∷ digits) = fitting size (decode_of digits)
 
--- a home block, and the word that is left at it: behind a `w` (119) a copy, with its bytes from `=` (61) on, and
--- behind an `r` (114) the block is free
+-- a home block, and the word that is left at it: after a `w` (119) a copy, with its bytes from `=` (61) on, and
+-- after an `r` (114) the block is free
 abbrev pub op_of : ℕ → List ℕ → Result (ℕ × Word) Cause
 op_of size [] = Err OpWord
 op_of size (letter ∷ rest) =
@@ -69,7 +69,7 @@ after_ops size had (text ∷ texts) = do
   op ← op_of size text
   after_ops size (map.insert had op.0 op.1) texts
 
--- the words of a handle, from behind the `h` of its line on
+-- the words of a handle, from after the `h` of its line on
 abbrev pub behind_h : ℕ → List ℕ → Result WordMap Cause
 behind_h size [] = Ok map.empty
 behind_h size (b ∷ rest) = if b == 32 then after_ops size map.empty (words rest) else Err HandleLine
@@ -91,11 +91,11 @@ after_lines size had (line ∷ more) = do
 abbrev pub size_of_bytes : ℕ → Option BlockSize
 size_of_bytes n = if n == 1024 then Some OneKib else if n == 2048 then Some TwoKib else if n == 4096 then Some FourKib else None
 
--- the number behind a word that a line begins with
+-- the number after a word that a line begins with
 abbrev pub number_behind : List ℕ → List ℕ → Option ℕ
 number_behind word line = option_and_then number_of (behind_word word line)
 
--- the width that stands behind a block size: 32 bits where nothing does
+-- the width after a block size: 32 bits where nothing follows
 abbrev pub width_behind : List ℕ → Option Width
 width_behind [] = Some Narrow
 width_behind (b ∷ bs) = if bytes_eq (b ∷ bs) (codes " wide") then Some Wide else None
@@ -106,7 +106,7 @@ both_of None width = None
 both_of (Some size) None = None
 both_of (Some size) (Some width) = Some (size, width)
 
--- what stands behind `bs `: the number up to the first space (32), and the width from there on
+-- what follows `bs `: the number up to the first space (32), and the width from there on
 abbrev pub format_behind : List ℕ → Option (BlockSize × Width)
 format_behind text = both_of (option_and_then size_of_bytes (number_of (before 32 text))) (width_behind (onward 32 text))
 
@@ -139,7 +139,7 @@ Gives (Ok x) read = read ≡ Ok x
 Gives (Err Memory) read = Unit {0}
 Gives (Err cause) read = read ≡ Err cause
 
--- a fault is the first one of a text; want of memory at a line says that no line before it has a fault, and that it is a
+-- a fault is the first one of a text; `Memory` at a line says that no line before it has a fault, and that it is a
 -- handle's, which is judged before anything grows
 abbrev pub ReportsBy : {A : Type 0} → Result A QueueFault → ℕ → Cause → Type 0
 ReportsBy read at Memory = (other : QueueFault) → read ≡ Err other → (at ≤ other.line) × (other ≡ record { line = at; cause = HandleLine } → ⊥)

@@ -55,7 +55,7 @@ abbrev pub last_op : List Entry → ℕ → Option Word
 last_op [] b = None
 last_op (op ∷ ops) b = option_or (last_op ops b) (if op.0 == b then Some op.1 else None)
 
--- a handle's line: `h`, and its words, each behind a space; the last one on a block counts
+-- a handle's line: `h`, and its words, each after a space; the last one on a block counts
 pub record SpellsHandle (size : ℕ) (line : List ℕ) (words : WordMap) : Type 0 where
   pub texts : List (List ℕ)
   pub ops : List Entry
@@ -63,7 +63,7 @@ pub record SpellsHandle (size : ℕ) (line : List ℕ) (words : WordMap) : Type 
   pub each : Each (SpellsOp size) texts ops
   pub left : (b : ℕ) → map.get words b ≡ last_op ops b
 
--- what stands behind the block size: nothing, or ` wide` where block numbers have 64 bits
+-- what follows the block size: nothing, or ` wide` where block numbers have 64 bits
 abbrev pub width_text : Width → List ℕ
 width_text Narrow = []
 width_text Wide = codes " wide"

@@ -13,7 +13,7 @@ pub enum Cause {
     HandleLine,
     /// A word, up to its first `=`, is not `w` or `r` and the number of a home block; or an `r` word has an `=`.
     OpWord,
-    /// What stands behind the `=` of a `w` word is not the hexadecimal text of 1 byte up to a block's.
+    /// The part after the `=` of a `w` word is not the hexadecimal text of 1 byte up to a block's.
     DataWord,
     /// There was no memory for what the line says.
     Memory,

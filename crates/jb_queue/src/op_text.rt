@@ -31,7 +31,7 @@ pub fn read_op(alloc: Global, text: &[u8], bs: BlockSize) -> Result<(u64, Word),
     }
 }
 
-// The home block that digits name.
+/// The home block that digits name.
 fn read_home(digits: &[u8]) -> Result<u64, Cause>
     ensures { Gives result (home_named digits.now) }
 {
@@ -41,7 +41,7 @@ fn read_home(digits: &[u8]) -> Result<u64, Cause>
     }
 }
 
-// The block that the part of a word from its `=` on writes; zeros where the word has none.
+/// The block that the part of a word from its `=` on writes; zeros where the word has none.
 fn read_payload(alloc: Global, text: &[u8], bs: BlockSize) -> Result<Payload, Cause>
     ensures { Gives result (data_of (bytes_of bs) text.now) }
 {

@@ -37,7 +37,7 @@ pub struct QueueText {
 /// # Errors
 ///
 /// The first line that is not of the form, and what is wrong with it. `Memory` at a handle's line says that a
-/// growth was refused there, and that all lines before it are of the form.
+/// memory ran out there, and that all lines before it are of the form.
 pub fn read_queue(alloc: Global, text: &[u8]) -> Result<QueueText, QueueFault>
     ensures ok { IfOk result (λ queue. queue_of text.now ≡ Ok (value_of queue)) }
     ensures err { IfErr result (Reports (queue_of text.now)) }
@@ -65,7 +65,7 @@ pub fn read_queue(alloc: Global, text: &[u8]) -> Result<QueueText, QueueFault>
     })
 }
 
-// The block size and the width on the first line of a text, and the text behind that line.
+/// The block size and the width on the first line of a text, and the text after that line.
 fn first_format(text: &[u8]) -> Option<((BlockSize, Width), &[u8])>
     ensures { option_map (λ p. (p.0, lines p.1.now)) result ≡ first_of format_of (lines text.now) }
 {
@@ -73,7 +73,7 @@ fn first_format(text: &[u8]) -> Option<((BlockSize, Width), &[u8])>
     Some((read_format(line)?, rest))
 }
 
-// The limit on the first line of a text, and the text behind that line.
+/// The limit on the first line of a text, and the text after that line.
 fn first_limit(text: &[u8]) -> Option<(u32, &[u8])>
     ensures { option_map (λ p. (p.0, lines p.1.now)) result ≡ first_of limit_of (lines text.now) }
 {
@@ -81,14 +81,14 @@ fn first_limit(text: &[u8]) -> Option<(u32, &[u8])>
     Some((read_limit(line)?, rest))
 }
 
-// The block size and the width that a line gives.
+/// The block size and the width that a line gives.
 fn read_format(line: &[u8]) -> Option<(BlockSize, Width)>
     ensures { result ≡ format_of line.now }
 {
     format_in(line.strip_prefix(b"bs ")?)
 }
 
-// The block size and the width that stand behind `bs `.
+/// The block size and the width after `bs `.
 fn format_in(text: &[u8]) -> Option<(BlockSize, Width)>
     ensures { result ≡ format_behind text.now }
 {
@@ -96,7 +96,7 @@ fn format_in(text: &[u8]) -> Option<(BlockSize, Width)>
     Some((read_size(digits)?, read_width(rest)?))
 }
 
-// The width that stands behind a block size.
+/// The width after a block size.
 fn read_width(text: &[u8]) -> Option<Width>
     ensures { result ≡ width_behind text.now }
 {
@@ -107,7 +107,7 @@ fn read_width(text: &[u8]) -> Option<Width>
     }
 }
 
-// The block size that digits name.
+/// The block size that digits name.
 fn read_size(digits: &[u8]) -> Option<BlockSize>
     ensures { result ≡ option_and_then size_of_bytes (number_of digits.now) }
 {
@@ -119,7 +119,7 @@ fn read_size(digits: &[u8]) -> Option<BlockSize>
     }
 }
 
-// The limit that a line gives.
+/// The limit that a line gives.
 fn read_limit(line: &[u8]) -> Option<u32>
     ensures { result ≡ limit_of line.now }
 {
@@ -129,7 +129,7 @@ fn read_limit(line: &[u8]) -> Option<u32>
     }
 }
 
-// The handles of the lines of a text, which are those from the third of a queue text on.
+/// The handles of the lines of a text, which are those from the third of a queue text on.
 fn read_handles(alloc: Global, text: &[u8], bs: BlockSize) -> Result<Vec<Stopped>, QueueFault>
     ensures ok { IfOk result (λ handles. after_lines (bytes_of bs) [] (lines text.now) ≡ Ok handles.items) }
     ensures err { IfErr result (Reports (after_lines (bytes_of bs) [] (lines text.now))) }
@@ -158,7 +158,7 @@ fn read_handles(alloc: Global, text: &[u8], bs: BlockSize) -> Result<Vec<Stopped
     Ok(handles)
 }
 
-// The words of the handle that a line lists.
+/// The words of the handle that a line lists.
 fn read_handle(alloc: Global, line: &[u8], bs: BlockSize) -> Result<Words, Cause>
     ensures gives { Gives result (handle_of (bytes_of bs) line.now) }
     ensures handle { result ≡ Err OutOfMemory → handle_of (bytes_of bs) line.now ≡ Err NoHandleLine → ⊥ }
@@ -170,7 +170,7 @@ fn read_handle(alloc: Global, line: &[u8], bs: BlockSize) -> Result<Words, Cause
     }
 }
 
-// The words of a handle, from behind the first space of its line on.
+/// The words of a handle, from after the first space of its line on.
 #[tactic(auto, using(crate::proofs::Clear::words_clear))]
 fn read_ops(alloc: Global, text: &[u8], bs: BlockSize) -> Result<Words, Cause>
     ensures gives { Gives result (after_ops (bytes_of bs) map.empty (words text.now)) }

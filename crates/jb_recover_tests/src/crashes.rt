@@ -9,13 +9,13 @@ use jb_recover::recover;
 use std::alloc::Global;
 use std::test::Fail;
 
-// More calls than a recovery of an image here makes.
+/// More calls than a recovery of an image here makes.
 const MOST: u64 = 200;
 
-// More sectors than one of them has pending.
+/// More sectors than one of them has pending.
 const SECTORS: usize = 32;
 
-// An escaped copy of home 5.
+/// An escaped copy of home 5.
 const ESCAPED: [Row; 4] = [
     (1, 0, [MAGIC, 1, 2, 5]),
     (1, 1, [9, 0, 0, 0]),
@@ -28,7 +28,7 @@ const ESCAPED_AFTER: [Row; 2] = [
     (HOMES + 5, 0, [MAGIC, 0x0102_0304, 0, 0]),
 ];
 
-// Copies of homes 5 and 6, and a later revoke of home 5.
+/// Copies of homes 5 and 6, and a later revoke of home 5.
 const REVOKED: [Row; 8] = [
     (1, 0, [MAGIC, 1, 2, 5]),
     (1, 1, [2, 6, 10, 0]),
@@ -42,7 +42,7 @@ const REVOKED: [Row; 8] = [
 
 const REVOKED_AFTER: [Row; 2] = [(0, 1, [33, 1, 4, 0]), (HOMES + 6, 0, [6, 6, 6, 6])];
 
-// Two copies of home 5.
+/// Two copies of home 5.
 const TWICE: [Row; 8] = [
     (1, 0, [MAGIC, 1, 2, 5]),
     (1, 1, [8, 0, 0, 0]),
@@ -56,7 +56,7 @@ const TWICE: [Row; 8] = [
 
 const TWICE_AFTER: [Row; 2] = [(0, 1, [33, 1, 4, 0]), (HOMES + 5, 0, [5, 6, 7, 8])];
 
-// Copies of the homes 0 to 7.
+/// Copies of the homes 0 to 7.
 const MANY: [Row; 14] = [
     (1, 0, [MAGIC, 1, 2, 0]),
     (1, 1, [2, 1, 2, 2]),
@@ -86,15 +86,15 @@ const MANY_AFTER: [Row; 9] = [
     (HOMES + 7, 0, [107, 0, 0, 0]),
 ];
 
-// The image that wraps, or a small one with these rows, and the rows that its recovery changes.
+/// The image that wraps, or a small one with these rows, and the rows that its recovery changes.
 #[derive(Drop)]
 enum Image<'a> {
     Wraps,
     Small(&'a [Row], &'a [Row]),
 }
 
-// An image, and the mixtures of its pending sectors: each sector is one of so many versions, and there are so many
-// mixtures, or too many.
+/// An image, and the mixtures of its pending sectors: each sector is one of so many versions, and there are so many
+/// mixtures, or too many.
 #[derive(Drop)]
 struct Case<'a> {
     name: &'a str,
@@ -117,7 +117,7 @@ fn after(alloc: Global, image: &Image<'_>) -> Result<MemoryDisk, Fail> {
     }
 }
 
-// Whether the image that a crash with this choice leaves recovers to the wanted one.
+/// Whether the image that a crash with this choice leaves recovers to the expected one.
 fn mends(
     alloc: Global,
     disk: &MemoryDisk,
@@ -132,7 +132,7 @@ fn mends(
     Ok(difference(alloc, &mut left, wanted)?.is_none())
 }
 
-// The versions of the sectors as the digits of a number.
+/// The versions of the sectors as the digits of a number.
 fn digits(number: u32, versions: u32) -> [u32; SECTORS] {
     let mut choice = [0; SECTORS];
     let mut rest = number;
@@ -145,7 +145,7 @@ fn digits(number: u32, versions: u32) -> [u32; SECTORS] {
     choice
 }
 
-// Old and new by the bits of a generator's numbers.
+/// Old and new by the bits of a generator's numbers.
 fn seeded(seed: u32) -> [u32; SECTORS] {
     let mut choice = [0; SECTORS];
     let mut state = seed;
@@ -156,7 +156,7 @@ fn seeded(seed: u32) -> [u32; SECTORS] {
     choice
 }
 
-// All old, all new, old and new in turn, one sector new, and a hundred by a generator.
+/// All old, all new, old and new in turn, one sector new, and a hundred by a generator.
 fn mends_some(alloc: Global, disk: &MemoryDisk, wanted: &mut MemoryDisk) -> Result<bool, Fail> {
     for number in [0, 0xFFFF_FFFF, 0x5555_5555, 0xAAAA_AAAA] {
         if !mends(alloc, disk, &digits(number, 2), wanted)? {
@@ -176,7 +176,7 @@ fn mends_some(alloc: Global, disk: &MemoryDisk, wanted: &mut MemoryDisk) -> Resu
     Ok(true)
 }
 
-// Whether what a crash after so many calls leaves recovers to the wanted image, and whether the recovery had ended.
+/// Whether what a crash after so many calls leaves recovers to the expected image, and whether the recovery had ended.
 fn broken_off(alloc: Global, case: &Case<'_>, calls: u64) -> Result<(bool, bool), Fail> {
     let mut wanted = after(alloc, &case.image)?;
     let mut fuse = FuseDisk::of(before(alloc, &case.image)?, calls);

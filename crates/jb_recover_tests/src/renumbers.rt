@@ -8,16 +8,16 @@ use jb_super::SuperFault;
 use std::alloc::Global;
 use std::test::Fail;
 
-// More calls than a renumbering of the small image makes.
+/// More calls than a renumbering of the small image makes.
 const MOST: u64 = 120;
 
-// More sectors than one has pending.
+/// More sectors than one has pending.
 const SECTORS: usize = 8;
 
-// The newest of one, two or three versions of a sector.
+/// The newest of one, two or three versions of a sector.
 const NEWEST: u32 = 5;
 
-// The last number there is, checkpointed: its descriptor, two blocks of data and its commit block.
+/// The last number there is, checkpointed: its descriptor, two blocks of data and its commit block.
 const SPENT: [Row; 7] = [
     (0, 1, [33, 1, 0xFFFF_FFFF, 0]),
     (1, 0, [MAGIC, 1, 0xFFFF_FFFF, 0]),
@@ -35,7 +35,7 @@ const SPENT_AFTER: [Row; 4] = [
     (4, 0, [0, 0, 0, 0]),
 ];
 
-// Headers of unknown types at both ends of the log, and after it.
+/// Headers of unknown types at both ends of the log, and after it.
 const ENDS: [Row; 5] = [
     (0, 1, [33, 1, 9, 0]),
     (1, 0, [MAGIC, 0, 0, 0]),
@@ -51,7 +51,7 @@ const ENDS_AFTER: [Row; 4] = [
     (32, 40, [0, 0, 0, 0]),
 ];
 
-// A log that begins at place 2, behind a block that is not of it.
+/// A log that begins at place 2, after a block that is not of it.
 const BEHIND: [Row; 3] = [
     (0, 1, [33, 2, 5, 0]),
     (1, 0, [MAGIC, 2, 4, 0]),
@@ -60,7 +60,7 @@ const BEHIND: [Row; 3] = [
 
 const BEHIND_AFTER: [Row; 2] = [(0, 1, [33, 2, 0, 0]), (2, 0, [0, 0, 0, 0])];
 
-// A name, the rows of the image, those that change, and the answer.
+/// A name, the rows of the image, those that change, and the answer.
 type Case<'a> = (
     &'a str,
     &'a [Row],
@@ -107,10 +107,10 @@ fn what_is_left(rt: HostRuntime) -> Result<(), Fail> {
     Ok(())
 }
 
-// All old, all newest, old and newest in turn, and one sector newest.
+/// All old, all newest, old and newest in turn, and one sector newest.
 const MIXTURES: [u32; 12] = [0, 255, 85, 170, 1, 2, 4, 8, 16, 32, 64, 128];
 
-// The versions of the sectors by the bits of a number.
+/// The versions of the sectors by the bits of a number.
 fn versions(mixture: u32) -> [u32; SECTORS] {
     let mut choice = [0; SECTORS];
     let mut rest = mixture;
@@ -121,8 +121,8 @@ fn versions(mixture: u32) -> [u32; SECTORS] {
     choice
 }
 
-// Whether the image that a crash leaves keeps the homes, both by a recovery and by a renumbering that is begun again,
-// which then leaves no header.
+/// Whether the image that a crash leaves keeps the homes, both by a recovery and by a renumbering that is begun again,
+/// which then leaves no header.
 fn keeps_homes(
     alloc: Global,
     disk: &MemoryDisk,

@@ -8,10 +8,10 @@ use jb_super::SuperFault;
 use std::alloc::Global;
 use std::test::Fail;
 
-// More calls than a widening makes.
+/// More calls than a widening makes.
 const MOST: u64 = 20;
 
-// A clean journal with narrow headers in its log, bytes after its superblock and a limit of its own.
+/// A clean journal with narrow headers in its log, bytes after its superblock and a limit of its own.
 const NARROW: [Row; 5] = [
     (0, 1, [33, 1, 7, 0]),
     (0, 4, [1, 0, 5, 0]),
@@ -22,7 +22,7 @@ const NARROW: [Row; 5] = [
 
 const NARROW_AFTER: [Row; 1] = [(0, 2, [0, 0, 3, 0])];
 
-// A name, the rows of the image, those that change, and the answer.
+/// A name, the rows of the image, those that change, and the answer.
 type Case<'a> = (&'a str, &'a [Row], &'a [Row], Result<Widened, ChangeFault>);
 
 const fn widened(limit: u32, changed: bool) -> Result<Widened, ChangeFault> {
@@ -70,7 +70,7 @@ fn what_is_left(rt: HostRuntime) -> Result<(), Fail> {
     Ok(())
 }
 
-// Whether the image that a crash leaves keeps the homes by a recovery, and widens to the wanted one.
+/// Whether the image that a crash leaves keeps the homes in a recovery, and widens to the expected one.
 fn keeps(
     alloc: Global,
     disk: &MemoryDisk,

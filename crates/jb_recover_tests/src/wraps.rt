@@ -8,13 +8,13 @@ use jb_recover::Recovered;
 use std::alloc::Global;
 use std::test::Fail;
 
-// Blocks in the journal, and before the first home block.
+/// Blocks in the journal, and before the first home block.
 const MAXLEN: u64 = 33;
 
 const BLOCKS: u64 = MAXLEN + 9;
 
-// A log that begins at place 29 and wraps to place 1: number 2 with copies of homes 5 (escaped), 6 and 7, number 3 with
-// a revoke of home 6 and copies of homes 7 and 3 (escaped), and number 4 without its commit block.
+/// A log that begins at place 29 and wraps to place 1: number 2 with copies of homes 5 (escaped), 6 and 7, number 3 with
+/// a revoke of home 6 and copies of homes 7 and 3 (escaped), and number 4 without its commit block.
 const JOURNAL: [Row; 22] = [
     (0, 0, [MAGIC, 4, 0, 1024]),
     (0, 1, [33, 1, 2, 29]),
@@ -40,7 +40,7 @@ const JOURNAL: [Row; 22] = [
     (8, 0, [401, 401, 401, 401]),
 ];
 
-// The home blocks before recovery.
+/// The home blocks before recovery.
 const BEFORE: [Row; 5] = [
     (1, 0, [1, 1, 1, 1]),
     (3, 0, [3, 3, 3, 3]),
@@ -49,10 +49,10 @@ const BEFORE: [Row; 5] = [
     (7, 0, [7, 7, 7, 7]),
 ];
 
-// The front of the superblock after it.
+/// The front of the superblock after it.
 const CLEAN: [Row; 1] = [(0, 1, [33, 1, 4, 0])];
 
-// The home blocks that it writes.
+/// The home blocks that it writes.
 const AFTER: [Row; 3] = [
     (3, 0, [MAGIC, 303, 0, 0]),
     (5, 0, [MAGIC, 205, 0, 0]),

@@ -62,7 +62,7 @@ pub are-lines : (all : List (List ℕ)) (text : List ℕ) → AreLines all text 
 are-lines all text (inl whole) are = ap lines whole ∙ ended-lines all are
 are-lines all text (inr whole) are = ap lines whole ∙ joined-lines all are
 
--- what stands behind a word makes the line with it
+-- what stands after a word makes the line with it
 pub behind-is : (word line rest : List ℕ) → behind_word word line ≡ Some rest → line ≡ word ++ rest
 behind-is word line rest is = from (bytes_eq (take (length word) line) word) refl is
   where

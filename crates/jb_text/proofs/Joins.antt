@@ -63,7 +63,7 @@ pub lines-one : (b : ℕ) (line : List ℕ) → Without 10 (b ∷ line) → line
 lines-one b [] clear = lines-goes b [] clear.0 ∙ ap (grow b) lines-nil
 lines-one b (c ∷ line) clear = lines-goes b (c ∷ line) clear.0 ∙ ap (grow b) (lines-one c line clear.1)
 
--- a word with a space behind it, and the last one
+-- a word with a space after it, and the last one
 pub words-put : (word rest : List ℕ) → Without 32 word → words (word ++ 32 ∷ rest) ≡ word ∷ words rest
 words-put [] rest clear = words-stop 32 rest refl
 words-put (b ∷ word) rest clear = words-goes b (word ++ 32 ∷ rest) clear.0 ∙ ap (grow b) (words-put word rest clear.1)

@@ -36,7 +36,7 @@ abbrev pub AreDigits : List ℕ → Type 0
 AreDigits [] = Unit {0}
 AreDigits (digit ∷ digits) = (is_ascii_digit digit ≡ true) × AreDigits digits
 
--- the number that digits write behind those of a value, without a bound
+-- the number that digits write after those of a value, without a bound
 abbrev pub value_from : ℕ → List ℕ → ℕ
 value_from value [] = value
 value_from value (digit ∷ digits) = value_from (value * 10 + (digit - 48)) digits

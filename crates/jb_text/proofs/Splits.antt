@@ -100,7 +100,7 @@ pub lines-nil : lines [] ≡ []
 unfolding lines
 lines-nil = refl
 
--- the first line, and the lines behind its end
+-- the first line, and the lines after its end
 pub lines-part : (b : ℕ) (bs : List ℕ) → lines (b ∷ bs) ≡ before 10 (b ∷ bs) ∷ lines (drop 1 (onward 10 (b ∷ bs)))
 lines-part b [] = elim (cases_eq b 10) [
   | inl same ↦ lines-stop b [] same ∙ rw (before-stops 10 b [] same, onward-stops 10 b [] same) refl
@@ -123,12 +123,12 @@ pub words-nil : words [] ≡ [] ∷ []
 unfolding words
 words-nil = refl
 
--- what stands behind the first byte, if there is one
+-- what stands after the first byte, if there is one
 abbrev pub rest_of : List ℕ → Option (List ℕ)
 rest_of [] = None
 rest_of (b ∷ bs) = Some bs
 
--- the first word, and the words behind the space after it
+-- the first word, and the words after the space after it
 pub words-part : (bs : List ℕ) → words bs ≡ before 32 bs ∷ words_in (rest_of (onward 32 bs))
 words-part [] = words-nil ∙ rw (before-nil 32, onward-nil 32) refl
 words-part (b ∷ bs) = elim (cases_eq b 32) [
@@ -136,7 +136,7 @@ words-part (b ∷ bs) = elim (cases_eq b 32) [
   | inr other ↦ words-goes b bs other ∙ ap (grow b) (words-part bs) ∙ rw (before-goes 32 b bs other, onward-goes 32 b bs other) refl
 ]
 
--- what a slice pattern leaves of a list behind its first item
+-- what a slice pattern leaves of a list after its first item
 pub tail-is : (bs : List ℕ) → take (length bs - 1) (drop 1 bs) ≡ drop 1 bs
 tail-is bs = take_all (length bs - 1) (drop 1 bs) (omega (arith, length-drop 1 bs))
 
@@ -159,7 +159,7 @@ first-line (b ∷ bs) line behind rest some front back tail =
       shorter = omega (arith, lengths, back_length, tail_length);
     }
 
--- what `part` gives at a space is the last word, or one with words behind it
+-- what `part` gives at a space is the last word, or one with words after it
 pub words-last : (text word behind : List ℕ) → word ≡ before 32 text → behind ≡ onward 32 text → length behind < 1 → words text ≡ word ∷ []
 words-last text word behind front back few = words-part text ∙ rw (sym front, sym back, none-left behind few) refl
 

@@ -3,7 +3,7 @@ use Rattle.std.specs.Prelude.{◌≡◌, ℕ, ◌<◌, ◌≤◌, ◌+◌, ◌-�
 use Rattle.std.specs.Char.{is_ascii_digit}
 use Rattle.std.specs.Str.{bytes_eq}
 
--- the ? of the logic: the second step, if the first gave a value
+-- the second step, if the first gave a value
 infixl 10 ◌>>=◌
 abbrev pub ◌>>=◌ : {A B E : Type 0} → Result A E → (A → Result B E) → Result B E
 Ok x >>= f = f x
@@ -29,7 +29,7 @@ unfoldable pub lines : List ℕ → List (List ℕ)
 lines [] = []
 lines (b ∷ bs) = if b == 10 then [] ∷ lines bs else grow b (lines bs)
 
--- the words of a text, parted by single spaces; an empty text is one empty word
+-- the words of a text, separated by single spaces; an empty text is one empty word
 unfoldable pub words : List ℕ → List (List ℕ)
 words [] = [] ∷ []
 words (b ∷ bs) = if b == 32 then [] ∷ words bs else grow b (words bs)
@@ -39,27 +39,27 @@ abbrev pub spaced : List (List ℕ) → List ℕ
 spaced [] = []
 spaced (word ∷ more) = 32 ∷ (word ++ spaced more)
 
--- the words of what stands behind a space, if there is one
+-- the words of what follows a space, if there is one
 abbrev pub words_in : Option (List ℕ) → List (List ℕ)
 words_in None = []
 words_in (Some text) = words text
 
--- a text's first line, and the text behind it
+-- a text's first line, and the text after it
 pub record FirstLine (text line rest : List ℕ) : Type 0 where
   pub parts : lines text ≡ line ∷ lines rest
   pub within : length line + length rest ≤ length text
   pub shorter : length rest < length text
 
--- what stands behind a word at the front of a line
+-- what follows a word at the front of a line
 abbrev pub behind_word : List ℕ → List ℕ → Option (List ℕ)
 behind_word word line = if bytes_eq (take (length word) line) word then Some (drop (length word) line) else None
 
--- what the first of some lines gives, and the lines behind it
+-- what the first of some lines gives, and the lines after it
 abbrev pub first_of : {A : Type 0} → (List ℕ → Option A) → List (List ℕ) → Option (A × List (List ℕ))
 first_of read [] = None
 first_of read (line ∷ more) = option_map (λ x. (x, more)) (read line)
 
--- a number of at most 64 bits with one more digit behind it
+-- a number of at most 64 bits with one more digit after it
 abbrev pub with_digit : ℕ → ℕ → Option ℕ
 with_digit value digit =
     if is_ascii_digit digit then (if nat_lt (value * 10 + (digit - 48)) (2 ^ 64) then Some (value * 10 + (digit - 48)) else None) else None
@@ -69,7 +69,7 @@ abbrev pub and_then : Option ℕ → (ℕ → Option ℕ) → Option ℕ
 and_then None step = None
 and_then (Some n) step = step n
 
--- the number that digits spell, behind those of a value
+-- the number that digits spell, after those of a value
 unfoldable pub number_from : ℕ → List ℕ → Option ℕ
 number_from value [] = Some value
 number_from value (digit ∷ digits) = and_then (with_digit value digit) (λ more. number_from more digits)

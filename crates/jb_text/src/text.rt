@@ -15,7 +15,7 @@ pub fn part(bytes: &[u8], stop: u8) -> (&[u8], &[u8])
     bytes.split_at(bytes.len())
 }
 
-/// The first line of a text, without the LF at its end, and the text behind it; `None` where nothing is left.
+/// The first line of a text, without the LF at its end, and the text after it; `None` where nothing is left.
 pub fn next_line(text: &[u8]) -> Option<(&[u8], &[u8])>
     ensures { MatchOption result (lines text.now ≡ []) (λ next. FirstLine text.now next.0.now next.1.now) }
 {
@@ -29,7 +29,7 @@ pub fn next_line(text: &[u8]) -> Option<(&[u8], &[u8])>
     }
 }
 
-/// The first word of a text whose words are parted by single spaces, and the text behind the space after it, where
+/// The first word of a text whose words are separated by single spaces, and the text after the space that follows it, where
 /// there is one.
 pub fn next_word(text: &[u8]) -> (&[u8], Option<&[u8]>)
     ensures words { words text.now ≡ result.0.now ∷ words_in (option_copied result.1) }
@@ -55,7 +55,7 @@ pub fn number(digits: &[u8]) -> Option<u64>
     digits_value(digits)
 }
 
-// The number that digits spell, leading zeros and all.
+/// The number that digits spell, leading zeros and all.
 fn digits_value(digits: &[u8]) -> Option<u64>
     ensures { result ≡ number_from 0 digits.now }
 {
@@ -69,7 +69,7 @@ fn digits_value(digits: &[u8]) -> Option<u64>
     Some(value)
 }
 
-// The number with one more digit behind it.
+/// The number with one more digit after it.
 fn with_digit(value: u64, digit: u8) -> Option<u64>
     ensures { result ≡ with_digit_of value digit }
 {

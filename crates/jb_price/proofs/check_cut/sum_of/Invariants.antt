@@ -3,7 +3,7 @@ use Rattle.jb_cost.specs.Cut.{RisesTo, EachFrom, total_from, piece_cost}
 use Rattle.jb_price.specs.Verdict.{FirstOverFrom}
 use Rattle.jb_price.proofs.check_cut.sum_of.Given as goal
 
--- What is told of the pieces that are left, with the sum so far, holds of all.
+-- What is said of the pieces that are left, with the sum so far, holds of all.
 abbrev pub invariant-loop-to : goal.invariant-loop-to
 invariant-loop-to l =
     record {

@@ -31,7 +31,7 @@ returns-in_ok-insert-in-Err-clause-ok c =
     (view-put c.self.inside.entries.items _ c.self.invariant.rising c.args.home c.args.word (put-goes _ _ _ c.args.word goes ∙ sym c.in_ok-insert-in-Err.ensures.items)).1
     ∙ ap (λ m. map.insert m c.args.home c.args.word) c.self.view_is
 
--- no room is wanted where the home has a word
+-- no room is needed where the home has a word
 pub returns-in_err-insert-in-Err-clause-new : goal.returns-in_err-insert-in-Err-clause-new
 returns-in_err-insert-in-Err-clause-new c =
     let goes : GoesTo c.self.inside.entries.items c.args.home c.in-Err.at = rw c.deref.ensures.value at c.in-Err.ensures in
