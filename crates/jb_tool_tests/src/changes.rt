@@ -43,8 +43,11 @@ fn front(
 ) -> Result<Vec<u8>, Fail> {
     let mut bytes = image(alloc, log, incompat, 20, 5, &[])?;
     if bare {
-        bytes.as_mut_slice()[1024..3 * 1024].fill(0);
-        bytes.as_mut_slice()[4 * 1024..5 * 1024].fill(0);
+        for (at, byte) in bytes.as_mut_slice().iter_mut().enumerate() {
+            if matches!(at / 1024, 1 | 2 | 4) {
+                *byte = 0;
+            }
+        }
     }
     bytes.truncate(len);
     Ok(bytes)

@@ -4,6 +4,7 @@ ghost use Rattle.clap.specs.declared.builder.command.Command.TheViews.{out-Comma
 ghost use Rattle.jb_words.specs.App.{check_app, file_app, format_app, image_app, jb_app, jb_top, required_word as word_rule};
 
 mod options;
+mod texts;
 
 use clap::{Arg, Command};
 use options::{max_option, required_number, uuid_option, wide_flag};
@@ -47,7 +48,9 @@ fn bare<'a>(alloc: Global, name: &'a str, about: &'a str) -> Command<'a>
     ensures app { app_of result ≡ new_app name.entry.now }
     ensures own { (fields_of result).has_globals ≡ false }
 {
-    Command::new(alloc, name).about(about)
+    Command::new(alloc, name)
+        .about(about)
+        .after_long_help(texts::more_of(name))
 }
 
 // A command with one word.
@@ -80,14 +83,14 @@ fn format<'a>(alloc: Global) -> Result<Command<'a>, AllocError>
     ensures app { IfOk result (λ c. app_of c ≡ format_app) }
     ensures own { IfOk result (λ c. (fields_of c).has_globals ≡ false) }
 {
-    let about = "Makes an image: a new journal, and home blocks of zeros behind it";
+    let about = "Makes an image: a new journal, and home blocks of zeros after it";
     let help = "The file to make; one that is there is left alone";
     let command = over(alloc, "format", about, "IMAGE", help)?;
     let help = "Bytes of a block: 1024, 2048 or 4096";
     let command = with(command, required_number(alloc, "bs", help))?;
     let help = "Blocks of the journal, its superblock counted";
     let command = with(command, required_number(alloc, "journal", help))?;
-    let help = "Home blocks behind the journal";
+    let help = "Home blocks after the journal";
     let command = with(command, required_number(alloc, "homes", help))?;
     let command = with(command, max_option(alloc))?;
     let command = with(command, uuid_option(alloc))?;
@@ -105,6 +108,7 @@ fn jb_alone<'a>(alloc: Global) -> Result<Command<'a>, AllocError>
             .no_binary_name(true)
             .version("0.1.0")
             .about("A block journal in jbd2's format")
+            .after_long_help(texts::JB)
             .subcommand_required(true),
     )
 }
@@ -123,7 +127,7 @@ fn over_image<'a>(alloc: Global, name: &'a str, about: &'a str) -> Result<Comman
     ensures app { IfOk result (λ c. app_of c ≡ image_app name.entry.now) }
     ensures own { IfOk result (λ c. (fields_of c).has_globals ≡ false) }
 {
-    let help = "A file with a journal and its home blocks";
+    let help = "A file with a journal at its front, and the home blocks after it";
     over(alloc, name, about, "IMAGE", help)
 }
 
@@ -138,7 +142,7 @@ pub fn jb_command<'a>(alloc: Global) -> Result<Command<'a>, AllocError>
     let with_plan = also(with_cost, over_queue(alloc, "plan", about));
     let with_check = also(with_plan, check(alloc));
     let about = "Prints the committed transactions of a journal, block by block";
-    let help = "A file with the whole journal";
+    let help = "A file with the whole journal at its front";
     let with_dump = also(with_check, over(alloc, "dump", about, "FILE", help));
     let with_format = also(with_dump, format(alloc));
     let about = "Writes home what an image's journal has committed, and empties its log";

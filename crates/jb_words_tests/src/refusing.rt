@@ -67,27 +67,32 @@ fn what_is_no_command_is_answered_by_clap(rt: HostRuntime) {
         (
             ["cost", "-h"].as_slice(),
             false,
-            "Prints the log blocks that the queue takes as one group\n\nUsage: jb cost <FILE>\n\nArguments:\n  <FILE>  A queue text, or - for standard input\n\nOptions:\n  -h, --help  Print help\n",
+            "Prints the log blocks that the queue takes as one group\n\nUsage: jb cost <FILE>\n\nArguments:\n  <FILE>  A queue text, or - for standard input\n\nOptions:\n  -h, --help  Print help (see more with '--help')\n",
         ),
         (
             ["dump", "-h"].as_slice(),
             false,
-            "Prints the committed transactions of a journal, block by block\n\nUsage: jb dump <FILE>\n\nArguments:\n  <FILE>  A file with the whole journal\n\nOptions:\n  -h, --help  Print help\n",
+            "Prints the committed transactions of a journal, block by block\n\nUsage: jb dump <FILE>\n\nArguments:\n  <FILE>  A file with the whole journal at its front\n\nOptions:\n  -h, --help  Print help (see more with '--help')\n",
         ),
         (
             ["format", "-h"].as_slice(),
             false,
-            "Makes an image: a new journal, and home blocks of zeros behind it\n\nUsage: jb format [OPTIONS] --bs <N> --journal <N> --homes <N> <IMAGE>\n\nArguments:\n  <IMAGE>  The file to make; one that is there is left alone\n\nOptions:\n      --bs <N>       Bytes of a block: 1024, 2048 or 4096\n      --journal <N>  Blocks of the journal, its superblock counted\n      --homes <N>    Home blocks behind the journal\n      --max <N>      The most log blocks of a transaction; 0 for a quarter of the log [default: 0]\n      --uuid <HEX>   The journal's UUID, as 32 hexadecimal digits [default: 00000000000000000000000000000000]\n      --wide         Block numbers of 64 bits\n  -h, --help         Print help\n",
+            "Makes an image: a new journal, and home blocks of zeros after it\n\nUsage: jb format [OPTIONS] --bs <N> --journal <N> --homes <N> <IMAGE>\n\nArguments:\n  <IMAGE>  The file to make; one that is there is left alone\n\nOptions:\n      --bs <N>       Bytes of a block: 1024, 2048 or 4096\n      --journal <N>  Blocks of the journal, its superblock counted\n      --homes <N>    Home blocks after the journal\n      --max <N>      The most log blocks of a transaction; 0 for a quarter of the log [default: 0]\n      --uuid <HEX>   The journal's UUID, as 32 hexadecimal digits [default: 00000000000000000000000000000000]\n      --wide         Block numbers of 64 bits\n  -h, --help         Print help (see more with '--help')\n",
         ),
         (
-            ["help", "recover"].as_slice(),
+            ["recover", "-h"].as_slice(),
             false,
-            "Writes home what an image's journal has committed, and empties its log\n\nUsage: jb recover <IMAGE>\n\nArguments:\n  <IMAGE>  A file with a journal and its home blocks\n\nOptions:\n  -h, --help  Print help\n",
+            "Writes home what an image's journal has committed, and empties its log\n\nUsage: jb recover <IMAGE>\n\nArguments:\n  <IMAGE>  A file with a journal at its front, and the home blocks after it\n\nOptions:\n  -h, --help  Print help (see more with '--help')\n",
         ),
         (
-            ["help"].as_slice(),
+            ["help", "renumber"].as_slice(),
             false,
-            "A block journal in jbd2's format\n\nUsage: jb <COMMAND>\n\nCommands:\n  cost      Prints the log blocks that the queue takes as one group\n  plan      Prints a least cut of the queue into groups, with its prices\n  check     Checks a certificate of the queue, whoever made it\n  dump      Prints the committed transactions of a journal, block by block\n  format    Makes an image: a new journal, and home blocks of zeros behind it\n  recover   Writes home what an image's journal has committed, and empties its log\n  renumber  Gives a clean journal, whose numbers may be spent, its first number again\n  widen     Gives a clean journal block numbers of 64 bits\n  help      Print this message or the help of the given subcommand(s)\n\nOptions:\n  -h, --help     Print help\n  -V, --version  Print version\n",
+            "Gives a clean journal, whose numbers may be spent, its first number again\n\nUsage: jb renumber <IMAGE>\n\nArguments:\n  <IMAGE>\n          A file with a journal at its front, and the home blocks after it\n\nOptions:\n  -h, --help\n          Print help (see a summary with '-h')\n\nStatus: 0 where the journal is renumbered, 1 where it is refused, by the name of its fault, and stays as\nit is, 2 where the file cannot be opened or read. After jb: NeedsRecovery it is to be recovered first; after\njb: DeviceFault, status 1, the command is to be called again.\n\nExample:\n  jb renumber a.img     # renumbered blocks 3 next 1\n",
+        ),
+        (
+            ["-h"].as_slice(),
+            false,
+            "A block journal in jbd2's format\n\nUsage: jb <COMMAND>\n\nCommands:\n  cost      Prints the log blocks that the queue takes as one group\n  plan      Prints a least cut of the queue into groups, with its prices\n  check     Checks a certificate of the queue, whoever made it\n  dump      Prints the committed transactions of a journal, block by block\n  format    Makes an image: a new journal, and home blocks of zeros after it\n  recover   Writes home what an image's journal has committed, and empties its log\n  renumber  Gives a clean journal, whose numbers may be spent, its first number again\n  widen     Gives a clean journal block numbers of 64 bits\n  help      Print this message or the help of the given subcommand(s)\n\nOptions:\n  -h, --help     Print help (see more with '--help')\n  -V, --version  Print version\n",
         ),
     ] {
         let (goes_to_err, text) = said(rt.alloc(), words).expect(&rt, "a text");

@@ -1,0 +1,87 @@
+//! What stands at the end of long help: the statuses of a command, and an example.
+
+/// Of `jb` itself: the files that its commands are about, too.
+pub(crate) const JB: &str =
+    "A queue text, the FILE of cost, plan and check, has a line for each handle after its first two:
+  bs 1024                 the bytes of a block: 1024, 2048 or 4096
+  limit 7                 the most log blocks of a group
+  h w1 w2=c03b3998 r5     a handle that writes home block 1, and 2 with these bytes, and revokes 5
+
+An image has the journal first, its superblock at the front, and the home blocks after it: home block N
+is the block at s_maxlen + N. The FILE of dump is a journal, whatever stands after it.
+
+Status: 0 where a command is done, and what it judges fits or is accepted; 1 where it is not, or an image
+is refused, or a read, a write or memory failed; 2 where the words, a file or a text cannot be taken. What
+went wrong is one line on standard error. With no words jb acts as jb cost -.";
+
+/// What stands at the end of the long help of the command of this name.
+pub(crate) fn more_of(command: &str) -> &'static str {
+    match command {
+        "cost" => COST,
+        "plan" => PLAN,
+        "check" => CHECK,
+        "dump" => DUMP,
+        "format" => FORMAT,
+        "recover" => RECOVER,
+        "renumber" => RENUMBER,
+        "widen" => WIDEN,
+        _ => "",
+    }
+}
+
+const COST: &str =
+    "Status: 0 where they fit the text's limit, 1 where they do not, 2 where the text cannot be read or
+breaks its form.
+
+Example:
+  printf 'bs 1024\\nlimit 7\\nh w1 w2 w3\\n' | jb cost -     # cost 5 limit 7 fits";
+
+const PLAN: &str =
+    "Status: 0 with a cut, 1 where none fits the limit, 2 where the text cannot be read or breaks its form.
+
+Example:
+  jb plan queue.txt > queue.cert";
+
+const CHECK: &str =
+    "Status: 0 where it is accepted, 1 where it is refused, by the name of its first fault, 2 where a text
+cannot be read or breaks its form.
+
+Example:
+  jb check queue.txt queue.cert     # accepted";
+
+const DUMP: &str =
+    "Status: 0 where they are printed, 1 where the journal is refused, by the name of its fault, or a read
+fails, 2 where the file cannot be opened.
+
+Example:
+  jb dump journal.bin";
+
+const FORMAT: &str =
+    "Status: 0 where the image is made, 1 where the numbers make no journal, 2 where an option is bad or the
+file cannot be made.
+
+Example:
+  jb format a.img --bs 1024 --journal 33 --homes 16     # formatted limit 8";
+
+const RECOVER: &str =
+    "Status: 0 where the image is recovered, 1 where it is refused, by the name of its fault, and stays as it
+is, 2 where the file cannot be opened or read. After jb: DeviceFault, status 1, it is to be called again.
+
+Example:
+  jb recover a.img     # transactions 1 copies 1 revoked 0 next 4";
+
+const RENUMBER: &str =
+    "Status: 0 where the journal is renumbered, 1 where it is refused, by the name of its fault, and stays as
+it is, 2 where the file cannot be opened or read. After jb: NeedsRecovery it is to be recovered first; after
+jb: DeviceFault, status 1, the command is to be called again.
+
+Example:
+  jb renumber a.img     # renumbered blocks 3 next 1";
+
+const WIDEN: &str =
+    "Status: 0 where the journal has block numbers of 64 bits now, 1 where it is refused, by the name of its
+fault, and stays as it is, 2 where the file cannot be opened or read. After jb: NeedsRecovery it is to be
+recovered first; after jb: DeviceFault, status 1, the command is to be called again.
+
+Example:
+  jb widen a.img     # widened limit 8";
