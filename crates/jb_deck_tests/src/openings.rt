@@ -183,9 +183,17 @@ fn journals_are_opened_as_worked_by_hand(rt: HostRuntime) -> Result<(), Fail> {
         assert!(rt; shape.bs == BlockSize::OneKib, "{name}");
         assert!(rt; shape.homes == 16 && shape.limit == told.1 / 4, "{name}");
         assert!(rt; deck.trail().is_empty() && !deck.aborted(), "{name}");
-        assert_eq!(rt; deck.checkpoint_one(), Err(CheckpointFault::Nothing), "{name}");
+        assert_eq!(rt;
+            deck.checkpoint_one(),
+            Err(CheckpointFault::Nothing),
+            "{name}"
+        );
         assert!(rt; deck.word_of(5).is_none(), "{name}");
-        assert_eq!(rt; deck.write_free(5, &[1, 2]), Err(FreeFault::NotFree), "{name}");
+        assert_eq!(rt;
+            deck.write_free(5, &[1, 2]),
+            Err(FreeFault::NotFree),
+            "{name}"
+        );
         let mut disk = deck.close();
         assert_eq!(rt;
             difference(alloc, &mut disk, &mut wanted, 0)?,
