@@ -1,17 +1,15 @@
-//! Batches that are committed and checkpointed while the log has room, and that are refused.
+//! Batches that are committed while the log has room, and that are refused.
 
 use crate::cases::{Case, first_case};
+use crate::homes::FREES;
 use crate::images::{BLOCKS, HOMES, MAGIC, Row};
-use crate::rounds::ROUNDS;
+use crate::rounds::{ROUNDS, SIX, SIX_COPIES};
 use crate::scripts::{Refusal, Step};
 use jb_block::Width;
 use jb_deck::FreeFault;
 use std::test::Fail;
 
 const NARROW: Width = Width::Narrow;
-
-// The bytes that a script writes to a free home.
-const SEVENS: [u32; 4] = [0x7777_7777, 0x7777_7777, 0x7777_7777, 0x7777_7777];
 
 const NAMED: Row = (
     0,
@@ -21,15 +19,9 @@ const NAMED: Row = (
 
 const TWO: &str = "h w0 w1 w2 w3\nh w6 w7 w8 w9\n";
 
-const SIX: &str = "h w0=0a w1=0b w2=0c w3=0d w4=0e w5=0f\n";
+const TWELVE: &str = "h w0 w1 w2 w3 w4 w5\nh w6 w7 w8 w9 w10 w11\n";
 
-const FREED: [Step; 3] = [
-    Step::Commits("h w5=aa\n", &[(0, 1, 2)]),
-    Step::Commits("h r5\n", &[(1, 2, 3)]),
-    Step::Writes(5, 1024, Ok(())),
-];
-
-const CASES: [Case; 12] = [
+const CASES: [Case; 7] = [
     Case {
         name: "nothing is committed",
         blocks: BLOCKS,
@@ -134,107 +126,6 @@ const CASES: [Case; 12] = [
         ],
     },
     Case {
-        name: "the escaped copy goes home",
-        blocks: BLOCKS,
-        image: &[],
-        steps: &[
-            Step::Commits("h w5=c03b3998 r7\n", &[(0, 1, 2)]),
-            Step::Writes(7, 1024, Ok(())),
-            Step::Checkpoints(2, 1),
-            Step::Idle,
-            Step::Writes(7, 1024, Err(FreeFault::NotFree)),
-            Step::Word(7, None),
-            Step::Word(5, None),
-            Step::Ends(&[(0, 1, 2)], 3),
-        ],
-        groups: &[(1, 2, &[7], &[(5, MAGIC)])],
-        rows: &[
-            (0, 0x10, [33, 1, 2, 0]),
-            (HOMES + 5, 0, [MAGIC, 0, 0, 0]),
-            (HOMES + 7, 0, SEVENS),
-        ],
-        recovered: (0, 0, 0, 3),
-        after: &[],
-    },
-    Case {
-        name: "a group after an emptied log",
-        blocks: BLOCKS,
-        image: &[],
-        steps: &[
-            Step::Commits("h w5=c03b3998 r7\n", &[(0, 1, 2)]),
-            Step::Checkpoints(2, 1),
-            Step::Commits("h w1=0b\n", &[(1, 2, 3)]),
-            Step::Ends(&[(0, 1, 2), (1, 2, 3)], 4),
-        ],
-        groups: &[
-            (1, 2, &[7], &[(5, MAGIC)]),
-            (5, 3, &[], &[(1, 0x0B00_0000)]),
-        ],
-        rows: &[(0, 0x10, [33, 1, 3, 5]), (HOMES + 5, 0, [MAGIC, 0, 0, 0])],
-        recovered: (1, 1, 0, 5),
-        after: &[
-            (0, 0x10, [33, 1, 4, 0]),
-            (HOMES + 1, 0, [0x0B00_0000, 0, 0, 0]),
-        ],
-    },
-    Case {
-        name: "a freed home that is written",
-        blocks: BLOCKS,
-        image: &[],
-        steps: &FREED,
-        groups: &[(1, 2, &[], &[(5, 0xAA00_0000)]), (4, 3, &[5], &[])],
-        rows: &[(0, 0x10, [33, 1, 2, 1]), (HOMES + 5, 0, SEVENS)],
-        recovered: (2, 0, 1, 5),
-        after: &[(0, 0x10, [33, 1, 4, 0])],
-    },
-    Case {
-        name: "an older copy does not go home over what was freed, and a later one does",
-        blocks: BLOCKS,
-        image: &[],
-        steps: &[
-            Step::Commits("h w5=aa\nh w6=ab\n", &[(0, 2, 2)]),
-            Step::Commits("h r5\n", &[(2, 3, 3)]),
-            Step::Writes(5, 1024, Ok(())),
-            Step::Commits("h w5=ac\n", &[(3, 4, 4)]),
-            Step::Word(5, Some(true)),
-            Step::Writes(5, 1024, Err(FreeFault::NotFree)),
-            Step::Checkpoints(2, 1),
-            Step::Word(6, None),
-        ],
-        groups: &[
-            (1, 2, &[], &[(5, 0xAA00_0000), (6, 0xAB00_0000)]),
-            (5, 3, &[5], &[]),
-            (7, 4, &[], &[(5, 0xAC00_0000)]),
-        ],
-        rows: &[
-            (0, 0x10, [33, 1, 3, 5]),
-            (HOMES + 5, 0, SEVENS),
-            (HOMES + 6, 0, [0xAB00_0000, 0, 0, 0]),
-        ],
-        recovered: (2, 1, 0, 6),
-        after: &[
-            (0, 0x10, [33, 1, 5, 0]),
-            (HOMES + 5, 0, [0xAC00_0000, 0, 0, 0]),
-        ],
-    },
-    Case {
-        name: "a group whose commit block is missing",
-        blocks: BLOCKS,
-        image: &[
-            (0, 0x10, [33, 1, 2, 1]),
-            (1, 0, [MAGIC, 5, 2, 20]),
-            (1, 0x10, [7, 0, 0, 0]),
-            (2, 0, [MAGIC, 1, 2, 5]),
-            (2, 0x10, [9, 0, 0, 0]),
-            (3, 0, [0, 0x0102_0304, 0, 0]),
-        ],
-        steps: &[Step::Commits("h w5=c03b3998 r7\n", &[(0, 1, 3)])],
-        groups: &[(1, 3, &[7], &[(5, MAGIC)])],
-        rows: &[(0, 0x10, [33, 1, 3, 1])],
-        recovered: (1, 1, 0, 5),
-        after: &[(0, 0x10, [33, 1, 4, 0]), (HOMES + 5, 0, [MAGIC, 0, 0, 0])],
-    },
-    Case {
         name: "two groups of three handles, and the last word of each home",
         blocks: BLOCKS,
         image: &[],
@@ -281,19 +172,24 @@ const CASES: [Case; 12] = [
         steps: &[
             Step::Refuses(1, (16, 7, NARROW), TWO, Refusal::WrongTicket(0)),
             Step::Refuses(0, (16, 7, NARROW), TWO, Refusal::OtherShape),
-            Step::Refuses(0, (16, 8, NARROW), TWO, Refusal::NumbersSpent),
-            Step::Commits("h w0=0a\n", &[(0, 1, 4294967295)]),
+            Step::Refuses(0, (16, 8, NARROW), TWELVE, Refusal::NumbersSpent),
+            Step::Commits(SIX, &[(0, 1, 4294967295)]),
             Step::Ends(&[(0, 1, 4294967295)], 4294967296),
             Step::Refuses(1, (16, 8, NARROW), "h\n", Refusal::NumbersSpent),
             Step::Commits("", &[]),
-            Step::Checkpoints(4294967295, 1),
+            Step::Checkpoints(4294967295, 6),
             Step::Idle,
             Step::Refuses(1, (16, 8, NARROW), SIX, Refusal::NumbersSpent),
         ],
-        groups: &[(1, 4294967295, &[], &[(0, 0x0A00_0000)])],
+        groups: &[(1, 4294967295, &[], &SIX_COPIES)],
         rows: &[
             (0, 0x10, [33, 1, 4294967295, 0]),
             (HOMES, 0, [0x0A00_0000, 0, 0, 0]),
+            (HOMES + 1, 0, [0x0B00_0000, 0, 0, 0]),
+            (HOMES + 2, 0, [0x0C00_0000, 0, 0, 0]),
+            (HOMES + 3, 0, [0x0D00_0000, 0, 0, 0]),
+            (HOMES + 4, 0, [0x0E00_0000, 0, 0, 0]),
+            (HOMES + 5, 0, [0x0F00_0000, 0, 0, 0]),
         ],
         recovered: (0, 0, 0, 4294967296),
         after: &[],
@@ -317,6 +213,7 @@ const CASES: [Case; 12] = [
 #[test]
 fn batches_are_committed_as_worked_by_hand(rt: HostRuntime) -> Result<(), Fail> {
     assert_eq!(rt; first_case(rt.alloc(), &CASES)?, None);
+    assert_eq!(rt; first_case(rt.alloc(), &FREES)?, None);
     assert_eq!(rt; first_case(rt.alloc(), &ROUNDS)?, None);
     Ok(())
 }

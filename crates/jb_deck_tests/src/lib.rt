@@ -12,7 +12,11 @@ mod contents;
 #[cfg(test)]
 mod crashes;
 #[cfg(test)]
+mod faults;
+#[cfg(test)]
 mod groups;
+#[cfg(test)]
+mod homes;
 #[cfg(test)]
 mod images;
 #[cfg(test)]

@@ -4,9 +4,11 @@ use crate::cases::Case;
 use crate::images::{BLOCKS, HOMES, Row};
 use crate::scripts::Step;
 
-const SIX: &str = "h w0=0a w1=0b w2=0c w3=0d w4=0e w5=0f\n";
+/// A handle of six copies, which takes eight log blocks.
+pub const SIX: &str = "h w0=0a w1=0b w2=0c w3=0d w4=0e w5=0f\n";
 
-const SIX_COPIES: [(u32, u32); 6] = [
+/// Its copies in the log.
+pub const SIX_COPIES: [(u32, u32); 6] = [
     (0, 0x0A00_0000),
     (1, 0x0B00_0000),
     (2, 0x0C00_0000),
@@ -77,6 +79,7 @@ const MORE: [(u32, u32); 20] = [
 const TWENTIES: &str =
     "h w0 w1 w2 w3 w4 w5 w6 w7 w8 w9 w10 w11 w12 w13 w14 w15 w16 w17 w18 w19\nh w20 w21 w22 w23 w24 w25 w26 w27 w28 w29 w30 w31 w32 w33 w34 w35 w36 w37 w38 w39\n";
 
+/// Each goes round the log, or fills it.
 pub const ROUNDS: [Case; 4] = [
     Case {
         name: "four groups of eight blocks fill the log",

@@ -22,26 +22,14 @@ const LAST: u64 = 40;
 // A number of versions is at most ten: this one names the newest of so many.
 const NEW: u32 = 2519;
 
-// What a crash leaves of the sectors that are pending: all are old, all new, old and new in turn, the first is new,
-// or the last of one block, of two and so on.
-const CHOICES: [&[u32]; 10] = [
-    &[],
-    &[
-        NEW, NEW, NEW, NEW, NEW, NEW, NEW, NEW, NEW, NEW, NEW, NEW, NEW, NEW, NEW, NEW, NEW, NEW,
-        NEW, NEW, NEW, NEW, NEW, NEW, NEW, NEW, NEW, NEW, NEW, NEW, NEW, NEW,
-    ],
-    &[
-        0, NEW, 0, NEW, 0, NEW, 0, NEW, 0, NEW, 0, NEW, 0, NEW, 0, NEW, 0, NEW, 0, NEW, 0, NEW, 0,
-        NEW, 0, NEW, 0, NEW, 0, NEW, 0, NEW,
-    ],
-    &[NEW],
-    &[0, NEW],
-    &[0, 0, 0, NEW],
-    &[0, 0, 0, 0, 0, NEW],
-    &[0, 0, 0, 0, 0, 0, 0, NEW],
-    &[0, 0, 0, 0, 0, 0, 0, 0, 0, 0, 0, NEW],
-    &[0, 0, 0, 0, 0, 0, 0, 0, 0, 0, 0, 0, 0, NEW],
-];
+// More sectors than are pending at any moment, and the choices of one version for each: all are old, all new, old
+// and new in turn and the other way, or one is new or old alone.
+const SECTORS: usize = 32;
+
+const ALL: u32 = 68;
+
+// The choices that are made where recovery is stopped too: the first ones.
+const SOME: u32 = 6;
 
 // A group with an escaped copy and a freed home, which is written; three groups of eight blocks, one of five, and
 // one that makes room and goes round the end of the log; and all are checkpointed.
@@ -141,6 +129,25 @@ fn run<D: Disk + Drop>(alloc: Global, disk: D) -> Result<(D, Left, bool), Fail> 
     Ok((deck.close(), only(model.standing()), true))
 }
 
+// The choice of this number.
+fn choice(number: u32) -> [u32; SECTORS] {
+    let mut choice = [0; SECTORS];
+    for (i, version) in choice.iter_mut().enumerate() {
+        let alone = i as u32 == number.saturating_sub(4) / 2;
+        let is_new = match number {
+            0 => false,
+            1 => true,
+            2 => i % 2 == 1,
+            3 => i % 2 == 0,
+            _ => alone == (number % 2 == 0),
+        };
+        if is_new {
+            *version = NEW;
+        }
+    }
+    choice
+}
+
 // Whether what this choice leaves of a disk recovers to homes that may be left.
 fn mends(alloc: Global, disk: &MemoryDisk, choice: &[u32], left: &Left) -> Result<bool, Fail> {
     let mut found = disk.crash(choice)?;
@@ -150,10 +157,10 @@ fn mends(alloc: Global, disk: &MemoryDisk, choice: &[u32], left: &Left) -> Resul
     is_left(alloc, &mut found, HOMES, left)
 }
 
-// Whether what each choice leaves does.
-fn all_mend(alloc: Global, disk: &MemoryDisk, left: &Left) -> Result<bool, Fail> {
-    for choice in CHOICES {
-        if !mends(alloc, disk, choice, left)? {
+// Whether what each of the first choices leaves does.
+fn all_mend(alloc: Global, disk: &MemoryDisk, choices: u32, left: &Left) -> Result<bool, Fail> {
+    for number in 0..choices {
+        if !mends(alloc, disk, &choice(number), left)? {
             return Ok(false);
         }
     }
@@ -185,7 +192,7 @@ fn mends_whenever(alloc: Global, disk: &MemoryDisk, left: &Left) -> Result<bool,
     let all = calls_of(alloc, disk)?;
     for calls in all.saturating_sub(LAST)..all {
         let (once, _) = stopped(alloc, disk, calls)?;
-        if !all_mend(alloc, &once, left)? {
+        if !all_mend(alloc, &once, SOME, left)? {
             return Ok(false);
         }
     }
@@ -198,8 +205,8 @@ fn every_call_of_a_script_may_fail_or_be_the_last(rt: HostRuntime) -> Result<(),
     for calls in 0..MOST {
         let (fuse, left, ended) = run(alloc, FuseDisk::of(before(alloc)?, calls))?;
         let mut disk = fuse.into_inner();
-        assert!(rt; all_mend(alloc, &disk, &left)?, "{calls}");
-        let found = disk.crash(CHOICES[(calls % 10) as usize])?;
+        assert!(rt; all_mend(alloc, &disk, ALL, &left)?, "{calls}");
+        let found = disk.crash(&choice((calls % 10) as u32))?;
         assert!(rt; mends_whenever(alloc, &found, &left)?, "{calls}");
         let (faulty, _, whole) = run(alloc, OneFaultDisk::of(before(alloc)?, calls))?;
         assert!(rt; whole == ended, "{calls}");
