@@ -9,11 +9,11 @@ use jb_recover::{Recovered, recover};
 use std::alloc::Global;
 use std::test::Fail;
 
-// The call of the disk that fails: opening the small image makes 34; then the superblock, a revoke block, a
-// descriptor and a copy are written.
-const BEFORE_COMMIT: u64 = 38;
+// The sync that fails, by its number among the calls of the disk: opening the small image makes 34; then the
+// superblock is read and written, and a revoke block, a descriptor and a copy are written.
+const BEFORE_COMMIT: u64 = 39;
 
-const AFTER_COMMIT: u64 = 40;
+const AFTER_COMMIT: u64 = 41;
 
 // The call that fails, which of the pending sectors are new, what recovery reports (transactions, copies, revoked
 // copies and the next number), and whether all is as it was once the journal is opened again.

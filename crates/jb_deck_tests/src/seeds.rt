@@ -35,7 +35,7 @@ impl Seed {
             .state
             .wrapping_mul(6_364_136_223_846_793_005)
             .wrapping_add(1_442_695_040_888_963_407);
-        let number = (self.state >> 33) as u32;
+        let number = u32::try_from(self.state >> 33).unwrap_or(0);
         if limit == 0 { 0 } else { number % limit }
     }
 }

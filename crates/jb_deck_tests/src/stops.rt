@@ -14,7 +14,7 @@ use std::alloc::Global;
 use std::test::Fail;
 
 // More calls of the disk than the script makes, and than a recovery makes.
-const MOST: u64 = 400;
+const MOST: u32 = 400;
 
 // As many calls as the writes and syncs of a recovery here, or more.
 const LAST: u64 = 40;
@@ -133,7 +133,7 @@ fn run<D: Disk + Drop>(alloc: Global, disk: D) -> Result<(D, Left, bool), Fail> 
 fn choice(number: u32) -> [u32; SECTORS] {
     let mut choice = [0; SECTORS];
     for (i, version) in choice.iter_mut().enumerate() {
-        let alone = i as u32 == number.saturating_sub(4) / 2;
+        let alone = i == number.saturating_sub(4) as usize / 2;
         let is_new = match number {
             0 => false,
             1 => true,
@@ -202,11 +202,12 @@ fn mends_whenever(alloc: Global, disk: &MemoryDisk, left: &Left) -> Result<bool,
 #[test]
 fn every_call_of_a_script_may_fail_or_be_the_last(rt: HostRuntime) -> Result<(), Fail> {
     let alloc = rt.alloc();
-    for calls in 0..MOST {
+    for number in 0..MOST {
+        let calls = u64::from(number);
         let (fuse, left, ended) = run(alloc, FuseDisk::of(before(alloc)?, calls))?;
         let mut disk = fuse.into_inner();
         assert!(rt; all_mend(alloc, &disk, ALL, &left)?, "{calls}");
-        let found = disk.crash(&choice((calls % 10) as u32))?;
+        let found = disk.crash(&choice(number % 10))?;
         assert!(rt; mends_whenever(alloc, &found, &left)?, "{calls}");
         let (faulty, _, whole) = run(alloc, OneFaultDisk::of(before(alloc)?, calls))?;
         assert!(rt; whole == ended, "{calls}");
