@@ -31,8 +31,8 @@ const ALL: u32 = 68;
 // The choices that are made where recovery is stopped too: the first ones.
 const SOME: u32 = 6;
 
-// A group with an escaped copy and a freed home, which is written; three groups of eight blocks, one of five, and
-// one that makes room and goes round the end of the log; and all are checkpointed.
+// A group with an escaped copy and a freed home, which is written; home 3, which is copied, freed, written and free
+// to the end; groups that fill the log, and some that make room and go round its end; and all are checkpointed.
 const SCRIPT: [Call<'static>; 15] = [
     Call::Commit(0, &[]),
     Call::Commit(1, &[(0, 5, Some(7)), (0, 7, None)]),
@@ -68,9 +68,9 @@ const SCRIPT: [Call<'static>; 15] = [
             (0, 0, Some(40)),
             (0, 1, Some(41)),
             (0, 2, Some(42)),
-            (0, 3, Some(43)),
             (0, 4, Some(44)),
             (0, 5, Some(45)),
+            (0, 9, Some(49)),
         ],
     ),
     Call::Commit(1, &[(0, 0, Some(50)), (0, 1, Some(51)), (0, 2, Some(52))]),
