@@ -4,8 +4,32 @@
 #[cfg(test)]
 mod batches;
 #[cfg(test)]
+mod cases;
+#[cfg(test)]
+mod commits;
+#[cfg(test)]
+mod contents;
+#[cfg(test)]
 mod crashes;
+#[cfg(test)]
+mod faults;
+#[cfg(test)]
+mod groups;
+#[cfg(test)]
+mod homes;
 #[cfg(test)]
 mod images;
 #[cfg(test)]
+mod lives;
+#[cfg(test)]
+mod model;
+#[cfg(test)]
 mod openings;
+#[cfg(test)]
+mod rounds;
+#[cfg(test)]
+mod scripts;
+#[cfg(test)]
+mod seeds;
+#[cfg(test)]
+mod stops;

@@ -1,0 +1,88 @@
+//! Home blocks whose contents are known by a number, and what a crash may leave of them.
+
+use crate::images::{MAGIC, put_words, read_at};
+use crate::model::Homes;
+use jb_disk::Disk;
+use std::alloc::Global;
+use std::test::Fail;
+
+/// What a crash may leave: all homes as they were or all as they become, and of one home each sector as
+/// it is or as these contents have it.
+#[derive(Clone, Copy)]
+pub struct Left {
+    pub was: Homes,
+    pub becomes: Homes,
+    pub torn: Option<(usize, u32)>,
+}
+
+/// What a crash leaves where only this is possible.
+pub fn only(homes: Homes) -> Left {
+    Left {
+        was: homes,
+        becomes: homes,
+        torn: None,
+    }
+}
+
+/// Fills a block with the contents of this number, which show in each sector. One number in four makes it begin
+/// as a commit block does, and another one as an escaped copy.
+pub fn fill(block: &mut [u8], number: u32) {
+    let front = match number % 4 {
+        1 => 0,
+        3 => MAGIC,
+        _ => number,
+    };
+    let kind = if number == 0 { 0 } else { 2 };
+    put_words(block, 0, &[front, kind, number, number]);
+    for at in [0x1F0, 0x200, 0x3F0] {
+        put_words(block, at, &[number, number, number, number]);
+    }
+}
+
+/// Whether the disk has these homes, from a place on; sectors of one home may be of other contents.
+pub fn holds<D: Disk>(
+    alloc: Global,
+    disk: &mut D,
+    first: u64,
+    homes: &Homes,
+    torn: Option<(usize, u32)>,
+) -> Result<bool, Fail> {
+    let mut block = vec![in alloc; 0; 1024]?;
+    let mut wanted = vec![in alloc; 0; 1024]?;
+    let mut other = vec![in alloc; 0; 1024]?;
+    for (home, number) in homes.iter().enumerate() {
+        read_at(disk, first.saturating_add(home as u64), &mut block)?;
+        fill(&mut wanted, *number);
+        let contents = match torn {
+            Some((at, contents)) if at == home => contents,
+            _ => *number,
+        };
+        fill(&mut other, contents);
+        if !is_mixed(&block, &wanted, &other) {
+            return Ok(false);
+        }
+    }
+    Ok(true)
+}
+
+// Whether each sector of a block is that of one block or of the other.
+fn is_mixed(block: &[u8], one: &[u8], other: &[u8]) -> bool {
+    let (Some(low), Some(high)) = (block.get(..512), block.get(512..)) else {
+        return false;
+    };
+    (one.get(..512) == Some(low) || other.get(..512) == Some(low))
+        && (one.get(512..) == Some(high) || other.get(512..) == Some(high))
+}
+
+/// Whether the homes of a disk, from a place on, are among what a crash may leave.
+pub fn is_left<D: Disk>(
+    alloc: Global,
+    disk: &mut D,
+    first: u64,
+    left: &Left,
+) -> Result<bool, Fail> {
+    if holds(alloc, disk, first, &left.was, left.torn)? {
+        return Ok(true);
+    }
+    holds(alloc, disk, first, &left.becomes, left.torn)
+}

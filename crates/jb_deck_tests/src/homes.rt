@@ -1,0 +1,120 @@
+//! Journals whose transactions go home, or are recovered, between two batches; and homes that are freed.
+
+use crate::cases::Case;
+use crate::images::{BLOCKS, HOMES, MAGIC};
+use crate::scripts::Step;
+use jb_deck::FreeFault;
+
+// The bytes that a script writes to a free home.
+const SEVENS: [u32; 4] = [0x7777_7777, 0x7777_7777, 0x7777_7777, 0x7777_7777];
+
+const FREED: [Step; 3] = [
+    Step::Commits("h w5=aa\n", &[(0, 1, 2)]),
+    Step::Commits("h r5\n", &[(1, 2, 3)]),
+    Step::Writes(5, 1024, Ok(())),
+];
+
+/// Copies that go home, and homes that are freed.
+pub const FREES: [Case; 5] = [
+    Case {
+        name: "the escaped copy goes home",
+        blocks: BLOCKS,
+        image: &[],
+        steps: &[
+            Step::Commits("h w5=c03b3998 r7\n", &[(0, 1, 2)]),
+            Step::Writes(7, 1024, Ok(())),
+            Step::Checkpoints(2, 1),
+            Step::Idle,
+            Step::Writes(7, 1024, Err(FreeFault::NotFree)),
+            Step::Word(7, None),
+            Step::Word(5, None),
+            Step::Ends(&[(0, 1, 2)], 3),
+        ],
+        groups: &[(1, 2, &[7], &[(5, MAGIC)])],
+        rows: &[
+            (0, 0x10, [33, 1, 2, 0]),
+            (HOMES + 5, 0, [MAGIC, 0, 0, 0]),
+            (HOMES + 7, 0, SEVENS),
+        ],
+        recovered: (0, 0, 0, 3),
+        after: &[],
+    },
+    Case {
+        name: "a group after an emptied log",
+        blocks: BLOCKS,
+        image: &[],
+        steps: &[
+            Step::Commits("h w5=c03b3998 r7\n", &[(0, 1, 2)]),
+            Step::Checkpoints(2, 1),
+            Step::Commits("h w1=0b\n", &[(1, 2, 3)]),
+            Step::Ends(&[(0, 1, 2), (1, 2, 3)], 4),
+        ],
+        groups: &[
+            (1, 2, &[7], &[(5, MAGIC)]),
+            (5, 3, &[], &[(1, 0x0B00_0000)]),
+        ],
+        rows: &[(0, 0x10, [33, 1, 3, 5]), (HOMES + 5, 0, [MAGIC, 0, 0, 0])],
+        recovered: (1, 1, 0, 5),
+        after: &[
+            (0, 0x10, [33, 1, 4, 0]),
+            (HOMES + 1, 0, [0x0B00_0000, 0, 0, 0]),
+        ],
+    },
+    Case {
+        name: "a freed home that is written",
+        blocks: BLOCKS,
+        image: &[],
+        steps: &FREED,
+        groups: &[(1, 2, &[], &[(5, 0xAA00_0000)]), (4, 3, &[5], &[])],
+        rows: &[(0, 0x10, [33, 1, 2, 1]), (HOMES + 5, 0, SEVENS)],
+        recovered: (2, 0, 1, 5),
+        after: &[(0, 0x10, [33, 1, 4, 0])],
+    },
+    Case {
+        name: "an older copy does not go home over what was freed, and a later one does",
+        blocks: BLOCKS,
+        image: &[],
+        steps: &[
+            Step::Commits("h w5=aa\nh w6=ab\n", &[(0, 2, 2)]),
+            Step::Commits("h r5\n", &[(2, 3, 3)]),
+            Step::Writes(5, 1024, Ok(())),
+            Step::Commits("h w5=ac\n", &[(3, 4, 4)]),
+            Step::Word(5, Some(true)),
+            Step::Writes(5, 1024, Err(FreeFault::NotFree)),
+            Step::Checkpoints(2, 1),
+            Step::Word(6, None),
+        ],
+        groups: &[
+            (1, 2, &[], &[(5, 0xAA00_0000), (6, 0xAB00_0000)]),
+            (5, 3, &[5], &[]),
+            (7, 4, &[], &[(5, 0xAC00_0000)]),
+        ],
+        rows: &[
+            (0, 0x10, [33, 1, 3, 5]),
+            (HOMES + 5, 0, SEVENS),
+            (HOMES + 6, 0, [0xAB00_0000, 0, 0, 0]),
+        ],
+        recovered: (2, 1, 0, 6),
+        after: &[
+            (0, 0x10, [33, 1, 5, 0]),
+            (HOMES + 5, 0, [0xAC00_0000, 0, 0, 0]),
+        ],
+    },
+    Case {
+        name: "a group whose commit block is missing",
+        blocks: BLOCKS,
+        image: &[
+            (0, 0x10, [33, 1, 2, 1]),
+            (1, 0, [MAGIC, 5, 2, 20]),
+            (1, 0x10, [7, 0, 0, 0]),
+            (2, 0, [MAGIC, 1, 2, 5]),
+            (2, 0x10, [9, 0, 0, 0]),
+            (3, 0, [0, 0x0102_0304, 0, 0]),
+        ],
+        steps: &[Step::Commits("h w5=c03b3998 r7\n", &[(0, 1, 3)])],
+        groups: &[(1, 3, &[7], &[(5, MAGIC)])],
+        rows: &[(0, 0x10, [33, 1, 3, 1])],
+        recovered: (1, 1, 0, 5),
+        after: &[(0, 0x10, [33, 1, 4, 0]), (HOMES + 5, 0, [MAGIC, 0, 0, 0])],
+    },
+];

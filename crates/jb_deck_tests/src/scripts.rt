@@ -1,0 +1,228 @@
+//! Calls of a journal, with the answers that are worked out by hand.
+
+use crate::groups::STAMP;
+use crate::images::put_words;
+use jb_block::{BlockSize, Width};
+use jb_deck::{
+    Batch, BatchFault, Checked, CheckpointFault, Deck, Entry, FreeFault, Prepared, is_batch,
+    prepare,
+};
+use jb_disk::Disk;
+use jb_handle::{Shape, Stopped, Word};
+use jb_queue::read_queue;
+use std::alloc::Global;
+use std::test::Fail;
+
+/// A shape that a batch is made for: how many homes, which limit, and how wide block numbers are.
+pub type Made = (u64, u32, Width);
+
+/// The entry of a group: its first ticket, the one after its last, and its number.
+pub type Told = (u64, u64, u32);
+
+/// A call, and what it answers.
+#[derive(Clone, Copy)]
+pub enum Step {
+    /// These handles are committed, and these groups are settled.
+    Commits(&'static str, &'static [Told]),
+    /// A batch from this ticket on, for this shape, is refused.
+    Refuses(u64, Made, &'static str, Refusal),
+    /// The oldest transaction, of this number, is checkpointed, and so many copies are written.
+    Checkpoints(u32, u64),
+    /// There is no transaction to checkpoint.
+    Idle,
+    /// So many bytes are written to a home that is free.
+    Writes(u64, usize, Result<(), FreeFault>),
+    /// The last word on a home, whether it is a copy.
+    Word(u64, Option<bool>),
+    /// The whole trail, and the number of the next transaction.
+    Ends(&'static [Told], u64),
+}
+
+/// Why a batch is refused.
+#[derive(Clone, Copy, Debug, PartialEq, Eq)]
+pub enum Refusal {
+    Aborted,
+    WrongTicket(u64),
+    OtherShape,
+    NumbersSpent,
+    Memory,
+    /// So many groups were settled before the fault.
+    DeviceFault(usize),
+}
+
+/// A batch as it was prepared: its first ticket, its shape, how many handles and groups it has, and how many log
+/// blocks these take.
+pub type Kept = (u64, Shape, usize, usize, u64);
+
+/// The handles of these lines, with tickets from `first` on.
+pub fn handles_of(alloc: Global, lines: &str, first: u64) -> Result<Vec<Stopped>, Fail> {
+    let mut text = b"bs 1024\nlimit 8\n".to_vec(alloc)?;
+    for byte in lines.as_bytes() {
+        text.push(*byte)?;
+    }
+    let mut handles = read_queue(alloc, &text)?.handles;
+    for handle in &mut handles {
+        handle.ticket = handle.ticket.saturating_add(first);
+    }
+    Ok(handles)
+}
+
+/// These handles as a batch with its plan, or none where they are no batch or none fits.
+pub fn prepared(
+    alloc: Global,
+    first: u64,
+    handles: Vec<Stopped>,
+    shape: Shape,
+) -> Result<Option<Prepared>, Fail> {
+    if !is_batch(first, &handles, shape) {
+        return Ok(None);
+    }
+    match prepare(alloc, Batch::of(first, handles, shape)) {
+        Ok(prepared) => Ok(Some(prepared)),
+        Err((batch, _)) => {
+            let _handles = batch.end();
+            Ok(None)
+        }
+    }
+}
+
+/// What a batch is, which is let go.
+pub fn kept(prepared: Prepared) -> Kept {
+    let groups = prepared.groups().len();
+    let total = prepared.total();
+    let batch = prepared.back();
+    let (first, shape, len) = (batch.first(), batch.shape(), batch.len());
+    let _handles = batch.end();
+    (first, shape, len, groups, total)
+}
+
+/// Why a batch is refused, and the batch that is handed back.
+pub fn refused(fault: BatchFault) -> (Refusal, Option<Kept>) {
+    match fault {
+        BatchFault::Aborted(back) => (Refusal::Aborted, Some(kept(back))),
+        BatchFault::WrongTicket(back, expected) => (
+            Refusal::WrongTicket(expected),
+            Some(kept(back)),
+        ),
+        BatchFault::OtherShape(back) => (Refusal::OtherShape, Some(kept(back))),
+        BatchFault::NumbersSpent(back) => (Refusal::NumbersSpent, Some(kept(back))),
+        BatchFault::Memory(back) => (Refusal::Memory, Some(kept(back))),
+        BatchFault::DeviceFault { settled } => {
+            (Refusal::DeviceFault(settled.entries().len()), None)
+        }
+    }
+}
+
+/// The ticket of the next handle.
+pub fn next_ticket<D: Disk>(deck: &Deck<D>) -> u64 {
+    match deck.trail().last() {
+        Some(entry) => entry.past,
+        None => 0,
+    }
+}
+
+// Whether entries are these.
+fn are(entries: &[Entry], told: &[Told]) -> bool {
+    for (entry, (first, past, number)) in entries.iter().zip(told) {
+        if (entry.first, entry.past, entry.number) != (*first, *past, *number) {
+            return false;
+        }
+    }
+    entries.len() == told.len()
+}
+
+fn commits<D: Disk>(
+    alloc: Global,
+    deck: &mut Deck<D>,
+    lines: &str,
+    entries: &[Told],
+) -> Result<bool, Fail> {
+    let first = next_ticket(deck);
+    let handles = handles_of(alloc, lines, first)?;
+    let Some(batch) = prepared(alloc, first, handles, deck.shape())? else {
+        return Ok(false);
+    };
+    match deck.commit_batch(batch, STAMP) {
+        Ok(done) => Ok(done.first() == first && are(done.entries(), entries)),
+        Err(fault) => {
+            let _told = refused(fault);
+            Ok(false)
+        }
+    }
+}
+
+/// Whether a batch for this shape is refused so, and handed back as it was where it is not lost.
+pub fn refuses<D: Disk>(
+    alloc: Global,
+    deck: &mut Deck<D>,
+    first: u64,
+    made: Made,
+    lines: &str,
+    refusal: Refusal,
+) -> Result<bool, Fail> {
+    let (homes, limit, width) = made;
+    if limit < 3 || limit > 2147483646 {
+        return Ok(false);
+    }
+    let bs = BlockSize::OneKib;
+    let shape = Shape {
+        bs,
+        homes,
+        limit,
+        width,
+    };
+    let Some(batch) = prepared(alloc, first, handles_of(alloc, lines, first)?, shape)? else {
+        return Ok(false);
+    };
+    let was = kept(batch);
+    let Some(batch) = prepared(alloc, first, handles_of(alloc, lines, first)?, shape)? else {
+        return Ok(false);
+    };
+    match deck.commit_batch(batch, STAMP) {
+        Ok(_) => Ok(false),
+        Err(fault) => {
+            let (told, back) = refused(fault);
+            let lost = matches!(told, Refusal::DeviceFault(_));
+            Ok(told == refusal && back == if lost { None } else { Some(was) })
+        }
+    }
+}
+
+// Whether a call answers so.
+fn answers<D: Disk>(alloc: Global, deck: &mut Deck<D>, step: Step) -> Result<bool, Fail> {
+    match step {
+        Step::Commits(lines, entries) => commits(alloc, deck, lines, entries),
+        Step::Refuses(first, made, lines, refusal) => {
+            refuses(alloc, deck, first, made, lines, refusal)
+        }
+        Step::Checkpoints(number, blocks) => {
+            Ok(deck.checkpoint_one() == Ok(Checked { number, blocks }))
+        }
+        Step::Idle => Ok(deck.checkpoint_one() == Err(CheckpointFault::Nothing)),
+        Step::Writes(home, len, answer) => {
+            let mut bytes = vec![in alloc; 0; len]?;
+            put_words(
+                &mut bytes,
+                0,
+                &[0x7777_7777, 0x7777_7777, 0x7777_7777, 0x7777_7777],
+            );
+            Ok(deck.write_free(home, &bytes) == answer)
+        }
+        Step::Word(home, copy) => Ok(deck.word_of(home).map(Word::is_copy) == copy),
+        Step::Ends(trail, next) => Ok(are(deck.trail(), trail) && deck.next_number() == next),
+    }
+}
+
+/// The first of these calls that does not answer so, if there is one.
+pub fn first_wrong<D: Disk>(
+    alloc: Global,
+    deck: &mut Deck<D>,
+    steps: &[Step],
+) -> Result<Option<usize>, Fail> {
+    for (i, step) in steps.iter().enumerate() {
+        if !answers(alloc, deck, *step)? {
+            return Ok(Some(i));
+        }
+    }
+    Ok(None)
+}

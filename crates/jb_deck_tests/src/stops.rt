@@ -1,0 +1,227 @@
+//! A script of a journal's calls of which a call of the disk fails, or every one from one on; what a crash then
+//! leaves is recovered, and recovery is broken off by a crash too.
+
+use crate::contents::{Left, is_left, only};
+use crate::images::{BLOCKS, HOMES, Row, difference, small};
+use crate::lives::{Call, make_call};
+use crate::model::{Homes, Model};
+use crate::scripts::{Refusal, refuses};
+use jb_block::Width;
+use jb_deck::{CheckpointFault, Deck, FreeFault, OpenFault};
+use jb_disk::{Disk, FuseDisk, MemoryDisk, OneFaultDisk};
+use jb_recover::recover;
+use std::alloc::Global;
+use std::test::Fail;
+
+// More calls of the disk than the script makes, and than a recovery makes.
+const MOST: u32 = 400;
+
+// As many calls as the writes and syncs of a recovery here, or more.
+const LAST: u64 = 40;
+
+// A number of versions is at most ten: this one names the newest of so many.
+const NEW: u32 = 2519;
+
+// More sectors than are pending at any moment, and the choices of one version for each: all are old, all new, old
+// and new in turn and the other way, or one is new or old alone.
+const SECTORS: usize = 32;
+
+const ALL: u32 = 68;
+
+// The choices that are made where recovery is stopped too: the first ones.
+const SOME: u32 = 6;
+
+// A group with an escaped copy and a freed home, which is written; home 3, which is copied, freed, written and free
+// to the end; groups that fill the log, and some that make room and go round its end; and all are checkpointed.
+const SCRIPT: [Call<'static>; 15] = [
+    Call::Commit(0, &[]),
+    Call::Commit(1, &[(0, 5, Some(7)), (0, 7, None)]),
+    Call::Write(7, 8),
+    Call::Commit(
+        1,
+        &[
+            (0, 0, Some(20)),
+            (0, 1, Some(21)),
+            (0, 2, Some(22)),
+            (0, 3, Some(23)),
+            (0, 4, Some(24)),
+            (0, 5, Some(25)),
+        ],
+    ),
+    Call::Commit(
+        2,
+        &[
+            (0, 0, Some(30)),
+            (0, 1, Some(31)),
+            (0, 2, Some(32)),
+            (0, 3, None),
+            (1, 4, Some(34)),
+            (1, 5, Some(35)),
+            (1, 6, Some(36)),
+            (1, 8, Some(38)),
+        ],
+    ),
+    Call::Write(3, 39),
+    Call::Commit(
+        1,
+        &[
+            (0, 0, Some(40)),
+            (0, 1, Some(41)),
+            (0, 2, Some(42)),
+            (0, 4, Some(44)),
+            (0, 5, Some(45)),
+            (0, 9, Some(49)),
+        ],
+    ),
+    Call::Commit(1, &[(0, 0, Some(50)), (0, 1, Some(51)), (0, 2, Some(52))]),
+    Call::Commit(
+        1,
+        &[
+            (0, 0, Some(60)),
+            (0, 1, Some(61)),
+            (0, 2, Some(62)),
+            (0, 7, Some(63)),
+        ],
+    ),
+    Call::Checkpoint,
+    Call::Checkpoint,
+    Call::Checkpoint,
+    Call::Checkpoint,
+    Call::Checkpoint,
+    Call::Checkpoint,
+];
+
+// The small image with homes of zeros.
+fn before(alloc: Global) -> Result<MemoryDisk, Fail> {
+    let zeros: [Row; 1] = [(HOMES + 5, 0, [0, 0, 0, 0])];
+    small(alloc, BLOCKS, &zeros, &[])
+}
+
+// Whether a journal that is aborted refuses each call.
+fn is_aborted<D: Disk>(alloc: Global, deck: &mut Deck<D>) -> Result<bool, Fail> {
+    let other = (16, 7, Width::Narrow);
+    Ok(
+        deck.aborted()
+            && deck.checkpoint_one() == Err(CheckpointFault::Aborted)
+            && deck.write_free(16, &[]) == Err(FreeFault::Aborted)
+            && refuses(alloc, deck, 99, other, "h w1\n", Refusal::Aborted)?
+            && refuses(alloc, deck, 0, other, "", Refusal::Aborted)?,
+    )
+}
+
+// Runs the script up to its first fault: the disk, what a crash may leave of it, and whether it met none.
+fn run<D: Disk + Drop>(alloc: Global, disk: D) -> Result<(D, Left, bool), Fail> {
+    let homes: Homes = [0; 16];
+    let mut deck = match Deck::open(alloc, disk) {
+        Ok(deck) => deck,
+        Err((disk, OpenFault::DeviceFault)) => return Ok((disk, only(homes), false)),
+        Err(_) => return Err("it is not opened".into()),
+    };
+    let mut model = Model::new(alloc, homes, u64::from(deck.usable()));
+    for next in SCRIPT {
+        if let Some(left) = make_call(alloc, &mut deck, &mut model, next)? {
+            if !is_aborted(alloc, &mut deck)? {
+                return Err("it is not aborted".into());
+            }
+            return Ok((deck.close(), left, false));
+        }
+    }
+    Ok((deck.close(), only(model.standing()), true))
+}
+
+// The choice of this number.
+fn choice(number: u32) -> [u32; SECTORS] {
+    let mut choice = [0; SECTORS];
+    for (i, version) in choice.iter_mut().enumerate() {
+        let alone = i == number.saturating_sub(4) as usize / 2;
+        let is_new = match number {
+            0 => false,
+            1 => true,
+            2 => i % 2 == 1,
+            3 => i % 2 == 0,
+            _ => alone == (number % 2 == 0),
+        };
+        if is_new {
+            *version = NEW;
+        }
+    }
+    choice
+}
+
+// Whether what this choice leaves of a disk recovers to homes that may be left.
+fn mends(alloc: Global, disk: &MemoryDisk, choice: &[u32], left: &Left) -> Result<bool, Fail> {
+    let mut found = disk.crash(choice)?;
+    if recover(alloc, &mut found).is_err() {
+        return Ok(false);
+    }
+    is_left(alloc, &mut found, HOMES, left)
+}
+
+// Whether what each of the first choices leaves does.
+fn all_mend(alloc: Global, disk: &MemoryDisk, choices: u32, left: &Left) -> Result<bool, Fail> {
+    for number in 0..choices {
+        if !mends(alloc, disk, &choice(number), left)? {
+            return Ok(false);
+        }
+    }
+    Ok(true)
+}
+
+// A recovery of what a crash left, that is stopped after so many calls: its disk, and whether it ended before.
+fn stopped(alloc: Global, disk: &MemoryDisk, calls: u64) -> Result<(MemoryDisk, bool), Fail> {
+    let mut fuse = FuseDisk::of(disk.crash(&[])?, calls);
+    let ended = recover(alloc, &mut fuse).is_ok();
+    Ok((fuse.into_inner(), ended))
+}
+
+// How many calls the recovery of what a crash left makes.
+fn calls_of(alloc: Global, disk: &MemoryDisk) -> Result<u64, Fail> {
+    let mut calls: u64 = 0;
+    for step in [256, 128, 64, 32, 16, 8, 4, 2, 1] {
+        let further = calls.saturating_add(step);
+        if !stopped(alloc, disk, further)?.1 {
+            calls = further;
+        }
+    }
+    Ok(calls.saturating_add(1))
+}
+
+// Whether what a crash left recovers to homes that may be left where recovery is stopped too, after any of its last
+// calls: the ones before them only read.
+fn mends_whenever(alloc: Global, disk: &MemoryDisk, left: &Left) -> Result<bool, Fail> {
+    let all = calls_of(alloc, disk)?;
+    for calls in all.saturating_sub(LAST)..all {
+        let (once, _) = stopped(alloc, disk, calls)?;
+        if !all_mend(alloc, &once, SOME, left)? {
+            return Ok(false);
+        }
+    }
+    Ok(true)
+}
+
+#[test]
+fn every_call_of_a_script_may_fail_or_be_the_last(rt: HostRuntime) -> Result<(), Fail> {
+    let alloc = rt.alloc();
+    for number in 0..MOST {
+        let calls = u64::from(number);
+        let (fuse, left, ended) = run(alloc, FuseDisk::of(before(alloc)?, calls))?;
+        let mut disk = fuse.into_inner();
+        assert!(rt; all_mend(alloc, &disk, ALL, &left)?, "{calls}");
+        let found = disk.crash(&choice(number % 10))?;
+        assert!(rt; mends_whenever(alloc, &found, &left)?, "{calls}");
+        let (faulty, _, whole) = run(alloc, OneFaultDisk::of(before(alloc)?, calls))?;
+        assert!(rt; whole == ended, "{calls}");
+        let mut once = faulty.into_inner();
+        assert_eq!(rt;
+            difference(alloc, &mut once, &mut disk, 0)?,
+            None,
+            "{calls}"
+        );
+        if ended {
+            assert_eq!(rt; calls, 151);
+            return Ok(());
+        }
+    }
+    assert!(rt; false, "it never ends");
+    Ok(())
+}
