@@ -7,6 +7,7 @@ ghost use Rattle.jb_board.specs.Front.{InOrder, IsWithin};
 
 mod checkpoints;
 mod closing;
+mod committers;
 
 use crate::book::Book;
 use crate::counter::Counter;
