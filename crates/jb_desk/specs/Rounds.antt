@@ -2,7 +2,10 @@
 use Rattle.std.specs.Prelude.{◌≡◌, ℕ, ◌+◌, ◌≤◌, true, false, length, Option, Some, None, is_some, Result, Ok, Err}
 use Rattle.jb_deck.specs.Batch.{Gathered, gathered}
 use Rattle.jb_deck.specs.Costs.{HasCut}
-use Rattle.jb_deck.specs.Done.{Follow, first_of, entries_of}
+use Rattle.jb_deck.specs.Done.{Follow, first_of, entries_of, past_after}
+use Rattle.jb_deck.specs.Prepared.{Planned}
+use Rattle.jb_deck.specs.declared.batched.BatchFault.{BatchFault}
+use Rattle.jb_deck.specs.declared.batched.BatchFault.TheVariants as batch
 use Rattle.jb_deck.specs.declared.done.Done.{Done}
 use Rattle.jb_desk.specs.Account.{Account, taken_all, settled_to, failed_of, CanTake, Settles, IsOver}
 use Rattle.jb_desk.specs.declared.committer.Committer.{Committer}
@@ -50,9 +53,21 @@ pub record Rests (a : Account) : Type 0 where
   pub none : CanTake a → ⊥
   pub on : IsOver a → ⊥
 
+-- ---- the journal
+
 -- the ticket after those of a batch
 abbrev pub end_of : Gathered → ℕ
 end_of b = b.first + length b.handles
+
+-- all of the batch is settled, or a first part of it; otherwise it is handed back as it was
+abbrev pub CommitsAs : Planned → Result Done BatchFault → Type 0
+CommitsAs p (Ok done) = (first_of done ≡ p.batch.first) × Follow p.batch.first 0 (end_of p.batch) (entries_of done)
+CommitsAs p (Err (batch.Aborted back)) = back ≡ p
+CommitsAs p (Err (batch.WrongTicket back expected)) = back ≡ p
+CommitsAs p (Err (batch.OtherShape back)) = back ≡ p
+CommitsAs p (Err (batch.NumbersSpent back)) = back ≡ p
+CommitsAs p (Err (batch.Memory back)) = back ≡ p
+CommitsAs p (Err (batch.DeviceFault settled)) = (first_of settled ≡ p.batch.first) × (past_after p.batch.first (entries_of settled) ≤ end_of p.batch)
 
 -- ---- the round
 

@@ -8,6 +8,8 @@ ghost use Rattle.jb_board.specs.Front.{InOrder, IsWithin};
 mod checkpoints;
 mod closing;
 mod committers;
+mod committing;
+mod rounds;
 
 use crate::book::Book;
 use crate::counter::Counter;
