@@ -2,4 +2,5 @@ pub mod Accounts
 pub mod Cuts
 pub mod Follows
 pub mod Keeping
+pub mod Rounds
 pub mod Shadows

@@ -5,6 +5,7 @@ pub mod Desks
 pub mod Events
 pub mod Progress
 pub mod Refusals
+pub mod Rounds
 pub mod Seats
 pub mod Shadow
 pub mod Stops

@@ -5,6 +5,7 @@ ghost use Rattle.jb_handle.specs.Handle.{holder, changes_of};
 ghost use Rattle.jb_handle.specs.Held.{held, touched};
 
 mod progress;
+mod rounds;
 
 use crate::book::Book;
 use crate::fault::{BeginFault, EnqueueFault, StopFault, WaitFault};

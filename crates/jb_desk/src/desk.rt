@@ -7,6 +7,9 @@ ghost use Rattle.jb_board.specs.Front.{InOrder, IsWithin};
 
 mod checkpoints;
 mod closing;
+mod committers;
+mod committing;
+mod rounds;
 
 use crate::book::Book;
 use crate::counter::Counter;

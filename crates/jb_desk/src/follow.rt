@@ -1,8 +1,8 @@
 ghost use Rattle.std.specs.Prelude.{◌≡◌, ℕ, ◌+◌, ◌^◌, ◌<◌, ◌≤◌, ◌↔◌, IsTrue, IfSome, IfNone};
-ghost use Rattle.jb_deck.specs.Done.{Follow, least_after};
+ghost use Rattle.jb_deck.specs.Done.{Follow, least_after, past_after, first_of, entries_of};
 ghost use Rattle.jb_desk.specs.Account.{IsSettledBy};
 
-use jb_deck::Entry;
+use jb_deck::{Done, Entry};
 
 /// Where the tickets of the entries end, and the least number of a group after them, where they begin
 /// at the ticket `first`, tile without a gap up to `limit` at most, and have numbers that rise from
@@ -53,6 +53,16 @@ pub fn are_same(these: &[Entry], those: &[Entry]) -> bool
     ensures { IsTrue result ↔ (these.now ≡ those.now) }
 {
     these == those
+}
+
+/// The ticket after those of the groups that are settled.
+pub fn end_of(done: &Done) -> u64
+    ensures { result ≡ past_after (first_of done.now) (entries_of done.now) }
+{
+    match done.entries().last() {
+        Some(entry) => entry.past,
+        None => done.first(),
+    }
 }
 
 // The number after another.

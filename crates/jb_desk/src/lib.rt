@@ -2,6 +2,7 @@
 #![tactic(auto)]
 
 mod book;
+mod committer;
 mod counter;
 mod desk;
 mod ended;
@@ -13,6 +14,7 @@ mod seat;
 mod works;
 
 pub use book::Book;
+pub use committer::{Committer, Round, RoundFault};
 pub use desk::{CloseFault, Closed, Desk};
 pub use ended::Ended;
 pub use fault::{BeginFault, EnqueueFault, SeatFault, StopFault, WaitFault, WrongBatch};

@@ -1,6 +1,6 @@
 ghost use Rattle.std.specs.Prelude.{◌≡◌};
 
-use jb_deck::{Checked, CheckpointFault, Deck};
+use jb_deck::{BatchFault, Checked, CheckpointFault, Deck, Done, Prepared};
 use jb_disk::{Clock, Disk};
 
 /// What the second lock of a desk guards: the journal on its disk, and the clock that stamps its
@@ -12,7 +12,26 @@ pub(crate) struct Works<D: Disk, C: Clock> {
 }
 
 impl<D: Disk, C: Clock> Works<D, C> {
+    ghost use Rattle.jb_block.specs.declared.stamp.Stamp.{Stamp};
     ghost use Rattle.jb_deck.specs.Checkpoints.{AnswersCheckpoint};
+    ghost use Rattle.jb_deck.specs.Committing.{AnswersBatch};
+    ghost use Rattle.jb_deck.specs.Prepared.{IsPlanned};
+    ghost use Rattle.jb_desk.specs.Rounds.{CommitsAs};
+
+    /// Commits a batch at the moment that the clock tells.
+    ///
+    /// # Errors
+    ///
+    /// Those of the journal's own commit.
+    pub fn commit(&mut self, prepared: Prepared) -> Result<Done, BatchFault>
+        requires { IsPlanned prepared }
+        ensures answers { (stamp : Stamp) × C.tells self.old.clock stamp × AnswersBatch (D.faults self.old.deck.disk) (D.faults self.new.deck.disk) prepared stamp self.old.deck self.new.deck result }
+        ensures told { CommitsAs prepared result }
+        ensures clock { self.new.clock ≡ self.old.clock }
+    {
+        let stamp = self.clock.now();
+        self.deck.commit_batch(prepared, stamp)
+    }
 
     /// Brings the oldest committed group home.
     ///

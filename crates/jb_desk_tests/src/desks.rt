@@ -1,110 +1,22 @@
 //! Calls of a desk over the small journal, with the answers that its limits give by hand.
-ghost use Rattle.std.specs.Prelude.{◌≡◌, ◌+◌, ◌^◌, [], false, IfOk, IfSome};
-ghost use Rattle.jb_handle.specs.Handle.{holder};
-ghost use Rattle.jb_desk.specs.Desks.{desk_id};
-ghost use Rattle.jb_desk.specs.Seats.{desk_of};
+ghost use Rattle.std.specs.Prelude.{◌≡◌, ◌+◌, ◌^◌};
 
-use jb_block::{BlockSize, Memory, Width};
+use crate::journal::{
+    CLOCK, PARTS, SHAPE, Still, Why, close_twice, formatted, opened, refused, revoke, stop,
+};
+use jb_block::Memory;
 use jb_board::Front;
-use jb_deck::{Checked, CheckpointFault, Deck};
-use jb_desk::{BeginFault, CloseFault, Desk, Ended, Left, Seat, SeatFault, StopFault, WaitFault};
-use jb_disk::{FixedClock, MemoryDisk};
-use jb_group::Stamp;
-use jb_handle::{Handle, Shape};
-use jb_recover::format;
+use jb_deck::{Checked, CheckpointFault};
+use jb_desk::{BeginFault, Ended, Seat, SeatFault, WaitFault};
+use jb_disk::MemoryDisk;
+use jb_handle::Handle;
 use std::alloc::Global;
 use std::marker::Brand;
 use std::sync::Wait;
 use std::sync::ledger::{Blank, Ledger};
 use std::test::Fail;
 
-type Small<H, N> = Desk<MemoryDisk, FixedClock, H, N>;
-
-// The parts of each ledger of a desk.
-const PARTS: u64 = (1 << 61) + 1;
-
-const CLOCK: FixedClock = FixedClock {
-    stamp: Stamp { sec: 0, nsec: 0 },
-};
-
-const SHAPE: Shape = Shape {
-    bs: BlockSize::OneKib,
-    homes: 16,
-    limit: 8,
-    width: Width::Narrow,
-};
-
-// A new journal of 32 usable log blocks and 16 home blocks, of which a group takes 8 log blocks at most.
-fn small(alloc: Global) -> Result<Option<Deck<MemoryDisk>>, Memory>
-    ensures { IfOk result (λ deck. IfSome deck (λ deck. (deck.trail ≡ []) × (deck.aborted ≡ false))) }
-{
-    let mut disk = MemoryDisk::new(alloc, BlockSize::OneKib, 49)?;
-    let formatted = format(&mut disk, 33, 0, [0; 16], Width::Narrow);
-    if formatted.is_err() {
-        return Ok(None);
-    }
-    Ok(Deck::open(alloc, disk).ok())
-}
-
-// Why a handle was not stopped.
-#[derive(Clone, Copy, Debug, PartialEq)]
-enum Why {
-    Begin(BeginFault),
-    Aborted,
-    NotOpen,
-    Memory,
-}
-
-// Begins a handle and drops it; says why that was refused.
-fn refused<R: Wait, H: Ledger, N: Ledger>(
-    rt: &R,
-    desk: &Small<H, N>,
-    seat: Seat<H, N>,
-    credits: u32,
-) -> (Seat<H, N>, Option<BeginFault>)
-    ensures { result.0 ≡ seat }
-{
-    match desk.begin(rt, seat, credits) {
-        Ok(handle) => (desk.abandon(rt, handle), None),
-        Err((seat, fault)) => (seat, Some(fault)),
-    }
-}
-
-// Stops a handle, or drops it where that is refused.
-fn stop<R: Wait, H: Ledger, N: Ledger>(
-    rt: &R,
-    desk: &Small<H, N>,
-    handle: Handle<Seat<H, N>>,
-) -> (Seat<H, N>, Result<u64, Why>)
-    requires { desk_of (holder handle) ≡ desk_id desk.now }
-    ensures { desk_of result.0 ≡ desk_id desk.now }
-{
-    match desk.stop(rt, handle) {
-        Ok((seat, ticket)) => (seat, Ok(ticket)),
-        Err(StopFault::Aborted(seat)) => (seat, Err(Why::Aborted)),
-        Err(StopFault::NotOpen(handle)) => (desk.abandon(rt, handle), Err(Why::NotOpen)),
-        Err(StopFault::Memory(handle)) => (desk.abandon(rt, handle), Err(Why::Memory)),
-    }
-}
-
-// Begins a handle, revokes a home block and stops it.
-fn revoke<R: Wait, H: Ledger, N: Ledger>(
-    rt: &R,
-    desk: &Small<H, N>,
-    seat: Seat<H, N>,
-    home: u64,
-) -> (Seat<H, N>, Result<u64, Why>)
-    requires { desk_of seat ≡ desk_id desk.now }
-    ensures { desk_of result.0 ≡ desk_id desk.now }
-{
-    match desk.begin(rt, seat, 1) {
-        Ok(mut handle) => {
-            let _refused = handle.revoke(home);
-            stop(rt, desk, handle)
-        }
-        Err((seat, fault)) => (seat, Err(Why::Begin(fault))),
-    }
-}
+type Small<H, N> = Still<MemoryDisk, H, N>;
 
 // What a seat finds that stops one handle, and what is counted at the end: handles, changes and groups.
 #[derive(Clone, Copy, Debug, PartialEq)]
@@ -198,10 +110,7 @@ fn strays<R: Wait, H: Ledger, N: Ledger>(
     lefts.push_reserved(desk.leave(rt, seat));
     desk.shut(rt);
     let ended = desk.run_checkpointer(rt);
-    let (is_out, counts) = match desk.close(lefts) {
-        Err(CloseFault::SeatsOut(desk, lefts)) => (true, close(desk, lefts, first)),
-        _ => (false, None),
-    };
+    let (is_out, counts) = close_twice(desk, lefts, first);
     Ok(Some(StrayAnswers {
         busy,
         foreign,
@@ -224,19 +133,6 @@ fn end_at_once<R: Wait, H: Ledger, N: Ledger>(
         }
         Err((seat, fault)) => (seat, Some(fault)),
     }
-}
-
-fn close<H: Ledger, N: Ledger>(
-    desk: Small<H, N>,
-    lefts: Vec<Left<H, N>>,
-    last: Left<H, N>,
-) -> Option<(u64, u64, usize)>
-    requires { (H.parts ≡ 2 ^ 61 + 1) × (N.parts ≡ 2 ^ 61 + 1) }
-{
-    let mut lefts = lefts;
-    lefts.push(last).ok()?;
-    let closed = desk.close(lefts).ok()?;
-    Some((closed.handles, closed.changes, closed.trail.len()))
 }
 
 // With so many handles of 6 credits open, whether one of 3 is begun, and one of 2.
@@ -276,7 +172,10 @@ fn rows<R: Wait, H: Ledger, N: Ledger>(
     requires handles { (handles.name ≡ H.name) × (handles.parts ≡ H.parts) × (H.parts ≡ 2 ^ 61 + 1) }
     requires changes { (changes.name ≡ N.name) × (changes.parts ≡ N.parts) × (N.parts ≡ 2 ^ 61 + 1) }
 {
-    let Some(deck) = small(alloc)? else {
+    let Some(disk) = formatted(alloc)? else {
+        return Ok(None);
+    };
+    let Some(deck) = opened(alloc, disk) else {
         return Ok(None);
     };
     let Ok(desk) = Small::<H, N>::start(alloc, handles, changes, deck, CLOCK) else {

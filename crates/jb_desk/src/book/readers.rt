@@ -6,7 +6,7 @@ use jb_handle::Shape;
 
 impl Book {
     ghost use Rattle.std.specs.Prelude.{◌≡◌, ℕ, ◌<◌, ◌≤◌, ◌^◌, ◌↔◌, IfSome, IfNone, IsTrue};
-    ghost use Rattle.jb_desk.specs.Account.{IsSound, IsOver, IsSettledBy};
+    ghost use Rattle.jb_desk.specs.Account.{IsSound, IsOver, IsSettledBy, CanTake};
     ghost use Rattle.jb_desk.specs.Shadow.{reserved};
     ghost use Rattle.jb_deck.specs.Done.{Follow};
 
@@ -65,6 +65,13 @@ impl Book {
         ensures { result ≡ self.now.aborted }
     {
         self.aborted
+    }
+
+    /// Whether the queue may be taken: a handle waits, and no batch is out.
+    pub fn can_take(&self) -> bool
+        ensures { IsTrue result ↔ CanTake self.now }
+    {
+        !self.aborted && self.taken == self.settled && !self.queue.is_empty()
     }
 
     /// Whether nothing more can happen: the book is shut, and no handle is open, queued or taken.

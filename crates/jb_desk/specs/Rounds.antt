@@ -1,0 +1,100 @@
+-- What a round of a committer makes of a book and of the committer.
+use Rattle.std.specs.Prelude.{◌≡◌, ℕ, ◌+◌, ◌≤◌, true, false, length, Option, Some, None, is_some, Result, Ok, Err}
+use Rattle.jb_deck.specs.Batch.{Gathered, gathered}
+use Rattle.jb_deck.specs.Costs.{HasCut}
+use Rattle.jb_deck.specs.Done.{Follow, first_of, entries_of, past_after}
+use Rattle.jb_deck.specs.Prepared.{Planned}
+use Rattle.jb_deck.specs.declared.batched.BatchFault.{BatchFault}
+use Rattle.jb_deck.specs.declared.batched.BatchFault.TheVariants as batch
+use Rattle.jb_deck.specs.declared.done.Done.{Done}
+use Rattle.jb_desk.specs.Account.{Account, taken_all, settled_to, failed_of, CanTake, Settles, IsOver}
+use Rattle.jb_desk.specs.declared.committer.Committer.{Committer}
+use Rattle.jb_desk.specs.declared.committer.Round.{Round}
+use Rattle.jb_desk.specs.declared.committer.Round.TheVariants.{Idle, Committed}
+use Rattle.jb_desk.specs.declared.committer.RoundFault.{RoundFault}
+use Rattle.jb_desk.specs.declared.committer.RoundFault.TheVariants.{Aborted, Memory, DeviceFault, Refused}
+use Rattle.jb_desk.specs.declared.ended.Ended.{Ended}
+use Rattle.jb_desk.specs.declared.ended.Ended.TheVariants as ended
+use Rattle.jb_desk.specs.declared.fault.WrongBatch.{WrongBatch}
+use Rattle.jb_desk.specs.declared.seat.Seat.{Seat}
+
+-- ---- a committer
+
+-- the seat that commits
+abbrev pub seat_of : {H N : Type 0} → Committer H N → Seat H N
+seat_of c = c.seat
+
+-- the batch that it holds
+abbrev pub held_by : {H N : Type 0} → Committer H N → Option Gathered
+held_by c = c.batch
+
+-- ---- the book
+
+-- the batch that is held goes on, or else the queue is taken; none does in a book that has failed
+abbrev pub GivesBatch : Result (Option Gathered) RoundFault → Option Gathered → Account → Account → Type 0
+GivesBatch (Err fault) held old new = (fault ≡ Aborted) × (old.aborted ≡ true) × (new ≡ old)
+GivesBatch (Ok given) (Some b) old new = (old.aborted ≡ false) × (given ≡ Some b) × (new ≡ old)
+GivesBatch (Ok (Some b)) None old new = CanTake old × (b ≡ gathered old.shadow.taken old.shadow.queue old.shape) × HasCut old.shape old.shadow.queue × (new ≡ taken_all old)
+GivesBatch (Ok None) None old new = (old.aborted ≡ false) × (CanTake old → ⊥) × (new ≡ old)
+
+-- the groups are settled; where they are not those that go on, the book has failed
+abbrev pub SettlesOrFails : Done → Account → Result (Unit {0}) WrongBatch → Account → Type 0
+SettlesOrFails done old (Ok unit) new = (past : ℕ) × Settles old past (entries_of done) × (new ≡ settled_to past (entries_of done) old)
+SettlesOrFails done old (Err wrong) new = ((past : ℕ) → Settles old past (entries_of done) → ⊥) × (new ≡ failed_of old)
+
+-- the groups are settled where they are those that go on, and then the book has failed
+abbrev pub FailsAfter : Done → Account → Result (Unit {0}) WrongBatch → Account → Type 0
+FailsAfter done old (Ok unit) new = (past : ℕ) × Settles old past (entries_of done) × (new ≡ failed_of (settled_to past (entries_of done) old))
+FailsAfter done old (Err wrong) new = ((past : ℕ) → Settles old past (entries_of done) → ⊥) × (new ≡ failed_of old)
+
+-- a committer has nothing to do, and may have later
+pub record Rests (a : Account) : Type 0 where
+  pub running : a.aborted ≡ false
+  pub none : CanTake a → ⊥
+  pub on : IsOver a → ⊥
+
+-- ---- the journal
+
+-- the ticket after those of a batch
+abbrev pub end_of : Gathered → ℕ
+end_of b = b.first + length b.handles
+
+-- all of the batch is settled, or a first part of it; otherwise it is handed back as it was
+abbrev pub CommitsAs : Planned → Result Done BatchFault → Type 0
+CommitsAs p (Ok done) = (first_of done ≡ p.batch.first) × Follow p.batch.first 0 (end_of p.batch) (entries_of done)
+CommitsAs p (Err (batch.Aborted back)) = back ≡ p
+CommitsAs p (Err (batch.WrongTicket back expected)) = back ≡ p
+CommitsAs p (Err (batch.OtherShape back)) = back ≡ p
+CommitsAs p (Err (batch.NumbersSpent back)) = back ≡ p
+CommitsAs p (Err (batch.Memory back)) = back ≡ p
+CommitsAs p (Err (batch.DeviceFault settled)) = (first_of settled ≡ p.batch.first) × (past_after p.batch.first (entries_of settled) ≤ end_of p.batch)
+
+-- ---- the round
+
+-- of a batch that was held, the range is the batch's
+abbrev pub IsOfHeld : Option Gathered → ℕ → ℕ → Type 0
+IsOfHeld None first past = Unit {0}
+IsOfHeld (Some b) first past = (first ≡ b.first) × (past ≡ end_of b)
+
+-- a batch is held, and the same as before, where one was
+abbrev pub StaysHeld : Option Gathered → Option Gathered → Type 0
+StaysHeld None new = is_some new ≡ true
+StaysHeld (Some b) new = new ≡ Some b
+
+-- What a round answers, where the committer held such a batch before and after it, and its seat is sure of so many settled
+-- tickets: a batch that is committed is settled whole, and the seat is sure of it; a batch stays held where it may still be
+-- committed, and only there.
+abbrev pub AnswersRound : Option Gathered → Option Gathered → ℕ → Result Round RoundFault → Type 0
+AnswersRound old new settled (Ok Idle) = (old ≡ None) × (new ≡ None)
+AnswersRound old new settled (Ok (Committed done)) = (new ≡ None) × ((past : ℕ) × Follow (first_of done) 0 past (entries_of done) × (past ≤ settled) × IsOfHeld old (first_of done) past)
+AnswersRound old new settled (Err Aborted) = new ≡ None
+AnswersRound old new settled (Err DeviceFault) = new ≡ None
+AnswersRound old new settled (Err Memory) = StaysHeld old new
+AnswersRound old new settled (Err Refused) = StaysHeld old new
+
+-- why a committer has ended, and whether it still holds a batch
+abbrev pub EndsHolding : Ended → Option Gathered → Type 0
+EndsHolding ended.Shut held = held ≡ None
+EndsHolding ended.Aborted held = held ≡ None
+EndsHolding ended.Memory held = is_some held ≡ true
+EndsHolding ended.Refused held = is_some held ≡ true

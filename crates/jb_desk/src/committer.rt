@@ -1,0 +1,53 @@
+//! What commits, and how one round of it ends.
+ghost use Rattle.std.specs.Prelude.{◌≡◌, None, Some};
+
+use crate::seat::Seat;
+use jb_deck::{Batch, Done};
+use std::mem;
+use std::sync::ledger::Ledger;
+
+/// A seat that commits, with the batch that it has taken and could not commit yet. It must be spent: it
+/// retires or gives up, and cannot be let go by accident.
+#[must_use]
+pub struct Committer<H: Ledger, N: Ledger> {
+    pub(crate) seat: Seat<H, N>,
+    pub(crate) batch: Option<Batch>,
+}
+
+impl<H: Ledger, N: Ledger> Committer<H, N> {
+    // Holds a batch until the next round.
+    pub(crate) fn hold(&mut self, batch: Batch)
+        requires { self.old.batch ≡ None }
+        ensures { (self.new.seat ≡ self.old.seat) × (self.new.batch ≡ Some batch) }
+    {
+        match mem::replace(&mut self.batch, Some(batch)) {
+            None => {}
+            Some(other) => {
+                let _lost = other.end();
+                unreachable!()
+            }
+        }
+    }
+}
+
+/// What a round of a committer came to.
+#[derive(Debug, Drop)]
+pub enum Round {
+    /// There was nothing to commit.
+    Idle,
+    /// A batch is committed, and its handles are settled.
+    Committed(Done),
+}
+
+/// Why a round of a committer settles no batch, or not all of it.
+#[derive(Clone, Copy, Debug, PartialEq, Eq)]
+pub enum RoundFault {
+    /// The journal has failed before. The batch is lost.
+    Aborted,
+    /// There was no memory. The committer holds the batch for its next round.
+    Memory,
+    /// A call of the disk failed. The groups that were committed are settled, and the rest of the batch is lost.
+    DeviceFault,
+    /// The journal does not take the batch. The committer holds it.
+    Refused,
+}

@@ -1,0 +1,93 @@
+//! The book's part in a round of a committer.
+ghost use Rattle.std.specs.Prelude.{◌≡◌, ◌↔◌, IsTrue, true, false, OnOk, IfErr};
+
+use crate::committer::RoundFault;
+use crate::counter::Counter;
+use crate::fault::WrongBatch;
+use jb_deck::{Batch, Done};
+use std::sync::ledger::Ledger;
+
+impl<H: Ledger, N: Ledger> Counter<H, N> {
+    ghost use Rattle.jb_desk.specs.Account.{failed_of};
+    ghost use Rattle.jb_desk.specs.Rounds.{GivesBatch, SettlesOrFails, FailsAfter, Rests};
+
+    /// The batch of a round: the one that the committer holds, or else the whole queue. `None` where there is
+    /// nothing to take.
+    ///
+    /// # Errors
+    ///
+    /// `Aborted` where the journal has failed. A batch that is held is lost, so that none is committed then.
+    pub fn next_batch(&mut self, held: Option<Batch>) -> Result<Option<Batch>, RoundFault>
+        ensures { GivesBatch result held self.old.book self.new.book }
+    {
+        match held {
+            Some(batch) if self.book.is_aborted() => {
+                let _lost = batch.end();
+                Err(RoundFault::Aborted)
+            }
+            None if self.book.is_aborted() => Err(RoundFault::Aborted),
+            Some(batch) => Ok(Some(batch)),
+            None => Ok(self.book.take()),
+        }
+    }
+
+    /// Settles the groups of a batch that is committed.
+    ///
+    /// # Errors
+    ///
+    /// `WrongBatch` where they do not go on where the settled ones end: the book has failed then.
+    pub fn settle(&mut self, done: &Done) -> Result<(), WrongBatch>
+        ensures { SettlesOrFails done.now self.old.book result self.new.book }
+    {
+        match self.book.settle(done) {
+            Ok(()) => Ok(()),
+            Err(wrong) => {
+                self.book.fail();
+                Err(wrong)
+            }
+        }
+    }
+
+    /// Settles the groups that were committed before the journal failed, and fails with it.
+    ///
+    /// # Errors
+    ///
+    /// `WrongBatch` where they do not go on where the settled ones end.
+    pub fn settle_last(&mut self, done: &Done) -> Result<(), WrongBatch>
+        ensures { FailsAfter done.now self.old.book result self.new.book }
+    {
+        let settled = self.book.settle(done);
+        self.book.fail();
+        settled
+    }
+
+    /// The journal has failed: what is queued or taken is lost.
+    pub fn fail(&mut self)
+        ensures { self.new.book ≡ failed_of self.old.book }
+    {
+        self.book.fail();
+    }
+
+    /// Lets a batch that is held go where the journal has failed.
+    ///
+    /// # Errors
+    ///
+    /// The batch, where it has not.
+    pub fn release(&self, batch: Batch) -> Result<(), Batch>
+        ensures lost { OnOk result (self.now.book.aborted ≡ true) }
+        ensures back { IfErr result (λ back. (self.now.book.aborted ≡ false) × (back ≡ batch)) }
+    {
+        if !self.book.is_aborted() {
+            return Err(batch);
+        }
+        let _lost = batch.end();
+        Ok(())
+    }
+
+    /// Whether a committer has nothing to do yet.
+    pub fn rests(&self) -> bool
+        ensures { IsTrue result ↔ Rests self.now.book }
+    {
+        !self.book.is_aborted() && !self.book.can_take() && !self.book.is_over()
+    }
+}

@@ -1,0 +1,56 @@
+//! A committer at work.
+ghost use Rattle.std.specs.Prelude.{◌≡◌};
+
+use crate::committer::{Committer, Round, RoundFault};
+use crate::desk::Desk;
+use crate::ended::Ended;
+use jb_disk::{Clock, Disk};
+use std::sync::Wait;
+use std::sync::ledger::Ledger;
+
+impl<D: Disk, C: Clock, H: Ledger, N: Ledger> Desk<D, C, H, N> {
+    ghost use Rattle.jb_desk.specs.Desks.{desk_id};
+    ghost use Rattle.jb_desk.specs.Rounds.{seat_of, held_by, EndsHolding};
+    ghost use Rattle.jb_desk.specs.Seats.{stops, changes, desk_of};
+
+    /// Commits what stops, round after round, until the desk is shut and no handle is open, queued or taken,
+    /// or until a round does not end well.
+    pub fn run_committer<R: Wait>(
+        &self,
+        rt: &R,
+        committer: Committer<H, N>,
+    ) -> (Committer<H, N>, Ended)
+        requires { desk_of (seat_of committer) ≡ desk_id self.now }
+        ensures desk { desk_of (seat_of result.0) ≡ desk_of (seat_of committer) }
+        ensures held { EndsHolding result.1 (held_by result.0) }
+        ensures counted { (stops (seat_of result.0) ≡ stops (seat_of committer)) × (changes (seat_of result.0) ≡ changes (seat_of committer)) }
+    {
+        let mut committer = committer;
+        for _ in rt.forever() {
+            match self.commit_round(rt, &mut committer) {
+                Ok(Round::Committed(_)) => {}
+                Ok(Round::Idle) => {
+                    if self.await_work(rt) {
+                        return (committer, Ended::Shut);
+                    }
+                }
+                Err(RoundFault::Aborted | RoundFault::DeviceFault) => {
+                    return (committer, Ended::Aborted);
+                }
+                Err(RoundFault::Memory) => return (committer, Ended::Memory),
+                Err(RoundFault::Refused) => return (committer, Ended::Refused),
+            }
+        }
+        unreachable!()
+    }
+
+    // Waits until there is a batch to take, or none can come any more. Says whether the desk is over.
+    fn await_work<R: Wait>(&self, rt: &R) -> bool {
+        let counter = self.counter.lock(rt);
+        let counter = self
+            .moved
+            .wait_while(rt, counter, |counter| counter.rests());
+        let progress = counter.progress();
+        progress.is_over && !progress.is_aborted
+    }
+}

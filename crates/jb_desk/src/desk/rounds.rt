@@ -1,0 +1,144 @@
+//! Batches are committed, one in each round of a committer.
+ghost use Rattle.std.specs.Prelude.{◌≡◌, ◌+◌, ◌≤◌, length, None, Some, IfErr, OnOk};
+ghost use Rattle.jb_deck.specs.Done.{first_of, entries_of, past_after};
+ghost use Rattle.jb_deck.specs.Prepared.{IsPlanned};
+ghost use Rattle.jb_desk.specs.Seats.{view_of};
+
+use crate::committer::{Committer, Round, RoundFault};
+use crate::desk::Desk;
+use crate::follow::end_of;
+use crate::seat::Seat;
+use jb_deck::{Batch, BatchFault, Done, PrepareFault, Prepared, prepare};
+use jb_disk::{Clock, Disk};
+use std::sync::Wait;
+use std::sync::ledger::Ledger;
+
+impl<D: Disk, C: Clock, H: Ledger, N: Ledger> Desk<D, C, H, N> {
+    ghost use Rattle.jb_desk.specs.Desks.{desk_id};
+    ghost use Rattle.jb_desk.specs.Rounds.{seat_of, held_by, AnswersRound, end_of as end_in};
+    ghost use Rattle.jb_desk.specs.Seats.{stops, changes, desk_of};
+    ghost use Rattle.jb_desk.specs.declared.committer.RoundFault.TheVariants.{Aborted};
+
+    /// Commits the batch that the committer holds, or else all handles that have stopped since the last batch
+    /// was taken (`jbd2_journal_commit_transaction`), and settles them. The book is not locked while the disk is
+    /// at work.
+    ///
+    /// # Errors
+    ///
+    /// `Aborted` where the journal has failed before, `DeviceFault` where it fails now: what is queued and the
+    /// rest of the batch are lost. `Memory` where there is none for the batch, and `Refused` where the journal
+    /// does not take it; the committer holds it then.
+    pub fn commit_round<R: Wait>(
+        &self,
+        rt: &R,
+        committer: &mut Committer<H, N>,
+    ) -> Result<Round, RoundFault>
+        requires { desk_of (seat_of committer.old) ≡ desk_id self.now }
+        ensures desk { desk_of (seat_of committer.new) ≡ desk_of (seat_of committer.old) }
+        ensures answers { AnswersRound (held_by committer.old) (held_by committer.new) (view_of (seat_of committer.new)).settled result }
+        ensures counted { (stops (seat_of committer.new) ≡ stops (seat_of committer.old)) × (changes (seat_of committer.new) ≡ changes (seat_of committer.old)) }
+    {
+        let held = committer.batch.take();
+        let Some(batch) = self.counter.lock(rt).next_batch(held)? else {
+            return Ok(Round::Idle);
+        };
+        let end = past(&batch);
+        self.board.raise_stopped(&mut committer.seat.board, end);
+        self.board.raise_taken(&mut committer.seat.board, end);
+        match prepare(self.alloc, batch) {
+            Ok(prepared) => self.commit(rt, committer, prepared),
+            Err((batch, fault)) => {
+                committer.hold(batch);
+                Err(match fault {
+                    PrepareFault::Memory => RoundFault::Memory,
+                    PrepareFault::NoCut(_) => RoundFault::Refused,
+                })
+            }
+        }
+    }
+
+    // Commits a batch that is taken and prepared, and settles what the journal has committed of it.
+    fn commit<R: Wait>(
+        &self,
+        rt: &R,
+        committer: &mut Committer<H, N>,
+        prepared: Prepared,
+    ) -> Result<Round, RoundFault>
+        requires desk { desk_of (seat_of committer.old) ≡ desk_id self.now }
+        requires free { held_by committer.old ≡ None }
+        requires planned { IsPlanned prepared }
+        requires taken { end_in prepared.batch ≤ (view_of (seat_of committer.old)).taken }
+        ensures desk { desk_of (seat_of committer.new) ≡ desk_of (seat_of committer.old) }
+        ensures answers { AnswersRound (Some prepared.batch) (held_by committer.new) (view_of (seat_of committer.new)).settled result }
+        ensures counted { (stops (seat_of committer.new) ≡ stops (seat_of committer.old)) × (changes (seat_of committer.new) ≡ changes (seat_of committer.old)) }
+    {
+        // bound first, so that the lock is free again before the book's is taken
+        let result = self.works.lock(rt).commit(prepared);
+        match result {
+            Ok(done) => {
+                self.settle(rt, &mut committer.seat, &done)?;
+                Ok(Round::Committed(done))
+            }
+            Err(BatchFault::DeviceFault { settled }) => {
+                self.settle_last(rt, &mut committer.seat, &settled);
+                Err(RoundFault::DeviceFault)
+            }
+            Err(BatchFault::Aborted(prepared)) => {
+                let _lost = prepared.back().end();
+                self.fail(rt);
+                Err(RoundFault::Aborted)
+            }
+            Err(BatchFault::Memory(prepared)) => {
+                committer.hold(prepared.back());
+                Err(RoundFault::Memory)
+            }
+            Err(
+                BatchFault::WrongTicket(prepared, _)
+                | BatchFault::OtherShape(prepared)
+                | BatchFault::NumbersSpent(prepared),
+            ) => {
+                committer.hold(prepared.back());
+                Err(RoundFault::Refused)
+            }
+        }
+    }
+
+    // Settles a batch that is committed.
+    fn settle<R: Wait>(&self, rt: &R, seat: &mut Seat<H, N>, done: &Done) -> Result<(), RoundFault>
+        requires desk { desk_of seat.old ≡ desk_id self.now }
+        requires taken { past_after (first_of done.now) (entries_of done.now) ≤ (view_of seat.old).taken }
+        ensures desk { desk_of seat.new ≡ desk_of seat.old }
+        ensures settled { OnOk result (past_after (first_of done.now) (entries_of done.now) ≤ (view_of seat.new).settled) }
+        ensures failed { IfErr result (λ fault. fault ≡ Aborted) }
+        ensures counted { (stops seat.new ≡ stops seat.old) × (changes seat.new ≡ changes seat.old) }
+    {
+        let settled = self.counter.lock(rt).settle(done);
+        self.moved.notify_all();
+        if settled.is_err() {
+            return Err(RoundFault::Aborted);
+        }
+        self.board.raise_settled(&mut seat.board, end_of(done));
+        Ok(())
+    }
+
+    // Settles what was committed of a batch before the journal failed.
+    fn settle_last<R: Wait>(&self, rt: &R, seat: &mut Seat<H, N>, done: &Done)
+        requires desk { desk_of seat.old ≡ desk_id self.now }
+        requires taken { past_after (first_of done.now) (entries_of done.now) ≤ (view_of seat.old).taken }
+        ensures desk { desk_of seat.new ≡ desk_of seat.old }
+        ensures counted { (stops seat.new ≡ stops seat.old) × (changes seat.new ≡ changes seat.old) }
+    {
+        let settled = self.counter.lock(rt).settle_last(done);
+        self.moved.notify_all();
+        if settled.is_ok() {
+            self.board.raise_settled(&mut seat.board, end_of(done));
+        }
+    }
+}
+
+// The ticket after those of a batch.
+fn past(batch: &Batch) -> u64
+    ensures { result ≡ batch.now.first + length batch.now.handles }
+{
+    batch.first() + batch.handles().len() as u64
+}

@@ -1,0 +1,7 @@
+use Rattle.jb_desk_tests.proofs.gate.gate_two_stops.Given as goal
+
+abbrev pub ghosts-gated-H-Ledger : goal.ghosts-gated-H-Ledger
+ghosts-gated-H-Ledger g a = record { name = a.handles.name; parts = a.handles.parts }
+
+abbrev pub ghosts-gated-N-Ledger : goal.ghosts-gated-N-Ledger
+ghosts-gated-N-Ledger g a = record { name = a.changes.name; parts = a.changes.parts }

@@ -1,0 +1,7 @@
+use Rattle.jb_desk_tests.proofs.rounds.rounds_answer_as_worked_by_hand.Given as goal
+
+abbrev pub ghosts-rows-H-Ledger : goal.ghosts-rows-H-Ledger
+ghosts-rows-H-Ledger g a = record { name = a.handles.name; parts = a.handles.parts }
+
+abbrev pub ghosts-rows-N-Ledger : goal.ghosts-rows-N-Ledger
+ghosts-rows-N-Ledger g a = record { name = a.changes.name; parts = a.changes.parts }
