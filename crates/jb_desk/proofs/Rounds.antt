@@ -42,18 +42,6 @@ part-past first least past [] (suc n) is = omega (arith, is)
 part-past first least past (e ∷ es) zero is = let up = follow-length first least past (e ∷ es) is in omega arith
 part-past first least past (e ∷ es) (suc n) is = part-past e.past (e.number + 1) past es n is.3
 
--- the last of them ends it
-last-at : (first : ℕ) (es : List Entry) (e : Entry) (n : ℕ) → length es ≡ suc n → Some e ≡ slice_get es n → e.past ≡ past_after first es
-last-at first [] e n long is = absurd (let h : ⊥ = omega arith in h)
-last-at first (x ∷ []) e zero long is = let same : e ≡ x = cc in ap (λ (y : Entry). y.past) same
-last-at first (x ∷ []) e (suc n) long is = absurd (let h : ⊥ = omega arith in h)
-last-at first (x ∷ y ∷ es) e zero long is = absurd (let h : ⊥ = omega arith in h)
-last-at first (x ∷ y ∷ es) e (suc n) long is = last-at x.past (y ∷ es) e n (omega arith) is
-
-pub last-past : (first : ℕ) (es : List Entry) (e : Entry) → Some e ≡ slice_get es (length es - 1) → e.past ≡ past_after first es
-last-past first [] e is = absurd (let h : ⊥ = cc in h)
-last-past first (x ∷ es) e is = let last : suc (length es) - 1 ≡ length es = omega arith in last-at first (x ∷ es) e (length es) refl (is ∙ ap (slice_get (x ∷ es)) last)
-
 -- ---- a commit
 
 pub commits-as : {D : Type 0} (before after : ℕ) (p : Planned) (stamp : Stamp) (old new : Held D) (r : Result Done BatchFault) → IsPlanned p → AnswersBatch before after p stamp old new r → CommitsAs p r
