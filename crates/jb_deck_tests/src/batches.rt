@@ -5,7 +5,7 @@ use jb_handle::Shape;
 use jb_queue::read_queue;
 use std::test::Fail;
 
-// A queue's text, its prices, and the bounds and the total of its cut, if one fits.
+/// A queue's text, its prices, and the bounds and the total of its cut, if one fits.
 type Row = (
     &'static str,
     &'static [Option<u64>],
@@ -52,7 +52,7 @@ const ROWS: [Row; 9] = [
     ),
 ];
 
-// Whether a batch was refused for want of a cut, with these prices.
+/// Whether a batch was refused for want of a cut, with these prices.
 fn is_no_cut(fault: &PrepareFault, prices: &[Option<u64>]) -> bool {
     match fault {
         PrepareFault::NoCut(told) => told.as_slice() == prices,

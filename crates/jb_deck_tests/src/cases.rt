@@ -38,7 +38,7 @@ pub enum Wrong {
     Home(u64),
 }
 
-// The disk after the calls, or which is the first that does not answer as it should.
+/// The disk after the calls, or which is the first that does not answer as it should.
 fn played(alloc: Global, case: &Case) -> Result<Result<MemoryDisk, Wrong>, Fail> {
     let mut disk = small(alloc, case.blocks, case.image, &[])?;
     if recover(alloc, &mut disk).is_err() {
@@ -53,7 +53,7 @@ fn played(alloc: Global, case: &Case) -> Result<Result<MemoryDisk, Wrong>, Fail>
     }
 }
 
-// The first thing of a case that is wrong.
+/// The first thing of a case that is wrong.
 fn first_wrong_of(alloc: Global, case: &Case) -> Result<Option<Wrong>, Fail> {
     let mut disk = match played(alloc, case)? {
         Ok(disk) => disk,

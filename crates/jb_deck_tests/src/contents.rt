@@ -65,7 +65,7 @@ pub fn holds<D: Disk>(
     Ok(true)
 }
 
-// Whether each sector of a block is that of one block or of the other.
+/// Whether each sector of a block is that of one block or of the other.
 fn is_mixed(block: &[u8], one: &[u8], other: &[u8]) -> bool {
     let (Some(low), Some(high)) = (block.get(..512), block.get(512..)) else {
         return false;

@@ -8,11 +8,11 @@ use jb_recover::recover;
 use std::alloc::Global;
 use std::test::Fail;
 
-// More calls than opening the journal makes.
+/// More calls than opening the journal makes.
 const MOST: u64 = 60;
 
-// What a crash leaves of the sectors that are pending, one digit for each: all are old, all new, old and new in
-// turn, the first is new, or the last one of one block, of two or of three.
+/// What a crash leaves of the sectors that are pending, one digit for each: all are old, all new, old and new in
+/// turn, the first is new, or the last one of one block, of two or of three.
 const CHOICES: [[u32; 6]; 7] = [
     [0, 0, 0, 0, 0, 0],
     [1, 1, 1, 1, 1, 1],
@@ -23,7 +23,7 @@ const CHOICES: [[u32; 6]; 7] = [
     [0, 0, 0, 0, 0, 1],
 ];
 
-// Blocks of the log that are zeroed, one that stays, and a superblock without the feature for revoke blocks.
+/// Blocks of the log that are zeroed, one that stays, and a superblock without the feature for revoke blocks.
 const ROWS: [Row; 5] = [
     (0, 0x20, [0, 0, 0, 0]),
     (1, 0, [MAGIC, 2, 2, 0]),
@@ -32,7 +32,7 @@ const ROWS: [Row; 5] = [
     (32, 0, [MAGIC, 1, 0, 5]),
 ];
 
-// What is left of it: the blocks of the log are zeros, and the feature is there.
+/// What is left of it: the blocks of the log are zeros, and the feature is there.
 const AFTER: [Row; 4] = [
     (0, 0x20, [0, 0, 1, 0]),
     (1, 0, [0, 0, 0, 0]),
@@ -40,8 +40,8 @@ const AFTER: [Row; 4] = [
     (32, 0, [0, 0, 0, 0]),
 ];
 
-// Whether what each of these choices leaves recovers, and has the wanted homes then; a crash after the journal
-// was opened leaves the wanted image.
+/// Whether what each of these choices leaves recovers, and has the wanted homes then; a crash after the journal
+/// was opened leaves the wanted image.
 fn all_mend(
     alloc: Global,
     disk: &MemoryDisk,
@@ -61,7 +61,7 @@ fn all_mend(
     Ok(true)
 }
 
-// The disk of a journal that was opened, or not, and whether it was; it fails with DeviceFault alone.
+/// The disk of a journal that was opened, or not, and whether it was; it fails with DeviceFault alone.
 fn disk_of<D: Disk + Drop>(opened: Result<Deck<D>, (D, OpenFault)>) -> (D, Option<bool>) {
     match opened {
         Ok(deck) => (deck.close(), Some(true)),

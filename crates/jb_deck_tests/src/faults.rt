@@ -9,14 +9,14 @@ use jb_recover::{Recovered, recover};
 use std::alloc::Global;
 use std::test::Fail;
 
-// The sync that fails, by its number among the calls of the disk: opening the small image makes 34; then the
-// superblock is read and written, and a revoke block, a descriptor and a copy are written.
+/// The sync that fails, by its number among the calls of the disk: opening the small image makes 34; then the
+/// superblock is read and written, and a revoke block, a descriptor and a copy are written.
 const BEFORE_COMMIT: u64 = 39;
 
 const AFTER_COMMIT: u64 = 41;
 
-// The call that fails, which of the pending sectors are new, what recovery reports (transactions, copies, revoked
-// copies and the next number), and whether all is as it was once the journal is opened again.
+/// The call that fails, which of the pending sectors are new, what recovery reports (transactions, copies, revoked
+/// copies and the next number), and whether all is as it was once the journal is opened again.
 const ROWS: [(u64, &[u32], (u32, u32, u32, u64), bool); 6] = [
     (AFTER_COMMIT, &[], (0, 0, 0, 3), false),
     (AFTER_COMMIT, &[0, 1], (0, 0, 0, 3), false),
@@ -28,10 +28,10 @@ const ROWS: [(u64, &[u32], (u32, u32, u32, u64), bool); 6] = [
     (BEFORE_COMMIT, &[0, 0, 1], (0, 0, 0, 2), true),
 ];
 
-// The copy at home.
+/// The copy at home.
 const COPY: [Row; 1] = [(HOMES + 5, 0, [MAGIC, 0x0102_0304, 0, 0])];
 
-// What the choice leaves of a disk on which a commit has met the fault of this call, if it did.
+/// What the choice leaves of a disk on which a commit has met the fault of this call, if it did.
 fn left(alloc: Global, call: u64, choice: &[u32]) -> Result<Option<MemoryDisk>, Fail> {
     let disk = OneFaultDisk::of(small(alloc, BLOCKS, &[], &[])?, call);
     let Ok(mut deck) = Deck::open(alloc, disk) else {

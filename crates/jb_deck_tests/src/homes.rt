@@ -5,7 +5,7 @@ use crate::images::{BLOCKS, HOMES, MAGIC};
 use crate::scripts::Step;
 use jb_deck::FreeFault;
 
-// The bytes that a script writes to a free home.
+/// The bytes that a script writes to a free home.
 const SEVENS: [u32; 4] = [0x7777_7777, 0x7777_7777, 0x7777_7777, 0x7777_7777];
 
 const FREED: [Step; 3] = [

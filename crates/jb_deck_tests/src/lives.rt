@@ -21,7 +21,7 @@ pub enum Call<'a> {
     Write(usize, u32),
 }
 
-// The words of one handle of a batch.
+/// The words of one handle of a batch.
 fn words_of(alloc: Global, touches: &[Touch], handle: usize) -> Result<Words, Fail> {
     let mut words = Words::new(alloc);
     let mut block = vec![in alloc; 0; 1024]?;
@@ -40,7 +40,7 @@ fn words_of(alloc: Global, touches: &[Touch], handle: usize) -> Result<Words, Fa
     Ok(words)
 }
 
-// The handles of a batch, with tickets from `first` on.
+/// The handles of a batch, with tickets from `first` on.
 fn stopped(alloc: Global, first: u64, call: (usize, &[Touch])) -> Result<Vec<Stopped>, Fail> {
     let (count, touches) = call;
     let mut handles = Vec::new(alloc);
@@ -53,7 +53,7 @@ fn stopped(alloc: Global, first: u64, call: (usize, &[Touch])) -> Result<Vec<Sto
     Ok(handles)
 }
 
-// The bounds of a batch's groups, or none where no cut fits.
+/// The bounds of a batch's groups, or none where no cut fits.
 fn bounds(
     alloc: Global,
     first: u64,
@@ -68,7 +68,7 @@ fn bounds(
     Ok(Some(bounds?))
 }
 
-// What the homes hold after each of these groups, which are put into the model.
+/// What the homes hold after each of these groups, which are put into the model.
 fn after_each(
     alloc: Global,
     model: &mut Model,
@@ -85,7 +85,7 @@ fn after_each(
     Ok(states)
 }
 
-// Commits a batch; after a fault, what a crash may leave.
+/// Commits a batch; after a fault, what a crash may leave.
 fn commit<D: Disk>(
     alloc: Global,
     deck: &mut Deck<D>,
@@ -149,7 +149,7 @@ pub fn make_call<D: Disk>(
     }
 }
 
-// Writes these contents, as this block, to a home.
+/// Writes these contents, as this block, to a home.
 fn write<D: Disk>(
     deck: &mut Deck<D>,
     model: &mut Model,

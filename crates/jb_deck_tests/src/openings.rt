@@ -11,8 +11,8 @@ use std::test::Fail;
 
 const ZEROS: [u32; 4] = [0, 0, 0, 0];
 
-// A name, the rows of the small image that differ, the next number, how many blocks the log has and how wide
-// block numbers are, and the rows that opening it changes.
+/// A name, the rows of the small image that differ, the next number, how many blocks the log has and how wide
+/// block numbers are, and the rows that opening it changes.
 const OPENED: [(&str, &[Row], (u64, u32, Width), &[Row]); 11] = [
     ("as it is made", &[], (2, 32, Width::Narrow), &[]),
     (
@@ -88,7 +88,7 @@ const OPENED: [(&str, &[Row], (u64, u32, Width), &[Row]); 11] = [
     ),
 ];
 
-// A name, how many blocks the disk has, the rows of the small image that differ, and the fault.
+/// A name, how many blocks the disk has, the rows of the small image that differ, and the fault.
 const REFUSED: [(&str, u64, &[Row], OpenFault); 14] = [
     ("no block", 0, &[], OpenFault::Super(SuperFault::ShortBlock)),
     (
@@ -171,8 +171,8 @@ const REFUSED: [(&str, u64, &[Row], OpenFault); 14] = [
     ),
 ];
 
-// A name, whether the journal is widened before it is opened, or renumbered; the rows of the small image that differ before,
-// and the next number and the width after.
+/// A name, whether the journal is widened before it is opened, or renumbered; the rows of the small image that differ before,
+/// and the next number and the width after.
 const CHANGED: [(&str, bool, &[Row], (u64, Width)); 5] = [
     (
         "no number left, renumbered",
@@ -200,7 +200,7 @@ const CHANGED: [(&str, bool, &[Row], (u64, Width)); 5] = [
     ),
 ];
 
-// The small image with these rows, its journal changed in its place.
+/// The small image with these rows, its journal changed in its place.
 fn changed(alloc: Global, widens: bool, rows: &[Row]) -> Result<MemoryDisk, Fail> {
     let mut disk = small(alloc, BLOCKS, rows, &[])?;
     if widens {

@@ -17,7 +17,7 @@ pub const SIX_COPIES: [(u32, u32); 6] = [
     (5, 0x0F00_0000),
 ];
 
-// The superblock's row of a log that begins at place 9 with number 3, and the homes that six copies went to.
+/// The superblock's row of a log that begins at place 9 with number 3, and the homes that six copies went to.
 const ROUND: [Row; 7] = [
     (0, 0x10, [33, 1, 3, 9]),
     (HOMES, 0, [0x0A00_0000, 0, 0, 0]),
@@ -28,7 +28,7 @@ const ROUND: [Row; 7] = [
     (HOMES + 5, 0, [0x0F00_0000, 0, 0, 0]),
 ];
 
-// Copies of twenty homes without bytes, and of twenty more.
+/// Copies of twenty homes without bytes, and of twenty more.
 const TWENTY: [(u32, u32); 20] = [
     (0, 0),
     (1, 0),
@@ -75,7 +75,7 @@ const MORE: [(u32, u32); 20] = [
     (39, 0),
 ];
 
-// The first twenty homes as one handle, and the next twenty as another.
+/// The first twenty homes as one handle, and the next twenty as another.
 const TWENTIES: &str =
     "h w0 w1 w2 w3 w4 w5 w6 w7 w8 w9 w10 w11 w12 w13 w14 w15 w16 w17 w18 w19\nh w20 w21 w22 w23 w24 w25 w26 w27 w28 w29 w30 w31 w32 w33 w34 w35 w36 w37 w38 w39\n";
 

@@ -121,7 +121,7 @@ pub fn next_ticket<D: Disk>(deck: &Deck<D>) -> u64 {
     }
 }
 
-// Whether entries are these.
+/// Whether entries are these.
 fn are(entries: &[Entry], told: &[Told]) -> bool {
     for (entry, (first, past, number)) in entries.iter().zip(told) {
         if (entry.first, entry.past, entry.number) != (*first, *past, *number) {
@@ -188,7 +188,7 @@ pub fn refuses<D: Disk>(
     }
 }
 
-// Whether a call answers so.
+/// Whether a call answers so.
 fn answers<D: Disk>(alloc: Global, deck: &mut Deck<D>, step: Step) -> Result<bool, Fail> {
     match step {
         Step::Commits(lines, entries) => commits(alloc, deck, lines, entries),

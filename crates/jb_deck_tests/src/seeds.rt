@@ -14,22 +14,22 @@ use std::test::Fail;
 /// How many images that a crash left are recovered. By hand it takes a million too.
 const CRASHES: u64 = 10_000;
 
-// How many journals are made one after the other on one image, and how many calls each takes at most.
+/// How many journals are made one after the other on one image, and how many calls each takes at most.
 const LIVES: u32 = 12;
 
 const CALLS: u32 = 24;
 
-// How many images each crash leaves.
+/// How many images each crash leaves.
 const IMAGES: u32 = 3;
 
-// A generator's state (Knuth's MMIX).
+/// A generator's state (Knuth's MMIX).
 #[derive(Drop)]
 struct Seed {
     state: u64,
 }
 
 impl Seed {
-    // A number below a limit, or 0.
+    /// A number below a limit, or 0.
     fn below(&mut self, limit: u32) -> u32 {
         self.state = self
             .state
@@ -40,7 +40,7 @@ impl Seed {
     }
 }
 
-// A new journal of 9 to 40 blocks, the 16 homes after it, and how many blocks the journal has.
+/// A new journal of 9 to 40 blocks, the 16 homes after it, and how many blocks the journal has.
 fn image(alloc: Global, seed: &mut Seed) -> Result<(MemoryDisk, u32), Fail> {
     let maxlen = seed.below(32).saturating_add(9);
     let most = seed.below(maxlen);
@@ -57,8 +57,8 @@ fn image(alloc: Global, seed: &mut Seed) -> Result<(MemoryDisk, u32), Fail> {
     Ok((disk, maxlen))
 }
 
-// What up to five handles do to homes, in the order of their stops, often to the same few; contents have numbers
-// that were not used before.
+/// What up to five handles do to homes, in the order of their stops, often to the same few; contents have numbers
+/// that were not used before.
 fn touches(alloc: Global, seed: &mut Seed, next: &mut u32) -> Result<(usize, Vec<Touch>), Fail> {
     let count = seed.below(5).saturating_add(1);
     let homes = if seed.below(2) == 0 { 16 } else { 4 };
@@ -79,7 +79,7 @@ fn touches(alloc: Global, seed: &mut Seed, next: &mut u32) -> Result<(usize, Vec
     Ok((count as usize, touches))
 }
 
-// Calls a journal at random; after a fault, what a crash may leave.
+/// Calls a journal at random; after a fault, what a crash may leave.
 fn live<D: Disk>(
     alloc: Global,
     seed: &mut Seed,
@@ -102,7 +102,7 @@ fn live<D: Disk>(
     Ok(only(model.standing()))
 }
 
-// A version for each sector: of all the old one, of all the newest, of few a newer one, or any.
+/// A version for each sector: of all the old one, of all the newest, of few a newer one, or any.
 fn choice(seed: &mut Seed) -> [u32; 128] {
     let kind = seed.below(6);
     let mut choice = [0; 128];
@@ -118,8 +118,8 @@ fn choice(seed: &mut Seed) -> [u32; 128] {
     choice
 }
 
-// What a crash leaves of a disk, recovered; one recovery in two loses its power first. The homes, from a place on,
-// are among those that may be left.
+/// What a crash leaves of a disk, recovered; one recovery in two loses its power first. The homes, from a place on,
+/// are among those that may be left.
 fn recovered(
     alloc: Global,
     seed: &mut Seed,
@@ -142,8 +142,8 @@ fn recovered(
     Ok(found)
 }
 
-// One life of a journal on a disk that has these homes, from a place on, until its power goes: the disk, and what
-// a crash may leave.
+/// One life of a journal on a disk that has these homes, from a place on, until its power goes: the disk, and what
+/// a crash may leave.
 fn life(
     alloc: Global,
     seed: &mut Seed,
@@ -162,7 +162,7 @@ fn life(
     Ok((deck.close().into_inner(), left))
 }
 
-// Lives of a journal on one image, until the homes of one are known no more; how many images were recovered.
+/// Lives of a journal on one image, until the homes of one are known no more; how many images were recovered.
 fn lives(alloc: Global, seed: &mut Seed, next: &mut u32) -> Result<u64, Fail> {
     let (mut disk, maxlen) = image(alloc, seed)?;
     let first = u64::from(maxlen);

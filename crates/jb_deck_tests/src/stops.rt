@@ -13,26 +13,26 @@ use jb_recover::recover;
 use std::alloc::Global;
 use std::test::Fail;
 
-// More calls of the disk than the script makes, and than a recovery makes.
+/// More calls of the disk than the script makes, and than a recovery makes.
 const MOST: u32 = 400;
 
-// As many calls as the writes and syncs of a recovery here, or more.
+/// As many calls as the writes and syncs of a recovery here, or more.
 const LAST: u64 = 40;
 
-// A number of versions is at most ten: this one names the newest of so many.
+/// A number of versions is at most ten: this one names the newest of so many.
 const NEW: u32 = 2519;
 
-// More sectors than are pending at any moment, and the choices of one version for each: all are old, all new, old
-// and new in turn and the other way, or one is new or old alone.
+/// More sectors than are pending at any moment, and the choices of one version for each: all are old, all new, old
+/// and new in turn and the other way, or one is new or old alone.
 const SECTORS: usize = 32;
 
 const ALL: u32 = 68;
 
-// The choices that are made where recovery is stopped too: the first ones.
+/// The choices that are made where recovery is stopped too: the first ones.
 const SOME: u32 = 6;
 
-// A group with an escaped copy and a freed home, which is written; home 3, which is copied, freed, written and free
-// to the end; groups that fill the log, and some that make room and go round its end; and all are checkpointed.
+/// A group with an escaped copy and a freed home, which is written; home 3, which is copied, freed, written and free
+/// to the end; groups that fill the log, and some that make room and go round its end; and all are checkpointed.
 const SCRIPT: [Call<'static>; 15] = [
     Call::Commit(0, &[]),
     Call::Commit(1, &[(0, 5, Some(7)), (0, 7, None)]),
@@ -91,13 +91,13 @@ const SCRIPT: [Call<'static>; 15] = [
     Call::Checkpoint,
 ];
 
-// The small image with homes of zeros.
+/// The small image with homes of zeros.
 fn before(alloc: Global) -> Result<MemoryDisk, Fail> {
     let zeros: [Row; 1] = [(HOMES + 5, 0, [0, 0, 0, 0])];
     small(alloc, BLOCKS, &zeros, &[])
 }
 
-// Whether a journal that is aborted refuses each call.
+/// Whether a journal that is aborted refuses each call.
 fn is_aborted<D: Disk>(alloc: Global, deck: &mut Deck<D>) -> Result<bool, Fail> {
     let other = (16, 7, Width::Narrow);
     Ok(
@@ -109,7 +109,7 @@ fn is_aborted<D: Disk>(alloc: Global, deck: &mut Deck<D>) -> Result<bool, Fail> 
     )
 }
 
-// Runs the script up to its first fault: the disk, what a crash may leave of it, and whether it met none.
+/// Runs the script up to its first fault: the disk, what a crash may leave of it, and whether it met none.
 fn run<D: Disk + Drop>(alloc: Global, disk: D) -> Result<(D, Left, bool), Fail> {
     let homes: Homes = [0; 16];
     let mut deck = match Deck::open(alloc, disk) {
@@ -129,7 +129,7 @@ fn run<D: Disk + Drop>(alloc: Global, disk: D) -> Result<(D, Left, bool), Fail> 
     Ok((deck.close(), only(model.standing()), true))
 }
 
-// The choice of this number.
+/// The choice of this number.
 fn choice(number: u32) -> [u32; SECTORS] {
     let mut choice = [0; SECTORS];
     for (i, version) in choice.iter_mut().enumerate() {
@@ -148,7 +148,7 @@ fn choice(number: u32) -> [u32; SECTORS] {
     choice
 }
 
-// Whether what this choice leaves of a disk recovers to homes that may be left.
+/// Whether what this choice leaves of a disk recovers to homes that may be left.
 fn mends(alloc: Global, disk: &MemoryDisk, choice: &[u32], left: &Left) -> Result<bool, Fail> {
     let mut found = disk.crash(choice)?;
     if recover(alloc, &mut found).is_err() {
@@ -157,7 +157,7 @@ fn mends(alloc: Global, disk: &MemoryDisk, choice: &[u32], left: &Left) -> Resul
     is_left(alloc, &mut found, HOMES, left)
 }
 
-// Whether what each of the first choices leaves does.
+/// Whether what each of the first choices leaves does.
 fn all_mend(alloc: Global, disk: &MemoryDisk, choices: u32, left: &Left) -> Result<bool, Fail> {
     for number in 0..choices {
         if !mends(alloc, disk, &choice(number), left)? {
@@ -167,14 +167,14 @@ fn all_mend(alloc: Global, disk: &MemoryDisk, choices: u32, left: &Left) -> Resu
     Ok(true)
 }
 
-// A recovery of what a crash left, that is stopped after so many calls: its disk, and whether it ended before.
+/// A recovery of what a crash left, that is stopped after so many calls: its disk, and whether it ended before.
 fn stopped(alloc: Global, disk: &MemoryDisk, calls: u64) -> Result<(MemoryDisk, bool), Fail> {
     let mut fuse = FuseDisk::of(disk.crash(&[])?, calls);
     let ended = recover(alloc, &mut fuse).is_ok();
     Ok((fuse.into_inner(), ended))
 }
 
-// How many calls the recovery of what a crash left makes.
+/// How many calls the recovery of what a crash left makes.
 fn calls_of(alloc: Global, disk: &MemoryDisk) -> Result<u64, Fail> {
     let mut calls: u64 = 0;
     for step in [256, 128, 64, 32, 16, 8, 4, 2, 1] {
@@ -186,8 +186,8 @@ fn calls_of(alloc: Global, disk: &MemoryDisk) -> Result<u64, Fail> {
     Ok(calls.saturating_add(1))
 }
 
-// Whether what a crash left recovers to homes that may be left where recovery is stopped too, after any of its last
-// calls: the ones before them only read.
+/// Whether what a crash left recovers to homes that may be left where recovery is stopped too, after any of its last
+/// calls: the ones before them only read.
 fn mends_whenever(alloc: Global, disk: &MemoryDisk, left: &Left) -> Result<bool, Fail> {
     let all = calls_of(alloc, disk)?;
     for calls in all.saturating_sub(LAST)..all {

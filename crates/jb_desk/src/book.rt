@@ -17,7 +17,7 @@ use std::collections::BTreeMap;
 use std::marker::Model;
 use std::mem;
 
-// The most tickets of a book, and the most credits that it grants in all.
+/// The most tickets of a book, and the most credits that it grants in all.
 const MOST: u64 = 1 << 61;
 
 /// The book of a desk: which seats have an open handle, the queue of stopped handles, which tickets
@@ -29,18 +29,18 @@ pub struct Book {
     most: u32,
     seats: BTreeMap<u64, u32>,
     queue: Vec<Stopped>,
-    // of the taken and of the queued handles
+    /// of the taken and of the queued handles
     credits: Vec<u32>,
     settled: u64,
     taken: u64,
     next: u64,
-    // the credits of the open handles, and those of the handles that wait
+    /// the credits of the open handles, and those of the handles that wait
     open_sum: u64,
     line_sum: u64,
     granted: u64,
     changes: u64,
     trail: Vec<Entry>,
-    // the least number of a further group
+    /// the least number of a further group
     least: u64,
     shut: bool,
     aborted: bool,
@@ -131,7 +131,7 @@ impl Book {
         }
     }
 
-    // Whether there is no room for so many credits more, no ticket left, or too much granted in all.
+    /// Whether there is no room for so many credits more, no ticket left, or too much granted in all.
     fn is_full(&self, credits: u32) -> bool
         ensures { result ≡ is_full self.now credits }
     {
@@ -186,7 +186,7 @@ impl Book {
         Ok((holder, ticket))
     }
 
-    // The credits of a seat's open handle, where the words are within them and fit the shape.
+    /// The credits of a seat's open handle, where the words are within them and fit the shape.
     fn open_for(&self, seat: u64, words: &Words) -> Option<u32>
         ensures some { IfSome result (IsOpenFor self.now seat words.now) }
         ensures none { IfNone result ((credits : ℕ) → IsOpenFor self.now seat words.now credits → ⊥) }

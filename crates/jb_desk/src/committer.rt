@@ -15,7 +15,7 @@ pub struct Committer<H: Ledger, N: Ledger> {
 }
 
 impl<H: Ledger, N: Ledger> Committer<H, N> {
-    // Holds a batch until the next round.
+    /// Holds a batch until the next round.
     pub(crate) fn hold(&mut self, batch: Batch)
         requires { self.old.batch ≡ None }
         ensures { (self.new.seat ≡ self.old.seat) × (self.new.batch ≡ Some batch) }

@@ -17,7 +17,7 @@ use std::alloc::Global;
 use std::sync::ledger;
 use std::sync::ledger::{Blank, Ledger, Share};
 
-// The most seats of a desk.
+/// The most seats of a desk.
 const MOST: u64 = 1 << 61;
 
 /// What the first lock of a desk guards: the book, and the ledgers in which the handles that stopped
@@ -29,7 +29,7 @@ pub(crate) struct Counter<H: Ledger, N: Ledger> {
     changes: ledger::Book<N>,
     spare_handles: Share<H>,
     spare_changes: Share<N>,
-    // how many seats were given
+    /// how many seats were given
     given: u64,
     ghost handles_counted: { handles.total ≡ book.shadow.next },
     ghost changes_counted: { changes.total ≡ book.changes },

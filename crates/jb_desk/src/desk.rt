@@ -33,7 +33,7 @@ use std::sync::{Condvar, Mutex, Wait};
 pub struct Desk<D: Disk, C: Clock, H: Ledger, N: Ledger> {
     counter: Mutex<Counter<H, N>>,
     works: Mutex<Works<D, C>>,
-    // the book has changed
+    /// the book has changed
     moved: Condvar,
     board: Board,
     shape: Shape,

@@ -65,7 +65,7 @@ pub fn end_of(done: &Done) -> u64
     }
 }
 
-// The number after another.
+/// The number after another.
 fn after(number: u32) -> u64
     ensures value { result ≡ number + 1 }
     ensures narrow { result ≤ 2 ^ 32 }

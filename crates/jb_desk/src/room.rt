@@ -51,7 +51,7 @@ pub fn drop_first(credits: &mut Vec<u32>, n: usize) -> u64
     first
 }
 
-// The numbers added up.
+/// The numbers added up.
 fn sum_of(numbers: &[u32]) -> u64
     requires { sum numbers.now < 2 ^ 64 }
     ensures { result ≡ sum numbers.now }

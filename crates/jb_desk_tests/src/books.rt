@@ -6,7 +6,7 @@ use jb_handle::{Handle, Shape};
 use std::alloc::Global;
 use std::test::Fail;
 
-// A call: a stop is of a handle with so many credits that revokes these home blocks.
+/// A call: a stop is of a handle with so many credits that revokes these home blocks.
 #[derive(Clone, Copy)]
 enum Call {
     Open(u64, u32),
@@ -17,7 +17,7 @@ enum Call {
     Shut,
 }
 
-// What a call answers: a batch as its first ticket and the number of its handles.
+/// What a call answers: a batch as its first ticket and the number of its handles.
 #[derive(Clone, Copy, Debug, PartialEq)]
 enum Answer {
     Begun(Result<(), BeginFault>),
@@ -28,7 +28,7 @@ enum Answer {
 
 const GRANTED: Answer = Answer::Begun(Ok(()));
 
-// The calls of a new book of a journal with 32 usable log blocks, of which a group takes 8 at most.
+/// The calls of a new book of a journal with 32 usable log blocks, of which a group takes 8 at most.
 const ROWS: [&[(Call, Answer)]; 3] = [
     // five handles of 6 credits leave room for 2 credits more
     &[

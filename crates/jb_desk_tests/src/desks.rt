@@ -18,7 +18,7 @@ use std::test::Fail;
 
 type Small<H, N> = Still<MemoryDisk, H, N>;
 
-// What a seat finds that stops one handle, and what is counted at the end: handles, changes and groups.
+/// What a seat finds that stops one handle, and what is counted at the end: handles, changes and groups.
 #[derive(Clone, Copy, Debug, PartialEq)]
 struct OneHandle {
     most: Option<BeginFault>,
@@ -77,8 +77,8 @@ fn one_handle<R: Wait, H: Ledger, N: Ledger>(
     }))
 }
 
-// What is answered of a handle that its seat has ended itself, of one that nobody has begun, and of a desk
-// of which one seat has not left; and what is counted once all have.
+/// What is answered of a handle that its seat has ended itself, of one that nobody has begun, and of a desk
+/// of which one seat has not left; and what is counted once all have.
 #[derive(Clone, Copy, Debug, PartialEq)]
 struct StrayAnswers {
     busy: Option<BeginFault>,
@@ -120,7 +120,7 @@ fn strays<R: Wait, H: Ledger, N: Ledger>(
     }))
 }
 
-// Begins a handle, takes it apart, and begins another one.
+/// Begins a handle, takes it apart, and begins another one.
 fn end_at_once<R: Wait, H: Ledger, N: Ledger>(
     rt: &R,
     desk: &Small<H, N>,
@@ -135,7 +135,7 @@ fn end_at_once<R: Wait, H: Ledger, N: Ledger>(
     }
 }
 
-// With so many handles of 6 credits open, whether one of 3 is begun, and one of 2.
+/// With so many handles of 6 credits open, whether one of 3 is begun, and one of 2.
 fn beside<R: Wait, H: Ledger, N: Ledger>(
     rt: &R,
     desk: &Small<H, N>,
@@ -161,7 +161,7 @@ fn beside<R: Wait, H: Ledger, N: Ledger>(
     found
 }
 
-// What three new desks answer.
+/// What three new desks answer.
 fn rows<R: Wait, H: Ledger, N: Ledger>(
     rt: &R,
     alloc: Global,

@@ -17,9 +17,9 @@ use std::test::Fail;
 
 type Failing<H, N> = Still<OneFaultDisk<MemoryDisk>, H, N>;
 
-// What follows a round in which one handle is committed while another is open: what the other's stop and a further
-// begin answer, how many handles have stopped, whether the committer retires, the handles and changes at the end, and
-// whether recovery finds the home block whole, as it was or as it is written.
+/// What follows a round in which one handle is committed while another is open: what the other's stop and a further
+/// begin answer, how many handles have stopped, whether the committer retires, the handles and changes at the end, and
+/// whether recovery finds the home block whole, as it was or as it is written.
 #[derive(Clone, Copy, Debug, PartialEq)]
 struct Found {
     came: Came,
@@ -58,7 +58,7 @@ const COMMITTED: Found = Found {
     is_whole: true,
 };
 
-// Whether home block 1 has one byte throughout after a recovery: 0 as it was, or 7 as it is written.
+/// Whether home block 1 has one byte throughout after a recovery: 0 as it was, or 7 as it is written.
 fn is_whole(alloc: Global, disk: MemoryDisk) -> bool {
     let mut disk = disk;
     if recover(alloc, &mut disk).is_err() {
@@ -126,7 +126,7 @@ fn after_round<R: Wait, H: Ledger, N: Ledger>(
     }))
 }
 
-// What is found where this call of the disk fails; `None` where the journal cannot be opened then.
+/// What is found where this call of the disk fails; `None` where the journal cannot be opened then.
 fn failing<R: Wait, H: Ledger, N: Ledger>(
     rt: &R,
     alloc: Global,

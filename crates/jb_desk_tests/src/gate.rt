@@ -19,21 +19,21 @@ use std::thread;
 use std::thread::Threads;
 use std::time::{Clock, Duration};
 
-// How often a thread asks for what another is to do, once in a millisecond.
+/// How often a thread asks for what another is to do, once in a millisecond.
 const TURNS: u32 = 10000;
 
-// What two threads tell one another.
+/// What two threads tell one another.
 #[derive(Drop)]
 struct Gate {
-    // the second handle is begun
+    /// the second handle is begun
     has_begun: AtomicBool,
-    // the log is being written
+    /// the log is being written
     is_writing: AtomicBool,
-    // the second handle has stopped
+    /// the second handle has stopped
     has_stopped: AtomicBool,
 }
 
-// Asks until something has happened; says whether it has.
+/// Asks until something has happened; says whether it has.
 fn has_come<K: Clock>(clock: &K, flag: &AtomicBool) -> bool {
     for _ in 0..TURNS {
         if flag.load(Ordering::SeqCst) {
@@ -44,8 +44,8 @@ fn has_come<K: Clock>(clock: &K, flag: &AtomicBool) -> bool {
     false
 }
 
-// A disk that holds its first write behind the superblock until the second handle has stopped. Where that takes too
-// long, the write fails.
+/// A disk that holds its first write after the superblock until the second handle has stopped. Where that takes too
+/// long, the write fails.
 #[derive(Drop)]
 struct GateDisk<'a, D: Disk, K: Clock> {
     disk: D,
@@ -109,7 +109,7 @@ impl<'a, D: Disk, K: Clock> Disk for GateDisk<'a, D, K> {
     }
 }
 
-// Waits at the gate, or counts a fault.
+/// Waits at the gate, or counts a fault.
 fn pass<K: Clock>(clock: &K, gate: &Gate, failed: &mut u64) -> Result<(), Fault>
     ensures { CountsFault result failed.old failed.new }
 {
@@ -121,7 +121,7 @@ fn pass<K: Clock>(clock: &K, gate: &Gate, failed: &mut u64) -> Result<(), Fault>
     Err(Fault)
 }
 
-// What the thread finds that commits: how two rounds end, and the numbers of both tickets.
+/// What the thread finds that commits: how two rounds end, and the numbers of both tickets.
 #[derive(Clone, Copy, Debug, PartialEq)]
 struct Found {
     rounds: (Came, Came),
@@ -172,7 +172,7 @@ fn second<K: Wait + Clock, D: Disk, H: Ledger, N: Ledger>(
     }
 }
 
-// The second ticket, what the committer finds, and the handles, changes and groups at the end.
+/// The second ticket, what the committer finds, and the handles, changes and groups at the end.
 #[derive(Clone, Copy, Debug, PartialEq)]
 struct Answer {
     ticket: Result<u64, Why>,
@@ -227,7 +227,7 @@ fn gated<R: Threads + Wait + Clock + Sync, H: Ledger + Send + Sync, N: Ledger + 
     }))
 }
 
-// One round, which commits one handle under this ticket and number.
+/// One round, which commits one handle under this ticket and number.
 fn one(ticket: u64, number: u32) -> Came {
     Came::Committed(
         Some(Entry {

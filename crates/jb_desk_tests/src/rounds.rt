@@ -18,7 +18,7 @@ use std::test::Fail;
 
 type Small<H, N> = Still<MemoryDisk, H, N>;
 
-// What a seat finds that commits its own handle, and what is counted at the end: handles, changes and groups.
+/// What a seat finds that commits its own handle, and what is counted at the end: handles, changes and groups.
 #[derive(Clone, Copy, Debug, PartialEq)]
 struct OneRound {
     nothing: Came,
@@ -83,8 +83,8 @@ fn one_round<R: Wait, H: Ledger, N: Ledger>(
     }))
 }
 
-// What two handles find of which each takes a group, where the journal has one number left: tickets, how the round
-// ends, whether the committer retires then, and how the desk is closed.
+/// What two handles find of which each takes a group, where the journal has one number left: tickets, how the round
+/// ends, whether the committer retires then, and how the desk is closed.
 #[derive(Clone, Copy, Debug, PartialEq)]
 struct NoNumber {
     tickets: (Result<u64, Why>, Result<u64, Why>),
@@ -127,7 +127,7 @@ fn no_number<R: Wait, H: Ledger, N: Ledger>(
     }))
 }
 
-// What two new desks answer: the first over a new journal, the second over one with one number left.
+/// What two new desks answer: the first over a new journal, the second over one with one number left.
 fn rows<R: Wait, H: Ledger, N: Ledger>(
     rt: &R,
     alloc: Global,

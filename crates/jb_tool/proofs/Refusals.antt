@@ -10,7 +10,7 @@ if-any : {A : Type 0} (P : A → Type 0) (o : Option A) → ((a : A) → P a) �
 if-any P (Some a) all = all a
 if-any P None all = tt
 
--- where clap finds no fault, the refusal is want of memory, or nothing is asked for
+-- where clap finds no fault, the refusal is out of memory, or nothing is asked for
 pub refused-asks : {A : Type 0} (P : A → Type 0) (Q : Type 0) (kinds : Kinds) (asked : Option A) (error : Error)
     → HasKind kinds error ⊎ ((kinds ≡ []) × (asked ≡ None)) → (kind_of error ≡ OutOfMemory → Q) → kinds ≡ []
     → IfSome asked (λ a. P a ⊎ Q)

@@ -19,7 +19,7 @@ use Rattle.jb_tool.specs.Texts.{HasNoText, IsText, known_behind}
 use Rattle.jb_tool.specs.declared.stop.Stop.{Stop}
 use Rattle.jb_tool.specs.declared.stop.Stop.TheVariants.{Memory, WriteFault}
 
--- a command told what it has to say of the text behind this name, or ended without a word for want of the text or of memory
+-- a command said what it has to say of the text after this name, or ended without a word where there was no text or no memory
 abbrev pub Ends : (List ℕ → Said → Type 0) → List ℕ → Option (List ℕ) → Held → Held → Result ℕ Stop → Type 0
 Ends Says name input old new end =
     ((text : List ℕ) × (words : Said) × IsText (known_behind name input) text × Says text words × Tells words old new end)
@@ -66,7 +66,7 @@ pub record EndsRefused (kind : ErrorKind) (old new : Held) (status : ℕ) : Type
       → ((status ≡ 0) × (new.err ≡ old.err)) ⊎ ((status ≡ 1) × PutsPart old.err new.err (line_of WriteFault))
   pub mistake : kind ≢ OutOfMemory → kind ≢ DisplayHelp → kind ≢ DisplayVersion → (status ≡ 2) × (new.out ≡ old.out)
 
--- the words were refused by one of the kinds of their first fault, or for want of memory, or as they ask for no command
+-- the words were refused by one of the kinds of their first fault, or where memory ran out, or as they ask for no command
 abbrev pub RefusesWords : Kinds → Option Asked → Held → Held → ℕ → Type 0
 RefusesWords kinds asked old new status =
     (error : Error) × (HasKind kinds error ⊎ ((kinds ≡ []) × (asked ≡ None))) × EndsRefused (kind_of error) old new status

@@ -47,7 +47,7 @@ pub fn run<R: Files<File = File> + AllocGlobal, S: AsStr, I: Read, O: Write, E: 
     }
 }
 
-// Writes what clap says of the words, and gives the exit status.
+/// Writes what clap says of the words, and gives the exit status.
 fn tell_refusal<O: Write, E: Write>(error: &Error, out: &mut O, err: &mut E) -> u8
     ensures memory { kind_of error.now ≡ ErrorKind.OutOfMemory → Closes (Err StopMemory)
         (record { out = O.contents out.old; err = E.contents err.old })

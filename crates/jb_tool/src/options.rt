@@ -43,7 +43,7 @@ pub(crate) fn new_image(options: FormatOptions<'_>) -> Option<NewImage>
     })
 }
 
-// The block size of so many bytes.
+/// The block size of so many bytes.
 fn size_of(bs: u64) -> Option<BlockSize>
     ensures good { IsSome result ↔ IsBlockSize bs }
     ensures value { IfSome result (λ size. bytes_of size ≡ bs) }
@@ -56,7 +56,7 @@ fn size_of(bs: u64) -> Option<BlockSize>
     }
 }
 
-// A number as a field of 32 bits holds it.
+/// A number as a field of 32 bits holds it.
 fn word_of(number: u64) -> Option<u32>
     ensures good { IsSome result ↔ (number < 2 ^ 32) }
     ensures value { IfSome result (λ word. word ≡ number) }
@@ -64,7 +64,7 @@ fn word_of(number: u64) -> Option<u32>
     u32::try_from(number).ok()
 }
 
-// The UUID in these digits.
+/// The UUID in these digits.
 fn uuid_of(digits: &str) -> Option<[u8; 16]>
     ensures good { IsSome result ↔ ((length digits.now ≡ 32) × AllPass is_hex_digit digits.now) }
     ensures value { IfSome result (λ uuid. decode_of digits.now ≡ Ok uuid) }
@@ -72,14 +72,14 @@ fn uuid_of(digits: &str) -> Option<[u8; 16]>
     <[u8; 16] as FromHex>::from_hex(digits).ok()
 }
 
-// The width of block numbers, as `--wide` asks for it.
+/// The width of block numbers, as `--wide` asks for it.
 fn width_of(wide: bool) -> Width
     ensures { is_wide result ≡ wide }
 {
     if wide { Width::Wide } else { Width::Narrow }
 }
 
-// How many bytes so many blocks of journal and homes have.
+/// How many bytes so many blocks of journal and homes have.
 fn len_of(journal: u64, homes: u64, bs: u64) -> Option<u64>
     ensures good { IsSome result ↔ ((journal + homes) * bs < 2 ^ 63) }
     ensures value { IfSome result (λ len. len ≡ (journal + homes) * bs) }

@@ -50,7 +50,7 @@ pub fn perform<'a, R: Files<File = File> + AllocGlobal, I: Read, O: Write, E: Wr
     }
 }
 
-// Runs `jb check`: the second file is opened where the first is the text of a queue.
+/// Runs `jb check`: the second file is opened where the first is the text of a queue.
 fn perform_check<'a, R: Files + AllocGlobal, O: Write, E: Write>(
     rt: &R,
     file: &'a str,

@@ -31,7 +31,7 @@ pub enum Stop<'a> {
     Geometry,
     /// A call on an image that is used as a disk failed.
     DeviceFault,
-    /// A growth was refused.
+    /// Memory ran out.
     Memory,
     /// Standard output could not be written.
     WriteFault,

@@ -6,8 +6,8 @@ use std::test::Fail;
 
 const GROWING: &str = "bs 1024\nlimit 6\nh w1 w2\nh w3 w4\nh w3 w4\nh w3 w4 w5\n";
 
-// The text of a queue and of a certificate, the status of the check, and what it writes to standard output and to standard
-// error.
+/// The text of a queue and of a certificate, the status of the check, and what it writes to standard output and to standard
+/// error.
 type Check = (&'static str, &'static str, u8, &'static str, &'static str);
 
 const CHECKS: &[Check] = &[
@@ -35,7 +35,7 @@ const CHECKS: &[Check] = &[
     ),
 ];
 
-// Whether the check of this certificate of this queue ends with this status, and writes just these two texts.
+/// Whether the check of this certificate of this queue ends with this status, and writes just these two texts.
 fn checked(
     rt: &HostRuntime,
     texts: (&str, &str),

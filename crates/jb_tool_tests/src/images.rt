@@ -4,7 +4,7 @@ use crate::runs::{MAGIC, UUID, WHOLE, add_block, image, runs};
 use std::fs;
 use std::test::Fail;
 
-// The sizes of a new image, another option with its value, the status, and what is written.
+/// The sizes of a new image, another option with its value, the status, and what is written.
 type Format = (
     [&'static str; 3],
     [&'static str; 2],
@@ -70,7 +70,7 @@ const FORMATS: &[Format] = &[
     ),
 ];
 
-// Whether `jb format` with these sizes, in a file of this name, ends with this status and writes just these two texts.
+/// Whether `jb format` with these sizes, in a file of this name, ends with this status and writes just these two texts.
 fn formatted(
     rt: &HostRuntime,
     image: &str,
@@ -95,7 +95,7 @@ fn formatted(
     runs(rt, &words, b"", status, out, err)
 }
 
-// Whether `jb recover` of a file ends with this status and writes just these two texts.
+/// Whether `jb recover` of a file ends with this status and writes just these two texts.
 fn recovered(rt: &HostRuntime, image: &str, status: u8, out: &str, err: &str) -> bool {
     runs(rt, &["recover", image], b"", status, out, err)
 }
@@ -164,8 +164,8 @@ fn a_new_image_is_its_superblock_and_zeros_and_is_made_once(rt: HostRuntime) -> 
     Ok(())
 }
 
-// The incompatible features of an image, the count of its revoke block, the home of its copy, how many of its bytes the file
-// has, and what a recovery answers.
+/// The incompatible features of an image, the count of its revoke block, the home of its copy, how many of its bytes the file
+/// has, and what a recovery answers.
 type Recovery = (u32, u32, u32, usize, Result<&'static str, &'static str>);
 
 const RECOVERIES: &[Recovery] = &[

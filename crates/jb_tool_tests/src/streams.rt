@@ -5,7 +5,7 @@ use std::io::{self, Error, ErrorKind, Read, Write};
 
 const QUEUE: &[u8] = b"bs 1024\nlimit 7\nh w1\n";
 
-// An input whose reads fail.
+/// An input whose reads fail.
 #[derive(Drop)]
 struct Closed;
 
@@ -15,7 +15,7 @@ impl Read for Closed {
     }
 }
 
-// An output that takes so many bytes and then fails, and whose flush fails too where it is stuck.
+/// An output that takes so many bytes and then fails, and whose flush fails too where it is stuck.
 #[derive(Drop)]
 struct Torn {
     left: usize,
@@ -40,7 +40,7 @@ impl Write for Torn {
     }
 }
 
-// An output that takes nothing, one that takes three bytes, and one that takes all and loses it when it is flushed.
+/// An output that takes nothing, one that takes three bytes, and one that takes all and loses it when it is flushed.
 const TORN: [(usize, bool); 3] = [(0, false), (3, false), (1000, true)];
 
 #[test]

@@ -5,7 +5,7 @@ use jb_io::{ReadFault, read_within};
 use jb_tool::{TEXT_LIMIT, refuse_words, run};
 use std::io::{self, ErrorKind, Read};
 
-// The words and the input of a run, its status, and what it writes to standard output and to standard error.
+/// The words and the input of a run, its status, and what it writes to standard output and to standard error.
 type Row = (
     &'static [&'static str],
     &'static [u8],

@@ -29,7 +29,7 @@ abbrev ok_of : {E : Type 0} → Result ℕ E → Option ℕ
 ok_of (Ok n) = Some n
 ok_of (Err e) = None
 
--- a text that parses says its number, and one that doesn't says none
+-- a text that parses says its number, and one that does not says none
 said_is : {E : Type 0} (text : Text) (r : Result ℕ E) (o : Option ℕ) → ParsesUnsigned 64 10 text r → ok_of r ≡ o → o ≡ number_said text
 said_is text (Ok n) o h is =
     let ds = without_leading_plus text in

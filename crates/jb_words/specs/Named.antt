@@ -58,7 +58,7 @@ abbrev pub check_in : List Row → Option Asked
 check_in rows =
     option_and_then (λ file. option_map (λ cert. AsksCheck file cert) (first_of (codes "CERT") rows)) (file_in rows)
 
--- the number that a text writes in decimal digits, perhaps behind a plus, where it fits 64 bits
+-- the number that a text writes in decimal digits, perhaps after a plus, where it fits 64 bits
 abbrev pub number_said : Text → Option ℕ
 number_said text =
     let digits = without_leading_plus text in

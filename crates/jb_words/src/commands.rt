@@ -10,7 +10,7 @@ use clap::{Arg, Command};
 use options::{max_option, required_number, uuid_option, wide_flag};
 use std::alloc::{AllocError, Global};
 
-// A word that has to be there, by the name that usage shows.
+/// A word that has to be there, by the name that usage shows.
 fn required_word<'a>(alloc: Global, name: &'a str, help: &'a str) -> Arg<'a>
     ensures rule { rule_of result ≡ word_rule name.entry.now }
     ensures own { result.global ≡ false }
@@ -18,7 +18,7 @@ fn required_word<'a>(alloc: Global, name: &'a str, help: &'a str) -> Arg<'a>
     Arg::new(alloc, name).required(true).help(help)
 }
 
-// The command with one more argument.
+/// The command with one more argument.
 fn with<'a>(command: Command<'a>, arg: Arg<'a>) -> Result<Command<'a>, AllocError>
     requires own { (fields_of command).has_globals ≡ false }
     requires here { arg.global ≡ false }
@@ -28,7 +28,7 @@ fn with<'a>(command: Command<'a>, arg: Arg<'a>) -> Result<Command<'a>, AllocErro
     command.arg(arg)
 }
 
-// `jb` with one more command, where both could be made.
+/// `jb` with one more command, where both could be made.
 fn also<'a>(
     jb: Result<Command<'a>, AllocError>,
     command: Result<Command<'a>, AllocError>,
@@ -43,7 +43,7 @@ fn also<'a>(
     jb.subcommand(command?)
 }
 
-// A command without words.
+/// A command without words.
 fn bare<'a>(alloc: Global, name: &'a str, about: &'a str) -> Command<'a>
     ensures app { app_of result ≡ new_app name.entry.now }
     ensures own { (fields_of result).has_globals ≡ false }
@@ -53,7 +53,7 @@ fn bare<'a>(alloc: Global, name: &'a str, about: &'a str) -> Command<'a>
         .after_long_help(texts::more_of(name))
 }
 
-// A command with one word.
+/// A command with one word.
 fn over<'a>(
     alloc: Global,
     name: &'a str,
@@ -67,7 +67,7 @@ fn over<'a>(
     with(bare(alloc, name, about), required_word(alloc, word, help))
 }
 
-// `jb check`.
+/// `jb check`.
 fn check<'a>(alloc: Global) -> Result<Command<'a>, AllocError>
     ensures app { IfOk result (λ c. app_of c ≡ check_app) }
     ensures own { IfOk result (λ c. (fields_of c).has_globals ≡ false) }
@@ -78,7 +78,7 @@ fn check<'a>(alloc: Global) -> Result<Command<'a>, AllocError>
     with(command, required_word(alloc, "CERT", help))
 }
 
-// `jb format`.
+/// `jb format`.
 fn format<'a>(alloc: Global) -> Result<Command<'a>, AllocError>
     ensures app { IfOk result (λ c. app_of c ≡ format_app) }
     ensures own { IfOk result (λ c. (fields_of c).has_globals ≡ false) }
@@ -97,7 +97,7 @@ fn format<'a>(alloc: Global) -> Result<Command<'a>, AllocError>
     with(command, wide_flag(alloc))
 }
 
-// `jb` without its commands.
+/// `jb` without its commands.
 fn jb_alone<'a>(alloc: Global) -> Result<Command<'a>, AllocError>
     ensures app { IfOk result (λ c. app_of c ≡ jb_top) }
     ensures own { IfOk result (λ c. (fields_of c).has_globals ≡ false) }
@@ -113,7 +113,7 @@ fn jb_alone<'a>(alloc: Global) -> Result<Command<'a>, AllocError>
     )
 }
 
-// A command over one queue text.
+/// A command over one queue text.
 fn over_queue<'a>(alloc: Global, name: &'a str, about: &'a str) -> Result<Command<'a>, AllocError>
     ensures app { IfOk result (λ c. app_of c ≡ file_app name.entry.now) }
     ensures own { IfOk result (λ c. (fields_of c).has_globals ≡ false) }
@@ -122,7 +122,7 @@ fn over_queue<'a>(alloc: Global, name: &'a str, about: &'a str) -> Result<Comman
     over(alloc, name, about, "FILE", help)
 }
 
-// A command over one image that is there.
+/// A command over one image that is there.
 fn over_image<'a>(alloc: Global, name: &'a str, about: &'a str) -> Result<Command<'a>, AllocError>
     ensures app { IfOk result (λ c. app_of c ≡ image_app name.entry.now) }
     ensures own { IfOk result (λ c. (fields_of c).has_globals ≡ false) }

@@ -54,7 +54,7 @@ pub struct FormatOptions<'a> {
     pub bs: u64,
     /// `--journal`: how many blocks the journal has, its superblock counted.
     pub journal: u64,
-    /// `--homes`: how many blocks stand behind the journal.
+    /// `--homes`: how many blocks stand after the journal.
     pub homes: u64,
     /// `--max`: the most log blocks of a transaction, 0 for a quarter of the log.
     pub max: u64,

@@ -15,7 +15,7 @@ use std::convert::AsStr;
 /// The command that the words after the program's name ask for.
 ///
 /// # Errors
-/// What clap says of the words: help and the version too, and want of memory as `ErrorKind::OutOfMemory`.
+/// What clap says of the words: help and the version too, and out of memory as `ErrorKind::OutOfMemory`.
 pub fn parse<'a, S: AsStr>(alloc: Global, words: &'a [S]) -> Result<Plain<'a>, Error>
     ensures asked { IfOk result (λ plain. asked_in (map S.text words.entry.now) ≡ Some (asks plain)) }
     ensures taken { IfOk result (λ _. faults_in (map S.text words.entry.now) ≡ []) }
@@ -29,13 +29,13 @@ pub fn parse<'a, S: AsStr>(alloc: Global, words: &'a [S]) -> Result<Plain<'a>, E
     }
 }
 
-// What is said where clap found no command: it lets no such words through, but its contracts do not say so.
+/// What is said where clap found no command: it lets no such words through, but its contracts do not say so.
 fn no_command(alloc: Global) -> Result<Error, AllocError> {
     let mut command = jb_command(alloc)?;
     command.error(ErrorKind::MissingSubcommand, "no command was given")
 }
 
-// What clap makes of the words.
+/// What clap makes of the words.
 fn matches_of<'a, S: AsStr>(command: Command<'a>, words: &'a [S]) -> Result<ArgMatches<'a>, Error>
     requires { app_of command ≡ jb_app }
     ensures found { IfOk result (λ m. subcommand_rows_of m ≡ subcommand_of jb_app (map S.text words.entry.now)) }
@@ -44,7 +44,7 @@ fn matches_of<'a, S: AsStr>(command: Command<'a>, words: &'a [S]) -> Result<ArgM
     command.try_get_matches_from(words)
 }
 
-// The command that clap found, with its words.
+/// The command that clap found, with its words.
 fn plain_of<'a>(matches: &ArgMatches<'a>) -> Option<Plain<'a>>
     ensures { option_map asks result ≡ asked_of (subcommand_rows_of matches.now) }
 {
@@ -74,7 +74,7 @@ fn plain_of<'a>(matches: &ArgMatches<'a>) -> Option<Plain<'a>>
     }
 }
 
-// The words of `jb check`.
+/// The words of `jb check`.
 fn check_of<'a>(found: &ArgMatches<'a>) -> Option<Plain<'a>>
     ensures { option_map asks result ≡ check_in (rows_of (found_of found.now)) }
 {
@@ -84,7 +84,7 @@ fn check_of<'a>(found: &ArgMatches<'a>) -> Option<Plain<'a>>
     })
 }
 
-// The words of `jb format`.
+/// The words of `jb format`.
 fn format_of<'a>(found: &ArgMatches<'a>) -> Option<Plain<'a>>
     ensures { option_map asks result ≡ format_in (rows_of (found_of found.now)) }
 {
@@ -94,7 +94,7 @@ fn format_of<'a>(found: &ArgMatches<'a>) -> Option<Plain<'a>>
     })
 }
 
-// The options of `jb format`.
+/// The options of `jb format`.
 fn options_of<'a>(found: &ArgMatches<'a>) -> Option<FormatOptions<'a>>
     ensures { option_map options_said result ≡ options_in (rows_of (found_of found.now)) }
 {
@@ -108,21 +108,21 @@ fn options_of<'a>(found: &ArgMatches<'a>) -> Option<FormatOptions<'a>>
     })
 }
 
-// The number that was given under this name.
+/// The number that was given under this name.
 fn number_of(found: &ArgMatches<'_>, name: &str) -> Option<u64>
     ensures { result ≡ number_in name.now (rows_of (found_of found.now)) }
 {
     found.get_one(name)
 }
 
-// Whether the flag of this name was given: clap enters each flag that a command has, as `true` or `false`.
+/// Whether the flag of this name was given: clap enters each flag that a command has, as `true` or `false`.
 fn flag_of(found: &ArgMatches<'_>, name: &str) -> Option<bool>
     ensures { result ≡ flag_in name.now (rows_of (found_of found.now)) }
 {
     Some(word_of(found, name)? == "true")
 }
 
-// The word that was given under this name.
+/// The word that was given under this name.
 fn word_of<'a>(found: &ArgMatches<'a>, name: &str) -> Option<&'a str>
     ensures { option_map (λ word. word.now) result ≡ first_of name.now (rows_of (found_of found.now)) }
 {

@@ -1,7 +1,7 @@
 use jb_words::{FormatOptions, Plain, parse};
 use std::alloc::Global;
 
-// The command that the words ask for, as one text: its name, and its words and options in the order of `Plain`.
+/// The command that the words ask for, as one text: its name, and its words and options in the order of `Plain`.
 fn asked<'a>(alloc: Global, words: &'a [&'a str]) -> Option<(&'a str, &'a str, &'a str)> {
     match parse(alloc, words).ok()? {
         Plain::Cost { file } => Some(("cost", file, "")),
@@ -15,7 +15,7 @@ fn asked<'a>(alloc: Global, words: &'a [&'a str]) -> Option<(&'a str, &'a str, &
     }
 }
 
-// The four numbers of a command that formats, --bs, --journal, --homes and --max, and whether --wide stands there.
+/// The four numbers of a command that formats, --bs, --journal, --homes and --max, and whether --wide stands there.
 fn numbers(alloc: Global, words: &[&str]) -> Option<([u64; 4], bool)> {
     match parse(alloc, words).ok()? {
         Plain::Format { options, .. } => {

@@ -1,7 +1,7 @@
 use jb_words::parse;
 use std::alloc::Global;
 
-// What clap says of words that it does not take: whether that goes to standard error, and its text.
+/// What clap says of words that it does not take: whether that goes to standard error, and its text.
 fn said(alloc: Global, words: &[&str]) -> Option<(bool, String)> {
     match parse(alloc, words) {
         Ok(_) => None,

@@ -44,7 +44,7 @@ impl<D: Disk, C: Clock, H: Ledger, N: Ledger> Desk<D, C, H, N> {
         unreachable!()
     }
 
-    // Waits until the book has come further than this.
+    /// Waits until the book has come further than this.
     fn await_progress<R: Wait>(&self, rt: &R, before: Progress) {
         let counter = self.counter.lock(rt);
         let _moved = self

@@ -87,7 +87,7 @@ impl<D: Disk, C: Clock, H: Ledger, N: Ledger> Desk<D, C, H, N> {
     }
 }
 
-// Closes what the two locks guarded, where every seat that was given has left.
+/// Closes what the two locks guarded, where every seat that was given has left.
 fn close_parts<D: Disk, C: Clock, H: Ledger, N: Ledger>(
     counter: Counter<H, N>,
     works: Works<D, C>,

@@ -58,7 +58,7 @@ impl<D: Disk, C: Clock, H: Ledger, N: Ledger> Desk<D, C, H, N> {
         seat
     }
 
-    // The journal has failed, or a batch is given up.
+    /// The journal has failed, or a batch is given up.
     pub(crate) fn fail<R: Wait>(&self, rt: &R) {
         self.counter.lock(rt).fail();
         self.moved.notify_all();

@@ -44,7 +44,7 @@ impl<D: Disk, C: Clock, H: Ledger, N: Ledger> Desk<D, C, H, N> {
         unreachable!()
     }
 
-    // Waits until there is a batch to take, or none can come any more. Says whether the desk is over.
+    /// Waits until there is a batch to take, or none can come any more. Says whether the desk is over.
     fn await_work<R: Wait>(&self, rt: &R) -> bool {
         let counter = self.counter.lock(rt);
         let counter = self

@@ -57,7 +57,7 @@ impl<D: Disk, C: Clock, H: Ledger, N: Ledger> Desk<D, C, H, N> {
         }
     }
 
-    // Commits a batch that is taken and prepared, and settles what the journal has committed of it.
+    /// Commits a batch that is taken and prepared, and settles what the journal has committed of it.
     fn commit<R: Wait>(
         &self,
         rt: &R,
@@ -103,7 +103,7 @@ impl<D: Disk, C: Clock, H: Ledger, N: Ledger> Desk<D, C, H, N> {
         }
     }
 
-    // Settles a batch that is committed.
+    /// Settles a batch that is committed.
     fn settle<R: Wait>(&self, rt: &R, seat: &mut Seat<H, N>, done: &Done) -> Result<(), RoundFault>
         requires desk { desk_of seat.old ≡ desk_id self.now }
         requires taken { past_after (first_of done.now) (entries_of done.now) ≤ (view_of seat.old).taken }
@@ -121,7 +121,7 @@ impl<D: Disk, C: Clock, H: Ledger, N: Ledger> Desk<D, C, H, N> {
         Ok(())
     }
 
-    // Settles what was committed of a batch before the journal failed.
+    /// Settles what was committed of a batch before the journal failed.
     fn settle_last<R: Wait>(&self, rt: &R, seat: &mut Seat<H, N>, done: &Done)
         requires desk { desk_of seat.old ≡ desk_id self.now }
         requires taken { past_after (first_of done.now) (entries_of done.now) ≤ (view_of seat.old).taken }
@@ -136,7 +136,7 @@ impl<D: Disk, C: Clock, H: Ledger, N: Ledger> Desk<D, C, H, N> {
     }
 }
 
-// The ticket after those of a batch.
+/// The ticket after those of a batch.
 fn past(batch: &Batch) -> u64
     ensures { result ≡ batch.now.first + length batch.now.handles }
 {

@@ -25,7 +25,7 @@ const FRONT: usize = 1024;
 ///
 /// # Errors
 /// `Stop::BadOption` where an option is bad, before any file is looked at; `Stop::CannotMake` where the file is there
-/// already or the system refuses it or its length, `Stop::Memory` where a growth was refused; and those of `format_on`, after
+/// already or the system refuses it or its length, `Stop::Memory` where memory ran out; and those of `format_on`, after
 /// which the file stays.
 pub(crate) fn format_image<'a, R: Files<File = File> + AllocGlobal, O: Write>(
     rt: &R,
@@ -57,7 +57,7 @@ pub(crate) fn recover_image<'a, R: Files<File = File> + AllocGlobal, O: Write>(
     recover_on(rt.alloc(), &mut disk, out)
 }
 
-// The new file of this name and of the image's length, as a disk. Its blocks are zeros that take no room as yet.
+/// The new file of this name and of the image's length, as a disk. Its blocks are zeros that take no room as yet.
 fn make_file<'a, R: Files<File = File> + AllocGlobal>(
     rt: &R,
     name: &'a str,
@@ -84,7 +84,7 @@ fn make_file<'a, R: Files<File = File> + AllocGlobal>(
 ///
 /// # Errors
 /// `Stop::CannotRead` where the file cannot be opened for reading and writing, or read; `Stop::Super` where its first bytes
-/// are no superblock; `Stop::Memory` where a growth was refused.
+/// are no superblock; `Stop::Memory` where memory ran out.
 pub(super) fn open_image<'a, R: Files<File = File> + AllocGlobal>(
     rt: &R,
     name: &'a str,
@@ -108,7 +108,7 @@ pub(super) fn open_image<'a, R: Files<File = File> + AllocGlobal>(
     }
 }
 
-// The first bytes of an image, as many as a superblock has or fewer.
+/// The first bytes of an image, as many as a superblock has or fewer.
 fn front_of<'a, R: Read>(alloc: Global, image: &mut R, name: &'a str) -> Result<Vec<u8>, Stop<'a>>
     ensures unread { IfErr result (IsUnread name.entry.now) }
     ensures front { IfOk result (λ front. IfSome (R.remaining image.old) (λ bytes. front.items ≡ take 1024 bytes)) }

@@ -10,7 +10,7 @@ use std::rt::Files;
 /// for the journal's blocks and no further.
 ///
 /// # Errors
-/// `Stop::CannotRead` where the file cannot be opened, `Stop::Memory` where a growth was refused, and those of `dump_from`.
+/// `Stop::CannotRead` where the file cannot be opened, `Stop::Memory` where memory ran out, and those of `dump_from`.
 pub(crate) fn dump_file<'a, R: Files + AllocGlobal, O: Write>(
     rt: &R,
     file: &'a str,

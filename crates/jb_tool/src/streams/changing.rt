@@ -42,7 +42,7 @@ pub fn widen_on<'a, D: Disk, O: Write>(disk: &mut D, out: &mut O) -> Result<u8, 
     }
 }
 
-// Writes the line of a renumbering.
+/// Writes the line of a renumbering.
 fn tell_renumbered<'a, O: Write>(done: Renumbered, out: &mut O) -> Result<u8, Stop<'a>>
     ensures { TellsLine (renumbered_line done) (O.contents out.old) (O.contents out.new) result }
 {
@@ -51,7 +51,7 @@ fn tell_renumbered<'a, O: Write>(done: Renumbered, out: &mut O) -> Result<u8, St
     tell_line(out, &["renumbered blocks ", blocks, " next ", next, "\n"])
 }
 
-// Writes the line of a widening.
+/// Writes the line of a widening.
 fn tell_widened<'a, O: Write>(done: Widened, out: &mut O) -> Result<u8, Stop<'a>>
     ensures { TellsLine (widened_line done) (O.contents out.old) (O.contents out.new) result }
 {

@@ -10,7 +10,7 @@ use std::io::{Read, Write};
 ///
 /// # Errors
 /// `Stop::ReadFault` where a read fails; `Stop::Super` and `Stop::BadRevoke` where the journal has no text; `Stop::Memory`
-/// where a growth was refused; `Stop::WriteFault` where `out` took only the beginning of the text. But for the last nothing
+/// where memory ran out; `Stop::WriteFault` where `out` took only the beginning of the text. But for the last nothing
 /// was written.
 pub fn dump_from<'a, I: Read, O: Write>(
     alloc: Global,

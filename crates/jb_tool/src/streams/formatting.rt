@@ -44,7 +44,7 @@ pub fn format_on<'a, D: Disk, O: Write>(
     }
 }
 
-// The most log blocks of a transaction of such a journal.
+/// The most log blocks of a transaction of such a journal.
 fn new_limit(
     size: BlockSize,
     journal: u32,
@@ -58,7 +58,7 @@ fn new_limit(
     Some(Super::new(size, journal, max_transaction, uuid, width)?.limit())
 }
 
-// Writes the line of a new journal.
+/// Writes the line of a new journal.
 fn tell_formatted<'a, O: Write>(limit: u32, out: &mut O) -> Result<u8, Stop<'a>>
     ensures { TellsLine (formatted_line limit) (O.contents out.old) (O.contents out.new) result }
 {

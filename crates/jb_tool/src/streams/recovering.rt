@@ -32,7 +32,7 @@ pub fn recover_on<'a, D: Disk, O: Write>(
     }
 }
 
-// Writes the line of a recovery.
+/// Writes the line of a recovery.
 fn tell_recovered<'a, O: Write>(done: Recovered, out: &mut O) -> Result<u8, Stop<'a>>
     ensures { TellsLine (recovered_line done) (O.contents out.old) (O.contents out.new) result }
 {

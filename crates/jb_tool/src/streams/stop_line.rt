@@ -41,7 +41,7 @@ impl<'a> Stop<'a> {
     }
 }
 
-// Writes the line of a superblock that is refused.
+/// Writes the line of a superblock that is refused.
 fn put_super_line<W: Write>(writer: &mut W, fault: SuperFault)
     ensures puts { PutsPart (W.contents writer.old) (W.contents writer.new) (super_line fault) }
 {

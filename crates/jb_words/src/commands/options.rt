@@ -6,10 +6,10 @@ ghost use Rattle.jb_words.specs.App.{max_option as max_rule, number_option as nu
 use clap::{Arg, ArgAction, value_parser};
 use std::alloc::Global;
 
-// What `--uuid` is where it is not given.
+/// What `--uuid` is where it is not given.
 const NO_UUID: &str = "00000000000000000000000000000000";
 
-// An option with a number.
+/// An option with a number.
 fn number_option<'a>(alloc: Global, name: &'a str, help: &'a str) -> Arg<'a>
     ensures rule { rule_of result ≡ number_rule name.entry.now }
     ensures own { result.global ≡ false }
