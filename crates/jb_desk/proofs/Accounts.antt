@@ -33,60 +33,7 @@ use Rattle.jb_desk.specs.declared.fault.BeginFault.TheVariants.{Aborted, Closed,
 use Rattle.jb_desk.specs.Account.{Account, InLine, IsSound, IsStart, granted_to, dropped_of, queued, taken_all, settled_to, failed_of, is_full, refusal, IsOpenFor, CanTake, Settles}
 use Rattle.jb_desk.specs.Shadow.{Shadow, fresh, credits_at, reserved}
 use Rattle.jb_desk.proofs.Follows.{follow-append, follow-length}
-
--- ---- the start
-
--- credits by a geometry of the shape's numbers
-pub most-in : (shape : Shape) (g : Geometry) (most : ℕ) → g.t ≡ tags_in shape.bs shape.width → IsMost g shape.limit most → IsMost (geometry_of shape) shape.limit most
-most-in shape g most tags is = record {
-  within = subst (λ t. 1 + most + div_ceil most t ≤ shape.limit) tags is.within;
-  greatest = λ credits fits. is.greatest credits (subst (λ t. 1 + credits + div_ceil credits t ≤ shape.limit) (sym tags) fits);
-}
-
-pub started : (shape : Shape) (usable : ℕ) (a : Account) → usable ≤ 2147483646 → IsStart shape usable a → IsSound a
-started shape usable a small start =
-    let least : (s : Shadow) → s ≡ fresh → InLine s = λ s is. subst InLine (sym is) (record { tickets = tt; queued = refl; paired = refl; covered = tt }) in
-    record {
-      most = subst (λ (s : Shape). IsMost (geometry_of s) s.limit a.most) (sym start.same_shape) start.most;
-      order = rw (start.shadow) (omega arith);
-      within = rw (start.shadow) (omega arith);
-      running = λ _. least a.shadow start.shadow;
-      failed = still-up-not a.aborted start.aborted;
-      seats_few = subst (λ (s : Shadow). All (λ credits. credits ≤ a.most) (values_of s.seats)) (sym start.shadow) (All-nil (λ credits. credits ≤ a.most));
-      few = subst (λ (s : Shadow). All (λ credits. credits ≤ a.most) s.credits) (sym start.shadow) (All-nil (λ credits. credits ≤ a.most));
-      fits = subst (λ (s : Shadow). All (λ h. Fits a.shape h.words) s.queue) (sym start.shadow) (All-nil (λ h. Fits a.shape h.words));
-      room = rw (start.shadow) (omega arith);
-      small = rw (start.same_usable) small;
-      tickets = rw (start.shadow) (omega arith);
-      changed = rw (start.changes, start.granted, start.shadow) (omega arith);
-      granted = rw (start.granted) (omega arith);
-      counted = rw (start.shadow) (omega arith);
-      trail = rw (start.shadow, start.trail) refl;
-    }
-  where
-    still-up-not : {A : Type 0} (b : Bool) → b ≡ false → b ≡ true → A
-    still-up-not b lacks held = still-up b held lacks
-
--- ---- the seats
-
-module _ (es : List (ℕ × ℕ)) (seat : ℕ) where
-  -- without a seat, its credits are left over
-  pub sum-gone : (credits : ℕ) → lookup (is_at (nat_cmp seat)) es ≡ Some credits → sum (values_of (remove_entry (is_at (nat_cmp seat)) es)) + credits ≡ sum (values_of es)
-  sum-gone credits there =
-      let all = sum_by-remove_entry (λ (x : ℕ). x) (is_at (nat_cmp seat)) es in
-      let before : unwrap_or (option_map (λ (x : ℕ). x) (lookup (is_at (nat_cmp seat)) es)) 0 ≡ credits = ap (λ found. unwrap_or (option_map (λ (x : ℕ). x) found) 0) there in
-      omega (arith, all, before)
-
-  sum-less : sum (values_of (remove_entry (is_at (nat_cmp seat)) es)) ≤ sum (values_of es)
-  sum-less = let all = sum_by-remove_entry (λ (x : ℕ). x) (is_at (nat_cmp seat)) es in omega (arith, all)
-
-length-less : (test : ℕ → Bool) (es : List (ℕ × ℕ)) → length (remove_entry test es) ≤ length es
-length-less test [] = le_refl 0
-length-less test (e ∷ es) = at (test e.0) (length-less test es)
-  where
-    at : (b : Bool) → length (remove_entry test es) ≤ length es → length (cond b es (e ∷ remove_entry test es)) ≤ suc (length es)
-    at true rest = omega arith
-    at false rest = omega arith
+use Rattle.jb_desk.proofs.SeatCredits.{length-less, sum-gone, sum-less}
 
 -- ---- the calls
 

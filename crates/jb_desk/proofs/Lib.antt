@@ -3,4 +3,5 @@ pub mod Cuts
 pub mod Follows
 pub mod Keeping
 pub mod Rounds
+pub mod SeatCredits
 pub mod Shadows

@@ -3,7 +3,8 @@ use Rattle.std.specs.Map.{values_of}
 use Rattle.jb_desk.specs.Account.{dropped_of}
 use Rattle.jb_desk.specs.Book.{account_of}
 use Rattle.jb_desk.specs.Shadow.{credits_at}
-use Rattle.jb_desk.proofs.Accounts.{sum-gone, dropped-sound}
+use Rattle.jb_desk.proofs.Accounts.{dropped-sound}
+use Rattle.jb_desk.proofs.SeatCredits.{sum-gone}
 use Rattle.jb_desk.proofs.Keeping.{kept-by}
 use Rattle.jb_desk.proofs.book.Book.drop_open.Goals as goal
 

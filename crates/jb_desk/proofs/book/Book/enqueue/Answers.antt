@@ -7,7 +7,8 @@ use Rattle.jb_handle.specs.Handle.{changes_of}
 use Rattle.jb_desk.specs.Account.{Account, IsOpenFor, queued}
 use Rattle.jb_desk.specs.Book.{account_of}
 use Rattle.jb_desk.specs.Shadow.{credits_at}
-use Rattle.jb_desk.proofs.Accounts.{sum-gone, queued-sound}
+use Rattle.jb_desk.proofs.Accounts.{queued-sound}
+use Rattle.jb_desk.proofs.SeatCredits.{sum-gone}
 use Rattle.jb_desk.proofs.Keeping.{kept-by}
 use Rattle.jb_desk.proofs.book.Book.enqueue.Goals as goal
 
