@@ -6,6 +6,8 @@ mod batches;
 #[cfg(test)]
 mod cases;
 #[cfg(test)]
+mod changes;
+#[cfg(test)]
 mod commits;
 #[cfg(test)]
 mod contents;

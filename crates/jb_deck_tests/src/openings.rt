@@ -4,7 +4,6 @@ use crate::images::{BLOCKS, MAGIC, Row, difference, small};
 use jb_block::{BlockSize, Width};
 use jb_deck::{CheckpointFault, Deck, FreeFault, OpenFault};
 use jb_disk::MemoryDisk;
-use jb_recover::{renumber, widen};
 use jb_super::SuperFault;
 use std::alloc::Global;
 use std::test::Fail;
@@ -170,67 +169,6 @@ const REFUSED: [(&str, u64, &[Row], OpenFault); 14] = [
         OpenFault::Super(SuperFault::Feature { word: 2, bits: 8 }),
     ),
 ];
-
-/// A name, whether the journal is widened before it is opened, or renumbered; the rows of the small image that differ before,
-/// and the next number and the width after.
-const CHANGED: [(&str, bool, &[Row], (u64, Width)); 5] = [
-    (
-        "no number left, renumbered",
-        false,
-        &[
-            (0, 0x10, [33, 1, 4294967295, 0]),
-            (9, 0, [MAGIC, 1, 4294967295, 5]),
-            (32, 0, [MAGIC, 2, 4294967294, 0]),
-        ],
-        (1, Width::Narrow),
-    ),
-    (
-        "block numbers of 64 bits, renumbered",
-        false,
-        &[(0, 0x10, [33, 1, 4294967295, 0]), (0, 0x20, [0, 0, 3, 0])],
-        (1, Width::Wide),
-    ),
-    ("as it is made, renumbered", false, &[], (1, Width::Narrow)),
-    ("as it is made, widened", true, &[], (2, Width::Wide)),
-    (
-        "a narrow block of the log from before, widened",
-        true,
-        &[(0, 0x10, [33, 1, 7, 0]), (9, 0, [MAGIC, 1, 7, 5])],
-        (8, Width::Wide),
-    ),
-];
-
-/// The small image with these rows, its journal changed in its place.
-fn changed(alloc: Global, widens: bool, rows: &[Row]) -> Result<MemoryDisk, Fail> {
-    let mut disk = small(alloc, BLOCKS, rows, &[])?;
-    if widens {
-        widen(&mut disk)?;
-    } else {
-        renumber(&mut disk)?;
-    }
-    Ok(disk)
-}
-
-#[test]
-fn journals_that_were_changed_in_their_place_are_opened(rt: HostRuntime) -> Result<(), Fail> {
-    let alloc = rt.alloc();
-    for (name, widens, rows, told) in CHANGED {
-        let mut wanted = changed(alloc, widens, rows)?;
-        let Ok(deck) = Deck::open(alloc, changed(alloc, widens, rows)?) else {
-            assert!(rt; false, "{name} is not opened");
-            return Ok(());
-        };
-        let is = (deck.next_number(), deck.shape().width);
-        assert!(rt; is == told, "{name}");
-        let mut disk = deck.close();
-        assert_eq!(rt;
-            difference(alloc, &mut disk, &mut wanted, 0)?,
-            None,
-            "{name}"
-        );
-    }
-    Ok(())
-}
 
 #[test]
 fn journals_are_opened_as_worked_by_hand(rt: HostRuntime) -> Result<(), Fail> {
