@@ -1,10 +1,1 @@
-pub mod Change
-pub mod Dump
-pub mod Format
-pub mod Images
-pub mod Options
-pub mod Recover
-pub mod Runs
-pub mod Said
-pub mod Stops
-pub mod Texts
+pub mod Refused

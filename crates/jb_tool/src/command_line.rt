@@ -3,12 +3,12 @@ ghost use Rattle.jb_words.specs.Faults.{faults_in, kind_of};
 ghost use Rattle.jb_words.specs.Named.{asked_in};
 ghost use Rattle.jb_words.specs.Named.Asked.{AsksCost};
 ghost use Rattle.jb_io.specs.Puts.{PutsPart};
-ghost use Rattle.jb_tool.specs.Runs.{Closes, RefusesWords, Runs};
-ghost use Rattle.jb_tool.specs.Stops.{line_of};
-ghost use Rattle.jb_tool.specs.declared.stop.Stop.TheVariants.{Memory as StopMemory, WriteFault};
+ghost use Rattle.jb_plain.specs.Runs.{Closes, Runs};
+ghost use Rattle.jb_plain.specs.Stops.{line_of};
+ghost use Rattle.jb_plain.specs.declared.stop.Stop.TheVariants.{Memory as StopMemory, WriteFault};
+ghost use Rattle.jb_tool.specs.Refused.{RefusesWords};
 
-use crate::running::run_plain;
-use crate::stop::Stop;
+use jb_plain::{Stop, run_plain};
 use jb_words::{Error, ErrorKind, Plain, parse};
 use std::convert::AsStr;
 use std::fs::File;

@@ -1,0 +1,43 @@
+-- How `jb renumber` and `jb widen` end on a disk.
+use Rattle.std.specs.Prelude.{◌⊎◌, ◌≡◌, ℕ, if◌then◌else◌, List, [], ◌∷◌, Option, Result, Ok, Err, OnOk, codes, decimal}
+use Rattle.jb_disk.specs.Image.{Image, Only}
+use Rattle.jb_disk.specs.Kept.{Kept}
+use Rattle.jb_disk.specs.Time.{LeavesOnly}
+use Rattle.jb_io.specs.Parts.{spelled}
+use Rattle.jb_recover.specs.Changes.{ChangeFaults}
+use Rattle.jb_recover.specs.declared.change.ChangeFault.{ChangeFault}
+use Rattle.jb_recover.specs.declared.change.Renumbered.{Renumbered}
+use Rattle.jb_recover.specs.declared.change.Widened.{Widened}
+use Rattle.jb_plain.specs.Said.{TellsLine}
+use Rattle.jb_plain.specs.Stops.{change_stop}
+use Rattle.jb_plain.specs.declared.stop.Stop.{Stop}
+
+-- the line of a renumbering
+abbrev pub renumbered_line : Renumbered → List ℕ
+renumbered_line r =
+    spelled (codes "renumbered blocks " ∷ decimal r.blocks ∷ codes " next " ∷ decimal r.next ∷ codes "\n" ∷ [])
+
+-- the line of a widening: another one where the journal was wide before
+abbrev pub widened_line : Widened → List ℕ
+widened_line w =
+    spelled ((if w.changed then codes "widened limit " else codes "already wide limit ") ∷ decimal w.limit ∷ codes "\n" ∷ [])
+
+-- what a change answered is reported: its line, or its fault, and then nothing is written
+abbrev pub TellsChange : {T : Type 0} → (T → List ℕ) → Result T ChangeFault → Option (List ℕ) → Option (List ℕ) → Result ℕ Stop → Type 0
+TellsChange line (Ok done) held holds end = TellsLine (line done) held holds end
+TellsChange line (Err fault) held holds end = (end ≡ Err (change_stop fault)) × (holds ≡ held)
+
+-- a clean journal on the disk was changed, as the clauses of the change say of its answer, and that answer is reported: what the
+-- change does, which images a crash in its midst may leave, and which end in the same image where it is called again
+pub record ChangesOn {D T : Type 0} (size count faults : D → ℕ) (honest : D → Type 0) (newest : D → Image) (may_leave : D → Image → Type 0)
+    (moment : D → ℕ) (left_since : D → ℕ → Image → Type 0)
+    (Does : ℕ → ℕ → Image → Image → Result T ChangeFault → Type 0) (IsMidst EndsAlike : ℕ → ℕ → Image → Image → Type 0) (line : T → List ℕ)
+    (old new : D) (held holds : Option (List ℕ)) (end : Result ℕ Stop) : Type 0 where
+  pub answer : Result T ChangeFault
+  pub kept : Kept size count honest old new
+  pub fault_count : ChangeFaults answer (faults old) (faults new)
+  pub done : honest old → Does (size old) (count old) (newest old) (newest new) answer
+  pub crash : honest old → LeavesOnly moment left_since old new (λ c. may_leave old c ⊎ IsMidst (size old) (count old) (newest old) c)
+  pub again : honest old → EndsAlike (size old) (count old) (newest old) (newest new)
+  pub durable : honest old → OnOk answer (Only (newest new) (may_leave new))
+  pub told : TellsChange line answer held holds end

@@ -1,0 +1,29 @@
+-- How `jb dump` ends, over any reader, and over a file.
+use Rattle.std.specs.Prelude.{◌≡◌, ◌⊎◌, ℕ, List, Option, Result, Ok, Err}
+use Rattle.jb_dump.specs.Dumps.{Dumps}
+use Rattle.jb_dump.specs.declared.fault.DumpFault.{DumpFault}
+use Rattle.jb_plain.specs.Stops.{dump_stop}
+use Rattle.jb_plain.specs.declared.stop.Stop.{Stop}
+use Rattle.jb_plain.specs.declared.stop.Stop.TheVariants.{CannotRead, Memory}
+
+-- how a command ends by what a dump answers: a text that was written has status 0
+abbrev pub end_by : Result Unit DumpFault → Result ℕ Stop
+end_by (Ok done) = Ok 0
+end_by (Err fault) = Err (dump_stop fault)
+
+-- the journal of a reader was dumped to standard output, and the command ends by the answer
+abbrev pub DumpsOn : Option (List ℕ) → Option (List ℕ) → Option (List ℕ) → Option (List ℕ) → Result ℕ Stop → Type 0
+DumpsOn before after held holds end =
+    (dumped : Result Unit DumpFault) × (end ≡ end_by dumped) × Dumps before after held holds dumped
+
+-- the file of this name was not opened
+abbrev pub IsUnopened : List ℕ → Stop → Type 0
+IsUnopened name (CannotRead told) = told.now ≡ name
+IsUnopened name Memory = Unit {0}
+IsUnopened name _ = ⊥
+
+-- the journal of some bytes was dumped; or the file was not opened, and nothing was written
+abbrev pub DumpsFile : List ℕ → Option (List ℕ) → Option (List ℕ) → Result ℕ Stop → Type 0
+DumpsFile name held holds end =
+    ((before after : Option (List ℕ)) × DumpsOn before after held holds end)
+    ⊎ ((stop : Stop) × (end ≡ Err stop) × IsUnopened name stop × (holds ≡ held))

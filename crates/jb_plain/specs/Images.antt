@@ -1,0 +1,87 @@
+-- How the commands over images end over a file.
+use Rattle.std.specs.Prelude.{◌≡◌, ◌⊎◌, ℕ, List, [], Option, Result, Ok, Err}
+use Rattle.hex.specs.Hex.{decode_of}
+use Rattle.jb_block.specs.Size.{bytes_of}
+use Rattle.jb_disk.specs.File.{count_of, faults_of, size_of}
+use Rattle.jb_disk.specs.declared.file.FileDisk.{FileDisk}
+use Rattle.jb_disk.specs.Image.{Image}
+use Rattle.jb_recover.specs.declared.change.ChangeFault.{ChangeFault}
+use Rattle.jb_recover.specs.Renumbering.{IsRenumbering, Renumbers, RenumbersAs}
+use Rattle.jb_recover.specs.Widening.{IsWidened, Widens, WidensAs}
+use Rattle.jb_super.specs.Faults.{super_in}
+use Rattle.jb_super.specs.Superblock.{Superblock}
+use Rattle.jb_words.specs.Named.{Options}
+use Rattle.jb_plain.specs.Change.{ChangesOn, renumbered_line, widened_line}
+use Rattle.jb_plain.specs.Format.{FormatsOn}
+use Rattle.jb_plain.specs.Options.{AreGood}
+use Rattle.jb_plain.specs.Recover.{RecoversOn}
+use Rattle.jb_plain.specs.declared.stop.Stop.{Stop}
+use Rattle.jb_plain.specs.declared.stop.Stop.TheVariants.{BadOption, CannotMake, CannotRead, Memory, Super}
+
+-- the file of this name was not made: an option is bad, or none is and the system refuses the file
+abbrev pub IsUnmade : List ℕ → Options → Stop → Type 0
+IsUnmade name o BadOption = AreGood o → ⊥
+IsUnmade name o (CannotMake told) = AreGood o × (told.now ≡ name)
+IsUnmade name o Memory = AreGood o
+IsUnmade name o _ = ⊥
+
+-- the journal that the options ask for was made at the front of a file with their block size. No clause says what a file
+-- holds: of its content nothing follows
+pub record FormatsFile (o : Options) (held holds : Option (List ℕ)) (end : Result ℕ Stop) : Type 0 where
+  pub old : FileDisk
+  pub new : FileDisk
+  pub uuid : List ℕ
+  pub size : bytes_of (size_of old) ≡ o.bs
+  pub digits : decode_of o.uuid ≡ Ok uuid
+  pub formats : FormatsOn (λ (f : FileDisk). bytes_of (size_of f)) count_of faults_of (λ _. ⊥) (λ _. []) (λ _ _. ⊥) o.journal o.max uuid o.wide old new held holds end
+
+-- the file was not made, and nothing was done; or the journal was made in it, and the answer is reported
+abbrev pub EndsOfFormat : List ℕ → Options → Option (List ℕ) → Option (List ℕ) → Result ℕ Stop → Type 0
+EndsOfFormat name o held holds end =
+    ((stop : Stop) × (end ≡ Err stop) × IsUnmade name o stop × (holds ≡ held)) ⊎ (AreGood o × FormatsFile o held holds end)
+
+-- the image of this name was not read, or its first bytes are refused as a superblock
+abbrev pub IsUnread : List ℕ → Stop → Type 0
+IsUnread name (CannotRead told) = told.now ≡ name
+IsUnread name (Super fault) = (front : List ℕ) × (super_in front ≡ Err fault)
+IsUnread name Memory = Unit {0}
+IsUnread name _ = ⊥
+
+-- some first bytes are a superblock, which says this block size
+abbrev pub SaysSize : ℕ → Type 0
+SaysSize size = (front : List ℕ) × (sb : Superblock) × (super_in front ≡ Ok sb) × (size ≡ sb.block_size)
+
+-- a file was recovered, in blocks of the size that its first bytes say. No clause says what a file holds: of its content
+-- nothing follows
+pub record RecoversFile (held holds : Option (List ℕ)) (end : Result ℕ Stop) : Type 0 where
+  pub old : FileDisk
+  pub new : FileDisk
+  pub size : SaysSize (bytes_of (size_of old))
+  pub recovers : RecoversOn (λ (f : FileDisk). bytes_of (size_of f)) count_of faults_of (λ _. ⊥) (λ _. []) (λ _ _. ⊥) (λ _. 0) (λ _ _ _. ⊥) old new held holds end
+
+-- the image was not read, and nothing was done; or it was recovered, and the answer is reported
+abbrev pub EndsOfRecover : List ℕ → Option (List ℕ) → Option (List ℕ) → Result ℕ Stop → Type 0
+EndsOfRecover name held holds end =
+    ((stop : Stop) × (end ≡ Err stop) × IsUnread name stop × (holds ≡ held)) ⊎ RecoversFile held holds end
+
+-- the clean journal in a file was changed, in blocks of the size that its first bytes say. No clause says what a file holds: of
+-- its content nothing follows
+pub record ChangesFile {T : Type 0} (Does : ℕ → ℕ → Image → Image → Result T ChangeFault → Type 0) (IsMidst EndsAlike : ℕ → ℕ → Image → Image → Type 0)
+    (line : T → List ℕ) (held holds : Option (List ℕ)) (end : Result ℕ Stop) : Type 0 where
+  pub old : FileDisk
+  pub new : FileDisk
+  pub size : SaysSize (bytes_of (size_of old))
+  pub changes : ChangesOn (λ (f : FileDisk). bytes_of (size_of f)) count_of faults_of (λ _. ⊥) (λ _. []) (λ _ _. ⊥) (λ _. 0) (λ _ _ _. ⊥)
+      Does IsMidst EndsAlike line old new held holds end
+
+-- the image was not read, and nothing was done; or its journal was given its first number again, and the answer is reported
+abbrev pub EndsOfRenumber : List ℕ → Option (List ℕ) → Option (List ℕ) → Result ℕ Stop → Type 0
+EndsOfRenumber name held holds end =
+    ((stop : Stop) × (end ≡ Err stop) × IsUnread name stop × (holds ≡ held))
+    ⊎ ChangesFile Renumbers IsRenumbering RenumbersAs renumbered_line held holds end
+
+-- the image was not read, and nothing was done; or its journal was given block numbers of 64 bits, and the answer is reported
+abbrev pub EndsOfWiden : List ℕ → Option (List ℕ) → Option (List ℕ) → Result ℕ Stop → Type 0
+EndsOfWiden name held holds end =
+    ((stop : Stop) × (end ≡ Err stop) × IsUnread name stop × (holds ≡ held))
+    ⊎ ChangesFile Widens IsWidened WidensAs widened_line held holds end

@@ -1,0 +1,26 @@
+-- When the options of `jb format` are good, and which image they ask for.
+use Rattle.std.specs.Prelude.{◌≡◌, ◌+◌, ◌*◌, ◌^◌, ◌<◌, length, Ok}
+use Rattle.std.specs.List.{AllPass}
+use Rattle.hex.specs.Hex.{decode_of, is_hex_digit}
+use Rattle.jb_block.specs.Size.{bytes_of, IsBlockSize}
+use Rattle.jb_block.specs.Width.{is_wide}
+use Rattle.jb_words.specs.Named.{Options}
+use Rattle.jb_plain.specs.declared.options.NewImage.{NewImage}
+
+-- one of the three block sizes, numbers that fit their fields, a UUID of 32 hexadecimal digits, and a length that a file
+-- may have
+pub record AreGood (o : Options) : Type 0 where
+  pub size : IsBlockSize o.bs
+  pub journal : o.journal < 2 ^ 32
+  pub max : o.max < 2 ^ 32
+  pub uuid : (length o.uuid ≡ 32) × AllPass is_hex_digit o.uuid
+  pub len : (o.journal + o.homes) * o.bs < 2 ^ 63
+
+-- the image that the options ask for
+pub record IsAskedBy (o : Options) (image : NewImage) : Type 0 where
+  pub size : bytes_of image.size ≡ o.bs
+  pub journal : image.journal ≡ o.journal
+  pub max : image.max ≡ o.max
+  pub uuid : decode_of o.uuid ≡ Ok image.uuid
+  pub width : is_wide image.width ≡ o.wide
+  pub len : image.len ≡ (o.journal + o.homes) * o.bs

@@ -1,0 +1,38 @@
+-- How `jb recover` ends on a disk.
+use Rattle.std.specs.Prelude.{◌≡◌, ◌⊎◌, ℕ, List, [], ◌∷◌, Option, Result, Ok, Err, OnOk, codes, decimal}
+use Rattle.jb_disk.specs.Image.{Image, Only}
+use Rattle.jb_disk.specs.Kept.{Kept}
+use Rattle.jb_disk.specs.Time.{LeavesOnly}
+use Rattle.jb_io.specs.Parts.{spelled}
+use Rattle.jb_recover.specs.Outcomes.{RecoversAs}
+use Rattle.jb_recover.specs.Passes.{PassFaults}
+use Rattle.jb_recover.specs.Recovers.{Recovers}
+use Rattle.jb_recover.specs.declared.fault.RecoverFault.{RecoverFault}
+use Rattle.jb_recover.specs.declared.recovered.Recovered.{Recovered}
+use Rattle.jb_plain.specs.Said.{TellsLine}
+use Rattle.jb_plain.specs.Stops.{recover_stop}
+use Rattle.jb_plain.specs.declared.stop.Stop.{Stop}
+
+-- the line of a recovery
+abbrev pub recovered_line : Recovered → List ℕ
+recovered_line r = spelled (
+    codes "transactions " ∷ decimal r.transactions ∷ codes " copies " ∷ decimal r.copies ∷ codes " revoked " ∷ decimal r.revoked
+    ∷ codes " next " ∷ decimal r.next ∷ codes "\n" ∷ [])
+
+-- what a recovery answered is reported: its line, or its fault, and then nothing is written
+abbrev pub TellsRecovery : Result Recovered RecoverFault → Option (List ℕ) → Option (List ℕ) → Result ℕ Stop → Type 0
+TellsRecovery (Ok done) held holds end = TellsLine (recovered_line done) held holds end
+TellsRecovery (Err fault) held holds end = (end ≡ Err (recover_stop fault)) × (holds ≡ held)
+
+-- the disk was recovered, as the clauses of the recovery say of its answer, and that answer is reported. A crash in its midst, or what
+-- it leaves after a fault, recovers to the image that the disk's content recovers to
+pub record RecoversOn {D : Type 0} (size count faults : D → ℕ) (honest : D → Type 0) (newest : D → Image) (may_leave : D → Image → Type 0)
+    (moment : D → ℕ) (left_since : D → ℕ → Image → Type 0) (old new : D) (held holds : Option (List ℕ)) (end : Result ℕ Stop) : Type 0 where
+  pub answer : Result Recovered RecoverFault
+  pub kept : Kept size count honest old new
+  pub fault_count : PassFaults answer (faults old) (faults new)
+  pub recovers : honest old → Recovers (size old) (count old) (newest old) (newest new) answer
+  pub crash : honest old → LeavesOnly moment left_since old new (λ c. may_leave old c ⊎ RecoversAs (size old) (count old) (newest old) c)
+  pub again : honest old → RecoversAs (size old) (count old) (newest old) (newest new)
+  pub durable : honest old → OnOk answer (Only (newest new) (may_leave new))
+  pub told : TellsRecovery answer held holds end

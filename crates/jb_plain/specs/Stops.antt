@@ -1,0 +1,90 @@
+-- The status and the line of each way in which a command ends without an answer, and which faults end it so.
+use Rattle.std.specs.Prelude.{ℕ, List, [], ◌∷◌, codes, decimal}
+use Rattle.jb_io.specs.Parts.{spelled}
+use Rattle.jb_dump.specs.declared.fault.DumpFault.{DumpFault}
+use Rattle.jb_dump.specs.declared.fault.DumpFault.TheVariants as dumping
+use Rattle.jb_recover.specs.declared.change.ChangeFault.{ChangeFault}
+use Rattle.jb_recover.specs.declared.change.ChangeFault.TheVariants as changing
+use Rattle.jb_recover.specs.declared.fault.FormatFault.{FormatFault}
+use Rattle.jb_recover.specs.declared.fault.FormatFault.TheVariants as formatting
+use Rattle.jb_recover.specs.declared.fault.RecoverFault.{RecoverFault}
+use Rattle.jb_recover.specs.declared.fault.RecoverFault.TheVariants as recovering
+use Rattle.jb_super.specs.declared.fault.SuperFault.{SuperFault}
+use Rattle.jb_super.specs.declared.fault.SuperFault.TheVariants as super
+use Rattle.jb_plain.specs.declared.stop.Stop.{Stop}
+use Rattle.jb_plain.specs.declared.stop.Stop.TheVariants.{CannotRead, CannotMake, BadOption, TooLong, ReadFault, Super, BadRevoke, HomeOutOfRange, NeedsRecovery, Geometry, DeviceFault, Memory, WriteFault}
+
+-- the exit status
+abbrev pub status_of : Stop → ℕ
+status_of (CannotRead name) = 2
+status_of (CannotMake name) = 2
+status_of BadOption = 2
+status_of (TooLong name) = 2
+status_of ReadFault = 1
+status_of (Super fault) = 1
+status_of (BadRevoke place) = 1
+status_of (HomeOutOfRange home number) = 1
+status_of NeedsRecovery = 1
+status_of Geometry = 1
+status_of DeviceFault = 1
+status_of Memory = 1
+status_of WriteFault = 1
+
+-- the line of a superblock that is refused: the fault's name and its numbers; of a feature word, 1, 2 or 3, those of its
+-- bits that are not taken
+abbrev pub super_line : SuperFault → List ℕ
+super_line super.ShortBlock = spelled (codes "jb: Super ShortBlock\n" ∷ [])
+super_line super.NoMagic = spelled (codes "jb: Super NoMagic\n" ∷ [])
+super_line (super.NotVersion2 kind) = spelled (codes "jb: Super NotVersion2 " ∷ decimal kind ∷ codes "\n" ∷ [])
+super_line (super.BlockSize size) = spelled (codes "jb: Super BlockSize " ∷ decimal size ∷ codes "\n" ∷ [])
+super_line super.Geometry = spelled (codes "jb: Super Geometry\n" ∷ [])
+super_line (super.Feature word bits) =
+    spelled (codes "jb: Super Feature " ∷ decimal word ∷ codes " " ∷ decimal bits ∷ codes "\n" ∷ [])
+
+-- the line on standard error
+abbrev pub line_of : Stop → List ℕ
+line_of (CannotRead name) = spelled (codes "jb: cannot read " ∷ name.now ∷ codes "\n" ∷ [])
+line_of (CannotMake name) = spelled (codes "jb: cannot make " ∷ name.now ∷ codes "\n" ∷ [])
+line_of BadOption = spelled (codes "jb: bad option\n" ∷ [])
+line_of (TooLong name) = spelled (codes "jb: too long " ∷ name.now ∷ codes "\n" ∷ [])
+line_of ReadFault = spelled (codes "jb: ReadFault\n" ∷ [])
+line_of (Super fault) = super_line fault
+line_of (BadRevoke place) = spelled (codes "jb: BadRevoke " ∷ decimal place ∷ codes "\n" ∷ [])
+line_of (HomeOutOfRange home number) =
+    spelled (codes "jb: HomeOutOfRange " ∷ decimal home ∷ codes " " ∷ decimal number ∷ codes "\n" ∷ [])
+line_of NeedsRecovery = spelled (codes "jb: NeedsRecovery\n" ∷ [])
+line_of Geometry = spelled (codes "jb: Geometry\n" ∷ [])
+line_of DeviceFault = spelled (codes "jb: DeviceFault\n" ∷ [])
+line_of Memory = spelled (codes "jb: Memory\n" ∷ [])
+line_of WriteFault = spelled (codes "jb: WriteFault\n" ∷ [])
+
+-- the line for a word of the command line that is not UTF-8
+abbrev pub not_utf8 : List ℕ
+not_utf8 = spelled (codes "error: invalid UTF-8 was detected in one or more arguments\n" ∷ [])
+
+-- the stop that a fault of a dump is reported as
+abbrev pub dump_stop : DumpFault → Stop
+dump_stop dumping.ReadFault = ReadFault
+dump_stop dumping.WriteFault = WriteFault
+dump_stop (dumping.Super fault) = Super fault
+dump_stop (dumping.BadRevoke place) = BadRevoke place
+dump_stop dumping.Memory = Memory
+
+-- the stop that a fault of making a journal is reported as
+abbrev pub format_stop : FormatFault → Stop
+format_stop formatting.DeviceFault = DeviceFault
+format_stop formatting.Geometry = Geometry
+
+-- the stop that a fault of a recovery is reported as
+abbrev pub recover_stop : RecoverFault → Stop
+recover_stop recovering.DeviceFault = DeviceFault
+recover_stop (recovering.Super fault) = Super fault
+recover_stop (recovering.BadRevoke place) = BadRevoke place
+recover_stop (recovering.HomeOutOfRange home number) = HomeOutOfRange home number
+recover_stop recovering.Memory = Memory
+
+-- the stop that a fault of a change of a clean journal is reported as
+abbrev pub change_stop : ChangeFault → Stop
+change_stop changing.DeviceFault = DeviceFault
+change_stop (changing.Super fault) = Super fault
+change_stop changing.NeedsRecovery = NeedsRecovery

@@ -1,0 +1,46 @@
+ghost use Rattle.std.specs.Prelude.{IfErr, IfOk, None};
+ghost use Rattle.jb_plain.specs.Texts.{HasNoText, IsText, known_behind};
+
+use crate::stop::Stop;
+use crate::streams::read_as;
+use std::fs::File;
+use std::io::{ErrorKind, Read};
+use std::rt::Files;
+
+/// The text of the file of this name; `-` is standard input.
+///
+/// # Errors
+/// As those of `read_file`.
+pub(crate) fn read_text<'a, R: Files + AllocGlobal, I: Read>(
+    rt: &R,
+    name: &'a str,
+    input: &mut I,
+) -> Result<Vec<u8>, Stop<'a>>
+    ensures text { IfOk result (λ text. IsText (known_behind name.entry.now (I.remaining input.old)) text.items) }
+    ensures none { IfErr result (HasNoText name.entry.now (known_behind name.entry.now (I.remaining input.old))) }
+{
+    if name == "-" {
+        read_as(rt.alloc(), input, name)
+    } else {
+        read_file(rt, name)
+    }
+}
+
+/// The text of the file of this name.
+///
+/// # Errors
+/// `Stop::CannotRead` where the file cannot be opened or read, `Stop::TooLong` where it has more than `TEXT_LIMIT`
+/// bytes, `Stop::Memory` where memory ran out.
+pub(crate) fn read_file<'a, R: Files + AllocGlobal>(
+    rt: &R,
+    name: &'a str,
+) -> Result<Vec<u8>, Stop<'a>>
+    ensures text { IfOk result (λ text. IsText None text.items) }
+    ensures none { IfErr result (HasNoText name.entry.now None) }
+{
+    match File::open(rt, name) {
+        Ok(mut file) => read_as(rt.alloc(), &mut file, name),
+        Err(error) if error.kind() == ErrorKind::OutOfMemory => Err(Stop::Memory),
+        Err(_) => Err(Stop::CannotRead(name)),
+    }
+}

@@ -1,0 +1,15 @@
+//! The commands of `jb` that need no threads, over a runtime, an input and two outputs.
+#![tactic(auto)]
+
+mod files;
+mod options;
+mod running;
+mod stop;
+mod streams;
+
+pub use jb_words::Plain;
+pub use running::{perform, run_plain};
+pub use stop::Stop;
+pub use streams::{
+    TEXT_LIMIT, dump_from, format_on, recover_on, refuse_words, renumber_on, widen_on,
+};

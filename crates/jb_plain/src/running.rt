@@ -1,0 +1,98 @@
+ghost use Rattle.std.specs.Prelude.{ℕ};
+ghost use Rattle.jb_words.specs.Named.{asks};
+ghost use Rattle.jb_answers.specs.Check.{CheckSays};
+ghost use Rattle.jb_plain.specs.Runs.{EndsAsked, EndsOfTwo, Runs};
+
+use crate::files::{
+    dump_file, format_image, read_file, read_text, recover_image, renumber_image, widen_image,
+};
+use crate::stop::Stop;
+use crate::streams::tell;
+use jb_answers::{check_answer, cost_answer, fault_answer, plan_answer};
+use jb_queue::read_queue;
+use jb_words::Plain;
+use std::fs::File;
+use std::io::{Read, Write};
+use std::rt::Files;
+
+/// Runs a command: reads its files, or `input` for `-`, and writes what it has to say.
+///
+/// # Errors
+/// The reason where the command ends without an answer; nothing was written then, but for `Stop::WriteFault`.
+pub fn perform<'a, R: Files<File = File> + AllocGlobal, I: Read, O: Write, E: Write>(
+    rt: &R,
+    plain: Plain<'a>,
+    input: &mut I,
+    out: &mut O,
+    err: &mut E,
+) -> Result<u8, Stop<'a>>
+    ensures ends { EndsAsked (asks plain.entry) (I.remaining input.old)
+        (record { out = O.contents out.old; err = E.contents err.old })
+        (record { out = O.contents out.new; err = E.contents err.new }) result }
+{
+    match plain {
+        Plain::Cost { file } => {
+            let text = read_text(rt, file, input)?;
+            let answer = cost_answer(rt.alloc(), text.as_slice())?;
+            tell(&answer, out, err)
+        }
+        Plain::Plan { file } => {
+            let text = read_text(rt, file, input)?;
+            let answer = plan_answer(rt.alloc(), text.as_slice())?;
+            tell(&answer, out, err)
+        }
+        Plain::Check { file, cert } => perform_check(rt, file, cert, out, err),
+        Plain::Dump { file } => dump_file(rt, file, out),
+        Plain::Format { image, options } => format_image(rt, image, options, out),
+        Plain::Recover { image } => recover_image(rt, image, out),
+        Plain::Renumber { image } => renumber_image(rt, image, out),
+        Plain::Widen { image } => widen_image(rt, image, out),
+    }
+}
+
+/// Runs `jb check`: the second file is opened where the first is the text of a queue.
+fn perform_check<'a, R: Files + AllocGlobal, O: Write, E: Write>(
+    rt: &R,
+    file: &'a str,
+    cert: &'a str,
+    out: &mut O,
+    err: &mut E,
+) -> Result<u8, Stop<'a>>
+    ensures ends { EndsOfTwo CheckSays file.entry.now cert.entry.now
+        (record { out = O.contents out.old; err = E.contents err.old })
+        (record { out = O.contents out.new; err = E.contents err.new }) result }
+{
+    let text = read_file(rt, file)?;
+    match read_queue(rt.alloc(), text.as_slice()) {
+        Ok(queue) => {
+            let claim = read_file(rt, cert)?;
+            let answer = check_answer(rt.alloc(), &queue, claim.as_slice())?;
+            tell(&answer, out, err)
+        }
+        Err(fault) => {
+            let answer = fault_answer(rt.alloc(), fault)?;
+            tell(&answer, out, err)
+        }
+    }
+}
+
+/// Runs a command and gives the program's exit status; a command that ends without an answer has its line on `err`.
+pub fn run_plain<R: Files<File = File> + AllocGlobal, I: Read, O: Write, E: Write>(
+    rt: &R,
+    plain: Plain<'_>,
+    input: &mut I,
+    out: &mut O,
+    err: &mut E,
+) -> u8
+    ensures runs { Runs (asks plain.entry) (I.remaining input.old)
+        (record { out = O.contents out.old; err = E.contents err.old })
+        (record { out = O.contents out.new; err = E.contents err.new }) result }
+{
+    match perform(rt, plain, input, out, err) {
+        Ok(status) => status,
+        Err(stop) => {
+            stop.tell(err);
+            stop.status()
+        }
+    }
+}

@@ -1,0 +1,64 @@
+ghost use Rattle.jb_recover.specs.Renumbering.{IsRenumbering, Renumbers, RenumbersAs};
+ghost use Rattle.jb_recover.specs.Widening.{IsWidened, Widens, WidensAs};
+ghost use Rattle.jb_plain.specs.Change.{ChangesOn, renumbered_line, widened_line};
+ghost use Rattle.jb_plain.specs.Said.{TellsLine};
+
+use crate::stop::Stop;
+use crate::streams::telling::tell_line;
+use itoa::Buffer;
+use jb_disk::Disk;
+use jb_recover::{Renumbered, Widened, renumber, widen};
+use std::io::Write;
+
+/// Gives the clean journal at the front of a disk its first number again. Tells how many blocks of its log became zeros and
+/// the number of the next transaction, and gives status 0. No memory is taken.
+///
+/// # Errors
+/// `Stop::Super` where the superblock is refused, and `Stop::NeedsRecovery` where the log is not clean: the disk is as it was;
+/// `Stop::DeviceFault` where a call of the disk failed: it is to be called again; `Stop::WriteFault` where `out` took only the
+/// beginning of the line, after a renumbering that is done. But for the last nothing was written to `out`.
+pub fn renumber_on<'a, D: Disk, O: Write>(disk: &mut D, out: &mut O) -> Result<u8, Stop<'a>>
+    ensures renumbers { ChangesOn D.size D.count D.faults D.honest D.newest D.may_leave D.moment D.left_since
+        Renumbers IsRenumbering RenumbersAs renumbered_line disk.old disk.new (O.contents out.old) (O.contents out.new) result }
+{
+    match renumber(disk) {
+        Ok(done) => tell_renumbered(done, out),
+        Err(fault) => Err(Stop::from(fault)),
+    }
+}
+
+/// Gives the clean journal at the front of a disk block numbers of 64 bits, where it has them not. Tells whether it had, with
+/// the most log blocks of a transaction, and gives status 0. No memory is taken.
+///
+/// # Errors
+/// As those of `renumber_on`.
+pub fn widen_on<'a, D: Disk, O: Write>(disk: &mut D, out: &mut O) -> Result<u8, Stop<'a>>
+    ensures widens { ChangesOn D.size D.count D.faults D.honest D.newest D.may_leave D.moment D.left_since
+        Widens IsWidened WidensAs widened_line disk.old disk.new (O.contents out.old) (O.contents out.new) result }
+{
+    match widen(disk) {
+        Ok(done) => tell_widened(done, out),
+        Err(fault) => Err(Stop::from(fault)),
+    }
+}
+
+/// Writes the line of a renumbering.
+fn tell_renumbered<'a, O: Write>(done: Renumbered, out: &mut O) -> Result<u8, Stop<'a>>
+    ensures { TellsLine (renumbered_line done) (O.contents out.old) (O.contents out.new) result }
+{
+    let (mut blocks, mut next) = (Buffer::new(), Buffer::new());
+    let (blocks, next) = (blocks.format(done.blocks), next.format(done.next));
+    tell_line(out, &["renumbered blocks ", blocks, " next ", next, "\n"])
+}
+
+/// Writes the line of a widening.
+fn tell_widened<'a, O: Write>(done: Widened, out: &mut O) -> Result<u8, Stop<'a>>
+    ensures { TellsLine (widened_line done) (O.contents out.old) (O.contents out.new) result }
+{
+    let mut digits = Buffer::new();
+    let limit = digits.format(done.limit);
+    if done.changed {
+        return tell_line(out, &["widened limit ", limit, "\n"]);
+    }
+    tell_line(out, &["already wide limit ", limit, "\n"])
+}

@@ -1,0 +1,53 @@
+ghost use Rattle.jb_plain.specs.Recover.{RecoversOn, recovered_line};
+ghost use Rattle.jb_plain.specs.Said.{TellsLine};
+
+use crate::stop::Stop;
+use crate::streams::telling::tell_line;
+use itoa::Buffer;
+use jb_disk::Disk;
+use jb_recover::{Recovered, recover};
+use std::alloc::Global;
+use std::io::Write;
+
+/// Recovers the journal at the front of a disk: the home blocks after it are written as its committed transactions say, and
+/// its log is emptied. Tells how many transactions there were, how many copies were written and how many are revoked, and
+/// the number of the next transaction, and gives status 0. Only the recovery takes memory.
+///
+/// # Errors
+/// `Stop::Super`, `Stop::BadRevoke` and `Stop::HomeOutOfRange` where the disk is refused, and `Stop::Memory` where a growth
+/// was refused: the disk is as it was; `Stop::DeviceFault` where a call of the disk failed: recovery is to be called again;
+/// `Stop::WriteFault` where `out` took only the beginning of the line, after a recovery that is done. But for the last
+/// nothing was written to `out`.
+pub fn recover_on<'a, D: Disk, O: Write>(
+    alloc: Global,
+    disk: &mut D,
+    out: &mut O,
+) -> Result<u8, Stop<'a>>
+    ensures recovers { RecoversOn D.size D.count D.faults D.honest D.newest D.may_leave D.moment D.left_since disk.old disk.new
+        (O.contents out.old) (O.contents out.new) result }
+{
+    match recover(alloc, disk) {
+        Ok(done) => tell_recovered(done, out),
+        Err(fault) => Err(Stop::from(fault)),
+    }
+}
+
+/// Writes the line of a recovery.
+fn tell_recovered<'a, O: Write>(done: Recovered, out: &mut O) -> Result<u8, Stop<'a>>
+    ensures { TellsLine (recovered_line done) (O.contents out.old) (O.contents out.new) result }
+{
+    let (mut transactions, mut copies) = (Buffer::new(), Buffer::new());
+    let (mut revoked, mut next) = (Buffer::new(), Buffer::new());
+    let line = [
+        "transactions ",
+        transactions.format(done.transactions),
+        " copies ",
+        copies.format(done.copies),
+        " revoked ",
+        revoked.format(done.revoked),
+        " next ",
+        next.format(done.next),
+        "\n",
+    ];
+    tell_line(out, &line)
+}

@@ -1,0 +1,24 @@
+ghost use Rattle.std.specs.Prelude.{◌≡◌, ◌≢◌};
+ghost use Rattle.jb_io.specs.Puts.{PutsPart};
+ghost use Rattle.jb_plain.specs.Stops.{line_of, not_utf8};
+ghost use Rattle.jb_plain.specs.declared.stop.Stop.TheVariants.{Memory};
+
+use crate::stop::Stop;
+use crate::streams::putting::put_line;
+use std::io::{ErrorKind, Write};
+
+/// Answers words that the system could not hand over: a word that is not UTF-8, or out of memory. Gives the exit status.
+pub fn refuse_words<E: Write>(kind: ErrorKind, err: &mut E) -> u8
+    ensures text { kind ≡ ErrorKind.InvalidData → (result ≡ 2) × PutsPart (E.contents err.old) (E.contents err.new) not_utf8 }
+    ensures memory { kind ≢ ErrorKind.InvalidData → (result ≡ 1) × PutsPart (E.contents err.old) (E.contents err.new) (line_of Memory) }
+{
+    if kind == ErrorKind::InvalidData {
+        put_line(
+            err,
+            &["error: invalid UTF-8 was detected in one or more arguments\n"],
+        );
+        return 2;
+    }
+    Stop::Memory.tell(err);
+    Stop::Memory.status()
+}

@@ -1,0 +1,67 @@
+//! The line of each `Stop`.
+ghost use Rattle.std.specs.Prelude.{decimal};
+ghost use Rattle.jb_io.specs.Puts.{PutsPart};
+ghost use Rattle.jb_plain.specs.Stops.{super_line};
+
+use crate::stop::Stop;
+use crate::streams::putting::put_line;
+use itoa::Buffer;
+use jb_super::SuperFault;
+use std::io::Write;
+
+impl<'a> Stop<'a> {
+    ghost use Rattle.jb_io.specs.Puts.{PutsPart};
+    ghost use Rattle.jb_plain.specs.Stops.{line_of};
+
+    /// Writes the line that says why, without taking memory; a fault of the writer is ignored.
+    pub fn tell<E: Write>(self, err: &mut E)
+        ensures { PutsPart (E.contents err.old) (E.contents err.new) (line_of self.entry) }
+    {
+        let (mut first, mut second) = (Buffer::new(), Buffer::new());
+        match self {
+            Stop::CannotRead(name) => put_line(err, &["jb: cannot read ", name, "\n"]),
+            Stop::TooLong(name) => put_line(err, &["jb: too long ", name, "\n"]),
+            Stop::CannotMake(name) => put_line(err, &["jb: cannot make ", name, "\n"]),
+            Stop::BadOption => put_line(err, &["jb: bad option\n"]),
+            Stop::ReadFault => put_line(err, &["jb: ReadFault\n"]),
+            Stop::Super(fault) => put_super_line(err, fault),
+            Stop::BadRevoke(place) => {
+                put_line(err, &["jb: BadRevoke ", first.format(place), "\n"]);
+            }
+            Stop::HomeOutOfRange(home, number) => {
+                let (home, number) = (first.format(home), second.format(number));
+                put_line(err, &["jb: HomeOutOfRange ", home, " ", number, "\n"]);
+            }
+            Stop::NeedsRecovery => put_line(err, &["jb: NeedsRecovery\n"]),
+            Stop::Geometry => put_line(err, &["jb: Geometry\n"]),
+            Stop::DeviceFault => put_line(err, &["jb: DeviceFault\n"]),
+            Stop::Memory => put_line(err, &["jb: Memory\n"]),
+            Stop::WriteFault => put_line(err, &["jb: WriteFault\n"]),
+        }
+    }
+}
+
+/// Writes the line of a superblock that is refused.
+fn put_super_line<W: Write>(writer: &mut W, fault: SuperFault)
+    ensures puts { PutsPart (W.contents writer.old) (W.contents writer.new) (super_line fault) }
+{
+    let (mut first, mut second) = (Buffer::new(), Buffer::new());
+    match fault {
+        SuperFault::ShortBlock => put_line(writer, &["jb: Super ShortBlock\n"]),
+        SuperFault::NoMagic => put_line(writer, &["jb: Super NoMagic\n"]),
+        SuperFault::NotVersion2(kind) => {
+            put_line(
+                writer,
+                &["jb: Super NotVersion2 ", first.format(kind), "\n"],
+            );
+        }
+        SuperFault::BlockSize(size) => {
+            put_line(writer, &["jb: Super BlockSize ", first.format(size), "\n"]);
+        }
+        SuperFault::Geometry => put_line(writer, &["jb: Super Geometry\n"]),
+        SuperFault::Feature { word, bits } => {
+            let (word, bits) = (first.format(word), second.format(bits));
+            put_line(writer, &["jb: Super Feature ", word, " ", bits, "\n"]);
+        }
+    }
+}

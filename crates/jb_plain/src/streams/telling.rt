@@ -1,0 +1,43 @@
+ghost use Rattle.std.specs.Prelude.{map};
+ghost use Rattle.jb_io.specs.Parts.{spelled};
+ghost use Rattle.jb_answers.specs.Said.{said};
+ghost use Rattle.jb_plain.specs.Said.{Tells, TellsLine};
+
+use crate::stop::Stop;
+use jb_answers::Answer;
+use jb_io::{put, put_parts};
+use std::io::Write;
+
+/// Writes an answer and gives its status. A fault of standard error is ignored.
+///
+/// # Errors
+/// `Stop::WriteFault` where standard output took only the beginning of its text.
+pub(crate) fn tell<'a, O: Write, E: Write>(
+    answer: &Answer,
+    out: &mut O,
+    err: &mut E,
+) -> Result<u8, Stop<'a>>
+    ensures { Tells (said answer.now) (record { out = O.contents out.old; err = E.contents err.old })
+        (record { out = O.contents out.new; err = E.contents err.new }) result }
+{
+    match put(out, answer.out.as_bytes()) {
+        Ok(()) => {
+            let _ignored = put(err, answer.err.as_bytes());
+            Ok(answer.status)
+        }
+        Err(_) => Err(Stop::WriteFault),
+    }
+}
+
+/// Writes the line of a command that has done its work, part by part and without memory, and gives status 0.
+///
+/// # Errors
+/// `Stop::WriteFault` where the writer took only the beginning of the line.
+pub(crate) fn tell_line<'a, O: Write>(out: &mut O, parts: &[&str]) -> Result<u8, Stop<'a>>
+    ensures { TellsLine (spelled (map (λ part. part.now) parts.now)) (O.contents out.old) (O.contents out.new) result }
+{
+    match put_parts(out, parts) {
+        Ok(()) => Ok(0),
+        Err(_) => Err(Stop::WriteFault),
+    }
+}

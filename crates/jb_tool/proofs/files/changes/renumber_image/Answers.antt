@@ -1,7 +1,0 @@
-use Rattle.std.proofs.Common.{inr}
-use Rattle.jb_tool.proofs.files.changes.renumber_image.Goals as goal
-
-pub returns : goal.returns
-returns g c = record {
-  ends = inr (record { old = c.in_ok-disk.disk; new = c.renumber_on.new.disk; size = c.in_ok-disk.ensures.size; changes = c.renumber_on.ensures.renumbers });
-}
