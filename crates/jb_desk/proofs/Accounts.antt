@@ -27,7 +27,7 @@ use Rattle.jb_cost.proofs.Granted.{covers-append, covers-weight}
 use Rattle.jb_core.proofs.Accepted.{found-none, or-false, first-false, still-up}
 use Rattle.jb_core.proofs.Entries.{sum-insert, length-insert_entry, length-remove_entry}
 use Rattle.jb_deck.specs.declared.done.Entry.{Entry}
-use Rattle.jb_deck.specs.Costs.{tags_in, geometry_of}
+use Rattle.jb_batch.specs.Costs.{tags_in, geometry_of}
 use Rattle.jb_deck.specs.Done.{Follow}
 use Rattle.jb_desk.specs.declared.fault.BeginFault.TheVariants.{Aborted, Closed, Busy, TooManyCredits, Full}
 use Rattle.jb_desk.specs.Account.{Account, InLine, IsSound, IsStart, granted_to, dropped_of, queued, taken_all, settled_to, failed_of, is_full, refusal, IsOpenFor, CanTake, Settles}

@@ -6,7 +6,7 @@ use Rattle.jb_deck.specs.Committing.{AnswersBatch}
 use Rattle.jb_deck.specs.Deck.{Held}
 use Rattle.jb_deck.specs.Done.{Follow, first_of, entries_of, past_after}
 use Rattle.jb_deck.specs.Gathering.{entries_from, entries_for}
-use Rattle.jb_deck.specs.Prepared.{Planned, IsPlanned}
+use Rattle.jb_batch.specs.Prepared.{Planned, IsPlanned}
 use Rattle.jb_deck.specs.declared.batched.BatchFault.{BatchFault}
 use Rattle.jb_deck.specs.declared.batched.BatchFault.TheVariants.{Aborted, WrongTicket, OtherShape, NumbersSpent, Memory, DeviceFault}
 use Rattle.jb_deck.specs.declared.done.Done.{Done}

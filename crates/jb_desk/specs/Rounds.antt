@@ -1,9 +1,9 @@
 -- What a round of a committer makes of a book and of the committer.
 use Rattle.std.specs.Prelude.{◌≡◌, ℕ, ◌+◌, ◌≤◌, true, false, length, Option, Some, None, is_some, Result, Ok, Err}
-use Rattle.jb_deck.specs.Batch.{Gathered, gathered}
-use Rattle.jb_deck.specs.Costs.{HasCut}
+use Rattle.jb_batch.specs.Batch.{Gathered, gathered}
+use Rattle.jb_batch.specs.Costs.{HasCut}
 use Rattle.jb_deck.specs.Done.{Follow, first_of, entries_of, past_after}
-use Rattle.jb_deck.specs.Prepared.{Planned}
+use Rattle.jb_batch.specs.Prepared.{Planned}
 use Rattle.jb_deck.specs.declared.batched.BatchFault.{BatchFault}
 use Rattle.jb_deck.specs.declared.batched.BatchFault.TheVariants as batch
 use Rattle.jb_deck.specs.declared.done.Done.{Done}

@@ -1,7 +1,7 @@
 ghost use Rattle.std.specs.Prelude.{◌≡◌, ℕ, ◌+◌, ◌^◌, ◌≤◌, Some, None, true, OnOk, OnErr, IfOk, IfErr, IfSome, IfNone};
 ghost use Rattle.jb_handle.specs.Handle.{holder, changes_of};
-ghost use Rattle.jb_deck.specs.Batch.{gathered};
-ghost use Rattle.jb_deck.specs.Costs.{HasCut};
+ghost use Rattle.jb_batch.specs.Batch.{gathered};
+ghost use Rattle.jb_batch.specs.Costs.{HasCut};
 ghost use Rattle.jb_deck.specs.Done.{entries_of};
 
 mod readers;

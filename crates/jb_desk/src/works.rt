@@ -15,7 +15,7 @@ impl<D: Disk, C: Clock> Works<D, C> {
     ghost use Rattle.jb_block.specs.declared.stamp.Stamp.{Stamp};
     ghost use Rattle.jb_deck.specs.Checkpoints.{AnswersCheckpoint};
     ghost use Rattle.jb_deck.specs.Committing.{AnswersBatch};
-    ghost use Rattle.jb_deck.specs.Prepared.{IsPlanned};
+    ghost use Rattle.jb_batch.specs.Prepared.{IsPlanned};
     ghost use Rattle.jb_desk.specs.Rounds.{CommitsAs};
 
     /// Commits a batch at the moment that the clock tells.

@@ -1,7 +1,7 @@
 //! Batches are committed, one in each round of a committer.
 ghost use Rattle.std.specs.Prelude.{◌≡◌, ◌+◌, ◌≤◌, length, None, Some, IfErr, OnOk};
 ghost use Rattle.jb_deck.specs.Done.{first_of, entries_of, past_after};
-ghost use Rattle.jb_deck.specs.Prepared.{IsPlanned};
+ghost use Rattle.jb_batch.specs.Prepared.{IsPlanned};
 ghost use Rattle.jb_desk.specs.Seats.{view_of};
 
 use crate::committer::{Committer, Round, RoundFault};

@@ -1,6 +1,6 @@
 use Rattle.std.proofs.Common.{rules, ◌≡◌, false, sym, subst}
 use Rattle.jb_handle.specs.Size.{IsWithinSize}
-use Rattle.jb_deck.specs.Costs.{HasCut}
+use Rattle.jb_batch.specs.Costs.{HasCut}
 use Rattle.jb_desk.specs.Account.{Account}
 use Rattle.jb_desk.specs.Book.{account_of}
 use Rattle.jb_desk.proofs.Accounts.{queue-size}

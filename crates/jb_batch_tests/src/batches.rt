@@ -1,6 +1,6 @@
 //! Batches and their plans, as they are worked by hand.
 
-use jb_deck::{Batch, PrepareFault, is_batch, prepare};
+use jb_batch::{Batch, PrepareFault, is_batch, prepare};
 use jb_handle::Shape;
 use jb_queue::read_queue;
 use std::test::Fail;
@@ -76,10 +76,12 @@ fn batches_are_planned_as_worked_by_hand(rt: HostRuntime) -> Result<(), Fail> {
         assert!(rt; is_batch(0, &handles, shape), "a batch of {text}");
         let count = handles.len();
         let batch = Batch::of(0, handles, shape);
-        assert!(rt; batch.first() == 0 && batch.len() == count);
+        assert!(rt; batch.first() == 0 && batch.len() == count && batch.is_empty() == (count == 0));
+        assert!(rt; batch.handles().len() == count && batch.shape() == shape);
         let back = match prepare(alloc, batch) {
             Ok(prepared) => {
                 assert!(rt; prepared.prices() == prices, "prices of {text}");
+                assert!(rt; prepared.batch().len() == count);
                 assert!(rt;
                     cut == Some((prepared.groups(), prepared.total())),
                     "cut of {text}"

@@ -1,0 +1,3 @@
+pub mod Belonging
+pub mod Planning
+pub mod SameCosts

@@ -1,0 +1,5 @@
+//! Tests of batches and their plans.
+#![tactic(auto)]
+
+#[cfg(test)]
+mod batches;
