@@ -1,9 +1,10 @@
 -- Entries one after the other.
-use Rattle.std.proofs.Common.{◌≡◌, ℕ, suc, ◌+◌, ◌<◌, ◌≤◌, ◌==◌, ◌&&◌, List, [], ◌∷◌, ◌++◌, length, drop, get_or, subst, sym, ap, refl, inl, inr, ◌∙◌, arith}
+use Rattle.std.proofs.Common.{◌≡◌, ℕ, zero, suc, ◌+◌, ◌<◌, ◌≤◌, ◌==◌, ◌&&◌, List, [], ◌∷◌, ◌++◌, length, drop, get_or, subst, sym, ap, refl, inl, inr, ◌∙◌, arith}
 use Rattle.std.proofs.Math.ListN.{drop_of_length-le}
 use Rattle.std.proofs.Math.Seq.{drop-cons}
 use Rattle.std.proofs.lemmas.Bool.Decides.{Decides-and, Decides-eqb}
 use Rattle.std.specs.Bool.{Decides}
+use Rattle.std.specs.List.Sorted.{IsNonDecreasingBy}
 use Rattle.jb_deck.specs.declared.done.Entry.{Entry}
 use Rattle.jb_deck.specs.Done.{Follow, least_after}
 use Rattle.jb_desk.specs.Account.{IsSettledBy}
@@ -47,12 +48,41 @@ least-end least es i over = ap (least_after least) (drop_of_length-le es over)
 
 -- ---- the group of a ticket
 
-module _ (es : List Entry) (i : ℕ) (e : Entry) (there : i < length es) (is : e ≡ get_or es i e) (ticket : ℕ) where
-  pub settled-here : e.first ≤ ticket → ticket < e.past → IsSettledBy (drop i es) ticket e.number
-  settled-here first past = subst (λ xs. IsSettledBy xs ticket e.number) (sym (rest-is es i e there is)) (inl (first, past, refl))
+-- a ticket of the first entry or of a later one ends no later than its own entry does
+later-past : (first least past : ℕ) (es : List Entry) (j : ℕ) (d : Entry) → Follow first least past es → j < length es → first ≤ (get_or es j d).past
+later-past first least past [] j d is there = absurd (omega (arith, there))
+later-past first least past (e ∷ es) zero d is there = let more = is.1 in omega (arith, more)
+later-past first least past (e ∷ es) (suc j) d is there =
+    let more = is.1 in
+    let rest = later-past e.past (e.number + 1) past es j d is.3 (omega (arith, there)) in
+    omega (arith, more, rest)
 
-  pub settled-later : (number : ℕ) → IsSettledBy (drop (i + 1) es) ticket number → IsSettledBy (drop i es) ticket number
-  settled-later number later = subst (λ xs. IsSettledBy xs ticket number) (sym (rest-is es i e there is)) (inr later)
+-- the ends of entries that tile the tickets go up
+pub pasts-rise : (first least past : ℕ) (es : List Entry) → Follow first least past es → IsNonDecreasingBy (λ (e : Entry). e.past) es
+pasts-rise first least past [] is i j d order there = absurd (omega (arith, there))
+pasts-rise first least past (e ∷ es) is zero zero d order there = omega arith
+pasts-rise first least past (e ∷ es) is zero (suc j) d order there = later-past e.past (e.number + 1) past es j d is.3 (omega (arith, there))
+pasts-rise first least past (e ∷ es) is (suc i) zero d order there = absurd (omega (arith, order))
+pasts-rise first least past (e ∷ es) is (suc i) (suc j) d order there = pasts-rise e.past (e.number + 1) past es is.3 i j d (omega (arith, order)) (omega (arith, there))
+
+-- the first entry that ends after a ticket has it
+pub settled-at : (first least past ticket : ℕ) (es : List Entry) (i : ℕ) (d : Entry)
+    → Follow first least past es → first ≤ ticket → i < length es
+    → ((k : ℕ) → k < i → (get_or es k d).past ≤ ticket) → ticket < (get_or es i d).past
+    → IsSettledBy es ticket (get_or es i d).number × (ticket < past)
+settled-at first least past ticket [] i d is low there before here = absurd (omega (arith, there))
+settled-at first least past ticket (e ∷ es) zero d is low there before here =
+    let rest = follow-length e.past (e.number + 1) past es is.3 in
+    let begins = is.0 in
+    (inl (omega (arith, begins, low), here, refl), omega (arith, rest, here))
+settled-at first least past ticket (e ∷ es) (suc i) d is low there before here =
+    let later = settled-at e.past (e.number + 1) past ticket es i d is.3 (before 0 (omega arith)) (omega (arith, there)) (λ k h. before (suc k) (omega (arith, h))) here in
+    (inr later.0, later.1)
+
+-- where no entry ends after a ticket, it is not settled
+pub none-at : (first least past ticket : ℕ) (es : List Entry) (d : Entry) → Follow first least past es → first ≤ ticket → ((k : ℕ) → k < length es → (get_or es k d).past ≤ ticket) → past ≤ ticket
+none-at first least past ticket [] d is low all = omega (arith, is, low)
+none-at first least past ticket (e ∷ es) d is low all = none-at e.past (e.number + 1) past ticket es d is.3 (all 0 (omega arith)) (λ k h. all (suc k) (omega (arith, h)))
 
 -- ---- two entries
 

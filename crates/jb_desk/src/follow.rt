@@ -40,12 +40,9 @@ pub fn number_in(entries: &[Entry], ticket: u64) -> Option<u32>
     ensures some { IfSome result (λ number. (settled : ℕ) → Follow 0 0 settled entries.now → IsSettledBy entries.now ticket number × (ticket < settled)) }
     ensures none { IfNone result ((settled : ℕ) → Follow 0 0 settled entries.now → settled ≤ ticket) }
 {
-    for entry in entries {
-        if ticket < entry.past {
-            return Some(entry.number);
-        }
-    }
-    None
+    let before = entries.partition_point(|entry| entry.past <= ticket);
+    let entry = entries.get(before)?;
+    Some(entry.number)
 }
 
 /// Whether two lists of entries are the same.

@@ -10,6 +10,14 @@ mod faults;
 #[cfg(test)]
 mod gate;
 #[cfg(test)]
+mod homes;
+#[cfg(test)]
 mod journal;
 #[cfg(test)]
+mod keys;
+#[cfg(test)]
+mod load;
+#[cfg(test)]
 mod rounds;
+#[cfg(test)]
+mod threads;

@@ -1,37 +1,30 @@
-use Rattle.std.proofs.Common.{◌≡◌, ◌+◌, ◌<◌, ◌≤◌, length, get_or, drop, arith}
-use Rattle.std.proofs.lemmas.List.{get_or_default}
+use Rattle.std.proofs.Common.{ℕ, ◌≤◌, ◌<◌, ◌≡◌, leb, leb-true, leb-false, length, sym, subst, arith, rules}
+use Rattle.std.proofs.lemmas.List.Sorted.{IsPartitionPoint-from_clause, IsPartitionedBy-leb}
 use Rattle.jb_deck.specs.declared.done.Entry.{Entry}
-use Rattle.jb_desk.proofs.Follows.{at-entry, follow-length, settled-here, settled-later}
+use Rattle.jb_desk.specs.Account.{IsSettledBy}
+use Rattle.jb_desk.proofs.Follows.{pasts-rise, settled-at, none-at}
 use Rattle.jb_desk.proofs.follow.number_in.Goals as goal
 
-pub loop-entry-preserved : goal.loop-entry-preserved
-loop-entry-preserved c =
-    let none : Entry = record { first = 0; past = 0; number = 0 } in
+pub returns-clause-some : goal.returns-clause-some
+returns-clause-some c = λ settled is.
     let es = c.args.entries.now in
-    let i = c.loop-entry.entry-index in
-    let e : Entry = get_or es i none in
-    let there : i < length es = c.loop-entry-test.true in
-    let here : e ≡ get_or es i e = get_or_default es i none e there in
-    record {
-      rest = λ settled is. let old = c.loop-entry.invariant.rest settled is in
-          (e.past, e.number + 1, (at-entry es i e there here old.0 old.1 settled old.2).3, c.if-ticket-entry.false);
-      found = λ number is. c.loop-entry.invariant.found number (settled-later es i e there here c.args.ticket number is);
-    }
+    let ticket = c.args.ticket in
+    let e = c.in_ok-entry.entry.now in
+    let here = c.in_ok-entry.ensures.lookup.3 in
+    let there = here.0 in
+    let parted = IsPartitionedBy-leb (λ (x : Entry). x.past) es ticket (pasts-rise 0 0 settled es is) in
+    let point = IsPartitionPoint-from_clause (λ (x : Entry). leb x.past ticket) es _ c.partition_point-before.ensures.partitioned parted (λ a r q k. search rules) in
+    subst (λ (x : Entry). IsSettledBy es ticket x.number × (ticket < settled)) (sym (here.1 e))
+    (settled-at 0 0 settled ticket es c.partition_point-before.result e is (omega arith) there
+    (λ k h. leb-true _ _ (point.0 k e (omega arith) h))
+    (leb-false _ _ (point.1 c.partition_point-before.result e (omega arith) there)))
 
-pub returns-then-ticket-entry-clause-some : goal.returns-then-ticket-entry-clause-some
-returns-then-ticket-entry-clause-some c = λ settled is.
+pub returns-in_err-entry-clause-none : goal.returns-in_err-entry-clause-none
+returns-in_err-entry-clause-none c = rw c.from_residual.ensures (λ settled is.
     let none : Entry = record { first = 0; past = 0; number = 0 } in
     let es = c.args.entries.now in
-    let i = c.loop-entry.entry-index in
-    let e : Entry = get_or es i none in
-    let there : i < length es = c.loop-entry-test.true in
-    let here : e ≡ get_or es i e = get_or_default es i none e there in
-    let old = c.loop-entry.invariant.rest settled is in
-    let on = at-entry es i e there here old.0 old.1 settled old.2 in
-    let begins : e.first ≡ old.0 = on.0 in
-    let first : e.first ≤ c.args.ticket = omega (arith, begins, old.3) in
-    let more = follow-length e.past (e.number + 1) settled (drop (i + 1) es) on.3 in
-    let test : c.args.ticket < e.past = c.if-ticket-entry.true in (
-      c.loop-entry.invariant.found e.number (settled-here es i e there here c.args.ticket first test),
-      omega (arith, more, test),
-    )
+    let ticket = c.args.ticket in
+    let over = c.in_err-entry.ensures.lookup.3 in
+    let parted = IsPartitionedBy-leb (λ (x : Entry). x.past) es ticket (pasts-rise 0 0 settled es is) in
+    let point = IsPartitionPoint-from_clause (λ (x : Entry). leb x.past ticket) es _ c.partition_point-before.ensures.partitioned parted (λ a r q k. search rules) in
+    none-at 0 0 settled ticket es none is (omega arith) (λ k h. leb-true _ _ (point.0 k none (omega arith) (omega (arith, over, h)))))
