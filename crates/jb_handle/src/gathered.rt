@@ -1,4 +1,4 @@
-ghost use Rattle.std.specs.Prelude.{◌≡◌, ◌<◌, ℕ, IfOk, OnOk, OnErr};
+ghost use Rattle.std.specs.Prelude.{◌≡◌, ◌<◌, ℕ, None, IfOk, OnOk, OnErr};
 ghost use Rattle.std.specs.Option.{option_or};
 ghost use Rattle.std.specs.FinMap as map;
 
@@ -43,9 +43,12 @@ impl Gathered {
     ///
     /// # Errors
     ///
-    /// `Memory` where there is none for a further word.
+    /// `Memory` where the home block had no word and there is none for a further one; the words are as
+    /// they were.
     pub fn put(&mut self, home: u64, word: Word) -> Result<(), Memory>
-        ensures { OnOk result (self.new ≡ map.insert self.old home word) }
+        ensures ok { OnOk result (self.new ≡ map.insert self.old home word) }
+        ensures err { OnErr result (self.new ≡ self.old) }
+        ensures new { OnErr result (map.get self.old home ≡ None) }
     {
         word.holds_bytes();
         self.tree.insert(home, word)?;

@@ -1,4 +1,7 @@
 pub mod Clear
+pub mod FaultyLines
+pub mod FaultyOps
+pub mod FaultyText
 pub mod Handles
 pub mod Ops
 pub mod SpelledHandles

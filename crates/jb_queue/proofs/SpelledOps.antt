@@ -22,21 +22,21 @@ use Rattle.jb_text.proofs.Numerals.{number-is_decimal, decimal-is_number}
 use Rattle.jb_text.proofs.Splits.{parted, onward-nil, onward-goes, onward-stops}
 
 -- a home block, and its numeral
-home-from : (home : ℕ) → home < 2 ^ 64 → home_named (decimal home) ≡ Ok home
+pub home-from : (home : ℕ) → home < 2 ^ 64 → home_named (decimal home) ≡ Ok home
 home-from home fits = rw (decimal-is_number home fits) refl
 
 home-case : (found : Option ℕ) (home : ℕ) → or_cause OpWord found ≡ Ok home → found ≡ Some home
 home-case None home is = cc
 home-case (Some n) home is = let same : n ≡ home = cc in ap Some same
 
-home-is : (digits : List ℕ) (home : ℕ) → home_named digits ≡ Ok home → (digits ≡ decimal home) × (home < 2 ^ 64)
+pub home-is : (digits : List ℕ) (home : ℕ) → home_named digits ≡ Ok home → (digits ≡ decimal home) × (home < 2 ^ 64)
 home-is digits home is = number-is_decimal digits home (home-case (number_of digits) home is)
 
 -- what spells an op is read to it
-fits-true : (size : ℕ) (bytes : List ℕ) → 0 < length bytes → length bytes ≤ size → (nat_lt 0 (length bytes) && nat_le (length bytes) size) ≡ true
+pub fits-true : (size : ℕ) (bytes : List ℕ) → 0 < length bytes → length bytes ≤ size → (nat_lt 0 (length bytes) && nat_le (length bytes) size) ≡ true
 fits-true size bytes some within = grind (arith, nat_tests, some, within)
 
-zeros-from : (size home : ℕ) → home < 2 ^ 64 → op_of size (codes "w" ++ decimal home) ≡ Ok (home, Copy (padded size []))
+pub zeros-from : (size home : ℕ) → home < 2 ^ 64 → op_of size (codes "w" ++ decimal home) ≡ Ok (home, Copy (padded size []))
 zeros-from size home fits =
     let clear = decimal-without 61 home refl fits in
     rw (before-whole 61 (decimal home) clear, onward-none 61 (decimal home) clear, home-from home fits) refl
@@ -46,7 +46,7 @@ bytes-from size home digits bytes fits decoded some within =
     let clear = decimal-without 61 home refl fits in
     rw (before-put 61 (decimal home) digits clear, onward-put 61 (decimal home) digits clear, home-from home fits, decoded, fits-true size bytes some within) refl
 
-free-from : (size home : ℕ) → home < 2 ^ 64 → op_of size (codes "r" ++ decimal home) ≡ Ok (home, Free)
+pub free-from : (size home : ℕ) → home < 2 ^ 64 → op_of size (codes "r" ++ decimal home) ≡ Ok (home, Free)
 free-from size home fits = rw (home-from home fits) refl
 
 pub op-from : (size : ℕ) (text : List ℕ) (op : Entry) → SpellsOp size text op → op_of size text ≡ Ok op
@@ -57,7 +57,7 @@ op-from size text op spells = elim spells.form [
 ]
 
 -- what is read to an op spells it
-onward-case : (stop : ℕ) (bs : List ℕ) → (onward stop bs ≡ []) ⊎ ((behind : List ℕ) × (onward stop bs ≡ stop ∷ behind))
+pub onward-case : (stop : ℕ) (bs : List ℕ) → (onward stop bs ≡ []) ⊎ ((behind : List ℕ) × (onward stop bs ≡ stop ∷ behind))
 onward-case stop [] = inl (onward-nil stop)
 onward-case stop (b ∷ bs) = elim (cases_eq b stop) [
   | inl same ↦ inr (bs, onward-stops stop b bs same ∙ ap (λ first. first ∷ bs) same)

@@ -77,7 +77,7 @@ behind-case (Some text) format is =
     ∙ ap (λ bs. decimal (bytes_of format.0) ++ bs) (width-is (onward 32 text) format.1 both.1)
     )
 
-format-is : (line : List ℕ) (format : BlockSize × Width) → format_of line ≡ Some format → line ≡ format_line format.0 format.1
+pub format-is : (line : List ℕ) (format : BlockSize × Width) → format_of line ≡ Some format → line ≡ format_line format.0 format.1
 format-is line format is =
     behind-is (codes "bs ") line (decimal (bytes_of format.0) ++ width_text format.1) (behind-case (behind_word (codes "bs ") line) format is)
 
@@ -104,7 +104,7 @@ width-back : (width : Width) → width_behind (width_text width) ≡ Some width
 width-back Narrow = refl
 width-back Wide = refl
 
-format-from : (size : BlockSize) (width : Width) → format_of (format_line size width) ≡ Some (size, width)
+pub format-from : (size : BlockSize) (width : Width) → format_of (format_line size width) ≡ Some (size, width)
 format-from size width =
     let parts = parts-back size width in
     ap₂ (λ digits rest. both_of (option_and_then size_of_bytes (number_of digits)) (width_behind rest)) parts.0 parts.1
@@ -120,13 +120,13 @@ limit-case (Some m) limit is = from (nat_le 3 m && nat_le m 2147483646) refl is
         let same : m ≡ limit = cc in
         (gives, grind (arith, nat_tests, holds, same), grind (arith, nat_tests, holds, same))
 
-limit-is : (line : List ℕ) (limit : ℕ) → limit_of line ≡ Some limit → (line ≡ codes "limit " ++ decimal limit) × (3 ≤ limit) × (limit ≤ 2147483646)
+pub limit-is : (line : List ℕ) (limit : ℕ) → limit_of line ≡ Some limit → (line ≡ codes "limit " ++ decimal limit) × (3 ≤ limit) × (limit ≤ 2147483646)
 limit-is line limit is =
     let number = limit-case (option_and_then number_of (behind_word (codes "limit ") line)) limit is in
     let found = number-case (behind_word (codes "limit ") line) limit number.0 in
     (behind-is (codes "limit ") line (decimal limit) found.0, number.1, number.2)
 
-limit-from : (limit : ℕ) → 3 ≤ limit → limit ≤ 2147483646 → limit_of (codes "limit " ++ decimal limit) ≡ Some limit
+pub limit-from : (limit : ℕ) → 3 ≤ limit → limit ≤ 2147483646 → limit_of (codes "limit " ++ decimal limit) ≡ Some limit
 limit-from limit least most =
     let holds : (nat_le 3 limit && nat_le limit 2147483646) ≡ true = grind (arith, nat_tests, least, most) in
     rw (decimal-is_number limit (omega arith), holds) refl

@@ -1,3 +1,4 @@
+pub mod Faults
 pub mod Queue
 pub mod QueueText
 pub mod Spelling

@@ -16,7 +16,7 @@ returns-in_err-home-clause-gives c =
 
 pub loop-rest-preserved : goal.loop-rest-preserved
 loop-rest-preserved c =
-    ap (λ had. after_ops (bytes_of c.args.bs) had (words_in (option_copied c.next_word.result.1))) c.in_ok-put.ensures
+    ap (λ had. after_ops (bytes_of c.args.bs) had (words_in (option_copied c.next_word.result.1))) c.in_ok-put.ensures.ok
     ∙ op-goes (bytes_of c.args.bs) c.loop-rest.gathered c.loop-rest.rest c.in-Some.text c.next_word.result.0.now (words_in (option_copied c.next_word.result.1)) _
     c.in-Some.is c.next_word.ensures.words c.loop-rest.invariant (c.in_ok-home.home, c.in_ok-home.op) c.in_ok-home.ensures
 

@@ -14,7 +14,7 @@ pub loop-home-preserved : goal.loop-home-preserved
 loop-home-preserved c =
     let rising : T (map.is_sorted nat_cmp c.entries-home-items.result.now) = subst (λ es. T (map.is_sorted nat_cmp es)) (sym c.entries-home-items.ensures) (map.entries_sorted c.args.words.now) in
     let inside : c.loop-home.home-index < length c.entries-home-items.result.now = omega arith in
-    λ q. word-more _ rising c.loop-home.home-index c.loop-home-item.result c.loop-home-item.is inside c.loop-home.self _ _ c.in_ok-try_clone.ensures.same c.in_ok-put.ensures q _ (c.loop-home.invariant q)
+    λ q. word-more _ rising c.loop-home.home-index c.loop-home-item.result c.loop-home-item.is inside c.loop-home.self _ _ c.in_ok-try_clone.ensures.same c.in_ok-put.ensures.ok q _ (c.loop-home.invariant q)
 
 pub returns-clause-ok : goal.returns-clause-ok
 returns-clause-ok c q =
