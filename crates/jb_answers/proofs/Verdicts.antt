@@ -41,7 +41,7 @@ pub says_of_queue : (text claim : List ℕ) (q : Queue) (words : Said) → queue
 says_of_queue text claim q words is says = rw is says
 
 -- a fault with words is the first of the text
-named_by : (read : Result Queue QueueFault) (at : ℕ) (why : Cause) (words : Said) → ReportsBy read at why
+pub named_by : (read : Result Queue QueueFault) (at : ℕ) (why : Cause) (words : Said) → ReportsBy read at why
     → queue_fault (record { line = at; cause = why }) ≡ Some words → read ≡ Err (record { line = at; cause = why })
 named_by read at BlockSizeLine words reports told = reports
 named_by read at LimitLine words reports told = reports

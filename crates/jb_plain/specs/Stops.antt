@@ -12,7 +12,7 @@ use Rattle.jb_recover.specs.declared.fault.RecoverFault.TheVariants as recoverin
 use Rattle.jb_super.specs.declared.fault.SuperFault.{SuperFault}
 use Rattle.jb_super.specs.declared.fault.SuperFault.TheVariants as super
 use Rattle.jb_plain.specs.declared.stop.Stop.{Stop}
-use Rattle.jb_plain.specs.declared.stop.Stop.TheVariants.{CannotRead, CannotMake, BadOption, TooLong, ReadFault, Super, BadRevoke, HomeOutOfRange, NeedsRecovery, Geometry, DeviceFault, Memory, WriteFault}
+use Rattle.jb_plain.specs.declared.stop.Stop.TheVariants.{CannotRead, CannotMake, BadOption, TooLong, ReadFault, Super, BadRevoke, HomeOutOfRange, NeedsRecovery, NumbersSpent, BlockSize, Accounts, Geometry, DeviceFault, Memory, WriteFault}
 
 -- the exit status
 abbrev pub status_of : Stop → ℕ
@@ -25,6 +25,9 @@ status_of (Super fault) = 1
 status_of (BadRevoke place) = 1
 status_of (HomeOutOfRange home number) = 1
 status_of NeedsRecovery = 1
+status_of NumbersSpent = 1
+status_of BlockSize = 1
+status_of Accounts = 1
 status_of Geometry = 1
 status_of DeviceFault = 1
 status_of Memory = 1
@@ -53,6 +56,9 @@ line_of (BadRevoke place) = spelled (codes "jb: BadRevoke " ∷ decimal place �
 line_of (HomeOutOfRange home number) =
     spelled (codes "jb: HomeOutOfRange " ∷ decimal home ∷ codes " " ∷ decimal number ∷ codes "\n" ∷ [])
 line_of NeedsRecovery = spelled (codes "jb: NeedsRecovery\n" ∷ [])
+line_of NumbersSpent = spelled (codes "jb: NumbersSpent\n" ∷ [])
+line_of BlockSize = spelled (codes "jb: BlockSize\n" ∷ [])
+line_of Accounts = spelled (codes "jb: Accounts\n" ∷ [])
 line_of Geometry = spelled (codes "jb: Geometry\n" ∷ [])
 line_of DeviceFault = spelled (codes "jb: DeviceFault\n" ∷ [])
 line_of Memory = spelled (codes "jb: Memory\n" ∷ [])

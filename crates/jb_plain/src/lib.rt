@@ -7,9 +7,10 @@ mod running;
 mod stop;
 mod streams;
 
+pub use files::{open_image, read_file};
 pub use jb_words::Plain;
-pub use running::{perform, run_plain};
+pub use running::{close, perform, run_plain};
 pub use stop::Stop;
 pub use streams::{
-    TEXT_LIMIT, dump_from, format_on, recover_on, refuse_words, renumber_on, widen_on,
+    TEXT_LIMIT, dump_from, format_on, recover_on, refuse_words, renumber_on, tell, widen_on,
 };

@@ -1,7 +1,7 @@
-ghost use Rattle.std.specs.Prelude.{ℕ};
+ghost use Rattle.std.specs.Prelude.{ℕ, List, Option};
 ghost use Rattle.jb_words.specs.Named.{asks};
 ghost use Rattle.jb_answers.specs.Check.{CheckSays};
-ghost use Rattle.jb_plain.specs.Runs.{EndsAsked, EndsOfTwo, Runs};
+ghost use Rattle.jb_plain.specs.Runs.{Closes, EndsAsked, EndsOfTwo, Runs};
 
 use crate::files::{
     dump_file, format_image, read_file, read_text, recover_image, renumber_image, widen_image,
@@ -88,7 +88,16 @@ pub fn run_plain<R: Files<File = File> + AllocGlobal, I: Read, O: Write, E: Writ
         (record { out = O.contents out.old; err = E.contents err.old })
         (record { out = O.contents out.new; err = E.contents err.new }) result }
 {
-    match perform(rt, plain, input, out, err) {
+    let end = perform(rt, plain, input, out, err);
+    close(end, err)
+}
+
+/// The program's exit status at the end of a command; of one that ended without an answer the line is written to `err`.
+pub fn close<E: Write>(end: Result<u8, Stop<'_>>, err: &mut E) -> u8
+    ensures { (held : Option (List ℕ)) → Closes end.entry (record { out = held; err = E.contents err.old })
+        (record { out = held; err = E.contents err.new }) result }
+{
+    match end {
         Ok(status) => status,
         Err(stop) => {
             stop.tell(err);

@@ -1,6 +1,7 @@
 ghost use Rattle.std.specs.Prelude.{◌≡◌};
 
 use jb_dump::DumpFault;
+use jb_io::WriteFault;
 use jb_recover::{ChangeFault, FormatFault, RecoverFault};
 use jb_super::SuperFault;
 use std::alloc::AllocError;
@@ -27,6 +28,12 @@ pub enum Stop<'a> {
     HomeOutOfRange(u64, u32),
     /// The log of the journal is not clean, and it is to be recovered first.
     NeedsRecovery,
+    /// The journal has no number left for a transaction, and it is to be renumbered first.
+    NumbersSpent,
+    /// The block size of a queue text is not that of the image.
+    BlockSize,
+    /// The accounts of a load do not agree. This cannot happen.
+    Accounts,
     /// The options make no journal: fewer than 9 blocks, or more than 2^31 - 1.
     Geometry,
     /// A call on an image that is used as a disk failed.
@@ -45,6 +52,17 @@ impl<'a> From<AllocError> for Stop<'a> {
 
     fn from(_: AllocError) -> Stop<'a> {
         Stop::Memory
+    }
+}
+
+impl<'a> From<WriteFault> for Stop<'a> {
+    ghost use Rattle.std.specs.Prelude.{◌≡◌};
+    ghost use Rattle.jb_plain.specs.declared.stop.Stop.TheVariants.{WriteFault as StopWriteFault};
+
+    ghost from_gives = { λ _ stop. stop ≡ StopWriteFault };
+
+    fn from(_: WriteFault) -> Stop<'a> {
+        Stop::WriteFault
     }
 }
 
@@ -122,7 +140,8 @@ impl<'a> Stop<'a> {
             Stop::CannotRead(_) | Stop::TooLong(_) => 2,
             Stop::CannotMake(_) | Stop::BadOption => 2,
             Stop::ReadFault | Stop::Super(_) | Stop::BadRevoke(_) => 1,
-            Stop::HomeOutOfRange(_, _) | Stop::NeedsRecovery | Stop::Geometry => 1,
+            Stop::HomeOutOfRange(_, _) | Stop::NeedsRecovery | Stop::NumbersSpent => 1,
+            Stop::BlockSize | Stop::Accounts | Stop::Geometry => 1,
             Stop::DeviceFault | Stop::Memory | Stop::WriteFault => 1,
         }
     }

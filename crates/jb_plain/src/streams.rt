@@ -17,4 +17,4 @@ pub use reading::TEXT_LIMIT;
 pub(crate) use reading::read_as;
 pub use recovering::recover_on;
 pub use refusal::refuse_words;
-pub(crate) use telling::tell;
+pub use telling::tell;

@@ -2,7 +2,7 @@
 use Rattle.std.specs.Prelude.{◌≡◌, ◌≢◌, ◌⊎◌, ℕ, [], Option, None, Err}
 use Rattle.jb_io.specs.Puts.{PutsPart}
 use Rattle.jb_words.specs.Faults.{HasKind, Kinds, kind_of}
-use Rattle.jb_words.specs.Named.{Asked}
+use Rattle.jb_words.specs.Wanted.{Wanted}
 use Rattle.jb_words.specs.declared.Error.{Error}
 use Rattle.jb_words.specs.declared.ErrorKind.{ErrorKind}
 use Rattle.jb_words.specs.declared.ErrorKind.TheVariants.{DisplayHelp, DisplayVersion, OutOfMemory}
@@ -20,6 +20,6 @@ pub record EndsRefused (kind : ErrorKind) (old new : Held) (status : ℕ) : Type
   pub mistake : kind ≢ OutOfMemory → kind ≢ DisplayHelp → kind ≢ DisplayVersion → (status ≡ 2) × (new.out ≡ old.out)
 
 -- the words were refused by one of the kinds of their first fault, or where memory ran out, or as they ask for no command
-abbrev pub RefusesWords : Kinds → Option Asked → Held → Held → ℕ → Type 0
-RefusesWords kinds asked old new status =
-    (error : Error) × (HasKind kinds error ⊎ ((kinds ≡ []) × (asked ≡ None))) × EndsRefused (kind_of error) old new status
+abbrev pub RefusesWords : Kinds → Option Wanted → Held → Held → ℕ → Type 0
+RefusesWords kinds wanted old new status =
+    (error : Error) × (HasKind kinds error ⊎ ((kinds ≡ []) × (wanted ≡ None))) × EndsRefused (kind_of error) old new status

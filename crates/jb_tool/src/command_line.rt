@@ -1,48 +1,54 @@
 ghost use Rattle.std.specs.Prelude.{◌≡◌, ◌≢◌, ◌⊎◌, Err, None, IfSome, [], codes, map};
 ghost use Rattle.jb_words.specs.Faults.{faults_in, kind_of};
-ghost use Rattle.jb_words.specs.Named.{asked_in};
 ghost use Rattle.jb_words.specs.Named.Asked.{AsksCost};
+ghost use Rattle.jb_words.specs.Wanted.{wanted_in};
 ghost use Rattle.jb_io.specs.Puts.{PutsPart};
 ghost use Rattle.jb_plain.specs.Runs.{Closes, Runs};
 ghost use Rattle.jb_plain.specs.Stops.{line_of};
 ghost use Rattle.jb_plain.specs.declared.stop.Stop.TheVariants.{Memory as StopMemory, WriteFault};
 ghost use Rattle.jb_tool.specs.Refused.{RefusesWords};
+ghost use Rattle.jb_tool.specs.Wanted.{RunsWanted};
 
+use crate::load::run_load;
 use jb_plain::{Stop, run_plain};
-use jb_words::{Error, ErrorKind, Plain, parse};
+use jb_words::{Error, ErrorKind, Plain, Words, parse};
 use std::convert::AsStr;
 use std::fs::File;
 use std::io::{Read, Write};
 use std::rt::Files;
+use std::sync::Wait;
+use std::thread::Threads;
+use std::time::Clock;
 
 /// Runs `jb` with these words, the program's name left out, and gives its exit status. With no words it acts as
 /// `jb cost -`. Words that are no command are answered by clap's text: status 2 and `err`, or status 0 and `out` for
 /// help and the version.
-pub fn run<R: Files<File = File> + AllocGlobal, S: AsStr, I: Read, O: Write, E: Write>(
-    rt: &R,
-    words: &[S],
-    input: &mut I,
-    out: &mut O,
-    err: &mut E,
-) -> u8
+pub fn run<
+    R: Files<File = File> + AllocGlobal + Threads + Wait + Clock + Sync,
+    S: AsStr,
+    I: Read,
+    O: Write,
+    E: Write,
+>(rt: &R, words: &[S], input: &mut I, out: &mut O, err: &mut E) -> u8
     ensures bare { words.now ≡ [] → Runs (AsksCost (codes "-")) (I.remaining input.old)
         (record { out = O.contents out.old; err = E.contents err.old })
         (record { out = O.contents out.new; err = E.contents err.new }) result }
     ensures asked { words.now ≢ [] → faults_in (map S.text words.now) ≡ []
-        → IfSome (asked_in (map S.text words.now)) (λ asked. Runs asked (I.remaining input.old)
+        → IfSome (wanted_in (map S.text words.now)) (λ wanted. RunsWanted wanted (I.remaining input.old)
         (record { out = O.contents out.old; err = E.contents err.old })
         (record { out = O.contents out.new; err = E.contents err.new }) result
         ⊎ Closes (Err StopMemory) (record { out = O.contents out.old; err = E.contents err.old })
         (record { out = O.contents out.new; err = E.contents err.new }) result) }
-    ensures refused { words.now ≢ [] → (faults_in (map S.text words.now) ≢ []) ⊎ (asked_in (map S.text words.now) ≡ None)
-        → RefusesWords (faults_in (map S.text words.now)) (asked_in (map S.text words.now)) (record { out = O.contents out.old; err = E.contents err.old })
+    ensures refused { words.now ≢ [] → (faults_in (map S.text words.now) ≢ []) ⊎ (wanted_in (map S.text words.now) ≡ None)
+        → RefusesWords (faults_in (map S.text words.now)) (wanted_in (map S.text words.now)) (record { out = O.contents out.old; err = E.contents err.old })
         (record { out = O.contents out.new; err = E.contents err.new }) result }
 {
     if words.is_empty() {
         return run_plain(rt, Plain::Cost { file: "-" }, input, out, err);
     }
     match parse(rt.alloc(), words) {
-        Ok(plain) => run_plain(rt, plain, input, out, err),
+        Ok(Words::Plain(plain)) => run_plain(rt, plain, input, out, err),
+        Ok(Words::Load(load)) => run_load(rt, load, out, err),
         Err(error) => tell_refusal(&error, out, err),
     }
 }

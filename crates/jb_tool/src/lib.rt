@@ -3,6 +3,7 @@
 #![tactic(auto)]
 
 mod command_line;
+mod load;
 
 pub use command_line::run;
 pub use jb_plain::{

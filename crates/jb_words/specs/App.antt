@@ -32,9 +32,9 @@ number_option name = record (new_rule name) {
 abbrev pub required_number : Text → Rule
 required_number name = record (number_option name) { required = true }
 
--- `--max N`, 0 where it is left out
-abbrev pub max_option : Rule
-max_option = record (number_option (codes "max")) { defaults = codes "0" ∷ [] }
+-- the same, with this number where it is left out
+abbrev pub number_or : Text → Text → Rule
+number_or name number = record (number_option name) { defaults = number ∷ [] }
 
 -- `--uuid HEX`, 32 zeros where it is left out
 abbrev pub uuid_option : Rule
@@ -44,9 +44,9 @@ uuid_option = record (new_rule (codes "uuid")) {
   defaults = codes "00000000000000000000000000000000" ∷ [];
 }
 
--- `--wide`, which takes no value
-abbrev pub wide_flag : Rule
-wide_flag = record (new_rule (codes "wide")) { long = Some (codes "wide"); action = Some SetTrue }
+-- an option that takes no value
+abbrev pub flag : Text → Rule
+flag name = record (new_rule name) { long = Some name; action = Some SetTrue }
 
 -- a command over one image
 abbrev pub image_app : Text → App
@@ -58,7 +58,14 @@ format_app =
     let image = image_app (codes "format") in
     let sized = with_rule image (required_number (codes "bs")) in
     let parts = with_rule (with_rule sized (required_number (codes "journal"))) (required_number (codes "homes")) in
-    with_rule (with_rule (with_rule parts max_option) uuid_option) wide_flag
+    with_rule (with_rule (with_rule parts (number_or (codes "max") (codes "0"))) uuid_option) (flag (codes "wide"))
+
+-- `load IMAGE FILE [--threads N] [--hold] [--stamp SEC] [--checkpoint]`
+abbrev pub load_app : App
+load_app =
+    let files = with_rule (image_app (codes "load")) (required_word (codes "FILE")) in
+    let held = with_rule (with_rule files (number_or (codes "threads") (codes "1"))) (flag (codes "hold")) in
+    with_rule (with_rule held (number_or (codes "stamp") (codes "0"))) (flag (codes "checkpoint"))
 
 -- `jb`: its words begin with a command, and it has a version
 abbrev pub jb_top : App
@@ -75,5 +82,6 @@ jb_app =
     let plan = (file_app (codes "plan")).top in
     let over_queues = with_subcommand (with_subcommand (with_subcommand jb_top cost) plan) check_app.top in
     let over_files = with_subcommand (with_subcommand over_queues dump_app.top) format_app.top in
-    let recovered = with_subcommand over_files (image_app (codes "recover")).top in
+    let loaded = with_subcommand over_files load_app.top in
+    let recovered = with_subcommand loaded (image_app (codes "recover")).top in
     with_subcommand (with_subcommand recovered (image_app (codes "renumber")).top) (image_app (codes "widen")).top

@@ -1,3 +1,4 @@
 pub mod App
 pub mod Faults
 pub mod Named
+pub mod Wanted

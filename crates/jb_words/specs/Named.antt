@@ -1,11 +1,10 @@
--- Which command a list of words asks for, by what clap finds in it.
+-- Which command without threads a name and its words ask for, by what clap finds.
 use Rattle.std.specs.Prelude.{ℕ, Bool, ◌^◌, ◌&&◌, List, length, nat_lt, Option, Some, None, codes, if◌then◌else◌, option_and_then, option_map}
 use Rattle.std.specs.Char.{digit_value}
 use Rattle.std.specs.List.{list_all}
 use Rattle.std.specs.Str.{bytes_eq}
 use Rattle.std.specs.Str.Parse.{digits_value, without_leading_plus}
-use Rattle.clap.specs.Words.{Row, Text, first_of, one_of, subcommand_of}
-use Rattle.jb_words.specs.App.{jb_app}
+use Rattle.clap.specs.Words.{Row, Text, first_of, one_of}
 use Rattle.jb_words.specs.declared.plain.FormatOptions.{FormatOptions}
 use Rattle.jb_words.specs.declared.plain.Plain.{Plain}
 use Rattle.jb_words.specs.declared.plain.Plain.TheVariants.{Check, Cost, Dump, Format, Plan, Recover, Renumber, Widen}
@@ -98,11 +97,3 @@ asked name rows =
     else if bytes_eq name (codes "renumber") then option_map (λ image. AsksRenumber image) (image_in rows)
     else if bytes_eq name (codes "widen") then option_map (λ image. AsksWiden image) (image_in rows)
     else None
-
--- the command that a parse found
-abbrev pub asked_of : Option (Text × List Row) → Option Asked
-asked_of found = option_and_then (λ (p : Text × List Row). asked p.0 p.1) found
-
--- the command that clap finds in the words
-abbrev pub asked_in : List Text → Option Asked
-asked_in words = asked_of (subcommand_of jb_app words)

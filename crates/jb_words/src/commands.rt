@@ -1,13 +1,13 @@
 ghost use Rattle.std.specs.Prelude.{◌≡◌, IfOk, codes, false};
 ghost use Rattle.clap.specs.Words.{App, app_of, new_app, rule_of, with_rule, with_subcommand};
 ghost use Rattle.clap.specs.declared.builder.command.Command.TheViews.{out-Command as fields_of};
-ghost use Rattle.jb_words.specs.App.{check_app, file_app, format_app, image_app, jb_app, jb_top, required_word as word_rule};
+ghost use Rattle.jb_words.specs.App.{check_app, file_app, format_app, image_app, jb_app, jb_top, load_app, required_word as word_rule};
 
 mod options;
 mod texts;
 
 use clap::{Arg, Command};
-use options::{max_option, required_number, uuid_option, wide_flag};
+use options::{flag, number_or, required_number, uuid_option};
 use std::alloc::{AllocError, Global};
 
 /// A word that has to be there, by the name that usage shows.
@@ -92,9 +92,29 @@ fn format<'a>(alloc: Global) -> Result<Command<'a>, AllocError>
     let command = with(command, required_number(alloc, "journal", help))?;
     let help = "Home blocks after the journal";
     let command = with(command, required_number(alloc, "homes", help))?;
-    let command = with(command, max_option(alloc))?;
+    let help = "The most log blocks of a transaction; 0 for a quarter of the log";
+    let command = with(command, number_or(alloc, "max", "N", "0", help))?;
     let command = with(command, uuid_option(alloc))?;
-    with(command, wide_flag(alloc))
+    with(command, flag(alloc, "wide", "Block numbers of 64 bits"))
+}
+
+/// `jb load`.
+fn load<'a>(alloc: Global) -> Result<Command<'a>, AllocError>
+    ensures app { IfOk result (λ c. app_of c ≡ load_app) }
+    ensures own { IfOk result (λ c. (fields_of c).has_globals ≡ false) }
+{
+    let about = "Commits the handles of a queue text to an image, run by threads";
+    let command = over_image(alloc, "load", about)?;
+    let help = "A queue text of the image's block size";
+    let command = with(command, required_word(alloc, "FILE", help))?;
+    let help = "How many threads run the handles, 1 to 64";
+    let command = with(command, number_or(alloc, "threads", "N", "1", help))?;
+    let help = "Commits once all handles have run, as one batch";
+    let command = with(command, flag(alloc, "hold", help))?;
+    let help = "The time of the commit blocks, in seconds since 1970";
+    let command = with(command, number_or(alloc, "stamp", "SEC", "0", help))?;
+    let help = "Writes home what is committed, too";
+    with(command, flag(alloc, "checkpoint", help))
 }
 
 /// `jb` without its commands.
@@ -145,8 +165,9 @@ pub fn jb_command<'a>(alloc: Global) -> Result<Command<'a>, AllocError>
     let help = "A file with the whole journal at its front";
     let with_dump = also(with_check, over(alloc, "dump", about, "FILE", help));
     let with_format = also(with_dump, format(alloc));
+    let with_load = also(with_format, load(alloc));
     let about = "Writes home what an image's journal has committed, and empties its log";
-    let with_recover = also(with_format, over_image(alloc, "recover", about));
+    let with_recover = also(with_load, over_image(alloc, "recover", about));
     let about = "Gives a clean journal, whose numbers may be spent, its first number again";
     let with_renumber = also(with_recover, over_image(alloc, "renumber", about));
     let about = "Gives a clean journal block numbers of 64 bits";

@@ -3,8 +3,10 @@ ghost use Rattle.clap.specs.Kinds.{FailsBy};
 ghost use Rattle.clap.specs.Words.{app_of, first_of, found_of, rows_of, subcommand_of, subcommand_rows_of};
 ghost use Rattle.jb_words.specs.App.{jb_app};
 ghost use Rattle.jb_words.specs.Faults.{HasKind, faults_in};
-ghost use Rattle.jb_words.specs.Named.{asked_in, asked_of, asks, check_in, flag_in, format_in, number_in, options_in, options_said};
+ghost use Rattle.jb_words.specs.Named.{asked, asks, check_in, flag_in, format_in, number_in, options_in, options_said};
+ghost use Rattle.jb_words.specs.Wanted.{load_in, load_said, wanted_in, wanted_of, wants};
 
+use crate::command::{LoadWords, Words};
 use crate::commands::jb_command;
 use crate::plain::{FormatOptions, Plain};
 use clap::error::ErrorKind;
@@ -16,15 +18,15 @@ use std::convert::AsStr;
 ///
 /// # Errors
 /// What clap says of the words: help and the version too, and out of memory as `ErrorKind::OutOfMemory`.
-pub fn parse<'a, S: AsStr>(alloc: Global, words: &'a [S]) -> Result<Plain<'a>, Error>
-    ensures asked { IfOk result (λ plain. asked_in (map S.text words.entry.now) ≡ Some (asks plain)) }
+pub fn parse<'a, S: AsStr>(alloc: Global, words: &'a [S]) -> Result<Words<'a>, Error>
+    ensures asked { IfOk result (λ found. wanted_in (map S.text words.entry.now) ≡ Some (wants found)) }
     ensures taken { IfOk result (λ _. faults_in (map S.text words.entry.now) ≡ []) }
     ensures refused { IfErr result (λ error. HasKind (faults_in (map S.text words.entry.now)) error
-        ⊎ ((faults_in (map S.text words.entry.now) ≡ []) × (asked_in (map S.text words.entry.now) ≡ None))) }
+        ⊎ ((faults_in (map S.text words.entry.now) ≡ []) × (wanted_in (map S.text words.entry.now) ≡ None))) }
 {
     let matches = matches_of(jb_command(alloc)?, words)?;
-    match plain_of(&matches) {
-        Some(plain) => Ok(plain),
+    match words_of(&matches) {
+        Some(found) => Ok(found),
         None => Err(no_command(alloc)?),
     }
 }
@@ -45,10 +47,35 @@ fn matches_of<'a, S: AsStr>(command: Command<'a>, words: &'a [S]) -> Result<ArgM
 }
 
 /// The command that clap found, with its words.
-fn plain_of<'a>(matches: &ArgMatches<'a>) -> Option<Plain<'a>>
-    ensures { option_map asks result ≡ asked_of (subcommand_rows_of matches.now) }
+fn words_of<'a>(matches: &ArgMatches<'a>) -> Option<Words<'a>>
+    ensures { option_map wants result ≡ wanted_of (subcommand_rows_of matches.now) }
 {
     let (name, found) = matches.subcommand()?;
+    if name == "load" {
+        Some(Words::Load(load_of(found)?))
+    } else {
+        Some(Words::Plain(plain_of(name, found)?))
+    }
+}
+
+/// The words of `jb load`.
+fn load_of<'a>(found: &ArgMatches<'a>) -> Option<LoadWords<'a>>
+    ensures { option_map load_said result ≡ load_in (rows_of (found_of found.now)) }
+{
+    Some(LoadWords {
+        image: word_of(found, "IMAGE")?,
+        file: word_of(found, "FILE")?,
+        threads: number_of(found, "threads")?,
+        hold: flag_of(found, "hold")?,
+        stamp: number_of(found, "stamp")?,
+        checkpoint: flag_of(found, "checkpoint")?,
+    })
+}
+
+/// The command of this name that runs without threads, with its words.
+fn plain_of<'a>(name: &str, found: &ArgMatches<'a>) -> Option<Plain<'a>>
+    ensures { option_map asks result ≡ asked name.now (rows_of (found_of found.now)) }
+{
     match name {
         "cost" => Some(Plain::Cost {
             file: word_of(found, "FILE")?,

@@ -1,24 +1,25 @@
-use jb_words::{FormatOptions, Plain, parse};
+use jb_words::{FormatOptions, LoadWords, Plain, Words, parse};
 use std::alloc::Global;
 
-/// The command that the words ask for, as one text: its name, and its words and options in the order of `Plain`.
+/// The command that the words ask for: its name, and its words in the order of `Plain` and `LoadWords`.
 fn asked<'a>(alloc: Global, words: &'a [&'a str]) -> Option<(&'a str, &'a str, &'a str)> {
     match parse(alloc, words).ok()? {
-        Plain::Cost { file } => Some(("cost", file, "")),
-        Plain::Plan { file } => Some(("plan", file, "")),
-        Plain::Check { file, cert } => Some(("check", file, cert)),
-        Plain::Dump { file } => Some(("dump", file, "")),
-        Plain::Format { image, options } => Some(("format", image, options.uuid)),
-        Plain::Recover { image } => Some(("recover", image, "")),
-        Plain::Renumber { image } => Some(("renumber", image, "")),
-        Plain::Widen { image } => Some(("widen", image, "")),
+        Words::Plain(Plain::Cost { file }) => Some(("cost", file, "")),
+        Words::Plain(Plain::Plan { file }) => Some(("plan", file, "")),
+        Words::Plain(Plain::Check { file, cert }) => Some(("check", file, cert)),
+        Words::Plain(Plain::Dump { file }) => Some(("dump", file, "")),
+        Words::Plain(Plain::Format { image, options }) => Some(("format", image, options.uuid)),
+        Words::Plain(Plain::Recover { image }) => Some(("recover", image, "")),
+        Words::Plain(Plain::Renumber { image }) => Some(("renumber", image, "")),
+        Words::Plain(Plain::Widen { image }) => Some(("widen", image, "")),
+        Words::Load(load) => Some(("load", load.image, load.file)),
     }
 }
 
 /// The four numbers of a command that formats, --bs, --journal, --homes and --max, and whether --wide stands there.
 fn numbers(alloc: Global, words: &[&str]) -> Option<([u64; 4], bool)> {
     match parse(alloc, words).ok()? {
-        Plain::Format { options, .. } => {
+        Words::Plain(Plain::Format { options, .. }) => {
             let FormatOptions {
                 bs,
                 journal,
@@ -30,6 +31,22 @@ fn numbers(alloc: Global, words: &[&str]) -> Option<([u64; 4], bool)> {
             Some(([bs, journal, homes, max], wide))
         }
         _ => None,
+    }
+}
+
+/// The options of a load: --threads and --stamp, and whether --hold and --checkpoint stand there.
+fn loading(alloc: Global, words: &[&str]) -> Option<([u64; 2], [bool; 2])> {
+    match parse(alloc, words).ok()? {
+        Words::Load(
+            LoadWords {
+                threads,
+                hold,
+                stamp,
+                checkpoint,
+                ..
+            },
+        ) => Some(([threads, stamp], [hold, checkpoint])),
+        Words::Plain(_) => None,
     }
 }
 
@@ -57,6 +74,26 @@ const LEFT_OUT: [&str; 8] = [
     "033",
     "--homes",
     "16",
+];
+
+/// Loads, and their options.
+const LOADS: &[(&[&str], ([u64; 2], [bool; 2]))] = &[
+    (&["load", "a.img", "queue.txt"], ([1, 0], [false, false])),
+    (
+        &["load", "--hold", "a.img", "--threads", "64", "queue.txt"],
+        ([64, 0], [true, false]),
+    ),
+    (
+        &[
+            "load",
+            "--stamp=18446744073709551615",
+            "--checkpoint",
+            "a.img",
+            "queue.txt",
+            "--threads=0",
+        ],
+        ([0, u64::MAX], [false, true]),
+    ),
 ];
 
 #[test]
@@ -90,4 +127,11 @@ fn commands_with_their_words_are_taken(rt: HostRuntime) {
         numbers(rt.alloc(), &LEFT_OUT),
         Some(([1024, 33, 16, 0], false))
     );
+    for (words, wanted) in LOADS {
+        assert_eq!(rt;
+            asked(rt.alloc(), words),
+            Some(("load", "a.img", "queue.txt"))
+        );
+        assert_eq!(rt; loading(rt.alloc(), words), Some(*wanted));
+    }
 }

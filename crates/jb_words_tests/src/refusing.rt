@@ -44,6 +44,21 @@ fn what_is_no_command_is_answered_by_clap(rt: HostRuntime) {
             "error: the following required arguments were not provided:\n  <IMAGE>\n\nUsage: jb recover <IMAGE>\n\nFor more information, try '--help'.\n",
         ),
         (
+            ["load", "a.img"].as_slice(),
+            true,
+            "error: the following required arguments were not provided:\n  <FILE>\n\nUsage: jb load <IMAGE> <FILE>\n\nFor more information, try '--help'.\n",
+        ),
+        (
+            ["load", "a.img", "a", "--threads", "-1"].as_slice(),
+            true,
+            "error: unexpected argument '-1' found\n\n  tip: to pass '-1' as a value, use '-- -1'\n\nUsage: jb load [OPTIONS] <IMAGE> <FILE>\n\nFor more information, try '--help'.\n",
+        ),
+        (
+            ["load", "a.img", "a", "--hold=yes"].as_slice(),
+            true,
+            "error: unexpected value 'yes' for '--hold' found; no more were expected\n\nUsage: jb load --hold <IMAGE> <FILE>\n\nFor more information, try '--help'.\n",
+        ),
+        (
             ["renumber"].as_slice(),
             true,
             "error: the following required arguments were not provided:\n  <IMAGE>\n\nUsage: jb renumber <IMAGE>\n\nFor more information, try '--help'.\n",
@@ -80,6 +95,11 @@ fn what_is_no_command_is_answered_by_clap(rt: HostRuntime) {
             "Makes an image: a new journal, and home blocks of zeros after it\n\nUsage: jb format [OPTIONS] --bs <N> --journal <N> --homes <N> <IMAGE>\n\nArguments:\n  <IMAGE>  The file to make; one that is there is left alone\n\nOptions:\n      --bs <N>       Bytes of a block: 1024, 2048 or 4096\n      --journal <N>  Blocks of the journal, its superblock counted\n      --homes <N>    Home blocks after the journal\n      --max <N>      The most log blocks of a transaction; 0 for a quarter of the log [default: 0]\n      --uuid <HEX>   The journal's UUID, as 32 hexadecimal digits [default: 00000000000000000000000000000000]\n      --wide         Block numbers of 64 bits\n  -h, --help         Print help (see more with '--help')\n",
         ),
         (
+            ["load", "-h"].as_slice(),
+            false,
+            "Commits the handles of a queue text to an image, run by threads\n\nUsage: jb load [OPTIONS] <IMAGE> <FILE>\n\nArguments:\n  <IMAGE>  A file with a journal at its front, and the home blocks after it\n  <FILE>   A queue text of the image's block size\n\nOptions:\n      --threads <N>  How many threads run the handles, 1 to 64 [default: 1]\n      --hold         Commits once all handles have run, as one batch\n      --stamp <SEC>  The time of the commit blocks, in seconds since 1970 [default: 0]\n      --checkpoint   Writes home what is committed, too\n  -h, --help         Print help (see more with '--help')\n",
+        ),
+        (
             ["recover", "-h"].as_slice(),
             false,
             "Writes home what an image's journal has committed, and empties its log\n\nUsage: jb recover <IMAGE>\n\nArguments:\n  <IMAGE>  A file with a journal at its front, and the home blocks after it\n\nOptions:\n  -h, --help  Print help (see more with '--help')\n",
@@ -92,7 +112,7 @@ fn what_is_no_command_is_answered_by_clap(rt: HostRuntime) {
         (
             ["-h"].as_slice(),
             false,
-            "A block journal in jbd2's format\n\nUsage: jb <COMMAND>\n\nCommands:\n  cost      Prints the log blocks that the queue takes as one group\n  plan      Prints a least cut of the queue into groups, with its prices\n  check     Checks a certificate of the queue, whoever made it\n  dump      Prints the committed transactions of a journal, block by block\n  format    Makes an image: a new journal, and home blocks of zeros after it\n  recover   Writes home what an image's journal has committed, and empties its log\n  renumber  Gives a clean journal, whose numbers may be spent, its first number again\n  widen     Gives a clean journal block numbers of 64 bits\n  help      Print this message or the help of the given subcommand(s)\n\nOptions:\n  -h, --help     Print help (see more with '--help')\n  -V, --version  Print version\n",
+            "A block journal in jbd2's format\n\nUsage: jb <COMMAND>\n\nCommands:\n  cost      Prints the log blocks that the queue takes as one group\n  plan      Prints a least cut of the queue into groups, with its prices\n  check     Checks a certificate of the queue, whoever made it\n  dump      Prints the committed transactions of a journal, block by block\n  format    Makes an image: a new journal, and home blocks of zeros after it\n  load      Commits the handles of a queue text to an image, run by threads\n  recover   Writes home what an image's journal has committed, and empties its log\n  renumber  Gives a clean journal, whose numbers may be spent, its first number again\n  widen     Gives a clean journal block numbers of 64 bits\n  help      Print this message or the help of the given subcommand(s)\n\nOptions:\n  -h, --help     Print help (see more with '--help')\n  -V, --version  Print version\n",
         ),
     ] {
         let (goes_to_err, text) = said(rt.alloc(), words).expect(&rt, "a text");

@@ -85,7 +85,7 @@ fn make_file<'a, R: Files<File = File> + AllocGlobal>(
 /// # Errors
 /// `Stop::CannotRead` where the file cannot be opened for reading and writing, or read; `Stop::Super` where its first bytes
 /// are no superblock; `Stop::Memory` where memory ran out.
-pub(super) fn open_image<'a, R: Files<File = File> + AllocGlobal>(
+pub fn open_image<'a, R: Files<File = File> + AllocGlobal>(
     rt: &R,
     name: &'a str,
 ) -> Result<FileDisk, Stop<'a>>

@@ -31,10 +31,7 @@ pub(crate) fn read_text<'a, R: Files + AllocGlobal, I: Read>(
 /// # Errors
 /// `Stop::CannotRead` where the file cannot be opened or read, `Stop::TooLong` where it has more than `TEXT_LIMIT`
 /// bytes, `Stop::Memory` where memory ran out.
-pub(crate) fn read_file<'a, R: Files + AllocGlobal>(
-    rt: &R,
-    name: &'a str,
-) -> Result<Vec<u8>, Stop<'a>>
+pub fn read_file<'a, R: Files + AllocGlobal>(rt: &R, name: &'a str) -> Result<Vec<u8>, Stop<'a>>
     ensures text { IfOk result (λ text. IsText None text.items) }
     ensures none { IfErr result (HasNoText name.entry.now None) }
 {

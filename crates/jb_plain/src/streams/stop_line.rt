@@ -33,6 +33,9 @@ impl<'a> Stop<'a> {
                 put_line(err, &["jb: HomeOutOfRange ", home, " ", number, "\n"]);
             }
             Stop::NeedsRecovery => put_line(err, &["jb: NeedsRecovery\n"]),
+            Stop::NumbersSpent => put_line(err, &["jb: NumbersSpent\n"]),
+            Stop::BlockSize => put_line(err, &["jb: BlockSize\n"]),
+            Stop::Accounts => put_line(err, &["jb: Accounts\n"]),
             Stop::Geometry => put_line(err, &["jb: Geometry\n"]),
             Stop::DeviceFault => put_line(err, &["jb: DeviceFault\n"]),
             Stop::Memory => put_line(err, &["jb: Memory\n"]),

@@ -12,7 +12,7 @@ use std::io::Write;
 ///
 /// # Errors
 /// `Stop::WriteFault` where standard output took only the beginning of its text.
-pub(crate) fn tell<'a, O: Write, E: Write>(
+pub fn tell<'a, O: Write, E: Write>(
     answer: &Answer,
     out: &mut O,
     err: &mut E,

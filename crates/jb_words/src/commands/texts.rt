@@ -2,7 +2,7 @@
 
 /// Of `jb` itself: the files that its commands are about, too.
 pub(crate) const JB: &str =
-    "A queue text, the FILE of cost, plan and check, has a line for each handle after its first two:
+    "A queue text, the FILE of cost, plan, check and load, has a line for each handle after its first two:
   bs 1024                 the bytes of a block: 1024, 2048 or 4096
   limit 7                 the most log blocks of a group
   h w1 w2=c03b3998 r5     a handle that writes home block 1, and 2 with these bytes, and revokes 5
@@ -22,6 +22,7 @@ pub(crate) fn more_of(command: &str) -> &'static str {
         "check" => CHECK,
         "dump" => DUMP,
         "format" => FORMAT,
+        "load" => LOAD,
         "recover" => RECOVER,
         "renumber" => RENUMBER,
         "widen" => WIDEN,
@@ -62,6 +63,18 @@ file cannot be made.
 
 Example:
   jb format a.img --bs 1024 --journal 33 --homes 16     # formatted limit 8";
+
+const LOAD: &str =
+    "Prints how many handles ran, the blocks that they touch, how many of them are committed, and the groups
+and log blocks of these. Thread K of T runs handles K, K+T, K+2T and so on, up to its first one that is
+refused; the text's limit is not used, the image's is. Without --checkpoint what is committed waits in the
+log for jb recover.
+
+Status: 0 where all handles are committed, 1 where one is refused, or the commits or the checkpoints ended
+early, or the image is refused, by the name of its fault, 2 where a file or the text cannot be taken.
+
+Example:
+  jb load a.img queue.txt --threads 4     # handles 3 changes 8 settled 3 groups 2 blocks 12";
 
 const RECOVER: &str =
     "Status: 0 where the image is recovered, 1 where it is refused, by the name of its fault, and stays as it

@@ -1,0 +1,14 @@
+//! The handles of a queue text are run through a desk, by threads, and committed.
+#![tactic(auto)]
+
+mod fault;
+mod load;
+mod loaded;
+mod options;
+mod telling;
+
+pub use fault::{HandleFault, LoadFault};
+pub use load::load_on;
+pub use loaded::{Loaded, Refused};
+pub use options::LoadOptions;
+pub use telling::tell_loaded;

@@ -1,0 +1,32 @@
+use crate::fault::HandleFault;
+use jb_desk::Ended;
+
+/// A handle that was not run to its end.
+#[derive(Clone, Copy, Debug, PartialEq, Eq)]
+pub struct Refused {
+    /// Its place in the queue, from 0 on.
+    pub handle: u64,
+    /// Why.
+    pub fault: HandleFault,
+}
+
+/// What a load did.
+#[derive(Clone, Copy, Debug, PartialEq, Eq)]
+pub struct Loaded {
+    /// How many handles stopped.
+    pub handles: u64,
+    /// How many home blocks these touched, added up.
+    pub changes: u64,
+    /// How many handles are settled.
+    pub settled: u64,
+    /// How many groups settled them.
+    pub groups: u64,
+    /// How many log blocks these groups take.
+    pub blocks: u64,
+    /// The first handle of the queue that was refused.
+    pub refused: Option<Refused>,
+    /// How the committer ended.
+    pub commit: Ended,
+    /// How the checkpointer ended; `Shut` where none was asked for.
+    pub checkpoint: Ended,
+}

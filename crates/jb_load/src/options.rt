@@ -1,0 +1,10 @@
+/// How a queue is loaded.
+#[derive(Clone, Copy, Debug)]
+pub struct LoadOptions {
+    /// How many workers run the handles, from 1 to 64.
+    pub threads: usize,
+    /// What has stopped is committed once all workers have ended, and not while they work.
+    pub hold: bool,
+    /// Committed groups are brought home, too.
+    pub checkpoint: bool,
+}

@@ -1,0 +1,50 @@
+use Rattle.std.proofs.Common.{inl, inr, refl, rules}
+use Rattle.jb_answers.specs.Said.{said}
+use Rattle.jb_answers.proofs.Verdicts.{named_by}
+use Rattle.jb_tool.proofs.load.load_files.Goals as goal
+
+pub returns-in_err-text : goal.returns-in_err-text
+returns-in_err-text g c = record {
+  ends = inr (c.in-Some.ensures.good.0 refl, record { disk = c.in_ok-disk.disk; size = c.in_ok-disk.ensures.size; ends = inl (c.in_err-text.field-0.0, search rules, c.in_err-text.ensures.none, refl) });
+}
+
+pub returns-in-Ok : goal.returns-in-Ok
+returns-in-Ok g c =
+    let text = c.in_ok-text.text.items in
+    let read = rw c.as_slice.ensures.value at c.in-Ok.ensures.ok in
+    let told = c.load_queue.ensures.told in
+    record {
+      ends = inr (
+        c.in-Some.ensures.good.0 refl,
+        record {
+          disk = c.in_ok-disk.disk;
+          size = c.in_ok-disk.ensures.size;
+          ends = inr (
+            text,
+            c.in_ok-text.ensures.text,
+            rw read (
+              c.in-Ok.queue,
+              refl,
+              record { options = c.in-Some.options; answer = told.0; asked = c.in-Some.ensures.asked; told = told.1 },
+            ),
+          );
+        },
+      );
+    }
+
+pub returns : goal.returns
+returns g c =
+    let text = c.in_ok-text.text.items in
+    let words = said c.in_ok-answer-in-Err.answer in
+    let fault = rw c.as_slice.ensures.value at c.in-Err.ensures.err in
+    let is = named_by _ c.in-Err.fault.line c.in-Err.fault.cause words fault c.in_ok-answer-in-Err.ensures.said in
+    record {
+      ends = inr (
+        c.in-Some.ensures.good.0 refl,
+        record {
+          disk = c.in_ok-disk.disk;
+          size = c.in_ok-disk.ensures.size;
+          ends = inr (text, c.in_ok-text.ensures.text, rw is (words, c.in_ok-answer-in-Err.ensures.said, c.tell.ensures));
+        },
+      );
+    }

@@ -1,0 +1,95 @@
+-- How `jb load` ends over files.
+use Rattle.std.specs.Prelude.{◌≡◌, ◌⊎◌, ◌≤◌, ℕ, List, None, Result, Ok, Err, Some}
+use Rattle.jb_answers.specs.Faulty.{queue_fault}
+use Rattle.jb_answers.specs.Said.{Said}
+use Rattle.jb_block.specs.Size.{bytes_of}
+use Rattle.jb_deck.specs.declared.fault.OpenFault.{OpenFault}
+use Rattle.jb_deck.specs.declared.fault.OpenFault.TheVariants as opening
+use Rattle.jb_disk.specs.File.{size_of}
+use Rattle.jb_disk.specs.declared.file.FileDisk.{FileDisk}
+use Rattle.jb_io.specs.declared.putting.WriteFault.{WriteFault}
+use Rattle.jb_load.specs.declared.fault.LoadFault.{LoadFault}
+use Rattle.jb_load.specs.declared.fault.LoadFault.TheVariants as loading
+use Rattle.jb_load.specs.declared.loaded.Loaded.{Loaded}
+use Rattle.jb_load.specs.declared.options.LoadOptions.{LoadOptions}
+use Rattle.jb_queue.specs.Queue.{Queue, queue_of}
+use Rattle.jb_queue.specs.QueueText.{value_of}
+use Rattle.jb_queue.specs.declared.fault.QueueFault.{QueueFault}
+use Rattle.jb_queue.specs.declared.queue_text.QueueText.{QueueText}
+use Rattle.jb_words.specs.Wanted.{Loading}
+use Rattle.jb_plain.specs.Images.{IsUnread, SaysSize}
+use Rattle.jb_plain.specs.Runs.{Closes}
+use Rattle.jb_plain.specs.Said.{Held, Tells}
+use Rattle.jb_plain.specs.Texts.{HasNoText, IsText}
+use Rattle.jb_plain.specs.declared.stop.Stop.{Stop}
+use Rattle.jb_plain.specs.declared.stop.Stop.TheVariants.{Accounts, BadOption, BlockSize, DeviceFault, Memory, NeedsRecovery, NumbersSpent, Super, WriteFault as StopWriteFault}
+
+-- as many threads as a load may have
+abbrev pub HasThreads : Loading → Type 0
+HasThreads load = (1 ≤ load.threads) × (load.threads ≤ 64)
+
+-- the options that were asked for
+pub record IsAskedBy (load : Loading) (options : LoadOptions) : Type 0 where
+  pub threads : options.threads ≡ load.threads
+  pub hold : options.hold ≡ load.hold
+  pub checkpoint : options.checkpoint ≡ load.checkpoint
+
+-- the stop that a fault of opening a journal is reported as
+abbrev pub open_stop : OpenFault → Stop
+open_stop opening.DeviceFault = DeviceFault
+open_stop (opening.Super fault) = Super fault
+open_stop opening.NeedsRecovery = NeedsRecovery
+open_stop opening.NumbersSpent = NumbersSpent
+open_stop opening.Memory = Memory
+
+-- the stop that a fault of a load is reported as
+abbrev pub load_stop : LoadFault → Stop
+load_stop loading.BlockSize = BlockSize
+load_stop (loading.Open fault) = open_stop fault
+load_stop loading.Memory = Memory
+load_stop loading.Accounts = Accounts
+
+-- how a command ends by what the telling of a load answers
+abbrev pub end_by : Result ℕ WriteFault → Result ℕ Stop
+end_by (Ok status) = Ok status
+end_by (Err fault) = Err StopWriteFault
+
+-- what a load answered is reported: its lines, or its fault, and then nothing is written
+abbrev pub TellsLoad : Result Loaded LoadFault → Held → Held → Result ℕ Stop → Type 0
+TellsLoad (Ok loaded) old new end = (told : Result ℕ WriteFault) × (end ≡ end_by told)
+TellsLoad (Err fault) old new end = (end ≡ Err (load_stop fault)) × (new ≡ old)
+
+-- a queue was loaded into an open image, as the clauses of a load say of the answer, and that answer is reported
+pub record LoadsOn (load : Loading) (disk : FileDisk) (queue : QueueText) (old new : Held) (end : Result ℕ Stop) : Type 0 where
+  pub options : LoadOptions
+  pub answer : Result Loaded LoadFault
+  pub asked : IsAskedBy load options
+  pub told : TellsLoad answer old new end
+
+-- the queue of a text was loaded, or the text's first fault is reported
+abbrev pub EndsOfText : Loading → FileDisk → Result Queue QueueFault → Held → Held → Result ℕ Stop → Type 0
+EndsOfText load disk (Ok value) old new end = (queue : QueueText) × (value_of queue ≡ value) × LoadsOn load disk queue old new end
+EndsOfText load disk (Err fault) old new end = (words : Said) × (queue_fault fault ≡ Some words) × Tells words old new end
+
+-- the image was opened, in blocks of the size that its first bytes say; then the text was not had, and nothing was done, or it was,
+-- and what it holds is loaded or refused. No clause says what a file holds: of an image's content nothing follows
+pub record EndsOpened (load : Loading) (old new : Held) (end : Result ℕ Stop) : Type 0 where
+  pub disk : FileDisk
+  pub size : SaysSize (bytes_of (size_of disk))
+  pub ends : ((stop : Stop) × (end ≡ Err stop) × HasNoText load.file None stop × (new ≡ old))
+      ⊎ ((text : List ℕ) × IsText None text × EndsOfText load disk (queue_of text) old new end)
+
+-- the image was not opened: the number of threads is bad, or it is not and the image was not read
+abbrev pub IsUnopened : Loading → Stop → Type 0
+IsUnopened load BadOption = HasThreads load → ⊥
+IsUnopened load stop = HasThreads load × IsUnread load.image stop
+
+-- the image was not opened, and nothing was done; or it was, and the text came next
+abbrev pub EndsOfLoad : Loading → Held → Held → Result ℕ Stop → Type 0
+EndsOfLoad load old new end =
+    ((stop : Stop) × (end ≡ Err stop) × IsUnopened load stop × (new ≡ old)) ⊎ (HasThreads load × EndsOpened load old new end)
+
+-- the whole run of a load
+abbrev pub RunsLoad : Loading → Held → Held → ℕ → Type 0
+RunsLoad load old new status =
+    (end : Result ℕ Stop) × (told : Held) × EndsOfLoad load old told end × Closes end told new status

@@ -1,0 +1,140 @@
+//! `jb load`: the handles of a queue text, run by threads and committed to an image.
+ghost use Rattle.std.specs.Prelude.{◌≡◌, ◌≤◌, ◌↔◌, IsSome, IfSome, Result};
+ghost use Rattle.jb_words.specs.Wanted.{load_said};
+ghost use Rattle.jb_load.specs.declared.fault.LoadFault.{LoadFault as Fault};
+ghost use Rattle.jb_load.specs.declared.loaded.Loaded.{Loaded};
+ghost use Rattle.jb_tool.specs.Load.{EndsOfLoad, HasThreads, IsAskedBy, RunsLoad, TellsLoad, load_stop};
+
+use jb_answers::fault_answer;
+use jb_block::Stamp;
+use jb_deck::OpenFault;
+use jb_disk::{FileDisk, FixedClock};
+use jb_load::{LoadFault, LoadOptions, load_on, tell_loaded};
+use jb_plain::{Stop, close, open_image, read_file, tell};
+use jb_queue::{QueueText, read_queue};
+use jb_words::LoadWords;
+use std::fs::File;
+use std::io::Write;
+use std::marker::Brand;
+use std::rt::Files;
+use std::sync::Wait;
+use std::sync::ledger::Blank;
+use std::thread::Threads;
+use std::time::Clock;
+
+/// How many parts the ledgers of a load have.
+const PARTS: u64 = (1 << 61) + 1;
+
+/// The most threads that may run the handles.
+const MOST_THREADS: u64 = 64;
+
+/// Runs `jb load` and gives the program's exit status; a load that ends without an answer has its line on `err`.
+pub(crate) fn run_load<
+    R: Files<File = File> + AllocGlobal + Threads + Wait + Clock + Sync,
+    O: Write,
+    E: Write,
+>(rt: &R, load: LoadWords<'_>, out: &mut O, err: &mut E) -> u8
+    ensures runs { RunsLoad (load_said load.entry) (record { out = O.contents out.old; err = E.contents err.old })
+        (record { out = O.contents out.new; err = E.contents err.new }) result }
+{
+    let end = load_files(rt, load, out, err);
+    close(end, err)
+}
+
+/// Loads the queue text of one file into the image that another one is, and tells what came of it.
+///
+/// # Errors
+/// `Stop::BadOption` where `--threads` is not from 1 to 64, before any file is looked at; those of `open_image` and of
+/// `read_file`; and those of `load_queue`. Nothing was written to the outputs then, but for `Stop::WriteFault`.
+fn load_files<
+    'a,
+    R: Files<File = File> + AllocGlobal + Threads + Wait + Clock + Sync,
+    O: Write,
+    E: Write,
+>(rt: &R, load: LoadWords<'a>, out: &mut O, err: &mut E) -> Result<u8, Stop<'a>>
+    ensures ends { EndsOfLoad (load_said load.entry) (record { out = O.contents out.old; err = E.contents err.old })
+        (record { out = O.contents out.new; err = E.contents err.new }) result }
+{
+    let Some(options) = load_options(load) else {
+        return Err(Stop::BadOption);
+    };
+    let disk = open_image(rt, load.image)?;
+    let text = read_file(rt, load.file)?;
+    match read_queue(rt.alloc(), text.as_slice()) {
+        Ok(queue) => load_queue(rt, disk, load.stamp, &queue, options, out, err),
+        Err(fault) => {
+            let answer = fault_answer(rt.alloc(), fault)?;
+            tell(&answer, out, err)
+        }
+    }
+}
+
+/// Loads a queue into an image with this stamp on each commit, and tells what came of it.
+///
+/// # Errors
+/// Those of `load_on`, and `Stop::WriteFault` where standard output took only the beginning of its line.
+fn load_queue<'a, R: AllocGlobal + Threads + Wait + Clock + Sync, O: Write, E: Write>(
+    rt: &R,
+    disk: FileDisk,
+    stamp: u64,
+    queue: &QueueText,
+    options: LoadOptions,
+    out: &mut O,
+    err: &mut E,
+) -> Result<u8, Stop<'a>>
+    requires threads { (1 ≤ options.threads) × (options.threads ≤ 64) }
+    ensures told { (answer : Result Loaded Fault) × TellsLoad answer (record { out = O.contents out.old; err = E.contents err.old })
+        (record { out = O.contents out.new; err = E.contents err.new }) result }
+{
+    let clock = FixedClock {
+        stamp: Stamp {
+            sec: stamp,
+            nsec: 0,
+        },
+    };
+    let (handles, changes) = (Blank::new(PARTS), Blank::new(PARTS));
+    match load_on::<FileDisk, FixedClock, R, Brand, Brand>(
+        rt,
+        rt.alloc(),
+        disk,
+        clock,
+        queue,
+        options,
+        handles,
+        changes,
+    ) {
+        Ok(loaded) => Ok(tell_loaded(&loaded, out, err)?),
+        Err(fault) => Err(stop_of(fault)),
+    }
+}
+
+/// How the queue is to be loaded, or `None` where the number of threads is not from 1 to 64.
+fn load_options(load: LoadWords<'_>) -> Option<LoadOptions>
+    ensures good { IsSome result ↔ HasThreads (load_said load.entry) }
+    ensures asked { IfSome result (IsAskedBy (load_said load.entry)) }
+{
+    if load.threads == 0 || load.threads > MOST_THREADS {
+        return None;
+    }
+    Some(LoadOptions {
+        threads: load.threads as usize,
+        hold: load.hold,
+        checkpoint: load.checkpoint,
+    })
+}
+
+/// The stop that a fault of a load is reported as.
+fn stop_of<'a>(fault: LoadFault) -> Stop<'a>
+    ensures { result ≡ load_stop fault }
+{
+    match fault {
+        LoadFault::BlockSize => Stop::BlockSize,
+        LoadFault::Open(OpenFault::DeviceFault) => Stop::DeviceFault,
+        LoadFault::Open(OpenFault::Super(fault)) => Stop::Super(fault),
+        LoadFault::Open(OpenFault::NeedsRecovery) => Stop::NeedsRecovery,
+        LoadFault::Open(OpenFault::NumbersSpent) => Stop::NumbersSpent,
+        LoadFault::Open(OpenFault::Memory) => Stop::Memory,
+        LoadFault::Memory => Stop::Memory,
+        LoadFault::Accounts => Stop::Accounts,
+    }
+}
