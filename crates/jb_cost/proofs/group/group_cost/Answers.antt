@@ -6,7 +6,7 @@ use Rattle.jb_cost.specs.Cost.{blocks_of}
 use Rattle.jb_cost.proofs.Later.{later-handle}
 use Rattle.jb_cost.proofs.Left.{few}
 use Rattle.jb_cost.proofs.Sizes.{len-copied, len-freed}
-use Rattle.jb_cost.proofs.Refusals.{on-refusal}
+use Rattle.jb_block.proofs.Refusals.{on-refusal}
 use Rattle.jb_cost.proofs.group.group_cost.Goals as goal
 
 pub loop-handle-preserved : goal.loop-handle-preserved

@@ -3,7 +3,7 @@ use Rattle.std.specs.Ordering.{nat_cmp}
 use Rattle.std.specs.BTreeSet.{contains}
 use Rattle.std.specs.FinMap as map
 use Rattle.jb_cost.proofs.Fresh.{meets-none, meets-known, meets-new, met-all, is-false, is-true}
-use Rattle.jb_cost.proofs.Refusals.{on-refusal}
+use Rattle.jb_block.proofs.Refusals.{on-refusal}
 use Rattle.jb_cost.proofs.met.meet.Goals as goal
 use Rattle.jb_cost.proofs.met.meet.Goals.{then-branch+then-is_copy, then-branch+else-is_copy, else-branch}
 

@@ -10,7 +10,7 @@ use Rattle.jb_disk.proofs.Buffers.{buffers_count}
 use Rattle.jb_disk.proofs.Choices.{written_back}
 use Rattle.jb_disk.proofs.Crashes.{rest_of_calls, whole_sectors, written_whole, chosen_by_history}
 use Rattle.jb_disk.proofs.Listed.{whole-take, whole-drop}
-use Rattle.jb_disk.proofs.Refusals.{on-refusal}
+use Rattle.jb_block.proofs.Refusals.{on-refusal}
 use Rattle.jb_disk.proofs.Replays.{replaying_shape}
 use Rattle.jb_disk.proofs.sector.crash_image.Goals as goal
 

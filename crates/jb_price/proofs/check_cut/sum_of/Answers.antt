@@ -1,7 +1,7 @@
 use Rattle.std.proofs.Common.{◌+◌, ◌-◌, length, take, drop, slice_index, subst, arith}
 use Rattle.jb_cost.specs.Cut.{RisesTo}
 use Rattle.jb_cost.proofs.Cuts.{rises-le}
-use Rattle.jb_cost.proofs.Refusals.{on-refusal}
+use Rattle.jb_block.proofs.Refusals.{on-refusal}
 use Rattle.jb_price.proofs.Walks.{drop-next}
 use Rattle.jb_price.proofs.check_cut.sum_of.Goals as goal
 

@@ -4,7 +4,7 @@ use Rattle.std.specs.FinMap as map
 use Rattle.jb_handle.specs.Words.{is_copied, is_freed}
 use Rattle.jb_cost.proofs.Later.{copies-next, frees-next, later-whole}
 use Rattle.std.specs.BTreeSet.{contains}
-use Rattle.jb_cost.proofs.Refusals.{on-refusal}
+use Rattle.jb_block.proofs.Refusals.{on-refusal}
 use Rattle.jb_cost.proofs.last_words.LastWords.put_all.Goals as goal
 
 pub loop-home-preserved : goal.loop-home-preserved
