@@ -65,7 +65,7 @@ set-contains met q = set.contains-from_list nat_cmp_total met.keys q
 pub tied-is : (q b : ℕ) → is_eq (nat_cmp b q) ≡ nat_eq q b
 tied-is q b = grind (arith, nat_tests)
 
-turned : (b : Bool) → cond (not b) 1 0 ≡ cond {A = ℕ} b 0 1
+pub turned : (b : Bool) → cond (not b) 1 0 ≡ cond {A = ℕ} b 0 1
 turned true = refl
 turned false = refl
 

@@ -44,4 +44,4 @@ pub returns-clause-few : goal.returns-clause-few
 returns-clause-few c = omega (arith, c.loop-home.invariant.meets.few, ap length c.entries-home-items.ensures, map.len-entries c.args.words.now)
 
 pub returns-in_err-insert-clause-grows : goal.returns-in_err-insert-clause-grows
-returns-in_err-insert-clause-grows c = on-refusal c.from_residual-in_err-insert.result _ (omega (arith, ap length c.entries-home-items.ensures, map.len-entries c.args.words.now))
+returns-in_err-insert-clause-grows c = on-refusal c.from_residual-in_err-insert.result (omega (arith, ap length c.entries-home-items.ensures, map.len-entries c.args.words.now))
