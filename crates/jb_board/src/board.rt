@@ -31,6 +31,10 @@ impl Board {
     ghost use Rattle.jb_board.specs.Steps.{saw_settled, saw_taken, saw_stopped, raised_settled, raised_taken, raised_stopped};
 
     /// A board on which no ticket is counted, with its first seat.
+    ///
+    /// # Errors
+    ///
+    /// `Memory` where there is none for the three counts.
     pub fn new(alloc: Global) -> Result<(Board, BoardSeat), Memory>
         ensures board { IfOk result (λ made. seat_board made.1 ≡ board_id made.0) }
         ensures view { IfOk result (λ made. seat_view made.1 ≡ front 0 0 0) }

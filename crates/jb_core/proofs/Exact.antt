@@ -1,6 +1,5 @@
 -- How a cut is judged, bound by bound.
-use Rattle.std.proofs.Common.{◌≡◌, ℕ, suc, ◌+◌, ◌-◌, ◌<◌, ◌≤◌, List, [], ◌∷◌, length, take, drop, get_or, sym, ap, subst, ◌∙◌, arith}
-use Rattle.std.proofs.Math.Seq.{drop-cons}
+use Rattle.std.proofs.Common.{◌≡◌, ℕ, ◌+◌, ◌-◌, ◌<◌, ◌≤◌, List, [], ◌∷◌, length, take, drop, sym, ap, subst, arith}
 use Rattle.std.proofs.Math.ListN.{drop_of_length-le}
 use Rattle.std.proofs.lemmas.List.Sums.{sum_by-take-le, sum_by-take-drop}
 use Rattle.std.specs.FinMap as map
@@ -52,10 +51,6 @@ module _ (c : ℕ → ℕ → ℕ) (limit n : ℕ) where
     fitting = whole.0;
     least = λ other fitting. let low = least.least other fitting in let sum = whole.1 in omega arith;
   }
-
--- the ends from a place on are the one there and those after it
-pub ends-at : (ends : List ℕ) (i : ℕ) → i < length ends → drop i ends ≡ get_or ends i 0 ∷ drop (i + 1) ends
-ends-at ends i there = drop-cons ends i 0 there ∙ ap (λ k. get_or ends i 0 ∷ drop k ends) (let same : suc i ≡ i + 1 = omega arith in same)
 
 pub ends-over : (ends : List ℕ) (i : ℕ) → length ends ≤ i → drop i ends ≡ []
 ends-over ends i le = drop_of_length-le ends le

@@ -10,6 +10,7 @@ use Rattle.std.specs.FinSet as set
 use Rattle.std.proofs.lemmas.List.Sums.{count_by_more_yes, count_by_more_no}
 use Rattle.std.proofs.lemmas.List.Folds.{list_any-append}
 use Rattle.std.proofs.lemmas.Bool.{both_ways}
+use Rattle.std.proofs.Math.Bool.{and-true, and-false, or-false, or-true}
 use Rattle.std.proofs.lemmas.List.{take_more, take_all}
 use Rattle.std.proofs.lemmas.Bool.Decides.{nat_tests}
 use Rattle.jb_handle.specs.declared.word.Word.{Word}
@@ -24,22 +25,6 @@ pub record Meets (met homes : BTreeSet ℕ) (fresh : List ℕ) (es : List (ℕ �
   pub copies_are : copies ≡ new_homes is_copy (set.from_list met.keys) (take i es)
   pub frees_are : frees ≡ new_homes is_free (set.from_list met.keys) (take i es)
   pub few : copies + frees ≤ i
-
-or-false : (a : Bool) → (a || false) ≡ a
-or-false true = refl
-or-false false = refl
-
-and-false : (a : Bool) → (a && false) ≡ false
-and-false true = refl
-and-false false = refl
-
-and-true : (a : Bool) → (a && true) ≡ a
-and-true true = refl
-and-true false = refl
-
-or-true : (a : Bool) → (a || true) ≡ true
-or-true true = refl
-or-true false = refl
 
 pub meets-none : (met : BTreeSet ℕ) (fresh : List ℕ) (es : List (ℕ × Word)) → fresh ≡ [] → Meets met met fresh es 0 0 0
 meets-none met fresh es none = record {
@@ -80,7 +65,7 @@ set-contains met q = set.contains-from_list nat_cmp_total met.keys q
 pub tied-is : (q b : ℕ) → is_eq (nat_cmp b q) ≡ nat_eq q b
 tied-is q b = grind (arith, nat_tests)
 
-turned : (b : Bool) → cond (not b) 1 0 ≡ cond {A = ℕ} b 0 1
+pub turned : (b : Bool) → cond (not b) 1 0 ≡ cond {A = ℕ} b 0 1
 turned true = refl
 turned false = refl
 

@@ -9,6 +9,7 @@ use Rattle.std.specs.FinMap.Entries.{below_all}
 use Rattle.std.specs.FinSet as set
 use Rattle.std.proofs.lemmas.List.Sums.{sum_by-cons}
 use Rattle.std.proofs.lemmas.Bool.{both_ways}
+use Rattle.std.proofs.Math.Bool.{and-true, and-false, or-false, or_assoc}
 use Rattle.std.proofs.lemmas.Bool.Decides.{nat_tests}
 use Rattle.jb_handle.specs.declared.word.Word.{Word}
 use Rattle.jb_handle.specs.declared.stopped.Stopped.{Stopped}
@@ -18,22 +19,6 @@ use Rattle.jb_handle.proofs.Touched.{is_of, homes_of, copies-homes_of, frees-hom
 use Rattle.jb_handle.specs.Size.{weight}
 use Rattle.jb_cost.specs.Met.{is_new, new_homes}
 use Rattle.jb_handle.proofs.Rising.{both_parts, is_lt-less}
-
-and-true : (a : Bool) → (a && true) ≡ a
-and-true true = refl
-and-true false = refl
-
-and-false : (a : Bool) → (a && false) ≡ false
-and-false true = refl
-and-false false = refl
-
-or-false : (a : Bool) → (a || false) ≡ a
-or-false true = refl
-or-false false = refl
-
-or-or : (a b c : Bool) → (a || (b || c)) ≡ ((a || b) || c)
-or-or true b c = refl
-or-or false b c = refl
 
 none-added : (a b n : ℕ) → a ≡ b + n → a ≡ b + (0 + n)
 none-added a b n e = omega arith
@@ -61,7 +46,7 @@ module _ (p : ℕ × Word → Bool) (s : set.FinSet nat_cmp) where
   contains-joined (e ∷ es) q = elim (p e) as (λ b. set.contains (cond b (set.insert (joined es) e.0) (joined es)) q ≡ (((eq_by_cmp nat_cmp q e.0 && b) || list_any (passes_at q) es) || set.contains s q)) [
     | true ↦ set.contains-insert nat_cmp_total (joined es) e.0 q
         ∙ (λ i. sym (and-true (eq_by_cmp nat_cmp q e.0)) i || contains-joined es q i)
-        ∙ or-or (eq_by_cmp nat_cmp q e.0 && true) (list_any (passes_at q) es) (set.contains s q)
+        ∙ sym (or_assoc (eq_by_cmp nat_cmp q e.0 && true) (list_any (passes_at q) es) (set.contains s q))
     | false ↦ contains-joined es q ∙ ap (λ b. (b || list_any (passes_at q) es) || set.contains s q) (sym (and-false (eq_by_cmp nat_cmp q e.0)))
   ]
 

@@ -12,7 +12,6 @@ pub mod Left
 pub mod Owning
 pub mod Picked
 pub mod Pieces
-pub mod Refusals
 pub mod Sizes
 pub mod Starts
 pub mod Taking

@@ -1,5 +1,5 @@
 -- What the handles own, as a home goes from one to another.
-use Rattle.std.proofs.Common.{◌≡◌, ℕ, ◌+◌, ◌-◌, ◌<◌, ◌≤◌, Bool, true, false, cond, not, ◌&&◌, nat_le, List, [], ◌∷◌, ◌++◌, length, drop, get_or, set, Option, Some, inl, inr, sym, ap, ◌∙◌, refl, arith, length-append, length-drop}
+use Rattle.std.proofs.Common.{◌≡◌, ℕ, ◌+◌, ◌-◌, ◌<◌, ◌≤◌, Bool, cond, ◌&&◌, nat_le, List, [], ◌∷◌, ◌++◌, length, drop, get_or, set, Option, Some, inl, inr, sym, ap, ◌∙◌, arith, length-append, length-drop}
 use Rattle.std.specs.List.{sum_by}
 use Rattle.std.specs.Option.{unwrap_or, option_map}
 use Rattle.std.specs.Map.{values_of}
@@ -108,7 +108,3 @@ module _ (count : Owned → ℕ) (kind : Bool → Bool) where
     | inl late ↦ omega (arith, so_far i, cond-late i n 0 late)
     | inr early ↦ omega (arith, so_far i, cond-early i n 0 early)
   ]
-
-pub turned-cond : (b : Bool) → cond (not b) 1 0 ≡ cond {A = ℕ} b 0 1
-turned-cond true = refl
-turned-cond false = refl

@@ -3,7 +3,7 @@ use Rattle.std.proofs.Common.{◌≡◌, ℕ, zero, suc, ◌+◌, ◌-◌, ◌<�
 use Rattle.jb_block.specs.declared.stamp.Stamp.{Stamp}
 use Rattle.jb_cost.specs.Cut.{RisesTo, IsCut}
 use Rattle.jb_deck.specs.Committing.{AnswersBatch}
-use Rattle.jb_deck.specs.Deck.{Held}
+use Rattle.jb_deck.specs.Deck.{OpenDeck}
 use Rattle.jb_deck.specs.Done.{Follow, first_of, entries_of, past_after}
 use Rattle.jb_deck.specs.Gathering.{entries_from, entries_for}
 use Rattle.jb_batch.specs.Prepared.{Planned, IsPlanned}
@@ -44,7 +44,7 @@ part-past first least past (e ∷ es) (suc n) is = part-past e.past (e.number + 
 
 -- ---- a commit
 
-pub commits-as : {D : Type 0} (before after : ℕ) (p : Planned) (stamp : Stamp) (old new : Held D) (r : Result Done BatchFault) → IsPlanned p → AnswersBatch before after p stamp old new r → CommitsAs p r
+pub commits-as : {D : Type 0} (before after : ℕ) (p : Planned) (stamp : Stamp) (old new : OpenDeck D) (r : Result Done BatchFault) → IsPlanned p → AnswersBatch before after p stamp old new r → CommitsAs p r
 commits-as before after p stamp old new (Ok done) planned is =
     let committed = is.2 in (
       committed.first,

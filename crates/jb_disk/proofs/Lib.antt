@@ -8,7 +8,6 @@ pub mod Mixes
 pub mod Moments
 pub mod Outcomes
 pub mod Reached
-pub mod Refusals
 pub mod Replays
 pub mod Sectors
 pub mod Stepping

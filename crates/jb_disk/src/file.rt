@@ -27,7 +27,11 @@ pub struct FileDisk {
 impl FileDisk {
     ghost use Rattle.jb_disk.specs.File.{size_of, faults_of};
 
-    /// The disk that `file` is, in blocks of this size. A fault where its length cannot be read.
+    /// The disk that `file` is, in blocks of this size; a part of a block at its end is left out.
+    ///
+    /// # Errors
+    ///
+    /// A fault where the system does not give the file's length.
     pub fn of(file: File, size: BlockSize) -> Result<FileDisk, Fault>
         ensures size { IfOk result (λ disk. size_of disk ≡ size) }
         ensures fresh { IfOk result (λ disk. faults_of disk ≡ 0) }

@@ -45,6 +45,10 @@ impl Model for MemoryDisk {
 
 impl MemoryDisk {
     /// A disk of so many blocks of zeros. One of no blocks takes no memory.
+    ///
+    /// # Errors
+    ///
+    /// `Memory` where there is none for its blocks.
     pub fn new(alloc: Global, size: BlockSize, blocks: u64) -> Result<MemoryDisk, Memory>
         ensures sound { IfOk result IsSound }
         ensures size { IfOk result (λ disk. disk.size ≡ size) }
@@ -67,6 +71,10 @@ impl MemoryDisk {
     /// been written since the last sync the k-th, by place and then within the block, gets its
     /// `choice[k]`-th version, modulo their number; 0, or no number, is what it held at the sync. A disk
     /// of no blocks takes no memory.
+    ///
+    /// # Errors
+    ///
+    /// `Memory` where there is none for the blocks of the new disk.
     pub fn crash(&self, choice: &[u32]) -> Result<MemoryDisk, Memory>
         ensures sound { IfOk result IsSound }
         ensures size { IfOk result (λ disk. disk.size ≡ self.now.size) }

@@ -1,5 +1,5 @@
 -- The words of handles, gathered one after the other.
-use Rattle.std.proofs.Common.{◌≡◌, ℕ, zero, suc, ◌+◌, ◌<◌, ◌≤◌, cond, nat_eq, T, List, [], ◌∷◌, ◌++◌, length, get_or, take, Option, Some, None, Result, Ok, Err, OnErr, refl, sym, ap, ◌∙◌, arith}
+use Rattle.std.proofs.Common.{◌≡◌, ℕ, zero, suc, ◌+◌, ◌<◌, ◌≤◌, cond, nat_eq, T, List, [], ◌∷◌, ◌++◌, length, get_or, take, Option, Some, None, refl, sym, ap, ◌∙◌, arith}
 use Rattle.std.specs.Option.{option_or}
 use Rattle.std.specs.Ordering.{nat_cmp}
 use Rattle.std.specs.Cmp.{nat_cmp_total}
@@ -12,11 +12,6 @@ use Rattle.jb_handle.specs.Words.{word, words_of}
 use Rattle.jb_handle.proofs.LastWord.{or-cond, get-words_of}
 use Rattle.jb_handle.proofs.Rising.{find-take, tied-cond}
 use Rattle.jb_handle.proofs.Touched.{word-append}
-
--- what holds anyway holds at a fault
-pub err-for : {A E P : Type 0} (r : Result A E) → P → OnErr r P
-err-for (Ok x) holds = tt
-err-for (Err e) holds = holds
 
 -- one word more of a handle
 pub word-more : (es : List (ℕ × Word)) → T (map.is_sorted nat_cmp es) → (i : ℕ) (e : ℕ × Word) → e ≡ get_or es i e → i < length es → (m n : WordMap) (w : Word) → w ≡ e.1 → n ≡ map.insert m e.0 w

@@ -9,36 +9,36 @@ use Rattle.jb_plain.specs.Dump.{DumpsFile}
 use Rattle.jb_plain.specs.Images.{EndsOfFormat, EndsOfRecover, EndsOfRenumber, EndsOfWiden}
 use Rattle.jb_answers.specs.Plan.{PlanSays}
 use Rattle.jb_answers.specs.Said.{Said}
-use Rattle.jb_plain.specs.Said.{Held, Tells}
+use Rattle.jb_plain.specs.Said.{Outputs, Tells}
 use Rattle.jb_plain.specs.Stops.{line_of, status_of}
 use Rattle.jb_plain.specs.Texts.{HasNoText, IsText, known_behind}
 use Rattle.jb_plain.specs.declared.stop.Stop.{Stop}
 
 -- a command said what it has to say of the text after this name, or ended without a word where there was no text or no memory
-abbrev pub Ends : (List ℕ → Said → Type 0) → List ℕ → Option (List ℕ) → Held → Held → Result ℕ Stop → Type 0
+abbrev pub Ends : (List ℕ → Said → Type 0) → List ℕ → Option (List ℕ) → Outputs → Outputs → Result ℕ Stop → Type 0
 Ends Says name input old new end =
     ((text : List ℕ) × (words : Said) × IsText (known_behind name input) text × Says text words × Tells words old new end)
     ⊎ ((stop : Stop) × (end ≡ Err stop) × HasNoText name (known_behind name input) stop × (new ≡ old))
 
 -- a command over the texts of two files told what it has to say of them, or ended without a word for want of a text or of
 -- memory
-abbrev pub EndsOfTwo : (List ℕ → List ℕ → Said → Type 0) → List ℕ → List ℕ → Held → Held → Result ℕ Stop → Type 0
+abbrev pub EndsOfTwo : (List ℕ → List ℕ → Said → Type 0) → List ℕ → List ℕ → Outputs → Outputs → Result ℕ Stop → Type 0
 EndsOfTwo Says name other old new end =
     ((text text' : List ℕ) × (words : Said) × IsText None text × IsText None text' × Says text text' words × Tells words old new end)
     ⊎ ((stop : Stop) × (end ≡ Err stop) × (HasNoText name None stop ⊎ HasNoText other None stop) × (new ≡ old))
 
 -- standard output holds what the command wrote, and standard error is left alone
-abbrev pub OutAlone : (Option (List ℕ) → Option (List ℕ) → Result ℕ Stop → Type 0) → Held → Held → Result ℕ Stop → Type 0
+abbrev pub OutAlone : (Option (List ℕ) → Option (List ℕ) → Result ℕ Stop → Type 0) → Outputs → Outputs → Result ℕ Stop → Type 0
 OutAlone Ends old new end = Ends old.out new.out end × (new.err ≡ old.err)
 
 -- the program's status, and the line of a command that ended without an answer
-abbrev pub Closes : Result ℕ Stop → Held → Held → ℕ → Type 0
+abbrev pub Closes : Result ℕ Stop → Outputs → Outputs → ℕ → Type 0
 Closes (Ok told) old new status = (status ≡ told) × (new ≡ old)
 Closes (Err stop) old new status =
     (status ≡ status_of stop) × (new.out ≡ old.out) × PutsPart old.err new.err (line_of stop)
 
 -- how the command that the words ask for ends
-abbrev pub EndsAsked : Asked → Option (List ℕ) → Held → Held → Result ℕ Stop → Type 0
+abbrev pub EndsAsked : Asked → Option (List ℕ) → Outputs → Outputs → Result ℕ Stop → Type 0
 EndsAsked (AsksCost file) = Ends (λ text words. cost_said text ≡ Some words) file
 EndsAsked (AsksPlan file) = Ends PlanSays file
 EndsAsked (AsksCheck file cert) = λ _. EndsOfTwo CheckSays file cert
@@ -49,6 +49,6 @@ EndsAsked (AsksRenumber image) = λ _. OutAlone (EndsOfRenumber image)
 EndsAsked (AsksWiden image) = λ _. OutAlone (EndsOfWiden image)
 
 -- the whole run of the command that the words ask for
-abbrev pub Runs : Asked → Option (List ℕ) → Held → Held → ℕ → Type 0
+abbrev pub Runs : Asked → Option (List ℕ) → Outputs → Outputs → ℕ → Type 0
 Runs asked input old new status =
-    (end : Result ℕ Stop) × (told : Held) × EndsAsked asked input old told end × Closes end told new status
+    (end : Result ℕ Stop) × (told : Outputs) × EndsAsked asked input old told end × Closes end told new status

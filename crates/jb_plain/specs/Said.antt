@@ -7,12 +7,12 @@ use Rattle.jb_plain.specs.declared.stop.Stop.{Stop}
 use Rattle.jb_plain.specs.declared.stop.Stop.TheVariants.{WriteFault}
 
 -- the bytes that standard output and standard error hold, each where they are known
-pub record Held : Type 0 where
+pub record Outputs : Type 0 where
   pub out : Option (List ℕ)
   pub err : Option (List ℕ)
 
 -- all of it is on standard output, and on standard error as much as that took; or standard output failed part of the way
-abbrev pub Tells : Said → Held → Held → Result ℕ Stop → Type 0
+abbrev pub Tells : Said → Outputs → Outputs → Result ℕ Stop → Type 0
 Tells words old new (Ok status) =
     (status ≡ words.status) × Appends old.out new.out words.out × PutsPart old.err new.err words.err
 Tells words old new (Err WriteFault) = PutsPart old.out new.out words.out × (new.err ≡ old.err)

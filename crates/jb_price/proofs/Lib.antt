@@ -3,4 +3,3 @@ pub mod ReadBack
 pub mod SpelledCert
 pub mod Undercutting
 pub mod Verdicts
-pub mod Walks

@@ -8,6 +8,10 @@ use std::alloc::Global;
 
 /// The text of a certificate: a line of prices, a line of the cut's bounds, and a line of its total, or `cut none`.
 /// Each line ends with an LF.
+///
+/// # Errors
+///
+/// `Memory` where there is none for the text.
 pub fn print_cert(alloc: Global, cert: &Cert) -> Result<String, Memory>
     ensures { IfOk result (λ text. string_bytes text ≡ cert_text cert.now) }
 {

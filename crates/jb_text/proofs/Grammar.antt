@@ -1,5 +1,5 @@
 -- A text is read exactly where its lines, and its words, make it.
-use Rattle.std.proofs.Common.{subst, ◌≡◌, ◌∙◌, sym, ap, ℕ, ◌<◌, Bool, true, false, if◌then◌else◌, List, [], ◌∷◌, ◌++◌, length, take, drop, refl, arith, Option, Some, None, inl, inr}
+use Rattle.std.proofs.Common.{subst, ◌≡◌, ◌∙◌, sym, ap, ℕ, ◌<◌, Bool, true, false, if◌then◌else◌, List, [], ◌∷◌, ◌++◌, length, take, drop, refl, arith, Some, None, inl, inr}
 use Rattle.std.specs.List.{AllByRecursion}
 use Rattle.std.specs.Str.{bytes_eq}
 use Rattle.std.proofs.lemmas.Bool.{cases_eq}

@@ -4,11 +4,10 @@ use Rattle.std.specs.Char.{is_ascii_digit}
 use Rattle.std.specs.Fmt.{decimal}
 use Rattle.std.proofs.lemmas.Bool.Decides.{nat_tests}
 use Rattle.std.proofs.lemmas.Bool.{eq-eqb, ne_eqb, lt-ltb, ltb-true, cases_lt}
-use Rattle.std.proofs.lemmas.List.{drop_all}
+use Rattle.std.proofs.lemmas.List.{drop_all, drop_more}
 use Rattle.std.proofs.lemmas.Fmt.{decimal-digits_value, digits_value-decimal, digits_decimal, first_decimal, decimal_nonempty, decimal_digit}
 use Rattle.std.proofs.lemmas.Str.Parse.{IsNumeralModel, numerals_by_fold}
 use Rattle.jb_text.specs.Parts.{with_digit, and_then, number_from, number_of}
-use Rattle.jb_text.proofs.Splits.{drop-next}
 
 pub number-goes : (value digit more : ℕ) (digits : List ℕ) → with_digit value digit ≡ Some more → number_from value (digit ∷ digits) ≡ number_from more digits
 unfolding number_from
@@ -22,13 +21,13 @@ number-fails value digit digits step = rw step refl
 pub digit-goes : (digits : List ℕ) (at value more : ℕ) → at < length digits → with_digit value (get_or digits at 0) ≡ Some more → number_from value (drop at digits) ≡ number_from 0 digits → number_from more (drop (at + 1) digits) ≡ number_from 0 digits
 digit-goes digits at value more within step so_far =
     sym (number-goes value (get_or digits at 0) more (drop (at + 1) digits) step)
-    ∙ ap (number_from value) (sym (drop-next digits at within))
+    ∙ ap (number_from value) (sym (drop_more digits at 0 within))
     ∙ so_far
 
 pub digit-fails : (digits : List ℕ) (at value : ℕ) → at < length digits → with_digit value (get_or digits at 0) ≡ None → number_from value (drop at digits) ≡ number_from 0 digits → None ≡ number_from 0 digits
 digit-fails digits at value within step so_far =
     sym (number-fails value (get_or digits at 0) (drop (at + 1) digits) step)
-    ∙ ap (number_from value) (sym (drop-next digits at within))
+    ∙ ap (number_from value) (sym (drop_more digits at 0 within))
     ∙ so_far
 
 -- each byte is a digit

@@ -1,7 +1,7 @@
 -- Where a text is parted: the bytes before the first stop, and those from it on.
-use Rattle.std.proofs.Common.{◌≡◌, ◌≢◌, ◌∙◌, sym, ap, ℕ, ◌+◌, ◌<◌, ◌≤◌, List, [], ◌∷◌, ◌++◌, length, take, drop, get_or, refl, drop-cons, add-one, inl, inr, length-append, length-drop, arith, ◌-◌, Option, Some, None, ◌==◌, true}
+use Rattle.std.proofs.Common.{◌≡◌, ◌≢◌, ◌∙◌, sym, ap, ℕ, ◌+◌, ◌<◌, ◌≤◌, List, [], ◌∷◌, ◌++◌, length, take, drop, get_or, refl, add-one, inl, inr, length-append, length-drop, arith, ◌-◌, Option, Some, None, ◌==◌, true}
 use Rattle.std.proofs.Math.Seq.{take-suc}
-use Rattle.std.proofs.lemmas.List.{append-nil, append_assoc, take_all, drop_all}
+use Rattle.std.proofs.lemmas.List.{append-nil, append_assoc, take_all, drop_all, drop_more}
 use Rattle.std.proofs.lemmas.Bool.{eq-eqb, eqb-true, ne_eqb, cases_eq}
 use Rattle.jb_text.specs.Parts.{before, onward, grow, lines, words, words_in, FirstLine}
 
@@ -29,10 +29,6 @@ pub onward-nil : (stop : ℕ) → onward stop [] ≡ []
 unfolding onward
 onward-nil stop = refl
 
--- what is left from n on, by its first byte
-pub drop-next : (bs : List ℕ) (n : ℕ) → n < length bs → drop n bs ≡ get_or bs n 0 ∷ drop (n + 1) bs
-drop-next bs n within = drop-cons bs n 0 within ∙ ap (λ k. get_or bs n 0 ∷ drop k bs) (sym (add-one n))
-
 pub take-next : (bs : List ℕ) (n : ℕ) → n < length bs → take (n + 1) bs ≡ take n bs ++ (get_or bs n 0 ∷ [])
 take-next bs n within = ap (λ k. take k bs) (add-one n) ∙ take-suc bs n 0 within
 
@@ -46,24 +42,24 @@ clear-opens stop bs = record { front = refl; back = refl }
 
 pub clear-goes : (stop : ℕ) (bs : List ℕ) (n : ℕ) → n < length bs → get_or bs n 0 ≢ stop → IsClear stop bs n → IsClear stop bs (n + 1)
 clear-goes stop bs n within other clear = record {
-  front = clear.front ∙ ap (λ xs. take n bs ++ before stop xs) (drop-next bs n within)
+  front = clear.front ∙ ap (λ xs. take n bs ++ before stop xs) (drop_more bs n 0 within)
       ∙ ap (λ xs. take n bs ++ xs) (before-goes stop (get_or bs n 0) (drop (n + 1) bs) other)
       ∙ sym (append_assoc (take n bs) (get_or bs n 0 ∷ []) (before stop (drop (n + 1) bs)))
       ∙ ap (λ xs. xs ++ before stop (drop (n + 1) bs)) (sym (take-next bs n within));
-  back = clear.back ∙ ap (onward stop) (drop-next bs n within) ∙ onward-goes stop (get_or bs n 0) (drop (n + 1) bs) other;
+  back = clear.back ∙ ap (onward stop) (drop_more bs n 0 within) ∙ onward-goes stop (get_or bs n 0) (drop (n + 1) bs) other;
 }
 
 pub clear-front : (stop : ℕ) (bs : List ℕ) (n : ℕ) → n < length bs → get_or bs n 0 ≡ stop → IsClear stop bs n → before stop bs ≡ take n bs
 clear-front stop bs n within same clear = clear.front
-    ∙ ap (λ xs. take n bs ++ before stop xs) (drop-next bs n within)
+    ∙ ap (λ xs. take n bs ++ before stop xs) (drop_more bs n 0 within)
     ∙ ap (λ xs. take n bs ++ xs) (before-stops stop (get_or bs n 0) (drop (n + 1) bs) same)
     ∙ append-nil (take n bs)
 
 pub clear-back : (stop : ℕ) (bs : List ℕ) (n : ℕ) → n < length bs → get_or bs n 0 ≡ stop → IsClear stop bs n → onward stop bs ≡ drop n bs
 clear-back stop bs n within same clear = clear.back
-    ∙ ap (onward stop) (drop-next bs n within)
+    ∙ ap (onward stop) (drop_more bs n 0 within)
     ∙ onward-stops stop (get_or bs n 0) (drop (n + 1) bs) same
-    ∙ sym (drop-next bs n within)
+    ∙ sym (drop_more bs n 0 within)
 
 pub clear-whole : (stop : ℕ) (bs : List ℕ) (n : ℕ) → length bs ≤ n → IsClear stop bs n → before stop bs ≡ bs
 unfolding before

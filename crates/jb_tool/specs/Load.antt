@@ -19,7 +19,7 @@ use Rattle.jb_queue.specs.declared.queue_text.QueueText.{QueueText}
 use Rattle.jb_words.specs.Wanted.{Loading}
 use Rattle.jb_plain.specs.Images.{IsUnread, SaysSize}
 use Rattle.jb_plain.specs.Runs.{Closes}
-use Rattle.jb_plain.specs.Said.{Held, Tells}
+use Rattle.jb_plain.specs.Said.{Outputs, Tells}
 use Rattle.jb_plain.specs.Texts.{HasNoText, IsText}
 use Rattle.jb_plain.specs.declared.stop.Stop.{Stop}
 use Rattle.jb_plain.specs.declared.stop.Stop.TheVariants.{Accounts, BadOption, BlockSize, DeviceFault, Memory, NeedsRecovery, NumbersSpent, Super, WriteFault as StopWriteFault}
@@ -55,25 +55,25 @@ end_by (Ok status) = Ok status
 end_by (Err fault) = Err StopWriteFault
 
 -- what a load answered is reported: its lines, or its fault, and then nothing is written
-abbrev pub TellsLoad : Result Loaded LoadFault → Held → Held → Result ℕ Stop → Type 0
+abbrev pub TellsLoad : Result Loaded LoadFault → Outputs → Outputs → Result ℕ Stop → Type 0
 TellsLoad (Ok loaded) old new end = (told : Result ℕ WriteFault) × (end ≡ end_by told)
 TellsLoad (Err fault) old new end = (end ≡ Err (load_stop fault)) × (new ≡ old)
 
 -- a queue was loaded into an open image, as the clauses of a load say of the answer, and that answer is reported
-pub record LoadsOn (load : Loading) (disk : FileDisk) (queue : QueueText) (old new : Held) (end : Result ℕ Stop) : Type 0 where
+pub record LoadsOn (load : Loading) (disk : FileDisk) (queue : QueueText) (old new : Outputs) (end : Result ℕ Stop) : Type 0 where
   pub options : LoadOptions
   pub answer : Result Loaded LoadFault
   pub asked : IsAskedBy load options
   pub told : TellsLoad answer old new end
 
 -- the queue of a text was loaded, or the text's first fault is reported
-abbrev pub EndsOfText : Loading → FileDisk → Result Queue QueueFault → Held → Held → Result ℕ Stop → Type 0
+abbrev pub EndsOfText : Loading → FileDisk → Result Queue QueueFault → Outputs → Outputs → Result ℕ Stop → Type 0
 EndsOfText load disk (Ok value) old new end = (queue : QueueText) × (value_of queue ≡ value) × LoadsOn load disk queue old new end
 EndsOfText load disk (Err fault) old new end = (words : Said) × (queue_fault fault ≡ Some words) × Tells words old new end
 
 -- the image was opened, in blocks of the size that its first bytes say; then the text was not had, and nothing was done, or it was,
 -- and what it holds is loaded or refused. No clause says what a file holds: of an image's content nothing follows
-pub record EndsOpened (load : Loading) (old new : Held) (end : Result ℕ Stop) : Type 0 where
+pub record EndsOpened (load : Loading) (old new : Outputs) (end : Result ℕ Stop) : Type 0 where
   pub disk : FileDisk
   pub size : SaysSize (bytes_of (size_of disk))
   pub ends : ((stop : Stop) × (end ≡ Err stop) × HasNoText load.file None stop × (new ≡ old))
@@ -85,11 +85,11 @@ IsUnopened load BadOption = HasThreads load → ⊥
 IsUnopened load stop = HasThreads load × IsUnread load.image stop
 
 -- the image was not opened, and nothing was done; or it was, and the text came next
-abbrev pub EndsOfLoad : Loading → Held → Held → Result ℕ Stop → Type 0
+abbrev pub EndsOfLoad : Loading → Outputs → Outputs → Result ℕ Stop → Type 0
 EndsOfLoad load old new end =
     ((stop : Stop) × (end ≡ Err stop) × IsUnopened load stop × (new ≡ old)) ⊎ (HasThreads load × EndsOpened load old new end)
 
 -- the whole run of a load
-abbrev pub RunsLoad : Loading → Held → Held → ℕ → Type 0
+abbrev pub RunsLoad : Loading → Outputs → Outputs → ℕ → Type 0
 RunsLoad load old new status =
-    (end : Result ℕ Stop) × (told : Held) × EndsOfLoad load old told end × Closes end told new status
+    (end : Result ℕ Stop) × (told : Outputs) × EndsOfLoad load old told end × Closes end told new status

@@ -7,19 +7,19 @@ use Rattle.jb_words.specs.declared.Error.{Error}
 use Rattle.jb_words.specs.declared.ErrorKind.{ErrorKind}
 use Rattle.jb_words.specs.declared.ErrorKind.TheVariants.{DisplayHelp, DisplayVersion, OutOfMemory}
 use Rattle.jb_plain.specs.Runs.{Closes}
-use Rattle.jb_plain.specs.Said.{Held}
+use Rattle.jb_plain.specs.Said.{Outputs}
 use Rattle.jb_plain.specs.Stops.{line_of}
 use Rattle.jb_plain.specs.declared.stop.Stop.TheVariants.{Memory, WriteFault}
 
 -- how a run ends whose words clap refuses for this reason: help and the version are for standard output, and all else of
 -- clap's texts for standard error
-pub record EndsRefused (kind : ErrorKind) (old new : Held) (status : ℕ) : Type 0 where
+pub record EndsRefused (kind : ErrorKind) (old new : Outputs) (status : ℕ) : Type 0 where
   pub memory : kind ≡ OutOfMemory → Closes (Err Memory) old new status
   pub shown : (kind ≡ DisplayHelp) ⊎ (kind ≡ DisplayVersion)
       → ((status ≡ 0) × (new.err ≡ old.err)) ⊎ ((status ≡ 1) × PutsPart old.err new.err (line_of WriteFault))
   pub mistake : kind ≢ OutOfMemory → kind ≢ DisplayHelp → kind ≢ DisplayVersion → (status ≡ 2) × (new.out ≡ old.out)
 
 -- the words were refused by one of the kinds of their first fault, or where memory ran out, or as they ask for no command
-abbrev pub RefusesWords : Kinds → Option Wanted → Held → Held → ℕ → Type 0
+abbrev pub RefusesWords : Kinds → Option Wanted → Outputs → Outputs → ℕ → Type 0
 RefusesWords kinds wanted old new status =
     (error : Error) × (HasKind kinds error ⊎ ((kinds ≡ []) × (wanted ≡ None))) × EndsRefused (kind_of error) old new status

@@ -3,10 +3,10 @@ use Rattle.std.specs.Prelude.{ℕ, List, Option}
 use Rattle.jb_words.specs.Wanted.{Wanted}
 use Rattle.jb_words.specs.Wanted.Wanted.{WantsLoad, WantsPlain}
 use Rattle.jb_plain.specs.Runs.{Runs}
-use Rattle.jb_plain.specs.Said.{Held}
+use Rattle.jb_plain.specs.Said.{Outputs}
 use Rattle.jb_tool.specs.Load.{RunsLoad}
 
 -- the whole run of the command that is wanted
-abbrev pub RunsWanted : Wanted → Option (List ℕ) → Held → Held → ℕ → Type 0
+abbrev pub RunsWanted : Wanted → Option (List ℕ) → Outputs → Outputs → ℕ → Type 0
 RunsWanted (WantsPlain asked) input old new status = Runs asked input old new status
 RunsWanted (WantsLoad load) input old new status = RunsLoad load old new status

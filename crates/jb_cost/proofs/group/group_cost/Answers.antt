@@ -6,7 +6,7 @@ use Rattle.jb_cost.specs.Cost.{blocks_of}
 use Rattle.jb_cost.proofs.Later.{later-handle}
 use Rattle.jb_cost.proofs.Left.{few}
 use Rattle.jb_cost.proofs.Sizes.{len-copied, len-freed}
-use Rattle.jb_cost.proofs.Refusals.{on-refusal}
+use Rattle.jb_block.proofs.Refusals.{on-refusal}
 use Rattle.jb_cost.proofs.group.group_cost.Goals as goal
 
 pub loop-handle-preserved : goal.loop-handle-preserved
@@ -34,4 +34,4 @@ returns-clause-blocks c =
 pub returns-in_err-put_all-clause-grows : goal.returns-in_err-put_all-clause-grows
 returns-in_err-put_all-clause-grows c =
     let inside : c.loop-handle.handle-index < length c.args.handles.now = omega arith in
-    on-refusal c.from_residual.result _ (c.loop-handle.handle-index, c.handle-item.result, inside, sym (get_or_read c.args.handles.now _ _ inside c.handle-item.is _), c.in_err-put_all.ensures.grows)
+    on-refusal c.from_residual.result (c.loop-handle.handle-index, c.handle-item.result, inside, sym (get_or_read c.args.handles.now _ _ inside c.handle-item.is _), c.in_err-put_all.ensures.grows)

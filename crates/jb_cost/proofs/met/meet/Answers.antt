@@ -3,7 +3,7 @@ use Rattle.std.specs.Ordering.{nat_cmp}
 use Rattle.std.specs.BTreeSet.{contains}
 use Rattle.std.specs.FinMap as map
 use Rattle.jb_cost.proofs.Fresh.{meets-none, meets-known, meets-new, met-all, is-false, is-true}
-use Rattle.jb_cost.proofs.Refusals.{on-refusal}
+use Rattle.jb_block.proofs.Refusals.{on-refusal}
 use Rattle.jb_cost.proofs.met.meet.Goals as goal
 use Rattle.jb_cost.proofs.met.meet.Goals.{then-branch+then-is_copy, then-branch+else-is_copy, else-branch}
 
@@ -44,4 +44,4 @@ pub returns-clause-few : goal.returns-clause-few
 returns-clause-few c = omega (arith, c.loop-home.invariant.meets.few, ap length c.entries-home-items.ensures, map.len-entries c.args.words.now)
 
 pub returns-in_err-insert-clause-grows : goal.returns-in_err-insert-clause-grows
-returns-in_err-insert-clause-grows c = on-refusal c.from_residual-in_err-insert.result _ (omega (arith, ap length c.entries-home-items.ensures, map.len-entries c.args.words.now))
+returns-in_err-insert-clause-grows c = on-refusal c.from_residual-in_err-insert.result (omega (arith, ap length c.entries-home-items.ensures, map.len-entries c.args.words.now))

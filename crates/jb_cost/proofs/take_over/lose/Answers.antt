@@ -2,7 +2,8 @@ use Rattle.std.proofs.Common.{◌≡◌, ◌+◌, not, ap, ◌∙◌, arith}
 use Rattle.std.specs.Option.{unwrap_or, option_map}
 use Rattle.std.proofs.lemmas.List.{get_or_read}
 use Rattle.jb_cost.specs.Owned.{copies_of, frees_of, kept, owned_at, counts_since}
-use Rattle.jb_cost.proofs.Owning.{lost, turned-cond}
+use Rattle.jb_cost.proofs.Owning.{lost}
+use Rattle.jb_cost.proofs.Fresh.{turned}
 use Rattle.jb_cost.proofs.take_over.lose.Goals as goal
 
 pub returns-clause-copies : goal.returns-clause-copies
@@ -21,4 +22,4 @@ returns-clause-frees c i =
     let inside = c.requires.inside t c.in-Some.is in
     let read : c.index.result.now ≡ owned_at os t.handle = get_or_read os t.handle c.index.result.now inside c.index.ensures _ in
     let was : unwrap_or (option_map (counts_since not i) c.args.before) 0 ≡ counts_since not i t = ap (λ b. unwrap_or (option_map (counts_since not i) b) 0) c.in-Some.is in
-    omega (arith, was, lost frees_of not os t c.without.result inside (ap (λ n. c.without.result.frees + n) (turned-cond t.copy) ∙ c.without.ensures.frees ∙ ap frees_of read) i)
+    omega (arith, was, lost frees_of not os t c.without.result inside (ap (λ n. c.without.result.frees + n) (turned t.copy) ∙ c.without.ensures.frees ∙ ap frees_of read) i)

@@ -4,7 +4,8 @@ use Rattle.std.specs.BTreeMap.{get}
 use Rattle.std.specs.FinMap as map
 use Rattle.jb_cost.specs.Owned.{copies_of, frees_of, kept, later_touch}
 use Rattle.jb_cost.proofs.Fresh.{one-kind}
-use Rattle.jb_cost.proofs.Owning.{owns, counts-more, turned-cond}
+use Rattle.jb_cost.proofs.Owning.{owns, counts-more}
+use Rattle.jb_cost.proofs.Fresh.{turned}
 use Rattle.jb_cost.proofs.Taking.{home-before, follows-next, follows-whole}
 use Rattle.jb_cost.proofs.take_over.take_over.Goals as goal
 
@@ -23,7 +24,7 @@ lose-requires-clause-copies c t is =
 pub lose-requires-clause-frees : goal.lose-requires-clause-frees
 lose-requires-clause-frees c t is =
     let inside = lose-requires-clause-inside c t is in
-    omega (arith, turned-cond t.copy, owns frees_of not _ _ c.loop-home.owned.items c.loop-home.last _ t c.loop-home.invariant.frees c.in_ok-before.ensures.was_ordered (sym c.in_ok-before.ensures.old ∙ is) (omega (arith, inside, c.loop-home.invariant.number)) (sym c.loop-home.invariant.number))
+    omega (arith, turned t.copy, owns frees_of not _ _ c.loop-home.owned.items c.loop-home.last _ t c.loop-home.invariant.frees c.in_ok-before.ensures.was_ordered (sym c.in_ok-before.ensures.old ∙ is) (omega (arith, inside, c.loop-home.invariant.number)) (sym c.loop-home.invariant.number))
 
 pub loop-home-preserved : goal.loop-home-preserved
 loop-home-preserved c =
@@ -37,7 +38,7 @@ loop-home-preserved c =
       ordered = λ _. put.ordered;
       follows = follows-next _ rising _ _ c.loop-home-item.is inside _ c.args.last.now c.loop-home.last c.loop-home.invariant.follows c.insert.new.self c.is_copy-copy.result c.is_copy-copy.ensures put.updates.0;
       copies = counts-more copies_of kept _ _ _ _ _ c.loop-home.last c.insert.new.self _ _ _ c.loop-home.invariant.copies put.was_ordered put.entries put.old c.lose.ensures.copies c.with-gained.ensures.copies;
-      frees = counts-more frees_of not _ _ _ _ _ c.loop-home.last c.insert.new.self _ _ _ c.loop-home.invariant.frees put.was_ordered put.entries put.old c.lose.ensures.frees (c.with-gained.ensures.frees ∙ ap (λ n. c.loop-home.gained.frees + n) (sym (turned-cond c.is_copy-copy.result)));
+      frees = counts-more frees_of not _ _ _ _ _ c.loop-home.last c.insert.new.self _ _ _ c.loop-home.invariant.frees put.was_ordered put.entries put.old c.lose.ensures.frees (c.with-gained.ensures.frees ∙ ap (λ n. c.loop-home.gained.frees + n) (sym (turned c.is_copy-copy.result)));
       few = omega (arith, c.loop-home.invariant.few, c.with-gained.ensures.copies, c.with-gained.ensures.frees, one-kind c.is_copy-copy.result);
     }
 

@@ -10,7 +10,7 @@ use Rattle.jb_disk.proofs.Buffers.{buffers_count}
 use Rattle.jb_disk.proofs.Choices.{written_back}
 use Rattle.jb_disk.proofs.Crashes.{rest_of_calls, whole_sectors, written_whole, chosen_by_history}
 use Rattle.jb_disk.proofs.Listed.{whole-take, whole-drop}
-use Rattle.jb_disk.proofs.Refusals.{on-refusal}
+use Rattle.jb_block.proofs.Refusals.{on-refusal}
 use Rattle.jb_disk.proofs.Replays.{replaying_shape}
 use Rattle.jb_disk.proofs.sector.crash_image.Goals as goal
 
@@ -34,7 +34,7 @@ returns-in_err-writes-clause-grows c =
     let shape = replaying_shape (length c.args.first.now) (bytes_of c.args.size) (image_of c.args.first.now) c.args.calls.now c.until_sync-synced.result c.requires.shape c.requires.whole in
     let count : c.len.result ≡ length c.args.first.now
     = c.len.ensures ∙ c.in_ok-image.image.ok.0 ∙ buffers_count (length c.args.first.now) (bytes_of c.args.size) (replay (image_of c.args.first.now) (steps_of (take c.until_sync-synced.result c.args.calls.now))) c.in_ok-image.image.items shape c.in_ok-image.ensures.synced in
-    on-refusal c.from_residual-in_err-writes.result _ (omega (arith, count, c.in_err-writes.ensures.grows))
+    on-refusal c.from_residual-in_err-writes.result (omega (arith, count, c.in_err-writes.ensures.grows))
 
 pub choose-requires-clause-shape : goal.choose-requires-clause-shape
 choose-requires-clause-shape c =

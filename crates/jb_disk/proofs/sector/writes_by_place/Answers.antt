@@ -2,7 +2,7 @@ use Rattle.std.proofs.Common.{◌≡◌, ◌+◌, ◌∷◌, arith, take, set, s
 use Rattle.jb_disk.specs.Calls.{step_of, steps_of}
 use Rattle.jb_disk.specs.History.{Wrote}
 use Rattle.jb_disk.proofs.Listed.{steps_of-more}
-use Rattle.jb_disk.proofs.Refusals.{on-refusal}
+use Rattle.jb_block.proofs.Refusals.{on-refusal}
 use Rattle.jb_disk.proofs.Replays.{write_at}
 use Rattle.jb_disk.proofs.Tables.{IsTable, table-write, no_sync}
 use Rattle.jb_disk.proofs.sector.writes_by_place.Goals as goal
@@ -16,7 +16,7 @@ index_mut-requires c =
 pub returns-in_err-push-clause-grows : goal.returns-in_err-push-clause-grows
 returns-in_err-push-clause-grows c =
     let at = write_at c.args.count c.requires.whole.0 c.args.calls.now c.loop-call.call-index c.in-Write.place c.in-Write.bytes c.call-item.result c.requires.whole.1 c.loop-call-test.true c.call-item.is c.in-Write.is in
-    on-refusal c.from_residual-in_err-push.result _ (omega (arith, at.0))
+    on-refusal c.from_residual-in_err-push.result (omega (arith, at.0))
 
 pub loop-call-preserved : goal.loop-call-preserved
 loop-call-preserved c = elim c.match-call.branch [

@@ -4,7 +4,7 @@ use Rattle.std.specs.FinMap as map
 use Rattle.jb_handle.specs.Words.{is_copied, is_freed}
 use Rattle.jb_cost.proofs.Later.{copies-next, frees-next, later-whole}
 use Rattle.std.specs.BTreeSet.{contains}
-use Rattle.jb_cost.proofs.Refusals.{on-refusal}
+use Rattle.jb_block.proofs.Refusals.{on-refusal}
 use Rattle.jb_cost.proofs.last_words.LastWords.put_all.Goals as goal
 
 pub loop-home-preserved : goal.loop-home-preserved
@@ -27,4 +27,4 @@ returns-clause-frees c q =
     ∙ later-whole is_freed c.args.words.now _ c.entries-home-items.ensures c.loop-home.home-index q (contains nat_cmp c.args.self.now.frees q) (omega arith)
 
 pub returns-in_err-put-clause-grows : goal.returns-in_err-put-clause-grows
-returns-in_err-put-clause-grows c = on-refusal c.from_residual.result _ (omega (arith, ap length c.entries-home-items.ensures, map.len-entries c.args.words.now))
+returns-in_err-put-clause-grows c = on-refusal c.from_residual.result (omega (arith, ap length c.entries-home-items.ensures, map.len-entries c.args.words.now))

@@ -1,14 +1,15 @@
 use Rattle.std.proofs.Common.{◌<◌, T, length, sym, subst, ◌∙◌, arith}
 use Rattle.std.specs.Ordering.{nat_cmp}
 use Rattle.std.specs.FinMap as map
-use Rattle.jb_handle.proofs.Gathering.{err-for, word-more, words-whole, some-entry}
+use Rattle.jb_block.proofs.Refusals.{on-refusal}
+use Rattle.jb_handle.proofs.Gathering.{word-more, words-whole, some-entry}
 use Rattle.jb_handle.proofs.gathered.Gathered.put_all.Goals as goal
 
 pub returns-in_err-try_clone-clause-err : goal.returns-in_err-try_clone-clause-err
-returns-in_err-try_clone-clause-err c = err-for c.from_residual.result (some-entry c.args.words.now _ c.entries-home-items.ensures c.loop-home.home-index c.loop-home-test.true)
+returns-in_err-try_clone-clause-err c = on-refusal c.from_residual.result (some-entry c.args.words.now _ c.entries-home-items.ensures c.loop-home.home-index c.loop-home-test.true)
 
 pub returns-in_err-put-clause-err : goal.returns-in_err-put-clause-err
-returns-in_err-put-clause-err c = err-for c.from_residual-in_err-put.result (some-entry c.args.words.now _ c.entries-home-items.ensures c.loop-home.home-index c.loop-home-test.true)
+returns-in_err-put-clause-err c = on-refusal c.from_residual-in_err-put.result (some-entry c.args.words.now _ c.entries-home-items.ensures c.loop-home.home-index c.loop-home-test.true)
 
 pub loop-home-preserved : goal.loop-home-preserved
 loop-home-preserved c =

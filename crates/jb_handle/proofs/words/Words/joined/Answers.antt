@@ -3,7 +3,8 @@ use Rattle.std.specs.Ordering.{nat_cmp}
 use Rattle.std.specs.FinMap as map
 use Rattle.jb_handle.specs.Word.{WordMap}
 use Rattle.jb_handle.specs.Words.{words_of}
-use Rattle.jb_handle.proofs.Gathering.{err-for, handle-more, handles-whole, some-words}
+use Rattle.jb_block.proofs.Refusals.{on-refusal}
+use Rattle.jb_handle.proofs.Gathering.{handle-more, handles-whole, some-words}
 use Rattle.jb_handle.proofs.words.Words.joined.Goals as goal
 use Rattle.jb_handle.proofs.words.Words.joined.Goals.{After-into_words}
 
@@ -12,7 +13,7 @@ loop-handle-init c q = ap (λ m. map.get m q) c.new-gathered.ensures ∙ map.get
 
 pub returns-in_err-put_all-clause-err : goal.returns-in_err-put_all-clause-err
 returns-in_err-put_all-clause-err c =
-    err-for c.from_residual.result (some-words c.args.handles.now c.loop-handle.handle-index c.handle-item.result c.handle-item.is c.loop-handle-test.true (c.in_err-put_all.ensures.err))
+    on-refusal c.from_residual.result (some-words c.args.handles.now c.loop-handle.handle-index c.handle-item.result c.handle-item.is c.loop-handle-test.true (c.in_err-put_all.ensures.err))
 
 pub loop-handle-preserved : goal.loop-handle-preserved
 loop-handle-preserved c q =

@@ -2,7 +2,7 @@ use Rattle.std.proofs.Common.{sym, ap, ◌∙◌}
 use Rattle.std.specs.Ordering.{nat_cmp}
 use Rattle.std.specs.FinMap as map
 use Rattle.jb_handle.specs.Placed.{StandsAt, GoesTo}
-use Rattle.jb_handle.proofs.Gathering.{err-for}
+use Rattle.jb_block.proofs.Refusals.{on-refusal}
 use Rattle.jb_handle.proofs.Listed.{put-words}
 use Rattle.jb_handle.proofs.Rising.{put-stands, put-goes, view-put, find-goes}
 use Rattle.jb_handle.proofs.words.Words.put.Goals as goal
@@ -35,5 +35,5 @@ returns-in_ok-insert-in-Err-clause-ok c =
 pub returns-in_err-insert-in-Err-clause-new : goal.returns-in_err-insert-in-Err-clause-new
 returns-in_err-insert-in-Err-clause-new c =
     let goes : GoesTo c.self.inside.entries.items c.args.home c.in-Err.at = rw c.deref.ensures.value at c.in-Err.ensures in
-    err-for c.from_residual.result
+    on-refusal c.from_residual.result
     (ap (λ m. map.get m c.args.home) (sym c.self.view_is) ∙ map.get-from_sorted nat_cmp _ c.args.home c.self.invariant.rising ∙ find-goes _ _ _ goes)
