@@ -1,7 +1,7 @@
 use Rattle.std.proofs.Common.{sym, ap, ◌∙◌}
 use Rattle.std.specs.Ordering.{nat_cmp}
 use Rattle.std.specs.FinMap as map
-use Rattle.jb_handle.proofs.Gathering.{err-for}
+use Rattle.jb_block.proofs.Refusals.{on-refusal}
 use Rattle.jb_handle.proofs.Listed.{put-words}
 use Rattle.jb_handle.proofs.Rising.{view-put}
 use Rattle.jb_handle.proofs.Trees.{insert-puts, find-looks}
@@ -17,10 +17,10 @@ returns-clause-ok c =
     ∙ ap (λ m. map.insert m c.args.home c.args.word) c.self.view_is
 
 pub returns-in_err-insert-clause-err : goal.returns-in_err-insert-clause-err
-returns-in_err-insert-clause-err c = err-for c.from_residual.result (ap (map.from_sorted {R = nat_cmp}) c.in_err-insert.ensures.err ∙ c.self.view_is)
+returns-in_err-insert-clause-err c = on-refusal c.from_residual.result (ap (map.from_sorted {R = nat_cmp}) c.in_err-insert.ensures.err ∙ c.self.view_is)
 
 -- no room is needed where the home has a word
 pub returns-in_err-insert-clause-new : goal.returns-in_err-insert-clause-new
 returns-in_err-insert-clause-new c =
-    err-for c.from_residual.result
+    on-refusal c.from_residual.result
     (ap (λ m. map.get m c.args.home) (sym c.self.view_is) ∙ map.get-from_sorted nat_cmp _ c.args.home c.self.invariant.rising ∙ find-looks c.args.home c.self.inside.tree.entries ∙ c.in_err-insert.ensures.absent)
