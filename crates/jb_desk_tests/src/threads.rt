@@ -1,4 +1,5 @@
-//! Threads at one desk: many that stop handles, one that commits them, and one that brings them home.
+//! Threads at one desk: many that stop handles, one that commits them, and one that brings them home. Each call that is
+//! out of memory is made once more.
 ghost use Rattle.std.specs.Prelude.{◌≡◌, ◌+◌, ◌^◌};
 ghost use Rattle.jb_desk.specs.Desks.{desk_id};
 ghost use Rattle.jb_desk.specs.Seats.{desk_of};
@@ -6,10 +7,10 @@ ghost use Rattle.jb_handle.specs.Handle.{holder};
 
 use crate::homes::Stop;
 use crate::journal::{Still, Why, retired, stop};
-use crate::keys::{CHANGES, Draws, block_of, changes_of};
-use jb_desk::{BeginFault, Ended, Left, Seat, WaitFault};
+use crate::keys::{CHANGES, Change, Draws, block_of, changes_of};
+use jb_desk::{BeginFault, Ended, Left, Seat, StopFault, WaitFault};
 use jb_disk::Disk;
-use jb_handle::Handle;
+use jb_handle::{Handle, TouchFault};
 use std::alloc::Global;
 use std::sync::Wait;
 use std::sync::ledger::Ledger;
@@ -54,7 +55,7 @@ impl<H: Ledger, N: Ledger> Report<H, N> {
         match answer {
             Ok(ticket) => {
                 self.touched = self.touched.saturating_add(u64::from(touched));
-                self.is_wrong |= self.stops.push(Stop { ticket, key }).is_err();
+                self.is_wrong |= !has_pushed(&mut self.stops, Stop { ticket, key });
             }
             Err(Why::Aborted) => self.is_aborted = true,
             Err(_) => self.is_wrong = true,
@@ -64,15 +65,36 @@ impl<H: Ledger, N: Ledger> Report<H, N> {
     /// Notes what a wait answered.
     fn note_wait(&mut self, ticket: u64, answer: Result<u32, WaitFault>) {
         match answer {
-            Ok(number) => self.is_wrong |= self.waited.push((ticket, number)).is_err(),
+            Ok(number) => self.is_wrong |= !has_pushed(&mut self.waited, (ticket, number)),
             Err(WaitFault::Aborted) => self.is_aborted = true,
             Err(WaitFault::Unknown) => self.is_wrong = true,
         }
     }
 }
 
-/// Makes the changes of this key in a handle.
-fn changed<H: Ledger, N: Ledger>(
+/// Puts an item at the end of a list. Where that is out of memory it tries once more.
+fn has_pushed<T: Copy>(items: &mut Vec<T>, item: T) -> bool {
+    items.push(item).is_ok() || items.push(item).is_ok()
+}
+
+/// Makes one change in a handle.
+fn touch<H: Ledger, N: Ledger>(
+    handle: &mut Handle<Seat<H, N>>,
+    key: u64,
+    change: Change,
+) -> Result<(), TouchFault>
+    ensures { holder handle.new ≡ holder handle.old }
+{
+    let home = change.home as u64;
+    if change.is_revoke {
+        handle.revoke(home)
+    } else {
+        handle.write(home, &block_of(key, change.home))
+    }
+}
+
+/// Makes the changes of this key in a handle. One that is out of memory is made once more.
+fn change_all<H: Ledger, N: Ledger>(
     handle: Handle<Seat<H, N>>,
     key: u64,
     report: &mut Report<H, N>,
@@ -80,18 +102,33 @@ fn changed<H: Ledger, N: Ledger>(
     ensures { holder result ≡ holder handle }
 {
     let mut handle = handle;
-    for change in changes_of(key) {
-        if let Some(change) = change {
-            let home = change.home as u64;
-            let made = if change.is_revoke {
-                handle.revoke(home)
-            } else {
-                handle.write(home, &block_of(key, change.home))
-            };
+    for next in changes_of(key) {
+        if let Some(next) = next {
+            let mut made = touch(&mut handle, key, next);
+            if made == Err(TouchFault::Memory) {
+                made = touch(&mut handle, key, next);
+            }
             report.is_wrong |= made.is_err();
         }
     }
     handle
+}
+
+/// Stops a handle. A stop that is out of memory is called again.
+fn stop_again<R: Wait, D: Disk, H: Ledger, N: Ledger>(
+    rt: &R,
+    desk: &Still<D, H, N>,
+    handle: Handle<Seat<H, N>>,
+) -> (Seat<H, N>, Result<u64, Why>)
+    requires { desk_of (holder handle) ≡ desk_id desk.now }
+    ensures { desk_of result.0 ≡ desk_id desk.now }
+{
+    match desk.stop(rt, handle) {
+        Ok((seat, ticket)) => (seat, Ok(ticket)),
+        Err(StopFault::Memory(handle)) => stop(rt, desk, handle),
+        Err(StopFault::Aborted(seat)) => (seat, Err(Why::Aborted)),
+        Err(StopFault::NotOpen(handle)) => (desk.abandon(rt, handle), Err(Why::NotOpen)),
+    }
 }
 
 /// Waits for the last ticket that a thread was given.
@@ -110,8 +147,8 @@ fn wait_for_last<R: Wait, D: Disk, H: Ledger, N: Ledger>(
     }
 }
 
-/// Begins a handle and stops it, or drops it; says whether one was begun. Where the journal is full it waits for a
-/// tenth of a millisecond.
+/// Begins a handle and stops it, or drops it; says whether one was begun. Where the journal is full, or
+/// where there is no memory, it waits for a tenth of a millisecond.
 fn once<R: Wait + Clock, D: Disk, H: Ledger, N: Ledger>(
     rt: &R,
     desk: &Still<D, H, N>,
@@ -124,19 +161,19 @@ fn once<R: Wait + Clock, D: Disk, H: Ledger, N: Ledger>(
 {
     match desk.begin(rt, seat, CHANGES as u32) {
         Ok(handle) => {
-            let handle = changed(handle, key, report);
+            let handle = change_all(handle, key, report);
             if key % 32 == 0 {
                 return (desk.abandon(rt, handle), true);
             }
             let touched = handle.touched();
-            let (mut seat, answer) = stop(rt, desk, handle);
+            let (mut seat, answer) = stop_again(rt, desk, handle);
             report.note_stop(key, touched, answer);
             if key % 8 == 1 {
                 wait_for_last(rt, desk, &mut seat, report);
             }
             (seat, true)
         }
-        Err((seat, BeginFault::Full(_))) => {
+        Err((seat, BeginFault::Full(_) | BeginFault::Memory)) => {
             thread::sleep(rt, Duration::from_micros(100));
             (seat, false)
         }
@@ -181,7 +218,8 @@ fn work<R: Wait + Clock, D: Disk, H: Ledger, N: Ledger>(
     report
 }
 
-/// Commits until the desk is shut. Gives what its seat left, and how it ended.
+/// Commits until the desk is shut; where a round is out of memory, the next one takes its batch up. Gives what its seat
+/// left, and how it ended.
 fn commit<R: Wait, D: Disk, H: Ledger, N: Ledger>(
     rt: &R,
     desk: &Still<D, H, N>,
@@ -189,7 +227,10 @@ fn commit<R: Wait, D: Disk, H: Ledger, N: Ledger>(
     let Ok(seat) = desk.seat(rt) else {
         return None;
     };
-    let (committer, ended) = desk.run_committer(rt, desk.committer(seat));
+    let (mut committer, mut ended) = desk.run_committer(rt, desk.committer(seat));
+    if ended == Ended::Memory {
+        (committer, ended) = desk.run_committer(rt, committer);
+    }
     let (seat, _) = retired(rt, desk, committer);
     Some((desk.leave(rt, seat), ended))
 }

@@ -1,4 +1,6 @@
 //! Committed groups are brought home.
+ghost use Rattle.std.specs.Prelude.{◌≡◌, ◌⊎◌};
+
 use crate::counter::Progress;
 use crate::desk::Desk;
 use crate::ended::Ended;
@@ -8,6 +10,8 @@ use std::sync::Wait;
 use std::sync::ledger::Ledger;
 
 impl<D: Disk, C: Clock, H: Ledger, N: Ledger> Desk<D, C, H, N> {
+    ghost use Rattle.jb_desk.specs.declared.ended.Ended.TheVariants.{Shut, Aborted};
+
     /// Brings the oldest committed group home (`jbd2_log_do_checkpoint`). The book is not locked while the
     /// disk is at work.
     ///
@@ -21,7 +25,9 @@ impl<D: Disk, C: Clock, H: Ledger, N: Ledger> Desk<D, C, H, N> {
 
     /// Brings committed groups home, the oldest first, until the desk is shut, no handle is open, queued
     /// or taken, and no group is left, or until the journal has failed.
-    pub fn run_checkpointer<R: Wait>(&self, rt: &R) -> Ended {
+    pub fn run_checkpointer<R: Wait>(&self, rt: &R) -> Ended
+        ensures { (result ≡ Shut) ⊎ (result ≡ Aborted) }
+    {
         for _ in rt.forever() {
             // asked before the checkpoint, so that what is settled since then is not missed
             let before = self.counter.lock(rt).progress();
