@@ -1,0 +1,7 @@
+pub mod Adding
+pub mod Answering
+pub mod Counting
+pub mod Grouping
+pub mod Lines
+pub mod Stepping
+pub mod Summing
