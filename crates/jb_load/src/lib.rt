@@ -1,11 +1,18 @@
 //! The handles of a queue text are run through a desk, by threads, and committed.
 #![tactic(auto)]
 
+mod blocks;
+mod committing;
 mod fault;
+mod gather;
+mod handle;
 mod load;
 mod loaded;
 mod options;
+mod running;
 mod telling;
+mod words;
+mod worker;
 
 pub use fault::{HandleFault, LoadFault};
 pub use load::load_on;

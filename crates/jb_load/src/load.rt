@@ -1,9 +1,26 @@
-ghost use Rattle.std.specs.Prelude.{◌≡◌, ◌+◌, ◌^◌, ◌≤◌};
+ghost use Rattle.std.specs.Prelude.{◌≡◌, ℕ, ◌+◌, ◌^◌, ◌<◌, ◌≤◌, ◌⊎◌, false, length, IfErr, IfOk};
+ghost use Rattle.std.specs.List.{All};
+ghost use Rattle.jb_deck.specs.Costs.{geometry_of};
+ghost use Rattle.jb_desk.specs.Desks.{shape_in};
+ghost use Rattle.jb_desk.specs.declared.ended.Ended.TheVariants.{Shut};
+ghost use Rattle.jb_deck.specs.Done.{Follow};
+ghost use Rattle.jb_load.specs.Loads.{AnswersLoad, Counts, Loads};
+ghost use Rattle.jb_load.specs.Runs.{touching};
+ghost use Rattle.jb_load.specs.declared.worker.Stop.{Stop as StopValue};
+ghost use Rattle.jb_load.specs.declared.fault.LoadFault.TheVariants.{Accounts, Memory as OutOfMemory};
 
+use crate::blocks::{add_up, put_in_order};
 use crate::fault::LoadFault;
+use crate::gather::Gathered;
 use crate::loaded::Loaded;
 use crate::options::LoadOptions;
+use crate::running::run;
+use crate::worker::Stop;
+use jb_cost::Geometry;
+use jb_deck::Deck;
+use jb_desk::{Closed, Desk, Ended};
 use jb_disk::{Clock, Disk};
+use jb_handle::{Shape, Stopped};
 use jb_queue::QueueText;
 use std::alloc::Global;
 use std::sync::Wait;
@@ -11,7 +28,19 @@ use std::sync::ledger::{Blank, Ledger};
 use std::thread::Threads;
 use std::time;
 
-/// Runs the handles of a queue through a desk over the journal on a disk.
+/// The most handles of a desk, and the most blocks that these touch, added up.
+const MOST: u64 = 1 << 61;
+
+/// Runs the handles of a queue through a desk over the journal on a disk, and commits them. Worker k of T runs the
+/// handles k, k + T, k + 2T and so on, each with as many credits as it touches blocks, up to the first that is
+/// refused. The desk's ledgers are `handles` and `changes`.
+///
+/// # Errors
+/// - `BlockSize` where the block size of the queue is not the disk's.
+/// - `Open` where the journal was not opened.
+/// - `Memory` where there was none for the desk, a thread's answer or the sums at the end; handles may have been
+///   committed then.
+/// - `Accounts` where the desk's sums do not agree, which cannot happen.
 pub fn load_on<
     D: Disk + Drop + Send,
     C: Clock + Drop + Send,
@@ -31,6 +60,98 @@ pub fn load_on<
     requires handles { (handles.name ≡ H.name) × (handles.parts ≡ H.parts) × (H.parts ≡ 2 ^ 61 + 1) }
     requires changes { (changes.name ≡ N.name) × (changes.parts ≡ N.parts) × (N.parts ≡ 2 ^ 61 + 1) }
     requires threads { (1 ≤ options.threads) × (options.threads ≤ 64) }
+    ensures { AnswersLoad D.size D.count D.faults D.honest D.newest disk queue.now.bs queue.now.handles.items options result }
 {
-    Err(LoadFault::Memory)
+    if queue.bs != disk.block_size() {
+        return Err(LoadFault::BlockSize);
+    }
+    let deck = match Deck::open(alloc, disk) {
+        Ok(deck) => deck,
+        Err((_, fault)) => return Err(LoadFault::Open(fault)),
+    };
+    let shape = deck.shape();
+    let Ok(desk) = Desk::<D, C, H, N>::start(alloc, handles, changes, deck, clock) else {
+        return Err(LoadFault::Memory);
+    };
+    load_at(rt, alloc, desk, shape, &queue.handles, options)
+}
+
+/// Runs the handles of a queue at a new desk, and closes it.
+fn load_at<
+    D: Disk + Drop + Send,
+    C: Clock + Drop + Send,
+    R: Threads + Wait + time::Clock + Sync,
+    H: Ledger + Send + Sync,
+    N: Ledger + Send + Sync,
+>(
+    rt: &R,
+    alloc: Global,
+    desk: Desk<D, C, H, N>,
+    shape: Shape,
+    queue: &[Stopped],
+    options: LoadOptions,
+) -> Result<Loaded, LoadFault>
+    requires threads { (1 ≤ options.threads) × (options.threads ≤ 64) }
+    requires parts { (H.parts ≡ 2 ^ 61 + 1) × (N.parts ≡ 2 ^ 61 + 1) }
+    requires shape { shape_in desk ≡ shape }
+    ensures loaded { IfOk result (Loads queue.now options.threads (geometry_of shape)) }
+    ensures unasked { IfOk result (λ loaded. options.checkpoint ≡ false → loaded.checkpoint ≡ Shut) }
+    ensures faults { IfErr result (λ fault. (fault ≡ OutOfMemory) ⊎ (fault ≡ Accounts)) }
+{
+    let room = Gathered::with_room(alloc, options.threads + 1, queue.len())?;
+    let (ran, checkpoint) = run(rt, alloc, &desk, queue, shape.bs, options);
+    let ran = ran?;
+    let commit = ran.commit;
+    let Gathered {
+        lefts,
+        stops,
+        refused,
+    } = room.gather(ran)?;
+    let Ok(closed) = desk.close(lefts) else {
+        return Err(LoadFault::Accounts);
+    };
+    let counts = count_up(alloc, queue, shape, stops, closed)?;
+    Ok(Loaded {
+        refused,
+        commit,
+        checkpoint,
+        ..counts
+    })
+}
+
+/// The counts of a load whose desk is closed, of which no fault is known.
+///
+/// # Errors
+/// `Memory` where there is none for the home blocks of a group; `Accounts` where the tickets do not count from 0, or
+/// there are more handles or blocks than a desk grants.
+fn count_up<D: Drop, C: Drop>(
+    alloc: Global,
+    queue: &[Stopped],
+    shape: Shape,
+    stops: Vec<Stop>,
+    closed: Closed<D, C>,
+) -> Result<Loaded, LoadFault>
+    requires inside { All (λ (s : StopValue). s.handle < length queue.now) stops.items }
+    requires handles { closed.handles ≡ length stops.items }
+    requires changes { closed.changes ≡ touching queue.now stops.items }
+    requires trail { (past : ℕ) × Follow 0 0 past closed.trail.items × (past ≤ closed.handles) }
+    ensures counts { IfOk result (Counts queue.now (geometry_of shape) stops.items) }
+    ensures faults { IfErr result (λ fault. (fault ≡ OutOfMemory) ⊎ (fault ≡ Accounts)) }
+{
+    let mut stops = stops;
+    if !put_in_order(&mut stops) || closed.handles > MOST || closed.changes > MOST {
+        return Err(LoadFault::Accounts);
+    }
+    let geometry = Geometry::of(shape.bs, shape.width);
+    let (settled, blocks) = add_up(alloc, queue, &stops, &closed.trail, geometry)?;
+    Ok(Loaded {
+        handles: closed.handles,
+        changes: closed.changes,
+        settled,
+        groups: closed.trail.len() as u64,
+        blocks,
+        refused: None,
+        commit: Ended::Shut,
+        checkpoint: Ended::Shut,
+    })
 }

@@ -30,3 +30,15 @@ pub struct Loaded {
     /// How the checkpointer ended; `Shut` where none was asked for.
     pub checkpoint: Ended,
 }
+
+impl Loaded {
+    ghost use Rattle.std.specs.Prelude.{◌≡◌};
+    ghost use Rattle.jb_load.specs.Telling.{is_whole};
+
+    /// Whether no handle was refused, and the committer and the checkpointer ended `Shut`.
+    pub fn is_whole(&self) -> bool
+        ensures { result ≡ is_whole self.now }
+    {
+        self.refused.is_none() && self.commit == Ended::Shut && self.checkpoint == Ended::Shut
+    }
+}

@@ -1,0 +1,6 @@
+pub mod Adding
+pub mod Counting
+pub mod Grouping
+pub mod Lines
+pub mod Stepping
+pub mod Summing

@@ -1,0 +1,45 @@
+use Rattle.std.proofs.Common.{◌<◌, length, map, sym, ap, subst, ◌∙◌, arith}
+use Rattle.std.specs.List.{All, sum_by}
+use Rattle.std.proofs.lemmas.List.Sums.{sum_by_push}
+use Rattle.jb_desk.specs.Seats.{stops_left, changes_left}
+use Rattle.jb_load.specs.Runs.{run_of, touching}
+use Rattle.jb_load.specs.declared.worker.Stop.{Stop}
+use Rattle.jb_load.proofs.Summing.{are-runs, same-stops, all-inside, all-stops, all-changes}
+use Rattle.jb_load.proofs.gather.Gathered.gather.Goals as goal
+
+pub returns : goal.returns
+returns g c queue threads ran =
+    let ws = c.args.ran.workers.items in
+    let committer = c.args.ran.committer in
+    let lefts = c.in_ok-add_left.ensures.lefts in
+    let stops = c.in_ok-add_all.ensures.stops in
+    let before = c.args.self.lefts.items in
+    record {
+      runs = map (run_of {H = g.row.H.Denot} {N = g.row.N.Denot}) ws;
+      worked = are-runs queue threads ws ran.workers;
+      stops = stops ∙ same-stops queue threads ws ran.workers;
+      refused = c.in_ok-add_all.ensures.refused;
+      inside = subst (All (λ (s : Stop). s.handle < length queue)) (sym stops) (all-inside queue threads ws ran.workers);
+      handles =
+          omega (
+            arith,
+            c.in_ok-add_all.ensures.counted,
+            ap (sum_by (stops_left {H = g.row.H.Denot} {N = g.row.N.Denot})) lefts,
+            sum_by_push (stops_left {H = g.row.H.Denot} {N = g.row.N.Denot}) before committer,
+            ap (sum_by (stops_left {H = g.row.H.Denot} {N = g.row.N.Denot})) c.requires.empty.0,
+            ran.stops,
+            all-stops queue threads ws ran.workers,
+            ap (λ xs. length {A = Stop} xs) stops,
+          );
+      changes =
+          omega (
+            arith,
+            c.in_ok-add_all.ensures.changed,
+            ap (sum_by (changes_left {H = g.row.H.Denot} {N = g.row.N.Denot})) lefts,
+            sum_by_push (changes_left {H = g.row.H.Denot} {N = g.row.N.Denot}) before committer,
+            ap (sum_by (changes_left {H = g.row.H.Denot} {N = g.row.N.Denot})) c.requires.empty.0,
+            ran.changes,
+            all-changes queue threads ws ran.workers,
+            ap (touching queue) stops,
+          );
+    }

@@ -1,0 +1,35 @@
+use Rattle.std.proofs.Common.{◌≡◌, ◌<◌, T, None, length, sym, ap, subst, ◌∙◌, arith}
+use Rattle.std.specs.Option.{option_or}
+use Rattle.std.specs.Ordering.{nat_cmp}
+use Rattle.std.specs.Cmp.{nat_cmp_total}
+use Rattle.std.specs.FinMap as map
+use Rattle.jb_handle.specs.Handle.{holder, changes_of}
+use Rattle.jb_handle.proofs.Gathering.{word-more, words-whole}
+use Rattle.jb_load.proofs.Lines.{or-nothing}
+use Rattle.jb_load.proofs.words.put_words.Goals as goal
+
+pub loop-home-init : goal.loop-home-init
+loop-home-init g c = record {
+  seat = λ i. holder c.args.handle.now;
+  shape = λ i. (changes_of c.args.handle.now).shape;
+  block = λ i. length c.args.block.now;
+  words = λ q. ap (λ m. map.get m q) c.requires.fresh ∙ map.get-empty nat_cmp q;
+}
+
+pub loop-home-preserved : goal.loop-home-preserved
+loop-home-preserved g c =
+    let rising : T (map.is_sorted nat_cmp c.entries-home-items.result.now) = subst (λ es. T (map.is_sorted nat_cmp es)) (sym c.entries-home-items.ensures) (map.entries_sorted c.args.words.now) in
+    let inside : c.loop-home.home-index < length c.entries-home-items.result.now = omega arith in
+    record {
+      seat = c.put_word.ensures.seat ∙ c.loop-home.invariant.seat;
+      shape = ap (λ h. h.shape) c.in_ok-put_word.ensures.ok ∙ c.loop-home.invariant.shape;
+      block = c.put_word.ensures.block ∙ c.loop-home.invariant.block;
+      words = λ q. word-more _ rising c.loop-home.home-index c.loop-home-item.result c.loop-home-item.is inside (changes_of c.loop-home.handle).words _ _ (λ i. c.loop-home-item.result.1) (ap (λ h. h.words) c.in_ok-put_word.ensures.ok) q None (c.loop-home.invariant.words q);
+    }
+
+pub returns-clause-ok : goal.returns-clause-ok
+returns-clause-ok g c =
+    map.same_map nat_cmp_total map.nat_cmp-IsAntisymmetric (changes_of c.loop-home.handle).words c.args.words.now (λ q.
+    c.loop-home.invariant.words q
+    ∙ words-whole c.args.words.now _ c.entries-home-items.ensures c.loop-home.home-index (omega arith) q None
+    ∙ or-nothing (map.get c.args.words.now q))

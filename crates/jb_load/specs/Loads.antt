@@ -1,0 +1,78 @@
+-- What a load answers.
+use Rattle.std.specs.Prelude.{◌≡◌, ◌≢◌, ℕ, ◌<◌, ◌≤◌, false, List, length, slice_index_or, Result, Ok, Err}
+use Rattle.std.specs.List.{flat_map}
+use Rattle.std.specs.List.Sorted.{IsPermutation}
+use Rattle.jb_block.specs.Size.{bytes_of}
+use Rattle.jb_block.specs.declared.size.BlockSize.{BlockSize}
+use Rattle.jb_disk.specs.Image.{Image}
+use Rattle.jb_disk.specs.Kept.{Kept}
+use Rattle.jb_handle.specs.declared.shape.Shape.{Shape}
+use Rattle.jb_handle.specs.declared.stopped.Stopped.{Stopped}
+use Rattle.jb_cost.specs.declared.geometry.Geometry.{Geometry}
+use Rattle.jb_deck.specs.Costs.{geometry_of}
+use Rattle.jb_deck.specs.Deck.{Held, IsShapeOf}
+use Rattle.jb_deck.specs.Done.{Follow}
+use Rattle.jb_deck.specs.Opening.{OpenFaults, Opens, RefusesOpen}
+use Rattle.jb_deck.specs.declared.done.Entry.{Entry}
+use Rattle.jb_deck.specs.declared.fault.OpenFault.{OpenFault}
+use Rattle.jb_desk.specs.declared.ended.Ended.TheVariants.{Shut}
+use Rattle.jb_load.specs.Blocks.{blocks_in, stopped_of, CountFrom}
+use Rattle.jb_load.specs.Gathering.{first_refused}
+use Rattle.jb_load.specs.Runs.{IsRun, Run, touching}
+use Rattle.jb_load.specs.declared.fault.LoadFault.{LoadFault}
+use Rattle.jb_load.specs.declared.fault.LoadFault.TheVariants as fault
+use Rattle.jb_load.specs.declared.loaded.Loaded.{Loaded}
+use Rattle.jb_load.specs.declared.options.LoadOptions.{LoadOptions}
+use Rattle.jb_load.specs.declared.worker.Stop.{Stop}
+
+-- the counts are those of the handles that stopped, each under a ticket of its own, and of the groups that settled them
+pub record Counts (queue : List Stopped) (g : Geometry) (stops : List Stop) (loaded : Loaded) : Type 0 where
+  -- the handles that stopped, in the order of their tickets
+  pub order : List Stop
+  -- the groups that settled them
+  pub trail : List Entry
+  pub same : IsPermutation stops order
+  pub tickets : CountFrom 0 order
+  pub handles : loaded.handles ≡ length order
+  pub changes : loaded.changes ≡ touching queue order
+  pub follows : Follow 0 0 loaded.settled trail
+  pub within : loaded.settled ≤ loaded.handles
+  pub groups : loaded.groups ≡ length trail
+  pub blocks : loaded.blocks ≡ blocks_in g (stopped_of queue order) trail
+
+-- each of so many workers has run the first of its handles
+pub record AreRuns (queue : List Stopped) (threads : ℕ) (runs : List Run) : Type 0 where
+  pub workers : length runs ≡ threads
+  pub each : (at : ℕ) (d : Run) → at < threads → IsRun queue threads at (slice_index_or runs at d)
+
+-- the counts are those of what the workers report, and the refused handle is the earliest of theirs
+pub record Loads (queue : List Stopped) (threads : ℕ) (g : Geometry) (loaded : Loaded) : Type 0 where
+  pub runs : List Run
+  pub worked : AreRuns queue threads runs
+  pub counts : Counts queue g (flat_map (λ (r : Run). r.stops) runs) loaded
+  pub refused : loaded.refused ≡ first_refused runs
+
+module _ {D : Type 0} (size count faults : D → ℕ) (honest : D → Type 0) (newest : D → Image) (disk : D) where
+  -- the journal on the disk was not opened, for this
+  pub record NotOpened (fault : OpenFault) : Type 0 where
+    pub after : D
+    pub kept : Kept size count honest disk after
+    pub fault_count : OpenFaults fault (faults disk) (faults after)
+    pub refuses : honest disk → RefusesOpen (size disk) (count disk) (newest disk) (newest after) fault
+
+  -- the journal on the disk was opened, and its handles have to fit this shape
+  pub record IsOpened (shape : Shape) : Type 0 where
+    pub deck : Held D
+    pub kept : Kept size count honest disk deck.disk
+    pub fault_count : faults deck.disk ≡ faults disk
+    pub opens : honest disk → Opens (size disk) (count disk) (newest disk) (newest deck.disk) deck.log
+    pub journal : IsShapeOf deck.log.sb (count deck.disk) shape
+
+  -- What a load answers to a queue of blocks of this size. Only where the size is not the disk's does it answer so
+  abbrev pub AnswersLoad : BlockSize → List Stopped → LoadOptions → Result Loaded LoadFault → Type 0
+  AnswersLoad bs queue options (Err fault.BlockSize) = bytes_of bs ≢ size disk
+  AnswersLoad bs queue options (Err (fault.Open why)) = (bytes_of bs ≡ size disk) × NotOpened why
+  AnswersLoad bs queue options (Err fault.Memory) = (bytes_of bs ≡ size disk) × ((shape : Shape) × IsOpened shape)
+  AnswersLoad bs queue options (Err fault.Accounts) = (bytes_of bs ≡ size disk) × ((shape : Shape) × IsOpened shape)
+  AnswersLoad bs queue options (Ok loaded) =
+      (bytes_of bs ≡ size disk) × ((shape : Shape) × IsOpened shape × Loads queue options.threads (geometry_of shape) loaded) × (options.checkpoint ≡ false → loaded.checkpoint ≡ Shut)

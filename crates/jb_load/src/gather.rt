@@ -1,0 +1,126 @@
+//! What the workers leave is put together.
+ghost use Rattle.std.specs.Prelude.{◌≡◌};
+ghost use Rattle.jb_load.specs.Gathering.{earlier_of};
+
+use crate::loaded::Refused;
+use crate::running::Ran;
+use crate::worker::{Stop, Worked};
+use jb_block::Memory;
+use jb_desk::Left;
+use std::alloc::Global;
+use std::sync::ledger::Ledger;
+
+/// What all workers leave.
+#[derive(Drop)]
+pub(crate) struct Gathered<H: Ledger, N: Ledger> {
+    /// What their seats left.
+    pub lefts: Vec<Left<H, N>>,
+    /// The handles that stopped.
+    pub stops: Vec<Stop>,
+    /// The first one of the queue that was refused.
+    pub refused: Option<Refused>,
+}
+
+impl<H: Ledger, N: Ledger> Gathered<H, N> {
+    ghost use Rattle.std.specs.Prelude.{◌≡◌, ℕ, List, ◌+◌, ◌++◌, ◌∷◌, [], map, None, IfOk, OnOk};
+    ghost use Rattle.std.specs.List.{flat_map, sum_by};
+    ghost use Rattle.jb_desk.specs.Seats.{stops_left, changes_left};
+    ghost use Rattle.jb_load.specs.Gathering.{earlier_of, first_refused};
+    ghost use Rattle.jb_load.specs.Runs.{run_of, stops_in, changes_in};
+    ghost use Rattle.jb_load.specs.Running.{HasRun, IsGathered};
+    ghost use Rattle.jb_handle.specs.declared.stopped.Stopped.{Stopped as StoppedValue};
+
+    /// Nothing, with room for what so many seats and handles leave.
+    ///
+    /// # Errors
+    /// `Memory` where there is none for that.
+    pub fn with_room(alloc: Global, seats: usize, handles: usize) -> Result<Gathered<H, N>, Memory>
+        ensures { IfOk result (λ g. (g.lefts.items ≡ []) × (g.stops.items ≡ []) × (g.refused ≡ None)) }
+    {
+        let mut lefts = Vec::new(alloc);
+        lefts.reserve(seats)?;
+        let mut stops = Vec::new(alloc);
+        stops.reserve(handles)?;
+        Ok(Gathered {
+            lefts,
+            stops,
+            refused: None,
+        })
+    }
+
+    /// Adds what a seat left.
+    ///
+    /// # Errors
+    /// `Memory` where there is none for that.
+    fn add_left(&mut self, left: Left<H, N>) -> Result<(), Memory>
+        ensures lefts { OnOk result (self.new.lefts.items ≡ self.old.lefts.items ++ left ∷ []) }
+        ensures rest { (self.new.stops ≡ self.old.stops) × (self.new.refused ≡ self.old.refused) }
+    {
+        Ok(self.lefts.push(left)?)
+    }
+
+    /// Adds what a worker leaves.
+    ///
+    /// # Errors
+    /// `Memory` where there is none for that.
+    fn add(&mut self, worked: Worked<H, N>) -> Result<(), Memory>
+        ensures stops { OnOk result (self.new.stops.items ≡ self.old.stops.items ++ worked.stops.items) }
+        ensures refused { OnOk result (self.new.refused ≡ earlier_of self.old.refused worked.refused) }
+        ensures counted { OnOk result (sum_by stops_left self.new.lefts.items ≡ sum_by stops_left self.old.lefts.items + stops_in worked.left) }
+        ensures changed { OnOk result (sum_by changes_left self.new.lefts.items ≡ sum_by changes_left self.old.lefts.items + changes_in worked.left) }
+    {
+        let Worked {
+            left,
+            mut stops,
+            refused,
+        } = worked;
+        if let Some(left) = left {
+            self.add_left(left)?;
+        }
+        self.stops.append(&mut stops)?;
+        self.refused = earlier(self.refused, refused);
+        Ok(())
+    }
+
+    /// What the threads of a load leave, where nothing is in it yet.
+    ///
+    /// # Errors
+    /// `Memory` where there is none for that.
+    pub fn gather(self, ran: Ran<H, N>) -> Result<Gathered<H, N>, Memory>
+        requires empty { (self.lefts.items ≡ []) × (self.stops.items ≡ []) × (self.refused ≡ None) }
+        ensures { IfOk result (λ gathered. (queue : List StoppedValue) (threads : ℕ) → HasRun queue threads ran → IsGathered queue threads gathered) }
+    {
+        let mut gathered = self;
+        gathered.add_left(ran.committer)?;
+        gathered.add_all(ran.workers)?;
+        Ok(gathered)
+    }
+
+    /// Adds what all workers leave.
+    ///
+    /// # Errors
+    /// `Memory` where there is none for that.
+    fn add_all(&mut self, workers: Vec<Worked<H, N>>) -> Result<(), Memory>
+        requires none { (self.old.stops.items ≡ []) × (self.old.refused ≡ None) }
+        ensures stops { OnOk result (self.new.stops.items ≡ flat_map (λ w. w.stops.items) workers.items) }
+        ensures refused { OnOk result (self.new.refused ≡ first_refused (map run_of workers.items)) }
+        ensures counted { OnOk result (sum_by stops_left self.new.lefts.items ≡ sum_by stops_left self.old.lefts.items + sum_by (λ w. stops_in w.left) workers.items) }
+        ensures changed { OnOk result (sum_by changes_left self.new.lefts.items ≡ sum_by changes_left self.old.lefts.items + sum_by (λ w. changes_in w.left) workers.items) }
+    {
+        for worked in workers {
+            self.add(worked)?;
+        }
+        Ok(())
+    }
+}
+
+/// The one of two refused handles that is earlier in the queue.
+fn earlier(one: Option<Refused>, other: Option<Refused>) -> Option<Refused>
+    ensures { result ≡ earlier_of one other }
+{
+    match (one, other) {
+        (Some(one), Some(other)) if other.handle < one.handle => Some(other),
+        (Some(one), _) => Some(one),
+        (None, other) => other,
+    }
+}

@@ -1,0 +1,109 @@
+//! One handle of the queue is run.
+ghost use Rattle.std.specs.Prelude.{◌≡◌, ◌+◌, IfOk, IfErr, OnErr, length};
+ghost use Rattle.std.specs.FinMap as map;
+ghost use Rattle.jb_block.specs.Size.{bytes_of};
+ghost use Rattle.jb_handle.specs.Handle.{holder, changes_of};
+ghost use Rattle.jb_handle.specs.Held.{held, touched};
+ghost use Rattle.jb_desk.specs.Desks.{desk_id, shape_in};
+ghost use Rattle.jb_desk.specs.Seats.{stops, changes, desk_of};
+
+use crate::fault::HandleFault;
+use crate::words::put_words;
+use jb_desk::{BeginFault, Desk, Seat, StopFault};
+use jb_disk::{Clock, Disk};
+use jb_handle::{Handle, Words};
+use std::sync::Wait;
+use std::sync::ledger::Ledger;
+use std::time::Duration;
+use std::{thread, time};
+
+/// How often a handle is begun again for which there was no room.
+const TURNS: u32 = 10000;
+
+/// Runs a handle with these words, with as many credits as it touches blocks; gives its ticket.
+pub(crate) fn run_handle<D: Disk, C: Clock, R: Wait + time::Clock, H: Ledger, N: Ledger>(
+    rt: &R,
+    desk: &Desk<D, C, H, N>,
+    seat: Seat<H, N>,
+    words: &Words,
+    block: &mut [u8],
+) -> (Seat<H, N>, Result<u64, HandleFault>)
+    requires desk { desk_of seat ≡ desk_id desk.now }
+    requires block { length block.old ≡ bytes_of (shape_in desk.now).bs }
+    ensures desk { desk_of result.0 ≡ desk_id desk.now }
+    ensures block { length block.new ≡ length block.old }
+    ensures stopped { IfOk result.1 (λ _. (stops result.0 ≡ stops seat + 1) × (changes result.0 ≡ changes seat + map.len words.now)) }
+    ensures refused { OnErr result.1 ((stops result.0 ≡ stops seat) × (changes result.0 ≡ changes seat)) }
+{
+    // more than these are too many in any journal
+    let credits = u32::try_from(words.len()).unwrap_or(u32::MAX);
+    match begin(rt, desk, seat, credits) {
+        Ok(handle) => fill(rt, desk, handle, words, block),
+        Err((seat, fault)) => (seat, Err(HandleFault::from(fault))),
+    }
+}
+
+/// Begins a handle; where there is no room, once more after each millisecond.
+fn begin<D: Disk, C: Clock, R: Wait + time::Clock, H: Ledger, N: Ledger>(
+    rt: &R,
+    desk: &Desk<D, C, H, N>,
+    seat: Seat<H, N>,
+    credits: u32,
+) -> Result<Handle<Seat<H, N>>, (Seat<H, N>, BeginFault)>
+    ensures ok { IfOk result (λ handle. (holder handle ≡ seat) × (changes_of handle ≡ held credits (shape_in desk.now) map.empty)) }
+    ensures back { IfErr result (λ back. back.0 ≡ seat) }
+{
+    let mut seat = seat;
+    for _ in 0..TURNS {
+        match desk.begin(rt, seat, credits) {
+            Err((back, BeginFault::Full(_))) => {
+                seat = back;
+                thread::sleep(rt, Duration::from_millis(1));
+            }
+            begun => return begun,
+        }
+    }
+    desk.begin(rt, seat, credits)
+}
+
+/// Writes the words into a handle and stops it, or drops it where one is refused.
+fn fill<D: Disk, C: Clock, R: Wait, H: Ledger, N: Ledger>(
+    rt: &R,
+    desk: &Desk<D, C, H, N>,
+    handle: Handle<Seat<H, N>>,
+    words: &Words,
+    block: &mut [u8],
+) -> (Seat<H, N>, Result<u64, HandleFault>)
+    requires desk { desk_of (holder handle) ≡ desk_id desk.now }
+    requires block { length block.old ≡ bytes_of (changes_of handle).shape.bs }
+    requires fresh { (changes_of handle).words ≡ map.empty }
+    ensures desk { desk_of result.0 ≡ desk_id desk.now }
+    ensures block { length block.new ≡ length block.old }
+    ensures stopped { IfOk result.1 (λ _. (stops result.0 ≡ stops (holder handle) + 1) × (changes result.0 ≡ changes (holder handle) + map.len words.now)) }
+    ensures refused { OnErr result.1 ((stops result.0 ≡ stops (holder handle)) × (changes result.0 ≡ changes (holder handle))) }
+{
+    let mut handle = handle;
+    match put_words(&mut handle, words, block) {
+        Ok(()) => stop(rt, desk, handle),
+        Err(fault) => (desk.abandon(rt, handle), Err(HandleFault::from(fault))),
+    }
+}
+
+/// Stops a handle, or drops it where that is refused.
+fn stop<D: Disk, C: Clock, R: Wait, H: Ledger, N: Ledger>(
+    rt: &R,
+    desk: &Desk<D, C, H, N>,
+    handle: Handle<Seat<H, N>>,
+) -> (Seat<H, N>, Result<u64, HandleFault>)
+    requires desk { desk_of (holder handle) ≡ desk_id desk.now }
+    ensures desk { desk_of result.0 ≡ desk_id desk.now }
+    ensures stopped { IfOk result.1 (λ _. (stops result.0 ≡ stops (holder handle) + 1) × (changes result.0 ≡ changes (holder handle) + touched (changes_of handle))) }
+    ensures refused { OnErr result.1 ((stops result.0 ≡ stops (holder handle)) × (changes result.0 ≡ changes (holder handle))) }
+{
+    match desk.stop(rt, handle) {
+        Ok((seat, ticket)) => (seat, Ok(ticket)),
+        Err(StopFault::Aborted(seat)) => (seat, Err(HandleFault::Aborted)),
+        Err(StopFault::NotOpen(handle)) => (desk.abandon(rt, handle), Err(HandleFault::NotOpen)),
+        Err(StopFault::Memory(handle)) => (desk.abandon(rt, handle), Err(HandleFault::Memory)),
+    }
+}

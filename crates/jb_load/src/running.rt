@@ -1,0 +1,157 @@
+//! The threads of a load: its workers, its committer and its checkpointer.
+ghost use Rattle.std.specs.Prelude.{◌≡◌, ◌≤◌, ◌⊎◌, false, IfErr, IfOk};
+ghost use Rattle.jb_block.specs.Size.{bytes_of};
+ghost use Rattle.jb_desk.specs.Desks.{shape_in};
+ghost use Rattle.jb_desk.specs.declared.ended.Ended.TheVariants.{Shut};
+ghost use Rattle.jb_load.specs.declared.fault.LoadFault.TheVariants.{Accounts, Memory as OutOfMemory};
+ghost use Rattle.jb_load.specs.Running.{AreWorked, HasRun};
+
+use crate::committing::{commit_all, commit_from};
+use crate::fault::LoadFault;
+use crate::options::LoadOptions;
+use crate::worker::{Worked, work};
+use jb_block::{BlockSize, Memory};
+use jb_desk::{Desk, Ended, Left};
+use jb_disk::{Clock, Disk};
+use jb_handle::Stopped;
+use std::alloc::Global;
+use std::sync::Wait;
+use std::sync::ledger::Ledger;
+use std::thread::Threads;
+use std::{thread, time};
+
+/// What the threads of a load leave.
+#[derive(Drop)]
+pub(crate) struct Ran<H: Ledger, N: Ledger> {
+    /// What the workers leave.
+    pub workers: Vec<Worked<H, N>>,
+    /// What the committer's seat left.
+    pub committer: Left<H, N>,
+    /// How the committer ended.
+    pub commit: Ended,
+}
+
+/// Runs the handles of a queue and commits them, and brings committed groups home where that is asked for; says how
+/// that ended, too.
+pub(crate) fn run<
+    D: Disk + Drop + Send,
+    C: Clock + Drop + Send,
+    R: Threads + Wait + time::Clock + Sync,
+    H: Ledger + Send + Sync,
+    N: Ledger + Send + Sync,
+>(
+    rt: &R,
+    alloc: Global,
+    desk: &Desk<D, C, H, N>,
+    queue: &[Stopped],
+    bs: BlockSize,
+    options: LoadOptions,
+) -> (Result<Ran<H, N>, LoadFault>, Ended)
+    requires threads { (1 ≤ options.threads) × (options.threads ≤ 64) }
+    requires size { bytes_of bs ≡ bytes_of (shape_in desk.now).bs }
+    ensures ran { IfOk result.0 (HasRun queue.now options.threads) }
+    ensures faults { IfErr result.0 (λ fault. (fault ≡ OutOfMemory) ⊎ (fault ≡ Accounts)) }
+    ensures unasked { options.checkpoint ≡ false → result.1 ≡ Shut }
+{
+    if !options.checkpoint {
+        return (
+            run_threads(rt, alloc, desk, queue, bs, options),
+            Ended::Shut,
+        );
+    }
+    // the checkpointer is first, since the first closure runs last where no thread can be made
+    let (checkpoint, ran) = thread::join(
+        rt,
+        || desk.run_checkpointer(rt),
+        || -> Result<Ran<H, N>, LoadFault>
+            requires { (1 ≤ options.threads) × (options.threads ≤ 64) × (bytes_of bs ≡ bytes_of (shape_in desk.now).bs) }
+        { run_threads(rt, alloc, desk, queue, bs, options) },
+    );
+    (ran, checkpoint)
+}
+
+/// Runs the handles of a queue and commits them, at the same time or one after the other. The desk is shut then.
+fn run_threads<
+    D: Disk + Drop + Send,
+    C: Clock + Drop + Send,
+    R: Threads + Wait + time::Clock + Sync,
+    H: Ledger + Send + Sync,
+    N: Ledger + Send + Sync,
+>(
+    rt: &R,
+    alloc: Global,
+    desk: &Desk<D, C, H, N>,
+    queue: &[Stopped],
+    bs: BlockSize,
+    options: LoadOptions,
+) -> Result<Ran<H, N>, LoadFault>
+    requires threads { (1 ≤ options.threads) × (options.threads ≤ 64) }
+    requires size { bytes_of bs ≡ bytes_of (shape_in desk.now).bs }
+    ensures ran { IfOk result (HasRun queue.now options.threads) }
+    ensures faults { IfErr result (λ fault. (fault ≡ OutOfMemory) ⊎ (fault ≡ Accounts)) }
+{
+    let Ok(seat) = desk.seat(rt) else {
+        desk.shut(rt);
+        return Err(LoadFault::Accounts);
+    };
+    if options.hold {
+        let workers = run_workers(rt, alloc, desk, queue, bs, options.threads);
+        let (committer, commit) = commit_all(rt, desk, seat);
+        return Ok(Ran {
+            workers: workers?,
+            committer,
+            commit,
+        });
+    }
+    let mut place = Some(seat);
+    let (committed, workers) = thread::join(
+        rt,
+        || commit_from(rt, desk, &mut place),
+        || -> Result<Vec<Worked<H, N>>, Memory>
+            requires { (1 ≤ options.threads) × (options.threads ≤ 64) × (bytes_of bs ≡ bytes_of (shape_in desk.now).bs) }
+        { run_workers(rt, alloc, desk, queue, bs, options.threads) },
+    );
+    if let Some(seat) = place {
+        let _left = desk.leave(rt, seat);
+        return Err(LoadFault::Accounts);
+    }
+    let Some((committer, commit)) = committed else {
+        return Err(LoadFault::Accounts);
+    };
+    Ok(Ran {
+        workers: workers?,
+        committer,
+        commit,
+    })
+}
+
+/// Runs the workers and then shuts the desk.
+fn run_workers<
+    D: Disk + Drop + Send,
+    C: Clock + Drop + Send,
+    R: Threads + Wait + time::Clock + Sync,
+    H: Ledger + Send + Sync,
+    N: Ledger + Send + Sync,
+>(
+    rt: &R,
+    alloc: Global,
+    desk: &Desk<D, C, H, N>,
+    queue: &[Stopped],
+    bs: BlockSize,
+    threads: usize,
+) -> Result<Vec<Worked<H, N>>, Memory>
+    requires threads { (1 ≤ threads) × (threads ≤ 64) }
+    requires size { bytes_of bs ≡ bytes_of (shape_in desk.now).bs }
+    ensures { IfOk result (λ workers. AreWorked queue.now threads workers.items) }
+{
+    let workers = thread::map_indices(
+        rt,
+        alloc,
+        threads,
+        &|at: usize| -> Worked<H, N>
+            requires { (1 ≤ threads) × (threads ≤ 64) × (bytes_of bs ≡ bytes_of (shape_in desk.now).bs) }
+        { work(rt, alloc, desk, queue, bs, threads, at) },
+    );
+    desk.shut(rt);
+    workers
+}
