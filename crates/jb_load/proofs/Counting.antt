@@ -1,6 +1,6 @@
 -- The counts of the handles that stopped, put into the order of their tickets.
-use Rattle.std.proofs.Common.{◌≡◌, ℕ, ◌+◌, ◌^◌, ◌<◌, ◌≤◌, List, [], ◌∷◌, length, refl, arith}
-use Rattle.std.specs.List.{All}
+use Rattle.std.proofs.Common.{◌≡◌, ℕ, ◌+◌, ◌^◌, ◌≤◌, List, [], ◌∷◌, length, refl, sym, ap, ◌∙◌, arith}
+use Rattle.std.specs.List.{sum_by}
 use Rattle.std.specs.List.Sorted.{IsPermutation}
 use Rattle.std.specs.FinMap as homes
 use Rattle.std.proofs.lemmas.List.Sorted.{length_permutation, sum_by-IsPermutation}
@@ -9,8 +9,11 @@ use Rattle.jb_handle.specs.Size.{weight, IsWithinSize}
 use Rattle.jb_handle.specs.declared.stopped.Stopped.{Stopped}
 use Rattle.jb_handle.specs.declared.shape.Shape.{Shape}
 use Rattle.jb_cost.specs.declared.geometry.Geometry.{Geometry}
+use Rattle.jb_deck.specs.Done.{Follow}
+use Rattle.jb_deck.specs.declared.done.Entry.{Entry}
 use Rattle.jb_deck.specs.Costs.{entries_in, geometry_of, tags_in}
-use Rattle.jb_load.specs.Blocks.{stopped_of}
+use Rattle.jb_deck.proofs.SameCosts.{same-costs}
+use Rattle.jb_load.specs.Blocks.{blocks_in, stopped_of}
 use Rattle.jb_load.specs.Runs.{handle_at, touching}
 use Rattle.jb_load.specs.declared.worker.Stop.{Stop}
 
@@ -32,6 +35,11 @@ module _ (queue : List Stopped) (stops order : List Stop) (same : IsPermutation 
   pub small : (handles changes : ℕ) → handles ≡ length stops → changes ≡ touching queue stops → handles ≤ 2 ^ 61 → changes ≤ 2 ^ 61 → IsWithinSize (stopped_of queue order)
   small handles changes counted touched few less = let all = weight-stopped queue order in omega (arith, all, as-many, as-much, counted, touched, few, less)
 
--- the geometry of a journal of this shape
-pub geometry-is : (g : Geometry) (shape : Shape) → g.t ≡ tags_in shape.bs shape.width → g.r ≡ entries_in shape.bs shape.width → g ≡ geometry_of shape
-geometry-is g shape tags entries = ?
+-- the blocks by any geometry of the shape's numbers
+pub same-blocks : (shape : Shape) (g : Geometry) (hs : List Stopped) (trail : List Entry) → g.t ≡ tags_in shape.bs shape.width → g.r ≡ entries_in shape.bs shape.width → blocks_in g hs trail ≡ blocks_in (geometry_of shape) hs trail
+same-blocks shape g hs trail tags entries = ap (λ (c : ℕ → ℕ → ℕ). sum_by (λ (e : Entry). c e.first e.past) trail) (same-costs shape g hs tags entries)
+
+-- entries end at one ticket
+pub no-further : (first least a b : ℕ) (es : List Entry) → Follow first least a es → Follow first least b es → a ≡ b
+no-further first least a b [] one other = sym one ∙ other
+no-further first least a b (e ∷ es) one other = no-further e.past (e.number + 1) a b es one.3 other.3

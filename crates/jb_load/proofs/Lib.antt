@@ -1,4 +1,5 @@
 pub mod Adding
+pub mod Answering
 pub mod Counting
 pub mod Grouping
 pub mod Lines

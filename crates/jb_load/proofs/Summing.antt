@@ -1,5 +1,5 @@
 -- What all workers have counted.
-use Rattle.std.proofs.Common.{◌≡◌, ℕ, suc, ◌<◌, List, [], ◌∷◌, ◌++◌, length, get_or, map, refl, sym, subst, ap, ◌∙◌, arith}
+use Rattle.std.proofs.Common.{◌≡◌, ℕ, suc, ◌<◌, List, [], ◌∷◌, length, get_or, map, refl, sym, subst, ap, ◌∙◌, arith}
 use Rattle.std.specs.List.{All, flat_map, sum_by}
 use Rattle.std.specs.FinMap as homes
 use Rattle.std.proofs.Math.ListN.{length-map}

@@ -1,5 +1,5 @@
 -- What all workers report.
-use Rattle.std.specs.Prelude.{ℕ, Bool, true, false, nat_lt, List, [], ◌∷◌, Option, Some, None}
+use Rattle.std.specs.Prelude.{Bool, true, false, nat_lt, List, [], ◌∷◌, Option, Some, None}
 use Rattle.jb_load.specs.Runs.{Run}
 use Rattle.jb_load.specs.declared.loaded.Refused.{Refused}
 

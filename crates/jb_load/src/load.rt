@@ -62,7 +62,7 @@ pub fn load_on<
     requires threads { (1 ≤ options.threads) × (options.threads ≤ 64) }
     ensures { AnswersLoad D.size D.count D.faults D.honest D.newest disk queue.now.bs queue.now.handles.items options result }
 {
-    if queue.bs != disk.block_size() {
+    if queue.bs.bytes() != disk.block_size().bytes() {
         return Err(LoadFault::BlockSize);
     }
     let deck = match Deck::open(alloc, disk) {

@@ -1,4 +1,4 @@
-use Rattle.std.proofs.Common.{◌+◌, ◌++◌, [], None, sym, ap, ◌∙◌, arith}
+use Rattle.std.proofs.Common.{◌++◌, [], None, sym, ap, ◌∙◌, arith}
 use Rattle.std.proofs.lemmas.List.{flat_map_more}
 use Rattle.std.proofs.lemmas.List.Sums.{sum_by_push}
 use Rattle.jb_load.specs.Gathering.{earlier_of}

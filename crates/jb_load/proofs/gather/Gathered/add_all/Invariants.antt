@@ -1,4 +1,4 @@
-use Rattle.std.proofs.Common.{◌≡◌, ◌+◌, ◌++◌, map, None}
+use Rattle.std.proofs.Common.{◌≡◌, ◌+◌, map}
 use Rattle.std.specs.List.{flat_map, sum_by}
 use Rattle.jb_desk.specs.Seats.{stops_left, changes_left}
 use Rattle.jb_load.specs.Gathering.{first_refused}

@@ -1,0 +1,34 @@
+use Rattle.std.proofs.Common.{◌≡◌, subst, arith}
+use Rattle.jb_block.specs.Size.{bytes_of}
+use Rattle.jb_load.specs.Loads.{AnswersLoad}
+use Rattle.jb_load.proofs.Answering.{answers-as}
+use Rattle.jb_load.proofs.load.load_on.Goals as goal
+
+pub returns-in_default : goal.returns-in_default
+returns-in_default g c = (
+  omega arith,
+  (
+    c.shape-shape.result,
+    record {
+      deck = c.in-Ok.deck;
+      kept = c.in-Ok.ensures.kept;
+      fault_count = c.in-Ok.ensures.faults;
+      opens = c.in-Ok.ensures.opens;
+      journal = c.shape-shape.ensures.journal;
+    },
+  ),
+)
+
+pub returns : goal.returns
+returns g c =
+    let same : bytes_of c.args.queue.now.bs ≡ g.D.Disk.size c.args.disk = omega arith in
+    subst (λ hs. AnswersLoad g.D.Disk.size g.D.Disk.count g.D.Disk.faults g.D.Disk.honest g.D.Disk.newest c.args.disk c.args.queue.now.bs hs c.args.options c.load_at.result) c.deref.ensures.value
+    (answers-as g.D.Disk.size g.D.Disk.count g.D.Disk.faults g.D.Disk.honest g.D.Disk.newest c.args.disk c.args.queue.now.bs c.deref.result.now c.args.options c.shape-shape.result same
+    (record {
+      deck = c.in-Ok.deck;
+      kept = c.in-Ok.ensures.kept;
+      fault_count = c.in-Ok.ensures.faults;
+      opens = c.in-Ok.ensures.opens;
+      journal = c.shape-shape.ensures.journal;
+    })
+    c.load_at.result c.load_at.ensures.loaded c.load_at.ensures.unasked c.load_at.ensures.faults)
