@@ -5,7 +5,7 @@ use Rattle.jb_block.specs.declared.size.BlockSize.{BlockSize}
 use Rattle.jb_disk.specs.Image.{Image}
 use Rattle.jb_handle.specs.declared.shape.Shape.{Shape}
 use Rattle.jb_handle.specs.declared.stopped.Stopped.{Stopped}
-use Rattle.jb_deck.specs.Costs.{geometry_of}
+use Rattle.jb_batch.specs.Costs.{geometry_of}
 use Rattle.jb_desk.specs.declared.ended.Ended.TheVariants.{Shut}
 use Rattle.jb_load.specs.Loads.{AnswersLoad, IsOpened, Loads}
 use Rattle.jb_load.specs.declared.fault.LoadFault.{LoadFault}

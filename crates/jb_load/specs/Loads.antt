@@ -9,8 +9,8 @@ use Rattle.jb_disk.specs.Kept.{Kept}
 use Rattle.jb_handle.specs.declared.shape.Shape.{Shape}
 use Rattle.jb_handle.specs.declared.stopped.Stopped.{Stopped}
 use Rattle.jb_cost.specs.declared.geometry.Geometry.{Geometry}
-use Rattle.jb_deck.specs.Costs.{geometry_of}
-use Rattle.jb_deck.specs.Deck.{Held, IsShapeOf}
+use Rattle.jb_batch.specs.Costs.{geometry_of}
+use Rattle.jb_deck.specs.Deck.{OpenDeck, IsShapeOf}
 use Rattle.jb_deck.specs.Done.{Follow}
 use Rattle.jb_deck.specs.Opening.{OpenFaults, Opens, RefusesOpen}
 use Rattle.jb_deck.specs.declared.done.Entry.{Entry}
@@ -62,7 +62,7 @@ module _ {D : Type 0} (size count faults : D → ℕ) (honest : D → Type 0) (n
 
   -- the journal on the disk was opened, and its handles have to fit this shape
   pub record IsOpened (shape : Shape) : Type 0 where
-    pub deck : Held D
+    pub deck : OpenDeck D
     pub kept : Kept size count honest disk deck.disk
     pub fault_count : faults deck.disk ≡ faults disk
     pub opens : honest disk → Opens (size disk) (count disk) (newest disk) (newest deck.disk) deck.log

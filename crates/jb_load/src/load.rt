@@ -1,6 +1,6 @@
 ghost use Rattle.std.specs.Prelude.{◌≡◌, ℕ, ◌+◌, ◌^◌, ◌<◌, ◌≤◌, ◌⊎◌, false, length, IfErr, IfOk};
 ghost use Rattle.std.specs.List.{All};
-ghost use Rattle.jb_deck.specs.Costs.{geometry_of};
+ghost use Rattle.jb_batch.specs.Costs.{geometry_of};
 ghost use Rattle.jb_desk.specs.Desks.{shape_in};
 ghost use Rattle.jb_desk.specs.declared.ended.Ended.TheVariants.{Shut};
 ghost use Rattle.jb_deck.specs.Done.{Follow};

@@ -1,13 +1,15 @@
 -- How `jb load` ends over files.
-use Rattle.std.specs.Prelude.{◌≡◌, ◌⊎◌, ◌≤◌, ℕ, List, None, Result, Ok, Err, Some}
+use Rattle.std.specs.Prelude.{◌≡◌, ◌⊎◌, ◌≤◌, ℕ, List, [], None, Result, Ok, Err, Some}
 use Rattle.jb_answers.specs.Faulty.{queue_fault}
 use Rattle.jb_answers.specs.Said.{Said}
 use Rattle.jb_block.specs.Size.{bytes_of}
 use Rattle.jb_deck.specs.declared.fault.OpenFault.{OpenFault}
 use Rattle.jb_deck.specs.declared.fault.OpenFault.TheVariants as opening
-use Rattle.jb_disk.specs.File.{size_of}
+use Rattle.jb_disk.specs.File.{count_of, faults_of, size_of}
 use Rattle.jb_disk.specs.declared.file.FileDisk.{FileDisk}
 use Rattle.jb_io.specs.declared.putting.WriteFault.{WriteFault}
+use Rattle.jb_load.specs.Loads.{AnswersLoad}
+use Rattle.jb_load.specs.Telling.{TellsLoad}
 use Rattle.jb_load.specs.declared.fault.LoadFault.{LoadFault}
 use Rattle.jb_load.specs.declared.fault.LoadFault.TheVariants as loading
 use Rattle.jb_load.specs.declared.loaded.Loaded.{Loaded}
@@ -55,20 +57,21 @@ end_by (Ok status) = Ok status
 end_by (Err fault) = Err StopWriteFault
 
 -- what a load answered is reported: its lines, or its fault, and then nothing is written
-abbrev pub TellsLoad : Result Loaded LoadFault → Outputs → Outputs → Result ℕ Stop → Type 0
-TellsLoad (Ok loaded) old new end = (told : Result ℕ WriteFault) × (end ≡ end_by told)
-TellsLoad (Err fault) old new end = (end ≡ Err (load_stop fault)) × (new ≡ old)
+abbrev pub ReportsLoad : Result Loaded LoadFault → Outputs → Outputs → Result ℕ Stop → Type 0
+ReportsLoad (Ok loaded) old new end =
+    (told : Result ℕ WriteFault) × (end ≡ end_by told) × TellsLoad loaded old.out new.out old.err new.err told
+ReportsLoad (Err fault) old new end = (end ≡ Err (load_stop fault)) × (new ≡ old)
 
--- a queue was loaded into an open image, as the clauses of a load say of the answer, and that answer is reported
-pub record LoadsOn (load : Loading) (disk : FileDisk) (queue : QueueText) (old new : Outputs) (end : Result ℕ Stop) : Type 0 where
-  pub options : LoadOptions
+-- a queue was loaded into an open image, as the clause of a load says of the answer, and that answer is reported
+pub record LoadsOn (options : LoadOptions) (disk : FileDisk) (queue : QueueText) (old new : Outputs) (end : Result ℕ Stop) : Type 0 where
   pub answer : Result Loaded LoadFault
-  pub asked : IsAskedBy load options
-  pub told : TellsLoad answer old new end
+  pub loads : AnswersLoad (λ (f : FileDisk). bytes_of (size_of f)) count_of faults_of (λ _. ⊥) (λ _. []) disk queue.bs queue.handles.items options answer
+  pub told : ReportsLoad answer old new end
 
 -- the queue of a text was loaded, or the text's first fault is reported
 abbrev pub EndsOfText : Loading → FileDisk → Result Queue QueueFault → Outputs → Outputs → Result ℕ Stop → Type 0
-EndsOfText load disk (Ok value) old new end = (queue : QueueText) × (value_of queue ≡ value) × LoadsOn load disk queue old new end
+EndsOfText load disk (Ok value) old new end =
+    (queue : QueueText) × (options : LoadOptions) × (value_of queue ≡ value) × IsAskedBy load options × LoadsOn options disk queue old new end
 EndsOfText load disk (Err fault) old new end = (words : Said) × (queue_fault fault ≡ Some words) × Tells words old new end
 
 -- the image was opened, in blocks of the size that its first bytes say; then the text was not had, and nothing was done, or it was,

@@ -1,9 +1,7 @@
 //! `jb load`: the handles of a queue text, run by threads and committed to an image.
-ghost use Rattle.std.specs.Prelude.{◌≡◌, ◌≤◌, ◌↔◌, IsSome, IfSome, Result};
+ghost use Rattle.std.specs.Prelude.{◌≡◌, ◌≤◌, ◌↔◌, IsSome, IfSome};
 ghost use Rattle.jb_words.specs.Wanted.{load_said};
-ghost use Rattle.jb_load.specs.declared.fault.LoadFault.{LoadFault as Fault};
-ghost use Rattle.jb_load.specs.declared.loaded.Loaded.{Loaded};
-ghost use Rattle.jb_tool.specs.Load.{EndsOfLoad, HasThreads, IsAskedBy, RunsLoad, TellsLoad, load_stop};
+ghost use Rattle.jb_tool.specs.Load.{EndsOfLoad, HasThreads, IsAskedBy, LoadsOn, RunsLoad, load_stop};
 
 use jb_answers::fault_answer;
 use jb_block::Stamp;
@@ -83,7 +81,7 @@ fn load_queue<'a, R: AllocGlobal + Threads + Wait + Clock + Sync, O: Write, E: W
     err: &mut E,
 ) -> Result<u8, Stop<'a>>
     requires threads { (1 ≤ options.threads) × (options.threads ≤ 64) }
-    ensures told { (answer : Result Loaded Fault) × TellsLoad answer (record { out = O.contents out.old; err = E.contents err.old })
+    ensures loads { LoadsOn options.entry disk.entry queue.now (record { out = O.contents out.old; err = E.contents err.old })
         (record { out = O.contents out.new; err = E.contents err.new }) result }
 {
     let clock = FixedClock {

@@ -1,6 +1,6 @@
 //! Checks of certificates in files.
 
-use crate::runs::runs;
+use crate::runs::{Host, runs};
 use std::fs;
 use std::test::Fail;
 
@@ -36,8 +36,8 @@ const CHECKS: &[Check] = &[
 ];
 
 /// Whether the check of this certificate of this queue ends with this status, and writes just these two texts.
-fn checked(
-    rt: &HostRuntime,
+fn checked<R: Host>(
+    rt: &R,
     texts: (&str, &str),
     status: u8,
     out: &str,

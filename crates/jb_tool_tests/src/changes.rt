@@ -1,6 +1,6 @@
 //! Clean journals that are changed in their place, in files and on disks whose calls fail.
 
-use crate::runs::{WHOLE, image, runs};
+use crate::runs::{Host, WHOLE, image, runs};
 use jb_block::{BlockSize, Width};
 use jb_disk::{MemoryDisk, OneFaultDisk};
 use jb_tool::{Stop, format_on, renumber_on, widen_on};
@@ -54,8 +54,8 @@ fn front(
 }
 
 /// Whether the command turns the file into these bytes, once with the first line and once more with the second.
-fn changes_once(
-    rt: &HostRuntime,
+fn changes_once<R: Host>(
+    rt: &R,
     command: &str,
     lines: [&str; 2],
     want: &[u8],

@@ -1,6 +1,6 @@
 //! New images, and images that are recovered.
 
-use crate::runs::{MAGIC, UUID, WHOLE, add_block, image, runs};
+use crate::runs::{Host, MAGIC, UUID, WHOLE, add_block, image, runs};
 use std::fs;
 use std::test::Fail;
 
@@ -71,8 +71,8 @@ const FORMATS: &[Format] = &[
 ];
 
 /// Whether `jb format` with these sizes, in a file of this name, ends with this status and writes just these two texts.
-fn formatted(
-    rt: &HostRuntime,
+fn formatted<R: Host>(
+    rt: &R,
     image: &str,
     sizes: [&str; 3],
     more: [&str; 2],
@@ -96,7 +96,7 @@ fn formatted(
 }
 
 /// Whether `jb recover` of a file ends with this status and writes just these two texts.
-fn recovered(rt: &HostRuntime, image: &str, status: u8, out: &str, err: &str) -> bool {
+fn recovered<R: Host>(rt: &R, image: &str, status: u8, out: &str, err: &str) -> bool {
     runs(rt, &["recover", image], b"", status, out, err)
 }
 

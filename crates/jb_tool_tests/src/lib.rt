@@ -10,6 +10,8 @@ mod images;
 #[cfg(test)]
 mod journals;
 #[cfg(test)]
+mod loads;
+#[cfg(test)]
 mod runs;
 #[cfg(test)]
 mod streams;

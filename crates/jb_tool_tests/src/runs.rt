@@ -3,6 +3,16 @@ ghost use Rattle.std.specs.Prelude.{◌≤◌};
 
 use jb_tool::run;
 use std::alloc::{AllocError, Global};
+use std::fs::File;
+use std::rt::Files;
+use std::sync::Wait;
+use std::thread::Threads;
+use std::time::Clock;
+
+/// What the program needs of its runtime: files, memory, threads, and a clock.
+pub trait Host: Files<File = File> + AllocGlobal + Threads + Wait + Clock + Sync {}
+
+impl<R: Files<File = File> + AllocGlobal + Threads + Wait + Clock + Sync> Host for R {}
 
 /// The magic number with which each block of a journal's own begins.
 pub const MAGIC: u32 = 0xC03B_3998;
@@ -54,8 +64,8 @@ pub fn image(
 }
 
 /// Whether a run with these words and this input ends with this status, and writes just these two texts.
-pub fn runs(
-    rt: &HostRuntime,
+pub fn runs<R: Host>(
+    rt: &R,
     words: &[&str],
     input: &[u8],
     status: u8,

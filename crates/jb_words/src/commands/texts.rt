@@ -74,7 +74,7 @@ Status: 0 where all handles are committed, 1 where one is refused, or the commit
 early, or the image is refused, by the name of its fault, 2 where a file or the text cannot be taken.
 
 Example:
-  jb load a.img queue.txt --threads 4     # handles 3 changes 8 settled 3 groups 2 blocks 12";
+  jb load a.img queue.txt --hold     # handles 3 changes 8 settled 3 groups 1 blocks 7";
 
 const RECOVER: &str =
     "Status: 0 where the image is recovered, 1 where it is refused, by the name of its fault, and stays as it

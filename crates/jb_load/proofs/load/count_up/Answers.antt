@@ -2,7 +2,7 @@ use Rattle.std.proofs.Common.{◌<◌, List, length, sym, ap, subst, ◌∙◌, 
 use Rattle.std.specs.List.{All}
 use Rattle.std.proofs.lemmas.List.Sorted.{All-permutation}
 use Rattle.jb_handle.specs.Size.{IsWithinSize}
-use Rattle.jb_deck.specs.Costs.{geometry_of}
+use Rattle.jb_batch.specs.Costs.{geometry_of}
 use Rattle.jb_deck.specs.Done.{Follow}
 use Rattle.jb_deck.specs.declared.done.Entry.{Entry}
 use Rattle.jb_load.specs.Blocks.{blocks_in, stopped_of}

@@ -12,7 +12,6 @@ pub returns-in-Ok : goal.returns-in-Ok
 returns-in-Ok g c =
     let text = c.in_ok-text.text.items in
     let read = rw c.as_slice.ensures.value at c.in-Ok.ensures.ok in
-    let told = c.load_queue.ensures.told in
     record {
       ends = inr (
         c.in-Some.ensures.good.0 refl,
@@ -22,11 +21,7 @@ returns-in-Ok g c =
           ends = inr (
             text,
             c.in_ok-text.ensures.text,
-            rw read (
-              c.in-Ok.queue,
-              refl,
-              record { options = c.in-Some.options; answer = told.0; asked = c.in-Some.ensures.asked; told = told.1 },
-            ),
+            rw read (c.in-Ok.queue, c.in-Some.options, refl, c.in-Some.ensures.asked, c.load_queue.ensures.loads),
           );
         },
       );
