@@ -26,7 +26,7 @@ const JOURNAL: u32 = 257;
 const ALL: u64 = 1 << 60;
 
 /// How many loads there are, of which the disk cuts all short but the first. By hand it took 5,000 too.
-const LOADS: u64 = 100;
+const LOADS: u64 = 16;
 
 /// A load: the seed of its keys, the handles that each thread begins, and the calls after which the disk stops.
 #[derive(Clone, Copy)]
