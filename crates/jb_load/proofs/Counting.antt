@@ -12,7 +12,7 @@ use Rattle.jb_cost.specs.declared.geometry.Geometry.{Geometry}
 use Rattle.jb_deck.specs.Done.{Follow}
 use Rattle.jb_deck.specs.declared.done.Entry.{Entry}
 use Rattle.jb_batch.specs.Costs.{entries_in, geometry_of, tags_in}
-use Rattle.jb_deck.proofs.SameCosts.{same-costs}
+use Rattle.jb_batch.proofs.SameCosts.{same-costs}
 use Rattle.jb_load.specs.Blocks.{blocks_in, stopped_of}
 use Rattle.jb_load.specs.Runs.{handle_at, touching}
 use Rattle.jb_load.specs.declared.worker.Stop.{Stop}
