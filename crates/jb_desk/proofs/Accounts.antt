@@ -1,37 +1,31 @@
 -- Each call leaves the account sound.
-use Rattle.std.proofs.Common.{◌≡◌, ℕ, suc, ◌+◌, ◌-◌, ◌^◌, ◌<◌, ◌≤◌, ◌||◌, Bool, true, false, nat_lt, nat_le, List, [], ◌∷◌, ◌++◌, length, drop, sum, All, Some, None, is_some, sym, refl, ap, subst, ◌∙◌, cond, le_refl, IfSome, arith}
+use Rattle.std.proofs.Common.{◌≡◌, ℕ, ◌+◌, ◌-◌, ◌^◌, ◌<◌, ◌≤◌, ◌||◌, Bool, true, false, nat_lt, nat_le, List, [], ◌∷◌, ◌++◌, length, drop, sum, None, is_some, sym, refl, ap, subst, ◌∙◌, IfSome, arith}
 use Rattle.std.proofs.lemmas.Bool.Decides.{nat_tests}
 use Rattle.std.proofs.lemmas.List.{length-append, length-drop, drop-append-le, drop-drop}
 use Rattle.std.proofs.lemmas.List.Elements.{All-nil, All-push, All-drop}
 use Rattle.std.proofs.lemmas.List.Sums.{sum_by-append, sum_by-take-drop}
-use Rattle.std.proofs.lemmas.Map.Entries.{sum_by-remove_entry}
 use Rattle.std.proofs.lemmas.Map.Views.{All-values-insert_entry, All-map-remove_entry, IfSome-lookup_from_All}
 use Rattle.std.proofs.Math.ListN.{drop_of_length-le}
 use Rattle.std.proofs.Math.Seq.{drop-nil}
-use Rattle.std.specs.Int.{div_ceil}
 use Rattle.std.specs.List.{sum_by}
-use Rattle.std.specs.Option.{unwrap_or, option_map}
+use Rattle.std.specs.Option.{unwrap_or}
 use Rattle.std.specs.Ordering.{nat_cmp}
 use Rattle.std.specs.BTreeMap.{is_at}
-use Rattle.std.specs.Map.{lookup, remove_entry, values_of}
 use Rattle.std.specs.FinMap as map
-use Rattle.jb_handle.specs.declared.shape.Shape.{Shape}
 use Rattle.jb_handle.specs.declared.stopped.Stopped.{Stopped}
 use Rattle.jb_handle.specs.Held.{Fits}
 use Rattle.jb_handle.specs.Size.{IsWithinSize}
 use Rattle.jb_handle.specs.Word.{WordMap}
 use Rattle.jb_handle.proofs.Tickets.{tickets-append}
-use Rattle.jb_cost.specs.Credits.{IsMost, Covers}
-use Rattle.jb_cost.specs.declared.geometry.Geometry.{Geometry}
+use Rattle.jb_cost.specs.Credits.{Covers}
 use Rattle.jb_cost.proofs.Granted.{covers-append, covers-weight}
 use Rattle.jb_core.proofs.Accepted.{found-none, or-false, first-false, still-up}
 use Rattle.jb_core.proofs.Entries.{sum-insert, length-insert_entry, length-remove_entry}
 use Rattle.jb_deck.specs.declared.done.Entry.{Entry}
-use Rattle.jb_batch.specs.Costs.{tags_in, geometry_of}
 use Rattle.jb_deck.specs.Done.{Follow}
 use Rattle.jb_desk.specs.declared.fault.BeginFault.TheVariants.{Aborted, Closed, Busy, TooManyCredits, Full}
-use Rattle.jb_desk.specs.Account.{Account, InLine, IsSound, IsStart, granted_to, dropped_of, queued, taken_all, settled_to, failed_of, is_full, refusal, IsOpenFor, CanTake, Settles}
-use Rattle.jb_desk.specs.Shadow.{Shadow, fresh, credits_at, reserved}
+use Rattle.jb_desk.specs.Account.{Account, IsSound, granted_to, dropped_of, queued, taken_all, settled_to, failed_of, is_full, refusal, IsOpenFor, CanTake, Settles}
+use Rattle.jb_desk.specs.Shadow.{credits_at, reserved}
 use Rattle.jb_desk.proofs.Follows.{follow-append, follow-length}
 use Rattle.jb_desk.proofs.SeatCredits.{length-less, sum-gone, sum-less}
 

@@ -92,6 +92,12 @@ AnswersRound old new settled (Err DeviceFault) = new ≡ None
 AnswersRound old new settled (Err Memory) = StaysHeld old new
 AnswersRound old new settled (Err Refused) = StaysHeld old new
 
+-- a round that finds nothing to commit leaves the seat as it was
+abbrev pub IdleKeeps : {H N : Type 0} → Seat H N → Seat H N → Result Round RoundFault → Type 0
+IdleKeeps old new (Ok Idle) = new ≡ old
+IdleKeeps old new (Ok (Committed done)) = Unit {0}
+IdleKeeps old new (Err fault) = Unit {0}
+
 -- why a committer has ended, and whether it still holds a batch
 abbrev pub EndsHolding : Ended → Option Gathered → Type 0
 EndsHolding ended.Shut held = held ≡ None

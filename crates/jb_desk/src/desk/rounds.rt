@@ -15,7 +15,7 @@ use std::sync::ledger::Ledger;
 
 impl<D: Disk, C: Clock, H: Ledger, N: Ledger> Desk<D, C, H, N> {
     ghost use Rattle.jb_desk.specs.Desks.{desk_id};
-    ghost use Rattle.jb_desk.specs.Rounds.{seat_of, held_by, AnswersRound, end_of as end_in};
+    ghost use Rattle.jb_desk.specs.Rounds.{seat_of, held_by, AnswersRound, IdleKeeps, end_of as end_in};
     ghost use Rattle.jb_desk.specs.Seats.{stops, changes, desk_of};
     ghost use Rattle.jb_desk.specs.declared.committer.RoundFault.TheVariants.{Aborted};
 
@@ -36,6 +36,7 @@ impl<D: Disk, C: Clock, H: Ledger, N: Ledger> Desk<D, C, H, N> {
         requires { desk_of (seat_of committer.old) ≡ desk_id self.now }
         ensures desk { desk_of (seat_of committer.new) ≡ desk_of (seat_of committer.old) }
         ensures answers { AnswersRound (held_by committer.old) (held_by committer.new) (view_of (seat_of committer.new)).settled result }
+        ensures idle { IdleKeeps (seat_of committer.old) (seat_of committer.new) result }
         ensures counted { (stops (seat_of committer.new) ≡ stops (seat_of committer.old)) × (changes (seat_of committer.new) ≡ changes (seat_of committer.old)) }
     {
         let held = committer.batch.take();

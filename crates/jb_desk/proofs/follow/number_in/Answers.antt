@@ -1,4 +1,4 @@
-use Rattle.std.proofs.Common.{ℕ, ◌≤◌, ◌<◌, ◌≡◌, leb, leb-true, leb-false, length, sym, subst, arith, rules}
+use Rattle.std.proofs.Common.{◌<◌, leb, leb-true, leb-false, sym, subst, arith, rules}
 use Rattle.std.proofs.lemmas.List.Sorted.{IsPartitionPoint-from_clause, IsPartitionedBy-leb}
 use Rattle.jb_deck.specs.declared.done.Entry.{Entry}
 use Rattle.jb_desk.specs.Account.{IsSettledBy}
