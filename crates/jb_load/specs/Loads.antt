@@ -26,11 +26,9 @@ use Rattle.jb_load.specs.declared.options.LoadOptions.{LoadOptions}
 use Rattle.jb_load.specs.declared.worker.Stop.{Stop}
 
 -- the counts are those of the handles that stopped, each under a ticket of its own, and of the groups that settled them
-pub record Counts (queue : List Stopped) (g : Geometry) (stops : List Stop) (loaded : Loaded) : Type 0 where
+pub record Counts (queue : List Stopped) (g : Geometry) (stops : List Stop) (trail : List Entry) (loaded : Loaded) : Type 0 where
   -- the handles that stopped, in the order of their tickets
   pub order : List Stop
-  -- the groups that settled them
-  pub trail : List Entry
   pub same : IsPermutation stops order
   pub tickets : CountFrom 0 order
   pub handles : loaded.handles ≡ length order
@@ -47,9 +45,12 @@ pub record AreRuns (queue : List Stopped) (threads : ℕ) (runs : List Run) : Ty
 
 -- the counts are those of what the workers report, and the refused handle is the earliest of theirs
 pub record Loads (queue : List Stopped) (threads : ℕ) (g : Geometry) (loaded : Loaded) : Type 0 where
+  -- what each worker reports
   pub runs : List Run
+  -- the groups that settled handles
+  pub trail : List Entry
   pub worked : AreRuns queue threads runs
-  pub counts : Counts queue g (flat_map (λ (r : Run). r.stops) runs) loaded
+  pub counts : Counts queue g (flat_map (λ (r : Run). r.stops) runs) trail loaded
   pub refused : loaded.refused ≡ first_refused runs
 
 module _ {D : Type 0} (size count faults : D → ℕ) (honest : D → Type 0) (newest : D → Image) (disk : D) where

@@ -135,7 +135,7 @@ fn count_up<D: Drop, C: Drop>(
     requires handles { closed.handles ≡ length stops.items }
     requires changes { closed.changes ≡ touching queue.now stops.items }
     requires trail { (past : ℕ) × Follow 0 0 past closed.trail.items × (past ≤ closed.handles) }
-    ensures counts { IfOk result (Counts queue.now (geometry_of shape) stops.items) }
+    ensures counts { IfOk result (Counts queue.now (geometry_of shape) stops.items closed.trail.items) }
     ensures faults { IfErr result (λ fault. (fault ≡ OutOfMemory) ⊎ (fault ≡ Accounts)) }
 {
     let mut stops = stops;

@@ -12,6 +12,8 @@ mod journals;
 #[cfg(test)]
 mod loads;
 #[cfg(test)]
+mod refused_loads;
+#[cfg(test)]
 mod runs;
 #[cfg(test)]
 mod streams;

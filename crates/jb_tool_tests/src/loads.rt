@@ -1,6 +1,6 @@
 //! Loads of queue texts into images, in files.
 
-use crate::runs::{Host, MAGIC, UUID, WHOLE, add_block, image, runs};
+use crate::runs::{Host, ran, runs};
 use std::alloc::{AllocError, Global};
 use std::fs;
 use std::test::Fail;
@@ -23,7 +23,8 @@ struct Load {
     homes: &'static [(usize, [u8; 8])],
 }
 
-const TEN: &str = "bs 1024\nlimit 7\nh w5=c03b399801020304 r7\n";
+/// A handle that writes home block 5 and frees home block 7.
+pub const TEN: &str = "bs 1024\nlimit 7\nh w5=c03b399801020304 r7\n";
 
 const TEN_LOADED: &str = "handles 1 changes 2 settled 1 groups 1 blocks 4\n";
 
@@ -195,7 +196,7 @@ fn made<R: Host>(rt: &R, format: &[&str], text: &str) -> Result<bool, Fail> {
 }
 
 /// The words of a load of the queue text into the image.
-fn words_of<'a>(alloc: Global, options: &[&'a str]) -> Result<Vec<&'a str>, AllocError> {
+pub fn words_of<'a>(alloc: Global, options: &[&'a str]) -> Result<Vec<&'a str>, AllocError> {
     let mut words = Vec::new(alloc);
     words.extend_from_slice(&["load", "loaded.img", "queue.txt"])?;
     words.extend_from_slice(options)?;
@@ -236,151 +237,49 @@ fn each_load_answers_its_row_and_is_recovered(rt: HostRuntime) -> Result<(), Fai
     Ok(())
 }
 
-/// Which files there are to be loaded.
-enum Files {
-    /// An image with this number and start and these features, of which the file has so many bytes; and the queue text.
-    Both([u32; 2], u32, usize, &'static str),
-    /// The same image, and no queue text.
-    Image([u32; 2], u32, usize),
-    /// A queue text, and no image.
-    Text(&'static str),
+#[test]
+fn the_stamp_of_a_load_is_dumped(rt: HostRuntime) -> Result<(), Fail> {
+    assert!(rt; made(&rt, &[], TEN)?);
+    let words = words_of(rt.alloc(), &["--stamp", "18446744073709551615"])?;
+    assert!(rt; runs(&rt, words.as_slice(), b"", 0, TEN_LOADED, ""));
+    let text =
+        "super bs=1024 maxlen=33 first=1 sequence=2 start=1 errno=0 compat=00000000 incompat=00000001 rocompat=00000000 max=0 limit=8
+uuid 000102030405060708090a0b0c0d0e0f
+1 revoke number=2 count=20 homes=7
+2 descriptor number=2 tags=1
+3 copy home=5 flags=9 head=0000000001020304
+4 commit number=2 sec=18446744073709551615 nsec=0
+end transactions=1 expected=3
+";
+    assert!(rt; runs(&rt, &["dump", "loaded.img"], b"", 0, text, ""));
+    Ok(())
 }
 
-const CLEAN: [u32; 2] = [2, 0];
-
-const OTHER_SIZE: &str = "bs 2048\nlimit 7\nh w1\n";
-
-const NO_TEXT: &str = "bs 1024\nlimit 2\n";
-
-const BAD_OPTION: &str = "jb: bad option\n";
-
-/// The files, further words, the status and why nothing is loaded.
-const REFUSED: &[(Files, &[&str], u8, &str)] = &[
-    // an option comes before any file
-    (Files::Text(""), &["--threads", "0"], 2, BAD_OPTION),
-    (Files::Text(""), &["--threads", "65"], 2, BAD_OPTION),
-    (Files::Text(""), &["--threads", "4294967297"], 2, BAD_OPTION),
-    // the image comes before the text
-    (Files::Text(NO_TEXT), &[], 2, "jb: cannot read loaded.img\n"),
-    (
-        Files::Image(CLEAN, 16, WHOLE),
-        &[],
-        1,
-        "jb: Super Feature 2 16\n",
-    ),
-    (
-        Files::Both(CLEAN, 16, WHOLE, NO_TEXT),
-        &[],
-        1,
-        "jb: Super Feature 2 16\n",
-    ),
-    (
-        Files::Both(CLEAN, 1, 1023, NO_TEXT),
-        &[],
-        1,
-        "jb: Super ShortBlock\n",
-    ),
-    // the text comes before the block size
-    (
-        Files::Image([2, 1], 1, WHOLE),
-        &[],
-        2,
-        "jb: cannot read queue.txt\n",
-    ),
-    (
-        Files::Both([2, 1], 1, WHOLE, ""),
-        &[],
-        2,
-        "jb: queue line 1: BlockSizeLine\n",
-    ),
-    (
-        Files::Both([2, 1], 1, WHOLE, NO_TEXT),
-        &[],
-        2,
-        "jb: queue line 2: LimitLine\n",
-    ),
-    (
-        Files::Both([2, 1], 1, WHOLE, "bs 2048\nlimit 7\nh w1 w\n"),
-        &[],
-        2,
-        "jb: queue line 3: OpWord\n",
-    ),
-    // the block size comes before the journal
-    (
-        Files::Both([2, 1], 1, WHOLE, OTHER_SIZE),
-        &[],
-        1,
-        "jb: BlockSize\n",
-    ),
-    (
-        Files::Both(CLEAN, 1, 20 * 1024, OTHER_SIZE),
-        &[],
-        1,
-        "jb: BlockSize\n",
-    ),
-    (
-        Files::Both([2, 1], 1, WHOLE, TEN),
-        &[],
-        1,
-        "jb: NeedsRecovery\n",
-    ),
-    (
-        Files::Both([0xFFFF_FFFF, 1], 1, WHOLE, TEN),
-        &["--hold"],
-        1,
-        "jb: NeedsRecovery\n",
-    ),
-    (
-        Files::Both([0xFFFF_FFFF, 0], 1, WHOLE, TEN),
-        &["--threads", "64"],
-        1,
-        "jb: NumbersSpent\n",
-    ),
-    (
-        Files::Both(CLEAN, 1, 20 * 1024, TEN),
-        &[],
-        1,
-        "jb: Super Geometry\n",
-    ),
-    (
-        Files::Both(CLEAN, 1, 1024, TEN),
-        &[],
-        1,
-        "jb: Super Geometry\n",
-    ),
+/// Loads whose handles are committed while others run, so that their groups are not known, and which of the handles is the last
+/// one, where there is one thread.
+const TOGETHER: &[(&[&str], Option<u8>)] = &[
+    (&[], Some(4)),
+    (&["--checkpoint"], Some(4)),
+    (&["--threads", "2"], None),
+    (&["--threads", "3", "--checkpoint"], None),
+    (&["--threads", "64"], None),
 ];
 
-/// Writes these files, and gives the bytes of the image.
-fn written<R: Host>(rt: &R, files: &Files) -> Result<Vec<u8>, Fail> {
-    let _none = (
-        fs::remove_file(rt, "loaded.img"),
-        fs::remove_file(rt, "queue.txt"),
-    );
-    let (log, incompat, len) = match files {
-        Files::Both(log, incompat, len, _) | Files::Image(log, incompat, len) => {
-            (*log, *incompat, *len)
-        }
-        Files::Text(_) => (CLEAN, 1, 0),
-    };
-    let mut bytes = image(rt.alloc(), log, incompat, 20, 5, &[])?;
-    bytes.truncate(len);
-    if let Files::Both(..) | Files::Image(..) = files {
-        fs::write(rt, "loaded.img", bytes.as_slice())?;
-    }
-    if let Files::Both(_, _, _, text) | Files::Text(text) = files {
-        fs::write(rt, "queue.txt", *text)?;
-    }
-    Ok(bytes)
-}
-
 #[test]
-fn each_refused_load_answers_its_row_and_leaves_the_image(rt: HostRuntime) -> Result<(), Fail> {
-    for (files, options, status, err) in REFUSED {
-        let bytes = written(&rt, files)?;
+fn handles_that_run_together_are_all_committed(rt: HostRuntime) -> Result<(), Fail> {
+    for (options, last) in TOGETHER {
+        assert!(rt; made(&rt, &[], SAME)?);
         let words = words_of(rt.alloc(), options)?;
-        assert!(rt; runs(&rt, words.as_slice(), b"", *status, "", err), "{err}");
-        let left = fs::read(&rt, "loaded.img").unwrap_or(Vec::new(rt.alloc()));
-        assert!(rt; left.as_slice() == bytes.as_slice(), "{err}");
+        let (status, out, err) = ran(&rt, words.as_slice(), b"");
+        assert_eq!(rt; (status, err.len()), (0, 0));
+        assert!(rt; out.starts_with(b"handles 4 changes 8 settled 4 groups "));
+        let (status, _, _) = ran(&rt, &["recover", "loaded.img"], b"");
+        assert_eq!(rt; status, 0);
+        let image = fs::read(&rt, "loaded.img")?;
+        let (first, second) = (image.get(HOMES + 1024), image.get(HOMES + 2048));
+        assert_eq!(rt; first, second);
+        assert!(rt; first.is_some_and(|value| (1..=4).contains(value)));
+        assert!(rt; last.is_none() || last.as_ref() == first);
     }
     Ok(())
 }

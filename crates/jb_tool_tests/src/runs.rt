@@ -72,7 +72,13 @@ pub fn runs<R: Host>(
     out: &str,
     err: &str,
 ) -> bool {
+    let (ended, told, refused) = ran(rt, words, input);
+    ended == status && told.as_slice() == out.as_bytes() && refused.as_slice() == err.as_bytes()
+}
+
+/// How a run with these words and this input ends, and what it writes.
+pub fn ran<R: Host>(rt: &R, words: &[&str], input: &[u8]) -> (u8, Vec<u8>, Vec<u8>) {
     let (mut rest, mut told, mut refused) = (input, Vec::new(rt.alloc()), Vec::new(rt.alloc()));
     let ended = run(rt, words, &mut rest, &mut told, &mut refused);
-    ended == status && told.as_slice() == out.as_bytes() && refused.as_slice() == err.as_bytes()
+    (ended, told, refused)
 }

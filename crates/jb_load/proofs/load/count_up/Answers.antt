@@ -37,7 +37,6 @@ returns-clause-counts g c =
     let follows : Follow 0 0 c.in_ok-settled.settled c.args.closed.trail.items = subst (Follow 0 0 c.in_ok-settled.settled) c.deref-2.ensures.value c.in_ok-settled.ensures.settled in
     record {
       order = order;
-      trail = c.args.closed.trail.items;
       same = c.put_in_order.ensures.permuted;
       tickets = c.put_in_order.ensures.counted.0 c.if-not-put_in_order.false;
       handles = c.requires.handles ∙ sym many;

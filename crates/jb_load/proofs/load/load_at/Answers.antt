@@ -26,10 +26,10 @@ returns-clause-loaded g c =
     let counts = c.in_ok-counts.ensures.counts in
     record {
       runs = gathered.runs;
+      trail = c.in-Ok.closed.trail.items;
       worked = gathered.worked;
       counts = record {
         order = counts.order;
-        trail = counts.trail;
         same = subst (λ (xs : List Stop). IsPermutation xs counts.order) gathered.stops counts.same;
         tickets = counts.tickets;
         handles = counts.handles;

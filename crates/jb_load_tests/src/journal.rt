@@ -1,0 +1,103 @@
+//! The small journals, what is loaded into them, and what is found there.
+
+use crate::lent::LentDisk;
+use jb_block::{BlockSize, Stamp, Width, put32};
+use jb_disk::{Disk, FixedClock, MemoryDisk};
+use jb_load::{LoadFault, LoadOptions, Loaded, load_on, tell_loaded};
+use jb_queue::read_queue;
+use jb_recover::{format, recover};
+use std::alloc::Global;
+use std::marker::Brand;
+use std::sync::ledger::Blank;
+use std::sync::{Mutex, Wait};
+use std::test::Fail;
+use std::thread::Threads;
+use std::time::Clock;
+
+/// The parts of each ledger of a desk.
+const PARTS: u64 = (1 << 61) + 1;
+
+/// The clock of all loads.
+const CLOCK: FixedClock = FixedClock {
+    stamp: Stamp { sec: 0, nsec: 0 },
+};
+
+/// How many home blocks the journals have.
+pub const HOMES: usize = 16;
+
+/// One worker, which ends before anything is committed.
+pub const HELD: LoadOptions = LoadOptions {
+    threads: 1,
+    hold: true,
+    checkpoint: false,
+};
+
+/// A journal of 32 usable log blocks and 16 home blocks of zeros, of which a group takes so many log blocks at most, after a
+/// transaction of this number.
+pub fn formatted(alloc: Global, most: u32, number: u32) -> Result<MemoryDisk, Fail> {
+    let mut disk = MemoryDisk::new(alloc, BlockSize::OneKib, 49)?;
+    format(&mut disk, 33, most, [0; 16], Width::Narrow)?;
+    let mut front = [0; 1024];
+    if disk.block_size() == BlockSize::OneKib && disk.blocks() > 0 {
+        disk.read(0, &mut front)?;
+        put32(&mut front, 24, number);
+        disk.write(0, &front)?;
+    }
+    Ok(disk)
+}
+
+/// Loads a queue text into a journal.
+pub fn load<D: Disk + Drop + Send, R: Threads + Wait + Clock + Sync>(
+    rt: &R,
+    alloc: Global,
+    disk: D,
+    text: &str,
+    options: LoadOptions,
+) -> Result<Result<Loaded, LoadFault>, Fail> {
+    let queue = read_queue(alloc, text.as_bytes())?;
+    let threads = options.threads.clamp(1, 64);
+    Ok(load_on::<D, FixedClock, R, Brand, Brand>(
+        rt,
+        alloc,
+        disk,
+        CLOCK,
+        &queue,
+        LoadOptions { threads, ..options },
+        Blank::new(PARTS),
+        Blank::new(PARTS),
+    ))
+}
+
+/// Loads a queue text into a journal that is given back.
+pub fn load_lent<R: Threads + Wait + Clock + Sync>(
+    rt: &R,
+    alloc: Global,
+    disk: MemoryDisk,
+    text: &str,
+    options: LoadOptions,
+) -> Result<(MemoryDisk, Result<Loaded, LoadFault>), Fail> {
+    let disk = Mutex::new(disk);
+    let answer = load(rt, alloc, LentDisk::of(rt, &disk), text, options)?;
+    Ok((disk.into_inner(), answer))
+}
+
+/// Whether a load is reported with this status and just these two texts.
+pub fn tells(alloc: Global, loaded: &Loaded, out: &str, err: &str, status: u8) -> bool {
+    let (mut told, mut refused) = (Vec::new(alloc), Vec::new(alloc));
+    let ended = tell_loaded(loaded, &mut told, &mut refused);
+    ended == Ok(status) && told.as_slice() == out.as_bytes() && refused.as_slice() == err.as_bytes()
+}
+
+/// Recovers a journal; gives how many transactions and copies were found, and the first byte of each home block then.
+pub fn recovered(alloc: Global, disk: &mut MemoryDisk) -> Result<((u32, u32), [u8; HOMES]), Fail> {
+    let found = recover(alloc, disk)?;
+    let mut first = [0; HOMES];
+    let mut home = [0; 1024];
+    for at in 0..HOMES {
+        if disk.block_size() == BlockSize::OneKib && disk.blocks() > 33 + at as u64 {
+            disk.read(33 + at as u64, &mut home)?;
+            first[at] = home[0];
+        }
+    }
+    Ok(((found.transactions, found.copies), first))
+}

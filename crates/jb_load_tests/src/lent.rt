@@ -1,0 +1,128 @@
+//! A disk that a load gives back.
+ghost use Rattle.std.specs.Prelude.{◌≡◌, []};
+ghost use Rattle.jb_block.specs.Size.{bytes_of};
+ghost use Rattle.jb_disk.specs.Faults.{CountsFault};
+ghost use Rattle.jb_disk.specs.Lives.{is_block_size};
+
+use jb_block::BlockSize;
+use jb_disk::{Disk, Fault, MemoryDisk};
+use std::sync::{Mutex, Wait};
+
+/// A disk that somebody else keeps. What it holds is known to nobody, so that no clause on contents speaks of it.
+#[derive(Drop)]
+pub struct LentDisk<'a, R: Wait> {
+    rt: &'a R,
+    disk: &'a Mutex<MemoryDisk>,
+    size: BlockSize,
+    blocks: u64,
+    faults: u64,
+}
+
+impl<'a, R: Wait> LentDisk<'a, R> {
+    /// The disk that is kept there.
+    pub fn of(rt: &'a R, disk: &'a Mutex<MemoryDisk>) -> LentDisk<'a, R> {
+        let (size, blocks) = {
+            let inner = disk.lock(rt);
+            (inner.block_size(), inner.blocks())
+        };
+        LentDisk {
+            rt,
+            disk,
+            size,
+            blocks,
+            faults: 0,
+        }
+    }
+}
+
+impl<'a, R: Wait> Disk for LentDisk<'a, R> {
+    ghost size = { λ d. bytes_of d.size };
+
+    ghost count = { λ d. d.blocks };
+
+    ghost faults = { λ d. d.faults };
+
+    ghost honest = { λ _. ⊥ };
+
+    ghost newest = { λ _. [] };
+
+    ghost may_leave = { λ _ _. ⊥ };
+
+    ghost moment = { λ _. 0 };
+
+    ghost left_since = { λ _ _ _. ⊥ };
+
+    ghost has_size = { λ d. is_block_size d.size };
+
+    ghost newest_may_stay = { λ _ honest. absurd honest };
+
+    ghost has_shape = { λ _ _ honest _. absurd honest };
+
+    ghost has_shape_since = { λ _ _ _ honest _. absurd honest };
+
+    ghost counts_now = { λ _ _ _ honest _ _. absurd honest };
+
+    ghost only_now = { λ _ _ honest _. absurd honest };
+
+    fn block_size(&self) -> BlockSize {
+        self.size
+    }
+
+    fn blocks(&self) -> u64 {
+        self.blocks
+    }
+
+    fn read(&mut self, place: u64, buf: &mut [u8]) -> Result<(), Fault> {
+        let answer = read_at(self.rt, self.disk, place, buf);
+        settle(answer, &mut self.faults)
+    }
+
+    fn write(&mut self, place: u64, bytes: &[u8]) -> Result<(), Fault> {
+        let answer = write_at(self.rt, self.disk, place, bytes);
+        settle(answer, &mut self.faults)
+    }
+
+    fn sync(&mut self) -> Result<(), Fault> {
+        let answer = self.disk.lock(self.rt).sync();
+        settle(answer, &mut self.faults)
+    }
+}
+
+/// Reads a block of the disk that is kept.
+fn read_at<R: Wait>(
+    rt: &R,
+    disk: &Mutex<MemoryDisk>,
+    place: u64,
+    buf: &mut [u8],
+) -> Result<(), Fault> {
+    let mut disk = disk.lock(rt);
+    if place >= disk.blocks() || buf.len() != disk.block_size().bytes() as usize {
+        return Err(Fault);
+    }
+    disk.read(place, buf)
+}
+
+/// Writes a block of the disk that is kept.
+fn write_at<R: Wait>(
+    rt: &R,
+    disk: &Mutex<MemoryDisk>,
+    place: u64,
+    bytes: &[u8],
+) -> Result<(), Fault> {
+    let mut disk = disk.lock(rt);
+    if place >= disk.blocks() || bytes.len() != disk.block_size().bytes() as usize {
+        return Err(Fault);
+    }
+    disk.write(place, bytes)
+}
+
+/// Counts a fault where the call did not succeed.
+fn settle(answer: Result<(), Fault>, faults: &mut u64) -> Result<(), Fault>
+    ensures { CountsFault result faults.old faults.new }
+{
+    if answer.is_err() {
+        *faults = faults.saturating_add(1);
+        return Err(Fault);
+    }
+    Ok(())
+}
