@@ -22,7 +22,7 @@ pub(crate) struct Gathered<H: Ledger, N: Ledger> {
 }
 
 impl<H: Ledger, N: Ledger> Gathered<H, N> {
-    ghost use Rattle.std.specs.Prelude.{◌≡◌, ℕ, List, ◌+◌, ◌++◌, ◌∷◌, [], map, None, IfOk, OnOk};
+    ghost use Rattle.std.specs.Prelude.{◌≡◌, ℕ, List, vec_capacity, ◌≤◌, ◌+◌, ◌++◌, ◌∷◌, [], map, None, IfOk, OnOk};
     ghost use Rattle.std.specs.List.{flat_map, sum_by};
     ghost use Rattle.jb_desk.specs.Seats.{stops_left, changes_left};
     ghost use Rattle.jb_load.specs.Gathering.{earlier_of, first_refused};
@@ -36,7 +36,8 @@ impl<H: Ledger, N: Ledger> Gathered<H, N> {
     /// # Errors
     /// `Memory` where there is none for that.
     pub fn with_room(alloc: Global, seats: usize, handles: usize) -> Result<Gathered<H, N>, Memory>
-        ensures { IfOk result (λ g. (g.lefts.items ≡ []) × (g.stops.items ≡ []) × (g.refused ≡ None)) }
+        ensures none { IfOk result (λ g. (g.lefts.items ≡ []) × (g.stops.items ≡ []) × (g.refused ≡ None)) }
+        ensures room { IfOk result (λ g. (seats ≤ vec_capacity g.lefts) × (handles ≤ vec_capacity g.stops)) }
     {
         let mut lefts = Vec::new(alloc);
         lefts.reserve(seats)?;
