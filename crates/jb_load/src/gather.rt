@@ -22,12 +22,13 @@ pub(crate) struct Gathered<H: Ledger, N: Ledger> {
 }
 
 impl<H: Ledger, N: Ledger> Gathered<H, N> {
-    ghost use Rattle.std.specs.Prelude.{◌≡◌, ℕ, List, ◌+◌, ◌++◌, ◌∷◌, [], map, None, IfOk, OnOk};
+    ghost use Rattle.std.specs.Prelude.{◌≡◌, ℕ, List, vec_capacity, ◌≤◌, ◌+◌, ◌++◌, ◌∷◌, [], map, None, IfOk, OnOk};
     ghost use Rattle.std.specs.List.{flat_map, sum_by};
     ghost use Rattle.jb_desk.specs.Seats.{stops_left, changes_left};
     ghost use Rattle.jb_load.specs.Gathering.{earlier_of, first_refused};
     ghost use Rattle.jb_load.specs.Runs.{run_of, stops_in, changes_in};
     ghost use Rattle.jb_load.specs.Running.{HasRun, IsGathered};
+    ghost use Rattle.jb_handle.specs.declared.shape.Shape.{Shape as ShapeValue};
     ghost use Rattle.jb_handle.specs.declared.stopped.Stopped.{Stopped as StoppedValue};
 
     /// Nothing, with room for what so many seats and handles leave.
@@ -35,7 +36,8 @@ impl<H: Ledger, N: Ledger> Gathered<H, N> {
     /// # Errors
     /// `Memory` where there is none for that.
     pub fn with_room(alloc: Global, seats: usize, handles: usize) -> Result<Gathered<H, N>, Memory>
-        ensures { IfOk result (λ g. (g.lefts.items ≡ []) × (g.stops.items ≡ []) × (g.refused ≡ None)) }
+        ensures none { IfOk result (λ g. (g.lefts.items ≡ []) × (g.stops.items ≡ []) × (g.refused ≡ None)) }
+        ensures room { IfOk result (λ g. (seats ≤ vec_capacity g.lefts) × (handles ≤ vec_capacity g.stops)) }
     {
         let mut lefts = Vec::new(alloc);
         lefts.reserve(seats)?;
@@ -88,7 +90,7 @@ impl<H: Ledger, N: Ledger> Gathered<H, N> {
     /// `Memory` where there is none for that.
     pub fn gather(self, ran: Ran<H, N>) -> Result<Gathered<H, N>, Memory>
         requires empty { (self.lefts.items ≡ []) × (self.stops.items ≡ []) × (self.refused ≡ None) }
-        ensures { IfOk result (λ gathered. (queue : List StoppedValue) (threads : ℕ) → HasRun queue threads ran → IsGathered queue threads gathered) }
+        ensures { IfOk result (λ gathered. (shape : ShapeValue) (queue : List StoppedValue) (threads : ℕ) → HasRun shape queue threads ran → IsGathered shape queue threads gathered) }
     {
         let mut gathered = self;
         gathered.add_left(ran.committer)?;
