@@ -5,7 +5,6 @@ use Rattle.jb_block.specs.declared.size.BlockSize.{BlockSize}
 use Rattle.jb_disk.specs.Image.{Image}
 use Rattle.jb_handle.specs.declared.shape.Shape.{Shape}
 use Rattle.jb_handle.specs.declared.stopped.Stopped.{Stopped}
-use Rattle.jb_deck.specs.Costs.{geometry_of}
 use Rattle.jb_desk.specs.declared.ended.Ended.TheVariants.{Shut}
 use Rattle.jb_load.specs.Loads.{AnswersLoad, IsOpened, Loads}
 use Rattle.jb_load.specs.declared.fault.LoadFault.{LoadFault}
@@ -15,7 +14,7 @@ use Rattle.jb_load.specs.declared.options.LoadOptions.{LoadOptions}
 
 module _ {D : Type 0} (size count faults : D → ℕ) (honest : D → Type 0) (newest : D → Image) (disk : D) (bs : BlockSize) (queue : List Stopped) (options : LoadOptions) (shape : Shape) (same : bytes_of bs ≡ size disk)
     (opened : IsOpened size count faults honest newest disk shape) where
-  pub answers-as : (r : Result Loaded LoadFault) → IfOk r (Loads queue options.threads (geometry_of shape)) → IfOk r (λ loaded. options.checkpoint ≡ false → loaded.checkpoint ≡ Shut) → IfErr r (λ fault. (fault ≡ Memory) ⊎ (fault ≡ Accounts))
+  pub answers-as : (r : Result Loaded LoadFault) → IfOk r (Loads shape queue options.threads) → IfOk r (λ loaded. options.checkpoint ≡ false → loaded.checkpoint ≡ Shut) → IfErr r (λ fault. (fault ≡ Memory) ⊎ (fault ≡ Accounts))
       → AnswersLoad size count faults honest newest disk bs queue options r
   answers-as (Ok loaded) loads unasked none = (same, (shape, opened, loads), unasked)
   answers-as (Err fault) none unasked why =

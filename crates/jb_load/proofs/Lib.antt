@@ -3,5 +3,6 @@ pub mod Answering
 pub mod Counting
 pub mod Grouping
 pub mod Lines
+pub mod Refusals
 pub mod Stepping
 pub mod Summing

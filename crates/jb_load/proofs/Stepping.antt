@@ -1,13 +1,16 @@
 -- One handle more of a worker.
-use Rattle.std.proofs.Common.{◌≡◌, ℕ, suc, ◌+◌, ◌*◌, ◌<◌, List, [], ◌∷◌, ◌++◌, length, get_or, Result, Ok, IfOk, sym, ap, subst, ◌∙◌, arith}
+use Rattle.std.proofs.Common.{◌≡◌, ℕ, suc, ◌+◌, ◌*◌, ◌<◌, List, [], ◌∷◌, ◌++◌, length, get_or, Result, Ok, IfOk, sym, ap, subst, ◌∙◌, arith, ◌≤◌, Some, None, Err, IfErr}
 use Rattle.std.specs.List.{All}
 use Rattle.std.specs.FinMap as map
 use Rattle.std.proofs.Math.Nat.{mul-suc}
 use Rattle.std.proofs.lemmas.List.{length-append, get_or_default}
 use Rattle.std.proofs.lemmas.List.Elements.{All-push}
 use Rattle.std.proofs.lemmas.List.Sums.{sum_by_push}
+use Rattle.jb_handle.specs.declared.shape.Shape.{Shape}
 use Rattle.jb_handle.specs.declared.stopped.Stopped.{Stopped}
-use Rattle.jb_load.specs.Runs.{StepsBy, handle_at, touching}
+use Rattle.jb_load.specs.Runs.{IsRun, StepsBy, handle_at, touching}
+use Rattle.jb_load.specs.Refusing.{IsRefusedFor}
+use Rattle.jb_load.specs.declared.fault.HandleFault.{HandleFault}
 use Rattle.jb_load.specs.declared.worker.Stop.{Stop}
 
 pub length-more : {X : Type 0} (xs : List X) (x : X) → length (xs ++ x ∷ []) ≡ suc (length xs)
@@ -53,3 +56,21 @@ counted-more queue next n m k l ss ts s h here there is more counted changed one
 -- what holds at each success holds at this one
 pub of-ok : {T E P : Type 0} (r : Result T E) (x : T) → r ≡ Ok x → IfOk r (λ _. P) → P
 of-ok {T} {E} {P} r x is holds = subst (λ (s : Result T E). IfOk s (λ _. P)) is holds
+
+-- what holds of each fault holds of this one
+pub of-err : {T E : Type 0} (P : E → Type 0) (r : Result T E) (e : E) → r ≡ Err e → IfErr r P → P e
+of-err {T} {E} P r e is holds = subst (λ (s : Result T E). IfErr s P) is holds
+
+module _ (shape : Shape) (queue : List Stopped) (step at next : ℕ) (ss : List Stop) (stepped : Stepped queue step at next ss) where
+  -- no handle is left
+  pub ran-all : length queue ≤ next → IsRun shape queue step at (record { stops = ss; refused = None })
+  ran-all none = record { steps = stepped.steps; inside = stepped.inside; ends = omega (arith, stepped.place, none); why = tt }
+
+  -- the next handle was refused
+  pub ran-until : (h : Stopped) (fault : HandleFault) → next < length queue → IsRefusedFor shape (get_or queue next h).words fault → IsRun shape queue step at (record { stops = ss; refused = Some (record { handle = next; fault = fault }) })
+  ran-until h fault there why = record {
+    steps = stepped.steps;
+    inside = stepped.inside;
+    ends = (stepped.place, omega (arith, stepped.place, there));
+    why = subst (λ (x : Stopped). IsRefusedFor shape x.words fault) (sym (get_or_default queue next (record { ticket = 0; words = map.empty }) h there)) why;
+  }

@@ -8,6 +8,7 @@ use Rattle.std.proofs.lemmas.List.Concat.{flat_map-cons, length-flat_map}
 use Rattle.std.proofs.lemmas.List.Elements.{All-nil, All-append}
 use Rattle.std.proofs.lemmas.List.Folds.{flat_map-map}
 use Rattle.std.proofs.lemmas.List.Sums.{sum_by-append, sum_by-cons}
+use Rattle.jb_handle.specs.declared.shape.Shape.{Shape}
 use Rattle.jb_handle.specs.declared.stopped.Stopped.{Stopped}
 use Rattle.jb_load.specs.Loads.{AreRuns}
 use Rattle.jb_load.specs.Running.{AreWorked}
@@ -35,16 +36,16 @@ all-parts P part [] each = All-nil P
 all-parts P part (x ∷ xs) each =
     subst (All P) (sym (flat_map-cons part x xs)) (All-append P (part x) (flat_map part xs) (each 0 x (omega arith)) (all-parts P part xs (λ i d inside. each (suc i) d (omega (arith, inside)))))
 
-module _ {H N : Type 0} (queue : List Stopped) (threads : ℕ) (ws : List (Worked H N)) (worked : AreWorked queue threads ws) where
-  pub are-runs : AreRuns queue threads (map (run_of {H = H} {N = N}) ws)
+module _ {H N : Type 0} (shape : Shape) (queue : List Stopped) (threads : ℕ) (ws : List (Worked H N)) (worked : AreWorked shape queue threads ws) where
+  pub are-runs : AreRuns shape queue threads (map (run_of {H = H} {N = N}) ws)
   are-runs = record {
     workers = length-map ws run_of ∙ worked.number;
     each = λ at d inside. each at d inside (ws) refl;
   }
     where
-      each : (at : ℕ) (d : Run) → at < threads → (xs : List (Worked H N)) → xs ≡ ws → IsRun queue threads at (get_or (map (run_of {H = H} {N = N}) ws) at d)
+      each : (at : ℕ) (d : Run) → at < threads → (xs : List (Worked H N)) → xs ≡ ws → IsRun shape queue threads at (get_or (map (run_of {H = H} {N = N}) ws) at d)
       each at d inside [] is = absurd (let none : 0 ≡ threads = ap length is ∙ worked.number in let never : ⊥ = omega arith in never)
-      each at d inside (x ∷ xs) is = subst (IsRun queue threads at) (sym (get_or-map run_of ws at x d (omega (arith, inside, worked.number)))) (worked.run at x inside)
+      each at d inside (x ∷ xs) is = subst (IsRun shape queue threads at) (sym (get_or-map run_of ws at x d (omega (arith, inside, worked.number)))) (worked.run at x inside)
 
   pub same-stops : flat_map (λ (w : Worked H N). w.stops.items) ws ≡ flat_map (λ (r : Run). r.stops) (map (run_of {H = H} {N = N}) ws)
   same-stops = sym (flat_map-map (λ (r : Run). r.stops) (run_of {H = H} {N = N}) ws)

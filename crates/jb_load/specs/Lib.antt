@@ -3,6 +3,7 @@ pub mod Faults
 pub mod Gathering
 pub mod Loads
 pub mod Running
+pub mod Refusing
 pub mod Runs
 pub mod Telling
 pub mod Words

@@ -39,18 +39,18 @@ pub record Counts (queue : List Stopped) (g : Geometry) (stops : List Stop) (tra
   pub blocks : loaded.blocks ≡ blocks_in g (stopped_of queue order) trail
 
 -- each of so many workers has run the first of its handles
-pub record AreRuns (queue : List Stopped) (threads : ℕ) (runs : List Run) : Type 0 where
+pub record AreRuns (shape : Shape) (queue : List Stopped) (threads : ℕ) (runs : List Run) : Type 0 where
   pub workers : length runs ≡ threads
-  pub each : (at : ℕ) (d : Run) → at < threads → IsRun queue threads at (slice_index_or runs at d)
+  pub each : (at : ℕ) (d : Run) → at < threads → IsRun shape queue threads at (slice_index_or runs at d)
 
 -- the counts are those of what the workers report, and the refused handle is the earliest of theirs
-pub record Loads (queue : List Stopped) (threads : ℕ) (g : Geometry) (loaded : Loaded) : Type 0 where
+pub record Loads (shape : Shape) (queue : List Stopped) (threads : ℕ) (loaded : Loaded) : Type 0 where
   -- what each worker reports
   pub runs : List Run
   -- the groups that settled handles
   pub trail : List Entry
-  pub worked : AreRuns queue threads runs
-  pub counts : Counts queue g (flat_map (λ (r : Run). r.stops) runs) trail loaded
+  pub worked : AreRuns shape queue threads runs
+  pub counts : Counts queue (geometry_of shape) (flat_map (λ (r : Run). r.stops) runs) trail loaded
   pub refused : loaded.refused ≡ first_refused runs
 
 module _ {D : Type 0} (size count faults : D → ℕ) (honest : D → Type 0) (newest : D → Image) (disk : D) where
@@ -76,4 +76,4 @@ module _ {D : Type 0} (size count faults : D → ℕ) (honest : D → Type 0) (n
   AnswersLoad bs queue options (Err fault.Memory) = (bytes_of bs ≡ size disk) × ((shape : Shape) × IsOpened shape)
   AnswersLoad bs queue options (Err fault.Accounts) = (bytes_of bs ≡ size disk) × ((shape : Shape) × IsOpened shape)
   AnswersLoad bs queue options (Ok loaded) =
-      (bytes_of bs ≡ size disk) × ((shape : Shape) × IsOpened shape × Loads queue options.threads (geometry_of shape) loaded) × (options.checkpoint ≡ false → loaded.checkpoint ≡ Shut)
+      (bytes_of bs ≡ size disk) × ((shape : Shape) × IsOpened shape × Loads shape queue options.threads loaded) × (options.checkpoint ≡ false → loaded.checkpoint ≡ Shut)

@@ -1,10 +1,12 @@
 -- What a worker reports: which of its handles stopped, and which one was refused.
-use Rattle.std.specs.Prelude.{◌≡◌, ℕ, ◌+◌, ◌*◌, ◌<◌, ◌≤◌, List, [], ◌∷◌, length, get_or, Option, Some, None}
+use Rattle.std.specs.Prelude.{◌≡◌, ℕ, ◌+◌, ◌*◌, ◌<◌, ◌≤◌, List, [], ◌∷◌, length, get_or, Option, Some, None, IfSome}
 use Rattle.std.specs.List.{All, sum_by}
 use Rattle.std.specs.FinMap as map
+use Rattle.jb_handle.specs.declared.shape.Shape.{Shape}
 use Rattle.jb_handle.specs.declared.stopped.Stopped.{Stopped}
 use Rattle.jb_desk.specs.Seats.{stops_left, changes_left}
 use Rattle.jb_desk.specs.declared.seat.Left.{Left}
+use Rattle.jb_load.specs.Refusing.{IsRefusedFor}
 use Rattle.jb_load.specs.declared.fault.HandleFault.{HandleFault}
 use Rattle.jb_load.specs.declared.loaded.Refused.{Refused}
 use Rattle.jb_load.specs.declared.worker.Stop.{Stop}
@@ -30,15 +32,16 @@ abbrev pub EndsAt : ℕ → ℕ → Option Refused → Type 0
 EndsAt count place None = count ≤ place
 EndsAt count place (Some r) = (r.handle ≡ place) × (place < count)
 
--- the first of a worker's handles stopped, up to the one that was refused, or all of them
-pub record IsRun (queue : List Stopped) (step from : ℕ) (run : Run) : Type 0 where
-  pub steps : StepsBy step from run.stops
-  pub inside : All (λ (s : Stop). s.handle < length queue) run.stops
-  pub ends : EndsAt (length queue) (from + step * length run.stops) run.refused
-
 -- the handle at a place of the queue
 abbrev pub handle_at : List Stopped → ℕ → Stopped
 handle_at queue place = get_or queue place (record { ticket = 0; words = map.empty })
+
+-- the first of a worker's handles stopped, up to the one that was refused for what its fault says, or all of them
+pub record IsRun (shape : Shape) (queue : List Stopped) (step from : ℕ) (run : Run) : Type 0 where
+  pub steps : StepsBy step from run.stops
+  pub inside : All (λ (s : Stop). s.handle < length queue) run.stops
+  pub ends : EndsAt (length queue) (from + step * length run.stops) run.refused
+  pub why : IfSome run.refused (λ r. IsRefusedFor shape (handle_at queue r.handle).words r.fault)
 
 -- how many blocks the handles touch that stopped, added up
 abbrev pub touching : List Stopped → List Stop → ℕ

@@ -28,6 +28,7 @@ impl<H: Ledger, N: Ledger> Gathered<H, N> {
     ghost use Rattle.jb_load.specs.Gathering.{earlier_of, first_refused};
     ghost use Rattle.jb_load.specs.Runs.{run_of, stops_in, changes_in};
     ghost use Rattle.jb_load.specs.Running.{HasRun, IsGathered};
+    ghost use Rattle.jb_handle.specs.declared.shape.Shape.{Shape as ShapeValue};
     ghost use Rattle.jb_handle.specs.declared.stopped.Stopped.{Stopped as StoppedValue};
 
     /// Nothing, with room for what so many seats and handles leave.
@@ -88,7 +89,7 @@ impl<H: Ledger, N: Ledger> Gathered<H, N> {
     /// `Memory` where there is none for that.
     pub fn gather(self, ran: Ran<H, N>) -> Result<Gathered<H, N>, Memory>
         requires empty { (self.lefts.items ≡ []) × (self.stops.items ≡ []) × (self.refused ≡ None) }
-        ensures { IfOk result (λ gathered. (queue : List StoppedValue) (threads : ℕ) → HasRun queue threads ran → IsGathered queue threads gathered) }
+        ensures { IfOk result (λ gathered. (shape : ShapeValue) (queue : List StoppedValue) (threads : ℕ) → HasRun shape queue threads ran → IsGathered shape queue threads gathered) }
     {
         let mut gathered = self;
         gathered.add_left(ran.committer)?;

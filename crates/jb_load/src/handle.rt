@@ -4,6 +4,9 @@ ghost use Rattle.std.specs.FinMap as map;
 ghost use Rattle.jb_block.specs.Size.{bytes_of};
 ghost use Rattle.jb_handle.specs.Handle.{holder, changes_of};
 ghost use Rattle.jb_handle.specs.Held.{held, touched};
+ghost use Rattle.jb_handle.specs.Word.{WordMap};
+ghost use Rattle.jb_handle.specs.declared.shape.Shape.{Shape as ShapeValue};
+ghost use Rattle.jb_load.specs.Refusing.{IsRefusedFor};
 ghost use Rattle.jb_desk.specs.Desks.{desk_id, shape_in};
 ghost use Rattle.jb_desk.specs.Seats.{stops, changes, desk_of};
 
@@ -34,6 +37,7 @@ pub(crate) fn run_handle<D: Disk, C: Clock, R: Wait + time::Clock, H: Ledger, N:
     ensures block { length block.new ≡ length block.old }
     ensures stopped { IfOk result.1 (λ _. (stops result.0 ≡ stops seat + 1) × (changes result.0 ≡ changes seat + map.len words.now)) }
     ensures refused { OnErr result.1 ((stops result.0 ≡ stops seat) × (changes result.0 ≡ changes seat)) }
+    ensures why { IfErr result.1 (IsRefusedFor (shape_in desk.now) words.now) }
 {
     // more than these are too many in any journal
     let credits = u32::try_from(words.len()).unwrap_or(u32::MAX);
@@ -81,6 +85,7 @@ fn fill<D: Disk, C: Clock, R: Wait, H: Ledger, N: Ledger>(
     ensures block { length block.new ≡ length block.old }
     ensures stopped { IfOk result.1 (λ _. (stops result.0 ≡ stops (holder handle) + 1) × (changes result.0 ≡ changes (holder handle) + map.len words.now)) }
     ensures refused { OnErr result.1 ((stops result.0 ≡ stops (holder handle)) × (changes result.0 ≡ changes (holder handle))) }
+    ensures why { IfErr result.1 (IsRefusedFor (changes_of handle).shape words.now) }
 {
     let mut handle = handle;
     match put_words(&mut handle, words, block) {
@@ -99,6 +104,7 @@ fn stop<D: Disk, C: Clock, R: Wait, H: Ledger, N: Ledger>(
     ensures desk { desk_of result.0 ≡ desk_id desk.now }
     ensures stopped { IfOk result.1 (λ _. (stops result.0 ≡ stops (holder handle) + 1) × (changes result.0 ≡ changes (holder handle) + touched (changes_of handle))) }
     ensures refused { OnErr result.1 ((stops result.0 ≡ stops (holder handle)) × (changes result.0 ≡ changes (holder handle))) }
+    ensures why { IfErr result.1 (λ fault. (shape : ShapeValue) (words : WordMap) → IsRefusedFor shape words fault) }
 {
     match desk.stop(rt, handle) {
         Ok((seat, ticket)) => (seat, Ok(ticket)),

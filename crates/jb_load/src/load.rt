@@ -94,7 +94,7 @@ fn load_at<
     requires threads { (1 ≤ options.threads) × (options.threads ≤ 64) }
     requires parts { (H.parts ≡ 2 ^ 61 + 1) × (N.parts ≡ 2 ^ 61 + 1) }
     requires shape { shape_in desk ≡ shape }
-    ensures loaded { IfOk result (Loads queue.now options.threads (geometry_of shape)) }
+    ensures loaded { IfOk result (Loads shape queue.now options.threads) }
     ensures unasked { IfOk result (λ loaded. options.checkpoint ≡ false → loaded.checkpoint ≡ Shut) }
     ensures faults { IfErr result (λ fault. (fault ≡ OutOfMemory) ⊎ (fault ≡ Accounts)) }
 {

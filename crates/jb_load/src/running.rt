@@ -49,7 +49,7 @@ pub(crate) fn run<
 ) -> (Result<Ran<H, N>, LoadFault>, Ended)
     requires threads { (1 ≤ options.threads) × (options.threads ≤ 64) }
     requires size { bytes_of bs ≡ bytes_of (shape_in desk.now).bs }
-    ensures ran { IfOk result.0 (HasRun queue.now options.threads) }
+    ensures ran { IfOk result.0 (HasRun (shape_in desk.now) queue.now options.threads) }
     ensures faults { IfErr result.0 (λ fault. (fault ≡ OutOfMemory) ⊎ (fault ≡ Accounts)) }
     ensures unasked { options.checkpoint ≡ false → result.1 ≡ Shut }
 {
@@ -87,7 +87,7 @@ fn run_threads<
 ) -> Result<Ran<H, N>, LoadFault>
     requires threads { (1 ≤ options.threads) × (options.threads ≤ 64) }
     requires size { bytes_of bs ≡ bytes_of (shape_in desk.now).bs }
-    ensures ran { IfOk result (HasRun queue.now options.threads) }
+    ensures ran { IfOk result (HasRun (shape_in desk.now) queue.now options.threads) }
     ensures faults { IfErr result (λ fault. (fault ≡ OutOfMemory) ⊎ (fault ≡ Accounts)) }
 {
     let Ok(seat) = desk.seat(rt) else {
@@ -142,7 +142,7 @@ fn run_workers<
 ) -> Result<Vec<Worked<H, N>>, Memory>
     requires threads { (1 ≤ threads) × (threads ≤ 64) }
     requires size { bytes_of bs ≡ bytes_of (shape_in desk.now).bs }
-    ensures { IfOk result (λ workers. AreWorked queue.now threads workers.items) }
+    ensures { IfOk result (λ workers. AreWorked (shape_in desk.now) queue.now threads workers.items) }
 {
     let workers = thread::map_indices(
         rt,

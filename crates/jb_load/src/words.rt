@@ -5,6 +5,8 @@ ghost use Rattle.jb_block.specs.Size.{bytes_of};
 ghost use Rattle.jb_handle.specs.Handle.{holder, changes_of};
 ghost use Rattle.jb_handle.specs.Held.{held, put_at, refusal_at};
 ghost use Rattle.jb_handle.specs.declared.changes.TouchFault.TheVariants.{Memory as OutOfMemory};
+ghost use Rattle.jb_load.specs.Faults.{not_touched};
+ghost use Rattle.jb_load.specs.Refusing.{IsRefusedFor};
 ghost use Rattle.jb_load.specs.Words.{len_in};
 
 use jb_handle::{Handle, TouchFault, Word, Words};
@@ -23,6 +25,7 @@ pub(crate) fn put_words<S>(
     ensures seat { holder handle.new ≡ holder handle.old }
     ensures block { length block.new ≡ length block.old }
     ensures ok { OnOk result ((changes_of handle.new).words ≡ words.now) }
+    ensures refused { IfErr result (λ fault. IsRefusedFor (changes_of handle.old).shape words.now (not_touched fault)) }
 {
     for (home, word) in words.entries() {
         put_word(handle, *home, word, block)?;

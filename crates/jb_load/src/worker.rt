@@ -49,7 +49,7 @@ pub(crate) fn work<D: Disk, C: Clock, R: Wait + time::Clock, H: Ledger, N: Ledge
 ) -> Worked<H, N>
     requires step { (1 ≤ step) × (step ≤ 64) }
     requires size { bytes_of bs ≡ bytes_of (shape_in desk.now).bs }
-    ensures run { IsRun queue.now step at (run_of result) }
+    ensures run { IsRun (shape_in desk.now) queue.now step at (run_of result) }
     ensures counted { IsCounted queue.now result }
 {
     if at >= queue.len() {
@@ -82,7 +82,7 @@ fn run_all<D: Disk, C: Clock, R: Wait + time::Clock, H: Ledger, N: Ledger>(
     requires block { length block.old ≡ bytes_of (shape_in desk.now).bs }
     requires none { stops.items ≡ [] }
     requires room { length queue.now ≤ at + step * vec_capacity stops }
-    ensures run { IsRun queue.now step at (run_of result) }
+    ensures run { IsRun (shape_in desk.now) queue.now step at (run_of result) }
     ensures counted { IsCounted queue.now result }
 {
     let (mut seat, mut stops, mut refused) = (seat, stops, None);

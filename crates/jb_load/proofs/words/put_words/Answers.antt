@@ -1,9 +1,13 @@
-use Rattle.std.proofs.Common.{◌<◌, T, None, length, sym, ap, subst, ◌∙◌, arith}
+use Rattle.std.proofs.Common.{◌≡◌, ◌<◌, T, None, length, sym, ap, subst, ◌∙◌, arith, Err, IfErr, OnOk, rules}
 use Rattle.std.specs.Ordering.{nat_cmp}
 use Rattle.std.specs.Cmp.{nat_cmp_total}
 use Rattle.std.specs.FinMap as map
 use Rattle.jb_handle.specs.Handle.{holder, changes_of}
 use Rattle.jb_handle.proofs.Gathering.{word-more, words-whole}
+use Rattle.jb_handle.specs.declared.changes.TouchFault.{TouchFault}
+use Rattle.jb_load.specs.Faults.{not_touched}
+use Rattle.jb_load.specs.Refusing.{IsRefusedFor}
+use Rattle.jb_load.proofs.Refusals.{not-touched}
 use Rattle.jb_load.proofs.Lines.{or-nothing}
 use Rattle.jb_load.proofs.words.put_words.Goals as goal
 
@@ -32,3 +36,18 @@ returns-clause-ok g c =
     c.loop-home.invariant.words q
     ∙ words-whole c.args.words.now _ c.entries-home-items.ensures c.loop-home.home-index (omega arith) q None
     ∙ or-nothing (map.get c.args.words.now q))
+
+pub returns-in_err-put_word : goal.returns-in_err-put_word
+returns-in_err-put_word g c =
+    let fault : TouchFault = c.in_err-put_word.field-0.0 in
+    let is : c.from_residual.result ≡ Err fault = search rules in
+    let inside : c.loop-home.home-index < length c.entries-home-items.result.now = omega arith in
+    let why = not-touched (changes_of c.loop-home.handle) c.args.words.now c.entries-home-items.result.now c.entries-home-items.ensures c.loop-home.home-index c.loop-home-item.result c.loop-home-item.is inside fault c.in_err-put_word.ensures.refused in
+    record {
+      seat = c.in_err-put_word.ensures.seat ∙ c.loop-home.invariant.seat;
+      block = c.in_err-put_word.ensures.block ∙ c.loop-home.invariant.block;
+      ok = subst (λ r. OnOk r ((changes_of c.put_word.new.handle).words ≡ c.args.words.now)) (sym is) tt;
+      refused =
+          subst (λ r. IfErr r (λ f. IsRefusedFor (changes_of c.args.handle.now).shape c.args.words.now (not_touched f))) (sym is)
+          (subst (λ shape. IsRefusedFor shape c.args.words.now (not_touched fault)) c.loop-home.invariant.shape why);
+    }

@@ -8,7 +8,7 @@ use Rattle.jb_load.proofs.Summing.{are-runs, same-stops, all-inside, all-stops, 
 use Rattle.jb_load.proofs.gather.Gathered.gather.Goals as goal
 
 pub returns : goal.returns
-returns g c queue threads ran =
+returns g c shape queue threads ran =
     let ws = c.args.ran.workers.items in
     let committer = c.args.ran.committer in
     let lefts = c.in_ok-add_left.ensures.lefts in
@@ -16,10 +16,10 @@ returns g c queue threads ran =
     let before = c.args.self.lefts.items in
     record {
       runs = map (run_of {H = g.row.H.Denot} {N = g.row.N.Denot}) ws;
-      worked = are-runs queue threads ws ran.workers;
-      stops = stops ∙ same-stops queue threads ws ran.workers;
+      worked = are-runs shape queue threads ws ran.workers;
+      stops = stops ∙ same-stops shape queue threads ws ran.workers;
       refused = c.in_ok-add_all.ensures.refused;
-      inside = subst (All (λ (s : Stop). s.handle < length queue)) (sym stops) (all-inside queue threads ws ran.workers);
+      inside = subst (All (λ (s : Stop). s.handle < length queue)) (sym stops) (all-inside shape queue threads ws ran.workers);
       handles =
           omega (
             arith,
@@ -28,7 +28,7 @@ returns g c queue threads ran =
             sum_by_push (stops_left {H = g.row.H.Denot} {N = g.row.N.Denot}) before committer,
             ap (sum_by (stops_left {H = g.row.H.Denot} {N = g.row.N.Denot})) c.requires.empty.0,
             ran.stops,
-            all-stops queue threads ws ran.workers,
+            all-stops shape queue threads ws ran.workers,
             ap (λ xs. length {A = Stop} xs) stops,
           );
       changes =
@@ -39,7 +39,7 @@ returns g c queue threads ran =
             sum_by_push (changes_left {H = g.row.H.Denot} {N = g.row.N.Denot}) before committer,
             ap (sum_by (changes_left {H = g.row.H.Denot} {N = g.row.N.Denot})) c.requires.empty.0,
             ran.changes,
-            all-changes queue threads ws ran.workers,
+            all-changes shape queue threads ws ran.workers,
             ap (touching queue) stops,
           );
     }
