@@ -17,6 +17,7 @@ pub struct Draws {
 }
 
 impl Draws {
+    /// The numbers that follow from this seed; the same seed gives the same numbers.
     pub fn of(seed: u64) -> Draws {
         Draws { state: seed }
     }
