@@ -70,7 +70,8 @@ put_sector-above j k from to same above within =
     ∙ ap (λ bytes. take 512 (drop (512 * j - (512 * k + 512)) bytes)) back
     ∙ sym (sector_of_back j (512 * k + 512) to behind)
 
-sector-suc : (k : ℕ) (bytes : List ℕ) → sector (suc k) bytes ≡ sector k (drop 512 bytes)
+-- the next sector is one of the rest
+pub sector-suc : (k : ℕ) (bytes : List ℕ) → sector (suc k) bytes ≡ sector k (drop 512 bytes)
 sector-suc k bytes =
     let sum : 512 * suc k ≡ 512 + 512 * k = omega arith in
     ap (take 512) (ap (λ n. drop n bytes) sum ∙ sym (drop-drop (512 * k) 512 bytes))

@@ -4,10 +4,10 @@ use Rattle.jb_disk.specs.Image.{Image, Only}
 use Rattle.jb_disk.specs.Kept.{Kept}
 use Rattle.jb_disk.specs.Time.{LeavesOnly}
 use Rattle.jb_io.specs.Parts.{spelled}
-use Rattle.jb_recover.specs.Changes.{ChangeFaults}
-use Rattle.jb_recover.specs.declared.change.ChangeFault.{ChangeFault}
-use Rattle.jb_recover.specs.declared.change.Renumbered.{Renumbered}
-use Rattle.jb_recover.specs.declared.change.Widened.{Widened}
+use Rattle.jb_front.specs.Changes.{ChangeFaults}
+use Rattle.jb_front.specs.declared.change.ChangeFault.{ChangeFault}
+use Rattle.jb_front.specs.declared.change.Renumbered.{Renumbered}
+use Rattle.jb_front.specs.declared.change.Widened.{Widened}
 use Rattle.jb_plain.specs.Said.{TellsLine}
 use Rattle.jb_plain.specs.Stops.{change_stop}
 use Rattle.jb_plain.specs.declared.stop.Stop.{Stop}

@@ -3,9 +3,9 @@ use Rattle.std.specs.Prelude.{◌≡◌, ◌↔◌, ℕ, Bool, List, [], ◌∷�
 use Rattle.jb_disk.specs.Image.{Image, Only, Torn}
 use Rattle.jb_disk.specs.Kept.{Kept}
 use Rattle.jb_io.specs.Parts.{spelled}
-use Rattle.jb_recover.specs.Formatted.{FormatFaults, HasRoom, new_block}
-use Rattle.jb_recover.specs.declared.fault.FormatFault.{FormatFault}
-use Rattle.jb_recover.specs.declared.fault.FormatFault.TheVariants.{Geometry as NoGeometry}
+use Rattle.jb_front.specs.Formatted.{FormatFaults, HasRoom, new_block}
+use Rattle.jb_front.specs.declared.fault.FormatFault.{FormatFault}
+use Rattle.jb_front.specs.declared.fault.FormatFault.TheVariants.{Geometry as NoGeometry}
 use Rattle.jb_super.specs.Features.{of_width}
 use Rattle.jb_super.specs.Geometry.{limit_of}
 use Rattle.jb_super.specs.Superblock.{new_super}

@@ -5,9 +5,9 @@ use Rattle.jb_block.specs.Size.{bytes_of}
 use Rattle.jb_disk.specs.File.{count_of, faults_of, size_of}
 use Rattle.jb_disk.specs.declared.file.FileDisk.{FileDisk}
 use Rattle.jb_disk.specs.Image.{Image}
-use Rattle.jb_recover.specs.declared.change.ChangeFault.{ChangeFault}
-use Rattle.jb_recover.specs.Renumbering.{IsRenumbering, Renumbers, RenumbersAs}
-use Rattle.jb_recover.specs.Widening.{IsWidened, Widens, WidensAs}
+use Rattle.jb_front.specs.declared.change.ChangeFault.{ChangeFault}
+use Rattle.jb_front.specs.Renumbering.{IsRenumbering, Renumbers, RenumbersAs}
+use Rattle.jb_front.specs.Widening.{IsWidened, Widens, WidensAs}
 use Rattle.jb_super.specs.Faults.{super_in}
 use Rattle.jb_super.specs.Superblock.{Superblock}
 use Rattle.jb_words.specs.Named.{Options}

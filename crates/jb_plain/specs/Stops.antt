@@ -3,10 +3,10 @@ use Rattle.std.specs.Prelude.{ℕ, List, [], ◌∷◌, codes, decimal}
 use Rattle.jb_io.specs.Parts.{spelled}
 use Rattle.jb_dump.specs.declared.fault.DumpFault.{DumpFault}
 use Rattle.jb_dump.specs.declared.fault.DumpFault.TheVariants as dumping
-use Rattle.jb_recover.specs.declared.change.ChangeFault.{ChangeFault}
-use Rattle.jb_recover.specs.declared.change.ChangeFault.TheVariants as changing
-use Rattle.jb_recover.specs.declared.fault.FormatFault.{FormatFault}
-use Rattle.jb_recover.specs.declared.fault.FormatFault.TheVariants as formatting
+use Rattle.jb_front.specs.declared.change.ChangeFault.{ChangeFault}
+use Rattle.jb_front.specs.declared.change.ChangeFault.TheVariants as changing
+use Rattle.jb_front.specs.declared.fault.FormatFault.{FormatFault}
+use Rattle.jb_front.specs.declared.fault.FormatFault.TheVariants as formatting
 use Rattle.jb_recover.specs.declared.fault.RecoverFault.{RecoverFault}
 use Rattle.jb_recover.specs.declared.fault.RecoverFault.TheVariants as recovering
 use Rattle.jb_super.specs.declared.fault.SuperFault.{SuperFault}

@@ -1,5 +1,5 @@
-ghost use Rattle.jb_recover.specs.Renumbering.{IsRenumbering, Renumbers, RenumbersAs};
-ghost use Rattle.jb_recover.specs.Widening.{IsWidened, Widens, WidensAs};
+ghost use Rattle.jb_front.specs.Renumbering.{IsRenumbering, Renumbers, RenumbersAs};
+ghost use Rattle.jb_front.specs.Widening.{IsWidened, Widens, WidensAs};
 ghost use Rattle.jb_plain.specs.Change.{ChangesOn, renumbered_line, widened_line};
 ghost use Rattle.jb_plain.specs.Said.{TellsLine};
 
