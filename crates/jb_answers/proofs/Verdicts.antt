@@ -6,7 +6,7 @@ use Rattle.jb_queue.specs.Queue.{Queue, Reports, ReportsBy, queue_of}
 use Rattle.jb_queue.specs.declared.fault.Cause.{Cause}
 use Rattle.jb_queue.specs.declared.fault.Cause.TheVariants.{BlockSizeLine, LimitLine, HandleLine, OpWord, DataWord, Memory as OutOfMemory}
 use Rattle.jb_queue.specs.declared.fault.QueueFault.{QueueFault}
-use Rattle.jb_price.specs.Reading.{claim_of, read_of}
+use Rattle.jb_price.specs.Claims.{claim_of, read_of}
 use Rattle.jb_price.specs.Verdict.{IsRight, Says}
 use Rattle.jb_price.specs.declared.certificate.Cert.{Cert}
 use Rattle.jb_price.specs.declared.verdict.Verdict.{Verdict}

@@ -4,7 +4,7 @@ use Rattle.jb_cost.specs.Cut.{piece_cost}
 use Rattle.jb_cost.specs.declared.geometry.Geometry.{Geometry}
 use Rattle.jb_queue.specs.Queue.{Queue, queue_of}
 use Rattle.jb_queue.specs.declared.fault.QueueFault.{QueueFault}
-use Rattle.jb_price.specs.Reading.{Claim, claim_of, read_of}
+use Rattle.jb_price.specs.Claims.{Claim, claim_of, read_of}
 use Rattle.jb_price.specs.Verdict.{IsRight, Says}
 use Rattle.jb_price.specs.declared.certificate.Cert.{Cert}
 use Rattle.jb_price.specs.declared.fault.CertFault.{CertFault}

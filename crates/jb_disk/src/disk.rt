@@ -40,7 +40,7 @@ pub trait Disk {
     ghost left_since: { Self → ℕ → Image → Type 0 };
 
     /// The next read, write or sync fails and is not tried.
-    ghost is_stopped: { Self → Bool } = { λ _. false };
+    ghost fails_next: { Self → Bool } = { λ _. false };
 
     /// What one call does to the state of this kind of disk, by whether it succeeds; nothing is said
     /// unless a disk says it.
@@ -60,7 +60,7 @@ pub trait Disk {
         requires place { place < count self.old }
         requires block { length buf.old ≡ size self.old }
         ensures kept { Kept size count honest self.old self.new }
-        ensures stopped { IsTrue (is_stopped self.old) → IsErr result × Untouched newest may_leave moment self.old self.new }
+        ensures spent { IsTrue (fails_next self.old) → IsErr result × Untouched newest may_leave moment self.old self.new }
         ensures faults { CountsFault result (faults self.old) (faults self.new) }
         ensures own { own (Reads place) self.old self.new (is_ok result) }
         ensures found { honest self.old → OnOk result (buf.new ≡ block (newest self.old) place) }
@@ -74,7 +74,7 @@ pub trait Disk {
         requires place { place < count self.old }
         requires block { length bytes.now ≡ size self.old }
         ensures kept { Kept size count honest self.old self.new }
-        ensures stopped { IsTrue (is_stopped self.old) → IsErr result × Untouched newest may_leave moment self.old self.new }
+        ensures spent { IsTrue (fails_next self.old) → IsErr result × Untouched newest may_leave moment self.old self.new }
         ensures faults { CountsFault result (faults self.old) (faults self.new) }
         ensures own { own (Writes place bytes.now) self.old self.new (is_ok result) }
         ensures written { honest self.old → OnOk result (newest self.new ≡ set (newest self.old) place bytes.now) }
@@ -85,7 +85,7 @@ pub trait Disk {
     /// of what was written before it.
     fn sync(&mut self) -> Result<(), Fault>
         ensures kept { Kept size count honest self.old self.new }
-        ensures stopped { IsTrue (is_stopped self.old) → IsErr result × Untouched newest may_leave moment self.old self.new }
+        ensures spent { IsTrue (fails_next self.old) → IsErr result × Untouched newest may_leave moment self.old self.new }
         ensures faults { CountsFault result (faults self.old) (faults self.new) }
         ensures own { own Syncs self.old self.new (is_ok result) }
         ensures newest { honest self.old → newest self.new ≡ newest self.old }

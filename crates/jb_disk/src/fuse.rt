@@ -55,7 +55,7 @@ impl<D: Disk> Disk for FuseDisk<D> {
 
     ghost left_since = { λ f. D.left_since f.disk };
 
-    ghost is_stopped = { λ f. f.left == 0 };
+    ghost fails_next = { λ f. f.left == 0 };
 
     ghost use Rattle.jb_disk.specs.Fuse.{Burns};
 

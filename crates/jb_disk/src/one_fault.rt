@@ -54,7 +54,7 @@ impl<D: Disk> Disk for OneFaultDisk<D> {
 
     ghost left_since = { λ f. D.left_since f.disk };
 
-    ghost is_stopped = { λ f. is_next f.before };
+    ghost fails_next = { λ f. is_next f.before };
 
     ghost use Rattle.jb_disk.specs.OneFault.{Spends};
 

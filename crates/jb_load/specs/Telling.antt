@@ -88,5 +88,5 @@ status_if false = 1
 -- The counts are on standard output, and the lines of what did not end well on standard error as far as that took them; or
 -- standard output failed part of the way, and nothing more was written
 abbrev pub TellsLoad : Loaded → Option (List ℕ) → Option (List ℕ) → Option (List ℕ) → Option (List ℕ) → Result ℕ WriteFault → Type 0
-TellsLoad l held holds had has (Ok status) = Appends held holds (counts_line l) × PutsPart had has (faults_text l) × (status ≡ status_if (is_whole l))
-TellsLoad l held holds had has (Err fault) = PutsPart held holds (counts_line l) × (has ≡ had)
+TellsLoad l out_old out_new err_old err_new (Ok status) = Appends out_old out_new (counts_line l) × PutsPart err_old err_new (faults_text l) × (status ≡ status_if (is_whole l))
+TellsLoad l out_old out_new err_old err_new (Err fault) = PutsPart out_old out_new (counts_line l) × (err_new ≡ err_old)

@@ -9,8 +9,8 @@ use Rattle.jb_front.specs.declared.change.ChangeFault.{ChangeFault}
 use Rattle.jb_front.specs.declared.change.Renumbered.{Renumbered}
 use Rattle.jb_front.specs.declared.change.Widened.{Widened}
 use Rattle.jb_plain.specs.Said.{TellsLine}
-use Rattle.jb_plain.specs.Stops.{change_stop}
-use Rattle.jb_plain.specs.declared.stop.Stop.{Stop}
+use Rattle.jb_plain.specs.Faults.{change_fault}
+use Rattle.jb_plain.specs.declared.fault.CommandFault.{CommandFault}
 
 -- the line of a renumbering
 abbrev pub renumbered_line : Renumbered → List ℕ
@@ -23,16 +23,16 @@ widened_line w =
     spelled ((if w.changed then codes "widened limit " else codes "already wide limit ") ∷ decimal w.limit ∷ codes "\n" ∷ [])
 
 -- what a change answered is reported: its line, or its fault, and then nothing is written
-abbrev pub TellsChange : {T : Type 0} → (T → List ℕ) → Result T ChangeFault → Option (List ℕ) → Option (List ℕ) → Result ℕ Stop → Type 0
-TellsChange line (Ok done) held holds end = TellsLine (line done) held holds end
-TellsChange line (Err fault) held holds end = (end ≡ Err (change_stop fault)) × (holds ≡ held)
+abbrev pub TellsChange : {T : Type 0} → (T → List ℕ) → Result T ChangeFault → Option (List ℕ) → Option (List ℕ) → Result ℕ CommandFault → Type 0
+TellsChange line (Ok done) out_old out_new end = TellsLine (line done) out_old out_new end
+TellsChange line (Err fault) out_old out_new end = (end ≡ Err (change_fault fault)) × (out_new ≡ out_old)
 
 -- a clean journal on the disk was changed, as the clauses of the change say of its answer, and that answer is reported: what the
 -- change does, which images a crash in its midst may leave, and which end in the same image where it is called again
 pub record ChangesOn {D T : Type 0} (size count faults : D → ℕ) (honest : D → Type 0) (newest : D → Image) (may_leave : D → Image → Type 0)
     (moment : D → ℕ) (left_since : D → ℕ → Image → Type 0)
     (Does : ℕ → ℕ → Image → Image → Result T ChangeFault → Type 0) (IsMidst EndsAlike : ℕ → ℕ → Image → Image → Type 0) (line : T → List ℕ)
-    (old new : D) (held holds : Option (List ℕ)) (end : Result ℕ Stop) : Type 0 where
+    (old new : D) (out_old out_new : Option (List ℕ)) (end : Result ℕ CommandFault) : Type 0 where
   pub answer : Result T ChangeFault
   pub kept : Kept size count honest old new
   pub fault_count : ChangeFaults answer (faults old) (faults new)
@@ -40,4 +40,4 @@ pub record ChangesOn {D T : Type 0} (size count faults : D → ℕ) (honest : D 
   pub crash : honest old → LeavesOnly moment left_since old new (λ c. may_leave old c ⊎ IsMidst (size old) (count old) (newest old) c)
   pub again : honest old → EndsAlike (size old) (count old) (newest old) (newest new)
   pub durable : honest old → OnOk answer (Only (newest new) (may_leave new))
-  pub told : TellsChange line answer held holds end
+  pub told : TellsChange line answer out_old out_new end

@@ -2,28 +2,28 @@
 use Rattle.std.specs.Prelude.{◌≡◌, ◌⊎◌, ℕ, List, Option, Result, Ok, Err}
 use Rattle.jb_dump.specs.Dumps.{Dumps}
 use Rattle.jb_dump.specs.declared.fault.DumpFault.{DumpFault}
-use Rattle.jb_plain.specs.Stops.{dump_stop}
-use Rattle.jb_plain.specs.declared.stop.Stop.{Stop}
-use Rattle.jb_plain.specs.declared.stop.Stop.TheVariants.{CannotRead, Memory}
+use Rattle.jb_plain.specs.Faults.{dump_fault}
+use Rattle.jb_plain.specs.declared.fault.CommandFault.{CommandFault}
+use Rattle.jb_plain.specs.declared.fault.CommandFault.TheVariants.{CannotRead, Memory}
 
 -- how a command ends by what a dump answers: a text that was written has status 0
-abbrev pub end_by : Result Unit DumpFault → Result ℕ Stop
+abbrev pub end_by : Result Unit DumpFault → Result ℕ CommandFault
 end_by (Ok done) = Ok 0
-end_by (Err fault) = Err (dump_stop fault)
+end_by (Err fault) = Err (dump_fault fault)
 
 -- the journal of a reader was dumped to standard output, and the command ends by the answer
-abbrev pub DumpsOn : Option (List ℕ) → Option (List ℕ) → Option (List ℕ) → Option (List ℕ) → Result ℕ Stop → Type 0
-DumpsOn before after held holds end =
-    (dumped : Result Unit DumpFault) × (end ≡ end_by dumped) × Dumps before after held holds dumped
+abbrev pub DumpsOn : Option (List ℕ) → Option (List ℕ) → Option (List ℕ) → Option (List ℕ) → Result ℕ CommandFault → Type 0
+DumpsOn before after out_old out_new end =
+    (dumped : Result Unit DumpFault) × (end ≡ end_by dumped) × Dumps before after out_old out_new dumped
 
 -- the file of this name was not opened
-abbrev pub IsUnopened : List ℕ → Stop → Type 0
+abbrev pub IsUnopened : List ℕ → CommandFault → Type 0
 IsUnopened name (CannotRead told) = told.now ≡ name
 IsUnopened name Memory = Unit {0}
 IsUnopened name _ = ⊥
 
 -- the journal of some bytes was dumped; or the file was not opened, and nothing was written
-abbrev pub DumpsFile : List ℕ → Option (List ℕ) → Option (List ℕ) → Result ℕ Stop → Type 0
-DumpsFile name held holds end =
-    ((before after : Option (List ℕ)) × DumpsOn before after held holds end)
-    ⊎ ((stop : Stop) × (end ≡ Err stop) × IsUnopened name stop × (holds ≡ held))
+abbrev pub DumpsFile : List ℕ → Option (List ℕ) → Option (List ℕ) → Result ℕ CommandFault → Type 0
+DumpsFile name out_old out_new end =
+    ((before after : Option (List ℕ)) × DumpsOn before after out_old out_new end)
+    ⊎ ((fault : CommandFault) × (end ≡ Err fault) × IsUnopened name fault × (out_new ≡ out_old))

@@ -10,21 +10,21 @@ use Rattle.jb_super.specs.Features.{of_width}
 use Rattle.jb_super.specs.Geometry.{limit_of}
 use Rattle.jb_super.specs.Superblock.{new_super}
 use Rattle.jb_plain.specs.Said.{TellsLine}
-use Rattle.jb_plain.specs.Stops.{format_stop}
-use Rattle.jb_plain.specs.declared.stop.Stop.{Stop}
+use Rattle.jb_plain.specs.Faults.{format_fault}
+use Rattle.jb_plain.specs.declared.fault.CommandFault.{CommandFault}
 
 -- the line of a new journal with this limit
 abbrev pub formatted_line : ℕ → List ℕ
 formatted_line limit = spelled (codes "formatted limit " ∷ decimal limit ∷ codes "\n" ∷ [])
 
 -- what the making of a journal with this limit answered is reported: its line, or its fault, and then nothing is written
-abbrev pub TellsFormat : ℕ → Result Unit FormatFault → Option (List ℕ) → Option (List ℕ) → Result ℕ Stop → Type 0
-TellsFormat limit (Ok made) held holds end = TellsLine (formatted_line limit) held holds end
-TellsFormat limit (Err fault) held holds end = (end ≡ Err (format_stop fault)) × (holds ≡ held)
+abbrev pub TellsFormat : ℕ → Result Unit FormatFault → Option (List ℕ) → Option (List ℕ) → Result ℕ CommandFault → Type 0
+TellsFormat limit (Ok made) out_old out_new end = TellsLine (formatted_line limit) out_old out_new end
+TellsFormat limit (Err fault) out_old out_new end = (end ≡ Err (format_fault fault)) × (out_new ≡ out_old)
 
 -- a journal of so many blocks, with block numbers of 64 bits or of 32, was made on the disk, as the clauses of its making say of the answer, and that answer is reported
 pub record FormatsOn {D : Type 0} (size count faults : D → ℕ) (honest : D → Type 0) (newest : D → Image) (may_leave : D → Image → Type 0)
-    (journal most : ℕ) (uuid : List ℕ) (wide : Bool) (old new : D) (held holds : Option (List ℕ)) (end : Result ℕ Stop) : Type 0 where
+    (journal most : ℕ) (uuid : List ℕ) (wide : Bool) (old new : D) (out_old out_new : Option (List ℕ)) (end : Result ℕ CommandFault) : Type 0 where
   pub answer : Result Unit FormatFault
   pub room : (answer ≡ Err NoGeometry) ↔ (HasRoom journal (count old) → ⊥)
   pub untouched : answer ≡ Err NoGeometry → new ≡ old
@@ -33,4 +33,4 @@ pub record FormatsOn {D : Type 0} (size count faults : D → ℕ) (honest : D �
   pub written : honest old → OnOk answer (newest new ≡ set (newest old) 0 (new_block wide (size old) journal most uuid))
   pub torn : honest old → Torn 0 (new_block wide (size old) journal most uuid) (newest old) (newest new)
   pub durable : honest old → OnOk answer (Only (newest new) (may_leave new))
-  pub told : TellsFormat (limit_of (of_width wide (new_super (size old) journal most uuid))) answer held holds end
+  pub told : TellsFormat (limit_of (of_width wide (new_super (size old) journal most uuid))) answer out_old out_new end

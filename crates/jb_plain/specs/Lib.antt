@@ -1,10 +1,10 @@
 pub mod Change
 pub mod Dump
 pub mod Format
-pub mod Images
+pub mod Files
 pub mod Options
 pub mod Recover
 pub mod Runs
 pub mod Said
-pub mod Stops
+pub mod Faults
 pub mod Texts

@@ -5,7 +5,7 @@ use Rattle.hex.specs.Hex.{decode_of, is_hex_digit}
 use Rattle.jb_block.specs.Size.{bytes_of, IsBlockSize}
 use Rattle.jb_block.specs.Width.{is_wide}
 use Rattle.jb_words.specs.Named.{Options}
-use Rattle.jb_plain.specs.declared.options.NewImage.{NewImage}
+use Rattle.jb_plain.specs.declared.options.NewFile.{NewFile}
 
 -- one of the three block sizes, numbers that fit their fields, a UUID of 32 hexadecimal digits, and a length that a file
 -- may have
@@ -17,10 +17,10 @@ pub record AreGood (o : Options) : Type 0 where
   pub len : (o.journal + o.homes) * o.bs < 2 ^ 63
 
 -- the image that the options ask for
-pub record IsAskedBy (o : Options) (image : NewImage) : Type 0 where
-  pub size : bytes_of image.size ≡ o.bs
-  pub journal : image.journal ≡ o.journal
-  pub max : image.max ≡ o.max
-  pub uuid : decode_of o.uuid ≡ Ok image.uuid
-  pub width : is_wide image.width ≡ o.wide
-  pub len : image.len ≡ (o.journal + o.homes) * o.bs
+pub record IsAskedBy (o : Options) (file : NewFile) : Type 0 where
+  pub size : bytes_of file.size ≡ o.bs
+  pub journal : file.journal ≡ o.journal
+  pub max : file.max ≡ o.max
+  pub uuid : decode_of o.uuid ≡ Ok file.uuid
+  pub width : is_wide file.width ≡ o.wide
+  pub len : file.len ≡ (o.journal + o.homes) * o.bs

@@ -6,39 +6,39 @@ use Rattle.jb_words.specs.Named.Asked.{AsksCheck, AsksCost, AsksDump, AsksFormat
 use Rattle.jb_answers.specs.Check.{CheckSays}
 use Rattle.jb_answers.specs.Cost.{cost_said}
 use Rattle.jb_plain.specs.Dump.{DumpsFile}
-use Rattle.jb_plain.specs.Images.{EndsOfFormat, EndsOfRecover, EndsOfRenumber, EndsOfWiden}
+use Rattle.jb_plain.specs.Files.{EndsOfFormat, EndsOfRecover, EndsOfRenumber, EndsOfWiden}
 use Rattle.jb_answers.specs.Plan.{PlanSays}
 use Rattle.jb_answers.specs.Said.{Said}
 use Rattle.jb_plain.specs.Said.{Outputs, Tells}
-use Rattle.jb_plain.specs.Stops.{line_of, status_of}
+use Rattle.jb_plain.specs.Faults.{line_of, status_of}
 use Rattle.jb_plain.specs.Texts.{HasNoText, IsText, known_behind}
-use Rattle.jb_plain.specs.declared.stop.Stop.{Stop}
+use Rattle.jb_plain.specs.declared.fault.CommandFault.{CommandFault}
 
 -- a command said what it has to say of the text after this name, or ended without a word where there was no text or no memory
-abbrev pub Ends : (List ℕ → Said → Type 0) → List ℕ → Option (List ℕ) → Outputs → Outputs → Result ℕ Stop → Type 0
+abbrev pub Ends : (List ℕ → Said → Type 0) → List ℕ → Option (List ℕ) → Outputs → Outputs → Result ℕ CommandFault → Type 0
 Ends Says name input old new end =
     ((text : List ℕ) × (words : Said) × IsText (known_behind name input) text × Says text words × Tells words old new end)
-    ⊎ ((stop : Stop) × (end ≡ Err stop) × HasNoText name (known_behind name input) stop × (new ≡ old))
+    ⊎ ((fault : CommandFault) × (end ≡ Err fault) × HasNoText name (known_behind name input) fault × (new ≡ old))
 
 -- a command over the texts of two files told what it has to say of them, or ended without a word for want of a text or of
 -- memory
-abbrev pub EndsOfTwo : (List ℕ → List ℕ → Said → Type 0) → List ℕ → List ℕ → Outputs → Outputs → Result ℕ Stop → Type 0
+abbrev pub EndsOfTwo : (List ℕ → List ℕ → Said → Type 0) → List ℕ → List ℕ → Outputs → Outputs → Result ℕ CommandFault → Type 0
 EndsOfTwo Says name other old new end =
     ((text text' : List ℕ) × (words : Said) × IsText None text × IsText None text' × Says text text' words × Tells words old new end)
-    ⊎ ((stop : Stop) × (end ≡ Err stop) × (HasNoText name None stop ⊎ HasNoText other None stop) × (new ≡ old))
+    ⊎ ((fault : CommandFault) × (end ≡ Err fault) × (HasNoText name None fault ⊎ HasNoText other None fault) × (new ≡ old))
 
 -- standard output holds what the command wrote, and standard error is left alone
-abbrev pub OutAlone : (Option (List ℕ) → Option (List ℕ) → Result ℕ Stop → Type 0) → Outputs → Outputs → Result ℕ Stop → Type 0
+abbrev pub OutAlone : (Option (List ℕ) → Option (List ℕ) → Result ℕ CommandFault → Type 0) → Outputs → Outputs → Result ℕ CommandFault → Type 0
 OutAlone Ends old new end = Ends old.out new.out end × (new.err ≡ old.err)
 
 -- the program's status, and the line of a command that ended without an answer
-abbrev pub Closes : Result ℕ Stop → Outputs → Outputs → ℕ → Type 0
+abbrev pub Closes : Result ℕ CommandFault → Outputs → Outputs → ℕ → Type 0
 Closes (Ok told) old new status = (status ≡ told) × (new ≡ old)
-Closes (Err stop) old new status =
-    (status ≡ status_of stop) × (new.out ≡ old.out) × PutsPart old.err new.err (line_of stop)
+Closes (Err fault) old new status =
+    (status ≡ status_of fault) × (new.out ≡ old.out) × PutsPart old.err new.err (line_of fault)
 
 -- how the command that the words ask for ends
-abbrev pub EndsAsked : Asked → Option (List ℕ) → Outputs → Outputs → Result ℕ Stop → Type 0
+abbrev pub EndsAsked : Asked → Option (List ℕ) → Outputs → Outputs → Result ℕ CommandFault → Type 0
 EndsAsked (AsksCost file) = Ends (λ text words. cost_said text ≡ Some words) file
 EndsAsked (AsksPlan file) = Ends PlanSays file
 EndsAsked (AsksCheck file cert) = λ _. EndsOfTwo CheckSays file cert
@@ -51,4 +51,4 @@ EndsAsked (AsksWiden image) = λ _. OutAlone (EndsOfWiden image)
 -- the whole run of the command that the words ask for
 abbrev pub Runs : Asked → Option (List ℕ) → Outputs → Outputs → ℕ → Type 0
 Runs asked input old new status =
-    (end : Result ℕ Stop) × (told : Outputs) × EndsAsked asked input old told end × Closes end told new status
+    (end : Result ℕ CommandFault) × (told : Outputs) × EndsAsked asked input old told end × Closes end told new status

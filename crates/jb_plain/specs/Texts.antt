@@ -1,8 +1,8 @@
 -- The text after a name, and why there is none.
 use Rattle.std.specs.Prelude.{◌≡◌, ◌<◌, ◌≤◌, ℕ, List, Option, None, IfSome, codes, if◌then◌else◌, length}
 use Rattle.std.specs.Str.{bytes_eq}
-use Rattle.jb_plain.specs.declared.stop.Stop.{Stop}
-use Rattle.jb_plain.specs.declared.stop.Stop.TheVariants.{CannotRead, TooLong, Memory}
+use Rattle.jb_plain.specs.declared.fault.CommandFault.{CommandFault}
+use Rattle.jb_plain.specs.declared.fault.CommandFault.TheVariants.{CannotRead, TooLong, Memory}
 
 -- the most bytes of a text
 abbrev pub text_limit : ℕ
@@ -17,7 +17,7 @@ abbrev pub IsText : Option (List ℕ) → List ℕ → Type 0
 IsText known text = IfSome known (λ bytes. text ≡ bytes) × (length text ≤ text_limit)
 
 -- the text after this name could not be had: it is too long, or the reading or the memory failed
-abbrev pub HasNoText : List ℕ → Option (List ℕ) → Stop → Type 0
+abbrev pub HasNoText : List ℕ → Option (List ℕ) → CommandFault → Type 0
 HasNoText name known (TooLong told) = (told.now ≡ name) × IfSome known (λ bytes. text_limit < length bytes)
 HasNoText name known (CannotRead told) = told.now ≡ name
 HasNoText name known Memory = Unit {0}

@@ -1,16 +1,16 @@
 //! The commands of `jb` that need no threads, over a runtime, an input and two outputs.
 #![tactic(auto)]
 
+mod fault;
 mod files;
 mod options;
 mod running;
-mod stop;
 mod streams;
 
-pub use files::{open_image, read_file};
+pub use fault::CommandFault;
+pub use files::{open_disk, read_file};
 pub use jb_words::Plain;
 pub use running::{close, perform, run_plain};
-pub use stop::Stop;
 pub use streams::{
     TEXT_LIMIT, dump_from, format_on, recover_on, refuse_words, renumber_on, tell, widen_on,
 };

@@ -12,7 +12,7 @@ use jb_words::FormatOptions;
 
 /// What the options of `jb format` ask for.
 #[derive(Clone, Copy)]
-pub(crate) struct NewImage {
+pub(crate) struct NewFile {
     /// The size of its blocks.
     pub(crate) size: BlockSize,
     /// How many blocks its journal has, the superblock's counted.
@@ -29,11 +29,11 @@ pub(crate) struct NewImage {
 
 /// The image that the options ask for, or `None` where one of them is bad: another block size than 1024, 2048 or 4096, a
 /// `--journal` or `--max` above 2^32 - 1, a UUID that is not 32 hexadecimal digits, or a file of 2^63 bytes or more.
-pub(crate) fn new_image(options: FormatOptions<'_>) -> Option<NewImage>
+pub(crate) fn new_file(options: FormatOptions<'_>) -> Option<NewFile>
     ensures good { IsSome result ↔ AreGood (options_said options.entry) }
     ensures asked { IfSome result (IsAskedBy (options_said options.entry)) }
 {
-    Some(NewImage {
+    Some(NewFile {
         size: size_of(options.bs)?,
         journal: word_of(options.journal)?,
         max: word_of(options.max)?,

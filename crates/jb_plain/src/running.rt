@@ -3,10 +3,10 @@ ghost use Rattle.jb_words.specs.Named.{asks};
 ghost use Rattle.jb_answers.specs.Check.{CheckSays};
 ghost use Rattle.jb_plain.specs.Runs.{Closes, EndsAsked, EndsOfTwo, Runs};
 
+use crate::fault::CommandFault;
 use crate::files::{
-    dump_file, format_image, read_file, read_text, recover_image, renumber_image, widen_image,
+    dump_file, format_file, read_file, read_text, recover_file, renumber_file, widen_file,
 };
-use crate::stop::Stop;
 use crate::streams::tell;
 use jb_answers::{check_answer, cost_answer, fault_answer, plan_answer};
 use jb_queue::read_queue;
@@ -18,14 +18,14 @@ use std::rt::Files;
 /// Runs a command: reads its files, or `input` for `-`, and writes what it has to say.
 ///
 /// # Errors
-/// The reason where the command ends without an answer; nothing was written then, but for `Stop::WriteFault`.
+/// The reason where the command ends without an answer; nothing was written then, but for `CommandFault::WriteFault`.
 pub fn perform<'a, R: Files<File = File> + AllocGlobal, I: Read, O: Write, E: Write>(
     rt: &R,
     plain: Plain<'a>,
     input: &mut I,
     out: &mut O,
     err: &mut E,
-) -> Result<u8, Stop<'a>>
+) -> Result<u8, CommandFault<'a>>
     ensures ends { EndsAsked (asks plain.entry) (I.remaining input.old)
         (record { out = O.contents out.old; err = E.contents err.old })
         (record { out = O.contents out.new; err = E.contents err.new }) result }
@@ -43,10 +43,10 @@ pub fn perform<'a, R: Files<File = File> + AllocGlobal, I: Read, O: Write, E: Wr
         }
         Plain::Check { file, cert } => perform_check(rt, file, cert, out, err),
         Plain::Dump { file } => dump_file(rt, file, out),
-        Plain::Format { image, options } => format_image(rt, image, options, out),
-        Plain::Recover { image } => recover_image(rt, image, out),
-        Plain::Renumber { image } => renumber_image(rt, image, out),
-        Plain::Widen { image } => widen_image(rt, image, out),
+        Plain::Format { image, options } => format_file(rt, image, options, out),
+        Plain::Recover { image } => recover_file(rt, image, out),
+        Plain::Renumber { image } => renumber_file(rt, image, out),
+        Plain::Widen { image } => widen_file(rt, image, out),
     }
 }
 
@@ -57,7 +57,7 @@ fn perform_check<'a, R: Files + AllocGlobal, O: Write, E: Write>(
     cert: &'a str,
     out: &mut O,
     err: &mut E,
-) -> Result<u8, Stop<'a>>
+) -> Result<u8, CommandFault<'a>>
     ensures ends { EndsOfTwo CheckSays file.entry.now cert.entry.now
         (record { out = O.contents out.old; err = E.contents err.old })
         (record { out = O.contents out.new; err = E.contents err.new }) result }
@@ -93,15 +93,15 @@ pub fn run_plain<R: Files<File = File> + AllocGlobal, I: Read, O: Write, E: Writ
 }
 
 /// The program's exit status at the end of a command; of one that ended without an answer the line is written to `err`.
-pub fn close<E: Write>(end: Result<u8, Stop<'_>>, err: &mut E) -> u8
-    ensures { (held : Option (List ℕ)) → Closes end.entry (record { out = held; err = E.contents err.old })
-        (record { out = held; err = E.contents err.new }) result }
+pub fn close<E: Write>(end: Result<u8, CommandFault<'_>>, err: &mut E) -> u8
+    ensures { (out_old : Option (List ℕ)) → Closes end.entry (record { out = out_old; err = E.contents err.old })
+        (record { out = out_old; err = E.contents err.new }) result }
 {
     match end {
         Ok(status) => status,
-        Err(stop) => {
-            stop.tell(err);
-            stop.status()
+        Err(fault) => {
+            fault.tell(err);
+            fault.status()
         }
     }
 }

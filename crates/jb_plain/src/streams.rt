@@ -2,12 +2,12 @@
 
 mod changing;
 mod dumping;
+mod fault_line;
 mod formatting;
 mod putting;
 mod reading;
 mod recovering;
 mod refusal;
-mod stop_line;
 mod telling;
 
 pub use changing::{renumber_on, widen_on};

@@ -5,7 +5,7 @@ use Rattle.std.specs.Option.{option_copied}
 use Rattle.std.proofs.lemmas.Bool.{cases_lt}
 use Rattle.jb_text.specs.Parts.{words, words_in, first_of, grow}
 use Rattle.jb_price.specs.declared.fault.CertFault.TheVariants.{Syntax}
-use Rattle.jb_price.specs.Reading.{after_each, on_line}
+use Rattle.jb_price.specs.Claims.{after_each, on_line}
 
 module _ {A : Type 0} (read : List ℕ → Option A) (had : List A) where
   pub each-goes : (word : List ℕ) (more : List (List ℕ)) (x : A) → read word ≡ Some x → after_each read had (word ∷ more) ≡ after_each read (had ++ x ∷ []) more

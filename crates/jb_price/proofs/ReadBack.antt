@@ -16,7 +16,7 @@ use Rattle.jb_price.specs.declared.certificate.CertAnswer.{CertAnswer}
 use Rattle.jb_price.specs.declared.certificate.CertAnswer.TheVariants.{Cut, NoCut}
 use Rattle.jb_text.specs.Parts.{spaced}
 use Rattle.jb_price.specs.Certificate.{price_text, prices_line, answer_lines, cert_text}
-use Rattle.jb_price.specs.Reading.{after_each, price_of, prices_in, cut_in, total_in, claim_in, claim_of, cut_of, read_of}
+use Rattle.jb_price.specs.Claims.{after_each, price_of, prices_in, cut_in, total_in, claim_in, claim_of, cut_of, read_of}
 use Rattle.jb_price.specs.ReadBack.{Fits64, PriceFits, HasBound, AnswerFits, HasText}
 use Rattle.jb_price.proofs.Each.{each-goes, each-end}
 
@@ -28,9 +28,9 @@ each-back read show P back had (x ∷ xs) all =
     ∙ each-back read show P back (had ++ x ∷ []) xs all.1
     ∙ ap Some (append_assoc had (x ∷ []) xs)
 
-each-clear : {A : Type 0} (stop : ℕ) (show : A → List ℕ) (P : A → Type 0) → ((x : A) → P x → Without stop (show x)) → (xs : List A) → AllByRecursion P xs → AllByRecursion (Without stop) (map show xs)
-each-clear stop show P clear [] all = tt
-each-clear stop show P clear (x ∷ xs) all = (clear x all.0, each-clear stop show P clear xs all.1)
+each-clear : {A : Type 0} (delimiter : ℕ) (show : A → List ℕ) (P : A → Type 0) → ((x : A) → P x → Without delimiter (show x)) → (xs : List A) → AllByRecursion P xs → AllByRecursion (Without delimiter) (map show xs)
+each-clear delimiter show P clear [] all = tt
+each-clear delimiter show P clear (x ∷ xs) all = (clear x all.0, each-clear delimiter show P clear xs all.1)
 
 -- a numeral is not `none`
 digits-not_none : (digits rest : List ℕ) → AreDigits digits → 0 < length digits → bytes_eq (digits ++ rest) (codes "none") ≡ false
@@ -48,9 +48,9 @@ price-back (Some n) fits =
     let other : bytes_eq (decimal n) (codes "none") ≡ false = ap (λ bs. bytes_eq bs (codes "none")) (sym (append-nil (decimal n))) ∙ decimal-not_none n [] fits in
     rw (other, decimal-is_number n fits) refl
 
-price-without : (stop : ℕ) → is_ascii_digit stop ≡ false → Without stop (codes "none") → (price : Option ℕ) → PriceFits price → Without stop (price_text price)
-price-without stop other clear None fits = clear
-price-without stop other clear (Some n) fits = decimal-without stop n other fits
+price-without : (delimiter : ℕ) → is_ascii_digit delimiter ≡ false → Without delimiter (codes "none") → (price : Option ℕ) → PriceFits price → Without delimiter (price_text price)
+price-without delimiter other clear None fits = clear
+price-without delimiter other clear (Some n) fits = decimal-without delimiter n other fits
 
 -- the line of the prices, without its LF
 pub prices-back : (prices : List (Option ℕ)) → 0 < length prices → AllByRecursion PriceFits prices → prices_in (codes "prices" ++ spaced (map price_text prices)) ≡ Some prices

@@ -16,7 +16,7 @@ use Rattle.jb_text.proofs.Grammar.{behind-is, lines-are, are-lines, IsLine}
 use Rattle.jb_price.specs.declared.fault.CertFault.{CertFault}
 use Rattle.jb_price.specs.declared.fault.CertFault.TheVariants.{Length}
 use Rattle.jb_price.specs.Certificate.{price_text}
-use Rattle.jb_price.specs.Reading.{Claim, after_each, price_of, prices_in, bounds_in, cut_in, total_in, on_line, at_end, with_total, claim_in, for_handles, read_of}
+use Rattle.jb_price.specs.Claims.{Claim, after_each, price_of, prices_in, bounds_in, cut_in, total_in, on_line, at_end, with_total, claim_in, for_handles, read_of}
 use Rattle.jb_price.specs.ReadBack.{Fits64, PriceFits}
 use Rattle.jb_price.specs.Spelling.{first_line, cut_lines, CutFits, SpellsClaim}
 use Rattle.jb_price.proofs.Each.{each-goes, each-fails, each-end}

@@ -1,7 +1,7 @@
 pub mod Certificate
 pub mod FirstUndercut
 pub mod ReadBack
-pub mod Reading
+pub mod Claims
 pub mod Spelling
 pub mod Sum
 pub mod Verdict

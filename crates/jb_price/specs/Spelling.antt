@@ -4,7 +4,7 @@ use Rattle.std.specs.List.{AllByRecursion}
 use Rattle.jb_text.specs.Parts.{spaced}
 use Rattle.jb_text.specs.Lines.{AreLines}
 use Rattle.jb_price.specs.Certificate.{price_text}
-use Rattle.jb_price.specs.Reading.{Claim}
+use Rattle.jb_price.specs.Claims.{Claim}
 use Rattle.jb_price.specs.ReadBack.{Fits64, PriceFits}
 
 -- the line of the prices

@@ -3,7 +3,7 @@
 ghost use Rattle.std.specs.Prelude.{◌≡◌, ◌↔◌, ◌+◌, ℕ, List, length, Ok};
 ghost use Rattle.jb_price.specs.declared.certificate.Cert.{Cert};
 ghost use Rattle.jb_price.specs.Certificate.{cert_text};
-ghost use Rattle.jb_price.specs.Reading.{Claim, read_of, claim_of};
+ghost use Rattle.jb_price.specs.Claims.{Claim, read_of, claim_of};
 ghost use Rattle.jb_price.specs.Spelling.{SpellsClaim};
 ghost use Rattle.jb_price.specs.ReadBack.{HasText};
 ghost use Rattle.jb_price.specs.Verdict.{PlannedIsAccepted};

@@ -19,7 +19,7 @@ use Rattle.jb_handle.specs.Word.{WordMap}
 use Rattle.jb_text.proofs.Grammar.{spaced-words}
 use Rattle.jb_text.proofs.Joins.{Without, words-spaced}
 use Rattle.jb_queue.proofs.Ops.{ops-goes, ops-fails, ops-end, tested}
-use Rattle.jb_queue.proofs.SpelledOps.{op-is, op-from, op-clear, IsStop, space-stops}
+use Rattle.jb_queue.proofs.SpelledOps.{op-is, op-from, op-clear, IsDelimiter, space-delimits}
 
 -- what a map has after an op, and after all
 insert-last : (had : WordMap) (op : Entry) (b : ℕ) → map.get (map.insert had op.0 op.1) b ≡ option_or (if op.0 == b then Some op.1 else None) (map.get had b)
@@ -113,11 +113,11 @@ same-words : (ops : List Entry) (now : WordMap) → ((b : ℕ) → map.get now b
 same-words ops now left = map.same_map nat_cmp_total nat_cmp-IsAntisymmetric (put_all map.empty ops) now
     (λ b. put-last map.empty ops b ∙ ap (option_or (last_op ops b)) (map.get-empty nat_cmp b) ∙ or-none (last_op ops b) ∙ sym (left b))
 
-pub texts-clear : (size stop : ℕ) (is : IsStop stop) (texts : List (List ℕ)) (ops : List Entry) → Each (SpellsOp size) texts ops → AllByRecursion (Without stop) texts
-texts-clear size stop is [] [] each = tt
-texts-clear size stop is [] (op ∷ ops) each = absurd each
-texts-clear size stop is (text ∷ texts) [] each = absurd each
-texts-clear size stop is (text ∷ texts) (op ∷ ops) each = (op-clear size stop is text op each.0, texts-clear size stop is texts ops each.1)
+pub texts-clear : (size delimiter : ℕ) (is : IsDelimiter delimiter) (texts : List (List ℕ)) (ops : List Entry) → Each (SpellsOp size) texts ops → AllByRecursion (Without delimiter) texts
+texts-clear size delimiter is [] [] each = tt
+texts-clear size delimiter is [] (op ∷ ops) each = absurd each
+texts-clear size delimiter is (text ∷ texts) [] each = absurd each
+texts-clear size delimiter is (text ∷ texts) (op ∷ ops) each = (op-clear size delimiter is text op each.0, texts-clear size delimiter is texts ops each.1)
 
 pub handle-from : (size : ℕ) (line : List ℕ) (now : WordMap) → SpellsHandle size line now → handle_of size line ≡ Ok now
 handle-from size line now spells = ap (handle_of size) spells.spelled ∙ from spells.texts spells.ops spells.each ∙ ap Ok (same-words spells.ops now spells.left)
@@ -126,5 +126,5 @@ handle-from size line now spells = ap (handle_of size) spells.spelled ∙ from s
     from [] [] each = refl
     from [] (op ∷ ops) each = absurd each
     from (text ∷ texts) ops each =
-        ap (after_ops size map.empty) (words-spaced text texts (texts-clear size 32 space-stops (text ∷ texts) ops each))
+        ap (after_ops size map.empty) (words-spaced text texts (texts-clear size 32 space-delimits (text ∷ texts) ops each))
         ∙ ops-read size map.empty (text ∷ texts) ops each

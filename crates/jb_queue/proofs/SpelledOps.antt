@@ -19,7 +19,7 @@ use Rattle.jb_queue.specs.Queue.{home_named, or_cause, data_of, fitting, op_of}
 use Rattle.jb_queue.specs.Spelling.{Entry, SpellsOp}
 use Rattle.jb_text.proofs.Joins.{Without, is_clear, literal-without, without-append, before-put, onward-put, before-whole, onward-none, decimal-without}
 use Rattle.jb_text.proofs.Numerals.{number-is_decimal, decimal-is_number}
-use Rattle.jb_text.proofs.Splits.{parted, onward-nil, onward-goes, onward-stops}
+use Rattle.jb_text.proofs.Splits.{parted, onward-nil, onward-goes, onward-ends}
 
 -- a home block, and its numeral
 pub home-from : (home : ℕ) → home < 2 ^ 64 → home_named (decimal home) ≡ Ok home
@@ -57,13 +57,13 @@ op-from size text op spells = elim spells.form [
 ]
 
 -- what is read to an op spells it
-pub onward-case : (stop : ℕ) (bs : List ℕ) → (onward stop bs ≡ []) ⊎ ((behind : List ℕ) × (onward stop bs ≡ stop ∷ behind))
-onward-case stop [] = inl (onward-nil stop)
-onward-case stop (b ∷ bs) = elim (cases_eq b stop) [
-  | inl same ↦ inr (bs, onward-stops stop b bs same ∙ ap (λ first. first ∷ bs) same)
-  | inr other ↦ elim (onward-case stop bs) [
-    | inl none ↦ inl (onward-goes stop b bs other ∙ none)
-    | inr found ↦ inr (found.0, onward-goes stop b bs other ∙ found.1)
+pub onward-case : (delimiter : ℕ) (bs : List ℕ) → (onward delimiter bs ≡ []) ⊎ ((behind : List ℕ) × (onward delimiter bs ≡ delimiter ∷ behind))
+onward-case delimiter [] = inl (onward-nil delimiter)
+onward-case delimiter (b ∷ bs) = elim (cases_eq b delimiter) [
+  | inl same ↦ inr (bs, onward-ends delimiter b bs same ∙ ap (λ first. first ∷ bs) same)
+  | inr other ↦ elim (onward-case delimiter bs) [
+    | inl none ↦ inl (onward-goes delimiter b bs other ∙ none)
+    | inr found ↦ inr (found.0, onward-goes delimiter b bs other ∙ found.1)
   ]
 ]
 
@@ -142,30 +142,30 @@ op-is size (letter ∷ rest) op is =
     ]
 
 -- a byte that no word has
-pub record IsStop (stop : ℕ) : Type 0 where
-  pub digit : is_ascii_digit stop ≡ false
-  pub hex : is_hex_digit stop ≡ false
-  pub letters : is_clear stop (codes "wr=") ≡ true
+pub record IsDelimiter (delimiter : ℕ) : Type 0 where
+  pub digit : is_ascii_digit delimiter ≡ false
+  pub hex : is_hex_digit delimiter ≡ false
+  pub letters : is_clear delimiter (codes "wr=") ≡ true
 
-pub space-stops : IsStop 32
-space-stops = record { digit = refl; hex = refl; letters = refl }
+pub space-delimits : IsDelimiter 32
+space-delimits = record { digit = refl; hex = refl; letters = refl }
 
-pub feed-stops : IsStop 10
-feed-stops = record { digit = refl; hex = refl; letters = refl }
+pub feed-delimits : IsDelimiter 10
+feed-delimits = record { digit = refl; hex = refl; letters = refl }
 
-hex-clear : (stop : ℕ) (digits : List ℕ) → is_hex_digit stop ≡ false → AllByRecursion (λ c. is_hex_digit c ≡ true) digits → Without stop digits
-hex-clear stop [] other are = tt
-hex-clear stop (digit ∷ digits) other are =
-    (λ same. let never : true ≡ false = sym are.0 ∙ ap is_hex_digit same ∙ other in cc, hex-clear stop digits other are.1)
+hex-clear : (delimiter : ℕ) (digits : List ℕ) → is_hex_digit delimiter ≡ false → AllByRecursion (λ c. is_hex_digit c ≡ true) digits → Without delimiter digits
+hex-clear delimiter [] other are = tt
+hex-clear delimiter (digit ∷ digits) other are =
+    (λ same. let never : true ≡ false = sym are.0 ∙ ap is_hex_digit same ∙ other in cc, hex-clear delimiter digits other are.1)
 
-pub op-clear : (size stop : ℕ) → IsStop stop → (text : List ℕ) (op : Entry) → SpellsOp size text op → Without stop text
-op-clear size stop is text op spells =
-    let letters = literal-without stop (codes "wr=") is.letters in
-    let number = decimal-without stop op.0 is.digit spells.home in
+pub op-clear : (size delimiter : ℕ) → IsDelimiter delimiter → (text : List ℕ) (op : Entry) → SpellsOp size text op → Without delimiter text
+op-clear size delimiter is text op spells =
+    let letters = literal-without delimiter (codes "wr=") is.letters in
+    let number = decimal-without delimiter op.0 is.digit spells.home in
     elim spells.form [
-      | inl zeros ↦ subst (Without stop) (sym zeros.0) (letters.0, number)
+      | inl zeros ↦ subst (Without delimiter) (sym zeros.0) (letters.0, number)
       | inr (inl has) ↦
-          let hex = hex-clear stop has.digits is.hex (recursion_from_All (λ c. is_hex_digit c ≡ true) has.digits (decode_of-ok has.digits has.bytes has.decoded).1) in
-          subst (Without stop) (sym has.spelled) (letters.0, without-append stop (decimal op.0) (61 ∷ has.digits) number (letters.1.1.0, hex))
-      | inr (inr free) ↦ subst (Without stop) (sym free.0) (letters.1.0, number)
+          let hex = hex-clear delimiter has.digits is.hex (recursion_from_All (λ c. is_hex_digit c ≡ true) has.digits (decode_of-ok has.digits has.bytes has.decoded).1) in
+          subst (Without delimiter) (sym has.spelled) (letters.0, without-append delimiter (decimal op.0) (61 ∷ has.digits) number (letters.1.1.0, hex))
+      | inr (inr free) ↦ subst (Without delimiter) (sym free.0) (letters.1.0, number)
     ]

@@ -29,7 +29,7 @@ use Rattle.jb_text.proofs.Grammar.{lines-are, are-lines, IsLine, behind-is}
 use Rattle.jb_text.proofs.Joins.{Without, literal-without, without-append, before-put, onward-put, before-whole, onward-none, spaced-without, decimal-without}
 use Rattle.jb_text.proofs.Numerals.{number-is_decimal, decimal-is_number}
 use Rattle.jb_queue.proofs.SpelledHandles.{handle-is, handle-from, texts-clear}
-use Rattle.jb_queue.proofs.SpelledOps.{feed-stops}
+use Rattle.jb_queue.proofs.SpelledOps.{feed-delimits}
 use Rattle.jb_text.proofs.Splits.{parted}
 
 number-case : (found : Option (List ℕ)) (n : ℕ) → option_and_then number_of found ≡ Some n → (found ≡ Some (decimal n)) × (n < 2 ^ 64)
@@ -218,7 +218,7 @@ queue-is text queue reads = by-lines text queue (lines text) refl reads
 -- and back
 handle-line : (size : ℕ) (line : List ℕ) (words : WordMap) → SpellsHandle size line words → IsLine line
 handle-line size line words spells =
-    let clear = texts-clear size 10 feed-stops spells.texts spells.ops spells.each in
+    let clear = texts-clear size 10 feed-delimits spells.texts spells.ops spells.each in
     subst IsLine (sym spells.spelled) (omega arith, without-append 10 (codes "h") (spaced spells.texts) (literal-without 10 (codes "h") refl) (spaced-without 10 spells.texts (λ same. cc) clear))
 
 handle-lines : (size : ℕ) (left : List (List ℕ)) (handles : List Stopped) → Each (λ line handle. SpellsHandle size line handle.words) left handles → AllByRecursion IsLine left

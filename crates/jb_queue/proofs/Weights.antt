@@ -15,12 +15,12 @@ use Rattle.jb_text.specs.Parts.{first_of}
 use Rattle.jb_queue.specs.Queue.{op_of, after_ops, handle_of, behind_h, after_lines}
 use Rattle.jb_handle.specs.Size.{weight}
 use Rattle.jb_handle.specs.Word.{WordMap}
-use Rattle.jb_text.proofs.Splits.{lines-nil, lines-stop, lines-goes, words-nil, words-stop, words-goes}
+use Rattle.jb_text.proofs.Splits.{lines-nil, lines-feed, lines-goes, words-nil, words-space, words-goes}
 use Rattle.jb_queue.proofs.Ops.{ops-goes, ops-fails, ops-end, tested}
 use Rattle.jb_queue.proofs.Handles.{lines-fails, lines-end}
 use Rattle.jb_queue.proofs.Handles.{lines-goes as handles-go}
 
--- the bytes of pieces, and one stop for each
+-- the bytes of pieces, and one delimiter for each
 abbrev pub total : List (List ℕ) → ℕ
 total [] = 0
 total (piece ∷ more) = length piece + 1 + total more
@@ -32,14 +32,14 @@ grow-total b n (piece ∷ more) within = omega arith
 pub lines-total : (text : List ℕ) → total (lines text) ≤ length text + 1
 lines-total [] = rw lines-nil (omega arith)
 lines-total (b ∷ text) = elim (cases_eq b 10) [
-  | inl same ↦ let further = lines-total text in rw (lines-stop b text same) (omega (arith, further))
+  | inl same ↦ let further = lines-total text in rw (lines-feed b text same) (omega (arith, further))
   | inr other ↦ let further = grow-total b (length text) (lines text) (lines-total text) in rw (lines-goes b text other) (omega (arith, further))
 ]
 
 pub words-total : (text : List ℕ) → total (words text) ≤ length text + 1
 words-total [] = rw words-nil (omega arith)
 words-total (b ∷ text) = elim (cases_eq b 32) [
-  | inl same ↦ let further = words-total text in rw (words-stop b text same) (omega (arith, further))
+  | inl same ↦ let further = words-total text in rw (words-space b text same) (omega (arith, further))
   | inr other ↦ let further = grow-total b (length text) (words text) (words-total text) in rw (words-goes b text other) (omega (arith, further))
 ]
 

@@ -8,7 +8,7 @@ use Rattle.std.proofs.lemmas.Slice.Eq.{bytes_eq-Decides}
 use Rattle.jb_text.specs.Lines.{ended, joined, AreLines}
 use Rattle.jb_text.specs.Parts.{lines, words, grow, spaced, behind_word}
 use Rattle.jb_text.proofs.Joins.{Without, lines-put, lines-one}
-use Rattle.jb_text.proofs.Splits.{lines-nil, lines-stop, lines-goes, words-nil, words-stop, words-goes}
+use Rattle.jb_text.proofs.Splits.{lines-nil, lines-feed, lines-goes, words-nil, words-space, words-goes}
 
 -- the words of a text, put together again
 grow-spaced : (b : ℕ) (text : List ℕ) (pieces : List (List ℕ)) → spaced pieces ≡ 32 ∷ text → spaced (grow b pieces) ≡ 32 ∷ b ∷ text
@@ -18,7 +18,7 @@ grow-spaced b text (piece ∷ more) is = let tail : piece ++ spaced more ≡ tex
 pub spaced-words : (text : List ℕ) → spaced (words text) ≡ 32 ∷ text
 spaced-words [] = ap spaced words-nil
 spaced-words (b ∷ text) = elim (cases_eq b 32) [
-  | inl same ↦ ap spaced (words-stop b text same) ∙ ap (λ bs. 32 ∷ bs) (spaced-words text) ∙ ap (λ first. 32 ∷ first ∷ text) (sym same)
+  | inl same ↦ ap spaced (words-space b text same) ∙ ap (λ bs. 32 ∷ bs) (spaced-words text) ∙ ap (λ first. 32 ∷ first ∷ text) (sym same)
   | inr other ↦ ap spaced (words-goes b text other) ∙ grow-spaced b text (words text) (spaced-words text)
 ]
 
@@ -40,7 +40,7 @@ end-lines text (next ∷ more) (inr whole) = inr (ap (λ bs. 10 ∷ bs) whole)
 pub lines-are : (text : List ℕ) → AreLines (lines text) text
 lines-are [] = inl (sym (ap ended lines-nil))
 lines-are (b ∷ text) = elim (cases_eq b 10) [
-  | inl same ↦ subst (λ ls. AreLines ls (b ∷ text)) (sym (lines-stop b text same)) (subst (λ first. AreLines ([] ∷ lines text) (first ∷ text)) (sym same) (end-lines text (lines text) (lines-are text)))
+  | inl same ↦ subst (λ ls. AreLines ls (b ∷ text)) (sym (lines-feed b text same)) (subst (λ first. AreLines ([] ∷ lines text) (first ∷ text)) (sym same) (end-lines text (lines text) (lines-are text)))
   | inr other ↦ subst (λ ls. AreLines ls (b ∷ text)) (sym (lines-goes b text other)) (grow-lines b text (lines text) (lines-are text))
 ]
 

@@ -1,92 +1,92 @@
--- Where a text is parted: the bytes before the first stop, and those from it on.
+-- Where a text is parted: the bytes before the first delimiter, and those from it on.
 use Rattle.std.proofs.Common.{◌≡◌, ◌≢◌, ◌∙◌, sym, ap, ℕ, ◌+◌, ◌<◌, ◌≤◌, List, [], ◌∷◌, ◌++◌, length, take, drop, get_or, refl, add-one, inl, inr, length-append, length-drop, arith, ◌-◌, Option, Some, None, ◌==◌, true}
 use Rattle.std.proofs.Math.Seq.{take-suc}
 use Rattle.std.proofs.lemmas.List.{append-nil, append_assoc, take_all, drop_all, drop_more}
 use Rattle.std.proofs.lemmas.Bool.{eq-eqb, eqb-true, ne_eqb, cases_eq}
 use Rattle.jb_text.specs.Parts.{before, onward, grow, lines, words, words_in, FirstLine}
 
-pub before-goes : (stop b : ℕ) (bs : List ℕ) → b ≢ stop → before stop (b ∷ bs) ≡ b ∷ before stop bs
+pub before-goes : (delimiter b : ℕ) (bs : List ℕ) → b ≢ delimiter → before delimiter (b ∷ bs) ≡ b ∷ before delimiter bs
 unfolding before
-before-goes stop b bs other = rw (ne_eqb b stop other) refl
+before-goes delimiter b bs other = rw (ne_eqb b delimiter other) refl
 
-pub before-stops : (stop b : ℕ) (bs : List ℕ) → b ≡ stop → before stop (b ∷ bs) ≡ []
+pub before-ends : (delimiter b : ℕ) (bs : List ℕ) → b ≡ delimiter → before delimiter (b ∷ bs) ≡ []
 unfolding before
-before-stops stop b bs same = rw (eq-eqb b stop same) refl
+before-ends delimiter b bs same = rw (eq-eqb b delimiter same) refl
 
-pub onward-goes : (stop b : ℕ) (bs : List ℕ) → b ≢ stop → onward stop (b ∷ bs) ≡ onward stop bs
+pub onward-goes : (delimiter b : ℕ) (bs : List ℕ) → b ≢ delimiter → onward delimiter (b ∷ bs) ≡ onward delimiter bs
 unfolding onward
-onward-goes stop b bs other = rw (ne_eqb b stop other) refl
+onward-goes delimiter b bs other = rw (ne_eqb b delimiter other) refl
 
-pub onward-stops : (stop b : ℕ) (bs : List ℕ) → b ≡ stop → onward stop (b ∷ bs) ≡ b ∷ bs
+pub onward-ends : (delimiter b : ℕ) (bs : List ℕ) → b ≡ delimiter → onward delimiter (b ∷ bs) ≡ b ∷ bs
 unfolding onward
-onward-stops stop b bs same = rw (eq-eqb b stop same) refl
+onward-ends delimiter b bs same = rw (eq-eqb b delimiter same) refl
 
-pub before-nil : (stop : ℕ) → before stop [] ≡ []
+pub before-nil : (delimiter : ℕ) → before delimiter [] ≡ []
 unfolding before
-before-nil stop = refl
+before-nil delimiter = refl
 
-pub onward-nil : (stop : ℕ) → onward stop [] ≡ []
+pub onward-nil : (delimiter : ℕ) → onward delimiter [] ≡ []
 unfolding onward
-onward-nil stop = refl
+onward-nil delimiter = refl
 
 pub take-next : (bs : List ℕ) (n : ℕ) → n < length bs → take (n + 1) bs ≡ take n bs ++ (get_or bs n 0 ∷ [])
 take-next bs n within = ap (λ k. take k bs) (add-one n) ∙ take-suc bs n 0 within
 
--- no stop stands in the first n bytes
-pub record IsClear (stop : ℕ) (bs : List ℕ) (n : ℕ) : Type 0 where
-  pub front : before stop bs ≡ take n bs ++ before stop (drop n bs)
-  pub back : onward stop bs ≡ onward stop (drop n bs)
+-- no delimiter stands in the first n bytes
+pub record IsClear (delimiter : ℕ) (bs : List ℕ) (n : ℕ) : Type 0 where
+  pub front : before delimiter bs ≡ take n bs ++ before delimiter (drop n bs)
+  pub back : onward delimiter bs ≡ onward delimiter (drop n bs)
 
-pub clear-opens : (stop : ℕ) (bs : List ℕ) → IsClear stop bs 0
-clear-opens stop bs = record { front = refl; back = refl }
+pub clear-opens : (delimiter : ℕ) (bs : List ℕ) → IsClear delimiter bs 0
+clear-opens delimiter bs = record { front = refl; back = refl }
 
-pub clear-goes : (stop : ℕ) (bs : List ℕ) (n : ℕ) → n < length bs → get_or bs n 0 ≢ stop → IsClear stop bs n → IsClear stop bs (n + 1)
-clear-goes stop bs n within other clear = record {
-  front = clear.front ∙ ap (λ xs. take n bs ++ before stop xs) (drop_more bs n 0 within)
-      ∙ ap (λ xs. take n bs ++ xs) (before-goes stop (get_or bs n 0) (drop (n + 1) bs) other)
-      ∙ sym (append_assoc (take n bs) (get_or bs n 0 ∷ []) (before stop (drop (n + 1) bs)))
-      ∙ ap (λ xs. xs ++ before stop (drop (n + 1) bs)) (sym (take-next bs n within));
-  back = clear.back ∙ ap (onward stop) (drop_more bs n 0 within) ∙ onward-goes stop (get_or bs n 0) (drop (n + 1) bs) other;
+pub clear-goes : (delimiter : ℕ) (bs : List ℕ) (n : ℕ) → n < length bs → get_or bs n 0 ≢ delimiter → IsClear delimiter bs n → IsClear delimiter bs (n + 1)
+clear-goes delimiter bs n within other clear = record {
+  front = clear.front ∙ ap (λ xs. take n bs ++ before delimiter xs) (drop_more bs n 0 within)
+      ∙ ap (λ xs. take n bs ++ xs) (before-goes delimiter (get_or bs n 0) (drop (n + 1) bs) other)
+      ∙ sym (append_assoc (take n bs) (get_or bs n 0 ∷ []) (before delimiter (drop (n + 1) bs)))
+      ∙ ap (λ xs. xs ++ before delimiter (drop (n + 1) bs)) (sym (take-next bs n within));
+  back = clear.back ∙ ap (onward delimiter) (drop_more bs n 0 within) ∙ onward-goes delimiter (get_or bs n 0) (drop (n + 1) bs) other;
 }
 
-pub clear-front : (stop : ℕ) (bs : List ℕ) (n : ℕ) → n < length bs → get_or bs n 0 ≡ stop → IsClear stop bs n → before stop bs ≡ take n bs
-clear-front stop bs n within same clear = clear.front
-    ∙ ap (λ xs. take n bs ++ before stop xs) (drop_more bs n 0 within)
-    ∙ ap (λ xs. take n bs ++ xs) (before-stops stop (get_or bs n 0) (drop (n + 1) bs) same)
+pub clear-front : (delimiter : ℕ) (bs : List ℕ) (n : ℕ) → n < length bs → get_or bs n 0 ≡ delimiter → IsClear delimiter bs n → before delimiter bs ≡ take n bs
+clear-front delimiter bs n within same clear = clear.front
+    ∙ ap (λ xs. take n bs ++ before delimiter xs) (drop_more bs n 0 within)
+    ∙ ap (λ xs. take n bs ++ xs) (before-ends delimiter (get_or bs n 0) (drop (n + 1) bs) same)
     ∙ append-nil (take n bs)
 
-pub clear-back : (stop : ℕ) (bs : List ℕ) (n : ℕ) → n < length bs → get_or bs n 0 ≡ stop → IsClear stop bs n → onward stop bs ≡ drop n bs
-clear-back stop bs n within same clear = clear.back
-    ∙ ap (onward stop) (drop_more bs n 0 within)
-    ∙ onward-stops stop (get_or bs n 0) (drop (n + 1) bs) same
+pub clear-back : (delimiter : ℕ) (bs : List ℕ) (n : ℕ) → n < length bs → get_or bs n 0 ≡ delimiter → IsClear delimiter bs n → onward delimiter bs ≡ drop n bs
+clear-back delimiter bs n within same clear = clear.back
+    ∙ ap (onward delimiter) (drop_more bs n 0 within)
+    ∙ onward-ends delimiter (get_or bs n 0) (drop (n + 1) bs) same
     ∙ sym (drop_more bs n 0 within)
 
-pub clear-whole : (stop : ℕ) (bs : List ℕ) (n : ℕ) → length bs ≤ n → IsClear stop bs n → before stop bs ≡ bs
+pub clear-whole : (delimiter : ℕ) (bs : List ℕ) (n : ℕ) → length bs ≤ n → IsClear delimiter bs n → before delimiter bs ≡ bs
 unfolding before
-clear-whole stop bs n past clear = clear.front
-    ∙ ap (λ xs. take n bs ++ before stop xs) (drop_all n bs past)
+clear-whole delimiter bs n past clear = clear.front
+    ∙ ap (λ xs. take n bs ++ before delimiter xs) (drop_all n bs past)
     ∙ append-nil (take n bs)
     ∙ take_all n bs past
 
-pub clear-none : (stop : ℕ) (bs : List ℕ) (n : ℕ) → length bs ≤ n → IsClear stop bs n → onward stop bs ≡ []
+pub clear-none : (delimiter : ℕ) (bs : List ℕ) (n : ℕ) → length bs ≤ n → IsClear delimiter bs n → onward delimiter bs ≡ []
 unfolding onward
-clear-none stop bs n past clear = clear.back ∙ ap (onward stop) (drop_all n bs past)
+clear-none delimiter bs n past clear = clear.back ∙ ap (onward delimiter) (drop_all n bs past)
 
-pub parted : (stop : ℕ) (bs : List ℕ) → before stop bs ++ onward stop bs ≡ bs
+pub parted : (delimiter : ℕ) (bs : List ℕ) → before delimiter bs ++ onward delimiter bs ≡ bs
 unfolding before onward
-parted stop [] = refl
-parted stop (b ∷ bs) = elim (cases_eq b stop) [
-  | inl same ↦ rw (before-stops stop b bs same, onward-stops stop b bs same) refl
-  | inr other ↦ rw (before-goes stop b bs other, onward-goes stop b bs other) (ap (λ xs. b ∷ xs) (parted stop bs))
+parted delimiter [] = refl
+parted delimiter (b ∷ bs) = elim (cases_eq b delimiter) [
+  | inl same ↦ rw (before-ends delimiter b bs same, onward-ends delimiter b bs same) refl
+  | inr other ↦ rw (before-goes delimiter b bs other, onward-goes delimiter b bs other) (ap (λ xs. b ∷ xs) (parted delimiter bs))
 ]
 
 -- the two lengths of a text that is parted
-pub parted-length : (stop : ℕ) (bs : List ℕ) → length (before stop bs) + length (onward stop bs) ≡ length bs
-parted-length stop bs = sym (length-append (before stop bs) (onward stop bs)) ∙ ap length (parted stop bs)
+pub parted-length : (delimiter : ℕ) (bs : List ℕ) → length (before delimiter bs) + length (onward delimiter bs) ≡ length bs
+parted-length delimiter bs = sym (length-append (before delimiter bs) (onward delimiter bs)) ∙ ap length (parted delimiter bs)
 
-pub lines-stop : (b : ℕ) (bs : List ℕ) → b ≡ 10 → lines (b ∷ bs) ≡ [] ∷ lines bs
+pub lines-feed : (b : ℕ) (bs : List ℕ) → b ≡ 10 → lines (b ∷ bs) ≡ [] ∷ lines bs
 unfolding lines
-lines-stop b bs same = rw (eq-eqb b 10 same) refl
+lines-feed b bs same = rw (eq-eqb b 10 same) refl
 
 pub lines-goes : (b : ℕ) (bs : List ℕ) → b ≢ 10 → lines (b ∷ bs) ≡ grow b (lines bs)
 unfolding lines
@@ -99,17 +99,17 @@ lines-nil = refl
 -- the first line, and the lines after its end
 pub lines-part : (b : ℕ) (bs : List ℕ) → lines (b ∷ bs) ≡ before 10 (b ∷ bs) ∷ lines (drop 1 (onward 10 (b ∷ bs)))
 lines-part b [] = elim (cases_eq b 10) [
-  | inl same ↦ lines-stop b [] same ∙ rw (before-stops 10 b [] same, onward-stops 10 b [] same) refl
+  | inl same ↦ lines-feed b [] same ∙ rw (before-ends 10 b [] same, onward-ends 10 b [] same) refl
   | inr other ↦ lines-goes b [] other ∙ rw (lines-nil, before-goes 10 b [] other, onward-goes 10 b [] other, before-nil 10, onward-nil 10, lines-nil) refl
 ]
 lines-part b (c ∷ bs) = elim (cases_eq b 10) [
-  | inl same ↦ lines-stop b (c ∷ bs) same ∙ rw (before-stops 10 b (c ∷ bs) same, onward-stops 10 b (c ∷ bs) same) refl
+  | inl same ↦ lines-feed b (c ∷ bs) same ∙ rw (before-ends 10 b (c ∷ bs) same, onward-ends 10 b (c ∷ bs) same) refl
   | inr other ↦ lines-goes b (c ∷ bs) other ∙ ap (grow b) (lines-part c bs) ∙ rw (before-goes 10 b (c ∷ bs) other, onward-goes 10 b (c ∷ bs) other) refl
 ]
 
-pub words-stop : (b : ℕ) (bs : List ℕ) → b ≡ 32 → words (b ∷ bs) ≡ [] ∷ words bs
+pub words-space : (b : ℕ) (bs : List ℕ) → b ≡ 32 → words (b ∷ bs) ≡ [] ∷ words bs
 unfolding words
-words-stop b bs same = rw (eq-eqb b 32 same) refl
+words-space b bs same = rw (eq-eqb b 32 same) refl
 
 pub words-goes : (b : ℕ) (bs : List ℕ) → b ≢ 32 → words (b ∷ bs) ≡ grow b (words bs)
 unfolding words
@@ -128,7 +128,7 @@ rest_of (b ∷ bs) = Some bs
 pub words-part : (bs : List ℕ) → words bs ≡ before 32 bs ∷ words_in (rest_of (onward 32 bs))
 words-part [] = words-nil ∙ rw (before-nil 32, onward-nil 32) refl
 words-part (b ∷ bs) = elim (cases_eq b 32) [
-  | inl same ↦ words-stop b bs same ∙ rw (before-stops 32 b bs same, onward-stops 32 b bs same) refl
+  | inl same ↦ words-space b bs same ∙ rw (before-ends 32 b bs same, onward-ends 32 b bs same) refl
   | inr other ↦ words-goes b bs other ∙ ap (grow b) (words-part bs) ∙ rw (before-goes 32 b bs other, onward-goes 32 b bs other) refl
 ]
 

@@ -9,15 +9,15 @@ abbrev pub ◌>>=◌ : {A B E : Type 0} → Result A E → (A → Result B E) �
 Ok x >>= f = f x
 Err e >>= f = Err e
 
--- the bytes before the first `stop`
+-- the bytes before the first `delimiter`
 unfoldable pub before : ℕ → List ℕ → List ℕ
-before stop [] = []
-before stop (b ∷ bs) = if b == stop then [] else b ∷ before stop bs
+before delimiter [] = []
+before delimiter (b ∷ bs) = if b == delimiter then [] else b ∷ before delimiter bs
 
--- the bytes from the first `stop` on
+-- the bytes from the first `delimiter` on
 unfoldable pub onward : ℕ → List ℕ → List ℕ
-onward stop [] = []
-onward stop (b ∷ bs) = if b == stop then b ∷ bs else onward stop bs
+onward delimiter [] = []
+onward delimiter (b ∷ bs) = if b == delimiter then b ∷ bs else onward delimiter bs
 
 -- the first piece with one more byte in front
 abbrev pub grow : ℕ → List (List ℕ) → List (List ℕ)

@@ -2,13 +2,13 @@ ghost use Rattle.std.specs.Prelude.{◌≡◌, ◌<◌, [], ◌∷◌, length, M
 ghost use Rattle.std.specs.Option.{option_copied};
 ghost use Rattle.jb_text.specs.Parts.{before, onward, lines, words, words_in, FirstLine, number_of, number_from, with_digit as with_digit_of};
 
-/// The bytes before the first `stop`, and those from it on: all of them and none, where there is no `stop`.
-pub fn part(bytes: &[u8], stop: u8) -> (&[u8], &[u8])
-    ensures front { result.0.now ≡ before stop bytes.now }
-    ensures back { result.1.now ≡ onward stop bytes.now }
+/// The bytes before the first `delimiter`, and those from it on: all of them and none, where there is no `delimiter`.
+pub fn part(bytes: &[u8], delimiter: u8) -> (&[u8], &[u8])
+    ensures front { result.0.now ≡ before delimiter bytes.now }
+    ensures back { result.1.now ≡ onward delimiter bytes.now }
 {
     for at in 0..bytes.len() {
-        if bytes[at] == stop {
+        if bytes[at] == delimiter {
             return bytes.split_at(at);
         }
     }

@@ -8,8 +8,8 @@ use Rattle.jb_words.specs.declared.ErrorKind.{ErrorKind}
 use Rattle.jb_words.specs.declared.ErrorKind.TheVariants.{DisplayHelp, DisplayVersion, OutOfMemory}
 use Rattle.jb_plain.specs.Runs.{Closes}
 use Rattle.jb_plain.specs.Said.{Outputs}
-use Rattle.jb_plain.specs.Stops.{line_of}
-use Rattle.jb_plain.specs.declared.stop.Stop.TheVariants.{Memory, WriteFault}
+use Rattle.jb_plain.specs.Faults.{line_of}
+use Rattle.jb_plain.specs.declared.fault.CommandFault.TheVariants.{Memory, WriteFault}
 
 -- how a run ends whose words clap refuses for this reason: help and the version are for standard output, and all else of
 -- clap's texts for standard error

@@ -4,13 +4,13 @@ ghost use Rattle.jb_words.specs.Named.Asked.{AsksCost};
 ghost use Rattle.jb_words.specs.Wanted.{wanted_in};
 ghost use Rattle.jb_io.specs.Puts.{PutsPart};
 ghost use Rattle.jb_plain.specs.Runs.{Closes, Runs};
-ghost use Rattle.jb_plain.specs.Stops.{line_of};
-ghost use Rattle.jb_plain.specs.declared.stop.Stop.TheVariants.{Memory as StopMemory, WriteFault};
+ghost use Rattle.jb_plain.specs.Faults.{line_of};
+ghost use Rattle.jb_plain.specs.declared.fault.CommandFault.TheVariants.{Memory as CommandMemory, WriteFault};
 ghost use Rattle.jb_tool.specs.Refused.{RefusesWords};
 ghost use Rattle.jb_tool.specs.Wanted.{RunsWanted};
 
 use crate::load::run_load;
-use jb_plain::{Stop, run_plain};
+use jb_plain::{CommandFault, run_plain};
 use jb_words::{Error, ErrorKind, Plain, Words, parse};
 use std::convert::AsStr;
 use std::fs::File;
@@ -37,7 +37,7 @@ pub fn run<
         → IfSome (wanted_in (map S.text words.now)) (λ wanted. RunsWanted wanted (I.remaining input.old)
         (record { out = O.contents out.old; err = E.contents err.old })
         (record { out = O.contents out.new; err = E.contents err.new }) result
-        ⊎ Closes (Err StopMemory) (record { out = O.contents out.old; err = E.contents err.old })
+        ⊎ Closes (Err CommandMemory) (record { out = O.contents out.old; err = E.contents err.old })
         (record { out = O.contents out.new; err = E.contents err.new }) result) }
     ensures refused { words.now ≢ [] → (faults_in (map S.text words.now) ≢ []) ⊎ (wanted_in (map S.text words.now) ≡ None)
         → RefusesWords (faults_in (map S.text words.now)) (wanted_in (map S.text words.now)) (record { out = O.contents out.old; err = E.contents err.old })
@@ -55,7 +55,7 @@ pub fn run<
 
 /// Writes what clap says of the words, and gives the exit status.
 fn tell_refusal<O: Write, E: Write>(error: &Error, out: &mut O, err: &mut E) -> u8
-    ensures memory { kind_of error.now ≡ ErrorKind.OutOfMemory → Closes (Err StopMemory)
+    ensures memory { kind_of error.now ≡ ErrorKind.OutOfMemory → Closes (Err CommandMemory)
         (record { out = O.contents out.old; err = E.contents err.old })
         (record { out = O.contents out.new; err = E.contents err.new }) result }
     ensures shown { (kind_of error.now ≡ ErrorKind.DisplayHelp) ⊎ (kind_of error.now ≡ ErrorKind.DisplayVersion)
@@ -64,16 +64,16 @@ fn tell_refusal<O: Write, E: Write>(error: &Error, out: &mut O, err: &mut E) -> 
         → kind_of error.now ≢ ErrorKind.DisplayVersion → (result ≡ 2) × (O.contents out.new ≡ O.contents out.old) }
 {
     if error.kind() == ErrorKind::OutOfMemory {
-        Stop::Memory.tell(err);
-        return Stop::Memory.status();
+        CommandFault::Memory.tell(err);
+        return CommandFault::Memory.status();
     }
     if error.use_stderr() {
         let _ignored = write!(err, "{error}");
         return 2;
     }
     if write!(out, "{error}").is_err() || out.flush().is_err() {
-        Stop::WriteFault.tell(err);
-        return Stop::WriteFault.status();
+        CommandFault::WriteFault.tell(err);
+        return CommandFault::WriteFault.status();
     }
     0
 }

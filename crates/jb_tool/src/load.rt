@@ -1,14 +1,14 @@
 //! `jb load`: the handles of a queue text, run by threads and committed to an image.
 ghost use Rattle.std.specs.Prelude.{◌≡◌, ◌≤◌, ◌↔◌, IsSome, IfSome};
 ghost use Rattle.jb_words.specs.Wanted.{load_said};
-ghost use Rattle.jb_tool.specs.Load.{EndsOfLoad, HasThreads, IsAskedBy, LoadsOn, RunsLoad, load_stop};
+ghost use Rattle.jb_tool.specs.Load.{EndsOfLoad, HasThreads, IsAskedBy, LoadsOn, RunsLoad, load_fault};
 
 use jb_answers::fault_answer;
 use jb_block::Stamp;
 use jb_deck::OpenFault;
 use jb_disk::{FileDisk, FixedClock};
 use jb_load::{LoadFault, LoadOptions, load_on, tell_loaded};
-use jb_plain::{Stop, close, open_image, read_file, tell};
+use jb_plain::{CommandFault, close, open_disk, read_file, tell};
 use jb_queue::{QueueText, read_queue};
 use jb_words::LoadWords;
 use std::fs::File;
@@ -42,21 +42,21 @@ pub(crate) fn run_load<
 /// Loads the queue text of one file into the image that another one is, and tells what came of it.
 ///
 /// # Errors
-/// `Stop::BadOption` where `--threads` is not from 1 to 64, before any file is looked at; those of `open_image` and of
-/// `read_file`; and those of `load_queue`. Nothing was written to the outputs then, but for `Stop::WriteFault`.
+/// `CommandFault::BadOption` where `--threads` is not from 1 to 64, before any file is looked at; those of `open_disk` and of
+/// `read_file`; and those of `load_queue`. Nothing was written to the outputs then, but for `CommandFault::WriteFault`.
 fn load_files<
     'a,
     R: Files<File = File> + AllocGlobal + Threads + Wait + Clock + Sync,
     O: Write,
     E: Write,
->(rt: &R, load: LoadWords<'a>, out: &mut O, err: &mut E) -> Result<u8, Stop<'a>>
+>(rt: &R, load: LoadWords<'a>, out: &mut O, err: &mut E) -> Result<u8, CommandFault<'a>>
     ensures ends { EndsOfLoad (load_said load.entry) (record { out = O.contents out.old; err = E.contents err.old })
         (record { out = O.contents out.new; err = E.contents err.new }) result }
 {
     let Some(options) = load_options(load) else {
-        return Err(Stop::BadOption);
+        return Err(CommandFault::BadOption);
     };
-    let disk = open_image(rt, load.image)?;
+    let disk = open_disk(rt, load.image)?;
     let text = read_file(rt, load.file)?;
     match read_queue(rt.alloc(), text.as_slice()) {
         Ok(queue) => load_queue(rt, disk, load.stamp, &queue, options, out, err),
@@ -70,7 +70,7 @@ fn load_files<
 /// Loads a queue into an image with this stamp on each commit, and tells what came of it.
 ///
 /// # Errors
-/// Those of `load_on`, and `Stop::WriteFault` where standard output took only the beginning of its line.
+/// Those of `load_on`, and `CommandFault::WriteFault` where standard output took only the beginning of its line.
 fn load_queue<'a, R: AllocGlobal + Threads + Wait + Clock + Sync, O: Write, E: Write>(
     rt: &R,
     disk: FileDisk,
@@ -79,7 +79,7 @@ fn load_queue<'a, R: AllocGlobal + Threads + Wait + Clock + Sync, O: Write, E: W
     options: LoadOptions,
     out: &mut O,
     err: &mut E,
-) -> Result<u8, Stop<'a>>
+) -> Result<u8, CommandFault<'a>>
     requires threads { (1 ≤ options.threads) × (options.threads ≤ 64) }
     ensures loads { LoadsOn options disk queue.now (record { out = O.contents out.old; err = E.contents err.old })
         (record { out = O.contents out.new; err = E.contents err.new }) result }
@@ -102,7 +102,7 @@ fn load_queue<'a, R: AllocGlobal + Threads + Wait + Clock + Sync, O: Write, E: W
         changes,
     ) {
         Ok(loaded) => Ok(tell_loaded(&loaded, out, err)?),
-        Err(fault) => Err(stop_of(fault)),
+        Err(fault) => Err(fault_of(fault)),
     }
 }
 
@@ -121,18 +121,18 @@ fn load_options(load: LoadWords<'_>) -> Option<LoadOptions>
     })
 }
 
-/// The stop that a fault of a load is reported as.
-fn stop_of<'a>(fault: LoadFault) -> Stop<'a>
-    ensures { result ≡ load_stop fault }
+/// What a fault of a load is reported as.
+fn fault_of<'a>(fault: LoadFault) -> CommandFault<'a>
+    ensures { result ≡ load_fault fault }
 {
     match fault {
-        LoadFault::BlockSize => Stop::BlockSize,
-        LoadFault::Open(OpenFault::DeviceFault) => Stop::DeviceFault,
-        LoadFault::Open(OpenFault::Super(fault)) => Stop::Super(fault),
-        LoadFault::Open(OpenFault::NeedsRecovery) => Stop::NeedsRecovery,
-        LoadFault::Open(OpenFault::NumbersSpent) => Stop::NumbersSpent,
-        LoadFault::Open(OpenFault::Memory) => Stop::Memory,
-        LoadFault::Memory => Stop::Memory,
-        LoadFault::Accounts => Stop::Accounts,
+        LoadFault::BlockSize => CommandFault::BlockSize,
+        LoadFault::Open(OpenFault::DeviceFault) => CommandFault::DeviceFault,
+        LoadFault::Open(OpenFault::Super(fault)) => CommandFault::Super(fault),
+        LoadFault::Open(OpenFault::NeedsRecovery) => CommandFault::NeedsRecovery,
+        LoadFault::Open(OpenFault::NumbersSpent) => CommandFault::NumbersSpent,
+        LoadFault::Open(OpenFault::Memory) => CommandFault::Memory,
+        LoadFault::Memory => CommandFault::Memory,
+        LoadFault::Accounts => CommandFault::Accounts,
     }
 }

@@ -3,7 +3,7 @@
 use crate::runs::{Host, WHOLE, image, runs};
 use jb_block::{BlockSize, Width};
 use jb_disk::{MemoryDisk, OneFaultDisk};
-use jb_tool::{Stop, format_on, renumber_on, widen_on};
+use jb_tool::{CommandFault, format_on, renumber_on, widen_on};
 use std::alloc::Global;
 use std::fs;
 use std::test::Fail;
@@ -130,7 +130,7 @@ fn calls_of(alloc: Global, wide: bool) -> Result<Option<(u64, Vec<u8>)>, Fail> {
         };
         match end {
             Ok(_) => return Ok(Some((call, out))),
-            Err(Stop::DeviceFault) if out.is_empty() => {}
+            Err(CommandFault::DeviceFault) if out.is_empty() => {}
             Err(_) => return Ok(None),
         }
     }

@@ -1,7 +1,7 @@
 ghost use Rattle.std.specs.Prelude.{IfErr, IfOk, None};
 ghost use Rattle.jb_plain.specs.Texts.{HasNoText, IsText, known_behind};
 
-use crate::stop::Stop;
+use crate::fault::CommandFault;
 use crate::streams::read_as;
 use std::fs::File;
 use std::io::{ErrorKind, Read};
@@ -15,7 +15,7 @@ pub(crate) fn read_text<'a, R: Files + AllocGlobal, I: Read>(
     rt: &R,
     name: &'a str,
     input: &mut I,
-) -> Result<Vec<u8>, Stop<'a>>
+) -> Result<Vec<u8>, CommandFault<'a>>
     ensures text { IfOk result (λ text. IsText (known_behind name.entry.now (I.remaining input.old)) text.items) }
     ensures none { IfErr result (HasNoText name.entry.now (known_behind name.entry.now (I.remaining input.old))) }
 {
@@ -29,15 +29,18 @@ pub(crate) fn read_text<'a, R: Files + AllocGlobal, I: Read>(
 /// The text of the file of this name.
 ///
 /// # Errors
-/// `Stop::CannotRead` where the file cannot be opened or read, `Stop::TooLong` where it has more than `TEXT_LIMIT`
-/// bytes, `Stop::Memory` where memory ran out.
-pub fn read_file<'a, R: Files + AllocGlobal>(rt: &R, name: &'a str) -> Result<Vec<u8>, Stop<'a>>
+/// `CommandFault::CannotRead` where the file cannot be opened or read, `CommandFault::TooLong` where it has more than `TEXT_LIMIT`
+/// bytes, `CommandFault::Memory` where memory ran out.
+pub fn read_file<'a, R: Files + AllocGlobal>(
+    rt: &R,
+    name: &'a str,
+) -> Result<Vec<u8>, CommandFault<'a>>
     ensures text { IfOk result (λ text. IsText None text.items) }
     ensures none { IfErr result (HasNoText name.entry.now None) }
 {
     match File::open(rt, name) {
         Ok(mut file) => read_as(rt.alloc(), &mut file, name),
-        Err(error) if error.kind() == ErrorKind::OutOfMemory => Err(Stop::Memory),
-        Err(_) => Err(Stop::CannotRead(name)),
+        Err(error) if error.kind() == ErrorKind::OutOfMemory => Err(CommandFault::Memory),
+        Err(_) => Err(CommandFault::CannotRead(name)),
     }
 }

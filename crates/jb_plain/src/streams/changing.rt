@@ -3,7 +3,7 @@ ghost use Rattle.jb_front.specs.Widening.{IsWidened, Widens, WidensAs};
 ghost use Rattle.jb_plain.specs.Change.{ChangesOn, renumbered_line, widened_line};
 ghost use Rattle.jb_plain.specs.Said.{TellsLine};
 
-use crate::stop::Stop;
+use crate::fault::CommandFault;
 use crate::streams::telling::tell_line;
 use itoa::Buffer;
 use jb_disk::Disk;
@@ -14,16 +14,16 @@ use std::io::Write;
 /// the number of the next transaction, and gives status 0. No memory is taken.
 ///
 /// # Errors
-/// `Stop::Super` where the superblock is refused, and `Stop::NeedsRecovery` where the log is not clean: the disk is as it was;
-/// `Stop::DeviceFault` where a call of the disk failed: it is to be called again; `Stop::WriteFault` where `out` took only the
+/// `CommandFault::Super` where the superblock is refused, and `CommandFault::NeedsRecovery` where the log is not clean: the disk is as it was;
+/// `CommandFault::DeviceFault` where a call of the disk failed: it is to be called again; `CommandFault::WriteFault` where `out` took only the
 /// beginning of the line, after a renumbering that is done. But for the last nothing was written to `out`.
-pub fn renumber_on<'a, D: Disk, O: Write>(disk: &mut D, out: &mut O) -> Result<u8, Stop<'a>>
+pub fn renumber_on<'a, D: Disk, O: Write>(disk: &mut D, out: &mut O) -> Result<u8, CommandFault<'a>>
     ensures renumbers { ChangesOn D.size D.count D.faults D.honest D.newest D.may_leave D.moment D.left_since
         Renumbers IsRenumbering RenumbersAs renumbered_line disk.old disk.new (O.contents out.old) (O.contents out.new) result }
 {
     match renumber(disk) {
         Ok(done) => tell_renumbered(done, out),
-        Err(fault) => Err(Stop::from(fault)),
+        Err(fault) => Err(CommandFault::from(fault)),
     }
 }
 
@@ -32,18 +32,18 @@ pub fn renumber_on<'a, D: Disk, O: Write>(disk: &mut D, out: &mut O) -> Result<u
 ///
 /// # Errors
 /// As those of `renumber_on`.
-pub fn widen_on<'a, D: Disk, O: Write>(disk: &mut D, out: &mut O) -> Result<u8, Stop<'a>>
+pub fn widen_on<'a, D: Disk, O: Write>(disk: &mut D, out: &mut O) -> Result<u8, CommandFault<'a>>
     ensures widens { ChangesOn D.size D.count D.faults D.honest D.newest D.may_leave D.moment D.left_since
         Widens IsWidened WidensAs widened_line disk.old disk.new (O.contents out.old) (O.contents out.new) result }
 {
     match widen(disk) {
         Ok(done) => tell_widened(done, out),
-        Err(fault) => Err(Stop::from(fault)),
+        Err(fault) => Err(CommandFault::from(fault)),
     }
 }
 
 /// Writes the line of a renumbering.
-fn tell_renumbered<'a, O: Write>(done: Renumbered, out: &mut O) -> Result<u8, Stop<'a>>
+fn tell_renumbered<'a, O: Write>(done: Renumbered, out: &mut O) -> Result<u8, CommandFault<'a>>
     ensures { TellsLine (renumbered_line done) (O.contents out.old) (O.contents out.new) result }
 {
     let (mut blocks, mut next) = (Buffer::new(), Buffer::new());
@@ -52,7 +52,7 @@ fn tell_renumbered<'a, O: Write>(done: Renumbered, out: &mut O) -> Result<u8, St
 }
 
 /// Writes the line of a widening.
-fn tell_widened<'a, O: Write>(done: Widened, out: &mut O) -> Result<u8, Stop<'a>>
+fn tell_widened<'a, O: Write>(done: Widened, out: &mut O) -> Result<u8, CommandFault<'a>>
     ensures { TellsLine (widened_line done) (O.contents out.old) (O.contents out.new) result }
 {
     let mut digits = Buffer::new();

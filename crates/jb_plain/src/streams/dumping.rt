@@ -1,6 +1,6 @@
 ghost use Rattle.jb_plain.specs.Dump.{DumpsOn};
 
-use crate::stop::Stop;
+use crate::fault::CommandFault;
 use jb_dump::dump;
 use std::alloc::Global;
 use std::io::{Read, Write};
@@ -9,18 +9,18 @@ use std::io::{Read, Write};
 /// no further.
 ///
 /// # Errors
-/// `Stop::ReadFault` where a read fails; `Stop::Super` and `Stop::BadRevoke` where the journal has no text; `Stop::Memory`
-/// where memory ran out; `Stop::WriteFault` where `out` took only the beginning of the text. But for the last nothing
+/// `CommandFault::ReadFault` where a read fails; `CommandFault::Super` and `CommandFault::BadRevoke` where the journal has no text; `CommandFault::Memory`
+/// where memory ran out; `CommandFault::WriteFault` where `out` took only the beginning of the text. But for the last nothing
 /// was written.
 pub fn dump_from<'a, I: Read, O: Write>(
     alloc: Global,
     journal: &mut I,
     out: &mut O,
-) -> Result<u8, Stop<'a>>
+) -> Result<u8, CommandFault<'a>>
     ensures dumps { DumpsOn (I.remaining journal.old) (I.remaining journal.new) (O.contents out.old) (O.contents out.new) result }
 {
     match dump(alloc, journal, out) {
         Ok(()) => Ok(0),
-        Err(fault) => Err(Stop::from(fault)),
+        Err(fault) => Err(CommandFault::from(fault)),
     }
 }

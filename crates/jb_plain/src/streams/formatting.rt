@@ -7,7 +7,7 @@ ghost use Rattle.jb_super.specs.Superblock.{new_super};
 ghost use Rattle.jb_plain.specs.Format.{FormatsOn, formatted_line};
 ghost use Rattle.jb_plain.specs.Said.{TellsLine};
 
-use crate::stop::Stop;
+use crate::fault::CommandFault;
 use crate::streams::telling::tell_line;
 use itoa::Buffer;
 use jb_block::{BlockSize, Width};
@@ -20,8 +20,8 @@ use std::io::Write;
 /// of a transaction, and gives status 0. No memory is taken.
 ///
 /// # Errors
-/// `Stop::Geometry` where the journal has fewer than 9 blocks or more than 2^31 - 1, or the disk fewer than it: nothing is
-/// written; `Stop::DeviceFault` where block 0 was not written or synced; `Stop::WriteFault` where `out` took only the
+/// `CommandFault::Geometry` where the journal has fewer than 9 blocks or more than 2^31 - 1, or the disk fewer than it: nothing is
+/// written; `CommandFault::DeviceFault` where block 0 was not written or synced; `CommandFault::WriteFault` where `out` took only the
 /// beginning of the line, after the journal is made. But for the last nothing was written to `out`.
 pub fn format_on<'a, D: Disk, O: Write>(
     disk: &mut D,
@@ -30,7 +30,7 @@ pub fn format_on<'a, D: Disk, O: Write>(
     uuid: [u8; 16],
     width: Width,
     out: &mut O,
-) -> Result<u8, Stop<'a>>
+) -> Result<u8, CommandFault<'a>>
     ensures formats { FormatsOn D.size D.count D.faults D.honest D.newest D.may_leave journal max_transaction uuid (is_wide width) disk.old disk.new
         (O.contents out.old) (O.contents out.new) result }
 {
@@ -38,9 +38,9 @@ pub fn format_on<'a, D: Disk, O: Write>(
     match format(disk, journal, max_transaction, uuid, width) {
         Ok(()) => match limit {
             Some(limit) => tell_formatted(limit, out),
-            None => Err(Stop::Geometry),
+            None => Err(CommandFault::Geometry),
         },
-        Err(fault) => Err(Stop::from(fault)),
+        Err(fault) => Err(CommandFault::from(fault)),
     }
 }
 
@@ -59,7 +59,7 @@ fn new_limit(
 }
 
 /// Writes the line of a new journal.
-fn tell_formatted<'a, O: Write>(limit: u32, out: &mut O) -> Result<u8, Stop<'a>>
+fn tell_formatted<'a, O: Write>(limit: u32, out: &mut O) -> Result<u8, CommandFault<'a>>
     ensures { TellsLine (formatted_line limit) (O.contents out.old) (O.contents out.new) result }
 {
     let mut digits = Buffer::new();

@@ -1,7 +1,7 @@
 ghost use Rattle.std.specs.Prelude.{IfErr, IfOk};
 ghost use Rattle.jb_plain.specs.Texts.{HasNoText, IsText};
 
-use crate::stop::Stop;
+use crate::fault::CommandFault;
 use jb_io::{ReadFault, read_within};
 use std::alloc::Global;
 use std::io::Read;
@@ -12,20 +12,20 @@ pub const TEXT_LIMIT: usize = 16_777_216;
 /// The whole of a reader, as the text of this name.
 ///
 /// # Errors
-/// `Stop::CannotRead` where a read failed, `Stop::TooLong` where there are more than `TEXT_LIMIT` bytes, `Stop::Memory` where
+/// `CommandFault::CannotRead` where a read failed, `CommandFault::TooLong` where there are more than `TEXT_LIMIT` bytes, `CommandFault::Memory` where
 /// a growth was refused.
 pub(crate) fn read_as<'a, R: Read>(
     alloc: Global,
     reader: &mut R,
     name: &'a str,
-) -> Result<Vec<u8>, Stop<'a>>
+) -> Result<Vec<u8>, CommandFault<'a>>
     ensures text { IfOk result (λ text. IsText (R.remaining reader.old) text.items) }
     ensures none { IfErr result (HasNoText name.entry.now (R.remaining reader.old)) }
 {
     match read_within(alloc, reader, TEXT_LIMIT) {
         Ok(text) => Ok(text),
-        Err(ReadFault::Reader) => Err(Stop::CannotRead(name)),
-        Err(ReadFault::TooLong) => Err(Stop::TooLong(name)),
-        Err(ReadFault::Memory) => Err(Stop::Memory),
+        Err(ReadFault::Reader) => Err(CommandFault::CannotRead(name)),
+        Err(ReadFault::TooLong) => Err(CommandFault::TooLong(name)),
+        Err(ReadFault::Memory) => Err(CommandFault::Memory),
     }
 }

@@ -1,7 +1,7 @@
 ghost use Rattle.jb_plain.specs.Recover.{RecoversOn, recovered_line};
 ghost use Rattle.jb_plain.specs.Said.{TellsLine};
 
-use crate::stop::Stop;
+use crate::fault::CommandFault;
 use crate::streams::telling::tell_line;
 use itoa::Buffer;
 use jb_disk::Disk;
@@ -14,26 +14,26 @@ use std::io::Write;
 /// the number of the next transaction, and gives status 0. Only the recovery takes memory.
 ///
 /// # Errors
-/// `Stop::Super`, `Stop::BadRevoke` and `Stop::HomeOutOfRange` where the disk is refused, and `Stop::Memory` where a growth
-/// was refused: the disk is as it was; `Stop::DeviceFault` where a call of the disk failed: recovery is to be called again;
-/// `Stop::WriteFault` where `out` took only the beginning of the line, after a recovery that is done. But for the last
+/// `CommandFault::Super`, `CommandFault::BadRevoke` and `CommandFault::HomeOutOfRange` where the disk is refused, and `CommandFault::Memory` where a growth
+/// was refused: the disk is as it was; `CommandFault::DeviceFault` where a call of the disk failed: recovery is to be called again;
+/// `CommandFault::WriteFault` where `out` took only the beginning of the line, after a recovery that is done. But for the last
 /// nothing was written to `out`.
 pub fn recover_on<'a, D: Disk, O: Write>(
     alloc: Global,
     disk: &mut D,
     out: &mut O,
-) -> Result<u8, Stop<'a>>
+) -> Result<u8, CommandFault<'a>>
     ensures recovers { RecoversOn D.size D.count D.faults D.honest D.newest D.may_leave D.moment D.left_since disk.old disk.new
         (O.contents out.old) (O.contents out.new) result }
 {
     match recover(alloc, disk) {
         Ok(done) => tell_recovered(done, out),
-        Err(fault) => Err(Stop::from(fault)),
+        Err(fault) => Err(CommandFault::from(fault)),
     }
 }
 
 /// Writes the line of a recovery.
-fn tell_recovered<'a, O: Write>(done: Recovered, out: &mut O) -> Result<u8, Stop<'a>>
+fn tell_recovered<'a, O: Write>(done: Recovered, out: &mut O) -> Result<u8, CommandFault<'a>>
     ensures { TellsLine (recovered_line done) (O.contents out.old) (O.contents out.new) result }
 {
     let (mut transactions, mut copies) = (Buffer::new(), Buffer::new());

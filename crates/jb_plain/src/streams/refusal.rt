@@ -1,9 +1,9 @@
 ghost use Rattle.std.specs.Prelude.{◌≡◌, ◌≢◌};
 ghost use Rattle.jb_io.specs.Puts.{PutsPart};
-ghost use Rattle.jb_plain.specs.Stops.{line_of, not_utf8};
-ghost use Rattle.jb_plain.specs.declared.stop.Stop.TheVariants.{Memory};
+ghost use Rattle.jb_plain.specs.Faults.{line_of, not_utf8};
+ghost use Rattle.jb_plain.specs.declared.fault.CommandFault.TheVariants.{Memory};
 
-use crate::stop::Stop;
+use crate::fault::CommandFault;
 use crate::streams::putting::put_line;
 use std::io::{ErrorKind, Write};
 
@@ -19,6 +19,6 @@ pub fn refuse_words<E: Write>(kind: ErrorKind, err: &mut E) -> u8
         );
         return 2;
     }
-    Stop::Memory.tell(err);
-    Stop::Memory.status()
+    CommandFault::Memory.tell(err);
+    CommandFault::Memory.status()
 }

@@ -3,7 +3,7 @@ ghost use Rattle.jb_io.specs.Parts.{spelled};
 ghost use Rattle.jb_answers.specs.Said.{said};
 ghost use Rattle.jb_plain.specs.Said.{Tells, TellsLine};
 
-use crate::stop::Stop;
+use crate::fault::CommandFault;
 use jb_answers::Answer;
 use jb_io::{put, put_parts};
 use std::io::Write;
@@ -11,12 +11,12 @@ use std::io::Write;
 /// Writes an answer and gives its status. A fault of standard error is ignored.
 ///
 /// # Errors
-/// `Stop::WriteFault` where standard output took only the beginning of its text.
+/// `CommandFault::WriteFault` where standard output took only the beginning of its text.
 pub fn tell<'a, O: Write, E: Write>(
     answer: &Answer,
     out: &mut O,
     err: &mut E,
-) -> Result<u8, Stop<'a>>
+) -> Result<u8, CommandFault<'a>>
     ensures { Tells (said answer.now) (record { out = O.contents out.old; err = E.contents err.old })
         (record { out = O.contents out.new; err = E.contents err.new }) result }
 {
@@ -25,19 +25,19 @@ pub fn tell<'a, O: Write, E: Write>(
             let _ignored = put(err, answer.err.as_bytes());
             Ok(answer.status)
         }
-        Err(_) => Err(Stop::WriteFault),
+        Err(_) => Err(CommandFault::WriteFault),
     }
 }
 
 /// Writes the line of a command that has done its work, part by part and without memory, and gives status 0.
 ///
 /// # Errors
-/// `Stop::WriteFault` where the writer took only the beginning of the line.
-pub(crate) fn tell_line<'a, O: Write>(out: &mut O, parts: &[&str]) -> Result<u8, Stop<'a>>
+/// `CommandFault::WriteFault` where the writer took only the beginning of the line.
+pub(crate) fn tell_line<'a, O: Write>(out: &mut O, parts: &[&str]) -> Result<u8, CommandFault<'a>>
     ensures { TellsLine (spelled (map (λ part. part.now) parts.now)) (O.contents out.old) (O.contents out.new) result }
 {
     match put_parts(out, parts) {
         Ok(()) => Ok(0),
-        Err(_) => Err(Stop::WriteFault),
+        Err(_) => Err(CommandFault::WriteFault),
     }
 }

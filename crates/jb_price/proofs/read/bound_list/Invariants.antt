@@ -2,7 +2,7 @@ use Rattle.std.proofs.Common.{◌≡◌, []}
 use Rattle.std.specs.Option.{option_copied}
 use Rattle.jb_text.specs.Parts.{words, words_in, number_of}
 use Rattle.jb_text.proofs.Left.{left}
-use Rattle.jb_price.specs.Reading.{after_each}
+use Rattle.jb_price.specs.Claims.{after_each}
 use Rattle.jb_price.proofs.read.bound_list.Given as goal
 
 -- the bounds of the words are those that the rest says after the ones that were read

@@ -1,7 +1,7 @@
 use Rattle.std.proofs.Common.{refl, sym, ap, ◌∙◌}
 use Rattle.std.specs.Option.{option_copied}
 use Rattle.jb_text.specs.Parts.{words_in}
-use Rattle.jb_price.specs.Reading.{price_of}
+use Rattle.jb_price.specs.Claims.{price_of}
 use Rattle.jb_price.proofs.Each.{word-goes, word-fails, word-ends, begun-goes, begun-ends}
 use Rattle.jb_price.proofs.read.price_list.Goals as goal
 

@@ -2,7 +2,7 @@ use Rattle.std.proofs.Common.{◌≡◌, []}
 use Rattle.std.specs.Option.{option_copied}
 use Rattle.jb_text.specs.Parts.{words, words_in}
 use Rattle.jb_text.proofs.Left.{left}
-use Rattle.jb_price.specs.Reading.{after_each, price_of}
+use Rattle.jb_price.specs.Claims.{after_each, price_of}
 use Rattle.jb_price.proofs.Each.{Begun}
 use Rattle.jb_price.proofs.read.price_list.Given as goal
 

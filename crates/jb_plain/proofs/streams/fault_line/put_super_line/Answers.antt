@@ -1,4 +1,4 @@
-use Rattle.jb_plain.proofs.streams.stop_line.put_super_line.Goals as goal
+use Rattle.jb_plain.proofs.streams.fault_line.put_super_line.Goals as goal
 
 pub returns-in-NotVersion2 : goal.returns-in-NotVersion2
 returns-in-NotVersion2 g c = record {

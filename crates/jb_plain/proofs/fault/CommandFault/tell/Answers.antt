@@ -1,4 +1,4 @@
-use Rattle.jb_plain.proofs.stop.Stop.tell.Goals as goal
+use Rattle.jb_plain.proofs.fault.CommandFault.tell.Goals as goal
 
 pub returns-in-BadRevoke : goal.returns-in-BadRevoke
 returns-in-BadRevoke g c = rw c.in-BadRevoke.is (rw c.format.ensures.text at c.put_line-in-BadRevoke.ensures.puts)

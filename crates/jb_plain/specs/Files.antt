@@ -15,11 +15,11 @@ use Rattle.jb_plain.specs.Change.{ChangesOn, renumbered_line, widened_line}
 use Rattle.jb_plain.specs.Format.{FormatsOn}
 use Rattle.jb_plain.specs.Options.{AreGood}
 use Rattle.jb_plain.specs.Recover.{RecoversOn}
-use Rattle.jb_plain.specs.declared.stop.Stop.{Stop}
-use Rattle.jb_plain.specs.declared.stop.Stop.TheVariants.{BadOption, CannotMake, CannotRead, Memory, Super}
+use Rattle.jb_plain.specs.declared.fault.CommandFault.{CommandFault}
+use Rattle.jb_plain.specs.declared.fault.CommandFault.TheVariants.{BadOption, CannotMake, CannotRead, Memory, Super}
 
 -- the file of this name was not made: an option is bad, or none is and the system refuses the file
-abbrev pub IsUnmade : List ℕ → Options → Stop → Type 0
+abbrev pub IsUnmade : List ℕ → Options → CommandFault → Type 0
 IsUnmade name o BadOption = AreGood o → ⊥
 IsUnmade name o (CannotMake told) = AreGood o × (told.now ≡ name)
 IsUnmade name o Memory = AreGood o
@@ -27,21 +27,21 @@ IsUnmade name o _ = ⊥
 
 -- the journal that the options ask for was made at the front of a file with their block size. No clause says what a file
 -- holds: of its content nothing follows
-pub record FormatsFile (o : Options) (held holds : Option (List ℕ)) (end : Result ℕ Stop) : Type 0 where
+pub record FormatsFile (o : Options) (out_old out_new : Option (List ℕ)) (end : Result ℕ CommandFault) : Type 0 where
   pub old : FileDisk
   pub new : FileDisk
   pub uuid : List ℕ
   pub size : bytes_of (size_of old) ≡ o.bs
   pub digits : decode_of o.uuid ≡ Ok uuid
-  pub formats : FormatsOn (λ (f : FileDisk). bytes_of (size_of f)) count_of faults_of (λ _. ⊥) (λ _. []) (λ _ _. ⊥) o.journal o.max uuid o.wide old new held holds end
+  pub formats : FormatsOn (λ (f : FileDisk). bytes_of (size_of f)) count_of faults_of (λ _. ⊥) (λ _. []) (λ _ _. ⊥) o.journal o.max uuid o.wide old new out_old out_new end
 
 -- the file was not made, and nothing was done; or the journal was made in it, and the answer is reported
-abbrev pub EndsOfFormat : List ℕ → Options → Option (List ℕ) → Option (List ℕ) → Result ℕ Stop → Type 0
-EndsOfFormat name o held holds end =
-    ((stop : Stop) × (end ≡ Err stop) × IsUnmade name o stop × (holds ≡ held)) ⊎ (AreGood o × FormatsFile o held holds end)
+abbrev pub EndsOfFormat : List ℕ → Options → Option (List ℕ) → Option (List ℕ) → Result ℕ CommandFault → Type 0
+EndsOfFormat name o out_old out_new end =
+    ((fault : CommandFault) × (end ≡ Err fault) × IsUnmade name o fault × (out_new ≡ out_old)) ⊎ (AreGood o × FormatsFile o out_old out_new end)
 
 -- the image of this name was not read, or its first bytes are refused as a superblock
-abbrev pub IsUnread : List ℕ → Stop → Type 0
+abbrev pub IsUnread : List ℕ → CommandFault → Type 0
 IsUnread name (CannotRead told) = told.now ≡ name
 IsUnread name (Super fault) = (front : List ℕ) × (super_in front ≡ Err fault)
 IsUnread name Memory = Unit {0}
@@ -53,35 +53,35 @@ SaysSize size = (front : List ℕ) × (sb : Superblock) × (super_in front ≡ O
 
 -- a file was recovered, in blocks of the size that its first bytes say. No clause says what a file holds: of its content
 -- nothing follows
-pub record RecoversFile (held holds : Option (List ℕ)) (end : Result ℕ Stop) : Type 0 where
+pub record RecoversFile (out_old out_new : Option (List ℕ)) (end : Result ℕ CommandFault) : Type 0 where
   pub old : FileDisk
   pub new : FileDisk
   pub size : SaysSize (bytes_of (size_of old))
-  pub recovers : RecoversOn (λ (f : FileDisk). bytes_of (size_of f)) count_of faults_of (λ _. ⊥) (λ _. []) (λ _ _. ⊥) (λ _. 0) (λ _ _ _. ⊥) old new held holds end
+  pub recovers : RecoversOn (λ (f : FileDisk). bytes_of (size_of f)) count_of faults_of (λ _. ⊥) (λ _. []) (λ _ _. ⊥) (λ _. 0) (λ _ _ _. ⊥) old new out_old out_new end
 
 -- the image was not read, and nothing was done; or it was recovered, and the answer is reported
-abbrev pub EndsOfRecover : List ℕ → Option (List ℕ) → Option (List ℕ) → Result ℕ Stop → Type 0
-EndsOfRecover name held holds end =
-    ((stop : Stop) × (end ≡ Err stop) × IsUnread name stop × (holds ≡ held)) ⊎ RecoversFile held holds end
+abbrev pub EndsOfRecover : List ℕ → Option (List ℕ) → Option (List ℕ) → Result ℕ CommandFault → Type 0
+EndsOfRecover name out_old out_new end =
+    ((fault : CommandFault) × (end ≡ Err fault) × IsUnread name fault × (out_new ≡ out_old)) ⊎ RecoversFile out_old out_new end
 
 -- the clean journal in a file was changed, in blocks of the size that its first bytes say. No clause says what a file holds: of
 -- its content nothing follows
 pub record ChangesFile {T : Type 0} (Does : ℕ → ℕ → Image → Image → Result T ChangeFault → Type 0) (IsMidst EndsAlike : ℕ → ℕ → Image → Image → Type 0)
-    (line : T → List ℕ) (held holds : Option (List ℕ)) (end : Result ℕ Stop) : Type 0 where
+    (line : T → List ℕ) (out_old out_new : Option (List ℕ)) (end : Result ℕ CommandFault) : Type 0 where
   pub old : FileDisk
   pub new : FileDisk
   pub size : SaysSize (bytes_of (size_of old))
   pub changes : ChangesOn (λ (f : FileDisk). bytes_of (size_of f)) count_of faults_of (λ _. ⊥) (λ _. []) (λ _ _. ⊥) (λ _. 0) (λ _ _ _. ⊥)
-      Does IsMidst EndsAlike line old new held holds end
+      Does IsMidst EndsAlike line old new out_old out_new end
 
 -- the image was not read, and nothing was done; or its journal was given its first number again, and the answer is reported
-abbrev pub EndsOfRenumber : List ℕ → Option (List ℕ) → Option (List ℕ) → Result ℕ Stop → Type 0
-EndsOfRenumber name held holds end =
-    ((stop : Stop) × (end ≡ Err stop) × IsUnread name stop × (holds ≡ held))
-    ⊎ ChangesFile Renumbers IsRenumbering RenumbersAs renumbered_line held holds end
+abbrev pub EndsOfRenumber : List ℕ → Option (List ℕ) → Option (List ℕ) → Result ℕ CommandFault → Type 0
+EndsOfRenumber name out_old out_new end =
+    ((fault : CommandFault) × (end ≡ Err fault) × IsUnread name fault × (out_new ≡ out_old))
+    ⊎ ChangesFile Renumbers IsRenumbering RenumbersAs renumbered_line out_old out_new end
 
 -- the image was not read, and nothing was done; or its journal was given block numbers of 64 bits, and the answer is reported
-abbrev pub EndsOfWiden : List ℕ → Option (List ℕ) → Option (List ℕ) → Result ℕ Stop → Type 0
-EndsOfWiden name held holds end =
-    ((stop : Stop) × (end ≡ Err stop) × IsUnread name stop × (holds ≡ held))
-    ⊎ ChangesFile Widens IsWidened WidensAs widened_line held holds end
+abbrev pub EndsOfWiden : List ℕ → Option (List ℕ) → Option (List ℕ) → Result ℕ CommandFault → Type 0
+EndsOfWiden name out_old out_new end =
+    ((fault : CommandFault) × (end ≡ Err fault) × IsUnread name fault × (out_new ≡ out_old))
+    ⊎ ChangesFile Widens IsWidened WidensAs widened_line out_old out_new end

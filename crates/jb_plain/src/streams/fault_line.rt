@@ -1,17 +1,17 @@
-//! The line of each `Stop`.
+//! The line of each `CommandFault`.
 ghost use Rattle.std.specs.Prelude.{decimal};
 ghost use Rattle.jb_io.specs.Puts.{PutsPart};
-ghost use Rattle.jb_plain.specs.Stops.{super_line};
+ghost use Rattle.jb_plain.specs.Faults.{super_line};
 
-use crate::stop::Stop;
+use crate::fault::CommandFault;
 use crate::streams::putting::put_line;
 use itoa::Buffer;
 use jb_super::SuperFault;
 use std::io::Write;
 
-impl<'a> Stop<'a> {
+impl<'a> CommandFault<'a> {
     ghost use Rattle.jb_io.specs.Puts.{PutsPart};
-    ghost use Rattle.jb_plain.specs.Stops.{line_of};
+    ghost use Rattle.jb_plain.specs.Faults.{line_of};
 
     /// Writes the line that says why, without taking memory; a fault of the writer is ignored.
     pub fn tell<E: Write>(self, err: &mut E)
@@ -19,27 +19,27 @@ impl<'a> Stop<'a> {
     {
         let (mut first, mut second) = (Buffer::new(), Buffer::new());
         match self {
-            Stop::CannotRead(name) => put_line(err, &["jb: cannot read ", name, "\n"]),
-            Stop::TooLong(name) => put_line(err, &["jb: too long ", name, "\n"]),
-            Stop::CannotMake(name) => put_line(err, &["jb: cannot make ", name, "\n"]),
-            Stop::BadOption => put_line(err, &["jb: bad option\n"]),
-            Stop::ReadFault => put_line(err, &["jb: ReadFault\n"]),
-            Stop::Super(fault) => put_super_line(err, fault),
-            Stop::BadRevoke(place) => {
+            CommandFault::CannotRead(name) => put_line(err, &["jb: cannot read ", name, "\n"]),
+            CommandFault::TooLong(name) => put_line(err, &["jb: too long ", name, "\n"]),
+            CommandFault::CannotMake(name) => put_line(err, &["jb: cannot make ", name, "\n"]),
+            CommandFault::BadOption => put_line(err, &["jb: bad option\n"]),
+            CommandFault::ReadFault => put_line(err, &["jb: ReadFault\n"]),
+            CommandFault::Super(fault) => put_super_line(err, fault),
+            CommandFault::BadRevoke(place) => {
                 put_line(err, &["jb: BadRevoke ", first.format(place), "\n"]);
             }
-            Stop::HomeOutOfRange(home, number) => {
+            CommandFault::HomeOutOfRange(home, number) => {
                 let (home, number) = (first.format(home), second.format(number));
                 put_line(err, &["jb: HomeOutOfRange ", home, " ", number, "\n"]);
             }
-            Stop::NeedsRecovery => put_line(err, &["jb: NeedsRecovery\n"]),
-            Stop::NumbersSpent => put_line(err, &["jb: NumbersSpent\n"]),
-            Stop::BlockSize => put_line(err, &["jb: BlockSize\n"]),
-            Stop::Accounts => put_line(err, &["jb: Accounts\n"]),
-            Stop::Geometry => put_line(err, &["jb: Geometry\n"]),
-            Stop::DeviceFault => put_line(err, &["jb: DeviceFault\n"]),
-            Stop::Memory => put_line(err, &["jb: Memory\n"]),
-            Stop::WriteFault => put_line(err, &["jb: WriteFault\n"]),
+            CommandFault::NeedsRecovery => put_line(err, &["jb: NeedsRecovery\n"]),
+            CommandFault::NumbersSpent => put_line(err, &["jb: NumbersSpent\n"]),
+            CommandFault::BlockSize => put_line(err, &["jb: BlockSize\n"]),
+            CommandFault::Accounts => put_line(err, &["jb: Accounts\n"]),
+            CommandFault::Geometry => put_line(err, &["jb: Geometry\n"]),
+            CommandFault::DeviceFault => put_line(err, &["jb: DeviceFault\n"]),
+            CommandFault::Memory => put_line(err, &["jb: Memory\n"]),
+            CommandFault::WriteFault => put_line(err, &["jb: WriteFault\n"]),
         }
     }
 }

@@ -11,11 +11,11 @@ use Rattle.jb_recover.specs.declared.fault.RecoverFault.{RecoverFault}
 use Rattle.jb_recover.specs.declared.fault.RecoverFault.TheVariants as recovering
 use Rattle.jb_super.specs.declared.fault.SuperFault.{SuperFault}
 use Rattle.jb_super.specs.declared.fault.SuperFault.TheVariants as super
-use Rattle.jb_plain.specs.declared.stop.Stop.{Stop}
-use Rattle.jb_plain.specs.declared.stop.Stop.TheVariants.{CannotRead, CannotMake, BadOption, TooLong, ReadFault, Super, BadRevoke, HomeOutOfRange, NeedsRecovery, NumbersSpent, BlockSize, Accounts, Geometry, DeviceFault, Memory, WriteFault}
+use Rattle.jb_plain.specs.declared.fault.CommandFault.{CommandFault}
+use Rattle.jb_plain.specs.declared.fault.CommandFault.TheVariants.{CannotRead, CannotMake, BadOption, TooLong, ReadFault, Super, BadRevoke, HomeOutOfRange, NeedsRecovery, NumbersSpent, BlockSize, Accounts, Geometry, DeviceFault, Memory, WriteFault}
 
 -- the exit status
-abbrev pub status_of : Stop → ℕ
+abbrev pub status_of : CommandFault → ℕ
 status_of (CannotRead name) = 2
 status_of (CannotMake name) = 2
 status_of BadOption = 2
@@ -45,7 +45,7 @@ super_line (super.Feature word bits) =
     spelled (codes "jb: Super Feature " ∷ decimal word ∷ codes " " ∷ decimal bits ∷ codes "\n" ∷ [])
 
 -- the line on standard error
-abbrev pub line_of : Stop → List ℕ
+abbrev pub line_of : CommandFault → List ℕ
 line_of (CannotRead name) = spelled (codes "jb: cannot read " ∷ name.now ∷ codes "\n" ∷ [])
 line_of (CannotMake name) = spelled (codes "jb: cannot make " ∷ name.now ∷ codes "\n" ∷ [])
 line_of BadOption = spelled (codes "jb: bad option\n" ∷ [])
@@ -68,29 +68,29 @@ line_of WriteFault = spelled (codes "jb: WriteFault\n" ∷ [])
 abbrev pub not_utf8 : List ℕ
 not_utf8 = spelled (codes "error: invalid UTF-8 was detected in one or more arguments\n" ∷ [])
 
--- the stop that a fault of a dump is reported as
-abbrev pub dump_stop : DumpFault → Stop
-dump_stop dumping.ReadFault = ReadFault
-dump_stop dumping.WriteFault = WriteFault
-dump_stop (dumping.Super fault) = Super fault
-dump_stop (dumping.BadRevoke place) = BadRevoke place
-dump_stop dumping.Memory = Memory
+-- what a fault of a dump is reported as
+abbrev pub dump_fault : DumpFault → CommandFault
+dump_fault dumping.ReadFault = ReadFault
+dump_fault dumping.WriteFault = WriteFault
+dump_fault (dumping.Super fault) = Super fault
+dump_fault (dumping.BadRevoke place) = BadRevoke place
+dump_fault dumping.Memory = Memory
 
--- the stop that a fault of making a journal is reported as
-abbrev pub format_stop : FormatFault → Stop
-format_stop formatting.DeviceFault = DeviceFault
-format_stop formatting.Geometry = Geometry
+-- what a fault of making a journal is reported as
+abbrev pub format_fault : FormatFault → CommandFault
+format_fault formatting.DeviceFault = DeviceFault
+format_fault formatting.Geometry = Geometry
 
--- the stop that a fault of a recovery is reported as
-abbrev pub recover_stop : RecoverFault → Stop
-recover_stop recovering.DeviceFault = DeviceFault
-recover_stop (recovering.Super fault) = Super fault
-recover_stop (recovering.BadRevoke place) = BadRevoke place
-recover_stop (recovering.HomeOutOfRange home number) = HomeOutOfRange home number
-recover_stop recovering.Memory = Memory
+-- what a fault of a recovery is reported as
+abbrev pub recover_fault : RecoverFault → CommandFault
+recover_fault recovering.DeviceFault = DeviceFault
+recover_fault (recovering.Super fault) = Super fault
+recover_fault (recovering.BadRevoke place) = BadRevoke place
+recover_fault (recovering.HomeOutOfRange home number) = HomeOutOfRange home number
+recover_fault recovering.Memory = Memory
 
--- the stop that a fault of a change of a clean journal is reported as
-abbrev pub change_stop : ChangeFault → Stop
-change_stop changing.DeviceFault = DeviceFault
-change_stop (changing.Super fault) = Super fault
-change_stop changing.NeedsRecovery = NeedsRecovery
+-- what a fault of a change of a clean journal is reported as
+abbrev pub change_fault : ChangeFault → CommandFault
+change_fault changing.DeviceFault = DeviceFault
+change_fault (changing.Super fault) = Super fault
+change_fault changing.NeedsRecovery = NeedsRecovery

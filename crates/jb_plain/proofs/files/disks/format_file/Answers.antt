@@ -1,6 +1,6 @@
 use Rattle.std.proofs.Common.{◌∙◌, ap, inr, refl}
 use Rattle.jb_block.specs.Size.{bytes_of}
-use Rattle.jb_plain.proofs.files.images.format_image.Goals as goal
+use Rattle.jb_plain.proofs.files.disks.format_file.Goals as goal
 
 pub returns : goal.returns
 returns g c =

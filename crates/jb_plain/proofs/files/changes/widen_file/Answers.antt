@@ -1,5 +1,5 @@
 use Rattle.std.proofs.Common.{inr}
-use Rattle.jb_plain.proofs.files.changes.widen_image.Goals as goal
+use Rattle.jb_plain.proofs.files.changes.widen_file.Goals as goal
 
 pub returns : goal.returns
 returns g c = record {

@@ -1,0 +1,152 @@
+ghost use Rattle.std.specs.Prelude.{◌≡◌};
+
+use jb_dump::DumpFault;
+use jb_io::WriteFault;
+use jb_recover::{ChangeFault, FormatFault, RecoverFault};
+use jb_super::SuperFault;
+use std::alloc::AllocError;
+
+/// Why a command ends without an answer of its own.
+#[derive(Clone, Copy, Debug)]
+pub enum CommandFault<'a> {
+    /// The file of this name, or standard input for `-`, could not be opened or read.
+    CannotRead(&'a str),
+    /// The file of this name could not be made: it is there already, or the system refuses it.
+    CannotMake(&'a str),
+    /// An option has a value that it may not have.
+    BadOption,
+    /// The file of this name has more bytes than a text may have.
+    TooLong(&'a str),
+    /// A read of the journal failed.
+    ReadFault,
+    /// Journal block 0 is refused for this; `Geometry` also where there are fewer blocks than `s_maxlen`.
+    Super(SuperFault),
+    /// The block at this place of the journal, of a committed transaction, is a revoke block whose `r_count` is above the
+    /// block size.
+    BadRevoke(u64),
+    /// A copy that is not revoked is for this home block, which the image does not have; its transaction has this number.
+    HomeOutOfRange(u64, u32),
+    /// The log of the journal is not clean, and it is to be recovered first.
+    NeedsRecovery,
+    /// The journal has no number left for a transaction, and it is to be renumbered first.
+    NumbersSpent,
+    /// The block size of a queue text is not that of the image.
+    BlockSize,
+    /// The accounts of a load do not agree. This cannot happen.
+    Accounts,
+    /// The options make no journal: fewer than 9 blocks, or more than 2^31 - 1.
+    Geometry,
+    /// A call on an image that is used as a disk failed.
+    DeviceFault,
+    /// Memory ran out.
+    Memory,
+    /// Standard output could not be written.
+    WriteFault,
+}
+
+impl<'a> From<AllocError> for CommandFault<'a> {
+    ghost use Rattle.std.specs.Prelude.{◌≡◌};
+    ghost use Rattle.jb_plain.specs.declared.fault.CommandFault.TheVariants.{Memory};
+
+    ghost from_gives = { λ _ stop. stop ≡ Memory };
+
+    fn from(_: AllocError) -> CommandFault<'a> {
+        CommandFault::Memory
+    }
+}
+
+impl<'a> From<WriteFault> for CommandFault<'a> {
+    ghost use Rattle.std.specs.Prelude.{◌≡◌};
+    ghost use Rattle.jb_plain.specs.declared.fault.CommandFault.TheVariants.{WriteFault as CommandWriteFault};
+
+    ghost from_gives = { λ _ stop. stop ≡ CommandWriteFault };
+
+    fn from(_: WriteFault) -> CommandFault<'a> {
+        CommandFault::WriteFault
+    }
+}
+
+impl<'a> From<DumpFault> for CommandFault<'a> {
+    ghost use Rattle.std.specs.Prelude.{◌≡◌};
+    ghost use Rattle.jb_plain.specs.Faults.{dump_fault};
+
+    ghost from_gives = { λ fault stop. stop ≡ dump_fault fault };
+
+    fn from(fault: DumpFault) -> CommandFault<'a> {
+        match fault {
+            DumpFault::ReadFault => CommandFault::ReadFault,
+            DumpFault::WriteFault => CommandFault::WriteFault,
+            DumpFault::Super(fault) => CommandFault::Super(fault),
+            DumpFault::BadRevoke(place) => CommandFault::BadRevoke(place),
+            DumpFault::Memory => CommandFault::Memory,
+        }
+    }
+}
+
+impl<'a> From<FormatFault> for CommandFault<'a> {
+    ghost use Rattle.std.specs.Prelude.{◌≡◌};
+    ghost use Rattle.jb_plain.specs.Faults.{format_fault};
+
+    ghost from_gives = { λ fault stop. stop ≡ format_fault fault };
+
+    fn from(fault: FormatFault) -> CommandFault<'a> {
+        match fault {
+            FormatFault::DeviceFault => CommandFault::DeviceFault,
+            FormatFault::Geometry => CommandFault::Geometry,
+        }
+    }
+}
+
+impl<'a> From<RecoverFault> for CommandFault<'a> {
+    ghost use Rattle.std.specs.Prelude.{◌≡◌};
+    ghost use Rattle.jb_plain.specs.Faults.{recover_fault};
+
+    ghost from_gives = { λ fault stop. stop ≡ recover_fault fault };
+
+    fn from(fault: RecoverFault) -> CommandFault<'a> {
+        match fault {
+            RecoverFault::DeviceFault => CommandFault::DeviceFault,
+            RecoverFault::Super(fault) => CommandFault::Super(fault),
+            RecoverFault::BadRevoke(place) => CommandFault::BadRevoke(place),
+            RecoverFault::HomeOutOfRange(home, number) => CommandFault::HomeOutOfRange(
+                home, number,
+            ),
+            RecoverFault::Memory => CommandFault::Memory,
+        }
+    }
+}
+
+impl<'a> From<ChangeFault> for CommandFault<'a> {
+    ghost use Rattle.std.specs.Prelude.{◌≡◌};
+    ghost use Rattle.jb_plain.specs.Faults.{change_fault};
+
+    ghost from_gives = { λ fault stop. stop ≡ change_fault fault };
+
+    fn from(fault: ChangeFault) -> CommandFault<'a> {
+        match fault {
+            ChangeFault::DeviceFault => CommandFault::DeviceFault,
+            ChangeFault::Super(fault) => CommandFault::Super(fault),
+            ChangeFault::NeedsRecovery => CommandFault::NeedsRecovery,
+        }
+    }
+}
+
+impl<'a> CommandFault<'a> {
+    ghost use Rattle.jb_plain.specs.Faults.{status_of};
+
+    /// The program's exit status: 2 where an option or a file was the reason, else 1.
+    pub fn status(self) -> u8
+        ensures value { result ≡ status_of self.entry }
+    {
+        match self {
+            CommandFault::CannotRead(_) | CommandFault::TooLong(_) => 2,
+            CommandFault::CannotMake(_) | CommandFault::BadOption => 2,
+            CommandFault::ReadFault | CommandFault::Super(_) | CommandFault::BadRevoke(_) => 1,
+            CommandFault::HomeOutOfRange(_, _)
+            | CommandFault::NeedsRecovery
+            | CommandFault::NumbersSpent => 1,
+            CommandFault::BlockSize | CommandFault::Accounts | CommandFault::Geometry => 1,
+            CommandFault::DeviceFault | CommandFault::Memory | CommandFault::WriteFault => 1,
+        }
+    }
+}
