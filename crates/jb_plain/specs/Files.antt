@@ -33,7 +33,7 @@ pub record FormatsFile (o : Options) (out_old out_new : Option (List ℕ)) (end 
   pub uuid : List ℕ
   pub size : bytes_of (size_of old) ≡ o.bs
   pub digits : decode_of o.uuid ≡ Ok uuid
-  pub formats : FormatsOn (λ (f : FileDisk). bytes_of (size_of f)) count_of faults_of (λ _. ⊥) (λ _. []) (λ _ _. ⊥) o.journal o.max uuid o.wide old new out_old out_new end
+  pub formats : FormatsOn (λ (f : FileDisk). bytes_of (size_of f)) count_of faults_of (λ _. ⊥) (λ _. []) (λ _ _. ⊥) (λ _. 0) (λ _ _ _. ⊥) o.journal o.max uuid o.wide old new out_old out_new end
 
 -- the file was not made, and nothing was done; or the journal was made in it, and the answer is reported
 abbrev pub EndsOfFormat : List ℕ → Options → Option (List ℕ) → Option (List ℕ) → Result ℕ CommandFault → Type 0

@@ -2,6 +2,7 @@
 use Rattle.std.specs.Prelude.{◌≡◌, ◌↔◌, ℕ, Bool, List, [], ◌∷◌, Option, Result, Ok, Err, OnOk, codes, decimal, set}
 use Rattle.jb_disk.specs.Image.{Image, Only, Torn}
 use Rattle.jb_disk.specs.Kept.{Kept}
+use Rattle.jb_disk.specs.Steps.{Steps}
 use Rattle.jb_io.specs.Parts.{spelled}
 use Rattle.jb_front.specs.Formatted.{FormatFaults, HasRoom, new_block}
 use Rattle.jb_front.specs.declared.fault.FormatFault.{FormatFault}
@@ -22,9 +23,10 @@ abbrev pub TellsFormat : ℕ → Result Unit FormatFault → Option (List ℕ) �
 TellsFormat limit (Ok made) out_old out_new end = TellsLine (formatted_line limit) out_old out_new end
 TellsFormat limit (Err fault) out_old out_new end = (end ≡ Err (format_fault fault)) × (out_new ≡ out_old)
 
--- a journal of so many blocks, with block numbers of 64 bits or of 32, was made on the disk, as the clauses of its making say of the answer, and that answer is reported
+-- a journal of so many blocks, with block numbers of 64 bits or of 32, was made on the disk, as the clauses of its making say of the answer, and that answer
+-- is reported; a crash in its midst leaves what the disk might have left, with some new sectors of block 0
 pub record FormatsOn {D : Type 0} (size count faults : D → ℕ) (honest : D → Type 0) (newest : D → Image) (may_leave : D → Image → Type 0)
-    (journal most : ℕ) (uuid : List ℕ) (wide : Bool) (old new : D) (out_old out_new : Option (List ℕ)) (end : Result ℕ CommandFault) : Type 0 where
+    (moment : D → ℕ) (left_since : D → ℕ → Image → Type 0) (journal most : ℕ) (uuid : List ℕ) (wide : Bool) (old new : D) (out_old out_new : Option (List ℕ)) (end : Result ℕ CommandFault) : Type 0 where
   pub answer : Result Unit FormatFault
   pub room : (answer ≡ Err NoGeometry) ↔ (HasRoom journal (count old) → ⊥)
   pub untouched : answer ≡ Err NoGeometry → new ≡ old
@@ -32,5 +34,6 @@ pub record FormatsOn {D : Type 0} (size count faults : D → ℕ) (honest : D �
   pub fault_count : FormatFaults answer (faults old) (faults new)
   pub written : honest old → OnOk answer (newest new ≡ set (newest old) 0 (new_block wide (size old) journal most uuid))
   pub torn : honest old → Torn 0 (new_block wide (size old) journal most uuid) (newest old) (newest new)
+  pub steps : honest old → Steps may_leave moment left_since (Torn 0 (new_block wide (size old) journal most uuid)) old new
   pub durable : honest old → OnOk answer (Only (newest new) (may_leave new))
   pub told : TellsFormat (limit_of (of_width wide (new_super (size old) journal most uuid))) answer out_old out_new end

@@ -1,5 +1,6 @@
 -- What a whole run did: what it took from its input, what it wrote, and how it ended.
-use Rattle.std.specs.Prelude.{◌≡◌, ◌⊎◌, ℕ, List, Option, Some, None, Result, Ok, Err}
+use Rattle.std.specs.Prelude.{◌≡◌, ◌⊎◌, ℕ, Bool, false, List, Option, Some, None, Result, Ok, Err, codes}
+use Rattle.std.specs.Str.{bytes_eq}
 use Rattle.jb_io.specs.Puts.{PutsPart}
 use Rattle.jb_words.specs.Named.{Asked}
 use Rattle.jb_words.specs.Named.Asked.{AsksCheck, AsksCost, AsksDump, AsksFormat, AsksPlan, AsksRecover, AsksRenumber, AsksWiden}
@@ -36,6 +37,12 @@ abbrev pub Closes : Result ℕ CommandFault → Outputs → Outputs → ℕ → 
 Closes (Ok told) old new status = (status ≡ told) × (new ≡ old)
 Closes (Err fault) old new status =
     (status ≡ status_of fault) × (new.out ≡ old.out) × PutsPart old.err new.err (line_of fault)
+
+-- whether a command reads standard input: as the text after `-`, and for nothing else
+abbrev pub reads_input : Asked → Bool
+reads_input (AsksCost file) = bytes_eq file (codes "-")
+reads_input (AsksPlan file) = bytes_eq file (codes "-")
+reads_input _ = false
 
 -- how the command that the words ask for ends
 abbrev pub EndsAsked : Asked → Option (List ℕ) → Outputs → Outputs → Result ℕ CommandFault → Type 0

@@ -1,5 +1,5 @@
 -- What is known of the two outputs once a command has said what it had to say.
-use Rattle.std.specs.Prelude.{◌≡◌, ℕ, List, Option, Result, Ok, Err}
+use Rattle.std.specs.Prelude.{◌≡◌, ◌≢◌, ℕ, List, [], Option, Result, Ok, Err}
 use Rattle.std.specs.Io.KnownBytes.{Appends}
 use Rattle.jb_answers.specs.Said.{Said}
 use Rattle.jb_io.specs.Puts.{PutsPart}
@@ -11,11 +11,12 @@ pub record Outputs : Type 0 where
   pub out : Option (List ℕ)
   pub err : Option (List ℕ)
 
--- all of it is on standard output, and on standard error as much as that took; or standard output failed part of the way
+-- all of it is on standard output, and on standard error as much as that took; or standard output, for which there was
+-- something, failed part of the way
 abbrev pub Tells : Said → Outputs → Outputs → Result ℕ CommandFault → Type 0
 Tells words old new (Ok status) =
     (status ≡ words.status) × Appends old.out new.out words.out × PutsPart old.err new.err words.err
-Tells words old new (Err WriteFault) = PutsPart old.out new.out words.out × (new.err ≡ old.err)
+Tells words old new (Err WriteFault) = (words.out ≢ []) × PutsPart old.out new.out words.out × (new.err ≡ old.err)
 Tells words old new (Err _) = ⊥
 
 -- the line is on standard output, with status 0; or standard output failed part of the way

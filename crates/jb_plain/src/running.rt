@@ -1,7 +1,7 @@
-ghost use Rattle.std.specs.Prelude.{ℕ, List, Option};
+ghost use Rattle.std.specs.Prelude.{◌≡◌, ℕ, List, Option, false};
 ghost use Rattle.jb_words.specs.Named.{asks};
 ghost use Rattle.jb_answers.specs.Check.{CheckSays};
-ghost use Rattle.jb_plain.specs.Runs.{Closes, EndsAsked, EndsOfTwo, Runs};
+ghost use Rattle.jb_plain.specs.Runs.{Closes, EndsAsked, EndsOfTwo, Runs, reads_input};
 
 use crate::fault::CommandFault;
 use crate::files::{
@@ -15,7 +15,7 @@ use std::fs::File;
 use std::io::{Read, Write};
 use std::rt::Files;
 
-/// Runs a command: reads its files, or `input` for `-`, and writes what it has to say.
+/// Runs a command: reads its files, or `input` for `-` and for nothing else, and writes what it has to say.
 ///
 /// # Errors
 /// The reason where the command ends without an answer; nothing was written then, but for `CommandFault::WriteFault`.
@@ -29,6 +29,7 @@ pub fn perform<'a, R: Files<File = File> + AllocGlobal, I: Read, O: Write, E: Wr
     ensures ends { EndsAsked (asks plain.entry) (I.remaining input.old)
         (record { out = O.contents out.old; err = E.contents err.old })
         (record { out = O.contents out.new; err = E.contents err.new }) result }
+    ensures unread { reads_input (asks plain.entry) ≡ false → input.new ≡ input.old }
 {
     match plain {
         Plain::Cost { file } => {
@@ -87,6 +88,7 @@ pub fn run_plain<R: Files<File = File> + AllocGlobal, I: Read, O: Write, E: Writ
     ensures runs { Runs (asks plain.entry) (I.remaining input.old)
         (record { out = O.contents out.old; err = E.contents err.old })
         (record { out = O.contents out.new; err = E.contents err.new }) result }
+    ensures unread { reads_input (asks plain.entry) ≡ false → input.new ≡ input.old }
 {
     let end = perform(rt, plain, input, out, err);
     close(end, err)

@@ -1,11 +1,12 @@
 -- The handles of a queue, read line by line.
 use Rattle.std.proofs.Common.{◌≡◌, ◌∙◌, sym, ap, ℕ, suc, ◌+◌, ◌≤◌, List, [], ◌∷◌, ◌++◌, length, length-append, arith, refl, Result, Ok, Err}
+use Rattle.std.proofs.lemmas.List.{append_assoc}
 use Rattle.jb_queue.specs.declared.fault.Cause.{Cause}
 use Rattle.jb_queue.specs.declared.fault.Cause.TheVariants.{BlockSizeLine, LimitLine, HandleLine, OpWord, DataWord, Memory}
 use Rattle.jb_queue.specs.declared.fault.QueueFault.{QueueFault}
 use Rattle.jb_handle.specs.declared.stopped.Stopped.{Stopped}
 use Rattle.jb_text.specs.Parts.{lines, FirstLine}
-use Rattle.jb_queue.specs.Queue.{Gives, Reports, handle_of, after_lines}
+use Rattle.jb_queue.specs.Queue.{Gives, Reports, BeginsHandle, MayGrow, handle_of, after_lines}
 use Rattle.jb_handle.specs.Word.{WordMap}
 
 pub lines-goes : (size : ℕ) (had : List Stopped) (line : List ℕ) (more : List (List ℕ)) (left : WordMap) → handle_of size line ≡ Ok left → after_lines size had (line ∷ more) ≡ after_lines size (had ++ record { ticket = length had; words = left } ∷ []) more
@@ -58,37 +59,47 @@ module _ (size : ℕ) (had : List Stopped) (rest line behind : List ℕ) (whole 
   line-first : (other : QueueFault) → whole ≡ Err other → at + 3 ≤ other.line
   line-first other fails = let later = lines-later size had (lines rest) other (so_far ∙ fails) in omega (arith, later, is)
 
-  -- a line that is a handle's is not what is wrong with the whole
-  line-clear : (h : Result WordMap Cause) → handle_of size line ≡ h → (h ≡ Err HandleLine → ⊥) → (other : QueueFault) → whole ≡ Err other → other ≡ record { line = at + 3; cause = HandleLine } → ⊥
-  line-clear (Ok left) given clear other fails same =
-      let now = had ++ record { ticket = length had; words = left } ∷ [] in
-      let later = lines-later size now (lines behind) other (sym (lines-goes size had line (lines behind) left given) ∙ from_line ∙ fails) in
-      let here : other.line ≡ at + 3 = ap (λ f. f.line) same in
-      omega (arith, later, here, is, length-append had (record { ticket = length had; words = left } ∷ []))
-  line-clear (Err cause) given clear other fails same =
-      let both : ◌≡◌ {A = Result (List Stopped) QueueFault} (Err (record { line = at + 3; cause = cause })) (Err other) = sym (line-fails cause given) ∙ fails in
-      let one : ◌≡◌ {A = QueueFault} (record { line = at + 3; cause = cause }) other = cc in
-      let bad : cause ≡ HandleLine = ap (λ f. f.cause) (one ∙ same) in
-      clear (ap Err bad)
-
-  -- `Memory` at a line that is a handle's
-  pub line-full : (h : Result WordMap Cause) → handle_of size line ≡ h → (h ≡ Err HandleLine → ⊥) → Reports whole (record { line = at + 3; cause = Memory })
-  line-full h given clear = λ other fails. (line-first other fails, line-clear h given clear other fails)
+  -- `Memory` at a line
+  pub line-full : Reports whole (record { line = at + 3; cause = Memory })
+  line-full = line-first
 
   -- a fault of a line is the first of the whole
-  pub line-reports : (cause : Cause) → Gives {A = WordMap} (Err cause) (handle_of size line) → (cause ≡ Memory → handle_of size line ≡ Err HandleLine → ⊥) → Reports whole (record { line = at + 3; cause = cause })
-  line-reports BlockSizeLine given clear = line-fails BlockSizeLine given
-  line-reports LimitLine given clear = line-fails LimitLine given
-  line-reports HandleLine given clear = line-fails HandleLine given
-  line-reports OpWord given clear = line-fails OpWord given
-  line-reports DataWord given clear = line-fails DataWord given
-  line-reports Memory given clear = line-full (handle_of size line) refl (clear refl)
+  pub line-reports : (cause : Cause) → Gives {A = WordMap} (Err cause) (handle_of size line) → Reports whole (record { line = at + 3; cause = cause })
+  line-reports BlockSizeLine given = line-fails BlockSizeLine given
+  line-reports LimitLine given = line-fails LimitLine given
+  line-reports HandleLine given = line-fails HandleLine given
+  line-reports OpWord given = line-fails OpWord given
+  line-reports DataWord given = line-fails DataWord given
+  line-reports Memory given = line-full
 
-module _ (had : List Stopped) (rest line behind : List ℕ) (first : FirstLine rest line behind) where
+-- of all lines some were read, so many
+pub record ArePassed (all left : List (List ℕ)) (n : ℕ) : Type 0 where
+  pub earlier : List (List ℕ)
+  pub parts : all ≡ earlier ++ left
+  pub count : length earlier ≡ n
+
+pub passed-none : (all : List (List ℕ)) → ArePassed all all 0
+passed-none all = record { earlier = []; parts = refl; count = refl }
+
+module _ (had : List Stopped) (rest line behind : List ℕ) (first : FirstLine rest line behind) (all : List (List ℕ)) (passed : ArePassed all (lines rest) (length had)) where
+  from_parts : all ≡ passed.earlier ++ line ∷ lines behind
+  from_parts = passed.parts ∙ ap (λ ls. passed.earlier ++ ls) first.parts
+
   -- a handle more is a line fewer
-  pub line-count : (now : List Stopped) (handle : Stopped) → now ≡ had ++ handle ∷ [] → (all : ℕ) → length had + length (lines rest) ≡ all → length now + length (lines behind) ≡ all
-  line-count now handle pushed all count = omega (arith, ap length first.parts, ap length pushed, length-append had (handle ∷ []))
+  pub passed-line : (now : List Stopped) (handle : Stopped) → now ≡ had ++ handle ∷ [] → ArePassed all (lines behind) (length now)
+  passed-line now handle pushed = record {
+    earlier = passed.earlier ++ line ∷ [];
+    parts = from_parts ∙ sym (append_assoc passed.earlier (line ∷ []) (lines behind));
+    count = omega (arith, passed.count, length-append passed.earlier (line ∷ []), ap length pushed, length-append had (handle ∷ []));
+  }
 
-  -- the line that is read is one of the text's
-  pub line-within : (at : ℕ) → at ≡ length had → (all : ℕ) → length had + length (lines rest) ≡ all → (3 ≤ at + 3) × (at + 3 ≤ all + 2)
-  line-within at is all count = let one : length (lines rest) ≡ suc (length (lines behind)) = ap length first.parts in (omega arith, omega (arith, one))
+  -- memory may run out at a line that begins as a handle's
+  pub may-grow : (size at : ℕ) → at ≡ length had → BeginsHandle size line → MayGrow size all (at + 3)
+  may-grow size at is begins = record {
+    earlier = passed.earlier;
+    line = line;
+    later = lines behind;
+    parts = from_parts;
+    here = omega (arith, passed.count, is);
+    begins = begins;
+  }

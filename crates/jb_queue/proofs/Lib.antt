@@ -1,4 +1,5 @@
 pub mod Clear
+pub mod Data
 pub mod FaultyLines
 pub mod FaultyOps
 pub mod FaultyText

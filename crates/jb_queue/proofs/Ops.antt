@@ -1,5 +1,6 @@
 -- The words of a handle, read one by one.
-use Rattle.std.proofs.Common.{◌≡◌, ◌∙◌, sym, ap, ℕ, List, [], ◌∷◌, refl, Option, Some, None, Result, Ok, Err, Bool, true, false, if◌then◌else◌}
+use Rattle.std.proofs.Common.{◌≡◌, ◌∙◌, sym, ap, ℕ, List, [], ◌∷◌, refl, Option, Some, None, Result, Ok, Err, IsOk, Bool, true, false, if◌then◌else◌, ◌==◌}
+use Rattle.std.proofs.lemmas.Bool.{eqb-true}
 use Rattle.std.specs.Borrow.{Bor}
 use Rattle.std.specs.Option.{option_copied}
 use Rattle.std.specs.FinMap as map
@@ -7,7 +8,7 @@ use Rattle.jb_queue.specs.declared.fault.Cause.{Cause}
 use Rattle.jb_queue.specs.declared.fault.Cause.TheVariants.{BlockSizeLine, LimitLine, HandleLine, OpWord, DataWord, Memory}
 use Rattle.jb_handle.specs.declared.word.Word.{Word}
 use Rattle.jb_text.specs.Parts.{words, words_in}
-use Rattle.jb_queue.specs.Queue.{Gives, op_of, after_ops}
+use Rattle.jb_queue.specs.Queue.{Gives, FirstReads, BeginsHandle, op_of, after_ops, behind_h, handle_of}
 use Rattle.jb_handle.specs.Word.{WordMap}
 
 pub ops-goes : (size : ℕ) (had : WordMap) (text : List ℕ) (texts : List (List ℕ)) (op : ℕ × Word) → op_of size text ≡ Ok op → after_ops size had (text ∷ texts) ≡ after_ops size (map.insert had op.0 op.1) texts
@@ -52,3 +53,34 @@ ops-whole size had (Some text) whole ended so_far = absurd (ended text refl)
 pub tested : (test : Bool) (cause : Cause) (x : Result WordMap Cause) (now : WordMap) → (if test then x else Err cause) ≡ Ok now → (test ≡ true) × (x ≡ Ok now)
 tested true cause x now is = (refl, is)
 tested false cause x now is = cc
+
+-- the first of the words that are left is of the form
+pub first-here : (size : ℕ) (rest : Option (Bor (List ℕ))) (text : Bor (List ℕ)) (word : List ℕ) (behind : List (List ℕ)) → rest ≡ Some text → words text.now ≡ word ∷ behind → IsOk (op_of size word) → FirstReads size (words_in (option_copied rest))
+first-here size rest text word behind is parts reads = rw (is, parts) reads
+
+pub first-read : (size : ℕ) (rest : Option (Bor (List ℕ))) (text : Bor (List ℕ)) (word : List ℕ) (behind : List (List ℕ)) (op : ℕ × Word) → rest ≡ Some text → words text.now ≡ word ∷ behind → op_of size word ≡ Ok op → FirstReads size (words_in (option_copied rest))
+first-read size rest text word behind op is parts read = first-here size rest text word behind is parts (rw read refl)
+
+-- where none is left there is no first
+pub first-none : (size : ℕ) (rest : Option (Bor (List ℕ))) → ((text : Bor (List ℕ)) → rest ≡ Some text → ⊥) → FirstReads size (words_in (option_copied rest))
+first-none size None ended = tt
+first-none size (Some text) ended = absurd (ended text refl)
+
+-- words that are read begin with one of the form
+first-case : (size : ℕ) (had : WordMap) (text : List ℕ) (texts : List (List ℕ)) (now : WordMap) (op : Result (ℕ × Word) Cause) → op_of size text ≡ op → after_ops size had (text ∷ texts) ≡ Ok now → IsOk op
+first-case size had text texts now (Ok op) is reads = refl
+first-case size had text texts now (Err cause) is reads =
+    let never : ◌≡◌ {A = Result WordMap Cause} (Err cause) (Ok now) = sym (ops-fails size had text texts cause is) ∙ reads in cc
+
+ops-first : (size : ℕ) (had : WordMap) (texts : List (List ℕ)) (now : WordMap) → after_ops size had texts ≡ Ok now → FirstReads size texts
+ops-first size had [] now reads = tt
+ops-first size had (text ∷ texts) now reads = first-case size had text texts now (op_of size text) refl reads
+
+-- a line that is read begins as a handle's
+pub line-begins : (size : ℕ) (line : List ℕ) (now : WordMap) → handle_of size line ≡ Ok now → BeginsHandle size line
+line-begins size [] now reads = cc
+line-begins size (b ∷ []) now reads = (eqb-true b 104 (tested (b == 104) HandleLine (Ok map.empty) now reads).0, tt)
+line-begins size (b ∷ c ∷ text) now reads =
+    let handle = tested (b == 104) HandleLine (behind_h size (c ∷ text)) now reads in
+    let ops = tested (c == 32) HandleLine (after_ops size map.empty (words text)) now handle.1 in
+    (eqb-true b 104 handle.0, (eqb-true c 32 ops.0, ops-first size map.empty (words text) now ops.1))

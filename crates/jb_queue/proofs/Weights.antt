@@ -115,11 +115,7 @@ after-first {A = A} rest (Some y) x more is =
     let pair : ◌≡◌ {A = A × List (List ℕ)} (x, more) (y, rest) = cc in
     ap (λ (p : A × List (List ℕ)). p.1) pair
 
--- they are one fewer, and no longer than all
-pub first-length : {A : Type 0} (read : List ℕ → Option A) (pieces : List (List ℕ)) (x : A) (more : List (List ℕ)) → ◌≡◌ {A = Option (A × List (List ℕ))} (Some (x, more)) (first_of read pieces) → length pieces ≡ length more + 1
-first-length read [] x more is = cc
-first-length read (line ∷ rest) x more is = let all : length more ≡ length rest = ap length (after-first rest (read line) x more is) in omega (arith, all)
-
+-- they are no longer than all
 pub first-total : {A : Type 0} (read : List ℕ → Option A) (pieces : List (List ℕ)) (x : A) (more : List (List ℕ)) → ◌≡◌ {A = Option (A × List (List ℕ))} (Some (x, more)) (first_of read pieces) → total more ≤ total pieces
 first-total read [] x more is = cc
 first-total read (line ∷ rest) x more is = omega (arith, ap total (after-first rest (read line) x more is))

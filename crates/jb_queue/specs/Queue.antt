@@ -1,5 +1,5 @@
 -- What the text of a queue says, step by step: its lines from the first on, and the words of a line from the left.
-use Rattle.std.specs.Prelude.{◌≡◌, ℕ, ◌+◌, ◌≤◌, ◌==◌, ◌&&◌, nat_lt, nat_le, Bool, if◌then◌else◌, List, [], ◌∷◌, ◌++◌, length, codes, Option, Some, None, Result, Ok, Err}
+use Rattle.std.specs.Prelude.{◌≡◌, ℕ, ◌+◌, ◌≤◌, ◌==◌, ◌&&◌, nat_lt, nat_le, Bool, if◌then◌else◌, List, [], ◌∷◌, ◌++◌, length, codes, Option, Some, None, Result, Ok, Err, IsOk}
 use Rattle.std.specs.Option.{option_and_then}
 use Rattle.std.specs.Str.{bytes_eq}
 use Rattle.std.specs.FinMap as map
@@ -139,10 +139,43 @@ Gives (Ok x) read = read ≡ Ok x
 Gives (Err Memory) read = Unit {0}
 Gives (Err cause) read = read ≡ Err cause
 
--- a fault is the first one of a text; `Memory` at a line says that no line before it has a fault, and that it is a
--- handle's, which is judged before anything grows
+-- the first of some words, if there is one, is of the form
+abbrev pub FirstReads : ℕ → List (List ℕ) → Type 0
+FirstReads size [] = Unit {0}
+FirstReads size (text ∷ texts) = IsOk (op_of size text)
+
+-- after the `h` of a line comes nothing, or a space and a first word of the form
+abbrev pub BeginsBehind : ℕ → List ℕ → Type 0
+BeginsBehind size [] = Unit {0}
+BeginsBehind size (b ∷ rest) = (b ≡ 32) × FirstReads size (words rest)
+
+-- what is judged of a line before anything grows for it: that it is a handle's, and its first word
+abbrev pub BeginsHandle : ℕ → List ℕ → Type 0
+BeginsHandle size [] = ⊥
+BeginsHandle size (b ∷ rest) = (b ≡ 104) × BeginsBehind size rest
+
+-- memory may run out at a line of the handles', the first of which is line 3: it begins as a handle's
+pub record MayGrow (size : ℕ) (all : List (List ℕ)) (at : ℕ) : Type 0 where
+  pub earlier : List (List ℕ)
+  pub line : List ℕ
+  pub later : List (List ℕ)
+  pub parts : all ≡ earlier ++ line ∷ later
+  pub here : at ≡ length earlier + 3
+  pub begins : BeginsHandle size line
+
+-- the same of a text, whose first two lines are of the form
+pub record MayGrowAt (text : List ℕ) (at : ℕ) : Type 0 where
+  pub format : BlockSize × Width
+  pub limit : ℕ
+  pub second : List (List ℕ)
+  pub third : List (List ℕ)
+  pub formatted : first_of format_of (lines text) ≡ Some (format, second)
+  pub limited : first_of limit_of second ≡ Some (limit, third)
+  pub grows : MayGrow (bytes_of format.0) third at
+
+-- a fault is the first one of a text; `Memory` at a line says that no line before it has a fault
 abbrev pub ReportsBy : {A : Type 0} → Result A QueueFault → ℕ → Cause → Type 0
-ReportsBy read at Memory = (other : QueueFault) → read ≡ Err other → (at ≤ other.line) × (other ≡ record { line = at; cause = HandleLine } → ⊥)
+ReportsBy read at Memory = (other : QueueFault) → read ≡ Err other → at ≤ other.line
 ReportsBy read at cause = read ≡ Err (record { line = at; cause = cause })
 
 abbrev pub Reports : {A : Type 0} → Result A QueueFault → QueueFault → Type 0

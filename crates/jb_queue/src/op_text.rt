@@ -1,20 +1,25 @@
 //! One word of a queue text: `w5`, `w5=c03b`, `r5`.
 
-ghost use Rattle.std.specs.Prelude.{◌≡◌};
+ghost use Rattle.std.specs.Prelude.{◌≡◌, ◌<◌, ◌≤◌, ◌/◌, length, IsOk, Err};
+ghost use Rattle.hex.specs.Hex.{decode_of};
 ghost use Rattle.jb_block.specs.Size.{bytes_of};
-ghost use Rattle.jb_queue.specs.Queue.{Gives, home_named, data_of, op_of};
+ghost use Rattle.jb_queue.specs.declared.fault.Cause.TheVariants.{Memory as OutOfMemory};
+ghost use Rattle.jb_queue.specs.Queue.{Gives, home_named, data_of, fitting, op_of};
 
 use crate::fault::Cause;
-use hex::FromHexError;
 use jb_block::BlockSize;
 use jb_handle::{Payload, Word};
 use jb_text::{number, part};
 use std::alloc::Global;
 
+/// The most bytes that a block has.
+const MOST: usize = 4096;
+
 /// The home block that a word of a handle's line names, and the word that it leaves there; or the cause for
-/// which it is no such word.
+/// which it is no such word. The whole word is judged before a copy of its bytes is kept.
 pub fn read_op(alloc: Global, text: &[u8], bs: BlockSize) -> Result<(u64, Word), Cause>
-    ensures { Gives result (op_of (bytes_of bs) text.now) }
+    ensures gives { Gives result (op_of (bytes_of bs) text.now) }
+    ensures judged { result ≡ Err OutOfMemory → IsOk (op_of (bytes_of bs) text.now) }
 {
     match text {
         [b'w', rest @ ..] => {
@@ -33,7 +38,7 @@ pub fn read_op(alloc: Global, text: &[u8], bs: BlockSize) -> Result<(u64, Word),
 
 /// The home block that digits name.
 fn read_home(digits: &[u8]) -> Result<u64, Cause>
-    ensures { Gives result (home_named digits.now) }
+    ensures { result ≡ home_named digits.now }
 {
     match number(digits) {
         Some(home) => Ok(home),
@@ -43,20 +48,40 @@ fn read_home(digits: &[u8]) -> Result<u64, Cause>
 
 /// The block that the part of a word from its `=` on writes; zeros where the word has none.
 fn read_payload(alloc: Global, text: &[u8], bs: BlockSize) -> Result<Payload, Cause>
-    ensures { Gives result (data_of (bytes_of bs) text.now) }
+    ensures gives { Gives result (data_of (bytes_of bs) text.now) }
+    ensures judged { result ≡ Err OutOfMemory → IsOk (data_of (bytes_of bs) text.now) }
 {
     let size = bs.bytes() as usize;
     let [_, digits @ ..] = text else {
         return Ok(Payload::padded(Vec::new(alloc), size));
     };
-    match hex::decode(alloc, digits) {
-        Ok(bytes) => {
-            if bytes.is_empty() || bytes.len() > size {
-                return Err(Cause::DataWord);
-            }
-            Ok(Payload::padded(bytes, size))
-        }
-        Err(FromHexError::OutOfMemory) => Err(Cause::Memory),
-        Err(_) => Err(Cause::DataWord),
+    let len = digits.len() / 2;
+    if len == 0 || len > size {
+        return Err(Cause::DataWord);
     }
+    let mut most = [0; MOST];
+    read_digits(alloc, digits, &mut most[..len], size)
+}
+
+/// A block of `size` bytes that begins with those of digits, for which there is room in `front`: a copy of them is
+/// kept where all are digits.
+fn read_digits(
+    alloc: Global,
+    digits: &[u8],
+    front: &mut [u8],
+    size: usize,
+) -> Result<Payload, Cause>
+    requires some { 0 < length front.old }
+    requires within { length front.old ≤ size }
+    requires half { length digits.now / 2 ≡ length front.old }
+    ensures gives { Gives result (fitting size (decode_of digits.now)) }
+    ensures judged { result ≡ Err OutOfMemory → IsOk (fitting size (decode_of digits.now)) }
+{
+    if hex::decode_to_slice(digits, front).is_err() {
+        return Err(Cause::DataWord);
+    }
+    let Ok(bytes) = front.to_vec(alloc) else {
+        return Err(Cause::Memory);
+    };
+    Ok(Payload::padded(bytes, size))
 }

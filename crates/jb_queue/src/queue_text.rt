@@ -1,14 +1,14 @@
 //! The text of a queue: `bs 1024` or `bs 1024 wide`, `limit 7`, and a line of words for each handle, as `h w1 w2 r3`.
 
-ghost use Rattle.std.specs.Prelude.{◌≡◌, ◌*◌, ◌+◌, ◌≤◌, [], length, IfOk, IfErr, Ok, Err, codes, option_map};
+ghost use Rattle.std.specs.Prelude.{◌≡◌, ◌*◌, ◌+◌, ◌≤◌, [], length, IfOk, IfErr, Ok, Err, option_map};
 ghost use Rattle.std.specs.FinMap as map;
 ghost use Rattle.std.specs.Option.{option_and_then};
 ghost use Rattle.jb_block.specs.Size.{bytes_of};
-ghost use Rattle.jb_queue.specs.declared.fault.Cause.TheVariants.{HandleLine as NoHandleLine, Memory as OutOfMemory};
+ghost use Rattle.jb_queue.specs.declared.fault.Cause.TheVariants.{Memory as OutOfMemory};
 ghost use Rattle.jb_text.specs.Parts.{first_of, lines, number_of, words};
 ghost use Rattle.jb_handle.specs.Size.{weight};
 ghost use Rattle.jb_queue.specs.QueueText.{value_of};
-ghost use Rattle.jb_queue.specs.Queue.{Gives, Reports, after_ops, handle_of, queue_of, after_lines, format_behind, format_of, limit_of, size_of_bytes, width_behind};
+ghost use Rattle.jb_queue.specs.Queue.{Gives, Reports, BeginsHandle, FirstReads, MayGrow, MayGrowAt, after_ops, handle_of, queue_of, after_lines, format_behind, format_of, limit_of, size_of_bytes, width_behind};
 
 use crate::fault::{Cause, QueueFault};
 use crate::op_text::read_op;
@@ -36,12 +36,12 @@ pub struct QueueText {
 ///
 /// # Errors
 ///
-/// The first line that is not of the form, and what is wrong with it. `Memory` at a handle's line says that a
-/// memory ran out there, and that all lines before it are of the form.
+/// The first line that is not of the form, and what is wrong with it. `Memory` at a handle's line says that
+/// memory ran out there, and that all lines before it, and its first word, are of the form.
 pub fn read_queue(alloc: Global, text: &[u8]) -> Result<QueueText, QueueFault>
     ensures ok { IfOk result (λ queue. queue_of text.now ≡ Ok (value_of queue)) }
     ensures err { IfErr result (Reports (queue_of text.now)) }
-    ensures memory { IfErr result (λ fault. fault.cause ≡ OutOfMemory → (3 ≤ fault.line) × (fault.line ≤ length (lines text.now))) }
+    ensures memory { IfErr result (λ fault. fault.cause ≡ OutOfMemory → MayGrowAt text.now fault.line) }
     ensures within { IfOk result (λ queue. 2 * weight queue.handles.items ≤ length text.now + 1) }
 {
     let Some(((bs, width), text)) = first_format(text) else {
@@ -133,7 +133,7 @@ fn read_limit(line: &[u8]) -> Option<u32>
 fn read_handles(alloc: Global, text: &[u8], bs: BlockSize) -> Result<Vec<Stopped>, QueueFault>
     ensures ok { IfOk result (λ handles. after_lines (bytes_of bs) [] (lines text.now) ≡ Ok handles.items) }
     ensures err { IfErr result (Reports (after_lines (bytes_of bs) [] (lines text.now))) }
-    ensures line { IfErr result (λ fault. (3 ≤ fault.line) × (fault.line ≤ length (lines text.now) + 2)) }
+    ensures memory { IfErr result (λ fault. fault.cause ≡ OutOfMemory → MayGrow (bytes_of bs) (lines text.now) fault.line) }
 {
     let mut handles = Vec::new(alloc);
     let mut rest = text;
@@ -161,7 +161,7 @@ fn read_handles(alloc: Global, text: &[u8], bs: BlockSize) -> Result<Vec<Stopped
 /// The words of the handle that a line lists.
 fn read_handle(alloc: Global, line: &[u8], bs: BlockSize) -> Result<Words, Cause>
     ensures gives { Gives result (handle_of (bytes_of bs) line.now) }
-    ensures handle { result ≡ Err OutOfMemory → handle_of (bytes_of bs) line.now ≡ Err NoHandleLine → ⊥ }
+    ensures begins { result ≡ Err OutOfMemory → BeginsHandle (bytes_of bs) line.now }
 {
     match line {
         [b'h'] => Ok(Words::new(alloc)),
@@ -171,10 +171,9 @@ fn read_handle(alloc: Global, line: &[u8], bs: BlockSize) -> Result<Words, Cause
 }
 
 /// The words of a handle, from after the first space of its line on.
-#[tactic(auto, using(crate::proofs::Clear::words_clear))]
 fn read_ops(alloc: Global, text: &[u8], bs: BlockSize) -> Result<Words, Cause>
     ensures gives { Gives result (after_ops (bytes_of bs) map.empty (words text.now)) }
-    ensures clear { after_ops (bytes_of bs) map.empty (words text.now) ≡ Err NoHandleLine → ⊥ }
+    ensures first { result ≡ Err OutOfMemory → FirstReads (bytes_of bs) (words text.now) }
 {
     let mut gathered = Gathered::new(alloc);
     let mut rest = Some(text);

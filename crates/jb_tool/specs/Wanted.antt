@@ -1,10 +1,15 @@
 -- What a whole run did, by what the words ask for.
-use Rattle.std.specs.Prelude.{ℕ, List, Option}
+use Rattle.std.specs.Prelude.{ℕ, Bool, false, List, Option}
 use Rattle.jb_words.specs.Wanted.{Wanted}
 use Rattle.jb_words.specs.Wanted.Wanted.{WantsLoad, WantsPlain}
-use Rattle.jb_plain.specs.Runs.{Runs}
+use Rattle.jb_plain.specs.Runs.{Runs, reads_input}
 use Rattle.jb_plain.specs.Said.{Outputs}
 use Rattle.jb_tool.specs.Load.{RunsLoad}
+
+-- whether the command that is wanted reads standard input
+abbrev pub wants_input : Wanted → Bool
+wants_input (WantsPlain asked) = reads_input asked
+wants_input (WantsLoad load) = false
 
 -- the whole run of the command that is wanted
 abbrev pub RunsWanted : Wanted → Option (List ℕ) → Outputs → Outputs → ℕ → Type 0

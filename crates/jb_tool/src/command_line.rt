@@ -1,4 +1,4 @@
-ghost use Rattle.std.specs.Prelude.{◌≡◌, ◌≢◌, ◌⊎◌, Err, None, IfSome, [], codes, map};
+ghost use Rattle.std.specs.Prelude.{◌≡◌, ◌≢◌, ◌⊎◌, Err, None, IfSome, [], codes, false, map};
 ghost use Rattle.jb_words.specs.Faults.{faults_in, kind_of};
 ghost use Rattle.jb_words.specs.Named.Asked.{AsksCost};
 ghost use Rattle.jb_words.specs.Wanted.{wanted_in};
@@ -7,7 +7,7 @@ ghost use Rattle.jb_plain.specs.Runs.{Closes, Runs};
 ghost use Rattle.jb_plain.specs.Faults.{line_of};
 ghost use Rattle.jb_plain.specs.declared.fault.CommandFault.TheVariants.{Memory as CommandMemory, WriteFault};
 ghost use Rattle.jb_tool.specs.Refused.{RefusesWords};
-ghost use Rattle.jb_tool.specs.Wanted.{RunsWanted};
+ghost use Rattle.jb_tool.specs.Wanted.{RunsWanted, wants_input};
 
 use crate::load::run_load;
 use jb_plain::{CommandFault, run_plain};
@@ -22,7 +22,7 @@ use std::time::Clock;
 
 /// Runs `jb` with these words, the program's name left out, and gives its exit status. With no words it acts as
 /// `jb cost -`. Words that are no command are answered by clap's text: status 2 and `err`, or status 0 and `out` for
-/// help and the version.
+/// help and the version. `input` is read by a command whose text it is, and else left as it is.
 pub fn run<
     R: Files<File = File> + AllocGlobal + Threads + Wait + Clock + Sync,
     S: AsStr,
@@ -42,6 +42,7 @@ pub fn run<
     ensures refused { words.now ≢ [] → (faults_in (map S.text words.now) ≢ []) ⊎ (wanted_in (map S.text words.now) ≡ None)
         → RefusesWords (faults_in (map S.text words.now)) (wanted_in (map S.text words.now)) (record { out = O.contents out.old; err = E.contents err.old })
         (record { out = O.contents out.new; err = E.contents err.new }) result }
+    ensures unread { words.now ≢ [] → IfSome (wanted_in (map S.text words.now)) (λ wanted. wants_input wanted ≡ false) → input.new ≡ input.old }
 {
     if words.is_empty() {
         return run_plain(rt, Plain::Cost { file: "-" }, input, out, err);

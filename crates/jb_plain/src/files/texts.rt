@@ -1,4 +1,5 @@
-ghost use Rattle.std.specs.Prelude.{IfErr, IfOk, None};
+ghost use Rattle.std.specs.Prelude.{◌≡◌, IfErr, IfOk, None, codes, false};
+ghost use Rattle.std.specs.Str.{bytes_eq};
 ghost use Rattle.jb_plain.specs.Texts.{HasNoText, IsText, known_behind};
 
 use crate::fault::CommandFault;
@@ -18,6 +19,7 @@ pub(crate) fn read_text<'a, R: Files + AllocGlobal, I: Read>(
 ) -> Result<Vec<u8>, CommandFault<'a>>
     ensures text { IfOk result (λ text. IsText (known_behind name.entry.now (I.remaining input.old)) text.items) }
     ensures none { IfErr result (HasNoText name.entry.now (known_behind name.entry.now (I.remaining input.old))) }
+    ensures unread { bytes_eq name.entry.now (codes "-") ≡ false → input.new ≡ input.old }
 {
     if name == "-" {
         read_as(rt.alloc(), input, name)

@@ -1,8 +1,8 @@
-use Rattle.std.proofs.Common.{◌≡◌, ◌≤◌, ◌+◌, length, Err, rules, arith}
+use Rattle.std.proofs.Common.{◌≡◌, sym, Err, rules}
 use Rattle.jb_block.specs.Size.{bytes_of}
 use Rattle.jb_text.specs.Parts.{lines}
 use Rattle.jb_queue.specs.Queue.{format_of, limit_of}
-use Rattle.jb_queue.proofs.Weights.{first-length, first-total, queue-weight}
+use Rattle.jb_queue.proofs.Weights.{first-total, queue-weight}
 use Rattle.jb_queue.proofs.queue_text.read_queue.Goals as goal
 
 pub returns-clause-within : goal.returns-clause-within
@@ -15,7 +15,12 @@ returns-clause-within c =
 pub returns-in_err-handles-clause-memory : goal.returns-in_err-handles-clause-memory
 returns-in_err-handles-clause-memory c =
     let gave : c.from_residual.result ≡ Err c.in_err-handles.field-0.0 = search rules in
-    let one = first-length format_of (lines c.args.text.now) (c.in-Some.bs, c.in-Some.width) _ c.in-Some.ensures in
-    let two = first-length limit_of (lines c.in-Some.text.now) c.in-Some-first_limit.limit _ c.in-Some-first_limit.ensures in
-    let line : (3 ≤ c.in_err-handles.field-0.0.line) × (c.in_err-handles.field-0.0.line ≤ length (lines c.in-Some-first_limit.text.now) + 2) = c.in_err-handles.ensures.line in
-    rw gave (λ memory. (line.0, omega (arith, line.1, one, two)))
+    rw gave (λ memory. record {
+      format = (c.in-Some.bs, c.in-Some.width);
+      limit = c.in-Some-first_limit.limit;
+      second = lines c.in-Some.text.now;
+      third = lines c.in-Some-first_limit.text.now;
+      formatted = sym c.in-Some.ensures;
+      limited = sym c.in-Some-first_limit.ensures;
+      grows = c.in_err-handles.ensures.memory memory;
+    })

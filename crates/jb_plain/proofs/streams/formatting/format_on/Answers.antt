@@ -21,6 +21,7 @@ returns-in-Some g c =
         fault_count = done.faults;
         written = done.written;
         torn = done.torn;
+        steps = done.steps;
         durable = done.durable;
         told = subst (λ limit. TellsLine (formatted_line limit) (g.O.Write.contents c.args.out.now) (g.O.Write.contents c.tell_formatted.new.out) c.tell_formatted.result)
             limit c.tell_formatted.ensures;
