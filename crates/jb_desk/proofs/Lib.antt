@@ -4,4 +4,5 @@ pub mod Follows
 pub mod Keeping
 pub mod Rounds
 pub mod SeatCredits
+pub mod Seen
 pub mod Shadows

@@ -1,11 +1,11 @@
 -- What a commit tells of its batch, whatever deck it was.
-use Rattle.std.proofs.Common.{◌≡◌, ℕ, zero, suc, ◌+◌, ◌≤◌, List, [], ◌∷◌, length, take, Some, Result, Ok, Err, refl, sym, ap, subst, ◌∙◌, arith}
+use Rattle.std.proofs.Common.{◌≡◌, ℕ, zero, suc, ◌+◌, ◌<◌, ◌≤◌, List, [], ◌∷◌, length, take, Some, Result, Ok, Err, refl, sym, ap, subst, ◌∙◌, arith}
 use Rattle.jb_block.specs.declared.stamp.Stamp.{Stamp}
 use Rattle.jb_cost.specs.Cut.{RisesTo, IsCut}
 use Rattle.jb_deck.specs.Committing.{AnswersBatch}
 use Rattle.jb_deck.specs.Deck.{OpenDeck}
 use Rattle.jb_deck.specs.Done.{Follow, first_of, entries_of, past_after}
-use Rattle.jb_deck.specs.Gathering.{entries_from, entries_for}
+use Rattle.jb_deck.specs.Gathering.{groups_in, entries_from, entries_for}
 use Rattle.jb_batch.specs.Prepared.{Planned, IsPlanned}
 use Rattle.jb_deck.specs.declared.batched.BatchFault.{BatchFault}
 use Rattle.jb_deck.specs.declared.batched.BatchFault.TheVariants.{Aborted, WrongTicket, OtherShape, NumbersSpent, Memory, DeviceFault}
@@ -35,12 +35,24 @@ follow-past : (first least past : ℕ) (es : List Entry) → Follow first least 
 follow-past first least past [] is = is
 follow-past first least past (e ∷ es) is = follow-past e.past (e.number + 1) past es is.3
 
--- the first of them end no later
-part-past : (first least past : ℕ) (es : List Entry) (n : ℕ) → Follow first least past es → past_after first (take n es) ≤ past
-part-past first least past [] zero is = omega (arith, is)
-part-past first least past [] (suc n) is = omega (arith, is)
-part-past first least past (e ∷ es) zero is = let up = follow-length first least past (e ∷ es) is in omega arith
-part-past first least past (e ∷ es) (suc n) is = part-past e.past (e.number + 1) past es n is.3
+-- the first of them, and not all, end where the first one begins or later, and before the last one does
+from-some : (n a ticket number k : ℕ) (bs : List ℕ) → RisesTo n a bs → k < length bs → (ticket + a ≤ past_after (ticket + a) (take k (entries_from ticket number a bs))) × (past_after (ticket + a) (take k (entries_from ticket number a bs)) < ticket + n)
+from-some n a ticket number k [] is few = absurd (let h : ⊥ = omega (arith, few) in h)
+from-some n a ticket number zero (b ∷ bs) is few =
+    let more = is.0 in
+    let up = follow-length (ticket + b) (number + 1) (ticket + n) _ (from-follow n b ticket (number + 1) bs is.1) in
+    (omega arith, omega (arith, more, up))
+from-some n a ticket number (suc k) (b ∷ bs) is few =
+    let more = is.0 in
+    let rest = from-some n b ticket (number + 1) k bs is.1 (omega (arith, few)) in
+    (omega (arith, more, rest.0), rest.1)
+
+for-some : (n ticket number k : ℕ) (bounds : List ℕ) → IsCut n bounds → k < groups_in bounds → (ticket ≤ past_after ticket (take k (entries_for ticket number bounds))) × (past_after ticket (take k (entries_for ticket number bounds)) < ticket + n)
+for-some n ticket number k [] is few = absurd is
+for-some n ticket number k (a ∷ bs) is few =
+    let none = is.0 in
+    let same : ticket + a ≡ ticket = omega arith in
+    subst (λ f. (f ≤ past_after f (take k (entries_from ticket number a bs))) × (past_after f (take k (entries_from ticket number a bs)) < ticket + n)) same (from-some n a ticket number k bs is.1 few)
 
 -- ---- a commit
 
@@ -57,11 +69,10 @@ commits-as before after p stamp old new (Err (OtherShape back)) planned is = is.
 commits-as before after p stamp old new (Err (NumbersSpent back)) planned is = is.4
 commits-as before after p stamp old new (Err (Memory back)) planned is = is.2
 commits-as before after p stamp old new (Err (DeviceFault settled)) planned is =
-    let some = is.2 in (
-      some.first,
-      subst (λ es. past_after p.batch.first es ≤ end_of p.batch) (sym some.entries)
-          (part-past p.batch.first old.log.next (end_of p.batch) _ some.groups (for-follow (length p.batch.handles) p.batch.first old.log.next p.groups planned.least.fitting.cut)),
-    )
+    let some = is.2 in
+    let ends = subst (λ es. (p.batch.first ≤ past_after p.batch.first es) × (past_after p.batch.first es < end_of p.batch)) (sym some.entries)
+    (for-some (length p.batch.handles) p.batch.first old.log.next some.groups p.groups planned.least.fitting.cut some.some) in
+    (some.first, ends.0, ends.1)
 
 -- a batch that is settled whole ends where its entries end
 pub whole-past : (p : Planned) (done : Done) → CommitsAs p (Ok done) → past_after (first_of done) (entries_of done) ≡ end_of p.batch

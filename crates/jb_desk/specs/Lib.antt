@@ -9,3 +9,4 @@ pub mod Rounds
 pub mod Seats
 pub mod Shadow
 pub mod Stops
+pub mod Views

@@ -1,8 +1,10 @@
--- What a desk hands back with a refusal.
-use Rattle.std.specs.Prelude.{◌≡◌}
+-- What a desk says and hands back with a refusal.
+use Rattle.std.specs.Prelude.{◌≡◌, ℕ, ◌<◌}
 use Rattle.jb_handle.specs.Handle.{holder}
 use Rattle.jb_handle.specs.declared.handle.Handle.{Handle}
 use Rattle.jb_desk.specs.declared.seat.Seat.{Seat}
+use Rattle.jb_desk.specs.declared.fault.BeginFault.{BeginFault}
+use Rattle.jb_desk.specs.declared.fault.BeginFault.TheVariants as begin
 use Rattle.jb_desk.specs.declared.fault.StopFault.{StopFault}
 use Rattle.jb_desk.specs.declared.fault.StopFault.TheVariants.{Aborted, NotOpen, Memory}
 
@@ -11,3 +13,13 @@ abbrev pub HandsBack : {H N : Type 0} → Handle (Seat H N) → StopFault H N �
 HandsBack handle (Aborted seat) = seat ≡ holder handle
 HandsBack handle (NotOpen back) = back ≡ handle
 HandsBack handle (Memory back) = back ≡ handle
+
+-- so many credits are too many only where they are more than the most, which the refusal names; of the others nothing is known
+-- outside of the lock
+abbrev pub IsTooMany : ℕ → BeginFault → Type 0
+IsTooMany credits begin.Aborted = Unit {0}
+IsTooMany credits begin.Closed = Unit {0}
+IsTooMany credits begin.Busy = Unit {0}
+IsTooMany credits (begin.TooManyCredits most) = most < credits
+IsTooMany credits (begin.Full reserved) = Unit {0}
+IsTooMany credits begin.Memory = Unit {0}

@@ -1,5 +1,5 @@
 -- What a round of a committer makes of a book and of the committer.
-use Rattle.std.specs.Prelude.{◌≡◌, ℕ, ◌+◌, ◌≤◌, true, false, length, Option, Some, None, is_some, Result, Ok, Err}
+use Rattle.std.specs.Prelude.{◌≡◌, ℕ, ◌+◌, ◌<◌, ◌≤◌, true, false, length, Option, Some, None, is_some, Result, Ok, Err}
 use Rattle.jb_batch.specs.Batch.{Gathered, gathered}
 use Rattle.jb_batch.specs.Costs.{HasCut}
 use Rattle.jb_deck.specs.Done.{Follow, first_of, entries_of, past_after}
@@ -59,7 +59,7 @@ pub record Rests (a : Account) : Type 0 where
 abbrev pub end_of : Gathered → ℕ
 end_of b = b.first + length b.handles
 
--- all of the batch is settled, or a first part of it; otherwise it is handed back as it was
+-- all of the batch is settled, or after a fault of the disk a first part of it and not all; otherwise it is handed back as it was
 abbrev pub CommitsAs : Planned → Result Done BatchFault → Type 0
 CommitsAs p (Ok done) = (first_of done ≡ p.batch.first) × Follow p.batch.first 0 (end_of p.batch) (entries_of done)
 CommitsAs p (Err (batch.Aborted back)) = back ≡ p
@@ -67,7 +67,7 @@ CommitsAs p (Err (batch.WrongTicket back expected)) = back ≡ p
 CommitsAs p (Err (batch.OtherShape back)) = back ≡ p
 CommitsAs p (Err (batch.NumbersSpent back)) = back ≡ p
 CommitsAs p (Err (batch.Memory back)) = back ≡ p
-CommitsAs p (Err (batch.DeviceFault settled)) = (first_of settled ≡ p.batch.first) × (past_after p.batch.first (entries_of settled) ≤ end_of p.batch)
+CommitsAs p (Err (batch.DeviceFault settled)) = (first_of settled ≡ p.batch.first) × (p.batch.first ≤ past_after p.batch.first (entries_of settled)) × (past_after p.batch.first (entries_of settled) < end_of p.batch)
 
 -- ---- the round
 

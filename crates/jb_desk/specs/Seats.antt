@@ -13,6 +13,10 @@ stops s = s.handles.amount
 abbrev pub changes : {H N : Type 0} → Seat H N → ℕ
 changes s = s.changes.amount
 
+-- its number in the book
+abbrev pub seat_number : {H N : Type 0} → Seat H N → ℕ
+seat_number s = s.number
+
 -- the board of the desk that gave the seat
 abbrev pub desk_of : {H N : Type 0} → Seat H N → BoardId
 desk_of s = seat_board s.board

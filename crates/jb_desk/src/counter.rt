@@ -69,7 +69,9 @@ impl<H: Ledger, N: Ledger> Counter<H, N> {
     /// were given.
     pub fn seat(&mut self, board: BoardSeat) -> Option<Seat<H, N>>
         ensures seat { IfSome result (λ seat. (seat.board ≡ board) × (stops seat ≡ 0) × (changes seat ≡ 0)) }
+        ensures number { IfSome result (λ seat. (seat.number ≡ self.old.given) × (self.new.given ≡ self.old.given + 1)) }
         ensures none { IfNone result ((self.old.book.shut ≡ true) ⊎ (2 ^ 61 ≤ self.old.given)) }
+        ensures kept { IfNone result (self.new.given ≡ self.old.given) }
         ensures book { self.new.book ≡ self.old.book }
     {
         if self.book.is_shut() || self.given >= MOST {
@@ -231,6 +233,7 @@ impl<H: Ledger, N: Ledger> Counter<H, N> {
         ensures book { result.0 ≡ self.book }
         ensures handles { (result.1 ≡ self.book.shadow.next) × (result.1 ≡ sum_by stops_left lefts.items) }
         ensures changes { (result.2 ≡ self.book.changes) × (result.2 ≡ sum_by changes_left lefts.items) }
+        ensures few { (result.1 ≤ 2 ^ 61) × (result.2 ≤ 2 ^ 61) }
     {
         let Counter {
             book,

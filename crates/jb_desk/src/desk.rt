@@ -1,9 +1,10 @@
-ghost use Rattle.std.specs.Prelude.{◌≡◌, ◌≢◌, ℕ, ◌+◌, ◌<◌, ◌≤◌, ◌^◌, [], false, IfOk, IfErr};
+ghost use Rattle.std.specs.Prelude.{◌≡◌, ◌≢◌, ℕ, ◌+◌, ◌<◌, ◌≤◌, ◌^◌, [], false, IfOk, IfErr, OnOk, OnErr};
 ghost use Rattle.std.specs.FinMap as map;
 ghost use Rattle.std.specs.List.{sum_by};
 ghost use Rattle.jb_handle.specs.Handle.{holder, changes_of};
 ghost use Rattle.jb_handle.specs.Held.{held, touched};
-ghost use Rattle.jb_board.specs.Front.{InOrder, IsWithin};
+ghost use Rattle.jb_board.specs.Front.{front, InOrder, IsWithin};
+ghost use Rattle.jb_board.specs.Steps.{raised_stopped};
 
 mod checkpoints;
 mod closing;
@@ -42,8 +43,9 @@ pub struct Desk<D: Disk, C: Clock, H: Ledger, N: Ledger> {
 
 impl<D: Disk, C: Clock, H: Ledger, N: Ledger> Desk<D, C, H, N> {
     ghost use Rattle.jb_desk.specs.Desks.{desk_id, shape_in};
-    ghost use Rattle.jb_desk.specs.Seats.{stops, changes, desk_of, view_of, stops_left, changes_left};
-    ghost use Rattle.jb_desk.specs.Refusals.{HandsBack};
+    ghost use Rattle.jb_desk.specs.Seats.{stops, changes, seat_number, desk_of, view_of, stops_left, changes_left};
+    ghost use Rattle.jb_desk.specs.Refusals.{HandsBack, IsTooMany};
+    ghost use Rattle.jb_desk.specs.Views.{with_settled};
 
     /// A desk over a journal that has committed nothing yet and has not failed. `handles` and `changes`
     /// are new ledgers, in which the handles that stop and the blocks that they touched are counted.
@@ -86,7 +88,7 @@ impl<D: Disk, C: Clock, H: Ledger, N: Ledger> Desk<D, C, H, N> {
     ///
     /// `Closed` where the desk is shut, or where 2^61 seats were given.
     pub fn seat<R: Wait>(&self, rt: &R) -> Result<Seat<H, N>, SeatFault>
-        ensures { IfOk result (λ seat. (desk_of seat ≡ desk_id self.now) × (stops seat ≡ 0) × (changes seat ≡ 0)) }
+        ensures { IfOk result (λ seat. (desk_of seat ≡ desk_id self.now) × (stops seat ≡ 0) × (changes seat ≡ 0) × (view_of seat ≡ front 0 0 0)) }
     {
         let seat = self.counter.lock(rt).seat(self.board.enter());
         seat.ok_or(SeatFault::Closed)
@@ -121,6 +123,7 @@ impl<D: Disk, C: Clock, H: Ledger, N: Ledger> Desk<D, C, H, N> {
     ) -> Result<Handle<Seat<H, N>>, (Seat<H, N>, BeginFault)>
         ensures ok { IfOk result (λ handle. (holder handle ≡ seat) × (changes_of handle ≡ held credits (shape_in self.now) map.empty)) }
         ensures back { IfErr result (λ back. back.0 ≡ seat) }
+        ensures refused { IfErr result (λ back. IsTooMany credits back.1) }
     {
         self.counter
             .lock(rt)
@@ -140,10 +143,11 @@ impl<D: Disk, C: Clock, H: Ledger, N: Ledger> Desk<D, C, H, N> {
         handle: Handle<Seat<H, N>>,
     ) -> Result<(Seat<H, N>, u64), StopFault<H, N>>
         requires { desk_of (holder handle) ≡ desk_id self.now }
-        ensures seat { IfOk result (λ given. desk_of given.0 ≡ desk_id self.now) }
+        ensures seat { IfOk result (λ given. (desk_of given.0 ≡ desk_id self.now) × (seat_number given.0 ≡ seat_number (holder handle))) }
         ensures handles { IfOk result (λ given. stops given.0 ≡ stops (holder handle) + 1) }
         ensures changes { IfOk result (λ given. changes given.0 ≡ changes (holder handle) + touched (changes_of handle)) }
         ensures stopped { IfOk result (λ given. given.1 < (view_of given.0).stopped) }
+        ensures view { IfOk result (λ given. view_of given.0 ≡ raised_stopped (view_of (holder handle)) (given.1 + 1)) }
         ensures refused { IfErr result (HandsBack handle) }
     {
         let (mut seat, ticket) = self.counter.lock(rt).stop(handle)?;
@@ -164,7 +168,7 @@ impl<D: Disk, C: Clock, H: Ledger, N: Ledger> Desk<D, C, H, N> {
     /// How far the handles have come. It waits for nobody, and never falls for the same seat.
     pub fn front(&self, seat: &mut Seat<H, N>) -> Front
         requires { desk_of seat.old ≡ desk_id self.now }
-        ensures desk { desk_of seat.new ≡ desk_of seat.old }
+        ensures desk { (desk_of seat.new ≡ desk_of seat.old) × (seat_number seat.new ≡ seat_number seat.old) }
         ensures view { view_of seat.new ≡ result }
         ensures ordered { InOrder result }
         ensures rises { IsWithin (view_of seat.old) result }
@@ -187,8 +191,10 @@ impl<D: Disk, C: Clock, H: Ledger, N: Ledger> Desk<D, C, H, N> {
         ticket: u64,
     ) -> Result<u32, WaitFault>
         requires { desk_of seat.old ≡ desk_id self.now }
-        ensures desk { desk_of seat.new ≡ desk_of seat.old }
+        ensures desk { (desk_of seat.new ≡ desk_of seat.old) × (seat_number seat.new ≡ seat_number seat.old) }
         ensures settled { IfOk result (λ _. ticket < (view_of seat.new).settled) }
+        ensures view { OnOk result (view_of seat.new ≡ with_settled (ticket + 1) (view_of seat.old)) }
+        ensures err { OnErr result (seat.new ≡ seat.old) }
         ensures counted { (stops seat.new ≡ stops seat.old) × (changes seat.new ≡ changes seat.old) }
     {
         let number = self

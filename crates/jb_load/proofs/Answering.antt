@@ -1,12 +1,11 @@
 -- What a load answers once the journal is opened.
-use Rattle.std.proofs.Common.{◌≡◌, ◌⊎◌, ℕ, false, List, Result, Ok, Err, IfOk, IfErr, inl, inr, sym, subst}
+use Rattle.std.proofs.Common.{◌≡◌, ◌⊎◌, ℕ, List, Result, Ok, Err, IfOk, IfErr, inl, inr, sym, subst}
 use Rattle.jb_block.specs.Size.{bytes_of}
 use Rattle.jb_block.specs.declared.size.BlockSize.{BlockSize}
 use Rattle.jb_disk.specs.Image.{Image}
 use Rattle.jb_handle.specs.declared.shape.Shape.{Shape}
 use Rattle.jb_handle.specs.declared.stopped.Stopped.{Stopped}
-use Rattle.jb_desk.specs.declared.ended.Ended.TheVariants.{Shut}
-use Rattle.jb_load.specs.Loads.{AnswersLoad, IsOpened, Loads}
+use Rattle.jb_load.specs.Loads.{AnswersLoad, EndsCheckpoint, IsOpened, Loads}
 use Rattle.jb_load.specs.declared.fault.LoadFault.{LoadFault}
 use Rattle.jb_load.specs.declared.fault.LoadFault.TheVariants.{Accounts, Memory}
 use Rattle.jb_load.specs.declared.loaded.Loaded.{Loaded}
@@ -14,10 +13,10 @@ use Rattle.jb_load.specs.declared.options.LoadOptions.{LoadOptions}
 
 module _ {D : Type 0} (size count faults : D → ℕ) (honest : D → Type 0) (newest : D → Image) (disk : D) (bs : BlockSize) (queue : List Stopped) (options : LoadOptions) (shape : Shape) (same : bytes_of bs ≡ size disk)
     (opened : IsOpened size count faults honest newest disk shape) where
-  pub answers-as : (r : Result Loaded LoadFault) → IfOk r (Loads shape queue options.threads) → IfOk r (λ loaded. options.checkpoint ≡ false → loaded.checkpoint ≡ Shut) → IfErr r (λ fault. (fault ≡ Memory) ⊎ (fault ≡ Accounts))
+  pub answers-as : (r : Result Loaded LoadFault) → IfOk r (Loads shape queue options.threads) → IfOk r (λ loaded. EndsCheckpoint options.checkpoint loaded.checkpoint) → IfErr r (λ fault. (fault ≡ Memory) ⊎ (fault ≡ Accounts))
       → AnswersLoad size count faults honest newest disk bs queue options r
-  answers-as (Ok loaded) loads unasked none = (same, (shape, opened, loads), unasked)
-  answers-as (Err fault) none unasked why =
+  answers-as (Ok loaded) loads ended none = (same, (shape, opened, loads), ended)
+  answers-as (Err fault) none ended why =
       elim why [
         | inl is ↦ subst (λ (x : LoadFault). AnswersLoad size count faults honest newest disk bs queue options (Err x)) (sym is) (same, (shape, opened))
         | inr is ↦ subst (λ (x : LoadFault). AnswersLoad size count faults honest newest disk bs queue options (Err x)) (sym is) (same, (shape, opened))

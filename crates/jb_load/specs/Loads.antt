@@ -1,5 +1,5 @@
 -- What a load answers.
-use Rattle.std.specs.Prelude.{◌≡◌, ◌≢◌, ℕ, ◌<◌, ◌≤◌, false, List, length, slice_index_or, Result, Ok, Err}
+use Rattle.std.specs.Prelude.{◌≡◌, ◌≢◌, ◌⊎◌, ℕ, ◌<◌, ◌≤◌, Bool, true, false, List, length, slice_index_or, Result, Ok, Err}
 use Rattle.std.specs.List.{flat_map}
 use Rattle.std.specs.List.Sorted.{IsPermutation}
 use Rattle.jb_block.specs.Size.{bytes_of}
@@ -15,7 +15,8 @@ use Rattle.jb_deck.specs.Done.{Follow}
 use Rattle.jb_deck.specs.Opening.{OpenFaults, Opens, RefusesOpen}
 use Rattle.jb_deck.specs.declared.done.Entry.{Entry}
 use Rattle.jb_deck.specs.declared.fault.OpenFault.{OpenFault}
-use Rattle.jb_desk.specs.declared.ended.Ended.TheVariants.{Shut}
+use Rattle.jb_desk.specs.declared.ended.Ended.{Ended}
+use Rattle.jb_desk.specs.declared.ended.Ended.TheVariants.{Shut, Aborted}
 use Rattle.jb_load.specs.Blocks.{blocks_in, stopped_of, CountFrom}
 use Rattle.jb_load.specs.Gathering.{first_refused}
 use Rattle.jb_load.specs.Runs.{IsRun, Run, touching}
@@ -42,6 +43,11 @@ pub record Counts (queue : List Stopped) (g : Geometry) (stops : List Stop) (tra
 pub record AreRuns (shape : Shape) (queue : List Stopped) (threads : ℕ) (runs : List Run) : Type 0 where
   pub workers : length runs ≡ threads
   pub each : (at : ℕ) (d : Run) → at < threads → IsRun shape queue threads at (slice_index_or runs at d)
+
+-- how a checkpointer ends: as the desk is shut, or, where one was asked for, as the journal has failed
+abbrev pub EndsCheckpoint : Bool → Ended → Type 0
+EndsCheckpoint false ended = ended ≡ Shut
+EndsCheckpoint true ended = (ended ≡ Shut) ⊎ (ended ≡ Aborted)
 
 -- the counts are those of what the workers report, and the refused handle is the earliest of theirs
 pub record Loads (shape : Shape) (queue : List Stopped) (threads : ℕ) (loaded : Loaded) : Type 0 where
@@ -76,4 +82,4 @@ module _ {D : Type 0} (size count faults : D → ℕ) (honest : D → Type 0) (n
   AnswersLoad bs queue options (Err fault.Memory) = (bytes_of bs ≡ size disk) × ((shape : Shape) × IsOpened shape)
   AnswersLoad bs queue options (Err fault.Accounts) = (bytes_of bs ≡ size disk) × ((shape : Shape) × IsOpened shape)
   AnswersLoad bs queue options (Ok loaded) =
-      (bytes_of bs ≡ size disk) × ((shape : Shape) × IsOpened shape × Loads shape queue options.threads loaded) × (options.checkpoint ≡ false → loaded.checkpoint ≡ Shut)
+      (bytes_of bs ≡ size disk) × ((shape : Shape) × IsOpened shape × Loads shape queue options.threads loaded) × EndsCheckpoint options.checkpoint loaded.checkpoint

@@ -8,6 +8,7 @@ ghost use Rattle.jb_handle.specs.Word.{WordMap};
 ghost use Rattle.jb_handle.specs.declared.shape.Shape.{Shape as ShapeValue};
 ghost use Rattle.jb_load.specs.Refusing.{IsRefusedFor};
 ghost use Rattle.jb_desk.specs.Desks.{desk_id, shape_in};
+ghost use Rattle.jb_desk.specs.Refusals.{IsTooMany};
 ghost use Rattle.jb_desk.specs.Seats.{stops, changes, desk_of};
 
 use crate::fault::HandleFault;
@@ -56,6 +57,7 @@ fn begin<D: Disk, C: Clock, R: Wait + time::Clock, H: Ledger, N: Ledger>(
 ) -> Result<Handle<Seat<H, N>>, (Seat<H, N>, BeginFault)>
     ensures ok { IfOk result (λ handle. (holder handle ≡ seat) × (changes_of handle ≡ held credits (shape_in desk.now) map.empty)) }
     ensures back { IfErr result (λ back. back.0 ≡ seat) }
+    ensures refused { IfErr result (λ back. IsTooMany credits back.1) }
 {
     let mut seat = seat;
     for _ in 0..TURNS {

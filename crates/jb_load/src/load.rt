@@ -1,10 +1,9 @@
-ghost use Rattle.std.specs.Prelude.{◌≡◌, ℕ, ◌+◌, ◌^◌, ◌<◌, ◌≤◌, ◌⊎◌, false, length, IfErr, IfOk};
+ghost use Rattle.std.specs.Prelude.{◌≡◌, ℕ, ◌+◌, ◌^◌, ◌<◌, ◌≤◌, ◌⊎◌, length, IfErr, IfOk};
 ghost use Rattle.std.specs.List.{All};
 ghost use Rattle.jb_batch.specs.Costs.{geometry_of};
 ghost use Rattle.jb_desk.specs.Desks.{shape_in};
-ghost use Rattle.jb_desk.specs.declared.ended.Ended.TheVariants.{Shut};
 ghost use Rattle.jb_deck.specs.Done.{Follow};
-ghost use Rattle.jb_load.specs.Loads.{AnswersLoad, Counts, Loads};
+ghost use Rattle.jb_load.specs.Loads.{AnswersLoad, Counts, EndsCheckpoint, Loads};
 ghost use Rattle.jb_load.specs.Runs.{touching};
 ghost use Rattle.jb_load.specs.declared.worker.Stop.{Stop as StopValue};
 ghost use Rattle.jb_load.specs.declared.fault.LoadFault.TheVariants.{Accounts, Memory as OutOfMemory};
@@ -27,9 +26,6 @@ use std::sync::Wait;
 use std::sync::ledger::{Blank, Ledger};
 use std::thread::Threads;
 use std::time;
-
-/// The most handles of a desk, and the most blocks that these touch, added up.
-const MOST: u64 = 1 << 61;
 
 /// Runs the handles of a queue through a desk over the journal on a disk, and commits them. Worker k of T runs the
 /// handles k, k + T, k + 2T and so on, each with as many credits as it touches blocks, up to the first that is
@@ -95,7 +91,7 @@ fn load_at<
     requires parts { (H.parts ≡ 2 ^ 61 + 1) × (N.parts ≡ 2 ^ 61 + 1) }
     requires shape { shape_in desk ≡ shape }
     ensures loaded { IfOk result (Loads shape queue.now options.threads) }
-    ensures unasked { IfOk result (λ loaded. options.checkpoint ≡ false → loaded.checkpoint ≡ Shut) }
+    ensures ended { IfOk result (λ loaded. EndsCheckpoint options.checkpoint loaded.checkpoint) }
     ensures faults { IfErr result (λ fault. (fault ≡ OutOfMemory) ⊎ (fault ≡ Accounts)) }
 {
     let room = Gathered::with_room(alloc, options.threads + 1, queue.len())?;
@@ -122,8 +118,7 @@ fn load_at<
 /// The counts of a load whose desk is closed, of which no fault is known.
 ///
 /// # Errors
-/// `Memory` where there is none for the home blocks of a group; `Accounts` where the tickets do not count from 0, or
-/// there are more handles or blocks than a desk grants.
+/// `Memory` where there is none for the home blocks of a group; `Accounts` where the tickets do not count from 0.
 fn count_up<D: Drop, C: Drop>(
     alloc: Global,
     queue: &[Stopped],
@@ -134,12 +129,13 @@ fn count_up<D: Drop, C: Drop>(
     requires inside { All (λ (s : StopValue). s.handle < length queue.now) stops.items }
     requires handles { closed.handles ≡ length stops.items }
     requires changes { closed.changes ≡ touching queue.now stops.items }
+    requires few { (closed.handles ≤ 2 ^ 61) × (closed.changes ≤ 2 ^ 61) }
     requires trail { (past : ℕ) × Follow 0 0 past closed.trail.items × (past ≤ closed.handles) }
     ensures counts { IfOk result (Counts queue.now (geometry_of shape) stops.items closed.trail.items) }
     ensures faults { IfErr result (λ fault. (fault ≡ OutOfMemory) ⊎ (fault ≡ Accounts)) }
 {
     let mut stops = stops;
-    if !put_in_order(&mut stops) || closed.handles > MOST || closed.changes > MOST {
+    if !put_in_order(&mut stops) {
         return Err(LoadFault::Accounts);
     }
     let geometry = Geometry::of(shape.bs, shape.width);

@@ -1,9 +1,9 @@
 //! The threads of a load: its workers, its committer and its checkpointer.
-ghost use Rattle.std.specs.Prelude.{◌≡◌, ◌≤◌, ◌⊎◌, false, IfErr, IfOk};
+ghost use Rattle.std.specs.Prelude.{◌≡◌, ◌≤◌, ◌⊎◌, IfErr, IfOk};
 ghost use Rattle.jb_block.specs.Size.{bytes_of};
 ghost use Rattle.jb_desk.specs.Desks.{shape_in};
-ghost use Rattle.jb_desk.specs.declared.ended.Ended.TheVariants.{Shut};
 ghost use Rattle.jb_load.specs.declared.fault.LoadFault.TheVariants.{Accounts, Memory as OutOfMemory};
+ghost use Rattle.jb_load.specs.Loads.{EndsCheckpoint};
 ghost use Rattle.jb_load.specs.Running.{AreWorked, HasRun};
 
 use crate::committing::{commit_all, commit_from};
@@ -51,7 +51,7 @@ pub(crate) fn run<
     requires size { bytes_of bs ≡ bytes_of (shape_in desk.now).bs }
     ensures ran { IfOk result.0 (HasRun (shape_in desk.now) queue.now options.threads) }
     ensures faults { IfErr result.0 (λ fault. (fault ≡ OutOfMemory) ⊎ (fault ≡ Accounts)) }
-    ensures unasked { options.checkpoint ≡ false → result.1 ≡ Shut }
+    ensures ended { EndsCheckpoint options.checkpoint result.1 }
 {
     if !options.checkpoint {
         return (

@@ -19,14 +19,16 @@ impl Book {
 
     /// The next ticket: how many handles have stopped.
     pub fn next(&self) -> u64
-        ensures { result ≡ self.now.shadow.next }
+        ensures value { result ≡ self.now.shadow.next }
+        ensures few { result ≤ 2 ^ 61 }
     {
         self.next
     }
 
     /// How many home blocks the handles that stopped had touched, added up.
     pub fn changes(&self) -> u64
-        ensures { result ≡ self.now.changes }
+        ensures value { result ≡ self.now.changes }
+        ensures few { result ≤ 2 ^ 61 }
     {
         self.changes
     }

@@ -60,6 +60,7 @@ impl<D: Disk, C: Clock, H: Ledger, N: Ledger> Desk<D, C, H, N> {
         requires parts { (H.parts ≡ 2 ^ 61 + 1) × (N.parts ≡ 2 ^ 61 + 1) }
         ensures handles { IfOk result (λ closed. closed.handles ≡ sum_by stops_left lefts.items) }
         ensures changes { IfOk result (λ closed. closed.changes ≡ sum_by changes_left lefts.items) }
+        ensures few { IfOk result (λ closed. (closed.handles ≤ 2 ^ 61) × (closed.changes ≤ 2 ^ 61)) }
         ensures trail { IfOk result (λ closed. (past : ℕ) × Follow 0 0 past closed.trail.items × (past ≤ closed.handles)) }
         ensures refused { IfErr result (IsNotClosed self lefts) }
     {
@@ -97,6 +98,7 @@ fn close_parts<D: Disk, C: Clock, H: Ledger, N: Ledger>(
     requires all { vec_len lefts ≡ counter.given }
     ensures handles { IfOk result (λ closed. (closed.handles ≡ sum_by stops_left lefts.items) × (closed.handles ≡ counter.book.shadow.next)) }
     ensures changes { IfOk result (λ closed. (closed.changes ≡ sum_by changes_left lefts.items) × (closed.changes ≡ counter.book.changes)) }
+    ensures few { IfOk result (λ closed. (closed.handles ≤ 2 ^ 61) × (closed.changes ≤ 2 ^ 61)) }
     ensures trail { IfOk result (λ closed. (closed.trail.items ≡ counter.book.trail) × (closed.trail.items ≡ works.deck.trail)) }
     ensures tiles { IfOk result (λ closed. (past : ℕ) × Follow 0 0 past closed.trail.items × (past ≤ closed.handles)) }
     ensures given { IfOk result (λ closed. (closed.disk ≡ works.deck.disk) × (closed.clock ≡ works.clock)) }

@@ -11,7 +11,8 @@ use std::sync::ledger::Ledger;
 impl<D: Disk, C: Clock, H: Ledger, N: Ledger> Desk<D, C, H, N> {
     ghost use Rattle.jb_desk.specs.Desks.{desk_id};
     ghost use Rattle.jb_desk.specs.Rounds.{seat_of, held_by, EndsHolding};
-    ghost use Rattle.jb_desk.specs.Seats.{stops, changes, desk_of};
+    ghost use Rattle.jb_desk.specs.Seats.{stops, changes, seat_number, desk_of, view_of};
+    ghost use Rattle.jb_board.specs.Front.{IsWithin};
 
     /// Commits what stops, round after round, until the desk is shut and no handle is open, queued or taken,
     /// or until a round does not end well.
@@ -21,7 +22,8 @@ impl<D: Disk, C: Clock, H: Ledger, N: Ledger> Desk<D, C, H, N> {
         committer: Committer<H, N>,
     ) -> (Committer<H, N>, Ended)
         requires { desk_of (seat_of committer) ≡ desk_id self.now }
-        ensures desk { desk_of (seat_of result.0) ≡ desk_of (seat_of committer) }
+        ensures desk { (desk_of (seat_of result.0) ≡ desk_of (seat_of committer)) × (seat_number (seat_of result.0) ≡ seat_number (seat_of committer)) }
+        ensures rises { IsWithin (view_of (seat_of committer)) (view_of (seat_of result.0)) }
         ensures held { EndsHolding result.1 (held_by result.0) }
         ensures counted { (stops (seat_of result.0) ≡ stops (seat_of committer)) × (changes (seat_of result.0) ≡ changes (seat_of committer)) }
     {

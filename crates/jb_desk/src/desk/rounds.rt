@@ -1,5 +1,5 @@
 //! Batches are committed, one in each round of a committer.
-ghost use Rattle.std.specs.Prelude.{◌≡◌, ◌+◌, ◌≤◌, length, None, Some, IfErr, OnOk};
+ghost use Rattle.std.specs.Prelude.{◌≡◌, ◌⊎◌, ◌+◌, ◌≤◌, length, None, Some, IfErr, OnOk};
 ghost use Rattle.jb_deck.specs.Done.{first_of, entries_of, past_after};
 ghost use Rattle.jb_batch.specs.Prepared.{IsPlanned};
 ghost use Rattle.jb_desk.specs.Seats.{view_of};
@@ -16,7 +16,9 @@ use std::sync::ledger::Ledger;
 impl<D: Disk, C: Clock, H: Ledger, N: Ledger> Desk<D, C, H, N> {
     ghost use Rattle.jb_desk.specs.Desks.{desk_id};
     ghost use Rattle.jb_desk.specs.Rounds.{seat_of, held_by, AnswersRound, IdleKeeps, end_of as end_in};
-    ghost use Rattle.jb_desk.specs.Seats.{stops, changes, desk_of};
+    ghost use Rattle.jb_desk.specs.Seats.{stops, changes, seat_number, desk_of};
+    ghost use Rattle.jb_desk.specs.Views.{SeesCommit, SeesRound};
+    ghost use Rattle.jb_board.specs.Steps.{raised_settled};
     ghost use Rattle.jb_desk.specs.declared.committer.RoundFault.TheVariants.{Aborted};
 
     /// Commits the batch that the committer holds, or else all handles that have stopped since the last batch
@@ -34,9 +36,10 @@ impl<D: Disk, C: Clock, H: Ledger, N: Ledger> Desk<D, C, H, N> {
         committer: &mut Committer<H, N>,
     ) -> Result<Round, RoundFault>
         requires { desk_of (seat_of committer.old) ≡ desk_id self.now }
-        ensures desk { desk_of (seat_of committer.new) ≡ desk_of (seat_of committer.old) }
+        ensures desk { (desk_of (seat_of committer.new) ≡ desk_of (seat_of committer.old)) × (seat_number (seat_of committer.new) ≡ seat_number (seat_of committer.old)) }
         ensures answers { AnswersRound (held_by committer.old) (held_by committer.new) (view_of (seat_of committer.new)).settled result }
         ensures idle { IdleKeeps (seat_of committer.old) (seat_of committer.new) result }
+        ensures view { SeesRound (held_by committer.old) (held_by committer.new) (view_of (seat_of committer.old)) (view_of (seat_of committer.new)) result }
         ensures counted { (stops (seat_of committer.new) ≡ stops (seat_of committer.old)) × (changes (seat_of committer.new) ≡ changes (seat_of committer.old)) }
     {
         let held = committer.batch.take();
@@ -69,8 +72,9 @@ impl<D: Disk, C: Clock, H: Ledger, N: Ledger> Desk<D, C, H, N> {
         requires free { held_by committer.old ≡ None }
         requires planned { IsPlanned prepared }
         requires taken { end_in prepared.batch ≤ (view_of (seat_of committer.old)).taken }
-        ensures desk { desk_of (seat_of committer.new) ≡ desk_of (seat_of committer.old) }
+        ensures desk { (desk_of (seat_of committer.new) ≡ desk_of (seat_of committer.old)) × (seat_number (seat_of committer.new) ≡ seat_number (seat_of committer.old)) }
         ensures answers { AnswersRound (Some prepared.batch) (held_by committer.new) (view_of (seat_of committer.new)).settled result }
+        ensures view { SeesCommit prepared.batch (view_of (seat_of committer.old)) (view_of (seat_of committer.new)) result }
         ensures counted { (stops (seat_of committer.new) ≡ stops (seat_of committer.old)) × (changes (seat_of committer.new) ≡ changes (seat_of committer.old)) }
     {
         // bound first, so that the lock is free again before the book's is taken
@@ -108,9 +112,10 @@ impl<D: Disk, C: Clock, H: Ledger, N: Ledger> Desk<D, C, H, N> {
     fn settle<R: Wait>(&self, rt: &R, seat: &mut Seat<H, N>, done: &Done) -> Result<(), RoundFault>
         requires desk { desk_of seat.old ≡ desk_id self.now }
         requires taken { past_after (first_of done.now) (entries_of done.now) ≤ (view_of seat.old).taken }
-        ensures desk { desk_of seat.new ≡ desk_of seat.old }
+        ensures desk { (desk_of seat.new ≡ desk_of seat.old) × (seat_number seat.new ≡ seat_number seat.old) }
         ensures settled { OnOk result (past_after (first_of done.now) (entries_of done.now) ≤ (view_of seat.new).settled) }
-        ensures failed { IfErr result (λ fault. fault ≡ Aborted) }
+        ensures view { OnOk result (view_of seat.new ≡ raised_settled (view_of seat.old) (past_after (first_of done.now) (entries_of done.now))) }
+        ensures failed { IfErr result (λ fault. (fault ≡ Aborted) × (seat.new ≡ seat.old)) }
         ensures counted { (stops seat.new ≡ stops seat.old) × (changes seat.new ≡ changes seat.old) }
     {
         let settled = self.counter.lock(rt).settle(done);
@@ -126,7 +131,8 @@ impl<D: Disk, C: Clock, H: Ledger, N: Ledger> Desk<D, C, H, N> {
     fn settle_last<R: Wait>(&self, rt: &R, seat: &mut Seat<H, N>, done: &Done)
         requires desk { desk_of seat.old ≡ desk_id self.now }
         requires taken { past_after (first_of done.now) (entries_of done.now) ≤ (view_of seat.old).taken }
-        ensures desk { desk_of seat.new ≡ desk_of seat.old }
+        ensures desk { (desk_of seat.new ≡ desk_of seat.old) × (seat_number seat.new ≡ seat_number seat.old) }
+        ensures view { (seat.new ≡ seat.old) ⊎ (view_of seat.new ≡ raised_settled (view_of seat.old) (past_after (first_of done.now) (entries_of done.now))) }
         ensures counted { (stops seat.new ≡ stops seat.old) × (changes seat.new ≡ changes seat.old) }
     {
         let settled = self.counter.lock(rt).settle_last(done);

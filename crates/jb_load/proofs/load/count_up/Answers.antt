@@ -18,7 +18,7 @@ add_up-requires-clause-inside g c =
 pub add_up-requires-clause-size : goal.add_up-requires-clause-size
 add_up-requires-clause-size g c =
     subst (λ (xs : List Stop). IsWithinSize (stopped_of c.args.queue.now xs)) (sym c.deref.ensures.value)
-    (small c.args.queue.now c.args.stops.items c.put_in_order.new.stops.items c.put_in_order.ensures.permuted c.args.closed.handles c.args.closed.changes c.requires.handles c.requires.changes c.if-closed-gt-MOST.false c.if-closed-gt-MOST-2.false)
+    (small c.args.queue.now c.args.stops.items c.put_in_order.new.stops.items c.put_in_order.ensures.permuted c.args.closed.handles c.args.closed.changes c.requires.handles c.requires.changes c.requires.few.0 c.requires.few.1)
 
 pub add_up-requires-clause-trail : goal.add_up-requires-clause-trail
 add_up-requires-clause-trail g c = (

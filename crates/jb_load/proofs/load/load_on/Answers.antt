@@ -31,4 +31,4 @@ returns g c =
       opens = c.in-Ok.ensures.opens;
       journal = c.shape-shape.ensures.journal;
     })
-    c.load_at.result c.load_at.ensures.loaded c.load_at.ensures.unasked c.load_at.ensures.faults)
+    c.load_at.result c.load_at.ensures.loaded c.load_at.ensures.ended c.load_at.ensures.faults)

@@ -1,13 +1,15 @@
-use Rattle.std.proofs.Common.{◌≡◌, ◌<◌, T, None, length, sym, ap, subst, ◌∙◌, arith, Err, IfErr, OnOk, rules}
+use Rattle.std.proofs.Common.{◌≡◌, ◌+◌, ◌<◌, ◌≤◌, T, None, length, sym, ap, subst, ◌∙◌, arith, Err, IfErr, OnOk, rules}
 use Rattle.std.specs.Ordering.{nat_cmp}
 use Rattle.std.specs.Cmp.{nat_cmp_total}
 use Rattle.std.specs.FinMap as map
 use Rattle.jb_handle.specs.Handle.{holder, changes_of}
+use Rattle.jb_handle.specs.Word.{WordMap}
+use Rattle.jb_handle.specs.declared.word.Word.{Word}
 use Rattle.jb_handle.proofs.Gathering.{word-more, words-whole}
 use Rattle.jb_handle.specs.declared.changes.TouchFault.{TouchFault}
 use Rattle.jb_load.specs.Faults.{not_touched}
 use Rattle.jb_load.specs.Refusing.{IsRefusedFor}
-use Rattle.jb_load.proofs.Refusals.{not-touched}
+use Rattle.jb_load.proofs.Refusals.{few-more, not-touched}
 use Rattle.jb_load.proofs.Lines.{or-nothing}
 use Rattle.jb_load.proofs.words.put_words.Goals as goal
 
@@ -17,6 +19,7 @@ loop-home-init g c = record {
   shape = λ i. (changes_of c.args.handle.now).shape;
   block = λ i. length c.args.block.now;
   words = λ q. ap (λ m. map.get m q) c.requires.fresh ∙ map.get-empty nat_cmp q;
+  few = (let none = ap map.len c.requires.fresh ∙ map.len-empty nat_cmp Word in omega (arith, none));
 }
 
 pub loop-home-preserved : goal.loop-home-preserved
@@ -28,6 +31,9 @@ loop-home-preserved g c =
       shape = ap (λ h. h.shape) c.in_ok-put_word.ensures.ok ∙ c.loop-home.invariant.shape;
       block = c.put_word.ensures.block ∙ c.loop-home.invariant.block;
       words = λ q. word-more _ rising c.loop-home.home-index c.loop-home-item.result c.loop-home-item.is inside (changes_of c.loop-home.handle).words _ _ (λ i. c.loop-home-item.result.1) (ap (λ h. h.words) c.in_ok-put_word.ensures.ok) q None (c.loop-home.invariant.words q);
+      few =
+          subst (λ (m : WordMap). map.len m ≤ c.loop-home.home-index + 1) (sym (ap (λ h. h.words) c.in_ok-put_word.ensures.ok))
+          (few-more (changes_of c.loop-home.handle).words c.loop-home-item.result.0 c.loop-home.home-index c.loop-home-item.result.1 c.loop-home.invariant.few);
     }
 
 pub returns-clause-ok : goal.returns-clause-ok
@@ -42,7 +48,7 @@ returns-in_err-put_word g c =
     let fault : TouchFault = c.in_err-put_word.field-0.0 in
     let is : c.from_residual.result ≡ Err fault = search rules in
     let inside : c.loop-home.home-index < length c.entries-home-items.result.now = omega arith in
-    let why = not-touched (changes_of c.loop-home.handle) c.args.words.now c.entries-home-items.result.now c.entries-home-items.ensures c.loop-home.home-index c.loop-home-item.result c.loop-home-item.is inside fault c.in_err-put_word.ensures.refused in
+    let why = not-touched (changes_of c.loop-home.handle) c.args.words.now c.entries-home-items.result.now c.entries-home-items.ensures c.loop-home.home-index c.loop-home-item.result c.loop-home-item.is inside c.loop-home.invariant.few fault c.in_err-put_word.ensures.refused in
     record {
       seat = c.in_err-put_word.ensures.seat ∙ c.loop-home.invariant.seat;
       block = c.in_err-put_word.ensures.block ∙ c.loop-home.invariant.block;

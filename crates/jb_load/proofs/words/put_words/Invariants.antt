@@ -1,4 +1,4 @@
-use Rattle.std.proofs.Common.{◌≡◌, ℕ, length, take, None}
+use Rattle.std.proofs.Common.{◌≡◌, ◌≤◌, ℕ, length, take, None}
 use Rattle.std.specs.Option.{option_or}
 use Rattle.std.specs.Ordering.{nat_cmp}
 use Rattle.std.specs.FinMap as map
@@ -12,4 +12,5 @@ invariant-loop-home g l = record {
   shape : (changes_of l.handle).shape ≡ (changes_of l.initial.handle).shape;
   block : length l.block ≡ length l.initial.block;
   words : (q : ℕ) → map.get (changes_of l.handle).words q ≡ option_or (map.find nat_cmp q (take l.home-index l.home-items)) None;
+  few : map.len (changes_of l.handle).words ≤ l.home-index;
 }

@@ -1,0 +1,42 @@
+use Rattle.std.proofs.Common.{◌≡◌, ◌⊎◌, inl, inr, sym, ap, subst, ◌∙◌}
+use Rattle.jb_batch.specs.Batch.{Gathered}
+use Rattle.jb_board.specs.Steps.{raised_taken}
+use Rattle.jb_desk.specs.Rounds.{held_by, seat_of}
+use Rattle.jb_desk.specs.Rounds.{end_of as end_in}
+use Rattle.jb_desk.specs.Seats.{view_of}
+use Rattle.jb_desk.specs.Views.{TakesUp, with_taken}
+use Rattle.jb_desk.specs.declared.committer.RoundFault.TheVariants.{Memory, Refused}
+use Rattle.jb_desk.proofs.Seen.{gives-takes, sees-held, sees-taken}
+use Rattle.jb_desk.proofs.desk.Desk.commit_round.Goals.{in-Memory, in-NoCut}
+use Rattle.jb_desk.proofs.desk.Desk.commit_round.Goals as goal
+
+pub returns-in-Ok-clause-view : goal.returns-in-Ok-clause-view
+returns-in-Ok-clause-view g c =
+    let held = held_by c.args.committer.now in
+    let v = view_of (seat_of c.args.committer.now) in
+    let b : Gathered = c.in-Some.batch in
+    let same : c.in-Ok.prepared.batch ≡ b = c.in-Ok.ensures.batch in
+    let up : TakesUp held b = subst (λ h. TakesUp h b) c.take-held.ensures.value (gives-takes _ _ c.take-held.result c.in_ok-batch.field-0 b c.in-Some.is c.in_ok-batch.ensures) in
+    let taken = c.raise_taken.ensures.view ∙ ap (λ x. raised_taken x c.past-end.result) c.raise_stopped.ensures.view ∙ ap (λ n. with_taken n v) c.past-end.ensures in
+    sees-taken held (held_by c.commit.new.committer) c.in-Ok.prepared.batch v _ (view_of (seat_of c.commit.new.committer)) c.commit.result
+    (subst (TakesUp held) (sym same) up)
+    (taken ∙ ap (λ (x : Gathered). with_taken (end_in x) v) (sym same))
+    c.commit.ensures.answers c.commit.ensures.view
+
+pub returns-after-fault-clause-view : goal.returns-after-fault-clause-view
+returns-after-fault-clause-view g c =
+    let held = held_by c.args.committer.now in
+    let v = view_of (seat_of c.args.committer.now) in
+    let b : Gathered = c.in-Some.batch in
+    let same : c.in-Err.batch ≡ b = c.in-Err.ensures.back in
+    let up : TakesUp held b = subst (λ h. TakesUp h b) c.take-held.ensures.value (gives-takes _ _ c.take-held.result c.in_ok-batch.field-0 b c.in-Some.is c.in_ok-batch.ensures) in
+    let taken = c.raise_taken.ensures.view ∙ ap (λ x. raised_taken x c.past-end.result) c.raise_stopped.ensures.view ∙ ap (λ n. with_taken n v) c.past-end.ensures in
+    let fault : (c.match-fault.result ≡ Memory) ⊎ (c.match-fault.result ≡ Refused) =
+    elim c.match-fault.branch [
+      | in-Memory w ↦ inl w.result-is
+      | in-NoCut w ↦ inr w.result-is
+    ] in
+    sees-held held (held_by c.hold.new.self) c.in-Err.batch v (view_of (seat_of c.hold.new.self)) c.match-fault.result fault
+    (subst (TakesUp held) (sym same) up)
+    c.hold.ensures.1
+    (ap (λ s. view_of s) c.hold.ensures.0 ∙ taken ∙ ap (λ (x : Gathered). with_taken (end_in x) v) (sym same))

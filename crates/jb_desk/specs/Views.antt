@@ -1,0 +1,50 @@
+-- What a call makes of the counts that its seat is sure of.
+use Rattle.std.specs.Prelude.{◌≡◌, ◌⊎◌, ℕ, ◌<◌, ◌≤◌, max, Option, Some, None, Result, Ok, Err}
+use Rattle.jb_batch.specs.Batch.{Gathered}
+use Rattle.jb_board.specs.Front.{front}
+use Rattle.jb_board.specs.Steps.{raised_settled}
+use Rattle.jb_board.specs.declared.front.Front.{Front}
+use Rattle.jb_desk.specs.Rounds.{AnswersRound, end_of}
+use Rattle.jb_desk.specs.declared.committer.Round.{Round}
+use Rattle.jb_desk.specs.declared.committer.Round.TheVariants.{Idle, Committed}
+use Rattle.jb_desk.specs.declared.committer.RoundFault.{RoundFault}
+use Rattle.jb_desk.specs.declared.committer.RoundFault.TheVariants.{Aborted, Memory, DeviceFault, Refused}
+
+-- the tickets below this one are taken
+abbrev pub with_taken : ℕ → Front → Front
+with_taken past v = front v.settled (max v.taken past) (max v.stopped past)
+
+-- the tickets below this one are settled
+abbrev pub with_settled : ℕ → Front → Front
+with_settled past v = front (max v.settled past) (max v.taken past) (max v.stopped past)
+
+-- what the commit of a taken batch makes of them: the batch is settled whole, or after a fault of the disk a first part of it
+-- and not all, or nothing is
+abbrev pub SeesCommit : Gathered → Front → Front → Result Round RoundFault → Type 0
+SeesCommit b old new (Ok Idle) = ⊥
+SeesCommit b old new (Ok (Committed done)) = new ≡ raised_settled old (end_of b)
+SeesCommit b old new (Err Aborted) = new ≡ old
+SeesCommit b old new (Err DeviceFault) = (new ≡ old) ⊎ ((lost : ℕ) × (b.first ≤ lost) × (lost < end_of b) × (new ≡ raised_settled old lost))
+SeesCommit b old new (Err Memory) = new ≡ old
+SeesCommit b old new (Err Refused) = new ≡ old
+
+-- no batch is taken up: there is none, or the journal has failed before
+abbrev pub TakesNone : Result Round RoundFault → Type 0
+TakesNone (Ok Idle) = Unit {0}
+TakesNone (Ok (Committed done)) = ⊥
+TakesNone (Err Aborted) = Unit {0}
+TakesNone (Err DeviceFault) = ⊥
+TakesNone (Err Memory) = ⊥
+TakesNone (Err Refused) = ⊥
+
+-- a batch that is held is the one that is taken up
+abbrev pub TakesUp : Option Gathered → Gathered → Type 0
+TakesUp None b = Unit {0}
+TakesUp (Some held) b = b ≡ held
+
+-- What a round makes of them, where the committer held such a batch before and after it: nothing where it takes up no batch;
+-- otherwise its batch is taken, and then committed
+abbrev pub SeesRound : Option Gathered → Option Gathered → Front → Front → Result Round RoundFault → Type 0
+SeesRound held after old new result =
+    (TakesNone result × (new ≡ old))
+    ⊎ ((b : Gathered) × TakesUp held b × AnswersRound (Some b) after new.settled result × SeesCommit b (with_taken (end_of b) old) new result)
