@@ -64,7 +64,6 @@ impl Model for Book {
 
 impl Book {
     ghost use Rattle.jb_desk.specs.Account.{IsStart, granted_to, dropped_of, queued, taken_all, settled_to, failed_of, is_full, refusal, RefusesBegin, IsOpenFor, CanStop, RefusesStop, CanTake, Settles};
-    ghost use Rattle.jb_desk.specs.Shadow.{reserved};
 
     /// A book of which nobody has asked anything, of a journal of this shape with so many usable log
     /// blocks. Takes no memory.

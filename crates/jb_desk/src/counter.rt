@@ -1,4 +1,4 @@
-ghost use Rattle.std.specs.Prelude.{◌≡◌, ◌≢◌, ℕ, ◌+◌, ◌<◌, ◌≤◌, ◌^◌, ◌⊎◌, true, None, IsTrue, ◌↔◌, OnOk, OnErr, IfOk, IfErr, IfSome, IfNone, vec_len};
+ghost use Rattle.std.specs.Prelude.{◌≡◌, ◌+◌, ◌<◌, ◌≤◌, ◌^◌, ◌⊎◌, true, None, IsTrue, ◌↔◌, OnOk, OnErr, IfOk, IfErr, IfSome, IfNone, vec_len};
 ghost use Rattle.std.specs.FinMap as map;
 ghost use Rattle.std.specs.List.{sum_by};
 ghost use Rattle.jb_handle.specs.Handle.{holder, changes_of};
@@ -41,7 +41,6 @@ pub(crate) struct Counter<H: Ledger, N: Ledger> {
 }
 
 impl<H: Ledger, N: Ledger> Counter<H, N> {
-    ghost use Rattle.jb_board.specs.Seats.{seat_board, seat_view};
     ghost use Rattle.jb_desk.specs.Account.{granted_to, dropped_of, refusal, RefusesBegin, IsSettledBy, IsAwaited, fault_of};
     ghost use Rattle.jb_desk.specs.Seats.{stops, changes, stops_left, changes_left};
     ghost use Rattle.jb_desk.specs.Stops.{IsStopped, RefusesStopOf};

@@ -1,6 +1,5 @@
-ghost use Rattle.std.specs.Prelude.{◌≡◌, ◌≢◌, ℕ, ◌+◌, ◌<◌, ◌≤◌, ◌^◌, [], false, IfOk, IfErr, OnOk, OnErr};
+ghost use Rattle.std.specs.Prelude.{◌≡◌, ◌+◌, ◌<◌, ◌^◌, [], false, IfOk, IfErr, OnOk, OnErr};
 ghost use Rattle.std.specs.FinMap as map;
-ghost use Rattle.std.specs.List.{sum_by};
 ghost use Rattle.jb_handle.specs.Handle.{holder, changes_of};
 ghost use Rattle.jb_handle.specs.Held.{held, touched};
 ghost use Rattle.jb_board.specs.Front.{front, InOrder, IsWithin};

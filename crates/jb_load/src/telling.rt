@@ -1,4 +1,3 @@
-ghost use Rattle.std.specs.Prelude.{codes, decimal};
 ghost use Rattle.jb_io.specs.Puts.{Puts};
 ghost use Rattle.jb_load.specs.Telling.{TellsLoad, counts_line, end_line, ends_text, faults_text, refused_text};
 

@@ -3,7 +3,7 @@ ghost use Rattle.std.specs.Prelude.{◌≡◌, ◌⊎◌, Some, length, IfErr, O
 ghost use Rattle.std.specs.FinMap as map;
 ghost use Rattle.jb_block.specs.Size.{bytes_of};
 ghost use Rattle.jb_handle.specs.Handle.{holder, changes_of};
-ghost use Rattle.jb_handle.specs.Held.{held, put_at, refusal_at};
+ghost use Rattle.jb_handle.specs.Held.{put_at, refusal_at};
 ghost use Rattle.jb_handle.specs.declared.changes.TouchFault.TheVariants.{Memory as OutOfMemory};
 ghost use Rattle.jb_load.specs.Faults.{not_touched};
 ghost use Rattle.jb_load.specs.Refusing.{IsRefusedFor};

@@ -1,6 +1,4 @@
 //! How far the book of a desk has come.
-ghost use Rattle.std.specs.Prelude.{◌≡◌};
-
 use crate::counter::Counter;
 use std::sync::ledger::Ledger;
 
