@@ -1,7 +1,8 @@
 //! Journals of any size that are called at random and lose their power at random, again and again: each image that a
 //! crash leaves recovers to homes that the plain model has, also where recovery loses its power.
 
-use crate::contents::{Left, holds, is_left, only};
+use crate::contents::{Left, fill, holds, is_left, only};
+use crate::images::{put_words, read_at, write_at};
 use crate::lives::{Call, make_call};
 use crate::model::{Homes, Model, Touch};
 use jb_block::{BlockSize, Width};
@@ -40,9 +41,58 @@ impl Seed {
     }
 }
 
-/// A new journal of 9 to 40 blocks, the 16 homes after it, and how many blocks the journal has.
-fn image(alloc: Global, seed: &mut Seed) -> Result<(MemoryDisk, u32), Fail> {
-    let maxlen = seed.below(32).saturating_add(9);
+/// Words of block 0 after the superblock's eighty bytes, in both of its sectors.
+const AFTER: [usize; 4] = [0x50, 0x1F0, 0x200, 0x3F0];
+
+/// Where things are on an image: how many blocks stand before the log, and the place of home block 0.
+#[derive(Clone, Copy)]
+struct Layout {
+    gap: u32,
+    homes: u64,
+}
+
+/// Lets the log of a new journal begin after so many further blocks, and fills these, and block 0 after the
+/// superblock.
+fn put_gap(alloc: Global, disk: &mut MemoryDisk, maxlen: u32, gap: u32) -> Result<(), Fail> {
+    let mut block = vec![in alloc; 0; 1024]?;
+    read_at(disk, 0, &mut block)?;
+    put_words(&mut block, 0x10, &[maxlen, gap.saturating_add(1), 1, 0]);
+    for at in AFTER {
+        put_words(&mut block, at, &[7, 7, 7, 7]);
+    }
+    write_at(disk, 0, &block)?;
+    let mut filled = vec![in alloc; 0; 1024]?;
+    for place in 1..=gap {
+        fill(&mut filled, place);
+        write_at(disk, u64::from(place), &filled)?;
+    }
+    disk.sync()?;
+    Ok(())
+}
+
+/// Whether the blocks before the log, and block 0 after the superblock, are as they were filled.
+fn keeps_gap(alloc: Global, disk: &mut MemoryDisk, gap: u32) -> Result<bool, Fail> {
+    let mut block = vec![in alloc; 0; 1024]?;
+    read_at(disk, 0, &mut block)?;
+    let mut wanted = vec![in alloc; 0; 1024]?;
+    read_at(disk, 0, &mut wanted)?;
+    for at in AFTER {
+        put_words(&mut wanted, at, &[7, 7, 7, 7]);
+    }
+    let mut is_kept = block.as_slice() == wanted.as_slice();
+    let mut filled = vec![in alloc; 0; 1024]?;
+    for place in 1..=gap {
+        read_at(disk, u64::from(place), &mut block)?;
+        fill(&mut filled, place);
+        is_kept = is_kept && block.as_slice() == filled.as_slice();
+    }
+    Ok(is_kept)
+}
+
+/// A new journal of 9 to 42 blocks, up to two of them before the log, and the 16 homes after it.
+fn image(alloc: Global, seed: &mut Seed) -> Result<(MemoryDisk, Layout), Fail> {
+    let gap = seed.below(3);
+    let maxlen = seed.below(32).saturating_add(9).saturating_add(gap);
     let most = seed.below(maxlen);
     let width = if seed.below(2) == 0 {
         Width::Narrow
@@ -54,7 +104,9 @@ fn image(alloc: Global, seed: &mut Seed) -> Result<(MemoryDisk, u32), Fail> {
     if format(&mut disk, maxlen, most, [7; 16], width).is_err() {
         return Err("it is not made".into());
     }
-    Ok((disk, maxlen))
+    put_gap(alloc, &mut disk, maxlen, gap)?;
+    let homes = u64::from(maxlen);
+    Ok((disk, Layout { gap, homes }))
 }
 
 /// What up to five handles do to homes, in the order of their stops, often to the same few; contents have numbers
@@ -118,13 +170,13 @@ fn choice(seed: &mut Seed) -> [u32; 128] {
     choice
 }
 
-/// What a crash leaves of a disk, recovered; one recovery in two loses its power first. The homes, from a place on,
-/// are among those that may be left.
+/// What a crash leaves of a disk, recovered; one recovery in two loses its power first. The homes are among those that
+/// may be left, and what stands before the log is as it was.
 fn recovered(
     alloc: Global,
     seed: &mut Seed,
     disk: &MemoryDisk,
-    first: u64,
+    layout: Layout,
     left: &Left,
 ) -> Result<MemoryDisk, Fail> {
     let mut found = disk.crash(&choice(seed))?;
@@ -136,8 +188,11 @@ fn recovered(
     if recover(alloc, &mut found).is_err() {
         return Err("it is not recovered".into());
     }
-    if !is_left(alloc, &mut found, first, left)? {
+    if !is_left(alloc, &mut found, layout.homes, left)? {
         return Err("the homes are no prefix".into());
+    }
+    if !keeps_gap(alloc, &mut found, layout.gap)? {
+        return Err("what stands before the log has changed".into());
     }
     Ok(found)
 }
@@ -164,15 +219,15 @@ fn life(
 
 /// Lives of a journal on one image, until the homes of one are known no more; how many images were recovered.
 fn lives(alloc: Global, seed: &mut Seed, next: &mut u32) -> Result<u64, Fail> {
-    let (mut disk, maxlen) = image(alloc, seed)?;
-    let first = u64::from(maxlen);
+    let (mut disk, layout) = image(alloc, seed)?;
+    let first = layout.homes;
     let mut homes: Homes = [0; 16];
     let mut crashes: u64 = 0;
     for _ in 0..LIVES {
         let (last, left) = life(alloc, seed, next, disk, &homes)?;
-        disk = recovered(alloc, seed, &last, first, &left)?;
+        disk = recovered(alloc, seed, &last, layout, &left)?;
         for _ in 1..IMAGES {
-            disk = recovered(alloc, seed, &last, first, &left)?;
+            disk = recovered(alloc, seed, &last, layout, &left)?;
         }
         crashes = crashes.saturating_add(u64::from(IMAGES));
         if holds(alloc, &mut disk, first, &left.was, None)? {
