@@ -1,6 +1,5 @@
 //! One word of a queue text: `w5`, `w5=c03b`, `r5`.
 
-ghost use Rattle.std.specs.Prelude.{◌≡◌};
 ghost use Rattle.jb_block.specs.Size.{bytes_of};
 ghost use Rattle.jb_queue.specs.Queue.{Gives, home_named, data_of, op_of};
 

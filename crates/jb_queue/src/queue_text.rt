@@ -1,6 +1,6 @@
 //! The text of a queue: `bs 1024` or `bs 1024 wide`, `limit 7`, and a line of words for each handle, as `h w1 w2 r3`.
 
-ghost use Rattle.std.specs.Prelude.{◌≡◌, ◌*◌, ◌+◌, ◌≤◌, [], length, IfOk, IfErr, Ok, Err, codes, option_map};
+ghost use Rattle.std.specs.Prelude.{◌≡◌, ◌*◌, ◌+◌, ◌≤◌, [], length, IfOk, IfErr, Ok, Err, option_map};
 ghost use Rattle.std.specs.FinMap as map;
 ghost use Rattle.std.specs.Option.{option_and_then};
 ghost use Rattle.jb_block.specs.Size.{bytes_of};
