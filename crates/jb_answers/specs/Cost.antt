@@ -1,9 +1,10 @@
 -- What `jb cost` says of a queue text.
-use Rattle.std.specs.Prelude.{ℕ, ◌+◌, ◌-◌, ◌/◌, List, [], ◌++◌, Option, Some, Result, Ok, Err, codes, decimal, nat_lt, if◌then◌else◌}
+use Rattle.std.specs.Prelude.{ℕ, ◌+◌, List, [], ◌++◌, Option, Some, Result, Ok, Err, codes, decimal, nat_lt, if◌then◌else◌}
 use Rattle.std.specs.Int.{div_ceil}
 use Rattle.std.specs.FinSet as set
+use Rattle.jb_block.specs.Capacity.{entries_in, tags_in}
 use Rattle.jb_block.specs.Size.{bytes_of}
-use Rattle.jb_block.specs.Width.{entry_len, is_wide, tag_len}
+use Rattle.jb_block.specs.Width.{is_wide}
 use Rattle.jb_queue.specs.Queue.{Queue, queue_of}
 use Rattle.jb_handle.specs.Words.{copies, frees}
 use Rattle.jb_queue.specs.declared.fault.QueueFault.{QueueFault}
@@ -12,11 +13,11 @@ use Rattle.jb_answers.specs.Said.{Said}
 
 -- how many tags a full descriptor of the queue's journal holds
 abbrev pub tags_of : Queue → ℕ
-tags_of q = (bytes_of q.size - 28) / tag_len (is_wide q.width)
+tags_of q = tags_in (is_wide q.width) (bytes_of q.size)
 
 -- how many entries a full revoke block of the queue's journal holds
 abbrev pub entries_of : Queue → ℕ
-entries_of q = (bytes_of q.size - 16) / entry_len (is_wide q.width)
+entries_of q = entries_in (is_wide q.width) (bytes_of q.size)
 
 -- the log blocks of the whole queue as one group: the commit block, the copies, the descriptors, the revoke blocks
 abbrev pub queue_cost : Queue → ℕ

@@ -1,12 +1,14 @@
 //! The rule of the board's words, which holds between any two steps.
-//! Word 0 is the count of stopped tickets, word 1 of taken and word 2 of settled ones.
 use crate::front::Front;
 use atomic_table::TableRule;
 
+/// The word with the count of stopped tickets.
 pub const STOPPED: usize = 0;
 
+/// The word with the count of taken tickets.
 pub const TAKEN: usize = 1;
 
+/// The word with the count of settled tickets.
 pub const SETTLED: usize = 2;
 
 /// The counts are in order, and no seat's view is above them.

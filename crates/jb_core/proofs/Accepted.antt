@@ -1,5 +1,5 @@
 -- What an accepted event shows of the machine.
-use Rattle.std.proofs.Common.{◌≡◌, ℕ, Bool, true, false, not, ◌==◌, List, [], ◌∷◌, length, ◌||◌, Option, Some, None, is_some, is_none, sym, refl, ap, ◌∙◌, ◌≤◌, arith}
+use Rattle.std.proofs.Common.{◌≡◌, ℕ, Bool, true, false, not, ◌==◌, List, [], ◌∷◌, length, Option, Some, None, is_some, is_none, sym, refl, ap, ◌∙◌, ◌≤◌, arith}
 use Rattle.std.proofs.lemmas.Bool.Decides.{nat_tests}
 use Rattle.std.specs.Option.{unwrap_or}
 use Rattle.std.specs.FinMap as map
@@ -17,10 +17,6 @@ found-none (Some x) is = absurd (let h : ⊥ = cc in h)
 pub found-some : {A : Type 0} (found : Option A) → is_none found ≡ false → (x : A) × (found ≡ Some x)
 found-some None is = absurd (let h : ⊥ = cc in h)
 found-some (Some x) is = (x, refl)
-
-pub or-false : (a b : Bool) → (a || b) ≡ false → (a ≡ false) × (b ≡ false)
-or-false true b is = absurd (let h : ⊥ = cc in h)
-or-false false b is = (refl, is)
 
 pub none-left : {A : Type 0} (xs : List A) → length xs ≤ 0 → xs ≡ []
 none-left [] le = refl

@@ -1,5 +1,6 @@
 -- Each event leaves the machine sound.
 use Rattle.std.proofs.Common.{◌≡◌, ℕ, ◌+◌, ◌^◌, ◌<◌, ◌≤◌, true, false, nat_lt, nat_le, List, [], ◌∷◌, ◌++◌, length, take, drop, Some, None, is_some, is_none, All, IfSome, sym, refl, ap, subst, ◌∙◌, le_refl, arith}
+use Rattle.std.proofs.lemmas.Bool.{or_parts}
 use Rattle.std.proofs.lemmas.Bool.Decides.{nat_tests}
 use Rattle.std.proofs.lemmas.List.{length-append, append_assoc, append-nil}
 use Rattle.std.proofs.lemmas.List.Elements.{All-nil, All-push, All-drop, All-same}
@@ -28,7 +29,7 @@ use Rattle.jb_core.specs.Line.{count}
 use Rattle.jb_core.specs.Lives.{settled_now}
 use Rattle.jb_core.specs.Machine.{Machine, handle_at, held_at, reserved, is_full, refusal_up, stopped_at, after, after_take}
 use Rattle.jb_core.specs.Sound.{waiting, stopped_now, IsGranted, IsSound}
-use Rattle.jb_core.proofs.Accepted.{found-none, found-some, or-false, first-false, opens, still-up, there-at}
+use Rattle.jb_core.proofs.Accepted.{found-none, found-some, first-false, opens, still-up, there-at}
 use Rattle.jb_core.proofs.Groups.{more-settled, parts-joined}
 use Rattle.jb_core.proofs.Entries.{length-insert_entry, length-remove_entry}
 use Rattle.jb_core.proofs.Reserved.{credits_of, open-reserved, touch-reserved, gone-reserved, stop-reserved, settle-reserved}
@@ -50,7 +51,7 @@ module _ (m : Machine) (sound : IsSound m) where
     pub open-sound : (seat credits : ℕ) → refusal_up m (Open seat credits) ≡ None → IsSound (after m (Open seat credits))
     open-sound seat credits passed =
         let tests = opens (is_some (handle_at m seat)) (nat_lt m.most credits) (is_full m credits) Busy (TooManyCredits m.most) (Full (reserved m)) passed in
-        let full = or-false (nat_lt 2147483646 (reserved m + credits)) (nat_le (2 ^ 61) (m.next + length m.handles)) tests.2 in
+        let full = or_parts (nat_lt 2147483646 (reserved m + credits)) (nat_le (2 ^ 61) (m.next + length m.handles)) tests.2 in
         let room : nat_lt 2147483646 (reserved m + credits) ≡ false = full.0 in
         let fits : reserved m + credits ≤ 2147483646 = grind (arith, nat_tests) in
         let tickets : nat_le (2 ^ 61) (m.next + length m.handles) ≡ false = full.1 in

@@ -7,7 +7,7 @@ use Rattle.std.specs.BTreeMap.{is_at}
 use Rattle.std.specs.FinMap as map
 use Rattle.jb_handle.specs.declared.shape.Shape.{Shape}
 use Rattle.jb_handle.specs.declared.op.Op.{Op}
-use Rattle.jb_handle.specs.Held.{Held, held, home_of, word_of, first_of}
+use Rattle.jb_handle.specs.Held.{Held, held, home_of, word_of}
 use Rattle.jb_handle.specs.Held as handle
 use Rattle.jb_handle.specs.LastOp.{words_by}
 use Rattle.jb_core.specs.declared.event.Event.{Event}

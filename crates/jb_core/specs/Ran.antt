@@ -1,7 +1,8 @@
 -- Runs of the machine.
-use Rattle.std.specs.Prelude.{◌≡◌, ◌-◌, ◌/◌, true, [], ◌∷◌}
+use Rattle.std.specs.Prelude.{◌≡◌, true, [], ◌∷◌}
 use Rattle.jb_block.specs.Size.{bytes_of}
-use Rattle.jb_block.specs.Width.{is_wide, tag_len, entry_len}
+use Rattle.jb_block.specs.Capacity.{entries_in, tags_in}
+use Rattle.jb_block.specs.Width.{is_wide}
 use Rattle.jb_handle.specs.declared.shape.Shape.{Shape}
 use Rattle.jb_core.specs.Machine.{Machine}
 use Rattle.jb_cost.specs.Credits.{IsMost}
@@ -11,8 +12,8 @@ use Rattle.jb_core.specs.Lives.{Log}
 -- a machine that is up and has done nothing, in the journal of a shape
 pub record IsStart (shape : Shape) (m : Machine) : Type 0 where
   pub same_shape : m.shape ≡ shape
-  pub tags : m.geometry.t ≡ (bytes_of shape.bs - 28) / tag_len (is_wide shape.width)
-  pub entries : m.geometry.r ≡ (bytes_of shape.bs - 16) / entry_len (is_wide shape.width)
+  pub tags : m.geometry.t ≡ tags_in (is_wide shape.width) (bytes_of shape.bs)
+  pub entries : m.geometry.r ≡ entries_in (is_wide shape.width) (bytes_of shape.bs)
   pub most : IsMost m.geometry shape.limit m.most
   pub up : m.up ≡ true
   pub handles : m.handles ≡ []

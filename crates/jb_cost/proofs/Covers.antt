@@ -1,28 +1,25 @@
 -- The footprint of handles, and of those with one more in front.
-use Rattle.std.proofs.Common.{◌≡◌, ℕ, ◌+◌, ◌^◌, ◌≤◌, ◌||◌, List, [], ◌∷◌, Option, Some, None, is_some, refl, sym, ap, ◌∙◌, arith}
-use Rattle.std.specs.Option.{option_or}
+use Rattle.std.proofs.Common.{◌≡◌, ℕ, ◌+◌, ◌^◌, ◌≤◌, ◌||◌, List, [], ◌∷◌, is_some, sym, ap, ◌∙◌, arith}
 use Rattle.std.specs.Ordering.{nat_cmp}
 use Rattle.std.specs.Cmp.{nat_cmp_total}
 use Rattle.std.specs.BTreeSet as tree
 use Rattle.std.specs.BTreeSet.{BTreeSet}
 use Rattle.std.specs.FinMap as map
 use Rattle.std.specs.FinSet as set
+use Rattle.std.proofs.Math.Bool.{or_comm}
 use Rattle.std.proofs.lemmas.List.Sums.{sum_by-cons}
 use Rattle.jb_handle.specs.declared.stopped.Stopped.{Stopped}
 use Rattle.jb_handle.specs.Size.{weight}
 use Rattle.jb_handle.specs.Word.{is_copy, is_free}
 use Rattle.jb_handle.specs.Words.{word, touched, copies, frees}
 use Rattle.jb_handle.proofs.Touched.{contains-touched}
+use Rattle.jb_handle.proofs.Options.{or-some}
 use Rattle.jb_cost.specs.declared.geometry.Geometry.{Geometry}
 use Rattle.jb_cost.specs.Cost.{blocks_of, cost}
 use Rattle.jb_cost.specs.Footprint.{Covered, covered_by}
 use Rattle.jb_cost.specs.Met.{new_homes}
 use Rattle.jb_cost.proofs.Fresh.{set-contains}
 use Rattle.jb_cost.proofs.Left.{len-copies, len-frees, few, no-copies, no-frees}
-
-some-or : {W : Type 0} (x y : Option W) → (is_some x || is_some y) ≡ is_some (option_or x y)
-some-or None y = refl
-some-or (Some w) y = refl
 
 -- no handle touches a home
 pub covers-none : (g : Geometry) (homes : BTreeSet ℕ) → homes.keys ≡ [] → record { geometry = g; homes = set.from_list homes.keys; copies = 0; frees = 0 } ≡ covered_by g []
@@ -60,7 +57,7 @@ module _ (g : Geometry) (hs : List Stopped) (footprint : Covered) (is : footprin
         set-contains new q
         ∙ put q
         ∙ ap (λ b. b || map.contains_key h.words q) (sym (set-contains old q) ∙ ap (λ s. set.contains s q) (same ∙ homes-are) ∙ contains-touched hs q)
-        ∙ some-or (word hs q) (map.get h.words q)
+        ∙ or_comm (is_some (word hs q)) (is_some (map.get h.words q)) ∙ sym (or-some (word hs q) (map.get h.words q))
         ∙ sym (contains-touched (h ∷ hs) q))
 
     copies-left : footprint.copies + copied ≡ set.len (copies (h ∷ hs))

@@ -3,9 +3,7 @@
 use crate::images::{BLOCKS, MAGIC, Row, difference, small};
 use jb_block::{BlockSize, Width};
 use jb_deck::{CheckpointFault, Deck, FreeFault, OpenFault};
-use jb_disk::MemoryDisk;
 use jb_super::SuperFault;
-use std::alloc::Global;
 use std::test::Fail;
 
 const ZEROS: [u32; 4] = [0, 0, 0, 0];

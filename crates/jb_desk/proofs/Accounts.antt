@@ -1,5 +1,6 @@
 -- Each call leaves the account sound.
 use Rattle.std.proofs.Common.{◌≡◌, ℕ, ◌+◌, ◌-◌, ◌^◌, ◌<◌, ◌≤◌, ◌||◌, Bool, true, false, nat_lt, nat_le, List, [], ◌∷◌, ◌++◌, length, drop, sum, None, is_some, sym, refl, ap, subst, ◌∙◌, IfSome, arith}
+use Rattle.std.proofs.lemmas.Bool.{or_parts}
 use Rattle.std.proofs.lemmas.Bool.Decides.{nat_tests}
 use Rattle.std.proofs.lemmas.List.{length-append, length-drop, drop-append-le, drop-drop}
 use Rattle.std.proofs.lemmas.List.Elements.{All-nil, All-push, All-drop}
@@ -19,7 +20,7 @@ use Rattle.jb_handle.specs.Word.{WordMap}
 use Rattle.jb_handle.proofs.Tickets.{tickets-append}
 use Rattle.jb_cost.specs.Credits.{Covers}
 use Rattle.jb_cost.proofs.Granted.{covers-append, covers-weight}
-use Rattle.jb_core.proofs.Accepted.{found-none, or-false, first-false, still-up}
+use Rattle.jb_core.proofs.Accepted.{found-none, first-false, still-up}
 use Rattle.jb_core.proofs.Entries.{sum-insert, length-insert_entry, length-remove_entry}
 use Rattle.jb_deck.specs.declared.done.Entry.{Entry}
 use Rattle.jb_deck.specs.Done.{Follow}
@@ -40,8 +41,8 @@ passed a seat credits none =
     let three = first-false (is_some (credits_at a.shadow seat)) Busy _ two.1 in
     let four = first-false (nat_lt a.most credits) (TooManyCredits a.most) _ three.1 in
     let five = first-false (is_full a credits) (Full (reserved a.shadow)) [] four.1 in
-    let full = or-false (nat_lt a.usable (reserved a.shadow + credits) || nat_le (2 ^ 61) (a.shadow.next + length a.shadow.seats)) (nat_lt (2 ^ 61) (a.granted + credits)) five.0 in
-    let both = or-false (nat_lt a.usable (reserved a.shadow + credits)) (nat_le (2 ^ 61) (a.shadow.next + length a.shadow.seats)) full.0 in
+    let full = or_parts (nat_lt a.usable (reserved a.shadow + credits) || nat_le (2 ^ 61) (a.shadow.next + length a.shadow.seats)) (nat_lt (2 ^ 61) (a.granted + credits)) five.0 in
+    let both = or_parts (nat_lt a.usable (reserved a.shadow + credits)) (nat_le (2 ^ 61) (a.shadow.next + length a.shadow.seats)) full.0 in
     let few : nat_lt a.most credits ≡ false = four.0 in
     let room : nat_lt a.usable (reserved a.shadow + credits) ≡ false = both.0 in
     let left : nat_le (2 ^ 61) (a.shadow.next + length a.shadow.seats) ≡ false = both.1 in

@@ -1,5 +1,5 @@
 //! What is assumed of a disk: whole blocks of 512-byte sectors, and what a crash may leave of them.
-ghost use Rattle.std.specs.Prelude.{Bool, false, is_ok, IsTrue, IsErr, ◌≡◌, ◌<◌, ◌≤◌, ℕ, List, length, OnOk, set};
+ghost use Rattle.std.specs.Prelude.{Bool, false, is_ok, IsTrue, IsErr, ◌≡◌, ◌<◌, ◌≤◌, ℕ, length, OnOk, set};
 ghost use Rattle.jb_block.specs.Size.{bytes_of, IsBlockSize};
 ghost use Rattle.jb_disk.specs.Image.{Image, block, Torn, Same, Only, HasShape};
 ghost use Rattle.jb_disk.specs.Time.{Goes};

@@ -1,5 +1,5 @@
 //! A disk that fails from some call on, as one that loses its power does.
-ghost use Rattle.std.specs.Prelude.{◌≡◌, ◌+◌, ◌-◌, ◌^◌, ◌==◌, ◌↔◌, ◌||◌, ℕ, min, is_ok, IsErr};
+ghost use Rattle.std.specs.Prelude.{◌≡◌, ◌-◌, ◌==◌, ◌↔◌, is_ok, IsErr};
 ghost use Rattle.jb_disk.specs.Faults.{CountsFault, CountsOne, counted};
 
 use crate::{Disk, Fault};

@@ -1,8 +1,7 @@
 //! A disk in memory. It keeps all its writes and syncs, so that a crash may leave all that a disk may.
-ghost use Rattle.std.specs.Prelude.{◌≡◌, ◌<◌, ◌∷◌, [], ℕ, length, replicate, IfOk, OnOk, OnErr};
+ghost use Rattle.std.specs.Prelude.{◌≡◌, ◌<◌, ◌∷◌, [], length, replicate, IfOk, OnOk, OnErr};
 ghost use Rattle.jb_block.specs.Size.{bytes_of};
 ghost use Rattle.jb_disk.specs.Calls.{steps_of, image_of};
-ghost use Rattle.jb_disk.specs.Image.{HasShape};
 ghost use Rattle.jb_disk.specs.History.{Wrote, Synced, newest_of, MayLeave, LeftSince, IsSound};
 ghost use Rattle.jb_disk.specs.Versions.{IsChosen};
 ghost use Rattle.jb_disk.specs.Lives.{is_block_size, newest_stays, left_has_shape, since_has_shape, left_since_now, left_only_now};

@@ -1,5 +1,5 @@
 //! A disk that fails once.
-ghost use Rattle.std.specs.Prelude.{◌≡◌, ◌-◌, ◌↔◌, ℕ, Option, Some, None, IsErr};
+ghost use Rattle.std.specs.Prelude.{◌≡◌, ◌-◌, ◌↔◌, Option, Some, None, IsErr};
 ghost use Rattle.jb_disk.specs.Faults.{counted};
 ghost use Rattle.jb_disk.specs.Once.{is_next, failures, next_of};
 

@@ -1,5 +1,5 @@
 -- The words of handles, gathered one after the other.
-use Rattle.std.proofs.Common.{◌≡◌, ℕ, zero, suc, ◌+◌, ◌<◌, ◌≤◌, cond, nat_eq, T, List, [], ◌∷◌, ◌++◌, length, get_or, take, Option, Some, None, refl, sym, ap, ◌∙◌, arith}
+use Rattle.std.proofs.Common.{◌≡◌, ℕ, zero, suc, ◌+◌, ◌<◌, ◌≤◌, cond, nat_eq, T, List, [], ◌∷◌, ◌++◌, length, get_or, take, Option, Some, None, sym, ap, ◌∙◌, arith}
 use Rattle.std.specs.Option.{option_or}
 use Rattle.std.specs.Ordering.{nat_cmp}
 use Rattle.std.specs.Cmp.{nat_cmp_total}
@@ -12,6 +12,7 @@ use Rattle.jb_handle.specs.Words.{word, words_of}
 use Rattle.jb_handle.proofs.LastWord.{or-cond, get-words_of}
 use Rattle.jb_handle.proofs.Rising.{find-take, tied-cond}
 use Rattle.jb_handle.proofs.Touched.{word-append}
+use Rattle.jb_handle.proofs.Options.{or-none}
 
 -- one word more of a handle
 pub word-more : (es : List (ℕ × Word)) → T (map.is_sorted nat_cmp es) → (i : ℕ) (e : ℕ × Word) → e ≡ get_or es i e → i < length es → (m n : WordMap) (w : Word) → w ≡ e.1 → n ≡ map.insert m e.0 w
@@ -45,10 +46,6 @@ handle-more hs i h here inside m n q put so_far =
 -- all handles
 pub handles-whole : (hs : List Stopped) (i : ℕ) → length hs ≤ i → (m : WordMap) → ((q : ℕ) → map.get m q ≡ word (take i hs) q) → m ≡ words_of hs
 handles-whole hs i whole m so_far = map.same_map nat_cmp_total map.nat_cmp-IsAntisymmetric m (words_of hs) (λ q. so_far q ∙ ap (λ gs. word gs q) (take_all i hs whole) ∙ sym (get-words_of hs q))
-
-or-none : {W : Type 0} (x y : Option W) → option_or x y ≡ None → (x ≡ None) × (y ≡ None)
-or-none None y is = (refl, is)
-or-none {W} (Some w) y is = let never : ◌≡◌ {A = Option W} (Some w) None = is in absurd (let h : ⊥ = cc in h)
 
 -- where no handle has a word on a home, none of them has
 none-each : (hs : List Stopped) (i : ℕ) (d : Stopped) (q : ℕ) → i < length hs → word hs q ≡ None → map.get (get_or hs i d).words q ≡ None

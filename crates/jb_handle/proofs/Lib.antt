@@ -4,6 +4,7 @@ pub mod Gathering
 pub mod LastOp
 pub mod LastWord
 pub mod Listed
+pub mod Options
 pub mod Rising
 pub mod Tickets
 pub mod Touched

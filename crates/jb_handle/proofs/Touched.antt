@@ -13,6 +13,7 @@ use Rattle.jb_handle.specs.declared.word.Word.TheVariants.{Copy, Free}
 use Rattle.jb_handle.specs.declared.stopped.Stopped.{Stopped}
 use Rattle.jb_handle.specs.Word.{is_copy, is_free}
 use Rattle.jb_handle.specs.Words.{word, touched, is_copied, is_freed, copies, frees}
+use Rattle.jb_handle.proofs.Options.{or-assoc, or-nothing, or-some}
 
 -- whether there is a word, of this kind
 abbrev pub is_of : (Word → Bool) → Option Word → Bool
@@ -39,18 +40,12 @@ copies-homes_of hs i = set.retain (touched hs) (λ b. copied-is_of (word hs b) i
 pub frees-homes_of : (hs : List Stopped) → homes_of is_free hs ≡ frees hs
 frees-homes_of hs i = set.retain (touched hs) (λ b. freed-is_of (word hs b) i)
 
-or-some : {W : Type 0} (x y : Option W) → (is_some y || is_some x) ≡ is_some (option_or x y)
-or-some None None = refl
-or-some None (Some w) = refl
-or-some (Some v) None = refl
-or-some (Some v) (Some w) = refl
-
 any-word : (hs : List Stopped) (q : ℕ) → list_any (eq_by_cmp nat_cmp q) (flat_map (λ h. map.keys h.words) hs) ≡ is_some (word hs q)
 any-word [] q = refl
 any-word (h ∷ hs) q =
     list_any-append (eq_by_cmp nat_cmp q) (map.keys h.words) _
     ∙ (λ i. sym (map.contains_key-keys h.words q) i || any-word hs q i)
-    ∙ or-some (word hs q) (map.get h.words q)
+    ∙ sym (or-some (word hs q) (map.get h.words q))
 
 -- a home is touched where it has a word
 pub contains-touched : (hs : List Stopped) (q : ℕ) → set.contains (touched hs) q ≡ is_some (word hs q)
@@ -72,15 +67,7 @@ contains-copies hs q = ap (λ s. set.contains s q) (sym (copies-homes_of hs)) �
 pub contains-frees : (hs : List Stopped) (q : ℕ) → set.contains (frees hs) q ≡ is_freed (word hs q)
 contains-frees hs q = ap (λ s. set.contains s q) (sym (frees-homes_of hs)) ∙ contains-homes_of is_free hs q ∙ freed-is_of (word hs q)
 
-or-none : {W : Type 0} (x : Option W) → x ≡ option_or x None
-or-none None = refl
-or-none (Some w) = refl
-
-or-assoc : {W : Type 0} (x y z : Option W) → option_or (option_or x y) z ≡ option_or x (option_or y z)
-or-assoc None y z = refl
-or-assoc (Some w) y z = refl
-
 -- a handle after the others has the last word
 pub word-append : (hs : List Stopped) (h : Stopped) (q : ℕ) → word (hs ++ h ∷ []) q ≡ option_or (map.get h.words q) (word hs q)
-word-append [] h q = or-none _
-word-append (g ∷ hs) h q = ap (λ w. option_or w (map.get g.words q)) (word-append hs h q) ∙ or-assoc (map.get h.words q) (word hs q) (map.get g.words q)
+word-append [] h q = sym (or-nothing (map.get h.words q))
+word-append (g ∷ hs) h q = ap (λ w. option_or w (map.get g.words q)) (word-append hs h q) ∙ sym (or-assoc (map.get h.words q) (word hs q) (map.get g.words q))

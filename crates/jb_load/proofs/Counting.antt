@@ -5,13 +5,16 @@ use Rattle.std.specs.List.Sorted.{IsPermutation}
 use Rattle.std.specs.FinMap as homes
 use Rattle.std.proofs.lemmas.List.Sorted.{length_permutation, sum_by-IsPermutation}
 use Rattle.std.proofs.lemmas.List.Sums.{sum_by-cons}
+use Rattle.jb_block.specs.Capacity.{entries_in, tags_in}
+use Rattle.jb_block.specs.Size.{bytes_of}
+use Rattle.jb_block.specs.Width.{is_wide}
 use Rattle.jb_handle.specs.Size.{weight, IsWithinSize}
 use Rattle.jb_handle.specs.declared.stopped.Stopped.{Stopped}
 use Rattle.jb_handle.specs.declared.shape.Shape.{Shape}
 use Rattle.jb_cost.specs.declared.geometry.Geometry.{Geometry}
 use Rattle.jb_deck.specs.Done.{Follow}
 use Rattle.jb_deck.specs.declared.done.Entry.{Entry}
-use Rattle.jb_batch.specs.Costs.{entries_in, geometry_of, tags_in}
+use Rattle.jb_batch.specs.Costs.{geometry_of}
 use Rattle.jb_batch.proofs.SameCosts.{same-costs}
 use Rattle.jb_load.specs.Blocks.{blocks_in, stopped_of}
 use Rattle.jb_load.specs.Runs.{handle_at, touching}
@@ -36,7 +39,7 @@ module _ (queue : List Stopped) (stops order : List Stop) (same : IsPermutation 
   small handles changes counted touched few less = let all = weight-stopped queue order in omega (arith, all, as-many, as-much, counted, touched, few, less)
 
 -- the blocks by any geometry of the shape's numbers
-pub same-blocks : (shape : Shape) (g : Geometry) (hs : List Stopped) (trail : List Entry) → g.t ≡ tags_in shape.bs shape.width → g.r ≡ entries_in shape.bs shape.width → blocks_in g hs trail ≡ blocks_in (geometry_of shape) hs trail
+pub same-blocks : (shape : Shape) (g : Geometry) (hs : List Stopped) (trail : List Entry) → g.t ≡ tags_in (is_wide shape.width) (bytes_of shape.bs) → g.r ≡ entries_in (is_wide shape.width) (bytes_of shape.bs) → blocks_in g hs trail ≡ blocks_in (geometry_of shape) hs trail
 same-blocks shape g hs trail tags entries = ap (λ (c : ℕ → ℕ → ℕ). sum_by (λ (e : Entry). c e.first e.past) trail) (same-costs shape g hs tags entries)
 
 -- entries end at one ticket

@@ -2,7 +2,6 @@ pub mod Adding
 pub mod Answering
 pub mod Counting
 pub mod Grouping
-pub mod Lines
 pub mod Refusals
 pub mod Stepping
 pub mod Summing

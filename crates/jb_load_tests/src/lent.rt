@@ -1,5 +1,5 @@
 //! A disk that a load gives back.
-ghost use Rattle.std.specs.Prelude.{◌≡◌, []};
+ghost use Rattle.std.specs.Prelude.{[]};
 ghost use Rattle.jb_block.specs.Size.{bytes_of};
 ghost use Rattle.jb_disk.specs.Faults.{CountsFault};
 ghost use Rattle.jb_disk.specs.Lives.{is_block_size};

@@ -1,4 +1,4 @@
-ghost use Rattle.std.specs.Prelude.{◌≡◌, ◌+◌, ◌<◌, ◌≤◌, ◌↔◌, ℕ, length, IfOk, OnErr, Some, IsTrue, MatchOption};
+ghost use Rattle.std.specs.Prelude.{◌≡◌, ◌+◌, ◌<◌, ◌≤◌, ◌↔◌, ℕ, length, IfOk, OnErr, Some, IsTrue};
 ghost use Rattle.jb_handle.specs.Size.{IsWithinSize};
 ghost use Rattle.jb_cost.specs.declared.found.Found.{Found as FoundValue};
 ghost use Rattle.jb_cost.specs.Cut.{piece_cost};

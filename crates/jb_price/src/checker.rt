@@ -1,4 +1,4 @@
-ghost use Rattle.std.specs.Prelude.{◌≡◌, ◌+◌, ◌<◌, ℕ, length, Some, IfOk, OnErr};
+ghost use Rattle.std.specs.Prelude.{◌≡◌, ◌+◌, ◌<◌, length, Some, IfOk, OnErr};
 ghost use Rattle.jb_handle.specs.Size.{IsWithinSize};
 ghost use Rattle.jb_cost.specs.Cut.{Hold, piece_cost, price};
 ghost use Rattle.jb_price.specs.Verdict.{CutSays, AnswerSays, Says, IsRight};

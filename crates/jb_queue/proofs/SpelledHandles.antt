@@ -16,6 +16,7 @@ use Rattle.jb_text.specs.Parts.{words, spaced}
 use Rattle.jb_queue.specs.Queue.{op_of, after_ops, behind_h, handle_of}
 use Rattle.jb_queue.specs.Spelling.{Entry, Each, SpellsOp, SpellsHandle, last_op}
 use Rattle.jb_handle.specs.Word.{WordMap}
+use Rattle.jb_handle.proofs.Options.{or-assoc, or-nothing}
 use Rattle.jb_text.proofs.Grammar.{spaced-words}
 use Rattle.jb_text.proofs.Joins.{Without, words-spaced}
 use Rattle.jb_queue.proofs.Ops.{ops-goes, ops-fails, ops-end, tested}
@@ -30,10 +31,6 @@ insert-last had op b =
     chosen : (test : Bool) (word : Word) (other : Option Word) → cond test (Some word) other ≡ option_or (if test then Some word else None) other
     chosen true word other = refl
     chosen false word other = refl
-
-or-assoc : (first second third : Option Word) → option_or first (option_or second third) ≡ option_or (option_or first second) third
-or-assoc None second third = refl
-or-assoc (Some word) second third = refl
 
 -- the ops that words are read to
 pub record ReadsOps (size : ℕ) (had now : WordMap) (texts : List (List ℕ)) : Type 0 where
@@ -79,10 +76,6 @@ put-last had (op ∷ ops) b =
     put-last (map.insert had op.0 op.1) ops b ∙ ap (option_or (last_op ops b)) (insert-last had op b)
     ∙ or-assoc (last_op ops b) (if op.0 == b then Some op.1 else None) (map.get had b)
 
-or-none : (found : Option Word) → option_or found None ≡ found
-or-none None = refl
-or-none (Some word) = refl
-
 -- the line of a handle
 pub handle-is : (size : ℕ) (line : List ℕ) (now : WordMap) → handle_of size line ≡ Ok now → SpellsHandle size line now
 handle-is size [] now reads = cc
@@ -105,13 +98,13 @@ handle-is size (b ∷ c ∷ rest) now reads =
       ops = are.ops;
       spelled = ap (λ first. first ∷ c ∷ rest) (eqb-true b 104 behind.0) ∙ ap (λ second. 104 ∷ second ∷ rest) (eqb-true c 32 ops.0) ∙ ap (λ bs. 104 ∷ bs) (sym (spaced-words rest));
       each = are.each;
-      left = λ home. are.left home ∙ ap (option_or (last_op are.ops home)) (map.get-empty nat_cmp home) ∙ or-none (last_op are.ops home);
+      left = λ home. are.left home ∙ ap (option_or (last_op are.ops home)) (map.get-empty nat_cmp home) ∙ or-nothing (last_op are.ops home);
     }
 
 -- the words that ops leave are known by the last one on each block
 same-words : (ops : List Entry) (now : WordMap) → ((b : ℕ) → map.get now b ≡ last_op ops b) → put_all map.empty ops ≡ now
 same-words ops now left = map.same_map nat_cmp_total nat_cmp-IsAntisymmetric (put_all map.empty ops) now
-    (λ b. put-last map.empty ops b ∙ ap (option_or (last_op ops b)) (map.get-empty nat_cmp b) ∙ or-none (last_op ops b) ∙ sym (left b))
+    (λ b. put-last map.empty ops b ∙ ap (option_or (last_op ops b)) (map.get-empty nat_cmp b) ∙ or-nothing (last_op ops b) ∙ sym (left b))
 
 pub texts-clear : (size delimiter : ℕ) (is : IsDelimiter delimiter) (texts : List (List ℕ)) (ops : List Entry) → Each (SpellsOp size) texts ops → AllByRecursion (Without delimiter) texts
 texts-clear size delimiter is [] [] each = tt

@@ -3,57 +3,68 @@ use jb_handle::Word;
 use jb_queue::{Cause, read_queue};
 use std::test::Fail;
 
-/// Texts with their block size, width and limit, how many blocks each handle touches, and words of one of them: a handle,
-/// a home block, and the first four bytes of its copy, or that it is free.
+/// The first bytes of a copy of zeros.
+const ZEROS: Option<[u8; 4]> = Some([0, 0, 0, 0]);
+
+/// A queue text; its block size and width; its limit; how many blocks each handle touches; and words of it: a handle, a home
+/// block, and the first four bytes of its copy, or that it is free.
+type Queue<'a> = (
+    &'a str,
+    (usize, Width),
+    u32,
+    &'a [usize],
+    [(usize, u64, Option<[u8; 4]>); 4],
+);
+
+const QUEUES: [Queue<'static>; 4] = [
+    (
+        "bs 1024\nlimit 7\nh w1 w2 w3\nh w3 w4 w5\nh w1 w2\n",
+        (1024, Width::Narrow),
+        7,
+        &[3, 3, 2],
+        [(0, 1, ZEROS), (0, 3, ZEROS), (1, 5, ZEROS), (2, 2, ZEROS)],
+    ),
+    (
+        "bs 1024\nlimit 7\nh w5=C03b r7 r5 w7=01 w4294967295=ff w5=00ff\nh\nh r9",
+        (1024, Width::Narrow),
+        7,
+        &[3, 0, 1],
+        [
+            (0, 5, Some([0, 255, 0, 0])),
+            (0, 7, Some([1, 0, 0, 0])),
+            (0, 4294967295, Some([255, 0, 0, 0])),
+            (2, 9, None),
+        ],
+    ),
+    (
+        "bs 4096 wide\nlimit 7\nh w4294967301=05 w5 r18446744073709551615\nh r4294967296\n",
+        (4096, Width::Wide),
+        7,
+        &[3, 1],
+        [
+            (0, 4294967301, Some([5, 0, 0, 0])),
+            (0, 5, ZEROS),
+            (0, 18446744073709551615, None),
+            (1, 4294967296, None),
+        ],
+    ),
+    (
+        "bs 1024\nlimit 7\nh w4294967301 w4294967301=05\nh w5 r4294967296",
+        (1024, Width::Narrow),
+        7,
+        &[1, 2],
+        [
+            (0, 4294967301, Some([5, 0, 0, 0])),
+            (1, 5, ZEROS),
+            (1, 4294967296, None),
+            (1, 4294967296, None),
+        ],
+    ),
+];
+
 #[test]
 fn queues_are_read(rt: HostRuntime) -> Result<(), Fail> {
-    let zeros = Some([0, 0, 0, 0]);
-    let table = [
-        (
-            "bs 1024\nlimit 7\nh w1 w2 w3\nh w3 w4 w5\nh w1 w2\n",
-            (1024, Width::Narrow),
-            7,
-            [3, 3, 2].as_slice(),
-            [(0, 1, zeros), (0, 3, zeros), (1, 5, zeros), (2, 2, zeros)],
-        ),
-        (
-            "bs 1024\nlimit 7\nh w5=C03b r7 r5 w7=01 w4294967295=ff w5=00ff\nh\nh r9",
-            (1024, Width::Narrow),
-            7,
-            [3, 0, 1].as_slice(),
-            [
-                (0, 5, Some([0, 255, 0, 0])),
-                (0, 7, Some([1, 0, 0, 0])),
-                (0, 4294967295, Some([255, 0, 0, 0])),
-                (2, 9, None),
-            ],
-        ),
-        (
-            "bs 4096 wide\nlimit 7\nh w4294967301=05 w5 r18446744073709551615\nh r4294967296\n",
-            (4096, Width::Wide),
-            7,
-            [3, 1].as_slice(),
-            [
-                (0, 4294967301, Some([5, 0, 0, 0])),
-                (0, 5, zeros),
-                (0, 18446744073709551615, None),
-                (1, 4294967296, None),
-            ],
-        ),
-        (
-            "bs 1024\nlimit 7\nh w4294967301 w4294967301=05\nh w5 r4294967296",
-            (1024, Width::Narrow),
-            7,
-            [1, 2].as_slice(),
-            [
-                (0, 4294967301, Some([5, 0, 0, 0])),
-                (1, 5, zeros),
-                (1, 4294967296, None),
-                (1, 4294967296, None),
-            ],
-        ),
-    ];
-    for (text, (size, width), limit, counts, words) in table {
+    for (text, (size, width), limit, counts, words) in QUEUES {
         let Ok(queue) = read_queue(rt.alloc(), text.as_bytes()) else {
             return Err("a queue".into());
         };
@@ -80,63 +91,65 @@ fn queues_are_read(rt: HostRuntime) -> Result<(), Fail> {
     Ok(())
 }
 
+/// Texts, the line of the first fault, and its cause.
+const FAULTY: &[(&str, u64, Cause)] = &[
+    ("", 1, Cause::BlockSizeLine),
+    ("bs 512\nlimit 2\n", 1, Cause::BlockSizeLine),
+    ("bs 01024\n", 1, Cause::BlockSizeLine),
+    ("bs 1024\r\nlimit 7\n", 1, Cause::BlockSizeLine),
+    ("bs 1024 \nlimit 7\n", 1, Cause::BlockSizeLine),
+    ("bs 1024 wide \nlimit 7\n", 1, Cause::BlockSizeLine),
+    ("bs 1024  wide\nlimit 7\n", 1, Cause::BlockSizeLine),
+    ("bs 1024 Wide\nlimit 7\n", 1, Cause::BlockSizeLine),
+    ("bs 1024 narrow\nlimit 7\n", 1, Cause::BlockSizeLine),
+    ("bs 512 wide\nlimit 7\n", 1, Cause::BlockSizeLine),
+    ("bs 1024 wide", 2, Cause::LimitLine),
+    ("bs 1024", 2, Cause::LimitLine),
+    ("bs 1024\nlimit 2", 2, Cause::LimitLine),
+    ("bs 2048\nlimit 2147483647\n", 2, Cause::LimitLine),
+    ("bs 4096\nlimit 7 \n", 2, Cause::LimitLine),
+    ("bs 1024\nlimit 7\nx\n", 3, Cause::HandleLine),
+    ("bs 1024\nlimit 7\n\nh w01\n", 3, Cause::HandleLine),
+    ("bs 1024\nlimit 7\nh\th w1\n", 3, Cause::HandleLine),
+    ("bs 1024\nlimit 7\nhw1\n", 3, Cause::HandleLine),
+    ("bs 1024\nlimit 7\nh\0\n", 3, Cause::HandleLine),
+    ("bs 1024\nlimit 7\nh w01\n", 3, Cause::OpWord),
+    ("bs 1024\nlimit 7\nh x2\n", 3, Cause::OpWord),
+    ("bs 1024\nlimit 7\nh w1\r\n", 3, Cause::OpWord),
+    ("bs 1024\nlimit 7\nh  w1\n", 3, Cause::OpWord),
+    ("bs 1024\nlimit 7\nh w1 \n", 3, Cause::OpWord),
+    ("bs 1024\nlimit 7\nh w\n", 3, Cause::OpWord),
+    ("bs 1024\nlimit 7\nh w1 r", 3, Cause::OpWord),
+    ("bs 1024\nlimit 7\nh r1=00\n", 3, Cause::OpWord),
+    (
+        "bs 1024\nlimit 7\nh w18446744073709551617\n",
+        3,
+        Cause::OpWord,
+    ),
+    (
+        "bs 1024 wide\nlimit 7\nh r18446744073709551616\n",
+        3,
+        Cause::OpWord,
+    ),
+    ("bs 1024\nlimit 7\nh wé\n", 3, Cause::OpWord),
+    ("bs 1024\nlimit 7\nh w1=c\n", 3, Cause::DataWord),
+    ("bs 1024\nlimit 7\nh w1=\n", 3, Cause::DataWord),
+    ("bs 1024\nlimit 7\nh w1=0g\n", 3, Cause::DataWord),
+    ("bs 1024\nlimit 7\nh w1=00=00\n", 3, Cause::DataWord),
+    ("bs 1024\nlimit 7\nh w1=c x\n", 3, Cause::DataWord),
+    ("bs 1024\nlimit 7\nh\nh x w1=c\ny\n", 4, Cause::OpWord),
+];
+
 /// Texts with their first fault, and two queues without a handle.
 #[test]
 fn the_first_fault_is_named(rt: HostRuntime) {
-    let table = [
-        ("", 1, Cause::BlockSizeLine),
-        ("bs 512\nlimit 2\n", 1, Cause::BlockSizeLine),
-        ("bs 01024\n", 1, Cause::BlockSizeLine),
-        ("bs 1024\r\nlimit 7\n", 1, Cause::BlockSizeLine),
-        ("bs 1024 \nlimit 7\n", 1, Cause::BlockSizeLine),
-        ("bs 1024 wide \nlimit 7\n", 1, Cause::BlockSizeLine),
-        ("bs 1024  wide\nlimit 7\n", 1, Cause::BlockSizeLine),
-        ("bs 1024 Wide\nlimit 7\n", 1, Cause::BlockSizeLine),
-        ("bs 1024 narrow\nlimit 7\n", 1, Cause::BlockSizeLine),
-        ("bs 512 wide\nlimit 7\n", 1, Cause::BlockSizeLine),
-        ("bs 1024 wide", 2, Cause::LimitLine),
-        ("bs 1024", 2, Cause::LimitLine),
-        ("bs 1024\nlimit 2", 2, Cause::LimitLine),
-        ("bs 2048\nlimit 2147483647\n", 2, Cause::LimitLine),
-        ("bs 4096\nlimit 7 \n", 2, Cause::LimitLine),
-        ("bs 1024\nlimit 7\nx\n", 3, Cause::HandleLine),
-        ("bs 1024\nlimit 7\n\nh w01\n", 3, Cause::HandleLine),
-        ("bs 1024\nlimit 7\nh\th w1\n", 3, Cause::HandleLine),
-        ("bs 1024\nlimit 7\nhw1\n", 3, Cause::HandleLine),
-        ("bs 1024\nlimit 7\nh\0\n", 3, Cause::HandleLine),
-        ("bs 1024\nlimit 7\nh w01\n", 3, Cause::OpWord),
-        ("bs 1024\nlimit 7\nh x2\n", 3, Cause::OpWord),
-        ("bs 1024\nlimit 7\nh w1\r\n", 3, Cause::OpWord),
-        ("bs 1024\nlimit 7\nh  w1\n", 3, Cause::OpWord),
-        ("bs 1024\nlimit 7\nh w1 \n", 3, Cause::OpWord),
-        ("bs 1024\nlimit 7\nh w\n", 3, Cause::OpWord),
-        ("bs 1024\nlimit 7\nh w1 r", 3, Cause::OpWord),
-        ("bs 1024\nlimit 7\nh r1=00\n", 3, Cause::OpWord),
-        (
-            "bs 1024\nlimit 7\nh w18446744073709551617\n",
-            3,
-            Cause::OpWord,
-        ),
-        (
-            "bs 1024 wide\nlimit 7\nh r18446744073709551616\n",
-            3,
-            Cause::OpWord,
-        ),
-        ("bs 1024\nlimit 7\nh wé\n", 3, Cause::OpWord),
-        ("bs 1024\nlimit 7\nh w1=c\n", 3, Cause::DataWord),
-        ("bs 1024\nlimit 7\nh w1=\n", 3, Cause::DataWord),
-        ("bs 1024\nlimit 7\nh w1=0g\n", 3, Cause::DataWord),
-        ("bs 1024\nlimit 7\nh w1=00=00\n", 3, Cause::DataWord),
-        ("bs 1024\nlimit 7\nh w1=c x\n", 3, Cause::DataWord),
-        ("bs 1024\nlimit 7\nh\nh x w1=c\ny\n", 4, Cause::OpWord),
-    ];
     for text in ["bs 2048\nlimit 3", "bs 4096\nlimit 2147483646\n"] {
         match read_queue(rt.alloc(), text.as_bytes()) {
             Ok(queue) => assert!(rt; queue.handles.is_empty(), "{text}"),
             Err(_) => assert!(rt; false, "{text}"),
         }
     }
-    for (text, line, cause) in table {
+    for &(text, line, cause) in FAULTY {
         match read_queue(rt.alloc(), text.as_bytes()) {
             Ok(_) => assert!(rt; false, "{text}"),
             Err(fault) => assert!(rt; fault.line == line && fault.cause == cause, "{text}"),

@@ -2,7 +2,7 @@
 //! were written since the last sync: each image that is left recovers to the same whole image.
 
 use crate::images::{Row, difference};
-use crate::small::{HOMES, MAGIC, clean, commit, small};
+use crate::small::{HOMES, MAGIC, small};
 use crate::wraps;
 use jb_disk::{FuseDisk, MemoryDisk};
 use jb_recover::recover;

@@ -9,112 +9,114 @@ fn said(alloc: Global, words: &[&str]) -> Option<(bool, String)> {
     }
 }
 
+/// Words, whether they are a mistake, and what is said of them.
+const ANSWERED_BY_CLAP: &[(&[&str], bool, &str)] = &[
+    (
+        &["cost"],
+        true,
+        "error: the following required arguments were not provided:\n  <FILE>\n\nUsage: jb cost <FILE>\n\nFor more information, try '--help'.\n",
+    ),
+    (
+        &["check", "a"],
+        true,
+        "error: the following required arguments were not provided:\n  <CERT>\n\nUsage: jb check <FILE> <CERT>\n\nFor more information, try '--help'.\n",
+    ),
+    (
+        &["format", "a", "--bs", "1024", "--journal", "33"],
+        true,
+        "error: the following required arguments were not provided:\n  --homes <N>\n\nUsage: jb format --bs <N> --journal <N> --homes <N> <IMAGE>\n\nFor more information, try '--help'.\n",
+    ),
+    (
+        &["format", "a", "--bs", "18446744073709551616"],
+        true,
+        "error: invalid value '18446744073709551616' for '--bs <N>': number too large to fit in target type\n\nFor more information, try '--help'.\n",
+    ),
+    (
+        &["format", "a", "--bs", "x"],
+        true,
+        "error: invalid value 'x' for '--bs <N>': invalid digit found in string\n\nFor more information, try '--help'.\n",
+    ),
+    (
+        &["recover"],
+        true,
+        "error: the following required arguments were not provided:\n  <IMAGE>\n\nUsage: jb recover <IMAGE>\n\nFor more information, try '--help'.\n",
+    ),
+    (
+        &["load", "a.img"],
+        true,
+        "error: the following required arguments were not provided:\n  <FILE>\n\nUsage: jb load <IMAGE> <FILE>\n\nFor more information, try '--help'.\n",
+    ),
+    (
+        &["load", "a.img", "a", "--threads", "-1"],
+        true,
+        "error: unexpected argument '-1' found\n\n  tip: to pass '-1' as a value, use '-- -1'\n\nUsage: jb load [OPTIONS] <IMAGE> <FILE>\n\nFor more information, try '--help'.\n",
+    ),
+    (
+        &["load", "a.img", "a", "--hold=yes"],
+        true,
+        "error: unexpected value 'yes' for '--hold' found; no more were expected\n\nUsage: jb load --hold <IMAGE> <FILE>\n\nFor more information, try '--help'.\n",
+    ),
+    (
+        &["renumber"],
+        true,
+        "error: the following required arguments were not provided:\n  <IMAGE>\n\nUsage: jb renumber <IMAGE>\n\nFor more information, try '--help'.\n",
+    ),
+    (
+        &["widen", "a", "b"],
+        true,
+        "error: unexpected argument 'b' found\n\nUsage: jb widen <IMAGE>\n\nFor more information, try '--help'.\n",
+    ),
+    (
+        &["cost", "a", "b"],
+        true,
+        "error: unexpected argument 'b' found\n\nUsage: jb cost <FILE>\n\nFor more information, try '--help'.\n",
+    ),
+    (
+        &["coast", "a"],
+        true,
+        "error: unrecognized subcommand 'coast'\n\n  tip: some similar subcommands exist: 'format', 'cost'\n\nUsage: jb <COMMAND>\n\nFor more information, try '--help'.\n",
+    ),
+    (&["--version"], false, "jb 0.1.0\n"),
+    (
+        &["cost", "-h"],
+        false,
+        "Prints the log blocks that the queue takes as one group\n\nUsage: jb cost <FILE>\n\nArguments:\n  <FILE>  A queue text, or - for standard input\n\nOptions:\n  -h, --help  Print help (see more with '--help')\n",
+    ),
+    (
+        &["dump", "-h"],
+        false,
+        "Prints the committed transactions of a journal, block by block\n\nUsage: jb dump <FILE>\n\nArguments:\n  <FILE>  A file with the whole journal at its front\n\nOptions:\n  -h, --help  Print help (see more with '--help')\n",
+    ),
+    (
+        &["format", "-h"],
+        false,
+        "Makes an image: a new journal, and home blocks of zeros after it\n\nUsage: jb format [OPTIONS] --bs <N> --journal <N> --homes <N> <IMAGE>\n\nArguments:\n  <IMAGE>  The file to make; one that is there is left alone\n\nOptions:\n      --bs <N>       Bytes of a block: 1024, 2048 or 4096\n      --journal <N>  Blocks of the journal, its superblock counted\n      --homes <N>    Home blocks after the journal\n      --max <N>      The most log blocks of a transaction; 0 for a quarter of the log [default: 0]\n      --uuid <HEX>   The journal's UUID, as 32 hexadecimal digits [default: 00000000000000000000000000000000]\n      --wide         Block numbers of 64 bits\n  -h, --help         Print help (see more with '--help')\n",
+    ),
+    (
+        &["load", "-h"],
+        false,
+        "Commits the handles of a queue text to an image, run by threads\n\nUsage: jb load [OPTIONS] <IMAGE> <FILE>\n\nArguments:\n  <IMAGE>  A file with a journal at its front, and the home blocks after it\n  <FILE>   A queue text of the image's block size\n\nOptions:\n      --threads <N>  How many threads run the handles, 1 to 64 [default: 1]\n      --hold         Commits once all handles have run, as one batch\n      --stamp <SEC>  The time of the commit blocks, in seconds since 1970 [default: 0]\n      --checkpoint   Writes home what is committed, too\n  -h, --help         Print help (see more with '--help')\n",
+    ),
+    (
+        &["recover", "-h"],
+        false,
+        "Writes home what an image's journal has committed, and empties its log\n\nUsage: jb recover <IMAGE>\n\nArguments:\n  <IMAGE>  A file with a journal at its front, and the home blocks after it\n\nOptions:\n  -h, --help  Print help (see more with '--help')\n",
+    ),
+    (
+        &["help", "renumber"],
+        false,
+        "Gives a clean journal, whose numbers may be spent, its first number again\n\nUsage: jb renumber <IMAGE>\n\nArguments:\n  <IMAGE>\n          A file with a journal at its front, and the home blocks after it\n\nOptions:\n  -h, --help\n          Print help (see a summary with '-h')\n\nStatus: 0 where the journal is renumbered, 1 where it is refused, by the name of its fault, and stays as\nit is, 2 where the file cannot be opened or read. After jb: NeedsRecovery it is to be recovered first; after\njb: DeviceFault, status 1, the command is to be called again.\n\nExample:\n  jb renumber a.img     # renumbered blocks 3 next 1\n",
+    ),
+    (
+        &["-h"],
+        false,
+        "A block journal in jbd2's format\n\nUsage: jb <COMMAND>\n\nCommands:\n  cost      Prints the log blocks that the queue takes as one group\n  plan      Prints a least cut of the queue into groups, with its prices\n  check     Checks a certificate of the queue, whoever made it\n  dump      Prints the committed transactions of a journal, block by block\n  format    Makes an image: a new journal, and home blocks of zeros after it\n  load      Commits the handles of a queue text to an image, run by threads\n  recover   Writes home what an image's journal has committed, and empties its log\n  renumber  Gives a clean journal, whose numbers may be spent, its first number again\n  widen     Gives a clean journal block numbers of 64 bits\n  help      Print this message or the help of the given subcommand(s)\n\nOptions:\n  -h, --help     Print help (see more with '--help')\n  -V, --version  Print version\n",
+    ),
+];
+
 #[test]
 fn what_is_no_command_is_answered_by_clap(rt: HostRuntime) {
-    // the words, whether they are a mistake, and what is said of them
-    for (words, is_mistake, wanted) in [
-        (
-            ["cost"].as_slice(),
-            true,
-            "error: the following required arguments were not provided:\n  <FILE>\n\nUsage: jb cost <FILE>\n\nFor more information, try '--help'.\n",
-        ),
-        (
-            ["check", "a"].as_slice(),
-            true,
-            "error: the following required arguments were not provided:\n  <CERT>\n\nUsage: jb check <FILE> <CERT>\n\nFor more information, try '--help'.\n",
-        ),
-        (
-            ["format", "a", "--bs", "1024", "--journal", "33"].as_slice(),
-            true,
-            "error: the following required arguments were not provided:\n  --homes <N>\n\nUsage: jb format --bs <N> --journal <N> --homes <N> <IMAGE>\n\nFor more information, try '--help'.\n",
-        ),
-        (
-            ["format", "a", "--bs", "18446744073709551616"].as_slice(),
-            true,
-            "error: invalid value '18446744073709551616' for '--bs <N>': number too large to fit in target type\n\nFor more information, try '--help'.\n",
-        ),
-        (
-            ["format", "a", "--bs", "x"].as_slice(),
-            true,
-            "error: invalid value 'x' for '--bs <N>': invalid digit found in string\n\nFor more information, try '--help'.\n",
-        ),
-        (
-            ["recover"].as_slice(),
-            true,
-            "error: the following required arguments were not provided:\n  <IMAGE>\n\nUsage: jb recover <IMAGE>\n\nFor more information, try '--help'.\n",
-        ),
-        (
-            ["load", "a.img"].as_slice(),
-            true,
-            "error: the following required arguments were not provided:\n  <FILE>\n\nUsage: jb load <IMAGE> <FILE>\n\nFor more information, try '--help'.\n",
-        ),
-        (
-            ["load", "a.img", "a", "--threads", "-1"].as_slice(),
-            true,
-            "error: unexpected argument '-1' found\n\n  tip: to pass '-1' as a value, use '-- -1'\n\nUsage: jb load [OPTIONS] <IMAGE> <FILE>\n\nFor more information, try '--help'.\n",
-        ),
-        (
-            ["load", "a.img", "a", "--hold=yes"].as_slice(),
-            true,
-            "error: unexpected value 'yes' for '--hold' found; no more were expected\n\nUsage: jb load --hold <IMAGE> <FILE>\n\nFor more information, try '--help'.\n",
-        ),
-        (
-            ["renumber"].as_slice(),
-            true,
-            "error: the following required arguments were not provided:\n  <IMAGE>\n\nUsage: jb renumber <IMAGE>\n\nFor more information, try '--help'.\n",
-        ),
-        (
-            ["widen", "a", "b"].as_slice(),
-            true,
-            "error: unexpected argument 'b' found\n\nUsage: jb widen <IMAGE>\n\nFor more information, try '--help'.\n",
-        ),
-        (
-            ["cost", "a", "b"].as_slice(),
-            true,
-            "error: unexpected argument 'b' found\n\nUsage: jb cost <FILE>\n\nFor more information, try '--help'.\n",
-        ),
-        (
-            ["coast", "a"].as_slice(),
-            true,
-            "error: unrecognized subcommand 'coast'\n\n  tip: some similar subcommands exist: 'format', 'cost'\n\nUsage: jb <COMMAND>\n\nFor more information, try '--help'.\n",
-        ),
-        (["--version"].as_slice(), false, "jb 0.1.0\n"),
-        (
-            ["cost", "-h"].as_slice(),
-            false,
-            "Prints the log blocks that the queue takes as one group\n\nUsage: jb cost <FILE>\n\nArguments:\n  <FILE>  A queue text, or - for standard input\n\nOptions:\n  -h, --help  Print help (see more with '--help')\n",
-        ),
-        (
-            ["dump", "-h"].as_slice(),
-            false,
-            "Prints the committed transactions of a journal, block by block\n\nUsage: jb dump <FILE>\n\nArguments:\n  <FILE>  A file with the whole journal at its front\n\nOptions:\n  -h, --help  Print help (see more with '--help')\n",
-        ),
-        (
-            ["format", "-h"].as_slice(),
-            false,
-            "Makes an image: a new journal, and home blocks of zeros after it\n\nUsage: jb format [OPTIONS] --bs <N> --journal <N> --homes <N> <IMAGE>\n\nArguments:\n  <IMAGE>  The file to make; one that is there is left alone\n\nOptions:\n      --bs <N>       Bytes of a block: 1024, 2048 or 4096\n      --journal <N>  Blocks of the journal, its superblock counted\n      --homes <N>    Home blocks after the journal\n      --max <N>      The most log blocks of a transaction; 0 for a quarter of the log [default: 0]\n      --uuid <HEX>   The journal's UUID, as 32 hexadecimal digits [default: 00000000000000000000000000000000]\n      --wide         Block numbers of 64 bits\n  -h, --help         Print help (see more with '--help')\n",
-        ),
-        (
-            ["load", "-h"].as_slice(),
-            false,
-            "Commits the handles of a queue text to an image, run by threads\n\nUsage: jb load [OPTIONS] <IMAGE> <FILE>\n\nArguments:\n  <IMAGE>  A file with a journal at its front, and the home blocks after it\n  <FILE>   A queue text of the image's block size\n\nOptions:\n      --threads <N>  How many threads run the handles, 1 to 64 [default: 1]\n      --hold         Commits once all handles have run, as one batch\n      --stamp <SEC>  The time of the commit blocks, in seconds since 1970 [default: 0]\n      --checkpoint   Writes home what is committed, too\n  -h, --help         Print help (see more with '--help')\n",
-        ),
-        (
-            ["recover", "-h"].as_slice(),
-            false,
-            "Writes home what an image's journal has committed, and empties its log\n\nUsage: jb recover <IMAGE>\n\nArguments:\n  <IMAGE>  A file with a journal at its front, and the home blocks after it\n\nOptions:\n  -h, --help  Print help (see more with '--help')\n",
-        ),
-        (
-            ["help", "renumber"].as_slice(),
-            false,
-            "Gives a clean journal, whose numbers may be spent, its first number again\n\nUsage: jb renumber <IMAGE>\n\nArguments:\n  <IMAGE>\n          A file with a journal at its front, and the home blocks after it\n\nOptions:\n  -h, --help\n          Print help (see a summary with '-h')\n\nStatus: 0 where the journal is renumbered, 1 where it is refused, by the name of its fault, and stays as\nit is, 2 where the file cannot be opened or read. After jb: NeedsRecovery it is to be recovered first; after\njb: DeviceFault, status 1, the command is to be called again.\n\nExample:\n  jb renumber a.img     # renumbered blocks 3 next 1\n",
-        ),
-        (
-            ["-h"].as_slice(),
-            false,
-            "A block journal in jbd2's format\n\nUsage: jb <COMMAND>\n\nCommands:\n  cost      Prints the log blocks that the queue takes as one group\n  plan      Prints a least cut of the queue into groups, with its prices\n  check     Checks a certificate of the queue, whoever made it\n  dump      Prints the committed transactions of a journal, block by block\n  format    Makes an image: a new journal, and home blocks of zeros after it\n  load      Commits the handles of a queue text to an image, run by threads\n  recover   Writes home what an image's journal has committed, and empties its log\n  renumber  Gives a clean journal, whose numbers may be spent, its first number again\n  widen     Gives a clean journal block numbers of 64 bits\n  help      Print this message or the help of the given subcommand(s)\n\nOptions:\n  -h, --help     Print help (see more with '--help')\n  -V, --version  Print version\n",
-        ),
-    ] {
+    for &(words, is_mistake, wanted) in ANSWERED_BY_CLAP {
         let (goes_to_err, text) = said(rt.alloc(), words).expect(&rt, "a text");
         assert_eq!(rt; (goes_to_err, text.as_str()), (is_mistake, wanted));
     }

@@ -1,5 +1,4 @@
 //! The line of each `CommandFault`.
-ghost use Rattle.std.specs.Prelude.{decimal};
 ghost use Rattle.jb_io.specs.Puts.{PutsPart};
 ghost use Rattle.jb_plain.specs.Faults.{super_line};
 

@@ -10,7 +10,7 @@ use Rattle.jb_handle.specs.declared.changes.TouchFault.{TouchFault}
 use Rattle.jb_load.specs.Faults.{not_touched}
 use Rattle.jb_load.specs.Refusing.{IsRefusedFor}
 use Rattle.jb_load.proofs.Refusals.{few-more, not-touched}
-use Rattle.jb_load.proofs.Lines.{or-nothing}
+use Rattle.jb_handle.proofs.Options.{or-nothing}
 use Rattle.jb_load.proofs.words.put_words.Goals as goal
 
 pub loop-home-init : goal.loop-home-init
