@@ -57,8 +57,8 @@ impl Footprint {
     ///
     /// # Errors
     ///
-    /// `Memory` where there is none for the handle's home blocks, of which there is one then; the
-    /// footprint is as it was.
+    /// `Memory` where there is none for the handle's home blocks, and never for a handle without
+    /// one; the footprint is as it was.
     pub fn add_left(&mut self, handle: &Stopped) -> Result<u64, Memory>
         requires room { self.old.copies + self.old.frees + map.len handle.now.words ≤ 2 ^ 62 }
         ensures ok { IfOk result (λ blocks. (g : GeometryValue) (hs : List StoppedValue) → self.old ≡ covered_by g hs → (self.new ≡ covered_by g (handle.now ∷ hs)) × (blocks ≡ cost g (handle.now ∷ hs))) }

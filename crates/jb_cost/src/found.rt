@@ -32,7 +32,7 @@ impl Found {
         }
     }
 
-    /// Price and cost added up. The sum of any two has its place in 128 bits.
+    /// Price and cost added up. The sum of any two fits in 128 bits.
     pub fn sum(self) -> u128
         ensures { result ≡ self.price + self.cost }
     {

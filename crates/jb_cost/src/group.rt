@@ -16,7 +16,7 @@ use std::alloc::Global;
 ///
 /// # Errors
 ///
-/// `Memory` where there is none for the sets of home blocks; then some handle touches a home block.
+/// `Memory` where there is none for the sets of home blocks, and never where no handle touches one.
 pub fn group_cost(alloc: Global, handles: &[Stopped], geometry: Geometry) -> Result<u64, Memory>
     requires size { IsWithinSize handles.now }
     ensures blocks { IfOk result (λ blocks. blocks ≡ cost geometry handles.now) }

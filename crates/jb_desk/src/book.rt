@@ -65,8 +65,8 @@ impl Model for Book {
 impl Book {
     ghost use Rattle.jb_desk.specs.Account.{IsStart, granted_to, dropped_of, queued, taken_all, settled_to, failed_of, is_full, refusal, RefusesBegin, IsOpenFor, CanStop, RefusesStop, CanTake, Settles};
 
-    /// A book of which nobody has asked anything, of a journal of this shape with so many usable log
-    /// blocks. Takes no memory.
+    /// A book in which nothing has happened yet, for a journal of this shape with so many usable
+    /// log blocks. Takes no memory.
     pub fn new(alloc: Global, shape: Shape, usable: u64) -> Book
         requires { usable ≤ 2147483646 }
         ensures { IsStart shape usable result }
@@ -141,9 +141,9 @@ impl Book {
             || self.granted + credits > MOST
     }
 
-    /// A seat's open handle joins the queue, and gets the next ticket (`jbd2_journal_stop`). Gives the
-    /// handle's seat back, and the ticket. What the later `take` and `settle` need of memory is taken
-    /// here.
+    /// A seat's open handle joins the queue, and gets the next ticket (`jbd2_journal_stop`). Gives
+    /// the handle's seat back, and the ticket. The memory that the later `take` and `settle` need
+    /// is taken here.
     ///
     /// # Errors
     ///

@@ -6,8 +6,8 @@ use jb_deck::{Batch, Done};
 use std::mem;
 use std::sync::ledger::Ledger;
 
-/// A seat that commits, with the batch that it has taken and could not commit yet. It must be spent: it
-/// retires or gives up, and cannot be let go by accident.
+/// A seat that commits, with the batch that it has taken and could not commit yet. It must be used
+/// up: it retires or gives up, and cannot be dropped by accident.
 #[must_use]
 pub struct Committer<H: Ledger, N: Ledger> {
     pub(crate) seat: Seat<H, N>,

@@ -26,8 +26,8 @@ use std::sync::ledger::{Blank, Ledger};
 use std::sync::{Condvar, Mutex, Wait};
 
 /// The desk of a journal, at which any number of threads begin, change and stop handles while one
-/// commits what has stopped and one brings committed groups home. Two locks stand in it, one round the
-/// book of handles and one round the journal, and none of its calls holds the first while the disk is
+/// commits what has stopped and one writes committed groups home. It has two locks, one for the
+/// book of handles and one for the journal, and none of its calls holds the first while the disk is
 /// at work.
 #[derive(Drop)]
 pub struct Desk<D: Disk, C: Clock, H: Ledger, N: Ledger> {

@@ -4,8 +4,8 @@ ghost use Rattle.jb_desk.specs.Events.{Shadowed, StepsShadow};
 
 use jb_core::{CoreFault, Event, Reply, State, step};
 
-/// An event that a sound machine accepts moves its shadow by the event's function, in which a book's
-/// calls are told.
+/// An event that a sound machine accepts changes the machine's shadow by the function by which the
+/// book's call for that event changes the book's shadow.
 #[tactic(auto, using(crate::proofs::Shadows::shadowed))]
 pub fn shadowed()
     ensures { Shadowed }

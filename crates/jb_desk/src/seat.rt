@@ -5,8 +5,8 @@ use jb_board::BoardSeat;
 use std::sync::ledger::{Ledger, Share};
 
 /// A thread's place at a desk: its number in the book, its seat at the board, and its shares of the
-/// two ledgers, in which its stops and the blocks that they touched are counted. It must be spent: it
-/// leaves the desk or goes into a handle, and cannot be let go by accident.
+/// two ledgers, in which its stops and the blocks that they touched are counted. It must be used
+/// up: it leaves the desk or goes into a handle, and cannot be dropped by accident.
 #[must_use]
 pub struct Seat<H: Ledger, N: Ledger> {
     pub(crate) number: u64,

@@ -18,7 +18,7 @@ impl<D: Disk, C: Clock> Works<D, C> {
     ghost use Rattle.jb_batch.specs.Prepared.{IsPlanned};
     ghost use Rattle.jb_desk.specs.Rounds.{CommitsAs};
 
-    /// Commits a batch at the moment that the clock tells.
+    /// Commits a batch with the clock's stamp.
     ///
     /// # Errors
     ///
@@ -33,7 +33,7 @@ impl<D: Disk, C: Clock> Works<D, C> {
         self.deck.commit_batch(prepared, stamp)
     }
 
-    /// Brings the oldest committed group home.
+    /// Writes the oldest committed group home.
     ///
     /// # Errors
     ///

@@ -9,8 +9,8 @@ use std::alloc::Global;
 use std::collections::BTreeMap;
 use std::marker::Model;
 
-/// Words while they are gathered in any order: a further one costs the logarithm of their number, where
-/// [`Words::put`] moves what stands after it.
+/// Words while they are gathered in any order: a further one costs the logarithm of their number,
+/// while [`Words::put`] moves all that come after it.
 #[derive(Drop)]
 pub struct Gathered {
     tree: BTreeMap<u64, Word>,
@@ -39,7 +39,7 @@ impl Gathered {
         }
     }
 
-    /// Puts a word in place of the one that the home block had, or as its first.
+    /// Puts a word on a home block, in place of the one that it had, if any.
     ///
     /// # Errors
     ///

@@ -28,7 +28,7 @@ impl Word {
         }
     }
 
-    /// Whether a shape has room for the word on this home block: the home is there, and a copy has the
+    /// Whether the word fits a shape on this home block: the home is there, and a copy has the
     /// bytes of a block.
     pub fn fits(&self, home: u64, shape: Shape) -> bool
         ensures { IsTrue result ↔ FitsWord shape home self.now }

@@ -100,7 +100,7 @@ impl Words {
         }
     }
 
-    /// Puts a word in place of the one that the home block had, or as its first.
+    /// Puts a word on a home block, in place of the one that it had, if any.
     ///
     /// # Errors
     ///
@@ -121,7 +121,7 @@ impl Words {
         }
     }
 
-    /// Whether a shape has room for each word.
+    /// Whether each word fits a shape.
     pub fn fit(&self, shape: Shape) -> bool
         ensures { IsTrue result ↔ Fits shape self.now }
     {

@@ -5,6 +5,6 @@ pub struct LoadOptions {
     pub threads: usize,
     /// What has stopped is committed once all workers have ended, and not while they work.
     pub hold: bool,
-    /// Committed groups are brought home, too.
+    /// Committed groups are written home, too.
     pub checkpoint: bool,
 }

@@ -14,10 +14,10 @@ use std::alloc::Global;
 /// Cuts a queue of stopped handles, in their order, into groups within the limit that take the
 /// fewest log blocks in all, and gives the least numbers of blocks for each first part of the queue.
 ///
-/// A group within the limit may be between two bounds whatever the handles around it, so the least
-/// number for an end is the best of those before it and one group more. Of several bounds with
-/// the same total the least comes before an end. The limit (`j_max_transaction_buffers` of `include/linux/jbd2.h`)
-/// and the numbers are in log blocks.
+/// Whether a group is within the limit depends on its own handles alone, so the least number for an
+/// end is the best of those before it and one group more. Of several bounds with the same total the
+/// least comes before an end. The limit (`j_max_transaction_buffers` of `include/linux/jbd2.h`) and
+/// the numbers are in log blocks.
 ///
 /// # Errors
 ///

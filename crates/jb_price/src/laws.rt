@@ -8,8 +8,8 @@ ghost use Rattle.jb_price.specs.Spelling.{SpellsClaim};
 ghost use Rattle.jb_price.specs.ReadBack.{HasText};
 ghost use Rattle.jb_price.specs.Verdict.{PlannedIsAccepted};
 
-/// The text of a certificate with a price, whose claimed cut has a number, says the same certificate: read for one
-/// handle fewer than prices, it gives it back.
+/// The text of a certificate is read back as the same certificate, for one handle fewer than it has
+/// prices. It has at least one price, and a cut that it claims has at least one bound.
 #[tactic(auto, using(crate::proofs::ReadBack::read_back))]
 pub fn read_back()
     ensures { (cert : Cert) (handles : ℕ) → HasText cert → length cert.prices.items ≡ handles + 1 → read_of handles (cert_text cert) ≡ Ok (claim_of cert) }

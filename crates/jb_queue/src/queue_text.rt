@@ -17,7 +17,8 @@ use jb_handle::{Gathered, Stopped, Words};
 use jb_text::{next_line, next_word, number, part};
 use std::alloc::Global;
 
-/// A queue of stopped handles with the journal's profile, as a text gives them.
+/// A queue of stopped handles with the block size, limit and width of its journal, as a text gives
+/// them.
 #[derive(Debug, Drop)]
 pub struct QueueText {
     /// The size of a block.

@@ -9,7 +9,7 @@ pub enum Words<'a> {
     Load(LoadWords<'a>),
 }
 
-/// The words and options of `jb load` as they were given, not judged as yet.
+/// The words and options of `jb load` as they were given, not checked yet.
 #[derive(Clone, Copy)]
 pub struct LoadWords<'a> {
     /// The file with the journal and the home blocks.

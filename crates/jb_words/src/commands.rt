@@ -84,7 +84,7 @@ fn format<'a>(alloc: Global) -> Result<Command<'a>, AllocError>
     ensures own { IfOk result (λ c. (fields_of c).has_globals ≡ false) }
 {
     let about = "Makes an image: a new journal, and home blocks of zeros after it";
-    let help = "The file to make; one that is there is left alone";
+    let help = "The file to make; an existing file is not overwritten";
     let command = over(alloc, "format", about, "IMAGE", help)?;
     let help = "Bytes of a block: 1024, 2048 or 4096";
     let command = with(command, required_number(alloc, "bs", help))?;
@@ -168,7 +168,7 @@ pub fn jb_command<'a>(alloc: Global) -> Result<Command<'a>, AllocError>
     let with_load = also(with_format, load(alloc));
     let about = "Writes home what an image's journal has committed, and empties its log";
     let with_recover = also(with_load, over_image(alloc, "recover", about));
-    let about = "Gives a clean journal, whose numbers may be spent, its first number again";
+    let about = "Restarts the transaction numbers of a clean journal at 1";
     let with_renumber = also(with_recover, over_image(alloc, "renumber", about));
     let about = "Gives a clean journal block numbers of 64 bits";
     also(with_renumber, over_image(alloc, "widen", about))

@@ -47,14 +47,14 @@ pub enum Plain<'a> {
     },
 }
 
-/// The options of `jb format` as they were given, not judged as yet.
+/// The options of `jb format` as they were given, not checked yet.
 #[derive(Clone, Copy)]
 pub struct FormatOptions<'a> {
     /// `--bs`: how many bytes a block has.
     pub bs: u64,
     /// `--journal`: how many blocks the journal has, its superblock counted.
     pub journal: u64,
-    /// `--homes`: how many blocks stand after the journal.
+    /// `--homes`: how many home blocks come after the journal.
     pub homes: u64,
     /// `--max`: the most log blocks of a transaction, 0 for a quarter of the log.
     pub max: u64,

@@ -12,8 +12,8 @@ use std::sync::ledger::Ledger;
 impl<D: Disk, C: Clock, H: Ledger, N: Ledger> Desk<D, C, H, N> {
     ghost use Rattle.jb_desk.specs.declared.ended.Ended.TheVariants.{Shut, Aborted};
 
-    /// Brings the oldest committed group home (`jbd2_log_do_checkpoint`). The book is not locked while the
-    /// disk is at work.
+    /// Writes the oldest committed group home (`jbd2_log_do_checkpoint`). The book is not locked
+    /// while the disk is at work.
     ///
     /// # Errors
     ///
@@ -23,8 +23,8 @@ impl<D: Disk, C: Clock, H: Ledger, N: Ledger> Desk<D, C, H, N> {
         self.works.lock(rt).checkpoint()
     }
 
-    /// Brings committed groups home, the oldest first, until the desk is shut, no handle is open, queued
-    /// or taken, and no group is left, or until the journal has failed.
+    /// Writes committed groups home, the oldest first, until the desk is shut, no handle is open,
+    /// queued or taken, and no group is left, or until the journal has failed.
     pub fn run_checkpointer<R: Wait>(&self, rt: &R) -> Ended
         ensures { (result ≡ Shut) ⊎ (result ≡ Aborted) }
     {

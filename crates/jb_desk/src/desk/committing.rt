@@ -14,8 +14,8 @@ impl<D: Disk, C: Clock, H: Ledger, N: Ledger> Desk<D, C, H, N> {
     ghost use Rattle.jb_desk.specs.Seats.{stops, changes, seat_number, desk_of, view_of};
     ghost use Rattle.jb_board.specs.Front.{IsWithin};
 
-    /// Commits what stops, round after round, until the desk is shut and no handle is open, queued or taken,
-    /// or until a round does not end well.
+    /// Commits what stops, round after round, until the desk is shut and no handle is open, queued
+    /// or taken, or until a round fails.
     pub fn run_committer<R: Wait>(
         &self,
         rt: &R,

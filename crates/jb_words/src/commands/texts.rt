@@ -8,7 +8,7 @@ pub(crate) const JB: &str =
   h w1 w2=c03b3998 r5     a handle that writes home block 1, and 2 with these bytes, and revokes 5
 
 An image has the journal first, its superblock at the front, and the home blocks after it: home block N
-is the block at s_maxlen + N. The FILE of dump is a journal, whatever stands after it.
+is the block at s_maxlen + N. The FILE of dump is a journal, whatever comes after it.
 
 Status: 0 where a command is done, and what it judges fits or is accepted; 1 where it is not, or an image
 is refused, or a read, a write or memory failed; 2 where the words, a file or a text cannot be taken. What
@@ -81,7 +81,7 @@ const RECOVER: &str =
 is, 2 where the file cannot be opened or read. After jb: DeviceFault, status 1, it is to be called again.
 
 Example:
-  jb recover a.img     # transactions 1 copies 1 revoked 0 next 4";
+  jb recover a.img     # transactions 1 copies 5 revoked 0 next 4";
 
 const RENUMBER: &str =
     "Status: 0 where the journal is renumbered, 1 where it is refused, by the name of its fault, and stays as
@@ -89,7 +89,7 @@ it is, 2 where the file cannot be opened or read. After jb: NeedsRecovery it is 
 jb: DeviceFault, status 1, the command is to be called again.
 
 Example:
-  jb renumber a.img     # renumbered blocks 3 next 1";
+  jb renumber a.img     # renumbered blocks 2 next 1";
 
 const WIDEN: &str =
     "Status: 0 where the journal has block numbers of 64 bits now, 1 where it is refused, by the name of its
