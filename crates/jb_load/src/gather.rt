@@ -24,6 +24,7 @@ pub(crate) struct Gathered<H: Ledger, N: Ledger> {
 impl<H: Ledger, N: Ledger> Gathered<H, N> {
     ghost use Rattle.std.specs.Prelude.{◌≡◌, ℕ, List, vec_capacity, ◌≤◌, ◌+◌, ◌++◌, ◌∷◌, [], map, None, IfOk, OnOk};
     ghost use Rattle.std.specs.List.{flat_map, sum_by};
+    ghost use Rattle.std.specs.Option.{option_to_list};
     ghost use Rattle.jb_desk.specs.Seats.{stops_left, changes_left};
     ghost use Rattle.jb_load.specs.Gathering.{earlier_of, first_refused};
     ghost use Rattle.jb_load.specs.Runs.{run_of, stops_in, changes_in};
@@ -66,6 +67,7 @@ impl<H: Ledger, N: Ledger> Gathered<H, N> {
     /// # Errors
     /// `Memory` where there is none for that.
     fn add(&mut self, worked: Worked<H, N>) -> Result<(), Memory>
+        ensures lefts { OnOk result (self.new.lefts.items ≡ self.old.lefts.items ++ option_to_list worked.left) }
         ensures stops { OnOk result (self.new.stops.items ≡ self.old.stops.items ++ worked.stops.items) }
         ensures refused { OnOk result (self.new.refused ≡ earlier_of self.old.refused worked.refused) }
         ensures counted { OnOk result (sum_by stops_left self.new.lefts.items ≡ sum_by stops_left self.old.lefts.items + stops_in worked.left) }
@@ -90,7 +92,8 @@ impl<H: Ledger, N: Ledger> Gathered<H, N> {
     /// `Memory` where there is none for that.
     pub fn gather(self, ran: Ran<H, N>) -> Result<Gathered<H, N>, Memory>
         requires empty { (self.lefts.items ≡ []) × (self.stops.items ≡ []) × (self.refused ≡ None) }
-        ensures { IfOk result (λ gathered. (shape : ShapeValue) (queue : List StoppedValue) (threads : ℕ) → HasRun shape queue threads ran → IsGathered shape queue threads gathered) }
+        ensures lefts { IfOk result (λ gathered. gathered.lefts.items ≡ ran.committer ∷ flat_map (λ w. option_to_list w.left) ran.workers.items) }
+        ensures gathered { IfOk result (λ gathered. (shape : ShapeValue) (queue : List StoppedValue) (threads : ℕ) → HasRun shape queue threads ran → IsGathered shape queue threads gathered) }
     {
         let mut gathered = self;
         gathered.add_left(ran.committer)?;
@@ -104,6 +107,7 @@ impl<H: Ledger, N: Ledger> Gathered<H, N> {
     /// `Memory` where there is none for that.
     fn add_all(&mut self, workers: Vec<Worked<H, N>>) -> Result<(), Memory>
         requires none { (self.old.stops.items ≡ []) × (self.old.refused ≡ None) }
+        ensures lefts { OnOk result (self.new.lefts.items ≡ self.old.lefts.items ++ flat_map (λ w. option_to_list w.left) workers.items) }
         ensures stops { OnOk result (self.new.stops.items ≡ flat_map (λ w. w.stops.items) workers.items) }
         ensures refused { OnOk result (self.new.refused ≡ first_refused (map run_of workers.items)) }
         ensures counted { OnOk result (sum_by stops_left self.new.lefts.items ≡ sum_by stops_left self.old.lefts.items + sum_by (λ w. stops_in w.left) workers.items) }

@@ -1,5 +1,5 @@
 //! One handle of the queue is run.
-ghost use Rattle.std.specs.Prelude.{◌≡◌, ◌+◌, IfOk, IfErr, OnErr, length};
+ghost use Rattle.std.specs.Prelude.{◌≡◌, ◌+◌, max, IfOk, IfErr, OnErr, length};
 ghost use Rattle.std.specs.FinMap as map;
 ghost use Rattle.jb_block.specs.Size.{bytes_of};
 ghost use Rattle.jb_handle.specs.Handle.{holder, changes_of};
@@ -9,7 +9,7 @@ ghost use Rattle.jb_handle.specs.declared.shape.Shape.{Shape as ShapeValue};
 ghost use Rattle.jb_load.specs.Refusing.{IsRefusedFor};
 ghost use Rattle.jb_desk.specs.Desks.{desk_id, shape_in};
 ghost use Rattle.jb_desk.specs.Refusals.{IsTooMany};
-ghost use Rattle.jb_desk.specs.Seats.{stops, changes, desk_of};
+ghost use Rattle.jb_desk.specs.Seats.{stops, changes, desk_of, view_of};
 
 use crate::fault::HandleFault;
 use crate::words::put_words;
@@ -36,6 +36,7 @@ pub(crate) fn run_handle<D: Disk, C: Clock, R: Wait + time::Clock, H: Ledger, N:
     requires block { length block.old ≡ bytes_of (shape_in desk.now).bs }
     ensures desk { desk_of result.0 ≡ desk_id desk.now }
     ensures block { length block.new ≡ length block.old }
+    ensures ticket { IfOk result.1 (λ ticket. (view_of result.0).stopped ≡ max (view_of seat).stopped (ticket + 1)) }
     ensures stopped { IfOk result.1 (λ _. (stops result.0 ≡ stops seat + 1) × (changes result.0 ≡ changes seat + map.len words.now)) }
     ensures refused { OnErr result.1 ((stops result.0 ≡ stops seat) × (changes result.0 ≡ changes seat)) }
     ensures why { IfErr result.1 (IsRefusedFor (shape_in desk.now) words.now) }
@@ -85,6 +86,7 @@ fn fill<D: Disk, C: Clock, R: Wait, H: Ledger, N: Ledger>(
     requires fresh { (changes_of handle).words ≡ map.empty }
     ensures desk { desk_of result.0 ≡ desk_id desk.now }
     ensures block { length block.new ≡ length block.old }
+    ensures ticket { IfOk result.1 (λ ticket. (view_of result.0).stopped ≡ max (view_of (holder handle)).stopped (ticket + 1)) }
     ensures stopped { IfOk result.1 (λ _. (stops result.0 ≡ stops (holder handle) + 1) × (changes result.0 ≡ changes (holder handle) + map.len words.now)) }
     ensures refused { OnErr result.1 ((stops result.0 ≡ stops (holder handle)) × (changes result.0 ≡ changes (holder handle))) }
     ensures why { IfErr result.1 (IsRefusedFor (changes_of handle).shape words.now) }
@@ -104,6 +106,7 @@ fn stop<D: Disk, C: Clock, R: Wait, H: Ledger, N: Ledger>(
 ) -> (Seat<H, N>, Result<u64, HandleFault>)
     requires desk { desk_of (holder handle) ≡ desk_id desk.now }
     ensures desk { desk_of result.0 ≡ desk_id desk.now }
+    ensures ticket { IfOk result.1 (λ ticket. (view_of result.0).stopped ≡ max (view_of (holder handle)).stopped (ticket + 1)) }
     ensures stopped { IfOk result.1 (λ _. (stops result.0 ≡ stops (holder handle) + 1) × (changes result.0 ≡ changes (holder handle) + touched (changes_of handle))) }
     ensures refused { OnErr result.1 ((stops result.0 ≡ stops (holder handle)) × (changes result.0 ≡ changes (holder handle))) }
     ensures why { IfErr result.1 (λ fault. (shape : ShapeValue) (words : WordMap) → IsRefusedFor shape words fault) }

@@ -9,22 +9,22 @@ use Rattle.jb_load.proofs.load.load_at.Goals as goal
 pub count_up-requires-clause-inside : goal.count_up-requires-clause-inside
 count_up-requires-clause-inside g c =
     let ran = subst (λ r. IfOk r (HasRun {H = g.row.H.Denot} {N = g.row.N.Denot} (shape_in c.args.desk) c.args.queue.now c.args.options.threads)) c.in_ok-ran.was c.run-ran.ensures.ran in
-    (c.in_ok-lefts.ensures (shape_in c.args.desk) c.args.queue.now c.args.options.threads ran).inside
+    (c.in_ok-lefts.ensures.gathered (shape_in c.args.desk) c.args.queue.now c.args.options.threads ran).inside
 
 pub count_up-requires-clause-handles : goal.count_up-requires-clause-handles
 count_up-requires-clause-handles g c =
     let ran = subst (λ r. IfOk r (HasRun {H = g.row.H.Denot} {N = g.row.N.Denot} (shape_in c.args.desk) c.args.queue.now c.args.options.threads)) c.in_ok-ran.was c.run-ran.ensures.ran in
-    c.in-Ok.ensures.handles ∙ (c.in_ok-lefts.ensures (shape_in c.args.desk) c.args.queue.now c.args.options.threads ran).handles
+    c.in-Ok.ensures.handles ∙ (c.in_ok-lefts.ensures.gathered (shape_in c.args.desk) c.args.queue.now c.args.options.threads ran).handles
 
 pub count_up-requires-clause-changes : goal.count_up-requires-clause-changes
 count_up-requires-clause-changes g c =
     let ran = subst (λ r. IfOk r (HasRun {H = g.row.H.Denot} {N = g.row.N.Denot} (shape_in c.args.desk) c.args.queue.now c.args.options.threads)) c.in_ok-ran.was c.run-ran.ensures.ran in
-    c.in-Ok.ensures.changes ∙ (c.in_ok-lefts.ensures (shape_in c.args.desk) c.args.queue.now c.args.options.threads ran).changes
+    c.in-Ok.ensures.changes ∙ (c.in_ok-lefts.ensures.gathered (shape_in c.args.desk) c.args.queue.now c.args.options.threads ran).changes
 
 pub returns-clause-loaded : goal.returns-clause-loaded
 returns-clause-loaded g c =
     let ran = subst (λ r. IfOk r (HasRun {H = g.row.H.Denot} {N = g.row.N.Denot} (shape_in c.args.desk) c.args.queue.now c.args.options.threads)) c.in_ok-ran.was c.run-ran.ensures.ran in
-    let gathered = c.in_ok-lefts.ensures (shape_in c.args.desk) c.args.queue.now c.args.options.threads ran in
+    let gathered = c.in_ok-lefts.ensures.gathered (shape_in c.args.desk) c.args.queue.now c.args.options.threads ran in
     let counts = c.in_ok-counts.ensures.counts in
     record {
       runs = gathered.runs;

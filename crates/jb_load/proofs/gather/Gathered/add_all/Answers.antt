@@ -1,4 +1,5 @@
 use Rattle.std.proofs.Common.{◌++◌, [], None, sym, ap, ◌∙◌, arith}
+use Rattle.std.specs.Option.{option_to_list}
 use Rattle.std.proofs.lemmas.List.{flat_map_more}
 use Rattle.std.proofs.lemmas.List.Sums.{sum_by_push}
 use Rattle.jb_load.specs.Gathering.{earlier_of}
@@ -13,6 +14,7 @@ loop-worked-preserved g c =
     let w : W = c.in-Some.worked in
     let ws = c.loop-worked.yielded in
     record {
+      lefts = c.in_ok-add.ensures.lefts ∙ ap (λ xs. xs ++ option_to_list w.left) c.loop-worked.invariant.lefts ∙ flat_map_more (λ (x : W). option_to_list x.left) _ ws w;
       stops = c.in_ok-add.ensures.stops ∙ ap (λ xs. xs ++ w.stops.items) c.loop-worked.invariant.stops ∙ flat_map_more (λ (x : W). x.stops.items) [] ws w;
       refused = c.in_ok-add.ensures.refused ∙ ap (λ r. earlier_of r w.refused) c.loop-worked.invariant.refused ∙ sym (first-more (run_of {H = g.row.H.Denot} {N = g.row.N.Denot}) None ws w);
       counted = omega (arith, c.in_ok-add.ensures.counted, c.loop-worked.invariant.counted, sum_by_push (λ (x : W). stops_in x.left) ws w);

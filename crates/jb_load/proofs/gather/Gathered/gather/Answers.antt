@@ -1,14 +1,23 @@
-use Rattle.std.proofs.Common.{◌<◌, length, map, sym, ap, subst, ◌∙◌, arith}
-use Rattle.std.specs.List.{All, sum_by}
+use Rattle.std.proofs.Common.{◌<◌, ◌++◌, [], ◌∷◌, length, map, sym, ap, subst, ◌∙◌, arith}
+use Rattle.std.specs.List.{All, flat_map, sum_by}
+use Rattle.std.specs.Option.{option_to_list}
 use Rattle.std.proofs.lemmas.List.Sums.{sum_by_push}
 use Rattle.jb_desk.specs.Seats.{stops_left, changes_left}
 use Rattle.jb_load.specs.Runs.{run_of, touching}
 use Rattle.jb_load.specs.declared.worker.Stop.{Stop}
+use Rattle.jb_load.specs.declared.worker.Worked.{Worked}
 use Rattle.jb_load.proofs.Summing.{are-runs, same-stops, all-inside, all-stops, all-changes}
 use Rattle.jb_load.proofs.gather.Gathered.gather.Goals as goal
 
-pub returns : goal.returns
-returns g c shape queue threads ran =
+pub returns-clause-lefts : goal.returns-clause-lefts
+returns-clause-lefts g c =
+    let W = Worked g.row.H.Denot g.row.N.Denot in
+    let others = flat_map (λ (w : W). option_to_list w.left) c.args.ran.workers.items in
+    c.in_ok-add_all.ensures.lefts
+    ∙ ap (λ xs. xs ++ others) (c.in_ok-add_left.ensures.lefts ∙ ap (λ xs. xs ++ c.args.ran.committer ∷ []) c.requires.empty.0)
+
+pub returns-clause-gathered : goal.returns-clause-gathered
+returns-clause-gathered g c shape queue threads ran =
     let ws = c.args.ran.workers.items in
     let committer = c.args.ran.committer in
     let lefts = c.in_ok-add_left.ensures.lefts in
