@@ -1,0 +1,59 @@
+//! One call of a client: a batch is committed, and what a refused one hands back is given up.
+ghost use Rattle.std.specs.Prelude.{◌≡◌, false, OnOk};
+ghost use Rattle.jb_disk.specs.Kept.{Kept};
+ghost use Rattle.jb_disk.specs.Time.{LeavesOnly};
+ghost use Rattle.jb_batch.specs.Prepared.{IsPlanned};
+ghost use Rattle.jb_deck.specs.Gathering.{groups_in};
+ghost use Rattle.jb_deck.specs.Leaving.{AllHave};
+ghost use Rattle.jb_deck.specs.Log.{standing};
+ghost use Rattle.jb_deck.specs.Since.{IsEnded};
+ghost use Rattle.jb_deck.specs.Trailing.{FollowsSome};
+
+use jb_batch::Prepared;
+use jb_block::Stamp;
+use jb_deck::{BatchFault, Deck};
+use jb_disk::Disk;
+
+/// A batch was refused, or a call of the disk failed.
+#[derive(Drop)]
+pub(crate) struct Refused;
+
+/// Gives up a batch.
+pub(crate) fn give_up(batch: Prepared) {
+    let _handles = batch.back().end();
+}
+
+/// Gives up the batch that a refusal hands back.
+fn give_up_refused(fault: BatchFault) {
+    match fault {
+        BatchFault::Aborted(batch)
+        | BatchFault::WrongTicket(batch, _)
+        | BatchFault::OtherShape(batch)
+        | BatchFault::NumbersSpent(batch)
+        | BatchFault::Memory(batch) => give_up(batch),
+        BatchFault::DeviceFault { settled: _ } => {}
+    }
+}
+
+/// Commits a batch. Where it is refused, it is given up.
+pub(crate) fn commit<D: Disk>(
+    deck: &mut Deck<D>,
+    batch: Prepared,
+    stamp: Stamp,
+) -> Result<(), Refused>
+    ensures planned { IsPlanned batch }
+    ensures kept { Kept D.size D.count D.honest deck.old.disk deck.new.disk }
+    ensures up { OnOk result ((deck.old.aborted ≡ false) × (deck.new.aborted ≡ false)) }
+    ensures ended { D.honest deck.old.disk → OnOk result (IsEnded D.newest deck.old (record { settled = batch.batch.handles; deck = deck.new })) }
+    ensures leaves { deck.old.aborted ≡ false → D.honest deck.old.disk → LeavesOnly D.moment D.left_since deck.old.disk deck.new.disk (FollowsSome deck.old.log.sb (D.size deck.old.disk) (D.count deck.old.disk) (standing deck.old.log deck.old.groups (D.newest deck.old.disk)) batch.batch.handles batch.groups 0 (groups_in batch.groups)) }
+    ensures now { deck.old.aborted ≡ false → D.honest deck.old.disk → OnOk result (AllHave D.may_leave deck.new.disk (FollowsSome deck.old.log.sb (D.size deck.old.disk) (D.count deck.old.disk) (standing deck.old.log deck.old.groups (D.newest deck.old.disk)) batch.batch.handles batch.groups (groups_in batch.groups) (groups_in batch.groups))) }
+{
+    let _bounds = batch.groups().len(); // they are those of a least cut
+    match deck.commit_batch(batch, stamp) {
+        Ok(_) => Ok(()),
+        Err(fault) => {
+            give_up_refused(fault);
+            Err(Refused)
+        }
+    }
+}

@@ -1,0 +1,58 @@
+//! Three batches, with a checkpoint before the last one.
+ghost use Rattle.std.specs.Prelude.{IfOk, ◌++◌};
+ghost use Rattle.jb_client.specs.Client.{LeavesPrefix};
+
+use crate::commit::{commit, give_up};
+use jb_batch::Prepared;
+use jb_block::Stamp;
+use jb_deck::{Deck, laws};
+use jb_disk::Disk;
+use std::alloc::Global;
+
+/// Opens the journal of a disk, commits two batches, checkpoints the oldest transaction and commits a third batch.
+/// Whatever a crash leaves while the third is committed has the journal's own superblock. It is recovered to the homes
+/// as they stood at first, with the handles of the first two batches and those of the first groups of the third: of all
+/// its groups once it is committed.
+///
+/// # Errors
+///
+/// The disk, where the third batch is not committed: the journal was not opened, a batch was refused, there was nothing to
+/// checkpoint, or a call of the disk failed.
+pub fn commit_three<D: Disk + Drop>(
+    alloc: Global,
+    disk: D,
+    first: Prepared,
+    second: Prepared,
+    third: Prepared,
+    stamp: Stamp,
+) -> Result<Deck<D>, D>
+    ensures prefix { D.honest disk → IfOk result (λ deck. LeavesPrefix D.may_leave D.moment D.left_since (D.size disk) (D.count disk) (D.newest disk) (first.batch.handles ++ second.batch.handles) third deck.disk) }
+{
+    laws::since::<D>();
+    let mut deck = match Deck::open(alloc, disk) {
+        Ok(deck) => deck,
+        Err((disk, _)) => {
+            give_up(first);
+            give_up(second);
+            give_up(third);
+            return Err(disk);
+        }
+    };
+    let Ok(()) = commit(&mut deck, first, stamp) else {
+        give_up(second);
+        give_up(third);
+        return Err(deck.close());
+    };
+    let Ok(()) = commit(&mut deck, second, stamp) else {
+        give_up(third);
+        return Err(deck.close());
+    };
+    let Ok(_) = deck.checkpoint_one() else {
+        give_up(third);
+        return Err(deck.close());
+    };
+    match commit(&mut deck, third, stamp) {
+        Ok(()) => Ok(deck),
+        Err(_) => Err(deck.close()),
+    }
+}
