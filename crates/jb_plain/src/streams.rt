@@ -13,7 +13,7 @@ mod telling;
 pub use changing::{renumber_on, widen_on};
 pub use dumping::dump_from;
 pub use formatting::format_on;
-pub use reading::TEXT_LIMIT;
+pub use reading::{CERT_LIMIT, TEXT_LIMIT};
 pub(crate) use reading::read_as;
 pub use recovering::recover_on;
 pub use refusal::refuse_words;
