@@ -1,2 +1,4 @@
 pub mod Best
+pub mod Lengths
+pub mod Light
 pub mod Verdicts

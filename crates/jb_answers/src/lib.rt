@@ -4,6 +4,7 @@
 mod answer;
 mod check;
 mod cost;
+pub mod laws;
 mod plan;
 mod queue_fault;
 

@@ -6,13 +6,14 @@ use Rattle.jb_words.specs.Named.{Asked}
 use Rattle.jb_words.specs.Named.Asked.{AsksCheck, AsksCost, AsksDump, AsksFormat, AsksPlan, AsksRecover, AsksRenumber, AsksWiden}
 use Rattle.jb_answers.specs.Check.{CheckSays}
 use Rattle.jb_answers.specs.Cost.{cost_said}
+use Rattle.jb_answers.specs.Limits.{cert_limit}
 use Rattle.jb_plain.specs.Dump.{DumpsFile}
 use Rattle.jb_plain.specs.Files.{EndsOfFormat, EndsOfRecover, EndsOfRenumber, EndsOfWiden}
 use Rattle.jb_answers.specs.Plan.{PlanSays}
 use Rattle.jb_answers.specs.Said.{Said}
 use Rattle.jb_plain.specs.Said.{Outputs, Tells}
 use Rattle.jb_plain.specs.Faults.{line_of, status_of}
-use Rattle.jb_plain.specs.Texts.{HasNoText, IsText, known_behind}
+use Rattle.jb_plain.specs.Texts.{HasNoText, HasNoTextWithin, IsText, IsTextWithin, known_behind}
 use Rattle.jb_plain.specs.declared.fault.CommandFault.{CommandFault}
 
 -- a command said what it has to say of the text after this name, or ended without a word where there was no text or no memory
@@ -21,12 +22,12 @@ Ends Says name input old new end =
     ((text : List ℕ) × (words : Said) × IsText (known_behind name input) text × Says text words × Tells words old new end)
     ⊎ ((fault : CommandFault) × (end ≡ Err fault) × HasNoText name (known_behind name input) fault × (new ≡ old))
 
--- a command over the texts of two files told what it has to say of them, or ended without a word for want of a text or of
--- memory
+-- a command over a queue text and a certificate, of two files, told what it has to say of them, or ended without a word for
+-- want of one of them or of memory
 abbrev pub EndsOfTwo : (List ℕ → List ℕ → Said → Type 0) → List ℕ → List ℕ → Outputs → Outputs → Result ℕ CommandFault → Type 0
 EndsOfTwo Says name other old new end =
-    ((text text' : List ℕ) × (words : Said) × IsText None text × IsText None text' × Says text text' words × Tells words old new end)
-    ⊎ ((fault : CommandFault) × (end ≡ Err fault) × (HasNoText name None fault ⊎ HasNoText other None fault) × (new ≡ old))
+    ((text text' : List ℕ) × (words : Said) × IsText None text × IsTextWithin cert_limit None text' × Says text text' words × Tells words old new end)
+    ⊎ ((fault : CommandFault) × (end ≡ Err fault) × (HasNoText name None fault ⊎ HasNoTextWithin cert_limit other None fault) × (new ≡ old))
 
 -- standard output holds what the command wrote, and standard error is left alone
 abbrev pub OutAlone : (Option (List ℕ) → Option (List ℕ) → Result ℕ CommandFault → Type 0) → Outputs → Outputs → Result ℕ CommandFault → Type 0

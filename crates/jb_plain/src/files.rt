@@ -10,4 +10,4 @@ pub use disks::open_disk;
 pub(crate) use disks::{format_file, recover_file};
 pub(crate) use journals::dump_file;
 pub use texts::read_file;
-pub(crate) use texts::read_text;
+pub(crate) use texts::{read_file_within, read_text};

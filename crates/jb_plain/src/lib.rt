@@ -12,5 +12,6 @@ pub use files::{open_disk, read_file};
 pub use jb_words::Plain;
 pub use running::{close, perform, run_plain};
 pub use streams::{
-    TEXT_LIMIT, dump_from, format_on, recover_on, refuse_words, renumber_on, tell, widen_on,
+    CERT_LIMIT, TEXT_LIMIT, dump_from, format_on, recover_on, refuse_words, renumber_on, tell,
+    widen_on,
 };

@@ -5,9 +5,10 @@ ghost use Rattle.jb_plain.specs.Runs.{Closes, EndsAsked, EndsOfTwo, Runs, reads_
 
 use crate::fault::CommandFault;
 use crate::files::{
-    dump_file, format_file, read_file, read_text, recover_file, renumber_file, widen_file,
+    dump_file, format_file, read_file, read_file_within, read_text, recover_file, renumber_file,
+    widen_file,
 };
-use crate::streams::tell;
+use crate::streams::{CERT_LIMIT, tell};
 use jb_answers::{check_answer, cost_answer, fault_answer, plan_answer};
 use jb_queue::read_queue;
 use jb_words::Plain;
@@ -66,7 +67,7 @@ fn perform_check<'a, R: Files + AllocGlobal, O: Write, E: Write>(
     let text = read_file(rt, file)?;
     match read_queue(rt.alloc(), text.as_slice()) {
         Ok(queue) => {
-            let claim = read_file(rt, cert)?;
+            let claim = read_file_within(rt, cert, CERT_LIMIT)?;
             let answer = check_answer(rt.alloc(), &queue, claim.as_slice())?;
             tell(&answer, out, err)
         }

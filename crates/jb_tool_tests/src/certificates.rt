@@ -1,6 +1,7 @@
 //! Checks of certificates in files.
 
 use crate::runs::{Host, runs};
+use jb_tool::TEXT_LIMIT;
 use std::fs;
 use std::test::Fail;
 
@@ -90,5 +91,26 @@ fn each_check_answers_its_row(rt: HostRuntime) -> Result<(), Fail> {
             err
         )
     );
+    Ok(())
+}
+
+#[test]
+fn a_certificate_may_be_longer_than_a_queue_text(rt: HostRuntime) -> Result<(), Fail> {
+    fs::write(&rt, "long.queue", GROWING)?;
+    fs::write(
+        &rt,
+        "long.cert",
+        &vec![in rt.alloc(); b'x'; TEXT_LIMIT + 1]?,
+    )?;
+    for (cert, err) in [
+        ("long.cert", "jb: certificate: Syntax 1\n"),
+        ("/dev/zero", "jb: too long /dev/zero\n"),
+    ] {
+        assert!(rt;
+            runs(&rt, &["check", "long.queue", cert], b"", 2, "", err),
+            "{err}"
+        );
+    }
+    fs::remove_file(&rt, "long.cert")?;
     Ok(())
 }

@@ -1,28 +1,34 @@
-ghost use Rattle.std.specs.Prelude.{IfErr, IfOk};
-ghost use Rattle.jb_plain.specs.Texts.{HasNoText, IsText};
+ghost use Rattle.std.specs.Prelude.{◌<◌, IfErr, IfOk};
+ghost use Rattle.jb_plain.specs.Texts.{HasNoTextWithin, IsTextWithin};
 
 use crate::fault::CommandFault;
 use jb_io::{ReadFault, read_within};
 use std::alloc::Global;
 use std::io::Read;
 
-/// The most bytes that a text may have.
+/// The most bytes that a queue text may have.
 pub const TEXT_LIMIT: usize = 16_777_216;
 
-/// The whole of a reader, as the text of this name.
+/// The most bytes that a certificate may have: nine for each byte of a queue text, so that what `jb plan` writes for any queue
+/// text within its limit can be read back.
+pub const CERT_LIMIT: usize = 9 * TEXT_LIMIT;
+
+/// The whole of a reader, as the text of this name, which may have so many bytes.
 ///
 /// # Errors
-/// `CommandFault::CannotRead` where a read failed, `CommandFault::TooLong` where there are more than `TEXT_LIMIT` bytes, `CommandFault::Memory` where
+/// `CommandFault::CannotRead` where a read failed, `CommandFault::TooLong` where there are more bytes than `limit`, `CommandFault::Memory` where
 /// a growth was refused.
 pub(crate) fn read_as<'a, R: Read>(
     alloc: Global,
     reader: &mut R,
     name: &'a str,
+    limit: usize,
 ) -> Result<Vec<u8>, CommandFault<'a>>
-    ensures text { IfOk result (λ text. IsText (R.remaining reader.old) text.items) }
-    ensures none { IfErr result (HasNoText name.entry.now (R.remaining reader.old)) }
+    requires { limit < 4294967296 }
+    ensures text { IfOk result (λ text. IsTextWithin limit (R.remaining reader.old) text.items) }
+    ensures none { IfErr result (HasNoTextWithin limit name.entry.now (R.remaining reader.old)) }
 {
-    match read_within(alloc, reader, TEXT_LIMIT) {
+    match read_within(alloc, reader, limit) {
         Ok(text) => Ok(text),
         Err(ReadFault::Reader) => Err(CommandFault::CannotRead(name)),
         Err(ReadFault::TooLong) => Err(CommandFault::TooLong(name)),
