@@ -1,18 +1,32 @@
 //! What stands at the end of long help: the statuses of a command, and an example.
 
-/// Of `jb` itself: the files that its commands are about, too.
-pub(crate) const JB: &str =
-    "A queue text, the FILE of cost, plan, check and load, has a line for each handle after its first two:
+use jb_advice::diagnostics;
+
+/// What stands at the end of the long help of `jb`, with the rows of the table of what can go wrong.
+macro_rules! jb_text {
+    ($($begins:literal, $rest:literal, $advice:literal;)*) => {
+        concat!(
+            "Files:
+A queue text, the FILE of cost, plan, check and load, has a line for each handle after its first two:
   bs 1024                 the bytes of a block: 1024, 2048 or 4096
   limit 7                 the most log blocks of a group
   h w1 w2=c03b3998 r5     a handle that writes home block 1, and 2 with these bytes, and revokes 5
-
 An image has the journal first, its superblock at the front, and the home blocks after it: home block N
 is the block at s_maxlen + N. The FILE of dump is a journal, whatever comes after it.
 
 Status: 0 where a command is done, and what it judges fits or is accepted; 1 where it is not, or an image
-is refused, or a read, a write or memory failed; 2 where the words, a file or a text cannot be taken. What
-went wrong is one line on standard error. With no words jb acts as jb cost -.";
+is refused, or a read, a write or memory failed; 2 where the words, a file or a text cannot be taken. With
+no words jb acts as jb cost -; where standard input is a terminal it prints its help, with status 2.
+
+Diagnostics: what went wrong is one line on standard error. Where that is a terminal, what to do follows
+on a second line. # is a number.",
+            $("\n  jb: ", $begins, $rest, "\n          ", $advice),*
+        )
+    };
+}
+
+/// Of `jb` itself: the files that its commands are about, its statuses, and its lines on standard error.
+pub(crate) const JB: &str = diagnostics!(jb_text);
 
 /// What stands at the end of the long help of the command of this name.
 pub(crate) fn more_of(command: &str) -> &'static str {

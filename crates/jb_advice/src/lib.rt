@@ -1,0 +1,9 @@
+//! What to do when a command of `jb` ends with a line on standard error: one table, for the help, the man page and a second
+//! line that follows the first one on a terminal.
+#![tactic(auto)]
+
+mod find;
+mod noted;
+mod table;
+
+pub use noted::Noted;

@@ -1,0 +1,236 @@
+"""The table: what is run, and what it must say and leave. The texts are those of docs/TEXTS.md."""
+from images import BS, COMMIT, ESCAPE, LAST_TAG, MAGIC, SAME_UUID, SUPER1
+from images import be32, commit, data, descriptor, image, padded, revoke, superblock
+
+ROWS = []
+
+
+def row(words, status, out="", err="", files=(), stdin=b"", after=(), how="", to="pipe", terminal=""):
+    """One run of the program in an empty folder.
+
+    words     its words, as one text; a word with a space or a NUL is never needed
+    files     the files that are there before, by their names; a value of None makes a folder
+    after     the files that differ afterwards, or are new; all others must be as they were, and there may be no other
+    how       a shell's `ulimit` and `trap` before it starts
+    to        standard output: a pipe, a pipe that nobody reads (`gone`), or a full device (`full`)
+    out, err  the two outputs, byte by byte; a function judges the text instead"""
+    ROWS.append(dict(words=words, status=status, out=out, err=err, files=dict(files), stdin=stdin, after=dict(after), how=how, to=to,
+                     terminal=terminal))
+
+
+def queue(handles, limit=8, first="bs 1024"):
+    """A queue text; `/` is between handles, and the empty text has none."""
+    lines = [first, "limit %d" % limit] + ["h" + (" " + words if words else "") for words in handles.split("/")] * bool(handles or handles is None)
+    return ("\n".join(lines) + "\n").encode()
+
+
+# ---- queue texts -------------------------------------------------------------------------------------------------------------
+
+THREE = "w1 w2 w3/w3 w4 w5/w1 w2"
+FOUR = "w1 w2/w3 w4/w3 w4/w3 w4 w5"
+LONG = 16_777_216
+# what is wrong with a queue text, and what is said of it
+BAD_QUEUES = [
+    (b"", "1: BlockSizeLine"), (b"bs 512\n", "1: BlockSizeLine"), (b"bs 1024\nlimit 2\n", "2: LimitLine"),
+    (b"bs 1024\nlimit 7\nx\n", "3: HandleLine"), (b"bs 1024\nlimit 7\nh w1\nh w01\n", "4: OpWord"),
+    (b"bs 1024\nlimit 7\nh x2\n", "3: OpWord"), (b"bs 1024\nlimit 7\nh w1=c\n", "3: DataWord"),
+]
+
+row("", 0, "cost 7 limit 7 fits\n", stdin=queue(THREE, 7))
+row("cost -", 0, "cost 7 limit 7 fits\n", stdin=queue(THREE, 7), files={"-": queue(FOUR, 6)})
+row("cost q", 0, "cost 7 limit 7 fits\n", files={"q": queue(THREE, 7)}, stdin=b"bs 1024\nlimit 7\n")
+row("cost -- -q", 0, "cost 7 limit 7 fits\n", files={"-q": queue(THREE, 7)})
+row("cost q", 1, "cost 7 limit 6 over\n", files={"q": queue(THREE, 6)})
+row("cost q", 0, "cost 1 limit 8 fits\n", files={"q": queue("")})
+row("cost q", 0, "cost 128 limit 130 fits\n", files={"q": queue(" ".join("w%d" % n for n in range(125)), 130)})
+row("cost q", 0, "cost 3 limit 8 fits\n", files={"q": queue(" ".join("r%d" % n for n in range(253)))})
+PLANS = [
+    ("", 8, "prices 0\ncut 0\ntotal 0\n"),
+    (None, 8, "prices 0 1\ncut 0 1\ntotal 1\n"),
+    (THREE, 7, "prices 0 5 7 7\ncut 0 3\ntotal 7\n"),
+    (THREE, 6, "prices 0 5 10 14\ncut 0 1 2 3\ntotal 14\n"),
+    (FOUR, 6, "prices 0 4 6 6 9\ncut 0 1 4\ntotal 9\n"),
+    ("w1 w2 w3 w4/r1 r2 r3 r4", 5, "prices 0 none 2\ncut 0 2\ntotal 2\n"),
+    ("w1 w2", 3, "prices 0 none\ncut none\n"),
+    ("w1 w2/w3 w4/w5 w6", 6, "prices 0 4 6 10\ncut 0 1 3\ntotal 10\n"),
+]
+for handles, limit, cert in PLANS:
+    text = b"bs 1024\nlimit 8\nh\n" if handles is None else queue(handles, limit)
+    row("plan q", int("none\n" in cert.split("cut")[1]), cert, files={"q": text})
+    row("check q c", 0, "accepted\n", files={"q": text, "c": cert.encode()})
+row("plan -", 0, PLANS[4][2], stdin=queue(FOUR, 6))
+for cert, name in [
+    ("prices 1 4 6 6 9\ncut 0 1 4\ntotal 9\n", "OpeningPrice"),
+    ("prices 0 4 6 6 11\ncut 0 3 4\ntotal 11\n", "Undercut 1 4"),
+    ("prices 0 4 6 6 9\ncut 0 2 1 4\ntotal 9\n", "NotACut"),
+    ("prices 0 4 6 6 9\ncut 0 4\ntotal 7\n", "OverLimit 0 4"),
+    ("prices 0 4 6 6 9\ncut 0 1 4\ntotal 10\n", "TotalDiffers"),
+    ("prices 0 4 6 6 8\ncut 0 1 4\ntotal 9\n", "EndPrice"),
+]:
+    row("check q c", 1, "refused %s\n" % name, files={"q": queue(FOUR, 6), "c": cert.encode()})
+for cert, name in [("", "Syntax 1"), ("prices 0\ncut 0\n", "Syntax 3"), ("prices 0\ncut none\n\n", "Syntax 3"), ("prices 0 4\ncut 0 1\ntotal 4\n", "Length")]:
+    row("check q c", 2, err="jb: certificate: %s\n" % name, files={"q": queue(FOUR, 6), "c": cert.encode()})
+for text, name in BAD_QUEUES:
+    row("cost q", 2, err="jb: queue line %s\n" % name, files={"q": text})
+    row("plan -", 2, err="jb: queue line %s\n" % name, stdin=text)
+    row("check q missing", 2, err="jb: queue line %s\n" % name, files={"q": text})
+    row("load a q", 2, err="jb: queue line %s\n" % name, files={"a": image(superblock()), "q": text})
+row("", 2, err="jb: queue line 1: BlockSizeLine\n")
+for words, name in [("cost q", "q"), ("plan q", "q"), ("check q c", "q"), ("check ok q", "q"), ("check - c", "-"), ("load a q", "q")]:
+    some = {"ok": queue(FOUR, 6), "c": PLANS[4][2].encode(), "a": image(superblock())}
+    row(words, 2, err="jb: cannot read %s\n" % name, files=some, stdin=queue(FOUR, 6))
+    if name == "q":
+        row(words, 2, err="jb: cannot read q\n", files={**some, "q": None})
+        row(words, 2, err="jb: too long q\n", files={**some, "q": b"bs 1024\n" + bytes(LONG)})
+row("cost -", 2, err="jb: too long -\n", stdin=bytes(LONG + 1))
+for words in ("cost q", "plan q", "check q c"):
+    some = {"q": queue(FOUR, 7), "c": PLANS[4][2].encode()}
+    row(words, 1, err="jb: WriteFault\n", files=some, to="full")
+    row(words, 1, err="jb: WriteFault\n", files=some, to="gone")
+    row(words, 1, err="jb: Memory\n", files={**some, "q": queue(FOUR, 7) + b"h\n" * 4_000_000}, how="ulimit -v 30000")
+
+# ---- images ------------------------------------------------------------------------------------------------------------------
+
+HANDLE = "w5=c03b399801020304 r7"
+SMALL = superblock()
+# the log of HANDLE as transaction 2, and of others
+ONE = [revoke(2, [7]), descriptor(2, [(5, ESCAPE | LAST_TAG)]), data(bytes(4) + b"\1\2\3\4"), commit(2)]
+BLOCK_5 = data(b"\xc0\x3b\x39\x98\1\2\3\4")
+FULL = image(superblock(2, 1), ONE, written={9: data(b"nine")})
+TWO_AND_REVOKED = [descriptor(2, [(5, LAST_TAG)]), data(b"two"), commit(2), revoke(3, [5]), commit(3)]
+OUT_OF_RANGE = [descriptor(2, [(16, LAST_TAG)]), data(b"far"), commit(2)]
+TWO_COPIES = [descriptor(2, [(5, 0), (6, SAME_UUID | LAST_TAG)]), data(b"five"), data(b"six"), commit(2)]
+CLEAN = superblock(4294967295)
+# images that are refused by their superblocks, and the names of these refusals
+BAD_SUPERS = [
+    (b"", "ShortBlock"), (superblock()[:1023], "ShortBlock"), (bytes(49 * BS), "NoMagic"), (image(superblock(kind=SUPER1)), "NotVersion2 3"),
+    (image(superblock(said=512)), "BlockSize 512"), (image(superblock(maxlen=8)), "Geometry"), (image(superblock(start=33)), "Geometry"),
+    (image(SMALL)[:20 * BS], "Geometry"), (image(superblock(compat=1)), "Feature 1 1"), (image(superblock(incompat=0x11)), "Feature 2 16"),
+    (image(superblock(rocompat=6)), "Feature 3 6"),
+]
+LOADS = [("recover a", {}), ("renumber a", {}), ("widen a", {}), ("load a q", {"q": queue("w1")})]
+
+DUMP = """super bs=1024 maxlen=33 first=1 sequence=%d start=%d errno=0 compat=00000000 incompat=0000000%d rocompat=00000000 max=0 limit=8
+uuid 000102030405060708090a0b0c0d0e0f
+"""
+row("dump a", 0, DUMP % (2, 1, 1) + """1 revoke number=2 count=20 homes=7
+2 descriptor number=2 tags=1
+3 copy home=5 flags=9 head=0000000001020304
+4 commit number=2 sec=0 nsec=0
+end transactions=1 expected=3
+""", files={"a": FULL})
+row("dump a", 0, DUMP % (1, 0, 1) + "clean next=2\n", files={"a": image(SMALL, homes=0)})
+row("dump a", 0, DUMP % (2, 1, 1) + "end transactions=0 expected=2\n", files={"a": image(superblock(2, 1), ONE[:3])})
+row("dump a", 1, err="jb: BadRevoke 1\n", files={"a": image(superblock(2, 1), [revoke(2, [], 1025), commit(2)])})
+row("dump a", 2, err="jb: cannot read a\n")
+row("dump a", 1, err="jb: ReadFault\n", files={"a": None})
+row("dump a", 1, err="jb: WriteFault\n", files={"a": FULL}, to="full")
+row("dump a", 1, err="jb: WriteFault\n", files={"a": FULL}, to="gone")
+for content, name in BAD_SUPERS:
+    row("dump a", 1, err="jb: Super %s\n" % name, files={"a": content})
+    for words, more in LOADS:
+        row(words, 1, err="jb: Super %s\n" % name, files={"a": content, **more})
+for words, more in LOADS:
+    row(words, 2, err="jb: cannot read a\n", files=more)
+    row(words, 2, err="jb: cannot read a\n", files={"a": None, **more})
+for words, more in LOADS[1:]:
+    row(words, 1, err="jb: NeedsRecovery\n", files={"a": FULL, **more})
+
+# ---- format ------------------------------------------------------------------------------------------------------------------
+
+MADE = image(superblock(uuid=bytes(16)))
+BASIC = "format a --bs 1024 --journal 33 --homes 16"
+row(BASIC, 0, "formatted limit 8\n", after={"a": MADE})
+row("format a --bs 1024 --journal 33 --homes 16 --uuid 000102030405060708090A0b0c0d0e0f", 0, "formatted limit 8\n", after={"a": image(SMALL)})
+row(BASIC + " --wide --max 5", 0, "formatted limit 5\n", after={"a": image(superblock(incompat=3, most=5, uuid=bytes(16)))})
+row("format a --bs 4096 --journal 9 --homes 0", 0, "formatted limit 3\n",
+    after={"a": image(superblock(maxlen=9, said=4096, size=4096, uuid=bytes(16)), homes=0, maxlen=9, size=4096)})
+row(BASIC, 2, err="jb: cannot make a\n", files={"a": FULL})
+row(BASIC, 2, err="jb: cannot make a\n", files={"a": b""})
+row(BASIC, 2, err="jb: cannot make a\n", files={"a": None})
+row("format f/a --bs 1024 --journal 33 --homes 16", 2, err="jb: cannot make f/a\n")
+row("format f/a --bs 1024 --journal 33 --homes 16", 2, err="jb: cannot make f/a\n", files={"f": b"no folder"})
+for words in ("--bs 512 --journal 33 --homes 16", "--bs 1024 --journal 4294967296 --homes 16", "--bs 1024 --journal 33 --homes 16 --max 4294967296",
+              "--bs 1024 --journal 33 --homes 9007199254740992", "--bs 1024 --journal 33 --homes 16 --uuid 00", "--bs 1024 --journal 33 --homes 16 --uuid " + "g" * 32):
+    row("format a " + words, 2, err="jb: bad option\n")
+    row("format a " + words, 2, err="jb: bad option\n", files={"a": FULL})
+row(BASIC, 1, err="jb: WriteFault\n", to="full", after={"a": MADE})
+
+# ---- recover, renumber and widen ---------------------------------------------------------------------------------------------
+
+RECOVERED = image(superblock(3), ONE, written={5: BLOCK_5, 9: data(b"nine")})
+row("recover a", 0, "transactions 1 copies 1 revoked 0 next 4\n", files={"a": FULL}, after={"a": RECOVERED})
+row("recover a", 0, "transactions 0 copies 0 revoked 0 next 4\n", files={"a": RECOVERED})
+row("recover a", 0, "transactions 0 copies 0 revoked 0 next 3\n", files={"a": image(superblock(2, 1), ONE[:3])},
+    after={"a": image(superblock(2), ONE[:3])})
+row("recover a", 0, "transactions 2 copies 0 revoked 1 next 5\n", files={"a": image(superblock(2, 1), TWO_AND_REVOKED, written={5: data(b"X")})},
+    after={"a": image(superblock(4), TWO_AND_REVOKED, written={5: data(b"X")})})
+row("recover a", 0, "transactions 1 copies 2 revoked 0 next 4\n", files={"a": image(superblock(2, 1), TWO_COPIES)},
+    after={"a": image(superblock(3), TWO_COPIES, written={5: data(b"five"), 6: data(b"six")})})
+row("recover a", 0, "transactions 2 copies 0 revoked 1 next 5\n", files={"a": image(superblock(2, 1), OUT_OF_RANGE + [revoke(3, [16]), commit(3)])},
+    after={"a": image(superblock(4), OUT_OF_RANGE + [revoke(3, [16]), commit(3)])})
+row("recover a", 0, "transactions 1 copies 1 revoked 0 next 4\n", files={"a": FULL + b"the rest of no block"},
+    after={"a": RECOVERED + b"the rest of no block"})
+row("recover a", 1, err="jb: BadRevoke 1\n", files={"a": image(superblock(2, 1), [revoke(2, [], 1025), commit(2)])})
+row("recover a", 1, err="jb: HomeOutOfRange 16 2\n", files={"a": image(superblock(2, 1), OUT_OF_RANGE)})
+row("recover a", 1, err="jb: WriteFault\n", files={"a": FULL}, to="full", after={"a": RECOVERED})
+# home block 5 is past what the shell lets a file grow to, so its write fails and the journal is not emptied
+row("recover a", 1, err="jb: DeviceFault\n", files={"a": FULL}, how="trap '' XFSZ; ulimit -f 36")
+OLD = [data(), padded(be32(MAGIC, COMMIT, 7)), data(b"no header"), padded(be32(MAGIC))]
+CLEARED = [data(), data(), data(b"no header"), data()]
+row("renumber a", 0, "renumbered blocks 2 next 1\n", files={"a": image(CLEAN, OLD)}, after={"a": image(superblock(0), CLEARED)})
+row("renumber a", 1, err="jb: WriteFault\n", files={"a": image(CLEAN, OLD)}, to="full", after={"a": image(superblock(0), CLEARED)})
+row("renumber a", 1, err="jb: DeviceFault\n", files={"a": image(CLEAN, OLD)}, how="trap '' XFSZ; ulimit -f 1")
+WIDENED = image(superblock(incompat=3), OLD)
+row("widen a", 0, "widened limit 8\n", files={"a": image(SMALL, OLD)}, after={"a": WIDENED})
+row("widen a", 0, "already wide limit 8\n", files={"a": WIDENED})
+row("widen a", 1, err="jb: WriteFault\n", files={"a": image(SMALL, OLD)}, to="full", after={"a": WIDENED})
+row("widen a", 1, err="jb: DeviceFault\n", files={"a": image(SMALL, OLD)}, how="trap '' XFSZ; ulimit -f 0")
+
+# ---- load --------------------------------------------------------------------------------------------------------------------
+
+LOADED = image(superblock(2, 1), ONE)
+row("load a q --hold", 0, "handles 1 changes 2 settled 1 groups 1 blocks 4\n", files={"a": image(SMALL), "q": queue(HANDLE)}, after={"a": LOADED})
+row("load a q", 0, "handles 1 changes 2 settled 1 groups 1 blocks 4\n", files={"a": image(SMALL), "q": queue(HANDLE)}, after={"a": LOADED})
+row("load a q --hold --stamp 7", 0, "handles 1 changes 2 settled 1 groups 1 blocks 4\n", files={"a": image(SMALL), "q": queue(HANDLE)},
+    after={"a": image(superblock(2, 1), ONE[:3] + [commit(2, 7)])})
+row("load a q --hold --checkpoint", 0, "handles 1 changes 2 settled 1 groups 1 blocks 4\n", files={"a": image(SMALL), "q": queue(HANDLE)},
+    after={"a": image(superblock(2), ONE, written={5: BLOCK_5})})
+TWO_HANDLES = [descriptor(2, [(n, (SAME_UUID if n else 0) | (LAST_TAG if n == 5 else 0)) for n in range(6)]), *[data()] * 6, commit(2),
+               descriptor(3, [(n, (SAME_UUID if n > 6 else 0) | (LAST_TAG if n == 11 else 0)) for n in range(6, 12)]), *[data()] * 6, commit(3)]
+row("load a q --hold --threads 1", 0, "handles 2 changes 12 settled 2 groups 2 blocks 16\n", after={"a": image(superblock(2, 1), TWO_HANDLES)},
+    files={"a": image(SMALL), "q": queue("w0 w1 w2 w3 w4 w5/w6 w7 w8 w9 w10 w11", 3)})
+row("load a q --hold --threads 64", 0, "handles 1 changes 2 settled 1 groups 1 blocks 4\n", files={"a": image(SMALL), "q": queue(HANDLE)}, after={"a": LOADED})
+row("load a q", 0, "handles 0 changes 0 settled 0 groups 0 blocks 0\n", files={"a": image(SMALL), "q": queue("")})
+for threads in (0, 65):
+    row("load a q --threads %d" % threads, 2, err="jb: bad option\n")
+row("load a q", 1, err="jb: BlockSize\n", files={"a": image(SMALL), "q": queue(HANDLE, first="bs 2048")})
+row("load a q", 1, err="jb: NumbersSpent\n", files={"a": image(CLEAN), "q": queue(HANDLE)})
+NOTHING = "handles 0 changes 0 settled 0 groups 0 blocks 0\n"
+row("load a q", 1, NOTHING, "jb: handle 0: TooManyCredits 6\n", files={"a": image(SMALL), "q": queue("w0 w1 w2 w3 w4 w5 w6")})
+row("load a q", 1, NOTHING, "jb: handle 0: OutOfRange 16\n", files={"a": image(SMALL), "q": queue("w16")})
+row("load a q --hold", 1, "handles 1 changes 2 settled 1 groups 1 blocks 4\n", "jb: handle 1: OutOfRange 16\n",
+    files={"a": image(SMALL), "q": queue(HANDLE + "/w16/w1")}, after={"a": LOADED})
+row("load a q --hold", 1, "handles 5 changes 30 settled 5 groups 1 blocks 8\n", "jb: handle 5: Full 30\n",
+    files={"a": image(SMALL), "q": queue("/".join(["w0 w1 w2 w3 w4 w5"] * 6))},
+    after={"a": image(superblock(2, 1), TWO_HANDLES[:8])})
+row("load a q --hold", 1, "handles 1 changes 2 settled 0 groups 0 blocks 0\n", "jb: commit Aborted\n", files={"a": image(SMALL), "q": queue(HANDLE)},
+    how="trap '' XFSZ; ulimit -f 1", after={"a": image(superblock(2, 1))})
+row("load a q", 1, err="jb: WriteFault\n", files={"a": image(SMALL), "q": queue(HANDLE)}, to="full", after={"a": LOADED})
+
+# ---- words -------------------------------------------------------------------------------------------------------------------
+
+
+def begins(*starts):
+    """A text that begins so, and ends with an LF."""
+    return lambda text: text.startswith(starts) and text.endswith("\n")
+
+
+row("--version", 0, "jb 0.1.0\n")
+for words in ("--help", "help", "-h", "help format", "cost --help", "load -h"):
+    row(words, 0, begins("A block journal", "Makes an image", "Prints the log blocks", "Commits the handles"), files={"a": FULL})
+row("--help", 1, err="jb: WriteFault\n", to="full")
+for words in ("mount a", "cost", "cost a b", "check a", "recover", "recover a b", "format a --bs x --journal 33 --homes 16", "format a --bs 1024 --journal 33",
+              "format a --bs 1024 --journal 33 --homes -1", "load a", "load a q --threads 18446744073709551616", "--limit 7", "cost --hold a"):
+    row(words, 2, err=begins("error: "), files={"a": FULL, "q": queue(HANDLE)})
+row("cost \udcff", 2, err="error: invalid UTF-8 was detected in one or more arguments\n")
