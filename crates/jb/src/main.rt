@@ -1,6 +1,10 @@
 //! `jb`: a block journal in jbd2's format, from the command line.
 #![tactic(auto)]
 
+mod streams;
+
+use crate::streams::fill_closed;
+use jb_tool::CommandFault;
 use std::process::ExitCode;
 use std::{env, io};
 
@@ -11,6 +15,11 @@ fn words(rt: &HostRuntime) -> io::Result<Vec<String>> {
 
 fn main(rt: HostRuntime) -> ExitCode {
     let (mut input, mut out, mut err) = (rt.stdin(), rt.stdout(), rt.stderr());
+    let Ok(_files) = fill_closed(&rt) else {
+        let fault = CommandFault::CannotRead("/dev/null");
+        fault.tell(&mut err);
+        return ExitCode::from(fault.status());
+    };
     let status = match words(&rt) {
         Ok(words) => jb_tool::run(&rt, words.as_slice(), &mut input, &mut out, &mut err),
         Err(error) => jb_tool::refuse_words(error.kind(), &mut err),

@@ -2,7 +2,7 @@ use Rattle.std.proofs.Common.{◌≡◌, [], drop, List, map, Option, Result, �
 use Rattle.jb_io.specs.Parts.{spelled}
 use Rattle.jb_io.specs.Puts.{Puts}
 use Rattle.jb_io.specs.declared.putting.WriteFault.{WriteFault}
-use Rattle.jb_io.proofs.parts.put_parts.Given as goal
+use Rattle.jb_io.proofs.parts.put_each.Given as goal
 
 -- what is written of the parts that are left is written of all of them; where all of them are empty, so are these
 abbrev pub invariant-loop-part : goal.invariant-loop-part

@@ -4,7 +4,7 @@ use Rattle.std.proofs.KnownBytes.{Appends-nil}
 use Rattle.jb_io.specs.Parts.{spelled}
 use Rattle.jb_io.specs.Puts.{Puts, PutsPart}
 use Rattle.jb_io.proofs.PartByPart.{none_after, none_first, part_first, puts_after, spelled_next, spelled_none}
-use Rattle.jb_io.proofs.parts.put_parts.Goals as goal
+use Rattle.jb_io.proofs.parts.put_each.Goals as goal
 
 pub returns-in-Err : goal.returns-in-Err
 returns-in-Err g c =
