@@ -152,7 +152,7 @@ def device():
         finally:
             subprocess.run(["losetup", "--detach", name])
         expect("the bytes of the block device", open("backing", "rb").read() == open("file", "rb").read())
-    print("block device: the same as a file")
+    print("block device: compared with a file")
 
 
 def making():
@@ -191,7 +191,7 @@ def making():
     got = run(["format", "new", *SIZES], before=small_files(False))
     expect("format past the limit", got == (-signal.SIGXFSZ, b"", b""), got)
     expect("what it leaves is empty", os.path.getsize("new") == 0)
-    print("format: whole or not there")
+    print("format: new files tried")
 
 
 def locked():

@@ -1,4 +1,4 @@
-use Rattle.std.proofs.Common.{◌≡◌, ◌∙◌, [], ap, inr, refl, subst, sym}
+use Rattle.std.proofs.Common.{◌∙◌, [], ap, inr, refl, subst, sym}
 use Rattle.jb_block.specs.Size.{bytes_of}
 use Rattle.jb_block.specs.Width.{is_wide}
 use Rattle.jb_disk.specs.File.{count_of, faults_of, size_of}
