@@ -8,13 +8,15 @@ use crate::{Disk, Fault};
 use jb_block::BlockSize;
 use std::fs::File;
 use std::io;
+use std::io::{Seek, SeekFrom};
 use std::os::unix::fs::FileExt;
 
-/// An open file as a disk. Its blocks are the whole blocks of the length that it had when it was
-/// made a disk; bytes after them are neither read nor written.
+/// An open file, or a block device, as a disk. Its blocks are the whole blocks of the length that it
+/// had when it was made a disk; bytes after them are neither read nor written.
 ///
-/// Each call makes one call of the system. A call that a signal interrupts, and a read or write that
-/// moves less than a block, is a fault: it is not tried again.
+/// A read or write makes one call of the system. One that a signal interrupts, or that moves less
+/// than a block, is a fault: it is not tried again. A sync that a signal interrupts is tried again,
+/// by the library.
 #[derive(Drop)]
 pub struct FileDisk {
     file: File,
@@ -28,21 +30,22 @@ impl FileDisk {
     ghost use Rattle.jb_disk.specs.File.{size_of, faults_of};
 
     /// The disk that `file` is, in blocks of this size; a part of a block at its end is left out.
+    /// Its length is the place of its end: of a block device the metadata say 0.
     ///
     /// # Errors
     ///
-    /// A fault where the system does not give the file's length.
-    pub fn of(file: File, size: BlockSize) -> Result<FileDisk, Fault>
+    /// A fault where the system does not give the file's end.
+    pub fn of(mut file: File, size: BlockSize) -> Result<FileDisk, Fault>
         ensures size { IfOk result (λ disk. size_of disk ≡ size) }
         ensures fresh { IfOk result (λ disk. faults_of disk ≡ 0) }
     {
-        let Ok(metadata) = file.metadata() else {
+        let Ok(len) = file.seek(SeekFrom::End(0)) else {
             return Err(Fault);
         };
         Ok(FileDisk {
             file,
             size,
-            blocks: whole_blocks(metadata.len(), size),
+            blocks: whole_blocks(len, size),
             faults: 0,
         })
     }

@@ -1,5 +1,6 @@
 -- How `jb dump` ends, over any reader, and over a file.
-use Rattle.std.specs.Prelude.{◌≡◌, ◌⊎◌, ℕ, List, Option, Result, Ok, Err}
+use Rattle.std.specs.Prelude.{◌≡◌, ◌⊎◌, ℕ, List, Option, Result, Ok, Err, codes, Bool, true, false}
+use Rattle.std.specs.Str.{bytes_eq}
 use Rattle.jb_dump.specs.Dumps.{Dumps}
 use Rattle.jb_dump.specs.declared.fault.DumpFault.{DumpFault}
 use Rattle.jb_plain.specs.Faults.{dump_fault}
@@ -27,3 +28,16 @@ abbrev pub DumpsFile : List ℕ → Option (List ℕ) → Option (List ℕ) → 
 DumpsFile name out_old out_new end =
     ((before after : Option (List ℕ)) × DumpsOn before after out_old out_new end)
     ⊎ ((fault : CommandFault) × (end ≡ Err fault) × IsUnopened name fault × (out_new ≡ out_old))
+
+-- the journal of standard input was dumped, or that of the file of this name
+abbrev pub DumpsFrom : Bool → List ℕ → Option (List ℕ) → Option (List ℕ) → Option (List ℕ) → Option (List ℕ) → Result ℕ CommandFault → Type 0
+DumpsFrom true name before after out_old out_new end = DumpsOn before after out_old out_new end
+DumpsFrom false name before after out_old out_new end = DumpsFile name out_old out_new end
+
+-- the journal after this name was dumped: that of standard input after `-`, and else that of a file
+abbrev pub DumpsNamed : List ℕ → Option (List ℕ) → Option (List ℕ) → Option (List ℕ) → Option (List ℕ) → Result ℕ CommandFault → Type 0
+DumpsNamed name = DumpsFrom (bytes_eq name (codes "-")) name
+
+-- the same, where standard input is known as it was before alone
+abbrev pub EndsOfDump : List ℕ → Option (List ℕ) → Option (List ℕ) → Option (List ℕ) → Result ℕ CommandFault → Type 0
+EndsOfDump name before out_old out_new end = (after : Option (List ℕ)) × DumpsNamed name before after out_old out_new end

@@ -12,11 +12,12 @@ use Rattle.jb_recover.specs.declared.fault.RecoverFault.TheVariants as recoverin
 use Rattle.jb_super.specs.declared.fault.SuperFault.{SuperFault}
 use Rattle.jb_super.specs.declared.fault.SuperFault.TheVariants as super
 use Rattle.jb_plain.specs.declared.fault.CommandFault.{CommandFault}
-use Rattle.jb_plain.specs.declared.fault.CommandFault.TheVariants.{CannotRead, CannotMake, BadOption, TooLong, ReadFault, Super, BadRevoke, HomeOutOfRange, NeedsRecovery, NumbersSpent, BlockSize, Accounts, Geometry, DeviceFault, Memory, WriteFault}
+use Rattle.jb_plain.specs.declared.fault.CommandFault.TheVariants.{CannotRead, InUse, CannotMake, BadOption, TooLong, ReadFault, Super, BadRevoke, HomeOutOfRange, NeedsRecovery, NumbersSpent, BlockSize, Accounts, Geometry, DeviceFault, Memory, WriteFault}
 
 -- the exit status
 abbrev pub status_of : CommandFault → ℕ
 status_of (CannotRead name) = 2
+status_of (InUse name) = 2
 status_of (CannotMake name) = 2
 status_of BadOption = 2
 status_of (TooLong name) = 2
@@ -47,6 +48,7 @@ super_line (super.Feature word bits) =
 -- the line on standard error
 abbrev pub line_of : CommandFault → List ℕ
 line_of (CannotRead name) = spelled (codes "jb: cannot read " ∷ name.now ∷ codes "\n" ∷ [])
+line_of (InUse name) = spelled (codes "jb: in use " ∷ name.now ∷ codes "\n" ∷ [])
 line_of (CannotMake name) = spelled (codes "jb: cannot make " ∷ name.now ∷ codes "\n" ∷ [])
 line_of BadOption = spelled (codes "jb: bad option\n" ∷ [])
 line_of (TooLong name) = spelled (codes "jb: too long " ∷ name.now ∷ codes "\n" ∷ [])

@@ -13,16 +13,18 @@ use Rattle.jb_super.specs.Superblock.{Superblock}
 use Rattle.jb_words.specs.Named.{Options}
 use Rattle.jb_plain.specs.Change.{ChangesOn, renumbered_line, widened_line}
 use Rattle.jb_plain.specs.Format.{FormatsOn}
-use Rattle.jb_plain.specs.Options.{AreGood}
+use Rattle.jb_plain.specs.Options.{AreGood, IsJournalLength}
 use Rattle.jb_plain.specs.Recover.{RecoversOn}
 use Rattle.jb_plain.specs.declared.fault.CommandFault.{CommandFault}
-use Rattle.jb_plain.specs.declared.fault.CommandFault.TheVariants.{BadOption, CannotMake, CannotRead, Memory, Super}
+use Rattle.jb_plain.specs.declared.fault.CommandFault.TheVariants.{BadOption, CannotMake, CannotRead, Geometry, InUse, Memory, Super}
 
--- the file of this name was not made: an option is bad, or none is and the system refuses the file
+-- the file of this name was not made: an option is bad; or none is, and a journal may not have so many blocks; or it may, and the
+-- system refuses the file
 abbrev pub IsUnmade : List ℕ → Options → CommandFault → Type 0
 IsUnmade name o BadOption = AreGood o → ⊥
-IsUnmade name o (CannotMake told) = AreGood o × (told.now ≡ name)
-IsUnmade name o Memory = AreGood o
+IsUnmade name o Geometry = AreGood o × (IsJournalLength o.journal → ⊥)
+IsUnmade name o (CannotMake told) = AreGood o × IsJournalLength o.journal × (told.now ≡ name)
+IsUnmade name o Memory = AreGood o × IsJournalLength o.journal
 IsUnmade name o _ = ⊥
 
 -- the journal that the options ask for was made at the front of a file with their block size. No clause says what a file
@@ -31,6 +33,7 @@ pub record FormatsFile (o : Options) (out_old out_new : Option (List ℕ)) (end 
   pub old : FileDisk
   pub new : FileDisk
   pub uuid : List ℕ
+  pub journal : IsJournalLength o.journal
   pub size : bytes_of (size_of old) ≡ o.bs
   pub digits : decode_of o.uuid ≡ Ok uuid
   pub formats : FormatsOn (λ (f : FileDisk). bytes_of (size_of f)) count_of faults_of (λ _. ⊥) (λ _. []) (λ _ _. ⊥) (λ _. 0) (λ _ _ _. ⊥) o.journal o.max uuid o.wide old new out_old out_new end
@@ -40,9 +43,10 @@ abbrev pub EndsOfFormat : List ℕ → Options → Option (List ℕ) → Option 
 EndsOfFormat name o out_old out_new end =
     ((fault : CommandFault) × (end ≡ Err fault) × IsUnmade name o fault × (out_new ≡ out_old)) ⊎ (AreGood o × FormatsFile o out_old out_new end)
 
--- the image of this name was not read, or its first bytes are refused as a superblock
+-- the image of this name was not read, or another program has locked it, or its first bytes are refused as a superblock
 abbrev pub IsUnread : List ℕ → CommandFault → Type 0
 IsUnread name (CannotRead told) = told.now ≡ name
+IsUnread name (InUse told) = told.now ≡ name
 IsUnread name (Super fault) = (front : List ℕ) × (super_in front ≡ Err fault)
 IsUnread name Memory = Unit {0}
 IsUnread name _ = ⊥

@@ -1,11 +1,15 @@
 -- When the options of `jb format` are good, and which image they ask for.
-use Rattle.std.specs.Prelude.{◌≡◌, ◌+◌, ◌*◌, ◌^◌, ◌<◌, length, Ok}
+use Rattle.std.specs.Prelude.{◌≡◌, ◌+◌, ◌*◌, ◌^◌, ◌<◌, ◌≤◌, ℕ, length, Ok}
 use Rattle.std.specs.List.{AllPass}
 use Rattle.hex.specs.Hex.{decode_of, is_hex_digit}
 use Rattle.jb_block.specs.Size.{bytes_of, IsBlockSize}
 use Rattle.jb_block.specs.Width.{is_wide}
 use Rattle.jb_words.specs.Named.{Options}
 use Rattle.jb_plain.specs.declared.options.NewFile.{NewFile}
+
+-- as many blocks as a journal may have
+abbrev pub IsJournalLength : ℕ → Type 0
+IsJournalLength blocks = (9 ≤ blocks) × (blocks < 2 ^ 31)
 
 -- one of the three block sizes, numbers that fit their fields, a UUID of 32 hexadecimal digits, and a length that a file
 -- may have

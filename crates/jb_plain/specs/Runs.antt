@@ -7,7 +7,7 @@ use Rattle.jb_words.specs.Named.Asked.{AsksCheck, AsksCost, AsksDump, AsksFormat
 use Rattle.jb_answers.specs.Check.{CheckSays}
 use Rattle.jb_answers.specs.Cost.{cost_said}
 use Rattle.jb_answers.specs.Limits.{cert_limit}
-use Rattle.jb_plain.specs.Dump.{DumpsFile}
+use Rattle.jb_plain.specs.Dump.{EndsOfDump}
 use Rattle.jb_plain.specs.Files.{EndsOfFormat, EndsOfRecover, EndsOfRenumber, EndsOfWiden}
 use Rattle.jb_answers.specs.Plan.{PlanSays}
 use Rattle.jb_answers.specs.Said.{Said}
@@ -39,10 +39,11 @@ Closes (Ok told) old new status = (status ≡ told) × (new ≡ old)
 Closes (Err fault) old new status =
     (status ≡ status_of fault) × (new.out ≡ old.out) × PutsPart old.err new.err (line_of fault)
 
--- whether a command reads standard input: as the text after `-`, and for nothing else
+-- whether a command reads standard input: as the text or journal after `-`, and for nothing else
 abbrev pub reads_input : Asked → Bool
 reads_input (AsksCost file) = bytes_eq file (codes "-")
 reads_input (AsksPlan file) = bytes_eq file (codes "-")
+reads_input (AsksDump file) = bytes_eq file (codes "-")
 reads_input _ = false
 
 -- how the command that the words ask for ends
@@ -50,7 +51,7 @@ abbrev pub EndsAsked : Asked → Option (List ℕ) → Outputs → Outputs → R
 EndsAsked (AsksCost file) = Ends (λ text words. cost_said text ≡ Some words) file
 EndsAsked (AsksPlan file) = Ends PlanSays file
 EndsAsked (AsksCheck file cert) = λ _. EndsOfTwo CheckSays file cert
-EndsAsked (AsksDump file) = λ _. OutAlone (DumpsFile file)
+EndsAsked (AsksDump file) = λ input. OutAlone (EndsOfDump file input)
 EndsAsked (AsksFormat image options) = λ _. OutAlone (EndsOfFormat image options)
 EndsAsked (AsksRecover image) = λ _. OutAlone (EndsOfRecover image)
 EndsAsked (AsksRenumber image) = λ _. OutAlone (EndsOfRenumber image)

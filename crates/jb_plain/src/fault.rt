@@ -11,6 +11,8 @@ use std::alloc::AllocError;
 pub enum CommandFault<'a> {
     /// The file of this name, or standard input for `-`, could not be opened or read.
     CannotRead(&'a str),
+    /// Another program has locked the image of this name.
+    InUse(&'a str),
     /// The file of this name could not be made: it is there already, or the system refuses it.
     CannotMake(&'a str),
     /// An option has a value that it may not have.
@@ -140,7 +142,7 @@ impl<'a> CommandFault<'a> {
     {
         match self {
             CommandFault::CannotRead(_) | CommandFault::TooLong(_) => 2,
-            CommandFault::CannotMake(_) | CommandFault::BadOption => 2,
+            CommandFault::InUse(_) | CommandFault::CannotMake(_) | CommandFault::BadOption => 2,
             CommandFault::ReadFault | CommandFault::Super(_) | CommandFault::BadRevoke(_) => 1,
             CommandFault::HomeOutOfRange(_, _)
             | CommandFault::NeedsRecovery

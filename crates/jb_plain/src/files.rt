@@ -1,13 +1,14 @@
-//! The commands over files: each opens its files and hands them on.
+//! The commands over files: each opens its files, and reads, makes or changes them.
 
 mod changes;
-mod disks;
 mod journals;
+mod making;
+mod opening;
 mod texts;
 
-pub(crate) use changes::{renumber_file, widen_file};
-pub use disks::open_disk;
-pub(crate) use disks::{format_file, recover_file};
-pub(crate) use journals::dump_file;
+pub(crate) use changes::{recover_file, renumber_file, widen_file};
+pub(crate) use journals::dump_named;
+pub(crate) use making::format_file;
+pub use opening::open_disk;
 pub use texts::read_file;
 pub(crate) use texts::{read_file_within, read_text};

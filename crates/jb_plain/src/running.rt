@@ -5,7 +5,7 @@ ghost use Rattle.jb_plain.specs.Runs.{Closes, EndsAsked, EndsOfTwo, Runs, reads_
 
 use crate::fault::CommandFault;
 use crate::files::{
-    dump_file, format_file, read_file, read_file_within, read_text, recover_file, renumber_file,
+    dump_named, format_file, read_file, read_file_within, read_text, recover_file, renumber_file,
     widen_file,
 };
 use crate::streams::{CERT_LIMIT, tell};
@@ -44,7 +44,7 @@ pub fn perform<'a, R: Files<File = File> + AllocGlobal, I: Read, O: Write, E: Wr
             tell(&answer, out, err)
         }
         Plain::Check { file, cert } => perform_check(rt, file, cert, out, err),
-        Plain::Dump { file } => dump_file(rt, file, out),
+        Plain::Dump { file } => dump_named(rt, file, input, out),
         Plain::Format { image, options } => format_file(rt, image, options, out),
         Plain::Recover { image } => recover_file(rt, image, out),
         Plain::Renumber { image } => renumber_file(rt, image, out),

@@ -11,10 +11,13 @@ mod refusal;
 mod telling;
 
 pub use changing::{renumber_on, widen_on};
+pub(crate) use changing::{tell_renumbering, tell_widening};
 pub use dumping::dump_from;
 pub use formatting::format_on;
+pub(crate) use formatting::{new_limit, tell_format};
 pub(crate) use reading::read_as;
 pub use reading::{CERT_LIMIT, TEXT_LIMIT};
 pub use recovering::recover_on;
+pub(crate) use recovering::tell_recovery;
 pub use refusal::refuse_words;
 pub use telling::tell;

@@ -61,6 +61,8 @@ fn load_files<
     match read_queue(rt.alloc(), text.as_slice()) {
         Ok(queue) => load_queue(rt, disk, load.stamp, &queue, options, out, err),
         Err(fault) => {
+            // no line is written while an image is open
+            drop(disk);
             let answer = fault_answer(rt.alloc(), fault)?;
             tell(&answer, out, err)
         }

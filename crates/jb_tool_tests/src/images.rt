@@ -2,6 +2,7 @@
 
 use crate::runs::{Host, MAGIC, UUID, WHOLE, add_block, image, runs};
 use std::fs;
+use std::fs::File;
 use std::test::Fail;
 
 /// The sizes of a new image, another option with its value, the status, and what is written.
@@ -107,27 +108,14 @@ fn each_format_answers_its_row(rt: HostRuntime) -> Result<(), Fail> {
             formatted(&rt, "new.img", *sizes, *more, *status, out, err),
             "{out}{err}"
         );
-        if *status == 2 {
+        if *status != 0 {
             assert!(rt; !fs::exists(&rt, "new.img").unwrap_or(true));
             continue;
         }
         let made = fs::read(&rt, "new.img")?;
-        // a journal that was refused leaves zeros: the homes alone, and for 8 blocks of journal these too
-        let blocks = match sizes[1] {
-            "33" => 49,
-            "8" => 24,
-            _ => 16,
-        };
-        assert_eq!(rt; made.len(), blocks * 1024);
-        assert!(rt; *status == 0 || made.iter().all(|byte| *byte == 0));
+        assert_eq!(rt; made.len(), WHOLE);
         // the last byte of s_feature_incompat
-        let features = if *status != 0 {
-            0
-        } else if more[1] == "--wide" {
-            3
-        } else {
-            1
-        };
+        let features = if more[1] == "--wide" { 3 } else { 1 };
         assert_eq!(rt; made.get(0x2B), Some(&features));
         fs::remove_file(&rt, "new.img")?;
     }
@@ -159,8 +147,60 @@ fn a_new_image_is_its_superblock_and_zeros_and_is_made_once(rt: HostRuntime) -> 
     ] {
         assert!(rt; formatted(&rt, name, SMALL, NO_MAX, 2, "", err), "{name}");
     }
+    // the geometry is judged before the file
+    let few = ["1024", "8", "16"];
+    assert!(rt; formatted(&rt, "front.img", few, NO_MAX, 1, "", "jb: Geometry\n"));
     assert!(rt; fs::read(&rt, "front.img")?.as_slice() == want.as_slice());
     fs::remove_file(&rt, "front.img")?;
+    Ok(())
+}
+
+#[test]
+fn a_file_is_made_whole_or_not_at_all(rt: HostRuntime) -> Result<(), Fail> {
+    // 2^63 - 1024 bytes, which many file systems refuse and some take
+    let words = [
+        "format",
+        "long.img",
+        "--bs",
+        "1024",
+        "--journal",
+        "33",
+        "--homes",
+        "9007199254740958",
+    ];
+    if runs(&rt, &words, b"", 2, "", "jb: cannot make long.img\n") {
+        assert!(rt; !fs::exists(&rt, "long.img").unwrap_or(true));
+    } else {
+        assert_eq!(rt;
+            fs::metadata(&rt, "long.img")?.len(),
+            9_223_372_036_854_774_784
+        );
+        fs::remove_file(&rt, "long.img")?;
+    }
+    assert!(rt; formatted(&rt, "long.img", SMALL, NO_MAX, 0, "formatted limit 8\n", ""));
+    fs::remove_file(&rt, "long.img")?;
+    Ok(())
+}
+
+#[test]
+fn a_locked_image_is_not_touched(rt: HostRuntime) -> Result<(), Fail> {
+    let bytes = image(rt.alloc(), [2, 1], 1, 20, 5, &[])?;
+    fs::write(&rt, "locked.img", bytes.as_slice())?;
+    let other = File::open(&rt, "locked.img")?;
+    assert!(rt; other.try_lock().is_ok());
+    for words in [
+        ["recover", "locked.img"].as_slice(),
+        ["renumber", "locked.img"].as_slice(),
+        ["widen", "locked.img"].as_slice(),
+        ["load", "locked.img", "no-such-queue.txt"].as_slice(),
+    ] {
+        assert!(rt; runs(&rt, words, b"", 2, "", "jb: in use locked.img\n"));
+    }
+    assert!(rt; fs::read(&rt, "locked.img")?.as_slice() == bytes.as_slice());
+    drop(other);
+    let out = "transactions 1 copies 1 revoked 0 next 4\n";
+    assert!(rt; recovered(&rt, "locked.img", 0, out, ""));
+    fs::remove_file(&rt, "locked.img")?;
     Ok(())
 }
 

@@ -1,7 +1,10 @@
 //! Inputs and outputs that fail.
 
+use crate::runs::image;
 use jb_tool::run;
+use std::fs;
 use std::io::{self, Error, ErrorKind, Read, Write};
+use std::test::Fail;
 
 const QUEUE: &[u8] = b"bs 1024\nlimit 7\nh w1\n";
 
@@ -38,6 +41,59 @@ impl Write for Torn {
         }
         Ok(())
     }
+}
+
+/// An output that counts its writes and the bytes that it took.
+#[derive(Drop)]
+struct Counting {
+    writes: usize,
+    bytes: usize,
+}
+
+impl Write for Counting {
+    fn write(&mut self, buf: &[u8]) -> io::Result<usize> {
+        self.writes = self.writes.saturating_add(1);
+        self.bytes = self.bytes.saturating_add(buf.len());
+        Ok(buf.len())
+    }
+
+    fn flush(&mut self) -> io::Result<()> {
+        Ok(())
+    }
+}
+
+/// Runs that write a line, in their order on one image, how many writes each takes on each output, and how many bytes.
+const LINES: &[(&[&str], [usize; 2], [usize; 2])] = &[
+    (&["recover", "line.img"], [1, 0], [41, 0]),
+    (&["renumber", "line.img"], [1, 0], [27, 0]),
+    (&["widen", "line.img"], [1, 0], [16, 0]),
+    (&["widen", "line.img"], [1, 0], [21, 0]),
+    (&["load", "line.img", "line.txt"], [1, 1], [48, 28]),
+    (&["recover", "no-such.img"], [0, 1], [0, 28]),
+    (&["widen", "line.img"], [0, 1], [0, 18]),
+];
+
+#[test]
+fn each_line_is_one_write(rt: HostRuntime) -> Result<(), Fail> {
+    let bytes = image(rt.alloc(), [2, 1], 1, 20, 5, &[])?;
+    fs::write(&rt, "line.img", bytes.as_slice())?;
+    fs::write(&rt, "line.txt", "bs 1024\nlimit 8\nh w1\nh w16\n")?;
+    for (words, writes, sizes) in LINES {
+        let mut input = b"".as_slice();
+        let mut out = Counting {
+            writes: 0,
+            bytes: 0,
+        };
+        let mut err = Counting {
+            writes: 0,
+            bytes: 0,
+        };
+        run(&rt, words, &mut input, &mut out, &mut err);
+        assert_eq!(rt; [out.writes, err.writes], *writes);
+        assert_eq!(rt; [out.bytes, err.bytes], *sizes);
+    }
+    fs::remove_file(&rt, "line.img")?;
+    Ok(())
 }
 
 /// An output that takes nothing, one that takes three bytes, and one that takes all and loses it when it is flushed.

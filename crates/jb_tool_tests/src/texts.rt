@@ -106,6 +106,20 @@ const ROWS: &[Row] = &[
         "jb: cannot read no-such.img\n",
     ),
     (&["widen", "."], b"", 2, "", "jb: cannot read .\n"),
+    (
+        &["recover", "/dev/zero"],
+        b"",
+        2,
+        "",
+        "jb: cannot read /dev/zero\n",
+    ),
+    (
+        &["load", "/dev/null", "no-such-queue.txt"],
+        b"",
+        2,
+        "",
+        "jb: cannot read /dev/null\n",
+    ),
     (&["--version"], b"", 0, "jb 0.1.0\n", ""),
     (
         &["cost"],

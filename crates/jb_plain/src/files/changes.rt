@@ -1,11 +1,30 @@
-ghost use Rattle.jb_plain.specs.Files.{EndsOfRenumber, EndsOfWiden};
+//! Images that are changed. Each is closed before the line of its command is written.
+ghost use Rattle.jb_plain.specs.Files.{EndsOfRecover, EndsOfRenumber, EndsOfWiden};
 
 use crate::fault::CommandFault;
-use crate::files::disks::open_disk;
-use crate::streams::{renumber_on, widen_on};
+use crate::files::opening::open_disk;
+use crate::streams::{tell_recovery, tell_renumbering, tell_widening};
+use jb_recover::{recover, renumber, widen};
 use std::fs::File;
 use std::io::Write;
 use std::rt::Files;
+
+/// Recovers the journal at the front of the file of this name, and tells what came of it.
+///
+/// # Errors
+/// Those of `open_disk`, and those of `recover_on`.
+pub(crate) fn recover_file<'a, R: Files<File = File> + AllocGlobal, O: Write>(
+    rt: &R,
+    image: &'a str,
+    out: &mut O,
+) -> Result<u8, CommandFault<'a>>
+    ensures ends { EndsOfRecover image.entry.now (O.contents out.old) (O.contents out.new) result }
+{
+    let mut disk = open_disk(rt, image)?;
+    let answer = recover(rt.alloc(), &mut disk);
+    drop(disk);
+    tell_recovery(answer, out)
+}
 
 /// Gives the clean journal at the front of the file of this name its first number again, and tells what came of it.
 ///
@@ -19,7 +38,9 @@ pub(crate) fn renumber_file<'a, R: Files<File = File> + AllocGlobal, O: Write>(
     ensures ends { EndsOfRenumber image.entry.now (O.contents out.old) (O.contents out.new) result }
 {
     let mut disk = open_disk(rt, image)?;
-    renumber_on(&mut disk, out)
+    let answer = renumber(&mut disk);
+    drop(disk);
+    tell_renumbering(answer, out)
 }
 
 /// Gives the clean journal at the front of the file of this name block numbers of 64 bits, and tells what came of it.
@@ -34,5 +55,7 @@ pub(crate) fn widen_file<'a, R: Files<File = File> + AllocGlobal, O: Write>(
     ensures ends { EndsOfWiden image.entry.now (O.contents out.old) (O.contents out.new) result }
 {
     let mut disk = open_disk(rt, image)?;
-    widen_on(&mut disk, out)
+    let answer = widen(&mut disk);
+    drop(disk);
+    tell_widening(answer, out)
 }

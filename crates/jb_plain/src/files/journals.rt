@@ -1,17 +1,39 @@
-ghost use Rattle.jb_plain.specs.Dump.{DumpsFile};
+ghost use Rattle.std.specs.Prelude.{◌≡◌, codes, false};
+ghost use Rattle.std.specs.Str.{bytes_eq};
+ghost use Rattle.jb_plain.specs.Dump.{DumpsFile, DumpsNamed};
 
 use crate::fault::CommandFault;
 use crate::streams::dump_from;
 use std::fs::File;
-use std::io::{ErrorKind, Write};
+use std::io::{ErrorKind, Read, Write};
 use std::rt::Files;
 
-/// Writes the text of the journal in the file of this name, and gives status 0. The file may be of any length: it is read
-/// for the journal's blocks and no further.
+/// Writes the text of the journal in the file of this name, and gives status 0; `-` is standard input. The file may be of any
+/// length: it is read for the journal's blocks and no further.
+///
+/// # Errors
+/// As those of `dump_file`.
+pub(crate) fn dump_named<'a, R: Files + AllocGlobal, I: Read, O: Write>(
+    rt: &R,
+    name: &'a str,
+    input: &mut I,
+    out: &mut O,
+) -> Result<u8, CommandFault<'a>>
+    ensures ends { DumpsNamed name.entry.now (I.remaining input.old) (I.remaining input.new) (O.contents out.old) (O.contents out.new) result }
+    ensures unread { bytes_eq name.entry.now (codes "-") ≡ false → input.new ≡ input.old }
+{
+    if name == "-" {
+        dump_from(rt.alloc(), input, out)
+    } else {
+        dump_file(rt, name, out)
+    }
+}
+
+/// Writes the text of the journal in the file of this name, and gives status 0.
 ///
 /// # Errors
 /// `CommandFault::CannotRead` where the file cannot be opened, `CommandFault::Memory` where memory ran out, and those of `dump_from`.
-pub(crate) fn dump_file<'a, R: Files + AllocGlobal, O: Write>(
+fn dump_file<'a, R: Files + AllocGlobal, O: Write>(
     rt: &R,
     file: &'a str,
     out: &mut O,

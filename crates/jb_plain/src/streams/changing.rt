@@ -1,13 +1,13 @@
 ghost use Rattle.jb_front.specs.Renumbering.{IsRenumbering, Renumbers, RenumbersAs};
 ghost use Rattle.jb_front.specs.Widening.{IsWidened, Widens, WidensAs};
-ghost use Rattle.jb_plain.specs.Change.{ChangesOn, renumbered_line, widened_line};
+ghost use Rattle.jb_plain.specs.Change.{ChangesOn, TellsChange, renumbered_line, widened_line};
 ghost use Rattle.jb_plain.specs.Said.{TellsLine};
 
 use crate::fault::CommandFault;
 use crate::streams::telling::tell_line;
 use itoa::Buffer;
 use jb_disk::Disk;
-use jb_recover::{Renumbered, Widened, renumber, widen};
+use jb_recover::{ChangeFault, Renumbered, Widened, renumber, widen};
 use std::io::Write;
 
 /// Gives the clean journal at the front of a disk its first number again. Tells how many blocks of its log became zeros and
@@ -21,10 +21,8 @@ pub fn renumber_on<'a, D: Disk, O: Write>(disk: &mut D, out: &mut O) -> Result<u
     ensures renumbers { ChangesOn D.size D.count D.faults D.honest D.newest D.may_leave D.moment D.left_since
         Renumbers IsRenumbering RenumbersAs renumbered_line disk.old disk.new (O.contents out.old) (O.contents out.new) result }
 {
-    match renumber(disk) {
-        Ok(done) => tell_renumbered(done, out),
-        Err(fault) => Err(CommandFault::from(fault)),
-    }
+    let answer = renumber(disk);
+    tell_renumbering(answer, out)
 }
 
 /// Gives the clean journal at the front of a disk block numbers of 64 bits, where it has them not. Tells whether it had, with
@@ -36,7 +34,39 @@ pub fn widen_on<'a, D: Disk, O: Write>(disk: &mut D, out: &mut O) -> Result<u8, 
     ensures widens { ChangesOn D.size D.count D.faults D.honest D.newest D.may_leave D.moment D.left_since
         Widens IsWidened WidensAs widened_line disk.old disk.new (O.contents out.old) (O.contents out.new) result }
 {
-    match widen(disk) {
+    let answer = widen(disk);
+    tell_widening(answer, out)
+}
+
+/// Writes the line of a renumbering that is done, and gives status 0.
+///
+/// # Errors
+/// The fault of a renumbering that failed, and then nothing was written; `CommandFault::WriteFault` where `out` took only the
+/// beginning of the line.
+pub(crate) fn tell_renumbering<'a, O: Write>(
+    answer: Result<Renumbered, ChangeFault>,
+    out: &mut O,
+) -> Result<u8, CommandFault<'a>>
+    ensures { TellsChange renumbered_line answer (O.contents out.old) (O.contents out.new) result }
+{
+    match answer {
+        Ok(done) => tell_renumbered(done, out),
+        Err(fault) => Err(CommandFault::from(fault)),
+    }
+}
+
+/// Writes the line of a widening that is done, and gives status 0.
+///
+/// # Errors
+/// The fault of a widening that failed, and then nothing was written; `CommandFault::WriteFault` where `out` took only the
+/// beginning of the line.
+pub(crate) fn tell_widening<'a, O: Write>(
+    answer: Result<Widened, ChangeFault>,
+    out: &mut O,
+) -> Result<u8, CommandFault<'a>>
+    ensures { TellsChange widened_line answer (O.contents out.old) (O.contents out.new) result }
+{
+    match answer {
         Ok(done) => tell_widened(done, out),
         Err(fault) => Err(CommandFault::from(fault)),
     }

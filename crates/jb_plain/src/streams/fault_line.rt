@@ -20,6 +20,7 @@ impl<'a> CommandFault<'a> {
         match self {
             CommandFault::CannotRead(name) => put_line(err, &["jb: cannot read ", name, "\n"]),
             CommandFault::TooLong(name) => put_line(err, &["jb: too long ", name, "\n"]),
+            CommandFault::InUse(name) => put_line(err, &["jb: in use ", name, "\n"]),
             CommandFault::CannotMake(name) => put_line(err, &["jb: cannot make ", name, "\n"]),
             CommandFault::BadOption => put_line(err, &["jb: bad option\n"]),
             CommandFault::ReadFault => put_line(err, &["jb: ReadFault\n"]),

@@ -1,10 +1,11 @@
-ghost use Rattle.std.specs.Prelude.{◌≡◌, ◌↔◌, ◌^◌, ◌<◌, ◌≤◌, IfSome, IsSome};
+ghost use Rattle.std.specs.Prelude.{◌≡◌, ◌↔◌, IfSome, IsSome};
 ghost use Rattle.jb_block.specs.Size.{bytes_of};
 ghost use Rattle.jb_block.specs.Width.{is_wide};
 ghost use Rattle.jb_super.specs.Features.{of_width};
 ghost use Rattle.jb_super.specs.Geometry.{limit_of};
 ghost use Rattle.jb_super.specs.Superblock.{new_super};
-ghost use Rattle.jb_plain.specs.Format.{FormatsOn, formatted_line};
+ghost use Rattle.jb_plain.specs.Format.{FormatsOn, TellsFormat, formatted_line};
+ghost use Rattle.jb_plain.specs.Options.{IsJournalLength};
 ghost use Rattle.jb_plain.specs.Said.{TellsLine};
 
 use crate::fault::CommandFault;
@@ -12,7 +13,7 @@ use crate::streams::telling::tell_line;
 use itoa::Buffer;
 use jb_block::{BlockSize, Width};
 use jb_disk::Disk;
-use jb_recover::format;
+use jb_recover::{FormatFault, format};
 use jb_super::Super;
 use std::io::Write;
 
@@ -35,24 +36,40 @@ pub fn format_on<'a, D: Disk, O: Write>(
         (O.contents out.old) (O.contents out.new) result }
 {
     let limit = new_limit(disk.block_size(), journal, max_transaction, uuid, width);
-    match format(disk, journal, max_transaction, uuid, width) {
-        Ok(()) => match limit {
-            Some(limit) => tell_formatted(limit, out),
-            None => Err(CommandFault::Geometry),
-        },
+    let answer = format(disk, journal, max_transaction, uuid, width);
+    match limit {
+        Some(limit) => tell_format(limit, answer, out),
+        None => Err(CommandFault::Geometry),
+    }
+}
+
+/// Writes the line of a new journal with this limit that is made, and gives status 0.
+///
+/// # Errors
+/// The fault of the making of a journal, where it failed, and then nothing was written; `CommandFault::WriteFault` where `out`
+/// took only the beginning of the line.
+pub(crate) fn tell_format<'a, O: Write>(
+    limit: u32,
+    answer: Result<(), FormatFault>,
+    out: &mut O,
+) -> Result<u8, CommandFault<'a>>
+    ensures { TellsFormat limit answer (O.contents out.old) (O.contents out.new) result }
+{
+    match answer {
+        Ok(()) => tell_formatted(limit, out),
         Err(fault) => Err(CommandFault::from(fault)),
     }
 }
 
-/// The most log blocks of a transaction of such a journal.
-fn new_limit(
+/// The most log blocks of a transaction of such a journal, or `None` where a journal may not have so many blocks.
+pub(crate) fn new_limit(
     size: BlockSize,
     journal: u32,
     max_transaction: u32,
     uuid: [u8; 16],
     width: Width,
 ) -> Option<u32>
-    ensures good { IsSome result ↔ ((9 ≤ journal) × (journal < 2 ^ 31)) }
+    ensures good { IsSome result ↔ IsJournalLength journal }
     ensures value { IfSome result (λ limit. limit ≡ limit_of (of_width (is_wide width) (new_super (bytes_of size) journal max_transaction uuid))) }
 {
     Some(Super::new(size, journal, max_transaction, uuid, width)?.limit())

@@ -1,11 +1,11 @@
-ghost use Rattle.jb_plain.specs.Recover.{RecoversOn, recovered_line};
+ghost use Rattle.jb_plain.specs.Recover.{RecoversOn, TellsRecovery, recovered_line};
 ghost use Rattle.jb_plain.specs.Said.{TellsLine};
 
 use crate::fault::CommandFault;
 use crate::streams::telling::tell_line;
 use itoa::Buffer;
 use jb_disk::Disk;
-use jb_recover::{Recovered, recover};
+use jb_recover::{RecoverFault, Recovered, recover};
 use std::alloc::Global;
 use std::io::Write;
 
@@ -26,7 +26,22 @@ pub fn recover_on<'a, D: Disk, O: Write>(
     ensures recovers { RecoversOn D.size D.count D.faults D.honest D.newest D.may_leave D.moment D.left_since disk.old disk.new
         (O.contents out.old) (O.contents out.new) result }
 {
-    match recover(alloc, disk) {
+    let answer = recover(alloc, disk);
+    tell_recovery(answer, out)
+}
+
+/// Writes the line of a recovery that is done, and gives status 0.
+///
+/// # Errors
+/// The fault of a recovery that failed, and then nothing was written; `CommandFault::WriteFault` where `out` took only the
+/// beginning of the line.
+pub(crate) fn tell_recovery<'a, O: Write>(
+    answer: Result<Recovered, RecoverFault>,
+    out: &mut O,
+) -> Result<u8, CommandFault<'a>>
+    ensures { TellsRecovery answer (O.contents out.old) (O.contents out.new) result }
+{
+    match answer {
         Ok(done) => tell_recovered(done, out),
         Err(fault) => Err(CommandFault::from(fault)),
     }

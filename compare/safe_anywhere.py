@@ -1,0 +1,301 @@
+#!/usr/bin/env python3
+"""safe_anywhere.py JB: is `jb` safe wherever it is started?
+
+Each command is run with each of the eight sets of closed descriptors 0, 1 and 2, and its image, status and outputs are compared with
+those of a run with all three open: a closed standard input is empty, a closed standard output ends in status 1 and `jb: WriteFault`
+where there is something for it, a closed standard error takes nothing, and the image is the same. Then: files of the wrong kind, a
+device (a loop device where one can be made: as root), files that cannot be made, locks, a limit of the file size, lines that are one
+write (with strace, where it is there). Prints a line for each part, and each run that is not as it must be. Needs Linux."""
+import itertools
+import os
+import resource
+import shutil
+import signal
+import socket
+import subprocess
+import sys
+import tempfile
+
+JB = os.path.realpath(sys.argv[1])
+SIZES = ["--bs", "1024", "--journal", "33", "--homes", "16"]
+QUEUE = b"bs 1024\nlimit 8\nh w1=0102 r2\nh w3\n"
+bad = 0
+
+
+def expect(what, is_so, *more):
+    global bad
+    if not is_so:
+        bad += 1
+        print("WRONG:", what, *more)
+
+
+def run(words, closed=(), stdin=b"", before=None, wait=20):
+    """A run of jb: its status (None where it did not end), standard output and standard error, b"" where that is closed."""
+
+    def child():
+        for fd in closed:
+            os.close(fd)
+        if before:
+            before()
+
+    with tempfile.TemporaryFile() as given:
+        given.write(stdin)
+        given.seek(0)
+        p = subprocess.Popen([JB, *words], stdin=given, stdout=subprocess.PIPE, stderr=subprocess.PIPE, preexec_fn=child)
+        try:
+            out, err = p.communicate(timeout=wait)
+            return p.returncode, out, err
+        except subprocess.TimeoutExpired:
+            p.kill()
+            p.communicate()
+            return None, b"", b""
+
+
+def fresh(files):
+    """The folder as it is before each run."""
+    for name in os.listdir("."):
+        os.remove(name)
+    for name, content in files.items():
+        with open(name, "wb") as f:
+            f.write(content)
+
+
+def all_files():
+    return {name: open(name, "rb").read() for name in sorted(os.listdir("."))}
+
+
+def closed_sets(files, commands):
+    runs = 0
+    for words, stdin in commands:
+        fresh(files)
+        status, out, err = run(words, stdin=stdin)
+        left = all_files()
+        for closed in itertools.chain.from_iterable(itertools.combinations(range(3), n) for n in range(4)):
+            fresh(files)
+            want = (status, out, err)
+            if 0 in closed and stdin:
+                fresh(files)
+                want = run(words)  # an empty input
+                fresh(files)
+            if 1 in closed and want[1]:
+                want = (1, b"", b"jb: WriteFault\n")
+            if 2 in closed:
+                want = (*want[:2], b"")
+            got = run(words, closed, stdin)
+            runs += 1
+            expect("closed %s: jb %s" % (closed, " ".join(words)), got == want, got, want)
+            expect("closed %s: files of jb %s" % (closed, " ".join(words)), all_files() == left)
+    print("closed descriptors: %d runs of %d commands" % (runs, len(commands)))
+
+
+def made(words=()):
+    """The bytes of a new image, and of one with two committed handles."""
+    fresh({"queue": QUEUE})
+    assert run(["format", "image", *SIZES, *words])[0] == 0
+    new = open("image", "rb").read()
+    assert run(["load", "image", "queue", "--hold"])[0] == 0
+    return new, open("image", "rb").read()
+
+
+def kinds():
+    """An image of a wrong kind is refused at once, and is not opened."""
+    runs = 0
+    fresh({"queue": QUEUE})
+    os.mkfifo("fifo")
+    s = socket.socket(socket.AF_UNIX)
+    s.bind("socket")
+    for name in ["fifo", "socket", ".", "/dev/null", "/dev/zero", "/dev/tty"]:
+        for words in [["recover", name], ["widen", name], ["renumber", name], ["load", name, "queue"]]:
+            got = run(words, wait=5)
+            runs += 1
+            expect(" ".join(words), got == (2, b"", b"jb: cannot read %s\n" % name.encode()), got)
+    s.close()
+    # texts and journals may be pipes
+    new, loaded = made()
+    fresh({"image": loaded, "queue": QUEUE})
+    os.mkfifo("fifo")
+    for words, content in [("dump", loaded), ("cost", QUEUE), ("plan", QUEUE)]:
+        want = run([words, "image" if words == "dump" else "queue"])
+        writer = subprocess.Popen(["sh", "-c", 'cat "$0" >fifo', "image" if words == "dump" else "queue"])
+        got = run([words, "fifo"])
+        writer.wait()
+        expect(words + " of a pipe", got == want and got[0] == 0, got, want)
+        got = run([words, "-"], stdin=content)
+        expect(words + " of standard input", got == want, got, want)
+        runs += 2
+    print("kinds of files: %d runs" % runs)
+
+
+def device():
+    """Each command over a block device gives what it gives over a file of the same bytes."""
+    new, loaded = made()
+    for commands, content in [
+        ([["dump"], ["recover"], ["renumber"], ["widen"], ["dump"]], loaded),
+        ([["load", "queue"], ["recover"], ["dump"]], new),
+    ]:
+        fresh({"file": content, "backing": content, "queue": QUEUE})
+        made_device = subprocess.run(["losetup", "--find", "--show", "backing"], stdout=subprocess.PIPE, stderr=subprocess.PIPE)
+        if made_device.returncode != 0:
+            why = made_device.stderr.decode().strip()
+            print("block device: not tried, as none can be made here (%s)" % why)
+            ends = []
+            for words in commands:
+                ends.append(run([words[0], "file", *words[1:]])[0])
+            expect("a file in its place", ends == [0] * len(commands), ends)
+            return
+        name = made_device.stdout.decode().strip()
+        try:
+            for words in commands:
+                want = run([words[0], "file", *words[1:]])
+                got = run([words[0], name, *words[1:]])
+                expect("%s of a block device" % words, got == want and got[0] == 0, got, want)
+        finally:
+            subprocess.run(["losetup", "--detach", name])
+        expect("the bytes of the block device", open("backing", "rb").read() == open("file", "rb").read())
+    print("block device: compared with a file")
+
+
+def making():
+    """A file that cannot be made whole is removed again, and the same command with better numbers works."""
+    fresh({})
+    good = (0, b"formatted limit 8\n", b"")
+
+    def small_files(taken):
+        def limit():
+            signal.signal(signal.SIGXFSZ, signal.SIG_IGN if taken else signal.SIG_DFL)
+            resource.setrlimit(resource.RLIMIT_FSIZE, (1 << 14, 1 << 14))
+
+        return limit
+
+    for words, before, want in [
+        (["--bs", "1024", "--journal", "8", "--homes", "16"], None, (1, b"", b"jb: Geometry\n")),
+        (["--bs", "1024", "--journal", "2147483648", "--homes", "0"], None, (1, b"", b"jb: Geometry\n")),
+        (["--bs", "512", "--journal", "33", "--homes", "16"], None, (2, b"", b"jb: bad option\n")),
+        (SIZES, small_files(True), (2, b"", b"jb: cannot make new\n")),
+    ]:
+        got = run(["format", "new", *words], before=before)
+        expect("format new %s" % words, got == want, got)
+        expect("no file after format new %s" % words, not os.path.exists("new"))
+    got = run(["format", "new", *SIZES])
+    expect("format new, with better numbers", got == good, got)
+    whole = open("new", "rb").read()
+    for words, want in [(SIZES, (2, b"", b"jb: cannot make new\n")), (["--bs", "1024", "--journal", "8", "--homes", "1"], (1, b"", b"jb: Geometry\n"))]:
+        got = run(["format", "new", *words])
+        expect("format of a file that is there", got == want and open("new", "rb").read() == whole, got)
+    os.symlink("new", "link")
+    got = run(["format", "link", *SIZES])
+    expect("format of a link", got == (2, b"", b"jb: cannot make link\n") and os.path.islink("link"), got)
+    os.remove("link")
+    os.remove("new")
+    # the system ends the program at its limit of the file size, unless its signal is ignored
+    got = run(["format", "new", *SIZES], before=small_files(False))
+    expect("format past the limit", got == (-signal.SIGXFSZ, b"", b""), got)
+    expect("what it leaves is empty", os.path.getsize("new") == 0)
+    print("format: new files tried")
+
+
+def locked():
+    """An image that another program has locked is refused by the commands that write, and read by dump."""
+    new, loaded = made()
+    fresh({"image": loaded, "queue": QUEUE})
+    if shutil.which("flock") is None:
+        print("locks: not tried, as there is no flock")
+        return
+    text = run(["dump", "image"])
+    p = subprocess.Popen(["flock", "image", "cat"], stdin=subprocess.PIPE)
+    while subprocess.call(["flock", "-n", "image", "true"]) == 0:
+        pass
+    for words in [["recover", "image"], ["renumber", "image"], ["widen", "image"], ["load", "image", "queue"]]:
+        got = run(words)
+        expect("locked: %s" % words, got == (2, b"", b"jb: in use image\n"), got)
+    expect("locked: dump", run(["dump", "image"]) == text)
+    p.stdin.close()
+    p.wait()
+    expect("a locked image", open("image", "rb").read() == loaded)
+    expect("no longer locked", run(["recover", "image"])[0] == 0)
+    # of many at once, each is whole or refused, and one is done
+    fresh({"image": loaded})
+    ps = [subprocess.Popen([JB, "recover", "image"], stdout=subprocess.PIPE, stderr=subprocess.PIPE) for _ in range(16)]
+    ends = [(*p.communicate(), p.returncode) for p in ps]
+    done = [out for out, err, status in ends if status == 0]
+    refused = [err for out, err, status in ends if status != 0]
+    expect("at once: refused", all(err == b"jb: in use image\n" for err in refused), refused)
+    expect("at once: done", done.count(b"transactions 2 copies 2 revoked 0 next 5\n") + done.count(b"transactions 1 copies 2 revoked 0 next 4\n") == 1, done)
+    print("locks: 16 at once, %d done one after the other, %d refused" % (len(done), len(refused)))
+
+
+def one_write():
+    """Each line is one call of write."""
+    if shutil.which("strace") is None:
+        print("one line, one write: not tried here, as there is no strace (a test of jb_tool_tests counts writes)")
+        return
+    new, loaded = made()
+    runs = 0
+    for words, files in [
+        (["format", "made", *SIZES], {}),
+        (["recover", "image"], {"image": loaded}),
+        (["renumber", "image"], {"image": new}),
+        (["widen", "image"], {"image": new}),
+        (["load", "image", "queue", "--hold"], {"image": new, "queue": QUEUE}),
+        (["recover", "none"], {}),
+        (["recover", "image"], {"image": b""}),
+        (["dump", "image"], {"image": loaded}),
+        (["cost", "queue"], {"queue": QUEUE}),
+    ]:
+        fresh(files)
+        subprocess.run(["strace", "-f", "-e", "trace=write,writev", "-o", "trace", JB, *words], stdout=subprocess.DEVNULL, stderr=subprocess.DEVNULL)
+        calls = [line for line in open("trace") if "write" in line and "(1, " in line or "(2, " in line]
+        expect("one write: %s" % words, len(calls) == 1, calls)
+        runs += 1
+    print("one line, one write: %d runs" % runs)
+
+
+with tempfile.TemporaryDirectory() as folder:
+    os.chdir(folder)
+    new, loaded = made()
+    wide = made(["--wide"])[0]
+    files = {"new": new, "loaded": loaded, "wide": wide, "queue": QUEUE, "empty": b"", "journal": loaded[: 33 * 1024]}
+    fresh(files)
+    cert = run(["plan", "queue"])[1]
+    files["cert"] = cert
+    closed_sets(
+        files,
+        [
+            (["format", "made", *SIZES], b""),
+            (["format", "new", *SIZES], b""),
+            (["format", "made", "--bs", "512", "--journal", "33", "--homes", "16"], b""),
+            (["recover", "loaded"], b""),
+            (["recover", "new"], b""),
+            (["recover", "empty"], b""),
+            (["recover", "none"], b""),
+            (["renumber", "new"], b""),
+            (["renumber", "loaded"], b""),
+            (["widen", "new"], b""),
+            (["widen", "wide"], b""),
+            (["load", "new", "queue", "--hold"], b""),
+            (["load", "loaded", "queue"], b""),
+            (["load", "new", "none"], b""),
+            (["load", "new", "empty"], b""),
+            (["dump", "journal"], b""),
+            (["dump", "-"], loaded),
+            (["dump", "empty"], b""),
+            (["cost", "queue"], b""),
+            (["cost", "-"], QUEUE),
+            (["plan", "queue"], b""),
+            (["plan", "-"], QUEUE),
+            (["check", "queue", "cert"], b""),
+            (["check", "queue", "queue"], b""),
+            (["--help"], b""),
+            (["--version"], b""),
+            (["coast"], b""),
+            ([], QUEUE),
+        ],
+    )
+    kinds()
+    device()
+    making()
+    locked()
+    one_write()
+    os.chdir("/")
+print("safe_anywhere.py: %d wrong" % bad)
+sys.exit(bad != 0)

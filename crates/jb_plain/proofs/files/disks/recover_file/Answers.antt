@@ -1,7 +1,0 @@
-use Rattle.std.proofs.Common.{inr}
-use Rattle.jb_plain.proofs.files.disks.recover_file.Goals as goal
-
-pub returns : goal.returns
-returns g c = record {
-  ends = inr (record { old = c.in_ok-disk.disk; new = c.recover_on.new.disk; size = c.in_ok-disk.ensures.size; recovers = c.recover_on.ensures.recovers });
-}
