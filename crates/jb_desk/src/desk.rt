@@ -10,11 +10,13 @@ mod closing;
 mod committers;
 mod committing;
 mod rounds;
+mod waiting;
 
 use crate::book::Book;
 use crate::counter::Counter;
 use crate::fault::{BeginFault, SeatFault, StopFault, WaitFault};
 use crate::seat::{Left, Seat};
+use crate::turns::Turns;
 use crate::works::Works;
 pub use closing::{CloseFault, Closed};
 use jb_board::{Board, Front};
@@ -35,6 +37,7 @@ pub struct Desk<D: Disk, C: Clock, H: Ledger, N: Ledger> {
     works: Mutex<Works<D, C>>,
     /// the book has changed
     moved: Condvar,
+    turns: Turns,
     board: Board,
     shape: Shape,
     alloc: Global,
@@ -75,6 +78,7 @@ impl<D: Disk, C: Clock, H: Ledger, N: Ledger> Desk<D, C, H, N> {
             counter: Mutex::new(Counter::new(book, handles, changes)),
             works: Mutex::new(Works { deck, clock }),
             moved: Condvar::new(),
+            turns: Turns::new(),
             board,
             shape,
             alloc,

@@ -11,6 +11,7 @@ mod follow;
 pub mod laws;
 mod room;
 mod seat;
+mod turns;
 mod works;
 
 pub use book::Book;

@@ -21,3 +21,5 @@ mod load;
 mod rounds;
 #[cfg(test)]
 mod threads;
+#[cfg(test)]
+mod turns;

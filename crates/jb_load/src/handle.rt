@@ -3,26 +3,21 @@ ghost use Rattle.std.specs.Prelude.{◌≡◌, ◌+◌, max, IfOk, IfErr, OnErr,
 ghost use Rattle.std.specs.FinMap as map;
 ghost use Rattle.jb_block.specs.Size.{bytes_of};
 ghost use Rattle.jb_handle.specs.Handle.{holder, changes_of};
-ghost use Rattle.jb_handle.specs.Held.{held, touched};
+ghost use Rattle.jb_handle.specs.Held.{touched};
 ghost use Rattle.jb_handle.specs.Word.{WordMap};
 ghost use Rattle.jb_handle.specs.declared.shape.Shape.{Shape as ShapeValue};
 ghost use Rattle.jb_load.specs.Refusing.{IsRefusedFor};
 ghost use Rattle.jb_desk.specs.Desks.{desk_id, shape_in};
-ghost use Rattle.jb_desk.specs.Refusals.{IsTooMany};
 ghost use Rattle.jb_desk.specs.Seats.{stops, changes, desk_of, view_of};
 
 use crate::fault::HandleFault;
 use crate::words::put_words;
-use jb_desk::{BeginFault, Desk, Seat, StopFault};
+use jb_desk::{Desk, Seat, StopFault};
 use jb_disk::{Clock, Disk};
 use jb_handle::{Handle, Words};
 use std::sync::Wait;
 use std::sync::ledger::Ledger;
-use std::time::Duration;
-use std::{thread, time};
-
-/// How often a handle is begun again for which there was no room.
-const TURNS: u32 = 10000;
+use std::time;
 
 /// Runs a handle with these words, with as many credits as it touches blocks; gives its ticket.
 pub(crate) fn run_handle<D: Disk, C: Clock, R: Wait + time::Clock, H: Ledger, N: Ledger>(
@@ -43,34 +38,10 @@ pub(crate) fn run_handle<D: Disk, C: Clock, R: Wait + time::Clock, H: Ledger, N:
 {
     // more than these are too many in any journal
     let credits = u32::try_from(words.len()).unwrap_or(u32::MAX);
-    match begin(rt, desk, seat, credits) {
+    match desk.begin_waiting(rt, seat, credits) {
         Ok(handle) => fill(rt, desk, handle, words, block),
         Err((seat, fault)) => (seat, Err(HandleFault::from(fault))),
     }
-}
-
-/// Begins a handle; where there is no room, once more after each millisecond.
-fn begin<D: Disk, C: Clock, R: Wait + time::Clock, H: Ledger, N: Ledger>(
-    rt: &R,
-    desk: &Desk<D, C, H, N>,
-    seat: Seat<H, N>,
-    credits: u32,
-) -> Result<Handle<Seat<H, N>>, (Seat<H, N>, BeginFault)>
-    ensures ok { IfOk result (λ handle. (holder handle ≡ seat) × (changes_of handle ≡ held credits (shape_in desk.now) map.empty)) }
-    ensures back { IfErr result (λ back. back.0 ≡ seat) }
-    ensures refused { IfErr result (λ back. IsTooMany credits back.1) }
-{
-    let mut seat = seat;
-    for _ in 0..TURNS {
-        match desk.begin(rt, seat, credits) {
-            Err((back, BeginFault::Full(_))) => {
-                seat = back;
-                thread::sleep(rt, Duration::from_millis(1));
-            }
-            begun => return begun,
-        }
-    }
-    desk.begin(rt, seat, credits)
 }
 
 /// Writes the words into a handle and stops it, or drops it where one is refused.

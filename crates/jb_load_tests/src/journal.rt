@@ -12,7 +12,7 @@ use std::sync::ledger::Blank;
 use std::sync::{Mutex, Wait};
 use std::test::Fail;
 use std::thread::Threads;
-use std::time::Clock;
+use std::time::{Clock, Duration};
 
 /// The parts of each ledger of a desk.
 const PARTS: u64 = (1 << 61) + 1;
@@ -76,8 +76,20 @@ pub fn load_lent<R: Threads + Wait + Clock + Sync>(
     text: &str,
     options: LoadOptions,
 ) -> Result<(MemoryDisk, Result<Loaded, LoadFault>), Fail> {
+    load_slowly(rt, alloc, disk, Duration::ZERO, text, options)
+}
+
+/// Loads a queue text into a journal that is given back, of which each sync takes so long.
+pub fn load_slowly<R: Threads + Wait + Clock + Sync>(
+    rt: &R,
+    alloc: Global,
+    disk: MemoryDisk,
+    slow: Duration,
+    text: &str,
+    options: LoadOptions,
+) -> Result<(MemoryDisk, Result<Loaded, LoadFault>), Fail> {
     let disk = Mutex::new(disk);
-    let answer = load(rt, alloc, LentDisk::of(rt, &disk), text, options)?;
+    let answer = load(rt, alloc, LentDisk::of(rt, &disk, slow), text, options)?;
     Ok((disk.into_inner(), answer))
 }
 

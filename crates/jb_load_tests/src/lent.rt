@@ -7,20 +7,24 @@ ghost use Rattle.jb_disk.specs.Lives.{is_block_size};
 use jb_block::BlockSize;
 use jb_disk::{Disk, Fault, MemoryDisk};
 use std::sync::{Mutex, Wait};
+use std::thread;
+use std::time::{Clock, Duration};
 
 /// A disk that somebody else keeps. What it holds is known to nobody, so that no clause on contents speaks of it.
 #[derive(Drop)]
-pub struct LentDisk<'a, R: Wait> {
+pub struct LentDisk<'a, R: Wait + Clock> {
     rt: &'a R,
     disk: &'a Mutex<MemoryDisk>,
     size: BlockSize,
     blocks: u64,
     faults: u64,
+    /// how long a sync takes
+    slow: Duration,
 }
 
-impl<'a, R: Wait> LentDisk<'a, R> {
-    /// The disk that is kept there.
-    pub fn of(rt: &'a R, disk: &'a Mutex<MemoryDisk>) -> LentDisk<'a, R> {
+impl<'a, R: Wait + Clock> LentDisk<'a, R> {
+    /// The disk that is kept there, of which each sync takes so long.
+    pub fn of(rt: &'a R, disk: &'a Mutex<MemoryDisk>, slow: Duration) -> LentDisk<'a, R> {
         let (size, blocks) = {
             let inner = disk.lock(rt);
             (inner.block_size(), inner.blocks())
@@ -31,11 +35,12 @@ impl<'a, R: Wait> LentDisk<'a, R> {
             size,
             blocks,
             faults: 0,
+            slow,
         }
     }
 }
 
-impl<'a, R: Wait> Disk for LentDisk<'a, R> {
+impl<'a, R: Wait + Clock> Disk for LentDisk<'a, R> {
     ghost size = { λ d. bytes_of d.size };
 
     ghost count = { λ d. d.blocks };
@@ -83,6 +88,9 @@ impl<'a, R: Wait> Disk for LentDisk<'a, R> {
     }
 
     fn sync(&mut self) -> Result<(), Fault> {
+        if !self.slow.is_zero() {
+            thread::sleep(self.rt, self.slow);
+        }
         let answer = self.disk.lock(self.rt).sync();
         settle(answer, &mut self.faults)
     }

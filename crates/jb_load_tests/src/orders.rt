@@ -1,12 +1,13 @@
 //! Loads by several threads: what does not depend on their order is as worked out by hand, and the homes are as in some
 //! order of the handles.
 
-use crate::journal::{HOMES, formatted, load_lent, recovered};
+use crate::journal::{HOMES, formatted, load_lent, load_slowly, recovered};
 use jb_desk::Ended;
-use jb_load::{HandleFault, LoadOptions, Loaded, Refused};
+use jb_load::{HandleFault, LoadOptions, Loaded};
 use std::alloc::Global;
 use std::fmt::Write;
 use std::test::Fail;
+use std::time::{Duration, Instant};
 
 const FOUR: &str =
     "bs 1024\nlimit 6\nh w1=01 w2=02\nh w3=03 w4=04\nh w3=13 w4=14\nh w3=23 w4=24 w5=25\n";
@@ -55,12 +56,16 @@ fn threads_load_all_in_some_order(rt: HostRuntime) -> Result<(), Fail> {
     Ok(())
 }
 
-/// The text of so many handles, each of which writes its number to home 1.
-fn writers(alloc: Global, handles: u32) -> Result<String, Fail> {
+/// The text of so many handles, each of which writes its number to home 1, and zeros to as many further homes.
+fn writers(alloc: Global, handles: u32, more: u32) -> Result<String, Fail> {
     let mut text = String::new(alloc);
     text.push_str("bs 1024\nlimit 8\n")?;
     for number in 1..=handles {
-        write!(text, "h w1={number:02x}\n")?;
+        write!(text, "h w1={:02x}", number % 256)?;
+        for home in 0..more {
+            write!(text, " w{}", home.saturating_add(2))?;
+        }
+        text.push_str("\n")?;
     }
     Ok(text)
 }
@@ -68,26 +73,40 @@ fn writers(alloc: Global, handles: u32) -> Result<String, Fail> {
 #[test]
 fn a_full_journal_is_waited_for(rt: HostRuntime) -> Result<(), Fail> {
     let rows = [
-        (100, false, None, 100),
-        (33, true, Some(HandleFault::Full(32)), 32),
+        (1, 100, 0, false, 0, None, 100),
+        (64, 200, 2, false, 20, None, 200),
+        (8, 40, 0, true, 0, Some(HandleFault::Full(32)), 32),
     ];
-    for (handles, hold, fault, stopped) in rows {
+    for (threads, handles, more, hold, slow, fault, stopped) in rows {
         let options = LoadOptions {
-            threads: 1,
+            threads,
             hold,
             checkpoint: true,
         };
-        let text = writers(rt.alloc(), handles)?;
+        let text = writers(rt.alloc(), handles, more)?;
         let disk = formatted(rt.alloc(), 0, 1)?;
-        let (mut disk, answer) = load_lent(&rt, rt.alloc(), disk, text.as_str(), options)?;
+        let start = Instant::now(&rt)?;
+        let (mut disk, answer) = load_slowly(
+            &rt,
+            rt.alloc(),
+            disk,
+            Duration::from_millis(slow),
+            text.as_str(),
+            options,
+        )?;
         let loaded = answer?;
-        let refused = fault.map(|fault| Refused { handle: 32, fault });
         assert_eq!(rt;
-            (loaded.handles, loaded.settled, loaded.refused),
-            (stopped, stopped, refused)
+            (
+                loaded.handles,
+                loaded.settled,
+                loaded.refused.map(|refused| refused.fault)
+            ),
+            (stopped, stopped, fault)
         );
+        // no more than one of the workers waits in vain
+        assert!(rt; start.elapsed(&rt)?.as_secs() < 20);
         let (_, homes) = recovered(rt.alloc(), &mut disk)?;
-        assert_eq!(rt; u64::from(homes[1]), stopped);
+        assert!(rt; threads > 1 || u64::from(homes[1]) == stopped);
     }
     Ok(())
 }

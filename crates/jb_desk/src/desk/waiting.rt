@@ -1,0 +1,116 @@
+//! Handles are begun in the order of arrival, and wait while the book is full.
+ghost use Rattle.std.specs.Prelude.{◌≡◌, IfOk, IfErr};
+ghost use Rattle.std.specs.FinMap as map;
+ghost use Rattle.jb_handle.specs.Handle.{holder, changes_of};
+ghost use Rattle.jb_handle.specs.Held.{held};
+
+use crate::desk::Desk;
+use crate::fault::BeginFault;
+use crate::seat::Seat;
+use jb_disk::{Clock, Disk};
+use jb_handle::Handle;
+use std::sync::ledger::Ledger;
+use std::sync::{CondvarTimeouts, Wait};
+use std::time;
+use std::time::{Duration, Instant};
+
+/// How long a handle waits for room while nothing is committed, in seconds.
+const PATIENCE: u64 = 10;
+
+impl<D: Disk, C: Clock, H: Ledger, N: Ledger> Desk<D, C, H, N> {
+    ghost use Rattle.jb_desk.specs.Desks.{shape_in};
+    ghost use Rattle.jb_desk.specs.Refusals.{IsTooMany};
+
+    /// A seat begins a handle of so many credits (`jbd2_journal_start`), once all that came before have begun theirs
+    /// or were refused, and waits while the book is full.
+    ///
+    /// # Errors
+    ///
+    /// Those of [`Desk::begin`], with the seat. `Full` only where no handle was settled for ten seconds, or none since
+    /// another one waited as long in vain.
+    pub fn begin_waiting<R: Wait + time::Clock>(
+        &self,
+        rt: &R,
+        seat: Seat<H, N>,
+        credits: u32,
+    ) -> Result<Handle<Seat<H, N>>, (Seat<H, N>, BeginFault)>
+        ensures ok { IfOk result (λ handle. (holder handle ≡ seat) × (changes_of handle ≡ held credits (shape_in self.now) map.empty)) }
+        ensures back { IfErr result (λ back. back.0 ≡ seat) }
+        ensures refused { IfErr result (λ back. IsTooMany credits back.1) }
+    {
+        let in_vain = self.turns.wait(rt);
+        let (begun, in_vain) = self.begin_in_turn(rt, seat, credits, in_vain);
+        self.turns.pass(rt, in_vain);
+        begun
+    }
+
+    /// Begins a handle, and waits while the book is full: until ten seconds have gone by in which no handle was settled. Says how
+    /// many were settled then.
+    fn begin_in_turn<R: Wait + time::Clock>(
+        &self,
+        rt: &R,
+        seat: Seat<H, N>,
+        credits: u32,
+        in_vain: Option<u64>,
+    ) -> (
+        Result<Handle<Seat<H, N>>, (Seat<H, N>, BeginFault)>,
+        Option<u64>,
+    )
+        ensures ok { IfOk result.0 (λ handle. (holder handle ≡ seat) × (changes_of handle ≡ held credits (shape_in self.now) map.empty)) }
+        ensures back { IfErr result.0 (λ back. back.0 ≡ seat) }
+        ensures refused { IfErr result.0 (λ back. IsTooMany credits back.1) }
+    {
+        let (mut seat, mut since) = (seat, Since::new());
+        for _ in rt.forever() {
+            let mut counter = self.counter.lock(rt);
+            let settled = counter.progress().settled;
+            let (back, fault) = match counter.begin(self.alloc, self.shape, seat, credits) {
+                Ok(handle) => return (Ok(handle), in_vain),
+                Err(back) => back,
+            };
+            let BeginFault::Full(_) = fault else {
+                return (Err((back, fault)), in_vain);
+            };
+            let left = since.left(rt, settled);
+            if left.is_zero() || in_vain == Some(settled) {
+                return (Err((back, fault)), Some(settled));
+            }
+            seat = back;
+            self.moved.wait_timeout(rt, counter, left);
+        }
+        unreachable!()
+    }
+}
+
+/// Since when a number of settled handles is the same.
+#[derive(Drop)]
+struct Since {
+    settled: Option<u64>,
+    start: Option<Instant>,
+}
+
+impl Since {
+    /// No number was seen.
+    fn new() -> Since {
+        Since {
+            settled: None,
+            start: None,
+        }
+    }
+
+    /// What is left of the ten seconds from when this number was first seen. Nothing where the clock cannot be read.
+    fn left(&mut self, clock: &impl time::Clock, settled: u64) -> Duration {
+        if self.settled != Some(settled) {
+            self.settled = Some(settled);
+            self.start = Instant::now(clock).ok();
+        }
+        let patience = Duration::from_secs(PATIENCE);
+        let Some(start) = self.start else {
+            return Duration::ZERO;
+        };
+        match start.elapsed(clock) {
+            Ok(gone) => patience.saturating_sub(gone),
+            Err(_) => Duration::ZERO,
+        }
+    }
+}
