@@ -1,6 +1,8 @@
 //! `jb`: a block journal in jbd2's format, from the command line.
 #![tactic(auto)]
 
+use jb_advice::Noted;
+use std::io::IsTerminal;
 use std::process::ExitCode;
 use std::{env, io};
 
@@ -10,10 +12,16 @@ fn words(rt: &HostRuntime) -> io::Result<Vec<String>> {
 }
 
 fn main(rt: HostRuntime) -> ExitCode {
-    let (mut input, mut out, mut err) = (rt.stdin(), rt.stdout(), rt.stderr());
+    let (mut input, mut out, mut err) = (rt.stdin(), rt.stdout(), Noted::new(rt.stderr()));
     let status = match words(&rt) {
+        Ok(words) if words.is_empty() && input.is_terminal() => {
+            jb_tool::show_help(rt.alloc(), &mut err)
+        }
         Ok(words) => jb_tool::run(&rt, words.as_slice(), &mut input, &mut out, &mut err),
         Err(error) => jb_tool::refuse_words(error.kind(), &mut err),
     };
+    if rt.stderr().is_terminal() {
+        err.advise();
+    }
     ExitCode::from(status)
 }
