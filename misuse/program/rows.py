@@ -1,4 +1,6 @@
 """The table: what is run, and what it must say and leave. The texts are those of docs/TEXTS.md."""
+import re
+
 from images import BS, COMMIT, ESCAPE, LAST_TAG, MAGIC, SAME_UUID, SUPER1
 from images import be32, commit, data, descriptor, image, padded, revoke, superblock
 
@@ -13,6 +15,8 @@ def row(words, status, out="", err="", files=(), stdin=b"", after=(), how="", to
     after     the files that differ afterwards, or are new; all others must be as they were, and there may be no other
     how       a shell's `ulimit` and `trap` before it starts
     to        standard output: a pipe, a pipe that nobody reads (`gone`), or a full device (`full`)
+    terminal  which of standard input (`in`) and standard error (`err`) is a terminal; on that one the line of `err` has a second one
+              after it, what the program's own help says of the first
     out, err  the two outputs, byte by byte; a function judges the text instead"""
     ROWS.append(dict(words=words, status=status, out=out, err=err, files=dict(files), stdin=stdin, after=dict(after), how=how, to=to,
                      terminal=terminal))
@@ -234,3 +238,18 @@ for words in ("mount a", "cost", "cost a b", "check a", "recover", "recover a b"
               "format a --bs 1024 --journal 33 --homes -1", "load a", "load a q --threads 18446744073709551616", "--limit 7", "cost --hold a"):
     row(words, 2, err=begins("error: "), files={"a": FULL, "q": queue(HANDLE)})
 row("cost \udcff", 2, err="error: invalid UTF-8 was detected in one or more arguments\n")
+
+# ---- terminals ---------------------------------------------------------------------------------------------------------------
+
+row("", 2, err=begins("A block journal in jbd2's format\n\nUsage: jb <COMMAND>\n"), terminal="in")
+row("", 2, err=begins("A block journal in jbd2's format\n\nUsage: jb <COMMAND>\n"), terminal="in err")
+row("", 0, "cost 7 limit 7 fits\n", stdin=queue(THREE, 7), terminal="err")
+row("cost", 2, err=begins("error: "), terminal="err")
+row("recover a", 0, "transactions 1 copies 1 revoked 0 next 4\n", files={"a": FULL}, after={"a": RECOVERED}, terminal="err")
+# each kind of line on standard error once more, on a terminal
+told = set()
+for some in [some for some in ROWS if isinstance(some["err"], str) and some["err"].startswith("jb: ")]:
+    kind = re.sub(r"\d+", "#", some["err"])
+    if kind not in told and "ulimit -v" not in some["how"]:
+        told.add(kind)
+        ROWS.append({**some, "terminal": "err"})

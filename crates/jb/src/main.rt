@@ -4,7 +4,9 @@
 mod streams;
 
 use crate::streams::fill_closed;
+use jb_advice::Noted;
 use jb_tool::CommandFault;
+use std::io::IsTerminal;
 use std::process::ExitCode;
 use std::{env, io};
 
@@ -14,15 +16,21 @@ fn words(rt: &HostRuntime) -> io::Result<Vec<String>> {
 }
 
 fn main(rt: HostRuntime) -> ExitCode {
-    let (mut input, mut out, mut err) = (rt.stdin(), rt.stdout(), rt.stderr());
+    let (mut input, mut out, mut err) = (rt.stdin(), rt.stdout(), Noted::new(rt.stderr()));
     let Ok(_files) = fill_closed(&rt) else {
         let fault = CommandFault::CannotRead("/dev/null");
         fault.tell(&mut err);
         return ExitCode::from(fault.status());
     };
     let status = match words(&rt) {
+        Ok(words) if words.is_empty() && input.is_terminal() => {
+            jb_tool::show_help(rt.alloc(), &mut err)
+        }
         Ok(words) => jb_tool::run(&rt, words.as_slice(), &mut input, &mut out, &mut err),
         Err(error) => jb_tool::refuse_words(error.kind(), &mut err),
     };
+    if rt.stderr().is_terminal() {
+        err.advise();
+    }
     ExitCode::from(status)
 }

@@ -15,6 +15,7 @@ use std::io::{Result, Write};
 const KEPT: usize = 64;
 
 /// A writer that passes all on to another, and keeps the first bytes that this one took.
+#[derive(Drop)]
 pub struct Noted<W: Write> {
     writer: W,
     kept: ArrayVec<u8, KEPT>,
