@@ -5,11 +5,13 @@ use crate::counter::Progress;
 use crate::desk::Desk;
 use crate::ended::Ended;
 use jb_deck::{Checked, CheckpointFault};
+use crate::origin::Origin;
 use jb_disk::{Clock, Disk};
 use std::sync::Wait;
 use std::sync::ledger::Ledger;
 
-impl<D: Disk, C: Clock, H: Ledger, N: Ledger> Desk<D, C, H, N> {
+impl<D: Disk, C: Clock, H: Origin, N: Ledger> Desk<D, C, H, N> {
+    ghost use Rattle.jb_desk.specs.Journal.{ChecksRound};
     ghost use Rattle.jb_desk.specs.declared.ended.Ended.TheVariants.{Shut, Aborted};
 
     /// Writes the oldest committed group home (`jbd2_log_do_checkpoint`). The book is not locked
@@ -19,7 +21,9 @@ impl<D: Disk, C: Clock, H: Ledger, N: Ledger> Desk<D, C, H, N> {
     ///
     /// Those of [`Deck::checkpoint_one`](jb_deck::Deck::checkpoint_one). The book does not fail with the
     /// journal: the next batch does that, so that groups which are committed can still be settled.
-    pub fn checkpoint_round<R: Wait>(&self, rt: &R) -> Result<Checked, CheckpointFault> {
+    pub fn checkpoint_round<R: Wait>(&self, rt: &R) -> Result<Checked, CheckpointFault>
+        ensures { ChecksRound D.size D.count D.faults D.honest D.newest D.may_leave D.moment D.left_since H.begun result }
+    {
         self.works.lock(rt).checkpoint()
     }
 

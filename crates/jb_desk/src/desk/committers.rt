@@ -4,11 +4,12 @@ ghost use Rattle.std.specs.Prelude.{◌≡◌, None, is_some, true, IfOk, IfErr}
 use crate::committer::Committer;
 use crate::desk::Desk;
 use crate::seat::Seat;
+use crate::origin::Origin;
 use jb_disk::{Clock, Disk};
 use std::sync::Wait;
 use std::sync::ledger::Ledger;
 
-impl<D: Disk, C: Clock, H: Ledger, N: Ledger> Desk<D, C, H, N> {
+impl<D: Disk, C: Clock, H: Origin, N: Ledger> Desk<D, C, H, N> {
     ghost use Rattle.jb_desk.specs.Rounds.{seat_of, held_by};
 
     /// A seat becomes a committer, which holds no batch.

@@ -4,11 +4,12 @@ ghost use Rattle.std.specs.Prelude.{◌≡◌};
 use crate::committer::{Committer, Round, RoundFault};
 use crate::desk::Desk;
 use crate::ended::Ended;
+use crate::origin::Origin;
 use jb_disk::{Clock, Disk};
 use std::sync::Wait;
 use std::sync::ledger::Ledger;
 
-impl<D: Disk, C: Clock, H: Ledger, N: Ledger> Desk<D, C, H, N> {
+impl<D: Disk, C: Clock, H: Origin, N: Ledger> Desk<D, C, H, N> {
     ghost use Rattle.jb_desk.specs.Desks.{desk_id};
     ghost use Rattle.jb_desk.specs.Rounds.{seat_of, held_by, EndsHolding};
     ghost use Rattle.jb_desk.specs.Seats.{stops, changes, seat_number, desk_of, view_of};

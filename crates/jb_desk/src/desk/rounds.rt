@@ -9,12 +9,14 @@ use crate::desk::Desk;
 use crate::follow::end_of;
 use crate::seat::Seat;
 use jb_deck::{Batch, BatchFault, Done, PrepareFault, Prepared, prepare};
+use crate::origin::Origin;
 use jb_disk::{Clock, Disk};
 use std::sync::Wait;
 use std::sync::ledger::Ledger;
 
-impl<D: Disk, C: Clock, H: Ledger, N: Ledger> Desk<D, C, H, N> {
+impl<D: Disk, C: Clock, H: Origin, N: Ledger> Desk<D, C, H, N> {
     ghost use Rattle.jb_desk.specs.Desks.{desk_id};
+    ghost use Rattle.jb_desk.specs.Journal.{CommitsRound};
     ghost use Rattle.jb_desk.specs.Rounds.{seat_of, held_by, AnswersRound, IdleKeeps, end_of as end_in};
     ghost use Rattle.jb_desk.specs.Seats.{stops, changes, seat_number, desk_of};
     ghost use Rattle.jb_desk.specs.Views.{SeesCommit, SeesRound};
@@ -41,6 +43,7 @@ impl<D: Disk, C: Clock, H: Ledger, N: Ledger> Desk<D, C, H, N> {
         ensures idle { IdleKeeps (seat_of committer.old) (seat_of committer.new) result }
         ensures view { SeesRound (held_by committer.old) (held_by committer.new) (view_of (seat_of committer.old)) (view_of (seat_of committer.new)) result }
         ensures counted { (stops (seat_of committer.new) ≡ stops (seat_of committer.old)) × (changes (seat_of committer.new) ≡ changes (seat_of committer.old)) }
+        ensures round { CommitsRound D.size D.count D.faults D.honest D.newest D.may_leave D.moment D.left_since H.begun (held_by committer.old) result }
     {
         let held = committer.batch.take();
         let Some(batch) = self.counter.lock(rt).next_batch(held)? else {
@@ -76,6 +79,7 @@ impl<D: Disk, C: Clock, H: Ledger, N: Ledger> Desk<D, C, H, N> {
         ensures answers { AnswersRound (Some prepared.batch) (held_by committer.new) (view_of (seat_of committer.new)).settled result }
         ensures view { SeesCommit prepared.batch (view_of (seat_of committer.old)) (view_of (seat_of committer.new)) result }
         ensures counted { (stops (seat_of committer.new) ≡ stops (seat_of committer.old)) × (changes (seat_of committer.new) ≡ changes (seat_of committer.old)) }
+        ensures round { CommitsRound D.size D.count D.faults D.honest D.newest D.may_leave D.moment D.left_since H.begun (Some prepared.batch) result }
     {
         // bound first, so that the lock is free again before the book's is taken
         let result = self.works.lock(rt).commit(prepared);
