@@ -1,29 +1,37 @@
 -- How a journal stands since its desk was started: which handles it was given, what its homes hold, and what a crash leaves.
-use Rattle.std.specs.Prelude.{◌≡◌, ◌≢◌, ◌⊎◌, ℕ, ◌-◌, ◌<◌, ◌≤◌, ◌^◌, false, List, length, take, Some}
+use Rattle.std.specs.Prelude.{◌≡◌, ◌≢◌, ◌⊎◌, ℕ, ◌-◌, ◌<◌, ◌≤◌, ◌^◌, false, List, All, length, take, Some}
 use Rattle.jb_disk.specs.Image.{Image}
 use Rattle.jb_handle.specs.Tickets.{TicketsFrom}
 use Rattle.jb_handle.specs.Words.{word}
 use Rattle.jb_handle.specs.declared.stopped.Stopped.{Stopped}
 use Rattle.jb_handle.specs.declared.word.Word.TheVariants.{Free}
+use Rattle.jb_super.specs.Journal.{SameJournal}
 use Rattle.jb_deck.specs.Deck.{OpenDeck}
 use Rattle.jb_deck.specs.Done.{past_after}
 use Rattle.jb_deck.specs.Follows.{StandsBy}
-use Rattle.jb_deck.specs.Opening.{recovered_home}
+use Rattle.jb_deck.specs.Opening.{recovered_home, FollowsEntry}
 use Rattle.jb_deck.specs.Since.{IsRecoveredTo, LiveOf, homes_of}
 use Rattle.jb_deck.specs.declared.done.Entry.{Entry}
-use Rattle.jb_desk.specs.Origin.{Begun}
+use Rattle.jb_desk.specs.Origin.{Begun, own_on}
 
--- an image that recovery takes, and that is recovered to the homes of the start with a first part of these handles, so many at least
+-- an image of the journal of the start that recovery takes, and that is recovered to the homes of the start with a first part of
+-- these handles, so many at least
 pub record HasFirst (b : Begun) (given : List Stopped) (least : ℕ) (c : Image) : Type 0 where
   pub many : ℕ
   pub from : least ≤ many
   pub to : many ≤ length given
-  pub recovered : IsRecoveredTo b.size b.count b.homes (take many given) c
+  pub recovered : IsRecoveredTo b.own b.size b.count b.homes (take many given) c
+
+-- each of the handles stopped with words that a handle may stop with
+abbrev pub AreStops : Begun → List Stopped → Type 0
+AreStops b hs = All (λ h. b.stops h.words) hs
 
 -- The handles that the journal was given, in the order of their tickets: those that its trail has settled, and on a journal that
 -- has failed the batch in hand after them. While it has not failed its homes stand as they say, those that are free aside.
 pub record Since {D : Type 0} (newest : D → Image) (may_leave : D → Image → Type 0) (moment : D → ℕ) (left_since : D → ℕ → Image → Type 0) (b : Begun) (d : OpenDeck D) : Type 0 where
+  pub same : SameJournal b.own d.log.sb
   pub given : List Stopped
+  pub stopped : AreStops b given
   pub tickets : TicketsFrom 0 given
   pub settled : past_after 0 d.trail ≤ length given
   pub all : d.aborted ≡ false → length given ≡ past_after 0 d.trail
@@ -51,12 +59,15 @@ pub record EndsSince {D : Type 0} (size count faults : D → ℕ) (honest : D �
   pub same_trail : deck.trail ≡ trail
   pub since : IsSince size count faults honest newest may_leave moment left_since b deck
 
--- the start is that of this disk: its homes stood as recovery leaves them
+-- The start is that of the journal on this disk, once it is opened: its homes stood as recovery leaves them, and what a crash might
+-- have left has what it might leave before the journal is opened and meanwhile.
 pub record IsBegunOn {D : Type 0} (size count faults : D → ℕ) (honest : D → Type 0) (newest : D → Image) (moment : D → ℕ) (left_since : D → ℕ → Image → Type 0) (b : Begun) (disk : D) : Type 0 where
   pub same_size : size disk ≡ b.size
   pub same_count : count disk ≡ b.count
   pub stays_honest : b.honest → honest disk
   pub same_faults : faults disk ≡ b.faults
+  pub own : own_on (size disk) (count disk) (newest disk) ≡ b.own
   pub homes : (home : ℕ) → recovered_home (size disk) (count disk) (newest disk) home ≡ b.homes home
   pub later : b.since ≤ moment disk
   pub ever : b.honest → (c : Image) → left_since disk b.since c → b.left c
+  pub opening : (c : Image) → FollowsEntry (size disk) (count disk) (newest disk) c → b.left c

@@ -132,7 +132,8 @@ impl<D: Disk, C: Clock, H: Origin, N: Ledger> Desk<D, C, H, N> {
     }
 
     /// A handle stops (`jbd2_journal_stop`): its changes wait to be committed, under the ticket that is
-    /// given with its seat. The seat's shares count it, and the blocks that it touched.
+    /// given with its seat. The seat's shares count it, and the blocks that it touched. Its words are some
+    /// with which a handle may stop (`H.begun`).
     ///
     /// # Errors
     ///
@@ -143,7 +144,8 @@ impl<D: Disk, C: Clock, H: Origin, N: Ledger> Desk<D, C, H, N> {
         rt: &R,
         handle: Handle<Seat<H, N>>,
     ) -> Result<(Seat<H, N>, u64), StopFault<H, N>>
-        requires { desk_of (holder handle) ≡ desk_id self.now }
+        requires seat { desk_of (holder handle) ≡ desk_id self.now }
+        requires words { H.begun.stops (changes_of handle).words }
         ensures seat { IfOk result (λ given. (desk_of given.0 ≡ desk_id self.now) × (seat_number given.0 ≡ seat_number (holder handle))) }
         ensures handles { IfOk result (λ given. stops given.0 ≡ stops (holder handle) + 1) }
         ensures changes { IfOk result (λ given. changes given.0 ≡ changes (holder handle) + touched (changes_of handle)) }

@@ -8,6 +8,7 @@ mod desk;
 mod ended;
 mod fault;
 mod follow;
+mod held;
 pub mod laws;
 mod origin;
 mod room;

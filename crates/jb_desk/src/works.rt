@@ -35,7 +35,7 @@ impl<D: Disk, C: Clock, S: Origin> Works<D, C, S> {
     ghost use Rattle.jb_batch.specs.Prepared.{IsPlanned};
     ghost use Rattle.jb_desk.specs.Journal.{ChecksRound, FailsAs, IsRound};
     ghost use Rattle.jb_desk.specs.Rounds.{CommitsAs};
-    ghost use Rattle.jb_desk.specs.Since.{IsSince};
+    ghost use Rattle.jb_desk.specs.Since.{AreStops, IsSince};
     ghost use Rattle.jb_desk.specs.Works.{worked};
 
     /// A journal that stands as it must since the start, and a clock.
@@ -56,7 +56,8 @@ impl<D: Disk, C: Clock, S: Origin> Works<D, C, S> {
     ///
     /// Those of the journal's own commit.
     pub fn commit(&mut self, prepared: Prepared) -> Result<Done, BatchFault>
-        requires { IsPlanned prepared }
+        requires planned { IsPlanned prepared }
+        requires stops { AreStops S.begun prepared.batch.handles }
         ensures answers { (stamp : Stamp) × C.tells self.old.clock stamp × AnswersBatch (D.faults self.old.deck.disk) (D.faults self.new.deck.disk) prepared stamp self.old.deck self.new.deck result }
         ensures told { CommitsAs prepared result }
         ensures round { IfOk result (IsRound D.size D.count D.faults D.honest D.newest D.may_leave D.moment D.left_since S.begun prepared) }

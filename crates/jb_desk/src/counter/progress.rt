@@ -1,5 +1,6 @@
 //! How far the book of a desk has come.
 use crate::counter::Counter;
+use crate::origin::Origin;
 use std::sync::ledger::Ledger;
 
 /// How far a book has come, as the thread that brings groups home sees it.
@@ -13,7 +14,7 @@ pub(crate) struct Progress {
     pub(crate) is_aborted: bool,
 }
 
-impl<H: Ledger, N: Ledger> Counter<H, N> {
+impl<H: Origin, N: Ledger> Counter<H, N> {
     ghost use Rattle.jb_desk.specs.Progress.{HasCome};
 
     /// How far the book has come.
