@@ -2,6 +2,7 @@ pub mod Account
 pub mod Book
 pub mod Closing
 pub mod Desks
+pub mod Ends
 pub mod Events
 pub mod Journal
 pub mod Origin

@@ -4,6 +4,7 @@ ghost use Rattle.std.specs.List.{sum_by};
 ghost use Rattle.jb_handle.specs.Handle.{holder, changes_of};
 ghost use Rattle.jb_handle.specs.Held.{held, touched};
 
+mod over;
 mod progress;
 mod rounds;
 
@@ -13,6 +14,7 @@ use crate::origin::Origin;
 use crate::seat::{Left, Seat};
 use jb_board::BoardSeat;
 use jb_handle::{Handle, Shape};
+pub use over::Over;
 pub(crate) use progress::Progress;
 use std::alloc::Global;
 use std::sync::ledger;

@@ -1,5 +1,5 @@
 //! How far the book of a desk has come.
-use crate::counter::Counter;
+use crate::counter::{Counter, Over};
 use crate::origin::Origin;
 use std::sync::ledger::Ledger;
 
@@ -9,7 +9,7 @@ pub(crate) struct Progress {
     /// The tickets below it are settled.
     pub(crate) settled: u64,
     /// Nothing more can happen.
-    pub(crate) is_over: bool,
+    pub(crate) over: Option<Over>,
     /// The journal has failed.
     pub(crate) is_aborted: bool,
 }
@@ -23,7 +23,7 @@ impl<H: Origin, N: Ledger> Counter<H, N> {
     {
         Progress {
             settled: self.book.settled(),
-            is_over: self.book.is_over(),
+            over: self.over(),
             is_aborted: self.book.is_aborted(),
         }
     }
