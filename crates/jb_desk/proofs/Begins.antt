@@ -48,11 +48,6 @@ pub opened-since : {D : Type 0} (size count faults : D → ℕ) (honest : D → 
     → (honest disk → (home : ℕ) → homes_of newest deck home ≡ recovered_home (size disk) (count disk) (newest disk) home)
     → IsSince size count faults honest newest may_leave moment left_since b deck
 opened-since {D = D} size count faults honest newest may_leave moment left_since counts_now b disk deck begun kept fault_count new opens leaves now stands = record {
-  same_size = kept.same_size ∙ begun.same_size;
-  same_count = kept.same_count ∙ begun.same_count;
-  stays_honest = λ h. kept.stays_honest (begun.stays_honest h);
-  no_fewer = let same = begun.same_faults in omega (arith, fault_count, same);
-  up = λ few same. new.aborted;
   since = λ h.
       let honest_on = begun.stays_honest h in
       let op = opens honest_on in
@@ -60,6 +55,11 @@ opened-since {D = D} size count faults honest newest may_leave moment left_since
       let past : past_after 0 deck.trail ≡ 0 = ap (past_after 0) new.trail in
       let stood : Stood [] b.homes (recovered_home (size disk) (count disk) (newest disk)) = λ home kept_word. begun.homes home in
       record {
+        same_size = kept.same_size ∙ begun.same_size;
+        same_count = kept.same_count ∙ begun.same_count;
+        stays_honest = kept.stays_honest honest_on;
+        no_fewer = let same = begun.same_faults in omega (arith, fault_count, same);
+        up = λ few none. new.aborted;
         same = own-opened (size disk) (count disk) (newest disk) b.own deck.log op.sb op.taken op.log begun.own;
         given = [];
         stopped = All-nil (λ (x : Stopped). b.stops x.words);

@@ -54,7 +54,7 @@ module _ {D : Type 0} (size count faults : D → ℕ) (honest : D → Type 0) (n
   Is d = IsSince size count faults honest newest may_leave moment left_since b d
 
   abbrev Stands : OpenDeck D → Type 0
-  Stands d = Since newest may_leave moment left_since b d
+  Stands d = Since size count faults honest newest may_leave moment left_since b d
 
   -- ---- a batch
 
@@ -81,7 +81,7 @@ module _ {D : Type 0} (size count faults : D → ℕ) (honest : D → Type 0) (n
         ∙ ap (λ f. past_after f (entries_for p.batch.first old.log.next p.groups)) (sym at)
         ∙ follow-past p.batch.first old.log.next (p.batch.first + length hs) (entries_for p.batch.first old.log.next p.groups) (for-follow (length hs) p.batch.first old.log.next p.groups cut)
 
-    module _ (s : Stands old) (takes : TakesBatch old p) (is : Is old) (leaves : LeavesOnly moment left_since old.disk new.disk (Left 0 (groups_in p.groups))) where
+    module _ (s : Stands old) (takes : TakesBatch old p) (leaves : LeavesOnly moment left_since old.disk new.disk (Left 0 (groups_in p.groups))) where
       given-all : length s.given ≡ p.batch.first
       given-all = s.all takes.up ∙ sym takes.ticket
 
@@ -92,7 +92,7 @@ module _ {D : Type 0} (size count faults : D → ℕ) (honest : D → Type 0) (n
       all-stopped = All-append (λ h. b.stops h.words) s.given hs s.stopped stopped
 
       has-some : (least most low : ℕ) (c : Image) → most ≤ groups_in p.groups → low ≤ length s.given + slice_index p.groups least → Left least most c → HasFirst b (s.given ++ hs) low c
-      has-some least most low c = first-some b old.log.sb s.same (size old.disk) (count old.disk) is.same_size is.same_count s.given (homes_of newest old) (s.stood takes.up) hs p.groups least most low c cut
+      has-some least most low c = first-some b old.log.sb s.same (size old.disk) (count old.disk) s.same_size s.same_count s.given (homes_of newest old) (s.stood takes.up) hs p.groups least most low c cut
 
       ever-some : (c : Image) → left_since new.disk b.since c → b.left c ⊎ HasFirst b (s.given ++ hs) 0 c
       ever-some c left =
@@ -101,8 +101,8 @@ module _ {D : Type 0} (size count faults : D → ℕ) (honest : D → Type 0) (n
           (λ (f : Left 0 (groups_in p.groups) c). inr (has-some 0 (groups_in p.groups) 0 c (omega arith) (omega arith) f))
           (leaves.before b.since c s.later left)
 
-      pub commit-ok : (done : Done) → CommitsBatch p stamp old new done → CommitsOnDisk newest p stamp old new → ((c : Image) → may_leave new.disk c → Left (groups_in p.groups) (groups_in p.groups) c) → (t : Stands new) × (t.given ≡ s.given ++ hs)
-      commit-ok done commits on_disk now =
+      pub commit-ok : (done : Done) → faults new.disk ≡ faults old.disk → CommitsBatch p stamp old new done → CommitsOnDisk newest p stamp old new → ((c : Image) → may_leave new.disk c → Left (groups_in p.groups) (groups_in p.groups) c) → (t : Stands new) × (t.given ≡ s.given ++ hs)
+      commit-ok done counted commits on_disk now =
           let ended : Ended D = record { settled = hs; deck = new } in
           let called = ended-is-call newest s.given old ended (s.live takes.up) (inl (record { batch = p; planned = planned; stamp = stamp; done = done; settles = refl; answers = commits; commits = on_disk })) in
           let past = past-all done takes.ticket commits in
@@ -111,6 +111,11 @@ module _ {D : Type 0} (size count faults : D → ℕ) (honest : D → Type 0) (n
           let last = cut-last (length hs) p.groups cut in
           let low : past_after 0 new.trail ≤ length s.given + slice_index p.groups (groups_in p.groups) = omega (arith, past, at, last) in (
             record {
+              same_size = kept.same_size ∙ s.same_size;
+              same_count = kept.same_count ∙ s.same_count;
+              stays_honest = kept.stays_honest s.stays_honest;
+              no_fewer = let before = s.no_fewer in omega (arith, before, counted);
+              up = λ few none. commits.up;
               same = same-then b.own old.log.sb new.log.sb s.same commits.moved;
               given = s.given ++ hs;
               stopped = all-stopped;
@@ -126,8 +131,8 @@ module _ {D : Type 0} (size count faults : D → ℕ) (honest : D → Type 0) (n
             refl,
           )
 
-      pub commit-some : (settled : Done) → SettlesSome p stamp old new settled → ((c : Image) → may_leave new.disk c → Left (length (entries_of settled)) (length (entries_of settled) + 1) c) → Stands new
-      commit-some settled some now =
+      pub commit-some : (settled : Done) → MoreFaults (faults old.disk) (faults new.disk) → SettlesSome p stamp old new settled → ((c : Image) → may_leave new.disk c → Left (length (entries_of settled)) (length (entries_of settled) + 1) c) → Stands new
+      commit-some settled more some now =
           let few = some.some in
           let within : some.groups ≤ groups_in p.groups = omega (arith, few) in
           let past = past-some some.groups (entries_of settled) within takes.ticket some.trail some.entries in
@@ -138,6 +143,11 @@ module _ {D : Type 0} (size count faults : D → ℕ) (honest : D → Type 0) (n
           let high = cut-high (length hs) p.groups some.groups cut within in
           let low : past_after 0 new.trail ≤ length s.given + slice_index p.groups some.groups = omega (arith, past, at) in
           record {
+            same_size = kept.same_size ∙ s.same_size;
+            same_count = kept.same_count ∙ s.same_count;
+            stays_honest = kept.stays_honest s.stays_honest;
+            no_fewer = let before = s.no_fewer in let rise = more.no_fewer in omega (arith, before, rise);
+            up = λ few none. absurd (more-counted b.faults (faults old.disk) (faults new.disk) s.no_fewer more few none);
             same = same-then b.own old.log.sb new.log.sb s.same some.moved;
             given = s.given ++ hs;
             stopped = all-stopped;
@@ -151,21 +161,6 @@ module _ {D : Type 0} (size count faults : D → ℕ) (honest : D → Type 0) (n
             ever = ever-some;
           }
 
-    -- ---- what is the same in all
-
-    honest-on : Is old → b.honest → honest new.disk
-    honest-on is h = kept.stays_honest (is.stays_honest h)
-
-    stays-since : Is old → faults old.disk ≤ faults new.disk → (b.faults < 18446744073709551615 → faults new.disk ≡ b.faults → new.aborted ≡ false) → (b.honest → Stands new) → Is new
-    stays-since is more up since = record {
-      same_size = kept.same_size ∙ is.same_size;
-      same_count = kept.same_count ∙ is.same_count;
-      stays_honest = honest-on is;
-      no_fewer = let low = is.no_fewer in omega (arith, low, more);
-      up = up;
-      since = since;
-    }
-
     abbrev Leaves : Type 0
     Leaves = old.aborted ≡ false → honest old.disk → LeavesOnly moment left_since old.disk new.disk (Left 0 (groups_in p.groups))
 
@@ -173,19 +168,17 @@ module _ {D : Type 0} (size count faults : D → ℕ) (honest : D → Type 0) (n
     Now r = old.aborted ≡ false → honest old.disk → (c : Image) → may_leave new.disk c → LeavesGroups old.log.sb (size old.disk) (count old.disk) (homes_of newest old) p r c
 
     pub commit-since : (r : Result Done BatchFault) → AnswersBatch (faults old.disk) (faults new.disk) p stamp old new r → (honest old.disk → OnOk r (CommitsOnDisk newest p stamp old new)) → Leaves → Now r → Is old → Is new
-    commit-since (Ok done) answers on_disk leaves now is =
-        let same = answers.1 in
-        stays-since is (omega (arith, same)) (λ few eq. answers.2.up)
-        (λ h. (commit-ok (is.since h) answers.0 is (leaves answers.0.up (is.stays_honest h)) done answers.2 (on_disk (is.stays_honest h)) (now answers.0.up (is.stays_honest h))).0)
+    commit-since (Ok done) answers on_disk leaves now is = record {
+      since = λ h. let s = is.since h in (commit-ok s answers.0 (leaves answers.0.up s.stays_honest) done answers.1 answers.2 (on_disk s.stays_honest) (now answers.0.up s.stays_honest)).0;
+    }
     commit-since (Err (batch.Aborted back)) answers on_disk leaves now is = subst (λ (d : OpenDeck D). Is d) (sym answers.2) is
     commit-since (Err (batch.WrongTicket back expected)) answers on_disk leaves now is = subst (λ (d : OpenDeck D). Is d) (sym answers.4) is
     commit-since (Err (batch.OtherShape back)) answers on_disk leaves now is = subst (λ (d : OpenDeck D). Is d) (sym answers.4) is
     commit-since (Err (batch.NumbersSpent back)) answers on_disk leaves now is = subst (λ (d : OpenDeck D). Is d) (sym answers.5) is
     commit-since (Err (batch.Memory back)) answers on_disk leaves now is = subst (λ (d : OpenDeck D). Is d) (sym answers.3) is
-    commit-since (Err (batch.DeviceFault settled)) answers on_disk leaves now is =
-        let more = answers.1.no_fewer in
-        stays-since is more (λ few eq. absurd (more-counted b.faults (faults old.disk) (faults new.disk) is.no_fewer answers.1 few eq))
-        (λ h. commit-some (is.since h) answers.0 is (leaves answers.0.up (is.stays_honest h)) settled answers.2 (now answers.0.up (is.stays_honest h)))
+    commit-since (Err (batch.DeviceFault settled)) answers on_disk leaves now is = record {
+      since = λ h. let s = is.since h in commit-some s answers.0 (leaves answers.0.up s.stays_honest) settled answers.1 answers.2 (now answers.0.up s.stays_honest);
+    }
 
     pub commit-round : (r : Result Done BatchFault) → AnswersBatch (faults old.disk) (faults new.disk) p stamp old new r → (honest old.disk → OnOk r (CommitsOnDisk newest p stamp old new)) → (honest old.disk → OnOk r (FindsLive (size old.disk) (count old.disk) new.log new.groups (newest new.disk))) → Leaves → Now r → Is old → IfOk r (IsRound size count faults honest newest may_leave moment left_since b p)
     commit-round (Ok done) answers on_disk finds leaves now is = record {
@@ -196,11 +189,11 @@ module _ {D : Type 0} (size count faults : D → ℕ) (honest : D → Type 0) (n
       same_disk = kept;
       takes = answers.0;
       commits = answers.2;
-      on_disk = λ h. on_disk (is.stays_honest h);
-      finds = λ h. finds (is.stays_honest h);
+      on_disk = λ h. on_disk (is.since h).stays_honest;
+      finds = λ h. finds (is.since h).stays_honest;
       before = is;
       after = commit-since (Ok done) answers on_disk leaves now is;
-      adds = λ h. commit-ok (is.since h) answers.0 is (leaves answers.0.up (is.stays_honest h)) done answers.2 (on_disk (is.stays_honest h)) (now answers.0.up (is.stays_honest h));
+      adds = λ h. let s = is.since h in commit-ok s answers.0 (leaves answers.0.up s.stays_honest) done answers.1 answers.2 (on_disk s.stays_honest) (now answers.0.up s.stays_honest);
     }
     commit-round (Err fault) answers on_disk finds leaves now is = tt
 
@@ -219,14 +212,14 @@ module _ {D : Type 0} (size count faults : D → ℕ) (honest : D → Type 0) (n
     abbrev None : Image → Type 0
     None c = FollowsNone old.log.sb (size old.disk) (count old.disk) (homes_of newest old) c
 
-    module _ (s : Stands old) (is : Is old) (up : old.aborted ≡ false) (h : b.honest) (leaves : LeavesOnly moment left_since old.disk new.disk None) (trail : new.trail ≡ old.trail) where
+    module _ (s : Stands old) (up : old.aborted ≡ false) (leaves : LeavesOnly moment left_since old.disk new.disk None) (trail : new.trail ≡ old.trail) where
       has-none : (c : Image) → None c → HasFirst b s.given (past_after 0 old.trail) c
-      has-none c = first-none b old.log.sb s.same (size old.disk) (count old.disk) is.same_size is.same_count s.given (homes_of newest old) (s.stood up) (past_after 0 old.trail) c s.settled
+      has-none c = first-none b old.log.sb s.same (size old.disk) (count old.disk) s.same_size s.same_count s.given (homes_of newest old) (s.stood up) (past_after 0 old.trail) c s.settled
 
       now-none : (c : Image) → may_leave new.disk c → HasFirst b s.given (past_after 0 new.trail) c
       now-none c may =
           subst (λ es. HasFirst b s.given (past_after 0 es) c) (sym trail)
-          (has-none c (leaves.each c (counts_now new.disk (moment old.disk) c (kept.stays_honest (is.stays_honest h)) leaves.later may)))
+          (has-none c (leaves.each c (counts_now new.disk (moment old.disk) c (kept.stays_honest s.stays_honest) leaves.later may)))
 
       ever-none : (c : Image) → left_since new.disk b.since c → b.left c ⊎ HasFirst b s.given 0 c
       ever-none c left =
@@ -235,8 +228,13 @@ module _ {D : Type 0} (size count faults : D → ℕ) (honest : D → Type 0) (n
           (leaves.before b.since c s.later left)
 
       -- nothing is given, and the homes stand as they did
-      none-since : SameJournal old.log.sb new.log.sb → (new.aborted ≡ false → ((home : ℕ) → homes_of newest new home ≡ homes_of newest old home) × LiveOf s.given new.groups) → Stands new
-      none-since same same_homes = record {
+      none-since : SameJournal old.log.sb new.log.sb → faults old.disk ≤ faults new.disk → (b.faults < 18446744073709551615 → faults new.disk ≡ b.faults → new.aborted ≡ false) → (new.aborted ≡ false → ((home : ℕ) → homes_of newest new home ≡ homes_of newest old home) × LiveOf s.given new.groups) → Stands new
+      none-since same more fails same_homes = record {
+        same_size = kept.same_size ∙ s.same_size;
+        same_count = kept.same_count ∙ s.same_count;
+        stays_honest = kept.stays_honest s.stays_honest;
+        no_fewer = let before = s.no_fewer in omega (arith, before, more);
+        up = fails;
         same = same-then b.own old.log.sb new.log.sb s.same same;
         given = s.given;
         stopped = s.stopped;
@@ -253,37 +251,29 @@ module _ {D : Type 0} (size count faults : D → ℕ) (honest : D → Type 0) (n
     abbrev LeavesNone : Type 0
     LeavesNone = old.aborted ≡ false → honest old.disk → LeavesOnly moment left_since old.disk new.disk None
 
-    kept-since : Is old → faults old.disk ≤ faults new.disk → (b.faults < 18446744073709551615 → faults new.disk ≡ b.faults → new.aborted ≡ false) → (b.honest → Stands new) → Is new
-    kept-since is more up since = record {
-      same_size = kept.same_size ∙ is.same_size;
-      same_count = kept.same_count ∙ is.same_count;
-      stays_honest = λ h. kept.stays_honest (is.stays_honest h);
-      no_fewer = let low = is.no_fewer in omega (arith, low, more);
-      up = up;
-      since = since;
-    }
-
-    home-since : (checked : Checked) → TakesOldest old new checked → Checkpoints newest old new → (s : Stands old) → Is old → old.aborted ≡ false → b.honest → LeavesOnly moment left_since old.disk new.disk None → Stands new
-    home-since checked takes goes s is up h leaves =
+    home-since : (checked : Checked) → faults new.disk ≡ faults old.disk → TakesOldest old new checked → Checkpoints newest old new → (s : Stands old) → old.aborted ≡ false → LeavesOnly moment left_since old.disk new.disk None → Stands new
+    home-since checked counted takes goes s up leaves =
         let ended : Ended D = record { settled = []; deck = new } in
         let called = ended-is-call newest s.given old ended (s.live up) (inr (inl (record { checked = checked; settles = refl; answers = takes; checkpoints = goes }))) in
-        none-since s is up h leaves takes.trail (subst (λ l. SameJournal old.log.sb l.sb) (sym takes.log) refl)
+        none-since s up leaves takes.trail (subst (λ l. SameJournal old.log.sb l.sb) (sym takes.log) refl) (omega (arith, counted)) (λ few none. takes.live)
         (λ still. (goes.standing, subst (λ hs. LiveOf hs new.groups) (append-nil s.given) called.1))
 
     pub checkpoint-since : (r : Result Checked CheckpointFault) → AnswersCheckpoint (faults old.disk) (faults new.disk) old new r → (honest old.disk → OnOk r (Checkpoints newest old new)) → LeavesNone → Is old → Is new
-    checkpoint-since (Ok checked) answers checkpoints leaves is =
-        let same = answers.1 in
-        kept-since is (omega (arith, same)) (λ few eq. answers.2.live)
-        (λ h. home-since checked answers.2 (checkpoints (is.stays_honest h)) (is.since h) is answers.0 h (leaves answers.0 (is.stays_honest h)))
+    checkpoint-since (Ok checked) answers checkpoints leaves is = record {
+      since = λ h. let s = is.since h in home-since checked answers.1 answers.2 (checkpoints s.stays_honest) s answers.0 (leaves answers.0 s.stays_honest);
+    }
     checkpoint-since (Err checkpoint.Aborted) answers checkpoints leaves is = subst (λ (d : OpenDeck D). Is d) (sym answers.1) is
     checkpoint-since (Err checkpoint.Nothing) answers checkpoints leaves is = subst (λ (d : OpenDeck D). Is d) (sym answers.2) is
     checkpoint-since (Err checkpoint.DeviceFault) answers checkpoints leaves is =
         let failed : new.aborted ≡ true = ap (λ (d : OpenDeck D). d.aborted) answers.3 in
-        let more = answers.2.no_fewer in
-        kept-since is more (λ few eq. absurd (more-counted b.faults (faults old.disk) (faults new.disk) is.no_fewer answers.2 few eq))
-        (λ h. none-since (is.since h) is answers.0 h (leaves answers.0 (is.stays_honest h)) (ap (λ (d : OpenDeck D). d.trail) answers.3)
-        (subst (λ (d : OpenDeck D). SameJournal old.log.sb d.log.sb) (sym answers.3) refl)
-        (λ still. absurd (not-both new.aborted failed still)))
+        record {
+          since = λ h.
+              let s = is.since h in
+              none-since s answers.0 (leaves answers.0 s.stays_honest) (ap (λ (d : OpenDeck D). d.trail) answers.3)
+              (subst (λ (d : OpenDeck D). SameJournal old.log.sb d.log.sb) (sym answers.3) refl)
+              answers.2.no_fewer (λ few none. absurd (more-counted b.faults (faults old.disk) (faults new.disk) s.no_fewer answers.2 few none))
+              (λ still. absurd (not-both new.aborted failed still));
+        }
 
     pub checkpoint-round : (r : Result Checked CheckpointFault) → AnswersCheckpoint (faults old.disk) (faults new.disk) old new r → (honest old.disk → OnOk r (Checkpoints newest old new)) → Is old → Is new → ChecksRound size count faults honest newest may_leave moment left_since b r
     checkpoint-round (Ok checked) answers checkpoints is after = record {
@@ -292,7 +282,7 @@ module _ {D : Type 0} (size count faults : D → ℕ) (honest : D → Type 0) (n
       same_disk = kept;
       up = answers.0;
       takes = answers.2;
-      checkpoints = λ h. checkpoints (is.stays_honest h);
+      checkpoints = λ h. checkpoints (is.since h).stays_honest;
       before = is;
       after = after;
     }

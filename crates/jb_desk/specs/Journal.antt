@@ -37,7 +37,7 @@ module _ {D : Type 0} (size count faults : D → ℕ) (honest : D → Type 0) (n
     pub finds : b.honest → FindsLive (size old.disk) (count old.disk) new.log new.groups (newest new.disk)
     pub before : IsSince size count faults honest newest may_leave moment left_since b old
     pub after : IsSince size count faults honest newest may_leave moment left_since b new
-    pub adds : (h : b.honest) → (s : Since newest may_leave moment left_since b new) × (s.given ≡ (before.since h).given ++ p.batch.handles)
+    pub adds : (h : b.honest) → (s : Since size count faults honest newest may_leave moment left_since b new) × (s.given ≡ (before.since h).given ++ p.batch.handles)
 
   -- the desk's journal has failed
   pub record HasFailed : Type 0 where

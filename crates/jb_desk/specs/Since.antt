@@ -26,9 +26,15 @@ pub record HasFirst (b : Begun) (given : List Stopped) (least : ℕ) (c : Image)
 abbrev pub AreStops : Begun → List Stopped → Type 0
 AreStops b hs = All (λ h. b.stops h.words) hs
 
--- The handles that the journal was given, in the order of their tickets: those that its trail has settled, and on a journal that
+-- The journal of the start, on its disk, and the handles that it was given since, in the order of their tickets: those that its trail has settled, and on a journal that
 -- has failed the batch in hand after them. While it has not failed its homes stand as they say, those that are free aside.
-pub record Since {D : Type 0} (newest : D → Image) (may_leave : D → Image → Type 0) (moment : D → ℕ) (left_since : D → ℕ → Image → Type 0) (b : Begun) (d : OpenDeck D) : Type 0 where
+pub record Since {D : Type 0} (size count faults : D → ℕ) (honest : D → Type 0) (newest : D → Image) (may_leave : D → Image → Type 0) (moment : D → ℕ) (left_since : D → ℕ → Image → Type 0) (b : Begun) (d : OpenDeck D) : Type 0 where
+  pub same_size : size d.disk ≡ b.size
+  pub same_count : count d.disk ≡ b.count
+  pub stays_honest : honest d.disk
+  -- it has not failed unless a call of the disk has
+  pub no_fewer : b.faults ≤ faults d.disk
+  pub up : b.faults < 2 ^ 64 - 1 → faults d.disk ≡ b.faults → d.aborted ≡ false
   pub same : SameJournal b.own d.log.sb
   pub given : List Stopped
   pub stopped : AreStops b given
@@ -43,14 +49,9 @@ pub record Since {D : Type 0} (newest : D → Image) (may_leave : D → Image �
   pub later : b.since ≤ moment d.disk
   pub ever : (c : Image) → left_since d.disk b.since c → b.left c ⊎ HasFirst b given 0 c
 
--- a journal on the disk of the start, which has not failed unless a call of the disk has; and on an honest disk it stands so
+-- where the disk of the start is honest, the journal stands so
 pub record IsSince {D : Type 0} (size count faults : D → ℕ) (honest : D → Type 0) (newest : D → Image) (may_leave : D → Image → Type 0) (moment : D → ℕ) (left_since : D → ℕ → Image → Type 0) (b : Begun) (d : OpenDeck D) : Type 0 where
-  pub same_size : size d.disk ≡ b.size
-  pub same_count : count d.disk ≡ b.count
-  pub stays_honest : b.honest → honest d.disk
-  pub no_fewer : b.faults ≤ faults d.disk
-  pub up : b.faults < 2 ^ 64 - 1 → faults d.disk ≡ b.faults → d.aborted ≡ false
-  pub since : b.honest → Since newest may_leave moment left_since b d
+  pub since : b.honest → Since size count faults honest newest may_leave moment left_since b d
 
 -- the disk and the trail are those of such a journal
 pub record EndsSince {D : Type 0} (size count faults : D → ℕ) (honest : D → Type 0) (newest : D → Image) (may_leave : D → Image → Type 0) (moment : D → ℕ) (left_since : D → ℕ → Image → Type 0) (b : Begun) (disk : D) (trail : List Entry) : Type 0 where
