@@ -1,8 +1,13 @@
 pub mod Accounts
+pub mod Begins
+pub mod Bounds
+pub mod Closings
 pub mod Cuts
+pub mod Firsts
 pub mod Follows
 pub mod Keeping
 pub mod Rounds
 pub mod SeatCredits
 pub mod Seen
 pub mod Shadows
+pub mod Sincing

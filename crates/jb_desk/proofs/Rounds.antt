@@ -20,7 +20,7 @@ from-follow : (n a ticket number : ℕ) (bs : List ℕ) → RisesTo n a bs → F
 from-follow n a ticket number [] is = ap (λ k. ticket + k) is
 from-follow n a ticket number (b ∷ bs) is = let more = is.0 in (refl, omega arith, omega arith, from-follow n b ticket (number + 1) bs is.1)
 
-for-follow : (n ticket number : ℕ) (bounds : List ℕ) → IsCut n bounds → Follow ticket number (ticket + n) (entries_for ticket number bounds)
+pub for-follow : (n ticket number : ℕ) (bounds : List ℕ) → IsCut n bounds → Follow ticket number (ticket + n) (entries_for ticket number bounds)
 for-follow n ticket number [] is = absurd is
 for-follow n ticket number (a ∷ bs) is =
     let none = is.0 in
@@ -31,7 +31,7 @@ follow-lower : (first least low past : ℕ) (es : List Entry) → low ≤ least 
 follow-lower first least low past [] less is = is
 follow-lower first least low past (e ∷ es) less is = let up = is.2 in (is.0, is.1, omega arith, is.3)
 
-follow-past : (first least past : ℕ) (es : List Entry) → Follow first least past es → past_after first es ≡ past
+pub follow-past : (first least past : ℕ) (es : List Entry) → Follow first least past es → past_after first es ≡ past
 follow-past first least past [] is = is
 follow-past first least past (e ∷ es) is = follow-past e.past (e.number + 1) past es is.3
 

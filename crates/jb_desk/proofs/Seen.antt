@@ -5,8 +5,11 @@ use Rattle.jb_batch.specs.Batch.{Gathered}
 use Rattle.jb_board.specs.Front.{IsWithin}
 use Rattle.jb_board.specs.Steps.{raised_settled}
 use Rattle.jb_board.specs.declared.front.Front.{Front}
+use Rattle.jb_disk.specs.Image.{Image}
 use Rattle.jb_handle.specs.Held.{first_of}
 use Rattle.jb_desk.specs.Account.{Account, is_full, RefusesBegin}
+use Rattle.jb_desk.specs.Journal.{CommitsRound}
+use Rattle.jb_desk.specs.Origin.{Begun}
 use Rattle.jb_desk.specs.Refusals.{IsTooMany}
 use Rattle.jb_desk.specs.Rounds.{AnswersRound, GivesBatch, end_of}
 use Rattle.jb_desk.specs.Shadow.{credits_at, reserved}
@@ -59,6 +62,16 @@ gives-takes old new (Some h) given b is gives = let same : ◌≡◌ {A = Option
 pub sees-held : (held after : Option Gathered) (b : Gathered) (v w : Front) (fault : RoundFault) → (fault ≡ round.Memory) ⊎ (fault ≡ round.Refused) → TakesUp held b → after ≡ Some b → w ≡ with_taken (end_of b) v → SeesRound held after v w (Err fault)
 sees-held held after b v w fault (inl is) up again taken = subst (λ f. SeesRound held after v w (Err f)) (sym is) (inr (b, up, again, taken))
 sees-held held after b v w fault (inr is) up again taken = subst (λ f. SeesRound held after v w (Err f)) (sym is) (inr (b, up, again, taken))
+
+-- of the batch that is taken up, the round's is
+pub round-up : {D : Type 0} (size count faults : D → ℕ) (honest : D → Type 0) (newest : D → Image) (may_leave : D → Image → Type 0) (moment : D → ℕ) (left_since : D → ℕ → Image → Type 0) (begun : Begun) (held : Option Gathered) (b : Gathered) (r : Result Round RoundFault)
+    → TakesUp held b → CommitsRound size count faults honest newest may_leave moment left_since begun (Some b) r → CommitsRound size count faults honest newest may_leave moment left_since begun held r
+round-up size count faults honest newest may_leave moment left_since begun held b (Ok Idle) up is = tt
+round-up size count faults honest newest may_leave moment left_since begun held b (Ok (Committed done)) up is = (is.0, subst (TakesUp held) (sym is.1) up, is.2)
+round-up size count faults honest newest may_leave moment left_since begun held b (Err round.Aborted) up is = tt
+round-up size count faults honest newest may_leave moment left_since begun held b (Err round.DeviceFault) up is = is
+round-up size count faults honest newest may_leave moment left_since begun held b (Err round.Memory) up is = tt
+round-up size count faults honest newest may_leave moment left_since begun held b (Err round.Refused) up is = tt
 
 -- ---- the credits
 

@@ -2,11 +2,12 @@
 use Rattle.jb_board.specs.Seats.{BoardId, board_id}
 use Rattle.jb_handle.specs.declared.shape.Shape.{Shape}
 use Rattle.jb_desk.specs.declared.desk.Desk.{Desk}
+use Rattle.jb_desk.specs.declared.origin.Origin.{Ghosts}
 
 -- the board of the desk, which tells it from every other
-abbrev pub desk_id : {D C H N : Type 0} → Desk D C H N → BoardId
+abbrev pub desk_id : {D C H N : Type 0} {O : Ghosts H} → Desk D C H N O → BoardId
 desk_id d = board_id d.board
 
 -- the shape of the journal
-abbrev pub shape_in : {D C H N : Type 0} → Desk D C H N → Shape
+abbrev pub shape_in : {D C H N : Type 0} {O : Ghosts H} → Desk D C H N O → Shape
 shape_in d = d.shape

@@ -2,11 +2,16 @@ pub mod Account
 pub mod Book
 pub mod Closing
 pub mod Desks
+pub mod Ends
 pub mod Events
+pub mod Journal
+pub mod Origin
 pub mod Progress
 pub mod Refusals
 pub mod Rounds
 pub mod Seats
 pub mod Shadow
+pub mod Since
 pub mod Stops
 pub mod Views
+pub mod Works

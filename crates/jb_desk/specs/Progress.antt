@@ -1,10 +1,11 @@
 -- How far a book has come.
-use Rattle.std.specs.Prelude.{◌≡◌, ◌↔◌, IsTrue}
+use Rattle.std.specs.Prelude.{◌≡◌, false, IfSome, IfNone}
 use Rattle.jb_desk.specs.Account.{Account, IsOver}
 use Rattle.jb_desk.specs.declared.counter.progress.Progress.{Progress}
 
--- what is settled, whether nothing more can happen, and whether the journal has failed
+-- what is settled, that nothing more can happen where that is so, and whether the journal has failed
 pub record HasCome (a : Account) (p : Progress) : Type 0 where
   pub settled : p.settled ≡ a.shadow.settled
-  pub over : IsTrue p.is_over ↔ IsOver a
+  pub over : IfSome p.over (λ o. IsOver a × (a.aborted ≡ false) × (o.settled ≡ a.shadow.settled))
+  pub not_over : IfNone p.over (IsOver a → a.aborted ≡ false → ⊥)
   pub aborted : p.is_aborted ≡ a.aborted

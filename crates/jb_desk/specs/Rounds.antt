@@ -13,8 +13,6 @@ use Rattle.jb_desk.specs.declared.committer.Round.{Round}
 use Rattle.jb_desk.specs.declared.committer.Round.TheVariants.{Idle, Committed}
 use Rattle.jb_desk.specs.declared.committer.RoundFault.{RoundFault}
 use Rattle.jb_desk.specs.declared.committer.RoundFault.TheVariants.{Aborted, Memory, DeviceFault, Refused}
-use Rattle.jb_desk.specs.declared.ended.Ended.{Ended}
-use Rattle.jb_desk.specs.declared.ended.Ended.TheVariants as ended
 use Rattle.jb_desk.specs.declared.fault.WrongBatch.{WrongBatch}
 use Rattle.jb_desk.specs.declared.seat.Seat.{Seat}
 
@@ -97,10 +95,3 @@ abbrev pub IdleKeeps : {H N : Type 0} → Seat H N → Seat H N → Result Round
 IdleKeeps old new (Ok Idle) = new ≡ old
 IdleKeeps old new (Ok (Committed done)) = Unit {0}
 IdleKeeps old new (Err fault) = Unit {0}
-
--- why a committer has ended, and whether it still holds a batch
-abbrev pub EndsHolding : Ended → Option Gathered → Type 0
-EndsHolding ended.Shut held = held ≡ None
-EndsHolding ended.Aborted held = held ≡ None
-EndsHolding ended.Memory held = is_some held ≡ true
-EndsHolding ended.Refused held = is_some held ≡ true

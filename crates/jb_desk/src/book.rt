@@ -8,22 +8,24 @@ mod readers;
 
 use crate::fault::{BeginFault, EnqueueFault, WrongBatch};
 use crate::follow::past_of;
+use crate::origin::Origin;
 use crate::room::{drop_first, make_room, push_all};
 use jb_cost::{Geometry, most_credits};
 use jb_deck::{Batch, Done, Entry};
 use jb_handle::{Handle, Shape, Stopped, Words};
 use std::alloc::Global;
 use std::collections::BTreeMap;
-use std::marker::Model;
+use std::marker::{Model, PhantomData};
 use std::mem;
 
 /// The most tickets of a book, and the most credits that it grants in all.
 const MOST: u64 = 1 << 61;
 
 /// The book of a desk: which seats have an open handle, the queue of stopped handles, which tickets
-/// are taken and settled, and the groups that settled them.
+/// are taken and settled, and the groups that settled them. Each handle in the queue stopped with words
+/// that a handle may stop with (`S.begun`).
 #[derive(Drop)]
-pub struct Book {
+pub struct Book<S: Origin> {
     shape: Shape,
     usable: u64,
     most: u32,
@@ -45,9 +47,10 @@ pub struct Book {
     shut: bool,
     aborted: bool,
     alloc: Global,
+    origin: PhantomData<S>,
 }
 
-impl Model for Book {
+impl<S: Origin> Model for Book<S> {
     ghost use Rattle.std.specs.Coded.{codes};
     ghost use Rattle.jb_handle.specs.Word.{words_code};
     ghost use Rattle.jb_desk.specs.Account.{Account};
@@ -59,15 +62,16 @@ impl Model for Book {
 
     ghost view = { account_of };
 
-    ghost invariant = { IsKept };
+    ghost invariant = { IsKept S.begun };
 }
 
-impl Book {
+impl<S: Origin> Book<S> {
+    ghost use Rattle.jb_desk.specs.Since.{AreStops};
     ghost use Rattle.jb_desk.specs.Account.{IsStart, granted_to, dropped_of, queued, taken_all, settled_to, failed_of, is_full, refusal, RefusesBegin, IsOpenFor, CanStop, RefusesStop, CanTake, Settles};
 
     /// A book in which nothing has happened yet, for a journal of this shape with so many usable
     /// log blocks. Takes no memory.
-    pub fn new(alloc: Global, shape: Shape, usable: u64) -> Book
+    pub fn new(alloc: Global, shape: Shape, usable: u64) -> Book<S>
         requires { usable ≤ 2147483646 }
         ensures { IsStart shape usable result }
     {
@@ -90,6 +94,7 @@ impl Book {
             shut: false,
             aborted: false,
             alloc,
+            origin: PhantomData,
         }
     }
 
@@ -149,11 +154,12 @@ impl Book {
     ///
     /// The first of these, with the handle, and the book is as it was: `Aborted`, `NotOpen`, and
     /// `Memory` where there is none for a further handle.
-    pub fn enqueue<S>(
+    pub fn enqueue<T>(
         &mut self,
         seat: u64,
-        handle: Handle<S>,
-    ) -> Result<(S, u64), (Handle<S>, EnqueueFault)>
+        handle: Handle<T>,
+    ) -> Result<(T, u64), (Handle<T>, EnqueueFault)>
+        requires { S.begun.stops (changes_of handle).words }
         ensures ok { OnOk result (self.new ≡ queued seat (changes_of handle).words self.old) }
         ensures open { OnOk result (CanStop self.old seat (changes_of handle).words) }
         ensures given { IfOk result (λ given. (given.0 ≡ holder handle) × (given.1 ≡ self.old.shadow.next)) }
@@ -216,6 +222,7 @@ impl Book {
     pub fn take(&mut self) -> Option<Batch>
         ensures batch { IfSome result (λ batch. batch ≡ gathered self.old.shadow.taken self.old.shadow.queue self.old.shape) }
         ensures cut { IfSome result (λ _. HasCut self.old.shape self.old.shadow.queue) }
+        ensures stops { IfSome result (λ batch. AreStops S.begun batch.handles) }
         ensures taken { IfSome result (λ _. CanTake self.old × (self.new ≡ taken_all self.old)) }
         ensures none { IfNone result ((CanTake self.old → ⊥) × (self.new ≡ self.old)) }
     {

@@ -1,29 +1,31 @@
 //! What commits, and how one round of it ends.
 ghost use Rattle.std.specs.Prelude.{◌≡◌, None, Some};
 
+use crate::held::Held;
+use crate::origin::Origin;
 use crate::seat::Seat;
-use jb_deck::{Batch, Done};
+use jb_deck::Done;
 use std::mem;
 use std::sync::ledger::Ledger;
 
 /// A seat that commits, with the batch that it has taken and could not commit yet. It must be used
 /// up: it retires or gives up, and cannot be dropped by accident.
 #[must_use]
-pub struct Committer<H: Ledger, N: Ledger> {
+pub struct Committer<H: Origin, N: Ledger> {
     pub(crate) seat: Seat<H, N>,
-    pub(crate) batch: Option<Batch>,
+    pub(crate) batch: Option<Held<H>>,
 }
 
-impl<H: Ledger, N: Ledger> Committer<H, N> {
+impl<H: Origin, N: Ledger> Committer<H, N> {
     /// Holds a batch until the next round.
-    pub(crate) fn hold(&mut self, batch: Batch)
+    pub(crate) fn hold(&mut self, batch: Held<H>)
         requires { self.old.batch ≡ None }
         ensures { (self.new.seat ≡ self.old.seat) × (self.new.batch ≡ Some batch) }
     {
         match mem::replace(&mut self.batch, Some(batch)) {
             None => {}
             Some(other) => {
-                let _lost = other.end();
+                let _lost = other.end().end();
                 unreachable!()
             }
         }

@@ -4,14 +4,17 @@ ghost use Rattle.std.specs.List.{sum_by};
 ghost use Rattle.jb_handle.specs.Handle.{holder, changes_of};
 ghost use Rattle.jb_handle.specs.Held.{held, touched};
 
+mod over;
 mod progress;
 mod rounds;
 
 use crate::book::Book;
 use crate::fault::{BeginFault, EnqueueFault, StopFault, WaitFault};
+use crate::origin::Origin;
 use crate::seat::{Left, Seat};
 use jb_board::BoardSeat;
 use jb_handle::{Handle, Shape};
+pub use over::Over;
 pub(crate) use progress::Progress;
 use std::alloc::Global;
 use std::sync::ledger;
@@ -23,8 +26,8 @@ const MOST: u64 = 1 << 61;
 /// What the first lock of a desk guards: the book, and the ledgers in which the handles that stopped
 /// and the blocks that they touched are counted. Of each ledger the parts that no seat has are spare.
 #[derive(Drop)]
-pub(crate) struct Counter<H: Ledger, N: Ledger> {
-    book: Book,
+pub(crate) struct Counter<H: Origin, N: Ledger> {
+    book: Book<H>,
     handles: ledger::Book<H>,
     changes: ledger::Book<N>,
     spare_handles: Share<H>,
@@ -40,13 +43,13 @@ pub(crate) struct Counter<H: Ledger, N: Ledger> {
     ghost few: { given ≤ 2305843009213693952 },
 }
 
-impl<H: Ledger, N: Ledger> Counter<H, N> {
+impl<H: Origin, N: Ledger> Counter<H, N> {
     ghost use Rattle.jb_desk.specs.Account.{granted_to, dropped_of, refusal, RefusesBegin, IsSettledBy, IsAwaited, fault_of};
     ghost use Rattle.jb_desk.specs.Seats.{stops, changes, stops_left, changes_left};
     ghost use Rattle.jb_desk.specs.Stops.{IsStopped, RefusesStopOf};
 
     /// A book that nobody has asked anything, and two ledgers in which nothing is counted.
-    pub fn new(book: Book, handles: Blank, changes: Blank) -> Counter<H, N>
+    pub fn new(book: Book<H>, handles: Blank, changes: Blank) -> Counter<H, N>
         requires handles { (handles.name ≡ H.name) × (handles.parts ≡ H.parts) × (H.parts ≡ 2305843009213693953) }
         requires changes { (changes.name ≡ N.name) × (changes.parts ≡ N.parts) × (N.parts ≡ 2305843009213693953) }
         requires fresh { (book.shadow.next ≡ 0) × (book.changes ≡ 0) }
@@ -142,6 +145,7 @@ impl<H: Ledger, N: Ledger> Counter<H, N> {
     /// `Aborted` with the seat, and the handle is dropped; `NotOpen` and `Memory` with the handle, and
     /// nothing has changed.
     pub fn stop(&mut self, handle: Handle<Seat<H, N>>) -> Result<(Seat<H, N>, u64), StopFault<H, N>>
+        requires { H.begun.stops (changes_of handle).words }
         ensures ok { IfOk result (λ given. IsStopped handle self.old.book given.0 given.1 self.new.book) }
         ensures refused { IfErr result (λ fault. RefusesStopOf handle self.old.book fault self.new.book) }
     {
@@ -218,7 +222,7 @@ impl<H: Ledger, N: Ledger> Counter<H, N> {
     }
 
     /// The book.
-    pub fn book(&self) -> &Book
+    pub fn book(&self) -> &Book<H>
         ensures { result.now ≡ self.now.book }
     {
         &self.book
@@ -226,7 +230,7 @@ impl<H: Ledger, N: Ledger> Counter<H, N> {
 
     /// Takes it apart where every seat that was given has left: into the book, and how many handles
     /// stopped and how many blocks they had touched, which are the sums over what the seats left.
-    pub fn totals(self, lefts: Vec<Left<H, N>>) -> (Book, u64, u64)
+    pub fn totals(self, lefts: Vec<Left<H, N>>) -> (Book<H>, u64, u64)
         requires parts { (H.parts ≡ 2305843009213693953) × (N.parts ≡ 2305843009213693953) }
         requires all { vec_len lefts ≡ self.given }
         ensures book { result.0 ≡ self.book }

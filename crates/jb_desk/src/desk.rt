@@ -1,4 +1,4 @@
-ghost use Rattle.std.specs.Prelude.{◌≡◌, ◌+◌, ◌<◌, ◌^◌, [], false, IfOk, IfErr, OnOk, OnErr};
+ghost use Rattle.std.specs.Prelude.{◌≡◌, ◌+◌, ◌<◌, ◌^◌, IfOk, IfErr, OnOk, OnErr};
 ghost use Rattle.std.specs.FinMap as map;
 ghost use Rattle.jb_handle.specs.Handle.{holder, changes_of};
 ghost use Rattle.jb_handle.specs.Held.{held, touched};
@@ -15,6 +15,7 @@ mod waiting;
 use crate::book::Book;
 use crate::counter::Counter;
 use crate::fault::{BeginFault, SeatFault, StopFault, WaitFault};
+use crate::origin::Origin;
 use crate::seat::{Left, Seat};
 use crate::turns::Turns;
 use crate::works::Works;
@@ -32,9 +33,9 @@ use std::sync::{Condvar, Mutex, Wait};
 /// book of handles and one for the journal, and none of its calls holds the first while the disk is
 /// at work.
 #[derive(Drop)]
-pub struct Desk<D: Disk, C: Clock, H: Ledger, N: Ledger> {
+pub struct Desk<D: Disk, C: Clock, H: Origin, N: Ledger> {
     counter: Mutex<Counter<H, N>>,
-    works: Mutex<Works<D, C>>,
+    works: Mutex<Works<D, C, H>>,
     /// the book has changed
     moved: Condvar,
     turns: Turns,
@@ -43,14 +44,16 @@ pub struct Desk<D: Disk, C: Clock, H: Ledger, N: Ledger> {
     alloc: Global,
 }
 
-impl<D: Disk, C: Clock, H: Ledger, N: Ledger> Desk<D, C, H, N> {
+impl<D: Disk, C: Clock, H: Origin, N: Ledger> Desk<D, C, H, N> {
     ghost use Rattle.jb_desk.specs.Desks.{desk_id, shape_in};
     ghost use Rattle.jb_desk.specs.Seats.{stops, changes, seat_number, desk_of, view_of, stops_left, changes_left};
     ghost use Rattle.jb_desk.specs.Refusals.{HandsBack, IsTooMany};
+    ghost use Rattle.jb_desk.specs.Since.{IsSince};
     ghost use Rattle.jb_desk.specs.Views.{with_settled};
 
     /// A desk over a journal that has committed nothing yet and has not failed. `handles` and `changes`
-    /// are new ledgers, in which the handles that stop and the blocks that they touched are counted.
+    /// are new ledgers, in which the handles that stop and the blocks that they touched are counted. What is
+    /// promised of the disk from now on is said of the start that the caller picks (`H.begun`).
     ///
     /// # Errors
     ///
@@ -64,8 +67,7 @@ impl<D: Disk, C: Clock, H: Ledger, N: Ledger> Desk<D, C, H, N> {
     ) -> Result<Desk<D, C, H, N>, (Blank, Blank, Deck<D>, C)>
         requires handles { (handles.name ≡ H.name) × (handles.parts ≡ H.parts) × (H.parts ≡ 2 ^ 61 + 1) }
         requires changes { (changes.name ≡ N.name) × (changes.parts ≡ N.parts) × (N.parts ≡ 2 ^ 61 + 1) }
-        requires fresh { deck.trail ≡ [] }
-        requires running { deck.aborted ≡ false }
+        requires begun { IsSince D.size D.count D.faults D.honest D.newest D.may_leave D.moment D.left_since H.begun deck }
         ensures shape { IfOk result (λ desk. shape_in desk ≡ deck.shape) }
         ensures back { IfErr result (λ back. back ≡ (handles, changes, deck, clock)) }
     {
@@ -76,7 +78,7 @@ impl<D: Disk, C: Clock, H: Ledger, N: Ledger> Desk<D, C, H, N> {
         let book = Book::new(alloc, shape, u64::from(deck.usable()));
         Ok(Desk {
             counter: Mutex::new(Counter::new(book, handles, changes)),
-            works: Mutex::new(Works { deck, clock }),
+            works: Mutex::new(Works::new(deck, clock)),
             moved: Condvar::new(),
             turns: Turns::new(),
             board,
@@ -134,7 +136,8 @@ impl<D: Disk, C: Clock, H: Ledger, N: Ledger> Desk<D, C, H, N> {
     }
 
     /// A handle stops (`jbd2_journal_stop`): its changes wait to be committed, under the ticket that is
-    /// given with its seat. The seat's shares count it, and the blocks that it touched.
+    /// given with its seat. The seat's shares count it, and the blocks that it touched. Its words are some
+    /// with which a handle may stop (`H.begun`).
     ///
     /// # Errors
     ///
@@ -145,7 +148,8 @@ impl<D: Disk, C: Clock, H: Ledger, N: Ledger> Desk<D, C, H, N> {
         rt: &R,
         handle: Handle<Seat<H, N>>,
     ) -> Result<(Seat<H, N>, u64), StopFault<H, N>>
-        requires { desk_of (holder handle) ≡ desk_id self.now }
+        requires seat { desk_of (holder handle) ≡ desk_id self.now }
+        requires words { H.begun.stops (changes_of handle).words }
         ensures seat { IfOk result (λ given. (desk_of given.0 ≡ desk_id self.now) × (seat_number given.0 ≡ seat_number (holder handle))) }
         ensures handles { IfOk result (λ given. stops given.0 ≡ stops (holder handle) + 1) }
         ensures changes { IfOk result (λ given. changes given.0 ≡ changes (holder handle) + touched (changes_of handle)) }

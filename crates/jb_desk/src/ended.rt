@@ -1,12 +1,26 @@
+use crate::counter::Over;
+
 /// Why a committer or a checkpointer has ended.
 #[derive(Clone, Copy, Debug, PartialEq, Eq)]
 pub enum Ended {
-    /// The desk is shut, and all that stopped is done.
-    Shut,
+    /// The desk is shut, and all that stopped is done: it was over when its book was looked at.
+    Shut(Over),
     /// The journal has failed.
     Aborted,
     /// There was no memory for a batch.
     Memory,
     /// The journal does not take a batch.
     Refused,
+}
+
+impl Ended {
+    ghost use Rattle.std.specs.Prelude.{◌≡◌};
+    ghost use Rattle.jb_desk.specs.Ends.{is_shut};
+
+    /// Whether the desk was over.
+    pub fn is_shut(&self) -> bool
+        ensures { result ≡ is_shut self.now }
+    {
+        matches!(self, Ended::Shut(_))
+    }
 }

@@ -13,9 +13,9 @@ use Rattle.jb_load.specs.declared.options.LoadOptions.{LoadOptions}
 
 module _ {D : Type 0} (size count faults : D → ℕ) (honest : D → Type 0) (newest : D → Image) (disk : D) (bs : BlockSize) (queue : List Stopped) (options : LoadOptions) (shape : Shape) (same : bytes_of bs ≡ size disk)
     (opened : IsOpened size count faults honest newest disk shape) where
-  pub answers-as : (r : Result Loaded LoadFault) → IfOk r (Loads shape queue options.threads) → IfOk r (λ loaded. EndsCheckpoint options.checkpoint loaded.checkpoint) → IfErr r (λ fault. (fault ≡ Memory) ⊎ (fault ≡ Accounts))
+  pub answers-as : (r : Result (Loaded × D) LoadFault) → IfOk r (λ ended. Loads shape queue options.threads ended.0) → IfOk r (λ ended. EndsCheckpoint options.checkpoint ended.0.checkpoint) → IfErr r (λ fault. (fault ≡ Memory) ⊎ (fault ≡ Accounts))
       → AnswersLoad size count faults honest newest disk bs queue options r
-  answers-as (Ok loaded) loads ended none = (same, (shape, opened, loads), ended)
+  answers-as (Ok (loaded, after)) loads ended none = (same, (shape, opened, loads), ended)
   answers-as (Err fault) none ended why =
       elim why [
         | inl is ↦ subst (λ (x : LoadFault). AnswersLoad size count faults honest newest disk bs queue options (Err x)) (sym is) (same, (shape, opened))

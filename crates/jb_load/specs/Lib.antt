@@ -5,5 +5,6 @@ pub mod Loads
 pub mod Running
 pub mod Refusing
 pub mod Runs
+pub mod Settled
 pub mod Telling
 pub mod Words

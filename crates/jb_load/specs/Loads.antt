@@ -1,5 +1,5 @@
 -- What a load answers.
-use Rattle.std.specs.Prelude.{◌≡◌, ◌≢◌, ◌⊎◌, ℕ, ◌<◌, ◌≤◌, Bool, true, false, List, length, slice_index_or, Result, Ok, Err}
+use Rattle.std.specs.Prelude.{◌≡◌, ◌≢◌, ℕ, ◌<◌, ◌≤◌, Bool, true, false, List, length, slice_index_or, Option, Some, None, Result, Ok, Err}
 use Rattle.std.specs.List.{flat_map}
 use Rattle.std.specs.List.Sorted.{IsPermutation}
 use Rattle.jb_block.specs.Size.{bytes_of}
@@ -16,7 +16,7 @@ use Rattle.jb_deck.specs.Opening.{OpenFaults, Opens, RefusesOpen}
 use Rattle.jb_deck.specs.declared.done.Entry.{Entry}
 use Rattle.jb_deck.specs.declared.fault.OpenFault.{OpenFault}
 use Rattle.jb_desk.specs.declared.ended.Ended.{Ended}
-use Rattle.jb_desk.specs.declared.ended.Ended.TheVariants.{Shut, Aborted}
+use Rattle.jb_desk.specs.declared.ended.Ended.TheVariants as ended
 use Rattle.jb_load.specs.Blocks.{blocks_in, stopped_of, CountFrom}
 use Rattle.jb_load.specs.Gathering.{first_refused}
 use Rattle.jb_load.specs.Runs.{IsRun, Run, touching}
@@ -32,6 +32,7 @@ pub record Counts (queue : List Stopped) (g : Geometry) (stops : List Stop) (tra
   pub order : List Stop
   pub same : IsPermutation stops order
   pub tickets : CountFrom 0 order
+  pub queued : loaded.queued ≡ length queue
   pub handles : loaded.handles ≡ length order
   pub changes : loaded.changes ≡ touching queue order
   pub follows : Follow 0 0 loaded.settled trail
@@ -44,10 +45,15 @@ pub record AreRuns (shape : Shape) (queue : List Stopped) (threads : ℕ) (runs 
   pub workers : length runs ≡ threads
   pub each : (at : ℕ) (d : Run) → at < threads → IsRun shape queue threads at (slice_index_or runs at d)
 
--- how a checkpointer ends: as the desk is shut, or, where one was asked for, as the journal has failed
-abbrev pub EndsCheckpoint : Bool → Ended → Type 0
-EndsCheckpoint false ended = ended ≡ Shut
-EndsCheckpoint true ended = (ended ≡ Shut) ⊎ (ended ≡ Aborted)
+-- how a checkpointer ends, where one was asked for: as the desk is over, or as the journal has failed
+abbrev pub EndsCheckpoint : Bool → Option Ended → Type 0
+EndsCheckpoint false None = Unit {0}
+EndsCheckpoint false (Some ended) = ⊥
+EndsCheckpoint true None = ⊥
+EndsCheckpoint true (Some (ended.Shut over)) = Unit {0}
+EndsCheckpoint true (Some ended.Aborted) = Unit {0}
+EndsCheckpoint true (Some ended.Memory) = ⊥
+EndsCheckpoint true (Some ended.Refused) = ⊥
 
 -- the counts are those of what the workers report, and the refused handle is the earliest of theirs
 pub record Loads (shape : Shape) (queue : List Stopped) (threads : ℕ) (loaded : Loaded) : Type 0 where
@@ -76,10 +82,10 @@ module _ {D : Type 0} (size count faults : D → ℕ) (honest : D → Type 0) (n
     pub journal : IsShapeOf deck.log.sb (count deck.disk) shape
 
   -- What a load answers to a queue of blocks of this size. Only where the size is not the disk's does it answer so
-  abbrev pub AnswersLoad : BlockSize → List Stopped → LoadOptions → Result Loaded LoadFault → Type 0
+  abbrev pub AnswersLoad : BlockSize → List Stopped → LoadOptions → Result (Loaded × D) LoadFault → Type 0
   AnswersLoad bs queue options (Err fault.BlockSize) = bytes_of bs ≢ size disk
   AnswersLoad bs queue options (Err (fault.Open why)) = (bytes_of bs ≡ size disk) × NotOpened why
   AnswersLoad bs queue options (Err fault.Memory) = (bytes_of bs ≡ size disk) × ((shape : Shape) × IsOpened shape)
   AnswersLoad bs queue options (Err fault.Accounts) = (bytes_of bs ≡ size disk) × ((shape : Shape) × IsOpened shape)
-  AnswersLoad bs queue options (Ok loaded) =
-      (bytes_of bs ≡ size disk) × ((shape : Shape) × IsOpened shape × Loads shape queue options.threads loaded) × EndsCheckpoint options.checkpoint loaded.checkpoint
+  AnswersLoad bs queue options (Ok ended) =
+      (bytes_of bs ≡ size disk) × ((shape : Shape) × IsOpened shape × Loads shape queue options.threads ended.0) × EndsCheckpoint options.checkpoint ended.0.checkpoint

@@ -1,9 +1,10 @@
 -- The lines and the status of a load.
-use Rattle.std.specs.Prelude.{◌≡◌, ℕ, Bool, true, false, ◌&&◌, is_none, List, [], ◌∷◌, ◌++◌, Option, Some, None, Result, Ok, Err, codes, decimal}
+use Rattle.std.specs.Prelude.{◌≡◌, ℕ, Bool, true, false, ◌&&◌, ◌==◌, is_none, List, [], ◌∷◌, ◌++◌, Option, Some, None, Result, Ok, Err, codes, decimal}
 use Rattle.std.specs.Io.KnownBytes.{Appends}
 use Rattle.jb_io.specs.Parts.{spelled}
 use Rattle.jb_io.specs.Puts.{PutsPart}
 use Rattle.jb_io.specs.declared.putting.WriteFault.{WriteFault}
+use Rattle.jb_desk.specs.Ends.{is_shut}
 use Rattle.jb_desk.specs.declared.ended.Ended.{Ended}
 use Rattle.jb_desk.specs.declared.ended.Ended.TheVariants as ended
 use Rattle.jb_load.specs.declared.fault.HandleFault.{HandleFault}
@@ -52,11 +53,12 @@ abbrev pub refused_line : Refused → List ℕ
 refused_line r = refused_parts (decimal r.handle) (name_of r.fault) (number_in r.fault)
 
 -- the line of a thread that did not end Shut
-abbrev pub end_line : List ℕ → Ended → List ℕ
-end_line thread ended.Shut = []
-end_line thread ended.Aborted = spelled (thread ∷ codes "Aborted\n" ∷ [])
-end_line thread ended.Memory = spelled (thread ∷ codes "Memory\n" ∷ [])
-end_line thread ended.Refused = spelled (thread ∷ codes "Refused\n" ∷ [])
+abbrev pub end_line : List ℕ → Option Ended → List ℕ
+end_line thread None = []
+end_line thread (Some (ended.Shut over)) = []
+end_line thread (Some ended.Aborted) = spelled (thread ∷ codes "Aborted\n" ∷ [])
+end_line thread (Some ended.Memory) = spelled (thread ∷ codes "Memory\n" ∷ [])
+end_line thread (Some ended.Refused) = spelled (thread ∷ codes "Refused\n" ∷ [])
 
 -- its line, where one was refused
 abbrev pub refused_text : Option Refused → List ℕ
@@ -65,21 +67,20 @@ refused_text (Some r) = refused_line r
 
 -- the lines of the threads that did not end Shut
 unfoldable pub ends_text : Loaded → List ℕ
-ends_text l = end_line (codes "jb: commit ") l.commit ++ end_line (codes "jb: checkpoint ") l.checkpoint
+ends_text l = end_line (codes "jb: commit ") (Some l.commit) ++ end_line (codes "jb: checkpoint ") l.checkpoint
 
 -- the lines of what did not end well
 unfoldable pub faults_text : Loaded → List ℕ
 faults_text l = refused_text l.refused ++ ends_text l
 
-abbrev pub is_shut : Ended → Bool
-is_shut ended.Shut = true
-is_shut ended.Aborted = false
-is_shut ended.Memory = false
-is_shut ended.Refused = false
+-- a thread that was asked for ended as the desk was over
+abbrev pub is_well : Option Ended → Bool
+is_well None = true
+is_well (Some ended) = is_shut ended
 
--- no handle was refused, and both threads ended Shut
+-- no handle was refused, both threads ended as the desk was over, and every handle of the queue is settled
 abbrev pub is_whole : Loaded → Bool
-is_whole l = is_none l.refused && is_shut l.commit && is_shut l.checkpoint
+is_whole l = is_none l.refused && is_shut l.commit && is_well l.checkpoint && (l.settled == l.queued)
 
 abbrev pub status_if : Bool → ℕ
 status_if true = 0

@@ -4,14 +4,14 @@ ghost use Rattle.jb_desk.specs.Desks.{desk_id};
 ghost use Rattle.jb_desk.specs.Seats.{stops, changes, desk_of, stops_left, changes_left};
 ghost use Rattle.jb_load.specs.Running.{LeavesAs};
 
-use jb_desk::{Desk, Ended, Left, Seat};
+use jb_desk::{Desk, Ended, Left, Origin, Seat};
 use jb_disk::{Clock, Disk};
 use std::sync::Wait;
 use std::sync::ledger::Ledger;
 
 /// Commits until the desk is over or a round does not end well, and then leaves; a batch that could not be
 /// committed is given up at once, so that nobody waits for it.
-pub(crate) fn commit_all<D: Disk, C: Clock, R: Wait, H: Ledger, N: Ledger>(
+pub(crate) fn commit_all<D: Disk, C: Clock, R: Wait, H: Origin, N: Ledger>(
     rt: &R,
     desk: &Desk<D, C, H, N>,
     seat: Seat<H, N>,
@@ -28,7 +28,7 @@ pub(crate) fn commit_all<D: Disk, C: Clock, R: Wait, H: Ledger, N: Ledger>(
 }
 
 /// The same with a seat that was taken before, as a desk that is shut gives none; `None` where there is none.
-pub(crate) fn commit_from<D: Disk, C: Clock, R: Wait, H: Ledger, N: Ledger>(
+pub(crate) fn commit_from<D: Disk, C: Clock, R: Wait, H: Origin, N: Ledger>(
     rt: &R,
     desk: &Desk<D, C, H, N>,
     place: &mut Option<Seat<H, N>>,

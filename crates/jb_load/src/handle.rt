@@ -12,7 +12,7 @@ ghost use Rattle.jb_desk.specs.Seats.{stops, changes, desk_of, view_of};
 
 use crate::fault::HandleFault;
 use crate::words::put_words;
-use jb_desk::{Desk, Seat, StopFault};
+use jb_desk::{Desk, Origin, Seat, StopFault};
 use jb_disk::{Clock, Disk};
 use jb_handle::{Handle, Words};
 use std::sync::Wait;
@@ -20,7 +20,7 @@ use std::sync::ledger::Ledger;
 use std::time;
 
 /// Runs a handle with these words, with as many credits as it touches blocks; gives its ticket.
-pub(crate) fn run_handle<D: Disk, C: Clock, R: Wait + time::Clock, H: Ledger, N: Ledger>(
+pub(crate) fn run_handle<D: Disk, C: Clock, R: Wait + time::Clock, H: Origin, N: Ledger>(
     rt: &R,
     desk: &Desk<D, C, H, N>,
     seat: Seat<H, N>,
@@ -29,6 +29,7 @@ pub(crate) fn run_handle<D: Disk, C: Clock, R: Wait + time::Clock, H: Ledger, N:
 ) -> (Seat<H, N>, Result<u64, HandleFault>)
     requires desk { desk_of seat ≡ desk_id desk.now }
     requires block { length block.old ≡ bytes_of (shape_in desk.now).bs }
+    requires words { H.begun.stops words.now }
     ensures desk { desk_of result.0 ≡ desk_id desk.now }
     ensures block { length block.new ≡ length block.old }
     ensures ticket { IfOk result.1 (λ ticket. (view_of result.0).stopped ≡ max (view_of seat).stopped (ticket + 1)) }
@@ -45,7 +46,7 @@ pub(crate) fn run_handle<D: Disk, C: Clock, R: Wait + time::Clock, H: Ledger, N:
 }
 
 /// Writes the words into a handle and stops it, or drops it where one is refused.
-fn fill<D: Disk, C: Clock, R: Wait, H: Ledger, N: Ledger>(
+fn fill<D: Disk, C: Clock, R: Wait, H: Origin, N: Ledger>(
     rt: &R,
     desk: &Desk<D, C, H, N>,
     handle: Handle<Seat<H, N>>,
@@ -55,6 +56,7 @@ fn fill<D: Disk, C: Clock, R: Wait, H: Ledger, N: Ledger>(
     requires desk { desk_of (holder handle) ≡ desk_id desk.now }
     requires block { length block.old ≡ bytes_of (changes_of handle).shape.bs }
     requires fresh { (changes_of handle).words ≡ map.empty }
+    requires words { H.begun.stops words.now }
     ensures desk { desk_of result.0 ≡ desk_id desk.now }
     ensures block { length block.new ≡ length block.old }
     ensures ticket { IfOk result.1 (λ ticket. (view_of result.0).stopped ≡ max (view_of (holder handle)).stopped (ticket + 1)) }
@@ -70,7 +72,7 @@ fn fill<D: Disk, C: Clock, R: Wait, H: Ledger, N: Ledger>(
 }
 
 /// Stops a handle, or drops it where that is refused.
-fn stop<D: Disk, C: Clock, R: Wait, H: Ledger, N: Ledger>(
+fn stop<D: Disk, C: Clock, R: Wait, H: Origin, N: Ledger>(
     rt: &R,
     desk: &Desk<D, C, H, N>,
     handle: Handle<Seat<H, N>>,

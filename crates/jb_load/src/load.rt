@@ -5,19 +5,21 @@ ghost use Rattle.jb_desk.specs.Desks.{shape_in};
 ghost use Rattle.jb_deck.specs.Done.{Follow};
 ghost use Rattle.jb_load.specs.Loads.{AnswersLoad, Counts, EndsCheckpoint, Loads};
 ghost use Rattle.jb_load.specs.Runs.{touching};
+ghost use Rattle.jb_load.specs.Settled.{LoadedSince, MayStop};
+ghost use Rattle.jb_desk.specs.Since.{IsBegunOn};
 ghost use Rattle.jb_load.specs.declared.worker.Stop.{Stop as StopValue};
 ghost use Rattle.jb_load.specs.declared.fault.LoadFault.TheVariants.{Accounts, Memory as OutOfMemory};
 
 use crate::blocks::{add_up, put_in_order};
 use crate::fault::LoadFault;
 use crate::gather::Gathered;
-use crate::loaded::Loaded;
+use crate::loaded::{Loaded, Outcome};
 use crate::options::LoadOptions;
 use crate::running::run;
 use crate::worker::Stop;
 use jb_cost::Geometry;
 use jb_deck::Deck;
-use jb_desk::{Closed, Desk, Ended};
+use jb_desk::{Closed, Desk, Origin};
 use jb_disk::{Clock, Disk};
 use jb_handle::{Shape, Stopped};
 use jb_queue::QueueText;
@@ -29,7 +31,9 @@ use std::time;
 
 /// Runs the handles of a queue through a desk over the journal on a disk, and commits them. Worker k of T runs the
 /// handles k, k + T, k + 2T and so on, each with as many credits as it touches blocks, up to the first that is
-/// refused. The desk's ledgers are `handles` and `changes`.
+/// refused. The desk's ledgers are `handles` and `changes`. Gives the disk back, with what the load did.
+///
+/// The caller picks the start (`H.begun`) that the disk is compared with, and the words with which handles may stop.
 ///
 /// # Errors
 /// - `BlockSize` where the block size of the queue is not the disk's.
@@ -41,7 +45,7 @@ pub fn load_on<
     D: Disk + Drop + Send,
     C: Clock + Drop + Send,
     R: Threads + Wait + time::Clock + Sync,
-    H: Ledger + Send + Sync,
+    H: Origin + Send + Sync,
     N: Ledger + Send + Sync,
 >(
     rt: &R,
@@ -52,11 +56,14 @@ pub fn load_on<
     options: LoadOptions,
     handles: Blank,
     changes: Blank,
-) -> Result<Loaded, LoadFault>
+) -> Result<(Loaded, D), LoadFault>
     requires handles { (handles.name ≡ H.name) × (handles.parts ≡ H.parts) × (H.parts ≡ 2 ^ 61 + 1) }
     requires changes { (changes.name ≡ N.name) × (changes.parts ≡ N.parts) × (N.parts ≡ 2 ^ 61 + 1) }
     requires threads { (1 ≤ options.threads) × (options.threads ≤ 64) }
-    ensures { AnswersLoad D.size D.count D.faults D.honest D.newest disk queue.now.bs queue.now.handles.items options result }
+    requires begun { IsBegunOn D.size D.count D.faults D.honest D.newest D.moment D.left_since H.begun disk }
+    requires words { MayStop H.begun queue.now.handles.items }
+    ensures answers { AnswersLoad D.size D.count D.faults D.honest D.newest disk queue.now.bs queue.now.handles.items options result }
+    ensures since { IfOk result (λ ended. LoadedSince D.size D.count D.faults D.honest D.newest D.may_leave D.moment D.left_since H.begun ended.0 ended.1) }
 {
     if queue.bs.bytes() != disk.block_size().bytes() {
         return Err(LoadFault::BlockSize);
@@ -77,7 +84,7 @@ fn load_at<
     D: Disk + Drop + Send,
     C: Clock + Drop + Send,
     R: Threads + Wait + time::Clock + Sync,
-    H: Ledger + Send + Sync,
+    H: Origin + Send + Sync,
     N: Ledger + Send + Sync,
 >(
     rt: &R,
@@ -86,12 +93,14 @@ fn load_at<
     shape: Shape,
     queue: &[Stopped],
     options: LoadOptions,
-) -> Result<Loaded, LoadFault>
+) -> Result<(Loaded, D), LoadFault>
     requires threads { (1 ≤ options.threads) × (options.threads ≤ 64) }
     requires parts { (H.parts ≡ 2 ^ 61 + 1) × (N.parts ≡ 2 ^ 61 + 1) }
     requires shape { shape_in desk ≡ shape }
-    ensures loaded { IfOk result (Loads shape queue.now options.threads) }
-    ensures ended { IfOk result (λ loaded. EndsCheckpoint options.checkpoint loaded.checkpoint) }
+    requires words { MayStop H.begun queue.now }
+    ensures loaded { IfOk result (λ ended. Loads shape queue.now options.threads ended.0) }
+    ensures ended { IfOk result (λ ended. EndsCheckpoint options.checkpoint ended.0.checkpoint) }
+    ensures since { IfOk result (λ ended. LoadedSince D.size D.count D.faults D.honest D.newest D.may_leave D.moment D.left_since H.begun ended.0 ended.1) }
     ensures faults { IfErr result (λ fault. (fault ≡ OutOfMemory) ⊎ (fault ≡ Accounts)) }
 {
     let room = Gathered::with_room(alloc, options.threads + 1, queue.len())?;
@@ -106,16 +115,17 @@ fn load_at<
     let Ok(closed) = desk.close(lefts) else {
         return Err(LoadFault::Accounts);
     };
-    let counts = count_up(alloc, queue, shape, stops, closed)?;
-    Ok(Loaded {
+    let outcome = Outcome {
         refused,
         commit,
         checkpoint,
-        ..counts
-    })
+    };
+    let loaded = count_up(alloc, queue, shape, stops, &closed, outcome)?;
+    let Closed { disk, .. } = closed;
+    Ok((loaded, disk))
 }
 
-/// The counts of a load whose desk is closed, of which no fault is known.
+/// What a load whose desk is closed did, where its threads ended so.
 ///
 /// # Errors
 /// `Memory` where there is none for the home blocks of a group; `Accounts` where the tickets do not count from 0.
@@ -124,14 +134,16 @@ fn count_up<D: Drop, C: Drop>(
     queue: &[Stopped],
     shape: Shape,
     stops: Vec<Stop>,
-    closed: Closed<D, C>,
+    closed: &Closed<D, C>,
+    outcome: Outcome,
 ) -> Result<Loaded, LoadFault>
     requires inside { All (λ (s : StopValue). s.handle < length queue.now) stops.items }
-    requires handles { closed.handles ≡ length stops.items }
-    requires changes { closed.changes ≡ touching queue.now stops.items }
-    requires few { (closed.handles ≤ 2 ^ 61) × (closed.changes ≤ 2 ^ 61) }
-    requires trail { (past : ℕ) × Follow 0 0 past closed.trail.items × (past ≤ closed.handles) }
-    ensures counts { IfOk result (Counts queue.now (geometry_of shape) stops.items closed.trail.items) }
+    requires handles { closed.now.handles ≡ length stops.items }
+    requires changes { closed.now.changes ≡ touching queue.now stops.items }
+    requires few { (closed.now.handles ≤ 2 ^ 61) × (closed.now.changes ≤ 2 ^ 61) }
+    requires trail { (past : ℕ) × Follow 0 0 past closed.now.trail.items × (past ≤ closed.now.handles) }
+    ensures counts { IfOk result (Counts queue.now (geometry_of shape) stops.items closed.now.trail.items) }
+    ensures outcome { IfOk result (λ loaded. (loaded.refused ≡ outcome.refused) × (loaded.commit ≡ outcome.commit) × (loaded.checkpoint ≡ outcome.checkpoint)) }
     ensures faults { IfErr result (λ fault. (fault ≡ OutOfMemory) ⊎ (fault ≡ Accounts)) }
 {
     let mut stops = stops;
@@ -141,13 +153,14 @@ fn count_up<D: Drop, C: Drop>(
     let geometry = Geometry::of(shape.bs, shape.width);
     let (settled, blocks) = add_up(alloc, queue, &stops, &closed.trail, geometry)?;
     Ok(Loaded {
+        queued: queue.len() as u64,
         handles: closed.handles,
         changes: closed.changes,
         settled,
         groups: closed.trail.len() as u64,
         blocks,
-        refused: None,
-        commit: Ended::Shut,
-        checkpoint: Ended::Shut,
+        refused: outcome.refused,
+        commit: outcome.commit,
+        checkpoint: outcome.checkpoint,
     })
 }

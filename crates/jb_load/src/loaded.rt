@@ -13,6 +13,8 @@ pub struct Refused {
 /// What a load did.
 #[derive(Clone, Copy, Debug, PartialEq, Eq)]
 pub struct Loaded {
+    /// How many handles the queue has.
+    pub queued: u64,
     /// How many handles stopped.
     pub handles: u64,
     /// How many home blocks these touched, added up.
@@ -27,18 +29,33 @@ pub struct Loaded {
     pub refused: Option<Refused>,
     /// How the committer ended.
     pub commit: Ended,
-    /// How the checkpointer ended; `Shut` where none was asked for.
-    pub checkpoint: Ended,
+    /// How the checkpointer ended; `None` where none was asked for.
+    pub checkpoint: Option<Ended>,
+}
+
+/// How the threads of a load ended.
+#[derive(Clone, Copy)]
+pub(crate) struct Outcome {
+    /// The first handle of the queue that was refused.
+    pub refused: Option<Refused>,
+    /// How the committer ended.
+    pub commit: Ended,
+    /// How the checkpointer ended; `None` where none was asked for.
+    pub checkpoint: Option<Ended>,
 }
 
 impl Loaded {
     ghost use Rattle.std.specs.Prelude.{◌≡◌};
     ghost use Rattle.jb_load.specs.Telling.{is_whole};
 
-    /// Whether no handle was refused, and the committer and the checkpointer ended `Shut`.
+    /// Whether no handle was refused, the committer and the checkpointer ended as the desk was over, and every
+    /// handle of the queue is settled.
     pub fn is_whole(&self) -> bool
         ensures { result ≡ is_whole self.now }
     {
-        self.refused.is_none() && self.commit == Ended::Shut && self.checkpoint == Ended::Shut
+        self.refused.is_none()
+            && self.commit.is_shut()
+            && self.checkpoint.is_none_or(|ended| ended.is_shut())
+            && self.settled == self.queued
     }
 }

@@ -4,6 +4,7 @@ ghost use Rattle.jb_block.specs.Size.{bytes_of};
 ghost use Rattle.jb_desk.specs.Desks.{shape_in};
 ghost use Rattle.jb_load.specs.declared.fault.LoadFault.TheVariants.{Accounts, Memory as OutOfMemory};
 ghost use Rattle.jb_load.specs.Loads.{EndsCheckpoint};
+ghost use Rattle.jb_load.specs.Settled.{MayStop};
 ghost use Rattle.jb_load.specs.Running.{AreWorked, HasRun};
 
 use crate::committing::{commit_all, commit_from};
@@ -11,7 +12,7 @@ use crate::fault::LoadFault;
 use crate::options::LoadOptions;
 use crate::worker::{Worked, work};
 use jb_block::{BlockSize, Memory};
-use jb_desk::{Desk, Ended, Left};
+use jb_desk::{Desk, Ended, Left, Origin};
 use jb_disk::{Clock, Disk};
 use jb_handle::Stopped;
 use std::alloc::Global;
@@ -37,7 +38,7 @@ pub(crate) fn run<
     D: Disk + Drop + Send,
     C: Clock + Drop + Send,
     R: Threads + Wait + time::Clock + Sync,
-    H: Ledger + Send + Sync,
+    H: Origin + Send + Sync,
     N: Ledger + Send + Sync,
 >(
     rt: &R,
@@ -46,28 +47,26 @@ pub(crate) fn run<
     queue: &[Stopped],
     bs: BlockSize,
     options: LoadOptions,
-) -> (Result<Ran<H, N>, LoadFault>, Ended)
+) -> (Result<Ran<H, N>, LoadFault>, Option<Ended>)
     requires threads { (1 ≤ options.threads) × (options.threads ≤ 64) }
     requires size { bytes_of bs ≡ bytes_of (shape_in desk.now).bs }
+    requires words { MayStop H.begun queue.now }
     ensures ran { IfOk result.0 (HasRun (shape_in desk.now) queue.now options.threads) }
     ensures faults { IfErr result.0 (λ fault. (fault ≡ OutOfMemory) ⊎ (fault ≡ Accounts)) }
     ensures ended { EndsCheckpoint options.checkpoint result.1 }
 {
     if !options.checkpoint {
-        return (
-            run_threads(rt, alloc, desk, queue, bs, options),
-            Ended::Shut,
-        );
+        return (run_threads(rt, alloc, desk, queue, bs, options), None);
     }
     // the checkpointer is first, since the first closure runs last where no thread can be made
     let (checkpoint, ran) = thread::join(
         rt,
         || desk.run_checkpointer(rt),
         || -> Result<Ran<H, N>, LoadFault>
-            requires { (1 ≤ options.threads) × (options.threads ≤ 64) × (bytes_of bs ≡ bytes_of (shape_in desk.now).bs) }
+            requires { (1 ≤ options.threads) × (options.threads ≤ 64) × (bytes_of bs ≡ bytes_of (shape_in desk.now).bs) × MayStop H.begun queue.now }
         { run_threads(rt, alloc, desk, queue, bs, options) },
     );
-    (ran, checkpoint)
+    (ran, Some(checkpoint))
 }
 
 /// Runs the handles of a queue and commits them, at the same time or one after the other. The desk is shut then.
@@ -75,7 +74,7 @@ fn run_threads<
     D: Disk + Drop + Send,
     C: Clock + Drop + Send,
     R: Threads + Wait + time::Clock + Sync,
-    H: Ledger + Send + Sync,
+    H: Origin + Send + Sync,
     N: Ledger + Send + Sync,
 >(
     rt: &R,
@@ -87,6 +86,7 @@ fn run_threads<
 ) -> Result<Ran<H, N>, LoadFault>
     requires threads { (1 ≤ options.threads) × (options.threads ≤ 64) }
     requires size { bytes_of bs ≡ bytes_of (shape_in desk.now).bs }
+    requires words { MayStop H.begun queue.now }
     ensures ran { IfOk result (HasRun (shape_in desk.now) queue.now options.threads) }
     ensures faults { IfErr result (λ fault. (fault ≡ OutOfMemory) ⊎ (fault ≡ Accounts)) }
 {
@@ -108,7 +108,7 @@ fn run_threads<
         rt,
         || commit_from(rt, desk, &mut place),
         || -> Result<Vec<Worked<H, N>>, Memory>
-            requires { (1 ≤ options.threads) × (options.threads ≤ 64) × (bytes_of bs ≡ bytes_of (shape_in desk.now).bs) }
+            requires { (1 ≤ options.threads) × (options.threads ≤ 64) × (bytes_of bs ≡ bytes_of (shape_in desk.now).bs) × MayStop H.begun queue.now }
         { run_workers(rt, alloc, desk, queue, bs, options.threads) },
     );
     if let Some(seat) = place {
@@ -130,7 +130,7 @@ fn run_workers<
     D: Disk + Drop + Send,
     C: Clock + Drop + Send,
     R: Threads + Wait + time::Clock + Sync,
-    H: Ledger + Send + Sync,
+    H: Origin + Send + Sync,
     N: Ledger + Send + Sync,
 >(
     rt: &R,
@@ -142,6 +142,7 @@ fn run_workers<
 ) -> Result<Vec<Worked<H, N>>, Memory>
     requires threads { (1 ≤ threads) × (threads ≤ 64) }
     requires size { bytes_of bs ≡ bytes_of (shape_in desk.now).bs }
+    requires words { MayStop H.begun queue.now }
     ensures { IfOk result (λ workers. AreWorked (shape_in desk.now) queue.now threads workers.items) }
 {
     let workers = thread::map_indices(
@@ -149,7 +150,7 @@ fn run_workers<
         alloc,
         threads,
         &|at: usize| -> Worked<H, N>
-            requires { (1 ≤ threads) × (threads ≤ 64) × (bytes_of bs ≡ bytes_of (shape_in desk.now).bs) }
+            requires { (1 ≤ threads) × (threads ≤ 64) × (bytes_of bs ≡ bytes_of (shape_in desk.now).bs) × MayStop H.begun queue.now }
         { work(rt, alloc, desk, queue, bs, threads, at) },
     );
     desk.shut(rt);

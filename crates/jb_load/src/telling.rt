@@ -9,7 +9,8 @@ use std::io::Write;
 
 /// Writes what a load did, part by part and without memory, and gives its status: its counts on `out`, and on `err`
 /// the handle that was refused, and how the committer and the checkpointer ended where they did not end `Shut`. The
-/// status is 0 where nothing is to be written to `err`, and otherwise 1. A fault of `err` is ignored.
+/// status is 0 where nothing is to be written to `err` and every handle of the queue is settled, and otherwise 1. A
+/// fault of `err` is ignored.
 ///
 /// # Errors
 /// `WriteFault` where `out` took only the beginning of its line; then nothing was written to `err`.
@@ -79,20 +80,20 @@ fn put_refused<E: Write>(refused: Option<Refused>, err: &mut E) -> Result<(), Wr
 fn put_ends<E: Write>(loaded: &Loaded, err: &mut E) -> Result<(), WriteFault>
     ensures { Puts (E.contents err.old) (E.contents err.new) (ends_text loaded.now) result }
 {
-    match put_end("jb: commit ", loaded.commit, err) {
+    match put_end("jb: commit ", Some(loaded.commit), err) {
         Ok(()) => put_end("jb: checkpoint ", loaded.checkpoint, err),
         Err(fault) => Err(fault),
     }
 }
 
 /// Writes how a thread ended, where it did not end `Shut`.
-fn put_end<E: Write>(thread: &str, ended: Ended, err: &mut E) -> Result<(), WriteFault>
+fn put_end<E: Write>(thread: &str, ended: Option<Ended>, err: &mut E) -> Result<(), WriteFault>
     ensures { Puts (E.contents err.old) (E.contents err.new) (end_line thread.now ended) result }
 {
     match ended {
-        Ended::Shut => Ok(()),
-        Ended::Aborted => put_parts(err, &[thread, "Aborted\n"]),
-        Ended::Memory => put_parts(err, &[thread, "Memory\n"]),
-        Ended::Refused => put_parts(err, &[thread, "Refused\n"]),
+        None | Some(Ended::Shut(_)) => Ok(()),
+        Some(Ended::Aborted) => put_parts(err, &[thread, "Aborted\n"]),
+        Some(Ended::Memory) => put_parts(err, &[thread, "Memory\n"]),
+        Some(Ended::Refused) => put_parts(err, &[thread, "Refused\n"]),
     }
 }

@@ -3,13 +3,14 @@ ghost use Rattle.std.specs.Prelude.{◌≡◌, ◌+◌, ◌*◌, ◌<◌, ◌≤
 ghost use Rattle.jb_block.specs.Size.{bytes_of};
 ghost use Rattle.jb_desk.specs.Desks.{desk_id, shape_in};
 ghost use Rattle.jb_desk.specs.Seats.{stops as seat_stops, changes, desk_of};
+ghost use Rattle.jb_load.specs.Settled.{MayStop};
 ghost use Rattle.jb_load.specs.Runs.{IsAt, IsRun, IsCounted, run_of};
 
 use crate::fault::HandleFault;
 use crate::handle::run_handle;
 use crate::loaded::Refused;
 use jb_block::{BlockSize, Memory};
-use jb_desk::{Desk, Left, Seat};
+use jb_desk::{Desk, Left, Origin, Seat};
 use jb_disk::{Clock, Disk};
 use jb_handle::Stopped;
 use std::alloc::Global;
@@ -38,7 +39,7 @@ pub(crate) struct Worked<H: Ledger, N: Ledger> {
 }
 
 /// Runs the handles at the places `at`, `at + step` and so on, until one is refused.
-pub(crate) fn work<D: Disk, C: Clock, R: Wait + time::Clock, H: Ledger, N: Ledger>(
+pub(crate) fn work<D: Disk, C: Clock, R: Wait + time::Clock, H: Origin, N: Ledger>(
     rt: &R,
     alloc: Global,
     desk: &Desk<D, C, H, N>,
@@ -49,6 +50,7 @@ pub(crate) fn work<D: Disk, C: Clock, R: Wait + time::Clock, H: Ledger, N: Ledge
 ) -> Worked<H, N>
     requires step { (1 ≤ step) × (step ≤ 64) }
     requires size { bytes_of bs ≡ bytes_of (shape_in desk.now).bs }
+    requires words { MayStop H.begun queue.now }
     ensures run { IsRun (shape_in desk.now) queue.now step at (run_of result) }
     ensures counted { IsCounted queue.now result }
 {
@@ -65,7 +67,7 @@ pub(crate) fn work<D: Disk, C: Clock, R: Wait + time::Clock, H: Ledger, N: Ledge
 }
 
 /// Runs the handles of a worker at its seat. `stops` has room for all of them, and `block` is a buffer of one block.
-fn run_all<D: Disk, C: Clock, R: Wait + time::Clock, H: Ledger, N: Ledger>(
+fn run_all<D: Disk, C: Clock, R: Wait + time::Clock, H: Origin, N: Ledger>(
     rt: &R,
     desk: &Desk<D, C, H, N>,
     seat: Seat<H, N>,
@@ -82,6 +84,7 @@ fn run_all<D: Disk, C: Clock, R: Wait + time::Clock, H: Ledger, N: Ledger>(
     requires block { length block.old ≡ bytes_of (shape_in desk.now).bs }
     requires none { stops.items ≡ [] }
     requires room { length queue.now ≤ at + step * vec_capacity stops }
+    requires words { MayStop H.begun queue.now }
     ensures run { IsRun (shape_in desk.now) queue.now step at (run_of result) }
     ensures counted { IsCounted queue.now result }
 {

@@ -57,14 +57,14 @@ end_by (Ok status) = Ok status
 end_by (Err fault) = Err CommandWriteFault
 
 -- what a load answered is reported: its lines, or its fault, and then nothing is written
-abbrev pub ReportsLoad : Result Loaded LoadFault → Outputs → Outputs → Result ℕ CommandFault → Type 0
-ReportsLoad (Ok loaded) old new end =
-    (told : Result ℕ WriteFault) × (end ≡ end_by told) × TellsLoad loaded old.out new.out old.err new.err told
+abbrev pub ReportsLoad : Result (Loaded × FileDisk) LoadFault → Outputs → Outputs → Result ℕ CommandFault → Type 0
+ReportsLoad (Ok ended) old new end =
+    (told : Result ℕ WriteFault) × (end ≡ end_by told) × TellsLoad ended.0 old.out new.out old.err new.err told
 ReportsLoad (Err fault) old new end = (end ≡ Err (load_fault fault)) × (new ≡ old)
 
 -- a queue was loaded into an open image, as the clause of a load says of the answer, and that answer is reported
 pub record LoadsOn (options : LoadOptions) (disk : FileDisk) (queue : QueueText) (old new : Outputs) (end : Result ℕ CommandFault) : Type 0 where
-  pub answer : Result Loaded LoadFault
+  pub answer : Result (Loaded × FileDisk) LoadFault
   pub loads : AnswersLoad (λ (f : FileDisk). bytes_of (size_of f)) count_of faults_of (λ _. ⊥) (λ _. []) disk queue.bs queue.handles.items options answer
   pub told : ReportsLoad answer old new end
 

@@ -103,7 +103,7 @@ fn load_queue<'a, R: AllocGlobal + Threads + Wait + Clock + Sync, O: Write, E: W
         handles,
         changes,
     ) {
-        Ok(loaded) => Ok(tell_loaded(&loaded, out, err)?),
+        Ok((loaded, _)) => Ok(tell_loaded(&loaded, out, err)?),
         Err(fault) => Err(fault_of(fault)),
     }
 }

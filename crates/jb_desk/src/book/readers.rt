@@ -1,10 +1,11 @@
 //! What a book has.
 use crate::book::Book;
 use crate::follow::number_in;
+use crate::origin::Origin;
 use jb_deck::Entry;
 use jb_handle::Shape;
 
-impl Book {
+impl<S: Origin> Book<S> {
     ghost use Rattle.std.specs.Prelude.{◌≡◌, ℕ, ◌<◌, ◌≤◌, ◌^◌, ◌↔◌, IfSome, IfNone, IsTrue};
     ghost use Rattle.jb_desk.specs.Account.{IsSound, IsOver, IsSettledBy, CanTake};
     ghost use Rattle.jb_desk.specs.Shadow.{reserved};

@@ -1,5 +1,6 @@
 //! How far the book of a desk has come.
-use crate::counter::Counter;
+use crate::counter::{Counter, Over};
+use crate::origin::Origin;
 use std::sync::ledger::Ledger;
 
 /// How far a book has come, as the thread that brings groups home sees it.
@@ -8,12 +9,12 @@ pub(crate) struct Progress {
     /// The tickets below it are settled.
     pub(crate) settled: u64,
     /// Nothing more can happen.
-    pub(crate) is_over: bool,
+    pub(crate) over: Option<Over>,
     /// The journal has failed.
     pub(crate) is_aborted: bool,
 }
 
-impl<H: Ledger, N: Ledger> Counter<H, N> {
+impl<H: Origin, N: Ledger> Counter<H, N> {
     ghost use Rattle.jb_desk.specs.Progress.{HasCome};
 
     /// How far the book has come.
@@ -22,7 +23,7 @@ impl<H: Ledger, N: Ledger> Counter<H, N> {
     {
         Progress {
             settled: self.book.settled(),
-            is_over: self.book.is_over(),
+            over: self.over(),
             is_aborted: self.book.is_aborted(),
         }
     }

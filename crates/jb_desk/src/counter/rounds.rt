@@ -4,10 +4,12 @@ ghost use Rattle.std.specs.Prelude.{◌≡◌, ◌↔◌, IsTrue, true, false, O
 use crate::committer::RoundFault;
 use crate::counter::Counter;
 use crate::fault::WrongBatch;
-use jb_deck::{Batch, Done};
+use crate::held::Held;
+use crate::origin::Origin;
+use jb_deck::Done;
 use std::sync::ledger::Ledger;
 
-impl<H: Ledger, N: Ledger> Counter<H, N> {
+impl<H: Origin, N: Ledger> Counter<H, N> {
     ghost use Rattle.jb_desk.specs.Account.{failed_of};
     ghost use Rattle.jb_desk.specs.Rounds.{GivesBatch, SettlesOrFails, FailsAfter, Rests};
 
@@ -17,17 +19,20 @@ impl<H: Ledger, N: Ledger> Counter<H, N> {
     /// # Errors
     ///
     /// `Aborted` where the journal has failed. A batch that is held is lost, so that none is committed then.
-    pub fn next_batch(&mut self, held: Option<Batch>) -> Result<Option<Batch>, RoundFault>
+    pub fn next_batch(&mut self, held: Option<Held<H>>) -> Result<Option<Held<H>>, RoundFault>
         ensures { GivesBatch result held self.old.book self.new.book }
     {
         match held {
             Some(batch) if self.book.is_aborted() => {
-                let _lost = batch.end();
+                let _lost = batch.end().end();
                 Err(RoundFault::Aborted)
             }
             None if self.book.is_aborted() => Err(RoundFault::Aborted),
             Some(batch) => Ok(Some(batch)),
-            None => Ok(self.book.take()),
+            None => match self.book.take() {
+                Some(batch) => Ok(Some(Held::of(batch))),
+                None => Ok(None),
+            },
         }
     }
 
@@ -73,14 +78,14 @@ impl<H: Ledger, N: Ledger> Counter<H, N> {
     /// # Errors
     ///
     /// The batch, where it has not.
-    pub fn release(&self, batch: Batch) -> Result<(), Batch>
+    pub fn release(&self, batch: Held<H>) -> Result<(), Held<H>>
         ensures lost { OnOk result (self.now.book.aborted ≡ true) }
         ensures back { IfErr result (λ back. (self.now.book.aborted ≡ false) × (back ≡ batch)) }
     {
         if !self.book.is_aborted() {
             return Err(batch);
         }
-        let _lost = batch.end();
+        let _lost = batch.end().end();
         Ok(())
     }
 

@@ -4,10 +4,12 @@ ghost use Rattle.std.specs.List.{sum_by};
 ghost use Rattle.jb_deck.specs.Done.{Follow};
 ghost use Rattle.jb_desk.specs.Seats.{stops_left, changes_left};
 ghost use Rattle.jb_desk.specs.Closing.{DiffersAs};
+ghost use Rattle.jb_desk.specs.Since.{EndsSince};
 
 use crate::counter::Counter;
 use crate::desk::Desk;
 use crate::follow::are_same;
+use crate::origin::Origin;
 use crate::seat::Left;
 use crate::works::Works;
 use jb_deck::{Deck, Entry};
@@ -32,7 +34,7 @@ pub struct Closed<D, C> {
 
 /// Why a desk is not closed.
 #[derive(Drop)]
-pub enum CloseFault<D: Disk, C: Clock, H: Ledger, N: Ledger> {
+pub enum CloseFault<D: Disk, C: Clock, H: Origin, N: Ledger> {
     /// A seat that was given has not left. Here are the desk and what the other seats left.
     SeatsOut(Desk<D, C, H, N>, Vec<Left<H, N>>),
     /// The groups that the journal has settled are not those of the book.
@@ -46,9 +48,10 @@ pub enum CloseFault<D: Disk, C: Clock, H: Ledger, N: Ledger> {
     },
 }
 
-impl<D: Disk, C: Clock, H: Ledger, N: Ledger> Desk<D, C, H, N> {
+impl<D: Disk, C: Clock, H: Origin, N: Ledger> Desk<D, C, H, N> {
     ghost use Rattle.jb_desk.specs.Seats.{stops_left, changes_left};
     ghost use Rattle.jb_desk.specs.Closing.{IsNotClosed};
+    ghost use Rattle.jb_desk.specs.Since.{EndsSince};
 
     /// Closes the desk, where every seat that it gave has left. It writes nothing.
     ///
@@ -62,6 +65,7 @@ impl<D: Disk, C: Clock, H: Ledger, N: Ledger> Desk<D, C, H, N> {
         ensures changes { IfOk result (λ closed. closed.changes ≡ sum_by changes_left lefts.items) }
         ensures few { IfOk result (λ closed. (closed.handles ≤ 2 ^ 61) × (closed.changes ≤ 2 ^ 61)) }
         ensures trail { IfOk result (λ closed. (past : ℕ) × Follow 0 0 past closed.trail.items × (past ≤ closed.handles)) }
+        ensures since { IfOk result (λ closed. EndsSince D.size D.count D.faults D.honest D.newest D.may_leave D.moment D.left_since H.begun closed.disk closed.trail.items) }
         ensures refused { IfErr result (IsNotClosed self lefts) }
     {
         let Desk {
@@ -91,9 +95,9 @@ impl<D: Disk, C: Clock, H: Ledger, N: Ledger> Desk<D, C, H, N> {
 }
 
 /// Closes what the two locks guarded, where every seat that was given has left.
-fn close_parts<D: Disk, C: Clock, H: Ledger, N: Ledger>(
+fn close_parts<D: Disk, C: Clock, H: Origin, N: Ledger>(
     counter: Counter<H, N>,
-    works: Works<D, C>,
+    works: Works<D, C, H>,
     lefts: Vec<Left<H, N>>,
 ) -> Result<Closed<D, C>, CloseFault<D, C, H, N>>
     requires parts { (H.parts ≡ 2305843009213693953) × (N.parts ≡ 2305843009213693953) }
@@ -103,11 +107,12 @@ fn close_parts<D: Disk, C: Clock, H: Ledger, N: Ledger>(
     ensures few { IfOk result (λ closed. (closed.handles ≤ 2 ^ 61) × (closed.changes ≤ 2 ^ 61)) }
     ensures trail { IfOk result (λ closed. (closed.trail.items ≡ counter.book.trail) × (closed.trail.items ≡ works.deck.trail)) }
     ensures tiles { IfOk result (λ closed. (past : ℕ) × Follow 0 0 past closed.trail.items × (past ≤ closed.handles)) }
+    ensures since { IfOk result (λ closed. EndsSince D.size D.count D.faults D.honest D.newest D.may_leave D.moment D.left_since H.begun closed.disk closed.trail.items) }
     ensures given { IfOk result (λ closed. (closed.disk ≡ works.deck.disk) × (closed.clock ≡ works.clock)) }
     ensures refused { IfErr result (DiffersAs counter works) }
 {
     let (book, handles, changes) = counter.totals(lefts);
-    let Works { deck, clock } = works;
+    let (deck, clock) = works.end();
     if !are_same(book.trail(), deck.trail()) {
         let book = book.into_trail();
         return Err(CloseFault::TrailsDiffer { deck, clock, book });

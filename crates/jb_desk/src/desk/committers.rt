@@ -3,12 +3,13 @@ ghost use Rattle.std.specs.Prelude.{◌≡◌, None, is_some, true, IfOk, IfErr}
 
 use crate::committer::Committer;
 use crate::desk::Desk;
+use crate::origin::Origin;
 use crate::seat::Seat;
 use jb_disk::{Clock, Disk};
 use std::sync::Wait;
 use std::sync::ledger::Ledger;
 
-impl<D: Disk, C: Clock, H: Ledger, N: Ledger> Desk<D, C, H, N> {
+impl<D: Disk, C: Clock, H: Origin, N: Ledger> Desk<D, C, H, N> {
     ghost use Rattle.jb_desk.specs.Rounds.{seat_of, held_by};
 
     /// A seat becomes a committer, which holds no batch.
@@ -52,7 +53,7 @@ impl<D: Disk, C: Clock, H: Ledger, N: Ledger> Desk<D, C, H, N> {
     {
         let Committer { seat, batch } = committer;
         if let Some(batch) = batch {
-            let _lost = batch.end();
+            let _lost = batch.end().end();
             self.fail(rt);
         }
         seat

@@ -2,20 +2,22 @@
 ghost use Rattle.std.specs.Prelude.{◌≡◌};
 
 use crate::committer::{Committer, Round, RoundFault};
+use crate::counter::Over;
 use crate::desk::Desk;
 use crate::ended::Ended;
+use crate::origin::Origin;
 use jb_disk::{Clock, Disk};
 use std::sync::Wait;
 use std::sync::ledger::Ledger;
 
-impl<D: Disk, C: Clock, H: Ledger, N: Ledger> Desk<D, C, H, N> {
+impl<D: Disk, C: Clock, H: Origin, N: Ledger> Desk<D, C, H, N> {
     ghost use Rattle.jb_desk.specs.Desks.{desk_id};
-    ghost use Rattle.jb_desk.specs.Rounds.{seat_of, held_by, EndsHolding};
+    ghost use Rattle.jb_desk.specs.Ends.{EndsHolding};
+    ghost use Rattle.jb_desk.specs.Rounds.{seat_of, held_by};
     ghost use Rattle.jb_desk.specs.Seats.{stops, changes, seat_number, desk_of, view_of};
     ghost use Rattle.jb_board.specs.Front.{IsWithin};
 
-    /// Commits what stops, round after round, until the desk is shut and no handle is open, queued
-    /// or taken, or until a round fails.
+    /// Commits what stops, round after round, until the desk is over, or until a round fails.
     pub fn run_committer<R: Wait>(
         &self,
         rt: &R,
@@ -32,8 +34,8 @@ impl<D: Disk, C: Clock, H: Ledger, N: Ledger> Desk<D, C, H, N> {
             match self.commit_round(rt, &mut committer) {
                 Ok(Round::Committed(_)) => {}
                 Ok(Round::Idle) => {
-                    if self.await_work(rt) {
-                        return (committer, Ended::Shut);
+                    if let Some(over) = self.await_work(rt) {
+                        return (committer, Ended::Shut(over));
                     }
                 }
                 Err(RoundFault::Aborted | RoundFault::DeviceFault) => {
@@ -46,13 +48,13 @@ impl<D: Disk, C: Clock, H: Ledger, N: Ledger> Desk<D, C, H, N> {
         unreachable!()
     }
 
-    /// Waits until there is a batch to take, or none can come any more. Says whether the desk is over.
-    fn await_work<R: Wait>(&self, rt: &R) -> bool {
+    /// Waits until there is a batch to take, or none can come any more, as the desk is over or the journal has
+    /// failed.
+    fn await_work<R: Wait>(&self, rt: &R) -> Option<Over> {
         let counter = self.counter.lock(rt);
         let counter = self
             .moved
             .wait_while(rt, counter, |counter| counter.rests());
-        let progress = counter.progress();
-        progress.is_over && !progress.is_aborted
+        counter.over()
     }
 }

@@ -7,16 +7,20 @@ ghost use Rattle.jb_desk.specs.Seats.{view_of};
 use crate::committer::{Committer, Round, RoundFault};
 use crate::desk::Desk;
 use crate::follow::end_of;
+use crate::held::Held;
+use crate::origin::Origin;
 use crate::seat::Seat;
 use jb_deck::{Batch, BatchFault, Done, PrepareFault, Prepared, prepare};
 use jb_disk::{Clock, Disk};
 use std::sync::Wait;
 use std::sync::ledger::Ledger;
 
-impl<D: Disk, C: Clock, H: Ledger, N: Ledger> Desk<D, C, H, N> {
+impl<D: Disk, C: Clock, H: Origin, N: Ledger> Desk<D, C, H, N> {
     ghost use Rattle.jb_desk.specs.Desks.{desk_id};
+    ghost use Rattle.jb_desk.specs.Journal.{CommitsRound};
     ghost use Rattle.jb_desk.specs.Rounds.{seat_of, held_by, AnswersRound, IdleKeeps, end_of as end_in};
     ghost use Rattle.jb_desk.specs.Seats.{stops, changes, seat_number, desk_of};
+    ghost use Rattle.jb_desk.specs.Since.{AreStops};
     ghost use Rattle.jb_desk.specs.Views.{SeesCommit, SeesRound};
     ghost use Rattle.jb_board.specs.Steps.{raised_settled};
     ghost use Rattle.jb_desk.specs.declared.committer.RoundFault.TheVariants.{Aborted};
@@ -41,18 +45,20 @@ impl<D: Disk, C: Clock, H: Ledger, N: Ledger> Desk<D, C, H, N> {
         ensures idle { IdleKeeps (seat_of committer.old) (seat_of committer.new) result }
         ensures view { SeesRound (held_by committer.old) (held_by committer.new) (view_of (seat_of committer.old)) (view_of (seat_of committer.new)) result }
         ensures counted { (stops (seat_of committer.new) ≡ stops (seat_of committer.old)) × (changes (seat_of committer.new) ≡ changes (seat_of committer.old)) }
+        ensures round { CommitsRound D.size D.count D.faults D.honest D.newest D.may_leave D.moment D.left_since H.begun (held_by committer.old) result }
     {
         let held = committer.batch.take();
-        let Some(batch) = self.counter.lock(rt).next_batch(held)? else {
+        let Some(held) = self.counter.lock(rt).next_batch(held)? else {
             return Ok(Round::Idle);
         };
+        let batch = held.end();
         let end = past(&batch);
         self.board.raise_stopped(&mut committer.seat.board, end);
         self.board.raise_taken(&mut committer.seat.board, end);
         match prepare(self.alloc, batch) {
             Ok(prepared) => self.commit(rt, committer, prepared),
             Err((batch, fault)) => {
-                committer.hold(batch);
+                committer.hold(Held::of(batch));
                 Err(match fault {
                     PrepareFault::Memory => RoundFault::Memory,
                     PrepareFault::NoCut(_) => RoundFault::Refused,
@@ -71,11 +77,13 @@ impl<D: Disk, C: Clock, H: Ledger, N: Ledger> Desk<D, C, H, N> {
         requires desk { desk_of (seat_of committer.old) ≡ desk_id self.now }
         requires free { held_by committer.old ≡ None }
         requires planned { IsPlanned prepared }
+        requires stops { AreStops H.begun prepared.batch.handles }
         requires taken { end_in prepared.batch ≤ (view_of (seat_of committer.old)).taken }
         ensures desk { (desk_of (seat_of committer.new) ≡ desk_of (seat_of committer.old)) × (seat_number (seat_of committer.new) ≡ seat_number (seat_of committer.old)) }
         ensures answers { AnswersRound (Some prepared.batch) (held_by committer.new) (view_of (seat_of committer.new)).settled result }
         ensures view { SeesCommit prepared.batch (view_of (seat_of committer.old)) (view_of (seat_of committer.new)) result }
         ensures counted { (stops (seat_of committer.new) ≡ stops (seat_of committer.old)) × (changes (seat_of committer.new) ≡ changes (seat_of committer.old)) }
+        ensures round { CommitsRound D.size D.count D.faults D.honest D.newest D.may_leave D.moment D.left_since H.begun (Some prepared.batch) result }
     {
         // bound first, so that the lock is free again before the book's is taken
         let result = self.works.lock(rt).commit(prepared);
@@ -94,7 +102,7 @@ impl<D: Disk, C: Clock, H: Ledger, N: Ledger> Desk<D, C, H, N> {
                 Err(RoundFault::Aborted)
             }
             Err(BatchFault::Memory(prepared)) => {
-                committer.hold(prepared.back());
+                committer.hold(Held::of(prepared.back()));
                 Err(RoundFault::Memory)
             }
             Err(
@@ -102,7 +110,7 @@ impl<D: Disk, C: Clock, H: Ledger, N: Ledger> Desk<D, C, H, N> {
                 | BatchFault::OtherShape(prepared)
                 | BatchFault::NumbersSpent(prepared),
             ) => {
-                committer.hold(prepared.back());
+                committer.hold(Held::of(prepared.back()));
                 Err(RoundFault::Refused)
             }
         }

@@ -25,7 +25,7 @@ pub returns-clause-loaded : goal.returns-clause-loaded
 returns-clause-loaded g c =
     let ran = subst (λ r. IfOk r (HasRun {H = g.row.H.Denot} {N = g.row.N.Denot} (shape_in c.args.desk) c.args.queue.now c.args.options.threads)) c.in_ok-ran.was c.run-ran.ensures.ran in
     let gathered = c.in_ok-lefts.ensures.gathered (shape_in c.args.desk) c.args.queue.now c.args.options.threads ran in
-    let counts = c.in_ok-counts.ensures.counts in
+    let counts = c.in_ok-loaded.ensures.counts in
     record {
       runs = gathered.runs;
       trail = c.in-Ok.closed.trail.items;
@@ -34,6 +34,7 @@ returns-clause-loaded g c =
         order = counts.order;
         same = subst (λ (xs : List Stop). IsPermutation xs counts.order) gathered.stops counts.same;
         tickets = counts.tickets;
+        queued = counts.queued;
         handles = counts.handles;
         changes = counts.changes;
         follows = counts.follows;
@@ -41,5 +42,15 @@ returns-clause-loaded g c =
         groups = counts.groups;
         blocks = counts.blocks;
       };
-      refused = gathered.refused;
+      refused = c.in_ok-loaded.ensures.outcome.0 ∙ gathered.refused;
+    }
+
+pub returns-clause-since : goal.returns-clause-since
+returns-clause-since g c =
+    let counts = c.in_ok-loaded.ensures.counts in
+    record {
+      trail = c.in-Ok.closed.trail.items;
+      follows = counts.follows;
+      groups = counts.groups;
+      since = c.in-Ok.ensures.since;
     }

@@ -10,7 +10,7 @@ use Rattle.jb_desk.proofs.Keeping.{kept-by}
 use Rattle.jb_desk.proofs.book.Book.settle.Goals as goal
 
 pub push_all-requires : goal.push_all-requires
-push_all-requires c =
+push_all-requires g c =
     let follow : Follow c.self.inside.settled c.self.inside.least c.in-Some.past c.entries-entries.result.now = c.in-Some.ensures.follow in
     let inside : c.in-Some.past ≤ c.self.inside.taken = c.in-Some.ensures.within in
     let up = follow-length c.self.inside.settled c.self.inside.least c.in-Some.past c.entries-entries.result.now follow in
@@ -19,13 +19,13 @@ push_all-requires c =
     omega arith
 
 pub overflow_sub-past : goal.overflow_sub-past
-overflow_sub-past c =
+overflow_sub-past g c =
     let follow : Follow c.self.inside.settled c.self.inside.least c.in-Some.past c.entries-entries.result.now = c.in-Some.ensures.follow in
     let up = follow-length c.self.inside.settled c.self.inside.least c.in-Some.past c.entries-entries.result.now follow in
     omega arith
 
 pub invariant_of-self : goal.invariant_of-self
-invariant_of-self c =
+invariant_of-self g c =
     let follow : Follow c.self.inside.settled c.self.inside.least c.in-Some.past c.entries-entries.result.now = c.in-Some.ensures.follow in
     let inside : c.in-Some.past ≤ c.self.inside.taken = c.in-Some.ensures.within in
     let up = follow-length c.self.inside.settled c.self.inside.least c.in-Some.past c.entries-entries.result.now follow in
@@ -36,15 +36,15 @@ invariant_of-self c =
     let parts = sum_by-take-drop (λ (x : ℕ). x) c.self.inside.credits.items (c.in-Some.past - c.self.inside.settled) in
     let line_sum : c.self.inside.line_sum - c.drop_first.result ≡ sum (drop (c.in-Some.past - c.self.inside.settled) c.self.inside.credits.items) = omega (arith, parts, c.drop_first.ensures.sum, c.self.invariant.line_sum) in
     let room : vec_len c.push_all.new.trail + (c.self.inside.next - c.in-Some.past) ≤ vec_capacity c.push_all.new.trail = omega (arith, c.push_all.ensures.len, c.push_all.ensures.capacity) in
-    kept-by _ (settled_to c.in-Some.past c.entries-entries.result.now (account_of c.self.inside))
+    kept-by g.S.Origin.begun _ (settled_to c.in-Some.past c.entries-entries.result.now (account_of c.self.inside))
     (settled-is (account_of c.self.inside) c.self.invariant.sound c.in-Some.past c.entries-entries.result.now c.drop_first.new.credits.items c.push_all.new.trail.items later c.drop_first.ensures.items c.push_all.ensures.items)
     (settled-sound (account_of c.self.inside) c.self.invariant.sound c.in-Some.past c.entries-entries.result.now settles)
     c.self.invariant.open_sum line_sum
     (c.in-Some.ensures.least.0 ∙ ap (λ n. least_after n c.entries-entries.result.now) c.self.invariant.least ∙ sym (least-append 0 c.self.inside.trail.items c.entries-entries.result.now))
-    c.in-Some.ensures.least.1 room c.self.invariant.ordered
+    c.in-Some.ensures.least.1 room c.self.invariant.ordered c.self.invariant.stops
 
 pub returns-clause-ok : goal.returns-clause-ok
-returns-clause-ok c =
+returns-clause-ok g c =
     let follow : Follow c.self.inside.settled c.self.inside.least c.in-Some.past c.entries-entries.result.now = c.in-Some.ensures.follow in
     let inside : c.in-Some.past ≤ c.self.inside.taken = c.in-Some.ensures.within in
     let up = follow-length c.self.inside.settled c.self.inside.least c.in-Some.past c.entries-entries.result.now follow in

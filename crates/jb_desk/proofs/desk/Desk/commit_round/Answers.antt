@@ -1,4 +1,4 @@
-use Rattle.std.proofs.Common.{◌≡◌, ◌⊎◌, inl, inr, sym, ap, subst, ◌∙◌}
+use Rattle.std.proofs.Common.{◌≡◌, ◌⊎◌, Some, inl, inr, sym, ap, subst, ◌∙◌}
 use Rattle.jb_batch.specs.Batch.{Gathered}
 use Rattle.jb_board.specs.Steps.{raised_taken}
 use Rattle.jb_desk.specs.Rounds.{held_by, seat_of}
@@ -6,7 +6,7 @@ use Rattle.jb_desk.specs.Rounds.{end_of as end_in}
 use Rattle.jb_desk.specs.Seats.{view_of}
 use Rattle.jb_desk.specs.Views.{TakesUp, with_taken}
 use Rattle.jb_desk.specs.declared.committer.RoundFault.TheVariants.{Memory, Refused}
-use Rattle.jb_desk.proofs.Seen.{gives-takes, sees-held, sees-taken}
+use Rattle.jb_desk.proofs.Seen.{gives-takes, round-up, sees-held, sees-taken}
 use Rattle.jb_desk.proofs.desk.Desk.commit_round.Goals.{in-Memory, in-NoCut}
 use Rattle.jb_desk.proofs.desk.Desk.commit_round.Goals as goal
 
@@ -14,9 +14,9 @@ pub returns-in-Ok-clause-view : goal.returns-in-Ok-clause-view
 returns-in-Ok-clause-view g c =
     let held = held_by c.args.committer.now in
     let v = view_of (seat_of c.args.committer.now) in
-    let b : Gathered = c.in-Some.batch in
+    let b : Gathered = c.end-batch.result in
     let same : c.in-Ok.prepared.batch ≡ b = c.in-Ok.ensures.batch in
-    let up : TakesUp held b = subst (λ h. TakesUp h b) c.take-held.ensures.value (gives-takes _ _ c.take-held.result c.in_ok-batch.field-0 b c.in-Some.is c.in_ok-batch.ensures) in
+    let up : TakesUp held b = subst (TakesUp held) (sym c.end-batch.ensures.batch) (subst (λ h. TakesUp h c.in-Some.held) c.take-held.ensures.value (gives-takes _ _ c.take-held.result c.in_ok-held.field-0 c.in-Some.held c.in-Some.is c.in_ok-held.ensures)) in
     let taken = c.raise_taken.ensures.view ∙ ap (λ x. raised_taken x c.past-end.result) c.raise_stopped.ensures.view ∙ ap (λ n. with_taken n v) c.past-end.ensures in
     sees-taken held (held_by c.commit.new.committer) c.in-Ok.prepared.batch v _ (view_of (seat_of c.commit.new.committer)) c.commit.result
     (subst (TakesUp held) (sym same) up)
@@ -27,9 +27,9 @@ pub returns-after-fault-clause-view : goal.returns-after-fault-clause-view
 returns-after-fault-clause-view g c =
     let held = held_by c.args.committer.now in
     let v = view_of (seat_of c.args.committer.now) in
-    let b : Gathered = c.in-Some.batch in
+    let b : Gathered = c.end-batch.result in
     let same : c.in-Err.batch ≡ b = c.in-Err.ensures.back in
-    let up : TakesUp held b = subst (λ h. TakesUp h b) c.take-held.ensures.value (gives-takes _ _ c.take-held.result c.in_ok-batch.field-0 b c.in-Some.is c.in_ok-batch.ensures) in
+    let up : TakesUp held b = subst (TakesUp held) (sym c.end-batch.ensures.batch) (subst (λ h. TakesUp h c.in-Some.held) c.take-held.ensures.value (gives-takes _ _ c.take-held.result c.in_ok-held.field-0 c.in-Some.held c.in-Some.is c.in_ok-held.ensures)) in
     let taken = c.raise_taken.ensures.view ∙ ap (λ x. raised_taken x c.past-end.result) c.raise_stopped.ensures.view ∙ ap (λ n. with_taken n v) c.past-end.ensures in
     let fault : (c.match-fault.result ≡ Memory) ⊎ (c.match-fault.result ≡ Refused) =
     elim c.match-fault.branch [
@@ -38,5 +38,14 @@ returns-after-fault-clause-view g c =
     ] in
     sees-held held (held_by c.hold.new.self) c.in-Err.batch v (view_of (seat_of c.hold.new.self)) c.match-fault.result fault
     (subst (TakesUp held) (sym same) up)
-    c.hold.ensures.1
+    (c.hold.ensures.1 ∙ ap (λ (x : Gathered). Some x) c.of.ensures)
     (ap (λ s. view_of s) c.hold.ensures.0 ∙ taken ∙ ap (λ (x : Gathered). with_taken (end_in x) v) (sym same))
+
+pub returns-in-Ok-clause-round : goal.returns-in-Ok-clause-round
+returns-in-Ok-clause-round g c =
+    let held = held_by c.args.committer.now in
+    let b : Gathered = c.end-batch.result in
+    let same : c.in-Ok.prepared.batch ≡ b = c.in-Ok.ensures.batch in
+    let up : TakesUp held b = subst (TakesUp held) (sym c.end-batch.ensures.batch) (subst (λ h. TakesUp h c.in-Some.held) c.take-held.ensures.value (gives-takes _ _ c.take-held.result c.in_ok-held.field-0 c.in-Some.held c.in-Some.is c.in_ok-held.ensures)) in
+    round-up g.D.Disk.size g.D.Disk.count g.D.Disk.faults g.D.Disk.honest g.D.Disk.newest g.D.Disk.may_leave g.D.Disk.moment g.D.Disk.left_since g.H.Origin.begun held c.in-Ok.prepared.batch c.commit.result
+    (subst (TakesUp held) (sym same) up) c.commit.ensures.round

@@ -1,0 +1,21 @@
+-- What closing a desk says of what its two locks guarded, said of the desk.
+use Rattle.std.proofs.Common.{Result, Ok, Err, IfOk, IfErr}
+use Rattle.std.specs.Global.{Vec}
+use Rattle.jb_desk.specs.Closing.{DiffersAs, IsNotClosed}
+use Rattle.jb_desk.specs.Works.{Worked}
+use Rattle.jb_desk.specs.declared.counter.Counter.{Counter}
+use Rattle.jb_desk.specs.declared.desk.Desk.{Desk}
+use Rattle.jb_desk.specs.declared.desk.closing.CloseFault.{CloseFault}
+use Rattle.jb_desk.specs.declared.desk.closing.CloseFault.TheVariants.{SeatsOut, TrailsDiffer}
+use Rattle.jb_desk.specs.declared.desk.closing.Closed.{Closed}
+use Rattle.jb_desk.specs.declared.origin.Origin.{Ghosts}
+use Rattle.jb_desk.specs.declared.seat.Left.{Left}
+
+pub first-ok : {A B : Type 0} (P Q : A → Type 0) (r : Result A B) → IfOk r (λ a. P a × Q a) → IfOk r P
+first-ok P Q (Ok a) is = is.0
+first-ok P Q (Err e) is = tt
+
+pub not-closed : {D C H N : Type 0} {O : Ghosts H} (counter : Counter H N O) (works : Worked D C) (desk : Desk D C H N O) (lefts : Vec (Left H N)) (r : Result (Closed D C) (CloseFault D C H N O)) → IfErr r (DiffersAs counter works) → IfErr r (IsNotClosed desk lefts)
+not-closed counter works desk lefts (Ok closed) is = tt
+not-closed counter works desk lefts (Err (SeatsOut back kept)) is = absurd is
+not-closed counter works desk lefts (Err (TrailsDiffer deck clock book)) is = is.3

@@ -1,0 +1,74 @@
+-- Images with a first part of the handles that a journal was given.
+use Rattle.std.proofs.Common.{◌≡◌, ℕ, ◌+◌, ◌≤◌, List, [], ◌∷◌, ◌++◌, length, take, slice_index, ap, sym, subst, ◌∙◌, arith}
+use Rattle.std.proofs.lemmas.List.{length-append, take-append-le}
+use Rattle.std.proofs.Math.Seq.{take-append-add, take-length}
+use mathlib.Core.List.{append-nil}
+use Rattle.jb_cost.specs.Cut.{IsCut}
+use Rattle.jb_disk.specs.Image.{Image}
+use Rattle.jb_handle.specs.declared.stopped.Stopped.{Stopped}
+use Rattle.jb_super.specs.Journal.{SameJournal}
+use Rattle.jb_super.specs.Superblock.{Superblock}
+use Rattle.jb_deck.specs.Follows.{Follows, FollowsNone}
+use Rattle.jb_deck.specs.Gathering.{groups_in}
+use Rattle.jb_deck.specs.Since.{IsRecoveredTo}
+use Rattle.jb_deck.specs.Trailing.{FollowsSome, handles_to}
+use Rattle.jb_deck.proofs.Histories.{Stood, stood-holds}
+use Rattle.jb_deck.proofs.Owning.{same-then}
+use Rattle.jb_desk.specs.Origin.{Begun}
+use Rattle.jb_desk.specs.Since.{HasFirst}
+use Rattle.jb_desk.proofs.Bounds.{cut-high, cut-rise}
+
+module _ (b : Begun) where
+  -- the image is recovered to the homes of the start with these handles
+  abbrev Recovered : List Stopped → Image → Type 0
+  Recovered hs c = IsRecoveredTo b.own b.size b.count b.homes hs c
+
+  -- with all that were given, and the first ones of those that come after them
+  pub first-more : (given more : List Stopped) (n least : ℕ) (c : Image) → n ≤ length more → least ≤ length given + n → Recovered (given ++ take n more) c → HasFirst b (given ++ more) least c
+  first-more given more n least c within low is = record {
+    many = length given + n;
+    from = low;
+    to = let all = length-append given more in omega (arith, all, within);
+    recovered = subst (λ hs. Recovered hs c) (sym (take-append-add given more n)) is;
+  }
+
+  pub first-whole : (given : List Stopped) (least : ℕ) (c : Image) → least ≤ length given → Recovered given c → HasFirst b given least c
+  first-whole given least c low is = record {
+    many = length given;
+    from = low;
+    to = omega arith;
+    recovered = subst (λ hs. Recovered hs c) (sym (take-length given)) is;
+  }
+
+  -- a first part of the handles is one of these and further ones
+  pub first-longer : (given more : List Stopped) (least : ℕ) (c : Image) → HasFirst b given least c → HasFirst b (given ++ more) least c
+  first-longer given more least c is = record {
+    many = is.many;
+    from = is.from;
+    to = let all = length-append given more in let to = is.to in omega (arith, all, to);
+    recovered = subst (λ hs. Recovered hs c) (sym (take-append-le is.many given more is.to)) is.recovered;
+  }
+
+  -- ---- where the homes stand as the handles say, an image that follows with further ones
+
+  module _ (own : Superblock) (same : SameJournal b.own own) (n m : ℕ) (sized : n ≡ b.size) (counted : m ≡ b.count) (given : List Stopped) (homes : ℕ → List ℕ) (stood : Stood given b.homes homes) where
+    recovered : (more : List Stopped) (c : Image) → Follows own n m homes more c → Recovered (given ++ more) c
+    recovered more c f =
+        let is : IsRecoveredTo b.own n m b.homes (given ++ more) c = record {
+          sb = f.sb;
+          same = same-then b.own own f.sb same f.same;
+          taken = f.taken;
+          not_refused = f.not_refused;
+          each = stood-holds own n m b.homes given homes more c stood f;
+        } in
+        subst (λ k. IsRecoveredTo b.own k b.count b.homes (given ++ more) c) sized (subst (λ k. IsRecoveredTo b.own n k b.homes (given ++ more) c) counted is)
+
+    pub first-none : (least : ℕ) (c : Image) → least ≤ length given → FollowsNone own n m homes c → HasFirst b given least c
+    first-none least c low none = first-whole given least c low (subst (λ hs. Recovered hs c) (append-nil given) (recovered [] c none.follows))
+
+    pub first-some : (hs : List Stopped) (bounds : List ℕ) (least most low : ℕ) (c : Image) → IsCut (length hs) bounds → most ≤ groups_in bounds → low ≤ length given + slice_index bounds least → FollowsSome own n m homes hs bounds least most c → HasFirst b (given ++ hs) low c
+    first-some hs bounds least most low c cut within below some =
+        let to = some.to in
+        let groups : some.groups ≤ groups_in bounds = omega (arith, to, within) in
+        let rise = cut-rise (length hs) bounds least some.groups cut some.from groups in
+        first-more given hs (slice_index bounds some.groups) low c (cut-high (length hs) bounds some.groups cut groups) (omega (arith, below, rise)) (recovered (handles_to bounds some.groups hs) c some.follows)

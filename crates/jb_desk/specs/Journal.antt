@@ -1,0 +1,90 @@
+-- What a round of a desk has done to its journal.
+use Rattle.std.specs.Prelude.{◌≡◌, ◌≢◌, ◌++◌, true, false, ℕ, List, [], Option, Result, Ok, Err}
+use Rattle.jb_batch.specs.Batch.{Gathered}
+use Rattle.jb_batch.specs.Prepared.{Planned, IsPlanned}
+use Rattle.jb_block.specs.declared.stamp.Stamp.{Stamp}
+use Rattle.jb_disk.specs.Image.{Image}
+use Rattle.jb_disk.specs.Kept.{Kept}
+use Rattle.jb_deck.specs.Checkpoints.{Checkpoints, TakesOldest}
+use Rattle.jb_deck.specs.Committing.{CommitsBatch, CommitsOnDisk, FindsLive, TakesBatch}
+use Rattle.jb_deck.specs.Deck.{OpenDeck}
+use Rattle.jb_deck.specs.declared.batched.BatchFault.{BatchFault}
+use Rattle.jb_deck.specs.declared.batched.BatchFault.TheVariants as batch
+use Rattle.jb_deck.specs.declared.checked.Checked.{Checked}
+use Rattle.jb_deck.specs.declared.checked.CheckpointFault.{CheckpointFault}
+use Rattle.jb_deck.specs.declared.checked.CheckpointFault.TheVariants as checkpoint
+use Rattle.jb_deck.specs.declared.done.Done.{Done}
+use Rattle.jb_desk.specs.Origin.{Begun}
+use Rattle.jb_desk.specs.Since.{IsSince, Since}
+use Rattle.jb_desk.specs.Views.{TakesUp}
+use Rattle.jb_desk.specs.declared.committer.Round.{Round}
+use Rattle.jb_desk.specs.declared.committer.Round.TheVariants.{Idle, Committed}
+use Rattle.jb_desk.specs.declared.committer.RoundFault.{RoundFault}
+use Rattle.jb_desk.specs.declared.committer.RoundFault.TheVariants.{Aborted, Memory, DeviceFault, Refused}
+
+module _ {D : Type 0} (size count faults : D → ℕ) (honest : D → Type 0) (newest : D → Image) (may_leave : D → Image → Type 0) (moment : D → ℕ) (left_since : D → ℕ → Image → Type 0) (b : Begun) where
+  -- the desk's journal before and after it committed this batch, of which these are the groups; the handles that it was given are
+  -- those of before, and then the batch's
+  pub record IsRound (p : Planned) (done : Done) : Type 0 where
+    pub planned : IsPlanned p
+    pub stamp : Stamp
+    pub old : OpenDeck D
+    pub new : OpenDeck D
+    pub same_disk : Kept size count honest old.disk new.disk
+    pub takes : TakesBatch old p
+    pub commits : CommitsBatch p stamp old new done
+    pub on_disk : b.honest → CommitsOnDisk newest p stamp old new
+    pub finds : b.honest → FindsLive (size old.disk) (count old.disk) new.log new.groups (newest new.disk)
+    pub before : IsSince size count faults honest newest may_leave moment left_since b old
+    pub after : IsSince size count faults honest newest may_leave moment left_since b new
+    pub adds : (h : b.honest) → (s : Since size count faults honest newest may_leave moment left_since b new) × (s.given ≡ (before.since h).given ++ p.batch.handles)
+
+  -- the desk's journal has failed
+  pub record HasFailed : Type 0 where
+    pub deck : OpenDeck D
+    pub since : IsSince size count faults honest newest may_leave moment left_since b deck
+    pub failed : deck.aborted ≡ true
+
+  -- the desk's journal before and after its oldest live group was written home
+  pub record TakesHome (checked : Checked) : Type 0 where
+    pub old : OpenDeck D
+    pub new : OpenDeck D
+    pub same_disk : Kept size count honest old.disk new.disk
+    pub up : old.aborted ≡ false
+    pub takes : TakesOldest old new checked
+    pub checkpoints : b.honest → Checkpoints newest old new
+    pub before : IsSince size count faults honest newest may_leave moment left_since b old
+    pub after : IsSince size count faults honest newest may_leave moment left_since b new
+
+  -- no group is live in the desk's journal, which has not failed
+  pub record HasNone : Type 0 where
+    pub deck : OpenDeck D
+    pub since : IsSince size count faults honest newest may_leave moment left_since b deck
+    pub up : deck.aborted ≡ false
+    pub none : deck.groups ≡ []
+
+  -- what a round of a committer that held such a batch has done: a batch is committed, or the journal has failed
+  abbrev pub CommitsRound : Option Gathered → Result Round RoundFault → Type 0
+  CommitsRound held (Ok Idle) = Unit {0}
+  CommitsRound held (Ok (Committed done)) = (p : Planned) × TakesUp held p.batch × IsRound p done
+  CommitsRound held (Err Aborted) = Unit {0}
+  CommitsRound held (Err DeviceFault) = HasFailed
+  CommitsRound held (Err Memory) = Unit {0}
+  CommitsRound held (Err Refused) = Unit {0}
+
+  -- a commit after which the journal has failed
+  abbrev pub FailsAs : Result Done BatchFault → Type 0
+  FailsAs (Ok done) = Unit {0}
+  FailsAs (Err (batch.Aborted back)) = HasFailed
+  FailsAs (Err (batch.WrongTicket back expected)) = Unit {0}
+  FailsAs (Err (batch.OtherShape back)) = Unit {0}
+  FailsAs (Err (batch.NumbersSpent back)) = Unit {0}
+  FailsAs (Err (batch.Memory back)) = Unit {0}
+  FailsAs (Err (batch.DeviceFault settled)) = HasFailed
+
+  -- what a round of a checkpointer has done: the oldest group is home, none was live, or the journal has failed
+  abbrev pub ChecksRound : Result Checked CheckpointFault → Type 0
+  ChecksRound (Ok checked) = TakesHome checked
+  ChecksRound (Err checkpoint.Nothing) = HasNone
+  ChecksRound (Err checkpoint.Aborted) = HasFailed
+  ChecksRound (Err checkpoint.DeviceFault) = HasFailed

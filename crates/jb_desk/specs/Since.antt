@@ -1,0 +1,74 @@
+-- How a journal stands since its desk was started: which handles it was given, what its homes hold, and what a crash leaves.
+use Rattle.std.specs.Prelude.{◌≡◌, ◌≢◌, ◌⊎◌, ℕ, ◌-◌, ◌<◌, ◌≤◌, ◌^◌, false, List, All, length, take, Some}
+use Rattle.jb_disk.specs.Image.{Image}
+use Rattle.jb_handle.specs.Tickets.{TicketsFrom}
+use Rattle.jb_handle.specs.Words.{word}
+use Rattle.jb_handle.specs.declared.stopped.Stopped.{Stopped}
+use Rattle.jb_handle.specs.declared.word.Word.TheVariants.{Free}
+use Rattle.jb_super.specs.Journal.{SameJournal}
+use Rattle.jb_deck.specs.Deck.{OpenDeck}
+use Rattle.jb_deck.specs.Done.{past_after}
+use Rattle.jb_deck.specs.Follows.{StandsBy}
+use Rattle.jb_deck.specs.Opening.{recovered_home, FollowsEntry}
+use Rattle.jb_deck.specs.Since.{IsRecoveredTo, LiveOf, homes_of}
+use Rattle.jb_deck.specs.declared.done.Entry.{Entry}
+use Rattle.jb_desk.specs.Origin.{Begun, own_on}
+
+-- an image of the journal of the start that recovery takes, and that is recovered to the homes of the start with a first part of
+-- these handles, so many at least
+pub record HasFirst (b : Begun) (given : List Stopped) (least : ℕ) (c : Image) : Type 0 where
+  pub many : ℕ
+  pub from : least ≤ many
+  pub to : many ≤ length given
+  pub recovered : IsRecoveredTo b.own b.size b.count b.homes (take many given) c
+
+-- each of the handles stopped with words that a handle may stop with
+abbrev pub AreStops : Begun → List Stopped → Type 0
+AreStops b hs = All (λ h. b.stops h.words) hs
+
+-- The journal of the start, on its disk, and the handles that it was given since, in the order of their tickets: those that its trail has settled, and on a journal that
+-- has failed the batch in hand after them. While it has not failed its homes stand as they say, those that are free aside.
+pub record Since {D : Type 0} (size count faults : D → ℕ) (honest : D → Type 0) (newest : D → Image) (may_leave : D → Image → Type 0) (moment : D → ℕ) (left_since : D → ℕ → Image → Type 0) (b : Begun) (d : OpenDeck D) : Type 0 where
+  pub same_size : size d.disk ≡ b.size
+  pub same_count : count d.disk ≡ b.count
+  pub stays_honest : honest d.disk
+  -- it has not failed unless a call of the disk has
+  pub no_fewer : b.faults ≤ faults d.disk
+  pub up : b.faults < 2 ^ 64 - 1 → faults d.disk ≡ b.faults → d.aborted ≡ false
+  pub same : SameJournal b.own d.log.sb
+  pub given : List Stopped
+  pub stopped : AreStops b given
+  pub tickets : TicketsFrom 0 given
+  pub settled : past_after 0 d.trail ≤ length given
+  pub all : d.aborted ≡ false → length given ≡ past_after 0 d.trail
+  pub stood : d.aborted ≡ false → (home : ℕ) → word given home ≢ Some Free → StandsBy (word given home) (b.homes home) (homes_of newest d home)
+  pub live : d.aborted ≡ false → LiveOf given d.groups
+  -- what a crash may leave now has the settled ones at least
+  pub now : (c : Image) → may_leave d.disk c → HasFirst b given (past_after 0 d.trail) c
+  -- what a crash since that moment might have left
+  pub later : b.since ≤ moment d.disk
+  pub ever : (c : Image) → left_since d.disk b.since c → b.left c ⊎ HasFirst b given 0 c
+
+-- where the disk of the start is honest, the journal stands so
+pub record IsSince {D : Type 0} (size count faults : D → ℕ) (honest : D → Type 0) (newest : D → Image) (may_leave : D → Image → Type 0) (moment : D → ℕ) (left_since : D → ℕ → Image → Type 0) (b : Begun) (d : OpenDeck D) : Type 0 where
+  pub since : b.honest → Since size count faults honest newest may_leave moment left_since b d
+
+-- the disk and the trail are those of such a journal
+pub record EndsSince {D : Type 0} (size count faults : D → ℕ) (honest : D → Type 0) (newest : D → Image) (may_leave : D → Image → Type 0) (moment : D → ℕ) (left_since : D → ℕ → Image → Type 0) (b : Begun) (disk : D) (trail : List Entry) : Type 0 where
+  pub deck : OpenDeck D
+  pub same_disk : deck.disk ≡ disk
+  pub same_trail : deck.trail ≡ trail
+  pub since : IsSince size count faults honest newest may_leave moment left_since b deck
+
+-- The start is that of the journal on this disk, once it is opened: its homes stood as recovery leaves them, and what a crash might
+-- have left has what it might leave before the journal is opened and meanwhile.
+pub record IsBegunOn {D : Type 0} (size count faults : D → ℕ) (honest : D → Type 0) (newest : D → Image) (moment : D → ℕ) (left_since : D → ℕ → Image → Type 0) (b : Begun) (disk : D) : Type 0 where
+  pub same_size : size disk ≡ b.size
+  pub same_count : count disk ≡ b.count
+  pub stays_honest : b.honest → honest disk
+  pub same_faults : faults disk ≡ b.faults
+  pub own : own_on (size disk) (count disk) (newest disk) ≡ b.own
+  pub homes : (home : ℕ) → recovered_home (size disk) (count disk) (newest disk) home ≡ b.homes home
+  pub later : b.since ≤ moment disk
+  pub ever : b.honest → (c : Image) → left_since disk b.since c → b.left c
+  pub opening : (c : Image) → FollowsEntry (size disk) (count disk) (newest disk) c → b.left c

@@ -1,0 +1,39 @@
+//! That a desk is over.
+ghost use Rattle.std.specs.Prelude.{◌≡◌, false, IfSome, IfNone};
+
+use crate::counter::Counter;
+use crate::origin::Origin;
+use std::sync::ledger::Ledger;
+
+/// A desk is over: it is shut, no handle is open, queued or taken, and the journal has not failed. Only a look
+/// at the desk's book under its lock gives one, and a desk that is over stays so until its journal fails.
+#[derive(Clone, Copy, Debug, PartialEq, Eq)]
+pub struct Over {
+    settled: u64,
+}
+
+impl Over {
+    /// How many handles had stopped, all of which are settled.
+    pub fn settled(&self) -> u64
+        ensures { result ≡ self.now.settled }
+    {
+        self.settled
+    }
+}
+
+impl<H: Origin, N: Ledger> Counter<H, N> {
+    ghost use Rattle.jb_desk.specs.Account.{IsOver};
+
+    /// That the desk is over, where it is.
+    pub fn over(&self) -> Option<Over>
+        ensures some { IfSome result (λ over. IsOver self.now.book × (self.now.book.aborted ≡ false) × (over.settled ≡ self.now.book.shadow.settled)) }
+        ensures none { IfNone result (IsOver self.now.book → self.now.book.aborted ≡ false → ⊥) }
+    {
+        if self.book.is_aborted() || !self.book.is_over() {
+            return None;
+        }
+        Some(Over {
+            settled: self.book.settled(),
+        })
+    }
+}

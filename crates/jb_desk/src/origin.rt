@@ -1,0 +1,19 @@
+//! What a desk was started with, which its caller picks.
+use std::marker::Brand;
+use std::sync::ledger::Ledger;
+
+/// Marks a desk, and its ledger of handles. Besides the ledger's own members it has what is known of the
+/// disk at the start, which contracts compare the disk of later with. A caller picks it where it passes
+/// [`Brand`].
+pub trait Origin: Ledger {
+    ghost use Rattle.jb_desk.specs.Origin.{Begun};
+
+    /// The disk at the start.
+    ghost begun: { Begun };
+}
+
+impl Origin for Brand {
+    ghost use Rattle.jb_desk.specs.Origin.{unknown};
+
+    ghost begun = { unknown };
+}
