@@ -6,6 +6,7 @@ ghost use Rattle.jb_handle.specs.Held.{held};
 
 use crate::desk::Desk;
 use crate::fault::BeginFault;
+use crate::origin::Origin;
 use crate::seat::Seat;
 use jb_disk::{Clock, Disk};
 use jb_handle::Handle;
@@ -17,7 +18,7 @@ use std::time::{Duration, Instant};
 /// How long a handle waits for room while nothing is committed, in seconds.
 const PATIENCE: u64 = 10;
 
-impl<D: Disk, C: Clock, H: Ledger, N: Ledger> Desk<D, C, H, N> {
+impl<D: Disk, C: Clock, H: Origin, N: Ledger> Desk<D, C, H, N> {
     ghost use Rattle.jb_desk.specs.Desks.{shape_in};
     ghost use Rattle.jb_desk.specs.Refusals.{IsTooMany};
 
