@@ -1,8 +1,14 @@
 pub mod Accounts
+pub mod Callings
 pub mod Cuts
 pub mod Follows
+pub mod Grouped
 pub mod Keeping
+pub mod Limits
 pub mod Rounds
 pub mod SeatCredits
 pub mod Seen
 pub mod Shadows
+pub mod Telling
+pub mod Ties
+pub mod Touching

@@ -1,5 +1,6 @@
 pub mod Account
 pub mod Book
+pub mod Calls
 pub mod Closing
 pub mod Desks
 pub mod Events
@@ -9,4 +10,5 @@ pub mod Rounds
 pub mod Seats
 pub mod Shadow
 pub mod Stops
+pub mod Tied
 pub mod Views
