@@ -33,7 +33,7 @@ use Rattle.jb_desk.proofs.SeatCredits.{length-less, sum-gone, sum-less}
 -- ---- the calls
 
 -- what the five tests of a new handle let pass
-passed : (a : Account) (seat credits : ℕ) → refusal a seat credits ≡ None
+pub passed : (a : Account) (seat credits : ℕ) → refusal a seat credits ≡ None
     → (a.aborted ≡ false) × (a.shut ≡ false) × (credits_at a.shadow seat ≡ None) × (credits ≤ a.most) × (reserved a.shadow + credits ≤ a.usable) × (a.shadow.next + length a.shadow.seats < 2 ^ 61) × (a.granted + credits ≤ 2 ^ 61)
 passed a seat credits none =
     let one = first-false a.aborted Aborted _ none in

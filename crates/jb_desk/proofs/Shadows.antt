@@ -55,7 +55,7 @@ map-set test (e ∷ es) w h there same = at (test e.0) there (λ more. map-set t
     at true is rest = let here : e.1 ≡ h = cc in ap (λ c. (e.0, c) ∷ map granted_in es) (same ∙ ap (λ (g : Held). g.credits) (sym here))
     at false is rest = ap (λ xs. granted_in e ∷ xs) (rest is)
 
-lookup-map : (test : ℕ → Bool) (es : List (ℕ × Held)) → lookup test (map granted_in es) ≡ option_map (λ (h : Held). h.credits) (lookup test es)
+pub lookup-map : (test : ℕ → Bool) (es : List (ℕ × Held)) → lookup test (map granted_in es) ≡ option_map (λ (h : Held). h.credits) (lookup test es)
 lookup-map test [] = refl
 lookup-map test (e ∷ es) = at (test e.0) (lookup-map test es)
   where

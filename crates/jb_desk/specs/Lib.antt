@@ -1,5 +1,6 @@
 pub mod Account
 pub mod Book
+pub mod Calls
 pub mod Closing
 pub mod Desks
 pub mod Ends
@@ -13,5 +14,6 @@ pub mod Seats
 pub mod Shadow
 pub mod Since
 pub mod Stops
+pub mod Tied
 pub mod Views
 pub mod Works
