@@ -1,5 +1,5 @@
 #!/usr/bin/env bash
-# What the README's third command takes from a fresh clone: clones the commit that is checked out here, runs the command
+# What the README's second proved command takes from a fresh clone: clones the commit that is checked out here, runs the command
 # there, and prints when each crate was proved, in seconds by the clock since it began, and what the program printed.
 #
 #     compare/first_run.sh          on a machine with nothing else to do

@@ -30,7 +30,7 @@ fn main(rt: HostRuntime) -> ExitCode {
         Err(error) => jb_tool::refuse_words(error.kind(), &mut err),
     };
     if rt.stderr().is_terminal() {
-        err.advise();
+        let _ignored = err.advise();
     }
     ExitCode::from(status)
 }

@@ -1,15 +1,15 @@
 ghost use Rattle.std.specs.Prelude.{◌≡◌, [], IfOk, map, option_map, take};
 ghost use Rattle.std.specs.Io.{WritesAtMost};
 ghost use Rattle.std.specs.Io.KnownBytes.{WriteAppends};
-ghost use Rattle.jb_io.specs.Puts.{PutsPart};
+ghost use Rattle.jb_io.specs.Puts.{Puts};
 ghost use Rattle.jb_advice.specs.Advice.{found_in, second_line};
 ghost use Rattle.jb_advice.specs.Noted.{noted, noted_with};
 
 use crate::find::advice_of;
 use crate::table::ROWS;
 use arrayvec::ArrayVec;
-use jb_io::put_parts;
-use std::io::{Result, Write};
+use jb_io::{WriteFault, put, put_parts};
+use std::io::{self, Write};
 
 /// How many bytes are kept: more than a row of the table and its number have.
 const KEPT: usize = 64;
@@ -35,13 +35,16 @@ impl<W: Write> Noted<W> {
         }
     }
 
-    /// Writes what to do after the first line that was written: a line of its own, where the table has a row for that one. A
-    /// fault of the writer is ignored.
-    pub fn advise(&mut self)
-        ensures { PutsPart (W.contents (writer_of self.old)) (W.contents (writer_of self.new))
-            (second_line (found_in (map (λ row. (row.0.now, row.1.now)) ROWS.now) (noted self.old))) }
+    /// Writes what to do after the first line that was written: a line of its own, where the table has a row for that one, and
+    /// else nothing.
+    ///
+    /// # Errors
+    /// `WriteFault` where the writer took only the beginning of it.
+    pub fn advise(&mut self) -> Result<(), WriteFault>
+        ensures { Puts (W.contents (writer_of self.old)) (W.contents (writer_of self.new))
+            (second_line (found_in (map (λ row. (row.0.now, row.1.now)) ROWS.now) (noted self.old))) result }
     {
-        put_second_line(&mut self.writer, advice_of(self.kept.as_slice()));
+        put_second_line(&mut self.writer, advice_of(self.kept.as_slice()))
     }
 
     /// Keeps as many of these bytes as there is room for.
@@ -53,12 +56,13 @@ impl<W: Write> Noted<W> {
     }
 }
 
-/// Writes what is advised as a second line; a fault of the writer is ignored.
-fn put_second_line<W: Write>(writer: &mut W, advice: Option<&str>)
-    ensures { PutsPart (W.contents writer.old) (W.contents writer.new) (second_line (option_map (λ words. words.now) advice.entry)) }
+/// Writes what is advised as a second line.
+fn put_second_line<W: Write>(writer: &mut W, advice: Option<&str>) -> Result<(), WriteFault>
+    ensures { Puts (W.contents writer.old) (W.contents writer.new) (second_line (option_map (λ words. words.now) advice.entry)) result }
 {
-    if let Some(advice) = advice {
-        let _ignored = put_parts(writer, &["jb:  ", advice, "\n"]);
+    match advice {
+        Some(words) => put_parts(writer, &["jb:  ", words, "\n"]),
+        None => put(writer, b""),
     }
 }
 
@@ -67,7 +71,7 @@ impl<W: Write> Write for Noted<W> {
 
     ghost contents = { λ n. W.contents (writer_of n) };
 
-    fn write(&mut self, buf: &[u8]) -> Result<usize>
+    fn write(&mut self, buf: &[u8]) -> io::Result<usize>
         ensures bound { WritesAtMost result buf.now }
         ensures bytes { WriteAppends (W.contents (writer_of self.old)) (W.contents (writer_of self.new)) result buf.now }
         ensures noted { IfOk result (λ n. noted self.new ≡ noted_with (noted self.old) (take n buf.now)) }
@@ -77,7 +81,7 @@ impl<W: Write> Write for Noted<W> {
         Ok(n)
     }
 
-    fn flush(&mut self) -> Result<()> {
+    fn flush(&mut self) -> io::Result<()> {
         self.writer.flush()
     }
 }
