@@ -1,4 +1,5 @@
 pub mod Each
+pub mod FaultyCert
 pub mod ReadBack
 pub mod SpelledCert
 pub mod Undercutting

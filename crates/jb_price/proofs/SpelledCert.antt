@@ -70,11 +70,11 @@ price-shows w p is = from (bytes_eq w (codes "none")) (number_of w) refl refl is
         subst (λ q. (w ≡ price_text q) × PriceFits q) some (number-is_decimal w n number)
 
 -- what is read after a line's first word
-behind-case : {A : Type 0} (found : Option (List ℕ)) (f : List ℕ → Option A) (x : A) → option_and_then f found ≡ Some x → (text : List ℕ) × (found ≡ Some text) × (f text ≡ Some x)
+pub behind-case : {A : Type 0} (found : Option (List ℕ)) (f : List ℕ → Option A) (x : A) → option_and_then f found ≡ Some x → (text : List ℕ) × (found ≡ Some text) × (f text ≡ Some x)
 behind-case None f x is = cc
 behind-case (Some text) f x is = (text, refl, is)
 
-prices-are : (line : List ℕ) (prices : List (Option ℕ)) → prices_in line ≡ Some prices → (line ≡ first_line prices) × AllByRecursion PriceFits prices
+pub prices-are : (line : List ℕ) (prices : List (Option ℕ)) → prices_in line ≡ Some prices → (line ≡ first_line prices) × AllByRecursion PriceFits prices
 prices-are line prices is =
     let found = behind-case (behind_word (codes "prices ") line) (λ text. after_each price_of [] (words text)) prices is in
     let are = words-is price_of price_text PriceFits price-shows found.0 prices found.2 in
@@ -89,7 +89,7 @@ abbrev pub BoundsAre : List ℕ → Option (List ℕ) → Type 0
 BoundsAre text None = text ≡ codes "none"
 BoundsAre text (Some bounds) = (32 ∷ text ≡ spaced (map decimal bounds)) × (0 < length bounds) × AllByRecursion Fits64 bounds
 
-bounds-case : (text : List ℕ) (cut : Option (List ℕ)) (test : Bool) (read : Option (List ℕ)) → bytes_eq text (codes "none") ≡ test → after_each number_of [] (words text) ≡ read
+pub bounds-case : (text : List ℕ) (cut : Option (List ℕ)) (test : Bool) (read : Option (List ℕ)) → bytes_eq text (codes "none") ≡ test → after_each number_of [] (words text) ≡ read
     → ◌≡◌ {A = Option (Option (List ℕ))} (if test then Some None else option_map Some read) (Some cut) → BoundsAre text cut
 bounds-case text cut true read same is gives =
     let none : None ≡ cut = cc in
@@ -100,7 +100,7 @@ bounds-case text cut false (Some bounds) same is gives =
     let are = words-is number_of decimal Fits64 number-is_decimal text bounds is in
     subst (BoundsAre text) some (are.0, some-words number_of text bounds are.0, are.1)
 
-total-is : (line : List ℕ) (total : ℕ) → total_in line ≡ Some total → (line ≡ codes "total " ++ decimal total) × Fits64 total
+pub total-is : (line : List ℕ) (total : ℕ) → total_in line ≡ Some total → (line ≡ codes "total " ++ decimal total) × Fits64 total
 total-is line total is =
     let found = behind-case (behind_word (codes "total ") line) number_of total is in
     let number = number-is_decimal found.0 total found.2 in
@@ -164,7 +164,7 @@ prices-step line (next ∷ more) claim (Some prices) is gives =
     let are = prices-are line prices is in
     subst (λ bs. SayClaim (bs ∷ next ∷ more) claim) (sym are.0) (bounds-step prices next more claim (cut_in next) are.1 refl gives)
 
-claim-is : (all : List (List ℕ)) (claim : Claim) → claim_in all ≡ Ok claim → SayClaim all claim
+pub claim-is : (all : List (List ℕ)) (claim : Claim) → claim_in all ≡ Ok claim → SayClaim all claim
 claim-is [] claim gives = cc
 claim-is (line ∷ rest) claim gives = prices-step line rest claim (prices_in line) refl gives
 
@@ -189,7 +189,7 @@ lines-of : (prices : List (Option ℕ)) (cut : Option (List ℕ × ℕ)) → All
 lines-of prices None fit cut_fits = ((omega arith, first-clear prices fit), ((omega arith, literal-without 10 (codes "cut none") refl), tt))
 lines-of prices (Some cut) fit cut_fits = ((omega arith, first-clear prices fit), ((omega arith, second-clear cut.0 cut_fits.1), ((omega arith, third-clear cut.1 cut_fits.2), tt)))
 
-claim-from : (prices : List (Option ℕ)) (cut : Option (List ℕ × ℕ)) → 0 < length prices → AllByRecursion PriceFits prices → CutFits cut → claim_in (first_line prices ∷ cut_lines cut) ≡ Ok (record { prices = prices; cut = cut })
+pub claim-from : (prices : List (Option ℕ)) (cut : Option (List ℕ × ℕ)) → 0 < length prices → AllByRecursion PriceFits prices → CutFits cut → claim_in (first_line prices ∷ cut_lines cut) ≡ Ok (record { prices = prices; cut = cut })
 claim-from prices None some fit cut_fits = rw (prices-back prices some fit) refl
 claim-from prices (Some cut) some fit cut_fits = rw (prices-back prices some fit, bounds-back cut.0 cut_fits.0 cut_fits.1, total-back cut.1 cut_fits.2) refl
 

@@ -1,4 +1,5 @@
 pub mod Certificate
+pub mod Faults
 pub mod FirstUndercut
 pub mod ReadBack
 pub mod Claims

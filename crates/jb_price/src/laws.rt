@@ -1,10 +1,12 @@
 //! Laws over the definitions alone. Their functions do nothing: the law is the contract.
 
-ghost use Rattle.std.specs.Prelude.{◌≡◌, ◌↔◌, ◌+◌, ℕ, List, length, Ok};
+ghost use Rattle.std.specs.Prelude.{◌≡◌, ◌↔◌, ◌+◌, ℕ, List, length, Ok, Err};
 ghost use Rattle.jb_price.specs.declared.certificate.Cert.{Cert};
 ghost use Rattle.jb_price.specs.Certificate.{cert_text};
 ghost use Rattle.jb_price.specs.Claims.{Claim, read_of, claim_of};
 ghost use Rattle.jb_price.specs.Spelling.{SpellsClaim};
+ghost use Rattle.jb_price.specs.Faults.{FirstFault};
+ghost use Rattle.jb_price.specs.declared.fault.CertFault.{CertFault};
 ghost use Rattle.jb_price.specs.ReadBack.{HasText};
 ghost use Rattle.jb_price.specs.Verdict.{PlannedIsAccepted};
 
@@ -19,6 +21,13 @@ pub fn read_back()
 /// bounds and one of their total, or `cut none`; the last LF may be missing. Any other text has a fault.
 pub fn spelled()
     ensures { (handles : ℕ) (text : List ℕ) (claim : Claim) → (read_of handles text ≡ Ok claim) ↔ SpellsClaim handles text claim }
+{}
+
+/// The fault of a certificate's text is its first one by the grammar: the lines before it are of the form. It is line 1 that is
+/// no line of prices; line 2 that is neither `cut none` nor a line of bounds; line 3 that is no total, or that comes after `cut
+/// none`; a fourth line; or, of a text of the form, that there is not one price more than handles.
+pub fn first_fault()
+    ensures { (handles : ℕ) (text : List ℕ) (fault : CertFault) → (read_of handles text ≡ Err fault) ↔ FirstFault handles text fault }
 {}
 
 /// A least cut, or the answer that none fits, is accepted with prices that are least
