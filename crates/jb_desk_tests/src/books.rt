@@ -4,6 +4,7 @@ use jb_block::{BlockSize, Width};
 use jb_desk::{BeginFault, Book, EnqueueFault};
 use jb_handle::{Handle, Shape};
 use std::alloc::Global;
+use std::marker::Brand;
 use std::test::Fail;
 
 /// A call: a stop is of a handle with so many credits that revokes these home blocks.
@@ -87,7 +88,7 @@ const ROWS: [&[(Call, Answer)]; 3] = [
 
 fn stop(
     alloc: Global,
-    book: &mut Book,
+    book: &mut Book<Brand>,
     shape: Shape,
     seat: u64,
     credits: u32,
@@ -106,7 +107,7 @@ fn stop(
     }
 }
 
-fn ask(alloc: Global, book: &mut Book, shape: Shape, call: Call) -> Answer {
+fn ask(alloc: Global, book: &mut Book<Brand>, shape: Shape, call: Call) -> Answer {
     match call {
         Call::Open(seat, credits) => Answer::Begun(book.open(seat, credits)),
         Call::Stop(seat, credits, homes) => {
@@ -143,7 +144,7 @@ fn books_answer_as_worked_by_hand(rt: HostRuntime) -> Result<(), Fail> {
         width: Width::Narrow,
     };
     for calls in &ROWS {
-        let mut book = Book::new(rt.alloc(), shape, 32);
+        let mut book = Book::<Brand>::new(rt.alloc(), shape, 32);
         for &(call, wanted) in *calls {
             assert_eq!(rt; ask(rt.alloc(), &mut book, shape, call), wanted);
         }

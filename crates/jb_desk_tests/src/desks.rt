@@ -1,13 +1,14 @@
 //! Calls of a desk over the small journal, with the answers that its limits give by hand.
 ghost use Rattle.std.specs.Prelude.{◌≡◌, ◌+◌, ◌^◌};
 
+use crate::blind::Blind;
 use crate::journal::{
-    CLOCK, PARTS, SHAPE, Still, Why, close_twice, formatted, opened, refused, revoke, stop,
+    CLOCK, PARTS, SHAPE, Still, Why, close_twice, formatted, opened, over_at, refused, revoke, stop,
 };
 use jb_block::Memory;
 use jb_board::Front;
 use jb_deck::{Checked, CheckpointFault};
-use jb_desk::{BeginFault, Ended, Seat, SeatFault, WaitFault};
+use jb_desk::{BeginFault, Seat, SeatFault, WaitFault};
 use jb_disk::MemoryDisk;
 use jb_handle::Handle;
 use std::alloc::Global;
@@ -32,7 +33,7 @@ struct OneHandle {
     counts: Option<(u64, u64, usize)>,
 }
 
-fn one_handle<R: Wait, H: Ledger, N: Ledger>(
+fn one_handle<R: Wait, H: Blind, N: Ledger>(
     rt: &R,
     alloc: Global,
     desk: Small<H, N>,
@@ -83,12 +84,13 @@ fn one_handle<R: Wait, H: Ledger, N: Ledger>(
 struct StrayAnswers {
     busy: Option<BeginFault>,
     foreign: Result<u64, Why>,
-    ended: Ended,
+    /// how many handles were settled when the desk was over
+    over: Option<u64>,
     is_out: bool,
     counts: Option<(u64, u64, usize)>,
 }
 
-fn strays<R: Wait, H: Ledger, N: Ledger>(
+fn strays<R: Wait, H: Blind, N: Ledger>(
     rt: &R,
     alloc: Global,
     desk: Small<H, N>,
@@ -109,19 +111,19 @@ fn strays<R: Wait, H: Ledger, N: Ledger>(
     let (seat, foreign) = stop(rt, &desk, handle);
     lefts.push_reserved(desk.leave(rt, seat));
     desk.shut(rt);
-    let ended = desk.run_checkpointer(rt);
+    let over = over_at(desk.run_checkpointer(rt));
     let (is_out, counts) = close_twice(desk, lefts, first);
     Ok(Some(StrayAnswers {
         busy,
         foreign,
-        ended,
+        over,
         is_out,
         counts,
     }))
 }
 
 /// Begins a handle, takes it apart, and begins another one.
-fn end_at_once<R: Wait, H: Ledger, N: Ledger>(
+fn end_at_once<R: Wait, H: Blind, N: Ledger>(
     rt: &R,
     desk: &Small<H, N>,
     seat: Seat<H, N>,
@@ -136,7 +138,7 @@ fn end_at_once<R: Wait, H: Ledger, N: Ledger>(
 }
 
 /// With so many handles of 6 credits open, whether one of 3 is begun, and one of 2.
-fn beside<R: Wait, H: Ledger, N: Ledger>(
+fn beside<R: Wait, H: Blind, N: Ledger>(
     rt: &R,
     desk: &Small<H, N>,
     count: u32,
@@ -162,7 +164,7 @@ fn beside<R: Wait, H: Ledger, N: Ledger>(
 }
 
 /// What three new desks answer.
-fn rows<R: Wait, H: Ledger, N: Ledger>(
+fn rows<R: Wait, H: Blind, N: Ledger>(
     rt: &R,
     alloc: Global,
     row: Row,
@@ -226,7 +228,7 @@ const ROWS: [(Row, Answer); 3] = [
         Answer::Strays(StrayAnswers {
             busy: Some(BeginFault::Busy),
             foreign: Err(Why::NotOpen),
-            ended: Ended::Shut,
+            over: Some(0),
             is_out: true,
             counts: Some((0, 0, 0)),
         }),

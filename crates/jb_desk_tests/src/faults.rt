@@ -1,6 +1,7 @@
 //! A round over a disk that fails once, at each of its calls.
 ghost use Rattle.std.specs.Prelude.{◌≡◌, ◌+◌, ◌^◌};
 
+use crate::blind::Blind;
 use crate::journal::{
     CLOCK, Came, PARTS, Still, Why, formatted, opened, refused, retired, round, stop, write,
 };
@@ -73,7 +74,7 @@ fn is_whole(alloc: Global, disk: MemoryDisk) -> bool {
     }
 }
 
-fn after_round<R: Wait, H: Ledger, N: Ledger>(
+fn after_round<R: Wait, H: Blind, N: Ledger>(
     rt: &R,
     alloc: Global,
     desk: Failing<H, N>,
@@ -127,7 +128,7 @@ fn after_round<R: Wait, H: Ledger, N: Ledger>(
 }
 
 /// What is found where this call of the disk fails; `None` where the journal cannot be opened then.
-fn failing<R: Wait, H: Ledger, N: Ledger>(
+fn failing<R: Wait, H: Blind, N: Ledger>(
     rt: &R,
     alloc: Global,
     call: u64,

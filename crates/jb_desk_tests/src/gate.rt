@@ -2,6 +2,7 @@
 ghost use Rattle.std.specs.Prelude.{◌≡◌, ◌+◌, ◌^◌};
 ghost use Rattle.jb_disk.specs.Faults.{CountsFault, counted};
 
+use crate::blind::Blind;
 use crate::journal::{
     CLOCK, Came, PARTS, Still, Why, formatted, opened, retired, round, stop, write,
 };
@@ -128,7 +129,7 @@ struct Found {
     numbers: (Result<u32, WaitFault>, Result<u32, WaitFault>),
 }
 
-fn first<K: Wait + Clock, D: Disk, H: Ledger, N: Ledger>(
+fn first<K: Wait + Clock, D: Disk, H: Blind, N: Ledger>(
     rt: &K,
     desk: &Still<D, H, N>,
     gate: &Gate,
@@ -148,7 +149,7 @@ fn first<K: Wait + Clock, D: Disk, H: Ledger, N: Ledger>(
     Some((desk.leave(rt, seat), Found { rounds, numbers }))
 }
 
-fn second<K: Wait + Clock, D: Disk, H: Ledger, N: Ledger>(
+fn second<K: Wait + Clock, D: Disk, H: Blind, N: Ledger>(
     rt: &K,
     desk: &Still<D, H, N>,
     gate: &Gate,
@@ -180,7 +181,7 @@ struct Answer {
     counts: Option<(u64, u64, usize)>,
 }
 
-fn gated<R: Threads + Wait + Clock + Sync, H: Ledger + Send + Sync, N: Ledger + Send + Sync>(
+fn gated<R: Threads + Wait + Clock + Sync, H: Blind + Send + Sync, N: Ledger + Send + Sync>(
     rt: &R,
     alloc: Global,
     gate: &Gate,

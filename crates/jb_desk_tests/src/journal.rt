@@ -5,9 +5,12 @@ ghost use Rattle.jb_desk.specs.Desks.{desk_id};
 ghost use Rattle.jb_desk.specs.Rounds.{seat_of};
 ghost use Rattle.jb_desk.specs.Seats.{desk_of};
 
+use crate::blind::Blind;
 use jb_block::{BlockSize, Memory, Width, put32};
 use jb_deck::{Deck, Entry};
-use jb_desk::{BeginFault, CloseFault, Committer, Desk, Left, Round, RoundFault, Seat, StopFault};
+use jb_desk::{
+    BeginFault, CloseFault, Committer, Desk, Ended, Left, Round, RoundFault, Seat, StopFault,
+};
 use jb_disk::{Disk, FixedClock, MemoryDisk};
 use jb_group::Stamp;
 use jb_handle::{Handle, Shape};
@@ -79,7 +82,7 @@ pub enum Why {
 }
 
 /// Begins a handle and drops it; says why that was refused.
-pub fn refused<R: Wait, D: Disk, H: Ledger, N: Ledger>(
+pub fn refused<R: Wait, D: Disk, H: Blind, N: Ledger>(
     rt: &R,
     desk: &Still<D, H, N>,
     seat: Seat<H, N>,
@@ -94,7 +97,7 @@ pub fn refused<R: Wait, D: Disk, H: Ledger, N: Ledger>(
 }
 
 /// Stops a handle, or drops it where that is refused.
-pub fn stop<R: Wait, D: Disk, H: Ledger, N: Ledger>(
+pub fn stop<R: Wait, D: Disk, H: Blind, N: Ledger>(
     rt: &R,
     desk: &Still<D, H, N>,
     handle: Handle<Seat<H, N>>,
@@ -111,7 +114,7 @@ pub fn stop<R: Wait, D: Disk, H: Ledger, N: Ledger>(
 }
 
 /// Begins a handle, revokes a home block and stops it.
-pub fn revoke<R: Wait, D: Disk, H: Ledger, N: Ledger>(
+pub fn revoke<R: Wait, D: Disk, H: Blind, N: Ledger>(
     rt: &R,
     desk: &Still<D, H, N>,
     seat: Seat<H, N>,
@@ -130,7 +133,7 @@ pub fn revoke<R: Wait, D: Disk, H: Ledger, N: Ledger>(
 }
 
 /// Begins a handle of so many credits, writes home blocks and stops it.
-pub fn write<R: Wait, D: Disk, H: Ledger, N: Ledger>(
+pub fn write<R: Wait, D: Disk, H: Blind, N: Ledger>(
     rt: &R,
     desk: &Still<D, H, N>,
     seat: Seat<H, N>,
@@ -160,6 +163,14 @@ pub fn written<H: Ledger, N: Ledger>(
     handle
 }
 
+/// How many handles were settled when the desk was over, where a thread ended for that.
+pub fn over_at(ended: Ended) -> Option<u64> {
+    match ended {
+        Ended::Shut(over) => Some(over.settled()),
+        _ => None,
+    }
+}
+
 /// What a round came to: of a batch that was committed the first group, and how many there were.
 #[derive(Clone, Copy, Debug, PartialEq)]
 pub enum Came {
@@ -169,7 +180,7 @@ pub enum Came {
 }
 
 /// One round of a committer.
-pub fn round<R: Wait, D: Disk, H: Ledger, N: Ledger>(
+pub fn round<R: Wait, D: Disk, H: Blind, N: Ledger>(
     rt: &R,
     desk: &Still<D, H, N>,
     committer: &mut Committer<H, N>,
@@ -188,7 +199,7 @@ pub fn round<R: Wait, D: Disk, H: Ledger, N: Ledger>(
 }
 
 /// A committer retires, or gives up where it is handed back. Says whether it retired.
-pub fn retired<R: Wait, D: Disk, H: Ledger, N: Ledger>(
+pub fn retired<R: Wait, D: Disk, H: Blind, N: Ledger>(
     rt: &R,
     desk: &Still<D, H, N>,
     committer: Committer<H, N>,
@@ -202,7 +213,7 @@ pub fn retired<R: Wait, D: Disk, H: Ledger, N: Ledger>(
 }
 
 /// Closes a desk with what the last seat left; gives the handles and changes that are counted and the groups.
-pub fn close<D: Disk + Drop, H: Ledger, N: Ledger>(
+pub fn close<D: Disk + Drop, H: Blind, N: Ledger>(
     desk: Still<D, H, N>,
     lefts: Vec<Left<H, N>>,
     last: Left<H, N>,
@@ -216,7 +227,7 @@ pub fn close<D: Disk + Drop, H: Ledger, N: Ledger>(
 }
 
 /// Whether closing a desk is refused for seats that are out, and what is counted once the last one has left.
-pub fn close_twice<D: Disk + Drop, H: Ledger, N: Ledger>(
+pub fn close_twice<D: Disk + Drop, H: Blind, N: Ledger>(
     desk: Still<D, H, N>,
     lefts: Vec<Left<H, N>>,
     last: Left<H, N>,

@@ -2,6 +2,7 @@
 //! call, and the image that a crash leaves is recovered.
 ghost use Rattle.std.specs.Prelude.{◌≡◌, ◌+◌, ◌^◌};
 
+use crate::blind::Blind;
 use crate::homes::{Stop, contents_of, prefix_of};
 use crate::journal::{CLOCK, PARTS, Still, opened};
 use crate::keys::{Draws, HOMES};
@@ -103,7 +104,7 @@ fn sums_of<H: Ledger, N: Ledger>(
 }
 
 /// A load of a new desk. `None` where the journal could not be opened.
-fn outcome_of<R: Threads + Wait + Clock + Sync, H: Ledger + Send + Sync, N: Ledger + Send + Sync>(
+fn outcome_of<R: Threads + Wait + Clock + Sync, H: Blind + Send + Sync, N: Ledger + Send + Sync>(
     rt: &R,
     alloc: Global,
     load: Load,
@@ -187,7 +188,7 @@ fn choice(draws: &mut Draws) -> [u32; 128] {
 /// Whether the homes hold what the stops leave, all of them or, where the disk stopped, a first part of them with all
 /// that are settled, after a crash and a recovery.
 fn is_right(alloc: Global, draws: &mut Draws, outcome: Outcome) -> Result<bool, Fail> {
-    let is_whole = outcome.ended == (Ended::Shut, Ended::Shut);
+    let is_whole = outcome.ended.0.is_shut() && outcome.ended.1.is_shut();
     let settled = settled(&outcome.trail);
     let mut disk = outcome.disk;
     if !is_whole {
@@ -236,7 +237,7 @@ fn homes_are_those_of_the_tickets_in_order(rt: HostRuntime) -> Result<(), Fail> 
             Blank::new(PARTS),
         )?;
         if let Some(outcome) = outcome {
-            let is_whole = outcome.ended == (Ended::Shut, Ended::Shut);
+            let is_whole = outcome.ended.0.is_shut() && outcome.ended.1.is_shut();
             assert!(rt; is_whole || load.calls < ALL, "{seed}");
             let is_right = is_right(alloc, &mut draws, outcome)?;
             assert!(rt; is_right, "{seed}");

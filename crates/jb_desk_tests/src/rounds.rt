@@ -1,14 +1,15 @@
 //! Rounds of a committer over the small journal, with the answers that its limits give by hand.
 ghost use Rattle.std.specs.Prelude.{◌≡◌, ◌+◌, ◌^◌};
 
+use crate::blind::Blind;
 use crate::journal::{
-    CLOCK, Came, PARTS, Still, Why, close_twice, formatted, numbered, opened, refused, retired,
-    round, write,
+    CLOCK, Came, PARTS, Still, Why, close_twice, formatted, numbered, opened, over_at, refused,
+    retired, round, write,
 };
 use jb_block::Memory;
 use jb_board::Front;
 use jb_deck::{Checked, CheckpointFault, Entry};
-use jb_desk::{BeginFault, Ended, RoundFault, WaitFault};
+use jb_desk::{BeginFault, RoundFault, WaitFault};
 use jb_disk::MemoryDisk;
 use std::alloc::Global;
 use std::marker::Brand;
@@ -32,11 +33,12 @@ struct OneRound {
     ),
     numbers: (Result<u32, WaitFault>, Result<u32, WaitFault>),
     begun: Option<BeginFault>,
-    ended: Ended,
+    /// how many handles were settled when the desk was over
+    over: Option<u64>,
     counts: Option<(u64, u64, usize)>,
 }
 
-fn one_round<R: Wait, H: Ledger, N: Ledger>(
+fn one_round<R: Wait, H: Blind, N: Ledger>(
     rt: &R,
     alloc: Global,
     desk: Small<H, N>,
@@ -78,7 +80,7 @@ fn one_round<R: Wait, H: Ledger, N: Ledger>(
         checked,
         numbers,
         begun,
-        ended,
+        over: over_at(ended),
         counts,
     }))
 }
@@ -94,7 +96,7 @@ struct NoNumber {
     closed: (bool, Option<(u64, u64, usize)>),
 }
 
-fn no_number<R: Wait, H: Ledger, N: Ledger>(
+fn no_number<R: Wait, H: Blind, N: Ledger>(
     rt: &R,
     alloc: Global,
     desk: Small<H, N>,
@@ -128,7 +130,7 @@ fn no_number<R: Wait, H: Ledger, N: Ledger>(
 }
 
 /// What two new desks answer: the first over a new journal, the second over one with one number left.
-fn rows<R: Wait, H: Ledger, N: Ledger>(
+fn rows<R: Wait, H: Blind, N: Ledger>(
     rt: &R,
     alloc: Global,
     is_last: bool,
@@ -201,7 +203,7 @@ const ROWS: [(bool, Answer); 2] = [
             ),
             numbers: (Ok(2), Err(WaitFault::Unknown)),
             begun: Some(BeginFault::Closed),
-            ended: Ended::Shut,
+            over: Some(1),
             counts: Some((1, 1, 1)),
         }),
     ),

@@ -5,6 +5,7 @@ ghost use Rattle.jb_desk.specs.Desks.{desk_id};
 ghost use Rattle.jb_desk.specs.Seats.{desk_of};
 ghost use Rattle.jb_handle.specs.Handle.{holder};
 
+use crate::blind::Blind;
 use crate::homes::Stop;
 use crate::journal::{Still, Why, retired, stop};
 use crate::keys::{CHANGES, Change, Draws, block_of, changes_of};
@@ -115,7 +116,7 @@ fn change_all<H: Ledger, N: Ledger>(
 }
 
 /// Stops a handle. A stop that is out of memory is called again.
-fn stop_again<R: Wait, D: Disk, H: Ledger, N: Ledger>(
+fn stop_again<R: Wait, D: Disk, H: Blind, N: Ledger>(
     rt: &R,
     desk: &Still<D, H, N>,
     handle: Handle<Seat<H, N>>,
@@ -132,7 +133,7 @@ fn stop_again<R: Wait, D: Disk, H: Ledger, N: Ledger>(
 }
 
 /// Waits for the last ticket that a thread was given.
-fn wait_for_last<R: Wait, D: Disk, H: Ledger, N: Ledger>(
+fn wait_for_last<R: Wait, D: Disk, H: Blind, N: Ledger>(
     rt: &R,
     desk: &Still<D, H, N>,
     seat: &mut Seat<H, N>,
@@ -149,7 +150,7 @@ fn wait_for_last<R: Wait, D: Disk, H: Ledger, N: Ledger>(
 
 /// Begins a handle and stops it, or drops it; says whether one was begun. Where the journal is full, or
 /// where there is no memory, it waits for a tenth of a millisecond.
-fn once<R: Wait + Clock, D: Disk, H: Ledger, N: Ledger>(
+fn once<R: Wait + Clock, D: Disk, H: Blind, N: Ledger>(
     rt: &R,
     desk: &Still<D, H, N>,
     seat: Seat<H, N>,
@@ -189,7 +190,7 @@ fn once<R: Wait + Clock, D: Disk, H: Ledger, N: Ledger>(
 }
 
 /// Takes a seat, begins so many handles, and leaves after the last one is settled.
-fn work<R: Wait + Clock, D: Disk, H: Ledger, N: Ledger>(
+fn work<R: Wait + Clock, D: Disk, H: Blind, N: Ledger>(
     rt: &R,
     alloc: Global,
     desk: &Still<D, H, N>,
@@ -220,7 +221,7 @@ fn work<R: Wait + Clock, D: Disk, H: Ledger, N: Ledger>(
 
 /// Commits until the desk is shut; where a round is out of memory, the next one takes its batch up. Gives what its seat
 /// left, and how it ended.
-fn commit<R: Wait, D: Disk, H: Ledger, N: Ledger>(
+fn commit<R: Wait, D: Disk, H: Blind, N: Ledger>(
     rt: &R,
     desk: &Still<D, H, N>,
 ) -> Option<(Left<H, N>, Ended)> {
@@ -249,7 +250,7 @@ pub struct Reports<H: Ledger, N: Ledger> {
 pub fn work_all<
     R: Threads + Wait + Clock + Sync,
     D: Disk + Send,
-    H: Ledger + Send + Sync,
+    H: Blind + Send + Sync,
     N: Ledger + Send + Sync,
 >(rt: &R, alloc: Global, desk: &Still<D, H, N>, seed: u64, handles: u32) -> Option<Reports<H, N>> {
     let (reports, (committed, checkpointed)) = thread::join(

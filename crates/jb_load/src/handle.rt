@@ -78,6 +78,7 @@ fn stop<D: Disk, C: Clock, R: Wait, H: Origin, N: Ledger>(
     handle: Handle<Seat<H, N>>,
 ) -> (Seat<H, N>, Result<u64, HandleFault>)
     requires desk { desk_of (holder handle) ≡ desk_id desk.now }
+    requires words { H.begun.stops (changes_of handle).words }
     ensures desk { desk_of result.0 ≡ desk_id desk.now }
     ensures ticket { IfOk result.1 (λ ticket. (view_of result.0).stopped ≡ max (view_of (holder handle)).stopped (ticket + 1)) }
     ensures stopped { IfOk result.1 (λ _. (stops result.0 ≡ stops (holder handle) + 1) × (changes result.0 ≡ changes (holder handle) + touched (changes_of handle))) }

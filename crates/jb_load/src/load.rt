@@ -3,10 +3,12 @@ ghost use Rattle.std.specs.List.{All};
 ghost use Rattle.jb_batch.specs.Costs.{geometry_of};
 ghost use Rattle.jb_desk.specs.Desks.{shape_in};
 ghost use Rattle.jb_deck.specs.Done.{Follow};
-ghost use Rattle.jb_load.specs.Loads.{AnswersLoad, Counts, EndsCheckpoint, Loads};
+ghost use Rattle.jb_load.specs.Loads.{AnswersLoad, Counts, EndsCheckpoint, IsOpened, Loads, NotOpened};
 ghost use Rattle.jb_load.specs.Runs.{touching};
 ghost use Rattle.jb_load.specs.Settled.{LoadedSince, MayStop};
-ghost use Rattle.jb_desk.specs.Since.{IsBegunOn};
+ghost use Rattle.jb_desk.specs.Since.{IsBegunOn, IsSince};
+ghost use Rattle.jb_deck.specs.Deck.{IsShapeOf};
+ghost use Rattle.jb_handle.specs.declared.shape.Shape.{Shape as ShapeValue};
 ghost use Rattle.jb_load.specs.declared.worker.Stop.{Stop as StopValue};
 ghost use Rattle.jb_load.specs.declared.fault.LoadFault.TheVariants.{Accounts, Memory as OutOfMemory};
 
@@ -18,7 +20,7 @@ use crate::options::LoadOptions;
 use crate::running::run;
 use crate::worker::Stop;
 use jb_cost::Geometry;
-use jb_deck::Deck;
+use jb_deck::{Deck, OpenFault};
 use jb_desk::{Closed, Desk, Origin};
 use jb_disk::{Clock, Disk};
 use jb_handle::{Shape, Stopped};
@@ -68,15 +70,28 @@ pub fn load_on<
     if queue.bs.bytes() != disk.block_size().bytes() {
         return Err(LoadFault::BlockSize);
     }
-    let deck = match Deck::open(alloc, disk) {
+    let deck = match open::<D, H>(alloc, disk) {
         Ok(deck) => deck,
-        Err((_, fault)) => return Err(LoadFault::Open(fault)),
+        Err(fault) => return Err(LoadFault::Open(fault)),
     };
     let shape = deck.shape();
     let Ok(desk) = Desk::<D, C, H, N>::start(alloc, handles, changes, deck, clock) else {
         return Err(LoadFault::Memory);
     };
     load_at(rt, alloc, desk, shape, &queue.handles, options)
+}
+
+/// Opens the journal on the disk of the start.
+fn open<D: Disk + Drop, H: Origin>(alloc: Global, disk: D) -> Result<Deck<D>, OpenFault>
+    requires { IsBegunOn D.size D.count D.faults D.honest D.newest D.moment D.left_since H.begun disk }
+    ensures opened { IfOk result (λ deck. (shape : ShapeValue) → IsShapeOf deck.log.sb (D.count deck.disk) shape → IsOpened D.size D.count D.faults D.honest D.newest disk shape) }
+    ensures since { IfOk result (λ deck. IsSince D.size D.count D.faults D.honest D.newest D.may_leave D.moment D.left_since H.begun deck) }
+    ensures refused { IfErr result (NotOpened D.size D.count D.faults D.honest D.newest disk) }
+{
+    match Deck::open(alloc, disk) {
+        Ok(deck) => Ok(deck),
+        Err((_, fault)) => Err(fault),
+    }
 }
 
 /// Runs the handles of a queue at a new desk, and closes it.

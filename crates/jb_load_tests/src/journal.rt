@@ -56,7 +56,7 @@ pub fn load<D: Disk + Drop + Send, R: Threads + Wait + Clock + Sync>(
 ) -> Result<Result<Loaded, LoadFault>, Fail> {
     let queue = read_queue(alloc, text.as_bytes())?;
     let threads = options.threads.clamp(1, 64);
-    Ok(load_on::<D, FixedClock, R, Brand, Brand>(
+    let answer = load_on::<D, FixedClock, R, Brand, Brand>(
         rt,
         alloc,
         disk,
@@ -65,7 +65,8 @@ pub fn load<D: Disk + Drop + Send, R: Threads + Wait + Clock + Sync>(
         LoadOptions { threads, ..options },
         Blank::new(PARTS),
         Blank::new(PARTS),
-    ))
+    );
+    Ok(answer.map(|(loaded, _)| loaded))
 }
 
 /// Loads a queue text into a journal that is given back.

@@ -2,8 +2,7 @@
 //! order of the handles.
 
 use crate::journal::{HOMES, formatted, load_lent, load_slowly, recovered};
-use jb_desk::Ended;
-use jb_load::{HandleFault, LoadOptions, Loaded};
+use jb_load::{HandleFault, LoadOptions, Loaded, Refused};
 use std::alloc::Global;
 use std::fmt::Write;
 use std::test::Fail;
@@ -19,8 +18,8 @@ fn is_whole(loaded: &Loaded) -> bool {
         && (1..=4).contains(&loaded.groups)
         && (9..=17).contains(&loaded.blocks)
         && loaded.refused.is_none()
-        && loaded.commit == Ended::Shut
-        && loaded.checkpoint == Ended::Shut
+        && loaded.commit.is_shut()
+        && loaded.checkpoint.is_none_or(|ended| ended.is_shut())
 }
 
 /// Whether the homes are those of the four handles in some order, or in their own.
