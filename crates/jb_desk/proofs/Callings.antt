@@ -27,7 +27,8 @@ use Rattle.jb_desk.proofs.Grouped.{started, more-stops, groups-in, cut-few, vec_
 -- ---- what is known between two calls
 
 -- the events, and how the calls tell the stops and the groups
-record Stands (calls : List Call) (a : Account) : Type 0 where
+record Stands (shape : Shape) (calls : List Call) (a : Account) : Type 0 where
+  same_shape : a.shape ≡ shape
   sound : IsSound a
   log : Log
   machine : Machine
@@ -47,7 +48,7 @@ all-of a log m t running =
     ∙ ap (λ (s : Shadow). settled_now m ++ (joined m.taken ++ s.queue)) (sym is.shadow)
     ∙ (whole a.shape log m t.ran).up is.up
 
-module _ (calls : List Call) (a : Account) (s : Stands calls a) where
+module _ (shape : Shape) (calls : List Call) (a : Account) (s : Stands shape calls a) where
   handles-all : a.aborted ≡ false → joined (settled_of calls) ++ (joined (out_of calls) ++ a.shadow.queue) ≡ stops_of calls
   handles-all running =
       ap (λ gs. joined gs ++ (joined (out_of calls) ++ a.shadow.queue)) (sym s.settled)
@@ -67,8 +68,9 @@ module _ (calls : List Call) (a : Account) (s : Stands calls a) where
 
   -- ---- each call
 
-  call-opened : (seat credits : ℕ) → refusal a seat credits ≡ None → Stands (Opened seat credits (Ok tt) ∷ calls) (granted_to seat credits a)
+  call-opened : (seat credits : ℕ) → refusal a seat credits ≡ None → Stands shape (Opened seat credits (Ok tt) ∷ calls) (granted_to seat credits a)
   call-opened seat credits none = record {
+    same_shape = s.same_shape;
     sound = begun-sound a s.sound seat credits none;
     log = (event.Open seat credits, Ok Plain) ∷ s.log;
     machine = after s.machine (event.Open seat credits);
@@ -81,7 +83,7 @@ module _ (calls : List Call) (a : Account) (s : Stands calls a) where
     trail = s.trail;
   }
 
-  call-stopped : (seat : ℕ) (ws : WordMap) (ticket : ℕ) → CanStop a seat ws → ticket ≡ a.shadow.next → Stands (Enqueued seat ws (Ok ticket) ∷ calls) (queued seat ws a)
+  call-stopped : (seat : ℕ) (ws : WordMap) (ticket : ℕ) → CanStop a seat ws → ticket ≡ a.shadow.next → Stands shape (Enqueued seat ws (Ok ticket) ∷ calls) (queued seat ws a)
   call-stopped seat ws ticket can is =
       let (n, tied, settled, taken) = tied-stops a s.log s.machine s.tied seat ws can in
       let one : Stopped = record { ticket = ticket; words = ws } in
@@ -90,6 +92,7 @@ module _ (calls : List Call) (a : Account) (s : Stands calls a) where
       let longer = length-append (stops_of calls) (record { ticket = ticket; words = ws } ∷ []) in
       let follow = s.sound.trail in
       record {
+        same_shape = s.same_shape;
         sound = queued-sound a s.sound seat can.1.0 ws can.0 can.1.1;
         log = (event.Stop seat, Ok (Ticket a.shadow.next)) ∷ touches_of seat ws ++ s.log;
         machine = n;
@@ -108,11 +111,12 @@ module _ (calls : List Call) (a : Account) (s : Stands calls a) where
         trail = s.trail ∙ sym (more-stops 0 0 a.shadow.settled (stops_of calls) (record { ticket = ticket; words = ws } ∷ []) a.trail follow few-stops);
       }
 
-  call-dropped : (seat : ℕ) → Stands (Dropped seat ∷ calls) (dropped_of seat a)
+  call-dropped : (seat : ℕ) → Stands shape (Dropped seat ∷ calls) (dropped_of seat a)
   call-dropped seat = at a.aborted refl (credits_at a.shadow seat) refl
     where
-      idle : (a.aborted ≡ true) ⊎ (credits_at a.shadow seat ≡ None) → Stands (Dropped seat ∷ calls) (dropped_of seat a)
+      idle : (a.aborted ≡ true) ⊎ (credits_at a.shadow seat ≡ None) → Stands shape (Dropped seat ∷ calls) (dropped_of seat a)
       idle why = record {
+        same_shape = s.same_shape;
         sound = dropped-sound a s.sound seat;
         log = s.log;
         machine = s.machine;
@@ -125,10 +129,11 @@ module _ (calls : List Call) (a : Account) (s : Stands calls a) where
         trail = s.trail;
       }
 
-      at : (b : Bool) → a.aborted ≡ b → (found : Option ℕ) → credits_at a.shadow seat ≡ found → Stands (Dropped seat ∷ calls) (dropped_of seat a)
+      at : (b : Bool) → a.aborted ≡ b → (found : Option ℕ) → credits_at a.shadow seat ≡ found → Stands shape (Dropped seat ∷ calls) (dropped_of seat a)
       at true fell found is = idle (inl fell)
       at false running None is = idle (inr is)
       at false running (Some credits) is = record {
+        same_shape = s.same_shape;
         sound = dropped-sound a s.sound seat;
         log = (event.Abandon seat, Ok Plain) ∷ s.log;
         machine = after s.machine (event.Abandon seat);
@@ -141,13 +146,14 @@ module _ (calls : List Call) (a : Account) (s : Stands calls a) where
         trail = s.trail;
       }
 
-  call-took : Vec Entry → (cut : List ℕ) → CanTake a → IsCutOf (gathered a.shadow.taken a.shadow.queue a.shape) cut → Stands (Took (gathered a.shadow.taken a.shadow.queue a.shape) cut ∷ calls) (taken_all a)
+  call-took : Vec Entry → (cut : List ℕ) → CanTake a → IsCutOf (gathered a.shadow.taken a.shadow.queue a.shape) cut → Stands shape (Took (gathered a.shadow.taken a.shadow.queue a.shape) cut ∷ calls) (taken_all a)
   call-took any cut can least =
       let few = cut-few (length a.shadow.queue) cut least.fitting.cut in
       let line = (s.sound.running can.running).queued in
       let tickets = s.sound.tickets in
       let bounds = vec_of any cut (omega (arith, few, line, tickets)) in
       record {
+        same_shape = s.same_shape;
         sound = taken-sound a s.sound can;
         log = (event.Take bounds, Ok Plain) ∷ s.log;
         machine = after s.machine (event.Take bounds);
@@ -160,13 +166,14 @@ module _ (calls : List Call) (a : Account) (s : Stands calls a) where
         trail = s.trail;
       }
 
-  call-settled : (past : ℕ) (entries : List Entry) → Settles a past entries → AreOfFirst (out_of calls) entries → Stands (Settled entries (Ok tt) ∷ calls) (settled_to past entries a)
+  call-settled : (past : ℕ) (entries : List Entry) → Settles a past entries → AreOfFirst (out_of calls) entries → Stands shape (Settled entries (Ok tt) ∷ calls) (settled_to past entries a)
   call-settled past entries is are = at a.aborted refl
     where
-      at : (b : Bool) → a.aborted ≡ b → Stands (Settled entries (Ok tt) ∷ calls) (settled_to past entries a)
+      at : (b : Bool) → a.aborted ≡ b → Stands shape (Settled entries (Ok tt) ∷ calls) (settled_to past entries a)
       at true fell =
           let (none, tied) = tied-settles-none a s.log s.machine s.tied s.sound fell past entries is in
           record {
+            same_shape = s.same_shape;
             sound = settled-sound a s.sound past entries is;
             log = s.log;
             machine = s.machine;
@@ -182,6 +189,7 @@ module _ (calls : List Call) (a : Account) (s : Stands calls a) where
       at false running =
           let new = groups-in a.shadow.settled _ past (joined (settled_of calls)) (out_of calls) a.shadow.queue entries (settled-handles running) is.follow are in
           record {
+            same_shape = s.same_shape;
             sound = settled-sound a s.sound past entries is;
             log = (event.Settle (length entries), Ok Plain) ∷ s.log;
             machine = after s.machine (event.Settle (length entries));
@@ -196,11 +204,12 @@ module _ (calls : List Call) (a : Account) (s : Stands calls a) where
                 ∙ sym (map-append (handles_in (stops_of calls)) a.trail entries);
           }
 
-  call-failed : Stands (Failed ∷ calls) (failed_of a)
+  call-failed : Stands shape (Failed ∷ calls) (failed_of a)
   call-failed = at a.aborted refl
     where
-      at : (b : Bool) → a.aborted ≡ b → Stands (Failed ∷ calls) (failed_of a)
+      at : (b : Bool) → a.aborted ≡ b → Stands shape (Failed ∷ calls) (failed_of a)
       at true fell = record {
+        same_shape = s.same_shape;
         sound = failed-sound a s.sound;
         log = s.log;
         machine = s.machine;
@@ -213,6 +222,7 @@ module _ (calls : List Call) (a : Account) (s : Stands calls a) where
         trail = s.trail;
       }
       at false running = record {
+        same_shape = s.same_shape;
         sound = failed-sound a s.sound;
         log = (event.Crash 0, Ok Plain) ∷ s.log;
         machine = after s.machine (event.Crash 0);
@@ -226,8 +236,9 @@ module _ (calls : List Call) (a : Account) (s : Stands calls a) where
       }
 
   -- a call that answers a refusal, or that only shuts the book
-  call-shut : Stands (Shut ∷ calls) (record a { shut = true })
+  call-shut : Stands shape (Shut ∷ calls) (record a { shut = true })
   call-shut = record {
+    same_shape = s.same_shape;
     sound = shut-sound a s.sound;
     log = s.log;
     machine = s.machine;
@@ -240,8 +251,9 @@ module _ (calls : List Call) (a : Account) (s : Stands calls a) where
     trail = s.trail;
   }
 
-  call-idle : (last : Call) → stops_of (last ∷ calls) ≡ stops_of calls → settled_of (last ∷ calls) ≡ settled_of calls → out_of (last ∷ calls) ≡ out_of calls → Stands (last ∷ calls) a
+  call-idle : (last : Call) → stops_of (last ∷ calls) ≡ stops_of calls → settled_of (last ∷ calls) ≡ settled_of calls → out_of (last ∷ calls) ≡ out_of calls → Stands shape (last ∷ calls) a
   call-idle last same settled out = record {
+    same_shape = s.same_shape;
     sound = s.sound;
     log = s.log;
     machine = s.machine;
@@ -256,10 +268,10 @@ module _ (calls : List Call) (a : Account) (s : Stands calls a) where
 
   -- ---- what is promised
 
-  keeps-whole : KeepsWhole calls a
+  keeps-whole : KeepsWhole shape calls a
   keeps-whole =
       let (rest, first) = left a.aborted refl in
-      record { numbered = s.numbered; counted = s.counted; running = handles-all; rest = rest; first = first; trail = s.trail }
+      record { same_shape = s.same_shape; numbered = s.numbered; counted = s.counted; running = handles-all; rest = rest; first = first; trail = s.trail }
     where
       left : (b : Bool) → a.aborted ≡ b → (rest : List Stopped) × (joined (settled_of calls) ++ rest ≡ stops_of calls)
       left false running = (joined (out_of calls) ++ a.shadow.queue, handles-all running)
@@ -269,25 +281,26 @@ module _ (calls : List Call) (a : Account) (s : Stands calls a) where
 
 -- ---- any list of calls
 
-step : Vec Entry → (last : Call) (calls : List Call) (old new : Account) → Stands calls old → Does last calls old new → Stands (last ∷ calls) new
-step any (Opened seat credits (Ok unit)) calls old new s does = subst (Stands _) (sym does.1) (call-opened calls old s seat credits does.0)
-step any (Opened seat credits (Err fault)) calls old new s does = subst (Stands _) (sym does.1) (call-idle calls old s (Opened seat credits (Err fault)) refl refl refl)
-step any (Enqueued seat ws (Ok ticket)) calls old new s does = subst (Stands _) (sym does.2) (call-stopped calls old s seat ws ticket does.0 does.1)
-step any (Enqueued seat ws (Err fault)) calls old new s does = subst (Stands _) (sym does.1) (call-idle calls old s (Enqueued seat ws (Err fault)) refl refl refl)
-step any (Dropped seat) calls old new s does = subst (Stands _) (sym does) (call-dropped calls old s seat)
-step any (Took b cut) calls old new s does =
-    subst (Stands (Took b cut ∷ calls)) (sym does.3) (subst (λ g. Stands (Took g cut ∷ calls) (taken_all old)) (sym does.1) (call-took calls old s any cut does.0 (subst (λ g. IsCutOf g cut) does.1 does.2)))
-step any TookNone calls old new s does = subst (Stands _) (sym does.1) (call-idle calls old s TookNone refl refl refl)
-step any (Settled entries (Ok unit)) calls old new s does = subst (Stands _) (sym does.0.2) (call-settled calls old s does.0.0 entries does.0.1 does.1)
-step any (Settled entries (Err wrong)) calls old new s does = subst (Stands _) (sym does.1) (call-idle calls old s (Settled entries (Err wrong)) refl refl refl)
-step any Failed calls old new s does = subst (Stands _) (sym does) (call-failed calls old s)
-step any Shut calls old new s does = subst (Stands _) (sym does) (call-shut calls old s)
+step : Vec Entry → (shape : Shape) → (last : Call) (calls : List Call) (old new : Account) → Stands shape calls old → Does last calls old new → Stands shape (last ∷ calls) new
+step any shape (Opened seat credits (Ok unit)) calls old new s does = subst (Stands shape _) (sym does.1) (call-opened shape calls old s seat credits does.0)
+step any shape (Opened seat credits (Err fault)) calls old new s does = subst (Stands shape _) (sym does.1) (call-idle shape calls old s (Opened seat credits (Err fault)) refl refl refl)
+step any shape (Enqueued seat ws (Ok ticket)) calls old new s does = subst (Stands shape _) (sym does.2) (call-stopped shape calls old s seat ws ticket does.0 does.1)
+step any shape (Enqueued seat ws (Err fault)) calls old new s does = subst (Stands shape _) (sym does.1) (call-idle shape calls old s (Enqueued seat ws (Err fault)) refl refl refl)
+step any shape (Dropped seat) calls old new s does = subst (Stands shape _) (sym does) (call-dropped shape calls old s seat)
+step any shape (Took b cut) calls old new s does =
+    subst (Stands shape (Took b cut ∷ calls)) (sym does.3) (subst (λ g. Stands shape (Took g cut ∷ calls) (taken_all old)) (sym does.1) (call-took shape calls old s any cut does.0 (subst (λ g. IsCutOf g cut) does.1 does.2)))
+step any shape TookNone calls old new s does = subst (Stands shape _) (sym does.1) (call-idle shape calls old s TookNone refl refl refl)
+step any shape (Settled entries (Ok unit)) calls old new s does = subst (Stands shape _) (sym does.0.2) (call-settled shape calls old s does.0.0 entries does.0.1 does.1)
+step any shape (Settled entries (Err wrong)) calls old new s does = subst (Stands shape _) (sym does.1) (call-idle shape calls old s (Settled entries (Err wrong)) refl refl refl)
+step any shape Failed calls old new s does = subst (Stands shape _) (sym does) (call-failed shape calls old s)
+step any shape Shut calls old new s does = subst (Stands shape _) (sym does) (call-shut shape calls old s)
 
-begun : (shape : Shape) (usable : ℕ) (a : Account) → usable ≤ 2147483646 → IsStart shape usable a → Stands [] a
+begun : (shape : Shape) (usable : ℕ) (a : Account) → usable ≤ 2147483646 → IsStart shape usable a → Stands shape [] a
 begun shape usable a small start =
     let (m, tied) = tied-starts shape usable a start in
     let is = tied.ran in
     record {
+      same_shape = start.same_shape;
       sound = started shape usable a small start;
       log = [];
       machine = m;
@@ -300,11 +313,11 @@ begun shape usable a small start =
       trail = ap (map (handles_in [])) (sym start.trail);
     }
 
-stands : Vec Entry → (shape : Shape) (usable : ℕ) (calls : List Call) (a : Account) → usable ≤ 2147483646 → Called shape usable calls a → Stands calls a
+stands : Vec Entry → (shape : Shape) (usable : ℕ) (calls : List Call) (a : Account) → usable ≤ 2147483646 → Called shape usable calls a → Stands shape calls a
 stands any shape usable [] a small called = begun shape usable a small called
-stands any shape usable (last ∷ earlier) a small (before, called, does) = step any last earlier before a (stands any shape usable earlier before small called) does
+stands any shape usable (last ∷ earlier) a small (before, called, does) = step any shape last earlier before a (stands any shape usable earlier before small called) does
 
 pub every_run : EveryRun
 every_run any shape usable calls a small called =
     let s = stands any shape usable calls a small called in
-    (keeps-whole calls a s, (s.log, s.machine, record { tied = s.tied; stops = s.stops; settled = s.settled; out = s.out }))
+    (keeps-whole shape calls a s, (s.log, s.machine, record { tied = s.tied; stops = s.stops; settled = s.settled; out = s.out }))

@@ -123,7 +123,7 @@ pub record IsInterleaving (calls : List Call) (a : Account) (log : Log) (m : Mac
 -- An event holds the bounds of its cut in a Vec, and there is one where there is any
 abbrev pub EveryRun : Type 0
 EveryRun = (any : Vec Entry) (shape : Shape) (usable : ℕ) (calls : List Call) (a : Account) → usable ≤ 2147483646 → Called shape usable calls a
-    → KeepsWhole calls a × ((log : Log) × (m : Machine) × IsInterleaving calls a log m)
+    → KeepsWhole shape calls a × ((log : Log) × (m : Machine) × IsInterleaving calls a log m)
 
 -- ---- what a commit tells
 

@@ -1,0 +1,47 @@
+-- A call of a book adds to a list of calls.
+use Rattle.std.proofs.Common.{◌≡◌, ℕ, List, ◌∷◌, ◌++◌, None, Result, Ok, Err, OnOk, OnErr, IfErr, refl, sym, ap, subst, ◌∙◌}
+use Rattle.jb_handle.specs.declared.shape.Shape.{Shape}
+use Rattle.jb_handle.specs.declared.stopped.Stopped.{Stopped}
+use Rattle.jb_cost.specs.Pieces.{pieces}
+use Rattle.jb_batch.specs.Batch.{Gathered, gathered}
+use Rattle.jb_batch.specs.Prepared.{Planned}
+use Rattle.jb_deck.specs.Done.{entries_of}
+use Rattle.jb_deck.specs.declared.done.Done.{Done}
+use Rattle.jb_deck.specs.declared.done.Entry.{Entry}
+use Rattle.jb_desk.specs.declared.fault.BeginFault.{BeginFault}
+use Rattle.jb_desk.specs.Account.{Account, CanTake, RefusesBegin, Settles as SettlesTo, granted_to, refusal, settled_to, taken_all}
+use Rattle.jb_desk.specs.Calls.{Call, Opened, AreOfFirst, Called, Does, IsCutOf}
+use Rattle.jb_book_client.specs.Client.{IsPlanOf, Settles, Tells}
+
+-- an open that is granted or refused
+pub opened : (seat credits : ℕ) (calls : List Call) (old new : Account) (r : Result (Unit {0}) BeginFault)
+    → OnOk r (new ≡ granted_to seat credits old) → OnOk r (refusal old seat credits ≡ None) → OnErr r (new ≡ old) → IfErr r (RefusesBegin old seat credits)
+    → Does (Opened seat credits r) calls old new
+opened seat credits calls old new (Ok unit) ok granted err refused = (granted, ok)
+opened seat credits calls old new (Err fault) ok granted err refused = (refused, err)
+
+-- the batch of a book
+abbrev pub batch_of : Account → Gathered
+batch_of a = gathered a.shadow.taken a.shadow.queue a.shape
+
+module _ (old mid new : Account) (b : Gathered) (p : Planned) (done : Done) (taken : b ≡ batch_of old) (plan : IsPlanOf b p) where
+  whole : p.batch ≡ batch_of old
+  whole = plan.batch ∙ taken
+
+  least-cut : IsCutOf (batch_of old) p.groups
+  least-cut = subst (λ g. IsCutOf g p.groups) whole plan.planned.least
+
+  first-of : Tells p done → AreOfFirst (pieces p.groups old.shadow.queue) (entries_of done)
+  first-of tells = subst (λ g. AreOfFirst (pieces p.groups g.handles) (entries_of done)) whole tells
+
+  -- the queue is taken, committed and settled
+  pub settled : (before after : List Entry) → after ≡ before ++ entries_of done → CanTake old × (mid ≡ taken_all old) → Tells p done → (past : ℕ) × SettlesTo mid past (entries_of done) × (new ≡ settled_to past (entries_of done) mid) → Settles old new before after
+  settled before after told can tells settles = record {
+    could = can.0;
+    cut = p.groups;
+    entries = entries_of done;
+    least = least-cut;
+    told = told;
+    trail = ap (λ (a : Account). a.trail) settles.2 ∙ ap (λ (a : Account). a.trail ++ entries_of done) can.1;
+    goes = λ shape usable calls called. (mid, (old, called, (can.0, refl, least-cut, can.1)), (settles, first-of tells));
+  }

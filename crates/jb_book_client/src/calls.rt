@@ -1,0 +1,96 @@
+//! Calls of a book, each of which adds to a list of calls.
+ghost use Rattle.std.specs.Prelude.{◌≡◌, ◌++◌, Ok, None, IfSome};
+ghost use Rattle.jb_handle.specs.Handle.{changes_of};
+ghost use Rattle.jb_batch.specs.Prepared.{IsPlanned};
+ghost use Rattle.jb_deck.specs.Done.{entries_of};
+ghost use Rattle.jb_desk.specs.Calls.{Opened, Enqueued};
+ghost use Rattle.jb_book_client.specs.Client.{Goes, Settles, Tells, IsPlanOf};
+
+use jb_batch::{Batch, Prepared, prepare};
+use jb_block::Stamp;
+use jb_deck::{BatchFault, Deck, Done};
+use jb_desk::laws::commit_tells;
+use jb_desk::{BeginFault, Book};
+use jb_disk::Disk;
+use jb_handle::Handle;
+use std::alloc::Global;
+
+/// A seat begins a handle of so many credits.
+pub fn begin(book: &mut Book, seat: u64, credits: u32) -> Result<(), BeginFault>
+    ensures { Goes (Opened seat credits result) book.old book.new }
+{
+    book.open(seat, credits)
+}
+
+/// The handle of a seat stops. `None` where the book refuses it.
+pub fn stop(book: &mut Book, seat: u64, handle: Handle<()>) -> Option<u64>
+    ensures { IfSome result (λ ticket. Goes (Enqueued seat (changes_of handle).words (Ok ticket)) book.old book.new) }
+{
+    match book.enqueue(seat, handle) {
+        Ok((_, ticket)) => Some(ticket),
+        Err((handle, _)) => {
+            let (_, _words) = handle.end();
+            None
+        }
+    }
+}
+
+/// Takes the queue, commits it, and settles in the book what is committed. `None` where nothing is queued or
+/// committed.
+pub fn settle<D: Disk>(
+    alloc: Global,
+    book: &mut Book,
+    deck: &mut Deck<D>,
+    stamp: Stamp,
+) -> Option<()>
+    ensures { IfSome result (λ _. Settles book.old book.new deck.old.trail deck.new.trail) }
+{
+    let batch = book.take()?;
+    let prepared = plan(alloc, batch)?;
+    let done = commit(deck, prepared, stamp)?;
+    match book.settle(&done) {
+        Ok(()) => Some(()),
+        Err(_) => None,
+    }
+}
+
+/// Cuts a batch into groups. `None` where memory runs out, or no cut fits.
+fn plan(alloc: Global, batch: Batch) -> Option<Prepared>
+    ensures { IfSome result (IsPlanOf batch) }
+{
+    match prepare(alloc, batch) {
+        Ok(prepared) => Some(prepared),
+        Err((batch, _)) => {
+            let _handles = batch.end();
+            None
+        }
+    }
+}
+
+/// Commits a batch. `None` where the deck refuses it; after a fault of the disk, the groups that are settled.
+fn commit<D: Disk>(deck: &mut Deck<D>, prepared: Prepared, stamp: Stamp) -> Option<Done>
+    requires { IsPlanned prepared }
+    ensures tells { IfSome result (Tells prepared) }
+    ensures trail { IfSome result (λ done. deck.new.trail ≡ deck.old.trail ++ entries_of done) }
+{
+    commit_tells::<D>();
+    match deck.commit_batch(prepared, stamp) {
+        Ok(done) => Some(done),
+        Err(BatchFault::DeviceFault { settled }) => Some(settled),
+        Err(BatchFault::WrongTicket(back, _)) => refuse(back),
+        Err(
+            BatchFault::Aborted(back)
+            | BatchFault::OtherShape(back)
+            | BatchFault::NumbersSpent(back)
+            | BatchFault::Memory(back),
+        ) => refuse(back),
+    }
+}
+
+/// Ends a batch that is not committed.
+fn refuse(prepared: Prepared) -> Option<Done>
+    ensures { result ≡ None }
+{
+    let _handles = prepared.back().end();
+    None
+}

@@ -1,0 +1,42 @@
+//! Two handles.
+ghost use Rattle.std.specs.Prelude.{◌≡◌, ◌++◌, IfSome};
+ghost use Rattle.jb_handle.specs.Handle.{changes_of};
+ghost use Rattle.jb_book_client.specs.Client.{Stand};
+
+use crate::calls::{begin, settle, stop};
+use jb_block::Stamp;
+use jb_deck::{Deck, Entry};
+use jb_desk::Book;
+use jb_desk::laws::every_run;
+use jb_disk::Disk;
+use jb_handle::Handle;
+use std::alloc::Global;
+
+/// Two seats begin a handle each, with a new book, and both stop, the first one first. The queue is taken and
+/// committed, what is committed is settled, and the book fails. Gives the groups that are settled. `None` where
+/// a call was refused.
+///
+/// No group is settled; or one, which has the first handle or both; or two, which have a handle each. A handle is
+/// in its group with its ticket and with all of its words.
+pub fn two_handles<D: Disk>(
+    alloc: Global,
+    deck: &mut Deck<D>,
+    stamp: Stamp,
+    first: Handle<()>,
+    second: Handle<()>,
+) -> Option<Vec<Entry>>
+    ensures told { IfSome result (λ trail. deck.new.trail ≡ deck.old.trail ++ trail.items) }
+    ensures stand { IfSome result (λ trail. Stand deck.old.shape (changes_of first).words (changes_of second).words trail.items) }
+{
+    every_run();
+    let mut book = Book::new(alloc, deck.shape(), u64::from(deck.usable()));
+    let _first = begin(&mut book, 1, first.credits());
+    let _second = begin(&mut book, 2, second.credits());
+    let one = stop(&mut book, 1, first);
+    let two = stop(&mut book, 2, second);
+    let _one = one?;
+    let _two = two?;
+    settle(alloc, &mut book, deck, stamp)?;
+    book.fail();
+    Some(book.into_trail())
+}
