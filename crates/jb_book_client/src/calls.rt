@@ -14,16 +14,17 @@ use jb_desk::{BeginFault, Book};
 use jb_disk::Disk;
 use jb_handle::Handle;
 use std::alloc::Global;
+use std::marker::Brand;
 
 /// A seat begins a handle of so many credits.
-pub fn begin(book: &mut Book, seat: u64, credits: u32) -> Result<(), BeginFault>
+pub fn begin(book: &mut Book<Brand>, seat: u64, credits: u32) -> Result<(), BeginFault>
     ensures { Goes (Opened seat credits result) book.old book.new }
 {
     book.open(seat, credits)
 }
 
 /// The handle of a seat stops. `None` where the book refuses it.
-pub fn stop(book: &mut Book, seat: u64, handle: Handle<()>) -> Option<u64>
+pub fn stop(book: &mut Book<Brand>, seat: u64, handle: Handle<()>) -> Option<u64>
     ensures { IfSome result (λ ticket. Goes (Enqueued seat (changes_of handle).words (Ok ticket)) book.old book.new) }
 {
     match book.enqueue(seat, handle) {
@@ -39,7 +40,7 @@ pub fn stop(book: &mut Book, seat: u64, handle: Handle<()>) -> Option<u64>
 /// committed.
 pub fn settle<D: Disk>(
     alloc: Global,
-    book: &mut Book,
+    book: &mut Book<Brand>,
     deck: &mut Deck<D>,
     stamp: Stamp,
 ) -> Option<()>
