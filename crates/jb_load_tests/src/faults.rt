@@ -11,7 +11,7 @@ use std::alloc::Global;
 use std::sync::{Mutex, Wait};
 use std::test::Fail;
 use std::thread::Threads;
-use std::time::Clock;
+use std::time::{Clock, Duration};
 
 /// Five handles, each of which writes its number to two home blocks.
 const FIVE: &str =
@@ -27,7 +27,7 @@ fn load_failing<R: Threads + Wait + Clock + Sync>(
     is_once: bool,
 ) -> Result<(Result<Loaded, LoadFault>, u64), Fail> {
     let disk = Mutex::new(formatted(alloc, 6, 1)?);
-    let lent = LentDisk::of(rt, &disk);
+    let lent = LentDisk::of(rt, &disk, Duration::ZERO);
     let answer = if is_once {
         load(rt, alloc, OneFaultDisk::of(lent, call), FIVE, options)?
     } else {
