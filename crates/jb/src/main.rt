@@ -2,7 +2,7 @@
 #![tactic(auto)]
 
 use jb_advice::Noted;
-use std::io::IsTerminal;
+use std::io::{ErrorKind, IsTerminal};
 use std::process::ExitCode;
 use std::{env, io};
 
@@ -15,7 +15,10 @@ fn main(rt: HostRuntime) -> ExitCode {
     let (mut input, mut out, mut err) = (rt.stdin(), rt.stdout(), Noted::new(rt.stderr()));
     let status = match words(&rt) {
         Ok(words) if words.is_empty() && input.is_terminal() => {
-            jb_tool::show_help(rt.alloc(), &mut err)
+            match jb_words::show_help(rt.alloc(), &mut err) {
+                Ok(()) => 2,
+                Err(_) => jb_tool::refuse_words(ErrorKind::OutOfMemory, &mut err),
+            }
         }
         Ok(words) => jb_tool::run(&rt, words.as_slice(), &mut input, &mut out, &mut err),
         Err(error) => jb_tool::refuse_words(error.kind(), &mut err),
