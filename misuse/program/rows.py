@@ -11,7 +11,7 @@ def row(words, status, out="", err="", files=(), stdin=b"", after=(), how="", to
     """One run of the program in an empty folder.
 
     words     its words, as one text; a word with a space or a NUL is never needed
-    files     the files that are there before, by their names; a value of None makes a folder
+    files     the files that are there before, by their names; None makes a folder, a number a file of so many zeros
     after     the files that differ afterwards, or are new; all others must be as they were, and there may be no other
     how       a shell's `ulimit` and `trap` before it starts
     to        standard output: a pipe, a pipe that nobody reads (`gone`), or a full device (`full`)
@@ -32,7 +32,9 @@ def queue(handles, limit=8, first="bs 1024"):
 
 THREE = "w1 w2 w3/w3 w4 w5/w1 w2"
 FOUR = "w1 w2/w3 w4/w3 w4/w3 w4 w5"
+# the most bytes of a queue text, and of a certificate
 LONG = 16_777_216
+LONGEST = 9 * LONG
 # what is wrong with a queue text, and what is said of it
 BAD_QUEUES = [
     (b"", "1: BlockSizeLine"), (b"bs 512\n", "1: BlockSizeLine"), (b"bs 1024\nlimit 2\n", "2: LimitLine"),
@@ -85,7 +87,7 @@ for words, name in [("cost q", "q"), ("plan q", "q"), ("check q c", "q"), ("chec
     row(words, 2, err="jb: cannot read %s\n" % name, files=some, stdin=queue(FOUR, 6))
     if name == "q":
         row(words, 2, err="jb: cannot read q\n", files={**some, "q": None})
-        row(words, 2, err="jb: too long q\n", files={**some, "q": b"bs 1024\n" + bytes(LONG)})
+        row(words, 2, err="jb: too long q\n", files={**some, "q": (LONG if words != "check ok q" else LONGEST) + 1})
 row("cost -", 2, err="jb: too long -\n", stdin=bytes(LONG + 1))
 for words in ("cost q", "plan q", "check q c"):
     some = {"q": queue(FOUR, 7), "c": PLANS[4][2].encode()}
@@ -159,6 +161,7 @@ for words in ("--bs 512 --journal 33 --homes 16", "--bs 1024 --journal 429496729
     row("format a " + words, 2, err="jb: bad option\n")
     row("format a " + words, 2, err="jb: bad option\n", files={"a": FULL})
 row(BASIC, 1, err="jb: WriteFault\n", to="full", after={"a": MADE})
+row("format a --bs 1024 --journal 8 --homes 16", 1, err="jb: Geometry\n", after={"a": 24 * BS})
 
 # ---- recover, renumber and widen ---------------------------------------------------------------------------------------------
 

@@ -6,7 +6,7 @@ mod streams;
 use crate::streams::fill_closed;
 use jb_advice::Noted;
 use jb_tool::CommandFault;
-use std::io::IsTerminal;
+use std::io::{ErrorKind, IsTerminal};
 use std::process::ExitCode;
 use std::{env, io};
 
@@ -24,7 +24,10 @@ fn main(rt: HostRuntime) -> ExitCode {
     };
     let status = match words(&rt) {
         Ok(words) if words.is_empty() && input.is_terminal() => {
-            jb_tool::show_help(rt.alloc(), &mut err)
+            match jb_words::show_help(rt.alloc(), &mut err) {
+                Ok(()) => 2,
+                Err(_) => jb_tool::refuse_words(ErrorKind::OutOfMemory, &mut err),
+            }
         }
         Ok(words) => jb_tool::run(&rt, words.as_slice(), &mut input, &mut out, &mut err),
         Err(error) => jb_tool::refuse_words(error.kind(), &mut err),

@@ -14,7 +14,8 @@ macro_rules! diagnostics {
             "bad option", "", "--bs is 1024, 2048 or 4096, --threads 1 to 64, --journal and --max at most 4294967295, --uuid 32 hexadecimal digits, and an image is below 2^63 bytes";
             "cannot make ", "NAME", "it is there already and is not written over, or its folder, the permission or the room for it is missing";
             "cannot read ", "NAME", "it is missing, no file, or not permitted: an image is to be read and written";
-            "too long ", "NAME", "a queue text has at most 16777216 bytes";
+            "in use ", "NAME", "another jb works on the image: run the command again when that one has ended";
+            "too long ", "NAME", "a queue text has at most 16777216 bytes, and a certificate 150994944";
             "ReadFault", "", "the file cannot be read to the end of its journal: it is a folder, or its device fails";
             "Super ShortBlock", "", "a journal begins with a superblock of 1024 bytes, and the file is shorter";
             "Super NoMagic", "", "the file does not begin with a journal; debugfs takes the journal of a file system out of it";

@@ -12,7 +12,6 @@ ghost use Rattle.jb_tool.specs.Wanted.{RunsWanted, wants_input};
 use crate::load::run_load;
 use jb_plain::{CommandFault, run_plain};
 use jb_words::{Error, ErrorKind, Plain, Words, parse};
-use std::alloc::Global;
 use std::convert::AsStr;
 use std::fs::File;
 use std::io::{Read, Write};
@@ -52,23 +51,6 @@ pub fn run<
         Ok(Words::Plain(plain)) => run_plain(rt, plain, input, out, err),
         Ok(Words::Load(load)) => run_load(rt, load, out, err),
         Err(error) => tell_refusal(&error, out, err),
-    }
-}
-
-/// Writes the help of `jb` to `err`, as clap does where words are missing, and gives the exit status 2: for a terminal with no
-/// words, where `jb cost -` would wait for a text to be typed.
-pub fn show_help<E: Write>(alloc: Global, err: &mut E) -> u8
-    ensures { (result ≡ 2) ⊎ ((result ≡ 1) × PutsPart (E.contents err.old) (E.contents err.new) (line_of CommandMemory)) }
-{
-    match parse(alloc, &["-h"]) {
-        Err(error) if error.kind() != ErrorKind::OutOfMemory => {
-            let _ignored = write!(err, "{error}");
-            2
-        }
-        _ => {
-            CommandFault::Memory.tell(err);
-            CommandFault::Memory.status()
-        }
     }
 }
 

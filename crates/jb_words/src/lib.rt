@@ -10,4 +10,4 @@ pub use clap::Error;
 pub use clap::error::ErrorKind;
 pub use command::{LoadWords, Words};
 pub use plain::{FormatOptions, Plain};
-pub use words::parse;
+pub use words::{parse, show_help};

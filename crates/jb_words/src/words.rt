@@ -1,4 +1,4 @@
-ghost use Rattle.std.specs.Prelude.{◌≡◌, ◌⊎◌, IfErr, IfOk, None, Some, [], map, option_map};
+ghost use Rattle.std.specs.Prelude.{◌≡◌, ◌⊎◌, IfErr, IfOk, IsErr, None, Some, [], map, option_map};
 ghost use Rattle.clap.specs.Kinds.{FailsBy};
 ghost use Rattle.clap.specs.Words.{app_of, first_of, found_of, rows_of, subcommand_of, subcommand_rows_of};
 ghost use Rattle.jb_words.specs.App.{jb_app};
@@ -13,6 +13,7 @@ use clap::error::ErrorKind;
 use clap::{ArgMatches, Command, Error};
 use std::alloc::{AllocError, Global};
 use std::convert::AsStr;
+use std::io::Write;
 
 /// The command that the words after the program's name ask for.
 ///
@@ -29,6 +30,24 @@ pub fn parse<'a, S: AsStr>(alloc: Global, words: &'a [S]) -> Result<Words<'a>, E
         Some(found) => Ok(found),
         None => Err(no_command(alloc)?),
     }
+}
+
+/// Writes the short help of `jb`, as clap does where words are missing; a fault of the writer is ignored.
+///
+/// # Errors
+/// `AllocError` where memory ran out.
+pub fn show_help<W: Write>(alloc: Global, writer: &mut W) -> Result<(), AllocError>
+    ensures { IsErr result → W.contents writer.new ≡ W.contents writer.old }
+{
+    let words = ["-h"];
+    let Err(error) = parse(alloc, &words) else {
+        return Err(AllocError);
+    };
+    if error.kind() == ErrorKind::OutOfMemory {
+        return Err(AllocError);
+    }
+    let _ignored = write!(writer, "{error}");
+    Ok(())
 }
 
 /// What is said where clap found no command: it lets no such words through, but its contracts do not say so.
