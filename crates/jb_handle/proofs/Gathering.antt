@@ -1,7 +1,7 @@
 -- The words of handles, gathered one after the other.
-use Rattle.std.proofs.Common.{◌≡◌, ℕ, zero, suc, ◌+◌, ◌<◌, ◌≤◌, cond, nat_eq, T, List, [], ◌∷◌, ◌++◌, length, get_or, take, Option, Some, None, sym, ap, ◌∙◌, arith}
+use Rattle.std.proofs.Common.{◌≡◌, ◌⊎◌, ℕ, zero, suc, ◌+◌, ◌<◌, ◌≤◌, Bool, true, false, cond, nat_eq, T, List, [], ◌∷◌, ◌++◌, length, get_or, take, Option, Some, None, inl, inr, ⊎_elim, refl, sym, ap, ◌∙◌, arith}
 use Rattle.std.specs.Option.{option_or}
-use Rattle.std.specs.Ordering.{nat_cmp}
+use Rattle.std.specs.Ordering.{eq_by_cmp, nat_cmp}
 use Rattle.std.specs.Cmp.{nat_cmp_total}
 use Rattle.std.specs.FinMap as map
 use Rattle.std.proofs.lemmas.List.{take_all, take_more}
@@ -62,3 +62,22 @@ some-words hs i h here inside some = grind (arith, λ (none : map.len (words_of 
         let nothing : words_of hs ≡ map.empty = map.empty_of_len (words_of hs) none in
         let lacks : (q : ℕ) → map.get h.words q ≡ None = λ q. ap (λ (g : Stopped). map.get g.words q) here ∙ none-each hs i h q inside (sym (get-words_of hs q) ∙ ap (λ m. map.get m q) nothing ∙ map.get-empty nat_cmp q) in
         ap map.len (map.same_map nat_cmp_total map.nat_cmp-IsAntisymmetric h.words map.empty (λ q. lacks q ∙ sym (map.get-empty nat_cmp q))) ∙ map.len-empty nat_cmp Word
+
+-- ---- some of the words of a handle
+
+-- of the first entries what is found is what is found of all, or nothing
+found-partly : (es : List (ℕ × Word)) (i q : ℕ) → (map.find nat_cmp q (take i es) ≡ None) ⊎ (map.find nat_cmp q (take i es) ≡ map.find nat_cmp q es)
+found-partly es zero q = inl refl
+found-partly [] (suc i) q = inl refl
+found-partly (e ∷ es) (suc i) q = either (eq_by_cmp nat_cmp q e.0) (map.find nat_cmp q (take i es)) (map.find nat_cmp q es) (found-partly es i q)
+  where
+    either : (b : Bool) (x y : Option Word) → (x ≡ None) ⊎ (x ≡ y) → (cond b (Some e.1) x ≡ None) ⊎ (cond b (Some e.1) x ≡ cond b (Some e.1) y)
+    either true x y so = inr refl
+    either false x y so = so
+
+pub words-partly : (words : WordMap) (es : List (ℕ × Word)) → es ≡ map.entries words → (i q : ℕ) (now before : Option Word) → now ≡ option_or (map.find nat_cmp q (take i es)) before → (now ≡ before) ⊎ (now ≡ option_or (map.get words q) before)
+words-partly words es same i q now before so =
+    ⊎_elim
+    (λ none. inl (so ∙ ap (λ found. option_or found before) none))
+    (λ all. inr (so ∙ ap (λ found. option_or found before) (all ∙ ap (map.find nat_cmp q) same ∙ sym (map.get-entries words q))))
+    (found-partly es i q)

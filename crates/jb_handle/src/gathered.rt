@@ -1,4 +1,4 @@
-ghost use Rattle.std.specs.Prelude.{◌≡◌, ◌<◌, ℕ, None, IfOk, OnOk, OnErr};
+ghost use Rattle.std.specs.Prelude.{◌≡◌, ◌<◌, ◌⊎◌, ℕ, None, IfOk, OnOk, OnErr};
 ghost use Rattle.std.specs.Option.{option_or};
 ghost use Rattle.std.specs.FinMap as map;
 
@@ -59,10 +59,12 @@ impl Gathered {
     ///
     /// # Errors
     ///
-    /// `Memory` where there is none for a copy or a further word, and never for a handle without words.
+    /// `Memory` where there is none for a copy or a further word, and never for a handle without words. Then
+    /// each home block has its word as it was, or the handle's.
     pub fn put_all(&mut self, words: &Words) -> Result<(), Memory>
         ensures ok { OnOk result ((home : ℕ) → map.get self.new home ≡ option_or (map.get words.now home) (map.get self.old home)) }
         ensures err { OnErr result (0 < map.len words.now) }
+        ensures partly { OnErr result ((home : ℕ) → (map.get self.new home ≡ map.get self.old home) ⊎ (map.get self.new home ≡ option_or (map.get words.now home) (map.get self.old home))) }
     {
         for (home, word) in words.entries() {
             self.put(*home, word.try_clone()?)?;

@@ -1,8 +1,9 @@
-use Rattle.std.proofs.Common.{◌<◌, T, length, sym, subst, ◌∙◌, arith}
+use Rattle.std.proofs.Common.{◌<◌, T, length, sym, ap, subst, ◌∙◌, arith}
 use Rattle.std.specs.Ordering.{nat_cmp}
 use Rattle.std.specs.FinMap as map
+use Rattle.jb_handle.specs.Word.{WordMap}
 use Rattle.jb_block.proofs.Refusals.{on-refusal}
-use Rattle.jb_handle.proofs.Gathering.{word-more, words-whole, some-entry}
+use Rattle.jb_handle.proofs.Gathering.{word-more, words-partly, words-whole, some-entry}
 use Rattle.jb_handle.proofs.gathered.Gathered.put_all.Goals as goal
 
 pub returns-in_err-try_clone-clause-err : goal.returns-in_err-try_clone-clause-err
@@ -21,3 +22,12 @@ pub returns-clause-ok : goal.returns-clause-ok
 returns-clause-ok c q =
     c.loop-home.invariant q
     ∙ words-whole c.args.words.now _ c.entries-home-items.ensures c.loop-home.home-index (omega arith) q _
+
+pub returns-in_err-try_clone-clause-partly : goal.returns-in_err-try_clone-clause-partly
+returns-in_err-try_clone-clause-partly c =
+    on-refusal c.from_residual.result (λ q. words-partly c.args.words.now _ c.entries-home-items.ensures c.loop-home.home-index q _ _ (c.loop-home.invariant q))
+
+pub returns-in_err-put-clause-partly : goal.returns-in_err-put-clause-partly
+returns-in_err-put-clause-partly c =
+    on-refusal c.from_residual-in_err-put.result
+    (λ q. words-partly c.args.words.now _ c.entries-home-items.ensures c.loop-home.home-index q _ _ (ap (λ (m : WordMap). map.get m q) c.in_err-put.ensures.err ∙ c.loop-home.invariant q))
