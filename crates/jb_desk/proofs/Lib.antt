@@ -4,6 +4,7 @@ pub mod Cuts
 pub mod Follows
 pub mod Grouped
 pub mod Keeping
+pub mod Least
 pub mod Limits
 pub mod Rounds
 pub mod SeatCredits
