@@ -8,6 +8,7 @@ pub mod Firsts
 pub mod Follows
 pub mod Grouped
 pub mod Keeping
+pub mod Least
 pub mod Limits
 pub mod Rounds
 pub mod SeatCredits

@@ -7,7 +7,7 @@ use Rattle.jb_handle.specs.Word.{WordMap}
 use Rattle.jb_cost.specs.Cut.{IsLeastCut}
 use Rattle.jb_cost.specs.Pieces.{joined, pieces}
 use Rattle.jb_batch.specs.Batch.{Gathered, gathered}
-use Rattle.jb_batch.specs.Costs.{cost_in}
+use Rattle.jb_batch.specs.Costs.{cost_in, HasCut}
 use Rattle.jb_deck.specs.declared.done.Entry.{Entry}
 use Rattle.jb_desk.specs.declared.fault.BeginFault.{BeginFault}
 use Rattle.jb_desk.specs.declared.fault.EnqueueFault.{EnqueueFault}
@@ -60,6 +60,10 @@ AreOfFirst (g ∷ groups) (e ∷ es) = (e.past ≡ e.first + length g) × AreOfF
 -- the cut is a least one of the batch
 abbrev pub IsCutOf : Gathered → List ℕ → Type 0
 IsCutOf b cut = IsLeastCut (cost_in b.shape b.handles) b.shape.limit (length b.handles) cut
+
+-- a batch that has a cut has a least one, so each `take` is such a call
+abbrev pub TakesLeast : Type 0
+TakesLeast = (b : Gathered) → HasCut b.shape b.handles → (cut : List ℕ) × IsCutOf b cut
 
 -- What the contract of the call's method says of the account before it and after it. Only of `settle` it takes more: that the
 -- entries are those of the groups that are out

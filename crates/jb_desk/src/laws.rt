@@ -1,5 +1,6 @@
 //! Laws over the definitions alone, and a step of the machine as its shadow shows it.
 ghost use Rattle.jb_core.specs.Steps.{Steps};
+ghost use Rattle.jb_desk.specs.Calls.{TakesLeast};
 ghost use Rattle.jb_desk.specs.Events.{Shadowed, StepsShadow};
 ghost use Rattle.jb_desk.specs.Tied.{BookIsTied, CommitTells, EveryRun};
 
@@ -42,6 +43,13 @@ pub fn tied()
 /// the settled groups, those of the book's trail, are always a first part of them.
 pub fn every_run()
     ensures { EveryRun }
+{}
+
+/// A batch that has a cut, as each batch of a book, has a least one. So a list of calls may name one for each
+/// `take`, also where the batch is never committed.
+#[tactic(auto, using(crate::proofs::Least::has_least))]
+pub fn takes_least()
+    ensures { TakesLeast }
 {}
 
 /// The entries of a `Done` that a commit gives are those of the first groups of its batch's cut: of all, or
