@@ -2,4 +2,6 @@
 #![tactic(auto)]
 
 #[cfg(test)]
+mod prefixes;
+#[cfg(test)]
 mod queues;
