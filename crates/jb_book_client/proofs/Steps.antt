@@ -1,7 +1,5 @@
 -- A call of a book adds to a list of calls.
-use Rattle.std.proofs.Common.{◌≡◌, ℕ, List, ◌∷◌, ◌++◌, None, Result, Ok, Err, OnOk, OnErr, IfErr, refl, sym, ap, subst, ◌∙◌}
-use Rattle.jb_handle.specs.declared.shape.Shape.{Shape}
-use Rattle.jb_handle.specs.declared.stopped.Stopped.{Stopped}
+use Rattle.std.proofs.Common.{◌≡◌, ℕ, List, ◌++◌, None, Result, Ok, Err, OnOk, OnErr, IfErr, refl, ap, subst, ◌∙◌}
 use Rattle.jb_cost.specs.Pieces.{pieces}
 use Rattle.jb_batch.specs.Batch.{Gathered, gathered}
 use Rattle.jb_batch.specs.Prepared.{Planned}
@@ -10,7 +8,7 @@ use Rattle.jb_deck.specs.declared.done.Done.{Done}
 use Rattle.jb_deck.specs.declared.done.Entry.{Entry}
 use Rattle.jb_desk.specs.declared.fault.BeginFault.{BeginFault}
 use Rattle.jb_desk.specs.Account.{Account, CanTake, RefusesBegin, Settles as SettlesTo, granted_to, refusal, settled_to, taken_all}
-use Rattle.jb_desk.specs.Calls.{Call, Opened, AreOfFirst, Called, Does, IsCutOf}
+use Rattle.jb_desk.specs.Calls.{Call, Opened, AreOfFirst, Does, IsCutOf}
 use Rattle.jb_book_client.specs.Client.{IsPlanOf, Settles, Tells}
 
 -- an open that is granted or refused

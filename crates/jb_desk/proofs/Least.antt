@@ -2,10 +2,8 @@
 use Rattle.std.proofs.Common.{◌≡◌, ◌⊎◌, inl, inr, ℕ, zero, suc, ◌+◌, ◌<◌, ◌≤◌, List, [], ◌∷◌, ◌++◌, length, Option, Some, None, refl, sym, ap, subst, ◌∙◌, length-append, arith}
 use Rattle.std.proofs.lemmas.Bool.{cases_lt}
 use Rattle.std.proofs.Math.Nat.{eq-or-lt_of_le}
-use Rattle.jb_handle.specs.declared.shape.Shape.{Shape}
-use Rattle.jb_handle.specs.declared.stopped.Stopped.{Stopped}
-use Rattle.jb_cost.specs.Cut.{price, FitsCut, IsLeastCut, IsPrice, ArePrices}
-use Rattle.jb_plan.specs.Step.{Step, IsBest, BestFrom, AreSteps, price_of, from_of}
+use Rattle.jb_cost.specs.Cut.{price, FitsCut, IsLeastCut, IsPrice}
+use Rattle.jb_plan.specs.Step.{Step, BestFrom, AreSteps, price_of, from_of}
 use Rattle.jb_plan.proofs.Steps.{steps-start, steps-more, prices-steps}
 use Rattle.jb_batch.specs.Batch.{Gathered}
 use Rattle.jb_batch.specs.Costs.{cost_in, HasCut}
@@ -39,30 +37,36 @@ module _ (c : ℕ → ℕ → ℕ) (limit : ℕ) (ps : List (Option ℕ)) (end :
 
     -- it is the best one
     found : ((i p : ℕ) → low + 1 ≤ i → i < end → c i end ≤ limit → price ps i ≡ Some p → q + c low end ≤ p + c i end) → (best : Option Step) × BestFrom c limit ps low end best
-    found least = (Some (record { from = low; price = q + c low end }), record {
-      leads = record { before = before; fits = fits_in; sum = (q, there, refl) };
-      least = λ i p above below fits is. elim (eq-or-lt_of_le above) [
-        | inl same ↦ (let all = same-price i p same is in omega (arith, all))
-        | inr less ↦ least i p (omega (arith, less)) below fits is
-      ];
-      first = λ i p above below fits is. absurd (let h : ⊥ = omega (arith, above, below) in h);
-    })
+    found least = (
+      Some (record { from = low; price = q + c low end }),
+      record {
+        leads = record { before = before; fits = fits_in; sum = (q, there, refl) };
+        least = λ i p above below fits is. elim (eq-or-lt_of_le above) [
+          | inl same ↦ (let all = same-price i p same is in omega (arith, all))
+          | inr less ↦ least i p (omega (arith, less)) below fits is
+        ];
+        first = λ i p above below fits is. absurd (let h : ⊥ = omega (arith, above, below) in h);
+      },
+    )
 
     -- or another one is
     one-more : (best : Option Step) → BestFrom c limit ps (low + 1) end best → (best : Option Step) × BestFrom c limit ps low end best
     one-more None tried = found (λ i p above below fits is. absurd (tried i p above below fits is))
     one-more (Some s) tried = elim (cases_lt s.price (q + c low end)) [
-      | inl less ↦ (Some s, record {
-        leads = tried.leads;
-        least = λ i p above below fits is. elim (eq-or-lt_of_le above) [
-          | inl same ↦ (let all = same-price i p same is in omega (arith, all, less))
-          | inr more ↦ tried.least i p (omega (arith, more)) below fits is
-        ];
-        first = λ i p above below fits is. elim (eq-or-lt_of_le above) [
-          | inl same ↦ (let all = same-price i p same is in omega (arith, all, less))
-          | inr more ↦ tried.first i p (omega (arith, more)) below fits is
-        ];
-      })
+      | inl less ↦ (
+        Some s,
+        record {
+          leads = tried.leads;
+          least = λ i p above below fits is. elim (eq-or-lt_of_le above) [
+            | inl same ↦ (let all = same-price i p same is in omega (arith, all, less))
+            | inr more ↦ tried.least i p (omega (arith, more)) below fits is
+          ];
+          first = λ i p above below fits is. elim (eq-or-lt_of_le above) [
+            | inl same ↦ (let all = same-price i p same is in omega (arith, all, less))
+            | inr more ↦ tried.first i p (omega (arith, more)) below fits is
+          ];
+        },
+      )
       | inr more ↦ found (λ i p above below fits is. let rest = tried.least i p above below fits is in omega (arith, rest, more))
     ]
 
