@@ -1,7 +1,7 @@
 //! Calls of a desk over the small journal, with the answers that its limits give by hand.
 ghost use Rattle.std.specs.Prelude.{◌≡◌, ◌+◌, ◌^◌};
 
-use crate::blind::Blind;
+use crate::blind::{Blind, start};
 use crate::journal::{
     CLOCK, PARTS, SHAPE, Still, Why, close_twice, formatted, opened, over_at, refused, revoke, stop,
 };
@@ -180,7 +180,7 @@ fn rows<R: Wait, H: Blind, N: Ledger>(
     let Some(deck) = opened(alloc, disk) else {
         return Ok(None);
     };
-    let Ok(desk) = Small::<H, N>::start(alloc, handles, changes, deck, CLOCK) else {
+    let Ok(desk) = start::<_, _, H, N>(alloc, handles, changes, deck, CLOCK) else {
         return Err(Memory);
     };
     match row {

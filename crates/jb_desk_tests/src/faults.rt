@@ -1,7 +1,7 @@
 //! A round over a disk that fails once, at each of its calls.
 ghost use Rattle.std.specs.Prelude.{◌≡◌, ◌+◌, ◌^◌};
 
-use crate::blind::Blind;
+use crate::blind::{Blind, start};
 use crate::journal::{
     CLOCK, Came, PARTS, Still, Why, formatted, opened, refused, retired, round, stop, write,
 };
@@ -144,7 +144,7 @@ fn failing<R: Wait, H: Blind, N: Ledger>(
     let Some(deck) = opened(alloc, OneFaultDisk::of(disk, call)) else {
         return Ok(None);
     };
-    let Ok(desk) = Failing::<H, N>::start(alloc, handles, changes, deck, CLOCK) else {
+    let Ok(desk) = start::<_, _, H, N>(alloc, handles, changes, deck, CLOCK) else {
         return Err(Memory);
     };
     after_round(rt, alloc, desk)

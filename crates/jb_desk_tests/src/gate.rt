@@ -2,7 +2,7 @@
 ghost use Rattle.std.specs.Prelude.{◌≡◌, ◌+◌, ◌^◌};
 ghost use Rattle.jb_disk.specs.Faults.{CountsFault, counted};
 
-use crate::blind::Blind;
+use crate::blind::{Blind, start};
 use crate::journal::{
     CLOCK, Came, PARTS, Still, Why, formatted, opened, retired, round, stop, write,
 };
@@ -204,9 +204,7 @@ fn gated<R: Threads + Wait + Clock + Sync, H: Blind + Send + Sync, N: Ledger + S
     let Some(deck) = opened(alloc, disk) else {
         return Ok(None);
     };
-    let Ok(desk) = Still::<GateDisk<MemoryDisk, R>, H, N>::start(
-        alloc, handles, changes, deck, CLOCK,
-    ) else {
+    let Ok(desk) = start::<_, _, H, N>(alloc, handles, changes, deck, CLOCK) else {
         return Err(Memory);
     };
     let (other, one) = thread::join(rt, || second(rt, &desk, gate), || first(rt, &desk, gate));

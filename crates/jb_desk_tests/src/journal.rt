@@ -5,7 +5,7 @@ ghost use Rattle.jb_desk.specs.Desks.{desk_id};
 ghost use Rattle.jb_desk.specs.Rounds.{seat_of};
 ghost use Rattle.jb_desk.specs.Seats.{desk_of};
 
-use crate::blind::Blind;
+use crate::blind::{Blind, may_stop};
 use jb_block::{BlockSize, Memory, Width, put32};
 use jb_deck::{Deck, Entry};
 use jb_desk::{
@@ -66,9 +66,7 @@ pub fn numbered(alloc: Global, number: u32) -> Result<Option<MemoryDisk>, Memory
 }
 
 /// Opens the journal on a disk.
-pub fn opened<D: Disk + Drop>(alloc: Global, disk: D) -> Option<Deck<D>>
-    ensures { IfSome result (λ deck. (deck.trail ≡ []) × (deck.aborted ≡ false)) }
-{
+pub fn opened<D: Disk + Drop>(alloc: Global, disk: D) -> Option<Deck<D>> {
     Deck::open(alloc, disk).ok()
 }
 
@@ -105,6 +103,7 @@ pub fn stop<R: Wait, D: Disk, H: Blind, N: Ledger>(
     requires { desk_of (holder handle) ≡ desk_id desk.now }
     ensures { desk_of result.0 ≡ desk_id desk.now }
 {
+    may_stop::<H>(handle.words());
     match desk.stop(rt, handle) {
         Ok((seat, ticket)) => (seat, Ok(ticket)),
         Err(StopFault::Aborted(seat)) => (seat, Err(Why::Aborted)),

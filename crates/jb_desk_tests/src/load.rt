@@ -2,7 +2,7 @@
 //! call, and the image that a crash leaves is recovered.
 ghost use Rattle.std.specs.Prelude.{◌≡◌, ◌+◌, ◌^◌};
 
-use crate::blind::Blind;
+use crate::blind::{Blind, start};
 use crate::homes::{Stop, contents_of, prefix_of};
 use crate::journal::{CLOCK, PARTS, Still, opened};
 use crate::keys::{Draws, HOMES};
@@ -117,8 +117,7 @@ fn outcome_of<R: Threads + Wait + Clock + Sync, H: Blind + Send + Sync, N: Ledge
     let Some(deck) = opened(alloc, FuseDisk::of(journal(alloc)?, load.calls)) else {
         return Ok(None);
     };
-    let Ok(desk) = Still::<FuseDisk<MemoryDisk>, H, N>::start(alloc, handles, changes, deck, CLOCK)
-    else {
+    let Ok(desk) = start::<_, _, H, N>(alloc, handles, changes, deck, CLOCK) else {
         return Err("there is no desk".into());
     };
     let Some(reports) = work_all(rt, alloc, &desk, load.seed, load.handles) else {

@@ -5,7 +5,7 @@ ghost use Rattle.jb_desk.specs.Desks.{desk_id};
 ghost use Rattle.jb_desk.specs.Seats.{desk_of};
 ghost use Rattle.jb_handle.specs.Handle.{holder};
 
-use crate::blind::Blind;
+use crate::blind::{Blind, may_stop};
 use crate::homes::Stop;
 use crate::journal::{Still, Why, retired, stop};
 use crate::keys::{CHANGES, Change, Draws, block_of, changes_of};
@@ -124,6 +124,7 @@ fn stop_again<R: Wait, D: Disk, H: Blind, N: Ledger>(
     requires { desk_of (holder handle) ≡ desk_id desk.now }
     ensures { desk_of result.0 ≡ desk_id desk.now }
 {
+    may_stop::<H>(handle.words());
     match desk.stop(rt, handle) {
         Ok((seat, ticket)) => (seat, Ok(ticket)),
         Err(StopFault::Memory(handle)) => stop(rt, desk, handle),

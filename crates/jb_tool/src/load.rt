@@ -93,7 +93,7 @@ fn load_queue<'a, R: AllocGlobal + Threads + Wait + Clock + Sync, O: Write, E: W
         },
     };
     let (handles, changes) = (Blank::new(PARTS), Blank::new(PARTS));
-    match load_on::<FileDisk, FixedClock, R, Brand, Brand>(
+    let loaded = load_on::<FileDisk, FixedClock, R, Brand, Brand>(
         rt,
         rt.alloc(),
         disk,
@@ -102,8 +102,12 @@ fn load_queue<'a, R: AllocGlobal + Threads + Wait + Clock + Sync, O: Write, E: W
         options,
         handles,
         changes,
-    ) {
-        Ok((loaded, _)) => Ok(tell_loaded(&loaded, out, err)?),
+    );
+    match loaded {
+        Ok((loaded, disk)) => {
+            drop(disk);
+            Ok(tell_loaded(&loaded, out, err)?)
+        }
         Err(fault) => Err(fault_of(fault)),
     }
 }
