@@ -1,14 +1,11 @@
 -- What a user of a journal wants to know of a crash.
-use Rattle.std.specs.Prelude.{◌≡◌, ◌⊎◌, ℕ, ◌+◌, ◌≤◌, List, ◌++◌, Ok}
-use Rattle.jb_disk.specs.Image.{Image, block}
+use Rattle.std.specs.Prelude.{◌≡◌, ℕ, ◌≤◌, List, ◌++◌, Ok}
+use Rattle.jb_disk.specs.Image.{Image}
 use Rattle.jb_super.specs.Superblock.{Superblock}
-use Rattle.jb_handle.specs.Words.{word}
 use Rattle.jb_handle.specs.declared.stopped.Stopped.{Stopped}
 use Rattle.jb_batch.specs.Prepared.{Planned}
 use Rattle.jb_front.specs.Front.{super_on}
 use Rattle.jb_ready.specs.Ready.{revoking}
-use Rattle.jb_recover.specs.Outcomes.{IsCleanOf}
-use Rattle.jb_deck.specs.Follows.{StandsBy}
 use Rattle.jb_deck.specs.Gathering.{groups_in}
 use Rattle.jb_deck.specs.Opening.{recovered_home}
 use Rattle.jb_deck.specs.Since.{IsRecoveredTo}
@@ -37,21 +34,3 @@ pub record LeavesAll {D : Type 0} (may_leave : D → Image → Type 0) (size cou
   pub own : Superblock
   pub was : super_on size count base ≡ Ok own
   pub each : (c : Image) → may_leave disk c → IsRecoveredTo (revoking own) size count (recovered_home size count base) settled c
-
--- ---- lives
-
--- A journal that was recovered: there is nothing to recover, its superblock is its own, with the feature for revoke blocks or without
--- it, and each home holds what its last word in these handles says; nothing is said of a home whose last word is free.
-pub record HoldsHandles (own : Superblock) (size count : ℕ) (before : ℕ → List ℕ) (hs : List Stopped) (c : Image) : Type 0 where
-  pub journal : IsCleanOf own size count c ⊎ IsCleanOf (revoking own) size count c
-  pub homes : (home : ℕ) → StandsBy (word hs home) (before home) (block c (own.maxlen + home))
-
--- the journal of the old image has had two lives: the new one holds the handles of the first groups of each one's batch
-pub record HasTwoLives (size count : ℕ) (first second : Planned) (old new : Image) : Type 0 where
-  pub own : Superblock
-  pub was : super_on size count old ≡ Ok own
-  pub before_cut : ℕ
-  pub within_first : before_cut ≤ groups_in first.groups
-  pub after_cut : ℕ
-  pub within_second : after_cut ≤ groups_in second.groups
-  pub holds : HoldsHandles own size count (recovered_home size count old) (handles_to first.groups before_cut first.batch.handles ++ handles_to second.groups after_cut second.batch.handles) new

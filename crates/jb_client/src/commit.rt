@@ -19,7 +19,10 @@ use jb_disk::Disk;
 pub(crate) struct Refused;
 
 /// Gives up a batch.
-pub(crate) fn give_up(batch: Prepared) {
+pub(crate) fn give_up(batch: Prepared)
+    ensures planned { IsPlanned batch }
+{
+    let _bounds = batch.groups().len(); // they are those of a least cut
     let _handles = batch.back().end();
 }
 

@@ -3,7 +3,9 @@
 
 mod closed;
 mod commit;
+mod lives;
 mod prefix;
 
 pub use closed::commit_and_close;
+pub use lives::{Life, two_lives};
 pub use prefix::commit_three;
