@@ -7,19 +7,21 @@ from images import be32, commit, data, descriptor, image, padded, revoke, superb
 ROWS = []
 
 
-def row(words, status, out="", err="", files=(), stdin=b"", after=(), how="", to="pipe", terminal=""):
+def row(words, status, out="", err="", files=(), stdin=b"", after=(), how="", to="pipe", terminal="", locked=""):
     """One run of the program in an empty folder.
 
     words     its words, as one text; a word with a space or a NUL is never needed
-    files     the files that are there before, by their names; None makes a folder, a number a file of so many zeros
+    files     the files that are there before, by their names; None makes a folder, a number a file of so many zeros, a text that kind
+              of file
     after     the files that differ afterwards, or are new; all others must be as they were, and there may be no other
-    how       a shell's `ulimit` and `trap` before it starts
+    how       a shell's `ulimit`, `trap` and `exec` before it starts
+    locked    the file that is locked meanwhile
     to        standard output: a pipe, a pipe that nobody reads (`gone`), or a full device (`full`)
     terminal  which of standard input (`in`) and standard error (`err`) is a terminal; on that one the line of `err` has a second one
               after it, what the program's own help says of the first
     out, err  the two outputs, byte by byte; a function judges the text instead"""
     ROWS.append(dict(words=words, status=status, out=out, err=err, files=dict(files), stdin=stdin, after=dict(after), how=how, to=to,
-                     terminal=terminal))
+                     terminal=terminal, locked=locked))
 
 
 def queue(handles, limit=8, first="bs 1024"):
@@ -93,7 +95,8 @@ for words in ("cost q", "plan q", "check q c"):
     some = {"q": queue(FOUR, 7), "c": PLANS[4][2].encode()}
     row(words, 1, err="jb: WriteFault\n", files=some, to="full")
     row(words, 1, err="jb: WriteFault\n", files=some, to="gone")
-    row(words, 1, err="jb: Memory\n", files={**some, "q": queue(FOUR, 7) + b"h\n" * 4_000_000}, how="ulimit -v 30000")
+    # these handles take some 280 MB, and the program without them a few
+    row(words, 1, err="jb: Memory\n", files={**some, "q": queue(FOUR, 7) + b"h\n" * 8_000_000}, how="ulimit -v 200000")
 
 # ---- images ------------------------------------------------------------------------------------------------------------------
 
@@ -119,12 +122,15 @@ LOADS = [("recover a", {}), ("renumber a", {}), ("widen a", {}), ("load a q", {"
 DUMP = """super bs=1024 maxlen=33 first=1 sequence=%d start=%d errno=0 compat=00000000 incompat=0000000%d rocompat=00000000 max=0 limit=8
 uuid 000102030405060708090a0b0c0d0e0f
 """
-row("dump a", 0, DUMP % (2, 1, 1) + """1 revoke number=2 count=20 homes=7
+DUMPED = DUMP % (2, 1, 1) + """1 revoke number=2 count=20 homes=7
 2 descriptor number=2 tags=1
 3 copy home=5 flags=9 head=0000000001020304
 4 commit number=2 sec=0 nsec=0
 end transactions=1 expected=3
-""", files={"a": FULL})
+"""
+row("dump a", 0, DUMPED, files={"a": FULL})
+row("dump a", 0, DUMPED, files={"a": FULL}, locked="a")
+row("dump -", 0, DUMPED, stdin=FULL, files={"-": image(SMALL)})
 row("dump a", 0, DUMP % (1, 0, 1) + "clean next=2\n", files={"a": image(SMALL, homes=0)})
 row("dump a", 0, DUMP % (2, 1, 1) + "end transactions=0 expected=2\n", files={"a": image(superblock(2, 1), ONE[:3])})
 row("dump a", 1, err="jb: BadRevoke 1\n", files={"a": image(superblock(2, 1), [revoke(2, [], 1025), commit(2)])})
@@ -139,6 +145,8 @@ for content, name in BAD_SUPERS:
 for words, more in LOADS:
     row(words, 2, err="jb: cannot read a\n", files=more)
     row(words, 2, err="jb: cannot read a\n", files={"a": None, **more})
+    row(words, 2, err="jb: cannot read a\n", files={"a": "fifo", **more})
+    row(words, 2, err="jb: in use a\n", files={"a": FULL, **more}, locked="a")
 for words, more in LOADS[1:]:
     row(words, 1, err="jb: NeedsRecovery\n", files={"a": FULL, **more})
 
@@ -161,7 +169,10 @@ for words in ("--bs 512 --journal 33 --homes 16", "--bs 1024 --journal 429496729
     row("format a " + words, 2, err="jb: bad option\n")
     row("format a " + words, 2, err="jb: bad option\n", files={"a": FULL})
 row(BASIC, 1, err="jb: WriteFault\n", to="full", after={"a": MADE})
-row("format a --bs 1024 --journal 8 --homes 16", 1, err="jb: Geometry\n", after={"a": 24 * BS})
+row("format a --bs 1024 --journal 8 --homes 16", 1, err="jb: Geometry\n")
+row("format a --bs 1024 --journal 8 --homes 16", 1, err="jb: Geometry\n", files={"a": FULL})
+# the file is past what the shell lets a file grow to: it was made, and is removed again
+row(BASIC, 2, err="jb: cannot make a\n", how="trap '' XFSZ; ulimit -f 16")
 
 # ---- recover, renumber and widen ---------------------------------------------------------------------------------------------
 
@@ -224,6 +235,20 @@ row("load a q --hold", 1, "handles 5 changes 30 settled 5 groups 1 blocks 8\n", 
 row("load a q --hold", 1, "handles 1 changes 2 settled 0 groups 0 blocks 0\n", "jb: commit Aborted\n", files={"a": image(SMALL), "q": queue(HANDLE)},
     how="trap '' XFSZ; ulimit -f 1", after={"a": image(superblock(2, 1))})
 row("load a q", 1, err="jb: WriteFault\n", files={"a": image(SMALL), "q": queue(HANDLE)}, to="full", after={"a": LOADED})
+
+# ---- closed descriptors ------------------------------------------------------------------------------------------------------
+
+# an image that is opened as descriptor 1 or 2 takes what the program says
+for closed in ("exec >&-", "exec <&- >&-", "exec >&- 2>&-", "exec <&- >&- 2>&-"):
+    said = "" if "2>" in closed else "jb: WriteFault\n"
+    row(BASIC, 1, err=said, how=closed, after={"a": MADE})
+    row("recover a", 1, err=said, files={"a": FULL}, how=closed, after={"a": RECOVERED})
+    row("renumber a", 1, err=said, files={"a": image(CLEAN, OLD)}, how=closed, after={"a": image(superblock(0), CLEARED)})
+    row("widen a", 1, err=said, files={"a": image(SMALL, OLD)}, how=closed, after={"a": WIDENED})
+    row("load a q --hold", 1, err=said, files={"a": image(SMALL), "q": queue(HANDLE)}, how=closed, after={"a": LOADED})
+    row("dump a", 1, err=said, files={"a": FULL}, how=closed)
+row("recover a", 1, files={"a": image(superblock(2, 1), OUT_OF_RANGE)}, how="exec 2>&-")
+row("cost -", 2, err="jb: queue line 1: BlockSizeLine\n", how="exec <&-")
 
 # ---- words -------------------------------------------------------------------------------------------------------------------
 

@@ -147,7 +147,7 @@ fn over_image<'a>(alloc: Global, name: &'a str, about: &'a str) -> Result<Comman
     ensures app { IfOk result (λ c. app_of c ≡ image_app name.entry.now) }
     ensures own { IfOk result (λ c. (fields_of c).has_globals ≡ false) }
 {
-    let help = "A file with a journal at its front, and the home blocks after it";
+    let help = "A file or block device with a journal at its front, and the home blocks after it";
     over(alloc, name, about, "IMAGE", help)
 }
 
@@ -162,7 +162,7 @@ pub fn jb_command<'a>(alloc: Global) -> Result<Command<'a>, AllocError>
     let with_plan = also(with_cost, over_queue(alloc, "plan", about));
     let with_check = also(with_plan, check(alloc));
     let about = "Prints the committed transactions of a journal, block by block";
-    let help = "A file with the whole journal at its front";
+    let help = "A file with the whole journal at its front, or - for standard input";
     let with_dump = also(with_check, over(alloc, "dump", about, "FILE", help));
     let with_format = also(with_dump, format(alloc));
     let with_load = also(with_format, load(alloc));

@@ -85,7 +85,7 @@ const ANSWERED_BY_CLAP: &[(&[&str], bool, &str)] = &[
     (
         &["dump", "-h"],
         false,
-        "Prints the committed transactions of a journal, block by block\n\nUsage: jb dump <FILE>\n\nArguments:\n  <FILE>  A file with the whole journal at its front\n\nOptions:\n  -h, --help  Print help (see more with '--help')\n",
+        "Prints the committed transactions of a journal, block by block\n\nUsage: jb dump <FILE>\n\nArguments:\n  <FILE>  A file with the whole journal at its front, or - for standard input\n\nOptions:\n  -h, --help  Print help (see more with '--help')\n",
     ),
     (
         &["format", "-h"],
@@ -95,17 +95,17 @@ const ANSWERED_BY_CLAP: &[(&[&str], bool, &str)] = &[
     (
         &["load", "-h"],
         false,
-        "Commits the handles of a queue text to an image, run by threads\n\nUsage: jb load [OPTIONS] <IMAGE> <FILE>\n\nArguments:\n  <IMAGE>  A file with a journal at its front, and the home blocks after it\n  <FILE>   A queue text of the image's block size\n\nOptions:\n      --threads <N>  How many threads run the handles, 1 to 64 [default: 1]\n      --hold         Commits once all handles have run, as one batch\n      --stamp <SEC>  The time of the commit blocks, in seconds since 1970 [default: 0]\n      --checkpoint   Writes home what is committed, too\n  -h, --help         Print help (see more with '--help')\n",
+        "Commits the handles of a queue text to an image, run by threads\n\nUsage: jb load [OPTIONS] <IMAGE> <FILE>\n\nArguments:\n  <IMAGE>  A file or block device with a journal at its front, and the home blocks after it\n  <FILE>   A queue text of the image's block size\n\nOptions:\n      --threads <N>  How many threads run the handles, 1 to 64 [default: 1]\n      --hold         Commits once all handles have run, as one batch\n      --stamp <SEC>  The time of the commit blocks, in seconds since 1970 [default: 0]\n      --checkpoint   Writes home what is committed, too\n  -h, --help         Print help (see more with '--help')\n",
     ),
     (
         &["recover", "-h"],
         false,
-        "Writes home what an image's journal has committed, and empties its log\n\nUsage: jb recover <IMAGE>\n\nArguments:\n  <IMAGE>  A file with a journal at its front, and the home blocks after it\n\nOptions:\n  -h, --help  Print help (see more with '--help')\n",
+        "Writes home what an image's journal has committed, and empties its log\n\nUsage: jb recover <IMAGE>\n\nArguments:\n  <IMAGE>  A file or block device with a journal at its front, and the home blocks after it\n\nOptions:\n  -h, --help  Print help (see more with '--help')\n",
     ),
     (
         &["help", "renumber"],
         false,
-        "Restarts the transaction numbers of a clean journal at 1\n\nUsage: jb renumber <IMAGE>\n\nArguments:\n  <IMAGE>\n          A file with a journal at its front, and the home blocks after it\n\nOptions:\n  -h, --help\n          Print help (see a summary with '-h')\n\nStatus: 0 where the journal is renumbered, 1 where it is refused, by the name of its fault, and stays as\nit is, 2 where the file cannot be opened or read. After jb: NeedsRecovery it is to be recovered first; after\njb: DeviceFault, status 1, the command is to be called again.\n\nExample:\n  jb renumber a.img     # renumbered blocks 2 next 1\n",
+        "Restarts the transaction numbers of a clean journal at 1\n\nUsage: jb renumber <IMAGE>\n\nArguments:\n  <IMAGE>\n          A file or block device with a journal at its front, and the home blocks after it\n\nOptions:\n  -h, --help\n          Print help (see a summary with '-h')\n\nStatus: 0 where the journal is renumbered, 1 where it is refused, by the name of its fault, and stays as\nit is, 2 where the file cannot be opened or read. After jb: NeedsRecovery it is to be recovered first; after\njb: DeviceFault, status 1, the command is to be called again.\n\nExample:\n  jb renumber a.img     # renumbered blocks 2 next 1\n",
     ),
     (
         &["-h"],

@@ -12,11 +12,19 @@ A queue text, the FILE of cost, plan, check and load, has a line for each handle
   limit 7                 the most log blocks of a group
   h w1 w2=c03b3998 r5     a handle that writes home block 1, and 2 with these bytes, and revokes 5
 An image has the journal first, its superblock at the front, and the home blocks after it: home block N
-is the block at s_maxlen + N. The FILE of dump is a journal, whatever comes after it.
+is the block at s_maxlen + N. It is a regular file or a block device. The FILE of dump is a journal,
+whatever comes after it; it may be a pipe.
+
+Locks: load, recover, renumber and widen lock their image while they use it (flock), and format the file
+that it makes. An image that another program has locked is refused at once, with jb: in use NAME and
+status 2. dump takes no lock. Nothing keeps out a program that takes none, as cp, and where the system has
+no lock for a file jb goes on without.
 
 Status: 0 where a command is done, and what it judges fits or is accepted; 1 where it is not, or an image
 is refused, or a read, a write or memory failed; 2 where the words, a file or a text cannot be taken. With
-no words jb acts as jb cost -; where standard input is a terminal it prints its help, with status 2.
+no words jb acts as jb cost -; where standard input is a terminal it prints its help, with status 2. A
+write past the limit of the file size (ulimit -f) ends jb by the signal SIGXFSZ: format leaves an empty
+file then, and an image is to be recovered, as after a crash.
 
 Diagnostics: what went wrong is one line on standard error. Where that is a terminal, what to do follows
 on a second line. # is a number.",
