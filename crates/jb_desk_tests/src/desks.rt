@@ -1,14 +1,15 @@
 //! Calls of a desk over the small journal, with the answers that its limits give by hand.
 ghost use Rattle.std.specs.Prelude.{◌≡◌, ◌+◌, ◌^◌};
+ghost use Rattle.jb_handle.specs.Word.{WordMap};
 
-use crate::blind::{Blind, start};
+use crate::blind::start;
 use crate::journal::{
     CLOCK, PARTS, SHAPE, Still, Why, close_twice, formatted, opened, over_at, refused, revoke, stop,
 };
 use jb_block::Memory;
 use jb_board::Front;
 use jb_deck::{Checked, CheckpointFault};
-use jb_desk::{BeginFault, Seat, SeatFault, WaitFault};
+use jb_desk::{BeginFault, Origin, Seat, SeatFault, WaitFault};
 use jb_disk::MemoryDisk;
 use jb_handle::Handle;
 use std::alloc::Global;
@@ -33,12 +34,13 @@ struct OneHandle {
     counts: Option<(u64, u64, usize)>,
 }
 
-fn one_handle<R: Wait, H: Blind, N: Ledger>(
+fn one_handle<R: Wait, H: Origin, N: Ledger>(
     rt: &R,
     alloc: Global,
     desk: Small<H, N>,
 ) -> Result<Option<OneHandle>, Memory>
-    requires { (H.parts ≡ 2 ^ 61 + 1) × (N.parts ≡ 2 ^ 61 + 1) }
+    requires any { (words : WordMap) → H.begun.stops words }
+    requires parts { (H.parts ≡ 2 ^ 61 + 1) × (N.parts ≡ 2 ^ 61 + 1) }
 {
     let mut lefts = Vec::new(alloc);
     lefts.reserve(1)?;
@@ -90,12 +92,13 @@ struct StrayAnswers {
     counts: Option<(u64, u64, usize)>,
 }
 
-fn strays<R: Wait, H: Blind, N: Ledger>(
+fn strays<R: Wait, H: Origin, N: Ledger>(
     rt: &R,
     alloc: Global,
     desk: Small<H, N>,
 ) -> Result<Option<StrayAnswers>, Memory>
-    requires { (H.parts ≡ 2 ^ 61 + 1) × (N.parts ≡ 2 ^ 61 + 1) }
+    requires any { (words : WordMap) → H.begun.stops words }
+    requires parts { (H.parts ≡ 2 ^ 61 + 1) × (N.parts ≡ 2 ^ 61 + 1) }
 {
     let mut lefts = Vec::new(alloc);
     lefts.reserve(2)?;
@@ -123,11 +126,13 @@ fn strays<R: Wait, H: Blind, N: Ledger>(
 }
 
 /// Begins a handle, takes it apart, and begins another one.
-fn end_at_once<R: Wait, H: Blind, N: Ledger>(
+fn end_at_once<R: Wait, H: Origin, N: Ledger>(
     rt: &R,
     desk: &Small<H, N>,
     seat: Seat<H, N>,
-) -> (Seat<H, N>, Option<BeginFault>) {
+) -> (Seat<H, N>, Option<BeginFault>)
+    requires any { (words : WordMap) → H.begun.stops words }
+{
     match desk.begin(rt, seat, 1) {
         Ok(handle) => {
             let (seat, _words) = handle.end();
@@ -138,11 +143,13 @@ fn end_at_once<R: Wait, H: Blind, N: Ledger>(
 }
 
 /// With so many handles of 6 credits open, whether one of 3 is begun, and one of 2.
-fn beside<R: Wait, H: Blind, N: Ledger>(
+fn beside<R: Wait, H: Origin, N: Ledger>(
     rt: &R,
     desk: &Small<H, N>,
     count: u32,
-) -> Option<(Option<BeginFault>, Option<BeginFault>)> {
+) -> Option<(Option<BeginFault>, Option<BeginFault>)>
+    requires any { (words : WordMap) → H.begun.stops words }
+{
     let Ok(seat) = desk.seat(rt) else {
         return None;
     };
@@ -164,13 +171,15 @@ fn beside<R: Wait, H: Blind, N: Ledger>(
 }
 
 /// What three new desks answer.
-fn rows<R: Wait, H: Blind, N: Ledger>(
+fn rows<R: Wait, H: Origin, N: Ledger>(
     rt: &R,
     alloc: Global,
     row: Row,
     handles: Blank,
     changes: Blank,
 ) -> Result<Option<Answer>, Memory>
+    requires blind { H.begun.honest → ⊥ }
+    requires any { (words : WordMap) → H.begun.stops words }
     requires handles { (handles.name ≡ H.name) × (handles.parts ≡ H.parts) × (H.parts ≡ 2 ^ 61 + 1) }
     requires changes { (changes.name ≡ N.name) × (changes.parts ≡ N.parts) × (N.parts ≡ 2 ^ 61 + 1) }
 {

@@ -1,13 +1,14 @@
 //! A round over a disk that fails once, at each of its calls.
 ghost use Rattle.std.specs.Prelude.{◌≡◌, ◌+◌, ◌^◌};
+ghost use Rattle.jb_handle.specs.Word.{WordMap};
 
-use crate::blind::{Blind, start};
+use crate::blind::start;
 use crate::journal::{
     CLOCK, Came, PARTS, Still, Why, formatted, opened, refused, retired, round, stop, write,
 };
 use jb_block::{BlockSize, Memory};
 use jb_deck::Entry;
-use jb_desk::{BeginFault, RoundFault};
+use jb_desk::{BeginFault, Origin, RoundFault};
 use jb_disk::{Disk, MemoryDisk, OneFaultDisk};
 use jb_recover::recover;
 use std::alloc::Global;
@@ -74,12 +75,13 @@ fn is_whole(alloc: Global, disk: MemoryDisk) -> bool {
     }
 }
 
-fn after_round<R: Wait, H: Blind, N: Ledger>(
+fn after_round<R: Wait, H: Origin, N: Ledger>(
     rt: &R,
     alloc: Global,
     desk: Failing<H, N>,
 ) -> Result<Option<Found>, Memory>
-    requires { (H.parts ≡ 2 ^ 61 + 1) × (N.parts ≡ 2 ^ 61 + 1) }
+    requires any { (words : WordMap) → H.begun.stops words }
+    requires parts { (H.parts ≡ 2 ^ 61 + 1) × (N.parts ≡ 2 ^ 61 + 1) }
 {
     let mut lefts = Vec::new(alloc);
     lefts.reserve(2)?;
@@ -128,13 +130,15 @@ fn after_round<R: Wait, H: Blind, N: Ledger>(
 }
 
 /// What is found where this call of the disk fails; `None` where the journal cannot be opened then.
-fn failing<R: Wait, H: Blind, N: Ledger>(
+fn failing<R: Wait, H: Origin, N: Ledger>(
     rt: &R,
     alloc: Global,
     call: u64,
     handles: Blank,
     changes: Blank,
 ) -> Result<Option<Found>, Memory>
+    requires blind { H.begun.honest → ⊥ }
+    requires any { (words : WordMap) → H.begun.stops words }
     requires handles { (handles.name ≡ H.name) × (handles.parts ≡ H.parts) × (H.parts ≡ 2 ^ 61 + 1) }
     requires changes { (changes.name ≡ N.name) × (changes.parts ≡ N.parts) × (N.parts ≡ 2 ^ 61 + 1) }
 {

@@ -1,14 +1,15 @@
 //! A handle stops while the disk is at work for another thread.
 ghost use Rattle.std.specs.Prelude.{◌≡◌, ◌+◌, ◌^◌};
 ghost use Rattle.jb_disk.specs.Faults.{CountsFault, counted};
+ghost use Rattle.jb_handle.specs.Word.{WordMap};
 
-use crate::blind::{Blind, start};
+use crate::blind::start;
 use crate::journal::{
     CLOCK, Came, PARTS, Still, Why, formatted, opened, retired, round, stop, write,
 };
 use jb_block::{BlockSize, Memory};
 use jb_deck::Entry;
-use jb_desk::{Left, WaitFault};
+use jb_desk::{Left, Origin, WaitFault};
 use jb_disk::{Disk, Fault, MemoryDisk};
 use std::alloc::Global;
 use std::marker::Brand;
@@ -129,11 +130,13 @@ struct Found {
     numbers: (Result<u32, WaitFault>, Result<u32, WaitFault>),
 }
 
-fn first<K: Wait + Clock, D: Disk, H: Blind, N: Ledger>(
+fn first<K: Wait + Clock, D: Disk, H: Origin, N: Ledger>(
     rt: &K,
     desk: &Still<D, H, N>,
     gate: &Gate,
-) -> Option<(Left<H, N>, Found)> {
+) -> Option<(Left<H, N>, Found)>
+    requires any { (words : WordMap) → H.begun.stops words }
+{
     let Ok(seat) = desk.seat(rt) else {
         return None;
     };
@@ -149,11 +152,13 @@ fn first<K: Wait + Clock, D: Disk, H: Blind, N: Ledger>(
     Some((desk.leave(rt, seat), Found { rounds, numbers }))
 }
 
-fn second<K: Wait + Clock, D: Disk, H: Blind, N: Ledger>(
+fn second<K: Wait + Clock, D: Disk, H: Origin, N: Ledger>(
     rt: &K,
     desk: &Still<D, H, N>,
     gate: &Gate,
-) -> Option<(Left<H, N>, Result<u64, Why>)> {
+) -> Option<(Left<H, N>, Result<u64, Why>)>
+    requires any { (words : WordMap) → H.begun.stops words }
+{
     let Ok(seat) = desk.seat(rt) else {
         return None;
     };
@@ -181,13 +186,15 @@ struct Answer {
     counts: Option<(u64, u64, usize)>,
 }
 
-fn gated<R: Threads + Wait + Clock + Sync, H: Blind + Send + Sync, N: Ledger + Send + Sync>(
+fn gated<R: Threads + Wait + Clock + Sync, H: Origin + Send + Sync, N: Ledger + Send + Sync>(
     rt: &R,
     alloc: Global,
     gate: &Gate,
     handles: Blank,
     changes: Blank,
 ) -> Result<Option<Answer>, Memory>
+    requires blind { H.begun.honest → ⊥ }
+    requires any { (words : WordMap) → H.begun.stops words }
     requires handles { (handles.name ≡ H.name) × (handles.parts ≡ H.parts) × (H.parts ≡ 2 ^ 61 + 1) }
     requires changes { (changes.name ≡ N.name) × (changes.parts ≡ N.parts) × (N.parts ≡ 2 ^ 61 + 1) }
 {

@@ -4,12 +4,13 @@ ghost use Rattle.jb_handle.specs.Handle.{holder};
 ghost use Rattle.jb_desk.specs.Desks.{desk_id};
 ghost use Rattle.jb_desk.specs.Rounds.{seat_of};
 ghost use Rattle.jb_desk.specs.Seats.{desk_of};
+ghost use Rattle.jb_handle.specs.Word.{WordMap};
 
-use crate::blind::{Blind, may_stop};
 use jb_block::{BlockSize, Memory, Width, put32};
 use jb_deck::{Deck, Entry};
 use jb_desk::{
-    BeginFault, CloseFault, Committer, Desk, Ended, Left, Round, RoundFault, Seat, StopFault,
+    BeginFault, CloseFault, Committer, Desk, Ended, Left, Origin, Round, RoundFault, Seat,
+    StopFault,
 };
 use jb_disk::{Disk, FixedClock, MemoryDisk};
 use jb_group::Stamp;
@@ -66,7 +67,9 @@ pub fn numbered(alloc: Global, number: u32) -> Result<Option<MemoryDisk>, Memory
 }
 
 /// Opens the journal on a disk.
-pub fn opened<D: Disk + Drop>(alloc: Global, disk: D) -> Option<Deck<D>> {
+pub fn opened<D: Disk + Drop>(alloc: Global, disk: D) -> Option<Deck<D>>
+    ensures { IfSome result (λ deck. (deck.trail ≡ []) × (deck.aborted ≡ false)) }
+{
     Deck::open(alloc, disk).ok()
 }
 
@@ -80,7 +83,7 @@ pub enum Why {
 }
 
 /// Begins a handle and drops it; says why that was refused.
-pub fn refused<R: Wait, D: Disk, H: Blind, N: Ledger>(
+pub fn refused<R: Wait, D: Disk, H: Origin, N: Ledger>(
     rt: &R,
     desk: &Still<D, H, N>,
     seat: Seat<H, N>,
@@ -95,15 +98,15 @@ pub fn refused<R: Wait, D: Disk, H: Blind, N: Ledger>(
 }
 
 /// Stops a handle, or drops it where that is refused.
-pub fn stop<R: Wait, D: Disk, H: Blind, N: Ledger>(
+pub fn stop<R: Wait, D: Disk, H: Origin, N: Ledger>(
     rt: &R,
     desk: &Still<D, H, N>,
     handle: Handle<Seat<H, N>>,
 ) -> (Seat<H, N>, Result<u64, Why>)
-    requires { desk_of (holder handle) ≡ desk_id desk.now }
+    requires any { (words : WordMap) → H.begun.stops words }
+    requires desk { desk_of (holder handle) ≡ desk_id desk.now }
     ensures { desk_of result.0 ≡ desk_id desk.now }
 {
-    may_stop::<H>(handle.words());
     match desk.stop(rt, handle) {
         Ok((seat, ticket)) => (seat, Ok(ticket)),
         Err(StopFault::Aborted(seat)) => (seat, Err(Why::Aborted)),
@@ -113,13 +116,14 @@ pub fn stop<R: Wait, D: Disk, H: Blind, N: Ledger>(
 }
 
 /// Begins a handle, revokes a home block and stops it.
-pub fn revoke<R: Wait, D: Disk, H: Blind, N: Ledger>(
+pub fn revoke<R: Wait, D: Disk, H: Origin, N: Ledger>(
     rt: &R,
     desk: &Still<D, H, N>,
     seat: Seat<H, N>,
     home: u64,
 ) -> (Seat<H, N>, Result<u64, Why>)
-    requires { desk_of seat ≡ desk_id desk.now }
+    requires any { (words : WordMap) → H.begun.stops words }
+    requires desk { desk_of seat ≡ desk_id desk.now }
     ensures { desk_of result.0 ≡ desk_id desk.now }
 {
     match desk.begin(rt, seat, 1) {
@@ -132,14 +136,15 @@ pub fn revoke<R: Wait, D: Disk, H: Blind, N: Ledger>(
 }
 
 /// Begins a handle of so many credits, writes home blocks and stops it.
-pub fn write<R: Wait, D: Disk, H: Blind, N: Ledger>(
+pub fn write<R: Wait, D: Disk, H: Origin, N: Ledger>(
     rt: &R,
     desk: &Still<D, H, N>,
     seat: Seat<H, N>,
     credits: u32,
     homes: &[u64],
 ) -> (Seat<H, N>, Result<u64, Why>)
-    requires { desk_of seat ≡ desk_id desk.now }
+    requires any { (words : WordMap) → H.begun.stops words }
+    requires desk { desk_of seat ≡ desk_id desk.now }
     ensures { desk_of result.0 ≡ desk_id desk.now }
 {
     match desk.begin(rt, seat, credits) {
@@ -179,12 +184,12 @@ pub enum Came {
 }
 
 /// One round of a committer.
-pub fn round<R: Wait, D: Disk, H: Blind, N: Ledger>(
+pub fn round<R: Wait, D: Disk, H: Origin, N: Ledger>(
     rt: &R,
     desk: &Still<D, H, N>,
     committer: &mut Committer<H, N>,
 ) -> Came
-    requires { desk_of (seat_of committer.old) ≡ desk_id desk.now }
+    requires desk { desk_of (seat_of committer.old) ≡ desk_id desk.now }
     ensures { desk_of (seat_of committer.new) ≡ desk_of (seat_of committer.old) }
 {
     match desk.commit_round(rt, committer) {
@@ -198,7 +203,7 @@ pub fn round<R: Wait, D: Disk, H: Blind, N: Ledger>(
 }
 
 /// A committer retires, or gives up where it is handed back. Says whether it retired.
-pub fn retired<R: Wait, D: Disk, H: Blind, N: Ledger>(
+pub fn retired<R: Wait, D: Disk, H: Origin, N: Ledger>(
     rt: &R,
     desk: &Still<D, H, N>,
     committer: Committer<H, N>,
@@ -212,12 +217,12 @@ pub fn retired<R: Wait, D: Disk, H: Blind, N: Ledger>(
 }
 
 /// Closes a desk with what the last seat left; gives the handles and changes that are counted and the groups.
-pub fn close<D: Disk + Drop, H: Blind, N: Ledger>(
+pub fn close<D: Disk + Drop, H: Origin, N: Ledger>(
     desk: Still<D, H, N>,
     lefts: Vec<Left<H, N>>,
     last: Left<H, N>,
 ) -> Option<(u64, u64, usize)>
-    requires { (H.parts ≡ 2 ^ 61 + 1) × (N.parts ≡ 2 ^ 61 + 1) }
+    requires parts { (H.parts ≡ 2 ^ 61 + 1) × (N.parts ≡ 2 ^ 61 + 1) }
 {
     let mut lefts = lefts;
     lefts.push(last).ok()?;
@@ -226,12 +231,12 @@ pub fn close<D: Disk + Drop, H: Blind, N: Ledger>(
 }
 
 /// Whether closing a desk is refused for seats that are out, and what is counted once the last one has left.
-pub fn close_twice<D: Disk + Drop, H: Blind, N: Ledger>(
+pub fn close_twice<D: Disk + Drop, H: Origin, N: Ledger>(
     desk: Still<D, H, N>,
     lefts: Vec<Left<H, N>>,
     last: Left<H, N>,
 ) -> (bool, Option<(u64, u64, usize)>)
-    requires { (H.parts ≡ 2 ^ 61 + 1) × (N.parts ≡ 2 ^ 61 + 1) }
+    requires parts { (H.parts ≡ 2 ^ 61 + 1) × (N.parts ≡ 2 ^ 61 + 1) }
 {
     match desk.close(lefts) {
         Err(CloseFault::SeatsOut(desk, lefts)) => (true, close(desk, lefts, last)),

@@ -1,15 +1,16 @@
 //! Eight threads stop handles while one thread commits and one brings groups home; also where the disk stops at some
 //! call, and the image that a crash leaves is recovered.
 ghost use Rattle.std.specs.Prelude.{◌≡◌, ◌+◌, ◌^◌};
+ghost use Rattle.jb_handle.specs.Word.{WordMap};
 
-use crate::blind::{Blind, start};
+use crate::blind::start;
 use crate::homes::{Stop, contents_of, prefix_of};
 use crate::journal::{CLOCK, PARTS, Still, opened};
 use crate::keys::{Draws, HOMES};
 use crate::threads::{Report, Reports, work_all};
 use jb_block::{BlockSize, Width};
 use jb_deck::Entry;
-use jb_desk::{Ended, Left};
+use jb_desk::{Ended, Left, Origin};
 use jb_disk::{FuseDisk, MemoryDisk};
 use jb_recover::{format, recover};
 use std::alloc::Global;
@@ -104,13 +105,15 @@ fn sums_of<H: Ledger, N: Ledger>(
 }
 
 /// A load of a new desk. `None` where the journal could not be opened.
-fn outcome_of<R: Threads + Wait + Clock + Sync, H: Blind + Send + Sync, N: Ledger + Send + Sync>(
+fn outcome_of<R: Threads + Wait + Clock + Sync, H: Origin + Send + Sync, N: Ledger + Send + Sync>(
     rt: &R,
     alloc: Global,
     load: Load,
     handles: Blank,
     changes: Blank,
 ) -> Result<Option<Outcome>, Fail>
+    requires blind { H.begun.honest → ⊥ }
+    requires any { (words : WordMap) → H.begun.stops words }
     requires handles { (handles.name ≡ H.name) × (handles.parts ≡ H.parts) × (H.parts ≡ 2 ^ 61 + 1) }
     requires changes { (changes.name ≡ N.name) × (changes.parts ≡ N.parts) × (N.parts ≡ 2 ^ 61 + 1) }
 {

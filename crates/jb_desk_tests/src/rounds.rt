@@ -1,7 +1,8 @@
 //! Rounds of a committer over the small journal, with the answers that its limits give by hand.
 ghost use Rattle.std.specs.Prelude.{◌≡◌, ◌+◌, ◌^◌};
+ghost use Rattle.jb_handle.specs.Word.{WordMap};
 
-use crate::blind::{Blind, start};
+use crate::blind::start;
 use crate::journal::{
     CLOCK, Came, PARTS, Still, Why, close_twice, formatted, numbered, opened, over_at, refused,
     retired, round, write,
@@ -9,7 +10,7 @@ use crate::journal::{
 use jb_block::Memory;
 use jb_board::Front;
 use jb_deck::{Checked, CheckpointFault, Entry};
-use jb_desk::{BeginFault, RoundFault, WaitFault};
+use jb_desk::{BeginFault, Origin, RoundFault, WaitFault};
 use jb_disk::MemoryDisk;
 use std::alloc::Global;
 use std::marker::Brand;
@@ -38,12 +39,13 @@ struct OneRound {
     counts: Option<(u64, u64, usize)>,
 }
 
-fn one_round<R: Wait, H: Blind, N: Ledger>(
+fn one_round<R: Wait, H: Origin, N: Ledger>(
     rt: &R,
     alloc: Global,
     desk: Small<H, N>,
 ) -> Result<Option<OneRound>, Memory>
-    requires { (H.parts ≡ 2 ^ 61 + 1) × (N.parts ≡ 2 ^ 61 + 1) }
+    requires any { (words : WordMap) → H.begun.stops words }
+    requires parts { (H.parts ≡ 2 ^ 61 + 1) × (N.parts ≡ 2 ^ 61 + 1) }
 {
     let mut lefts = Vec::new(alloc);
     lefts.reserve(1)?;
@@ -96,12 +98,13 @@ struct NoNumber {
     closed: (bool, Option<(u64, u64, usize)>),
 }
 
-fn no_number<R: Wait, H: Blind, N: Ledger>(
+fn no_number<R: Wait, H: Origin, N: Ledger>(
     rt: &R,
     alloc: Global,
     desk: Small<H, N>,
 ) -> Result<Option<NoNumber>, Memory>
-    requires { (H.parts ≡ 2 ^ 61 + 1) × (N.parts ≡ 2 ^ 61 + 1) }
+    requires any { (words : WordMap) → H.begun.stops words }
+    requires parts { (H.parts ≡ 2 ^ 61 + 1) × (N.parts ≡ 2 ^ 61 + 1) }
 {
     let mut lefts = Vec::new(alloc);
     lefts.reserve(2)?;
@@ -130,13 +133,15 @@ fn no_number<R: Wait, H: Blind, N: Ledger>(
 }
 
 /// What two new desks answer: the first over a new journal, the second over one with one number left.
-fn rows<R: Wait, H: Blind, N: Ledger>(
+fn rows<R: Wait, H: Origin, N: Ledger>(
     rt: &R,
     alloc: Global,
     is_last: bool,
     handles: Blank,
     changes: Blank,
 ) -> Result<Option<Answer>, Memory>
+    requires blind { H.begun.honest → ⊥ }
+    requires any { (words : WordMap) → H.begun.stops words }
     requires handles { (handles.name ≡ H.name) × (handles.parts ≡ H.parts) × (H.parts ≡ 2 ^ 61 + 1) }
     requires changes { (changes.name ≡ N.name) × (changes.parts ≡ N.parts) × (N.parts ≡ 2 ^ 61 + 1) }
 {

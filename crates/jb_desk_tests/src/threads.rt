@@ -4,12 +4,13 @@ ghost use Rattle.std.specs.Prelude.{◌≡◌, ◌+◌};
 ghost use Rattle.jb_desk.specs.Desks.{desk_id};
 ghost use Rattle.jb_desk.specs.Seats.{desk_of};
 ghost use Rattle.jb_handle.specs.Handle.{holder};
+ghost use Rattle.jb_handle.specs.Word.{WordMap};
 
-use crate::blind::{Blind, may_stop};
 use crate::homes::Stop;
 use crate::journal::{Still, Why, retired, stop};
 use crate::keys::{CHANGES, Change, Draws, block_of, changes_of};
-use jb_desk::{BeginFault, Ended, Left, Seat, StopFault, WaitFault};
+use jb_block::Memory;
+use jb_desk::{BeginFault, Ended, Left, Origin, Seat, StopFault, WaitFault};
 use jb_disk::Disk;
 use jb_handle::{Handle, TouchFault};
 use std::alloc::Global;
@@ -116,15 +117,15 @@ fn change_all<H: Ledger, N: Ledger>(
 }
 
 /// Stops a handle. A stop that is out of memory is called again.
-fn stop_again<R: Wait, D: Disk, H: Blind, N: Ledger>(
+fn stop_again<R: Wait, D: Disk, H: Origin, N: Ledger>(
     rt: &R,
     desk: &Still<D, H, N>,
     handle: Handle<Seat<H, N>>,
 ) -> (Seat<H, N>, Result<u64, Why>)
-    requires { desk_of (holder handle) ≡ desk_id desk.now }
+    requires any { (words : WordMap) → H.begun.stops words }
+    requires desk { desk_of (holder handle) ≡ desk_id desk.now }
     ensures { desk_of result.0 ≡ desk_id desk.now }
 {
-    may_stop::<H>(handle.words());
     match desk.stop(rt, handle) {
         Ok((seat, ticket)) => (seat, Ok(ticket)),
         Err(StopFault::Memory(handle)) => stop(rt, desk, handle),
@@ -134,13 +135,13 @@ fn stop_again<R: Wait, D: Disk, H: Blind, N: Ledger>(
 }
 
 /// Waits for the last ticket that a thread was given.
-fn wait_for_last<R: Wait, D: Disk, H: Blind, N: Ledger>(
+fn wait_for_last<R: Wait, D: Disk, H: Origin, N: Ledger>(
     rt: &R,
     desk: &Still<D, H, N>,
     seat: &mut Seat<H, N>,
     report: &mut Report<H, N>,
 )
-    requires { desk_of seat.old ≡ desk_id desk.now }
+    requires desk { desk_of seat.old ≡ desk_id desk.now }
     ensures { desk_of seat.new ≡ desk_id desk.now }
 {
     if let Some(&Stop { ticket, .. }) = report.stops.last() {
@@ -151,14 +152,15 @@ fn wait_for_last<R: Wait, D: Disk, H: Blind, N: Ledger>(
 
 /// Begins a handle and stops it, or drops it; says whether one was begun. Where the journal is full, or
 /// where there is no memory, it waits for a tenth of a millisecond.
-fn once<R: Wait + Clock, D: Disk, H: Blind, N: Ledger>(
+fn once<R: Wait + Clock, D: Disk, H: Origin, N: Ledger>(
     rt: &R,
     desk: &Still<D, H, N>,
     seat: Seat<H, N>,
     key: u64,
     report: &mut Report<H, N>,
 ) -> (Seat<H, N>, bool)
-    requires { desk_of seat ≡ desk_id desk.now }
+    requires any { (words : WordMap) → H.begun.stops words }
+    requires desk { desk_of seat ≡ desk_id desk.now }
     ensures { desk_of result.0 ≡ desk_id desk.now }
 {
     match desk.begin(rt, seat, CHANGES as u32) {
@@ -191,13 +193,15 @@ fn once<R: Wait + Clock, D: Disk, H: Blind, N: Ledger>(
 }
 
 /// Takes a seat, begins so many handles, and leaves after the last one is settled.
-fn work<R: Wait + Clock, D: Disk, H: Blind, N: Ledger>(
+fn work<R: Wait + Clock, D: Disk, H: Origin, N: Ledger>(
     rt: &R,
     alloc: Global,
     desk: &Still<D, H, N>,
     draws: Draws,
     handles: u32,
-) -> Report<H, N> {
+) -> Report<H, N>
+    requires any { (words : WordMap) → H.begun.stops words }
+{
     let mut report = Report::new(alloc);
     let Ok(seat) = desk.seat(rt) else {
         report.is_wrong = true;
@@ -222,7 +226,7 @@ fn work<R: Wait + Clock, D: Disk, H: Blind, N: Ledger>(
 
 /// Commits until the desk is shut; where a round is out of memory, the next one takes its batch up. Gives what its seat
 /// left, and how it ended.
-fn commit<R: Wait, D: Disk, H: Blind, N: Ledger>(
+fn commit<R: Wait, D: Disk, H: Origin, N: Ledger>(
     rt: &R,
     desk: &Still<D, H, N>,
 ) -> Option<(Left<H, N>, Ended)> {
@@ -247,28 +251,55 @@ pub struct Reports<H: Ledger, N: Ledger> {
     pub ended: (Ended, Ended),
 }
 
+/// Eight threads begin so many handles each; then the desk is shut.
+fn work_eight<
+    R: Threads + Wait + Clock + Sync,
+    D: Disk + Send,
+    H: Origin + Send + Sync,
+    N: Ledger + Send + Sync,
+>(
+    rt: &R,
+    alloc: Global,
+    desk: &Still<D, H, N>,
+    seed: u64,
+    handles: u32,
+) -> Result<Vec<Report<H, N>>, Memory>
+    requires { (words : WordMap) → H.begun.stops words }
+{
+    let reports = thread::map_indices(
+        rt,
+        alloc,
+        8,
+        &|k: usize| -> Report<H, N>
+            requires { (words : WordMap) → H.begun.stops words }
+        {
+            work(
+                rt,
+                alloc,
+                desk,
+                Draws::of(seed.wrapping_add(k as u64)),
+                handles,
+            )
+        },
+    );
+    desk.shut(rt);
+    reports
+}
+
 /// Eight threads begin so many handles each, while one commits and one brings groups home.
 pub fn work_all<
     R: Threads + Wait + Clock + Sync,
     D: Disk + Send,
-    H: Blind + Send + Sync,
+    H: Origin + Send + Sync,
     N: Ledger + Send + Sync,
->(rt: &R, alloc: Global, desk: &Still<D, H, N>, seed: u64, handles: u32) -> Option<Reports<H, N>> {
+>(rt: &R, alloc: Global, desk: &Still<D, H, N>, seed: u64, handles: u32) -> Option<Reports<H, N>>
+    requires any { (words : WordMap) → H.begun.stops words }
+{
     let (reports, (committed, checkpointed)) = thread::join(
         rt,
-        || {
-            let reports = thread::map_indices(
-                rt,
-                alloc,
-                8,
-                &|k| {
-                    let draws = Draws::of(seed.wrapping_add(k as u64));
-                    work(rt, alloc, desk, draws, handles)
-                },
-            );
-            desk.shut(rt);
-            reports
-        },
+        || -> Result<Vec<Report<H, N>>, Memory>
+            requires { (words : WordMap) → H.begun.stops words }
+        { work_eight(rt, alloc, desk, seed, handles) },
         || thread::join(rt, || commit(rt, desk), || desk.run_checkpointer(rt)),
     );
     let (left, ended) = committed?;

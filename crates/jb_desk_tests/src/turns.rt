@@ -1,8 +1,10 @@
 //! Handles that wait for room are begun in the order in which they came.
 ghost use Rattle.std.specs.Prelude.{◌≡◌, ◌+◌, ◌^◌};
 
+use crate::blind::start;
 use crate::journal::{CLOCK, PARTS, Still, formatted, opened};
-use jb_disk::MemoryDisk;
+use jb_desk::Origin;
+use jb_disk::{FixedClock, MemoryDisk};
 use std::alloc::Global;
 use std::marker::Brand;
 use std::sync::ledger::{Blank, Ledger};
@@ -19,7 +21,7 @@ const THREADS: usize = 12;
 const APART: u64 = 50;
 
 /// Begins a handle of six credits, notes that it is begun, and drops it once all threads have come.
-fn come<R: Wait + Clock, H: Ledger, N: Ledger>(
+fn come<R: Wait + Clock, H: Origin, N: Ledger>(
     rt: &R,
     desk: &Still<MemoryDisk, H, N>,
     k: usize,
@@ -44,12 +46,13 @@ fn come<R: Wait + Clock, H: Ledger, N: Ledger>(
 }
 
 /// The order in which the threads begin their handles.
-fn order<R: Threads + Wait + Clock + Sync, H: Ledger + Send + Sync, N: Ledger + Send + Sync>(
+fn order<R: Threads + Wait + Clock + Sync, H: Origin + Send + Sync, N: Ledger + Send + Sync>(
     rt: &R,
     alloc: Global,
     handles: Blank,
     changes: Blank,
 ) -> Result<Vec<usize>, Fail>
+    requires blind { H.begun.honest → ⊥ }
     requires handles { (handles.name ≡ H.name) × (handles.parts ≡ H.parts) × (H.parts ≡ 2 ^ 61 + 1) }
     requires changes { (changes.name ≡ N.name) × (changes.parts ≡ N.parts) × (N.parts ≡ 2 ^ 61 + 1) }
 {
@@ -59,7 +62,8 @@ fn order<R: Threads + Wait + Clock + Sync, H: Ledger + Send + Sync, N: Ledger + 
     let Some(deck) = opened(alloc, disk) else {
         return Err("it is not opened".into());
     };
-    let Ok(desk) = Still::<MemoryDisk, H, N>::start(alloc, handles, changes, deck, CLOCK) else {
+    let Ok(desk) = start::<MemoryDisk, FixedClock, H, N>(alloc, handles, changes, deck, CLOCK)
+    else {
         return Err("it is not started".into());
     };
     let begun = Mutex::new(Vec::new(alloc));

@@ -1,4 +1,4 @@
 use Rattle.jb_desk_tests.proofs.blind.start.Goals as goal
 
 pub start-requires-clause-begun : goal.start-requires-clause-begun
-start-requires-clause-begun g c = record { since = λ honest. absurd (g.met.H.Blind.blind honest) }
+start-requires-clause-begun g c = record { since = λ honest. absurd (c.requires.blind honest) }

@@ -1,0 +1,7 @@
+use Rattle.jb_desk_tests.proofs.turns.handles_that_wait_for_room_are_begun_in_the_order_of_arrival.Given as goal
+
+abbrev pub ghosts-order-H-Ledger : goal.ghosts-order-H-Ledger
+ghosts-order-H-Ledger g a = record { name = a.handles.name; parts = a.handles.parts }
+
+abbrev pub ghosts-order-N-Ledger : goal.ghosts-order-N-Ledger
+ghosts-order-N-Ledger g a = record { name = a.changes.name; parts = a.changes.parts }
