@@ -26,6 +26,8 @@ mod model;
 #[cfg(test)]
 mod openings;
 #[cfg(test)]
+mod reads;
+#[cfg(test)]
 mod rounds;
 #[cfg(test)]
 mod scripts;

@@ -25,13 +25,13 @@ const IMAGES: u32 = 3;
 
 /// A generator's state (Knuth's MMIX).
 #[derive(Drop)]
-struct Seed {
-    state: u64,
+pub struct Seed {
+    pub state: u64,
 }
 
 impl Seed {
     /// A number below a limit, or 0.
-    fn below(&mut self, limit: u32) -> u32 {
+    pub fn below(&mut self, limit: u32) -> u32 {
         self.state = self
             .state
             .wrapping_mul(6_364_136_223_846_793_005)
@@ -46,9 +46,9 @@ const AFTER: [usize; 4] = [0x50, 0x1F0, 0x200, 0x3F0];
 
 /// Where things are on an image: how many blocks stand before the log, and the place of home block 0.
 #[derive(Clone, Copy)]
-struct Layout {
-    gap: u32,
-    homes: u64,
+pub struct Layout {
+    pub gap: u32,
+    pub homes: u64,
 }
 
 /// Lets the log of a new journal begin after so many further blocks, and fills these, and block 0 after the
@@ -90,7 +90,7 @@ fn keeps_gap(alloc: Global, disk: &mut MemoryDisk, gap: u32) -> Result<bool, Fai
 }
 
 /// A new journal of 9 to 42 blocks, up to two of them before the log, and the 16 homes after it.
-fn image(alloc: Global, seed: &mut Seed) -> Result<(MemoryDisk, Layout), Fail> {
+pub fn image(alloc: Global, seed: &mut Seed) -> Result<(MemoryDisk, Layout), Fail> {
     let gap = seed.below(3);
     let maxlen = seed.below(32).saturating_add(9).saturating_add(gap);
     let most = seed.below(maxlen);
@@ -111,7 +111,11 @@ fn image(alloc: Global, seed: &mut Seed) -> Result<(MemoryDisk, Layout), Fail> {
 
 /// What up to five handles do to homes, in the order of their stops, often to the same few; contents have numbers
 /// that were not used before.
-fn touches(alloc: Global, seed: &mut Seed, next: &mut u32) -> Result<(usize, Vec<Touch>), Fail> {
+pub fn touches(
+    alloc: Global,
+    seed: &mut Seed,
+    next: &mut u32,
+) -> Result<(usize, Vec<Touch>), Fail> {
     let count = seed.below(5).saturating_add(1);
     let homes = if seed.below(2) == 0 { 16 } else { 4 };
     let mut touches = Vec::new(alloc);

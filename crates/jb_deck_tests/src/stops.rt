@@ -33,7 +33,7 @@ const SOME: u32 = 6;
 
 /// A group with an escaped copy and a freed home, which is written; home 3, which is copied, freed, written and free
 /// to the end; groups that fill the log, and some that make room and go round its end; and all are checkpointed.
-const SCRIPT: [Call<'static>; 15] = [
+pub const SCRIPT: [Call<'static>; 15] = [
     Call::Commit(0, &[]),
     Call::Commit(1, &[(0, 5, Some(7)), (0, 7, None)]),
     Call::Write(7, 8),
@@ -92,7 +92,7 @@ const SCRIPT: [Call<'static>; 15] = [
 ];
 
 /// The small image with homes of zeros.
-fn before(alloc: Global) -> Result<MemoryDisk, Fail> {
+pub fn before(alloc: Global) -> Result<MemoryDisk, Fail> {
     let zeros: [Row; 1] = [(HOMES + 5, 0, [0, 0, 0, 0])];
     small(alloc, BLOCKS, &zeros, &[])
 }
