@@ -1,6 +1,7 @@
 //! A journal that is opened on a disk of which a call fails, or every call from one on; and what a crash then
 //! leaves of it.
 
+use crate::frames::Frame;
 use crate::images::{BLOCKS, HOMES, MAGIC, Row, difference, small};
 use jb_deck::{Deck, OpenFault};
 use jb_disk::{Disk, FuseDisk, MemoryDisk, OneFaultDisk};
@@ -23,8 +24,11 @@ const CHOICES: [[u32; 6]; 7] = [
     [0, 0, 0, 0, 0, 1],
 ];
 
-/// Blocks of the log that are zeroed, one that stays, and a superblock without the feature for revoke blocks.
-const ROWS: [Row; 5] = [
+/// Blocks of the log that are zeroed, one that stays, and a superblock without the feature for revoke blocks, with
+/// words after it.
+const ROWS: [Row; 7] = [
+    (0, 0x50, [7, 7, 7, 7]),
+    (0, 0x3F0, [7, 7, 7, 7]),
     (0, 0x20, [0, 0, 0, 0]),
     (1, 0, [MAGIC, 2, 2, 0]),
     (1, 0x3F0, [6, 6, 6, 6]),
@@ -40,21 +44,60 @@ const AFTER: [Row; 4] = [
     (32, 0, [0, 0, 0, 0]),
 ];
 
-/// Whether what each of these choices leaves recovers, and has the wanted homes then; a crash after the journal
-/// was opened leaves the wanted image.
+/// A log that begins after two blocks that are not of it, whose headers stay; one of its own is zeroed.
+const GAP: [Row; 6] = [
+    (0, 0x10, [33, 3, 1, 0]),
+    (0, 0x20, [0, 0, 0, 0]),
+    (0, 0x1F0, [7, 7, 7, 7]),
+    (1, 0, [MAGIC, 2, 2, 0]),
+    (2, 0x3F0, [7, 7, 7, 7]),
+    (3, 0, [MAGIC, 2, 2, 0]),
+];
+
+const GAP_AFTER: [Row; 2] = [(0, 0x20, [0, 0, 1, 0]), (3, 0, [0, 0, 0, 0])];
+
+/// The rows of an image, those that opening it changes, where its log begins, and how many calls of the disk that takes.
+type Case<'a> = (&'a [Row], &'a [Row], u64, u64);
+
+/// What a crash may leave: the whole image once the journal is opened, and before its log what was there, or what is then.
+#[derive(Drop)]
+struct Wanted {
+    whole: MemoryDisk,
+    was: Frame,
+    becomes: Frame,
+}
+
+fn make_wanted(alloc: Global, case: Case<'_>) -> Result<Wanted, Fail> {
+    let (rows, after, first, _) = case;
+    let mut before = small(alloc, BLOCKS, rows, &[])?;
+    let mut whole = small(alloc, BLOCKS, rows, after)?;
+    let was = Frame::of(alloc, &mut before, first)?;
+    let becomes = Frame::of(alloc, &mut whole, first)?;
+    Ok(Wanted {
+        whole,
+        was,
+        becomes,
+    })
+}
+
+/// Whether what each of these choices leaves has the blocks before the log, recovers, and has the wanted homes then; a
+/// crash after the journal was opened leaves the wanted image.
 fn all_mend(
     alloc: Global,
     disk: &MemoryDisk,
-    wanted: &mut MemoryDisk,
+    wanted: &mut Wanted,
     opened: Option<bool>,
 ) -> Result<bool, Fail> {
     let from = if opened == Some(true) { 0 } else { HOMES };
     for choice in CHOICES {
         let mut left = disk.crash(&choice)?;
+        if !wanted.was.is_kept(alloc, &mut left)? && !wanted.becomes.is_kept(alloc, &mut left)? {
+            return Ok(false);
+        }
         if recover(alloc, &mut left).is_err() {
             return Ok(false);
         }
-        if difference(alloc, &mut left, wanted, from)?.is_some() {
+        if difference(alloc, &mut left, &mut wanted.whole, from)?.is_some() {
             return Ok(false);
         }
     }
@@ -70,31 +113,39 @@ fn disk_of<D: Disk + Drop>(opened: Result<Deck<D>, (D, OpenFault)>) -> (D, Optio
     }
 }
 
+/// Whether what is left mends where a call is the last one, and where it alone fails; and whether the journal was opened.
+fn mends_at(
+    alloc: Global,
+    case: Case<'_>,
+    wanted: &mut Wanted,
+    call: u64,
+) -> Result<(bool, bool), Fail> {
+    let before = small(alloc, BLOCKS, case.0, &[])?;
+    let (fuse, ended) = disk_of(Deck::open(alloc, FuseDisk::of(before, call)));
+    let last = all_mend(alloc, &fuse.into_inner(), wanted, ended)?;
+    let before = small(alloc, BLOCKS, case.0, &[])?;
+    let (faulty, once) = disk_of(Deck::open(alloc, OneFaultDisk::of(before, call)));
+    let alone = all_mend(alloc, &faulty.into_inner(), wanted, once)?;
+    let mends = ended.is_some() && once == ended && last && alone;
+    Ok((mends, ended == Some(true)))
+}
+
 #[test]
 fn every_call_may_fail_or_be_the_last(rt: HostRuntime) -> Result<(), Fail> {
     let alloc = rt.alloc();
-    let mut wanted = small(alloc, BLOCKS, &ROWS, &AFTER)?;
-    for call in 0..MOST {
-        let before = small(alloc, BLOCKS, &ROWS, &[])?;
-        let (fuse, ended) = disk_of(Deck::open(alloc, FuseDisk::of(before, call)));
-        assert!(rt; ended.is_some(), "{call}");
-        assert!(rt;
-            all_mend(alloc, &fuse.into_inner(), &mut wanted, ended)?,
-            "{call}"
-        );
-        let before = small(alloc, BLOCKS, &ROWS, &[])?;
-        let (faulty, once) = disk_of(Deck::open(alloc, OneFaultDisk::of(before, call)));
-        assert!(rt; once == ended, "{call}");
-        assert!(rt;
-            all_mend(alloc, &faulty.into_inner(), &mut wanted, once)?,
-            "{call}"
-        );
-        if ended == Some(true) {
-            // A sync, the superblock, the log's 32 blocks, two of them written, the superblock and a sync.
-            assert_eq!(rt; call, 39);
-            return Ok(());
+    // A sync, the superblock, the log's blocks, those of them that are zeroed, the superblock and a sync.
+    let cases: [Case<'_>; 2] = [(&ROWS, &AFTER, 1, 39), (&GAP, &GAP_AFTER, 3, 36)];
+    for case in cases {
+        let mut wanted = make_wanted(alloc, case)?;
+        let mut opened = None;
+        for call in 0..MOST {
+            if opened.is_none() {
+                let (mends, whole) = mends_at(alloc, case, &mut wanted, call)?;
+                assert!(rt; mends, "{} {call}", case.2);
+                opened = whole.then_some(call);
+            }
         }
+        assert_eq!(rt; opened, Some(case.3), "{}", case.2);
     }
-    assert!(rt; false, "it is never opened");
     Ok(())
 }

@@ -1,5 +1,6 @@
 //! A commit of which one sync fails, and what a crash leaves of it then.
 
+use crate::frames::Frame;
 use crate::images::{BLOCKS, HOMES, MAGIC, Row, difference, small};
 use crate::scripts::{Refusal, refuses};
 use jb_block::Width;
@@ -48,11 +49,13 @@ fn left(alloc: Global, call: u64, choice: &[u32]) -> Result<Option<MemoryDisk>, 
 #[test]
 fn syncs_that_fail_leave_what_is_worked_out_by_hand(rt: HostRuntime) -> Result<(), Fail> {
     let alloc = rt.alloc();
+    let frame = Frame::of(alloc, &mut small(alloc, BLOCKS, &[], &[])?, 1)?;
     for (call, choice, (transactions, copies, revoked, next), same) in ROWS {
         let Some(mut disk) = left(alloc, call, choice)? else {
             assert!(rt; false, "{call} is not met by the commit");
             return Ok(());
         };
+        assert!(rt; frame.is_kept(alloc, &mut disk)?, "{call}");
         let recovered = Recovered {
             transactions,
             copies,
@@ -60,6 +63,7 @@ fn syncs_that_fail_leave_what_is_worked_out_by_hand(rt: HostRuntime) -> Result<(
             next,
         };
         assert_eq!(rt; recover(alloc, &mut disk), Ok(recovered), "{call}");
+        assert!(rt; frame.is_kept(alloc, &mut disk)?, "{call}");
         let Ok(deck) = Deck::open(alloc, disk) else {
             assert!(rt; false, "it is not opened again");
             return Ok(());

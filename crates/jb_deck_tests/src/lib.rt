@@ -14,6 +14,8 @@ mod crashes;
 #[cfg(test)]
 mod faults;
 #[cfg(test)]
+mod frames;
+#[cfg(test)]
 mod groups;
 #[cfg(test)]
 mod homes;

@@ -2,6 +2,7 @@
 //! crash leaves recovers to homes that the plain model has, also where recovery loses its power.
 
 use crate::contents::{Left, fill, holds, is_left, only};
+use crate::frames::Frame;
 use crate::images::{put_words, read_at, write_at};
 use crate::lives::{Call, make_call};
 use crate::model::{Homes, Model, Touch};
@@ -68,25 +69,6 @@ fn put_gap(alloc: Global, disk: &mut MemoryDisk, maxlen: u32, gap: u32) -> Resul
     }
     disk.sync()?;
     Ok(())
-}
-
-/// Whether the blocks before the log, and block 0 after the superblock, are as they were filled.
-fn keeps_gap(alloc: Global, disk: &mut MemoryDisk, gap: u32) -> Result<bool, Fail> {
-    let mut block = vec![in alloc; 0; 1024]?;
-    read_at(disk, 0, &mut block)?;
-    let mut wanted = vec![in alloc; 0; 1024]?;
-    read_at(disk, 0, &mut wanted)?;
-    for at in AFTER {
-        put_words(&mut wanted, at, &[7, 7, 7, 7]);
-    }
-    let mut is_kept = block.as_slice() == wanted.as_slice();
-    let mut filled = vec![in alloc; 0; 1024]?;
-    for place in 1..=gap {
-        read_at(disk, u64::from(place), &mut block)?;
-        fill(&mut filled, place);
-        is_kept = is_kept && block.as_slice() == filled.as_slice();
-    }
-    Ok(is_kept)
 }
 
 /// A new journal of 9 to 42 blocks, up to two of them before the log, and the 16 homes after it.
@@ -180,10 +162,13 @@ fn recovered(
     alloc: Global,
     seed: &mut Seed,
     disk: &MemoryDisk,
-    layout: Layout,
+    (homes, frame): (u64, &Frame),
     left: &Left,
 ) -> Result<MemoryDisk, Fail> {
     let mut found = disk.crash(&choice(seed))?;
+    if !frame.is_kept(alloc, &mut found)? {
+        return Err("what stands before the log has changed".into());
+    }
     if seed.below(2) == 0 {
         let mut fuse = FuseDisk::of(found, u64::from(seed.below(160)));
         let _ended = recover(alloc, &mut fuse);
@@ -192,11 +177,11 @@ fn recovered(
     if recover(alloc, &mut found).is_err() {
         return Err("it is not recovered".into());
     }
-    if !is_left(alloc, &mut found, layout.homes, left)? {
+    if !is_left(alloc, &mut found, homes, left)? {
         return Err("the homes are no prefix".into());
     }
-    if !keeps_gap(alloc, &mut found, layout.gap)? {
-        return Err("what stands before the log has changed".into());
+    if !frame.is_kept(alloc, &mut found)? {
+        return Err("recovery has changed what stands before the log".into());
     }
     Ok(found)
 }
@@ -225,13 +210,14 @@ fn life(
 fn lives(alloc: Global, seed: &mut Seed, next: &mut u32) -> Result<u64, Fail> {
     let (mut disk, layout) = image(alloc, seed)?;
     let first = layout.homes;
+    let frame = Frame::of(alloc, &mut disk, u64::from(layout.gap).saturating_add(1))?;
     let mut homes: Homes = [0; 16];
     let mut crashes: u64 = 0;
     for _ in 0..LIVES {
         let (last, left) = life(alloc, seed, next, disk, &homes)?;
-        disk = recovered(alloc, seed, &last, layout, &left)?;
+        disk = recovered(alloc, seed, &last, (first, &frame), &left)?;
         for _ in 1..IMAGES {
-            disk = recovered(alloc, seed, &last, layout, &left)?;
+            disk = recovered(alloc, seed, &last, (first, &frame), &left)?;
         }
         crashes = crashes.saturating_add(u64::from(IMAGES));
         if holds(alloc, &mut disk, first, &left.was, None)? {

@@ -2,6 +2,7 @@
 //! leaves is recovered, and recovery is broken off by a crash too.
 
 use crate::contents::{Left, is_left, only};
+use crate::frames::Frame;
 use crate::images::{BLOCKS, HOMES, Row, difference, small};
 use crate::lives::{Call, make_call};
 use crate::model::{Homes, Model};
@@ -91,10 +92,31 @@ pub const SCRIPT: [Call<'static>; 15] = [
     Call::Checkpoint,
 ];
 
-/// The small image with homes of zeros.
+/// Homes of zeros, and words in block 0 after the superblock.
+const ROWS: [Row; 5] = [
+    (HOMES + 5, 0, [0, 0, 0, 0]),
+    (0, 0x50, [7, 7, 7, 7]),
+    (0, 0x1F0, [7, 7, 7, 7]),
+    (0, 0x200, [7, 7, 7, 7]),
+    (0, 0x3F0, [7, 7, 7, 7]),
+];
+
+/// The small image with these rows.
 pub fn before(alloc: Global) -> Result<MemoryDisk, Fail> {
-    let zeros: [Row; 1] = [(HOMES + 5, 0, [0, 0, 0, 0])];
-    small(alloc, BLOCKS, &zeros, &[])
+    small(alloc, BLOCKS, &ROWS, &[])
+}
+
+/// What a crash may leave: of the homes, and before the log.
+#[derive(Drop)]
+struct Wanted {
+    left: Left,
+    frame: Frame,
+}
+
+/// What a crash may leave of a script that began with the small image.
+fn make_wanted(alloc: Global, left: Left) -> Result<Wanted, Fail> {
+    let frame = Frame::of(alloc, &mut before(alloc)?, 1)?;
+    Ok(Wanted { left, frame })
 }
 
 /// Whether a journal that is aborted refuses each call.
@@ -148,19 +170,20 @@ fn choice(number: u32) -> [u32; SECTORS] {
     choice
 }
 
-/// Whether what this choice leaves of a disk recovers to homes that may be left.
-fn mends(alloc: Global, disk: &MemoryDisk, choice: &[u32], left: &Left) -> Result<bool, Fail> {
+/// Whether what this choice leaves of a disk has block 0 as it was, and recovers to homes that may be left.
+fn mends(alloc: Global, disk: &MemoryDisk, choice: &[u32], wanted: &Wanted) -> Result<bool, Fail> {
     let mut found = disk.crash(choice)?;
-    if recover(alloc, &mut found).is_err() {
+    if !wanted.frame.is_kept(alloc, &mut found)? || recover(alloc, &mut found).is_err() {
         return Ok(false);
     }
-    is_left(alloc, &mut found, HOMES, left)
+    let is_kept = wanted.frame.is_kept(alloc, &mut found)?;
+    Ok(is_kept && is_left(alloc, &mut found, HOMES, &wanted.left)?)
 }
 
 /// Whether what each of the first choices leaves does.
-fn all_mend(alloc: Global, disk: &MemoryDisk, choices: u32, left: &Left) -> Result<bool, Fail> {
+fn all_mend(alloc: Global, disk: &MemoryDisk, choices: u32, wanted: &Wanted) -> Result<bool, Fail> {
     for number in 0..choices {
-        if !mends(alloc, disk, &choice(number), left)? {
+        if !mends(alloc, disk, &choice(number), wanted)? {
             return Ok(false);
         }
     }
@@ -188,11 +211,11 @@ fn calls_of(alloc: Global, disk: &MemoryDisk) -> Result<u64, Fail> {
 
 /// Whether what a crash left recovers to homes that may be left where recovery is stopped too, after any of its last
 /// calls: the ones before them only read.
-fn mends_whenever(alloc: Global, disk: &MemoryDisk, left: &Left) -> Result<bool, Fail> {
+fn mends_whenever(alloc: Global, disk: &MemoryDisk, wanted: &Wanted) -> Result<bool, Fail> {
     let all = calls_of(alloc, disk)?;
     for calls in all.saturating_sub(LAST)..all {
         let (once, _) = stopped(alloc, disk, calls)?;
-        if !all_mend(alloc, &once, SOME, left)? {
+        if !all_mend(alloc, &once, SOME, wanted)? {
             return Ok(false);
         }
     }
@@ -206,9 +229,10 @@ fn every_call_of_a_script_may_fail_or_be_the_last(rt: HostRuntime) -> Result<(),
         let calls = u64::from(number);
         let (fuse, left, ended) = run(alloc, FuseDisk::of(before(alloc)?, calls))?;
         let mut disk = fuse.into_inner();
-        assert!(rt; all_mend(alloc, &disk, ALL, &left)?, "{calls}");
+        let wanted = make_wanted(alloc, left)?;
+        assert!(rt; all_mend(alloc, &disk, ALL, &wanted)?, "{calls}");
         let found = disk.crash(&choice(number % 10))?;
-        assert!(rt; mends_whenever(alloc, &found, &left)?, "{calls}");
+        assert!(rt; mends_whenever(alloc, &found, &wanted)?, "{calls}");
         let (faulty, _, whole) = run(alloc, OneFaultDisk::of(before(alloc)?, calls))?;
         assert!(rt; whole == ended, "{calls}");
         let mut once = faulty.into_inner();
