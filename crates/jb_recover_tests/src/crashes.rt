@@ -1,6 +1,7 @@
 //! A recovery that is broken off after each of its calls by a crash, which may leave any mixture of the sectors that
 //! were written since the last sync: each image that is left recovers to the same whole image.
 
+use crate::frames::same_frame;
 use crate::images::{Row, difference};
 use crate::small::{HOMES, MAGIC, small};
 use crate::wraps;
@@ -86,6 +87,20 @@ const MANY_AFTER: [Row; 9] = [
     (HOMES + 7, 0, [107, 0, 0, 0]),
 ];
 
+/// A log that begins after two blocks that are not of it, and words in block 0 after the superblock.
+const GAP: [Row; 8] = [
+    (0, 1, [33, 3, 2, 3]),
+    (0, 40, [7, 7, 7, 7]),
+    (0, 63, [7, 7, 7, 7]),
+    (1, 0, [MAGIC, 2, 2, 0]),
+    (2, 63, [7, 7, 7, 7]),
+    (3, 0, [MAGIC, 1, 2, 5]),
+    (3, 1, [8, 0, 0, 0]),
+    (5, 0, [MAGIC, 2, 2, 0]),
+];
+
+const GAP_AFTER: [Row; 2] = [(0, 1, [33, 3, 3, 0]), (HOMES + 5, 0, [0, 0, 0, 0])];
+
 /// The image that wraps, or a small one with these rows, and the rows that its recovery changes.
 #[derive(Drop)]
 enum Image<'a> {
@@ -117,7 +132,7 @@ fn after(alloc: Global, image: &Image<'_>) -> Result<MemoryDisk, Fail> {
     }
 }
 
-/// Whether the image that a crash with this choice leaves recovers to the expected one.
+/// Whether the image that a crash with this choice leaves is the expected one before the log, and recovers to it.
 fn mends(
     alloc: Global,
     disk: &MemoryDisk,
@@ -125,6 +140,9 @@ fn mends(
     wanted: &mut MemoryDisk,
 ) -> Result<bool, Fail> {
     let mut left = disk.crash(choice)?;
+    if !same_frame(alloc, &mut left, wanted)? {
+        return Ok(false);
+    }
     match recover(alloc, &mut left) {
         Ok(_) => {}
         Err(_) => return Ok(false),
@@ -230,6 +248,7 @@ fn every_call_may_be_the_last_before_a_crash(rt: HostRuntime) -> Result<(), Fail
             Some(4),
         ),
         case_of("twice", Image::Small(&TWICE, &TWICE_AFTER), 3, Some(9)),
+        case_of("gap", Image::Small(&GAP, &GAP_AFTER), 2, Some(4)),
         case_of("many", Image::Small(&MANY, &MANY_AFTER), 2, None),
     ];
     for case in &cases {

@@ -14,6 +14,8 @@ mod foreign;
 #[cfg(test)]
 mod formats;
 #[cfg(test)]
+mod frames;
+#[cfg(test)]
 mod fronts;
 #[cfg(test)]
 mod images;

@@ -1,5 +1,6 @@
 //! A clean journal is given its first number again: what is left, on a whole run and where one is broken off.
 
+use crate::frames::same_frame;
 use crate::images::{Row, difference, difference_from, headed};
 use crate::small::{HOMES, MAGIC, clean, commit, journal, small};
 use jb_disk::{FuseDisk, MemoryDisk, OneFaultDisk};
@@ -121,7 +122,7 @@ fn versions(mixture: u32) -> [u32; SECTORS] {
     choice
 }
 
-/// Whether the image that a crash leaves keeps the homes, both by a recovery and by a renumbering that is begun again,
+/// Whether the image that a crash leaves is the old one before the log, and keeps that and the homes, both by a recovery and by a renumbering that is begun again,
 /// which then leaves no header.
 fn keeps_homes(
     alloc: Global,
@@ -130,14 +131,17 @@ fn keeps_homes(
     old: &mut MemoryDisk,
 ) -> Result<bool, Fail> {
     let mut left = disk.crash(&versions(mixture))?;
-    if recover(alloc, &mut left).is_err() {
+    if !same_frame(alloc, &mut left, old)? || recover(alloc, &mut left).is_err() {
+        return Ok(false);
+    }
+    if !same_frame(alloc, &mut left, old)? {
         return Ok(false);
     }
     if difference_from(alloc, &mut left, old, HOMES)?.is_some() {
         return Ok(false);
     }
     let mut left = disk.crash(&versions(mixture))?;
-    if renumber(&mut left).is_err() {
+    if renumber(&mut left).is_err() || !same_frame(alloc, &mut left, old)? {
         return Ok(false);
     }
     if difference_from(alloc, &mut left, old, HOMES)?.is_some() {

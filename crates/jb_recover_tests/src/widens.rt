@@ -1,5 +1,6 @@
 //! A clean journal gets block numbers of 64 bits: what is left, on a whole run and where one is broken off.
 
+use crate::frames::same_frame;
 use crate::images::{Row, difference, difference_from};
 use crate::small::{HOMES, MAGIC, clean, commit, counts, small};
 use jb_disk::{FuseDisk, MemoryDisk, OneFaultDisk};
@@ -70,7 +71,8 @@ fn what_is_left(rt: HostRuntime) -> Result<(), Fail> {
     Ok(())
 }
 
-/// Whether the image that a crash leaves keeps the homes in a recovery, and widens to the expected one.
+/// Whether the image that a crash leaves has block 0 as it was or as it is wanted, keeps it and the homes in a recovery,
+/// and widens to the expected one.
 fn keeps(
     alloc: Global,
     disk: &MemoryDisk,
@@ -78,7 +80,20 @@ fn keeps(
     wanted: &mut MemoryDisk,
 ) -> Result<bool, Fail> {
     let mut left = disk.crash(choice)?;
+    let mut old = small(alloc, &NARROW, &[])?;
+    let is_old = same_frame(alloc, &mut left, &mut old)?;
+    if !is_old && !same_frame(alloc, &mut left, wanted)? {
+        return Ok(false);
+    }
     if recover(alloc, &mut left) != Ok(counts(0, 0, 0, 8)) {
+        return Ok(false);
+    }
+    let is_kept = if is_old {
+        same_frame(alloc, &mut left, &mut old)?
+    } else {
+        same_frame(alloc, &mut left, wanted)?
+    };
+    if !is_kept {
         return Ok(false);
     }
     if difference_from(alloc, &mut left, wanted, HOMES)?.is_some() {
