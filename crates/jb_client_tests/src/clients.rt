@@ -1,0 +1,191 @@
+//! Each client is run, and the homes of its disk are compared after a recovery.
+
+use jb_block::{BlockSize, Stamp, Width};
+use jb_client::{Life, commit_and_close, commit_three, two_lives};
+use jb_deck::{Batch, Prepared, is_batch, prepare};
+use jb_disk::{Disk, MemoryDisk};
+use jb_handle::Shape;
+use jb_queue::read_queue;
+use jb_recover::{Recovered, format, recover};
+use std::alloc::Global;
+use std::test::Fail;
+
+const STAMP: Stamp = Stamp { sec: 1, nsec: 2 };
+
+/// The place of home block 0, which is how many blocks the journal has; sixteen homes are after it.
+const HOMES: u32 = 33;
+
+/// What the handles of a batch for it have to fit.
+const SHAPE: Shape = Shape {
+    bs: BlockSize::OneKib,
+    homes: 16,
+    limit: 8,
+    width: Width::Narrow,
+};
+
+/// A disk with a new journal and homes of zeros.
+fn new_disk(alloc: Global) -> Result<MemoryDisk, Fail> {
+    let blocks = u64::from(HOMES).saturating_add(16);
+    let mut disk = MemoryDisk::new(alloc, BlockSize::OneKib, blocks)?;
+    match format(&mut disk, HOMES, 8, [7; 16], Width::Narrow) {
+        Ok(_) => Ok(disk),
+        Err(_) => Err("it is not made".into()),
+    }
+}
+
+/// The handles of these lines as a batch with its plan, with tickets from `first` on.
+fn batch(alloc: Global, first: u64, lines: &str) -> Result<Prepared, Fail> {
+    let mut text = b"bs 1024\nlimit 8\n".to_vec(alloc)?;
+    for byte in lines.as_bytes() {
+        text.push(*byte)?;
+    }
+    let mut handles = read_queue(alloc, &text)?.handles;
+    for handle in &mut handles {
+        handle.ticket = handle.ticket.saturating_add(first);
+    }
+    if !is_batch(first, &handles, SHAPE) {
+        return Err("it is no batch".into());
+    }
+    match prepare(alloc, Batch::of(first, handles, SHAPE)) {
+        Ok(prepared) => Ok(prepared),
+        Err((batch, _)) => {
+            let _handles = batch.end();
+            Err("it has no plan".into())
+        }
+    }
+}
+
+/// The first byte of each of the first four homes.
+fn homes(alloc: Global, disk: &mut MemoryDisk) -> Result<[u8; 4], Fail> {
+    let mut found = [0; 4];
+    let mut block = vec![in alloc; 0; 1024]?;
+    for (home, byte) in found.iter_mut().enumerate() {
+        let place = u64::from(HOMES).saturating_add(home as u64);
+        if place >= disk.blocks() || disk.block_size() != BlockSize::OneKib {
+            return Err("it has no such home".into());
+        }
+        disk.read(place, &mut block)?;
+        *byte = block.first().copied().unwrap_or(0);
+    }
+    Ok(found)
+}
+
+/// Lets a batch go.
+fn spend(batch: Prepared) {
+    let _handles = batch.back().end();
+}
+
+/// The first ticket of a batch, and its handles.
+type Lines<'a> = (u64, &'a str);
+
+/// Two batches.
+fn pair(alloc: Global, first: Lines<'_>, second: Lines<'_>) -> Result<(Prepared, Prepared), Fail> {
+    let one = batch(alloc, first.0, first.1)?;
+    match batch(alloc, second.0, second.1) {
+        Ok(two) => Ok((one, two)),
+        Err(fail) => {
+            spend(one);
+            Err(fail)
+        }
+    }
+}
+
+/// The disk after three batches, of which the first has gone home; or none where the client reports a fault.
+fn after_three(alloc: Global, disk: MemoryDisk) -> Result<Option<MemoryDisk>, Fail> {
+    let (first, second) = pair(alloc, (0, "h w0=11 w1=12\n"), (1, "h w1=22\nh w2=23\n"))?;
+    let third = match batch(alloc, 3, "h w3=34 r0\n") {
+        Ok(third) => third,
+        Err(fail) => {
+            spend(first);
+            spend(second);
+            return Err(fail);
+        }
+    };
+    match commit_three(alloc, disk, first, second, third, STAMP) {
+        Ok(deck) if deck.trail().len() == 3 => Ok(Some(deck.close())),
+        Ok(_) | Err(_) => Ok(None),
+    }
+}
+
+/// What a recovery reports.
+const fn recovered(transactions: u32, copies: u32, revoked: u32, next: u64) -> Recovered {
+    Recovered {
+        transactions,
+        copies,
+        revoked,
+        next,
+    }
+}
+
+#[test]
+fn three_batches_and_one_that_is_closed(rt: HostRuntime) -> Result<(), Fail> {
+    let alloc = rt.alloc();
+    let Some(mut disk) = after_three(alloc, new_disk(alloc)?)? else {
+        return Err("the third batch is not committed".into());
+    };
+    // the first group has gone home, and nothing else
+    assert_eq!(rt; homes(alloc, &mut disk)?, [0x11, 0x12, 0, 0]);
+    assert_eq!(rt; recover(alloc, &mut disk), Ok(recovered(2, 3, 0, 6)));
+    assert_eq!(rt; homes(alloc, &mut disk)?, [0x11, 0x22, 0x23, 0x34]);
+
+    let disk = new_disk(alloc)?;
+    let one = batch(alloc, 0, "h w0=41 w1=42\nh w1=43 r2\n")?;
+    let Ok(mut closed) = commit_and_close(alloc, disk, one, STAMP) else {
+        return Err("the batch is not committed".into());
+    };
+    assert_eq!(rt; homes(alloc, &mut closed)?, [0, 0, 0, 0]);
+    assert_eq!(rt; recover(alloc, &mut closed), Ok(recovered(1, 2, 0, 4)));
+    assert_eq!(rt; homes(alloc, &mut closed)?, [0x41, 0x43, 0, 0]);
+    // a batch that does not begin where the trail ends is refused, and the disk is given back
+    let disk = new_disk(alloc)?;
+    let late = batch(alloc, 1, "h w0=41\n")?;
+    let Err(mut refused) = commit_and_close(alloc, disk, late, STAMP) else {
+        return Err("a batch of other tickets is committed".into());
+    };
+    assert_eq!(rt; recover(alloc, &mut refused), Ok(recovered(0, 0, 0, 2)));
+    Ok(())
+}
+
+/// How many calls of the disk each of two lives has, and the first bytes of the homes after both.
+const LIVES: [(u64, u64, [u8; 4]); 5] = [
+    (1000, 1000, [0x11, 0x22, 0x23, 0]),
+    (1000, 0, [0x11, 0x12, 0, 0]),
+    // the power fails while the second batch is committed
+    (1000, 38, [0x11, 0x12, 0, 0]),
+    (0, 1000, [0, 0x22, 0x23, 0]),
+    (0, 0, [0, 0, 0, 0]),
+];
+
+/// The disk after two lives of so many calls, after which all that was not synced is lost.
+fn after_lives(
+    alloc: Global,
+    disk: MemoryDisk,
+    calls: (u64, u64),
+) -> Result<Option<MemoryDisk>, Fail> {
+    let (first, second) = pair(alloc, (0, "h w0=11 w1=12\n"), (0, "h w1=22\nh w2=23\n"))?;
+    let first = Life {
+        batch: first,
+        stamp: STAMP,
+        calls: calls.0,
+        choice: Vec::new(alloc),
+    };
+    let second = Life {
+        batch: second,
+        stamp: STAMP,
+        calls: calls.1,
+        choice: Vec::new(alloc),
+    };
+    Ok(two_lives(alloc, disk, first, second).ok())
+}
+
+#[test]
+fn two_lives_that_end_with_a_crash(rt: HostRuntime) -> Result<(), Fail> {
+    let alloc = rt.alloc();
+    for (one, two, wanted) in LIVES {
+        let Some(mut disk) = after_lives(alloc, new_disk(alloc)?, (one, two))? else {
+            return Err("a recovery fails".into());
+        };
+        assert_eq!(rt; homes(alloc, &mut disk)?, wanted, "{one} {two}");
+    }
+    Ok(())
+}

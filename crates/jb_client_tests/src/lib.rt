@@ -1,0 +1,5 @@
+//! Tests of the clients of the journal.
+#![tactic(auto)]
+
+#[cfg(test)]
+mod clients;
