@@ -4,7 +4,7 @@ use jb_block::{BlockSize, Stamp, Width};
 use jb_client::{Life, commit_and_close, commit_three, two_lives};
 use jb_deck::{Batch, Prepared, is_batch, prepare};
 use jb_disk::{Disk, MemoryDisk};
-use jb_handle::Shape;
+use jb_handle::{Shape, Stopped};
 use jb_queue::read_queue;
 use jb_recover::{Recovered, format, recover};
 use std::alloc::Global;
@@ -43,10 +43,20 @@ fn batch(alloc: Global, first: u64, lines: &str) -> Result<Prepared, Fail> {
     for handle in &mut handles {
         handle.ticket = handle.ticket.saturating_add(first);
     }
-    if !is_batch(first, &handles, SHAPE) {
+    planned(alloc, first, handles, SHAPE)
+}
+
+/// These handles as a batch with its plan.
+fn planned(
+    alloc: Global,
+    first: u64,
+    handles: Vec<Stopped>,
+    shape: Shape,
+) -> Result<Prepared, Fail> {
+    if !is_batch(first, &handles, shape) {
         return Err("it is no batch".into());
     }
-    match prepare(alloc, Batch::of(first, handles, SHAPE)) {
+    match prepare(alloc, Batch::of(first, handles, shape)) {
         Ok(prepared) => Ok(prepared),
         Err((batch, _)) => {
             let _handles = batch.end();
@@ -101,10 +111,12 @@ fn after_three(alloc: Global, disk: MemoryDisk) -> Result<Option<MemoryDisk>, Fa
             return Err(fail);
         }
     };
-    match commit_three(alloc, disk, first, second, third, STAMP) {
-        Ok(deck) if deck.trail().len() == 3 => Ok(Some(deck.close())),
-        Ok(_) | Err(_) => Ok(None),
-    }
+    let Ok(deck) = commit_three(alloc, disk, first, second, third, STAMP) else {
+        return Ok(None);
+    };
+    let groups = deck.trail().len();
+    let disk = deck.close();
+    Ok(if groups == 3 { Some(disk) } else { None })
 }
 
 /// What a recovery reports.

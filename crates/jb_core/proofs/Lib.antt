@@ -10,3 +10,4 @@ pub mod Touches
 pub mod Exact
 pub mod Seats
 pub mod Wholes
+pub mod SeatMap

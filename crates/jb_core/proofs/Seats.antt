@@ -8,6 +8,7 @@ use Rattle.std.specs.Map.{lookup, set_value, remove_entry}
 use Rattle.jb_handle.specs.Held.{Held}
 use Rattle.jb_handle.specs.LastOp.{words_by}
 use Rattle.jb_core.specs.Lives.{Log, is_seat, ops_of}
+use Rattle.jb_core.specs.Seats.{Once}
 use Rattle.jb_core.proofs.Entries.{missed}
 
 -- ---- seats
@@ -23,12 +24,8 @@ seat-swap a b apart = unsigned_tied b a ∙ (let test : (a == b) ≡ false = sym
 
 -- ---- one handle for a seat
 
-abbrev pub Once : List (ℕ × Held) → Type 0
-Once [] = Unit {0}
-Once (e ∷ es) = (lookup (is_at (nat_cmp e.0)) es ≡ None) × Once es
-
-module _ (k : ℕ) (v : Held) where
-  lookup-insert : (s : ℕ) (es : List (ℕ × Held)) → is_seat s k ≡ false → lookup (is_at (nat_cmp s)) (insert_entry nat_cmp es k v) ≡ lookup (is_at (nat_cmp s)) es
+module _ {V : Type 0} (k : ℕ) (v : V) where
+  pub lookup-insert : (s : ℕ) (es : List (ℕ × V)) → is_seat s k ≡ false → lookup (is_at (nat_cmp s)) (insert_entry nat_cmp es k v) ≡ lookup (is_at (nat_cmp s)) es
   lookup-insert s [] apart = rw apart refl
   lookup-insert s (e ∷ es) apart = at (nat_cmp k e.0) refl (lookup-insert s es apart)
     where
@@ -38,7 +35,7 @@ module _ (k : ℕ) (v : Held) where
       at Equal is rest = let same : k ≡ e.0 = seat-is k e.0 (ap is_eq is) in let there : is_seat s e.0 ≡ false = subst (λ x. is_seat s x ≡ false) same apart in rw there refl
       at Greater is rest = ap (cond (is_seat s e.0) (Some e.1)) rest
 
-  pub once-insert : (es : List (ℕ × Held)) → lookup (is_at (nat_cmp k)) es ≡ None → Once es → Once (insert_entry nat_cmp es k v)
+  pub once-insert : (es : List (ℕ × V)) → lookup (is_at (nat_cmp k)) es ≡ None → Once es → Once (insert_entry nat_cmp es k v)
   once-insert [] none once = (refl, tt)
   once-insert (e ∷ es) none once = at (nat_cmp k e.0) refl (once-insert es (missed (is_seat k e.0) e.1 _ none).1 once.1)
     where
@@ -47,7 +44,7 @@ module _ (k : ℕ) (v : Held) where
       at Equal is rest = let miss : is_seat k e.0 ≡ false = (missed (is_seat k e.0) e.1 _ none).0 in let hit : is_seat k e.0 ≡ true = ap is_eq is in absurd (let h : ⊥ = cc in h)
       at Greater is rest = (lookup-insert e.0 es (seat-swap k e.0 (missed (is_seat k e.0) e.1 _ none).0) ∙ once.0, rest)
 
-  none-set : (test : ℕ → Bool) (s : ℕ) (es : List (ℕ × Held)) → lookup (is_at (nat_cmp s)) es ≡ None → lookup (is_at (nat_cmp s)) (set_value test es v) ≡ None
+  none-set : (test : ℕ → Bool) (s : ℕ) (es : List (ℕ × V)) → lookup (is_at (nat_cmp s)) es ≡ None → lookup (is_at (nat_cmp s)) (set_value test es v) ≡ None
   none-set test s [] none = refl
   none-set test s (e ∷ es) none = at (test e.0) (missed (is_seat s e.0) e.1 _ none) (none-set test s es (missed (is_seat s e.0) e.1 _ none).1)
     where
@@ -55,7 +52,7 @@ module _ (k : ℕ) (v : Held) where
       at true miss rest = rw miss.0 miss.1
       at false miss rest = rw miss.0 rest
 
-  pub once-set : (test : ℕ → Bool) (es : List (ℕ × Held)) → Once es → Once (set_value test es v)
+  pub once-set : (test : ℕ → Bool) (es : List (ℕ × V)) → Once es → Once (set_value test es v)
   once-set test [] once = tt
   once-set test (e ∷ es) once = at (test e.0) (once-set test es once.1)
     where
@@ -63,7 +60,7 @@ module _ (k : ℕ) (v : Held) where
       at true rest = once
       at false rest = (none-set test e.0 es once.0, rest)
 
-none-remove : (test : ℕ → Bool) (s : ℕ) (es : List (ℕ × Held)) → lookup (is_at (nat_cmp s)) es ≡ None → lookup (is_at (nat_cmp s)) (remove_entry test es) ≡ None
+none-remove : {V : Type 0} (test : ℕ → Bool) (s : ℕ) (es : List (ℕ × V)) → lookup (is_at (nat_cmp s)) es ≡ None → lookup (is_at (nat_cmp s)) (remove_entry test es) ≡ None
 none-remove test s [] none = refl
 none-remove test s (e ∷ es) none = at (test e.0) (missed (is_seat s e.0) e.1 _ none) (none-remove test s es (missed (is_seat s e.0) e.1 _ none).1)
   where
@@ -71,7 +68,7 @@ none-remove test s (e ∷ es) none = at (test e.0) (missed (is_seat s e.0) e.1 _
     at true miss rest = miss.1
     at false miss rest = rw miss.0 rest
 
-pub once-remove : (test : ℕ → Bool) (es : List (ℕ × Held)) → Once es → Once (remove_entry test es)
+pub once-remove : {V : Type 0} (test : ℕ → Bool) (es : List (ℕ × V)) → Once es → Once (remove_entry test es)
 once-remove test [] once = tt
 once-remove test (e ∷ es) once = at (test e.0) (once-remove test es once.1)
   where

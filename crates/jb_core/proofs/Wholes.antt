@@ -25,7 +25,8 @@ use Rattle.jb_core.specs.Lives.{Log, Answer, ops_of, ticket_in, stop_order, past
 use Rattle.jb_core.specs.Ran.{IsStart, Ran}
 use Rattle.jb_core.proofs.Accepted.{found-none, found-some, first-false, opens, none-taken, accepted, restarted, still-up, there-at}
 use Rattle.jb_core.proofs.Groups.{more-settled, parts-joined}
-use Rattle.jb_core.proofs.Seats.{seat-self, Once, AreBy, once-insert, once-set, once-remove, by-same, by-found, by-remove, by-insert, by-set}
+use Rattle.jb_core.specs.Seats.{Once}
+use Rattle.jb_core.proofs.Seats.{seat-self, AreBy, once-insert, once-set, once-remove, by-same, by-found, by-remove, by-insert, by-set}
 
 -- how a machine agrees with its log between two events
 record Stands (log : Log) (m : Machine) : Type 0 where
@@ -228,6 +229,9 @@ begun shape m start = record {
 stands : (shape : Shape) (log : Log) (m : Machine) → Ran shape log m → Stands log m
 stands shape [] m start = begun shape m start
 stands shape (last ∷ earlier) m (before, ran, step) = stepped earlier before (stands shape earlier before ran) last.0 last.1 m step
+
+pub once-ran : (shape : Shape) (log : Log) (m : Machine) → Ran shape log m → Once m.handles
+once-ran shape log m ran = (stands shape log m ran).once
 
 pub whole : (shape : Shape) (log : Log) (m : Machine) → Ran shape log m → IsWhole log m
 whole shape log m ran = (stands shape log m ran).whole

@@ -1,4 +1,6 @@
 pub mod Line
+pub mod Seats
+pub mod SeatLaw
 pub mod Machine
 pub mod Parted
 pub mod Sound

@@ -2,9 +2,7 @@
 use Rattle.std.specs.Prelude.{ℕ, ◌+◌, ◌^◌, Bool, true, false, not, nat_lt, nat_le, ◌==◌, ◌||◌, List, [], ◌∷◌, ◌++◌, length, take, drop, sum, Option, Some, None, is_some, is_none}
 use Rattle.std.specs.List.{sum_by}
 use Rattle.std.specs.Option.{unwrap_or, option_map}
-use Rattle.std.specs.Ordering.{nat_cmp}
-use Rattle.std.specs.BTreeMap.{insert_entry, is_at}
-use Rattle.std.specs.Map.{lookup, set_value, remove_entry, values_of}
+use Rattle.std.specs.Map.{values_of}
 use Rattle.std.specs.FinMap as map
 use Rattle.jb_handle.specs.declared.shape.Shape.{Shape}
 use Rattle.jb_handle.specs.declared.stopped.Stopped.{Stopped}
@@ -21,6 +19,7 @@ use Rattle.jb_core.specs.declared.event.Reply.TheVariants.{Plain, Ticket}
 use Rattle.jb_core.specs.declared.event.CoreFault.{CoreFault}
 use Rattle.jb_core.specs.declared.event.CoreFault.TheVariants.{Down, Up, Busy, NoHandle, TooManyCredits, Full, NoCredit, OutOfRange, Length, Empty, BatchOut, Amount, Nothing, Memory}
 use Rattle.jb_core.specs.Line.{count}
+use Rattle.jb_core.specs.Seats as seats
 
 -- What a machine is made of. The first three never change
 pub record Machine : Type 0 where
@@ -44,7 +43,7 @@ pub record Machine : Type 0 where
 
 -- a seat's open handle
 abbrev pub handle_at : Machine → ℕ → Option Held
-handle_at m seat = lookup (is_at (nat_cmp seat)) m.handles
+handle_at m seat = seats.get m.handles seat
 
 -- a seat's open handle, or one without credits
 abbrev pub held_at : Machine → ℕ → Held
@@ -104,15 +103,15 @@ after_take m bounds = record m { queue = []; taken = pieces bounds m.queue }
 
 -- what an event that is not refused makes of the machine
 abbrev pub after : Machine → Event → Machine
-after m (Open seat credits) = record m { handles = insert_entry nat_cmp m.handles seat (held credits m.shape map.empty) }
-after m (Touch seat op) = record m { handles = set_value (is_at (nat_cmp seat)) m.handles (handle.after (held_at m seat) op) }
+after m (Open seat credits) = record m { handles = seats.set m.handles seat (held credits m.shape map.empty) }
+after m (Touch seat op) = record m { handles = seats.change m.handles seat (handle.after (held_at m seat) op) }
 after m (Stop seat) = record m {
-  handles = remove_entry (is_at (nat_cmp seat)) m.handles;
+  handles = seats.drop m.handles seat;
   queue = m.queue ++ stopped_at m seat ∷ [];
   credits = m.credits ++ (held_at m seat).credits ∷ [];
   next = m.next + 1;
 }
-after m (Abandon seat) = record m { handles = remove_entry (is_at (nat_cmp seat)) m.handles }
+after m (Abandon seat) = record m { handles = seats.drop m.handles seat }
 after m (Take bounds) = after_take m bounds.items
 after m (Settle n) = record m { taken = drop n m.taken; settled = m.settled ++ take n m.taken; credits = drop (count (take n m.taken)) m.credits }
 after m Checkpoint = record m { checkpointed = m.checkpointed + 1 }

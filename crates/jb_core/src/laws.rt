@@ -3,6 +3,7 @@ ghost use Rattle.jb_handle.specs.declared.shape.Shape.{Shape};
 ghost use Rattle.jb_core.specs.Machine.{Machine};
 ghost use Rattle.jb_core.specs.Lives.{Log};
 ghost use Rattle.jb_core.specs.Ran.{Ran};
+ghost use Rattle.jb_core.specs.SeatLaw.{SeatsAreMap};
 ghost use Rattle.jb_core.specs.Sound.{IsSound};
 
 /// Every machine that a run reaches is sound: each handle is within the most credits and the shape, what is reserved
@@ -10,4 +11,11 @@ ghost use Rattle.jb_core.specs.Sound.{IsSound};
 #[tactic(auto, using(crate::proofs::Runs::sounds))]
 pub fn sound()
     ensures { (shape : Shape) (log : Log) (m : Machine) → Ran shape log m → IsSound m }
+{}
+
+/// The words on seats are those of a finite map: after a seat was set, changed or dropped it holds that, and every other
+/// one what it held. A machine that a run reaches lists each seat once, as a drop needs it.
+#[tactic(auto, using(crate::proofs::SeatMap::seats-are-map))]
+pub fn seats()
+    ensures { SeatsAreMap }
 {}
