@@ -5,6 +5,7 @@ use Rattle.std.specs.Ordering.{nat_cmp, match_ordering, is_eq}
 use Rattle.std.specs.Cmp.{unsigned_tied}
 use Rattle.std.specs.BTreeMap.{insert_entry, is_at}
 use Rattle.std.specs.Map.{lookup, set_value, remove_entry}
+use Rattle.jb_handle.specs.Held.{Held}
 use Rattle.jb_core.specs.Lives.{is_seat}
 use Rattle.jb_core.specs.SeatLaw.{changed, AreMap, SeatsAreMap}
 use Rattle.jb_core.specs.Seats.{get, set, change, drop, Once}
@@ -67,5 +68,5 @@ are-map V = record {
   drop_other = λ es seat other away. drop-other seat other es (apart other seat away);
 }
 
-pub seats-are-map : SeatsAreMap
-seats-are-map = record { map = are-map; once = once-ran }
+pub seats_are_map : SeatsAreMap
+seats_are_map = record { handles = are-map Held; credits = are-map ℕ; once = once-ran }

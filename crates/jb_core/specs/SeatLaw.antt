@@ -1,6 +1,7 @@
 -- What the words on seats say of what a seat holds.
 use Rattle.std.specs.Prelude.{◌≡◌, ◌≢◌, ℕ, List, Option, Some, None}
 use Rattle.jb_handle.specs.declared.shape.Shape.{Shape}
+use Rattle.jb_handle.specs.Held.{Held}
 use Rattle.jb_core.specs.Lives.{Log}
 use Rattle.jb_core.specs.Machine.{Machine}
 use Rattle.jb_core.specs.Ran.{Ran}
@@ -20,7 +21,8 @@ pub record AreMap (V : Type 0) : Type 0 where
   pub drop_same : (es : List (ℕ × V)) (seat : ℕ) → Once es → get (drop es seat) seat ≡ None
   pub drop_other : (es : List (ℕ × V)) (seat other : ℕ) → other ≢ seat → get (drop es seat) other ≡ get es other
 
--- of any values, and a machine that a run reaches lists each seat once
-pub record SeatsAreMap : Type 1 where
-  pub map : (V : Type 0) → AreMap V
+-- of open handles, and of credits alone; and a machine that a run reaches lists each seat once
+pub record SeatsAreMap : Type 0 where
+  pub handles : AreMap Held
+  pub credits : AreMap ℕ
   pub once : (shape : Shape) (log : Log) (m : Machine) → Ran shape log m → Once m.handles

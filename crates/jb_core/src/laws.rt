@@ -15,7 +15,7 @@ pub fn sound()
 
 /// The words on seats are those of a finite map: after a seat was set, changed or dropped it holds that, and every other
 /// one what it held. A machine that a run reaches lists each seat once, as a drop needs it.
-#[tactic(auto, using(crate::proofs::SeatMap::seats-are-map))]
+#[tactic(auto, using(crate::proofs::SeatMap::seats_are_map))]
 pub fn seats()
     ensures { SeatsAreMap }
 {}

@@ -1,11 +1,10 @@
 -- What a book has of the machine of handles, and what each event makes of it.
 use Rattle.std.specs.Prelude.{ℕ, ◌+◌, List, [], ◌∷◌, ◌++◌, length, drop, sum, Option}
 use Rattle.std.specs.Option.{unwrap_or}
-use Rattle.std.specs.Ordering.{nat_cmp}
-use Rattle.std.specs.BTreeMap.{insert_entry, is_at}
-use Rattle.std.specs.Map.{lookup, remove_entry, values_of}
+use Rattle.std.specs.Map.{values_of}
 use Rattle.jb_handle.specs.declared.stopped.Stopped.{Stopped}
 use Rattle.jb_handle.specs.Word.{WordMap}
+use Rattle.jb_core.specs.Seats as seats
 
 pub record Shadow : Type 0 where
   -- the seats with an open handle, each with its credits
@@ -22,7 +21,7 @@ pub record Shadow : Type 0 where
 
 -- the credits of a seat's open handle
 abbrev pub credits_at : Shadow → ℕ → Option ℕ
-credits_at s seat = lookup (is_at (nat_cmp seat)) s.seats
+credits_at s seat = seats.get s.seats seat
 
 -- the credits granted to open, taken and queued handles
 abbrev pub reserved : Shadow → ℕ
@@ -34,16 +33,16 @@ fresh = record { seats = []; queue = []; credits = []; settled = 0; taken = 0; n
 
 -- a seat has begun a handle of so many credits
 abbrev pub begun : ℕ → ℕ → Shadow → Shadow
-begun seat credits s = record s { seats = insert_entry nat_cmp s.seats seat credits }
+begun seat credits s = record s { seats = seats.set s.seats seat credits }
 
 -- a seat's open handle is dropped
 abbrev pub dropped : ℕ → Shadow → Shadow
-dropped seat s = record s { seats = remove_entry (is_at (nat_cmp seat)) s.seats }
+dropped seat s = record s { seats = seats.drop s.seats seat }
 
 -- a seat's open handle has stopped, with these words
 abbrev pub stopped : ℕ → WordMap → Shadow → Shadow
 stopped seat words s = record s {
-  seats = remove_entry (is_at (nat_cmp seat)) s.seats;
+  seats = seats.drop s.seats seat;
   queue = s.queue ++ record { ticket = s.next; words = words } ∷ [];
   credits = s.credits ++ unwrap_or (credits_at s seat) 0 ∷ [];
   next = s.next + 1;
