@@ -158,8 +158,8 @@ fn the_round_after_a_failed_checkpoint_fails_the_book(rt: HostRuntime) -> Result
     Ok(())
 }
 
-/// How many desks are raced. A checkpointer that asks too late for what is settled leaves a group in some hundred of them.
-const RACES: u32 = 2000;
+/// How many desks are raced. A checkpointer that asks too late for what is settled leaves a group in some of them.
+const RACES: u32 = 200;
 
 /// Stops a handle, shuts the desk and commits the handle.
 fn commit_last<R: Wait, D: Disk, H: Origin, N: Ledger>(rt: &R, desk: &Still<D, H, N>)
