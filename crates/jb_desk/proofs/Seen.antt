@@ -1,5 +1,6 @@
 -- What a round makes of the counts that its seat is sure of, and which credits are too many.
-use Rattle.std.proofs.Common.{◌≡◌, ◌⊎◌, ℕ, Bool, true, false, nat_lt, is_some, [], ◌∷◌, Option, Some, None, Result, Ok, Err, inl, inr, refl, sym, subst, ◌∙◌, arith}
+use Rattle.std.proofs.Common.{◌≡◌, ◌⊎◌, ℕ, length, Bool, true, false, nat_lt, is_some, [], ◌∷◌, Option, Some, None, Result, Ok, Err, inl, inr, refl, sym, subst, ◌∙◌, arith}
+use Rattle.std.proofs.lemmas.Bool.{cases_lt}
 use Rattle.std.proofs.lemmas.Bool.Decides.{nat_tests}
 use Rattle.jb_batch.specs.Batch.{Gathered}
 use Rattle.jb_board.specs.Front.{IsWithin}
@@ -7,7 +8,7 @@ use Rattle.jb_board.specs.Steps.{raised_settled}
 use Rattle.jb_board.specs.declared.front.Front.{Front}
 use Rattle.jb_disk.specs.Image.{Image}
 use Rattle.jb_handle.specs.Held.{first_of}
-use Rattle.jb_desk.specs.Account.{Account, is_full, RefusesBegin}
+use Rattle.jb_desk.specs.Account.{Account, IsSound, CanTake, is_full, RefusesBegin}
 use Rattle.jb_desk.specs.Journal.{CommitsRound}
 use Rattle.jb_desk.specs.Origin.{Begun}
 use Rattle.jb_desk.specs.Refusals.{IsTooMany}
@@ -30,7 +31,7 @@ within-raised : (v w : Front) (n : ℕ) → w ≡ raised_settled v n → IsWithi
 within-raised v w n is = subst (IsWithin v) (sym is) (omega arith, omega arith, omega arith)
 
 within-commit : (b : Gathered) (v w : Front) (r : Result Round RoundFault) → SeesCommit b v w r → IsWithin v w
-within-commit b v w (Ok Idle) is = absurd is
+within-commit b v w (Ok (Idle seen)) is = absurd is
 within-commit b v w (Ok (Committed done)) is = within-raised v w (end_of b) is
 within-commit b v w (Err round.Aborted) is = within-same v w is
 within-commit b v w (Err round.DeviceFault) (inl is) = within-same v w is
@@ -66,7 +67,7 @@ sees-held held after b v w fault (inr is) up again taken = subst (λ f. SeesRoun
 -- of the batch that is taken up, the round's is
 pub round-up : {D : Type 0} (size count faults : D → ℕ) (honest : D → Type 0) (newest : D → Image) (may_leave : D → Image → Type 0) (moment : D → ℕ) (left_since : D → ℕ → Image → Type 0) (begun : Begun) (held : Option Gathered) (b : Gathered) (r : Result Round RoundFault)
     → TakesUp held b → CommitsRound size count faults honest newest may_leave moment left_since begun (Some b) r → CommitsRound size count faults honest newest may_leave moment left_since begun held r
-round-up size count faults honest newest may_leave moment left_since begun held b (Ok Idle) up is = tt
+round-up size count faults honest newest may_leave moment left_since begun held b (Ok (Idle seen)) up is = tt
 round-up size count faults honest newest may_leave moment left_since begun held b (Ok (Committed done)) up is = (is.0, subst (TakesUp held) (sym is.1) up, is.2)
 round-up size count faults honest newest may_leave moment left_since begun held b (Err round.Aborted) up is = tt
 round-up size count faults honest newest may_leave moment left_since begun held b (Err round.DeviceFault) up is = is
@@ -95,3 +96,14 @@ too-many a seat credits (TooManyCredits n) is =
     grind (arith, nat_tests, same)
 too-many a seat credits (Full n) is = tt
 too-many a seat credits Memory is = tt
+
+-- ---- nothing to take
+
+-- where no batch is out, and none can be taken, no handle waits
+pub none-waits : (a : Account) → IsSound a → a.aborted ≡ false → (CanTake a → ⊥) → a.shadow.taken ≡ a.shadow.settled → a.shadow.next ≡ a.shadow.taken
+none-waits a sound running none free =
+    let all = (sound.running running).queued in
+    elim (cases_lt 0 (length a.shadow.queue)) [
+      | inl some ↦ absurd (none (record { running = running; free = free; some = some }))
+      | inr few ↦ omega (arith, few, all)
+    ]

@@ -65,7 +65,7 @@ module _ {D : Type 0} (size count faults : D → ℕ) (honest : D → Type 0) (n
 
   -- what a round of a committer that held such a batch has done: a batch is committed, or the journal has failed
   abbrev pub CommitsRound : Option Gathered → Result Round RoundFault → Type 0
-  CommitsRound held (Ok Idle) = Unit {0}
+  CommitsRound held (Ok (Idle seen)) = Unit {0}
   CommitsRound held (Ok (Committed done)) = (p : Planned) × TakesUp held p.batch × IsRound p done
   CommitsRound held (Err Aborted) = Unit {0}
   CommitsRound held (Err DeviceFault) = HasFailed

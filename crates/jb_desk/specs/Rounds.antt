@@ -83,7 +83,7 @@ StaysHeld (Some b) new = new ≡ Some b
 -- tickets: a batch that is committed is settled whole, and the seat is sure of it; a batch stays held where it may still be
 -- committed, and only there.
 abbrev pub AnswersRound : Option Gathered → Option Gathered → ℕ → Result Round RoundFault → Type 0
-AnswersRound old new settled (Ok Idle) = (old ≡ None) × (new ≡ None)
+AnswersRound old new settled (Ok (Idle seen)) = (old ≡ None) × (new ≡ None)
 AnswersRound old new settled (Ok (Committed done)) = (new ≡ None) × ((past : ℕ) × Follow (first_of done) 0 past (entries_of done) × (past ≤ settled) × IsOfHeld old (first_of done) past)
 AnswersRound old new settled (Err Aborted) = new ≡ None
 AnswersRound old new settled (Err DeviceFault) = new ≡ None
@@ -92,6 +92,6 @@ AnswersRound old new settled (Err Refused) = StaysHeld old new
 
 -- a round that finds nothing to commit leaves the seat as it was
 abbrev pub IdleKeeps : {H N : Type 0} → Seat H N → Seat H N → Result Round RoundFault → Type 0
-IdleKeeps old new (Ok Idle) = new ≡ old
+IdleKeeps old new (Ok (Idle seen)) = new ≡ old
 IdleKeeps old new (Ok (Committed done)) = Unit {0}
 IdleKeeps old new (Err fault) = Unit {0}

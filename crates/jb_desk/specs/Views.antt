@@ -21,7 +21,7 @@ with_settled past v = front (max v.settled past) (max v.taken past) (max v.stopp
 -- what the commit of a taken batch makes of them: the batch is settled whole, or after a fault of the disk a first part of it
 -- and not all, or nothing is
 abbrev pub SeesCommit : Gathered → Front → Front → Result Round RoundFault → Type 0
-SeesCommit b old new (Ok Idle) = ⊥
+SeesCommit b old new (Ok (Idle seen)) = ⊥
 SeesCommit b old new (Ok (Committed done)) = new ≡ raised_settled old (end_of b)
 SeesCommit b old new (Err Aborted) = new ≡ old
 SeesCommit b old new (Err DeviceFault) = (new ≡ old) ⊎ ((lost : ℕ) × (b.first ≤ lost) × (lost < end_of b) × (new ≡ raised_settled old lost))
@@ -30,7 +30,7 @@ SeesCommit b old new (Err Refused) = new ≡ old
 
 -- no batch is taken up: there is none, or the journal has failed before
 abbrev pub TakesNone : Result Round RoundFault → Type 0
-TakesNone (Ok Idle) = Unit {0}
+TakesNone (Ok (Idle seen)) = Unit {0}
 TakesNone (Ok (Committed done)) = ⊥
 TakesNone (Err Aborted) = Unit {0}
 TakesNone (Err DeviceFault) = ⊥

@@ -1,6 +1,7 @@
 //! What commits, and how one round of it ends.
 ghost use Rattle.std.specs.Prelude.{◌≡◌, None, Some};
 
+use crate::counter::NoBatch;
 use crate::held::Held;
 use crate::origin::Origin;
 use crate::seat::Seat;
@@ -35,8 +36,8 @@ impl<H: Origin, N: Ledger> Committer<H, N> {
 /// What a round of a committer came to.
 #[derive(Debug, Drop)]
 pub enum Round {
-    /// There was nothing to commit.
-    Idle,
+    /// There was nothing to commit when the book was looked at.
+    Idle(NoBatch),
     /// A batch is committed, and its handles are settled.
     Committed(Done),
 }

@@ -4,6 +4,7 @@ ghost use Rattle.std.specs.List.{sum_by};
 ghost use Rattle.jb_handle.specs.Handle.{holder, changes_of};
 ghost use Rattle.jb_handle.specs.Held.{held, touched};
 
+mod idle;
 mod over;
 mod progress;
 mod rounds;
@@ -12,6 +13,7 @@ use crate::book::Book;
 use crate::fault::{BeginFault, EnqueueFault, StopFault, WaitFault};
 use crate::origin::Origin;
 use crate::seat::{Left, Seat};
+pub use idle::NoBatch;
 use jb_board::BoardSeat;
 use jb_handle::{Handle, Shape};
 pub use over::Over;

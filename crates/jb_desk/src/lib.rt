@@ -18,7 +18,7 @@ mod works;
 
 pub use book::Book;
 pub use committer::{Committer, Round, RoundFault};
-pub use counter::Over;
+pub use counter::{NoBatch, Over};
 pub use desk::{CloseFault, Closed, Desk};
 pub use ended::Ended;
 pub use fault::{BeginFault, EnqueueFault, SeatFault, StopFault, WaitFault, WrongBatch};

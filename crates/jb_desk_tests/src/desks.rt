@@ -170,7 +170,29 @@ fn beside<R: Wait, H: Origin, N: Ledger>(
     found
 }
 
-/// What three new desks answer.
+/// Six seats, one after the other, begin a handle of 6 credits and leave with it: what the last of them is answered.
+fn leavers<R: Wait, H: Origin, N: Ledger>(rt: &R, desk: &Small<H, N>) -> Option<BeginFault>
+    requires any { (words : WordMap) → H.begun.stops words }
+{
+    let mut last = None;
+    for _ in 0..6 {
+        let Ok(seat) = desk.seat(rt) else {
+            return Some(BeginFault::Closed);
+        };
+        let (seat, fault) = match desk.begin(rt, seat, 6) {
+            Ok(handle) => {
+                let (seat, _words) = handle.end();
+                (seat, None)
+            }
+            Err((seat, fault)) => (seat, Some(fault)),
+        };
+        let _left = desk.leave(rt, seat);
+        last = fault;
+    }
+    last
+}
+
+/// What new desks answer.
 fn rows<R: Wait, H: Origin, N: Ledger>(
     rt: &R,
     alloc: Global,
@@ -196,6 +218,7 @@ fn rows<R: Wait, H: Origin, N: Ledger>(
         Row::OneHandle => Ok(one_handle(rt, alloc, desk)?.map(Answer::OneHandle)),
         Row::Strays => Ok(strays(rt, alloc, desk)?.map(Answer::Strays)),
         Row::Beside => Ok(beside(rt, &desk, 5).map(Answer::Beside)),
+        Row::Leavers => Ok(Some(Answer::Leavers(leavers(rt, &desk)))),
     }
 }
 
@@ -204,6 +227,7 @@ enum Row {
     OneHandle,
     Strays,
     Beside,
+    Leavers,
 }
 
 #[derive(Clone, Copy, Debug, PartialEq)]
@@ -211,9 +235,10 @@ enum Answer {
     OneHandle(OneHandle),
     Strays(StrayAnswers),
     Beside((Option<BeginFault>, Option<BeginFault>)),
+    Leavers(Option<BeginFault>),
 }
 
-const ROWS: [(Row, Answer); 3] = [
+const ROWS: [(Row, Answer); 4] = [
     (
         Row::OneHandle,
         Answer::OneHandle(OneHandle {
@@ -233,6 +258,12 @@ const ROWS: [(Row, Answer); 3] = [
         }),
     ),
     (
+        Row::Beside,
+        Answer::Beside((Some(BeginFault::Full(30)), None)),
+    ),
+    (Row::Leavers, Answer::Leavers(None)),
+    // a checkpointer would not end where a handle stays listed
+    (
         Row::Strays,
         Answer::Strays(StrayAnswers {
             busy: Some(BeginFault::Busy),
@@ -241,10 +272,6 @@ const ROWS: [(Row, Answer); 3] = [
             is_out: true,
             counts: Some((0, 0, 0)),
         }),
-    ),
-    (
-        Row::Beside,
-        Answer::Beside((Some(BeginFault::Full(30)), None)),
     ),
 ];
 

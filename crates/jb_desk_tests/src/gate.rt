@@ -36,7 +36,7 @@ struct Gate {
 }
 
 /// Asks until something has happened; says whether it has.
-fn has_come<K: Clock>(clock: &K, flag: &AtomicBool) -> bool {
+pub fn has_come<K: Clock>(clock: &K, flag: &AtomicBool) -> bool {
     for _ in 0..TURNS {
         if flag.load(Ordering::SeqCst) {
             return true;

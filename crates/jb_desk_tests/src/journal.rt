@@ -193,7 +193,7 @@ pub fn round<R: Wait, D: Disk, H: Origin, N: Ledger>(
     ensures { desk_of (seat_of committer.new) ≡ desk_of (seat_of committer.old) }
 {
     match desk.commit_round(rt, committer) {
-        Ok(Round::Idle) => Came::Idle,
+        Ok(Round::Idle(_)) => Came::Idle,
         Ok(Round::Committed(done)) => {
             let entries = done.entries();
             Came::Committed(entries.first().copied(), entries.len())

@@ -6,6 +6,8 @@ mod blind;
 #[cfg(test)]
 mod books;
 #[cfg(test)]
+mod checkpoints;
+#[cfg(test)]
 mod desks;
 #[cfg(test)]
 mod faults;
@@ -25,3 +27,5 @@ mod rounds;
 mod threads;
 #[cfg(test)]
 mod turns;
+#[cfg(test)]
+mod waiting;

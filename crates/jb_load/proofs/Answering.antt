@@ -5,7 +5,9 @@ use Rattle.jb_block.specs.declared.size.BlockSize.{BlockSize}
 use Rattle.jb_disk.specs.Image.{Image}
 use Rattle.jb_handle.specs.declared.shape.Shape.{Shape}
 use Rattle.jb_handle.specs.declared.stopped.Stopped.{Stopped}
+use Rattle.jb_desk.specs.Origin.{Begun}
 use Rattle.jb_load.specs.Loads.{AnswersLoad, EndsCheckpoint, IsOpened, Loads}
+use Rattle.jb_load.specs.Settled.{LoadedSince, LoadsSince}
 use Rattle.jb_load.specs.declared.fault.LoadFault.{LoadFault}
 use Rattle.jb_load.specs.declared.fault.LoadFault.TheVariants.{Accounts, Memory}
 use Rattle.jb_load.specs.declared.loaded.Loaded.{Loaded}
@@ -21,3 +23,11 @@ module _ {D : Type 0} (size count faults : D → ℕ) (honest : D → Type 0) (n
         | inl is ↦ subst (λ (x : LoadFault). AnswersLoad size count faults honest newest disk bs queue options (Err x)) (sym is) (same, (shape, opened))
         | inr is ↦ subst (λ (x : LoadFault). AnswersLoad size count faults honest newest disk bs queue options (Err x)) (sym is) (same, (shape, opened))
       ]
+
+-- what it leaves on the disk
+pub loads-since : {D : Type 0} (size count faults : D → ℕ) (honest : D → Type 0) (newest : D → Image) (may_leave : D → Image → Type 0) (moment : D → ℕ) (left_since : D → ℕ → Image → Type 0) (b : Begun) (before : D) (queue : List Stopped) (threads : ℕ) (shape : Shape)
+    → IsOpened size count faults honest newest before shape → (r : Result (Loaded × D) LoadFault)
+    → IfOk r (λ ended. LoadedSince size count faults honest newest may_leave moment left_since b shape queue threads ended.0 ended.1)
+    → IfOk r (λ ended. LoadsSince size count faults honest newest may_leave moment left_since b before queue threads ended.0 ended.1)
+loads-since size count faults honest newest may_leave moment left_since b before queue threads shape opened (Ok (loaded, after)) since = (shape, opened, since)
+loads-since size count faults honest newest may_leave moment left_since b before queue threads shape opened (Err fault) since = tt

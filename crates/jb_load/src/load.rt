@@ -5,7 +5,7 @@ ghost use Rattle.jb_desk.specs.Desks.{shape_in};
 ghost use Rattle.jb_deck.specs.Done.{Follow};
 ghost use Rattle.jb_load.specs.Loads.{AnswersLoad, Counts, EndsCheckpoint, IsOpened, Loads, NotOpened};
 ghost use Rattle.jb_load.specs.Runs.{touching};
-ghost use Rattle.jb_load.specs.Settled.{LoadedSince, MayStop};
+ghost use Rattle.jb_load.specs.Settled.{LoadedSince, LoadsSince, MayStop};
 ghost use Rattle.jb_desk.specs.Since.{IsBegunOn, IsSince};
 ghost use Rattle.jb_deck.specs.Deck.{IsShapeOf};
 ghost use Rattle.jb_handle.specs.declared.shape.Shape.{Shape as ShapeValue};
@@ -65,7 +65,7 @@ pub fn load_on<
     requires begun { IsBegunOn D.size D.count D.faults D.honest D.newest D.moment D.left_since H.begun disk }
     requires words { MayStop H.begun queue.now.handles.items }
     ensures answers { AnswersLoad D.size D.count D.faults D.honest D.newest disk queue.now.bs queue.now.handles.items options result }
-    ensures since { IfOk result (λ ended. LoadedSince D.size D.count D.faults D.honest D.newest D.may_leave D.moment D.left_since H.begun ended.0 ended.1) }
+    ensures since { IfOk result (λ ended. LoadsSince D.size D.count D.faults D.honest D.newest D.may_leave D.moment D.left_since H.begun disk queue.now.handles.items options.threads ended.0 ended.1) }
 {
     if queue.bs.bytes() != disk.block_size().bytes() {
         return Err(LoadFault::BlockSize);
@@ -116,7 +116,7 @@ fn load_at<
     requires words { MayStop H.begun queue.now }
     ensures loaded { IfOk result (λ ended. Loads shape queue.now options.threads ended.0) }
     ensures ended { IfOk result (λ ended. EndsCheckpoint options.checkpoint ended.0.checkpoint) }
-    ensures since { IfOk result (λ ended. LoadedSince D.size D.count D.faults D.honest D.newest D.may_leave D.moment D.left_since H.begun ended.0 ended.1) }
+    ensures since { IfOk result (λ ended. LoadedSince D.size D.count D.faults D.honest D.newest D.may_leave D.moment D.left_since H.begun shape queue.now options.threads ended.0 ended.1) }
     ensures faults { IfErr result (λ fault. (fault ≡ OutOfMemory) ⊎ (fault ≡ Accounts)) }
 {
     let room = Gathered::with_room(alloc, options.threads + 1, queue.len())?;

@@ -1,5 +1,5 @@
 //! The book's part in a round of a committer.
-ghost use Rattle.std.specs.Prelude.{◌≡◌, ◌↔◌, IsTrue, true, false, OnOk, IfErr};
+ghost use Rattle.std.specs.Prelude.{◌≡◌, ◌↔◌, IsTrue, true, false, OnOk, IfErr, IfOk, IfNone};
 
 use crate::committer::RoundFault;
 use crate::counter::Counter;
@@ -10,7 +10,7 @@ use jb_deck::Done;
 use std::sync::ledger::Ledger;
 
 impl<H: Origin, N: Ledger> Counter<H, N> {
-    ghost use Rattle.jb_desk.specs.Account.{failed_of};
+    ghost use Rattle.jb_desk.specs.Account.{failed_of, CanTake};
     ghost use Rattle.jb_desk.specs.Rounds.{GivesBatch, SettlesOrFails, FailsAfter, Rests};
 
     /// The batch of a round: the one that the committer holds, or else the whole queue. `None` where there is
@@ -20,7 +20,8 @@ impl<H: Origin, N: Ledger> Counter<H, N> {
     ///
     /// `Aborted` where the journal has failed. A batch that is held is lost, so that none is committed then.
     pub fn next_batch(&mut self, held: Option<Held<H>>) -> Result<Option<Held<H>>, RoundFault>
-        ensures { GivesBatch result held self.old.book self.new.book }
+        ensures batch { GivesBatch result held self.old.book self.new.book }
+        ensures none { IfOk result (λ given. IfNone given ((self.new.book.aborted ≡ false) × (CanTake self.new.book → ⊥))) }
     {
         match held {
             Some(batch) if self.book.is_aborted() => {

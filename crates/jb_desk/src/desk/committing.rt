@@ -33,7 +33,7 @@ impl<D: Disk, C: Clock, H: Origin, N: Ledger> Desk<D, C, H, N> {
         for _ in rt.forever() {
             match self.commit_round(rt, &mut committer) {
                 Ok(Round::Committed(_)) => {}
-                Ok(Round::Idle) => {
+                Ok(Round::Idle(_)) => {
                     if let Some(over) = self.await_work(rt) {
                         return (committer, Ended::Shut(over));
                     }

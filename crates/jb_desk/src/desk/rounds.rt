@@ -48,9 +48,11 @@ impl<D: Disk, C: Clock, H: Origin, N: Ledger> Desk<D, C, H, N> {
         ensures round { CommitsRound D.size D.count D.faults D.honest D.newest D.may_leave D.moment D.left_since H.begun (held_by committer.old) result }
     {
         let held = committer.batch.take();
-        let Some(held) = self.counter.lock(rt).next_batch(held)? else {
-            return Ok(Round::Idle);
+        let mut counter = self.counter.lock(rt);
+        let Some(held) = counter.next_batch(held)? else {
+            return Ok(Round::Idle(counter.no_batch()));
         };
+        drop(counter);
         let batch = held.end();
         let end = past(&batch);
         self.board.raise_stopped(&mut committer.seat.board, end);

@@ -46,11 +46,5 @@ returns-clause-loaded g c =
     }
 
 pub returns-clause-since : goal.returns-clause-since
-returns-clause-since g c =
-    let counts = c.in_ok-loaded.ensures.counts in
-    record {
-      trail = c.in-Ok.closed.trail.items;
-      follows = counts.follows;
-      groups = counts.groups;
-      since = c.in-Ok.ensures.since;
-    }
+unfolding returns-clause-loaded
+returns-clause-since g c = record { loads = returns-clause-loaded g c; since = c.in-Ok.ensures.since }

@@ -1,7 +1,8 @@
-use Rattle.std.proofs.Common.{◌≡◌, subst, arith}
+use Rattle.std.proofs.Common.{◌≡◌, IfOk, subst, arith}
 use Rattle.jb_block.specs.Size.{bytes_of}
 use Rattle.jb_load.specs.Loads.{AnswersLoad}
-use Rattle.jb_load.proofs.Answering.{answers-as}
+use Rattle.jb_load.specs.Settled.{LoadsSince}
+use Rattle.jb_load.proofs.Answering.{answers-as, loads-since}
 use Rattle.jb_load.proofs.load.load_on.Goals as goal
 
 pub returns-in_default-clause-answers : goal.returns-in_default-clause-answers
@@ -20,3 +21,10 @@ returns-clause-answers g c =
     (answers-as g.D.Disk.size g.D.Disk.count g.D.Disk.faults g.D.Disk.honest g.D.Disk.newest c.args.disk c.args.queue.now.bs c.deref.result.now c.args.options c.shape-shape.result same
     (c.in-Ok.ensures.opened c.shape-shape.result c.shape-shape.ensures.journal)
     c.load_at.result c.load_at.ensures.loaded c.load_at.ensures.ended c.load_at.ensures.faults)
+
+pub returns-clause-since : goal.returns-clause-since
+returns-clause-since g c =
+    subst (λ hs. IfOk c.load_at.result (λ ended. LoadsSince g.D.Disk.size g.D.Disk.count g.D.Disk.faults g.D.Disk.honest g.D.Disk.newest g.D.Disk.may_leave g.D.Disk.moment g.D.Disk.left_since g.H.Origin.begun c.args.disk hs c.args.options.threads ended.0 ended.1)) c.deref.ensures.value
+    (loads-since g.D.Disk.size g.D.Disk.count g.D.Disk.faults g.D.Disk.honest g.D.Disk.newest g.D.Disk.may_leave g.D.Disk.moment g.D.Disk.left_since g.H.Origin.begun c.args.disk c.deref.result.now c.args.options.threads c.shape-shape.result
+    (c.in-Ok.ensures.opened c.shape-shape.result c.shape-shape.ensures.journal)
+    c.load_at.result c.load_at.ensures.since)

@@ -16,7 +16,7 @@ returns-in-Ok-clause-view g c =
     let v = view_of (seat_of c.args.committer.now) in
     let b : Gathered = c.end-batch.result in
     let same : c.in-Ok.prepared.batch ≡ b = c.in-Ok.ensures.batch in
-    let up : TakesUp held b = subst (TakesUp held) (sym c.end-batch.ensures.batch) (subst (λ h. TakesUp h c.in-Some.held) c.take-held.ensures.value (gives-takes _ _ c.take-held.result c.in_ok-held.field-0 c.in-Some.held c.in-Some.is c.in_ok-held.ensures)) in
+    let up : TakesUp held b = subst (TakesUp held) (sym c.end-batch.ensures.batch) (subst (λ h. TakesUp h c.in-Some.held) c.take-held.ensures.value (gives-takes _ _ c.take-held.result c.in_ok-held.field-0 c.in-Some.held c.in-Some.is c.in_ok-held.ensures.batch)) in
     let taken = c.raise_taken.ensures.view ∙ ap (λ x. raised_taken x c.past-end.result) c.raise_stopped.ensures.view ∙ ap (λ n. with_taken n v) c.past-end.ensures in
     sees-taken held (held_by c.commit.new.committer) c.in-Ok.prepared.batch v _ (view_of (seat_of c.commit.new.committer)) c.commit.result
     (subst (TakesUp held) (sym same) up)
@@ -29,7 +29,7 @@ returns-after-fault-clause-view g c =
     let v = view_of (seat_of c.args.committer.now) in
     let b : Gathered = c.end-batch.result in
     let same : c.in-Err.batch ≡ b = c.in-Err.ensures.back in
-    let up : TakesUp held b = subst (TakesUp held) (sym c.end-batch.ensures.batch) (subst (λ h. TakesUp h c.in-Some.held) c.take-held.ensures.value (gives-takes _ _ c.take-held.result c.in_ok-held.field-0 c.in-Some.held c.in-Some.is c.in_ok-held.ensures)) in
+    let up : TakesUp held b = subst (TakesUp held) (sym c.end-batch.ensures.batch) (subst (λ h. TakesUp h c.in-Some.held) c.take-held.ensures.value (gives-takes _ _ c.take-held.result c.in_ok-held.field-0 c.in-Some.held c.in-Some.is c.in_ok-held.ensures.batch)) in
     let taken = c.raise_taken.ensures.view ∙ ap (λ x. raised_taken x c.past-end.result) c.raise_stopped.ensures.view ∙ ap (λ n. with_taken n v) c.past-end.ensures in
     let fault : (c.match-fault.result ≡ Memory) ⊎ (c.match-fault.result ≡ Refused) =
     elim c.match-fault.branch [
@@ -46,6 +46,6 @@ returns-in-Ok-clause-round g c =
     let held = held_by c.args.committer.now in
     let b : Gathered = c.end-batch.result in
     let same : c.in-Ok.prepared.batch ≡ b = c.in-Ok.ensures.batch in
-    let up : TakesUp held b = subst (TakesUp held) (sym c.end-batch.ensures.batch) (subst (λ h. TakesUp h c.in-Some.held) c.take-held.ensures.value (gives-takes _ _ c.take-held.result c.in_ok-held.field-0 c.in-Some.held c.in-Some.is c.in_ok-held.ensures)) in
+    let up : TakesUp held b = subst (TakesUp held) (sym c.end-batch.ensures.batch) (subst (λ h. TakesUp h c.in-Some.held) c.take-held.ensures.value (gives-takes _ _ c.take-held.result c.in_ok-held.field-0 c.in-Some.held c.in-Some.is c.in_ok-held.ensures.batch)) in
     round-up g.D.Disk.size g.D.Disk.count g.D.Disk.faults g.D.Disk.honest g.D.Disk.newest g.D.Disk.may_leave g.D.Disk.moment g.D.Disk.left_since g.H.Origin.begun held c.in-Ok.prepared.batch c.commit.result
     (subst (TakesUp held) (sym same) up) c.commit.ensures.round

@@ -1,0 +1,47 @@
+//! That there is nothing to commit.
+ghost use Rattle.std.specs.Prelude.{◌≡◌, false};
+
+use crate::counter::Counter;
+use crate::origin::Origin;
+use jb_board::Front;
+use std::sync::ledger::Ledger;
+
+/// There was nothing to take: the journal had not failed, and no handle waited or a batch was out. Only a look at a
+/// desk's book under its lock gives one.
+#[derive(Clone, Copy, Debug, PartialEq, Eq)]
+pub struct NoBatch {
+    seen: Front,
+    ghost none: { seen.taken ≡ seen.settled → seen.stopped ≡ seen.taken },
+}
+
+impl NoBatch {
+    /// How far the handles had come. Where no batch was out, all that had stopped were settled.
+    pub fn seen(&self) -> Front
+        ensures seen { result ≡ self.now.seen }
+        ensures none { result.taken ≡ result.settled → result.stopped ≡ result.taken }
+    {
+        self.seen
+    }
+}
+
+impl<H: Origin, N: Ledger> Counter<H, N> {
+    ghost use Rattle.jb_board.specs.Front.{front};
+    ghost use Rattle.jb_desk.specs.Account.{CanTake};
+
+    /// That there is nothing to take.
+    pub fn no_batch(&self) -> NoBatch
+        requires running { self.now.book.aborted ≡ false }
+        requires none { CanTake self.now.book → ⊥ }
+        ensures { result.seen ≡ front self.now.book.shadow.settled self.now.book.shadow.taken self.now.book.shadow.next }
+    {
+        // that the book is sound is known by looking at it
+        let _reserved = self.book.reserved();
+        NoBatch {
+            seen: Front {
+                settled: self.book.settled(),
+                taken: self.book.taken(),
+                stopped: self.book.next(),
+            },
+        }
+    }
+}

@@ -1,0 +1,7 @@
+use Rattle.jb_desk_tests.proofs.checkpoints.a_checkpointer_ends_with_no_group.Given as goal
+
+abbrev pub ghosts-ends_with_no_group-H-Ledger : goal.ghosts-ends_with_no_group-H-Ledger
+ghosts-ends_with_no_group-H-Ledger g a = record { name = a.handles.name; parts = a.handles.parts }
+
+abbrev pub ghosts-ends_with_no_group-N-Ledger : goal.ghosts-ends_with_no_group-N-Ledger
+ghosts-ends_with_no_group-N-Ledger g a = record { name = a.changes.name; parts = a.changes.parts }

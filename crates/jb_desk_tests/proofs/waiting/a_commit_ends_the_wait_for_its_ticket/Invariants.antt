@@ -1,0 +1,7 @@
+use Rattle.jb_desk_tests.proofs.waiting.a_commit_ends_the_wait_for_its_ticket.Given as goal
+
+abbrev pub ghosts-waited-H-Ledger : goal.ghosts-waited-H-Ledger
+ghosts-waited-H-Ledger g a = record { name = a.handles.name; parts = a.handles.parts }
+
+abbrev pub ghosts-waited-N-Ledger : goal.ghosts-waited-N-Ledger
+ghosts-waited-N-Ledger g a = record { name = a.changes.name; parts = a.changes.parts }
