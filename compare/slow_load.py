@@ -6,8 +6,8 @@ A C library in front of the system's makes fdatasync slow, or refuses threads (L
 1. 64 threads on a disk whose fdatasync takes 20 ms, a journal of 34 blocks, handles of three home blocks: each handle gets its room in
    the end, and the status is 0.
 2. 20,000 handles of two words and a journal of 64 blocks of 1 KiB in memory (/dev/shm): how long that takes, the least of five runs.
-3. No thread can be made: the workers run one after the other, and those for which there is no room wait ten seconds once, and not
-   each of them.
+3. Nothing is committed, with --hold or since no thread can be made (the workers run one after the other then), and the log has no room
+   for all: ten seconds are waited for once, and not by each worker.
 
 Prints a line for each, and ends with status 1 where one is not as it must be."""
 import os
@@ -81,7 +81,11 @@ def small_journal():
     expect("small journal", all(run[0] == 0 and not run[2] for run in runs), runs)
 
 
-def no_threads(shim):
+def nothing_committed(shim):
+    status, out, err, seconds = load(34, 64, text(200, 3, 64, 8), "--threads", "8", "--hold")
+    print("--hold: 200 handles of three blocks, eight workers: status %d, %.1f s, %s %s" % (status, seconds, out, err.replace("\n", " / ")))
+    expect("--hold: Full is reported", status == 1 and ": Full " in err)
+    expect("--hold: once ten seconds", 9 < seconds < 15, seconds)
     status, out, err, seconds = load(34, 64, text(200, 3, 64, 8), "--threads", "8", LD_PRELOAD=shim, NO_THREADS="1")
     print("no thread: 200 handles of three blocks, eight workers: status %d, %.1f s, %s %s" % (status, seconds, out, err.replace("\n", " / ")))
     expect("no thread: Full is reported", status == 1 and ": Full " in err)
@@ -98,7 +102,7 @@ with tempfile.TemporaryDirectory(dir="/dev/shm" if os.path.isdir("/dev/shm") els
     subprocess.run(["cc", "-shared", "-fPIC", "-O1", "-o", "between.so", "between.c", "-ldl"], check=True)
     slow_disk(os.path.join(folder, "between.so"))
     small_journal()
-    no_threads(os.path.join(folder, "between.so"))
+    nothing_committed(os.path.join(folder, "between.so"))
     os.chdir("/")
 print("slow_load.py: %d wrong" % bad)
 sys.exit(bad != 0)
