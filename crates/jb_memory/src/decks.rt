@@ -57,6 +57,9 @@ pub fn open_row(rt: &HostRuntime) -> Result<Met, Wrong> {
         },
         Err(_) => return Err(Wrong::Answer),
     };
-    must(deck.next_number() == 2 && deck.usable() == 32, Wrong::Stands)?;
+    must(
+        deck.next_number() == 2 && deck.usable() == 32,
+        Wrong::Stands,
+    )?;
     Ok(met)
 }

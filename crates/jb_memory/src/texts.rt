@@ -21,7 +21,12 @@ pub fn read_queue_row(rt: &HostRuntime) -> Result<Met, Wrong> {
     ample(rt);
     let (met, queue) = match first {
         Ok(queue) => (Met::Ample, queue),
-        Err(QueueFault { line, cause: Cause::Memory }) => {
+        Err(
+            QueueFault {
+                line,
+                cause: Cause::Memory,
+            },
+        ) => {
             must(3 <= line && line <= 5, Wrong::Answer)?;
             match read_queue(alloc, THREE) {
                 Ok(queue) => (Met::Memory, queue),
@@ -98,6 +103,9 @@ pub fn read_revokes_row(rt: &HostRuntime) -> Result<Met, Wrong> {
         },
         Err(_) => return Err(Wrong::Answer),
     };
-    must(homes.as_slice() == [0, 0, 0, 0, 0].as_slice(), Wrong::Answer)?;
+    must(
+        homes.as_slice() == [0, 0, 0, 0, 0].as_slice(),
+        Wrong::Answer,
+    )?;
     Ok(met)
 }

@@ -4,7 +4,7 @@ use crate::texts::{CERTIFICATE, THREE};
 use crate::window::{Met, Wrong, ample, must, refusing};
 use jb_cost::{Geometry, group_cost};
 use jb_handle::is_within_size;
-use jb_plan::{Answer, plan};
+use jb_plan::{Answer, Planned, plan};
 use jb_price::{Verdict, check, read_cert};
 use jb_queue::{QueueText, read_queue};
 
@@ -34,10 +34,14 @@ pub fn plan_row(rt: &HostRuntime) -> Result<Met, Wrong> {
         Ok(planned) => (Met::Ample, planned),
         Err(_) => (Met::Memory, plan(alloc, handles, geometry, queue.limit)?),
     };
-    must(planned.prices.as_slice() == PRICES.as_slice(), Wrong::Answer)?;
-    match planned.answer {
+    let Planned { answer, prices } = planned;
+    must(prices.as_slice() == PRICES.as_slice(), Wrong::Answer)?;
+    match answer {
         Answer::Cut { bounds, total } => {
-            must(bounds.as_slice() == [0, 3].as_slice() && total == 7, Wrong::Answer)?;
+            must(
+                bounds.as_slice() == [0, 3].as_slice() && total == 7,
+                Wrong::Answer,
+            )?;
             Ok(met)
         }
         Answer::NoCut => Err(Wrong::Answer),
