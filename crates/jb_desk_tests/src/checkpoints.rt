@@ -214,17 +214,17 @@ fn ends_with_no_group<
         return Err("it is not started".into());
     };
     let is_done = AtomicBool::new(false);
-    let (ended, _) = thread::join(
+    let (_, (ended, _)) = thread::join(
         rt,
-        || {
-            let ended = desk.run_checkpointer(rt);
-            is_done.store(true, Ordering::SeqCst);
-            ended
-        },
+        || commit_last(rt, &desk),
         || {
             thread::join(
                 rt,
-                || commit_last(rt, &desk),
+                || {
+                    let ended = desk.run_checkpointer(rt);
+                    is_done.store(true, Ordering::SeqCst);
+                    ended
+                },
                 || thread::join(
                     rt,
                     || crowd(rt, &desk, &is_done),
