@@ -158,7 +158,7 @@ fn the_round_after_a_failed_checkpoint_fails_the_book(rt: HostRuntime) -> Result
     Ok(())
 }
 
-/// How many desks are raced. A checkpointer that asks too late for what is settled left a group in the seventeenth.
+/// How many desks are raced. A checkpointer that asks too late for what is settled left a group in the thirty-first.
 const RACES: u32 = 200;
 
 /// Stops a handle, shuts the desk and commits the handle.
