@@ -8,6 +8,7 @@ use crate::seat::Seat;
 use jb_deck::Done;
 use std::mem;
 use std::sync::ledger::Ledger;
+use thiserror::Error;
 
 /// A seat that commits, with the batch that it has taken and could not commit yet. It must be used
 /// up: it retires or gives up, and cannot be dropped by accident.
@@ -43,14 +44,18 @@ pub enum Round {
 }
 
 /// Why a round of a committer settles no batch, or not all of it.
-#[derive(Clone, Copy, Debug, PartialEq, Eq)]
+#[derive(Clone, Copy, Debug, PartialEq, Eq, Error)]
 pub enum RoundFault {
     /// The journal has failed before. The batch is lost.
+    #[error("the journal has failed; recover it and open it again")]
     Aborted,
     /// There was no memory. The committer holds the batch for its next round.
+    #[error("out of memory; the next round commits the batch")]
     Memory,
     /// A call of the disk failed. The groups that were committed are settled, and the rest of the batch is lost.
+    #[error("the disk failed; recover the journal and open it again")]
     DeviceFault,
     /// The journal does not take the batch. The committer holds it.
+    #[error("the journal does not take the batch")]
     Refused,
 }

@@ -9,17 +9,22 @@ use crate::words::Words;
 use jb_block::Memory;
 use std::alloc::Global;
 use std::marker::Model;
+use thiserror::Error;
 
 /// Why a handle refuses a change. The handle is as it was.
-#[derive(Clone, Copy, Debug, PartialEq, Eq)]
+#[derive(Clone, Copy, Debug, PartialEq, Eq, Error)]
 pub enum TouchFault {
     /// The home block is new to the handle, and all of its credits, so many blocks, are used.
+    #[error("all {0} credits of the handle are used; begin a handle with more")]
     NoCredit(u32),
     /// The home block of this number is none of the journal's.
+    #[error("the journal has no home block {0}")]
     OutOfRange(u64),
     /// The bytes are not as many as a block has.
+    #[error("the bytes are not as many as a block has")]
     Length,
     /// There was no memory for the change.
+    #[error("out of memory")]
     Memory,
 }
 

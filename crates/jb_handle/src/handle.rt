@@ -1,8 +1,10 @@
 ghost use Rattle.std.specs.Prelude.{◌≡◌, ◌⊎◌, Some, None, false, OnOk, OnErr, IfErr};
 ghost use Rattle.std.specs.FinMap as map;
+ghost use Rattle.std.specs.Option.{option_copied};
 
 use crate::changes::{Changes, TouchFault};
 use crate::shape::Shape;
+use crate::word::Word;
 use crate::words::Words;
 use std::alloc::Global;
 
@@ -68,6 +70,14 @@ impl<S> Handle<S> {
         self.changes.words()
     }
 
+    /// The handle's own last word on a home block, or `None` where it has touched no such block. It costs the
+    /// logarithm of how many blocks it has touched.
+    pub fn word(&self, home: u64) -> Option<&Word>
+        ensures { option_copied result ≡ map.get (changes_of self.now).words home }
+    {
+        self.words().get(home)
+    }
+
     /// The home block gets these bytes (`jbd2_journal_dirty_metadata`). It cancels a revoke of
     /// the block.
     ///
@@ -101,6 +111,16 @@ impl<S> Handle<S> {
         ensures memory { IfErr result (λ fault. fault ≡ Memory → (refusal (changes_of self.old) (Revoke home) ≡ None) × (map.contains_key (changes_of self.old).words home ≡ false)) }
     {
         self.changes.revoke(home)
+    }
+
+    /// The seat that the handle was made for, and the handle for another one, with the same changes.
+    pub fn with_seat<Q>(self, seat: Q) -> (S, Handle<Q>)
+        ensures old { result.0 ≡ holder self }
+        ensures seat { holder result.1 ≡ seat }
+        ensures changes { changes_of result.1 ≡ changes_of self }
+    {
+        let Handle { seat: old, changes } = self;
+        (old, Handle { seat, changes })
     }
 
     /// Takes the handle apart, into its seat and its words.
