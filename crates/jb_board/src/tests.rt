@@ -21,11 +21,13 @@ fn a_second_seat_sees_what_the_first_raised(rt: HostRuntime) -> Result<(), Fail>
     board.raise_taken(&mut first, 2);
     assert!(rt; board.look(&mut second) == counts(0, 2, 3));
     board.raise_settled(&mut first, 1);
-    board.raise_stopped(&mut first, 1);
     assert!(rt; board.look(&mut second) == counts(1, 2, 3));
+    board.raise_settled(&mut first, 2);
+    board.raise_stopped(&mut first, 1);
+    assert!(rt; board.look(&mut second) == counts(2, 2, 3));
     board.join(&mut first, second);
     let mut third = board.enter();
-    assert!(rt; board.look(&mut third) == counts(1, 2, 3));
+    assert!(rt; board.look(&mut third) == counts(2, 2, 3));
     Ok(())
 }
 
