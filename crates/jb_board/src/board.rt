@@ -5,14 +5,25 @@ use crate::rule::{Counts, SETTLED, STOPPED, TAKEN};
 use crate::steps::{
     Entry, Kept, LoadSettled, LoadStopped, LoadTaken, RaiseSettled, RaiseStopped, RaiseTaken, Same,
 };
+use crate::tickets::Tickets;
 use atomic_table::{Seat, Table};
 use jb_block::Memory;
 use std::alloc::Global;
+use std::marker::PhantomData;
+use std::sync::ledger::Ledger;
 
 /// Three counts that only rise, each a word of its own that threads read and raise in single steps. At
-/// every moment settled <= taken <= stopped, and no seat has seen more than the counts are.
+/// every moment settled <= taken <= stopped, and no seat has seen more than the counts are. The tickets are
+/// those that the ledger `L` counts.
 #[derive(Drop)]
-pub struct Board {
+pub struct Board<L: Ledger> {
+    words: Words,
+    ledger: PhantomData<L>,
+}
+
+/// The three words.
+#[derive(Drop)]
+struct Words {
     table: Table<(), Front, (), Counts, Global>,
     ghost three_words: { table.shared.table_id.words ≡ 3 },
 }
@@ -25,9 +36,9 @@ pub struct BoardSeat {
     ghost no_slots: { seat.me.1 ≡ [] },
 }
 
-impl Board {
+impl<L: Ledger> Board<L> {
     ghost use Rattle.jb_board.specs.Front.{front, InOrder, IsWithin};
-    ghost use Rattle.jb_board.specs.Seats.{board_id, seat_board, seat_view};
+    ghost use Rattle.jb_board.specs.Seats.{board_id, seat_board, seat_view, given_by};
     ghost use Rattle.jb_board.specs.Steps.{saw_settled, saw_taken, saw_stopped, raised_settled, raised_taken, raised_stopped};
 
     /// A board on which no ticket is counted, with its first seat.
@@ -35,12 +46,16 @@ impl Board {
     /// # Errors
     ///
     /// `Memory` where there is none for the three counts.
-    pub fn new(alloc: Global) -> Result<(Board, BoardSeat), Memory>
+    pub fn new(alloc: Global) -> Result<(Board<L>, BoardSeat), Memory>
         ensures board { IfOk result (λ made. seat_board made.1 ≡ board_id made.0) }
         ensures view { IfOk result (λ made. seat_view made.1 ≡ front 0 0 0) }
     {
         let (table, seat) = Table::of_words(alloc, &[0, 0, 0], &())?;
-        Ok((Board { table }, BoardSeat { seat }))
+        let board = Board {
+            words: Words { table },
+            ledger: PhantomData,
+        };
+        Ok((board, BoardSeat { seat }))
     }
 
     /// A seat that has seen nothing yet, for a thread that has no seat to split one off from.
@@ -48,7 +63,7 @@ impl Board {
         ensures board { seat_board result ≡ board_id self.now }
         ensures view { seat_view result ≡ front 0 0 0 }
     {
-        let (_, seat) = self.table.shared.load_new_seat::<Entry>(STOPPED);
+        let (_, seat) = self.words.table.shared.load_new_seat::<Entry>(STOPPED);
         BoardSeat { seat }
     }
 
@@ -59,7 +74,7 @@ impl Board {
         ensures view { seat_view result ≡ seat_view seat.old }
         ensures kept { (seat_board seat.new ≡ seat_board seat.old) × (seat_view seat.new ≡ seat_view seat.old) }
     {
-        let seat = self.table.shared.split_seat::<Same>(&mut seat.seat);
+        let seat = self.words.table.shared.split_seat::<Same>(&mut seat.seat);
         BoardSeat { seat }
     }
 
@@ -70,7 +85,10 @@ impl Board {
         ensures kept { (seat_board seat.new ≡ seat_board seat.old) × (seat_view seat.new ≡ seat_view seat.old) }
     {
         let BoardSeat { seat: other } = other;
-        self.table.shared.join_seat::<Kept>(&mut seat.seat, other);
+        self.words
+            .table
+            .shared
+            .join_seat::<Kept>(&mut seat.seat, other);
     }
 
     /// Reads the three counts, settled first and stopped last. They are in order, though other threads
@@ -92,13 +110,16 @@ impl Board {
         }
     }
 
-    /// Raises the count of stopped tickets to `count`, or leaves it where it is higher.
-    pub fn raise_stopped(&self, seat: &mut BoardSeat, count: u64)
-        requires { seat_board seat.old ≡ board_id self.now }
+    /// Raises the count of stopped tickets to `count`, or leaves it where it is higher. So many tickets
+    /// were given, as `tickets` shows.
+    pub fn raise_stopped(&self, seat: &mut BoardSeat, count: u64, tickets: &Tickets<L>)
+        requires here { seat_board seat.old ≡ board_id self.now }
+        requires given { count ≤ given_by tickets.now }
         ensures board { seat_board seat.new ≡ seat_board seat.old }
         ensures view { seat_view seat.new ≡ raised_stopped (seat_view seat.old) count }
     {
-        self.table
+        self.words
+            .table
             .shared
             .fetch_max::<RaiseStopped>(&mut seat.seat, STOPPED, count);
     }
@@ -111,7 +132,8 @@ impl Board {
         ensures board { seat_board seat.new ≡ seat_board seat.old }
         ensures view { seat_view seat.new ≡ raised_taken (seat_view seat.old) count }
     {
-        self.table
+        self.words
+            .table
             .shared
             .fetch_max::<RaiseTaken>(&mut seat.seat, TAKEN, count);
     }
@@ -124,7 +146,8 @@ impl Board {
         ensures board { seat_board seat.new ≡ seat_board seat.old }
         ensures view { seat_view seat.new ≡ raised_settled (seat_view seat.old) count }
     {
-        self.table
+        self.words
+            .table
             .shared
             .fetch_max::<RaiseSettled>(&mut seat.seat, SETTLED, count);
     }
@@ -135,7 +158,8 @@ impl Board {
         ensures view { seat_view seat.new ≡ saw_settled (seat_view seat.old) result }
         ensures rises { (seat_view seat.old).settled ≤ result }
     {
-        self.table
+        self.words
+            .table
             .shared
             .load::<LoadSettled>(&mut seat.seat, SETTLED)
     }
@@ -146,7 +170,10 @@ impl Board {
         ensures view { seat_view seat.new ≡ saw_taken (seat_view seat.old) result }
         ensures rises { (seat_view seat.old).taken ≤ result }
     {
-        self.table.shared.load::<LoadTaken>(&mut seat.seat, TAKEN)
+        self.words
+            .table
+            .shared
+            .load::<LoadTaken>(&mut seat.seat, TAKEN)
     }
 
     fn load_stopped(&self, seat: &mut BoardSeat) -> u64
@@ -155,7 +182,8 @@ impl Board {
         ensures view { seat_view seat.new ≡ saw_stopped (seat_view seat.old) result }
         ensures rises { (seat_view seat.old).stopped ≤ result }
     {
-        self.table
+        self.words
+            .table
             .shared
             .load::<LoadStopped>(&mut seat.seat, STOPPED)
     }

@@ -7,6 +7,8 @@ mod rule;
 mod steps;
 #[cfg(test)]
 mod tests;
+mod tickets;
 
 pub use board::{Board, BoardSeat};
 pub use front::Front;
+pub use tickets::Tickets;

@@ -1,5 +1,5 @@
 -- A journal that was just opened stands as it must.
-use Rattle.std.proofs.Common.{◌≡◌, ◌⊎◌, ℕ, ◌+◌, ◌≤◌, false, List, [], Option, Some, None, Result, Ok, Err, inl, inr, ⊎_elim, refl, ap, sym, subst, ◌∙◌, arith}
+use Rattle.std.proofs.Common.{◌≡◌, ◌⊎◌, ℕ, ◌≤◌, List, [], Option, Some, None, Ok, inl, ⊎_elim, refl, ap, sym, subst, ◌∙◌, arith}
 use Rattle.std.proofs.lemmas.List.Elements.{All-nil}
 use Rattle.jb_disk.specs.Image.{Image}
 use Rattle.jb_disk.specs.Kept.{Kept}
@@ -12,18 +12,16 @@ use Rattle.jb_handle.specs.declared.word.Word.{Word}
 use Rattle.jb_ready.specs.Ready.{revoking}
 use Rattle.jb_super.specs.Journal.{SameJournal}
 use Rattle.jb_super.specs.Superblock.{Superblock}
-use Rattle.jb_super.specs.declared.fault.SuperFault.{SuperFault}
 use Rattle.jb_deck.specs.Deck.{OpenDeck}
 use Rattle.jb_deck.specs.Done.{past_after}
 use Rattle.jb_deck.specs.Follows.{FollowsNone}
 use Rattle.jb_deck.specs.Leaving.{AllHave}
 use Rattle.jb_deck.specs.Opening.{FollowsEntry, IsNew, Opens, opened_log, recovered_home}
 use Rattle.jb_deck.specs.Since.{LiveOf, homes_of}
-use Rattle.jb_deck.specs.declared.done.Entry.{Entry}
 use Rattle.jb_deck.specs.declared.log.Log.{Log}
 use Rattle.jb_deck.proofs.Histories.{Stood}
 use Rattle.jb_desk.specs.Origin.{Begun, own_on, revoking_in}
-use Rattle.jb_desk.specs.Since.{HasFirst, IsBegunOn, IsSince, Since}
+use Rattle.jb_desk.specs.Since.{IsBegunOn, IsSince}
 use Rattle.jb_desk.proofs.Firsts.{first-none}
 
 none-live : (gs : List Group) → gs ≡ [] → LiveOf [] gs

@@ -10,6 +10,7 @@ pub mod Grouped
 pub mod Keeping
 pub mod Least
 pub mod Limits
+pub mod Readings
 pub mod Rounds
 pub mod SeatCredits
 pub mod Seen

@@ -1,5 +1,5 @@
 -- What a round makes of the counts that its seat is sure of, and which credits are too many.
-use Rattle.std.proofs.Common.{◌≡◌, ◌⊎◌, ℕ, length, Bool, true, false, nat_lt, is_some, [], ◌∷◌, Option, Some, None, Result, Ok, Err, inl, inr, refl, sym, subst, ◌∙◌, arith}
+use Rattle.std.proofs.Common.{◌≡◌, ◌⊎◌, ℕ, length, Bool, true, false, nat_lt, is_some, [], ◌∷◌, Option, Some, None, Result, Ok, Err, inl, inr, refl, ap, sym, subst, ◌∙◌, arith}
 use Rattle.std.proofs.lemmas.Bool.{cases_lt}
 use Rattle.std.proofs.lemmas.Bool.Decides.{nat_tests}
 use Rattle.jb_batch.specs.Batch.{Gathered}
@@ -63,6 +63,16 @@ gives-takes old new (Some h) given b is gives = let same : ◌≡◌ {A = Option
 pub sees-held : (held after : Option Gathered) (b : Gathered) (v w : Front) (fault : RoundFault) → (fault ≡ round.Memory) ⊎ (fault ≡ round.Refused) → TakesUp held b → after ≡ Some b → w ≡ with_taken (end_of b) v → SeesRound held after v w (Err fault)
 sees-held held after b v w fault (inl is) up again taken = subst (λ f. SeesRound held after v w (Err f)) (sym is) (inr (b, up, again, taken))
 sees-held held after b v w fault (inr is) up again taken = subst (λ f. SeesRound held after v w (Err f)) (sym is) (inr (b, up, again, taken))
+
+-- what is answered of the batch that is taken up is the round's answer
+pub answers-up : (held after : Option Gathered) (b : Gathered) (n : ℕ) (r : Result Round RoundFault) → TakesUp held b → AnswersRound (Some b) after n r → AnswersRound held after n r
+answers-up (Some h) after b n r up is = subst (λ (x : Gathered). AnswersRound (Some x) after n r) up is
+answers-up None after b n (Ok (Idle seen)) up is = (refl, is.1)
+answers-up None after b n (Ok (Committed done)) up is = (is.0, (is.1.0, is.1.1, is.1.2, tt))
+answers-up None after b n (Err round.Aborted) up is = is
+answers-up None after b n (Err round.DeviceFault) up is = is
+answers-up None after b n (Err round.Memory) up is = ap is_some is
+answers-up None after b n (Err round.Refused) up is = ap is_some is
 
 -- of the batch that is taken up, the round's is
 pub round-up : {D : Type 0} (size count faults : D → ℕ) (honest : D → Type 0) (newest : D → Image) (may_leave : D → Image → Type 0) (moment : D → ℕ) (left_since : D → ℕ → Image → Type 0) (begun : Begun) (held : Option Gathered) (b : Gathered) (r : Result Round RoundFault)

@@ -1,6 +1,5 @@
 -- A journal since its desk was started: what each of its calls keeps.
 use Rattle.std.proofs.Common.{◌≡◌, ◌⊎◌, ℕ, Bool, true, false, ◌+◌, ◌<◌, ◌≤◌, List, [], ◌∷◌, ◌++◌, length, take, slice_index, Result, Ok, Err, IfOk, OnOk, inl, inr, ⊎_elim, refl, ap, sym, subst, ◌∙◌, arith}
-use Rattle.std.specs.List.{All}
 use Rattle.std.proofs.lemmas.List.{length-append, length-take-le}
 use Rattle.std.proofs.lemmas.List.Elements.{All-append}
 use mathlib.Core.List.{append-nil}
@@ -18,7 +17,7 @@ use Rattle.jb_handle.proofs.Tickets.{tickets-append}
 use Rattle.jb_super.specs.Journal.{SameJournal}
 use Rattle.jb_deck.specs.Checkpoints.{AnswersCheckpoint, Checkpoints, TakesOldest}
 use Rattle.jb_deck.specs.Committing.{AnswersBatch, CommitsBatch, CommitsOnDisk, FindsLive, LeavesGroups, SettlesSome, TakesBatch}
-use Rattle.jb_deck.specs.Deck.{OpenDeck, aborted_on}
+use Rattle.jb_deck.specs.Deck.{OpenDeck}
 use Rattle.jb_deck.specs.Done.{entries_of, past_after}
 use Rattle.jb_deck.specs.Follows.{FollowsNone, StandsBy}
 use Rattle.jb_deck.specs.Gathering.{groups_in, entries_for}
@@ -31,10 +30,10 @@ use Rattle.jb_deck.specs.declared.checked.CheckpointFault.{CheckpointFault}
 use Rattle.jb_deck.specs.declared.checked.CheckpointFault.TheVariants as checkpoint
 use Rattle.jb_deck.specs.declared.done.Done.{Done}
 use Rattle.jb_deck.specs.declared.done.Entry.{Entry}
-use Rattle.jb_deck.proofs.Histories.{Stood, calls-stood}
+use Rattle.jb_deck.proofs.Histories.{calls-stood}
 use Rattle.jb_deck.proofs.Owning.{same-then}
 use Rattle.jb_deck.proofs.Sinces.{ended-is-call}
-use Rattle.jb_desk.specs.Journal.{ChecksRound, FailsAs, HasFailed, IsRound}
+use Rattle.jb_desk.specs.Journal.{ChecksRound, FailsAs, IsRound}
 use Rattle.jb_desk.specs.Origin.{Begun}
 use Rattle.jb_desk.specs.Since.{AreStops, HasFirst, IsSince, Since}
 use Rattle.jb_desk.proofs.Bounds.{cut-high, cut-last, for-length, for-past, past-append}
@@ -228,7 +227,7 @@ module _ {D : Type 0} (size count faults : D → ℕ) (honest : D → Type 0) (n
           (leaves.before b.since c s.later left)
 
       -- nothing is given, and the homes stand as they did
-      none-since : SameJournal old.log.sb new.log.sb → faults old.disk ≤ faults new.disk → (b.faults < 18446744073709551615 → faults new.disk ≡ b.faults → new.aborted ≡ false) → (new.aborted ≡ false → ((home : ℕ) → homes_of newest new home ≡ homes_of newest old home) × LiveOf s.given new.groups) → Stands new
+      pub none-since : SameJournal old.log.sb new.log.sb → faults old.disk ≤ faults new.disk → (b.faults < 18446744073709551615 → faults new.disk ≡ b.faults → new.aborted ≡ false) → (new.aborted ≡ false → ((home : ℕ) → homes_of newest new home ≡ homes_of newest old home) × LiveOf s.given new.groups) → Stands new
       none-since same more fails same_homes = record {
         same_size = kept.same_size ∙ s.same_size;
         same_count = kept.same_count ∙ s.same_count;

@@ -1,5 +1,5 @@
 -- What a round of a desk has done to its journal.
-use Rattle.std.specs.Prelude.{◌≡◌, ◌≢◌, ◌++◌, true, false, ℕ, List, [], Option, Result, Ok, Err}
+use Rattle.std.specs.Prelude.{◌≡◌, ◌++◌, true, false, ℕ, List, [], Option, Result, Ok, Err, OnOk}
 use Rattle.jb_batch.specs.Batch.{Gathered}
 use Rattle.jb_batch.specs.Prepared.{Planned, IsPlanned}
 use Rattle.jb_block.specs.declared.stamp.Stamp.{Stamp}
@@ -8,12 +8,15 @@ use Rattle.jb_disk.specs.Kept.{Kept}
 use Rattle.jb_deck.specs.Checkpoints.{Checkpoints, TakesOldest}
 use Rattle.jb_deck.specs.Committing.{CommitsBatch, CommitsOnDisk, FindsLive, TakesBatch}
 use Rattle.jb_deck.specs.Deck.{OpenDeck}
+use Rattle.jb_deck.specs.Log.{standing}
+use Rattle.jb_deck.specs.Reading.{AnswersRead}
 use Rattle.jb_deck.specs.declared.batched.BatchFault.{BatchFault}
 use Rattle.jb_deck.specs.declared.batched.BatchFault.TheVariants as batch
 use Rattle.jb_deck.specs.declared.checked.Checked.{Checked}
 use Rattle.jb_deck.specs.declared.checked.CheckpointFault.{CheckpointFault}
 use Rattle.jb_deck.specs.declared.checked.CheckpointFault.TheVariants as checkpoint
 use Rattle.jb_deck.specs.declared.done.Done.{Done}
+use Rattle.jb_deck.specs.declared.read.ReadHomeFault.{ReadHomeFault}
 use Rattle.jb_desk.specs.Origin.{Begun}
 use Rattle.jb_desk.specs.Since.{IsSince, Since}
 use Rattle.jb_desk.specs.Views.{TakesUp}
@@ -62,6 +65,18 @@ module _ {D : Type 0} (size count faults : D → ℕ) (honest : D → Type 0) (n
     pub since : IsSince size count faults honest newest may_leave moment left_since b deck
     pub up : deck.aborted ≡ false
     pub none : deck.groups ≡ []
+
+  -- The desk's journal before and after a home was read into so many bytes, which then are these: what is answered, in the words of the journal's own read.
+  -- Nothing that the journal knows has changed, nor has what the disk holds; where the read has ended well, the bytes are what stands in the home.
+  pub record ReadsHome (home bytes : ℕ) (found : List ℕ) (result : Result (Unit {0}) ReadHomeFault) : Type 0 where
+    pub old : OpenDeck D
+    pub new : OpenDeck D
+    pub same_disk : Kept size count honest old.disk new.disk
+    pub answers : AnswersRead (size old.disk) (faults old.disk) (faults new.disk) old new home bytes result
+    pub stands : b.honest → OnOk result (found ≡ standing old.log old.groups (newest old.disk) home)
+    pub content : b.honest → newest new.disk ≡ newest old.disk
+    pub before : IsSince size count faults honest newest may_leave moment left_since b old
+    pub after : IsSince size count faults honest newest may_leave moment left_since b new
 
   -- what a round of a committer that held such a batch has done: a batch is committed, or the journal has failed
   abbrev pub CommitsRound : Option Gathered → Result Round RoundFault → Type 0

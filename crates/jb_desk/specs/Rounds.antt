@@ -45,6 +45,11 @@ abbrev pub FailsAfter : Done → Account → Result (Unit {0}) WrongBatch → Ac
 FailsAfter done old (Ok unit) new = (past : ℕ) × Settles old past (entries_of done) × (new ≡ failed_of (settled_to past (entries_of done) old))
 FailsAfter done old (Err wrong) new = ((past : ℕ) → Settles old past (entries_of done) → ⊥) × (new ≡ failed_of old)
 
+-- a batch that is held is lost, and the book has failed; where none is, nothing has changed
+abbrev pub GivesUp : Option Gathered → Account → Account → Type 0
+GivesUp None old new = new ≡ old
+GivesUp (Some b) old new = new ≡ failed_of old
+
 -- a committer has nothing to do, and may have later
 pub record Rests (a : Account) : Type 0 where
   pub running : a.aborted ≡ false

@@ -27,7 +27,7 @@ impl<H: Origin, N: Ledger> Committer<H, N> {
         match mem::replace(&mut self.batch, Some(batch)) {
             None => {}
             Some(other) => {
-                let _lost = other.end().end();
+                other.lose();
                 unreachable!()
             }
         }

@@ -14,7 +14,7 @@ use crate::fault::{BeginFault, EnqueueFault, StopFault, WaitFault};
 use crate::origin::Origin;
 use crate::seat::{Left, Seat};
 pub use idle::NoBatch;
-use jb_board::BoardSeat;
+use jb_board::{BoardSeat, Tickets};
 use jb_handle::{Handle, Shape};
 pub use over::Over;
 pub(crate) use progress::Progress;
@@ -49,6 +49,7 @@ impl<H: Origin, N: Ledger> Counter<H, N> {
     ghost use Rattle.jb_desk.specs.Account.{granted_to, dropped_of, refusal, RefusesBegin, IsSettledBy, IsAwaited, fault_of};
     ghost use Rattle.jb_desk.specs.Seats.{stops, changes, stops_left, changes_left};
     ghost use Rattle.jb_desk.specs.Stops.{IsStopped, RefusesStopOf};
+    ghost use Rattle.jb_board.specs.Seats.{given_by};
 
     /// A book that nobody has asked anything, and two ledgers in which nothing is counted.
     pub fn new(book: Book<H>, handles: Blank, changes: Blank) -> Counter<H, N>
@@ -207,6 +208,7 @@ impl<H: Origin, N: Ledger> Counter<H, N> {
     pub fn number_of(&self, ticket: u64) -> Result<u32, WaitFault>
         ensures ok { IfOk result (λ number. IsSettledBy self.now.book.trail ticket number) }
         ensures few { OnOk result (ticket < 2 ^ 61) }
+        ensures given { OnOk result (ticket < self.now.book.shadow.next) }
         ensures err { IfErr result (λ fault. (self.now.book.shadow.settled ≤ ticket) × (fault ≡ fault_of self.now.book)) }
     {
         match self.book.number_of(ticket) {
@@ -214,6 +216,16 @@ impl<H: Origin, N: Ledger> Counter<H, N> {
             None if self.book.is_aborted() => Err(WaitFault::Aborted),
             None => Err(WaitFault::Unknown),
         }
+    }
+
+    /// That the book's tickets were given: those that wait, and all before them.
+    pub fn tickets(&self) -> Tickets<H>
+        ensures given { given_by result ≡ self.now.book.shadow.next }
+        ensures taken { self.now.book.shadow.taken ≤ given_by result }
+    {
+        // that the book is sound is known by looking at it
+        let _reserved = self.book.reserved();
+        Tickets::of(&self.handles, self.book.next())
     }
 
     /// How many seats were given.

@@ -9,6 +9,7 @@ mod checkpoints;
 mod closing;
 mod committers;
 mod committing;
+mod reading;
 mod rounds;
 mod waiting;
 
@@ -39,7 +40,7 @@ pub struct Desk<D: Disk, C: Clock, H: Origin, N: Ledger> {
     /// the book has changed
     moved: Condvar,
     turns: Turns,
-    board: Board,
+    board: Board<H>,
     shape: Shape,
     alloc: Global,
 }
@@ -159,9 +160,13 @@ impl<D: Disk, C: Clock, H: Origin, N: Ledger> Desk<D, C, H, N> {
         ensures view { IfOk result (λ given. view_of given.0 ≡ raised_stopped (view_of (holder handle)) (given.1 + 1)) }
         ensures refused { IfErr result (HandsBack handle) }
     {
-        let (mut seat, ticket) = self.counter.lock(rt).stop(handle)?;
+        let mut counter = self.counter.lock(rt);
+        let (mut seat, ticket) = counter.stop(handle)?;
+        let tickets = counter.tickets();
+        drop(counter);
         self.moved.notify_all();
-        self.board.raise_stopped(&mut seat.board, ticket + 1);
+        self.board
+            .raise_stopped(&mut seat.board, ticket + 1, &tickets);
         Ok((seat, ticket))
     }
 
@@ -206,16 +211,16 @@ impl<D: Disk, C: Clock, H: Origin, N: Ledger> Desk<D, C, H, N> {
         ensures err { OnErr result (seat.new ≡ seat.old) }
         ensures counted { (stops seat.new ≡ stops seat.old) × (changes seat.new ≡ changes seat.old) }
     {
-        let number = self
-            .moved
-            .wait_while(
-                rt,
-                self.counter.lock(rt),
-                |counter| counter.is_awaited(ticket),
-            )
-            .number_of(ticket)?;
+        let counter = self.moved.wait_while(
+            rt,
+            self.counter.lock(rt),
+            |counter| counter.is_awaited(ticket),
+        );
+        let number = counter.number_of(ticket)?;
+        let tickets = counter.tickets();
+        drop(counter);
         let count = ticket + 1;
-        self.board.raise_stopped(&mut seat.board, count);
+        self.board.raise_stopped(&mut seat.board, count, &tickets);
         self.board.raise_taken(&mut seat.board, count);
         self.board.raise_settled(&mut seat.board, count);
         Ok(number)

@@ -1,7 +1,7 @@
-ghost use Rattle.std.specs.Prelude.{◌≡◌, IfOk};
+ghost use Rattle.std.specs.Prelude.{◌≡◌, length, IfOk};
 
 use crate::origin::Origin;
-use jb_deck::{BatchFault, Checked, CheckpointFault, Deck, Done, Prepared};
+use jb_deck::{BatchFault, Checked, CheckpointFault, Deck, Done, Prepared, ReadHomeFault};
 use jb_disk::{Clock, Disk};
 use std::marker::{Model, PhantomData};
 
@@ -33,7 +33,8 @@ impl<D: Disk, C: Clock, S: Origin> Works<D, C, S> {
     ghost use Rattle.jb_block.specs.declared.stamp.Stamp.{Stamp};
     ghost use Rattle.jb_deck.specs.Committing.{AnswersBatch};
     ghost use Rattle.jb_batch.specs.Prepared.{IsPlanned};
-    ghost use Rattle.jb_desk.specs.Journal.{ChecksRound, FailsAs, IsRound};
+    ghost use Rattle.jb_deck.specs.Reading.{AnswersRead};
+    ghost use Rattle.jb_desk.specs.Journal.{ChecksRound, FailsAs, IsRound, ReadsHome};
     ghost use Rattle.jb_desk.specs.Rounds.{CommitsAs};
     ghost use Rattle.jb_desk.specs.Since.{AreStops, IsSince};
     ghost use Rattle.jb_desk.specs.Works.{worked};
@@ -80,6 +81,19 @@ impl<D: Disk, C: Clock, S: Origin> Works<D, C, S> {
         ensures clock { self.new.clock ≡ self.old.clock }
     {
         self.deck.checkpoint_one()
+    }
+
+    /// Reads a home block as it stands.
+    ///
+    /// # Errors
+    ///
+    /// Those of the journal's own read.
+    pub fn read(&mut self, home: u64, buf: &mut [u8]) -> Result<(), ReadHomeFault>
+        ensures answers { AnswersRead (D.size self.old.deck.disk) (D.faults self.old.deck.disk) (D.faults self.new.deck.disk) self.old.deck self.new.deck home (length buf.old) result }
+        ensures home { ReadsHome D.size D.count D.faults D.honest D.newest D.may_leave D.moment D.left_since S.begun home (length buf.old) buf.new result }
+        ensures clock { self.new.clock ≡ self.old.clock }
+    {
+        self.deck.read_home(home, buf)
     }
 
     /// Takes it apart, into the journal and the clock.

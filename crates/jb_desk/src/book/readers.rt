@@ -95,6 +95,7 @@ impl<S: Origin> Book<S> {
     pub fn number_of(&self, ticket: u64) -> Option<u32>
         ensures some { IfSome result (λ number. IsSettledBy self.now.trail ticket number) }
         ensures settled { IfSome result (λ _. (ticket < self.now.shadow.settled) × (ticket < 2 ^ 61)) }
+        ensures given { IfSome result (λ _. ticket < self.now.shadow.next) }
         ensures none { IfNone result (self.now.shadow.settled ≤ ticket) }
     {
         number_in(&self.trail, ticket)

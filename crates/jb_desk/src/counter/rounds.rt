@@ -11,7 +11,7 @@ use std::sync::ledger::Ledger;
 
 impl<H: Origin, N: Ledger> Counter<H, N> {
     ghost use Rattle.jb_desk.specs.Account.{failed_of, CanTake};
-    ghost use Rattle.jb_desk.specs.Rounds.{GivesBatch, SettlesOrFails, FailsAfter, Rests};
+    ghost use Rattle.jb_desk.specs.Rounds.{GivesBatch, GivesUp, SettlesOrFails, FailsAfter, Rests};
 
     /// The batch of a round: the one that the committer holds, or else the whole queue. `None` where there is
     /// nothing to take.
@@ -25,13 +25,13 @@ impl<H: Origin, N: Ledger> Counter<H, N> {
     {
         match held {
             Some(batch) if self.book.is_aborted() => {
-                let _lost = batch.end().end();
+                batch.lose();
                 Err(RoundFault::Aborted)
             }
             None if self.book.is_aborted() => Err(RoundFault::Aborted),
             Some(batch) => Ok(Some(batch)),
             None => match self.book.take() {
-                Some(batch) => Ok(Some(Held::of(batch))),
+                Some(batch) => Ok(Some(Held::of(batch, self.tickets()))),
                 None => Ok(None),
             },
         }
@@ -86,8 +86,20 @@ impl<H: Origin, N: Ledger> Counter<H, N> {
         if !self.book.is_aborted() {
             return Err(batch);
         }
-        let _lost = batch.end().end();
+        batch.lose();
         Ok(())
+    }
+
+    /// A committer gives up. A batch that it holds is lost, and the book has failed then: nobody could settle the
+    /// batch's tickets any more.
+    pub fn give_up(&mut self, held: Option<Held<H>>)
+        ensures { GivesUp held self.old.book self.new.book }
+    {
+        let Some(batch) = held else {
+            return;
+        };
+        batch.lose();
+        self.fail();
     }
 
     /// Whether a committer has nothing to do yet.

@@ -52,14 +52,12 @@ impl<D: Disk, C: Clock, H: Origin, N: Ledger> Desk<D, C, H, N> {
         ensures { result ≡ seat_of committer }
     {
         let Committer { seat, batch } = committer;
-        if let Some(batch) = batch {
-            let _lost = batch.end().end();
-            self.fail(rt);
-        }
+        self.counter.lock(rt).give_up(batch);
+        self.moved.notify_all();
         seat
     }
 
-    /// The journal has failed, or a batch is given up.
+    /// The journal has failed.
     pub(crate) fn fail<R: Wait>(&self, rt: &R) {
         self.counter.lock(rt).fail();
         self.moved.notify_all();

@@ -10,6 +10,7 @@ use crate::follow::end_of;
 use crate::held::Held;
 use crate::origin::Origin;
 use crate::seat::Seat;
+use jb_board::Tickets;
 use jb_deck::{Batch, BatchFault, Done, PrepareFault, Prepared, prepare};
 use jb_disk::{Clock, Disk};
 use std::sync::Wait;
@@ -22,6 +23,7 @@ impl<D: Disk, C: Clock, H: Origin, N: Ledger> Desk<D, C, H, N> {
     ghost use Rattle.jb_desk.specs.Seats.{stops, changes, seat_number, desk_of};
     ghost use Rattle.jb_desk.specs.Since.{AreStops};
     ghost use Rattle.jb_desk.specs.Views.{SeesCommit, SeesRound};
+    ghost use Rattle.jb_board.specs.Seats.{given_by};
     ghost use Rattle.jb_board.specs.Steps.{raised_settled};
     ghost use Rattle.jb_desk.specs.declared.committer.RoundFault.TheVariants.{Aborted};
 
@@ -53,14 +55,15 @@ impl<D: Disk, C: Clock, H: Origin, N: Ledger> Desk<D, C, H, N> {
             return Ok(Round::Idle(counter.no_batch()));
         };
         drop(counter);
-        let batch = held.end();
+        let (batch, tickets) = held.end();
         let end = past(&batch);
-        self.board.raise_stopped(&mut committer.seat.board, end);
+        self.board
+            .raise_stopped(&mut committer.seat.board, end, &tickets);
         self.board.raise_taken(&mut committer.seat.board, end);
         match prepare(self.alloc, batch) {
-            Ok(prepared) => self.commit(rt, committer, prepared),
+            Ok(prepared) => self.commit(rt, committer, prepared, tickets),
             Err((batch, fault)) => {
-                committer.hold(Held::of(batch));
+                committer.hold(Held::of(batch, tickets));
                 Err(match fault {
                     PrepareFault::Memory => RoundFault::Memory,
                     PrepareFault::NoCut(_) => RoundFault::Refused,
@@ -75,12 +78,14 @@ impl<D: Disk, C: Clock, H: Origin, N: Ledger> Desk<D, C, H, N> {
         rt: &R,
         committer: &mut Committer<H, N>,
         prepared: Prepared,
+        tickets: Tickets<H>,
     ) -> Result<Round, RoundFault>
         requires desk { desk_of (seat_of committer.old) ≡ desk_id self.now }
         requires free { held_by committer.old ≡ None }
         requires planned { IsPlanned prepared }
         requires stops { AreStops H.begun prepared.batch.handles }
         requires taken { end_in prepared.batch ≤ (view_of (seat_of committer.old)).taken }
+        requires given { end_in prepared.batch ≤ given_by tickets }
         ensures desk { (desk_of (seat_of committer.new) ≡ desk_of (seat_of committer.old)) × (seat_number (seat_of committer.new) ≡ seat_number (seat_of committer.old)) }
         ensures answers { AnswersRound (Some prepared.batch) (held_by committer.new) (view_of (seat_of committer.new)).settled result }
         ensures view { SeesCommit prepared.batch (view_of (seat_of committer.old)) (view_of (seat_of committer.new)) result }
@@ -104,7 +109,7 @@ impl<D: Disk, C: Clock, H: Origin, N: Ledger> Desk<D, C, H, N> {
                 Err(RoundFault::Aborted)
             }
             Err(BatchFault::Memory(prepared)) => {
-                committer.hold(Held::of(prepared.back()));
+                committer.hold(Held::of(prepared.back(), tickets));
                 Err(RoundFault::Memory)
             }
             Err(
@@ -112,7 +117,7 @@ impl<D: Disk, C: Clock, H: Origin, N: Ledger> Desk<D, C, H, N> {
                 | BatchFault::OtherShape(prepared)
                 | BatchFault::NumbersSpent(prepared),
             ) => {
-                committer.hold(Held::of(prepared.back()));
+                committer.hold(Held::of(prepared.back(), tickets));
                 Err(RoundFault::Refused)
             }
         }

@@ -3,4 +3,4 @@ use Rattle.jb_board.specs.Seats.{board_id, seat_board}
 use Rattle.jb_board.proofs.tests.faults.Given as goal
 
 abbrev pub invariant-loop-count : goal.invariant-loop-count
-invariant-loop-count l = seat_board l.seat ≡ board_id l.board
+invariant-loop-count g l = seat_board l.seat ≡ board_id l.board

@@ -3,4 +3,4 @@ use Rattle.jb_board.proofs.Keeps.{enters}
 use Rattle.jb_board.proofs.board.Board.enter.Goals as goal
 
 pub load_new_seat-seat-requires : goal.load_new_seat-seat-requires
-load_new_seat-seat-requires c = (search rules, enters _)
+load_new_seat-seat-requires g c = (search rules, enters _)

@@ -3,4 +3,4 @@ use Rattle.jb_board.proofs.Keeps.{joins}
 use Rattle.jb_board.proofs.board.Board.join.Goals as goal
 
 pub join_seat-requires : goal.join_seat-requires
-join_seat-requires c = (search rules, search rules, search rules, search rules, joins _ _ _ _)
+join_seat-requires g c = (search rules, search rules, search rules, search rules, joins _ _ _ _)

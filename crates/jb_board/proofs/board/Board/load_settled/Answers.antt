@@ -3,4 +3,4 @@ use Rattle.jb_board.proofs.Keeps.{loads_settled}
 use Rattle.jb_board.proofs.board.Board.load_settled.Goals as goal
 
 pub load-requires : goal.load-requires
-load-requires c = (search rules, search rules, loads_settled _ _ _)
+load-requires g c = (search rules, search rules, loads_settled _ _ _)

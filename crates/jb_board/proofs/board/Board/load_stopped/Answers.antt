@@ -3,4 +3,4 @@ use Rattle.jb_board.proofs.Keeps.{loads_stopped}
 use Rattle.jb_board.proofs.board.Board.load_stopped.Goals as goal
 
 pub load-requires : goal.load-requires
-load-requires c = (search rules, search rules, loads_stopped _ _ _)
+load-requires g c = (search rules, search rules, loads_stopped _ _ _)

@@ -3,4 +3,4 @@ use Rattle.jb_board.proofs.Keeps.{loads_taken}
 use Rattle.jb_board.proofs.board.Board.load_taken.Goals as goal
 
 pub load-requires : goal.load-requires
-load-requires c = (search rules, search rules, loads_taken _ _ _)
+load-requires g c = (search rules, search rules, loads_taken _ _ _)

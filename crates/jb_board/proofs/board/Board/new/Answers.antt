@@ -2,4 +2,4 @@ use Rattle.jb_board.proofs.Keeps.{starts}
 use Rattle.jb_board.proofs.board.Board.new.Goals as goal
 
 pub of_words-requires : goal.of_words-requires
-of_words-requires c = starts
+of_words-requires g c = starts

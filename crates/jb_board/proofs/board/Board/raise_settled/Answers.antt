@@ -3,4 +3,4 @@ use Rattle.jb_board.proofs.Keeps.{raises_settled}
 use Rattle.jb_board.proofs.board.Board.raise_settled.Goals as goal
 
 pub fetch_max-requires : goal.fetch_max-requires
-fetch_max-requires c = (search rules, search rules, raises_settled _ _ _ _ c.requires.taken)
+fetch_max-requires g c = (search rules, search rules, raises_settled _ _ _ _ c.requires.taken)

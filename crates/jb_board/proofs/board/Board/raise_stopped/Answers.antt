@@ -3,4 +3,4 @@ use Rattle.jb_board.proofs.Keeps.{raises_stopped}
 use Rattle.jb_board.proofs.board.Board.raise_stopped.Goals as goal
 
 pub fetch_max-requires : goal.fetch_max-requires
-fetch_max-requires c = (search rules, search rules, raises_stopped _ _ _ _)
+fetch_max-requires g c = (search rules, search rules, raises_stopped _ _ _ _)

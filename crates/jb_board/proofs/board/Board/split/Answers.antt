@@ -3,4 +3,4 @@ use Rattle.jb_board.proofs.Keeps.{splits}
 use Rattle.jb_board.proofs.board.Board.split.Goals as goal
 
 pub split_seat-seat-requires : goal.split_seat-seat-requires
-split_seat-seat-requires c = (search rules, search rules, splits _ _)
+split_seat-seat-requires g c = (search rules, search rules, splits _ _)

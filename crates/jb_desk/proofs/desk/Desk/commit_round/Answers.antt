@@ -6,15 +6,24 @@ use Rattle.jb_desk.specs.Rounds.{end_of as end_in}
 use Rattle.jb_desk.specs.Seats.{view_of}
 use Rattle.jb_desk.specs.Views.{TakesUp, with_taken}
 use Rattle.jb_desk.specs.declared.committer.RoundFault.TheVariants.{Memory, Refused}
-use Rattle.jb_desk.proofs.Seen.{gives-takes, round-up, sees-held, sees-taken}
+use Rattle.jb_desk.proofs.Seen.{answers-up, gives-takes, round-up, sees-held, sees-taken}
 use Rattle.jb_desk.proofs.desk.Desk.commit_round.Goals.{in-Memory, in-NoCut}
 use Rattle.jb_desk.proofs.desk.Desk.commit_round.Goals as goal
+
+pub returns-in-Ok-clause-answers : goal.returns-in-Ok-clause-answers
+returns-in-Ok-clause-answers g c =
+    let held = held_by c.args.committer.now in
+    let b : Gathered = c.end-batch.result.0 in
+    let same : c.in-Ok.prepared.batch ≡ b = c.in-Ok.ensures.batch in
+    let up : TakesUp held b = subst (TakesUp held) (sym c.end-batch.ensures.batch) (subst (λ h. TakesUp h c.in-Some.held) c.take-held.ensures.value (gives-takes _ _ c.take-held.result c.in_ok-held.field-0 c.in-Some.held c.in-Some.is c.in_ok-held.ensures.batch)) in
+    answers-up held (held_by c.commit.new.committer) c.in-Ok.prepared.batch (view_of (seat_of c.commit.new.committer)).settled c.commit.result
+    (subst (TakesUp held) (sym same) up) c.commit.ensures.answers
 
 pub returns-in-Ok-clause-view : goal.returns-in-Ok-clause-view
 returns-in-Ok-clause-view g c =
     let held = held_by c.args.committer.now in
     let v = view_of (seat_of c.args.committer.now) in
-    let b : Gathered = c.end-batch.result in
+    let b : Gathered = c.end-batch.result.0 in
     let same : c.in-Ok.prepared.batch ≡ b = c.in-Ok.ensures.batch in
     let up : TakesUp held b = subst (TakesUp held) (sym c.end-batch.ensures.batch) (subst (λ h. TakesUp h c.in-Some.held) c.take-held.ensures.value (gives-takes _ _ c.take-held.result c.in_ok-held.field-0 c.in-Some.held c.in-Some.is c.in_ok-held.ensures.batch)) in
     let taken = c.raise_taken.ensures.view ∙ ap (λ x. raised_taken x c.past-end.result) c.raise_stopped.ensures.view ∙ ap (λ n. with_taken n v) c.past-end.ensures in
@@ -27,7 +36,7 @@ pub returns-after-fault-clause-view : goal.returns-after-fault-clause-view
 returns-after-fault-clause-view g c =
     let held = held_by c.args.committer.now in
     let v = view_of (seat_of c.args.committer.now) in
-    let b : Gathered = c.end-batch.result in
+    let b : Gathered = c.end-batch.result.0 in
     let same : c.in-Err.batch ≡ b = c.in-Err.ensures.back in
     let up : TakesUp held b = subst (TakesUp held) (sym c.end-batch.ensures.batch) (subst (λ h. TakesUp h c.in-Some.held) c.take-held.ensures.value (gives-takes _ _ c.take-held.result c.in_ok-held.field-0 c.in-Some.held c.in-Some.is c.in_ok-held.ensures.batch)) in
     let taken = c.raise_taken.ensures.view ∙ ap (λ x. raised_taken x c.past-end.result) c.raise_stopped.ensures.view ∙ ap (λ n. with_taken n v) c.past-end.ensures in
@@ -44,7 +53,7 @@ returns-after-fault-clause-view g c =
 pub returns-in-Ok-clause-round : goal.returns-in-Ok-clause-round
 returns-in-Ok-clause-round g c =
     let held = held_by c.args.committer.now in
-    let b : Gathered = c.end-batch.result in
+    let b : Gathered = c.end-batch.result.0 in
     let same : c.in-Ok.prepared.batch ≡ b = c.in-Ok.ensures.batch in
     let up : TakesUp held b = subst (TakesUp held) (sym c.end-batch.ensures.batch) (subst (λ h. TakesUp h c.in-Some.held) c.take-held.ensures.value (gives-takes _ _ c.take-held.result c.in_ok-held.field-0 c.in-Some.held c.in-Some.is c.in_ok-held.ensures.batch)) in
     round-up g.D.Disk.size g.D.Disk.count g.D.Disk.faults g.D.Disk.honest g.D.Disk.newest g.D.Disk.may_leave g.D.Disk.moment g.D.Disk.left_since g.H.Origin.begun held c.in-Ok.prepared.batch c.commit.result

@@ -1,0 +1,73 @@
+-- A home that is read from a journal since its desk was started.
+use Rattle.std.proofs.Common.{◌≡◌, ℕ, false, ◌≤◌, List, Result, Ok, Err, OnOk, refl, ap, sym, subst, ◌∙◌, arith}
+use Rattle.jb_disk.specs.Image.{Image}
+use Rattle.jb_disk.specs.Kept.{Kept}
+use Rattle.jb_disk.specs.Time.{LeavesOnly}
+use Rattle.jb_disk.proofs.Moments.{weaken}
+use Rattle.jb_super.specs.Journal.{SameJournal}
+use Rattle.jb_deck.specs.Deck.{OpenDeck, on_disk}
+use Rattle.jb_deck.specs.Follows.{FollowsNone}
+use Rattle.jb_deck.specs.Log.{standing}
+use Rattle.jb_deck.specs.Reading.{AnswersRead, IsAsBefore}
+use Rattle.jb_deck.specs.Since.{LiveOf, homes_of}
+use Rattle.jb_deck.specs.declared.read.ReadHomeFault.{ReadHomeFault}
+use Rattle.jb_deck.specs.declared.read.ReadHomeFault.TheVariants.{Aborted, OutOfRange, Length, DeviceFault}
+use Rattle.jb_desk.specs.Journal.{ReadsHome}
+use Rattle.jb_desk.specs.Origin.{Begun}
+use Rattle.jb_desk.specs.Since.{IsSince, Since}
+use Rattle.jb_desk.proofs.Sincing.{none-since}
+
+module _ {D : Type 0} (size count faults : D → ℕ) (honest : D → Type 0) (newest : D → Image) (may_leave : D → Image → Type 0) (moment : D → ℕ) (left_since : D → ℕ → Image → Type 0) (counts_now : (disk : D) (t : ℕ) (c : Image) → honest disk → t ≤ moment disk → may_leave disk c → left_since disk t c) (b : Begun) (old new : OpenDeck D) (kept : Kept size count honest old.disk new.disk) where
+  abbrev Is : OpenDeck D → Type 0
+  Is d = IsSince size count faults honest newest may_leave moment left_since b d
+
+  abbrev Stands : OpenDeck D → Type 0
+  Stands d = Since size count faults honest newest may_leave moment left_since b d
+
+  -- what a crash leaves of a read
+  abbrev As : Image → Type 0
+  As c = IsAsBefore old.log.sb (size old.disk) (count old.disk) (homes_of newest old) (newest old.disk) c
+
+  abbrev LeavesAs : Type 0
+  LeavesAs = old.aborted ≡ false → honest old.disk → LeavesOnly moment left_since old.disk new.disk As
+
+  abbrev Content : Type 0
+  Content = honest old.disk → newest new.disk ≡ newest old.disk
+
+  -- the home was read, or the disk did not read it
+  stands : new ≡ on_disk old new.disk → faults old.disk ≤ faults new.disk → newest new.disk ≡ newest old.disk → (s : Stands old) → old.aborted ≡ false → LeavesOnly moment left_since old.disk new.disk As → Stands new
+  stands same more content s up leaves =
+      none-since size count faults honest newest may_leave moment left_since counts_now b old new kept s up
+      (weaken moment left_since old.disk new.disk As (FollowsNone old.log.sb (size old.disk) (count old.disk) (homes_of newest old)) (λ c was. was.follows) leaves)
+      (ap (λ (d : OpenDeck D). d.trail) same)
+      (subst (λ (d : OpenDeck D). SameJournal old.log.sb d.log.sb) (sym same) refl)
+      more
+      (λ few none. ap (λ (d : OpenDeck D). d.aborted) same ∙ up)
+      (λ still. (
+        λ home. ap (λ (d : OpenDeck D). homes_of newest d home) same ∙ ap (λ image. standing old.log old.groups image home) content,
+        subst (λ (d : OpenDeck D). LiveOf s.given d.groups) (sym same) (s.live up),
+      ))
+
+  pub read-since : (home bytes : ℕ) (r : Result (Unit {0}) ReadHomeFault) → AnswersRead (size old.disk) (faults old.disk) (faults new.disk) old new home bytes r → Content → LeavesAs → Is old → Is new
+  read-since home bytes (Ok done) answers content leaves is = record {
+    since = λ h. let s = is.since h in let same = answers.3 in stands answers.4 (omega (arith, same)) (content s.stays_honest) s answers.0 (leaves answers.0 s.stays_honest);
+  }
+  read-since home bytes (Err Aborted) answers content leaves is = subst (λ (d : OpenDeck D). Is d) (sym answers.1) is
+  read-since home bytes (Err OutOfRange) answers content leaves is = subst (λ (d : OpenDeck D). Is d) (sym answers.2) is
+  read-since home bytes (Err Length) answers content leaves is = subst (λ (d : OpenDeck D). Is d) (sym answers.3) is
+  read-since home bytes (Err DeviceFault) answers content leaves is = record {
+    since = λ h. let s = is.since h in stands answers.4 answers.3.no_fewer (content s.stays_honest) s answers.0 (leaves answers.0 s.stays_honest);
+  }
+
+  pub read-home : (home bytes : ℕ) (found : List ℕ) (r : Result (Unit {0}) ReadHomeFault) → AnswersRead (size old.disk) (faults old.disk) (faults new.disk) old new home bytes r
+      → (honest old.disk → OnOk r (found ≡ standing old.log old.groups (newest old.disk) home)) → Content → Is old → Is new → ReadsHome size count faults honest newest may_leave moment left_since b home bytes found r
+  read-home home bytes found r answers reads content is after = record {
+    old = old;
+    new = new;
+    same_disk = kept;
+    answers = answers;
+    stands = λ h. reads (is.since h).stays_honest;
+    content = λ h. content (is.since h).stays_honest;
+    before = is;
+    after = after;
+  }
