@@ -9,6 +9,7 @@ pub const OPENING: u64 = 1_000;
 
 /// The size of a block, and how many bytes that is.
 pub const SIZE: BlockSize = BlockSize::OneKib;
+
 const BYTES: usize = 1024;
 
 /// What each account holds.

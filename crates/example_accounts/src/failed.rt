@@ -1,5 +1,7 @@
 //! What may go wrong here.
-use jb_journal::{FormatFault, HandleFault, ReadHomeFault, RecoverFault, RunFault, TouchFault, WaitFault};
+use jb_journal::{
+    FormatFault, HandleFault, ReadHomeFault, RecoverFault, RunFault, TouchFault, WaitFault,
+};
 use thiserror::Error;
 
 /// Why the program ends without a sum.

@@ -19,22 +19,23 @@ use crate::failed::Failed;
 use crate::image::open_image;
 use crate::moving::Moving;
 use crate::opening::Opening;
-use jb_journal::{
-    Disk, FixedClock, MemoryDisk, Options, Ran, Stamp, Width, format, recover, run,
-};
+use jb_journal::{Disk, FixedClock, MemoryDisk, Options, Ran, Stamp, Width, format, recover, run};
 use std::env;
+use std::fs::File;
 use std::io::Write;
 use std::process::ExitCode;
+use std::rt::Files;
 use std::sync::{Mutex, Wait};
 use std::thread::Threads;
 use std::time::Clock;
 
 /// How many blocks the journal has, and how many home blocks there are after it.
 const JOURNAL: u32 = 1024;
+
 const BLOCKS: u64 = 1024 + 100;
 
 /// Recovers the journal, moves money, recovers it again, and gives what the accounts hold then.
-fn accounts<D: Disk + Drop + Send, R: AllocGlobal + Threads + Wait + Clock + Sync>(
+fn run_accounts<D: Disk + Drop + Send, R: AllocGlobal + Threads + Wait + Clock + Sync>(
     rt: &R,
     disk: D,
     moves: u64,
@@ -82,28 +83,37 @@ fn clock() -> FixedClock {
 }
 
 /// Runs in memory, or in the file that is named, with as many moves by each thread as the second word says.
-fn run_words(rt: &HostRuntime) -> Result<u64, Failed> {
-    let Ok(mut words) = env::args(rt) else {
-        return Err(Failed::Memory);
-    };
-    let (image, moves) = (words.nth(1), words.next());
+fn run_words<R: Files<File = File> + AllocGlobal + Threads + Wait + Clock + Sync>(
+    rt: &R,
+    image: Option<String>,
+    moves: Option<String>,
+) -> Result<u64, Failed> {
     match (image, moves) {
-        (Some(image), Some(moves)) => accounts(rt, open_image(rt, &image)?, moves.parse().unwrap_or(0)),
-        _ => in_memory(rt, 250),
+        (Some(image), Some(moves)) => {
+            run_accounts(rt, open_image(rt, &image)?, moves.parse().unwrap_or(0))
+        }
+        _ => run_in_memory(rt, 250),
     }
 }
 
 /// Runs in memory.
-fn in_memory(rt: &HostRuntime, moves: u64) -> Result<u64, Failed> {
+fn run_in_memory<R: AllocGlobal + Threads + Wait + Clock + Sync>(
+    rt: &R,
+    moves: u64,
+) -> Result<u64, Failed> {
     let Ok(mut disk) = MemoryDisk::new(rt.alloc(), SIZE, BLOCKS) else {
         return Err(Failed::Memory);
     };
     format(&mut disk, JOURNAL, 0, [0; 16], Width::Narrow)?;
-    accounts(rt, disk, moves)
+    run_accounts(rt, disk, moves)
 }
 
 fn main(rt: HostRuntime) -> ExitCode {
-    let answer = match run_words(&rt) {
+    let Ok(mut words) = env::args(&rt) else {
+        return ExitCode::from(1);
+    };
+    let (image, moves) = (words.nth(1), words.next());
+    let answer = match run_words(&rt, image, moves) {
         Ok(sum) => writeln!(rt.stdout(), "the accounts hold {sum}"),
         Err(failed) => writeln!(rt.stderr(), "{failed}"),
     };

@@ -7,6 +7,7 @@ use std::sync::{Mutex, Wait};
 use std::time;
 
 /// Workers that move money: how many moves each of them makes, and what the accounts hold by now.
+#[derive(Drop)]
 pub struct Moving {
     pub moves: u64,
     pub balances: Mutex<Balances>,
@@ -53,7 +54,10 @@ impl Moving {
         let amount = (draw >> 40) % 50;
         // handles stop in the order in which the balances change
         let mut balances = self.balances.lock(client.runtime());
-        let (less, more) = (balances[from].checked_sub(amount), balances[to].checked_add(amount));
+        let (less, more) = (
+            balances[from].checked_sub(amount),
+            balances[to].checked_add(amount),
+        );
         let (Some(less), Some(more)) = (less, more) else {
             return Ok(None);
         };
@@ -77,5 +81,6 @@ fn place(draw: u64) -> usize {
 
 /// The number after one in a sequence that looks like chance (Knuth's MMIX).
 fn drawn(draw: u64) -> u64 {
-    draw.wrapping_mul(6_364_136_223_846_793_005).wrapping_add(1_442_695_040_888_963_407)
+    draw.wrapping_mul(6_364_136_223_846_793_005)
+        .wrapping_add(1_442_695_040_888_963_407)
 }

@@ -8,6 +8,7 @@ use std::time;
 
 /// A worker that reads what the accounts hold. In a new journal it opens them all, by one handle: after a crash there are
 /// all of them or none.
+#[derive(Drop)]
 pub struct Opening;
 
 impl Worker<Result<Balances, Failed>> for Opening {

@@ -60,6 +60,7 @@ type Found = (
 
 /// Each worker writes its place and one to two homes, by one handle of so many credits; the second home is this much after
 /// the first.
+#[derive(Drop)]
 struct Pairs {
     credits: u32,
     apart: u64,
@@ -80,8 +81,7 @@ impl Worker<Found> for Pairs {
         let byte = (at % 200) as u8;
         let changed = client.change(
             self.credits,
-            |handle: &mut Handle<()>| -> Result<u8, TouchFault>
-            {
+            |handle: &mut Handle<()>| -> Result<u8, TouchFault> {
                 handle.write(home, &[byte; 1024])?;
                 handle.write(home.saturating_add(apart), &[byte; 1024])?;
                 Ok(byte)
@@ -101,7 +101,10 @@ impl Worker<Found> for Pairs {
 
 #[test]
 fn what_is_waited_for_stands(rt: HostRuntime) -> Result<(), Fail> {
-    let pairs = Pairs { credits: 2, apart: 1 };
+    let pairs = Pairs {
+        credits: 2,
+        apart: 1,
+    };
     let ran = run(&rt, formatted(rt.alloc())?, CLOCK, by(4), &pairs)?;
     assert_eq!(rt; ran.answers.len(), 4);
     for (at, (changed, waited, read)) in ran.answers.iter().enumerate() {
@@ -136,7 +139,10 @@ fn a_refused_change_changes_nothing(rt: HostRuntime) -> Result<(), Fail> {
 
 #[test]
 fn a_journal_is_recovered_before_it_is_run(rt: HostRuntime) -> Result<(), Fail> {
-    let pairs = Pairs { credits: 2, apart: 1 };
+    let pairs = Pairs {
+        credits: 2,
+        apart: 1,
+    };
     let Ran { disk, .. } = run(&rt, formatted(rt.alloc())?, CLOCK, by(2), &pairs)?;
     let mut left = disk.crash(&[])?;
     let again = run(&rt, disk, CLOCK, by(2), &pairs).map(|ran| ran.handles);
