@@ -8,6 +8,8 @@
 //! `IMAGE` is made where there is no such file. Without it the disk is in memory.
 #![tactic(auto)]
 
+ghost use Rattle.std.specs.Prelude.{◌≡◌};
+
 mod accounts;
 mod failed;
 mod image;
@@ -68,7 +70,9 @@ fn opened<D: Disk + Drop + Send, R: AllocGlobal + Threads + Wait + Clock + Sync>
 }
 
 /// How the journal is run by so many threads.
-fn threads(workers: usize) -> Options {
+fn threads(workers: usize) -> Options
+    ensures { result.workers ≡ workers }
+{
     Options {
         workers,
         checkpoint: true,

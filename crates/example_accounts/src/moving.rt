@@ -1,4 +1,6 @@
 //! Money is moved between accounts.
+ghost use Rattle.std.specs.Prelude.{◌<◌};
+
 use crate::accounts::{Balances, put};
 use crate::failed::Failed;
 use jb_journal::{Client, Clock, Disk, Handle, Origin, TouchFault, Worker};
@@ -43,13 +45,18 @@ impl Worker<Result<(), Failed>> for Moving {
 }
 
 impl Moving {
+    ghost use Rattle.jb_journal.specs.Client.{IsClient};
+
     /// Moves money from one account to another: both change, or none. Gives the ticket of the handle; nothing where the
     /// first account does not hold as much.
     fn one_move<'a, D: Disk, C: Clock, R: Wait + time::Clock, H: Origin, N: Ledger>(
         &self,
         client: &mut Client<'a, D, C, R, H, N>,
         draw: u64,
-    ) -> Result<Option<u64>, Failed> {
+    ) -> Result<Option<u64>, Failed>
+        requires { IsClient H.begun client.old }
+        ensures { IsClient H.begun client.new }
+    {
         let (from, to) = (place(draw >> 8), place(draw >> 24));
         let amount = (draw >> 40) % 50;
         // handles stop in the order in which the balances change
@@ -75,7 +82,9 @@ impl Moving {
 }
 
 /// An account, of any number.
-fn place(draw: u64) -> usize {
+fn place(draw: u64) -> usize
+    ensures { result < 100 }
+{
     (draw % 100) as usize
 }
 

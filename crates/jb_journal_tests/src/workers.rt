@@ -1,4 +1,5 @@
 //! Workers change home blocks; the homes are compared after a crash and a recovery.
+ghost use Rattle.std.specs.Prelude.{◌≤◌};
 ghost use Rattle.jb_journal.specs.Client.{IsClient};
 
 use jb_journal::{
@@ -40,7 +41,9 @@ fn homes(alloc: Global, disk: &MemoryDisk) -> Result<[u8; 10], Fail> {
 }
 
 /// How a journal is run by so many workers.
-fn by(workers: usize) -> Options {
+fn by(workers: usize) -> Options
+    ensures { (1 ≤ result.workers) × (result.workers ≤ 64) }
+{
     Options {
         workers: workers.clamp(1, 64),
         checkpoint: false,
