@@ -9,15 +9,20 @@ use std::alloc::Global;
 use std::fs::File;
 use std::marker::Brand;
 use std::rt::Files;
+use std::sync::ledger::{Blank, Ledger};
 
-pub fn board_row<R: Files<File = File> + AllocGlobal>(rt: &R) -> Result<Met, Wrong> {
+/// A board of the ledger of a blank counts no tickets.
+pub fn board_row<R: Files<File = File> + AllocGlobal, L: Ledger>(
+    rt: &R,
+    _tickets: &Blank,
+) -> Result<Met, Wrong> {
     let alloc = rt.alloc();
     refusing(rt);
-    let first = Board::new(alloc);
+    let first = Board::<L>::new(alloc);
     ample(rt);
     let (met, made) = match first {
         Ok(made) => (Met::Ample, made),
-        Err(_) => (Met::Memory, Board::new(alloc)?),
+        Err(_) => (Met::Memory, Board::<L>::new(alloc)?),
     };
     let (board, mut seat) = made;
     let front = Front {

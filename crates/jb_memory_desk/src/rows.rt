@@ -49,7 +49,7 @@ pub fn row<R: Files<File = File> + AllocGlobal + Threads + Wait + Clock + Sync>(
     name: &str,
 ) -> Option<Result<Met, Wrong>> {
     match name {
-        "Board::new" => Some(books::board_row(rt)),
+        "Board::new" => Some(board_row(rt)),
         "Book::open" => Some(books::open_row(rt)),
         "Book::enqueue" => Some(books::enqueue_row(rt)),
         "load_on" => Some(loads::load_row(rt)),
@@ -59,6 +59,12 @@ pub fn row<R: Files<File = File> + AllocGlobal + Threads + Wait + Clock + Sync>(
             None => None,
         },
     }
+}
+
+/// Makes a board where memory may be refused.
+fn board_row<R: Files<File = File> + AllocGlobal>(rt: &R) -> Result<Met, Wrong> {
+    let tickets = Blank::new(PARTS);
+    books::board_row::<R, Brand>(rt, &tickets)
 }
 
 /// Starts a desk where memory may be refused.
