@@ -1,6 +1,6 @@
 /* Refuses one allocation of a program: the one of number REFUSE, counted from 0, between an open of "/refuse/on" and one of
- * "/refuse/off", or from the start where REFUSE_FROM_START is set. With "/refuse/off", and at the end, it says on descriptor
- * REFUSE_TO whether one was refused. It is preloaded with LD_PRELOAD. */
+ * "/refuse/off", or from the start where REFUSE_FROM_START is set. At the end it says on descriptor REFUSE_TO whether one was
+ * refused. It is preloaded with LD_PRELOAD. */
 #define _GNU_SOURCE
 #include <dlfcn.h>
 #include <errno.h>
@@ -9,6 +9,7 @@
 #include <stdatomic.h>
 #include <stdlib.h>
 #include <string.h>
+#include <sys/syscall.h>
 #include <unistd.h>
 
 extern void *__libc_malloc(size_t size);
@@ -53,7 +54,7 @@ static void tell(void)
 	const char *to = getenv("REFUSE_TO");
 	const char *line = atomic_load(&met) ? "refused\n" : "none\n";
 	if (to != NULL && write(atoi(to), line, strlen(line)) < 0)
-		_exit(99);
+		syscall(SYS_exit_group, 99);
 }
 
 __attribute__((constructor)) static void begin(void)
@@ -69,6 +70,14 @@ __attribute__((destructor)) static void end(void)
 {
 	atomic_store(&counting, 0);
 	tell();
+}
+
+/* A program with threads ends here. */
+void _exit(int status)
+{
+	end();
+	for (;;)
+		syscall(SYS_exit_group, status);
 }
 
 /* Answers for the two paths, and 0 for any other one. */

@@ -7,7 +7,7 @@ from images import be32, commit, data, descriptor, image, padded, revoke, superb
 ROWS = []
 
 
-def row(words, status, out="", err="", files=(), stdin=b"", after=(), how="", to="pipe", terminal="", locked=""):
+def row(words, status, out="", err="", files=(), stdin=b"", after=(), how="", to="pipe", terminal="", locked="", beside=""):
     """One run of the program in an empty folder.
 
     words     its words, as one text; a word with a space or a NUL is never needed
@@ -19,9 +19,10 @@ def row(words, status, out="", err="", files=(), stdin=b"", after=(), how="", to
     to        standard output: a pipe, a pipe that nobody reads (`gone`), or a full device (`full`)
     terminal  which of standard input (`in`) and standard error (`err`) is a terminal; on that one the line of `err` has a second one
               after it, what the program's own help says of the first
+    beside    what that one says beside the words of the help; of an option its name alone, as the help says what it may be
     out, err  the two outputs, byte by byte; a function judges the text instead"""
     ROWS.append(dict(words=words, status=status, out=out, err=err, files=dict(files), stdin=stdin, after=dict(after), how=how, to=to,
-                     terminal=terminal, locked=locked))
+                     terminal=terminal, locked=locked, beside=beside))
 
 
 def queue(handles, limit=8, first="bs 1024"):
@@ -34,6 +35,9 @@ def queue(handles, limit=8, first="bs 1024"):
 
 THREE = "w1 w2 w3/w3 w4 w5/w1 w2"
 FOUR = "w1 w2/w3 w4/w3 w4/w3 w4 w5"
+# the system's texts
+MISSING, THERE, NO_FOLDER, FOLDER, LARGE = ("No such file or directory (os error 2)", "File exists (os error 17)", "Not a directory (os error 20)",
+                                            "Is a directory (os error 21)", "File too large (os error 27)")
 # the most bytes of a queue text, and of a certificate
 LONG = 16_777_216
 LONGEST = 9 * LONG
@@ -86,9 +90,9 @@ for text, name in BAD_QUEUES:
 row("", 2, err="jb: queue line 1: BlockSizeLine\n")
 for words, name in [("cost q", "q"), ("plan q", "q"), ("check q c", "q"), ("check ok q", "q"), ("check - c", "-"), ("load a q", "q")]:
     some = {"ok": queue(FOUR, 6), "c": PLANS[4][2].encode(), "a": image(superblock())}
-    row(words, 2, err="jb: cannot read %s\n" % name, files=some, stdin=queue(FOUR, 6))
+    row(words, 2, err="jb: cannot read %s\n" % name, files=some, stdin=queue(FOUR, 6), beside=MISSING)
     if name == "q":
-        row(words, 2, err="jb: cannot read q\n", files={**some, "q": None})
+        row(words, 2, err="jb: cannot read q\n", files={**some, "q": None}, beside=FOLDER)
         row(words, 2, err="jb: too long q\n", files={**some, "q": (LONG if words != "check ok q" else LONGEST) + 1})
 row("cost -", 2, err="jb: too long -\n", stdin=bytes(LONG + 1))
 for words in ("cost q", "plan q", "check q c"):
@@ -134,7 +138,7 @@ row("dump -", 0, DUMPED, stdin=FULL, files={"-": image(SMALL)})
 row("dump a", 0, DUMP % (1, 0, 1) + "clean next=2\n", files={"a": image(SMALL, homes=0)})
 row("dump a", 0, DUMP % (2, 1, 1) + "end transactions=0 expected=2\n", files={"a": image(superblock(2, 1), ONE[:3])})
 row("dump a", 1, err="jb: BadRevoke 1\n", files={"a": image(superblock(2, 1), [revoke(2, [], 1025), commit(2)])})
-row("dump a", 2, err="jb: cannot read a\n")
+row("dump a", 2, err="jb: cannot read a\n", beside=MISSING)
 row("dump a", 1, err="jb: ReadFault\n", files={"a": None})
 row("dump a", 1, err="jb: WriteFault\n", files={"a": FULL}, to="full")
 row("dump a", 1, err="jb: WriteFault\n", files={"a": FULL}, to="gone")
@@ -143,7 +147,7 @@ for content, name in BAD_SUPERS:
     for words, more in LOADS:
         row(words, 1, err="jb: Super %s\n" % name, files={"a": content, **more})
 for words, more in LOADS:
-    row(words, 2, err="jb: cannot read a\n", files=more)
+    row(words, 2, err="jb: cannot read a\n", files=more, beside=MISSING)
     row(words, 2, err="jb: cannot read a\n", files={"a": None, **more})
     row(words, 2, err="jb: cannot read a\n", files={"a": "fifo", **more})
     row(words, 2, err="jb: in use a\n", files={"a": FULL, **more}, locked="a")
@@ -159,20 +163,22 @@ row("format a --bs 1024 --journal 33 --homes 16 --uuid 000102030405060708090A0b0
 row(BASIC + " --wide --max 5", 0, "formatted limit 5\n", after={"a": image(superblock(incompat=3, most=5, uuid=bytes(16)))})
 row("format a --bs 4096 --journal 9 --homes 0", 0, "formatted limit 3\n",
     after={"a": image(superblock(maxlen=9, said=4096, size=4096, uuid=bytes(16)), homes=0, maxlen=9, size=4096)})
-row(BASIC, 2, err="jb: cannot make a\n", files={"a": FULL})
-row(BASIC, 2, err="jb: cannot make a\n", files={"a": b""})
-row(BASIC, 2, err="jb: cannot make a\n", files={"a": None})
-row("format f/a --bs 1024 --journal 33 --homes 16", 2, err="jb: cannot make f/a\n")
-row("format f/a --bs 1024 --journal 33 --homes 16", 2, err="jb: cannot make f/a\n", files={"f": b"no folder"})
-for words in ("--bs 512 --journal 33 --homes 16", "--bs 1024 --journal 4294967296 --homes 16", "--bs 1024 --journal 33 --homes 16 --max 4294967296",
-              "--bs 1024 --journal 33 --homes 9007199254740992", "--bs 1024 --journal 33 --homes 16 --uuid 00", "--bs 1024 --journal 33 --homes 16 --uuid " + "g" * 32):
-    row("format a " + words, 2, err="jb: bad option\n")
-    row("format a " + words, 2, err="jb: bad option\n", files={"a": FULL})
+row(BASIC, 2, err="jb: cannot make a\n", files={"a": FULL}, beside=THERE)
+row(BASIC, 2, err="jb: cannot make a\n", files={"a": b""}, beside=THERE)
+row(BASIC, 2, err="jb: cannot make a\n", files={"a": None}, beside=THERE)
+row("format f/a --bs 1024 --journal 33 --homes 16", 2, err="jb: cannot make f/a\n", beside=MISSING)
+row("format f/a --bs 1024 --journal 33 --homes 16", 2, err="jb: cannot make f/a\n", files={"f": b"no folder"}, beside=NO_FOLDER)
+for words, bad in (("--bs 512 --journal 33 --homes 16", "--bs"), ("--bs 1024 --journal 4294967296 --homes 16", "--journal"),
+                   ("--bs 1024 --journal 33 --homes 16 --max 4294967296", "--max"), ("--bs 1024 --journal 33 --homes 9007199254740992", "--homes"),
+                   ("--bs 1024 --journal 33 --homes 16 --uuid 00", "--uuid"), ("--bs 1024 --journal 33 --homes 16 --uuid " + "g" * 32, "--uuid"),
+                   ("--bs 512 --journal 4294967296 --homes 16 --uuid 00", "--bs")):
+    row("format a " + words, 2, err="jb: bad option\n", beside=bad)
+    row("format a " + words, 2, err="jb: bad option\n", files={"a": FULL}, beside=bad)
 row(BASIC, 1, err="jb: WriteFault\n", to="full", after={"a": MADE})
 row("format a --bs 1024 --journal 8 --homes 16", 1, err="jb: Geometry\n")
 row("format a --bs 1024 --journal 8 --homes 16", 1, err="jb: Geometry\n", files={"a": FULL})
 # the file is past what the shell lets a file grow to: it was made, and is removed again
-row(BASIC, 2, err="jb: cannot make a\n", how="trap '' XFSZ; ulimit -f 16")
+row(BASIC, 2, err="jb: cannot make a\n", how="trap '' XFSZ; ulimit -f 16", beside=LARGE)
 
 # ---- recover, renumber and widen ---------------------------------------------------------------------------------------------
 
@@ -190,7 +196,8 @@ row("recover a", 0, "transactions 2 copies 0 revoked 1 next 5\n", files={"a": im
 row("recover a", 0, "transactions 1 copies 1 revoked 0 next 4\n", files={"a": FULL + b"the rest of no block"},
     after={"a": RECOVERED + b"the rest of no block"})
 row("recover a", 1, err="jb: BadRevoke 1\n", files={"a": image(superblock(2, 1), [revoke(2, [], 1025), commit(2)])})
-row("recover a", 1, err="jb: HomeOutOfRange 16 2\n", files={"a": image(superblock(2, 1), OUT_OF_RANGE)})
+row("recover a", 1, err="jb: HomeOutOfRange 16 2\n", files={"a": image(superblock(2, 1), OUT_OF_RANGE)}, beside="16")
+row("recover a", 1, err="jb: HomeOutOfRange 16 2\n", files={"a": image(superblock(2, 1), OUT_OF_RANGE, homes=3)}, beside="3")
 row("recover a", 1, err="jb: WriteFault\n", files={"a": FULL}, to="full", after={"a": RECOVERED})
 # home block 5 is past what the shell lets a file grow to, so its write fails and the journal is not emptied
 row("recover a", 1, err="jb: DeviceFault\n", files={"a": FULL}, how="trap '' XFSZ; ulimit -f 36")
@@ -221,14 +228,14 @@ row("load a q --hold --threads 1", 0, "handles 2 changes 12 settled 2 groups 2 b
 row("load a q --hold --threads 64", 0, "handles 1 changes 2 settled 1 groups 1 blocks 4\n", files={"a": image(SMALL), "q": queue(HANDLE)}, after={"a": LOADED})
 row("load a q", 0, "handles 0 changes 0 settled 0 groups 0 blocks 0\n", files={"a": image(SMALL), "q": queue("")})
 for threads in (0, 65):
-    row("load a q --threads %d" % threads, 2, err="jb: bad option\n")
+    row("load a q --threads %d" % threads, 2, err="jb: bad option\n", beside="--threads")
 row("load a q", 1, err="jb: BlockSize\n", files={"a": image(SMALL), "q": queue(HANDLE, first="bs 2048")})
 row("load a q", 1, err="jb: NumbersSpent\n", files={"a": image(CLEAN), "q": queue(HANDLE)})
 NOTHING = "handles 0 changes 0 settled 0 groups 0 blocks 0\n"
 row("load a q", 1, NOTHING, "jb: handle 0: TooManyCredits 6\n", files={"a": image(SMALL), "q": queue("w0 w1 w2 w3 w4 w5 w6")})
-row("load a q", 1, NOTHING, "jb: handle 0: OutOfRange 16\n", files={"a": image(SMALL), "q": queue("w16")})
+row("load a q", 1, NOTHING, "jb: handle 0: OutOfRange 16\n", files={"a": image(SMALL), "q": queue("w16")}, beside="16")
 row("load a q --hold", 1, "handles 1 changes 2 settled 1 groups 1 blocks 4\n", "jb: handle 1: OutOfRange 16\n",
-    files={"a": image(SMALL), "q": queue(HANDLE + "/w16/w1")}, after={"a": LOADED})
+    files={"a": image(SMALL), "q": queue(HANDLE + "/w16/w1")}, after={"a": LOADED}, beside="16")
 row("load a q --hold", 1, "handles 5 changes 30 settled 5 groups 1 blocks 8\n", "jb: handle 5: Full 30\n",
     files={"a": image(SMALL), "q": queue("/".join(["w0 w1 w2 w3 w4 w5"] * 6))},
     after={"a": image(superblock(2, 1), TWO_HANDLES[:8])})
@@ -274,10 +281,10 @@ row("", 2, err=begins("A block journal in jbd2's format\n\nUsage: jb <COMMAND>\n
 row("", 0, "cost 7 limit 7 fits\n", stdin=queue(THREE, 7), terminal="err")
 row("cost", 2, err=begins("error: "), terminal="err")
 row("recover a", 0, "transactions 1 copies 1 revoked 0 next 4\n", files={"a": FULL}, after={"a": RECOVERED}, terminal="err")
-# each kind of line on standard error once more, on a terminal
+# each kind of line on standard error once more, on a terminal, with each thing that is said beside it
 told = set()
 for some in [some for some in ROWS if isinstance(some["err"], str) and some["err"].startswith("jb: ")]:
-    kind = re.sub(r"\d+", "#", some["err"])
+    kind = re.sub(r"\d+", "#", some["err"]), some["beside"]
     if kind not in told and "ulimit -v" not in some["how"]:
         told.add(kind)
         ROWS.append({**some, "terminal": "err"})

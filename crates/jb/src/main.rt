@@ -5,8 +5,9 @@ mod streams;
 
 use crate::streams::fill_closed;
 use jb_advice::Noted;
-use jb_tool::CommandFault;
-use std::io::{ErrorKind, IsTerminal};
+use jb_tool::{CommandFault, Ended};
+use std::alloc::AllocError;
+use std::io::{ErrorKind, IsTerminal, Write};
 use std::process::ExitCode;
 use std::{env, io};
 
@@ -15,25 +16,30 @@ fn words(rt: &HostRuntime) -> io::Result<Vec<String>> {
     Ok(env::args(rt)?.skip(1).collect(rt.alloc())?)
 }
 
+/// The exit status once the help was written, or memory ran out for it.
+fn helped<E: Write>(shown: Result<(), AllocError>, err: &mut E) -> u8 {
+    match shown {
+        Ok(()) => 2,
+        Err(_) => jb_tool::refuse_words(ErrorKind::OutOfMemory, err),
+    }
+}
+
 fn main(rt: HostRuntime) -> ExitCode {
     let (mut input, mut out, mut err) = (rt.stdin(), rt.stdout(), Noted::new(rt.stderr()));
     let Ok(_files) = fill_closed(&rt) else {
-        let fault = CommandFault::CannotRead("/dev/null");
+        let fault = CommandFault::CannotRead("/dev/null", None);
         fault.tell(&mut err);
         return ExitCode::from(fault.status());
     };
-    let status = match words(&rt) {
+    let ended = match words(&rt) {
         Ok(words) if words.is_empty() && input.is_terminal() => {
-            match jb_words::show_help(rt.alloc(), &mut err) {
-                Ok(()) => 2,
-                Err(_) => jb_tool::refuse_words(ErrorKind::OutOfMemory, &mut err),
-            }
+            Ended::with_status(helped(jb_words::show_help(rt.alloc(), &mut err), &mut err))
         }
         Ok(words) => jb_tool::run(&rt, words.as_slice(), &mut input, &mut out, &mut err),
-        Err(error) => jb_tool::refuse_words(error.kind(), &mut err),
+        Err(error) => Ended::with_status(jb_tool::refuse_words(error.kind(), &mut err)),
     };
     if rt.stderr().is_terminal() {
-        let _ignored = err.advise();
+        let _ignored = err.advise(ended.beside);
     }
-    ExitCode::from(status)
+    ExitCode::from(ended.status)
 }

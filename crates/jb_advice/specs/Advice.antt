@@ -1,7 +1,9 @@
 -- What is advised on a line of standard error: what the first row of a table says that the line begins as.
-use Rattle.std.specs.Prelude.{ℕ, Bool, true, false, ◌==◌, if◌then◌else◌, List, [], ◌∷◌, codes, Option, None, Some}
+use Rattle.std.specs.Prelude.{ℕ, Bool, true, false, ◌==◌, if◌then◌else◌, List, [], ◌∷◌, codes, decimal, Option, None, Some}
 use Rattle.std.specs.Char.{is_ascii_digit}
 use Rattle.jb_io.specs.Parts.{spelled}
+use Rattle.jb_advice.specs.declared.beside.Beside.{Beside}
+use Rattle.jb_advice.specs.declared.beside.Beside.TheVariants.{Nothing, BadOption, System, Homes}
 
 -- a text without the digits at its front
 unfoldable pub past_digits : List ℕ → List ℕ
@@ -31,12 +33,29 @@ fits (byte ∷ row) text = holds (past_of byte text) (λ rest. fits row rest)
 abbrev pub Row : Type 0
 Row = List ℕ × List ℕ
 
+-- a text, where there is one
+abbrev pub or_none : Option (List ℕ) → List ℕ
+or_none None = []
+or_none (Some text) = text
+
 -- what is advised on a text: that of the first row that it fits
 unfoldable pub found_in : List Row → List ℕ → Option (List ℕ)
 found_in [] text = None
 found_in (row ∷ rows) text = if fits row.0 text then Some row.1 else found_in rows text
 
+-- what the option of this name may be, by the first row of a table that the name fits; nothing where there is none
+abbrev pub may_be : List Row → List ℕ → List ℕ
+may_be options name = or_none (found_in options name)
+
+-- the second line of these words, with what it says beside them: a bad option and what that may be, the system's text, a number
+abbrev pub line_with : List Row → List ℕ → List ℕ → Beside → List ℕ
+line_with options system words Nothing = spelled (codes "jb:  " ∷ words ∷ codes "\n" ∷ [])
+line_with options system words (BadOption name) =
+    spelled (codes "jb:  " ∷ words ∷ codes ": " ∷ name.now ∷ codes " is " ∷ may_be options name.now ∷ codes "\n" ∷ [])
+line_with options system words (System code) = spelled (codes "jb:  " ∷ words ∷ codes ": " ∷ system ∷ codes "\n" ∷ [])
+line_with options system words (Homes homes) = spelled (codes "jb:  " ∷ words ∷ codes ": " ∷ decimal homes ∷ codes "\n" ∷ [])
+
 -- the second line: nothing where nothing is advised
-abbrev pub second_line : Option (List ℕ) → List ℕ
-second_line None = []
-second_line (Some advice) = spelled (codes "jb:  " ∷ advice ∷ codes "\n" ∷ [])
+abbrev pub second_line : List Row → List ℕ → Option (List ℕ) → Beside → List ℕ
+second_line options system None beside = []
+second_line options system (Some words) beside = line_with options system words beside

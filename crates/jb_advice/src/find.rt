@@ -11,7 +11,7 @@ pub(crate) fn advice_of(line: &[u8]) -> Option<&'static str>
 }
 
 /// What the first row says that the line begins as.
-fn found_in(rows: &[(&'static str, &'static str)], line: &[u8]) -> Option<&'static str>
+pub(crate) fn found_in(rows: &[(&'static str, &'static str)], line: &[u8]) -> Option<&'static str>
     ensures { option_map (λ advice. advice.now) result ≡ found (map (λ row. (row.0.now, row.1.now)) rows.now) line.now }
 {
     for row in rows {

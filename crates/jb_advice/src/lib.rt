@@ -2,8 +2,11 @@
 //! line that follows the first one on a terminal.
 #![tactic(auto)]
 
+mod beside;
 mod find;
 mod noted;
+mod second;
 mod table;
 
+pub use beside::Beside;
 pub use noted::Noted;

@@ -1,14 +1,16 @@
-ghost use Rattle.std.specs.Prelude.{◌≡◌, [], IfOk, map, option_map, take};
+ghost use Rattle.std.specs.Prelude.{◌≡◌, ℕ, List, [], IfOk, map, take};
 ghost use Rattle.std.specs.Io.{WritesAtMost};
 ghost use Rattle.std.specs.Io.KnownBytes.{WriteAppends};
 ghost use Rattle.jb_io.specs.Puts.{Puts};
 ghost use Rattle.jb_advice.specs.Advice.{found_in, second_line};
 ghost use Rattle.jb_advice.specs.Noted.{noted, noted_with};
 
+use crate::beside::Beside;
 use crate::find::advice_of;
-use crate::table::ROWS;
+use crate::second::put_second_line;
+use crate::table::{OPTIONS, ROWS};
 use arrayvec::ArrayVec;
-use jb_io::{WriteFault, put, put_parts};
+use jb_io::WriteFault;
 use std::io::{self, Write};
 
 /// How many bytes are kept: more than a row of the table and its number have.
@@ -35,16 +37,17 @@ impl<W: Write> Noted<W> {
         }
     }
 
-    /// Writes what to do after the first line that was written: a line of its own, where the table has a row for that one, and
-    /// else nothing.
+    /// Writes what to do after the first line that was written: a line of its own, with what it says beside the words of its row,
+    /// where the table has a row for that one, and else nothing.
     ///
     /// # Errors
     /// `WriteFault` where the writer took only the beginning of it.
-    pub fn advise(&mut self) -> Result<(), WriteFault>
-        ensures { Puts (W.contents (writer_of self.old)) (W.contents (writer_of self.new))
-            (second_line (found_in (map (λ row. (row.0.now, row.1.now)) ROWS.now) (noted self.old))) result }
+    pub fn advise(&mut self, beside: Beside) -> Result<(), WriteFault>
+        ensures { (system : List ℕ) × Puts (W.contents (writer_of self.old)) (W.contents (writer_of self.new))
+            (second_line (map (λ row. (row.0.now, row.1.now)) OPTIONS.now) system
+            (found_in (map (λ row. (row.0.now, row.1.now)) ROWS.now) (noted self.old)) beside) result }
     {
-        put_second_line(&mut self.writer, advice_of(self.kept.as_slice()))
+        put_second_line(&mut self.writer, advice_of(self.kept.as_slice()), beside)
     }
 
     /// Keeps as many of these bytes as there is room for.
@@ -53,16 +56,6 @@ impl<W: Write> Noted<W> {
         ensures noted { noted self.new ≡ noted_with (noted self.old) bytes.now }
     {
         let _fits = self.kept.write(bytes);
-    }
-}
-
-/// Writes what is advised as a second line.
-fn put_second_line<W: Write>(writer: &mut W, advice: Option<&str>) -> Result<(), WriteFault>
-    ensures { Puts (W.contents writer.old) (W.contents writer.new) (second_line (option_map (λ words. words.now) advice.entry)) result }
-{
-    match advice {
-        Some(words) => put_parts(writer, &["jb:  ", words, "\n"]),
-        None => put(writer, b""),
     }
 }
 

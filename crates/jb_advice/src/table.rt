@@ -1,58 +1,79 @@
-/// Calls a macro with the table: of each line on standard error how it begins after `jb: `, what it has after that, and what
-/// to do. `#` stands for a number.
+/// Calls a macro with the table. Its lines are those on standard error: how each begins after `jb: `, what it has after that, and
+/// what to do; after a colon, what the second line says beside that. Its options are those that may be bad, and what each may be.
+/// `#` stands for a number.
 #[macro_export]
 macro_rules! diagnostics {
     ($form:ident) => {
         $form! {
-            "queue line #: BlockSizeLine", "", "the first line is bs 1024, bs 2048 or bs 4096, with or without the word wide after it";
-            "queue line #: LimitLine", "", "the second line is limit and a number from 3 to 2147483646";
-            "queue line #: HandleLine", "", "a handle's line is h, or begins with h and one space; no line is empty";
-            "queue line #: OpWord", "", "a handle's words are w or r and a number, as w5 or r7, each after one space";
-            "queue line #: DataWord", "", "w5= has two hexadecimal digits for each byte after it, of one byte at least and of a block at most";
-            "certificate: Syntax ", "#", "this line of the certificate is not as jb plan prints it";
-            "certificate: Length", "", "the certificate is of another queue: it has one price more than its queue has handles";
-            "bad option", "", "--bs is 1024, 2048 or 4096, --threads 1 to 64, --journal and --max at most 4294967295, --uuid 32 hexadecimal digits, and an image is below 2^63 bytes";
-            "cannot make ", "NAME", "it is there already and is not written over, or its folder, the permission or the room for it is missing";
-            "cannot read ", "NAME", "it is missing, no file, or not permitted: an image is to be read and written";
-            "in use ", "NAME", "another jb works on the image: run the command again when that one has ended";
-            "too long ", "NAME", "a queue text has at most 16777216 bytes, and a certificate 150994944";
-            "ReadFault", "", "the file cannot be read to the end of its journal: it is a folder, or its device fails";
-            "Super ShortBlock", "", "a journal begins with a superblock of 1024 bytes, and the file is shorter";
-            "Super NoMagic", "", "the file does not begin with a journal; debugfs takes the journal of a file system out of it";
-            "Super NotVersion2 ", "#", "jb takes superblocks of version 2 alone";
-            "Super BlockSize ", "#", "a block has 1024, 2048 or 4096 bytes";
-            "Super Geometry", "", "the file has not all blocks of its journal, or the superblock's numbers make none";
-            "Super Feature ", "# #", "the journal has features that jb has not, as checksums (2 16) or fast commits (2 32); it is as it was";
-            "Geometry", "", "--journal is 9 at least and 2147483647 at most";
-            "BadRevoke ", "#", "this block of the journal is damaged; the image is as it was";
-            "HomeOutOfRange ", "# #", "the image ends before this home block, the first number: it is to be whole; it is as it was";
-            "NeedsRecovery", "", "run jb recover on the image first";
-            "NumbersSpent", "", "run jb renumber on the image first";
-            "BlockSize", "", "the first line of the queue text is to have the image's block size";
-            "handle #: TooManyCredits ", "#", "a handle of this journal may touch so many blocks: part it, or format a longer journal";
-            "handle #: OutOfRange ", "#", "the image has no home block of this number";
-            "handle #: Full ", "#", "the log had no room for ten seconds: leave out --hold, or format a longer journal";
-            "handle #: Memory", "", "out of memory: run jb recover on the image, and load the handles from this one on with fewer threads";
-            "handle #: Aborted", "", "a read, write or sync of the image failed: run jb recover on it, and see what it holds";
-            "commit Refused", "", "the transactions have no number left: run jb recover and jb renumber on the image";
-            "commit Memory", "", "out of memory: run jb recover on the image, and see what it holds";
-            "commit Aborted", "", "a read, write or sync of the image failed: run jb recover on it, and see what it holds";
-            "checkpoint Memory", "", "out of memory: run jb recover on the image, which writes home what is committed";
-            "checkpoint Aborted", "", "a read, write or sync of the image failed: run jb recover on it, and see what it holds";
-            "Accounts", "", "this cannot happen: the program is wrong";
-            "DeviceFault", "", "a read, write or sync of the image failed: run the command again once its device is well";
-            "Memory", "", "out of memory: the command needs more";
-            "WriteFault", "", "standard output is closed or full; what the command does to an image may be done";
+            lines {
+                "queue line #: BlockSizeLine", "", "the first line is bs 1024, bs 2048 or bs 4096, with or without the word wide after it";
+                "queue line #: LimitLine", "", "the second line is limit and a number from 3 to 2147483646";
+                "queue line #: HandleLine", "", "a handle's line is h, or begins with h and one space; no line is empty";
+                "queue line #: OpWord", "", "a handle's words are w or r and a number, as w5 or r7, each after one space";
+                "queue line #: DataWord", "", "w5= has two hexadecimal digits for each byte after it, of one byte at least and of a block at most";
+                "certificate: Syntax ", "#", "this line of the certificate is not as jb plan prints it";
+                "certificate: Length", "", "the certificate is of another queue: it has one price more than its queue has handles";
+                "bad option", "", "what the first bad option may be": "OPTION is VALUES";
+                "cannot make ", "NAME", "take another name, or see to its folder, the permission and the room": "REASON";
+                "cannot read ", "NAME", "it is to be a file that may be read; an image is a regular file or block device, and may be written too": "REASON";
+                "in use ", "NAME", "another jb works on the image: run the command again when that one has ended";
+                "too long ", "NAME", "a queue text has at most 16777216 bytes, and a certificate 150994944";
+                "ReadFault", "", "the file cannot be read to the end of its journal: it is a folder, or its device fails";
+                "Super ShortBlock", "", "a journal begins with a superblock of 1024 bytes, and the file is shorter";
+                "Super NoMagic", "", "the file does not begin with a journal; debugfs takes the journal of a file system out of it";
+                "Super NotVersion2 ", "#", "jb takes superblocks of version 2 alone";
+                "Super BlockSize ", "#", "a block has 1024, 2048 or 4096 bytes";
+                "Super Geometry", "", "the file has not all blocks of its journal, or the superblock's numbers make none";
+                "Super Feature ", "# #", "the journal has features that jb has not, as checksums (2 16) or fast commits (2 32); it is as it was";
+                "Geometry", "", "--journal is 9 at least and 2147483647 at most";
+                "BadRevoke ", "#", "this block of the journal is damaged; the image is as it was";
+                "HomeOutOfRange ", "# #", "the image is as it was; it is to be made whole, and now has so many home blocks": "#";
+                "NeedsRecovery", "", "run jb recover on the image first";
+                "NumbersSpent", "", "run jb renumber on the image first";
+                "BlockSize", "", "the first line of the queue text is to have the image's block size";
+                "handle #: TooManyCredits ", "#", "a handle of this journal may touch so many blocks: part it, or format a longer journal";
+                "handle #: OutOfRange ", "#", "home blocks are numbered from 0, and the image has so many": "#";
+                "handle #: Full ", "#", "the log had no room for ten seconds: leave out --hold, or format a longer journal";
+                "handle #: Memory", "", "out of memory: run jb recover on the image, and load the handles from this one on with fewer threads";
+                "handle #: Aborted", "", "a read, write or sync of the image failed: run jb recover on it, and see what it holds";
+                "commit Refused", "", "the transactions have no number left: run jb recover and jb renumber on the image";
+                "commit Memory", "", "out of memory: run jb recover on the image, and see what it holds";
+                "commit Aborted", "", "a read, write or sync of the image failed: run jb recover on it, and see what it holds";
+                "checkpoint Memory", "", "out of memory: run jb recover on the image, which writes home what is committed";
+                "checkpoint Aborted", "", "a read, write or sync of the image failed: run jb recover on it, and see what it holds";
+                "Accounts", "", "this cannot happen: the program is wrong";
+                "DeviceFault", "", "a read, write or sync of the image failed: run the command again once its device is well";
+                "Memory", "", "out of memory: the command needs more";
+                "WriteFault", "", "standard output is closed or full; what the command does to an image may be done";
+            }
+            options {
+                "--bs", "1024, 2048 or 4096";
+                "--journal", "4294967295 at most";
+                "--max", "4294967295 at most";
+                "--uuid", "32 hexadecimal digits";
+                "--homes", "a number with which the image has less than 2^63 bytes";
+                "--threads", "1 to 64";
+            }
         }
     };
 }
 
-/// The table as rows: how a line begins, and what to do.
+/// The table's lines as rows: how a line begins, and what to do.
 macro_rules! rows {
-    ($($begins:literal, $rest:literal, $advice:literal;)*) => {
+    (lines { $($begins:literal, $rest:literal, $advice:literal $(: $beside:literal)?;)* } options { $($option:literal, $values:literal;)* }) => {
         &[$((concat!("jb: ", $begins), $advice)),*]
+    };
+}
+
+/// The table's options as rows: its name, and what it may be.
+macro_rules! options {
+    (lines { $($begins:literal, $rest:literal, $advice:literal $(: $beside:literal)?;)* } options { $($option:literal, $values:literal;)* }) => {
+        &[$(($option, $values)),*]
     };
 }
 
 /// How each line on standard error begins, and what to do.
 pub(crate) const ROWS: &[(&str, &str)] = diagnostics!(rows);
+
+/// Each option that may be bad, and what it may be.
+pub(crate) const OPTIONS: &[(&str, &str)] = diagnostics!(options);

@@ -33,7 +33,7 @@ fn counted<L: Ledger>(blank: Blank, count: u64) -> Book<L>
 }
 
 /// What two seats and a third one see of raises by the first, one after the other.
-fn seen<L: Ledger>(alloc: Global, blank: Blank) -> Result<[Front; 5], Fail>
+fn seen<L: Ledger>(alloc: Global, blank: Blank) -> Result<[Front; 6], Fail>
     requires name { blank.name ≡ L.name }
     requires parts { (blank.parts ≡ L.parts) × (L.parts ≡ 1) }
 {
@@ -46,11 +46,13 @@ fn seen<L: Ledger>(alloc: Global, blank: Blank) -> Result<[Front; 5], Fail>
     board.raise_taken(&mut first, 2);
     let taken = board.look(&mut second);
     board.raise_settled(&mut first, 1);
-    board.raise_stopped(&mut first, 1, &tickets);
     let settled = board.look(&mut second);
+    board.raise_settled(&mut first, 2);
+    board.raise_stopped(&mut first, 1, &tickets);
+    let more = board.look(&mut second);
     board.join(&mut first, second);
     let mut third = board.enter();
-    Ok([new, stopped, taken, settled, board.look(&mut third)])
+    Ok([new, stopped, taken, settled, more, board.look(&mut third)])
 }
 
 #[test]
@@ -61,7 +63,8 @@ fn a_second_seat_sees_what_the_first_raised(rt: HostRuntime) -> Result<(), Fail>
         counts(0, 0, 3),
         counts(0, 2, 3),
         counts(1, 2, 3),
-        counts(1, 2, 3),
+        counts(2, 2, 3),
+        counts(2, 2, 3),
     ];
     assert_eq!(rt; found, wanted);
     Ok(())

@@ -6,8 +6,8 @@ use std::io::{ErrorKind, Read};
 /// Why a text could not be read.
 #[derive(Clone, Copy, Debug, PartialEq, Eq)]
 pub enum ReadFault {
-    /// The reader answered an error.
-    Reader,
+    /// The reader answered an error, with the system's number of it where it has one.
+    Reader(Option<i32>),
     /// There are more bytes than the limit.
     TooLong,
     /// Memory ran out.
@@ -32,7 +32,7 @@ pub fn read_front<R: Read>(
     match limited.read_to_end(&mut front) {
         Ok(_) => Ok(front),
         Err(error) if error.kind() == ErrorKind::OutOfMemory => Err(ReadFault::Memory),
-        Err(_) => Err(ReadFault::Reader),
+        Err(error) => Err(ReadFault::Reader(error.raw_os_error())),
     }
 }
 

@@ -1,46 +1,18 @@
 //! Calls of the journal.
 
-use crate::window::{Met, Wrong, ample, must, refusing};
-use jb_block::{BlockSize, put32};
-use jb_deck::{Deck, OpenFault};
-use jb_disk::{Disk, Fault, MemoryDisk};
+use crate::journals::{HOME_5, MAGIC, STAMP, let_go, opened, prepared, small, word_at};
+use jb_deck::{BatchFault, Deck, Done, Entry, OpenFault, Prepared};
+use jb_disk::MemoryDisk;
+use jb_recover::recover;
+use jb_refusing::{Met, Wrong, ample, must, refusing};
 use std::alloc::Global;
 
-impl From<Fault> for Wrong {
-    fn from(_: Fault) -> Wrong {
-        Wrong::Inputs
-    }
-}
-
-/// The superblock's words that are not 0, each with its offset: 33 blocks of 1 KiB, and the next number 2.
-const FRONT: [(usize, u32); 8] = [
-    (0x00, 0xC03B_3998),
-    (0x04, 4),
-    (0x0C, 1024),
-    (0x10, 33),
-    (0x14, 1),
-    (0x18, 1),
-    (0x28, 1),
-    (0x40, 1),
-];
-
-/// A journal of 33 blocks of 1 KiB with nothing to recover, and after it 16 home blocks.
-fn small(alloc: Global) -> Result<MemoryDisk, Wrong> {
-    let mut disk = MemoryDisk::new(alloc, BlockSize::OneKib, 49)?;
-    let mut block = vec![in alloc; 0u8; 1024].map_err(|_| Wrong::Inputs)?;
-    for (offset, word) in FRONT {
-        if offset <= 1020 && block.len() == 1024 {
-            put32(&mut block, offset, word);
-        }
-    }
-    must(
-        disk.blocks() == 49 && block.len() == 1024 && disk.block_size().bytes() == 1024,
-        Wrong::Inputs,
-    )?;
-    disk.write(0, &block)?;
-    disk.sync()?;
-    Ok(disk)
-}
+/// The group of the handle.
+const GROUP: [Entry; 1] = [Entry {
+    first: 0,
+    past: 1,
+    number: 2,
+}];
 
 /// A disk that is given back for want of memory opens as one that was never opened.
 pub fn open_row(rt: &HostRuntime) -> Result<Met, Wrong> {
@@ -51,15 +23,78 @@ pub fn open_row(rt: &HostRuntime) -> Result<Met, Wrong> {
     ample(rt);
     let (met, deck) = match first {
         Ok(deck) => (Met::Ample, deck),
-        Err((disk, OpenFault::Memory)) => match Deck::open(alloc, disk) {
-            Ok(deck) => (Met::Memory, deck),
-            Err(_) => return Err(Wrong::Answer),
-        },
+        Err((disk, OpenFault::Memory)) => (Met::Memory, open_again(alloc, disk)?),
+        Err((disk, OpenFault::DeviceFault)) => (Met::Fault, open_again(alloc, disk)?),
         Err(_) => return Err(Wrong::Answer),
     };
     must(
         deck.next_number() == 2 && deck.usable() == 32,
         Wrong::Stands,
     )?;
+    Ok(met)
+}
+
+/// Opens the journal with ample memory.
+fn open_again(alloc: Global, disk: MemoryDisk) -> Result<Deck<MemoryDisk>, Wrong> {
+    match Deck::open(alloc, disk) {
+        Ok(deck) => Ok(deck),
+        Err(_) => Err(Wrong::Answer),
+    }
+}
+
+/// A journal that ran out of memory is as it was, and commits the batch that is handed back. One whose disk failed is aborted, and
+/// recovers to the homes before the batch or after it.
+pub fn commit_batch_row(rt: &HostRuntime) -> Result<Met, Wrong> {
+    let alloc = rt.alloc();
+    let mut deck = opened(alloc)?;
+    let batch = prepared(alloc, deck.shape())?;
+    refusing(rt);
+    let first = deck.commit_batch(batch, STAMP);
+    ample(rt);
+    match first {
+        Ok(done) => {
+            must(done.entries() == GROUP.as_slice(), Wrong::Answer)?;
+            ends_with(alloc, deck, &[MAGIC], Met::Ample)
+        }
+        Err(BatchFault::Memory(batch)) => {
+            let done = commit_again(&mut deck, batch)?;
+            must(done.entries() == GROUP.as_slice(), Wrong::Answer)?;
+            ends_with(alloc, deck, &[MAGIC], Met::Memory)
+        }
+        Err(BatchFault::DeviceFault { settled }) => {
+            must(
+                deck.aborted() && settled.entries().is_empty(),
+                Wrong::Stands,
+            )?;
+            ends_with(alloc, deck, &[0, MAGIC], Met::Fault)
+        }
+        Err(fault) => {
+            let_go(fault);
+            Err(Wrong::Answer)
+        }
+    }
+}
+
+/// Commits a batch that was handed back for want of memory.
+fn commit_again(deck: &mut Deck<MemoryDisk>, batch: Prepared) -> Result<Done, Wrong> {
+    if deck.next_number() != 2 || !deck.trail().is_empty() || deck.aborted() {
+        let _handles = batch.back().end();
+        return Err(Wrong::Stands);
+    }
+    match deck.commit_batch(batch, STAMP) {
+        Ok(done) => Ok(done),
+        Err(fault) => {
+            let_go(fault);
+            Err(Wrong::Answer)
+        }
+    }
+}
+
+/// Whether the journal's disk recovers to one of these first words of home 5.
+fn ends_with(alloc: Global, deck: Deck<MemoryDisk>, words: &[u32], met: Met) -> Result<Met, Wrong> {
+    let mut disk = deck.close();
+    must(recover(alloc, &mut disk).is_ok(), Wrong::Stands)?;
+    let word = word_at(&mut disk, HOME_5)?;
+    must(words.contains(&word), Wrong::Stands)?;
     Ok(met)
 }

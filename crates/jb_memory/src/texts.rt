@@ -1,9 +1,9 @@
 //! Calls that read and write texts and blocks.
 
-use crate::window::{Met, Wrong, ample, must, refusing};
 use jb_block::{Width, put32};
 use jb_price::{CertFault, print_cert, read_cert};
 use jb_queue::{Cause, QueueFault, read_queue};
+use jb_refusing::{Met, Wrong, ample, must, refusing};
 use jb_revoke::{RevokeFault, read_revokes};
 use jb_tags::read_tags;
 

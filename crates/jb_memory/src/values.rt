@@ -1,19 +1,22 @@
 //! Calls that count blocks.
+ghost use Rattle.jb_handle.specs.Size.{IsWithinSize};
 
 use crate::texts::{CERTIFICATE, THREE};
-use crate::window::{Met, Wrong, ample, must, refusing};
-use jb_cost::{Geometry, group_cost};
-use jb_handle::is_within_size;
+use jb_block::Memory;
+use jb_cost::{Footprint, Geometry, group_cost};
+use jb_handle::{Stopped, is_within_size};
 use jb_plan::{Answer, Planned, plan};
 use jb_price::{Verdict, check, read_cert};
 use jb_queue::{QueueText, read_queue};
+use jb_refusing::{Met, Wrong, ample, must, refusing};
+use std::alloc::Global;
 
 /// The least numbers of blocks for the first parts of the three handles.
-const PRICES: [Option<u64>; 4] = [Some(0), Some(5), Some(7), Some(7)];
+pub const PRICES: [Option<u64>; 4] = [Some(0), Some(5), Some(7), Some(7)];
 
 /// The three handles.
-fn three(rt: &HostRuntime) -> Result<QueueText, Wrong> {
-    match read_queue(rt.alloc(), THREE) {
+pub fn three(alloc: Global) -> Result<QueueText, Wrong> {
+    match read_queue(alloc, THREE) {
         Ok(queue) => Ok(queue),
         Err(_) => Err(Wrong::Inputs),
     }
@@ -21,7 +24,7 @@ fn three(rt: &HostRuntime) -> Result<QueueText, Wrong> {
 
 pub fn plan_row(rt: &HostRuntime) -> Result<Met, Wrong> {
     let alloc = rt.alloc();
-    let queue = three(rt)?;
+    let queue = three(alloc)?;
     let handles = queue.handles.as_slice();
     if !is_within_size(handles) {
         return Err(Wrong::Inputs);
@@ -50,7 +53,7 @@ pub fn plan_row(rt: &HostRuntime) -> Result<Met, Wrong> {
 
 pub fn group_cost_row(rt: &HostRuntime) -> Result<Met, Wrong> {
     let alloc = rt.alloc();
-    let queue = three(rt)?;
+    let queue = three(alloc)?;
     let handles = queue.handles.as_slice();
     if !is_within_size(handles) {
         return Err(Wrong::Inputs);
@@ -67,9 +70,40 @@ pub fn group_cost_row(rt: &HostRuntime) -> Result<Met, Wrong> {
     Ok(met)
 }
 
+/// What a footprint says of the handles, put in from right to left.
+fn by_footprint(alloc: Global, handles: &[Stopped], geometry: Geometry) -> Result<u64, Memory>
+    requires size { IsWithinSize handles.now }
+{
+    let mut footprint = Footprint::new(alloc, geometry);
+    let mut cost = 1;
+    for start in (0..handles.len()).rev() {
+        cost = footprint.add_left(&handles[start])?;
+    }
+    Ok(cost)
+}
+
+pub fn add_left_row(rt: &HostRuntime) -> Result<Met, Wrong> {
+    let alloc = rt.alloc();
+    let queue = three(alloc)?;
+    let handles = queue.handles.as_slice();
+    if !is_within_size(handles) {
+        return Err(Wrong::Inputs);
+    }
+    let geometry = Geometry::of(queue.bs, queue.width);
+    refusing(rt);
+    let first = by_footprint(alloc, handles, geometry);
+    ample(rt);
+    let (met, cost) = match first {
+        Ok(cost) => (Met::Ample, cost),
+        Err(_) => (Met::Memory, by_footprint(alloc, handles, geometry)?),
+    };
+    must(cost == 7, Wrong::Answer)?;
+    Ok(met)
+}
+
 pub fn check_row(rt: &HostRuntime) -> Result<Met, Wrong> {
     let alloc = rt.alloc();
-    let queue = three(rt)?;
+    let queue = three(alloc)?;
     let handles = queue.handles.as_slice();
     let Ok(cert) = read_cert(alloc, CERTIFICATE.as_bytes(), 3) else {
         return Err(Wrong::Inputs);

@@ -19,7 +19,7 @@ DumpsOn before after out_old out_new end =
 
 -- the file of this name was not opened
 abbrev pub IsUnopened : List ℕ → CommandFault → Type 0
-IsUnopened name (CannotRead told) = told.now ≡ name
+IsUnopened name (CannotRead told code) = told.now ≡ name
 IsUnopened name Memory = Unit {0}
 IsUnopened name _ = ⊥
 

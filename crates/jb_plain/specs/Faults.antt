@@ -1,5 +1,7 @@
 -- The status and the line of each way in which a command ends without an answer, and which faults end it so.
-use Rattle.std.specs.Prelude.{ℕ, List, [], ◌∷◌, codes, decimal}
+use Rattle.std.specs.Prelude.{ℕ, ℤ, List, [], ◌∷◌, Option, None, Some, codes, decimal}
+use Rattle.jb_advice.specs.declared.beside.Beside.{Beside}
+use Rattle.jb_advice.specs.declared.beside.Beside.TheVariants.{Nothing, BadOption as FirstBad, System, Homes}
 use Rattle.jb_io.specs.Parts.{spelled}
 use Rattle.jb_dump.specs.declared.fault.DumpFault.{DumpFault}
 use Rattle.jb_dump.specs.declared.fault.DumpFault.TheVariants as dumping
@@ -16,15 +18,15 @@ use Rattle.jb_plain.specs.declared.fault.CommandFault.TheVariants.{CannotRead, I
 
 -- the exit status
 abbrev pub status_of : CommandFault → ℕ
-status_of (CannotRead name) = 2
+status_of (CannotRead name code) = 2
 status_of (InUse name) = 2
-status_of (CannotMake name) = 2
-status_of BadOption = 2
+status_of (CannotMake name code) = 2
+status_of (BadOption name) = 2
 status_of (TooLong name) = 2
 status_of ReadFault = 1
 status_of (Super fault) = 1
 status_of (BadRevoke place) = 1
-status_of (HomeOutOfRange home number) = 1
+status_of (HomeOutOfRange home number homes) = 1
 status_of NeedsRecovery = 1
 status_of NumbersSpent = 1
 status_of BlockSize = 1
@@ -47,15 +49,15 @@ super_line (super.Feature word bits) =
 
 -- the line on standard error
 abbrev pub line_of : CommandFault → List ℕ
-line_of (CannotRead name) = spelled (codes "jb: cannot read " ∷ name.now ∷ codes "\n" ∷ [])
+line_of (CannotRead name code) = spelled (codes "jb: cannot read " ∷ name.now ∷ codes "\n" ∷ [])
 line_of (InUse name) = spelled (codes "jb: in use " ∷ name.now ∷ codes "\n" ∷ [])
-line_of (CannotMake name) = spelled (codes "jb: cannot make " ∷ name.now ∷ codes "\n" ∷ [])
-line_of BadOption = spelled (codes "jb: bad option\n" ∷ [])
+line_of (CannotMake name code) = spelled (codes "jb: cannot make " ∷ name.now ∷ codes "\n" ∷ [])
+line_of (BadOption name) = spelled (codes "jb: bad option\n" ∷ [])
 line_of (TooLong name) = spelled (codes "jb: too long " ∷ name.now ∷ codes "\n" ∷ [])
 line_of ReadFault = spelled (codes "jb: ReadFault\n" ∷ [])
 line_of (Super fault) = super_line fault
 line_of (BadRevoke place) = spelled (codes "jb: BadRevoke " ∷ decimal place ∷ codes "\n" ∷ [])
-line_of (HomeOutOfRange home number) =
+line_of (HomeOutOfRange home number homes) =
     spelled (codes "jb: HomeOutOfRange " ∷ decimal home ∷ codes " " ∷ decimal number ∷ codes "\n" ∷ [])
 line_of NeedsRecovery = spelled (codes "jb: NeedsRecovery\n" ∷ [])
 line_of NumbersSpent = spelled (codes "jb: NumbersSpent\n" ∷ [])
@@ -65,6 +67,23 @@ line_of Geometry = spelled (codes "jb: Geometry\n" ∷ [])
 line_of DeviceFault = spelled (codes "jb: DeviceFault\n" ∷ [])
 line_of Memory = spelled (codes "jb: Memory\n" ∷ [])
 line_of WriteFault = spelled (codes "jb: WriteFault\n" ∷ [])
+
+-- what a second line says of a number of the system's, or of home blocks, where there is one
+abbrev pub of_code : Option ℤ → Beside
+of_code None = Nothing
+of_code (Some code) = System code
+
+abbrev pub of_homes : Option ℕ → Beside
+of_homes None = Nothing
+of_homes (Some homes) = Homes homes
+
+-- what a second line says of a fault beside the words of its row
+abbrev pub beside_of : CommandFault → Beside
+beside_of (CannotRead name code) = of_code code
+beside_of (CannotMake name code) = of_code code
+beside_of (BadOption name) = FirstBad name
+beside_of (HomeOutOfRange home number homes) = of_homes homes
+beside_of _ = Nothing
 
 -- the line for a word of the command line that is not UTF-8
 abbrev pub not_utf8 : List ℕ
@@ -83,13 +102,13 @@ abbrev pub format_fault : FormatFault → CommandFault
 format_fault formatting.DeviceFault = DeviceFault
 format_fault formatting.Geometry = Geometry
 
--- what a fault of a recovery is reported as
-abbrev pub recover_fault : RecoverFault → CommandFault
-recover_fault recovering.DeviceFault = DeviceFault
-recover_fault (recovering.Super fault) = Super fault
-recover_fault (recovering.BadRevoke place) = BadRevoke place
-recover_fault (recovering.HomeOutOfRange home number) = HomeOutOfRange home number
-recover_fault recovering.Memory = Memory
+-- what a fault of a recovery is reported as, of an image with so many home blocks, where that is known
+abbrev pub recover_fault : Option ℕ → RecoverFault → CommandFault
+recover_fault homes recovering.DeviceFault = DeviceFault
+recover_fault homes (recovering.Super fault) = Super fault
+recover_fault homes (recovering.BadRevoke place) = BadRevoke place
+recover_fault homes (recovering.HomeOutOfRange home number) = HomeOutOfRange home number homes
+recover_fault homes recovering.Memory = Memory
 
 -- what a fault of a change of a clean journal is reported as
 abbrev pub change_fault : ChangeFault → CommandFault

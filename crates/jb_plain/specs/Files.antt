@@ -1,5 +1,5 @@
 -- How the commands over images end over a file.
-use Rattle.std.specs.Prelude.{◌≡◌, ◌⊎◌, ℕ, List, [], Option, Result, Ok, Err}
+use Rattle.std.specs.Prelude.{◌≡◌, ◌⊎◌, ◌-◌, ℕ, List, [], Option, Some, Result, Ok, Err}
 use Rattle.hex.specs.Hex.{decode_of}
 use Rattle.jb_block.specs.Size.{bytes_of}
 use Rattle.jb_disk.specs.File.{count_of, faults_of, size_of}
@@ -13,7 +13,7 @@ use Rattle.jb_super.specs.Superblock.{Superblock}
 use Rattle.jb_words.specs.Named.{Options}
 use Rattle.jb_plain.specs.Change.{ChangesOn, renumbered_line, widened_line}
 use Rattle.jb_plain.specs.Format.{FormatsOn}
-use Rattle.jb_plain.specs.Options.{AreGood, IsJournalLength}
+use Rattle.jb_plain.specs.Options.{AreGood, IsFirstBad, IsJournalLength}
 use Rattle.jb_plain.specs.Recover.{RecoversOn}
 use Rattle.jb_plain.specs.declared.fault.CommandFault.{CommandFault}
 use Rattle.jb_plain.specs.declared.fault.CommandFault.TheVariants.{BadOption, CannotMake, CannotRead, Geometry, InUse, Memory, Super}
@@ -21,9 +21,9 @@ use Rattle.jb_plain.specs.declared.fault.CommandFault.TheVariants.{BadOption, Ca
 -- the file of this name was not made: an option is bad; or none is, and a journal may not have so many blocks; or it may, and the
 -- system refuses the file
 abbrev pub IsUnmade : List ℕ → Options → CommandFault → Type 0
-IsUnmade name o BadOption = AreGood o → ⊥
+IsUnmade name o (BadOption told) = IsFirstBad o told.now
 IsUnmade name o Geometry = AreGood o × (IsJournalLength o.journal → ⊥)
-IsUnmade name o (CannotMake told) = AreGood o × IsJournalLength o.journal × (told.now ≡ name)
+IsUnmade name o (CannotMake told code) = AreGood o × IsJournalLength o.journal × (told.now ≡ name)
 IsUnmade name o Memory = AreGood o × IsJournalLength o.journal
 IsUnmade name o _ = ⊥
 
@@ -45,7 +45,7 @@ EndsOfFormat name o out_old out_new end =
 
 -- the image of this name was not read, or another program has locked it, or its first bytes are refused as a superblock
 abbrev pub IsUnread : List ℕ → CommandFault → Type 0
-IsUnread name (CannotRead told) = told.now ≡ name
+IsUnread name (CannotRead told code) = told.now ≡ name
 IsUnread name (InUse told) = told.now ≡ name
 IsUnread name (Super fault) = (front : List ℕ) × (super_in front ≡ Err fault)
 IsUnread name Memory = Unit {0}
@@ -55,13 +55,19 @@ IsUnread name _ = ⊥
 abbrev pub SaysSize : ℕ → Type 0
 SaysSize size = (front : List ℕ) × (sb : Superblock) × (super_in front ≡ Ok sb) × (size ≡ sb.block_size)
 
--- a file was recovered, in blocks of the size that its first bytes say. No clause says what a file holds: of its content
--- nothing follows
+-- some first bytes are a superblock, which says the file's block size; so many home blocks are after the journal that it says
+abbrev pub IsOpened : FileDisk → ℕ → Type 0
+IsOpened disk homes =
+    (front : List ℕ) × (sb : Superblock) × (super_in front ≡ Ok sb) × (bytes_of (size_of disk) ≡ sb.block_size) × (homes ≡ count_of disk - sb.maxlen)
+
+-- a file was recovered, in blocks of the size that its first bytes say; a fault is reported with the number of home blocks after
+-- the journal that they say. No clause says what a file holds: of its content nothing follows
 pub record RecoversFile (out_old out_new : Option (List ℕ)) (end : Result ℕ CommandFault) : Type 0 where
   pub old : FileDisk
   pub new : FileDisk
-  pub size : SaysSize (bytes_of (size_of old))
-  pub recovers : RecoversOn (λ (f : FileDisk). bytes_of (size_of f)) count_of faults_of (λ _. ⊥) (λ _. []) (λ _ _. ⊥) (λ _. 0) (λ _ _ _. ⊥) old new out_old out_new end
+  pub homes : ℕ
+  pub opened : IsOpened old homes
+  pub recovers : RecoversOn (λ (f : FileDisk). bytes_of (size_of f)) count_of faults_of (λ _. ⊥) (λ _. []) (λ _ _. ⊥) (λ _. 0) (λ _ _ _. ⊥) (Some homes) old new out_old out_new end
 
 -- the image was not read, and nothing was done; or it was recovered, and the answer is reported
 abbrev pub EndsOfRecover : List ℕ → Option (List ℕ) → Option (List ℕ) → Result ℕ CommandFault → Type 0

@@ -1,5 +1,6 @@
 pub mod Change
 pub mod Dump
+pub mod Ends
 pub mod Format
 pub mod Files
 pub mod Options

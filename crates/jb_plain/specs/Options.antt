@@ -1,5 +1,5 @@
 -- When the options of `jb format` are good, and which image they ask for.
-use Rattle.std.specs.Prelude.{◌≡◌, ◌+◌, ◌*◌, ◌^◌, ◌<◌, ◌≤◌, ℕ, length, Ok}
+use Rattle.std.specs.Prelude.{◌≡◌, ◌+◌, ◌*◌, ◌^◌, ◌<◌, ◌≤◌, ◌⊎◌, ℕ, List, codes, length, Ok}
 use Rattle.std.specs.List.{AllPass}
 use Rattle.hex.specs.Hex.{decode_of, is_hex_digit}
 use Rattle.jb_block.specs.Size.{bytes_of, IsBlockSize}
@@ -19,6 +19,19 @@ pub record AreGood (o : Options) : Type 0 where
   pub max : o.max < 2 ^ 32
   pub uuid : (length o.uuid ≡ 32) × AllPass is_hex_digit o.uuid
   pub len : (o.journal + o.homes) * o.bs < 2 ^ 63
+
+-- this option is bad and has this name, or it is good and this holds
+abbrev pub IsFirst : List ℕ → List ℕ → Type 0 → Type 0 → Type 0
+IsFirst name option Good Later = ((name ≡ option) × (Good → ⊥)) ⊎ (Good × Later)
+
+-- the option of this name is the first that is bad; --homes stands for the length
+abbrev pub IsFirstBad : Options → List ℕ → Type 0
+IsFirstBad o name =
+    IsFirst name (codes "--bs") (IsBlockSize o.bs)
+    (IsFirst name (codes "--journal") (o.journal < 2 ^ 32)
+    (IsFirst name (codes "--max") (o.max < 2 ^ 32)
+    (IsFirst name (codes "--uuid") ((length o.uuid ≡ 32) × AllPass is_hex_digit o.uuid)
+    (IsFirst name (codes "--homes") ((o.journal + o.homes) * o.bs < 2 ^ 63) ⊥))))
 
 -- the image that the options ask for
 pub record IsAskedBy (o : Options) (file : NewFile) : Type 0 where

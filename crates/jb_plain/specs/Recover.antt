@@ -19,15 +19,15 @@ recovered_line r = spelled (
     codes "transactions " ∷ decimal r.transactions ∷ codes " copies " ∷ decimal r.copies ∷ codes " revoked " ∷ decimal r.revoked
     ∷ codes " next " ∷ decimal r.next ∷ codes "\n" ∷ [])
 
--- what a recovery answered is reported: its line, or its fault, and then nothing is written
-abbrev pub TellsRecovery : Result Recovered RecoverFault → Option (List ℕ) → Option (List ℕ) → Result ℕ CommandFault → Type 0
-TellsRecovery (Ok done) out_old out_new end = TellsLine (recovered_line done) out_old out_new end
-TellsRecovery (Err fault) out_old out_new end = (end ≡ Err (recover_fault fault)) × (out_new ≡ out_old)
+-- what a recovery answered is reported: its line, or its fault with the number of home blocks, and then nothing is written
+abbrev pub TellsRecovery : Option ℕ → Result Recovered RecoverFault → Option (List ℕ) → Option (List ℕ) → Result ℕ CommandFault → Type 0
+TellsRecovery homes (Ok done) out_old out_new end = TellsLine (recovered_line done) out_old out_new end
+TellsRecovery homes (Err fault) out_old out_new end = (end ≡ Err (recover_fault homes fault)) × (out_new ≡ out_old)
 
 -- the disk was recovered, as the clauses of the recovery say of its answer, and that answer is reported. A crash in its midst, or what
 -- it leaves after a fault, recovers to the image that the disk's content recovers to
 pub record RecoversOn {D : Type 0} (size count faults : D → ℕ) (honest : D → Type 0) (newest : D → Image) (may_leave : D → Image → Type 0)
-    (moment : D → ℕ) (left_since : D → ℕ → Image → Type 0) (old new : D) (out_old out_new : Option (List ℕ)) (end : Result ℕ CommandFault) : Type 0 where
+    (moment : D → ℕ) (left_since : D → ℕ → Image → Type 0) (homes : Option ℕ) (old new : D) (out_old out_new : Option (List ℕ)) (end : Result ℕ CommandFault) : Type 0 where
   pub answer : Result Recovered RecoverFault
   pub kept : Kept size count honest old new
   pub fault_count : PassFaults answer (faults old) (faults new)
@@ -35,4 +35,4 @@ pub record RecoversOn {D : Type 0} (size count faults : D → ℕ) (honest : D �
   pub crash : honest old → LeavesOnly moment left_since old new (λ c. may_leave old c ⊎ RecoversAs (size old) (count old) (newest old) c)
   pub again : honest old → RecoversAs (size old) (count old) (newest old) (newest new)
   pub durable : honest old → OnOk answer (Only (newest new) (may_leave new))
-  pub told : TellsRecovery answer out_old out_new end
+  pub told : TellsRecovery homes answer out_old out_new end

@@ -12,8 +12,10 @@ use Rattle.jb_plain.specs.Files.{EndsOfFormat, EndsOfRecover, EndsOfRenumber, En
 use Rattle.jb_answers.specs.Plan.{PlanSays}
 use Rattle.jb_answers.specs.Said.{Said}
 use Rattle.jb_plain.specs.Said.{Outputs, Tells}
-use Rattle.jb_plain.specs.Faults.{line_of, status_of}
+use Rattle.jb_plain.specs.Ends.{alone}
+use Rattle.jb_plain.specs.Faults.{beside_of, line_of, status_of}
 use Rattle.jb_plain.specs.Texts.{HasNoText, HasNoTextWithin, IsText, IsTextWithin, known_behind}
+use Rattle.jb_plain.specs.declared.ended.Ended.{Ended}
 use Rattle.jb_plain.specs.declared.fault.CommandFault.{CommandFault}
 
 -- a command said what it has to say of the text after this name, or ended without a word where there was no text or no memory
@@ -33,11 +35,11 @@ EndsOfTwo Says name other old new end =
 abbrev pub OutAlone : (Option (List ℕ) → Option (List ℕ) → Result ℕ CommandFault → Type 0) → Outputs → Outputs → Result ℕ CommandFault → Type 0
 OutAlone Ends old new end = Ends old.out new.out end × (new.err ≡ old.err)
 
--- the program's status, and the line of a command that ended without an answer
-abbrev pub Closes : Result ℕ CommandFault → Outputs → Outputs → ℕ → Type 0
-Closes (Ok told) old new status = (status ≡ told) × (new ≡ old)
-Closes (Err fault) old new status =
-    (status ≡ status_of fault) × (new.out ≡ old.out) × PutsPart old.err new.err (line_of fault)
+-- the program's end, and the line of a command that ended without an answer
+abbrev pub Closes : Result Ended CommandFault → Outputs → Outputs → Ended → Type 0
+Closes (Ok told) old new ended = (ended ≡ told) × (new ≡ old)
+Closes (Err fault) old new ended =
+    (ended ≡ record { status = status_of fault; beside = beside_of fault }) × (new.out ≡ old.out) × PutsPart old.err new.err (line_of fault)
 
 -- whether a command reads standard input: as the text or journal after `-`, and for nothing else
 abbrev pub reads_input : Asked → Bool
@@ -58,6 +60,6 @@ EndsAsked (AsksRenumber image) = λ _. OutAlone (EndsOfRenumber image)
 EndsAsked (AsksWiden image) = λ _. OutAlone (EndsOfWiden image)
 
 -- the whole run of the command that the words ask for
-abbrev pub Runs : Asked → Option (List ℕ) → Outputs → Outputs → ℕ → Type 0
-Runs asked input old new status =
-    (end : Result ℕ CommandFault) × (told : Outputs) × EndsAsked asked input old told end × Closes end told new status
+abbrev pub Runs : Asked → Option (List ℕ) → Outputs → Outputs → Ended → Type 0
+Runs asked input old new ended =
+    (end : Result ℕ CommandFault) × (told : Outputs) × EndsAsked asked input old told end × Closes (alone end) told new ended

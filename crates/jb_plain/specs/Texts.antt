@@ -20,7 +20,7 @@ IsText known text = IsTextWithin text_limit known text
 -- the text after this name could not be had: it has more bytes than a limit, or the reading or the memory failed
 abbrev pub HasNoTextWithin : ℕ → List ℕ → Option (List ℕ) → CommandFault → Type 0
 HasNoTextWithin limit name known (TooLong told) = (told.now ≡ name) × IfSome known (λ bytes. limit < length bytes)
-HasNoTextWithin limit name known (CannotRead told) = told.now ≡ name
+HasNoTextWithin limit name known (CannotRead told code) = told.now ≡ name
 HasNoTextWithin limit name known Memory = Unit {0}
 HasNoTextWithin limit name known _ = ⊥
 

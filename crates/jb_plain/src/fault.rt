@@ -1,5 +1,6 @@
 ghost use Rattle.std.specs.Prelude.{◌≡◌};
 
+use jb_advice::Beside;
 use jb_dump::DumpFault;
 use jb_io::WriteFault;
 use jb_recover::{ChangeFault, FormatFault, RecoverFault};
@@ -9,14 +10,16 @@ use std::alloc::AllocError;
 /// Why a command ends without an answer of its own.
 #[derive(Clone, Copy, Debug)]
 pub enum CommandFault<'a> {
-    /// The file of this name, or standard input for `-`, could not be opened or read.
-    CannotRead(&'a str),
+    /// The file of this name, or standard input for `-`, could not be opened or read; with the number of the system's error, where
+    /// it has one.
+    CannotRead(&'a str, Option<i32>),
     /// Another program has locked the image of this name.
     InUse(&'a str),
-    /// The file of this name could not be made: it is there already, or the system refuses it.
-    CannotMake(&'a str),
-    /// An option has a value that it may not have.
-    BadOption,
+    /// The file of this name could not be made: it is there already, or the system refuses it; with the number of the system's
+    /// error, where it has one.
+    CannotMake(&'a str, Option<i32>),
+    /// The option of this name, with its two hyphens, is the first that has a value that it may not have.
+    BadOption(&'static str),
     /// The file of this name has more bytes than a text may have.
     TooLong(&'a str),
     /// A read of the journal failed.
@@ -26,8 +29,9 @@ pub enum CommandFault<'a> {
     /// The block at this place of the journal, of a committed transaction, is a revoke block whose `r_count` is above the
     /// block size.
     BadRevoke(u64),
-    /// A copy that is not revoked is for this home block, which the image does not have; its transaction has this number.
-    HomeOutOfRange(u64, u32),
+    /// A copy that is not revoked is for this home block, which the image does not have; its transaction has this number. Last how
+    /// many home blocks the image has, where that is known.
+    HomeOutOfRange(u64, u32, Option<u64>),
     /// The log of the journal is not clean, and it is to be recovered first.
     NeedsRecovery,
     /// The journal has no number left for a transaction, and it is to be renumbered first.
@@ -99,25 +103,6 @@ impl<'a> From<FormatFault> for CommandFault<'a> {
     }
 }
 
-impl<'a> From<RecoverFault> for CommandFault<'a> {
-    ghost use Rattle.std.specs.Prelude.{◌≡◌};
-    ghost use Rattle.jb_plain.specs.Faults.{recover_fault};
-
-    ghost from_gives = { λ fault stop. stop ≡ recover_fault fault };
-
-    fn from(fault: RecoverFault) -> CommandFault<'a> {
-        match fault {
-            RecoverFault::DeviceFault => CommandFault::DeviceFault,
-            RecoverFault::Super(fault) => CommandFault::Super(fault),
-            RecoverFault::BadRevoke(place) => CommandFault::BadRevoke(place),
-            RecoverFault::HomeOutOfRange(home, number) => CommandFault::HomeOutOfRange(
-                home, number,
-            ),
-            RecoverFault::Memory => CommandFault::Memory,
-        }
-    }
-}
-
 impl<'a> From<ChangeFault> for CommandFault<'a> {
     ghost use Rattle.std.specs.Prelude.{◌≡◌};
     ghost use Rattle.jb_plain.specs.Faults.{change_fault};
@@ -134,21 +119,50 @@ impl<'a> From<ChangeFault> for CommandFault<'a> {
 }
 
 impl<'a> CommandFault<'a> {
-    ghost use Rattle.jb_plain.specs.Faults.{status_of};
+    ghost use Rattle.jb_plain.specs.Faults.{beside_of, recover_fault, status_of};
 
     /// The program's exit status: 2 where an option or a file was the reason, else 1.
     pub fn status(self) -> u8
         ensures value { result ≡ status_of self.entry }
     {
         match self {
-            CommandFault::CannotRead(_) | CommandFault::TooLong(_) => 2,
-            CommandFault::InUse(_) | CommandFault::CannotMake(_) | CommandFault::BadOption => 2,
+            CommandFault::CannotRead(_, _) | CommandFault::TooLong(_) => 2,
+            CommandFault::InUse(_) | CommandFault::CannotMake(_, _) => 2,
+            CommandFault::BadOption(_) => 2,
             CommandFault::ReadFault | CommandFault::Super(_) | CommandFault::BadRevoke(_) => 1,
-            CommandFault::HomeOutOfRange(_, _)
+            CommandFault::HomeOutOfRange(_, _, _)
             | CommandFault::NeedsRecovery
             | CommandFault::NumbersSpent => 1,
             CommandFault::BlockSize | CommandFault::Accounts | CommandFault::Geometry => 1,
             CommandFault::DeviceFault | CommandFault::Memory | CommandFault::WriteFault => 1,
+        }
+    }
+
+    /// A fault of a recovery of an image with so many home blocks, where that is known.
+    pub(crate) fn of_recovery(fault: RecoverFault, homes: Option<u64>) -> CommandFault<'a>
+        ensures value { result ≡ recover_fault homes fault }
+    {
+        match fault {
+            RecoverFault::DeviceFault => CommandFault::DeviceFault,
+            RecoverFault::Super(fault) => CommandFault::Super(fault),
+            RecoverFault::BadRevoke(place) => CommandFault::BadRevoke(place),
+            RecoverFault::HomeOutOfRange(home, number) => {
+                CommandFault::HomeOutOfRange(home, number, homes)
+            }
+            RecoverFault::Memory => CommandFault::Memory,
+        }
+    }
+
+    /// What a second line says of it beside the words of its row.
+    pub fn beside(self) -> Beside
+        ensures value { result ≡ beside_of self.entry }
+    {
+        match self {
+            CommandFault::BadOption(name) => Beside::BadOption(name),
+            CommandFault::CannotRead(_, Some(code)) => Beside::System(code),
+            CommandFault::CannotMake(_, Some(code)) => Beside::System(code),
+            CommandFault::HomeOutOfRange(_, _, Some(homes)) => Beside::Homes(homes),
+            _ => Beside::Nothing,
         }
     }
 }

@@ -9,6 +9,6 @@ mod texts;
 pub(crate) use changes::{recover_file, renumber_file, widen_file};
 pub(crate) use journals::dump_named;
 pub(crate) use making::format_file;
-pub use opening::open_disk;
+pub use opening::open_counted;
 pub use texts::read_file;
 pub(crate) use texts::{read_file_within, read_text};

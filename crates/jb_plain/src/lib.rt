@@ -1,14 +1,16 @@
 //! The commands of `jb` that need no threads, over a runtime, an input and two outputs.
 #![tactic(auto)]
 
+mod ended;
 mod fault;
 mod files;
 mod options;
 mod running;
 mod streams;
 
+pub use ended::Ended;
 pub use fault::CommandFault;
-pub use files::{open_disk, read_file};
+pub use files::{open_counted, read_file};
 pub use jb_words::Plain;
 pub use running::{close, perform, run_plain};
 pub use streams::{

@@ -1,10 +1,10 @@
-ghost use Rattle.std.specs.Prelude.{◌≡◌, ◌↔◌, ◌+◌, ◌*◌, ◌^◌, ◌<◌, length, IsSome, IfSome, Ok};
+ghost use Rattle.std.specs.Prelude.{◌≡◌, ◌↔◌, ◌+◌, ◌*◌, ◌^◌, ◌<◌, length, IsSome, IfErr, IfOk, IfSome, Ok};
 ghost use Rattle.std.specs.List.{AllPass};
 ghost use Rattle.hex.specs.Hex.{decode_of, is_hex_digit};
 ghost use Rattle.jb_block.specs.Size.{bytes_of, IsBlockSize};
 ghost use Rattle.jb_block.specs.Width.{is_wide};
 ghost use Rattle.jb_words.specs.Named.{options_said};
-ghost use Rattle.jb_plain.specs.Options.{AreGood, IsAskedBy};
+ghost use Rattle.jb_plain.specs.Options.{AreGood, IsAskedBy, IsFirstBad};
 
 use hex::FromHex;
 use jb_block::{BlockSize, Width};
@@ -27,19 +27,38 @@ pub(crate) struct NewFile {
     pub(crate) len: u64,
 }
 
-/// The image that the options ask for, or `None` where one of them is bad: another block size than 1024, 2048 or 4096, a
-/// `--journal` or `--max` above 2^32 - 1, a UUID that is not 32 hexadecimal digits, or a file of 2^63 bytes or more.
-pub(crate) fn new_file(options: FormatOptions<'_>) -> Option<NewFile>
-    ensures good { IsSome result ↔ AreGood (options_said options.entry) }
-    ensures asked { IfSome result (IsAskedBy (options_said options.entry)) }
+/// The image that the options ask for.
+///
+/// # Errors
+/// The name of the first option that is bad, in this order: `--bs` is not 1024, 2048 or 4096; `--journal` or `--max` is above
+/// 2^32 - 1; `--uuid` is not 32 hexadecimal digits; or with `--homes` the file has 2^63 bytes or more.
+pub(crate) fn new_file(options: FormatOptions<'_>) -> Result<NewFile, &'static str>
+    ensures good { IfOk result (λ _. AreGood (options_said options.entry)) }
+    ensures asked { IfOk result (IsAskedBy (options_said options.entry)) }
+    ensures bad { IfErr result (λ name. IsFirstBad (options_said options.entry) name.now) }
 {
-    Some(NewFile {
-        size: size_of(options.bs)?,
-        journal: word_of(options.journal)?,
-        max: word_of(options.max)?,
-        uuid: uuid_of(options.uuid)?,
+    let Some(size) = size_of(options.bs) else {
+        return Err("--bs");
+    };
+    let Some(journal) = word_of(options.journal) else {
+        return Err("--journal");
+    };
+    let Some(max) = word_of(options.max) else {
+        return Err("--max");
+    };
+    let Some(uuid) = uuid_of(options.uuid) else {
+        return Err("--uuid");
+    };
+    let Some(len) = len_of(options.journal, options.homes, options.bs) else {
+        return Err("--homes");
+    };
+    Ok(NewFile {
+        size,
+        journal,
+        max,
+        uuid,
         width: width_of(options.wide),
-        len: len_of(options.journal, options.homes, options.bs)?,
+        len,
     })
 }
 

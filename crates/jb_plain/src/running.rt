@@ -3,6 +3,7 @@ ghost use Rattle.jb_words.specs.Named.{asks};
 ghost use Rattle.jb_answers.specs.Check.{CheckSays};
 ghost use Rattle.jb_plain.specs.Runs.{Closes, EndsAsked, EndsOfTwo, Runs, reads_input};
 
+use crate::ended::{Ended, alone};
 use crate::fault::CommandFault;
 use crate::files::{
     dump_named, format_file, read_file, read_file_within, read_text, recover_file, renumber_file,
@@ -78,33 +79,36 @@ fn perform_check<'a, R: Files + AllocGlobal, O: Write, E: Write>(
     }
 }
 
-/// Runs a command and gives the program's exit status; a command that ends without an answer has its line on `err`.
+/// Runs a command and gives the end of the program; a command that ends without an answer has its line on `err`.
 pub fn run_plain<R: Files<File = File> + AllocGlobal, I: Read, O: Write, E: Write>(
     rt: &R,
     plain: Plain<'_>,
     input: &mut I,
     out: &mut O,
     err: &mut E,
-) -> u8
+) -> Ended
     ensures runs { Runs (asks plain.entry) (I.remaining input.old)
         (record { out = O.contents out.old; err = E.contents err.old })
         (record { out = O.contents out.new; err = E.contents err.new }) result }
     ensures unread { reads_input (asks plain.entry) ≡ false → input.new ≡ input.old }
 {
     let end = perform(rt, plain, input, out, err);
-    close(end, err)
+    close(alone(end), err)
 }
 
-/// The program's exit status at the end of a command; of one that ended without an answer the line is written to `err`.
-pub fn close<E: Write>(end: Result<u8, CommandFault<'_>>, err: &mut E) -> u8
+/// The program's end at the end of a command; of one that ended without an answer the line is written to `err`.
+pub fn close<E: Write>(end: Result<Ended, CommandFault<'_>>, err: &mut E) -> Ended
     ensures { (out_old : Option (List ℕ)) → Closes end.entry (record { out = out_old; err = E.contents err.old })
         (record { out = out_old; err = E.contents err.new }) result }
 {
     match end {
-        Ok(status) => status,
+        Ok(ended) => ended,
         Err(fault) => {
             fault.tell(err);
-            fault.status()
+            Ended {
+                status: fault.status(),
+                beside: fault.beside(),
+            }
         }
     }
 }

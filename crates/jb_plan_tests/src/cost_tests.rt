@@ -59,6 +59,7 @@ fn costs_are_those_worked_by_hand(rt: HostRuntime) -> Result<(), Fail> {
         let group = [spread(alloc, from, to, freed)?];
         assert!(rt; is_within_size(&group));
         assert_eq!(rt; group_cost(alloc, &group, geometry)?, cost);
+        assert_eq!(rt; by_footprint(alloc, &group, geometry)?, cost);
     }
     let queue = [
         handle(alloc, &[1, 2, 3])?,

@@ -1,25 +1,27 @@
 -- How a run ends whose words clap refuses.
-use Rattle.std.specs.Prelude.{◌≡◌, ◌≢◌, ◌⊎◌, ℕ, [], Option, None, Err}
+use Rattle.std.specs.Prelude.{◌≡◌, ◌≢◌, ◌⊎◌, [], Option, None, Err}
 use Rattle.jb_io.specs.Puts.{PutsPart}
 use Rattle.jb_words.specs.Faults.{HasKind, Kinds, kind_of}
 use Rattle.jb_words.specs.Wanted.{Wanted}
 use Rattle.jb_words.specs.declared.Error.{Error}
 use Rattle.jb_words.specs.declared.ErrorKind.{ErrorKind}
 use Rattle.jb_words.specs.declared.ErrorKind.TheVariants.{DisplayHelp, DisplayVersion, OutOfMemory}
+use Rattle.jb_plain.specs.Ends.{with_status}
 use Rattle.jb_plain.specs.Runs.{Closes}
 use Rattle.jb_plain.specs.Said.{Outputs}
 use Rattle.jb_plain.specs.Faults.{line_of}
+use Rattle.jb_plain.specs.declared.ended.Ended.{Ended}
 use Rattle.jb_plain.specs.declared.fault.CommandFault.TheVariants.{Memory, WriteFault}
 
 -- how a run ends whose words clap refuses for this reason: help and the version are for standard output, and all else of
 -- clap's texts for standard error
-pub record EndsRefused (kind : ErrorKind) (old new : Outputs) (status : ℕ) : Type 0 where
-  pub memory : kind ≡ OutOfMemory → Closes (Err Memory) old new status
+pub record EndsRefused (kind : ErrorKind) (old new : Outputs) (ended : Ended) : Type 0 where
+  pub memory : kind ≡ OutOfMemory → Closes (Err Memory) old new ended
   pub shown : (kind ≡ DisplayHelp) ⊎ (kind ≡ DisplayVersion)
-      → ((status ≡ 0) × (new.err ≡ old.err)) ⊎ ((status ≡ 1) × PutsPart old.err new.err (line_of WriteFault))
-  pub mistake : kind ≢ OutOfMemory → kind ≢ DisplayHelp → kind ≢ DisplayVersion → (status ≡ 2) × (new.out ≡ old.out)
+      → ((ended ≡ with_status 0) × (new.err ≡ old.err)) ⊎ ((ended ≡ with_status 1) × PutsPart old.err new.err (line_of WriteFault))
+  pub mistake : kind ≢ OutOfMemory → kind ≢ DisplayHelp → kind ≢ DisplayVersion → (ended ≡ with_status 2) × (new.out ≡ old.out)
 
 -- the words were refused by one of the kinds of their first fault, or where memory ran out, or as they ask for no command
-abbrev pub RefusesWords : Kinds → Option Wanted → Outputs → Outputs → ℕ → Type 0
-RefusesWords kinds wanted old new status =
-    (error : Error) × (HasKind kinds error ⊎ ((kinds ≡ []) × (wanted ≡ None))) × EndsRefused (kind_of error) old new status
+abbrev pub RefusesWords : Kinds → Option Wanted → Outputs → Outputs → Ended → Type 0
+RefusesWords kinds wanted old new ended =
+    (error : Error) × (HasKind kinds error ⊎ ((kinds ≡ []) × (wanted ≡ None))) × EndsRefused (kind_of error) old new ended

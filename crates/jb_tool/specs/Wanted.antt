@@ -4,6 +4,7 @@ use Rattle.jb_words.specs.Wanted.{Wanted}
 use Rattle.jb_words.specs.Wanted.Wanted.{WantsLoad, WantsPlain}
 use Rattle.jb_plain.specs.Runs.{Runs, reads_input}
 use Rattle.jb_plain.specs.Said.{Outputs}
+use Rattle.jb_plain.specs.declared.ended.Ended.{Ended}
 use Rattle.jb_tool.specs.Load.{RunsLoad}
 
 -- whether the command that is wanted reads standard input
@@ -12,6 +13,6 @@ wants_input (WantsPlain asked) = reads_input asked
 wants_input (WantsLoad load) = false
 
 -- the whole run of the command that is wanted
-abbrev pub RunsWanted : Wanted → Option (List ℕ) → Outputs → Outputs → ℕ → Type 0
-RunsWanted (WantsPlain asked) input old new status = Runs asked input old new status
-RunsWanted (WantsLoad load) input old new status = RunsLoad load old new status
+abbrev pub RunsWanted : Wanted → Option (List ℕ) → Outputs → Outputs → Ended → Type 0
+RunsWanted (WantsPlain asked) input old new ended = Runs asked input old new ended
+RunsWanted (WantsLoad load) input old new ended = RunsLoad load old new ended

@@ -3,6 +3,7 @@ ghost use Rattle.jb_words.specs.Faults.{faults_in, kind_of};
 ghost use Rattle.jb_words.specs.Named.Asked.{AsksCost};
 ghost use Rattle.jb_words.specs.Wanted.{wanted_in};
 ghost use Rattle.jb_io.specs.Puts.{PutsPart};
+ghost use Rattle.jb_plain.specs.Ends.{with_status};
 ghost use Rattle.jb_plain.specs.Runs.{Closes, Runs};
 ghost use Rattle.jb_plain.specs.Faults.{line_of};
 ghost use Rattle.jb_plain.specs.declared.fault.CommandFault.TheVariants.{Memory as CommandMemory, WriteFault};
@@ -10,7 +11,7 @@ ghost use Rattle.jb_tool.specs.Refused.{RefusesWords};
 ghost use Rattle.jb_tool.specs.Wanted.{RunsWanted, wants_input};
 
 use crate::load::run_load;
-use jb_plain::{CommandFault, run_plain};
+use jb_plain::{CommandFault, Ended, run_plain};
 use jb_words::{Error, ErrorKind, Plain, Words, parse};
 use std::convert::AsStr;
 use std::fs::File;
@@ -20,7 +21,7 @@ use std::sync::Wait;
 use std::thread::Threads;
 use std::time::Clock;
 
-/// Runs `jb` with these words, the program's name left out, and gives its exit status. With no words it acts as
+/// Runs `jb` with these words, the program's name left out, and gives its end. With no words it acts as
 /// `jb cost -`. Words that are no command are answered by clap's text: status 2 and `err`, or status 0 and `out` for
 /// help and the version. `input` is read by a command whose text it is, and else left as it is.
 pub fn run<
@@ -29,7 +30,7 @@ pub fn run<
     I: Read,
     O: Write,
     E: Write,
->(rt: &R, words: &[S], input: &mut I, out: &mut O, err: &mut E) -> u8
+>(rt: &R, words: &[S], input: &mut I, out: &mut O, err: &mut E) -> Ended
     ensures bare { words.now ≡ [] → Runs (AsksCost (codes "-")) (I.remaining input.old)
         (record { out = O.contents out.old; err = E.contents err.old })
         (record { out = O.contents out.new; err = E.contents err.new }) result }
@@ -54,27 +55,27 @@ pub fn run<
     }
 }
 
-/// Writes what clap says of the words, and gives the exit status.
-fn tell_refusal<O: Write, E: Write>(error: &Error, out: &mut O, err: &mut E) -> u8
+/// Writes what clap says of the words, and gives the end of the program.
+fn tell_refusal<O: Write, E: Write>(error: &Error, out: &mut O, err: &mut E) -> Ended
     ensures memory { kind_of error.now ≡ ErrorKind.OutOfMemory → Closes (Err CommandMemory)
         (record { out = O.contents out.old; err = E.contents err.old })
         (record { out = O.contents out.new; err = E.contents err.new }) result }
     ensures shown { (kind_of error.now ≡ ErrorKind.DisplayHelp) ⊎ (kind_of error.now ≡ ErrorKind.DisplayVersion)
-        → ((result ≡ 0) × (E.contents err.new ≡ E.contents err.old)) ⊎ ((result ≡ 1) × PutsPart (E.contents err.old) (E.contents err.new) (line_of WriteFault)) }
+        → ((result ≡ with_status 0) × (E.contents err.new ≡ E.contents err.old)) ⊎ ((result ≡ with_status 1) × PutsPart (E.contents err.old) (E.contents err.new) (line_of WriteFault)) }
     ensures mistake { kind_of error.now ≢ ErrorKind.OutOfMemory → kind_of error.now ≢ ErrorKind.DisplayHelp
-        → kind_of error.now ≢ ErrorKind.DisplayVersion → (result ≡ 2) × (O.contents out.new ≡ O.contents out.old) }
+        → kind_of error.now ≢ ErrorKind.DisplayVersion → (result ≡ with_status 2) × (O.contents out.new ≡ O.contents out.old) }
 {
     if error.kind() == ErrorKind::OutOfMemory {
         CommandFault::Memory.tell(err);
-        return CommandFault::Memory.status();
+        return Ended::with_status(CommandFault::Memory.status());
     }
     if error.use_stderr() {
         let _ignored = write!(err, "{error}");
-        return 2;
+        return Ended::with_status(2);
     }
     if write!(out, "{error}").is_err() || out.flush().is_err() {
         CommandFault::WriteFault.tell(err);
-        return CommandFault::WriteFault.status();
+        return Ended::with_status(CommandFault::WriteFault.status());
     }
-    0
+    Ended::with_status(0)
 }

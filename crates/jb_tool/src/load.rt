@@ -1,14 +1,15 @@
 //! `jb load`: the handles of a queue text, run by threads and committed to an image.
 ghost use Rattle.std.specs.Prelude.{◌≡◌, ◌≤◌, ◌↔◌, IsSome, IfSome};
 ghost use Rattle.jb_words.specs.Wanted.{load_said};
-ghost use Rattle.jb_tool.specs.Load.{EndsOfLoad, HasThreads, IsAskedBy, LoadsOn, RunsLoad, load_fault};
+ghost use Rattle.jb_tool.specs.Load.{EndsOfLoad, HasThreads, IsAskedBy, LoadsOn, RunsLoad, beside_in, load_fault};
 
+use jb_advice::Beside;
 use jb_answers::fault_answer;
 use jb_block::Stamp;
 use jb_deck::OpenFault;
 use jb_disk::{FileDisk, FixedClock};
-use jb_load::{LoadFault, LoadOptions, load_on, tell_loaded};
-use jb_plain::{CommandFault, close, open_disk, read_file, tell};
+use jb_load::{HandleFault, LoadFault, LoadOptions, Loaded, Refused, load_on, tell_loaded};
+use jb_plain::{CommandFault, Ended, close, open_counted, read_file, tell};
 use jb_queue::{QueueText, read_queue};
 use jb_words::LoadWords;
 use std::fs::File;
@@ -26,12 +27,12 @@ const PARTS: u64 = (1 << 61) + 1;
 /// The most threads that may run the handles.
 const MOST_THREADS: u64 = 64;
 
-/// Runs `jb load` and gives the program's exit status; a load that ends without an answer has its line on `err`.
+/// Runs `jb load` and gives the program's end; a load that ends without an answer has its line on `err`.
 pub(crate) fn run_load<
     R: Files<File = File> + AllocGlobal + Threads + Wait + Clock + Sync,
     O: Write,
     E: Write,
->(rt: &R, load: LoadWords<'_>, out: &mut O, err: &mut E) -> u8
+>(rt: &R, load: LoadWords<'_>, out: &mut O, err: &mut E) -> Ended
     ensures runs { RunsLoad (load_said load.entry) (record { out = O.contents out.old; err = E.contents err.old })
         (record { out = O.contents out.new; err = E.contents err.new }) result }
 {
@@ -42,48 +43,50 @@ pub(crate) fn run_load<
 /// Loads the queue text of one file into the image that another one is, and tells what came of it.
 ///
 /// # Errors
-/// `CommandFault::BadOption` where `--threads` is not from 1 to 64, before any file is looked at; those of `open_disk` and of
-/// `read_file`; and those of `load_queue`. Nothing was written to the outputs then, but for `CommandFault::WriteFault`.
+/// `CommandFault::BadOption` where `--threads` is not from 1 to 64, before any file is looked at; those of `open_counted` and
+/// of `read_file`; and those of `load_queue`. Nothing was written to the outputs then, but for `CommandFault::WriteFault`.
 fn load_files<
     'a,
     R: Files<File = File> + AllocGlobal + Threads + Wait + Clock + Sync,
     O: Write,
     E: Write,
->(rt: &R, load: LoadWords<'a>, out: &mut O, err: &mut E) -> Result<u8, CommandFault<'a>>
+>(rt: &R, load: LoadWords<'a>, out: &mut O, err: &mut E) -> Result<Ended, CommandFault<'a>>
     ensures ends { EndsOfLoad (load_said load.entry) (record { out = O.contents out.old; err = E.contents err.old })
         (record { out = O.contents out.new; err = E.contents err.new }) result }
 {
     let Some(options) = load_options(load) else {
-        return Err(CommandFault::BadOption);
+        return Err(CommandFault::BadOption("--threads"));
     };
-    let disk = open_disk(rt, load.image)?;
+    let (disk, homes) = open_counted(rt, load.image)?;
     let text = read_file(rt, load.file)?;
     match read_queue(rt.alloc(), text.as_slice()) {
-        Ok(queue) => load_queue(rt, disk, load.stamp, &queue, options, out, err),
+        Ok(queue) => load_queue(rt, disk, homes, load.stamp, &queue, options, out, err),
         Err(fault) => {
             // no line is written while an image is open
             drop(disk);
             let answer = fault_answer(rt.alloc(), fault)?;
-            tell(&answer, out, err)
+            let status = tell(&answer, out, err)?;
+            Ok(Ended::with_status(status))
         }
     }
 }
 
-/// Loads a queue into an image with this stamp on each commit, and tells what came of it.
+/// Loads a queue into an image of so many home blocks with this stamp on each commit, and tells what came of it.
 ///
 /// # Errors
 /// Those of `load_on`, and `CommandFault::WriteFault` where standard output took only the beginning of its line.
 fn load_queue<'a, R: AllocGlobal + Threads + Wait + Clock + Sync, O: Write, E: Write>(
     rt: &R,
     disk: FileDisk,
+    homes: u64,
     stamp: u64,
     queue: &QueueText,
     options: LoadOptions,
     out: &mut O,
     err: &mut E,
-) -> Result<u8, CommandFault<'a>>
+) -> Result<Ended, CommandFault<'a>>
     requires threads { (1 ≤ options.threads) × (options.threads ≤ 64) }
-    ensures loads { LoadsOn options disk queue.now (record { out = O.contents out.old; err = E.contents err.old })
+    ensures loads { LoadsOn options homes disk queue.now (record { out = O.contents out.old; err = E.contents err.old })
         (record { out = O.contents out.new; err = E.contents err.new }) result }
 {
     let clock = FixedClock {
@@ -106,9 +109,29 @@ fn load_queue<'a, R: AllocGlobal + Threads + Wait + Clock + Sync, O: Write, E: W
     match loaded {
         Ok((loaded, disk)) => {
             drop(disk);
-            Ok(tell_loaded(&loaded, out, err)?)
+            let status = tell_loaded(&loaded, out, err)?;
+            Ok(Ended {
+                status,
+                beside: beside_of(&loaded, homes),
+            })
         }
         Err(fault) => Err(fault_of(fault)),
+    }
+}
+
+/// What a second line says of a load into an image of so many home blocks beside the words of its first line's row: their number,
+/// where a handle was refused for want of one.
+fn beside_of(loaded: &Loaded, homes: u64) -> Beside
+    ensures { result ≡ beside_in homes loaded.now.refused }
+{
+    match loaded.refused {
+        Some(
+            Refused {
+                fault: HandleFault::OutOfRange(_),
+                ..
+            },
+        ) => Beside::Homes(homes),
+        _ => Beside::Nothing,
     }
 }
 

@@ -2,6 +2,8 @@
 #![tactic(auto)]
 
 #[cfg(test)]
+mod besides;
+#[cfg(test)]
 mod certificates;
 #[cfg(test)]
 mod changes;

@@ -80,5 +80,5 @@ pub fn runs<R: Host>(
 pub fn ran<R: Host>(rt: &R, words: &[&str], input: &[u8]) -> (u8, Vec<u8>, Vec<u8>) {
     let (mut rest, mut told, mut refused) = (input, Vec::new(rt.alloc()), Vec::new(rt.alloc()));
     let ended = run(rt, words, &mut rest, &mut told, &mut refused);
-    (ended, told, refused)
+    (ended.status, told, refused)
 }

@@ -109,7 +109,7 @@ fn an_output_that_fails_is_reported(rt: HostRuntime) {
         for (left, stuck) in TORN {
             let (mut rest, mut err) = (QUEUE, Vec::new(rt.alloc()));
             let mut out = Torn { left, stuck };
-            assert!(rt; run(&rt, words, &mut rest, &mut out, &mut err) == 1);
+            assert!(rt; run(&rt, words, &mut rest, &mut out, &mut err).status == 1);
             assert!(rt; err.as_slice() == "jb: WriteFault\n".as_bytes());
         }
     }
@@ -125,7 +125,7 @@ fn a_failing_standard_error_changes_no_status(rt: HostRuntime) {
         for (left, stuck) in TORN {
             let (mut rest, mut told) = (input, Vec::new(rt.alloc()));
             let mut err = Torn { left, stuck };
-            assert!(rt; run(&rt, words, &mut rest, &mut told, &mut err) == status);
+            assert!(rt; run(&rt, words, &mut rest, &mut told, &mut err).status == status);
             assert!(rt; told.as_slice() == out.as_bytes());
         }
     }
@@ -140,9 +140,9 @@ fn an_input_that_fails_is_reported_and_an_output_that_is_not_written_is_not_flus
         stuck: true,
     };
     let mut err = Vec::new(rt.alloc());
-    assert!(rt; run(&rt, &["cost", "-"], &mut Closed, &mut out, &mut err) == 2);
+    assert!(rt; run(&rt, &["cost", "-"], &mut Closed, &mut out, &mut err).status == 2);
     assert!(rt; err.as_slice() == "jb: cannot read -\n".as_bytes());
     let (mut rest, mut err) = (b"".as_slice(), Vec::new(rt.alloc()));
-    assert!(rt; run(&rt, &["cost", "-"], &mut rest, &mut out, &mut err) == 2);
+    assert!(rt; run(&rt, &["cost", "-"], &mut rest, &mut out, &mut err).status == 2);
     assert!(rt; err.as_slice() == "jb: queue line 1: BlockSizeLine\n".as_bytes());
 }

@@ -145,7 +145,7 @@ fn no_more_than_one_byte_past_the_limit_is_read(rt: HostRuntime) {
     ] {
         let (mut out, mut told) = (Vec::new(rt.alloc()), Vec::new(rt.alloc()));
         let mut input = io::repeat(b'x').take(TEXT_LIMIT as u64 + past);
-        assert!(rt; run(&rt, COST, &mut input, &mut out, &mut told) == 2);
+        assert!(rt; run(&rt, COST, &mut input, &mut out, &mut told).status == 2);
         assert!(rt; out.as_slice().is_empty() && told.as_slice() == err.as_bytes());
         assert!(rt; input.limit() == past.saturating_sub(1));
     }

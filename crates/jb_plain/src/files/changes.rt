@@ -2,7 +2,7 @@
 ghost use Rattle.jb_plain.specs.Files.{EndsOfRecover, EndsOfRenumber, EndsOfWiden};
 
 use crate::fault::CommandFault;
-use crate::files::opening::open_disk;
+use crate::files::opening::{open_counted, open_disk};
 use crate::streams::{tell_recovery, tell_renumbering, tell_widening};
 use jb_recover::{recover, renumber, widen};
 use std::fs::File;
@@ -20,10 +20,10 @@ pub(crate) fn recover_file<'a, R: Files<File = File> + AllocGlobal, O: Write>(
 ) -> Result<u8, CommandFault<'a>>
     ensures ends { EndsOfRecover image.entry.now (O.contents out.old) (O.contents out.new) result }
 {
-    let mut disk = open_disk(rt, image)?;
+    let (mut disk, homes) = open_counted(rt, image)?;
     let answer = recover(rt.alloc(), &mut disk);
     drop(disk);
-    tell_recovery(answer, out)
+    tell_recovery(answer, Some(homes), out)
 }
 
 /// Gives the clean journal at the front of the file of this name its first number again, and tells what came of it.

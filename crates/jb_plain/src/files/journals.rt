@@ -43,6 +43,6 @@ fn dump_file<'a, R: Files + AllocGlobal, O: Write>(
     match File::open(rt, file) {
         Ok(mut journal) => dump_from(rt.alloc(), &mut journal, out),
         Err(error) if error.kind() == ErrorKind::OutOfMemory => Err(CommandFault::Memory),
-        Err(_) => Err(CommandFault::CannotRead(file)),
+        Err(error) => Err(CommandFault::CannotRead(file, error.raw_os_error())),
     }
 }

@@ -33,8 +33,9 @@ pub(crate) fn format_file<'a, R: Files<File = File> + AllocGlobal, O: Write>(
 ) -> Result<u8, CommandFault<'a>>
     ensures ends { EndsOfFormat image.entry.now (options_said options.entry) (O.contents out.old) (O.contents out.new) result }
 {
-    let Some(new) = new_file(options) else {
-        return Err(CommandFault::BadOption);
+    let new = match new_file(options) {
+        Ok(new) => new,
+        Err(name) => return Err(CommandFault::BadOption(name)),
     };
     let Some(limit) = new_limit(new.size, new.journal, new.max, new.uuid, new.width) else {
         return Err(CommandFault::Geometry);
@@ -43,7 +44,7 @@ pub(crate) fn format_file<'a, R: Files<File = File> + AllocGlobal, O: Write>(
     let made = file.metadata();
     let Ok(mut disk) = FileDisk::of(file, new.size) else {
         remove_made(rt, image, &made);
-        return Err(CommandFault::CannotMake(image));
+        return Err(CommandFault::CannotMake(image, None));
     };
     let answer = format(&mut disk, new.journal, new.max, new.uuid, new.width);
     if answer.is_err() {
@@ -64,13 +65,29 @@ fn make_file<'a, R: Files<File = File>>(
     let file = match File::create_new(rt, name) {
         Ok(file) => file,
         Err(error) if error.kind() == ErrorKind::OutOfMemory => return Err(CommandFault::Memory),
-        Err(_) => return Err(CommandFault::CannotMake(name)),
+        Err(error) => return Err(CommandFault::CannotMake(name, error.raw_os_error())),
     };
-    if lock(&file) && file.set_len(len).is_ok() {
-        return Ok(file);
+    match lengthen(&file, len) {
+        Ok(()) => Ok(file),
+        Err(code) => {
+            remove_made(rt, name, &file.metadata());
+            Err(CommandFault::CannotMake(name, code))
+        }
     }
-    remove_made(rt, name, &file.metadata());
-    Err(CommandFault::CannotMake(name))
+}
+
+/// Locks a new file, and gives it this length.
+///
+/// # Errors
+/// The number of the system's error where it refuses the length; `None` where another program has locked the file.
+fn lengthen(file: &File, len: u64) -> Result<(), Option<i32>> {
+    if !lock(file) {
+        return Err(None);
+    }
+    match file.set_len(len) {
+        Ok(()) => Ok(()),
+        Err(error) => Err(error.raw_os_error()),
+    }
 }
 
 /// Removes the file of this name, where it is still the one that was made.

@@ -2,10 +2,10 @@
 ghost use Rattle.std.specs.Prelude.{◌≡◌, take, IfErr, IfOk, IfSome};
 ghost use Rattle.jb_block.specs.Size.{bytes_of};
 ghost use Rattle.jb_disk.specs.File.{size_of};
-ghost use Rattle.jb_plain.specs.Files.{IsUnread, SaysSize};
+ghost use Rattle.jb_plain.specs.Files.{IsOpened, IsUnread, SaysSize};
 
 use crate::fault::CommandFault;
-use jb_disk::FileDisk;
+use jb_disk::{Disk, FileDisk};
 use jb_io::{ReadFault, read_front};
 use jb_super::Super;
 use std::alloc::Global;
@@ -23,12 +23,27 @@ const FRONT: usize = 1024;
 /// # Errors
 /// Those of `open_image`; `CommandFault::CannotRead` where the file cannot be read; `CommandFault::Super` where its first bytes
 /// are no superblock; `CommandFault::Memory` where memory ran out.
-pub fn open_disk<'a, R: Files<File = File> + AllocGlobal>(
+pub(crate) fn open_disk<'a, R: Files<File = File> + AllocGlobal>(
     rt: &R,
     name: &'a str,
 ) -> Result<FileDisk, CommandFault<'a>>
     ensures unread { IfErr result (IsUnread name.entry.now) }
     ensures size { IfOk result (λ disk. SaysSize (bytes_of (size_of disk))) }
+{
+    let (disk, _) = open_counted(rt, name)?;
+    Ok(disk)
+}
+
+/// The same, with the number of its home blocks: those after the journal's, as many as its first bytes say.
+///
+/// # Errors
+/// Those of `open_disk`.
+pub fn open_counted<'a, R: Files<File = File> + AllocGlobal>(
+    rt: &R,
+    name: &'a str,
+) -> Result<(FileDisk, u64), CommandFault<'a>>
+    ensures unread { IfErr result (IsUnread name.entry.now) }
+    ensures opened { IfOk result (λ opened. IsOpened opened.0 opened.1) }
 {
     let mut file = open_image(rt, name)?;
     let front = front_of(rt.alloc(), &mut file, name)?;
@@ -37,8 +52,11 @@ pub fn open_disk<'a, R: Files<File = File> + AllocGlobal>(
         Err(fault) => return Err(CommandFault::Super(fault)),
     };
     match FileDisk::of(file, sb.block_size()) {
-        Ok(disk) => Ok(disk),
-        Err(_) => Err(CommandFault::CannotRead(name)),
+        Ok(disk) => {
+            let homes = disk.blocks().saturating_sub(u64::from(sb.maxlen()));
+            Ok((disk, homes))
+        }
+        Err(_) => Err(CommandFault::CannotRead(name, None)),
     }
 }
 
@@ -51,18 +69,14 @@ fn open_image<'a, R: Files<File = File>>(rt: &R, name: &'a str) -> Result<File, 
     ensures unread { IfErr result (IsUnread name.entry.now) }
 {
     // a file of another kind is not even opened: that may wait, or wake another program
-    if !may_be_image(&fs::metadata(rt, name)) {
-        return Err(CommandFault::CannotRead(name));
-    }
+    may_be_image(fs::metadata(rt, name), name)?;
     let file = match OpenOptions::new().read(true).write(true).open(rt, name) {
         Ok(file) => file,
         Err(error) if error.kind() == ErrorKind::OutOfMemory => return Err(CommandFault::Memory),
-        Err(_) => return Err(CommandFault::CannotRead(name)),
+        Err(error) => return Err(CommandFault::CannotRead(name, error.raw_os_error())),
     };
     // the name may be that of another file by now
-    if !may_be_image(&file.metadata()) {
-        return Err(CommandFault::CannotRead(name));
-    }
+    may_be_image(file.metadata(), name)?;
     if lock(&file) {
         Ok(file)
     } else {
@@ -70,11 +84,17 @@ fn open_image<'a, R: Files<File = File>>(rt: &R, name: &'a str) -> Result<File, 
     }
 }
 
-/// Whether a file is a regular file or a block device.
-fn may_be_image(metadata: &io::Result<Metadata>) -> bool {
+/// Nothing, where the file of this name is a regular file or a block device.
+///
+/// # Errors
+/// `CommandFault::CannotRead` where it is of another kind, or the system does not say of which.
+fn may_be_image<'a>(metadata: io::Result<Metadata>, name: &'a str) -> Result<(), CommandFault<'a>>
+    ensures unread { IfErr result (IsUnread name.entry.now) }
+{
     match metadata {
-        Ok(metadata) => metadata.is_file() || metadata.file_type().is_block_device(),
-        Err(_) => false,
+        Ok(metadata) if metadata.is_file() || metadata.file_type().is_block_device() => Ok(()),
+        Ok(_) => Err(CommandFault::CannotRead(name, None)),
+        Err(error) => Err(CommandFault::CannotRead(name, error.raw_os_error())),
     }
 }
 
@@ -96,6 +116,7 @@ fn front_of<'a, R: Read>(
     match read_front(alloc, image, FRONT) {
         Ok(front) => Ok(front),
         Err(ReadFault::Memory) => Err(CommandFault::Memory),
-        Err(_) => Err(CommandFault::CannotRead(name)),
+        Err(ReadFault::Reader(code)) => Err(CommandFault::CannotRead(name, code)),
+        Err(ReadFault::TooLong) => Err(CommandFault::CannotRead(name, None)),
     }
 }

@@ -59,6 +59,6 @@ pub(crate) fn read_file_within<'a, R: Files + AllocGlobal>(
     match File::open(rt, name) {
         Ok(mut file) => read_as(rt.alloc(), &mut file, name, limit),
         Err(error) if error.kind() == ErrorKind::OutOfMemory => Err(CommandFault::Memory),
-        Err(_) => Err(CommandFault::CannotRead(name)),
+        Err(error) => Err(CommandFault::CannotRead(name, error.raw_os_error())),
     }
 }

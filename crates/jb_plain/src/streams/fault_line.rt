@@ -18,17 +18,17 @@ impl<'a> CommandFault<'a> {
     {
         let (mut first, mut second) = (Buffer::new(), Buffer::new());
         match self {
-            CommandFault::CannotRead(name) => put_line(err, &["jb: cannot read ", name, "\n"]),
+            CommandFault::CannotRead(name, _) => put_line(err, &["jb: cannot read ", name, "\n"]),
             CommandFault::TooLong(name) => put_line(err, &["jb: too long ", name, "\n"]),
             CommandFault::InUse(name) => put_line(err, &["jb: in use ", name, "\n"]),
-            CommandFault::CannotMake(name) => put_line(err, &["jb: cannot make ", name, "\n"]),
-            CommandFault::BadOption => put_line(err, &["jb: bad option\n"]),
+            CommandFault::CannotMake(name, _) => put_line(err, &["jb: cannot make ", name, "\n"]),
+            CommandFault::BadOption(_) => put_line(err, &["jb: bad option\n"]),
             CommandFault::ReadFault => put_line(err, &["jb: ReadFault\n"]),
             CommandFault::Super(fault) => put_super_line(err, fault),
             CommandFault::BadRevoke(place) => {
                 put_line(err, &["jb: BadRevoke ", first.format(place), "\n"]);
             }
-            CommandFault::HomeOutOfRange(home, number) => {
+            CommandFault::HomeOutOfRange(home, number, _) => {
                 let (home, number) = (first.format(home), second.format(number));
                 put_line(err, &["jb: HomeOutOfRange ", home, " ", number, "\n"]);
             }

@@ -30,7 +30,7 @@ pub(crate) fn read_as<'a, R: Read>(
 {
     match read_within(alloc, reader, limit) {
         Ok(text) => Ok(text),
-        Err(ReadFault::Reader) => Err(CommandFault::CannotRead(name)),
+        Err(ReadFault::Reader(code)) => Err(CommandFault::CannotRead(name, code)),
         Err(ReadFault::TooLong) => Err(CommandFault::TooLong(name)),
         Err(ReadFault::Memory) => Err(CommandFault::Memory),
     }

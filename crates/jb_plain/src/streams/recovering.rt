@@ -1,3 +1,4 @@
+ghost use Rattle.std.specs.Prelude.{None};
 ghost use Rattle.jb_plain.specs.Recover.{RecoversOn, TellsRecovery, recovered_line};
 ghost use Rattle.jb_plain.specs.Said.{TellsLine};
 
@@ -23,27 +24,29 @@ pub fn recover_on<'a, D: Disk, O: Write>(
     disk: &mut D,
     out: &mut O,
 ) -> Result<u8, CommandFault<'a>>
-    ensures recovers { RecoversOn D.size D.count D.faults D.honest D.newest D.may_leave D.moment D.left_since disk.old disk.new
+    ensures recovers { RecoversOn D.size D.count D.faults D.honest D.newest D.may_leave D.moment D.left_since None disk.old disk.new
         (O.contents out.old) (O.contents out.new) result }
 {
     let answer = recover(alloc, disk);
-    tell_recovery(answer, out)
+    tell_recovery(answer, None, out)
 }
 
-/// Writes the line of a recovery that is done, and gives status 0.
+/// Writes the line of a recovery that is done, and gives status 0. A fault is told with the number of home blocks, where that is
+/// known.
 ///
 /// # Errors
 /// The fault of a recovery that failed, and then nothing was written; `CommandFault::WriteFault` where `out` took only the
 /// beginning of the line.
 pub(crate) fn tell_recovery<'a, O: Write>(
     answer: Result<Recovered, RecoverFault>,
+    homes: Option<u64>,
     out: &mut O,
 ) -> Result<u8, CommandFault<'a>>
-    ensures { TellsRecovery answer (O.contents out.old) (O.contents out.new) result }
+    ensures { TellsRecovery homes answer (O.contents out.old) (O.contents out.new) result }
 {
     match answer {
         Ok(done) => tell_recovered(done, out),
-        Err(fault) => Err(CommandFault::from(fault)),
+        Err(fault) => Err(CommandFault::of_recovery(fault, homes)),
     }
 }
 

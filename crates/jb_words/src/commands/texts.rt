@@ -2,9 +2,9 @@
 
 use jb_advice::diagnostics;
 
-/// What stands at the end of the long help of `jb`, with the rows of the table of what can go wrong.
+/// What stands at the end of the long help of `jb`, with the table of what can go wrong.
 macro_rules! jb_text {
-    ($($begins:literal, $rest:literal, $advice:literal;)*) => {
+    (lines { $($begins:literal, $rest:literal, $advice:literal $(: $beside:literal)?;)* } options { $($option:literal, $values:literal;)* }) => {
         concat!(
             "Files:
 A queue text, the FILE of cost, plan, check and load, has a line for each handle after its first two:
@@ -27,8 +27,10 @@ write past the limit of the file size (ulimit -f) ends jb by the signal SIGXFSZ:
 file then, and an image is to be recovered, as after a crash.
 
 Diagnostics: what went wrong is one line on standard error. Where that is a terminal, what to do follows
-on a second line. # is a number.",
-            $("\n  jb: ", $begins, $rest, "\n          ", $advice),*
+on a second line. # is a number, and REASON the system's own text, where it has one; the options that may
+be bad stand last.",
+            $("\n  jb: ", $begins, $rest, "\n          ", $advice $(, ": ", $beside)?),*,
+            $("\n  ", $option, "\n          is ", $values),*
         )
     };
 }

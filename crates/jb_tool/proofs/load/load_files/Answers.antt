@@ -5,7 +5,7 @@ use Rattle.jb_tool.proofs.load.load_files.Goals as goal
 
 pub returns-in_err-text : goal.returns-in_err-text
 returns-in_err-text g c = record {
-  ends = inr (c.in-Some.ensures.good.0 refl, record { disk = c.in_ok-disk.disk; size = c.in_ok-disk.ensures.size; ends = inl (c.in_err-text.field-0.0, search rules, c.in_err-text.ensures.none, refl) });
+  ends = inr (c.in-Some.ensures.good.0 refl, record { disk = c.in_ok-disk.disk; homes = c.in_ok-disk.homes; opened = c.in_ok-disk.ensures.opened; ends = inl (c.in_err-text.field-0.0, search rules, c.in_err-text.ensures.none, refl) });
 }
 
 pub returns-in-Ok : goal.returns-in-Ok
@@ -17,7 +17,8 @@ returns-in-Ok g c =
         c.in-Some.ensures.good.0 refl,
         record {
           disk = c.in_ok-disk.disk;
-          size = c.in_ok-disk.ensures.size;
+          homes = c.in_ok-disk.homes;
+          opened = c.in_ok-disk.ensures.opened;
           ends = inr (
             text,
             c.in_ok-text.ensures.text,
@@ -38,8 +39,9 @@ returns g c =
         c.in-Some.ensures.good.0 refl,
         record {
           disk = c.in_ok-disk.disk;
-          size = c.in_ok-disk.ensures.size;
-          ends = inr (text, c.in_ok-text.ensures.text, rw is (words, c.in_ok-answer-in-Err.ensures.said, c.tell.ensures));
+          homes = c.in_ok-disk.homes;
+          opened = c.in_ok-disk.ensures.opened;
+          ends = inr (text, c.in_ok-text.ensures.text, rw is (words, c.tell.result, c.in_ok-answer-in-Err.ensures.said, search rules, c.tell.ensures));
         },
       );
     }

@@ -1,0 +1,37 @@
+-- What contracts say of a worker's client.
+use Rattle.std.specs.Prelude.{◌≡◌, Option, Some, None}
+use Rattle.jb_board.specs.Front.{front}
+use Rattle.jb_board.specs.Seats.{BoardId}
+use Rattle.jb_board.specs.declared.front.Front.{Front}
+use Rattle.jb_desk.specs.Desks.{desk_id, shape_in}
+use Rattle.jb_desk.specs.Origin.{Begun}
+use Rattle.jb_desk.specs.Seats.{desk_of, view_of}
+use Rattle.jb_desk.specs.declared.seat.Seat.{Seat}
+use Rattle.jb_handle.specs.Word.{WordMap}
+use Rattle.jb_handle.specs.declared.shape.Shape.{Shape}
+use Rattle.jb_desk.specs.declared.origin.Origin.{Ghosts as OriginGhosts}
+use Rattle.jb_journal.specs.declared.client.Client.{Client}
+
+-- there is a seat, of that board
+abbrev pub SeatedAt : {H N : Type 0} → BoardId → Option (Seat H N) → Type 0
+SeatedAt board None = ⊥
+SeatedAt board (Some seat) = desk_of seat ≡ board
+
+-- the counts that a seat is sure of
+abbrev pub seen_from : {H N : Type 0} → Option (Seat H N) → Front
+seen_from None = front 0 0 0
+seen_from (Some seat) = view_of seat
+
+module _ {D C R H N : Type 0} {O : OriginGhosts H} where
+  -- a client with a seat at its desk, where handles may stop with any words
+  pub record IsClient (b : Begun) (client : Client D C R H N O) : Type 0 where
+    pub seated : SeatedAt (desk_id client.desk.now) client.seat
+    pub any : (words : WordMap) → b.stops words
+
+  -- the counts that the client is sure of
+  abbrev pub seen_by : Client D C R H N O → Front
+  seen_by client = seen_from client.seat
+
+  -- what its handles have to fit
+  abbrev pub shape_of : Client D C R H N O → Shape
+  shape_of client = shape_in client.desk.now

@@ -1,0 +1,4 @@
+pub mod Changing
+pub mod Client
+pub mod Running
+pub mod Starting

@@ -1,0 +1,209 @@
+//! What a worker has of the journal.
+ghost use Rattle.std.specs.Prelude.{◌≡◌, ◌<◌, None, Some, IfOk, length};
+ghost use Rattle.std.specs.FinMap as map;
+ghost use Rattle.std.specs.Fn.{FnOnceReturnsAtMut};
+ghost use Rattle.jb_handle.specs.Held.{held};
+ghost use Rattle.jb_desk.specs.Desks.{desk_id, shape_in};
+ghost use Rattle.jb_desk.specs.Seats.{desk_of, view_of};
+ghost use Rattle.jb_handle.specs.Handle.{holder};
+ghost use Rattle.jb_handle.specs.Word.{WordMap};
+ghost use Rattle.jb_journal.specs.Changing.{AnswersChange, Stops};
+
+use crate::fault::HandleFault;
+use jb_deck::ReadHomeFault;
+use jb_desk::{Desk, Origin, Seat, StopFault, WaitFault};
+use jb_disk::{Clock, Disk};
+use jb_handle::Handle;
+use std::sync::Wait;
+use std::sync::ledger::Ledger;
+use std::{mem, time};
+
+/// A worker's client of a journal: it changes home blocks, waits until changes are committed, and reads what is
+/// committed.
+pub struct Client<'a, D: Disk, C: Clock, R, H: Origin, N: Ledger> {
+    rt: &'a R,
+    desk: &'a Desk<D, C, H, N>,
+    seat: Option<Seat<H, N>>,
+}
+
+impl<'a, D: Disk, C: Clock, R: Wait + time::Clock, H: Origin, N: Ledger> Client<'a, D, C, R, H, N> {
+    ghost use Rattle.jb_desk.specs.Journal.{ReadsHome};
+    ghost use Rattle.jb_journal.specs.Client.{IsClient, seen_by, shape_of};
+
+    /// A client at a desk, where handles may stop with any words.
+    pub(crate) fn new(
+        rt: &'a R,
+        desk: &'a Desk<D, C, H, N>,
+        seat: Seat<H, N>,
+    ) -> Client<'a, D, C, R, H, N>
+        requires desk { desk_of seat ≡ desk_id desk.now }
+        requires any { (words : WordMap) → H.begun.stops words }
+        ensures client { IsClient H.begun result }
+    {
+        Client {
+            rt,
+            desk,
+            seat: Some(seat),
+        }
+    }
+
+    /// The runtime of the threads, for locks of the worker's own.
+    pub fn runtime(&self) -> &'a R {
+        self.rt
+    }
+
+    /// The seat, once the worker has ended.
+    pub(crate) fn into_seat(self) -> Option<Seat<H, N>> {
+        let Client {
+            rt: _rt,
+            desk: _desk,
+            seat,
+        } = self;
+        seat
+    }
+
+    /// Changes home blocks by one handle of so many credits (`jbd2_journal_start`, `jbd2_journal_stop`): waits until the
+    /// log has room for it, calls `change` with it, and stops it where that is `Ok`. The changes of a handle that stopped
+    /// are all in one transaction. Gives what `change` gave, and the ticket of the handle, by which it is waited for.
+    ///
+    /// # Errors
+    ///
+    /// `Begin` where the handle is not begun, and `change` was not called then; `Refused` with what `change` gave;
+    /// `Aborted`, `NotOpen` or `Memory` where the handle does not stop. Nothing is changed by it.
+    pub fn change<T: Drop, E, F: FnOnce(&mut Handle<()>) -> Result<T, E>>(
+        &mut self,
+        credits: u32,
+        change: F,
+    ) -> Result<(T, u64), HandleFault<E>>
+        requires client { IsClient H.begun self.old }
+        requires callable { F.IsAlwaysCallable change }
+        ensures client { IsClient H.begun self.new }
+        ensures changed { AnswersChange F.FnOnce change (held credits (shape_of self.old) map.empty) result }
+        ensures stopped { IfOk result (λ given. given.1 < (seen_by self.new).stopped) }
+        ensures shape { shape_of self.new ≡ shape_of self.old }
+    {
+        let (rt, desk) = (self.rt, self.desk);
+        let Some(seat) = self.seat.take() else {
+            unreachable!()
+        };
+        let (seat, changed) = change_at(rt, desk, seat, credits, change);
+        self.sit(seat);
+        changed
+    }
+
+    /// Reads a home block as it is committed, whether it is in the log or in its place. What another handle has written and is
+    /// not committed yet is not in it. Waits while the disk is at work for another thread.
+    ///
+    /// # Errors
+    ///
+    /// In this order: `Aborted` where the journal has failed, `OutOfRange` where there is no such home block, `Length` where
+    /// `buf` has not the length of one block, and `DeviceFault` where the read fails; it can be tried again then.
+    pub fn read(&self, home: u64, buf: &mut [u8]) -> Result<(), ReadHomeFault>
+        ensures { ReadsHome D.size D.count D.faults D.honest D.newest D.may_leave D.moment D.left_since H.begun home (length buf.old) buf.new result }
+    {
+        self.desk.read(self.rt, home, buf)
+    }
+
+    /// The seat is put back.
+    fn sit(&mut self, seat: Seat<H, N>)
+        requires { self.old.seat ≡ None }
+        ensures seat { self.new.seat ≡ Some seat }
+        ensures desk { self.new.desk ≡ self.old.desk }
+    {
+        match mem::replace(&mut self.seat, Some(seat)) {
+            None => {}
+            Some(seat) => {
+                let _left = self.desk.leave(self.rt, seat);
+                unreachable!()
+            }
+        }
+    }
+
+    /// Waits until the handle with this ticket is committed, and gives the number of its transaction
+    /// (`jbd2_log_wait_commit`). It stands after a crash then.
+    ///
+    /// # Errors
+    ///
+    /// `Aborted` where the journal has failed and the handle is not committed; `Unknown` where no handle has the ticket.
+    pub fn wait(&mut self, ticket: u64) -> Result<u32, WaitFault>
+        requires client { IsClient H.begun self.old }
+        ensures client { IsClient H.begun self.new }
+        ensures settled { IfOk result (λ _. ticket < (seen_by self.new).settled) }
+        ensures shape { shape_of self.new ≡ shape_of self.old }
+    {
+        let (rt, desk) = (self.rt, self.desk);
+        match &mut self.seat {
+            Some(seat) => desk.wait(rt, seat, ticket),
+            None => unreachable!(),
+        }
+    }
+}
+
+/// Begins a handle at a desk, changes home blocks by it, and stops it.
+fn change_at<
+    D: Disk,
+    C: Clock,
+    R: Wait + time::Clock,
+    H: Origin,
+    N: Ledger,
+    T: Drop,
+    E,
+    F: FnOnce(&mut Handle<()>) -> Result<T, E>,
+>(
+    rt: &R,
+    desk: &Desk<D, C, H, N>,
+    seat: Seat<H, N>,
+    credits: u32,
+    change: F,
+) -> (Seat<H, N>, Result<(T, u64), HandleFault<E>>)
+    requires desk { desk_of seat ≡ desk_id desk.now }
+    requires any { (words : WordMap) → H.begun.stops words }
+    requires callable { F.IsAlwaysCallable change }
+    ensures desk { desk_of result.0 ≡ desk_id desk.now }
+    ensures changed { AnswersChange F.FnOnce change (held credits (shape_in desk.now) map.empty) result.1 }
+    ensures stopped { IfOk result.1 (λ given. given.1 < (view_of result.0).stopped) }
+{
+    let handle = match desk.begin_waiting(rt, seat, credits) {
+        Ok(handle) => handle,
+        Err((seat, fault)) => return (seat, Err(HandleFault::Begin(fault))),
+    };
+    let (seat, mut handle) = handle.with_seat(());
+    let answer = call(change, &mut handle);
+    let (_, handle) = handle.with_seat(seat);
+    match answer {
+        Ok(answer) => stop(rt, desk, handle, answer),
+        Err(fault) => (desk.abandon(rt, handle), Err(HandleFault::Refused(fault))),
+    }
+}
+
+/// Calls what changes a handle.
+fn call<T, E, F: FnOnce(&mut Handle<()>) -> Result<T, E>>(
+    change: F,
+    handle: &mut Handle<()>,
+) -> Result<T, E>
+    requires { F.IsAlwaysCallable change }
+    ensures { FnOnceReturnsAtMut F.FnOnce change handle.old result handle.new }
+{
+    change(handle)
+}
+
+/// Stops a handle, or drops it where that is refused.
+fn stop<D: Disk, C: Clock, R: Wait, H: Origin, N: Ledger, T: Drop, E>(
+    rt: &R,
+    desk: &Desk<D, C, H, N>,
+    handle: Handle<Seat<H, N>>,
+    answer: T,
+) -> (Seat<H, N>, Result<(T, u64), HandleFault<E>>)
+    requires desk { desk_of (holder handle) ≡ desk_id desk.now }
+    requires any { (words : WordMap) → H.begun.stops words }
+    ensures desk { desk_of result.0 ≡ desk_id desk.now }
+    ensures answer { Stops answer result.1 }
+    ensures stopped { IfOk result.1 (λ given. given.1 < (view_of result.0).stopped) }
+{
+    match desk.stop(rt, handle) {
+        Ok((seat, ticket)) => (seat, Ok((answer, ticket))),
+        Err(StopFault::Aborted(seat)) => (seat, Err(HandleFault::Aborted)),
+        Err(StopFault::NotOpen(handle)) => (desk.abandon(rt, handle), Err(HandleFault::NotOpen)),
+        Err(StopFault::Memory(handle)) => (desk.abandon(rt, handle), Err(HandleFault::Memory)),
+    }
+}

@@ -1,0 +1,86 @@
+//! What the workers leave is put together.
+ghost use Rattle.std.specs.Prelude.{◌≡◌};
+
+use crate::fault::RunFault;
+use crate::threads::Worked;
+use jb_block::Memory;
+use jb_desk::Left;
+use std::alloc::Global;
+use std::sync::ledger::Ledger;
+
+/// What all threads leave.
+#[derive(Drop)]
+pub(crate) struct Gathered<T, H: Ledger, N: Ledger> {
+    /// What their seats left.
+    pub lefts: Vec<Left<H, N>>,
+    /// What the workers answered, in the order of their places.
+    pub answers: Vec<T>,
+}
+
+impl<T: Drop, H: Ledger, N: Ledger> Gathered<T, H, N> {
+    ghost use Rattle.std.specs.Prelude.{◌≡◌, ◌++◌, ◌∷◌, [], map, Some, IfOk, OnOk, IfErr, ◌⊎◌};
+    ghost use Rattle.jb_journal.specs.Running.{answer_of};
+    ghost use Rattle.jb_journal.specs.declared.fault.RunFault.TheVariants.{Accounts, Memory as OutOfMemory};
+
+    /// Nothing. Takes no memory.
+    pub fn new(alloc: Global) -> Gathered<T, H, N>
+        ensures { result.answers.items ≡ [] }
+    {
+        Gathered {
+            lefts: Vec::new(alloc),
+            answers: Vec::new(alloc),
+        }
+    }
+
+    /// Adds what a seat left.
+    ///
+    /// # Errors
+    /// `Memory` where there is none for that.
+    pub fn add_left(&mut self, left: Left<H, N>) -> Result<(), Memory>
+        ensures answers { self.new.answers ≡ self.old.answers }
+    {
+        Ok(self.lefts.push(left)?)
+    }
+
+    /// Adds what a worker answered.
+    ///
+    /// # Errors
+    /// `Memory` where there is none for that.
+    fn add_answer(&mut self, answer: T) -> Result<(), Memory>
+        ensures { OnOk result (self.new.answers.items ≡ self.old.answers.items ++ answer ∷ []) }
+    {
+        Ok(self.answers.push(answer)?)
+    }
+
+    /// Adds what a worker leaves.
+    ///
+    /// # Errors
+    /// `Accounts` where it had no seat, `Memory` where there is none for that.
+    fn add(&mut self, worked: Worked<T, H, N>) -> Result<(), RunFault>
+        ensures answers { OnOk result (map Some self.new.answers.items ≡ map Some self.old.answers.items ++ worked.answer ∷ []) }
+        ensures faults { IfErr result (λ fault. (fault ≡ OutOfMemory) ⊎ (fault ≡ Accounts)) }
+    {
+        let Worked { left, answer } = worked;
+        let (Some(left), Some(answer)) = (left, answer) else {
+            return Err(RunFault::Accounts);
+        };
+        self.add_left(left)?;
+        self.add_answer(answer)?;
+        Ok(())
+    }
+
+    /// Adds what all workers leave.
+    ///
+    /// # Errors
+    /// `Accounts` where one had no seat, `Memory` where there is none for that.
+    pub fn add_all(&mut self, workers: Vec<Worked<T, H, N>>) -> Result<(), RunFault>
+        requires { self.old.answers.items ≡ [] }
+        ensures answers { OnOk result (map Some self.new.answers.items ≡ map answer_of workers.items) }
+        ensures faults { IfErr result (λ fault. (fault ≡ OutOfMemory) ⊎ (fault ≡ Accounts)) }
+    {
+        for worked in workers {
+            self.add(worked)?;
+        }
+        Ok(())
+    }
+}

@@ -1,0 +1,27 @@
+//! The front door: workers change the home blocks of a journal, one thread each, while what they stopped is committed and
+//! written home.
+#![tactic(auto)]
+
+mod client;
+mod committing;
+mod fault;
+mod gather;
+mod options;
+mod ran;
+mod running;
+mod threads;
+mod worker;
+
+pub use client::Client;
+pub use fault::{HandleFault, RunFault};
+pub use jb_block::{BlockSize, Memory, Stamp, Width};
+pub use jb_deck::{Entry, OpenFault, ReadHomeFault};
+pub use jb_desk::{BeginFault, Ended, Origin, WaitFault};
+pub use jb_disk::{Clock, Disk, Fault, FileDisk, FixedClock, MemoryDisk};
+pub use jb_front::{FormatFault, format};
+pub use jb_handle::{Handle, Payload, Shape, TouchFault, Word, Words};
+pub use jb_recover::{RecoverFault, Recovered, recover};
+pub use options::Options;
+pub use ran::Ran;
+pub use running::{run, run_on};
+pub use worker::Worker;

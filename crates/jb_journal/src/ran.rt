@@ -1,0 +1,21 @@
+use jb_deck::Entry;
+use jb_desk::Ended;
+
+/// What is left of a journal that was run.
+#[derive(Drop)]
+pub struct Ran<T, D> {
+    /// The journal's disk.
+    pub disk: D,
+    /// What each worker answered, in the order of their places.
+    pub answers: Vec<T>,
+    /// How many handles stopped.
+    pub handles: u64,
+    /// How many home blocks these had touched, added up.
+    pub changes: u64,
+    /// The transactions that were committed, in the order of their tickets.
+    pub trail: Vec<Entry>,
+    /// How the committer ended.
+    pub commit: Ended,
+    /// How the checkpointer ended; `None` where there was none.
+    pub checkpoint: Option<Ended>,
+}

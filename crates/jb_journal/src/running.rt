@@ -1,0 +1,172 @@
+//! A journal is run.
+ghost use Rattle.std.specs.Prelude.{◌≡◌, ℕ, ◌+◌, ◌^◌, ◌≤◌, ◌⊎◌, [], false, IfErr, IfOk};
+ghost use Rattle.jb_deck.specs.Done.{Follow};
+ghost use Rattle.jb_desk.specs.Desks.{shape_in};
+ghost use Rattle.jb_desk.specs.Since.{EndsSince, IsBegunOn, IsSince};
+ghost use Rattle.jb_handle.specs.Word.{WordMap};
+ghost use Rattle.jb_journal.specs.Running.{AreAnswers, EndsChecked};
+ghost use Rattle.jb_journal.specs.Starting.{started_on};
+ghost use Rattle.jb_journal.specs.declared.fault.RunFault.TheVariants.{Accounts, Memory as OutOfMemory};
+
+use crate::fault::RunFault;
+use crate::gather::Gathered;
+use crate::options::Options;
+use crate::ran::Ran;
+use crate::threads::{Threaded, run_all};
+use crate::worker::Worker;
+use jb_deck::{Deck, OpenFault};
+use jb_desk::{Closed, Desk, Origin};
+use jb_disk::{Clock, Disk};
+use std::alloc::Global;
+use std::marker::Brand;
+use std::sync::Wait;
+use std::sync::ledger::{Blank, Ledger};
+use std::thread::Threads;
+use std::time;
+
+/// How many parts the ledgers of a desk have.
+const PARTS: u64 = (1 << 61) + 1;
+
+/// Opens the journal on a disk, runs the workers, commits what they stopped, and closes the journal. The disk is given
+/// back with what the workers answered. Nothing is written home at the end: what is in the log is left to
+/// [`recover`](crate::recover), which is called before the journal is opened again.
+///
+/// # Errors
+/// - `Open` where the journal was not opened, and nothing ran.
+/// - `Memory` where there was none for the desk, a thread's answer or what the threads leave; handles may have been
+///   committed then.
+/// - `Accounts` where the desk's sums do not agree, which cannot happen.
+pub fn run<
+    T: Drop + Send,
+    W: Worker<T> + Sync,
+    D: Disk + Drop + Send,
+    C: Clock + Drop + Send,
+    R: AllocGlobal + Threads + Wait + time::Clock + Sync,
+>(rt: &R, disk: D, clock: C, options: Options, worker: &W) -> Result<Ran<T, D>, RunFault>
+    requires workers { (1 ≤ options.workers) × (options.workers ≤ 64) }
+    ensures answers { IfOk result (λ ran. AreAnswers (W.answers worker.now) options.workers ran.answers.items) }
+    ensures trail { IfOk result (λ ran. (past : ℕ) × Follow 0 0 past ran.trail.items × (past ≤ ran.handles)) }
+    ensures since { IfOk result (λ ran. EndsSince D.size D.count D.faults D.honest D.newest D.may_leave D.moment D.left_since (started_on D.size D.count D.faults D.honest D.newest D.moment D.left_since disk) ran.disk ran.trail.items) }
+    ensures checked { IfOk result (λ ran. EndsChecked options.checkpoint ran.checkpoint) }
+{
+    let (handles, changes) = (Blank::new(PARTS), Blank::new(PARTS));
+    run_on::<T, W, D, C, R, Brand, Brand>(
+        rt,
+        rt.alloc(),
+        disk,
+        clock,
+        options,
+        worker,
+        handles,
+        changes,
+    )
+}
+
+/// The same, with ledgers and a start that the caller picks (`H.begun`): what is promised of the disk is said of that
+/// start.
+///
+/// # Errors
+/// Those of [`run`].
+pub fn run_on<
+    T: Drop + Send,
+    W: Worker<T> + Sync,
+    D: Disk + Drop + Send,
+    C: Clock + Drop + Send,
+    R: Threads + Wait + time::Clock + Sync,
+    H: Origin + Send + Sync,
+    N: Ledger + Send + Sync,
+>(
+    rt: &R,
+    alloc: Global,
+    disk: D,
+    clock: C,
+    options: Options,
+    worker: &W,
+    handles: Blank,
+    changes: Blank,
+) -> Result<Ran<T, D>, RunFault>
+    requires handles { (handles.name ≡ H.name) × (handles.parts ≡ H.parts) × (H.parts ≡ 2 ^ 61 + 1) }
+    requires changes { (changes.name ≡ N.name) × (changes.parts ≡ N.parts) × (N.parts ≡ 2 ^ 61 + 1) }
+    requires workers { (1 ≤ options.workers) × (options.workers ≤ 64) }
+    requires begun { IsBegunOn D.size D.count D.faults D.honest D.newest D.moment D.left_since H.begun disk }
+    requires any { (words : WordMap) → H.begun.stops words }
+    ensures answers { IfOk result (λ ran. AreAnswers (W.answers worker.now) options.workers ran.answers.items) }
+    ensures trail { IfOk result (λ ran. (past : ℕ) × Follow 0 0 past ran.trail.items × (past ≤ ran.handles)) }
+    ensures since { IfOk result (λ ran. EndsSince D.size D.count D.faults D.honest D.newest D.may_leave D.moment D.left_since H.begun ran.disk ran.trail.items) }
+    ensures checked { IfOk result (λ ran. EndsChecked options.checkpoint ran.checkpoint) }
+{
+    let deck = match open::<D, H>(alloc, disk) {
+        Ok(deck) => deck,
+        Err(fault) => return Err(RunFault::Open(fault)),
+    };
+    let Ok(desk) = Desk::<D, C, H, N>::start(alloc, handles, changes, deck, clock) else {
+        return Err(RunFault::Memory);
+    };
+    run_at(rt, alloc, desk, options, worker)
+}
+
+/// Opens the journal on the disk of the start.
+fn open<D: Disk + Drop, H: Origin>(alloc: Global, disk: D) -> Result<Deck<D>, OpenFault>
+    requires { IsBegunOn D.size D.count D.faults D.honest D.newest D.moment D.left_since H.begun disk }
+    ensures new { IfOk result (λ deck. (deck.trail ≡ []) × (deck.aborted ≡ false)) }
+    ensures since { IfOk result (λ deck. IsSince D.size D.count D.faults D.honest D.newest D.may_leave D.moment D.left_since H.begun deck) }
+{
+    match Deck::open(alloc, disk) {
+        Ok(deck) => Ok(deck),
+        Err((_, fault)) => Err(fault),
+    }
+}
+
+/// Runs the workers at a new desk, and closes it.
+fn run_at<
+    T: Drop + Send,
+    W: Worker<T> + Sync,
+    D: Disk + Drop + Send,
+    C: Clock + Drop + Send,
+    R: Threads + Wait + time::Clock + Sync,
+    H: Origin + Send + Sync,
+    N: Ledger + Send + Sync,
+>(
+    rt: &R,
+    alloc: Global,
+    desk: Desk<D, C, H, N>,
+    options: Options,
+    worker: &W,
+) -> Result<Ran<T, D>, RunFault>
+    requires parts { (H.parts ≡ 2 ^ 61 + 1) × (N.parts ≡ 2 ^ 61 + 1) }
+    requires any { (words : WordMap) → H.begun.stops words }
+    ensures answers { IfOk result (λ ran. AreAnswers (W.answers worker.now) options.workers ran.answers.items) }
+    ensures trail { IfOk result (λ ran. (past : ℕ) × Follow 0 0 past ran.trail.items × (past ≤ ran.handles)) }
+    ensures since { IfOk result (λ ran. EndsSince D.size D.count D.faults D.honest D.newest D.may_leave D.moment D.left_since H.begun ran.disk ran.trail.items) }
+    ensures checked { IfOk result (λ ran. EndsChecked options.checkpoint ran.checkpoint) }
+{
+    let (ran, checkpoint) = run_all(rt, alloc, &desk, options, worker);
+    let Threaded {
+        workers,
+        committer,
+        commit,
+    } = ran?;
+    let mut gathered = Gathered::new(alloc);
+    gathered.add_left(committer)?;
+    gathered.add_all(workers)?;
+    let Gathered { lefts, answers } = gathered;
+    let Ok(closed) = desk.close(lefts) else {
+        return Err(RunFault::Accounts);
+    };
+    let Closed {
+        disk,
+        handles,
+        changes,
+        trail,
+        ..
+    } = closed;
+    Ok(Ran {
+        disk,
+        answers,
+        handles,
+        changes,
+        trail,
+        commit,
+        checkpoint,
+    })
+}

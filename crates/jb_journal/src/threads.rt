@@ -1,0 +1,182 @@
+//! The threads of a journal: its workers, its committer and its checkpointer.
+ghost use Rattle.std.specs.Prelude.{◌≡◌, ◌<◌, ◌≤◌, ◌⊎◌, IfErr, IfOk, IfSome};
+ghost use Rattle.jb_handle.specs.Word.{WordMap};
+ghost use Rattle.jb_journal.specs.declared.fault.RunFault.TheVariants.{Accounts, Memory as OutOfMemory};
+ghost use Rattle.jb_journal.specs.Running.{HaveWorked, EndsChecked};
+
+use crate::client::Client;
+use crate::committing::commit_from;
+use crate::fault::RunFault;
+use crate::options::Options;
+use crate::worker::Worker;
+use jb_block::Memory;
+use jb_desk::{Desk, Ended, Left, Origin};
+use jb_disk::{Clock, Disk};
+use std::alloc::Global;
+use std::sync::Wait;
+use std::sync::ledger::Ledger;
+use std::thread::Threads;
+use std::{thread, time};
+
+/// What a worker leaves.
+#[derive(Drop)]
+pub(crate) struct Worked<T, H: Ledger, N: Ledger> {
+    /// What its seat left; `None` where it had none.
+    pub left: Option<Left<H, N>>,
+    /// What it answered.
+    pub answer: Option<T>,
+}
+
+/// What the threads leave.
+#[derive(Drop)]
+pub(crate) struct Threaded<T, H: Ledger, N: Ledger> {
+    /// What the workers leave.
+    pub workers: Vec<Worked<T, H, N>>,
+    /// What the committer's seat left.
+    pub committer: Left<H, N>,
+    /// How the committer ended.
+    pub commit: Ended,
+}
+
+/// Runs the workers and commits what they stopped, and writes committed transactions home where that is asked for; says how
+/// that ended, too.
+pub(crate) fn run_all<
+    T: Drop + Send,
+    W: Worker<T> + Sync,
+    D: Disk + Drop + Send,
+    C: Clock + Drop + Send,
+    R: Threads + Wait + time::Clock + Sync,
+    H: Origin + Send + Sync,
+    N: Ledger + Send + Sync,
+>(
+    rt: &R,
+    alloc: Global,
+    desk: &Desk<D, C, H, N>,
+    options: Options,
+    worker: &W,
+) -> (Result<Threaded<T, H, N>, RunFault>, Option<Ended>)
+    requires any { (words : WordMap) → H.begun.stops words }
+    ensures ran { IfOk result.0 (λ ran. HaveWorked (W.answers worker.now) options.workers ran.workers.items) }
+    ensures faults { IfErr result.0 (λ fault. (fault ≡ OutOfMemory) ⊎ (fault ≡ Accounts)) }
+    ensures ended { EndsChecked options.checkpoint result.1 }
+{
+    if !options.checkpoint {
+        return (run_workers(rt, alloc, desk, options.workers, worker), None);
+    }
+    // the checkpointer is first, since the first closure runs last where no thread can be made
+    let (checkpoint, ran) = thread::join(
+        rt,
+        || desk.run_checkpointer(rt),
+        || -> Result<Threaded<T, H, N>, RunFault>
+            requires { (words : WordMap) → H.begun.stops words }
+        { run_workers(rt, alloc, desk, options.workers, worker) },
+    );
+    (ran, Some(checkpoint))
+}
+
+/// Runs the workers and commits what they stopped, at the same time. The desk is shut then.
+fn run_workers<
+    T: Drop + Send,
+    W: Worker<T> + Sync,
+    D: Disk + Drop + Send,
+    C: Clock + Drop + Send,
+    R: Threads + Wait + time::Clock + Sync,
+    H: Origin + Send + Sync,
+    N: Ledger + Send + Sync,
+>(
+    rt: &R,
+    alloc: Global,
+    desk: &Desk<D, C, H, N>,
+    workers: usize,
+    worker: &W,
+) -> Result<Threaded<T, H, N>, RunFault>
+    requires any { (words : WordMap) → H.begun.stops words }
+    ensures ran { IfOk result (λ ran. HaveWorked (W.answers worker.now) workers ran.workers.items) }
+    ensures faults { IfErr result (λ fault. (fault ≡ OutOfMemory) ⊎ (fault ≡ Accounts)) }
+{
+    let Ok(seat) = desk.seat(rt) else {
+        desk.shut(rt);
+        return Err(RunFault::Accounts);
+    };
+    let mut place = Some(seat);
+    let (committed, ran) = thread::join(
+        rt,
+        || commit_from(rt, desk, &mut place),
+        || -> Result<Vec<Worked<T, H, N>>, Memory>
+            requires { (words : WordMap) → H.begun.stops words }
+        { work(rt, alloc, desk, workers, worker) },
+    );
+    if let Some(seat) = place {
+        let _left = desk.leave(rt, seat);
+        return Err(RunFault::Accounts);
+    }
+    let Some((committer, commit)) = committed else {
+        return Err(RunFault::Accounts);
+    };
+    Ok(Threaded {
+        workers: ran?,
+        committer,
+        commit,
+    })
+}
+
+/// Runs the workers, a thread each, and then shuts the desk.
+fn work<
+    T: Drop + Send,
+    W: Worker<T> + Sync,
+    D: Disk + Drop + Send,
+    C: Clock + Drop + Send,
+    R: Threads + Wait + time::Clock + Sync,
+    H: Origin + Send + Sync,
+    N: Ledger + Send + Sync,
+>(
+    rt: &R,
+    alloc: Global,
+    desk: &Desk<D, C, H, N>,
+    workers: usize,
+    worker: &W,
+) -> Result<Vec<Worked<T, H, N>>, Memory>
+    requires any { (words : WordMap) → H.begun.stops words }
+    ensures { IfOk result (λ ran. HaveWorked (W.answers worker.now) workers ran.items) }
+{
+    let ran = thread::map_indices(
+        rt,
+        alloc,
+        workers,
+        &|at: usize| -> Worked<T, H, N>
+            requires { (words : WordMap) → H.begun.stops words }
+            ensures { IfSome result.answer (W.answers worker.entry.now workers at) }
+        { work_at(rt, desk, workers, worker, at) },
+    );
+    desk.shut(rt);
+    ran
+}
+
+/// Runs the worker at this place.
+fn work_at<T, W: Worker<T>, D: Disk, C: Clock, R: Wait + time::Clock, H: Origin, N: Ledger>(
+    rt: &R,
+    desk: &Desk<D, C, H, N>,
+    workers: usize,
+    worker: &W,
+    at: usize,
+) -> Worked<T, H, N>
+    requires any { (words : WordMap) → H.begun.stops words }
+    ensures { IfSome result.answer (W.answers worker.now workers at) }
+{
+    let Ok(seat) = desk.seat(rt) else {
+        return Worked {
+            left: None,
+            answer: None,
+        };
+    };
+    let mut client = Client::new(rt, desk, seat);
+    let answer = worker.work(&mut client, workers, at);
+    let left = match client.into_seat() {
+        Some(seat) => Some(desk.leave(rt, seat)),
+        None => None,
+    };
+    Worked {
+        left,
+        answer: Some(answer),
+    }
+}

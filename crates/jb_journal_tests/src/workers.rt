@@ -1,0 +1,154 @@
+//! Workers change home blocks; the homes are compared after a crash and a recovery.
+ghost use Rattle.jb_journal.specs.Client.{IsClient};
+
+use jb_journal::{
+    BlockSize, Client, Clock, Disk, Ended, FixedClock, Handle, HandleFault, MemoryDisk, OpenFault,
+    Options, Origin, Ran, RunFault, Stamp, TouchFault, WaitFault, Width, Worker, format, recover,
+    run,
+};
+use std::alloc::Global;
+use std::sync::Wait;
+use std::sync::ledger::Ledger;
+use std::test::Fail;
+use std::time;
+
+/// How many blocks the journal has, which is the place of home block 0; sixteen homes are after it.
+const JOURNAL: u32 = 33;
+
+/// A disk with a new journal.
+fn formatted(alloc: Global) -> Result<MemoryDisk, Fail> {
+    let mut disk = MemoryDisk::new(alloc, BlockSize::OneKib, 49)?;
+    format(&mut disk, JOURNAL, 0, [0; 16], Width::Narrow)?;
+    Ok(disk)
+}
+
+/// The first byte of each of the first ten homes, once a crash has left the newest of all sectors and the journal is recovered.
+fn homes(alloc: Global, disk: &MemoryDisk) -> Result<[u8; 10], Fail> {
+    let mut disk = disk.crash(&[])?;
+    recover(alloc, &mut disk)?;
+    let mut found = [0; 10];
+    let mut block = [0; 1024];
+    for (home, byte) in found.iter_mut().enumerate() {
+        let place = u64::from(JOURNAL).saturating_add(home as u64);
+        if place >= disk.blocks() || disk.block_size() != BlockSize::OneKib {
+            return Err("it has no such home".into());
+        }
+        disk.read(place, &mut block)?;
+        *byte = block[0];
+    }
+    Ok(found)
+}
+
+/// How a journal is run by so many workers.
+fn by(workers: usize) -> Options {
+    Options {
+        workers: workers.clamp(1, 64),
+        checkpoint: false,
+    }
+}
+
+const CLOCK: FixedClock = FixedClock {
+    stamp: Stamp { sec: 0, nsec: 0 },
+};
+
+/// What a worker found: what its change answered, how its ticket was waited for, and what its home held then.
+type Found = (
+    Result<u8, HandleFault<TouchFault>>,
+    Option<Result<u32, WaitFault>>,
+    Option<u8>,
+);
+
+/// Each worker writes its place and one to two homes, by one handle of so many credits; the second home is this much after
+/// the first.
+#[derive(Drop)]
+struct Pairs {
+    credits: u32,
+    apart: u64,
+}
+
+impl Worker<Found> for Pairs {
+    ghost answers = { λ pairs workers at answer. Unit {0} };
+
+    fn work<'a, D: Disk, C: Clock, R: Wait + time::Clock, H: Origin, N: Ledger>(
+        &self,
+        client: &mut Client<'a, D, C, R, H, N>,
+        _workers: usize,
+        at: usize,
+    ) -> Found
+        requires client { IsClient H.begun client.old }
+    {
+        let (home, apart) = (at as u64 % 8, self.apart % 100);
+        let byte = (at % 200) as u8;
+        let changed = client.change(
+            self.credits,
+            |handle: &mut Handle<()>| -> Result<u8, TouchFault> {
+                handle.write(home, &[byte; 1024])?;
+                handle.write(home.saturating_add(apart), &[byte; 1024])?;
+                Ok(byte)
+            },
+        );
+        match changed {
+            Ok((byte, ticket)) => {
+                let waited = client.wait(ticket);
+                let mut block = [9; 1024];
+                let read = client.read(home, &mut block);
+                (Ok(byte), Some(waited), read.ok().map(|()| block[0]))
+            }
+            Err(fault) => (Err(fault), None, None),
+        }
+    }
+}
+
+#[test]
+fn what_is_waited_for_stands(rt: HostRuntime) -> Result<(), Fail> {
+    let pairs = Pairs {
+        credits: 2,
+        apart: 1,
+    };
+    let ran = run(&rt, formatted(rt.alloc())?, CLOCK, by(4), &pairs)?;
+    assert_eq!(rt; ran.answers.len(), 4);
+    for (at, (changed, waited, read)) in ran.answers.iter().enumerate() {
+        assert_eq!(rt; *changed, Ok(at as u8));
+        assert!(rt; matches!(waited, Some(Ok(_))), "{waited:?}");
+        assert!(rt; read.is_some());
+    }
+    assert_eq!(rt; (ran.handles, ran.changes), (4, 8));
+    assert!(rt; matches!(ran.commit, Ended::Shut(_)));
+    let found = homes(rt.alloc(), &ran.disk)?;
+    // home 0 is of the first worker alone, and home 4 of the last; each other one is of one of two
+    assert_eq!(rt; (found[0], found[4], found[5]), (0, 3, 0));
+    assert!(rt; found[1] <= 1 && found[2] >= 1 && found[3] >= 2);
+    Ok(())
+}
+
+#[test]
+fn a_refused_change_changes_nothing(rt: HostRuntime) -> Result<(), Fail> {
+    let rows = [
+        (1, 1, HandleFault::Refused(TouchFault::NoCredit(1))),
+        (2, 16, HandleFault::Refused(TouchFault::OutOfRange(17))),
+    ];
+    for (credits, apart, fault) in rows {
+        let pairs = Pairs { credits, apart };
+        let ran = run(&rt, formatted(rt.alloc())?, CLOCK, by(2), &pairs)?;
+        assert_eq!(rt; ran.answers.get(1).map(|found| found.0), Some(Err(fault)));
+        assert_eq!(rt; (ran.handles, ran.trail.len()), (0, 0));
+        assert_eq!(rt; homes(rt.alloc(), &ran.disk)?, [0; 10]);
+    }
+    Ok(())
+}
+
+#[test]
+fn a_journal_is_recovered_before_it_is_run(rt: HostRuntime) -> Result<(), Fail> {
+    let pairs = Pairs {
+        credits: 2,
+        apart: 1,
+    };
+    let Ran { disk, .. } = run(&rt, formatted(rt.alloc())?, CLOCK, by(2), &pairs)?;
+    let mut left = disk.crash(&[])?;
+    let again = run(&rt, disk, CLOCK, by(2), &pairs).map(|ran| ran.handles);
+    assert_eq!(rt; again, Err(RunFault::Open(OpenFault::NeedsRecovery)));
+    recover(rt.alloc(), &mut left)?;
+    let again = run(&rt, left, CLOCK, by(2), &pairs).map(|ran| ran.handles);
+    assert_eq!(rt; again, Ok(2));
+    Ok(())
+}

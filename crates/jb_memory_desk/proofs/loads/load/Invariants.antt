@@ -1,0 +1,25 @@
+use Rattle.jb_deck.specs.Opening.{recovered_home}
+use Rattle.jb_desk.specs.Origin.{own_on}
+use Rattle.jb_load.specs.Settled.{IsOfQueue}
+use Rattle.jb_memory_desk.proofs.loads.load.Given as goal
+
+abbrev pub ghosts-load_on-H-Ledger : goal.ghosts-load_on-H-Ledger
+ghosts-load_on-H-Ledger g a = record { name = a.handles.name; parts = a.handles.parts }
+
+abbrev pub ghosts-load_on-N-Ledger : goal.ghosts-load_on-N-Ledger
+ghosts-load_on-N-Ledger g a = record { name = a.changes.name; parts = a.changes.parts }
+
+abbrev pub ghosts-load_on-H-Origin : goal.ghosts-load_on-H-Origin
+ghosts-load_on-H-Origin g a = record {
+  begun = record {
+    size = g.D.Disk.size a.disk;
+    count = g.D.Disk.count a.disk;
+    honest = g.D.Disk.honest a.disk;
+    faults = g.D.Disk.faults a.disk;
+    own = own_on (g.D.Disk.size a.disk) (g.D.Disk.count a.disk) (g.D.Disk.newest a.disk);
+    homes = recovered_home (g.D.Disk.size a.disk) (g.D.Disk.count a.disk) (g.D.Disk.newest a.disk);
+    since = g.D.Disk.moment a.disk;
+    left = λ c. Unit {0};
+    stops = IsOfQueue a.queue.now.handles.items;
+  };
+}

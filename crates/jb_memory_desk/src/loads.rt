@@ -1,0 +1,107 @@
+//! A load, whose workers and committer are threads.
+
+use crate::desks::{CLOCK, PARTS, formatted};
+use jb_deck::OpenFault;
+use jb_desk::Ended;
+use jb_disk::{Disk, FixedClock};
+use jb_load::{HandleFault, LoadFault, LoadOptions, Loaded, load_on};
+use jb_queue::{QueueText, read_queue};
+use jb_refusing::{Met, Wrong, ample, must, refusing};
+use std::alloc::Global;
+use std::fs::File;
+use std::marker::Brand;
+use std::rt::Files;
+use std::sync::Wait;
+use std::sync::ledger::Blank;
+use std::thread::Threads;
+use std::time::Clock;
+
+/// Three handles.
+const TEXT: &[u8] = b"bs 1024\nlimit 8\nh w1=01\nh w2=02 r3\nh w4=04\n";
+
+/// Two workers, which end before anything is committed.
+const HELD: LoadOptions = LoadOptions {
+    threads: 2,
+    hold: true,
+    checkpoint: false,
+};
+
+/// Loads a queue into a journal.
+fn load<D: Disk + Drop + Send, R: Threads + Wait + Clock + Sync>(
+    rt: &R,
+    alloc: Global,
+    disk: D,
+    queue: &QueueText,
+) -> Result<Loaded, LoadFault> {
+    let answer = load_on::<D, FixedClock, R, Brand, Brand>(
+        rt,
+        alloc,
+        disk,
+        CLOCK,
+        queue,
+        HELD,
+        Blank::new(PARTS),
+        Blank::new(PARTS),
+    );
+    match answer {
+        Ok((loaded, _)) => Ok(loaded),
+        Err(fault) => Err(fault),
+    }
+}
+
+/// Whether a load settled the three handles in one group.
+fn is_all(loaded: &Loaded) -> bool {
+    loaded.is_whole()
+        && loaded.handles == 3
+        && loaded.changes == 4
+        && loaded.groups == 1
+        && loaded.blocks == 6
+}
+
+/// How a load met refused memory. One allocation is refused, so where a handle ran out of it nothing else did, and the others are
+/// settled.
+fn met_by(answer: &Result<Loaded, LoadFault>) -> Result<Met, Wrong> {
+    match answer {
+        Ok(loaded) => match (loaded.refused, loaded.commit) {
+            (None, Ended::Shut(_)) => {
+                must(is_all(loaded), Wrong::Answer)?;
+                Ok(Met::Ample)
+            }
+            (None, Ended::Memory) => {
+                must(loaded.handles == 3 && loaded.settled == 0, Wrong::Stands)?;
+                Ok(Met::Memory)
+            }
+            (None, Ended::Aborted) => {
+                must(loaded.handles == 3 && loaded.settled == 0, Wrong::Stands)?;
+                Ok(Met::Fault)
+            }
+            (Some(refused), Ended::Shut(_)) => {
+                must(refused.fault == HandleFault::Memory, Wrong::Answer)?;
+                must(loaded.settled == loaded.handles, Wrong::Stands)?;
+                Ok(Met::Memory)
+            }
+            _ => Err(Wrong::Answer),
+        },
+        Err(LoadFault::Memory | LoadFault::Open(OpenFault::Memory)) => Ok(Met::Memory),
+        Err(LoadFault::Open(OpenFault::DeviceFault)) => Ok(Met::Fault),
+        Err(_) => Err(Wrong::Answer),
+    }
+}
+
+/// A load that ran out of memory is made again, into another journal, as the first one is lost with its disk.
+pub fn load_row<R: Files<File = File> + AllocGlobal + Threads + Wait + Clock + Sync>(
+    rt: &R,
+) -> Result<Met, Wrong> {
+    let alloc = rt.alloc();
+    let Ok(queue) = read_queue(alloc, TEXT) else {
+        return Err(Wrong::Inputs);
+    };
+    let disk = formatted(alloc)?;
+    refusing(rt);
+    let first = load(rt, alloc, disk, &queue);
+    ample(rt);
+    let met = met_by(&first)?;
+    let again = load(rt, alloc, formatted(alloc)?, &queue);
+    must(met_by(&again)? == Met::Ample, Wrong::Answer)?;
+    Ok(met)
+}

@@ -1,0 +1,101 @@
+//! The rows by their names.
+ghost use Rattle.std.specs.Prelude.{◌≡◌, ◌+◌, ◌^◌};
+ghost use Rattle.jb_handle.specs.Word.{WordMap};
+
+use crate::desks::{PARTS, started};
+use crate::{books, desks, loads, rounds, stopping};
+use jb_desk::Origin;
+use jb_refusing::{Met, Wrong};
+use std::alloc::Global;
+use std::fs::File;
+use std::marker::Brand;
+use std::rt::Files;
+use std::sync::Wait;
+use std::sync::ledger::{Blank, Ledger};
+use std::thread::Threads;
+use std::time::Clock;
+
+/// A row of a desk that was just started.
+#[derive(Clone, Copy)]
+enum OfDesk {
+    Seat,
+    Close,
+    Begin,
+    Stop,
+    StopBesideStop,
+    CommitRound,
+    RunCommitter,
+    CheckpointRound,
+}
+
+/// The row of a desk of this name.
+fn of_desk(name: &str) -> Option<OfDesk> {
+    match name {
+        "Desk::seat" => Some(OfDesk::Seat),
+        "Desk::close" => Some(OfDesk::Close),
+        "Desk::begin" => Some(OfDesk::Begin),
+        "Desk::stop" => Some(OfDesk::Stop),
+        "stop_beside_stop" => Some(OfDesk::StopBesideStop),
+        "commit_round" => Some(OfDesk::CommitRound),
+        "run_committer" => Some(OfDesk::RunCommitter),
+        "checkpoint_round" => Some(OfDesk::CheckpointRound),
+        _ => None,
+    }
+}
+
+/// Runs the row of this name; nothing where there is none.
+pub fn row<R: Files<File = File> + AllocGlobal + Threads + Wait + Clock + Sync>(
+    rt: &R,
+    name: &str,
+) -> Option<Result<Met, Wrong>> {
+    match name {
+        "Board::new" => Some(books::board_row(rt)),
+        "Book::open" => Some(books::open_row(rt)),
+        "Book::enqueue" => Some(books::enqueue_row(rt)),
+        "load_on" => Some(loads::load_row(rt)),
+        "Desk::start" => Some(start_row(rt)),
+        _ => match of_desk(name) {
+            Some(row) => Some(desk_row(rt, row)),
+            None => None,
+        },
+    }
+}
+
+/// Starts a desk where memory may be refused.
+fn start_row<R: Files<File = File> + AllocGlobal + Wait>(rt: &R) -> Result<Met, Wrong> {
+    let (handles, changes) = (Blank::new(PARTS), Blank::new(PARTS));
+    desks::start_row::<R, Brand, Brand>(rt, rt.alloc(), handles, changes)
+}
+
+/// Runs a row of a desk.
+fn desk_row<R: Files<File = File> + AllocGlobal + Threads + Wait + Sync>(
+    rt: &R,
+    row: OfDesk,
+) -> Result<Met, Wrong> {
+    let (handles, changes) = (Blank::new(PARTS), Blank::new(PARTS));
+    run_row::<R, Brand, Brand>(rt, rt.alloc(), row, handles, changes)
+}
+
+/// Starts a desk and runs a row of it.
+fn run_row<
+    R: Files<File = File> + Threads + Wait + Sync,
+    H: Origin + Send + Sync,
+    N: Ledger + Send + Sync,
+>(rt: &R, alloc: Global, row: OfDesk, handles: Blank, changes: Blank) -> Result<Met, Wrong>
+    requires blind { H.begun.honest → ⊥ }
+    requires any { (words : WordMap) → H.begun.stops words }
+    requires handles { (handles.name ≡ H.name) × (handles.parts ≡ H.parts) × (H.parts ≡ 2 ^ 61 + 1) }
+    requires changes { (changes.name ≡ N.name) × (changes.parts ≡ N.parts) × (N.parts ≡ 2 ^ 61 + 1) }
+{
+    let desk = started::<H, N>(alloc, handles, changes)?;
+    match row {
+        OfDesk::Seat => desks::seat_row(rt, alloc, desk),
+        OfDesk::Close => desks::close_row(rt, alloc, desk),
+        OfDesk::Begin => stopping::begin_row(rt, alloc, desk),
+        OfDesk::Stop => stopping::stop_row(rt, alloc, desk),
+        OfDesk::StopBesideStop => stopping::stop_beside_stop_row(rt, alloc, desk),
+        OfDesk::CommitRound => rounds::commit_round_row(rt, alloc, desk),
+        OfDesk::RunCommitter => rounds::run_committer_row(rt, alloc, desk),
+        OfDesk::CheckpointRound => rounds::checkpoint_round_row(rt, alloc, desk),
+    }
+}
