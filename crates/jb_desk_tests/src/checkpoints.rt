@@ -9,7 +9,7 @@ use crate::journal::{
     CLOCK, Came, PARTS, Still, formatted, opened, refused, retired, round, write,
 };
 use jb_block::Memory;
-use jb_deck::{Checked, CheckpointFault, Entry};
+use jb_deck::{Checked, CheckpointFault, Entry, ReadHomeFault};
 use jb_desk::{BeginFault, Origin, RoundFault, Seat, WaitFault};
 use jb_disk::{Disk, MemoryDisk, OneFaultDisk};
 use std::alloc::Global;
@@ -22,12 +22,14 @@ use std::thread;
 use std::thread::Threads;
 use std::time::Clock;
 
-/// What follows a checkpoint after one handle is committed and another has stopped: what the next round and a begin
-/// answer, what is answered of both tickets, and the handles, changes and groups at the end.
+/// What follows a checkpoint after one handle is committed and another has stopped: what a read of no home into half a
+/// block answers, the next round and a begin, what is answered of both tickets, and the handles, changes and groups at
+/// the end.
 #[derive(Clone, Copy, Debug, PartialEq)]
 struct Found {
     first: Came,
     checked: Result<Checked, CheckpointFault>,
+    read: Result<(), ReadHomeFault>,
     second: Came,
     begun: Option<BeginFault>,
     settled: Result<u32, WaitFault>,
@@ -57,6 +59,7 @@ const FAILED: Found = Found {
         1,
     ),
     checked: Err(CheckpointFault::DeviceFault),
+    read: Err(ReadHomeFault::Aborted),
     second: Came::Failed(RoundFault::Aborted),
     begun: Some(BeginFault::Aborted),
     settled: Ok(2),
@@ -83,6 +86,7 @@ fn after_checkpoint<R: Wait, H: Origin, N: Ledger>(
     let (seat, _) = retired(rt, &desk, committer);
     let (seat, _) = write(rt, &desk, seat, 1, &[2]);
     let checked = desk.checkpoint_round(rt);
+    let read = desk.read(rt, 16, &mut [0; 512]);
     let mut committer = desk.committer(seat);
     let second = round(rt, &desk, &mut committer);
     let (seat, _) = retired(rt, &desk, committer);
@@ -99,6 +103,7 @@ fn after_checkpoint<R: Wait, H: Origin, N: Ledger>(
     Ok(Some(Found {
         first,
         checked,
+        read,
         second,
         begun,
         settled,

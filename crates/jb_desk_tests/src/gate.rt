@@ -26,13 +26,24 @@ const TURNS: u32 = 10000;
 
 /// What two threads tell one another.
 #[derive(Drop)]
-struct Gate {
+pub struct Gate {
     /// the second handle is begun
-    has_begun: AtomicBool,
+    pub has_begun: AtomicBool,
     /// the log is being written
-    is_writing: AtomicBool,
+    pub is_writing: AtomicBool,
     /// the second handle has stopped
-    has_stopped: AtomicBool,
+    pub has_stopped: AtomicBool,
+}
+
+impl Gate {
+    /// Nothing of this has happened.
+    pub fn shut() -> Gate {
+        Gate {
+            has_begun: AtomicBool::new(false),
+            is_writing: AtomicBool::new(false),
+            has_stopped: AtomicBool::new(false),
+        }
+    }
 }
 
 /// Asks until something has happened; says whether it has.
@@ -49,12 +60,12 @@ pub fn has_come<K: Clock>(clock: &K, flag: &AtomicBool) -> bool {
 /// A disk that holds its first write after the superblock until the second handle has stopped. Where that takes too
 /// long, the write fails.
 #[derive(Drop)]
-struct GateDisk<'a, D: Disk, K: Clock> {
-    disk: D,
-    gate: &'a Gate,
-    clock: &'a K,
-    is_open: bool,
-    failed: u64,
+pub struct GateDisk<'a, D: Disk, K: Clock> {
+    pub disk: D,
+    pub gate: &'a Gate,
+    pub clock: &'a K,
+    pub is_open: bool,
+    pub failed: u64,
 }
 
 impl<'a, D: Disk, K: Clock> Disk for GateDisk<'a, D, K> {
@@ -247,11 +258,7 @@ fn one(ticket: u64, number: u32) -> Came {
 
 #[test]
 fn gate_two_stops(rt: HostRuntime) -> Result<(), Fail> {
-    let gate = Gate {
-        has_begun: AtomicBool::new(false),
-        is_writing: AtomicBool::new(false),
-        has_stopped: AtomicBool::new(false),
-    };
+    let gate = Gate::shut();
     let found = gated::<HostRuntime, Brand, Brand>(
         &rt,
         rt.alloc(),

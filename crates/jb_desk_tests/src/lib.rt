@@ -10,6 +10,8 @@ mod checkpoints;
 #[cfg(test)]
 mod desks;
 #[cfg(test)]
+mod ends;
+#[cfg(test)]
 mod faults;
 #[cfg(test)]
 mod gate;
@@ -21,6 +23,10 @@ mod journal;
 mod keys;
 #[cfg(test)]
 mod load;
+#[cfg(test)]
+mod read_beside;
+#[cfg(test)]
+mod reads;
 #[cfg(test)]
 mod rounds;
 #[cfg(test)]

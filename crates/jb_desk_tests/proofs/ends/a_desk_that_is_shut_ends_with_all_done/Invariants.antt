@@ -1,0 +1,7 @@
+use Rattle.jb_desk_tests.proofs.ends.a_desk_that_is_shut_ends_with_all_done.Given as goal
+
+abbrev pub ghosts-desk_ended-H-Ledger : goal.ghosts-desk_ended-H-Ledger
+ghosts-desk_ended-H-Ledger g a = record { name = a.handles.name; parts = a.handles.parts }
+
+abbrev pub ghosts-desk_ended-N-Ledger : goal.ghosts-desk_ended-N-Ledger
+ghosts-desk_ended-N-Ledger g a = record { name = a.changes.name; parts = a.changes.parts }

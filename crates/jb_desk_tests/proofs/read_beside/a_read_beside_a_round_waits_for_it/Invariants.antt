@@ -1,0 +1,7 @@
+use Rattle.jb_desk_tests.proofs.read_beside.a_read_beside_a_round_waits_for_it.Given as goal
+
+abbrev pub ghosts-beside-H-Ledger : goal.ghosts-beside-H-Ledger
+ghosts-beside-H-Ledger g a = record { name = a.handles.name; parts = a.handles.parts }
+
+abbrev pub ghosts-beside-N-Ledger : goal.ghosts-beside-N-Ledger
+ghosts-beside-N-Ledger g a = record { name = a.changes.name; parts = a.changes.parts }
