@@ -1,4 +1,5 @@
-//! Journals that are called by a script, the blocks that are then on the disk, and what recovery makes of them.
+//! Journals that are called by a script, the blocks that are then on the disk and those that a crash leaves, and what
+//! recovery makes of these.
 
 use crate::groups::{Laid, lay_group};
 use crate::images::{Row, difference, put_rows, small};
@@ -32,6 +33,8 @@ pub enum Wrong {
     Step(usize),
     /// The block at this place after the calls.
     Block(u64),
+    /// The block at this place that a crash after the calls leaves.
+    Left(u64),
     /// What recovery reports.
     Recovered,
     /// The block at this place after recovery.
@@ -66,6 +69,11 @@ fn first_wrong_of(alloc: Global, case: &Case) -> Result<Option<Wrong>, Fail> {
     put_rows(alloc, &mut wanted, case.rows)?;
     if let Some(place) = difference(alloc, &mut disk, &mut wanted, 0)? {
         return Ok(Some(Wrong::Block(place)));
+    }
+    // every call that changes the disk ends with a sync
+    let mut disk = disk.crash(&[])?;
+    if let Some(place) = difference(alloc, &mut disk, &mut wanted, 0)? {
+        return Ok(Some(Wrong::Left(place)));
     }
     let (transactions, copies, revoked, next) = case.recovered;
     let recovered = Recovered {

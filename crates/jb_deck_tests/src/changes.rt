@@ -1,11 +1,11 @@
-//! Journals that are changed in their place, opened, and called.
+//! Journals that are changed in their place, opened, and called; some of them were used before.
 
 use crate::groups::STAMP;
 use crate::images::{BLOCKS, MAGIC, Row, difference, read_at, small};
 use crate::rounds::SIX;
 use crate::scripts::{handles_of, prepared, refused};
 use jb_block::{Width, get32};
-use jb_deck::Deck;
+use jb_deck::{Checked, Deck, OpenFault};
 use jb_disk::MemoryDisk;
 use jb_recover::{Recovered, recover, renumber, widen};
 use std::alloc::Global;
@@ -98,6 +98,111 @@ fn journals_that_were_changed_in_their_place_are_opened(rt: HostRuntime) -> Resu
             "{name}"
         );
         let (next, width) = told;
+        let recovered = Recovered {
+            transactions: 1,
+            copies: 6,
+            revoked: 0,
+            next: next.saturating_add(2),
+        };
+        assert_eq!(rt;
+            committed(alloc, disk)?,
+            Some((next, width, recovered)),
+            "{name}"
+        );
+    }
+    Ok(())
+}
+
+/// A name, the rows of the small image that differ, the handle that is committed, whether its transaction is then
+/// recovered and the journal widened, or is checkpointed and the journal renumbered; and the next number and the width after.
+const USED: [(&str, &[Row], &str, bool, (u64, Width)); 2] = [
+    (
+        "the last number",
+        &[(0, 0x10, [33, 1, 4294967294, 0])],
+        SIX,
+        false,
+        (1, Width::Narrow),
+    ),
+    (
+        "an escaped copy",
+        &[],
+        "h w5=c03b399801020304 r7\n",
+        true,
+        (4, Width::Wide),
+    ),
+];
+
+/// The disk of a journal of this image that has committed this handle and, if so, checkpointed its six copies.
+fn used(
+    alloc: Global,
+    rows: &[Row],
+    lines: &str,
+    checkpoints: bool,
+) -> Result<Option<MemoryDisk>, Fail> {
+    let Ok(mut deck) = Deck::open(alloc, small(alloc, BLOCKS, rows, &[])?) else {
+        return Ok(None);
+    };
+    let Some(batch) = prepared(alloc, 0, handles_of(alloc, lines, 0)?, deck.shape())? else {
+        return Ok(None);
+    };
+    match deck.commit_batch(batch, STAMP) {
+        Ok(_) => {}
+        Err(fault) => {
+            let _told = refused(fault);
+            return Ok(None);
+        }
+    }
+    let checked = Checked {
+        number: 4294967295,
+        blocks: 6,
+    };
+    if checkpoints && deck.checkpoint_one() != Ok(checked) {
+        return Ok(None);
+    }
+    Ok(Some(deck.close()))
+}
+
+/// Widens a journal once it is recovered.
+fn recovered_and_widened(alloc: Global, mut disk: MemoryDisk) -> Result<Option<MemoryDisk>, Fail> {
+    let recovered = Recovered {
+        transactions: 1,
+        copies: 1,
+        revoked: 0,
+        next: 4,
+    };
+    if recover(alloc, &mut disk) != Ok(recovered) {
+        return Ok(None);
+    }
+    widen(&mut disk)?;
+    Ok(Some(disk))
+}
+
+/// Renumbers a journal that cannot be opened, since its numbers are spent.
+fn spent_and_renumbered(alloc: Global, disk: MemoryDisk) -> Result<Option<MemoryDisk>, Fail> {
+    let Err((mut disk, OpenFault::NumbersSpent)) = Deck::open(alloc, disk) else {
+        return Ok(None);
+    };
+    renumber(&mut disk)?;
+    Ok(Some(disk))
+}
+
+#[test]
+fn journals_that_were_used_are_changed_and_used_again(rt: HostRuntime) -> Result<(), Fail> {
+    let alloc = rt.alloc();
+    for (name, rows, lines, widens, (next, width)) in USED {
+        let Some(disk) = used(alloc, rows, lines, !widens)? else {
+            assert!(rt; false, "{name} is not used");
+            return Ok(());
+        };
+        let changed = if widens {
+            recovered_and_widened(alloc, disk)?
+        } else {
+            spent_and_renumbered(alloc, disk)?
+        };
+        let Some(disk) = changed else {
+            assert!(rt; false, "{name} is not changed");
+            return Ok(());
+        };
         let recovered = Recovered {
             transactions: 1,
             copies: 6,

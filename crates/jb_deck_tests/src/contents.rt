@@ -24,18 +24,25 @@ pub fn only(homes: Homes) -> Left {
     }
 }
 
-/// Fills a block with the contents of this number, which show in each sector. One number in four makes it begin
-/// as a commit block does, and another one as an escaped copy.
+/// The number of the contents that are eight bytes, which the log escapes, and zeros.
+pub const EIGHT: u32 = 0x0102_0304;
+
+/// Fills a block with the contents of this number, which show in each sector but those of `EIGHT`. One number in four
+/// makes it begin as a commit block does, and another one as an escaped copy.
 pub fn fill(block: &mut [u8], number: u32) {
     let front = match number % 4 {
-        1 => 0,
-        3 => MAGIC,
-        _ => number,
+        1 => [0, 2, number, number],
+        3 => [MAGIC, 2, number, number],
+        _ => [number, if number == 0 { 0 } else { 2 }, number, number],
     };
-    let kind = if number == 0 { 0 } else { 2 };
-    put_words(block, 0, &[front, kind, number, number]);
+    let (first, rest) = if number == EIGHT {
+        ([MAGIC, EIGHT, 0, 0], 0)
+    } else {
+        (front, number)
+    };
+    put_words(block, 0, &first);
     for at in [0x1F0, 0x200, 0x3F0] {
-        put_words(block, at, &[number, number, number, number]);
+        put_words(block, at, &[rest, rest, rest, rest]);
     }
 }
 

@@ -37,3 +37,5 @@ mod scripts;
 mod seeds;
 #[cfg(test)]
 mod stops;
+#[cfg(test)]
+mod worked;

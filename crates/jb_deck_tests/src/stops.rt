@@ -21,11 +21,11 @@ const MOST: u32 = 400;
 const LAST: u64 = 40;
 
 /// A number of versions is at most ten: this one names the newest of so many.
-const NEW: u32 = 2519;
+pub const NEW: u32 = 2519;
 
 /// More sectors than are pending at any moment, and the choices of one version for each: all are old, all new, old
 /// and new in turn and the other way, or one is new or old alone.
-const SECTORS: usize = 32;
+pub const SECTORS: usize = 32;
 
 const ALL: u32 = 68;
 
@@ -131,8 +131,12 @@ fn is_aborted<D: Disk>(alloc: Global, deck: &mut Deck<D>) -> Result<bool, Fail> 
     )
 }
 
-/// Runs the script up to its first fault: the disk, what a crash may leave of it, and whether it met none.
-fn run<D: Disk + Drop>(alloc: Global, disk: D) -> Result<(D, Left, bool), Fail> {
+/// Runs a script up to its first fault: the disk, what a crash may leave of it, and whether it met none.
+pub fn run<D: Disk + Drop>(
+    alloc: Global,
+    disk: D,
+    script: &[Call<'_>],
+) -> Result<(D, Left, bool), Fail> {
     let homes: Homes = [0; 16];
     let mut deck = match Deck::open(alloc, disk) {
         Ok(deck) => deck,
@@ -140,8 +144,8 @@ fn run<D: Disk + Drop>(alloc: Global, disk: D) -> Result<(D, Left, bool), Fail> 
         Err(_) => return Err("it is not opened".into()),
     };
     let mut model = Model::new(alloc, homes, u64::from(deck.usable()));
-    for next in SCRIPT {
-        if let Some(left) = make_call(alloc, &mut deck, &mut model, next)? {
+    for next in script {
+        if let Some(left) = make_call(alloc, &mut deck, &mut model, *next)? {
             if !is_aborted(alloc, &mut deck)? {
                 return Err("it is not aborted".into());
             }
@@ -191,7 +195,7 @@ fn all_mend(alloc: Global, disk: &MemoryDisk, choices: u32, wanted: &Wanted) -> 
 }
 
 /// A recovery of what a crash left, that is stopped after so many calls: its disk, and whether it ended before.
-fn stopped(alloc: Global, disk: &MemoryDisk, calls: u64) -> Result<(MemoryDisk, bool), Fail> {
+pub fn stopped(alloc: Global, disk: &MemoryDisk, calls: u64) -> Result<(MemoryDisk, bool), Fail> {
     let mut fuse = FuseDisk::of(disk.crash(&[])?, calls);
     let ended = recover(alloc, &mut fuse).is_ok();
     Ok((fuse.into_inner(), ended))
@@ -227,13 +231,13 @@ fn every_call_of_a_script_may_fail_or_be_the_last(rt: HostRuntime) -> Result<(),
     let alloc = rt.alloc();
     for number in 0..MOST {
         let calls = u64::from(number);
-        let (fuse, left, ended) = run(alloc, FuseDisk::of(before(alloc)?, calls))?;
+        let (fuse, left, ended) = run(alloc, FuseDisk::of(before(alloc)?, calls), &SCRIPT)?;
         let mut disk = fuse.into_inner();
         let wanted = make_wanted(alloc, left)?;
         assert!(rt; all_mend(alloc, &disk, ALL, &wanted)?, "{calls}");
         let found = disk.crash(&choice(number % 10))?;
         assert!(rt; mends_whenever(alloc, &found, &wanted)?, "{calls}");
-        let (faulty, _, whole) = run(alloc, OneFaultDisk::of(before(alloc)?, calls))?;
+        let (faulty, _, whole) = run(alloc, OneFaultDisk::of(before(alloc)?, calls), &SCRIPT)?;
         assert!(rt; whole == ended, "{calls}");
         let mut once = faulty.into_inner();
         assert_eq!(rt;

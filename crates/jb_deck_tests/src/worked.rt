@@ -1,0 +1,234 @@
+//! A script whose homes are worked out by hand, on a new journal: it is stopped after every number of calls of the disk
+//! and crashed in five ways, and the recovery of each image is stopped and crashed in the same ways.
+
+use crate::contents::{EIGHT, Left, is_left};
+use crate::frames::Frame;
+use crate::images::{BLOCKS, difference};
+use crate::lives::Call;
+use crate::model::Homes;
+use crate::stops::{NEW, SECTORS, run, stopped};
+use jb_block::{BlockSize, Width};
+use jb_disk::{FuseDisk, MemoryDisk};
+use jb_recover::{format, recover};
+use std::alloc::Global;
+use std::test::Fail;
+
+/// More calls of the disk than the script makes, and than a recovery makes.
+const MOST: u64 = 400;
+
+/// Of the pending sectors all are old, all are newest, old and newest in turn, or the first or the last one alone is newest.
+const CHOICES: u32 = 5;
+
+const UUID: [u8; 16] = [0, 1, 2, 3, 4, 5, 6, 7, 8, 9, 10, 11, 12, 13, 14, 15];
+
+/// A group with an escaped copy and a freed home, which is written; three groups that fill the log, and two that make
+/// room and go round its end. Then they are checkpointed; the last call finds nothing.
+const SCRIPT: [Call<'static>; 12] = [
+    Call::Commit(1, &[(0, 5, Some(EIGHT)), (0, 7, None)]),
+    Call::Write(7, 17),
+    Call::Commit(
+        1,
+        &[
+            (0, 0, Some(20)),
+            (0, 1, Some(21)),
+            (0, 2, Some(22)),
+            (0, 3, Some(23)),
+            (0, 4, Some(24)),
+            (0, 5, Some(25)),
+        ],
+    ),
+    Call::Commit(
+        1,
+        &[
+            (0, 0, Some(30)),
+            (0, 1, Some(31)),
+            (0, 2, Some(32)),
+            (0, 3, Some(33)),
+            (0, 4, Some(34)),
+            (0, 5, Some(35)),
+        ],
+    ),
+    Call::Commit(
+        1,
+        &[
+            (0, 0, Some(40)),
+            (0, 1, Some(41)),
+            (0, 2, Some(42)),
+            (0, 3, Some(43)),
+            (0, 4, Some(44)),
+            (0, 5, Some(45)),
+        ],
+    ),
+    Call::Commit(1, &[(0, 0, Some(50)), (0, 1, Some(51)), (0, 2, Some(52))]),
+    Call::Commit(
+        1,
+        &[
+            (0, 0, Some(60)),
+            (0, 1, Some(61)),
+            (0, 2, Some(62)),
+            (0, 3, Some(63)),
+        ],
+    ),
+    Call::Checkpoint,
+    Call::Checkpoint,
+    Call::Checkpoint,
+    Call::Checkpoint,
+    Call::Checkpoint,
+];
+
+/// The homes after the first handles: of none, of one, and so on to six. Home 7 is the second call's.
+const SETTLED: [Homes; 7] = [
+    [0; 16],
+    [0, 0, 0, 0, 0, EIGHT, 0, 17, 0, 0, 0, 0, 0, 0, 0, 0],
+    [20, 21, 22, 23, 24, 25, 0, 17, 0, 0, 0, 0, 0, 0, 0, 0],
+    [30, 31, 32, 33, 34, 35, 0, 17, 0, 0, 0, 0, 0, 0, 0, 0],
+    [40, 41, 42, 43, 44, 45, 0, 17, 0, 0, 0, 0, 0, 0, 0, 0],
+    [50, 51, 52, 43, 44, 45, 0, 17, 0, 0, 0, 0, 0, 0, 0, 0],
+    [60, 61, 62, 63, 44, 45, 0, 17, 0, 0, 0, 0, 0, 0, 0, 0],
+];
+
+/// A new journal of 33 blocks with 16 homes of zeros.
+fn formatted(alloc: Global) -> Result<MemoryDisk, Fail> {
+    let mut disk = MemoryDisk::new(alloc, BlockSize::OneKib, BLOCKS)?;
+    if format(&mut disk, 33, 0, UUID, Width::Narrow).is_err() {
+        return Err("it is not made".into());
+    }
+    Ok(disk)
+}
+
+/// What a crash may leave: of the homes, and before the log.
+#[derive(Drop)]
+struct Wanted {
+    left: Left,
+    frame: Frame,
+}
+
+/// The versions of the sectors from one place on: the newest ones.
+fn newest_from(place: usize) -> [u32; SECTORS] {
+    let mut choice = [0; SECTORS];
+    for (i, version) in choice.iter_mut().enumerate() {
+        if i >= place {
+            *version = NEW;
+        }
+    }
+    choice
+}
+
+/// The last of the pending sectors whose newest content is another one than its old content.
+fn last_sector(alloc: Global, disk: &MemoryDisk) -> Result<usize, Fail> {
+    let mut old = disk.crash(&[])?;
+    let mut last: usize = 0;
+    for step in [16, 8, 4, 2, 1] {
+        let further = last.saturating_add(step);
+        let mut new = disk.crash(&newest_from(further))?;
+        if difference(alloc, &mut old, &mut new, 0)?.is_some() {
+            last = further;
+        }
+    }
+    Ok(last)
+}
+
+/// The choice of this number, where this sector is the last one.
+fn choice(number: u32, last: usize) -> [u32; SECTORS] {
+    let mut choice = [0; SECTORS];
+    for (i, version) in choice.iter_mut().enumerate() {
+        let is_newest = match number {
+            0 => false,
+            1 => true,
+            2 => i % 2 == 1,
+            3 => i == 0,
+            _ => i == last,
+        };
+        if is_newest {
+            *version = NEW;
+        }
+    }
+    choice
+}
+
+/// Recovers what a crash left. It has what stands before the log, then too, and homes that may be left.
+fn mend(alloc: Global, found: &mut MemoryDisk, wanted: &Wanted) -> Result<(), Fail> {
+    if !wanted.frame.is_kept(alloc, found)? || recover(alloc, found).is_err() {
+        return Err("it is not recovered".into());
+    }
+    if !wanted.frame.is_kept(alloc, found)? {
+        return Err("what stands before the log has changed".into());
+    }
+    if !is_left(alloc, found, 33, &wanted.left)? {
+        return Err("the homes are none that may be left".into());
+    }
+    Ok(())
+}
+
+/// Recovers what each choice leaves of a disk.
+fn mend_each(alloc: Global, disk: &MemoryDisk, wanted: &Wanted) -> Result<(), Fail> {
+    let last = last_sector(alloc, disk)?;
+    for number in 0..CHOICES {
+        mend(alloc, &mut disk.crash(&choice(number, last))?, wanted)?;
+    }
+    Ok(())
+}
+
+/// Whether a disk has other contents than an image that a crash left, or may have them after one more crash.
+fn is_changed(alloc: Global, disk: &MemoryDisk, found: &MemoryDisk) -> Result<bool, Fail> {
+    let mut was = found.crash(&[])?;
+    let mut old = disk.crash(&[])?;
+    let mut new = disk.crash(&newest_from(0))?;
+    let is_old = difference(alloc, &mut was, &mut old, 0)?.is_none();
+    Ok(!is_old || difference(alloc, &mut was, &mut new, 0)?.is_some())
+}
+
+/// Stops the recovery of an image after every number of calls and crashes it by each choice; how many images that are.
+/// Where nothing was written yet, they are the image itself, which is recovered once.
+fn mend_stopped(alloc: Global, found: &MemoryDisk, wanted: &Wanted) -> Result<u64, Fail> {
+    let mut images: u64 = 0;
+    for calls in 0..MOST {
+        let (once, ended) = stopped(alloc, found, calls)?;
+        if calls == 0 || is_changed(alloc, &once, found)? {
+            mend_each(alloc, &once, wanted)?;
+        }
+        images = images.saturating_add(u64::from(CHOICES));
+        if ended {
+            return Ok(images);
+        }
+    }
+    Err("a recovery never ends".into())
+}
+
+/// Crashes a disk by each choice and stops the recovery of each image; how many images that are.
+fn mend_all(alloc: Global, disk: &MemoryDisk, wanted: &Wanted) -> Result<u64, Fail> {
+    let last = last_sector(alloc, disk)?;
+    let mut images: u64 = 0;
+    for number in 0..CHOICES {
+        let found = disk.crash(&choice(number, last))?;
+        images = images.saturating_add(mend_stopped(alloc, &found, wanted)?);
+    }
+    Ok(images)
+}
+
+/// Whether homes are those after the first handles, home 7 aside where it is not yet written.
+fn is_worked(homes: &Homes) -> bool {
+    let mut unwritten = *homes;
+    unwritten[7] = 17;
+    SETTLED.contains(homes) || unwritten == SETTLED[1]
+}
+
+#[test]
+fn a_script_may_be_stopped_and_crashed_at_every_call(rt: HostRuntime) -> Result<(), Fail> {
+    let alloc = rt.alloc();
+    let mut images: u64 = 0;
+    for calls in 0..MOST {
+        let (fuse, left, ended) = run(alloc, FuseDisk::of(formatted(alloc)?, calls), &SCRIPT)?;
+        assert!(rt; is_worked(&left.was) && is_worked(&left.becomes), "{calls}");
+        let frame = Frame::of(alloc, &mut formatted(alloc)?, 1)?;
+        let wanted = Wanted { left, frame };
+        images = images.saturating_add(mend_all(alloc, &fuse.into_inner(), &wanted)?);
+        if ended {
+            assert_eq!(rt; left.was, SETTLED[6]);
+            assert_eq!(rt; (calls, images), (139, 128405));
+            return Ok(());
+        }
+    }
+    assert!(rt; false, "it never ends");
+    Ok(())
+}
