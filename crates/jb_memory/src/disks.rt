@@ -27,6 +27,7 @@ uuid 00000000000000000000000000000000
 end transactions=1 expected=3
 ";
 
+/// A new disk has blocks of zeros.
 pub fn new_row(rt: &HostRuntime) -> Result<Met, Wrong> {
     let alloc = rt.alloc();
     refusing(rt);

@@ -48,10 +48,12 @@ fn touch_row(rt: &HostRuntime, change: Change) -> Result<Met, Wrong> {
     }
 }
 
+/// A refused write leaves the handle as it was.
 pub fn write_row(rt: &HostRuntime) -> Result<Met, Wrong> {
     touch_row(rt, Change::Write)
 }
 
+/// A refused revoke leaves the handle as it was.
 pub fn revoke_row(rt: &HostRuntime) -> Result<Met, Wrong> {
     touch_row(rt, Change::Revoke)
 }

@@ -41,6 +41,7 @@ fn log(alloc: Global) -> Result<Vec<Block>, Memory>
     Ok(log)
 }
 
+/// The transactions of a log.
 pub fn read_transactions_row(rt: &HostRuntime) -> Result<Met, Wrong> {
     let alloc = rt.alloc();
     let blocks = log(alloc)?;

@@ -92,18 +92,22 @@ fn again(alloc: Global, state: &mut State, act: Act, reply: Reply) -> Result<(),
     must(step(state, event) == Ok(reply), Wrong::Answer)
 }
 
+/// A refused Open leaves the machine as it was.
 pub fn open_step_row(rt: &HostRuntime) -> Result<Met, Wrong> {
     step_row(rt, 0, [0, 0, 0])
 }
 
+/// A refused write leaves the machine as it was.
 pub fn write_step_row(rt: &HostRuntime) -> Result<Met, Wrong> {
     step_row(rt, 1, [0, 0, 0])
 }
 
+/// A refused Stop leaves the machine as it was.
 pub fn stop_step_row(rt: &HostRuntime) -> Result<Met, Wrong> {
     step_row(rt, 2, [1, 0, 0])
 }
 
+/// A refused Take leaves the machine as it was.
 pub fn take_step_row(rt: &HostRuntime) -> Result<Met, Wrong> {
     step_row(rt, 3, [0, 1, 0])
 }
@@ -117,6 +121,7 @@ fn events(alloc: Global) -> Result<Vec<Event>, Memory> {
     Ok(events)
 }
 
+/// A run over several events.
 pub fn run_row(rt: &HostRuntime) -> Result<Met, Wrong> {
     let alloc = rt.alloc();
     let events_once = events(alloc)?;

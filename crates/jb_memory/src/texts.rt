@@ -39,6 +39,7 @@ pub fn read_queue_row(rt: &HostRuntime) -> Result<Met, Wrong> {
     Ok(met)
 }
 
+/// A certificate that is read, as it is printed again.
 pub fn read_cert_row(rt: &HostRuntime) -> Result<Met, Wrong> {
     let alloc = rt.alloc();
     refusing(rt);
@@ -56,6 +57,7 @@ pub fn read_cert_row(rt: &HostRuntime) -> Result<Met, Wrong> {
     Ok(met)
 }
 
+/// A certificate that is printed.
 pub fn print_cert_row(rt: &HostRuntime) -> Result<Met, Wrong> {
     let alloc = rt.alloc();
     let Ok(cert) = read_cert(alloc, CERTIFICATE.as_bytes(), 3) else {
@@ -72,6 +74,7 @@ pub fn print_cert_row(rt: &HostRuntime) -> Result<Met, Wrong> {
     Ok(met)
 }
 
+/// The tags of a block of zeros.
 pub fn read_tags_row(rt: &HostRuntime) -> Result<Met, Wrong> {
     let alloc = rt.alloc();
     let block = [0u8; 1024];

@@ -22,6 +22,7 @@ pub fn three(alloc: Global) -> Result<QueueText, Wrong> {
     }
 }
 
+/// The plan of a queue: its prices, its bounds and its total.
 pub fn plan_row(rt: &HostRuntime) -> Result<Met, Wrong> {
     let alloc = rt.alloc();
     let queue = three(alloc)?;
@@ -51,6 +52,7 @@ pub fn plan_row(rt: &HostRuntime) -> Result<Met, Wrong> {
     }
 }
 
+/// The cost of a queue as one group.
 pub fn group_cost_row(rt: &HostRuntime) -> Result<Met, Wrong> {
     let alloc = rt.alloc();
     let queue = three(alloc)?;
@@ -82,6 +84,7 @@ fn by_footprint(alloc: Global, handles: &[Stopped], geometry: Geometry) -> Resul
     Ok(cost)
 }
 
+/// The handles of a queue, added to a footprint from the left.
 pub fn add_left_row(rt: &HostRuntime) -> Result<Met, Wrong> {
     let alloc = rt.alloc();
     let queue = three(alloc)?;
@@ -101,6 +104,7 @@ pub fn add_left_row(rt: &HostRuntime) -> Result<Met, Wrong> {
     Ok(met)
 }
 
+/// A certificate is accepted.
 pub fn check_row(rt: &HostRuntime) -> Result<Met, Wrong> {
     let alloc = rt.alloc();
     let queue = three(alloc)?;
