@@ -12,7 +12,8 @@ pub(crate) fn joined(owned: &[Owned], stretches: &[Stretch], start: usize) -> St
     requires back { GoBack owned.now stretches.now }
     ensures back { result.from ≤ start }
     ensures idle { AreIdle owned.now result.from start }
-    ensures least { (ps : List (Option ℕ)) → AreLeast ps stretches.now (length owned.now) → LeastPrice ps result.from (start + 1) result.least }
+    ensures least { (ps : List (Option ℕ)) → AreLeast ps stretches.now (length owned.now) →
+        LeastPrice ps result.from (start + 1) result.least }
 {
     let mut joined = stretches[start];
     while is_idle_before(owned, joined.from) {

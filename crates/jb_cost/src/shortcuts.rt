@@ -36,9 +36,12 @@ impl Shortcuts {
 
     /// Adds the stretch of a further handle, which is its own start alone.
     pub(crate) fn push(&mut self, from: usize, least: Option<Priced>) -> Result<(), Memory>
-        ensures stretches { OnOk result (self.new.stretches.items ≡ self.old.stretches.items ++ record { from = from; least = least } ∷ []) }
-        ensures places { OnOk result (length self.old.spans.items ≡ length self.old.stretches.items / 8 → length self.new.spans.items ≡ length self.new.stretches.items / 8) }
-        ensures spans { OnOk result ((k : ℕ) (s : SpanValue) → span_at self.new.spans.items k ≡ Some s → span_at self.old.spans.items k ≡ Some s) }
+        ensures stretches { OnOk result
+            (self.new.stretches.items ≡ self.old.stretches.items ++ record { from = from; least = least } ∷ []) }
+        ensures places { OnOk result (length self.old.spans.items ≡ length self.old.stretches.items / 8 →
+            length self.new.spans.items ≡ length self.new.stretches.items / 8) }
+        ensures spans { OnOk result ((k : ℕ) (s : SpanValue) → span_at self.new.spans.items k ≡ Some s →
+            span_at self.old.spans.items k ≡ Some s) }
     {
         self.stretches.push(Stretch { from, least })?;
         if self.stretches.len().is_multiple_of(SPAN) {
@@ -55,7 +58,8 @@ impl Shortcuts {
         ensures fit { FitOwned owned.now self.new }
         ensures back { result.from ≤ start }
         ensures idle { AreIdle owned.now result.from start }
-        ensures least { (ps : List (Option ℕ)) → FitPrices ps owned.now self.old → FitPrices ps owned.now self.new × LeastPrice ps result.from (start + 1) result.least }
+        ensures least { (ps : List (Option ℕ)) → FitPrices ps owned.now self.old →
+            FitPrices ps owned.now self.new × LeastPrice ps result.from (start + 1) result.least }
     {
         let stretch = joined(owned, &self.stretches, start);
         self.stretches[start] = stretch;
@@ -69,7 +73,8 @@ impl Shortcuts {
         requires fit { FitOwned owned.now self.old }
         ensures fit { FitOwned owned.now self.new }
         ensures span { IfSome result (λ s. IsSpan owned.now end s) }
-        ensures best { (ps : List (Option ℕ)) → FitPrices ps owned.now self.old → FitPrices ps owned.now self.new × IfSome result (λ s. IsBestOf ps owned.now end s) }
+        ensures best { (ps : List (Option ℕ)) → FitPrices ps owned.now self.old →
+            FitPrices ps owned.now self.new × IfSome result (λ s. IsBestOf ps owned.now end s) }
     {
         if end % SPAN != 0 {
             return None;
@@ -90,7 +95,8 @@ impl Shortcuts {
         requires fit { FitOwned owned.now self.old }
         ensures fit { FitOwned owned.now self.new }
         ensures span { IsSpan owned.now end result }
-        ensures best { (ps : List (Option ℕ)) → FitPrices ps owned.now self.old → FitPrices ps owned.now self.new × IsBestOf ps owned.now end result }
+        ensures best { (ps : List (Option ℕ)) → FitPrices ps owned.now self.old →
+            FitPrices ps owned.now self.new × IsBestOf ps owned.now end result }
     {
         let mut sum = Owned::none();
         let mut least = None;

@@ -38,7 +38,8 @@ impl Span {
 /// Forgets the span with a handle, if there is one.
 pub(crate) fn forget(spans: &mut Vec<Option<Span>>, handle: usize)
     ensures places { length spans.new.items ≡ length spans.old.items }
-    ensures others { (k : ℕ) (s : SpanValue) → span_at spans.new.items k ≡ Some s → (span_at spans.old.items k ≡ Some s) × (k ≢ handle / 8) }
+    ensures others { (k : ℕ) (s : SpanValue) → span_at spans.new.items k ≡ Some s →
+        (span_at spans.old.items k ≡ Some s) × (k ≢ handle / 8) }
 {
     let place = handle / SPAN;
     if place < spans.len() {

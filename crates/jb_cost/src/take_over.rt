@@ -27,7 +27,8 @@ pub(crate) fn take_over(
     requires spans { AreSpans owned.old.items spans.old.items }
     ensures spans { AreSpans owned.new.items spans.new.items }
     ensures places { length spans.new.items ≡ length spans.old.items }
-    ensures bests { (ps : List (Option ℕ)) → AreBest ps owned.old.items spans.old.items → AreBest ps owned.new.items spans.new.items }
+    ensures bests { (ps : List (Option ℕ)) → AreBest ps owned.old.items spans.old.items →
+        AreBest ps owned.new.items spans.new.items }
     ensures number { length owned.new.items ≡ length owned.old.items }
     ensures idle { (k : ℕ) → IsIdle (owned_at owned.old.items k) → IsIdle (owned_at owned.new.items k) }
     ensures ordered { IsOrdered nat_cmp last.old → IsOrdered nat_cmp last.new }
@@ -55,7 +56,8 @@ fn lose(owned: &mut Vec<Owned>, spans: &mut Vec<Option<Span>>, before: Option<To
     requires spans { AreSpans owned.old.items spans.old.items }
     ensures spans { AreSpans owned.new.items spans.new.items }
     ensures places { length spans.new.items ≡ length spans.old.items }
-    ensures bests { (ps : List (Option ℕ)) → AreBest ps owned.old.items spans.old.items → AreBest ps owned.new.items spans.new.items }
+    ensures bests { (ps : List (Option ℕ)) → AreBest ps owned.old.items spans.old.items →
+        AreBest ps owned.new.items spans.new.items }
     ensures number { length owned.new.items ≡ length owned.old.items }
     ensures idle { (k : ℕ) → IsIdle (owned_at owned.old.items k) → IsIdle (owned_at owned.new.items k) }
     ensures copies { (i : ℕ) → owned_from copies_of owned.new.items i + unwrap_or (option_map (counts_since kept i) before) 0 ≡ owned_from copies_of owned.old.items i }

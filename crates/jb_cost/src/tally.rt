@@ -55,7 +55,8 @@ impl Tally {
 
     /// Whether it has as many descriptors and revoke blocks as another.
     pub(crate) fn names_as(self, other: Tally) -> bool
-        ensures { IsTrue result ↔ ((self.copies.blocks ≡ other.copies.blocks) × (self.frees.blocks ≡ other.frees.blocks)) }
+        ensures { IsTrue result ↔
+            ((self.copies.blocks ≡ other.copies.blocks) × (self.frees.blocks ≡ other.frees.blocks)) }
     {
         self.copies.blocks == other.copies.blocks && self.frees.blocks == other.frees.blocks
     }
