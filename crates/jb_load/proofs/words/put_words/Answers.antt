@@ -49,7 +49,7 @@ returns-in_err-put g c =
     let why = not-touched (changes_of c.loop-home.handle) c.args.words.now c.entries-home-items.result.now c.entries-home-items.ensures c.loop-home.home-index c.loop-home-item.result c.loop-home-item.is inside c.loop-home.invariant.few fault c.in_err-put.ensures.refused in
     record {
       seat = c.in_err-put.ensures.seat ∙ c.loop-home.invariant.seat;
-      ok = subst (λ r. OnOk r ((changes_of c.put.new.handle).words ≡ c.args.words.now)) (sym is) tt;
+      ok = subst (λ r. OnOk r ((changes_of c.put.new.self).words ≡ c.args.words.now)) (sym is) tt;
       refused =
           subst (λ r. IfErr r (λ f. IsRefusedFor (changes_of c.args.handle.now).shape c.args.words.now (not_touched f))) (sym is)
           (subst (λ shape. IsRefusedFor shape c.args.words.now (not_touched fault)) c.loop-home.invariant.shape why);
