@@ -1,9 +1,8 @@
 //! A journal is run.
-ghost use Rattle.std.specs.Prelude.{◌≡◌, ◌+◌, ◌^◌, ◌≤◌, ◌⊎◌, [], false, IfErr, IfOk, OnOk};
+ghost use Rattle.std.specs.Prelude.{◌≡◌, ◌+◌, ◌^◌, ◌≤◌, ◌⊎◌, IfErr, IfOk};
 ghost use Rattle.jb_deck.specs.Done.{past_after};
-ghost use Rattle.jb_deck.specs.Opened.{NotOpened, WasOpened};
 ghost use Rattle.jb_desk.specs.Desks.{shape_in};
-ghost use Rattle.jb_desk.specs.Since.{EndsSince, IsBegunOn, IsSince};
+ghost use Rattle.jb_desk.specs.Since.{EndsSince, IsBegunOn};
 ghost use Rattle.jb_handle.specs.Word.{WordMap};
 ghost use Rattle.jb_journal.specs.Refusing.{RefusesRun};
 ghost use Rattle.jb_journal.specs.Running.{AreAnswers, EndsRun};
@@ -16,7 +15,7 @@ use crate::options::Options;
 use crate::ran::Ran;
 use crate::threads::{Threaded, run_all};
 use crate::worker::Worker;
-use jb_deck::{Deck, Entry, OpenFault};
+use jb_deck::Entry;
 use jb_desk::{Closed, Desk, Origin};
 use jb_disk::{Clock, Disk};
 use std::alloc::Global;
@@ -97,28 +96,15 @@ pub fn run_on<
     ensures since { IfOk result (λ ran. EndsSince D.size D.count D.faults D.honest D.newest D.may_leave D.moment D.left_since H.begun ran.disk ran.trail.items) }
     ensures refused { IfErr result (RefusesRun D.size D.count D.faults D.honest D.newest disk) }
 {
-    let deck = match open::<D, H>(alloc, disk) {
+    let deck = match jb_desk::open::<D, H>(alloc, disk) {
         Ok(deck) => deck,
         Err(fault) => return Err(RunFault::Open(fault)),
     };
+    let _shape = deck.shape(); // for the proof alone: what its handles have to fit
     let Ok(desk) = Desk::<D, C, H, N>::start(alloc, handles, changes, deck, clock) else {
         return Err(RunFault::Memory);
     };
     run_at(rt, alloc, desk, options, worker)
-}
-
-/// Opens the journal on the disk of the start.
-fn open<D: Disk + Drop, H: Origin>(alloc: Global, disk: D) -> Result<Deck<D>, OpenFault>
-    requires { IsBegunOn D.size D.count D.faults D.honest D.newest D.moment D.left_since H.begun disk }
-    ensures opened { OnOk result (WasOpened D.size D.count D.faults D.honest D.newest disk) }
-    ensures new { IfOk result (λ deck. (deck.trail ≡ []) × (deck.aborted ≡ false)) }
-    ensures since { IfOk result (λ deck. IsSince D.size D.count D.faults D.honest D.newest D.may_leave D.moment D.left_since H.begun deck) }
-    ensures refused { IfErr result (NotOpened D.size D.count D.faults D.honest D.newest disk) }
-{
-    match Deck::open(alloc, disk) {
-        Ok(deck) => Ok(deck),
-        Err((_, fault)) => Err(fault),
-    }
 }
 
 /// Runs the workers at a new desk, and closes it.

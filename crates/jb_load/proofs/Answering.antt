@@ -6,8 +6,7 @@ use Rattle.jb_disk.specs.Image.{Image}
 use Rattle.jb_handle.specs.declared.shape.Shape.{Shape}
 use Rattle.jb_handle.specs.declared.stopped.Stopped.{Stopped}
 use Rattle.jb_desk.specs.Origin.{Begun}
-use Rattle.jb_deck.specs.Opened.{IsOpened}
-use Rattle.jb_load.specs.Loads.{AnswersLoad, EndsCheckpoint, Loads}
+use Rattle.jb_load.specs.Loads.{AnswersLoad, EndsCheckpoint, IsOpened, Loads}
 use Rattle.jb_load.specs.Settled.{LoadedSince, LoadsSince}
 use Rattle.jb_load.specs.declared.fault.LoadFault.{LoadFault}
 use Rattle.jb_load.specs.declared.fault.LoadFault.TheVariants.{Accounts, Memory}

@@ -5,13 +5,16 @@ use Rattle.std.specs.List.Sorted.{IsPermutation}
 use Rattle.jb_block.specs.Size.{bytes_of}
 use Rattle.jb_block.specs.declared.size.BlockSize.{BlockSize}
 use Rattle.jb_disk.specs.Image.{Image}
+use Rattle.jb_disk.specs.Kept.{Kept}
 use Rattle.jb_handle.specs.declared.shape.Shape.{Shape}
 use Rattle.jb_handle.specs.declared.stopped.Stopped.{Stopped}
 use Rattle.jb_cost.specs.declared.geometry.Geometry.{Geometry}
 use Rattle.jb_batch.specs.Costs.{geometry_of}
+use Rattle.jb_deck.specs.Deck.{OpenDeck, IsShapeOf}
 use Rattle.jb_deck.specs.Done.{Follow}
-use Rattle.jb_deck.specs.Opened.{IsOpened, NotOpened}
+use Rattle.jb_deck.specs.Opening.{OpenFaults, Opens, RefusesOpen}
 use Rattle.jb_deck.specs.declared.done.Entry.{Entry}
+use Rattle.jb_deck.specs.declared.fault.OpenFault.{OpenFault}
 use Rattle.jb_desk.specs.declared.ended.Ended.{Ended}
 use Rattle.jb_desk.specs.declared.ended.Ended.TheVariants as ended
 use Rattle.jb_load.specs.Blocks.{blocks_in, stopped_of, CountFrom}
@@ -63,11 +66,26 @@ pub record Loads (shape : Shape) (queue : List Stopped) (threads : ℕ) (loaded 
   pub refused : loaded.refused ≡ first_refused runs
 
 module _ {D : Type 0} (size count faults : D → ℕ) (honest : D → Type 0) (newest : D → Image) (disk : D) where
+  -- the journal on the disk was not opened, for this
+  pub record NotOpened (fault : OpenFault) : Type 0 where
+    pub after : D
+    pub kept : Kept size count honest disk after
+    pub fault_count : OpenFaults fault (faults disk) (faults after)
+    pub refuses : honest disk → RefusesOpen (size disk) (count disk) (newest disk) (newest after) fault
+
+  -- the journal on the disk was opened, and its handles have to fit this shape
+  pub record IsOpened (shape : Shape) : Type 0 where
+    pub deck : OpenDeck D
+    pub kept : Kept size count honest disk deck.disk
+    pub fault_count : faults deck.disk ≡ faults disk
+    pub opens : honest disk → Opens (size disk) (count disk) (newest disk) (newest deck.disk) deck.log
+    pub journal : IsShapeOf deck.log.sb (count deck.disk) shape
+
   -- What a load answers to a queue of blocks of this size. Only where the size is not the disk's does it answer so
   abbrev pub AnswersLoad : BlockSize → List Stopped → LoadOptions → Result (Loaded × D) LoadFault → Type 0
   AnswersLoad bs queue options (Err fault.BlockSize) = bytes_of bs ≢ size disk
-  AnswersLoad bs queue options (Err (fault.Open why)) = (bytes_of bs ≡ size disk) × NotOpened size count faults honest newest disk why
-  AnswersLoad bs queue options (Err fault.Memory) = (bytes_of bs ≡ size disk) × ((shape : Shape) × IsOpened size count faults honest newest disk shape)
-  AnswersLoad bs queue options (Err fault.Accounts) = (bytes_of bs ≡ size disk) × ((shape : Shape) × IsOpened size count faults honest newest disk shape)
+  AnswersLoad bs queue options (Err (fault.Open why)) = (bytes_of bs ≡ size disk) × NotOpened why
+  AnswersLoad bs queue options (Err fault.Memory) = (bytes_of bs ≡ size disk) × ((shape : Shape) × IsOpened shape)
+  AnswersLoad bs queue options (Err fault.Accounts) = (bytes_of bs ≡ size disk) × ((shape : Shape) × IsOpened shape)
   AnswersLoad bs queue options (Ok ended) =
-      (bytes_of bs ≡ size disk) × ((shape : Shape) × IsOpened size count faults honest newest disk shape × Loads shape queue options.threads ended.0) × EndsCheckpoint options.checkpoint ended.0.checkpoint
+      (bytes_of bs ≡ size disk) × ((shape : Shape) × IsOpened shape × Loads shape queue options.threads ended.0) × EndsCheckpoint options.checkpoint ended.0.checkpoint

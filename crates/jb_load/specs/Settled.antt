@@ -6,8 +6,7 @@ use Rattle.jb_handle.specs.declared.shape.Shape.{Shape}
 use Rattle.jb_handle.specs.declared.stopped.Stopped.{Stopped}
 use Rattle.jb_desk.specs.Origin.{Begun}
 use Rattle.jb_desk.specs.Since.{EndsSince}
-use Rattle.jb_deck.specs.Opened.{IsOpened}
-use Rattle.jb_load.specs.Loads.{Loads}
+use Rattle.jb_load.specs.Loads.{IsOpened, Loads}
 use Rattle.jb_load.specs.Runs.{handle_at}
 use Rattle.jb_load.specs.declared.loaded.Loaded.{Loaded}
 
