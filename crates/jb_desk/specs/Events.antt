@@ -16,6 +16,7 @@ use Rattle.jb_desk.specs.Shadow.{Shadow, fresh, begun, dropped, stopped, took, s
 abbrev pub granted_in : ℕ × Held → ℕ × ℕ
 granted_in e = (e.0, e.1.credits)
 
+-- the tickets and seats of a machine
 abbrev pub shadow_of : Machine → Shadow
 shadow_of m = record {
   seats = map granted_in m.handles;
