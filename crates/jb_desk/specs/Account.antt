@@ -57,7 +57,7 @@ pub record IsLost (s : Shadow) : Type 0 where
   pub credits : s.credits ≡ []
   pub taken : s.taken ≡ s.settled
 
--- what holds of it between calls: the counts are in order, what waits is in line while it runs, and nothing waits once it has failed
+-- what holds of an account between calls: the counts are in order, what waits is in line while it runs, and nothing waits once it has failed
 pub record IsSound (a : Account) : Type 0 where
   pub most : IsMost (geometry_of a.shape) a.shape.limit a.most
   pub order : a.shadow.settled ≤ a.shadow.taken
@@ -89,27 +89,27 @@ pub record IsStart (shape : Shape) (usable : ℕ) (a : Account) : Type 0 where
   pub shut : a.shut ≡ false
   pub aborted : a.aborted ≡ false
 
--- once so many credits were granted to a seat
+-- the account once so many credits were granted to a seat
 abbrev pub granted_to : ℕ → ℕ → Account → Account
 granted_to seat credits a = record a { shadow = begun seat credits a.shadow; granted = a.granted + credits }
 
--- once the open handle of a seat was given up
+-- the account once the open handle of a seat was given up
 abbrev pub dropped_of : ℕ → Account → Account
 dropped_of seat a = record a { shadow = dropped seat a.shadow }
 
--- once a seat has stopped with these words
+-- the account once a seat has stopped with these words
 abbrev pub queued : ℕ → WordMap → Account → Account
 queued seat words a = record a { shadow = stopped seat words a.shadow; changes = a.changes + map.len words }
 
--- once all that was queued was taken
+-- the account once all that was queued was taken
 abbrev pub taken_all : Account → Account
 taken_all a = record a { shadow = took a.shadow }
 
--- settled up to a ticket, by these groups
+-- the account once its tickets are settled up to this one, by these groups
 abbrev pub settled_to : ℕ → List Entry → Account → Account
 settled_to past entries a = record a { shadow = settled_by (past - a.shadow.settled) a.shadow; trail = a.trail ++ entries }
 
--- once the journal has failed: all that was not settled is lost
+-- the account once the journal has failed: all that was not settled is lost
 abbrev pub failed_of : Account → Account
 failed_of a = record a { shadow = lost a.shadow; aborted = true }
 

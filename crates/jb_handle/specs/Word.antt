@@ -25,7 +25,7 @@ abbrev pub HasBytes : Word → Type 0
 HasBytes (Copy bytes) = AreBytes bytes
 HasBytes Free = Unit {0}
 
--- the same of the word of an entry
+-- the numbers of a copy in an entry are bytes
 abbrev pub EntryHasBytes : ℕ × Word → Type 0
 EntryHasBytes entry = HasBytes entry.1
 

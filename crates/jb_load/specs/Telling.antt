@@ -31,7 +31,7 @@ name_of Length = codes "Length"
 name_of NotOpen = codes "NotOpen"
 name_of Memory = codes "Memory"
 
--- its number, where it has one
+-- the number that a fault names, where it names one
 abbrev pub number_in : HandleFault → Option ℕ
 number_in Aborted = None
 number_in Closed = None
