@@ -10,25 +10,91 @@ pub enum Failed {
     /// The file cannot be opened or made.
     #[error("cannot open the file")]
     File,
-    /// No journal was made.
+    /// A call of the journal was refused.
     #[error("{0}")]
-    Format(#[from] FormatFault),
+    Format(FormatFault),
     /// The journal was not recovered.
     #[error("{0}")]
-    Recover(#[from] RecoverFault),
+    Recover(RecoverFault),
     /// The journal was not run.
     #[error("{0}")]
-    Run(#[from] RunFault),
+    Run(RunFault),
     /// A handle did not stop.
-    #[error("{0}")]
-    Change(#[from] HandleFault<TouchFault>),
+    #[error("a handle did not stop")]
+    Change(HandleFault<TouchFault>),
     /// A handle was not committed.
     #[error("{0}")]
-    Wait(#[from] WaitFault),
+    Wait(WaitFault),
     /// An account was not read.
     #[error("{0}")]
-    Read(#[from] ReadHomeFault),
+    Read(ReadHomeFault),
     /// A worker has no answer.
     #[error("out of memory")]
     Memory,
+}
+
+impl From<FormatFault> for Failed {
+    ghost use Rattle.std.specs.Prelude.{◌≡◌};
+    ghost use Rattle.example_accounts.specs.declared.failed.Failed.TheVariants.{Format as Is};
+
+    ghost from_gives = { λ fault failed. failed ≡ Is fault };
+
+    fn from(fault: FormatFault) -> Failed {
+        Failed::Format(fault)
+    }
+}
+
+impl From<RecoverFault> for Failed {
+    ghost use Rattle.std.specs.Prelude.{◌≡◌};
+    ghost use Rattle.example_accounts.specs.declared.failed.Failed.TheVariants.{Recover as Is};
+
+    ghost from_gives = { λ fault failed. failed ≡ Is fault };
+
+    fn from(fault: RecoverFault) -> Failed {
+        Failed::Recover(fault)
+    }
+}
+
+impl From<RunFault> for Failed {
+    ghost use Rattle.std.specs.Prelude.{◌≡◌};
+    ghost use Rattle.example_accounts.specs.declared.failed.Failed.TheVariants.{Run as Is};
+
+    ghost from_gives = { λ fault failed. failed ≡ Is fault };
+
+    fn from(fault: RunFault) -> Failed {
+        Failed::Run(fault)
+    }
+}
+
+impl From<HandleFault<TouchFault>> for Failed {
+    ghost use Rattle.std.specs.Prelude.{◌≡◌};
+    ghost use Rattle.example_accounts.specs.declared.failed.Failed.TheVariants.{Change as Is};
+
+    ghost from_gives = { λ fault failed. failed ≡ Is fault };
+
+    fn from(fault: HandleFault<TouchFault>) -> Failed {
+        Failed::Change(fault)
+    }
+}
+
+impl From<WaitFault> for Failed {
+    ghost use Rattle.std.specs.Prelude.{◌≡◌};
+    ghost use Rattle.example_accounts.specs.declared.failed.Failed.TheVariants.{Wait as Is};
+
+    ghost from_gives = { λ fault failed. failed ≡ Is fault };
+
+    fn from(fault: WaitFault) -> Failed {
+        Failed::Wait(fault)
+    }
+}
+
+impl From<ReadHomeFault> for Failed {
+    ghost use Rattle.std.specs.Prelude.{◌≡◌};
+    ghost use Rattle.example_accounts.specs.declared.failed.Failed.TheVariants.{Read as Is};
+
+    ghost from_gives = { λ fault failed. failed ≡ Is fault };
+
+    fn from(fault: ReadHomeFault) -> Failed {
+        Failed::Read(fault)
+    }
 }

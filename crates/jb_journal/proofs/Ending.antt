@@ -1,5 +1,5 @@
 -- What a run tells of its end.
-use Rattle.std.proofs.Common.{◌≡◌, ℕ, ◌≤◌, List, sym, ap, subst, ◌∙◌, arith}
+use Rattle.std.proofs.Common.{◌≡◌, ℕ, ◌≤◌, List, sym, subst, ◌∙◌, arith}
 use Rattle.jb_deck.specs.Done.{Follow, past_after}
 use Rattle.jb_deck.specs.declared.done.Entry.{Entry}
 use Rattle.jb_desk.proofs.Rounds.{follow-past}

@@ -1,5 +1,3 @@
-use Rattle.std.proofs.Common.{ap, ◌∙◌}
-use Rattle.jb_deck.specs.Done.{past_after}
 use Rattle.jb_deck.proofs.Gathered.{last-past}
 use Rattle.jb_journal.proofs.running.settled_handles.Goals as goal
 
