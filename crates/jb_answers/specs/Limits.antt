@@ -15,6 +15,6 @@ cert_limit = 150994944
 abbrev pub PlansAreWithin : Type 0
 PlansAreWithin = (text : List ℕ) (words : Said) → length text ≤ text_limit → PlanSays text words → length words.out ≤ 9 * length text
 
--- and so it is within the limit of a certificate
+-- what `plan` prints for a queue text within its limit is within the limit of a certificate
 abbrev pub PlansAreReadable : Type 0
 PlansAreReadable = (text : List ℕ) (words : Said) → length text ≤ text_limit → PlanSays text words → length words.out ≤ cert_limit

@@ -2,6 +2,7 @@
 use Rattle.std.specs.Prelude.{ℕ, ◌≤◌}
 use Rattle.jb_board.specs.declared.front.Front.{Front}
 
+-- the counts of what is settled, taken and stopped
 abbrev pub front : ℕ → ℕ → ℕ → Front
 front settled taken stopped = record { settled = settled; taken = taken; stopped = stopped }
 

@@ -11,6 +11,7 @@ use Rattle.jb_board.specs.declared.tickets.Tickets.{Tickets}
 abbrev pub BoardId : Type 0
 BoardId = TableId
 
+-- which board this is
 abbrev pub board_id : {L : Type 0} → Board L → BoardId
 board_id b = b.words.table.shared.table_id
 

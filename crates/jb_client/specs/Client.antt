@@ -29,7 +29,7 @@ pub record LeavesPrefix {D : Type 0} (may_leave : D → Image → Type 0) (momen
   pub each : (c : Image) → left_since disk since c → HasPrefix (revoking own) size count (recovered_home size count base) settled batch 0 c
   pub ends : (c : Image) → may_leave disk c → HasPrefix (revoking own) size count (recovered_home size count base) settled batch (groups_in batch.groups) c
 
--- the same superblock at first, and a crash may leave no image but ones that are recovered to these handles
+-- of a disk whose superblock was accepted at first: a crash may leave no image but ones that are recovered to these handles
 pub record LeavesAll {D : Type 0} (may_leave : D → Image → Type 0) (size count : ℕ) (base : Image) (settled : List Stopped) (disk : D) : Type 0 where
   pub own : Superblock
   pub was : super_on size count base ≡ Ok own

@@ -90,6 +90,7 @@ abbrev pub refusal_by : Bool → Machine → Event → Option CoreFault
 refusal_by true m event = refusal_up m event
 refusal_by false m event = refusal_down event
 
+-- the first refusal of an event by a machine, but for that of a cut that is not least
 abbrev pub refusal : Machine → Event → Option CoreFault
 refusal m event = refusal_by m.up m event
 

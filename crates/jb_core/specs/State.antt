@@ -6,6 +6,7 @@ use Rattle.jb_core.specs.Machine.{Machine, reserved}
 use Rattle.jb_core.specs.Sound.{IsSound}
 use Rattle.jb_core.specs.declared.state.State.TheInside.{Inside}
 
+-- the machine that a state keeps
 abbrev pub machine_of : Inside → Machine
 machine_of s = record {
   shape = s.shape;

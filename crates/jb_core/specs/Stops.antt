@@ -5,6 +5,7 @@ use Rattle.jb_cost.specs.Pieces.{pieces_from}
 use Rattle.jb_core.specs.Line.{Line}
 use Rattle.jb_core.specs.declared.stops.Stops.TheInside.{Inside}
 
+-- the line of handles that the stops keep: settled, taken and queued ones, with the credits of those that wait
 abbrev pub line_of : Inside → Line
 line_of s = record {
   settled = pieces_from 0 (take s.settled s.ends.items) s.handles.items;

@@ -7,6 +7,7 @@ use Rattle.jb_handle.specs.declared.stopped.Stopped.{Stopped}
 use Rattle.jb_handle.specs.Words.{touched, copies, frees}
 use Rattle.jb_cost.specs.declared.geometry.Geometry.{Geometry}
 
+-- sets with the same homes are equal, as a Model's value requires
 abbrev pub set_code : Coded (set.FinSet nat_cmp)
 set_code = set.code coded_ℕ
 

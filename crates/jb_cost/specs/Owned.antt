@@ -25,6 +25,7 @@ owned_from count os i = sum_by count (drop i os)
 abbrev pub copies_of : Owned → ℕ
 copies_of o = o.copies
 
+-- the homes that a handle freed and still owns
 abbrev pub frees_of : Owned → ℕ
 frees_of o = o.frees
 

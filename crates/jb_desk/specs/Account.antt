@@ -20,6 +20,7 @@ use Rattle.jb_desk.specs.declared.fault.EnqueueFault.{EnqueueFault}
 use Rattle.jb_desk.specs.declared.fault.EnqueueFault.TheVariants as stop
 use Rattle.jb_desk.specs.Shadow.{Shadow, credits_at, reserved, fresh, begun, dropped, stopped, took, settled_by, lost}
 
+-- what a book keeps, as a value: its seats and tickets, what it may grant, the trail, and whether it has failed
 pub record Account : Type 0 where
   pub shadow : Shadow
   pub shape : Shape
@@ -56,6 +57,7 @@ pub record IsLost (s : Shadow) : Type 0 where
   pub credits : s.credits ≡ []
   pub taken : s.taken ≡ s.settled
 
+-- what holds of an account between calls: the counts are in order, what waits is in line while it runs, and nothing waits once it has failed
 pub record IsSound (a : Account) : Type 0 where
   pub most : IsMost (geometry_of a.shape) a.shape.limit a.most
   pub order : a.shadow.settled ≤ a.shadow.taken
@@ -87,22 +89,27 @@ pub record IsStart (shape : Shape) (usable : ℕ) (a : Account) : Type 0 where
   pub shut : a.shut ≡ false
   pub aborted : a.aborted ≡ false
 
+-- the account once so many credits were granted to a seat
 abbrev pub granted_to : ℕ → ℕ → Account → Account
 granted_to seat credits a = record a { shadow = begun seat credits a.shadow; granted = a.granted + credits }
 
+-- the account once the open handle of a seat was given up
 abbrev pub dropped_of : ℕ → Account → Account
 dropped_of seat a = record a { shadow = dropped seat a.shadow }
 
+-- the account once a seat has stopped with these words
 abbrev pub queued : ℕ → WordMap → Account → Account
 queued seat words a = record a { shadow = stopped seat words a.shadow; changes = a.changes + map.len words }
 
+-- the account once all that was queued was taken
 abbrev pub taken_all : Account → Account
 taken_all a = record a { shadow = took a.shadow }
 
--- settled up to a ticket, by these groups
+-- the account once its tickets are settled up to this one, by these groups
 abbrev pub settled_to : ℕ → List Entry → Account → Account
 settled_to past entries a = record a { shadow = settled_by (past - a.shadow.settled) a.shadow; trail = a.trail ++ entries }
 
+-- the account once the journal has failed: all that was not settled is lost
 abbrev pub failed_of : Account → Account
 failed_of a = record a { shadow = lost a.shadow; aborted = true }
 
@@ -131,6 +138,7 @@ pub record IsOpenFor (a : Account) (seat : ℕ) (words : WordMap) (credits : ℕ
 abbrev pub CanStop : Account → ℕ → WordMap → Type 0
 CanStop a seat words = (a.aborted ≡ false) × ((credits : ℕ) × IsOpenFor a seat words credits)
 
+-- why a seat may not stop with these words
 abbrev pub RefusesStop : Account → ℕ → WordMap → EnqueueFault → Type 0
 RefusesStop a seat words stop.Aborted = a.aborted ≡ true
 RefusesStop a seat words stop.NotOpen = (a.aborted ≡ false) × ((credits : ℕ) → IsOpenFor a seat words credits → ⊥)

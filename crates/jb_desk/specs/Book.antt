@@ -9,6 +9,7 @@ use Rattle.jb_desk.specs.Origin.{Begun}
 use Rattle.jb_desk.specs.Since.{AreStops}
 use Rattle.jb_desk.specs.declared.book.Book.TheInside.{Inside}
 
+-- the account that a book keeps
 abbrev pub account_of : {S : Type 0} → Inside S → Account
 account_of b = record {
   shadow = record { seats = b.seats.entries; queue = b.queue.items; credits = b.credits.items; settled = b.settled; taken = b.taken; next = b.next };

@@ -16,6 +16,7 @@ use Rattle.jb_desk.specs.Shadow.{Shadow, fresh, begun, dropped, stopped, took, s
 abbrev pub granted_in : ℕ × Held → ℕ × ℕ
 granted_in e = (e.0, e.1.credits)
 
+-- the tickets and seats of a machine
 abbrev pub shadow_of : Machine → Shadow
 shadow_of m = record {
   seats = map granted_in m.handles;
@@ -42,7 +43,7 @@ after_shadow m Restart s = fresh
 abbrev pub Shadowed : Type 0
 Shadowed = (m : Machine) → IsSound m → (e : Event) → refusal m e ≡ None → IsLeast m e → shadow_of (after m e) ≡ after_shadow m e (shadow_of m)
 
--- so does a step; one that is refused leaves it
+-- a step that nothing refuses moves the shadow of a sound machine by its function, and one that is refused leaves it
 abbrev pub StepsShadow : Event → Machine → Result Reply CoreFault → Machine → Type 0
 StepsShadow e old (Ok reply) new = shadow_of new ≡ after_shadow old e (shadow_of old)
 StepsShadow e old (Err fault) new = shadow_of new ≡ shadow_of old

@@ -7,6 +7,7 @@ use Rattle.jb_ready.specs.Ready.{revoking}
 use Rattle.jb_super.specs.Superblock.{Superblock, superblock_in}
 use Rattle.jb_super.specs.declared.fault.SuperFault.{SuperFault}
 
+-- what is known of the disk when a desk begins, and of the words that its handles may stop with
 pub record Begun : Type 1 where
   -- of the disk at the start: the size of a block, how many there are, whether it is honest, and how many calls have failed
   pub size : ℕ
@@ -23,6 +24,7 @@ pub record Begun : Type 1 where
   -- the words with which a handle may stop
   pub stops : WordMap → Type 0
 
+-- the superblock that was read, with the feature for revoke blocks
 abbrev pub revoking_in : Result Superblock SuperFault → Superblock
 revoking_in (Ok sb) = revoking sb
 revoking_in (Err fault) = superblock_in []

@@ -13,7 +13,7 @@ stops s = s.handles.amount
 abbrev pub changes : {H N : Type 0} → Seat H N → ℕ
 changes s = s.changes.amount
 
--- its number in the book
+-- the number of a seat in the book
 abbrev pub seat_number : {H N : Type 0} → Seat H N → ℕ
 seat_number s = s.number
 

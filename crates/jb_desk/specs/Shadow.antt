@@ -6,6 +6,7 @@ use Rattle.jb_handle.specs.declared.stopped.Stopped.{Stopped}
 use Rattle.jb_handle.specs.Word.{WordMap}
 use Rattle.jb_core.specs.Seats as seats
 
+-- the tickets of a book and the seats that have open handles
 pub record Shadow : Type 0 where
   -- the seats with an open handle, each with its credits
   pub seats : List (ℕ × ℕ)

@@ -49,11 +49,11 @@ pub record Since {D : Type 0} (size count faults : D → ℕ) (honest : D → Ty
   pub later : b.since ≤ moment d.disk
   pub ever : (c : Image) → left_since d.disk b.since c → b.left c ⊎ HasFirst b given 0 c
 
--- where the disk of the start is honest, the journal stands so
+-- where the disk of the start is honest, the journal stands as it must since then (`Since`)
 pub record IsSince {D : Type 0} (size count faults : D → ℕ) (honest : D → Type 0) (newest : D → Image) (may_leave : D → Image → Type 0) (moment : D → ℕ) (left_since : D → ℕ → Image → Type 0) (b : Begun) (d : OpenDeck D) : Type 0 where
   pub since : b.honest → Since size count faults honest newest may_leave moment left_since b d
 
--- the disk and the trail are those of such a journal
+-- the disk and the trail are those of a journal that stands as it must since the start
 pub record EndsSince {D : Type 0} (size count faults : D → ℕ) (honest : D → Type 0) (newest : D → Image) (may_leave : D → Image → Type 0) (moment : D → ℕ) (left_since : D → ℕ → Image → Type 0) (b : Begun) (disk : D) (trail : List Entry) : Type 0 where
   pub deck : OpenDeck D
   pub same_disk : deck.disk ≡ disk

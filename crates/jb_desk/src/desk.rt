@@ -29,10 +29,10 @@ use std::alloc::Global;
 use std::sync::ledger::{Blank, Ledger};
 use std::sync::{Condvar, Mutex, Wait};
 
-/// The desk of a journal, at which any number of threads begin, change and stop handles while one
-/// commits what has stopped and one writes committed groups home. It has two locks, one for the
-/// book of handles and one for the journal, and none of its calls holds the first while the disk is
-/// at work.
+/// The desk of a journal (`journal_t` as threads share it), at which any number of threads begin, change and
+/// stop handles while one commits what has stopped (kjournald2) and one writes committed groups home. It has
+/// two locks, one for the book of handles and one for the journal, and none of its calls holds the first while
+/// the disk is at work.
 #[derive(Drop)]
 pub struct Desk<D: Disk, C: Clock, H: Origin, N: Ledger> {
     counter: Mutex<Counter<H, N>>,

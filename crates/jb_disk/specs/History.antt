@@ -45,5 +45,6 @@ pub record IsSound (h : History) : Type 0 where
   pub shape : HasShape h.count (bytes_of h.size) h.first
   pub whole : AreWhole h.count (bytes_of h.size) h.steps
 
+-- the newest content: the first one with all writes made
 abbrev pub newest_of : History → Image
 newest_of h = replay h.first h.steps

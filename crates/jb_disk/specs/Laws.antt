@@ -14,6 +14,6 @@ pub record TakesVersions (h : History) (c : Image) : Type 0 where
 abbrev pub ImagesTakeVersions : Type 0
 ImagesTakeVersions = (h : History) (c : Image) → IsSound h → MayLeave h.first h.steps c ↔ TakesVersions h c
 
--- and exactly where some choice of numbers names it
+-- a crash may leave an image exactly where some choice of numbers names it
 abbrev pub ImagesAreChosen : Type 0
 ImagesAreChosen = (h : History) (c : Image) → IsSound h → MayLeave h.first h.steps c ↔ ((choice : List ℕ) × IsChosen h choice c)

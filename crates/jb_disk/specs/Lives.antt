@@ -7,6 +7,7 @@ use Rattle.jb_disk.specs.Image.{Image, block, HasShape}
 use Rattle.jb_disk.specs.History.{Step, Wrote, Synced, replay, MayLeave, LeftSince, AreWhole}
 use Rattle.jb_disk.specs.Writes.{torn_whole, shape_torn, shape_set}
 
+-- the bytes of a size are a block size
 pub is_block_size : (size : BlockSize) → IsBlockSize (bytes_of size)
 is_block_size OneKib = inl refl
 is_block_size TwoKib = inr (inl refl)
@@ -19,6 +20,7 @@ replay_shape count size first (Wrote place bytes ∷ older) shape whole =
     shape_set count size (replay first older) place bytes (replay_shape count size first older shape whole.2) whole.0 whole.1
 replay_shape count size first (Synced ∷ older) shape whole = replay_shape count size first older shape whole
 
+-- a crash may leave the newest content
 pub newest_stays : (count size : ℕ) (first : Image) (steps : List Step) → HasShape count size first → AreWhole count size steps → MayLeave first steps (replay first steps)
 newest_stays count size first [] shape whole = refl
 newest_stays count size first (Wrote place bytes ∷ older) shape whole =
@@ -28,6 +30,7 @@ newest_stays count size first (Wrote place bytes ∷ older) shape whole =
     (replay first older, newest_stays count size first older shape whole.2, torn_whole (replay first older) place bytes inside bytes_whole)
 newest_stays count size first (Synced ∷ older) shape whole = refl
 
+-- what a crash may leave has the shape of the disk
 pub left_has_shape : (count size : ℕ) (first : Image) (steps : List Step) (c : Image) → HasShape count size first → AreWhole count size steps → MayLeave first steps c → HasShape count size c
 left_has_shape count size first [] c shape whole left = subst (HasShape count size) (sym left) shape
 left_has_shape count size first (Wrote place bytes ∷ older) c shape whole left =
@@ -41,6 +44,7 @@ since_has_shape count size first (step ∷ older) t c shape whole (inl left) = l
 since_has_shape count size first (Wrote place bytes ∷ older) t c shape whole (inr left) = since_has_shape count size first older t c shape whole.2 left
 since_has_shape count size first (Synced ∷ older) t c shape whole (inr left) = since_has_shape count size first older t c shape whole left
 
+-- what a crash may leave now it may have left since an earlier moment
 pub left_since_now : (first : Image) (steps : List Step) (t : ℕ) (c : Image) → t ≤ length steps → MayLeave first steps c → LeftSince first steps t c
 left_since_now first [] t c earlier left = (earlier, left)
 left_since_now first (step ∷ older) t c earlier left = inl (omega (arith, earlier), left)
@@ -51,6 +55,7 @@ none_later first [] t c left = left.0
 none_later first (step ∷ older) t c (inl left) = omega (arith, left.0)
 none_later first (step ∷ older) t c (inr left) = omega (arith, none_later first older t c left)
 
+-- what a crash may leave since this moment is what it may leave now
 pub left_only_now : (first : Image) (steps : List Step) (c : Image) → LeftSince first steps (length steps) c → MayLeave first steps c
 left_only_now first [] c left = left.1
 left_only_now first (step ∷ older) c (inl left) = left.1

@@ -17,6 +17,7 @@ pub record Held : Type 0 where
   pub shape : Shape
   pub words : WordMap
 
+-- a handle with these credits, this shape and these words
 abbrev pub held : ℕ → Shape → WordMap → Held
 held credits shape words = record { credits = credits; shape = shape; words = words }
 

@@ -25,7 +25,7 @@ abbrev pub HasBytes : Word → Type 0
 HasBytes (Copy bytes) = AreBytes bytes
 HasBytes Free = Unit {0}
 
--- the same of the word of an entry
+-- the numbers of a copy in an entry are bytes
 abbrev pub EntryHasBytes : ℕ × Word → Type 0
 EntryHasBytes entry = HasBytes entry.1
 
@@ -44,6 +44,7 @@ abbrev pub from_option : Option (List ℕ) → Word
 from_option (Some bytes) = Copy bytes
 from_option None = Free
 
+-- a word is the one that its bytes, or none, give
 abbrev pub back : (w : Word) → from_option (to_option w) ≡ w
 back (Copy bytes) = refl
 back Free = refl
@@ -52,5 +53,6 @@ back Free = refl
 abbrev pub word_code : Coded Word
 word_code = code_by (Option (List ℕ)) (coded_option (coded_list coded_ℕ)) to_option from_option back
 
+-- words of home blocks that are the same at each home are equal
 abbrev pub words_code : Coded WordMap
 words_code = map.code coded_ℕ word_code

@@ -3,6 +3,7 @@ use Rattle.std.specs.Prelude.{Bool, true, false, nat_lt, List, [], ◌∷◌, Op
 use Rattle.jb_load.specs.Runs.{Run}
 use Rattle.jb_load.specs.declared.loaded.Refused.{Refused}
 
+-- the first of two refused handles, unless the test holds: the other one then
 abbrev pub earlier_if : Bool → Refused → Refused → Refused
 earlier_if true one other = other
 earlier_if false one other = one

@@ -12,6 +12,7 @@ use Rattle.jb_load.specs.declared.loaded.Refused.{Refused}
 use Rattle.jb_load.specs.declared.worker.Stop.{Stop}
 use Rattle.jb_load.specs.declared.worker.Worked.{Worked}
 
+-- what a worker made of its handles
 pub record Run : Type 0 where
   -- the handles that stopped, in the order in which they were run
   pub stops : List Stop

@@ -31,7 +31,7 @@ name_of Length = codes "Length"
 name_of NotOpen = codes "NotOpen"
 name_of Memory = codes "Memory"
 
--- its number, where it has one
+-- the number that a fault names, where it names one
 abbrev pub number_in : HandleFault → Option ℕ
 number_in Aborted = None
 number_in Closed = None
@@ -44,6 +44,7 @@ number_in Length = None
 number_in NotOpen = None
 number_in Memory = None
 
+-- the line of a refused handle, from its place, the name of the fault and its number, where it has one
 abbrev pub refused_parts : List ℕ → List ℕ → Option ℕ → List ℕ
 refused_parts place name None = spelled (codes "jb: handle " ∷ place ∷ codes ": " ∷ name ∷ codes "\n" ∷ [])
 refused_parts place name (Some n) = spelled (codes "jb: handle " ∷ place ∷ codes ": " ∷ name ∷ codes " " ∷ decimal n ∷ codes "\n" ∷ [])
@@ -82,6 +83,7 @@ is_well (Some ended) = is_shut ended
 abbrev pub is_whole : Loaded → Bool
 is_whole l = is_none l.refused && is_shut l.commit && is_well l.checkpoint && (l.settled == l.queued)
 
+-- the status of a load that ended well, or did not
 abbrev pub status_if : Bool → ℕ
 status_if true = 0
 status_if false = 1

@@ -73,6 +73,7 @@ abbrev pub of_code : Option ℤ → Beside
 of_code None = Nothing
 of_code (Some code) = System code
 
+-- the home blocks that a second line names, where there are some
 abbrev pub of_homes : Option ℕ → Beside
 of_homes None = Nothing
 of_homes (Some homes) = Homes homes

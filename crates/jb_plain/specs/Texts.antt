@@ -13,7 +13,7 @@ known_behind name input = if bytes_eq name (codes "-") then input else None
 abbrev pub IsTextWithin : ℕ → Option (List ℕ) → List ℕ → Type 0
 IsTextWithin limit known text = IfSome known (λ bytes. text ≡ bytes) × (length text ≤ limit)
 
--- the same of a queue text, with its own limit
+-- these are all bytes of a queue text, at most as many as such a text may have
 abbrev pub IsText : Option (List ℕ) → List ℕ → Type 0
 IsText known text = IsTextWithin text_limit known text
 
@@ -24,6 +24,6 @@ HasNoTextWithin limit name known (CannotRead told code) = told.now ≡ name
 HasNoTextWithin limit name known Memory = Unit {0}
 HasNoTextWithin limit name known _ = ⊥
 
--- the same of a queue text, with its own limit
+-- a queue text could not be had: it has more bytes than such a text may have, or the reading or the memory failed
 abbrev pub HasNoText : List ℕ → Option (List ℕ) → CommandFault → Type 0
 HasNoText name known fault = HasNoTextWithin text_limit name known fault

@@ -5,6 +5,7 @@ use Rattle.jb_price.specs.declared.certificate.Cert.{Cert}
 use Rattle.jb_price.specs.declared.certificate.CertAnswer.{CertAnswer}
 use Rattle.jb_price.specs.declared.certificate.CertAnswer.TheVariants.{Cut, NoCut}
 
+-- a number that 64 bits hold
 abbrev pub Fits64 : ℕ → Type 0
 Fits64 n = n < 2 ^ 64
 

@@ -178,5 +178,6 @@ abbrev pub ReportsBy : {A : Type 0} → Result A QueueFault → ℕ → Cause �
 ReportsBy read at Memory = (other : QueueFault) → read ≡ Err other → at ≤ other.line
 ReportsBy read at cause = read ≡ Err (record { line = at; cause = cause })
 
+-- a fault with its line and cause is the first one of a text (`ReportsBy`)
 abbrev pub Reports : {A : Type 0} → Result A QueueFault → QueueFault → Type 0
 Reports read fault = ReportsBy read fault.line fault.cause

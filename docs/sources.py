@@ -1,0 +1,90 @@
+"""What the scripts of this folder read of the sources: functions with their clauses, and the words of the specs."""
+import os
+import re
+
+ROOT = os.path.dirname(os.path.dirname(os.path.abspath(__file__)))
+WORD = r"(?:(?:abbrev|pub|record|unfoldable|data) )+"
+
+
+def text_of(*path):
+    with open(os.path.join(ROOT, *path), encoding="utf-8") as file:
+        return file.read()
+
+
+def crates():
+    """The names of the crates, in the order of crates.txt: each after all that it uses, and then those that it does not name."""
+    named = re.findall(r"^(\w+):", text_of("crates.txt"), re.M)
+    there = sorted(os.listdir(os.path.join(ROOT, "crates")))
+    return [name for name in named if name in there] + [name for name in there if name not in named]
+
+
+def files(crate, folder, ending):
+    """The files of a crate's folder, as paths from the crate on."""
+    top = os.path.join(ROOT, "crates", crate)
+    for at, folders, names in os.walk(os.path.join(top, folder)):
+        folders.sort()
+        for name in sorted(names):
+            if name.endswith(ending):
+                yield os.path.relpath(os.path.join(at, name), top)
+
+
+def bare(header):
+    """A line without what stands in angle brackets."""
+    while re.search(r"<[^<>]*>", header):
+        header = re.sub(r"<[^<>]*>", "", header)
+    return header
+
+
+def block_around(text, at):
+    """Of the `impl` or `trait` that a place is in: whether it is one of a trait, and the name of the type or trait."""
+    found = list(re.finditer(r"^(?:pub(?:\(\w+\))? )?(?:trait|impl|mod)\b[^{]*", text[:at], re.M))
+    if not found:
+        return False, None
+    header = bare(found[-1].group(0).replace("->", ""))
+    names = re.findall(r"(?:trait|impl|for)\s+(?:\w+::)*([A-Z]\w*)", header)
+    return "trait " in header or " for " in header, names[-1] if names else None
+
+
+def signatures(text, name=r"\w+"):
+    """The functions of this name, by default all: whether it is `pub` or one of a trait, the type or trait that it belongs to, its
+    name, and the lines up to the body."""
+    for found in re.finditer(r"^( *)((?:pub(?:\(\w+\))? )?(?:const )?)fn (%s)\b" % name, text, re.M):
+        rest = text[found.start():]
+        end = re.search(r"^%s\{|;$" % found.group(1), rest, re.M)
+        of_trait, owner = block_around(text, found.start()) if found.group(1) else (False, None)
+        yield found.group(2).startswith("pub ") or of_trait, owner, found.group(3), rest[:end.start()] if end else rest
+
+
+def public_types(crate):
+    return set(re.findall(r"^pub (?:struct|enum|trait) (\w+)", "\n".join(text_of("crates", crate, file) for file in files(crate, "src", ".rt")), re.M))
+
+
+class Word:
+    """A public word of the specs: its crate, its file from the crate on, and the line of meaning over it, which may be none."""
+
+    def __init__(self, crate, file, name, meaning):
+        self.crate, self.file, self.name, self.meaning = crate, file, name, meaning
+
+
+def meaning_over(lines, at, indent):
+    """The lines of comment that stand right over a line, as one text."""
+    at -= 1
+    while at >= 0 and re.match(r"infix[lr]? ", lines[at]):
+        at -= 1
+    said = []
+    while at >= 0 and lines[at].startswith(indent + "-- ") and not lines[at].startswith(indent + "-- ----"):
+        said.insert(0, lines[at].strip()[3:].strip())
+        at -= 1
+    return " ".join(said)
+
+
+def words(crate):
+    """The public words of a crate's specs, those of a module with parameters among them."""
+    for file in files(crate, "specs", ".antt"):
+        lines, indent = text_of("crates", crate, file).split("\n"), ""
+        for at, line in enumerate(lines):
+            if line and not line.startswith((" ", "--")):
+                indent = "  " if line.startswith("module ") else ""
+            found = re.match(r"%s(%s)(\S+)" % (indent, WORD), line)
+            if found and "pub" in found.group(1).split() and found.group(2) not in ("use", "mod"):
+                yield Word(crate, file, found.group(2), meaning_over(lines, at, indent))
