@@ -27,12 +27,89 @@ struct Stretch {
     least: Option<Priced>,
 }
 
+/// The handles of a span.
+const SPAN: usize = 8;
+
+#[derive(Clone, Copy)]
+struct Found {
+    from: usize,
+    price: u64,
+    cost: u64,
+}
+
+impl Found {
+    fn sum(self) -> u64 {
+        self.price + self.cost
+    }
+}
+
+fn better(best: Option<Found>, earlier: Option<Found>) -> Option<Found> {
+    match (best, earlier) {
+        (Some(best), Some(earlier)) if best.sum() < earlier.sum() => Some(best),
+        (best, None) => best,
+        (_, earlier) => earlier,
+    }
+}
+
+#[derive(Clone, Copy)]
+struct Span {
+    from: usize,
+    copies: u64,
+    frees: u64,
+    least: Option<Found>,
+}
+
+#[derive(Clone, Copy)]
+struct Filled {
+    per: u64,
+    entries: u64,
+    blocks: u64,
+    room: u64,
+}
+
+impl Filled {
+    fn with(self, more: u64) -> Filled {
+        let entries = self.entries + more;
+        if entries <= self.room {
+            return Filled { entries, ..self };
+        }
+        let blocks = entries.div_ceil(self.per);
+        Filled { per: self.per, entries, blocks, room: blocks * self.per }
+    }
+}
+
+#[derive(Clone, Copy)]
+struct Tally {
+    copies: Filled,
+    frees: Filled,
+}
+
+impl Tally {
+    fn none(t: u64, r: u64) -> Tally {
+        let none = |per| Filled { per, entries: 0, blocks: 0, room: 0 };
+        Tally { copies: none(t), frees: none(r) }
+    }
+
+    fn plus(self, copies: u64, frees: u64) -> Tally {
+        Tally { copies: self.copies.with(copies), frees: self.frees.with(frees) }
+    }
+
+    fn cost(self) -> u64 {
+        1 + self.copies.entries + self.copies.blocks + self.frees.blocks
+    }
+
+    fn names_as(self, other: Tally) -> bool {
+        self.copies.blocks == other.copies.blocks && self.frees.blocks == other.frees.blocks
+    }
+}
+
 struct Touches {
     t: u64,
     r: u64,
     last: BTreeMap<u64, Touch>,
     owned: Vec<Owned>,
     stretches: Vec<Stretch>,
+    spans: Vec<Option<Span>>,
 }
 
 impl Touches {
@@ -41,6 +118,9 @@ impl Touches {
         let mut gained = Owned { copies: 0, frees: 0 };
         for &(home, copy) in words {
             if let Some(before) = self.last.insert(home, Touch { handle, copy }) {
+                if let Some(span) = self.spans.get_mut(before.handle / SPAN) {
+                    *span = None;
+                }
                 let owner = &mut self.owned[before.handle];
                 if before.copy {
                     owner.copies -= 1;
@@ -57,6 +137,9 @@ impl Touches {
         self.owned.push(gained);
         let least = start.map(|price| Priced { from: handle, price });
         self.stretches.push(Stretch { from: handle, least });
+        if self.stretches.len().is_multiple_of(SPAN) {
+            self.spans.push(None);
+        }
     }
 
     fn joined(&self, start: usize) -> Stretch {
@@ -77,31 +160,61 @@ impl Touches {
         joined
     }
 
-    // The start, and the price of the end.
-    fn best(&mut self, limit: u64) -> Option<(usize, u64)> {
-        let mut best: Option<(usize, u64)> = None;
-        let mut copies = 0;
-        let mut frees = 0;
-        let mut low = self.owned.len();
-        while low > 0 {
+    fn counted(&mut self, end: usize) -> Span {
+        let (mut copies, mut frees, mut least, mut low) = (0, 0, None, end);
+        while low > end - SPAN {
             let start = low - 1;
             copies += self.owned[start].copies;
             frees += self.owned[start].frees;
-            let cost = 1 + copies + copies.div_ceil(self.t) + frees.div_ceil(self.r);
+            let stretch = self.joined(start);
+            self.stretches[start] = stretch;
+            let found = |least: Priced| Found { from: least.from, price: least.price, cost: copies };
+            least = better(least, stretch.least.map(found));
+            low = stretch.from;
+        }
+        Span { from: low, copies, frees, least }
+    }
+
+    fn span(&mut self, end: usize) -> Option<Span> {
+        if !end.is_multiple_of(SPAN) {
+            return None;
+        }
+        let place = end / SPAN - 1;
+        if self.spans[place].is_none() {
+            self.spans[place] = Some(self.counted(end));
+        }
+        self.spans[place]
+    }
+
+    // The start, and the price of the end.
+    fn best(&mut self, limit: u64) -> Option<(usize, u64)> {
+        let mut best: Option<Found> = None;
+        let mut tally = Tally::none(self.t, self.r);
+        let mut low = self.owned.len();
+        while low > 0 {
+            if let Some(span) = self.span(low) {
+                let sum = tally.plus(span.copies, span.frees);
+                if sum.names_as(tally) && sum.cost() <= limit {
+                    let cost = tally.cost();
+                    best = better(best, span.least.map(|f| Found { cost: f.cost + cost, ..f }));
+                    tally = sum;
+                    low = span.from;
+                    continue;
+                }
+            }
+            let start = low - 1;
+            tally = tally.plus(self.owned[start].copies, self.owned[start].frees);
+            let cost = tally.cost();
             if cost > limit {
                 break;
             }
             let stretch = self.joined(start);
             self.stretches[start] = stretch;
-            if let Some(least) = stretch.least {
-                let sum = least.price + cost;
-                if best.is_none_or(|(_, kept)| kept >= sum) {
-                    best = Some((least.from, sum));
-                }
-            }
+            let found = |least: Priced| Found { from: least.from, price: least.price, cost };
+            best = better(best, stretch.least.map(found));
             low = stretch.from;
         }
-        best
+        best.map(|found| (found.from, found.sum()))
     }
 }
 
@@ -131,6 +244,7 @@ fn main() {
         last: BTreeMap::new(),
         owned: Vec::new(),
         stretches: Vec::new(),
+        spans: Vec::new(),
     };
     let mut prices = vec![Some(0)];
     let mut froms = vec![0];

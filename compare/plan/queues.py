@@ -29,6 +29,8 @@ LOADS = {
     "pairs": (7, 2000000, lambda n: ["w1 w2"] * n),
     "inodes": (8192, 60000, lambda n: spread(n, 5, 5000)),
     "new": (MOST, 16000, lambda n: [f"w{i}" for i in range(n)]),
+    "fresh": (2047, 60000, lambda n: [f"w{i}" for i in range(n)]),
+    "halves": (2047, 60000, lambda n: [f"w{2 * i} r{2 * i + 1}" for i in range(n)]),
 }
 
 

@@ -1,5 +1,5 @@
 -- What the last touches say of a queue's handles, and what the handles cost by them.
-use Rattle.std.proofs.Common.{◌≡◌, ℕ, ◌+◌, ◌-◌, ◌^◌, ◌<◌, ◌≤◌, Bool, true, false, cond, not, ◌&&◌, nat_le, List, [], ◌∷◌, ◌++◌, length, take, drop, get_or, slice_range, Option, Some, None, inl, inr, refl, sym, ap, subst, ◌∙◌, arith, length-drop}
+use Rattle.std.proofs.Common.{◌≡◌, ℕ, ◌+◌, ◌-◌, ◌*◌, ◌^◌, ◌<◌, ◌≤◌, Bool, true, false, cond, not, ◌&&◌, nat_le, List, [], ◌∷◌, ◌++◌, length, take, drop, get_or, slice_range, Option, Some, None, inl, inr, refl, sym, ap, subst, ◌∙◌, arith, length-drop}
 use Rattle.std.specs.Option.{option_map, option_or}
 use Rattle.std.specs.Ordering.{nat_cmp}
 use Rattle.std.specs.BTreeMap.{BTreeMap, get}
@@ -24,11 +24,12 @@ use Rattle.jb_cost.specs.Cost.{blocks_of}
 use Rattle.jb_cost.specs.Cut.{price, piece_cost}
 use Rattle.jb_cost.specs.Owned.{later_touch, left_since, is_since, kept, copies_of, frees_of, owned_from, owned_cost}
 use Rattle.jb_cost.specs.Starts.{LeastPrice, stretch_at, AreLeast, priced_of}
+use Rattle.jb_cost.specs.Spans.{copies_until}
 use Rattle.jb_cost.specs.LastTouches.{IsSound, Tells, homes_of}
 use Rattle.jb_cost.proofs.Left.{few}
 use Rattle.jb_cost.proofs.Picked.{passes, len-of_kind}
 use Rattle.jb_cost.proofs.Pieces.{piece-none, weight-part}
-use Rattle.jb_cost.proofs.Starts.{least-one, least-as}
+use Rattle.jb_cost.proofs.Starts.{least-one, least-as, best-as}
 
 -- a piece that ends one handle later has this handle at its end
 pub piece-right : (hs : List Stopped) (h : Stopped) (i n : ℕ) → i ≤ n → n < length hs → h ≡ get_or hs n h → slice_range hs i (n + 1) ≡ slice_range hs i n ++ h ∷ []
@@ -127,11 +128,16 @@ module _ (g : Geometry) (hs : List Stopped) (n : ℕ) (ps : List (Option ℕ)) (
   homes-few size = omega (arith, size, few (slice_range hs 0 n), weight-part hs 0 n (omega arith), copies-piece 0 (omega arith), frees-piece 0 (omega arith))
 
 -- the prices of the starts that were put in are all that counts
-pub tells-as : (g : Geometry) (hs : List Stopped) (n : ℕ) (ps qs : List (Option ℕ)) (t : LastTouches) → ((i : ℕ) → i < n → price qs i ≡ price ps i) → Tells g hs n ps t → Tells g hs n qs t
-tells-as g hs n ps qs t same tells = record {
+pub tells-as : (g : Geometry) (hs : List Stopped) (n : ℕ) (ps qs : List (Option ℕ)) (t : LastTouches) → IsSound t → ((i : ℕ) → i < n → price qs i ≡ price ps i) → Tells g hs n ps t → Tells g hs n qs t
+tells-as g hs n ps qs t sound same tells = record {
   geometry = tells.geometry;
   number = tells.number;
   within = tells.within;
   follows = tells.follows;
-  leasts = λ k below. least-as ps qs (stretch_at t.stretches.items k).from (k + 1) (λ i before. same i (omega arith)) (stretch_at t.stretches.items k).least (tells.leasts k below);
+  prices = record {
+    leasts = λ k below. least-as ps qs (stretch_at t.shortcuts.stretches.items k).from (k + 1) (λ i before. same i (omega (arith, before, below, tells.number))) (stretch_at t.shortcuts.stretches.items k).least (tells.prices.leasts k below);
+    bests = λ k s is.
+        let span = sound.shortcuts.spans k s is in
+        best-as (copies_until t.owned.items (8 * k + 8)) (copies_until t.owned.items (8 * k + 8)) (2 ^ 62) ps qs s.from (8 * k + 8) (λ i above below. refl) (λ i before. same i (omega (arith, before, span.within, tells.number))) s.least (tells.prices.bests k s is);
+  };
 }

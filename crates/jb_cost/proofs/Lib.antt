@@ -8,11 +8,16 @@ pub mod Fresh
 pub mod Granted
 pub mod Joined
 pub mod Later
+pub mod Leaping
 pub mod Left
+pub mod Losing
 pub mod Owning
 pub mod Picked
 pub mod Pieces
+pub mod Placed
+pub mod Searching
 pub mod Sizes
+pub mod Spans
 pub mod Starts
 pub mod Taking
 pub mod Walk

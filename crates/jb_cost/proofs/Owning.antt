@@ -14,10 +14,10 @@ use Rattle.jb_cost.specs.declared.owned.Touch.{Touch}
 use Rattle.jb_cost.specs.declared.owned.Owned.{Owned}
 use Rattle.jb_cost.specs.Owned.{owned_at, owned_from, counts_since, Counts, CountsBut}
 
-since-early : (kind : Bool → Bool) (i : ℕ) (t : Touch) → i ≤ t.handle → counts_since kind i t ≡ cond (kind t.copy) 1 0
+pub since-early : (kind : Bool → Bool) (i : ℕ) (t : Touch) → i ≤ t.handle → counts_since kind i t ≡ cond (kind t.copy) 1 0
 since-early kind i t early = ap (λ b. cond {A = ℕ} (b && kind t.copy) 1 0) (le-leb i t.handle early)
 
-since-late : (kind : Bool → Bool) (i : ℕ) (t : Touch) → t.handle < i → counts_since kind i t ≡ 0
+pub since-late : (kind : Bool → Bool) (i : ℕ) (t : Touch) → t.handle < i → counts_since kind i t ≡ 0
 since-late kind i t late = ap (λ b. cond {A = ℕ} (b && kind t.copy) 1 0) (lt-leb i t.handle late)
 
 cond-early : (i n extra : ℕ) → i ≤ n → cond (nat_le i n) extra 0 ≡ extra

@@ -4,7 +4,7 @@ use Rattle.std.proofs.lemmas.Bool.{ltb-true, ltb-false, cases_lt}
 use Rattle.jb_cost.specs.declared.stretch.Priced.{Priced}
 use Rattle.jb_cost.specs.declared.found.Found.{Found}
 use Rattle.jb_cost.specs.Cut.{price}
-use Rattle.jb_cost.specs.Starts.{priced_of, lesser_of, better_of, LeastPrice, BestStart}
+use Rattle.jb_cost.specs.Starts.{priced_of, lesser_of, found_from, dearer_by, better_of, LeastPrice, BestStart}
 
 same-price : (ps : List (Option ℕ)) (i j p q : ℕ) → i ≡ j → price ps i ≡ Some p → price ps j ≡ Some q → p ≡ q
 same-price ps i j p q same is also = let both : Some p ≡ Some q = sym is ∙ ap (price ps) same ∙ also in cc
@@ -67,52 +67,87 @@ module _ (c : ℕ → ℕ) (limit : ℕ) (ps : List (Option ℕ)) where
   pub best-none : (end : ℕ) → BestStart c limit ps end end None
   best-none end i p above below fits is = omega arith
 
-  -- the starts of one more stretch, which cost the same
-  module _ (from low end cost : ℕ) (back : from ≤ low) (within : low ≤ end) (fits : cost ≤ limit) (same : (i : ℕ) → from ≤ i → i < low → c i ≡ cost) where
-    pub best-stretch : (best : Option Found) (earlier : Option Priced) → LeastPrice ps from low earlier → BestStart c limit ps low end best → BestStart c limit ps from end (better_of best earlier cost)
-    best-stretch None None none tried = λ i p above below fit is. elim (cases_lt i low) [ inl less ↦ none i p above less is | inr more ↦ tried i p more below fit is ]
-    best-stretch (Some b) None none tried = record {
+  -- the starts from an earlier one up to low, and those from low on
+  module _ (from low end : ℕ) (back : from ≤ low) (within : low ≤ end) where
+    pub best-joined : (best earlier : Option Found) → BestStart c limit ps from low earlier → BestStart c limit ps low end best → BestStart c limit ps from end (better_of best earlier)
+    best-joined None None none tried = λ i p above below fit is. elim (cases_lt i low) [ inl less ↦ none i p above less fit is | inr more ↦ tried i p more below fit is ]
+    best-joined (Some b) None none tried = record {
+      above = omega (arith, tried.above);
       before = tried.before;
       fits = tried.fits;
       is = tried.is;
       costs = tried.costs;
-      least = λ i p above below fit is. elim (cases_lt i low) [ inl less ↦ absurd (none i p above less is) | inr more ↦ tried.least i p more below fit is ];
-      first = λ i p above before fit is. elim (cases_lt i low) [ inl less ↦ absurd (none i p above less is) | inr more ↦ tried.first i p more before fit is ];
+      least = λ i p above below fit is. elim (cases_lt i low) [ inl less ↦ absurd (none i p above less fit is) | inr more ↦ tried.least i p more below fit is ];
+      first = λ i p above before fit is. elim (cases_lt i low) [ inl less ↦ absurd (none i p above less fit is) | inr more ↦ tried.first i p more before fit is ];
     }
-    best-stretch None (Some s) least tried =
-        let here = same s.from least.above least.below in
-        record {
-          before = omega (arith, least.below);
-          fits = omega (arith, here);
-          is = least.is;
-          costs = sym here;
-          least = λ i p above below fit is. elim (cases_lt i low) [ inl less ↦ (let most = least.least i p above less is in omega (arith, same i above less)) | inr more ↦ absurd (tried i p more below fit is) ];
-          first = λ i p above before fit is. let less = least.first i p above before is in omega (arith, same i above (omega (arith, before, least.below)));
-        }
-    best-stretch (Some b) (Some s) least tried = pick (nat_lt (b.price + b.cost) (s.price + cost)) refl
+    best-joined None (Some s) one tried = record {
+      above = one.above;
+      before = omega (arith, one.before);
+      fits = one.fits;
+      is = one.is;
+      costs = one.costs;
+      least = λ i p above below fit is. elim (cases_lt i low) [ inl less ↦ one.least i p above less fit is | inr more ↦ absurd (tried i p more below fit is) ];
+      first = one.first;
+    }
+    best-joined (Some b) (Some s) one tried = pick (nat_lt (b.price + b.cost) (s.price + s.cost)) refl
       where
-        pick : (test : Bool) → nat_lt (b.price + b.cost) (s.price + cost) ≡ test → BestStart c limit ps from end (if test then Some b else Some (record { from = s.from; price = s.price; cost = cost }))
+        pick : (test : Bool) → nat_lt (b.price + b.cost) (s.price + s.cost) ≡ test → BestStart c limit ps from end (if test then Some b else Some s)
         pick true e =
-            let less : b.price + b.cost < s.price + cost = ltb-true (b.price + b.cost) (s.price + cost) e in
+            let less : b.price + b.cost < s.price + s.cost = ltb-true (b.price + b.cost) (s.price + s.cost) e in
             record {
+              above = omega (arith, tried.above);
               before = tried.before;
               fits = tried.fits;
               is = tried.is;
               costs = tried.costs;
-              least = λ i p above below fit is. elim (cases_lt i low) [ inl sooner ↦ (let most = least.least i p above sooner is in omega (arith, same i above sooner)) | inr more ↦ tried.least i p more below fit is ];
-              first = λ i p above before fit is. elim (cases_lt i low) [ inl sooner ↦ (let most = least.least i p above sooner is in omega (arith, same i above sooner)) | inr more ↦ tried.first i p more before fit is ];
+              least = λ i p above below fit is. elim (cases_lt i low) [ inl sooner ↦ (let most = one.least i p above sooner fit is in omega arith) | inr more ↦ tried.least i p more below fit is ];
+              first = λ i p above before fit is. elim (cases_lt i low) [ inl sooner ↦ (let most = one.least i p above sooner fit is in omega arith) | inr more ↦ tried.first i p more before fit is ];
             }
         pick false e =
-            let most : s.price + cost ≤ b.price + b.cost = ltb-false (b.price + b.cost) (s.price + cost) e in
-            let here = same s.from least.above least.below in
+            let most : s.price + s.cost ≤ b.price + b.cost = ltb-false (b.price + b.cost) (s.price + s.cost) e in
             record {
-              before = omega (arith, least.below);
-              fits = omega (arith, here);
-              is = least.is;
-              costs = sym here;
-              least = λ i p above below fit is. elim (cases_lt i low) [ inl sooner ↦ (let lowest = least.least i p above sooner is in omega (arith, same i above sooner)) | inr more ↦ (let lowest = tried.least i p more below fit is in omega arith) ];
-              first = λ i p above before fit is. let lower = least.first i p above before is in omega (arith, same i above (omega (arith, before, least.below)));
+              above = one.above;
+              before = omega (arith, one.before);
+              fits = one.fits;
+              is = one.is;
+              costs = one.costs;
+              least = λ i p above below fit is. elim (cases_lt i low) [ inl sooner ↦ one.least i p above sooner fit is | inr more ↦ (let lowest = tried.least i p more below fit is in omega arith) ];
+              first = one.first;
             }
+
+  -- the starts of a stretch, which cost the same
+  pub best-alike : (from low cost : ℕ) → cost ≤ limit → ((i : ℕ) → from ≤ i → i < low → c i ≡ cost) → (earlier : Option Priced) → LeastPrice ps from low earlier → BestStart c limit ps from low (found_from earlier cost)
+  best-alike from low cost fits same None none = λ i p above below fit is. none i p above below is
+  best-alike from low cost fits same (Some s) least =
+      let here = same s.from least.above least.below in
+      record {
+        above = least.above;
+        before = least.below;
+        fits = omega (arith, here);
+        is = least.is;
+        costs = sym here;
+        least = λ i p above below fit is. let most = least.least i p above below is in omega (arith, same i above below);
+        first = λ i p above before fit is. let less = least.first i p above before is in omega (arith, same i above (omega (arith, before, least.below)));
+      }
+
+  -- the starts of a span, which cost by so much more
+  pub best-dearer : (d : ℕ → ℕ) (most more from low : ℕ) → ((i : ℕ) → from ≤ i → i < low → c i ≡ d i + more) → ((i : ℕ) → from ≤ i → i < low → c i ≤ limit) → ((i : ℕ) → from ≤ i → i < low → d i ≤ most)
+      → (s : Option Found) → BestStart d most ps from low s → BestStart c limit ps from low (dearer_by more s)
+  best-dearer d most more from low same fits small None none = λ i p above below fit is. none i p above below (small i above below) is
+  best-dearer d most more from low same fits small (Some s) best =
+      let here = same s.from best.above best.before in
+      record {
+        above = best.above;
+        before = best.before;
+        fits = fits s.from best.above best.before;
+        is = best.is;
+        costs = omega (arith, here, best.costs);
+        least = λ i p above below fit is. let lowest = best.least i p above below (small i above below) is in omega (arith, same i above below);
+        first = λ i p above before fit is.
+            let below : i < low = omega (arith, before, best.before) in
+            let lower = best.first i p above before (small i above below) is in
+            omega (arith, same i above below);
+      }
 
   -- no earlier start fits
   pub best-all : (low end : ℕ) (best : Option Found) → BestStart c limit ps low end best → ((i : ℕ) → i < low → limit < c i) → BestStart c limit ps 0 end best
@@ -124,6 +159,7 @@ module _ (c : ℕ → ℕ) (limit : ℕ) (ps : List (Option ℕ)) where
       go : (best : Option Found) → BestStart c limit ps low end best → BestStart c limit ps 0 end best
       go None tried = λ i p _ below fits is. tried i p (late i fits) below fits is
       go (Some s) tried = record {
+        above = omega arith;
         before = tried.before;
         fits = tried.fits;
         is = tried.is;
@@ -132,18 +168,25 @@ module _ (c : ℕ → ℕ) (limit : ℕ) (ps : List (Option ℕ)) where
         first = λ i p _ below fits is. tried.first i p (late i fits) below fits is;
       }
 
--- the same by another way to compute the costs
-pub best-same : (c d : ℕ → ℕ) (limit : ℕ) (ps : List (Option ℕ)) (end : ℕ) → ((i : ℕ) → i < end → c i ≡ d i) → (best : Option Found) → BestStart c limit ps 0 end best → BestStart d limit ps 0 end best
-best-same c d limit ps end same None tried = λ i p above below fits is. tried i p above below (omega (arith, fits, same i below)) is
-best-same c d limit ps end same (Some s) tried =
-    let here = same s.from tried.before in
+-- the same by another way to compute the costs, and where the prices below the end are the same
+pub best-as : (c d : ℕ → ℕ) (limit : ℕ) (ps qs : List (Option ℕ)) (low end : ℕ) → ((i : ℕ) → low ≤ i → i < end → c i ≡ d i) → ((i : ℕ) → i < end → price qs i ≡ price ps i)
+    → (s : Option Found) → BestStart c limit ps low end s → BestStart d limit qs low end s
+best-as c d limit ps qs low end same alike None tried = λ i p above below fits is. tried i p above below (omega (arith, fits, same i above below)) (sym (alike i below) ∙ is)
+best-as c d limit ps qs low end same alike (Some s) tried =
+    let here = same s.from tried.above tried.before in
     record {
+      above = tried.above;
       before = tried.before;
       fits = omega (arith, tried.fits, here);
-      is = tried.is;
+      is = alike s.from tried.before ∙ tried.is;
       costs = tried.costs ∙ here;
-      least = λ i p above below fits is. let e = same i below in omega (arith, tried.least i p above below (omega arith) is);
-      first = λ i p above before fits is. let e = same i (omega (arith, before, tried.before)) in omega (arith, tried.first i p above before (omega arith) is);
+      least = λ i p above below fits is.
+          let e = same i above below in
+          omega (arith, tried.least i p above below (omega arith) (sym (alike i below) ∙ is));
+      first = λ i p above before fits is.
+          let below : i < end = omega (arith, before, tried.before) in
+          let e = same i above below in
+          omega (arith, tried.first i p above before (omega arith) (sym (alike i below) ∙ is));
     }
 
 -- least prices look only at the prices below their end

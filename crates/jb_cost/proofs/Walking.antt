@@ -1,5 +1,5 @@
 -- The walk over the handles that own a home: what a stretch takes in, and what each turn keeps.
-use Rattle.std.proofs.Common.{◌≡◌, ℕ, zero, suc, ◌+◌, ◌-◌, ◌^◌, ◌<◌, ◌≤◌, List, [], length, set, drop, Option, inl, inr, sym, subst, ap, ◌∙◌, arith, length-set}
+use Rattle.std.proofs.Common.{◌≡◌, ℕ, zero, suc, ◌+◌, ◌-◌, ◌<◌, ◌≤◌, List, [], length, set, drop, Option, inl, inr, sym, subst, ap, arith}
 use Rattle.std.specs.List.{sum_by}
 use Rattle.std.proofs.lemmas.Bool.{cases_lt, cases_eq}
 use Rattle.std.proofs.lemmas.List.{get_or-set_same, get_or-set_other, drop_all}
@@ -7,12 +7,10 @@ use Rattle.std.proofs.lemmas.List.Sums.{sum_by-drop_more}
 use Rattle.jb_cost.specs.declared.geometry.Geometry.{Geometry}
 use Rattle.jb_cost.specs.declared.owned.Owned.{Owned}
 use Rattle.jb_cost.specs.declared.stretch.Stretch.{Stretch}
-use Rattle.jb_cost.specs.declared.found.Found.{Found}
-use Rattle.jb_cost.specs.Cost.{blocks_of}
 use Rattle.jb_cost.specs.Owned.{owned_at, owned_from, copies_of, frees_of, owned_cost, IsIdle}
-use Rattle.jb_cost.specs.Starts.{LeastPrice, BestStart, stretch_at, AreIdle, GoBack, AreLeast, lesser_of, better_of}
+use Rattle.jb_cost.specs.Starts.{LeastPrice, stretch_at, AreIdle, GoBack, AreLeast, lesser_of}
 use Rattle.jb_cost.proofs.Costs.{blocks-mono}
-use Rattle.jb_cost.proofs.Starts.{least-joined, best-stretch, best-all}
+use Rattle.jb_cost.proofs.Starts.{least-joined}
 
 -- a stretch that ends with `start`, with some of those before it
 pub record Joins (os : List Owned) (ss : List Stretch) (start : ℕ) (s : Stretch) : Type 0 where
@@ -91,64 +89,3 @@ module _ (os : List Owned) (ss : List Stretch) (start : ℕ) (s : Stretch) (ther
         (subst (λ (x : Stretch). LeastPrice ps x.from (start + 1) x.least) (sym (get_or-set_same ss start s _ there)) least)
     | inr other ↦ subst (λ (x : Stretch). LeastPrice ps x.from (k + 1) x.least) (sym (get_or-set_other ss start k s _ other)) (leasts k below)
   ]
-
--- what each turn of the walk keeps: the sums are those of the handles from low on, and the best start from low on was found
-pub record Walks (g : Geometry) (os : List Owned) (first ss : List Stretch) (limit low copies frees : ℕ) (best : Option Found) : Type 0 where
-  pub copies_are : copies ≡ owned_from copies_of os low
-  pub frees_are : frees ≡ owned_from frees_of os low
-  pub within : low ≤ length os
-  pub number : length ss ≡ length os
-  pub back : GoBack os ss
-  pub tried : (ps : List (Option ℕ)) → AreLeast ps first (length os) → AreLeast ps ss (length os) × BestStart (owned_cost g os) limit ps low (length os) best
-
-module _ (g : Geometry) (os : List Owned) (first ss : List Stretch) (limit low copies frees : ℕ) (best : Option Found) (walks : Walks g os first ss limit low copies frees best) (positive : 0 < low) where
-  one-more : (count : Owned → ℕ) (sum : ℕ) → sum ≡ owned_from count os low → sum + count (owned_at os (low - 1)) ≡ owned_from count os (low - 1)
-  one-more count sum is =
-      let back : low - 1 + 1 ≡ low = omega arith in
-      omega (arith, is, ap (owned_from count os) back, sum_by-drop_more count os (low - 1) (record { copies = 0; frees = 0 }) (omega (arith, walks.within)))
-
-  pub copies-more : copies + (owned_at os (low - 1)).copies ≡ owned_from copies_of os (low - 1)
-  copies-more = one-more copies_of copies walks.copies_are
-
-  pub frees-more : frees + (owned_at os (low - 1)).frees ≡ owned_from frees_of os (low - 1)
-  frees-more = one-more frees_of frees walks.frees_are
-
-  -- the sums of one handle more are within the size
-  pub room-more : owned_from copies_of os 0 + owned_from frees_of os 0 ≤ 2 ^ 62 → (copies + (owned_at os (low - 1)).copies) + (frees + (owned_at os (low - 1)).frees) ≤ 2 ^ 62
-  room-more few = omega (arith, few, copies-more, frees-more, owned-more copies_of os (low - 1) 0 (low - 1) (omega arith), owned-more frees_of os (low - 1) 0 (low - 1) (omega arith))
-
-  -- what the handles from this one on cost
-  module _ (copies_now frees_now cost : ℕ) (copied : copies_now ≡ copies + (owned_at os (low - 1)).copies) (freed : frees_now ≡ frees + (owned_at os (low - 1)).frees) (is : cost ≡ blocks_of g copies_now frees_now) where
-    cost-here : owned_cost g os (low - 1) ≡ cost
-    cost-here = (λ i. blocks_of g (sym (copied ∙ copies-more) i) (sym (freed ∙ frees-more) i)) ∙ sym is
-
-    -- the first group over the limit ends the search
-    pub walks-over : limit < cost → (ps : List (Option ℕ)) → AreLeast ps first (length os) → AreLeast ps ss (length os) × BestStart (owned_cost g os) limit ps 0 (length os) best
-    walks-over over ps leasts =
-        let tried = walks.tried ps leasts in
-        (tried.0, best-all (owned_cost g os) limit ps low (length os) best tried.1 (λ i earlier. omega (arith, over, cost-here, owned-dearer g os i (low - 1) (omega arith))))
-
-    -- one stretch more is looked at
-    pub walks-more : cost ≤ limit → (s : Stretch) → s.from ≤ low - 1 → AreIdle os s.from (low - 1) → ((ps : List (Option ℕ)) → AreLeast ps ss (length os) → LeastPrice ps s.from (low - 1 + 1) s.least)
-        → Walks g os first (set ss (low - 1) s) limit s.from copies_now frees_now (better_of best s.least cost)
-    walks-more fits s before idle least =
-        let back : low - 1 + 1 ≡ low = omega arith in
-        let within : low - 1 ≤ length os = omega (arith, walks.within) in
-        let there : low - 1 < length ss = omega (arith, walks.within, walks.number) in
-        record {
-          copies_are = copied ∙ copies-more ∙ sym (idle-copies os s.from (low - 1) before within idle);
-          frees_are = freed ∙ frees-more ∙ sym (idle-frees os s.from (low - 1) before within idle);
-          within = omega (arith, before, within);
-          number = length-set ss (low - 1) s ∙ walks.number;
-          back = set-back os ss (low - 1) s there walks.back before idle;
-          tried = λ ps leasts.
-              let tried = walks.tried ps leasts in
-              let lowest = least ps tried.0 in (
-                set-least os ss (low - 1) s there ps (length os) tried.0 lowest,
-                best-stretch (owned_cost g os) limit ps s.from low (length os) cost (omega (arith, before)) walks.within fits
-                    (λ i above below.
-                    let until : AreIdle os i (low - 1) = λ j late early. idle j (omega arith) early in
-                    (λ k. blocks_of g (idle-copies os i (low - 1) (omega arith) within until k) (idle-frees os i (low - 1) (omega arith) within until k)) ∙ cost-here)
-                    best s.least (subst (λ n. LeastPrice ps s.from n s.least) back lowest) tried.1,
-              );
-        }

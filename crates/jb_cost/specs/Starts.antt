@@ -19,11 +19,21 @@ lesser_of None later = later
 lesser_of (Some first) None = Some first
 lesser_of (Some first) (Some later) = if nat_lt later.price first.price then Some later else Some first
 
--- the better of the best start so far and an earlier one, whose group costs so much; the earlier one where they are equal
-abbrev pub better_of : Option Found → Option Priced → ℕ → Option Found
-better_of best None cost = best
-better_of None (Some s) cost = Some (record { from = s.from; price = s.price; cost = cost })
-better_of (Some best) (Some s) cost = if nat_lt (best.price + best.cost) (s.price + cost) then Some best else Some (record { from = s.from; price = s.price; cost = cost })
+-- a start whose group costs so much, if there is one
+abbrev pub found_from : Option Priced → ℕ → Option Found
+found_from None cost = None
+found_from (Some s) cost = Some (record { from = s.from; price = s.price; cost = cost })
+
+-- the same start, where the group costs so much more
+abbrev pub dearer_by : ℕ → Option Found → Option Found
+dearer_by more None = None
+dearer_by more (Some s) = Some (record { from = s.from; price = s.price; cost = s.cost + more })
+
+-- the better of the best start so far and an earlier one; the earlier one where they are equal
+abbrev pub better_of : Option Found → Option Found → Option Found
+better_of best None = best
+better_of None (Some s) = Some s
+better_of (Some best) (Some s) = if nat_lt (best.price + best.cost) (s.price + s.cost) then Some best else Some s
 
 module _ (ps : List (Option ℕ)) (low high : ℕ) where
   -- no start from low up to high has a smaller price, and none before it has the same
@@ -42,6 +52,7 @@ module _ (ps : List (Option ℕ)) (low high : ℕ) where
 module _ (c : ℕ → ℕ) (limit : ℕ) (ps : List (Option ℕ)) (low end : ℕ) where
   -- the group from this start fits, no start from low on has a smaller sum, and none before it has the same
   pub record IsBestStart (s : Found) : Type 0 where
+    pub above : low ≤ s.from
     pub before : s.from < end
     pub fits : c s.from ≤ limit
     pub is : price ps s.from ≡ Some s.price

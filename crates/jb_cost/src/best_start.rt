@@ -1,70 +1,130 @@
-ghost use Rattle.std.specs.Prelude.{◌≡◌, ◌↔◌, ℕ, ◌+◌, ◌-◌, ◌^◌, ◌<◌, ◌≤◌, List, Option, length, IsTrue};
-ghost use Rattle.jb_cost.specs.Owned.{IsIdle, owned_at, owned_from, copies_of, frees_of, owned_cost};
-ghost use Rattle.jb_cost.specs.Starts.{LeastPrice, BestStart, AreIdle, GoBack, AreLeast};
+ghost use Rattle.std.specs.Prelude.{◌≡◌, ℕ, ◌+◌, ◌^◌, ◌<◌, ◌≤◌, List, Option, length, IfSome, IfNone};
+ghost use Rattle.jb_cost.specs.Owned.{owned_from, copies_of, frees_of, owned_cost};
+ghost use Rattle.jb_cost.specs.Starts.{BestStart};
+ghost use Rattle.jb_cost.specs.Spans.{FitOwned, FitPrices};
+ghost use Rattle.jb_cost.specs.Search.{IsWalk, Goes, BestSoFar, IsOver};
 
 use crate::found::Found;
 use crate::geometry::Geometry;
 use crate::owned::Owned;
-use crate::stretch::{Priced, Stretch};
+use crate::shortcuts::Shortcuts;
+use crate::tally::Tally;
 
-/// The best start of a group that ends with the last handle. It goes leftwards over the handles that
-/// own a home: with each of them a group costs more, so the first one over the limit ends the search.
+/// A search as far as it has come: what the handles from `low` on take as one group, and the best of
+/// their starts.
+#[derive(Clone, Copy)]
+pub(crate) struct Walk {
+    tally: Tally,
+    low: usize,
+    best: Option<Found>,
+}
+
+/// The best start of a group that ends with the last handle. It goes leftwards, over a span in one
+/// step where it can, and else over the handles that own a home: with each of them a group costs
+/// more, so the first one over the limit ends the search.
 pub(crate) fn best_start(
     geometry: Geometry,
     owned: &[Owned],
-    stretches: &mut Vec<Stretch>,
+    shortcuts: &mut Shortcuts,
     limit: u32,
 ) -> Option<Found>
     requires few { owned_from copies_of owned.now 0 + owned_from frees_of owned.now 0 ≤ 2 ^ 62 }
-    requires number { length stretches.old.items ≡ length owned.now }
-    requires back { GoBack owned.now stretches.old.items }
-    ensures number { length stretches.new.items ≡ length owned.now }
-    ensures back { GoBack owned.now stretches.new.items }
-    ensures best { (ps : List (Option ℕ)) → AreLeast ps stretches.old.items (length owned.now) → AreLeast ps stretches.new.items (length owned.now) × BestStart (owned_cost geometry owned.now) limit ps 0 (length owned.now) result }
+    requires fit { FitOwned owned.now shortcuts.old }
+    ensures fit { FitOwned owned.now shortcuts.new }
+    ensures best { (ps : List (Option ℕ)) → FitPrices ps owned.now shortcuts.old →
+        FitPrices ps owned.now shortcuts.new
+        × BestStart (owned_cost geometry owned.now) limit ps 0 (length owned.now) result }
 {
-    let mut best = None;
-    let mut sum = Owned::none();
-    let mut low = owned.len();
-    while low > 0 {
-        let start = low - 1;
-        sum = sum.plus(owned[start]);
-        let cost = geometry.blocks(sum.copies, sum.frees);
-        if cost > u64::from(limit) {
-            break;
+    let mut walk = Walk {
+        tally: Tally::none(geometry),
+        low: owned.len(),
+        best: None,
+    };
+    while walk.low > 0 {
+        match further(walk, owned, shortcuts, limit) {
+            Some(next) => walk = next,
+            None => break,
         }
-        let stretch = joined(owned, stretches, start);
-        stretches[start] = stretch;
-        best = Found::better(best, stretch.least, cost);
-        low = stretch.from;
     }
-    best
+    walk.best
 }
 
-/// The stretch that ends with a handle, with those before it that have become idle. Each of these is
-/// passed over for good once it is joined.
-fn joined(owned: &[Owned], stretches: &[Stretch], start: usize) -> Stretch
-    requires number { length stretches.now ≡ length owned.now }
-    requires inside { start < length owned.now }
-    requires back { GoBack owned.now stretches.now }
-    ensures back { result.from ≤ start }
-    ensures idle { AreIdle owned.now result.from start }
-    ensures least { (ps : List (Option ℕ)) → AreLeast ps stretches.now (length owned.now) → LeastPrice ps result.from (start + 1) result.least }
+/// The search one step further, or `None` where the next group is over the limit.
+fn further(walk: Walk, owned: &[Owned], shortcuts: &mut Shortcuts, limit: u32) -> Option<Walk>
+    requires few { owned_from copies_of owned.now 0 + owned_from frees_of owned.now 0 ≤ 2 ^ 62 }
+    requires fit { FitOwned owned.now shortcuts.old }
+    requires walk { IsWalk owned.now walk × (0 < walk.low) }
+    ensures fit { FitOwned owned.now shortcuts.new }
+    ensures next { IfSome result (Goes owned.now walk) }
+    ensures best { (ps : List (Option ℕ)) → FitPrices ps owned.now shortcuts.old →
+        FitPrices ps owned.now shortcuts.new
+        × (BestSoFar walk.tally.geometry owned.now limit ps walk →
+        IfSome result (BestSoFar walk.tally.geometry owned.now limit ps)) }
+    ensures over { IfNone result (IsOver walk.tally.geometry owned.now limit walk.low) }
 {
-    let mut joined = stretches[start];
-    while is_idle_before(owned, joined.from) {
-        let earlier = stretches[joined.from - 1];
-        joined = Stretch {
-            from: earlier.from,
-            least: Priced::lesser(earlier.least, joined.least),
-        };
+    if let Some(next) = over_span(walk, owned, shortcuts, limit) {
+        return Some(next);
     }
-    joined
+    over_stretch(walk, owned, shortcuts, limit)
 }
 
-/// Whether there is a handle before this one, and it owns nothing.
-fn is_idle_before(owned: &[Owned], handle: usize) -> bool
-    requires { handle ≤ length owned.now }
-    ensures { IsTrue result ↔ ((0 < handle) × IsIdle (owned_at owned.now (handle - 1))) }
+/// The search beyond the span before it, where the groups from all of its starts are within the limit
+/// and have as many descriptors and revoke blocks as the group so far.
+fn over_span(walk: Walk, owned: &[Owned], shortcuts: &mut Shortcuts, limit: u32) -> Option<Walk>
+    requires few { owned_from copies_of owned.now 0 + owned_from frees_of owned.now 0 ≤ 2 ^ 62 }
+    requires fit { FitOwned owned.now shortcuts.old }
+    requires walk { IsWalk owned.now walk × (0 < walk.low) }
+    ensures fit { FitOwned owned.now shortcuts.new }
+    ensures next { IfSome result (Goes owned.now walk) }
+    ensures best { (ps : List (Option ℕ)) → FitPrices ps owned.now shortcuts.old →
+        FitPrices ps owned.now shortcuts.new
+        × (BestSoFar walk.tally.geometry owned.now limit ps walk →
+        IfSome result (BestSoFar walk.tally.geometry owned.now limit ps)) }
 {
-    handle > 0 && owned[handle - 1].is_idle()
+    let Some(span) = shortcuts.span(owned, walk.low) else {
+        return None
+    };
+    let tally = walk.tally.plus(span.owned());
+    if tally.cost() > u64::from(limit) {
+        return None;
+    }
+    if !tally.names_as(walk.tally) {
+        return None;
+    }
+    let earlier = match span.least {
+        Some(least) => Some(least.dearer(walk.tally.cost())),
+        None => None,
+    };
+    Some(Walk {
+        tally,
+        low: span.from,
+        best: Found::better(walk.best, earlier),
+    })
+}
+
+/// The search beyond the stretch before it, or `None` where the group is over the limit.
+fn over_stretch(walk: Walk, owned: &[Owned], shortcuts: &mut Shortcuts, limit: u32) -> Option<Walk>
+    requires few { owned_from copies_of owned.now 0 + owned_from frees_of owned.now 0 ≤ 2 ^ 62 }
+    requires fit { FitOwned owned.now shortcuts.old }
+    requires walk { IsWalk owned.now walk × (0 < walk.low) }
+    ensures fit { FitOwned owned.now shortcuts.new }
+    ensures next { IfSome result (Goes owned.now walk) }
+    ensures best { (ps : List (Option ℕ)) → FitPrices ps owned.now shortcuts.old →
+        FitPrices ps owned.now shortcuts.new
+        × (BestSoFar walk.tally.geometry owned.now limit ps walk →
+        IfSome result (BestSoFar walk.tally.geometry owned.now limit ps)) }
+    ensures over { IfNone result (IsOver walk.tally.geometry owned.now limit walk.low) }
+{
+    let start = walk.low - 1;
+    let tally = walk.tally.plus(owned[start]);
+    let cost = tally.cost();
+    if cost > u64::from(limit) {
+        return None;
+    }
+    let stretch = shortcuts.stretch(owned, start);
+    Some(Walk {
+        tally,
+        low: stretch.from,
+        best: Found::better(walk.best, Found::of(stretch.least, cost)),
+    })
 }

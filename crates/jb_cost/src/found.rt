@@ -12,20 +12,38 @@ pub struct Found {
 }
 
 impl Found {
-    ghost use Rattle.std.specs.Prelude.{◌≡◌, ◌+◌};
-    ghost use Rattle.jb_cost.specs.Starts.{better_of};
+    ghost use Rattle.std.specs.Prelude.{◌≡◌, ◌+◌, ◌^◌, ◌<◌, Option, Some};
+    ghost use Rattle.jb_cost.specs.Starts.{better_of, dearer_by, found_from};
 
-    /// The better of the best start so far and an earlier one, whose group costs so much; the earlier
-    /// one where they are equal.
-    pub(crate) fn better(best: Option<Found>, earlier: Option<Priced>, cost: u64) -> Option<Found>
-        ensures { result ≡ better_of best earlier cost }
+    /// A start whose group costs so much, if there is one.
+    pub(crate) fn of(start: Option<Priced>, cost: u64) -> Option<Found>
+        ensures { result ≡ found_from start cost }
     {
-        let Some(earlier) = earlier else { return best };
-        let found = Found {
-            from: earlier.from,
-            price: earlier.price,
+        let Some(start) = start else { return None };
+        Some(Found {
+            from: start.from,
+            price: start.price,
             cost,
-        };
+        })
+    }
+
+    /// The same start, where the group costs so much more.
+    pub(crate) fn dearer(self, more: u64) -> Found
+        requires { self.cost + more < 2 ^ 64 }
+        ensures { Some result ≡ dearer_by more (Some self) }
+    {
+        Found {
+            from: self.from,
+            price: self.price,
+            cost: self.cost + more,
+        }
+    }
+
+    /// The better of the best start so far and an earlier one; the earlier one where they are equal.
+    pub(crate) fn better(best: Option<Found>, earlier: Option<Found>) -> Option<Found>
+        ensures { result ≡ better_of best earlier }
+    {
+        let Some(found) = earlier else { return best };
         match best {
             Some(best) if best.sum() < found.sum() => Some(best),
             _ => Some(found),

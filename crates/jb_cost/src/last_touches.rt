@@ -2,7 +2,8 @@ use crate::best_start::best_start;
 use crate::found::Found;
 use crate::geometry::Geometry;
 use crate::owned::{Owned, Touch};
-use crate::stretch::{Priced, Stretch};
+use crate::shortcuts::Shortcuts;
+use crate::stretch::Priced;
 use crate::take_over::take_over;
 use jb_block::Memory;
 use jb_handle::Stopped;
@@ -21,8 +22,7 @@ pub struct LastTouches {
     last: BTreeMap<u64, Touch>,
     /// What each handle owns.
     owned: Vec<Owned>,
-    /// For each handle the starts that cost as much as the one with it.
-    stretches: Vec<Stretch>,
+    shortcuts: Shortcuts,
 }
 
 impl LastTouches {
@@ -42,7 +42,7 @@ impl LastTouches {
             geometry,
             last: BTreeMap::new(alloc),
             owned: Vec::new(alloc),
-            stretches: Vec::new(alloc),
+            shortcuts: Shortcuts::new(alloc),
         }
     }
 
@@ -59,10 +59,11 @@ impl LastTouches {
         ensures tells { OnOk result ((g : GeometryValue) (hs : List StoppedValue) (n : ℕ) (ps : List (Option ℕ)) → Tells g hs n ps self.old → n < length hs → handle.now ≡ get_or hs n handle.now → price ps n ≡ start → Tells g hs (n + 1) ps self.new) }
     {
         let from = self.owned.len();
-        let gained = take_over(&mut self.last, &mut self.owned, &handle.words)?;
+        let spans = &mut self.shortcuts.spans;
+        let gained = take_over(&mut self.last, &mut self.owned, spans, &handle.words)?;
         self.owned.push(gained)?;
         let least = Priced::of(from, start);
-        self.stretches.push(Stretch { from, least })?;
+        self.shortcuts.push(from, least)?;
         Ok(())
     }
 
@@ -75,6 +76,6 @@ impl LastTouches {
         ensures sound { IsSound self.new }
         ensures tells { (g : GeometryValue) (hs : List StoppedValue) (n : ℕ) (ps : List (Option ℕ)) → Tells g hs n ps self.old → Tells g hs n ps self.new × BestStart (λ i. piece_cost g hs i n) limit ps 0 n result }
     {
-        best_start(self.geometry, &self.owned, &mut self.stretches, limit)
+        best_start(self.geometry, &self.owned, &mut self.shortcuts, limit)
     }
 }

@@ -8,4 +8,5 @@ pub mod Ops
 pub mod SpelledHandles
 pub mod SpelledOps
 pub mod SpelledText
+pub mod Table
 pub mod Weights

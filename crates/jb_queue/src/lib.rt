@@ -1,6 +1,7 @@
 //! The text of a queue of handles: what it says, and its first fault.
 #![tactic(auto)]
 
+mod digits;
 mod fault;
 pub mod laws;
 mod op_text;

@@ -6,6 +6,7 @@ ghost use Rattle.jb_block.specs.Size.{bytes_of};
 ghost use Rattle.jb_queue.specs.declared.fault.Cause.TheVariants.{Memory as OutOfMemory};
 ghost use Rattle.jb_queue.specs.Queue.{Gives, home_named, data_of, fitting, op_of};
 
+use crate::digits::decode;
 use crate::fault::Cause;
 use jb_block::BlockSize;
 use jb_handle::{Payload, Word};
@@ -77,7 +78,7 @@ fn read_digits(
     ensures gives { Gives result (fitting size (decode_of digits.now)) }
     ensures judged { result ≡ Err OutOfMemory → IsOk (fitting size (decode_of digits.now)) }
 {
-    if hex::decode_to_slice(digits, front).is_err() {
+    if !decode(digits, front) {
         return Err(Cause::DataWord);
     }
     let Ok(bytes) = front.to_vec(alloc) else {

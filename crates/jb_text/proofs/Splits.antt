@@ -1,5 +1,5 @@
 -- Where a text is parted: the bytes before the first delimiter, and those from it on.
-use Rattle.std.proofs.Common.{◌≡◌, ◌≢◌, ◌∙◌, sym, ap, ℕ, ◌+◌, ◌<◌, ◌≤◌, List, [], ◌∷◌, ◌++◌, length, take, drop, get_or, refl, add-one, inl, inr, length-append, length-drop, arith, ◌-◌, Option, Some, None, ◌==◌, true}
+use Rattle.std.proofs.Common.{◌≡◌, ◌≢◌, ◌∙◌, sym, ap, ℕ, ◌+◌, ◌<◌, ◌≤◌, List, [], ◌∷◌, ◌++◌, length, take, drop, get_or, refl, add-one, inl, inr, zero, suc, subst, length-append, length-drop, arith, ◌-◌, Option, Some, None, ◌==◌, true}
 use Rattle.std.proofs.Math.Seq.{take-suc}
 use Rattle.std.proofs.lemmas.List.{append-nil, append_assoc, take_all, drop_all, drop_more}
 use Rattle.std.proofs.lemmas.Bool.{eq-eqb, eqb-true, ne_eqb, cases_eq}
@@ -48,6 +48,13 @@ clear-goes delimiter bs n within other clear = record {
       ∙ ap (λ xs. xs ++ before delimiter (drop (n + 1) bs)) (sym (take-next bs n within));
   back = clear.back ∙ ap (onward delimiter) (drop_more bs n 0 within) ∙ onward-goes delimiter (get_or bs n 0) (drop (n + 1) bs) other;
 }
+
+-- no delimiter is before n
+pub clear-until : (delimiter : ℕ) (bs : List ℕ) (n : ℕ) → n ≤ length bs → ((k : ℕ) → k < n → get_or bs k 0 ≢ delimiter) → IsClear delimiter bs n
+clear-until delimiter bs zero within none = clear-opens delimiter bs
+clear-until delimiter bs (suc n) within none =
+    subst (IsClear delimiter bs) (sym (let e : suc n ≡ n + 1 = omega arith in e))
+    (clear-goes delimiter bs n (omega (arith, within)) (none n (omega arith)) (clear-until delimiter bs n (omega (arith, within)) (λ k below. none k (omega (arith, below)))))
 
 pub clear-front : (delimiter : ℕ) (bs : List ℕ) (n : ℕ) → n < length bs → get_or bs n 0 ≡ delimiter → IsClear delimiter bs n → before delimiter bs ≡ take n bs
 clear-front delimiter bs n within same clear = clear.front

@@ -7,12 +7,10 @@ pub fn part(bytes: &[u8], delimiter: u8) -> (&[u8], &[u8])
     ensures front { result.0.now ≡ before delimiter bytes.now }
     ensures back { result.1.now ≡ onward delimiter bytes.now }
 {
-    for at in 0..bytes.len() {
-        if bytes[at] == delimiter {
-            return bytes.split_at(at);
-        }
+    match memchr::memchr(delimiter, bytes) {
+        Some(at) => bytes.split_at(at),
+        None => bytes.split_at(bytes.len()),
     }
-    bytes.split_at(bytes.len())
 }
 
 /// The first line of a text, without the LF at its end, and the text after it; `None` where nothing is left.

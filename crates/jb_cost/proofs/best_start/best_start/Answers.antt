@@ -1,32 +1,35 @@
-use Rattle.std.proofs.Common.{◌+◌, ◌-◌, ℕ, List, Option, length, subst, arith}
-use Rattle.jb_cost.specs.Starts.{LeastPrice, AreLeast}
-use Rattle.jb_cost.proofs.Walking.{room-more, walks-over, walks-more}
+use Rattle.std.proofs.Common.{◌≡◌, length, subst, ◌∙◌, arith}
+use Rattle.jb_cost.specs.declared.geometry.Geometry.{Geometry}
+use Rattle.jb_cost.specs.Owned.{owned_cost}
+use Rattle.jb_cost.specs.Search.{BestSoFar, IsOver}
+use Rattle.jb_cost.specs.Starts.{BestStart}
+use Rattle.jb_cost.proofs.Starts.{best-all}
 use Rattle.jb_cost.proofs.best_start.best_start.Goals as goal
 
-pub plus-sum-requires-clause-copies : goal.plus-sum-requires-clause-copies
-plus-sum-requires-clause-copies c =
-    let room = room-more c.args.geometry c.args.owned.now _ _ _ _ _ _ _ c.loop-low.invariant c.loop-low-test.true c.requires.few in
-    omega (arith, room)
+pub loop-walk-preserved : goal.loop-walk-preserved
+loop-walk-preserved c =
+    let so_far = c.loop-walk.invariant in
+    let goes = c.in-Some.ensures.next in
+    record {
+      fit = c.in-Some.ensures.fit;
+      walk = goes.walk;
+      geometry = goes.geometry ∙ so_far.geometry;
+      best = λ ps fit.
+          let tried = so_far.best ps fit in
+          let next = c.in-Some.ensures.best ps tried.0 in
+          let back = λ (g : Geometry). BestSoFar g c.args.owned.now c.args.limit ps c.loop-walk.walk → BestSoFar g c.args.owned.now c.args.limit ps c.in-Some.next in
+          (next.0, (subst back so_far.geometry next.1) tried.1);
+    }
 
-pub plus-sum-requires-clause-frees : goal.plus-sum-requires-clause-frees
-plus-sum-requires-clause-frees c =
-    let room = room-more c.args.geometry c.args.owned.now _ _ _ _ _ _ _ c.loop-low.invariant c.loop-low-test.true c.requires.few in
-    omega (arith, room)
+pub returns-in-None-clause-best : goal.returns-in-None-clause-best
+returns-in-None-clause-best c ps fit =
+    let so_far = c.loop-walk.invariant in
+    let tried = so_far.best ps fit in
+    let over = subst (λ (g : Geometry). IsOver g c.args.owned.now c.args.limit c.loop-walk.walk.low) so_far.geometry c.in-None.ensures.over in
+    ((c.in-None.ensures.best ps tried.0).0, best-all (owned_cost c.args.geometry c.args.owned.now) c.args.limit ps c.loop-walk.walk.low (length c.args.owned.now) c.loop-walk.walk.best tried.1 over)
 
-pub blocks-cost-requires : goal.blocks-cost-requires
-blocks-cost-requires c =
-    let room = room-more c.args.geometry c.args.owned.now _ _ _ _ _ _ _ c.loop-low.invariant c.loop-low-test.true c.requires.few in
-    record { small = omega (arith, room, c.plus-sum.ensures.copies, c.plus-sum.ensures.frees) }
-
-pub loop-low-preserved : goal.loop-low-preserved
-loop-low-preserved c =
-    let stretch = c.joined-stretch.result in
-    let least = subst (λ ss. (ps : List (Option ℕ)) → AreLeast ps ss (length c.args.owned.now) → LeastPrice ps stretch.from (c.loop-low.low - 1 + 1) stretch.least) c.deref.ensures.value c.joined-stretch.ensures.least in
-    rw c.better-best.ensures
-    (walks-more c.args.geometry c.args.owned.now _ _ _ _ _ _ _ c.loop-low.invariant c.loop-low-test.true c.plus-sum.result.copies c.plus-sum.result.frees c.blocks-cost.result
-    c.plus-sum.ensures.copies c.plus-sum.ensures.frees c.blocks-cost.ensures (omega (arith, c.if-cost-from.false, c.from.ensures)) stretch c.joined-stretch.ensures.back c.joined-stretch.ensures.idle least)
-
-pub returns-then-cost-from-clause-best : goal.returns-then-cost-from-clause-best
-returns-then-cost-from-clause-best c =
-    walks-over c.args.geometry c.args.owned.now _ _ _ _ _ _ _ c.loop-low.invariant c.loop-low-test.true c.plus-sum.result.copies c.plus-sum.result.frees c.blocks-cost.result
-    c.plus-sum.ensures.copies c.plus-sum.ensures.frees c.blocks-cost.ensures (omega (arith, c.if-cost-from.true, c.from.ensures))
+pub returns-after-loop-walk-clause-best : goal.returns-after-loop-walk-clause-best
+returns-after-loop-walk-clause-best c ps fit =
+    let both = c.loop-walk.invariant.best ps fit in
+    let none : c.loop-walk.walk.low ≡ 0 = omega arith in
+    (both.0, subst (λ low. BestStart (owned_cost c.args.geometry c.args.owned.now) c.args.limit ps low (length c.args.owned.now) c.loop-walk.walk.best) none both.1)

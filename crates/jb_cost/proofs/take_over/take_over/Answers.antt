@@ -39,6 +39,9 @@ loop-home-preserved c =
       follows = follows-next _ rising _ _ c.loop-home-item.is inside _ c.args.last.now c.loop-home.last c.loop-home.invariant.follows c.insert.new.self c.is_copy-copy.result c.is_copy-copy.ensures put.updates.0;
       copies = counts-more copies_of kept _ _ _ _ _ c.loop-home.last c.insert.new.self _ _ _ c.loop-home.invariant.copies put.was_ordered put.entries put.old c.lose.ensures.copies c.with-gained.ensures.copies;
       frees = counts-more frees_of not _ _ _ _ _ c.loop-home.last c.insert.new.self _ _ _ c.loop-home.invariant.frees put.was_ordered put.entries put.old c.lose.ensures.frees (c.with-gained.ensures.frees ∙ ap (λ n. c.loop-home.gained.frees + n) (sym (turned c.is_copy-copy.result)));
+      spans = c.lose.ensures.spans;
+      places = c.lose.ensures.places ∙ c.loop-home.invariant.places;
+      bests = λ ps bests. c.lose.ensures.bests ps (c.loop-home.invariant.bests ps bests);
       few = omega (arith, c.loop-home.invariant.few, c.with-gained.ensures.copies, c.with-gained.ensures.frees, one-kind c.is_copy-copy.result);
     }
 

@@ -1,8 +1,9 @@
-use Rattle.std.proofs.Common.{◌≡◌, ◌+◌, ◌≤◌, ℕ, not, length, take}
+use Rattle.std.proofs.Common.{◌≡◌, ◌+◌, ◌≤◌, ℕ, not, List, Option, length, take}
 use Rattle.std.specs.Ordering.{nat_cmp}
 use Rattle.std.specs.BTreeMap.{IsOrdered, get}
 use Rattle.std.specs.FinMap as map
 use Rattle.jb_cost.specs.Owned.{IsIdle, owned_at, copies_of, frees_of, kept, CountsBut, later_touch}
+use Rattle.jb_cost.specs.Spans.{AreSpans, AreBest}
 use Rattle.jb_cost.proofs.take_over.take_over.Given as goal
 
 -- the entries so far are those of the new handle, and it owns their homes
@@ -15,5 +16,8 @@ invariant-loop-home l = record {
   follows : (q : ℕ) → get nat_cmp l.last q ≡ later_touch l.handle (map.find nat_cmp q (take l.home-index l.home-items)) (get nat_cmp l.initial.last q);
   copies : CountsBut copies_of kept l.handle l.gained.copies l.owned.items l.last;
   frees : CountsBut frees_of not l.handle l.gained.frees l.owned.items l.last;
+  spans : AreSpans l.owned.items l.spans.items;
+  places : length l.spans.items ≡ length l.initial.spans.items;
+  bests : (ps : List (Option ℕ)) → AreBest ps l.initial.owned.items l.initial.spans.items → AreBest ps l.owned.items l.spans.items;
   few : l.gained.copies + l.gained.frees ≤ l.home-index;
 }

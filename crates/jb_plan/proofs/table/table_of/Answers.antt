@@ -57,5 +57,5 @@ loop-last-preserved c =
     record {
       table = rw (prices, froms) more;
       sound = c.best.ensures.sound;
-      tells = rw prices (tells-as g hs (n + 1) ps (ps ++ (price_of step ∷ [])) c.best.new.self (λ i less. get_or-append ps (price_of step ∷ []) None i (omega (arith, table.number))) best.0);
+      tells = rw prices (tells-as g hs (n + 1) ps (ps ++ (price_of step ∷ [])) c.best.new.self c.best.ensures.sound (λ i less. get_or-append ps (price_of step ∷ []) None i (omega (arith, table.number))) best.0);
     }

@@ -1,4 +1,4 @@
-use Rattle.std.proofs.Common.{◌≡◌, rules, sym, ap, ◌∙◌, length, refl, [], Ok, Err}
+use Rattle.std.proofs.Common.{◌≡◌, rules, sym, ap, ◌∙◌, length, refl, [], Err}
 use Rattle.jb_block.specs.Size.{bytes_of}
 use Rattle.jb_text.specs.Parts.{lines}
 use Rattle.jb_queue.specs.Queue.{after_lines}

@@ -1,5 +1,5 @@
 use Rattle.jb_cost.proofs.Walking.{Joins}
-use Rattle.jb_cost.proofs.best_start.joined.Given as goal
+use Rattle.jb_cost.proofs.join.joined.Given as goal
 
 abbrev pub invariant-loop-earlier : goal.invariant-loop-earlier
 invariant-loop-earlier l = Joins l.owned l.stretches l.start l.joined

@@ -1,0 +1,113 @@
+#!/usr/bin/env python3
+"""load_speed.py JB [RUNS]: what a load takes beside its own reads, writes and syncs, and beside reading its text.
+
+Each load is run RUNS times (three) on a new image in memory (/dev/shm). strace then notes the calls of one more run, and replay.c makes
+the same calls over again and nothing else; `jb cost` of the text is what reading it takes. A line for each load, with the least of the
+runs: seconds by the clock, processor seconds, the calls' seconds, the text's, the ratio of the first to both together, and the peak
+memory beside the text's size. Needs strace and a C compiler. On a machine with other work only the processor seconds tell something."""
+import os
+import random
+import re
+import subprocess
+import sys
+import tempfile
+import time
+
+JB = os.path.realpath(sys.argv[1])
+RUNS = int(sys.argv[2]) if len(sys.argv) > 2 else 3
+HERE = os.path.dirname(os.path.realpath(__file__))
+CALL = re.compile(r"^(?:\d+ +)?(pread64|pwrite64|fdatasync|fsync)\((\d+)(?:, .*, (\d+), (\d+))?\)")
+
+
+def words(handles, each, homes, size=0, freed=0.0):
+    """Handles of so many words over so many homes; each with `size` bytes, or freed."""
+    chance = random.Random(1)
+    for _ in range(handles):
+        line = ["h"]
+        for _ in range(each):
+            home = chance.randrange(homes)
+            line.append("r%d" % home if chance.random() < freed else "w%d=%s" % (home, chance.randbytes(size).hex()))
+        yield " ".join(line)
+
+
+# name: block size, log blocks, homes, limit, threads, lines
+LOADS = {
+    "many small": (4096, 8192, 20000, 2047, 1, lambda: words(50000, 4, 20000, 4)),
+    "many small, 4 threads": (4096, 8192, 20000, 2047, 4, lambda: words(50000, 4, 20000, 4)),
+    "many homes": (4096, 8192, 200000, 2047, 1, lambda: words(20000, 8, 200000, 4)),
+    "full blocks": (4096, 16384, 20000, 2047, 1, lambda: words(500, 4, 20000, 4096)),
+    "small journal": (1024, 64, 256, 16, 1, lambda: words(20000, 2, 256, 4)),
+    "half freed": (4096, 8192, 20000, 2047, 1, lambda: words(50000, 4, 20000, 4, 0.5)),
+}
+
+
+def new_image(bs, journal, homes):
+    if os.path.exists("image"):
+        os.remove("image")
+    subprocess.run([JB, "format", "image", "--bs", str(bs), "--journal", str(journal), "--homes", str(homes)], check=True, stdout=subprocess.DEVNULL)
+
+
+def taken(command):
+    """Seconds by the clock, processor seconds and peak memory in MiB of a command that succeeds."""
+    start = time.monotonic()
+    child = subprocess.Popen(command, stdout=subprocess.DEVNULL)
+    _, status, use = os.wait4(child.pid, 0)
+    child.returncode = os.waitstatus_to_exitcode(status)
+    if child.returncode != 0:
+        sys.exit("%s: status %d" % (" ".join(command), child.returncode))
+    return time.monotonic() - start, use.ru_utime + use.ru_stime, use.ru_maxrss / 1024
+
+
+def least(command, before=lambda: None):
+    runs = []
+    for _ in range(RUNS):
+        before()
+        runs.append(taken(command))
+    return min(r[0] for r in runs), min(r[1] for r in runs), max(r[2] for r in runs)
+
+
+def calls_of(command, trace):
+    """The reads, writes and syncs of the image, in their order, as replay.c takes them."""
+    subprocess.run(["strace", "-f", "-qq", "-s", "0", "-e", "trace=pread64,pwrite64,fdatasync,fsync", "-o", trace] + command, check=True, stdout=subprocess.DEVNULL)
+    count = 0
+    with open(trace) as lines, open("calls", "w") as out:
+        for line in lines:
+            call = CALL.match(line)
+            if call is None:
+                continue
+            name, _, length, offset = call.groups()
+            count += 1
+            out.write("s\n" if length is None else "%s %s %s\n" % ("r" if name == "pread64" else "w", length, offset))
+    return count
+
+
+def one(name, bs, journal, homes, limit, threads, lines):
+    with open("queue", "w") as file:
+        file.write("bs %d\nlimit %d\n" % (bs, limit))
+        for line in lines():
+            file.write(line + "\n")
+    size = os.path.getsize("queue") / 2**20
+    load = [JB, "load", "image", "queue", "--threads", str(threads)]
+    clock, cpu, peak = least(load, lambda: new_image(bs, journal, homes))
+    text = least([JB, "cost", "queue"])
+    new_image(bs, journal, homes)
+    count = calls_of(load, "trace")
+    new_image(bs, journal, homes)
+    replay = subprocess.run(["./replay", "image", "calls", str(RUNS)], check=True, capture_output=True, text=True).stdout.split()
+    calls = float(replay[0])
+    print("| %s | %.2f | %.2f | %d | %.3f | %.3f | %.1f | %.0f of %.1f MiB |" % (name, clock, cpu, count, calls, text[0], clock / (calls + text[0]), peak, size), flush=True)
+
+
+def main():
+    print("load average %s" % open("/proc/loadavg").read().split()[0])
+    print("| Load | jb, s | processor s | calls | calls alone, s | text alone, s | ratio | peak |")
+    print("|---|---|---|---|---|---|---|---|")
+    with tempfile.TemporaryDirectory(dir="/dev/shm" if os.path.isdir("/dev/shm") else None) as folder:
+        os.chdir(folder)
+        subprocess.run(["cc", "-O2", "-o", "replay", os.path.join(HERE, "replay.c")], check=True)
+        for name, load in LOADS.items():
+            one(name, *load)
+        os.chdir("/")
+
+
+main()

@@ -1,0 +1,167 @@
+-- Spans: as a walk counts one, as a search goes over it, and as a handle in it changes.
+use Rattle.std.proofs.Common.{◌≡◌, ℕ, ◌+◌, ◌-◌, ◌^◌, ◌<◌, ◌≤◌, true, false, nat_lt, if◌then◌else◌, List, length, Option, Some, None, refl, subst, ap, arith}
+use Rattle.std.specs.Int.{div_ceil}
+use Rattle.std.proofs.lemmas.List.Sums.{sum_by-drop_more}
+use Rattle.jb_cost.specs.declared.geometry.Geometry.{Geometry}
+use Rattle.jb_cost.specs.declared.owned.Owned.{Owned}
+use Rattle.jb_cost.specs.declared.stretch.Priced.{Priced}
+use Rattle.jb_cost.specs.declared.found.Found.{Found}
+use Rattle.jb_cost.specs.declared.span.Span.{Span}
+use Rattle.jb_cost.specs.Owned.{owned_at, owned_from, copies_of, frees_of, owned_cost, IsIdle}
+use Rattle.jb_cost.specs.Starts.{LeastPrice, BestStart, AreIdle, found_from, dearer_by, better_of}
+use Rattle.jb_cost.specs.Spans.{CostsWithin, copies_until, IsSpan, IsBestOf}
+use Rattle.jb_cost.proofs.Ceilings.{ceil-mono}
+use Rattle.jb_cost.proofs.Starts.{best-joined, best-alike, best-dearer, best-as}
+use Rattle.jb_cost.proofs.Walking.{owned-more, owned-dearer, idle-copies, idle-frees}
+
+-- one handle more to the left
+pub owned-one : (count : Owned → ℕ) (os : List Owned) (low : ℕ) → 0 < low → low ≤ length os → owned_from count os (low - 1) ≡ owned_from count os low + count (owned_at os (low - 1))
+owned-one count os low positive within =
+    let back : low - 1 + 1 ≡ low = omega arith in
+    omega (arith, ap (owned_from count os) back, sum_by-drop_more count os (low - 1) (record { copies = 0; frees = 0 }) (omega (arith, within)))
+
+pub owned-later : (count : Owned → ℕ) (os : List Owned) (i k : ℕ) → i ≤ k → owned_from count os k ≤ owned_from count os i
+owned-later count os i k before = owned-more count os (k - i) i k (omega arith)
+
+within-better : (most : ℕ) (best earlier : Option Found) → CostsWithin most best → CostsWithin most earlier → CostsWithin most (better_of best earlier)
+within-better most best None one other = one
+within-better most None (Some s) one other = other
+within-better most (Some b) (Some s) one other = elim (nat_lt (b.price + b.cost) (s.price + s.cost)) as (λ t. CostsWithin most (if t then Some b else Some s)) [ true ↦ one | false ↦ other ]
+
+within-more : (low high : ℕ) (found : Option Found) → low ≤ high → CostsWithin low found → CostsWithin high found
+within-more low high found more within f is = omega (arith, more, within f is)
+
+within-from : (most : ℕ) (least : Option Priced) → CostsWithin most (found_from least most)
+within-from most None f is = cc
+within-from most (Some s) f is = let same : Some (record { from = s.from; price = s.price; cost = most }) ≡ Some f = is in let cost : most ≡ f.cost = cc in omega (arith, cost)
+
+-- what a walk over the stretches before `end` keeps
+pub record Counted (os : List Owned) (end low copies frees : ℕ) (least : Option Found) : Type 0 where
+  pub copies_are : copies + owned_from copies_of os end ≡ owned_from copies_of os low
+  pub frees_are : frees + owned_from frees_of os end ≡ owned_from frees_of os low
+  pub within : low ≤ end
+  pub idle : AreIdle os low (end - 8)
+  pub small : CostsWithin copies least
+
+module _ (os : List Owned) (end low copies frees : ℕ) (best : Option Found) (counted : Counted os end low copies frees best) (eight : 8 ≤ end) (inside : end ≤ length os) (later : end - 8 < low) where
+  -- the sums of one handle more are within the size
+  pub counted-room : owned_from copies_of os 0 + owned_from frees_of os 0 ≤ 2 ^ 62 → (copies + (owned_at os (low - 1)).copies) + (frees + (owned_at os (low - 1)).frees) ≤ 2 ^ 62
+  counted-room few =
+      omega (
+        arith,
+        few,
+        counted.copies_are,
+        counted.frees_are,
+        counted.within,
+        owned-one copies_of os low (omega arith) (omega (arith, counted.within)),
+        owned-one frees_of os low (omega arith) (omega (arith, counted.within)),
+        owned-later copies_of os 0 (low - 1) (omega arith),
+        owned-later frees_of os 0 (low - 1) (omega arith),
+      )
+
+  -- one stretch more
+  module _ (from copies_now frees_now : ℕ) (copied : copies_now ≡ copies + (owned_at os (low - 1)).copies) (freed : frees_now ≡ frees + (owned_at os (low - 1)).frees) (before : from ≤ low - 1) (idle : AreIdle os from (low - 1)) where
+    pub counted-more : (least : Option Priced) → Counted os end from copies_now frees_now (better_of best (found_from least copies_now))
+    counted-more least =
+        let short : low - 1 ≤ length os = omega (arith, counted.within) in
+        record {
+          copies_are = omega (arith, copied, counted.copies_are, owned-one copies_of os low (omega arith) (omega (arith, counted.within)), idle-copies os from (low - 1) before short idle);
+          frees_are = omega (arith, freed, counted.frees_are, owned-one frees_of os low (omega arith) (omega (arith, counted.within)), idle-frees os from (low - 1) before short idle);
+          within = omega (arith, before, counted.within);
+          idle = λ j above below. idle j above (omega arith);
+          small = within-better copies_now best (found_from least copies_now) (within-more copies copies_now best (omega (arith, copied)) counted.small) (within-from copies_now least);
+        }
+
+    pub counted-best : owned_from copies_of os 0 ≤ 2 ^ 62 → (ps : List (Option ℕ)) (least : Option Priced) → LeastPrice ps from (low - 1 + 1) least → BestStart (copies_until os end) (2 ^ 62) ps low end best
+        → BestStart (copies_until os end) (2 ^ 62) ps from end (better_of best (found_from least copies_now))
+    counted-best few ps least lowest tried =
+        let back : low - 1 + 1 ≡ low = omega arith in
+        let short : low - 1 ≤ length os = omega (arith, counted.within) in
+        let now = counted-more least in
+        best-joined (copies_until os end) (2 ^ 62) ps from low end (omega (arith, before)) counted.within best (found_from least copies_now)
+        (best-alike (copies_until os end) (2 ^ 62) ps from low copies_now (omega (arith, few, now.copies_are, owned-later copies_of os 0 from (omega arith)))
+        (λ i above below.
+        let until : AreIdle os i (low - 1) = λ j late early. idle j (omega arith) early in
+        omega (arith, idle-copies os i (low - 1) (omega arith) short until, idle-copies os from (low - 1) before short idle, now.copies_are))
+        least (subst (λ n. LeastPrice ps from n least) back lowest))
+        tried
+
+pub counted-start : (os : List Owned) (end : ℕ) → Counted os end end 0 0 None
+counted-start os end = record {
+  copies_are = omega arith;
+  frees_are = omega arith;
+  within = omega arith;
+  idle = λ j above below. absurd (let h : ⊥ = omega arith in h);
+  small = λ f is. cc;
+}
+
+pub counted-span : (os : List Owned) (end : ℕ) (s : Span) → 8 ≤ end → end ≤ length os → Counted os end s.from s.copies s.frees s.least → s.from ≤ end - 8 → IsSpan os end s
+counted-span os end s eight inside counted passed = record {
+  back = omega (arith, passed);
+  within = inside;
+  idle = counted.idle;
+  copies = counted.copies_are;
+  frees = counted.frees_are;
+  small = counted.small;
+}
+
+-- what a search over a span takes in
+module _ (g : Geometry) (os : List Owned) (low : ℕ) (s : Span) (is : IsSpan os low s) where
+  -- the sums with the span are those of the handles from its first one on
+  pub span-copies : (copies : ℕ) → copies ≡ owned_from copies_of os low → copies + s.copies ≡ owned_from copies_of os s.from
+  span-copies copies so_far = omega (arith, so_far, is.copies)
+
+  pub span-frees : (frees : ℕ) → frees ≡ owned_from frees_of os low → frees + s.frees ≡ owned_from frees_of os s.from
+  span-frees frees so_far = omega (arith, so_far, is.frees)
+
+  pub span-room : owned_from copies_of os 0 + owned_from frees_of os 0 ≤ 2 ^ 62 → (copies frees : ℕ) → copies ≡ owned_from copies_of os low → frees ≡ owned_from frees_of os low → (copies + s.copies) + (frees + s.frees) ≤ 2 ^ 62
+  span-room few copies frees copied freed =
+      omega (arith, few, span-copies copies copied, span-frees frees freed, owned-later copies_of os 0 s.from (omega arith), owned-later frees_of os 0 s.from (omega arith))
+
+  module _ (copied : div_ceil (owned_from copies_of os low) g.t ≡ div_ceil (owned_from copies_of os s.from) g.t) (freed : div_ceil (owned_from frees_of os low) g.r ≡ div_ceil (owned_from frees_of os s.from) g.r) where
+    -- with as many descriptors and revoke blocks each of its starts costs its copies more
+    span-cost : (i : ℕ) → s.from ≤ i → i < low → owned_cost g os i ≡ copies_until os low i + owned_cost g os low
+    span-cost i above below =
+        let more : owned_from copies_of os low ≤ owned_from copies_of os i = owned-later copies_of os i low (omega arith) in
+        let most : owned_from copies_of os i ≤ owned_from copies_of os s.from = owned-later copies_of os s.from i above in
+        let freed_more : owned_from frees_of os low ≤ owned_from frees_of os i = owned-later frees_of os i low (omega arith) in
+        let freed_most : owned_from frees_of os i ≤ owned_from frees_of os s.from = owned-later frees_of os s.from i above in
+        omega (
+          arith,
+          copied,
+          freed,
+          more,
+          ceil-mono (owned_from copies_of os low) (owned_from copies_of os i) g.t g.tags more,
+          ceil-mono (owned_from copies_of os i) (owned_from copies_of os s.from) g.t g.tags most,
+          ceil-mono (owned_from frees_of os low) (owned_from frees_of os i) g.r g.entries freed_more,
+          ceil-mono (owned_from frees_of os i) (owned_from frees_of os s.from) g.r g.entries freed_most,
+        )
+
+    -- so its best start is the best of them, where they are all within the limit
+    pub span-best : (limit cost end : ℕ) → cost ≡ owned_cost g os low → owned_cost g os s.from ≤ limit → owned_from copies_of os 0 ≤ 2 ^ 62 → low ≤ end → (ps : List (Option ℕ)) (best : Option Found) → IsBestOf ps os low s
+        → BestStart (owned_cost g os) limit ps low end best → BestStart (owned_cost g os) limit ps s.from end (better_of best (dearer_by cost s.least))
+    span-best limit cost end costs fits few inside ps best of tried =
+        best-joined (owned_cost g os) limit ps s.from low end (omega (arith, is.back)) inside best (dearer_by cost s.least)
+        (best-dearer (owned_cost g os) limit ps (copies_until os low) (2 ^ 62) cost s.from low
+        (λ i above below. omega (arith, span-cost i above below, costs))
+        (λ i above below. omega (arith, fits, owned-dearer g os s.from i above))
+        (λ i above below. omega (arith, few, owned-later copies_of os 0 i (omega arith)))
+        s.least of)
+        tried
+
+-- a span holds as far as its handles own what they did
+module _ (os now : List Owned) (end : ℕ) (s : Span) (is : IsSpan os end s) (same_copies : (i : ℕ) → s.from ≤ i → i ≤ end → owned_from copies_of now i + owned_from copies_of os end ≡ owned_from copies_of os i + owned_from copies_of now end) where
+  pub span-as : ((i : ℕ) → s.from ≤ i → i ≤ end → owned_from frees_of now i + owned_from frees_of os end ≡ owned_from frees_of os i + owned_from frees_of now end) → length os ≤ length now → ((k : ℕ) → IsIdle (owned_at os k) → k < end → IsIdle (owned_at now k)) → IsSpan now end s
+  span-as same_frees long idle = record {
+    back = is.back;
+    within = omega (arith, is.within, long);
+    idle = λ j above below. idle j (is.idle j above below) (omega (arith, below, is.back));
+    copies = omega (arith, is.copies, same_copies s.from (omega arith) (omega (arith, is.back)));
+    frees = omega (arith, is.frees, same_frees s.from (omega arith) (omega (arith, is.back)));
+    small = is.small;
+  }
+
+  pub span-best-as : (ps : List (Option ℕ)) → IsBestOf ps os end s → IsBestOf ps now end s
+  span-best-as ps best = best-as (copies_until os end) (copies_until now end) (2 ^ 62) ps ps s.from end
+      (λ i above below. let alike = same_copies i above (omega arith) in omega (arith, owned-later copies_of os i end (omega arith), owned-later copies_of now i end (omega arith)))
+      (λ i below. refl) s.least best

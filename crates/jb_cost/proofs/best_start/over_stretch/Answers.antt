@@ -1,0 +1,49 @@
+use Rattle.std.proofs.Common.{◌∙◌, length, ap, arith}
+use Rattle.jb_cost.specs.Cost.{blocks_of}
+use Rattle.jb_cost.proofs.Searching.{stretch-room, stretch-over, stretch-copies, stretch-frees, stretch-best}
+use Rattle.jb_cost.proofs.best_start.over_stretch.Goals as goal
+
+pub plus-tally-requires : goal.plus-tally-requires
+plus-tally-requires c =
+    let is = c.requires.walk.0 in
+    stretch-room c.args.walk.tally.geometry c.args.owned.now c.args.walk.low _ _ is.within is.copies is.frees c.requires.walk.1 c.requires.few
+
+pub cost-cost-requires : goal.cost-cost-requires
+cost-cost-requires c =
+    let is = c.requires.walk.0 in
+    let room = stretch-room c.args.walk.tally.geometry c.args.owned.now c.args.walk.low _ _ is.within is.copies is.frees c.requires.walk.1 c.requires.few in
+    omega (arith, room, c.plus-tally.ensures.copies, c.plus-tally.ensures.frees)
+
+pub returns-then-cost-from-clause-over : goal.returns-then-cost-from-clause-over
+returns-then-cost-from-clause-over c =
+    let is = c.requires.walk.0 in
+    let cost = c.cost-cost.ensures ∙ ap (λ g. blocks_of g c.plus-tally.result.copies.entries c.plus-tally.result.frees.entries) c.plus-tally.ensures.geometry in
+    stretch-over c.args.walk.tally.geometry c.args.owned.now c.args.walk.low _ _ is.within is.copies is.frees c.requires.walk.1 _ _ c.plus-tally.ensures.copies c.plus-tally.ensures.frees c.args.limit
+    (omega (arith, c.if-cost-from.true, c.from.ensures, cost))
+
+pub returns-clause-next : goal.returns-clause-next
+returns-clause-next c =
+    let is = c.requires.walk.0 in
+    let stretch = c.stretch-stretch in
+    record {
+      walk = record {
+        copies = stretch-copies c.args.walk.tally.geometry c.args.owned.now c.args.walk.low _ _ is.within is.copies is.frees c.requires.walk.1 _ _ c.plus-tally.ensures.copies c.plus-tally.ensures.frees stretch.result.from stretch.ensures.back stretch.ensures.idle;
+        frees = stretch-frees c.args.walk.tally.geometry c.args.owned.now c.args.walk.low _ _ is.within is.copies is.frees c.requires.walk.1 _ _ c.plus-tally.ensures.copies c.plus-tally.ensures.frees stretch.result.from stretch.ensures.back stretch.ensures.idle;
+        within = omega (arith, stretch.ensures.back, is.within);
+      };
+      earlier = omega (arith, stretch.ensures.back, c.requires.walk.1);
+      geometry = c.plus-tally.ensures.geometry;
+    }
+
+pub returns-clause-best : goal.returns-clause-best
+returns-clause-best c ps fit =
+    let is = c.requires.walk.0 in
+    let stretch = c.stretch-stretch in
+    let least = stretch.ensures.least ps fit in
+    let cost = c.cost-cost.ensures ∙ ap (λ g. blocks_of g c.plus-tally.result.copies.entries c.plus-tally.result.frees.entries) c.plus-tally.ensures.geometry in (
+      least.0,
+      λ tried.
+          rw (c.better.ensures, c.of.ensures)
+          (stretch-best c.args.walk.tally.geometry c.args.owned.now c.args.walk.low _ _ is.within is.copies is.frees c.requires.walk.1 _ _ c.plus-tally.ensures.copies c.plus-tally.ensures.frees stretch.result.from stretch.ensures.back stretch.ensures.idle
+          c.args.limit c.cost-cost.result (length c.args.owned.now) cost (omega (arith, c.if-cost-from.false, c.from.ensures)) is.within ps c.args.walk.best stretch.result.least least.1 tried),
+    )

@@ -1,0 +1,27 @@
+-- A search for the best start, as far as it has come.
+use Rattle.std.specs.Prelude.{◌≡◌, ℕ, ◌<◌, ◌≤◌, List, length, Option}
+use Rattle.jb_cost.specs.declared.geometry.Geometry.{Geometry}
+use Rattle.jb_cost.specs.declared.owned.Owned.{Owned}
+use Rattle.jb_cost.specs.declared.best_start.Walk.{Walk}
+use Rattle.jb_cost.specs.Owned.{owned_from, copies_of, frees_of, owned_cost}
+use Rattle.jb_cost.specs.Starts.{BestStart}
+
+-- the sums are those of the handles from low on
+pub record IsWalk (os : List Owned) (w : Walk) : Type 0 where
+  pub copies : w.tally.copies.entries ≡ owned_from copies_of os w.low
+  pub frees : w.tally.frees.entries ≡ owned_from frees_of os w.low
+  pub within : w.low ≤ length os
+
+-- a search has gone on to an earlier handle
+pub record Goes (os : List Owned) (w next : Walk) : Type 0 where
+  pub walk : IsWalk os next
+  pub earlier : next.low < w.low
+  pub geometry : next.tally.geometry ≡ w.tally.geometry
+
+-- its best start is that of the handles from low on
+abbrev pub BestSoFar : Geometry → List Owned → ℕ → List (Option ℕ) → Walk → Type 0
+BestSoFar g os limit ps w = BestStart (owned_cost g os) limit ps w.low (length os) w.best
+
+-- no group from a start before low is within the limit
+abbrev pub IsOver : Geometry → List Owned → ℕ → ℕ → Type 0
+IsOver g os limit low = (i : ℕ) → i < low → limit < owned_cost g os i
