@@ -139,12 +139,13 @@ impl<E, L: Place> History<E, L> {
         self.table.shared.join_seat::<Tell>(&mut made.seat, seat);
     }
 
-    /// The history has each entry of the token at its place. Where there are as many, the token has each of the history's
-    /// entries once.
+    /// The history has each entry of the token at its place. Where there are as many, the token has each of the
+    /// history's entries once.
     pub fn audit(&self, scribe: &mut Scribe<E, L>, made: Made<E, L>)
         ensures kept { scribe.new ≡ scribe.old }
         ensures stands { All (StandsIn scribe.old) made }
-        ensures whole { length made ≡ length scribe.old → (h : ℕ × E → ℕ) → sum_by h made ≡ sum_by h (with_places 0 scribe.old) }
+        ensures whole { length made ≡ length scribe.old
+            → (h : ℕ × E → ℕ) → sum_by h made ≡ sum_by h (with_places 0 scribe.old) }
     {
         let Made { seat, place: _ } = made;
         let shared = &self.table.shared;

@@ -18,7 +18,8 @@ impl<E, L: Place> Model for Scribe<E, L> {
 
     ghost view = { λ s. s.seat.me.0.seen };
 
-    ghost invariant = { λ s. (s.seat.table_id ≡ L.history) × (s.seat.me.1 ≡ []) × (s.seat.me.0.keeps ≡ true) × (s.seat.me.0.mine ≡ []) };
+    ghost invariant = { λ s. (s.seat.table_id ≡ L.history) × (s.seat.me.1 ≡ [])
+        × (s.seat.me.0.keeps ≡ true) × (s.seat.me.0.mine ≡ []) };
 }
 
 /// A first part of the history, which was seen.
