@@ -6,6 +6,7 @@ pub mod Desks
 pub mod Ends
 pub mod Events
 pub mod Journal
+pub mod Opened
 pub mod Origin
 pub mod Progress
 pub mod Refusals

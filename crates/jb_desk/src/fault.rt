@@ -1,5 +1,6 @@
 use crate::seat::Seat;
 use jb_handle::Handle;
+use std::fmt;
 use std::sync::ledger::Ledger;
 use thiserror::Error;
 
@@ -43,7 +44,8 @@ pub enum EnqueueFault {
 }
 
 /// The groups do not go on where the settled ones end, or are not of the batch that is out.
-#[derive(Clone, Copy, Debug, PartialEq, Eq)]
+#[derive(Clone, Copy, Debug, PartialEq, Eq, Error)]
+#[error("the groups are not those of the batch that is out; settle what the journal has committed")]
 pub struct WrongBatch;
 
 /// A desk that is shut gives no seats, nor does one that gave 2^61.
@@ -64,6 +66,22 @@ pub enum StopFault<H: Ledger, N: Ledger> {
     NotOpen(Handle<Seat<H, N>>),
     /// There was no memory for the handle in the queue. Here it is.
     Memory(Handle<Seat<H, N>>),
+}
+
+impl<H: Ledger, N: Ledger> fmt::Display for StopFault<H, N> {
+    fn fmt<W: fmt::Write>(&self, f: &mut fmt::Formatter<W>) -> fmt::Result {
+        match self {
+            StopFault::Aborted(_) => write!(
+                f,
+                "the journal has failed; recover it and open it again"
+            ),
+            StopFault::NotOpen(_) => write!(
+                f,
+                "the seat has no such handle open; stop the one that was begun"
+            ),
+            StopFault::Memory(_) => write!(f, "out of memory; stop again, or abandon the handle"),
+        }
+    }
 }
 
 /// Why a desk names no group for a ticket.

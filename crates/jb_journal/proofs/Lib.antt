@@ -1,2 +1,4 @@
 pub mod Answering
 pub mod Changing
+pub mod Ending
+pub mod Refusing

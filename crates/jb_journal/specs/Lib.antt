@@ -1,4 +1,5 @@
 pub mod Changing
 pub mod Client
+pub mod Refusing
 pub mod Running
 pub mod Starting

@@ -1,7 +1,11 @@
 -- What the threads of a journal leave.
-use Rattle.std.specs.Prelude.{◌≡◌, ℕ, ◌<◌, Bool, true, false, List, length, slice_index_or, Option, Some, None, IfSome}
+use Rattle.std.specs.Prelude.{◌≡◌, ℕ, ◌<◌, ◌≤◌, Bool, true, false, List, length, slice_index_or, Option, Some, None, IfSome}
+use Rattle.std.specs.Bool.{OnTrue}
+use Rattle.jb_deck.specs.Done.{Follow}
+use Rattle.jb_desk.specs.Ends.{is_shut}
 use Rattle.jb_desk.specs.declared.ended.Ended.{Ended}
 use Rattle.jb_desk.specs.declared.ended.Ended.TheVariants as ended
+use Rattle.jb_journal.specs.declared.ran.Ran.{Ran}
 use Rattle.jb_journal.specs.declared.threads.Worked.{Worked}
 
 -- each of so many workers answered what it may
@@ -27,3 +31,10 @@ EndsChecked true (Some (ended.Shut over)) = Unit {0}
 EndsChecked true (Some ended.Aborted) = Unit {0}
 EndsChecked true (Some ended.Memory) = ⊥
 EndsChecked true (Some ended.Refused) = ⊥
+
+-- what a run tells of its end: the settled handles are those of the trail, and all that stopped where the committer ended as the desk was over
+pub record EndsRun {T D : Type 0} (checkpoint : Bool) (ran : Ran T D) : Type 0 where
+  pub follows : Follow 0 0 ran.settled ran.trail.items
+  pub within : ran.settled ≤ ran.handles
+  pub all : OnTrue (is_shut ran.commit) (ran.settled ≡ ran.handles)
+  pub checked : EndsChecked checkpoint ran.checkpoint

@@ -2,20 +2,27 @@
 use jb_block::Memory;
 use jb_deck::OpenFault;
 use jb_desk::BeginFault;
+use std::fmt;
 use thiserror::Error;
 
 /// Why a handle of a client did not stop. It is dropped with all of its changes.
-#[derive(Clone, Copy, Debug, PartialEq, Eq)]
+#[derive(Clone, Copy, Debug, PartialEq, Eq, Error)]
+#[error_bound(E: fmt::Display)]
 pub enum HandleFault<E> {
     /// It was not begun, for this.
+    #[error("{0}")]
     Begin(BeginFault),
     /// What changes it gave this answer.
+    #[error("{0}")]
     Refused(E),
-    /// The journal has failed.
+    /// The journal has failed: the worker ends, and the journal is to be recovered.
+    #[error("the journal has failed; recover it and run it again")]
     Aborted,
     /// The handle has other words than the one that was begun may have: it was exchanged for another one.
+    #[error("the handle is not the one that was begun; change that one in its place")]
     NotOpen,
-    /// There was no memory for it in the queue.
+    /// There was no memory for it in the queue. It can be tried again.
+    #[error("out of memory; change again")]
     Memory,
 }
 

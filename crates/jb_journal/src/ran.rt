@@ -10,11 +10,14 @@ pub struct Ran<T, D> {
     pub answers: Vec<T>,
     /// How many handles stopped.
     pub handles: u64,
+    /// How many of them, the first by their tickets, are settled: they stand after a crash.
+    pub settled: u64,
     /// How many home blocks these had touched, added up.
     pub changes: u64,
     /// The transactions that were committed, in the order of their tickets.
     pub trail: Vec<Entry>,
-    /// How the committer ended.
+    /// How the committer ended: `Shut` where every handle that stopped is settled. Otherwise the journal is to be
+    /// recovered, and the handles after the settled ones may be lost.
     pub commit: Ended,
     /// How the checkpointer ended; `None` where there was none.
     pub checkpoint: Option<Ended>,

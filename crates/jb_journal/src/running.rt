@@ -1,10 +1,11 @@
 //! A journal is run.
-ghost use Rattle.std.specs.Prelude.{◌≡◌, ℕ, ◌+◌, ◌^◌, ◌≤◌, ◌⊎◌, [], false, IfErr, IfOk};
-ghost use Rattle.jb_deck.specs.Done.{Follow};
+ghost use Rattle.std.specs.Prelude.{◌≡◌, ◌+◌, ◌^◌, ◌≤◌, ◌⊎◌, IfErr, IfOk};
+ghost use Rattle.jb_deck.specs.Done.{past_after};
 ghost use Rattle.jb_desk.specs.Desks.{shape_in};
-ghost use Rattle.jb_desk.specs.Since.{EndsSince, IsBegunOn, IsSince};
+ghost use Rattle.jb_desk.specs.Since.{EndsSince, IsBegunOn};
 ghost use Rattle.jb_handle.specs.Word.{WordMap};
-ghost use Rattle.jb_journal.specs.Running.{AreAnswers, EndsChecked};
+ghost use Rattle.jb_journal.specs.Refusing.{RefusesRun};
+ghost use Rattle.jb_journal.specs.Running.{AreAnswers, EndsRun};
 ghost use Rattle.jb_journal.specs.Starting.{started_on};
 ghost use Rattle.jb_journal.specs.declared.fault.RunFault.TheVariants.{Accounts, Memory as OutOfMemory};
 
@@ -14,7 +15,7 @@ use crate::options::Options;
 use crate::ran::Ran;
 use crate::threads::{Threaded, run_all};
 use crate::worker::Worker;
-use jb_deck::{Deck, OpenFault};
+use jb_deck::Entry;
 use jb_desk::{Closed, Desk, Origin};
 use jb_disk::{Clock, Disk};
 use std::alloc::Global;
@@ -45,9 +46,9 @@ pub fn run<
 >(rt: &R, disk: D, clock: C, options: Options, worker: &W) -> Result<Ran<T, D>, RunFault>
     requires workers { (1 ≤ options.workers) × (options.workers ≤ 64) }
     ensures answers { IfOk result (λ ran. AreAnswers (W.answers worker.now) options.workers ran.answers.items) }
-    ensures trail { IfOk result (λ ran. (past : ℕ) × Follow 0 0 past ran.trail.items × (past ≤ ran.handles)) }
+    ensures ends { IfOk result (EndsRun options.checkpoint) }
     ensures since { IfOk result (λ ran. EndsSince D.size D.count D.faults D.honest D.newest D.may_leave D.moment D.left_since (started_on D.size D.count D.faults D.honest D.newest D.moment D.left_since disk) ran.disk ran.trail.items) }
-    ensures checked { IfOk result (λ ran. EndsChecked options.checkpoint ran.checkpoint) }
+    ensures refused { IfErr result (RefusesRun D.size D.count D.faults D.honest D.newest disk) }
 {
     let (handles, changes) = (Blank::new(PARTS), Blank::new(PARTS));
     run_on::<T, W, D, C, R, Brand, Brand>(
@@ -91,30 +92,19 @@ pub fn run_on<
     requires begun { IsBegunOn D.size D.count D.faults D.honest D.newest D.moment D.left_since H.begun disk }
     requires any { (words : WordMap) → H.begun.stops words }
     ensures answers { IfOk result (λ ran. AreAnswers (W.answers worker.now) options.workers ran.answers.items) }
-    ensures trail { IfOk result (λ ran. (past : ℕ) × Follow 0 0 past ran.trail.items × (past ≤ ran.handles)) }
+    ensures ends { IfOk result (EndsRun options.checkpoint) }
     ensures since { IfOk result (λ ran. EndsSince D.size D.count D.faults D.honest D.newest D.may_leave D.moment D.left_since H.begun ran.disk ran.trail.items) }
-    ensures checked { IfOk result (λ ran. EndsChecked options.checkpoint ran.checkpoint) }
+    ensures refused { IfErr result (RefusesRun D.size D.count D.faults D.honest D.newest disk) }
 {
-    let deck = match open::<D, H>(alloc, disk) {
+    let deck = match jb_desk::open::<D, H>(alloc, disk) {
         Ok(deck) => deck,
         Err(fault) => return Err(RunFault::Open(fault)),
     };
+    let _shape = deck.shape(); // for the proof alone: what its handles have to fit
     let Ok(desk) = Desk::<D, C, H, N>::start(alloc, handles, changes, deck, clock) else {
         return Err(RunFault::Memory);
     };
     run_at(rt, alloc, desk, options, worker)
-}
-
-/// Opens the journal on the disk of the start.
-fn open<D: Disk + Drop, H: Origin>(alloc: Global, disk: D) -> Result<Deck<D>, OpenFault>
-    requires { IsBegunOn D.size D.count D.faults D.honest D.newest D.moment D.left_since H.begun disk }
-    ensures new { IfOk result (λ deck. (deck.trail ≡ []) × (deck.aborted ≡ false)) }
-    ensures since { IfOk result (λ deck. IsSince D.size D.count D.faults D.honest D.newest D.may_leave D.moment D.left_since H.begun deck) }
-{
-    match Deck::open(alloc, disk) {
-        Ok(deck) => Ok(deck),
-        Err((_, fault)) => Err(fault),
-    }
 }
 
 /// Runs the workers at a new desk, and closes it.
@@ -136,9 +126,9 @@ fn run_at<
     requires parts { (H.parts ≡ 2 ^ 61 + 1) × (N.parts ≡ 2 ^ 61 + 1) }
     requires any { (words : WordMap) → H.begun.stops words }
     ensures answers { IfOk result (λ ran. AreAnswers (W.answers worker.now) options.workers ran.answers.items) }
-    ensures trail { IfOk result (λ ran. (past : ℕ) × Follow 0 0 past ran.trail.items × (past ≤ ran.handles)) }
+    ensures ends { IfOk result (EndsRun options.checkpoint) }
     ensures since { IfOk result (λ ran. EndsSince D.size D.count D.faults D.honest D.newest D.may_leave D.moment D.left_since H.begun ran.disk ran.trail.items) }
-    ensures checked { IfOk result (λ ran. EndsChecked options.checkpoint ran.checkpoint) }
+    ensures faults { IfErr result (λ fault. (fault ≡ OutOfMemory) ⊎ (fault ≡ Accounts)) }
 {
     let (ran, checkpoint) = run_all(rt, alloc, &desk, options, worker);
     let Threaded {
@@ -160,13 +150,28 @@ fn run_at<
         trail,
         ..
     } = closed;
+    let settled = settled_handles(&trail);
+    if commit.is_shut() && settled != handles {
+        return Err(RunFault::Accounts);
+    }
     Ok(Ran {
         disk,
         answers,
         handles,
+        settled,
         changes,
         trail,
         commit,
         checkpoint,
     })
+}
+
+/// How many handles the groups of a trail have settled.
+fn settled_handles(trail: &[Entry]) -> u64
+    ensures { result ≡ past_after 0 trail.now }
+{
+    match trail.last() {
+        Some(entry) => entry.past,
+        None => 0,
+    }
 }

@@ -20,6 +20,8 @@ mod fronts;
 #[cfg(test)]
 mod images;
 #[cfg(test)]
+mod peeks;
+#[cfg(test)]
 mod renumbers;
 #[cfg(test)]
 mod small;

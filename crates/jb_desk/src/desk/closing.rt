@@ -14,6 +14,7 @@ use crate::seat::Left;
 use crate::works::Works;
 use jb_deck::{Deck, Entry};
 use jb_disk::{Clock, Disk};
+use std::fmt;
 use std::sync::Mutex;
 use std::sync::ledger::Ledger;
 
@@ -46,6 +47,23 @@ pub enum CloseFault<D: Disk, C: Clock, H: Origin, N: Ledger> {
         /// The groups that are settled in the book.
         book: Vec<Entry>,
     },
+}
+
+impl<D: Disk, C: Clock, H: Origin, N: Ledger> fmt::Display for CloseFault<D, C, H, N> {
+    fn fmt<W: fmt::Write>(&self, f: &mut fmt::Formatter<W>) -> fmt::Result {
+        match self {
+            CloseFault::SeatsOut(..) => write!(
+                f,
+                "a seat has not left; close with what all seats left"
+            ),
+            CloseFault::TrailsDiffer { .. } => {
+                write!(
+                    f,
+                    "the journal has settled other groups than the book; recover it and open it again"
+                )
+            }
+        }
+    }
 }
 
 impl<D: Disk, C: Clock, H: Origin, N: Ledger> Desk<D, C, H, N> {

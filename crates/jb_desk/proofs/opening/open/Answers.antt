@@ -1,5 +1,5 @@
 use Rattle.jb_desk.proofs.Begins.{opened-since}
-use Rattle.jb_journal.proofs.running.open.Goals as goal
+use Rattle.jb_desk.proofs.opening.open.Goals as goal
 
 pub returns-in-Ok-clause-since : goal.returns-in-Ok-clause-since
 returns-in-Ok-clause-since g c =

@@ -1,0 +1,84 @@
+//! The store: each key is in one home block, and each change of it is a handle.
+use crate::failed::Failed;
+use crate::table::{BYTES, Block, Table};
+use jb_journal::{Client, Clock, Disk, Handle, Origin, TouchFault};
+use std::sync::Wait;
+use std::sync::ledger::Ledger;
+use std::time;
+
+/// How many home blocks there are.
+pub const HOMES: u64 = 32;
+
+ghost use Rattle.jb_journal.specs.Client.{IsClient};
+
+/// Puts a value at a key. It stands after a crash once this is done.
+///
+/// # Errors
+/// `NoRoom`, and those of the journal.
+pub fn put<'a, D: Disk, C: Clock, R: Wait + time::Clock, H: Origin, N: Ledger>(
+    client: &mut Client<'a, D, C, R, H, N>,
+    key: u64,
+    value: u64,
+) -> Result<(), Failed>
+    requires { IsClient H.begun client.old }
+    ensures { IsClient H.begun client.new }
+{
+    let mut table = table_of(client, key)?;
+    table.put(key, value)?;
+    write(client, key, &table)
+}
+
+/// The value at a key.
+///
+/// # Errors
+/// Those of the journal.
+pub fn get<'a, D: Disk, C: Clock, R: Wait + time::Clock, H: Origin, N: Ledger>(
+    client: &Client<'a, D, C, R, H, N>,
+    key: u64,
+) -> Result<Option<u64>, Failed> {
+    let table = table_of(client, key)?;
+    Ok(table.get(key))
+}
+
+/// Takes a key out. It is out after a crash once this is done.
+///
+/// # Errors
+/// Those of the journal.
+pub fn delete<'a, D: Disk, C: Clock, R: Wait + time::Clock, H: Origin, N: Ledger>(
+    client: &mut Client<'a, D, C, R, H, N>,
+    key: u64,
+) -> Result<(), Failed>
+    requires { IsClient H.begun client.old }
+    ensures { IsClient H.begun client.new }
+{
+    let mut table = table_of(client, key)?;
+    table.delete(key);
+    write(client, key, &table)
+}
+
+/// The table that has the key, as it is committed. All that was put is committed, since each change waits.
+fn table_of<'a, D: Disk, C: Clock, R: Wait + time::Clock, H: Origin, N: Ledger>(
+    client: &Client<'a, D, C, R, H, N>,
+    key: u64,
+) -> Result<Table, Failed> {
+    let mut block: Block = [0; BYTES];
+    client.read(key % HOMES, &mut block)?;
+    Ok(Table::of_block(&block))
+}
+
+/// Writes the table that has the key by a handle of one block, and waits until it is committed.
+fn write<'a, D: Disk, C: Clock, R: Wait + time::Clock, H: Origin, N: Ledger>(
+    client: &mut Client<'a, D, C, R, H, N>,
+    key: u64,
+    table: &Table,
+) -> Result<(), Failed>
+    requires { IsClient H.begun client.old }
+    ensures { IsClient H.begun client.new }
+{
+    let block = table.block();
+    let (_, ticket) = client.change(1, |handle: &mut Handle<()>| -> Result<(), TouchFault> {
+        handle.write(key % HOMES, &block)
+    })?;
+    client.wait(ticket)?;
+    Ok(())
+}
