@@ -16,7 +16,7 @@ import time
 JB = os.path.realpath(sys.argv[1])
 RUNS = int(sys.argv[2]) if len(sys.argv) > 2 else 3
 HERE = os.path.dirname(os.path.realpath(__file__))
-CALL = re.compile(r"^(?:\d+ +)?(pread64|pwrite64|fdatasync|fsync)\((\d+)(?:, .*, (\d+), (\d+))?\)")
+CALL = re.compile(r"^(?:\d+ +)?(pread64|pwrite64|fdatasync|fsync)\((\d+)(?:, .*, (\d+), (\d+))?(?:\)| <unfinished)")
 
 
 def words(handles, each, homes, size=0, freed=0.0):
