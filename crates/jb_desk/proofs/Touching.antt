@@ -12,7 +12,7 @@ use Rattle.jb_handle.specs.declared.changes.TouchFault.TheVariants.{NoCredit, Ou
 use Rattle.jb_handle.specs.declared.shape.Shape.{Shape}
 use Rattle.jb_handle.specs.declared.word.Word.{Word}
 use Rattle.jb_handle.specs.declared.word.Word.TheVariants.{Copy, Free}
-use Rattle.jb_handle.specs.Held.{Held, held, FitsWord, Fits, first_of, is_spent, is_misfit, home_of, len_of, word_of}
+use Rattle.jb_handle.specs.Held.{Held, held, FitsWord, Fits, first_of, is_spent, is_misfit, home_of, len_in, word_of}
 use Rattle.jb_handle.specs.Held as handle
 use Rattle.jb_handle.specs.Word.{WordMap}
 use Rattle.jb_handle.proofs.Listed.{each-entry}

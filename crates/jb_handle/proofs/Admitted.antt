@@ -11,7 +11,7 @@ use Rattle.jb_handle.specs.declared.shape.Shape.{Shape}
 use Rattle.jb_handle.specs.declared.changes.TouchFault.{TouchFault}
 use Rattle.jb_handle.specs.declared.changes.TouchFault.TheVariants.{NoCredit, OutOfRange, Length}
 use Rattle.jb_handle.specs.Word.{WordMap}
-use Rattle.jb_handle.specs.Held.{Held, held, FitsWord, Fits, IsKept, is_spent, is_misfit, first_of, refusal_at, put_at}
+use Rattle.jb_handle.specs.Held.{Held, held, FitsWord, Fits, IsKept, is_spent, is_misfit, first_of, len_in, refusal_at, put_at}
 
 -- no words are within any credits, and fit any shape
 pub kept-new : (credits : ℕ) (shape : Shape) → credits < 2 ^ 32 → IsKept (held credits shape map.empty)
@@ -66,3 +66,8 @@ free-kept h home kept none =
     let there : nat_le h.shape.homes home ≡ false = p.1 in
     let in_range : home < h.shape.homes = grind (arith, nat_tests) in
     kept-put h home Free kept in_range p.0
+
+-- the same of any word
+pub word-kept : (h : Held) (home : ℕ) (word : Word) → IsKept h → refusal_at h home (len_in word) ≡ None → IsKept (put_at h home word)
+word-kept h home (Copy bytes) kept none = copy-kept h home bytes kept none
+word-kept h home Free kept none = free-kept h home kept none

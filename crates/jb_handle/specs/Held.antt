@@ -50,10 +50,10 @@ abbrev pub word_of : Op → Word
 word_of (Write home bytes) = Copy bytes
 word_of (Revoke home) = Free
 
--- how many bytes a write has
-abbrev pub len_of : Op → Option ℕ
-len_of (Write home bytes) = Some (length bytes)
-len_of (Revoke home) = None
+-- how many bytes a copy has
+abbrev pub len_in : Word → Option ℕ
+len_in (Copy bytes) = Some (length bytes)
+len_in Free = None
 
 -- the first fault whose fact holds
 abbrev pub first_of : {F : Type 0} → List (Bool × F) → Option F
@@ -76,7 +76,7 @@ refusal_at h home len = first_of ((is_spent h home, NoCredit h.credits) ∷ (nat
 
 -- the first reason against a change
 abbrev pub refusal : Held → Op → Option TouchFault
-refusal h op = refusal_at h (home_of op) (len_of op)
+refusal h op = refusal_at h (home_of op) (len_in (word_of op))
 
 -- after a word was put on a home
 abbrev pub put_at : Held → ℕ → Word → Held

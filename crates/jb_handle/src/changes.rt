@@ -63,7 +63,8 @@ impl Model for Changes {
 }
 
 impl Changes {
-    ghost use Rattle.jb_handle.specs.Held.{Held, held, touched, IsKept, put_at, after, home_of, refusal, refusal_at};
+    ghost use Rattle.jb_handle.specs.Held.{Held, held, touched, IsKept, len_in, put_at, after, home_of, refusal, refusal_at};
+    ghost use Rattle.jb_handle.specs.Word.{is_copy};
     ghost use Rattle.jb_handle.specs.declared.op.Op.TheVariants.{Write, Revoke};
     ghost use Rattle.jb_handle.specs.declared.changes.TouchFault.TheVariants.{Memory as OutOfMemory};
 
@@ -133,7 +134,7 @@ impl Changes {
         match op {
             Op::Write(home, payload) => {
                 self.admit(home, Some(payload.len()))?;
-                self.put(home, Word::Copy(payload))
+                self.keep(home, Word::Copy(payload))
             }
             Op::Revoke(home) => self.revoke(home),
         }
@@ -155,7 +156,7 @@ impl Changes {
     {
         self.admit(home, Some(bytes.len()))?;
         let payload = Payload::of(self.alloc, bytes)?;
-        self.put(home, Word::Copy(payload))
+        self.keep(home, Word::Copy(payload))
     }
 
     /// The home block is freed (`jbd2_journal_revoke`). It drops a copy of the block.
@@ -172,7 +173,27 @@ impl Changes {
         ensures memory { IfErr result (λ fault. fault ≡ OutOfMemory → (refusal self.old (Revoke home) ≡ None) × (map.contains_key self.old.words home ≡ false)) }
     {
         self.admit(home, None)?;
-        self.put(home, Word::Free)
+        self.keep(home, Word::Free)
+    }
+
+    /// Puts a copy of a word on the home block: what [`Changes::write`] does with the bytes of a copy, and
+    /// [`Changes::revoke`] with a freed block. A copy takes no more memory than its word does.
+    ///
+    /// # Errors
+    ///
+    /// The first of these, and the changes are as they were: `NoCredit`, `OutOfRange`, `Length`, and
+    /// `Memory` where there is none for the first bytes of a copy or for a further block.
+    pub fn put(&mut self, home: u64, word: &Word) -> Result<(), TouchFault>
+        ensures ok { OnOk result (self.new ≡ put_at self.old home word.now) }
+        ensures granted { OnOk result (refusal_at self.old home (len_in word.now) ≡ None) }
+        ensures err { OnErr result (self.new ≡ self.old) }
+        ensures refused { IfErr result (λ fault. (fault ≡ OutOfMemory) ⊎ (refusal_at self.old home (len_in word.now) ≡ Some fault)) }
+        ensures memory { IfErr result (λ fault. fault ≡ OutOfMemory → (refusal_at self.old home (len_in word.now) ≡ None)
+            × (is_copy word.now ≡ false → map.contains_key self.old.words home ≡ false)) }
+    {
+        self.admit(home, word.len())?;
+        let word = word.try_clone()?;
+        self.keep(home, word)
     }
 
     /// The first reason against a change of this home block, by a write of so many bytes or a revoke.
@@ -194,8 +215,8 @@ impl Changes {
         }
     }
 
-    /// Puts a word on a home block for which it was admitted.
-    fn put(&mut self, home: u64, word: Word) -> Result<(), TouchFault>
+    /// Keeps a word on a home block for which it was admitted.
+    fn keep(&mut self, home: u64, word: Word) -> Result<(), TouchFault>
         requires kept { IsKept (put_at self.old home word) }
         ensures ok { OnOk result (self.new ≡ put_at self.old home word) }
         ensures err { OnErr result (self.new ≡ self.old) }

@@ -18,7 +18,8 @@ pub struct Handle<S> {
 
 impl<S> Handle<S> {
     ghost use Rattle.jb_handle.specs.Handle.{holder, changes_of};
-    ghost use Rattle.jb_handle.specs.Held.{held, touched, after, refusal, IsKept};
+    ghost use Rattle.jb_handle.specs.Held.{held, touched, len_in, put_at, after, refusal, refusal_at, IsKept};
+    ghost use Rattle.jb_handle.specs.Word.{is_copy};
     ghost use Rattle.jb_handle.specs.declared.op.Op.TheVariants.{Write, Revoke};
     ghost use Rattle.jb_handle.specs.declared.changes.TouchFault.TheVariants.{Memory};
 
@@ -111,6 +112,26 @@ impl<S> Handle<S> {
         ensures memory { IfErr result (λ fault. fault ≡ Memory → (refusal (changes_of self.old) (Revoke home) ≡ None) × (map.contains_key (changes_of self.old).words home ≡ false)) }
     {
         self.changes.revoke(home)
+    }
+
+    /// Puts a copy of a word on the home block: what [`Handle::write`] does with the bytes of a copy, and
+    /// [`Handle::revoke`] with a freed block. A copy takes no more memory than its word does.
+    ///
+    /// # Errors
+    ///
+    /// The first of these, and the handle is as it was: `NoCredit`, `OutOfRange`, `Length`, and
+    /// `Memory` where there is none for the first bytes of a copy or for a further block.
+    pub fn put(&mut self, home: u64, word: &Word) -> Result<(), TouchFault>
+        ensures seat { holder self.new ≡ holder self.old }
+        ensures ok { OnOk result (changes_of self.new ≡ put_at (changes_of self.old) home word.now) }
+        ensures granted { OnOk result (refusal_at (changes_of self.old) home (len_in word.now) ≡ None) }
+        ensures err { OnErr result (changes_of self.new ≡ changes_of self.old) }
+        ensures refused { IfErr result (λ fault. (fault ≡ Memory)
+            ⊎ (refusal_at (changes_of self.old) home (len_in word.now) ≡ Some fault)) }
+        ensures memory { IfErr result (λ fault. fault ≡ Memory → (refusal_at (changes_of self.old) home (len_in word.now) ≡ None)
+            × (is_copy word.now ≡ false → map.contains_key (changes_of self.old).words home ≡ false)) }
+    {
+        self.changes.put(home, word)
     }
 
     /// The seat that the handle was made for, and the handle for another one, with the same changes.

@@ -16,7 +16,7 @@ pub enum Word {
 
 impl Word {
     ghost use Rattle.jb_handle.specs.Word.{is_copy, HasBytes};
-    ghost use Rattle.jb_handle.specs.Held.{FitsWord};
+    ghost use Rattle.jb_handle.specs.Held.{FitsWord, len_in};
 
     /// Whether it is a copy.
     pub fn is_copy(&self) -> bool
@@ -25,6 +25,16 @@ impl Word {
         match self {
             Word::Copy(_) => true,
             Word::Free => false,
+        }
+    }
+
+    /// How many bytes a copy has, zeros included; `None` of a freed block.
+    pub(crate) fn len(&self) -> Option<usize>
+        ensures { result ≡ len_in self.now }
+    {
+        match self {
+            Word::Copy(payload) => Some(payload.len()),
+            Word::Free => None,
         }
     }
 

@@ -1,5 +1,6 @@
-use jb_block::{BlockSize, Width};
+use jb_block::{BlockSize, Memory, Width};
 use jb_handle::{Gathered, Handle, Payload, Shape, Stopped, TouchFault, Word, Words};
+use std::alloc::Global;
 use std::test::Fail;
 
 const SMALL: Shape = Shape {
@@ -9,26 +10,74 @@ const SMALL: Shape = Shape {
     width: Width::Narrow,
 };
 
-/// Credits bound the blocks that a handle touches, and of several faults the first is answered.
+/// A change of a home block, by a copy of so many bytes or by a freed block; and its refusal.
+type Row = (u64, Option<usize>, Option<TouchFault>);
+
+/// Changes of a handle with two credits, one after the other.
+const ROWS: &[Row] = &[
+    (16, Some(1023), Some(TouchFault::OutOfRange(16))),
+    (16, None, Some(TouchFault::OutOfRange(16))),
+    (15, Some(1023), Some(TouchFault::Length)),
+    (15, Some(0), Some(TouchFault::Length)),
+    (5, Some(1024), None),
+    (6, None, None),
+    (16, Some(1023), Some(TouchFault::NoCredit(2))),
+    (7, None, Some(TouchFault::NoCredit(2))),
+    (6, Some(1024), None),
+    (5, None, None),
+];
+
+/// Changes a home block by its call, or by its word, which has two bytes and zeros after them.
+fn change(
+    alloc: Global,
+    handle: &mut Handle<u32>,
+    home: u64,
+    len: Option<usize>,
+    by_word: bool,
+) -> Result<(), TouchFault> {
+    let Some(len) = len else {
+        return if by_word {
+            handle.put(home, &Word::Free)
+        } else {
+            handle.revoke(home)
+        };
+    };
+    let mut block = vec![in alloc; 0; len].map_err(Memory::from)?;
+    for byte in block.iter_mut().take(2) {
+        *byte = 7;
+    }
+    if !by_word {
+        return handle.write(home, &block);
+    }
+    block.truncate(2);
+    if block.len() <= len {
+        handle.put(home, &Word::Copy(Payload::padded(block, len)))
+    } else {
+        Err(TouchFault::Memory)
+    }
+}
+
+/// Credits bound the blocks that a handle touches, and of several faults the first is answered, by each call of a change.
 #[test]
 fn changes_are_taken_or_refused(rt: HostRuntime) -> Result<(), Fail> {
-    let block = [7; 1024];
-    let mut handle = Handle::new(rt.alloc(), 3, 2, SMALL);
-    let far = handle.write(16, &block[..1023]);
-    let far_free = handle.revoke(16);
-    let short = handle.write(15, &block[..1023]);
-    let wrote = handle.write(5, &block);
-    let revoked = handle.revoke(6);
-    let third = handle.write(16, &block[..1023]);
-    let again = handle.write(6, &block);
-    let freed = handle.revoke(5);
-    let touched = handle.touched();
-    let (seat, words) = handle.end();
-    assert!(rt; far == Err(TouchFault::OutOfRange(16)) && far_free == far);
-    assert!(rt; short == Err(TouchFault::Length));
-    assert!(rt; third == Err(TouchFault::NoCredit(2)));
-    assert!(rt; wrote == Ok(()) && revoked == Ok(()) && again == Ok(()) && freed == Ok(()));
-    assert!(rt; seat == 3 && touched == 2 && words.len() == 2 && words.fit(SMALL));
+    for by_word in [false, true] {
+        let mut handle = Handle::new(rt.alloc(), 3, 2, SMALL);
+        for (home, len, fault) in ROWS {
+            let answer = change(rt.alloc(), &mut handle, *home, *len, by_word);
+            assert!(rt; answer.err() == *fault, "home block {home}");
+        }
+        let touched = handle.touched();
+        let (seat, words) = handle.end();
+        assert!(rt; seat == 3 && touched == 2 && words.len() == 2 && words.fit(SMALL));
+        assert!(rt; matches!(words.get(5), Some(Word::Free)));
+        match words.get(6) {
+            Some(Word::Copy(payload)) if payload.len() == 1024 => assert_eq!(rt;
+                payload.front(),
+                [7, 7, 0, 0]
+            ),
+            _ => assert!(rt; false, "home block 6"),
+        }
+    }
     Ok(())
 }
 

@@ -5,7 +5,7 @@ use Rattle.std.specs.FinMap as map
 use Rattle.std.specs.Cmp.{nat_cmp_total}
 use Rattle.std.proofs.lemmas.Bool.{leb-true}
 use Rattle.jb_block.specs.Size.{bytes_of}
-use Rattle.jb_handle.specs.Held.{Held, first_of, is_misfit, is_spent, refusal_at}
+use Rattle.jb_handle.specs.Held.{Held, first_of, is_misfit, is_spent, len_in, refusal_at}
 use Rattle.jb_handle.specs.Word.{WordMap}
 use Rattle.jb_handle.specs.declared.changes.TouchFault.{TouchFault}
 use Rattle.jb_handle.specs.declared.changes.TouchFault.TheVariants as touch
@@ -17,7 +17,6 @@ use Rattle.jb_desk.specs.declared.fault.BeginFault.{BeginFault}
 use Rattle.jb_desk.specs.declared.fault.BeginFault.TheVariants as begin
 use Rattle.jb_load.specs.Faults.{not_begun, not_touched}
 use Rattle.jb_load.specs.Refusing.{IsMisfit, IsRefusedFor}
-use Rattle.jb_load.specs.Words.{len_in}
 
 -- why the desk does not begin a handle that is to have a credit for each of its words, or fewer
 pub not-begun : (shape : Shape) (words : WordMap) (credits : ℕ) (fault : BeginFault) → credits ≤ map.len words → IsTooMany credits fault → IsRefusedFor shape words (not_begun fault)

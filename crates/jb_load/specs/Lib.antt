@@ -7,4 +7,3 @@ pub mod Refusing
 pub mod Runs
 pub mod Settled
 pub mod Telling
-pub mod Words

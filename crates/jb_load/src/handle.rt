@@ -1,7 +1,6 @@
 //! One handle of the queue is run.
-ghost use Rattle.std.specs.Prelude.{◌≡◌, ◌+◌, max, IfOk, IfErr, OnErr, length};
+ghost use Rattle.std.specs.Prelude.{◌≡◌, ◌+◌, max, IfOk, IfErr, OnErr};
 ghost use Rattle.std.specs.FinMap as map;
-ghost use Rattle.jb_block.specs.Size.{bytes_of};
 ghost use Rattle.jb_handle.specs.Handle.{holder, changes_of};
 ghost use Rattle.jb_handle.specs.Held.{touched};
 ghost use Rattle.jb_handle.specs.Word.{WordMap};
@@ -25,13 +24,10 @@ pub(crate) fn run_handle<D: Disk, C: Clock, R: Wait + time::Clock, H: Origin, N:
     desk: &Desk<D, C, H, N>,
     seat: Seat<H, N>,
     words: &Words,
-    block: &mut [u8],
 ) -> (Seat<H, N>, Result<u64, HandleFault>)
     requires desk { desk_of seat ≡ desk_id desk.now }
-    requires block { length block.old ≡ bytes_of (shape_in desk.now).bs }
     requires words { H.begun.stops words.now }
     ensures desk { desk_of result.0 ≡ desk_id desk.now }
-    ensures block { length block.new ≡ length block.old }
     ensures ticket { IfOk result.1 (λ ticket. (view_of result.0).stopped ≡ max (view_of seat).stopped (ticket + 1)) }
     ensures stopped { IfOk result.1 (λ _. (stops result.0 ≡ stops seat + 1) × (changes result.0 ≡ changes seat + map.len words.now)) }
     ensures refused { OnErr result.1 ((stops result.0 ≡ stops seat) × (changes result.0 ≡ changes seat)) }
@@ -40,32 +36,29 @@ pub(crate) fn run_handle<D: Disk, C: Clock, R: Wait + time::Clock, H: Origin, N:
     // more than these are too many in any journal
     let credits = u32::try_from(words.len()).unwrap_or(u32::MAX);
     match desk.begin_waiting(rt, seat, credits) {
-        Ok(handle) => fill(rt, desk, handle, words, block),
+        Ok(handle) => fill(rt, desk, handle, words),
         Err((seat, fault)) => (seat, Err(HandleFault::from(fault))),
     }
 }
 
-/// Writes the words into a handle and stops it, or drops it where one is refused.
+/// Puts the words into a handle and stops it, or drops it where one is refused.
 fn fill<D: Disk, C: Clock, R: Wait, H: Origin, N: Ledger>(
     rt: &R,
     desk: &Desk<D, C, H, N>,
     handle: Handle<Seat<H, N>>,
     words: &Words,
-    block: &mut [u8],
 ) -> (Seat<H, N>, Result<u64, HandleFault>)
     requires desk { desk_of (holder handle) ≡ desk_id desk.now }
-    requires block { length block.old ≡ bytes_of (changes_of handle).shape.bs }
     requires fresh { (changes_of handle).words ≡ map.empty }
     requires words { H.begun.stops words.now }
     ensures desk { desk_of result.0 ≡ desk_id desk.now }
-    ensures block { length block.new ≡ length block.old }
     ensures ticket { IfOk result.1 (λ ticket. (view_of result.0).stopped ≡ max (view_of (holder handle)).stopped (ticket + 1)) }
     ensures stopped { IfOk result.1 (λ _. (stops result.0 ≡ stops (holder handle) + 1) × (changes result.0 ≡ changes (holder handle) + map.len words.now)) }
     ensures refused { OnErr result.1 ((stops result.0 ≡ stops (holder handle)) × (changes result.0 ≡ changes (holder handle))) }
     ensures why { IfErr result.1 (IsRefusedFor (changes_of handle).shape words.now) }
 {
     let mut handle = handle;
-    match put_words(&mut handle, words, block) {
+    match put_words(&mut handle, words) {
         Ok(()) => stop(rt, desk, handle),
         Err(fault) => (desk.abandon(rt, handle), Err(HandleFault::from(fault))),
     }

@@ -120,7 +120,7 @@ fn load_at<
     ensures faults { IfErr result (λ fault. (fault ≡ OutOfMemory) ⊎ (fault ≡ Accounts)) }
 {
     let room = Gathered::with_room(alloc, options.threads + 1, queue.len())?;
-    let (ran, checkpoint) = run(rt, alloc, &desk, queue, shape.bs, options);
+    let (ran, checkpoint) = run(rt, alloc, &desk, queue, options);
     let ran = ran?;
     let commit = ran.commit;
     let Gathered {

@@ -1,6 +1,5 @@
 //! The threads of a load: its workers, its committer and its checkpointer.
 ghost use Rattle.std.specs.Prelude.{◌≡◌, ◌≤◌, ◌⊎◌, IfErr, IfOk};
-ghost use Rattle.jb_block.specs.Size.{bytes_of};
 ghost use Rattle.jb_desk.specs.Desks.{shape_in};
 ghost use Rattle.jb_load.specs.declared.fault.LoadFault.TheVariants.{Accounts, Memory as OutOfMemory};
 ghost use Rattle.jb_load.specs.Loads.{EndsCheckpoint};
@@ -11,7 +10,7 @@ use crate::committing::{commit_all, commit_from};
 use crate::fault::LoadFault;
 use crate::options::LoadOptions;
 use crate::worker::{Worked, work};
-use jb_block::{BlockSize, Memory};
+use jb_block::Memory;
 use jb_desk::{Desk, Ended, Left, Origin};
 use jb_disk::{Clock, Disk};
 use jb_handle::Stopped;
@@ -45,26 +44,24 @@ pub(crate) fn run<
     alloc: Global,
     desk: &Desk<D, C, H, N>,
     queue: &[Stopped],
-    bs: BlockSize,
     options: LoadOptions,
 ) -> (Result<Ran<H, N>, LoadFault>, Option<Ended>)
     requires threads { (1 ≤ options.threads) × (options.threads ≤ 64) }
-    requires size { bytes_of bs ≡ bytes_of (shape_in desk.now).bs }
     requires words { MayStop H.begun queue.now }
     ensures ran { IfOk result.0 (HasRun (shape_in desk.now) queue.now options.threads) }
     ensures faults { IfErr result.0 (λ fault. (fault ≡ OutOfMemory) ⊎ (fault ≡ Accounts)) }
     ensures ended { EndsCheckpoint options.checkpoint result.1 }
 {
     if !options.checkpoint {
-        return (run_threads(rt, alloc, desk, queue, bs, options), None);
+        return (run_threads(rt, alloc, desk, queue, options), None);
     }
     // the checkpointer is first, since the first closure runs last where no thread can be made
     let (checkpoint, ran) = thread::join(
         rt,
         || desk.run_checkpointer(rt),
         || -> Result<Ran<H, N>, LoadFault>
-            requires { (1 ≤ options.threads) × (options.threads ≤ 64) × (bytes_of bs ≡ bytes_of (shape_in desk.now).bs) × MayStop H.begun queue.now }
-        { run_threads(rt, alloc, desk, queue, bs, options) },
+            requires { (1 ≤ options.threads) × (options.threads ≤ 64) × MayStop H.begun queue.now }
+        { run_threads(rt, alloc, desk, queue, options) },
     );
     (ran, Some(checkpoint))
 }
@@ -81,11 +78,9 @@ fn run_threads<
     alloc: Global,
     desk: &Desk<D, C, H, N>,
     queue: &[Stopped],
-    bs: BlockSize,
     options: LoadOptions,
 ) -> Result<Ran<H, N>, LoadFault>
     requires threads { (1 ≤ options.threads) × (options.threads ≤ 64) }
-    requires size { bytes_of bs ≡ bytes_of (shape_in desk.now).bs }
     requires words { MayStop H.begun queue.now }
     ensures ran { IfOk result (HasRun (shape_in desk.now) queue.now options.threads) }
     ensures faults { IfErr result (λ fault. (fault ≡ OutOfMemory) ⊎ (fault ≡ Accounts)) }
@@ -95,7 +90,7 @@ fn run_threads<
         return Err(LoadFault::Accounts);
     };
     if options.hold {
-        let workers = run_workers(rt, alloc, desk, queue, bs, options.threads);
+        let workers = run_workers(rt, alloc, desk, queue, options.threads);
         let (committer, commit) = commit_all(rt, desk, seat);
         return Ok(Ran {
             workers: workers?,
@@ -108,8 +103,8 @@ fn run_threads<
         rt,
         || commit_from(rt, desk, &mut place),
         || -> Result<Vec<Worked<H, N>>, Memory>
-            requires { (1 ≤ options.threads) × (options.threads ≤ 64) × (bytes_of bs ≡ bytes_of (shape_in desk.now).bs) × MayStop H.begun queue.now }
-        { run_workers(rt, alloc, desk, queue, bs, options.threads) },
+            requires { (1 ≤ options.threads) × (options.threads ≤ 64) × MayStop H.begun queue.now }
+        { run_workers(rt, alloc, desk, queue, options.threads) },
     );
     if let Some(seat) = place {
         let _left = desk.leave(rt, seat);
@@ -137,11 +132,9 @@ fn run_workers<
     alloc: Global,
     desk: &Desk<D, C, H, N>,
     queue: &[Stopped],
-    bs: BlockSize,
     threads: usize,
 ) -> Result<Vec<Worked<H, N>>, Memory>
     requires threads { (1 ≤ threads) × (threads ≤ 64) }
-    requires size { bytes_of bs ≡ bytes_of (shape_in desk.now).bs }
     requires words { MayStop H.begun queue.now }
     ensures { IfOk result (λ workers. AreWorked (shape_in desk.now) queue.now threads workers.items) }
 {
@@ -150,8 +143,8 @@ fn run_workers<
         alloc,
         threads,
         &|at: usize| -> Worked<H, N>
-            requires { (1 ≤ threads) × (threads ≤ 64) × (bytes_of bs ≡ bytes_of (shape_in desk.now).bs) × MayStop H.begun queue.now }
-        { work(rt, alloc, desk, queue, bs, threads, at) },
+            requires { (1 ≤ threads) × (threads ≤ 64) × MayStop H.begun queue.now }
+        { work(rt, alloc, desk, queue, threads, at) },
     );
     desk.shut(rt);
     workers

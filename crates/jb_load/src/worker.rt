@@ -1,6 +1,5 @@
 //! A worker runs its handles of the queue.
 ghost use Rattle.std.specs.Prelude.{◌≡◌, ◌+◌, ◌*◌, ◌<◌, ◌≤◌, [], length, None, IfOk, vec_capacity};
-ghost use Rattle.jb_block.specs.Size.{bytes_of};
 ghost use Rattle.jb_desk.specs.Desks.{desk_id, shape_in};
 ghost use Rattle.jb_desk.specs.Seats.{stops as seat_stops, changes, desk_of};
 ghost use Rattle.jb_load.specs.Settled.{MayStop};
@@ -9,7 +8,7 @@ ghost use Rattle.jb_load.specs.Runs.{IsAt, IsRun, IsCounted, run_of};
 use crate::fault::HandleFault;
 use crate::handle::run_handle;
 use crate::loaded::Refused;
-use jb_block::{BlockSize, Memory};
+use jb_block::Memory;
 use jb_desk::{Desk, Left, Origin, Seat};
 use jb_disk::{Clock, Disk};
 use jb_handle::Stopped;
@@ -44,12 +43,10 @@ pub(crate) fn work<D: Disk, C: Clock, R: Wait + time::Clock, H: Origin, N: Ledge
     alloc: Global,
     desk: &Desk<D, C, H, N>,
     queue: &[Stopped],
-    bs: BlockSize,
     step: usize,
     at: usize,
 ) -> Worked<H, N>
     requires step { (1 ≤ step) × (step ≤ 64) }
-    requires size { bytes_of bs ≡ bytes_of (shape_in desk.now).bs }
     requires words { MayStop H.begun queue.now }
     ensures run { IsRun (shape_in desk.now) queue.now step at (run_of result) }
     ensures counted { IsCounted queue.now result }
@@ -57,16 +54,16 @@ pub(crate) fn work<D: Disk, C: Clock, R: Wait + time::Clock, H: Origin, N: Ledge
     if at >= queue.len() {
         return stopped_at(alloc, None);
     }
-    let Ok((stops, mut block)) = room(alloc, (queue.len() - at).div_ceil(step), bs) else {
+    let Ok(stops) = room(alloc, (queue.len() - at).div_ceil(step)) else {
         return stopped_at(alloc, Some((at, HandleFault::Memory)));
     };
     match desk.seat(rt) {
-        Ok(seat) => run_all(rt, desk, seat, queue, step, at, stops, &mut block),
+        Ok(seat) => run_all(rt, desk, seat, queue, step, at, stops),
         Err(fault) => stopped_at(alloc, Some((at, HandleFault::from(fault)))),
     }
 }
 
-/// Runs the handles of a worker at its seat. `stops` has room for all of them, and `block` is a buffer of one block.
+/// Runs the handles of a worker at its seat. `stops` has room for all of them.
 fn run_all<D: Disk, C: Clock, R: Wait + time::Clock, H: Origin, N: Ledger>(
     rt: &R,
     desk: &Desk<D, C, H, N>,
@@ -75,13 +72,11 @@ fn run_all<D: Disk, C: Clock, R: Wait + time::Clock, H: Origin, N: Ledger>(
     step: usize,
     at: usize,
     stops: Vec<Stop>,
-    block: &mut [u8],
 ) -> Worked<H, N>
     requires step { (1 ≤ step) × (step ≤ 64) }
     requires at { at < length queue.now }
     requires desk { desk_of seat ≡ desk_id desk.now }
     requires fresh { (seat_stops seat ≡ 0) × (changes seat ≡ 0) }
-    requires block { length block.old ≡ bytes_of (shape_in desk.now).bs }
     requires none { stops.items ≡ [] }
     requires room { length queue.now ≤ at + step * vec_capacity stops }
     requires words { MayStop H.begun queue.now }
@@ -91,7 +86,7 @@ fn run_all<D: Disk, C: Clock, R: Wait + time::Clock, H: Origin, N: Ledger>(
     let (mut seat, mut stops, mut refused) = (seat, stops, None);
     let mut next = at;
     while next < queue.len() {
-        let (back, ran) = run_handle(rt, desk, seat, &queue[next].words, block);
+        let (back, ran) = run_handle(rt, desk, seat, &queue[next].words);
         seat = back;
         match ran {
             Ok(ticket) => stops.push_reserved(Stop {
@@ -134,13 +129,14 @@ fn stopped_at<H: Ledger, N: Ledger>(
     }
 }
 
-/// Room for so many stops, and a buffer of one block.
-fn room(alloc: Global, stops: usize, bs: BlockSize) -> Result<(Vec<Stop>, Vec<u8>), Memory>
-    ensures stops { IfOk result (λ room. (room.0.items ≡ []) × (stops ≤ vec_capacity room.0)) }
-    ensures block { IfOk result (λ room. length room.1.items ≡ bytes_of bs) }
+/// Room for so many stops.
+///
+/// # Errors
+/// `Memory` where there is none for that.
+fn room(alloc: Global, stops: usize) -> Result<Vec<Stop>, Memory>
+    ensures { IfOk result (λ room. (room.items ≡ []) × (stops ≤ vec_capacity room)) }
 {
-    let mut list = Vec::new(alloc);
-    list.reserve(stops)?;
-    let block = vec![in alloc; 0; bs.bytes() as usize]?;
-    Ok((list, block))
+    let mut room = Vec::new(alloc);
+    room.reserve(stops)?;
+    Ok(room)
 }

@@ -10,7 +10,6 @@ abbrev pub invariant-loop-home : goal.invariant-loop-home
 invariant-loop-home g l = record {
   seat : holder l.handle ≡ holder l.initial.handle;
   shape : (changes_of l.handle).shape ≡ (changes_of l.initial.handle).shape;
-  block : length l.block ≡ length l.initial.block;
   words : (q : ℕ) → map.get (changes_of l.handle).words q ≡ option_or (map.find nat_cmp q (take l.home-index l.home-items)) None;
   few : map.len (changes_of l.handle).words ≤ l.home-index;
 }

@@ -15,7 +15,6 @@ loop-next-preserved g c =
     c.push_reserved.ensures.items c.loop-next.invariant.stopped c.loop-next.invariant.changed counted.0 counted.1 in
     record {
       desk = c.run_handle-back.ensures.desk;
-      block = c.run_handle-back.ensures.block ∙ c.loop-next.invariant.block;
       room = subst (λ n. length c.args.queue.now ≤ c.args.at + c.args.step * n) (sym c.push_reserved.ensures.capacity) c.loop-next.invariant.room;
       stepped = stepped-more c.args.queue.now c.args.step c.args.at c.loop-next.next c.loop-next.stops.items c.push_reserved.new.self.items s refl c.loop-next-test.true c.push_reserved.ensures.items c.loop-next.invariant.stepped;
       stopped = both.0;

@@ -1,6 +1,5 @@
 use Rattle.std.proofs.Common.{◌≡◌, ◌+◌, ◌-◌, ◌*◌, ◌≤◌, length, vec_capacity, None}
-use Rattle.jb_block.specs.Size.{bytes_of}
-use Rattle.jb_desk.specs.Desks.{desk_id, shape_in}
+use Rattle.jb_desk.specs.Desks.{desk_id}
 use Rattle.jb_desk.specs.Seats.{stops, changes, desk_of}
 use Rattle.jb_load.specs.Runs.{touching}
 use Rattle.jb_load.proofs.Stepping.{Stepped}
@@ -10,7 +9,6 @@ use Rattle.jb_load.proofs.worker.run_all.Given as goal
 abbrev pub invariant-loop-next : goal.invariant-loop-next
 invariant-loop-next g l = record {
   desk : desk_of l.seat ≡ desk_id l.desk;
-  block : length l.block ≡ bytes_of (shape_in l.desk).bs;
   room : length l.queue ≤ l.at + l.step * vec_capacity l.stops;
   stepped : Stepped l.queue l.step l.at l.next l.stops.items;
   stopped : stops l.seat ≡ length l.stops.items;

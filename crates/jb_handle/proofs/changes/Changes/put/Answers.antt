@@ -1,0 +1,8 @@
+use Rattle.std.proofs.Common.{sym}
+use Rattle.jb_handle.proofs.Admitted.{word-kept}
+use Rattle.jb_handle.proofs.changes.Changes.put.Goals as goal
+
+pub keep-requires : goal.keep-requires
+keep-requires c =
+    let admitted = word-kept c.args.self.now c.args.home c.args.word.now c.admit.ensures.kept (rw (sym c.len.ensures) c.in_ok-admit.ensures.ok) in
+    record { kept = rw c.in_ok-word.ensures.same admitted }

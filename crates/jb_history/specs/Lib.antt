@@ -1,0 +1,5 @@
+pub mod History
+pub mod Place
+pub mod Rule
+pub mod Steps
+pub mod View

@@ -1,0 +1,53 @@
+//! What threads have of a history. None of these has bytes.
+ghost use Rattle.std.specs.Prelude.{◌≡◌, ℕ, List, [], true};
+
+use crate::place::Place;
+use crate::view::View;
+use atomic_table::Seat;
+use std::marker::{Model, PhantomData};
+
+/// The right to add entries. To a contract it is the whole history.
+#[derive(Drop)]
+pub struct Scribe<E, L: Place> {
+    pub(crate) seat: Seat<E, View<E>>,
+    pub(crate) place: PhantomData<L>,
+}
+
+impl<E, L: Place> Model for Scribe<E, L> {
+    ghost Value = { List E };
+
+    ghost view = { λ s. s.seat.me.0.seen };
+
+    ghost invariant = { λ s. (s.seat.table_id ≡ L.history) × (s.seat.me.1 ≡ [])
+        × (s.seat.me.0.keeps ≡ true) × (s.seat.me.0.mine ≡ []) };
+}
+
+/// A first part of the history, which was seen.
+#[derive(Drop)]
+pub struct Sight<E, L: Place> {
+    pub(crate) seat: Seat<E, View<E>>,
+    pub(crate) place: PhantomData<L>,
+}
+
+impl<E, L: Place> Model for Sight<E, L> {
+    ghost Value = { List E };
+
+    ghost view = { λ s. s.seat.me.0.seen };
+
+    ghost invariant = { λ s. (s.seat.table_id ≡ L.history) × (s.seat.me.1 ≡ []) × (s.seat.me.0.mine ≡ []) };
+}
+
+/// The entries that were made for it, each with its place in the history.
+#[derive(Drop)]
+pub struct Made<E, L: Place> {
+    pub(crate) seat: Seat<E, View<E>>,
+    pub(crate) place: PhantomData<L>,
+}
+
+impl<E, L: Place> Model for Made<E, L> {
+    ghost Value = { List (ℕ × E) };
+
+    ghost view = { λ s. s.seat.me.0.mine };
+
+    ghost invariant = { λ s. (s.seat.table_id ≡ L.history) × (s.seat.me.1 ≡ []) × (s.seat.me.0.seen ≡ []) };
+}
