@@ -62,7 +62,7 @@ def main():
         while killed < wanted and ran < 20 * wanted and not wrong:
             ran += 1
             commands = ask + [drawn(chance) for _ in range(400)]
-            lines, ended = run(program, image, commands, chance.uniform(0.004, 0.04))
+            lines, ended = run(program, image, commands, chance.uniform(0.005, 0.06))
             killed += not ended
             # a run that was killed before it had told all values shows nothing
             if len(lines) < len(ask):

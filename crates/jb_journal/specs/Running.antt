@@ -32,7 +32,7 @@ EndsChecked true (Some ended.Aborted) = Unit {0}
 EndsChecked true (Some ended.Memory) = ⊥
 EndsChecked true (Some ended.Refused) = ⊥
 
--- what a run tells of its end: the settled handles are those of the trail, and all that stopped where the committer ended as the desk was over
+-- what a run tells of its end: the settled handles are those of the trail, and as many as are told to have stopped where the committer ended as the desk was over
 pub record EndsRun {T D : Type 0} (checkpoint : Bool) (ran : Ran T D) : Type 0 where
   pub follows : Follow 0 0 ran.settled ran.trail.items
   pub within : ran.settled ≤ ran.handles
