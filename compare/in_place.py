@@ -9,7 +9,7 @@ random one (wraps, escapes, revokes, its last transaction cut off), and one that
   - a second run of JB finds nothing and changes nothing, and of the journal file only s_sequence and s_start have changed;
   - e2fsck then runs on JB's copy, replays once more, and all blocks are the same as of its own;
   - each of the two is killed at KILLS (8) calls chosen by SEED (0) among its writes and syncs, on new copies, and run again to its end.
-    All blocks are those of a run that was not killed, but for s_kbytes_written, which e2fsck adds to.
+    JB then leaves all blocks, and the journal file, as a run that was not killed. So does e2fsck, but for the fields named above.
 At last the seconds of both on a dirty file system of 8 GiB. Needs e2fsprogs and strace. Prints a line for each journal."""
 import os
 import random
@@ -215,11 +215,10 @@ class Trial:
         self.expect(what + ": the journal", whole("jb.journal") == whole("jb.whole.journal"))
 
     def check_e2fsck(self, what):
-        first = 1024 // self.fs.size
-        found = differing("e2fsck.img", "e2fsck.whole", self.fs.size)
-        counter = {"s_kbytes_written": FIELDS["s_kbytes_written"]}
-        self.expect(what + ": %s" % sorted(found), set(found) <= {first})
-        self.expect(what, not any(changed_but(*pair, counter, 1024 % self.fs.size) for pair in found.values()))
+        first, log = 1024 // self.fs.size, self.fs.places[0]
+        for block, pair in differing("e2fsck.img", "e2fsck.whole", self.fs.size).items():
+            other = changed_but(*pair, *{first: (FIELDS, 1024 % self.fs.size), log: (CLEANED,)}.get(block, ({},)))
+            self.expect("%s: block %d" % (what, block), not other)
 
     def all(self, what):
         line, (changed, beside) = self.recovered(), self.judged()

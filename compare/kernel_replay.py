@@ -2,11 +2,12 @@
 """kernel_replay.py JB: do JB and the running kernel read each other's logs?
 
   - jb writes, the kernel reads: `JB load` commits a queue to the journal of a file system, the journal is put back into it, and
-    the kernel recovers it at a mount; so do `e2fsck -E journal_only`, on a copy, and `JB recover`.
+    the kernel recovers it at a mount; so do `e2fsck -E journal_only`, on a copy, and `JB recover`. What `JB recover --journal` leaves
+    is then mounted too, and so recovered by the kernel once more.
   - the kernel writes, jb reads: files are made and removed in a mounted file system, and its image is copied while it is mounted,
-    as a crash would leave it; `e2fsck -E journal_only` recovers a copy, and `JB recover` the image after its journal.
-Each time all blocks outside the journal are compared. The block of the ext4 superblock may differ: the others write times and flags into
-it. Needs e2fsprogs, and to be root, since it mounts files. Prints a line for each file system."""
+    as a crash would leave it; `e2fsck -E journal_only` recovers a copy, and `JB recover` the image.
+`JB recover` does it twice: the image after its journal, and with `--journal` the image where it stands. Each time all blocks outside
+the journal are compared. The block of the ext4 superblock may differ: the others write times and flags into it. Needs e2fsprogs, and to be root, since it mounts files. Prints a line for each file system."""
 import os
 import random
 import re
@@ -61,11 +62,17 @@ def queue(size):
 
 
 def recovered(jb, journal, image):
-    """What `jb recover` leaves of a file system that its journal was put before, and what it prints."""
+    """What `jb recover` leaves of a file system: after its journal, and in its place, which stays there; and what it prints."""
     with open("both", "wb") as file:
         file.write(journal + read(image))
+    with open("journal", "wb") as file:
+        file.write(journal)
+    run("cp", image, "place")
     line = run(jb, "recover", "both").strip()
-    return read("both")[len(journal):], line
+    again = run(jb, "recover", "--journal", "journal", "place").strip()
+    if again != line:
+        sys.exit("%s, and with --journal %s" % (line, again))
+    return [read("both")[len(journal):], read("place")], line
 
 
 def differing(one, other, size, skipped):
@@ -96,8 +103,11 @@ def jb_writes(jb, size, feature, mib, wide):
     mine, line = recovered(jb, journal, "fs")
     run("mount", "-o", "loop", "fs", "mnt")
     run("umount", "mnt")
+    run("mount", "-o", "loop", "place", "mnt")
+    run("umount", "mnt")
     run("e2fsck", "-E", "journal_only", "-y", "copy", may_fail=True)
-    return line, [differing(mine, read(name), size, places) for name in ("fs", "copy")]
+    left = mine + [read("place")]
+    return line, [differing(one, read(name), size, places) for one in left for name in ("fs", "copy")]
 
 
 def churn(turn):
@@ -128,7 +138,7 @@ def kernel_writes(jb, size, feature, mib):
     places = places_of("copy", len(journal) // size)
     mine, line = recovered(jb, journal, "copy")
     run("e2fsck", "-E", "journal_only", "-y", "copy", may_fail=True)
-    return line, [differing(mine, read("copy"), size, places)]
+    return line, [differing(one, read("copy"), size, places) for one in mine]
 
 
 def main():
