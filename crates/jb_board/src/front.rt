@@ -2,7 +2,7 @@
 /// board they are in order: what is settled was taken, and what is taken was stopped.
 #[derive(Clone, Copy, Debug, PartialEq, Eq)]
 pub struct Front {
-    /// How many tickets are settled: the groups that hold them are committed.
+    /// How many tickets are settled: the groups that hold them are committed (`j_commit_sequence`, but of handles).
     pub settled: u64,
     /// How many tickets a committer has taken from the queue.
     pub taken: u64,

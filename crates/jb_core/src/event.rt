@@ -30,17 +30,17 @@ pub enum Event {
         /// Whose handle it is.
         seat: u64,
     },
-    /// A committer takes the whole queue, cut into groups at these bounds.
+    /// A committer takes the whole queue, cut into groups at these bounds: a commit begins.
     Take {
         /// 0 first, then the end of each group, counted in handles.
         bounds: Vec<usize>,
     },
-    /// The first taken groups are committed.
+    /// The first taken groups are committed (`jbd2_journal_commit_transaction` ends for each).
     Settle {
         /// How many groups.
         n: usize,
     },
-    /// The oldest settled group that is not counted yet is written home.
+    /// The oldest settled group that is not counted yet is written home (`jbd2_log_do_checkpoint`).
     Checkpoint,
     /// The machine stops: some taken groups were committed, and all that is not
     /// settled is lost.
@@ -48,7 +48,7 @@ pub enum Event {
         /// How many groups were committed.
         n: usize,
     },
-    /// The machine comes up again, over what is settled. Tickets begin at 0 again.
+    /// The machine comes up again, over what is settled (`jbd2_journal_recover`). Tickets begin at 0 again.
     Restart,
 }
 
