@@ -2,6 +2,7 @@ ghost use Rattle.std.specs.Prelude.{◌≡◌};
 
 use jb_block::Memory;
 use jb_handle::{Op, TouchFault};
+use thiserror::Error;
 
 /// Something that can happen to the machine, in one step.
 #[derive(Drop)]
@@ -62,37 +63,52 @@ pub enum Reply {
 }
 
 /// Why an event is refused. The machine is as it was. Where several hold, the first is answered.
-#[derive(Clone, Copy, Debug, PartialEq, Eq)]
+#[derive(Clone, Copy, Debug, PartialEq, Eq, Error)]
 pub enum CoreFault {
     /// The machine is down, and the event is no restart.
+    #[error("the machine is down; restart it")]
     Down,
     /// The machine is up, and needs no restart.
+    #[error("the machine is up, and needs no restart")]
     Up,
     /// The seat has an open handle.
+    #[error("the seat has an open handle; stop or abandon it first")]
     Busy,
     /// The seat has no open handle.
+    #[error("the seat has no open handle; open one first")]
     NoHandle,
     /// More credits than a handle may have, which are these.
+    #[error("a handle may have at most {0} credits")]
     TooManyCredits(u32),
     /// So many credits are reserved that there is no room for more, or no ticket is left.
+    #[error("no room beside {0} reserved credits; settle handles first")]
     Full(u64),
     /// The home block is new to the handle, and all of its credits, so many, are used.
+    #[error("all {0} credits of the handle are used; open one with more")]
     NoCredit(u32),
     /// The home block of this number is none of the journal's.
+    #[error("the journal has no home block {0}")]
     OutOfRange(u64),
     /// The bytes are not as many as a block has.
+    #[error("the bytes are not as many as a block has")]
     Length,
     /// Nothing is queued.
+    #[error("nothing is queued; stop a handle first")]
     Empty,
     /// Groups are taken that are not settled.
+    #[error("groups are taken that are not settled; settle them first")]
     BatchOut,
     /// The bounds are no least cut of the queue.
+    #[error("the bounds are no least cut of the queue; plan it again")]
     NotLeast,
     /// Fewer groups are taken than that.
+    #[error("fewer groups are taken than that")]
     Amount,
     /// Every settled group is counted as written home.
+    #[error("every settled group is counted as written home")]
     Nothing,
     /// There was no memory for the step.
+    #[error("out of memory; take the step again")]
     Memory,
 }
 

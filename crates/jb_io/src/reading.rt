@@ -2,15 +2,19 @@ ghost use Rattle.std.specs.Prelude.{◌<◌, ◌≤◌, ◌≡◌, ◌≢◌, Er
 
 use std::alloc::Global;
 use std::io::{ErrorKind, Read};
+use thiserror::Error;
 
 /// Why a text could not be read.
-#[derive(Clone, Copy, Debug, PartialEq, Eq)]
+#[derive(Clone, Copy, Debug, PartialEq, Eq, Error)]
 pub enum ReadFault {
     /// The reader answered an error, with the system's number of it where it has one.
+    #[error("the text could not be read")]
     Reader(Option<i32>),
     /// There are more bytes than the limit.
+    #[error("the text is longer than may be read; give a shorter one")]
     TooLong,
     /// Memory ran out.
+    #[error("out of memory; read the text again")]
     Memory,
 }
 
