@@ -2,7 +2,8 @@
 """fuzz.py JB [COUNT [SEED]]: does JB say what the pages say, of texts and journals that are mostly wrong?
 
   - COUNT queue texts (1,000 where it is left out), most with a fault: `JB cost` against a reader that was written from docs/TEXTS.md alone;
-  - COUNT journals, each a random log of jbref.py in which a few bytes are changed, or which is cut short: `JB dump` against jbref.py.
+  - COUNT journals, each a random log of jbref.py in which a few bytes are changed, or which is cut short: `JB dump` against jbref.py, half of
+    them with options that leave out lines.
 Prints how many of each there were, and those that differ."""
 import os
 import random
@@ -103,10 +104,19 @@ def changed(journal, rng):
     return bytes(journal[:rng.randrange(len(journal))] if rng.random() < 0.05 else journal)
 
 
-def dump_of(journal):
+def choice_of(rng):
+    """Options of a dump, and the words for them; half of the time none."""
+    if rng.random() < 0.5:
+        return {}, []
+    choice = {"home": rng.choice([None, rng.randrange(8, 92)]), "last": rng.choice([None, rng.randrange(12)]), "alone": rng.random() < 0.1}
+    words = ["--%s=%d" % (name, choice[name]) for name in ("home", "last") if choice[name] is not None]
+    return choice, words + ["--super"] * choice["alone"]
+
+
+def dump_of(journal, choice):
     """What `jb dump` says of a journal, by jbref.py."""
     try:
-        return 0, jbref.dump(journal).encode(), b""
+        return 0, jbref.dump(journal, **choice).encode(), b""
     except jbref.Refused as refused:
         return 1, b"", b"jb: %s\n" % str(refused).encode()
 
@@ -128,8 +138,11 @@ def main():
                 given = make(rng)
                 with open("given", "wb") as file:
                     file.write(given)
-                wanted = judge(given)
-                got = said(jb, "cost" if judge is cost_of else "dump", "given")
+                if judge is cost_of:
+                    wanted, got = judge(given), said(jb, "cost", "given")
+                else:
+                    choice, words = choice_of(rng)
+                    wanted, got = judge(given, choice), said(jb, "dump", "given", *words)
                 faults += wanted[2] != b""
                 if got != wanted:
                     wrong += 1

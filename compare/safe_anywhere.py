@@ -5,7 +5,7 @@ Each command is run with each of the eight sets of closed descriptors 0, 1 and 2
 those of a run with all three open: a closed standard input is empty, a closed standard output ends in status 1 and `jb: WriteFault`
 where there is something for it, a closed standard error takes nothing, and the image is the same. Then: files of the wrong kind, a
 device (a loop device where one can be made: as root), files that cannot be made, locks, a limit of the file size, lines that are one
-write (with strace, where it is there). Prints a line for each part, and each run that is not as it must be. Needs Linux."""
+write (with strace, where it is there), a mount to be read alone (as root). Prints a line for each part, and each run that is not as it must be. Needs Linux."""
 import itertools
 import os
 import resource
@@ -105,7 +105,7 @@ def kinds():
     s = socket.socket(socket.AF_UNIX)
     s.bind("socket")
     for name in ["fifo", "socket", ".", "/dev/null", "/dev/zero", "/dev/tty"]:
-        for words in [["recover", name], ["widen", name], ["renumber", name], ["load", name, "queue"]]:
+        for words in [["recover", name], ["widen", name], ["renumber", name], ["load", name, "queue"], ["cat", name, "1"]]:
             got = run(words, wait=5)
             runs += 1
             expect(" ".join(words), got == (2, b"", b"jb: cannot read %s\n" % name.encode()), got)
@@ -130,7 +130,7 @@ def device():
     """Each command over a block device gives what it gives over a file of the same bytes."""
     new, loaded = made()
     for commands, content in [
-        ([["dump"], ["recover"], ["renumber"], ["widen"], ["dump"]], loaded),
+        ([["dump"], ["cat", "1"], ["recover"], ["renumber"], ["widen"], ["dump"]], loaded),
         ([["load", "queue"], ["recover"], ["dump"]], new),
     ]:
         fresh({"file": content, "backing": content, "queue": QUEUE})
@@ -205,7 +205,7 @@ def locked():
     p = subprocess.Popen(["flock", "image", "cat"], stdin=subprocess.PIPE)
     while subprocess.call(["flock", "-n", "image", "true"]) == 0:
         pass
-    for words in [["recover", "image"], ["renumber", "image"], ["widen", "image"], ["load", "image", "queue"]]:
+    for words in [["recover", "image"], ["renumber", "image"], ["widen", "image"], ["load", "image", "queue"], ["cat", "image", "1"]]:
         got = run(words)
         expect("locked: %s" % words, got == (2, b"", b"jb: in use image\n"), got)
     expect("locked: dump", run(["dump", "image"]) == text)
@@ -222,6 +222,36 @@ def locked():
     expect("at once: refused", all(err == b"jb: in use image\n" for err in refused), refused)
     expect("at once: done", done.count(b"transactions 2 copies 2 revoked 0 next 5\n") + done.count(b"transactions 1 copies 2 revoked 0 next 4\n") == 1, done)
     print("locks: 16 at once, %d done one after the other, %d refused" % (len(done), len(refused)))
+
+
+def read_only():
+    """On a file system that is mounted to be read alone, cat shows what it shows elsewhere, and what writes is refused."""
+    new, loaded = made()
+    fresh({"image": loaded, "journal": loaded[: 33 * 1024], "homes": loaded[33 * 1024 :]})
+    commands = [["cat", "image", "1", "-n", "3"], ["cat", "homes", "1", "--hex", "--journal", "journal"], ["dump", "image"]]
+    wants = [run(words) for words in commands]
+    here = os.getcwd()
+    with tempfile.TemporaryDirectory() as room:
+        if subprocess.run(["mount", "-t", "tmpfs", "none", room], stderr=subprocess.DEVNULL).returncode != 0:
+            print("a mount to be read alone: not tried, as nothing can be mounted here")
+            return
+        try:
+            for name in os.listdir("."):
+                shutil.copy(name, room)
+            subprocess.run(["mount", "-o", "remount,ro", room], check=True)
+            os.chdir(room)
+            for words, want in zip(commands, wants):
+                got = run(words)
+                expect("read alone: %s" % words, got == want and got[0] == 0, got, want)
+            for words in [["recover", "image"], ["renumber", "image"], ["widen", "image"]]:
+                got = run(words)
+                expect("read alone: %s" % words, got == (2, b"", b"jb: cannot read image\n"), got)
+            got = run(["recover", "homes", "--journal", "journal"])
+            expect("read alone: recover --journal", got == (2, b"", b"jb: cannot read journal\n"), got)
+        finally:
+            os.chdir(here)
+            subprocess.run(["umount", room])
+    print("a mount to be read alone: 7 runs")
 
 
 def one_write():
@@ -250,11 +280,28 @@ def one_write():
     print("one line, one write: %d runs" % runs)
 
 
+def both_synced():
+    """Each sync of an image of two files is one of the journal's file and then one of the other."""
+    if shutil.which("strace") is None:
+        print("syncs of two files: not tried, as there is no strace")
+        return
+    loaded = made()[1]
+    fresh({"journal": loaded[: 33 * 1024], "homes": loaded[33 * 1024 :]})
+    words = ["recover", "homes", "--journal", "journal"]
+    subprocess.run(["strace", "-y", "-e", "trace=fdatasync,pwrite64", "-o", "trace", JB, *words], stdout=subprocess.DEVNULL, stderr=subprocess.DEVNULL)
+    calls = [("sync " if "fdatasync" in line else "write ") + ("journal" if "journal>" in line else "homes") for line in open("trace") if "(" in line and ">" in line]
+    syncs = ["sync journal", "sync homes"]
+    want = syncs + ["write homes"] * calls.count("write homes") + syncs + ["write journal"] + syncs
+    expect("syncs of two files", calls == want and "write homes" in calls, calls)
+    print("syncs of two files: %d calls" % len(calls))
+
+
 with tempfile.TemporaryDirectory() as folder:
     os.chdir(folder)
     new, loaded = made()
     wide = made(["--wide"])[0]
-    files = {"new": new, "loaded": loaded, "wide": wide, "queue": QUEUE, "empty": b"", "journal": loaded[: 33 * 1024]}
+    files = {"new": new, "loaded": loaded, "wide": wide, "queue": QUEUE, "empty": b"", "journal": loaded[: 33 * 1024],
+             "clean": new[: 33 * 1024], "homes": loaded[33 * 1024 :]}
     fresh(files)
     cert = run(["plan", "queue"])[1]
     files["cert"] = cert
@@ -272,6 +319,13 @@ with tempfile.TemporaryDirectory() as folder:
             (["renumber", "loaded"], b""),
             (["widen", "new"], b""),
             (["widen", "wide"], b""),
+            (["cat", "loaded", "1"], b""),
+            (["cat", "loaded", "1", "--hex"], b""),
+            (["cat", "loaded", "16"], b""),
+            (["cat", "homes", "1", "--journal", "journal"], b""),
+            (["recover", "homes", "--journal", "journal"], b""),
+            (["recover", "homes", "--journal", "homes"], b""),
+            (["load", "homes", "queue", "--journal", "clean", "--hold"], b""),
             (["load", "new", "queue", "--hold"], b""),
             (["load", "loaded", "queue"], b""),
             (["load", "new", "none"], b""),
@@ -295,6 +349,8 @@ with tempfile.TemporaryDirectory() as folder:
     device()
     making()
     locked()
+    read_only()
+    both_synced()
     one_write()
     os.chdir("/")
 print("safe_anywhere.py: %d wrong" % bad)

@@ -121,6 +121,7 @@ BAD_SUPERS = [
     (image(SMALL)[:20 * BS], "Geometry"), (image(superblock(compat=1)), "Feature 1 1"), (image(superblock(incompat=0x11)), "Feature 2 16"),
     (image(superblock(rocompat=6)), "Feature 3 6"),
 ]
+CAT = ("cat a 5", {})
 LOADS = [("recover a", {}), ("renumber a", {}), ("widen a", {}), ("load a q", {"q": queue("w1")})]
 
 DUMP = """super bs=1024 maxlen=33 first=1 sequence=%d start=%d errno=0 compat=00000000 incompat=0000000%d rocompat=00000000 max=0 limit=8
@@ -137,6 +138,20 @@ row("dump a", 0, DUMPED, files={"a": FULL}, locked="a")
 row("dump -", 0, DUMPED, stdin=FULL, files={"-": image(SMALL)})
 row("dump a", 0, DUMP % (1, 0, 1) + "clean next=2\n", files={"a": image(SMALL, homes=0)})
 row("dump a", 0, DUMP % (2, 1, 1) + "end transactions=0 expected=2\n", files={"a": image(superblock(2, 1), ONE[:3])})
+# the lines of home 5, of the last transaction, and of the superblock
+TOLD = DUMP % (2, 1, 1) + """1 descriptor number=2 tags=1
+2 copy home=5 flags=8 head=74776f0000000000
+3 commit number=2 sec=0 nsec=0
+4 revoke number=3 count=20 homes=5
+5 commit number=3 sec=0 nsec=0
+end transactions=2 expected=4
+"""
+for words, numbers in [("", range(8)), (" --home 5", [2, 3, 5]), (" --home=7", []), (" --last 1", [0, 1, 5, 6, 7]), (" --last 0", [0, 1, 7]), (" --super", [0, 1]),
+                       (" --last 1 --home 5", [5]), (" --super --last 1", [0, 1])]:
+    row("dump a" + words, 0, "".join(TOLD.splitlines(True)[n] for n in numbers), files={"a": image(superblock(2, 1), TWO_AND_REVOKED)})
+row("dump - --home 7", 0, DUMPED.splitlines(True)[2], stdin=FULL)
+row("dump a --super", 1, err="jb: BadRevoke 1\n", files={"a": image(superblock(2, 1), [revoke(2, [], 1025), commit(2)])})
+row("dump a --last 1", 1, err="jb: WriteFault\n", files={"a": FULL}, to="full")
 row("dump a", 1, err="jb: BadRevoke 1\n", files={"a": image(superblock(2, 1), [revoke(2, [], 1025), commit(2)])})
 row("dump a", 2, err="jb: cannot read a\n", beside=MISSING)
 row("dump a", 1, err="jb: ReadFault\n", files={"a": None})
@@ -144,9 +159,9 @@ row("dump a", 1, err="jb: WriteFault\n", files={"a": FULL}, to="full")
 row("dump a", 1, err="jb: WriteFault\n", files={"a": FULL}, to="gone")
 for content, name in BAD_SUPERS:
     row("dump a", 1, err="jb: Super %s\n" % name, files={"a": content})
-    for words, more in LOADS:
+    for words, more in [*LOADS, CAT]:
         row(words, 1, err="jb: Super %s\n" % name, files={"a": content, **more})
-for words, more in LOADS:
+for words, more in [*LOADS, CAT]:
     row(words, 2, err="jb: cannot read a\n", files=more, beside=MISSING)
     row(words, 2, err="jb: cannot read a\n", files={"a": None, **more})
     row(words, 2, err="jb: cannot read a\n", files={"a": "fifo", **more})
@@ -212,6 +227,63 @@ row("widen a", 0, "already wide limit 8\n", files={"a": WIDENED})
 row("widen a", 1, err="jb: WriteFault\n", files={"a": image(SMALL, OLD)}, to="full", after={"a": WIDENED})
 row("widen a", 1, err="jb: DeviceFault\n", files={"a": image(SMALL, OLD)}, how="trap '' XFSZ; ulimit -f 0")
 
+# ---- cat, and journals in a file of their own ----------------------------------------------------------------------------------
+
+
+def xxd(content, at=0):
+    """Bytes as xxd prints them."""
+    lines = []
+    for k in range(0, len(content), 16):
+        part = content[k:k + 16]
+        pairs = " ".join(part[n:n + 2].hex() for n in range(0, 16, 2))
+        lines.append("%08x: %s  %s\n" % (at + k, pairs, "".join(chr(b) if 32 <= b < 127 else "." for b in part)))
+    return "".join(lines)
+
+
+def parted(content, blocks=33):
+    """The journal at the front of an image, and its home blocks."""
+    return {"j": content[:blocks * BS], "a": content[33 * BS:]}
+
+
+NINE, ZEROS = data(b"nine").decode(), data().decode()
+for words, files in (("cat a", {"a": FULL}), ("cat --journal j a", parted(FULL))):
+    row(words + " 9", 0, NINE, files=files)
+    row(words + " 8 -n 3", 0, ZEROS + NINE + ZEROS, files=files)
+    row(words + " 9 -n 0", 0, files=files)
+    row(words + " 5 --hex", 0, xxd(BLOCK_5), files=files)
+    row(words + " 5 --hex -n 5", 0, xxd(BLOCK_5 + bytes(3 * BS) + data(b"nine")), files=files)
+    row(words + " 16", 1, err="jb: NoHome 16\n", files=files, beside="16")
+    row(words + " 15 -n 2", 1, ZEROS, "jb: NoHome 16\n", files=files, beside="16")
+    row(words + " 9", 1, err="jb: WriteFault\n", files=files, to="full")
+    row(words + " 9", 1, err="jb: WriteFault\n", files=files, to="gone")
+    row(words + " 9", 2, err="jb: in use a\n", files=files, locked="a")
+row("cat a 5 -n 2", 0, data(b"five").decode() + data(b"six").decode(), files={"a": image(superblock(2, 1), TWO_COPIES)})
+row("cat a 5", 0, data(b"X").decode(), files={"a": image(superblock(2, 1), TWO_AND_REVOKED, written={5: data(b"X")})})
+row("cat a 9", 0, NINE, files={"a": RECOVERED})
+row("cat a 9", 0, ZEROS, files={"a": image(superblock(2, 1), OUT_OF_RANGE)})
+row("cat a 9", 1, err="jb: BadRevoke 1\n", files={"a": image(superblock(2, 1), [revoke(2, [], 1025), commit(2)])})
+row("cat a 0", 1, err="jb: NoHome 0\n", files={"a": image(SMALL, homes=0)}, beside="0")
+# after a journal of its own the other file has no superblock, and is whatever it is
+SPLIT = {"j": RECOVERED[:33 * BS], "a": RECOVERED[33 * BS:]}
+row("recover a --journal j", 0, "transactions 1 copies 1 revoked 0 next 4\n", files=parted(FULL), after=SPLIT)
+row("recover a --journal j", 0, "transactions 0 copies 0 revoked 0 next 4\n", files=SPLIT)
+row("recover a --journal j", 1, err="jb: HomeOutOfRange 16 2\n", files=parted(image(superblock(2, 1), OUT_OF_RANGE)), beside="16")
+row("recover a --journal j", 1, err="jb: WriteFault\n", files=parted(FULL), to="full", after=SPLIT)
+row("recover a --journal j", 1, err="jb: Super NoMagic\n", files={"a": FULL, "j": bytes(33 * BS)})
+# home block 5 is past what the shell lets a file grow to, so its write fails and the journal is not emptied
+row("recover a --journal j", 1, err="jb: DeviceFault\n", files=parted(FULL), how="trap '' XFSZ; ulimit -f 4")
+row("renumber j", 0, "renumbered blocks 2 next 1\n", files={"j": image(CLEAN, OLD, homes=0)}, after={"j": image(superblock(0), CLEARED, homes=0)})
+row("widen j", 0, "widened limit 8\n", files={"j": image(SMALL, OLD, homes=0)}, after={"j": image(superblock(incompat=3), OLD, homes=0)})
+for words, more in (("recover a", {}), ("cat a 9", {}), ("load a q", {"q": queue(HANDLE)})):
+    row(words + " --journal j", 2, err="jb: cannot read j\n", files={"a": FULL, **more}, beside=MISSING)
+    row(words + " --journal j", 2, err="jb: cannot read a\n", files={"j": FULL[:33 * BS], **more}, beside=MISSING)
+    row(words + " --journal j", 2, err="jb: in use j\n", files={**parted(FULL), **more}, locked="j")
+    row(words + " --journal j", 2, err="jb: in use a\n", files={**parted(FULL), **more}, locked="a")
+    row(words + " --journal a", 2, err="jb: same file a\n", files={"a": FULL, **more})
+    row(words + " --journal ./a", 2, err="jb: same file a\n", files={"a": FULL, **more})
+    for blocks in (32, 34):
+        row(words + " --journal j", 1, err="jb: Super Geometry\n", files={**parted(FULL + bytes(BS), blocks), **more})
+
 # ---- load --------------------------------------------------------------------------------------------------------------------
 
 LOADED = image(superblock(2, 1), ONE)
@@ -226,6 +298,8 @@ TWO_HANDLES = [descriptor(2, [(n, (SAME_UUID if n else 0) | (LAST_TAG if n == 5 
 row("load a q --hold --threads 1", 0, "handles 2 changes 12 settled 2 groups 2 blocks 16\n", after={"a": image(superblock(2, 1), TWO_HANDLES)},
     files={"a": image(SMALL), "q": queue("w0 w1 w2 w3 w4 w5/w6 w7 w8 w9 w10 w11", 3)})
 row("load a q --hold --threads 64", 0, "handles 1 changes 2 settled 1 groups 1 blocks 4\n", files={"a": image(SMALL), "q": queue(HANDLE)}, after={"a": LOADED})
+row("load a q --journal j --hold", 0, "handles 1 changes 2 settled 1 groups 1 blocks 4\n", files={**parted(image(SMALL)), "q": queue(HANDLE)},
+    after={"j": LOADED[:33 * BS]})
 row("load a q", 0, "handles 0 changes 0 settled 0 groups 0 blocks 0\n", files={"a": image(SMALL), "q": queue("")})
 for threads in (0, 65):
     row("load a q --threads %d" % threads, 2, err="jb: bad option\n", beside="--threads")
@@ -270,7 +344,7 @@ for words in ("--help", "help", "-h", "help format", "cost --help", "load -h"):
     row(words, 0, begins("A block journal", "Makes an image", "Prints the log blocks", "Commits the handles"), files={"a": FULL})
 row("--help", 1, err="jb: WriteFault\n", to="full")
 for words in ("mount a", "cost", "cost a b", "check a", "recover", "recover a b", "format a --bs x --journal 33 --homes 16", "format a --bs 1024 --journal 33",
-              "format a --bs 1024 --journal 33 --homes -1", "load a", "load a q --threads 18446744073709551616", "--limit 7", "cost --hold a"):
+              "format a --bs 1024 --journal 33 --homes -1", "cat a", "cat a x", "cat a 5 -n x", "cat a 5 --journal", "dump a --journal a", "dump a --home", "dump a --home x", "dump a --last -1", "dump a --super=1", "dump a --super --super", "load a", "load a q --threads 18446744073709551616", "--limit 7", "cost --hold a"):
     row(words, 2, err=begins("error: "), files={"a": FULL, "q": queue(HANDLE)})
 row("cost \udcff", 2, err="error: invalid UTF-8 was detected in one or more arguments\n")
 

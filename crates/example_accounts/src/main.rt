@@ -76,6 +76,7 @@ fn threads(workers: usize) -> Options
     Options {
         workers,
         checkpoint: true,
+        level: 0,
     }
 }
 

@@ -18,7 +18,7 @@ pub struct Moving {
 impl Worker<Result<(), Failed>> for Moving {
     ghost use Rattle.jb_journal.specs.Client.{IsClient};
 
-    ghost answers = { λ moving workers at answer. Unit {0} };
+    ghost answers = { λ moving workers at stopped answer. Unit {0} };
 
     fn work<'a, D: Disk, C: Clock, R: Wait + time::Clock, H: Origin, N: Ledger>(
         &self,

@@ -6,15 +6,15 @@ use std::sync::Wait;
 use std::sync::ledger::Ledger;
 use std::time;
 
-/// A worker that reads what the accounts hold. In a new journal it opens them all, by one handle: after a crash there are
-/// all of them or none.
+/// A worker that reads what the accounts hold. In a new journal it opens them all, by one handle: after a crash there
+/// are all of them or none.
 #[derive(Drop)]
 pub struct Opening;
 
 impl Worker<Result<Balances, Failed>> for Opening {
     ghost use Rattle.jb_journal.specs.Client.{IsClient};
 
-    ghost answers = { λ opening workers at answer. Unit {0} };
+    ghost answers = { λ opening workers at stopped answer. Unit {0} };
 
     fn work<'a, D: Disk, C: Clock, R: Wait + time::Clock, H: Origin, N: Ledger>(
         &self,

@@ -1,5 +1,5 @@
-//! A map from keys to values in the home blocks of a journal. It obeys the commands of its standard input, a line each: `put KEY VALUE`,
-//! `get KEY` and `delete KEY`, and answers each by a line. What it has answered stands after a crash.
+//! A map from keys to values in the home blocks of a journal. It obeys the commands of its standard input, a line each:
+//! `put KEY VALUE`, `get KEY` and `delete KEY`, and answers each by a line. What it has answered stands after a crash.
 //!
 //! ```sh
 //! example_store [IMAGE]
@@ -50,6 +50,7 @@ fn serve<D: Disk + Drop + Send, R: AllocGlobal + Threads + Wait + Clock + Sync>(
     let options = Options {
         workers: 1,
         checkpoint: true,
+        level: 0,
     };
     let clock = FixedClock {
         stamp: Stamp { sec: 0, nsec: 0 },

@@ -19,7 +19,7 @@ pub struct Serving {
 impl Worker<Result<(), Failed>> for Serving {
     ghost use Rattle.jb_journal.specs.Client.{IsClient};
 
-    ghost answers = { λ serving workers at answer. Unit {0} };
+    ghost answers = { λ serving workers at stopped answer. Unit {0} };
 
     fn work<'a, D: Disk, C: Clock, R: Wait + time::Clock, H: Origin, N: Ledger>(
         &self,

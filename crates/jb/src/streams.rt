@@ -5,9 +5,9 @@ use std::os::fd::{AsFd, AsRawFd};
 /// The highest descriptor of a standard stream: 0 is standard input, 1 standard output, 2 standard error.
 const LAST: i32 = 2;
 
-/// Opens `/dev/null` in the place of each standard stream that is closed, for reading: a read of it gives no bytes, and a
-/// write to it fails. Otherwise the next file that is opened gets the number of that stream, and takes what is written to it.
-/// The streams stay so for as long as the files are kept.
+/// Opens `/dev/null` in the place of each standard stream that is closed, for reading: a read of it gives no bytes, and
+/// a write to it fails. Otherwise the next file that is opened gets the number of that stream, and takes what is
+/// written to it. The streams stay so for as long as the files are kept.
 ///
 /// # Errors
 /// Those of the system, where a stream is closed and `/dev/null` cannot be opened.

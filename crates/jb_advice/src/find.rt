@@ -37,7 +37,8 @@ fn fits(begins: &[u8], line: &[u8]) -> bool
     true
 }
 
-/// What is left of a text after this byte of a row, where `#` stands for digits; `None` where the text does not begin so.
+/// What is left of a text after this byte of a row, where `#` stands for digits; `None` where the text does not begin
+/// so.
 fn past(byte: u8, text: &[u8]) -> Option<&[u8]>
     ensures { option_map (λ rest. rest.now) result ≡ past_of byte text.now }
 {

@@ -37,8 +37,8 @@ impl<W: Write> Noted<W> {
         }
     }
 
-    /// Writes what to do after the first line that was written: a line of its own, with what it says beside the words of its row,
-    /// where the table has a row for that one, and else nothing.
+    /// Writes what to do after the first line that was written: a line of its own, with what it says beside the words
+    /// of its row, where the table has a row for that one, and else nothing.
     ///
     /// # Errors
     /// `WriteFault` where the writer took only the beginning of it.
@@ -66,7 +66,8 @@ impl<W: Write> Write for Noted<W> {
 
     fn write(&mut self, buf: &[u8]) -> io::Result<usize>
         ensures bound { WritesAtMost result buf.now }
-        ensures bytes { WriteAppends (W.contents (writer_of self.old)) (W.contents (writer_of self.new)) result buf.now }
+        ensures bytes { WriteAppends (W.contents (writer_of self.old)) (W.contents (writer_of self.new)) result
+            buf.now }
         ensures noted { IfOk result (λ n. noted self.new ≡ noted_with (noted self.old) (take n buf.now)) }
     {
         let n = self.writer.write(buf)?;

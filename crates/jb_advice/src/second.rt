@@ -58,7 +58,8 @@ fn put_words<W: Write>(writer: &mut W, words: &str, beside: Beside) -> Result<()
 
 /// Writes these words as a second line, with the name of a bad option and what it may be.
 fn put_option<'b, W: Write>(writer: &mut W, words: &'b str, name: &'b str) -> Result<(), WriteFault>
-    ensures { Puts (W.contents writer.old) (W.contents writer.new) (spelled (codes "jb:  " ∷ words.entry.now ∷ codes ": " ∷ name.entry.now ∷ codes " is "
+    ensures { Puts (W.contents writer.old) (W.contents writer.new)
+        (spelled (codes "jb:  " ∷ words.entry.now ∷ codes ": " ∷ name.entry.now ∷ codes " is "
         ∷ may_be_in (map (λ row. (row.0.now, row.1.now)) OPTIONS.now) name.entry.now ∷ codes "\n" ∷ [])) result }
 {
     let values: &'b str = may_be(name);

@@ -1,6 +1,6 @@
-/// Calls a macro with the table. Its lines are those on standard error: how each begins after `jb: `, what it has after that, and
-/// what to do; after a colon, what the second line says beside that. Its options are those that may be bad, and what each may be.
-/// `#` stands for a number.
+/// Calls a macro with the table. Its lines are those on standard error: how each begins after `jb: `, what it has after
+/// that, and what to do; after a colon, what the second line says beside that. Its options are those that may be bad,
+/// and what each may be. `#` stands for a number.
 #[macro_export]
 macro_rules! diagnostics {
     ($form:ident) => {
@@ -17,6 +17,7 @@ macro_rules! diagnostics {
                 "cannot make ", "NAME", "take another name, or see to its folder, the permission and the room": "REASON";
                 "cannot read ", "NAME", "it is to be a file that may be read; an image is a regular file or block device, and may be written too": "REASON";
                 "in use ", "NAME", "another jb works on the image: run the command again when that one has ended";
+                "same file ", "NAME", "the image and the journal are to be two files";
                 "too long ", "NAME", "a queue text has at most 16777216 bytes, and a certificate 150994944";
                 "ReadFault", "", "the file cannot be read to the end of its journal: it is a folder, or its device fails";
                 "Super ShortBlock", "", "a journal begins with a superblock of 1024 bytes, and the file is shorter";
@@ -28,6 +29,7 @@ macro_rules! diagnostics {
                 "Geometry", "", "--journal is 9 at least and 2147483647 at most";
                 "BadRevoke ", "#", "this block of the journal is damaged; the image is as it was";
                 "HomeOutOfRange ", "# #", "the image is as it was; it is to be made whole, and now has so many home blocks": "#";
+                "NoHome ", "#", "home blocks are numbered from 0, and the image has so many": "#";
                 "NeedsRecovery", "", "run jb recover on the image first";
                 "NumbersSpent", "", "run jb renumber on the image first";
                 "BlockSize", "", "the first line of the queue text is to have the image's block size";

@@ -11,8 +11,8 @@ use jb_price::{Cert, CertFault, Reason, Verdict, check, read_cert};
 use jb_queue::QueueText;
 use std::alloc::Global;
 
-/// What `jb check` says of a queue and of the bytes of a certificate's text: that it is accepted, status 0, or its first
-/// fault, status 1; or why the text is no certificate of the queue, status 2.
+/// What `jb check` says of a queue and of the bytes of a certificate's text: that it is accepted, status 0, or its
+/// first fault, status 1; or why the text is no certificate of the queue, status 2.
 ///
 /// # Errors
 /// `Memory` where memory ran out.

@@ -7,8 +7,7 @@ use crate::steps::{
 };
 use crate::tickets::Tickets;
 use atomic_table::{Seat, Table};
-use jb_block::Memory;
-use std::alloc::Global;
+use std::alloc::{AllocError as Memory, Global};
 use std::marker::PhantomData;
 use std::sync::ledger::Ledger;
 

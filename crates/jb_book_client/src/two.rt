@@ -26,7 +26,8 @@ pub fn two_handles<D: Disk>(
     second: Handle<()>,
 ) -> Option<Vec<Entry>>
     ensures told { IfSome result (λ trail. deck.new.trail ≡ deck.old.trail ++ trail.items) }
-    ensures stand { IfSome result (λ trail. Stand deck.old.shape (changes_of first).words (changes_of second).words trail.items) }
+    ensures stand { IfSome result (λ trail. Stand deck.old.shape (changes_of first).words (changes_of second).words
+        trail.items) }
 {
     every_run();
     let mut book = Book::new(alloc, deck.shape(), u64::from(deck.usable()));

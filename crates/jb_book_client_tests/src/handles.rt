@@ -4,8 +4,8 @@ use jb_block::{BlockSize, Stamp, Width};
 use jb_book_client::two_handles;
 use jb_deck::{Deck, Entry};
 use jb_disk::{Disk, FuseDisk, MemoryDisk};
+use jb_front::format;
 use jb_handle::{Handle, Shape};
-use jb_recover::format;
 use std::alloc::Global;
 use std::test::Fail;
 
@@ -17,20 +17,20 @@ const MAXLEN: u32 = 33;
 /// More calls of the disk than all is made with.
 const ALL: u64 = 1000;
 
-/// The first ticket of a group, the one after its last, and its number.
-type Told = (u64, u64, u32);
+/// The first ticket of a group, the one after its last, its number, and how many log blocks it takes.
+type Told = (u64, u64, u32, u32);
 
 /// How many homes each handle writes, after how many calls the power of the disk fails, and the groups.
 type Row = (u32, u32, u64, Option<&'static [Told]>);
 
 const ROWS: [Row; 7] = [
-    (1, 1, ALL, Some(&[(0, 2, 2)])),
-    (3, 3, ALL, Some(&[(0, 2, 2)])),
+    (1, 1, ALL, Some(&[(0, 2, 2, 4)])),
+    (3, 3, ALL, Some(&[(0, 2, 2, 8)])),
     // together they take more than the eight blocks of a transaction
-    (6, 6, ALL, Some(&[(0, 1, 2), (1, 2, 3)])),
-    (0, 1, ALL, Some(&[(0, 2, 2)])),
+    (6, 6, ALL, Some(&[(0, 1, 2, 8), (1, 2, 3, 8)])),
+    (0, 1, ALL, Some(&[(0, 2, 2, 3)])),
     // a call fails in the second group, and in the first
-    (6, 6, 50, Some(&[(0, 1, 2)])),
+    (6, 6, 50, Some(&[(0, 1, 2, 8)])),
     (6, 6, 40, Some(&[])),
     // no transaction takes as many blocks as the first handle
     (7, 1, ALL, None),
@@ -58,8 +58,8 @@ fn handle(alloc: Global, shape: Shape, from: u64, homes: u32) -> Handle<()> {
 
 /// Whether entries are these.
 fn are(entries: &[Entry], told: &[Told]) -> bool {
-    for (entry, (first, past, number)) in entries.iter().zip(told) {
-        if (entry.first, entry.past, entry.number) != (*first, *past, *number) {
+    for (entry, wanted) in entries.iter().zip(told) {
+        if (entry.first, entry.past, entry.number, entry.blocks) != *wanted {
             return false;
         }
     }

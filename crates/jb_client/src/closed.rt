@@ -22,7 +22,8 @@ pub fn commit_and_close<D: Disk>(
     batch: Prepared,
     stamp: Stamp,
 ) -> Result<D, D>
-    ensures all { D.honest disk → IfOk result (λ closed. LeavesAll D.may_leave (D.size disk) (D.count disk) (D.newest disk) batch.batch.handles closed) }
+    ensures all { D.honest disk → IfOk result (λ closed. LeavesAll D.may_leave (D.size disk) (D.count disk)
+        (D.newest disk) batch.batch.handles closed) }
 {
     laws::since::<D>();
     laws::stood();

@@ -47,9 +47,18 @@ pub(crate) fn commit<D: Disk>(
     ensures planned { IsPlanned batch }
     ensures kept { Kept D.size D.count D.honest deck.old.disk deck.new.disk }
     ensures up { OnOk result ((deck.old.aborted ≡ false) × (deck.new.aborted ≡ false)) }
-    ensures ended { D.honest deck.old.disk → OnOk result (IsEnded D.newest deck.old (record { settled = batch.batch.handles; deck = deck.new })) }
-    ensures leaves { deck.old.aborted ≡ false → D.honest deck.old.disk → LeavesOnly D.moment D.left_since deck.old.disk deck.new.disk (FollowsSome deck.old.log.sb (D.size deck.old.disk) (D.count deck.old.disk) (standing deck.old.log deck.old.groups (D.newest deck.old.disk)) batch.batch.handles batch.groups 0 (groups_in batch.groups)) }
-    ensures now { deck.old.aborted ≡ false → D.honest deck.old.disk → OnOk result (AllHave D.may_leave deck.new.disk (FollowsSome deck.old.log.sb (D.size deck.old.disk) (D.count deck.old.disk) (standing deck.old.log deck.old.groups (D.newest deck.old.disk)) batch.batch.handles batch.groups (groups_in batch.groups) (groups_in batch.groups))) }
+    ensures ended { D.honest deck.old.disk → OnOk result
+        (IsEnded D.newest deck.old (record { settled = batch.batch.handles; deck = deck.new })) }
+    ensures leaves { deck.old.aborted ≡ false → D.honest deck.old.disk
+        → LeavesOnly D.moment D.left_since deck.old.disk deck.new.disk
+        (FollowsSome deck.old.log.sb (D.size deck.old.disk) (D.count deck.old.disk)
+        (standing deck.old.log deck.old.groups (D.newest deck.old.disk)) batch.batch.handles batch.groups 0
+        (groups_in batch.groups)) }
+    ensures now { deck.old.aborted ≡ false → D.honest deck.old.disk
+        → OnOk result (AllHave D.may_leave deck.new.disk
+        (FollowsSome deck.old.log.sb (D.size deck.old.disk) (D.count deck.old.disk)
+        (standing deck.old.log deck.old.groups (D.newest deck.old.disk)) batch.batch.handles batch.groups
+        (groups_in batch.groups) (groups_in batch.groups))) }
 {
     let _bounds = batch.groups().len(); // they are those of a least cut
     match deck.commit_batch(batch, stamp) {

@@ -17,8 +17,8 @@ use jb_disk::{Disk, FuseDisk, MemoryDisk};
 use jb_recover::{RecoverFault, recover};
 use std::alloc::Global;
 
-/// A life of a journal: the batch that it commits, and its end. The power fails after so many calls of the disk, and the
-/// choice says which version is left of each sector that was written since the last sync ([`MemoryDisk::crash`]).
+/// A life of a journal: the batch that it commits, and its end. The power fails after so many calls of the disk, and
+/// the choice says which version is left of each sector that was written since the last sync ([`MemoryDisk::crash`]).
 pub struct Life {
     pub batch: Prepared,
     pub stamp: Stamp,
@@ -38,9 +38,9 @@ fn give_up_life(life: Life) {
 }
 
 /// Recovers the journal of a disk. Then the journal has two lives, one after the other: it is opened, a batch is
-/// committed, the power fails at any call of the disk, and what the crash leaves is recovered. The disk that is given back
-/// holds the homes as they stood at first, with the handles of the first groups of the first batch, and after them those
-/// of the first groups of the second; its superblock is the journal's own.
+/// committed, the power fails at any call of the disk, and what the crash leaves is recovered. The disk that is given
+/// back holds the homes as they stood at first, with the handles of the first groups of the first batch, and after them
+/// those of the first groups of the second; its superblock is the journal's own.
 ///
 /// # Errors
 ///
@@ -51,7 +51,8 @@ pub fn two_lives(
     first: Life,
     second: Life,
 ) -> Result<MemoryDisk, RecoverFault>
-    ensures lives { IsSound disk → IfOk result (λ new. HasTwoLives (bytes_of disk.size) disk.count first.batch second.batch (newest_of disk) (newest_of new)) }
+    ensures lives { IsSound disk → IfOk result (λ new. HasTwoLives (bytes_of disk.size) disk.count first.batch
+        second.batch (newest_of disk) (newest_of new)) }
 {
     jb_recover::laws::recovered();
     let mut disk = disk;
@@ -73,7 +74,9 @@ pub fn two_lives(
 fn live(alloc: Global, disk: MemoryDisk, life: Life) -> Result<MemoryDisk, RecoverFault>
     ensures rest { IsAtRest disk → IfOk result IsAtRest }
     ensures same { IfOk result (λ new. (bytes_of new.size ≡ bytes_of disk.size) × (new.count ≡ disk.count)) }
-    ensures lives { IsAtRest disk → IfOk result (λ new. (own : Superblock) (before : ℕ → List ℕ) (hs : List Stopped) → HoldsHandles own (bytes_of disk.size) disk.count before hs (newest_of disk) → HoldsMore own (bytes_of disk.size) disk.count before hs life.batch (newest_of new)) }
+    ensures lives { IsAtRest disk → IfOk result (λ new. (own : Superblock) (before : ℕ → List ℕ) (hs : List Stopped)
+        → HoldsHandles own (bytes_of disk.size) disk.count before hs (newest_of disk)
+        → HoldsMore own (bytes_of disk.size) disk.count before hs life.batch (newest_of new)) }
 {
     jb_deck::laws::chained();
     jb_recover::laws::recovered();
@@ -93,7 +96,8 @@ fn live(alloc: Global, disk: MemoryDisk, life: Life) -> Result<MemoryDisk, Recov
 fn run<D: Disk>(alloc: Global, disk: D, batch: Prepared, stamp: Stamp) -> D
     ensures kept { Kept D.size D.count D.honest disk result }
     ensures planned { IsPlanned batch }
-    ensures leaves { D.honest disk → LeavesOnly D.moment D.left_since disk result (λ c. D.may_leave disk c ⊎ LeftByLife (D.size disk) (D.count disk) (D.newest disk) batch c) }
+    ensures leaves { D.honest disk → LeavesOnly D.moment D.left_since disk result
+        (λ c. D.may_leave disk c ⊎ LeftByLife (D.size disk) (D.count disk) (D.newest disk) batch c) }
 {
     match Deck::open(alloc, disk) {
         Ok(mut deck) => {

@@ -16,8 +16,8 @@ use std::alloc::Global;
 ///
 /// # Errors
 ///
-/// The disk, where the third batch is not committed: the journal was not opened, a batch was refused, there was nothing to
-/// checkpoint, or a call of the disk failed.
+/// The disk, where the third batch is not committed: the journal was not opened, a batch was refused, there was nothing
+/// to checkpoint, or a call of the disk failed.
 pub fn commit_three<D: Disk + Drop>(
     alloc: Global,
     disk: D,
@@ -26,7 +26,8 @@ pub fn commit_three<D: Disk + Drop>(
     third: Prepared,
     stamp: Stamp,
 ) -> Result<Deck<D>, D>
-    ensures prefix { D.honest disk → IfOk result (λ deck. LeavesPrefix D.may_leave D.moment D.left_since (D.size disk) (D.count disk) (D.newest disk) (first.batch.handles ++ second.batch.handles) third deck.disk) }
+    ensures prefix { D.honest disk → IfOk result (λ deck. LeavesPrefix D.may_leave D.moment D.left_since (D.size disk)
+        (D.count disk) (D.newest disk) (first.batch.handles ++ second.batch.handles) third deck.disk) }
 {
     laws::since::<D>();
     let mut deck = match Deck::open(alloc, disk) {

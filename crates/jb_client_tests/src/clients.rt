@@ -4,9 +4,10 @@ use jb_block::{BlockSize, Stamp, Width};
 use jb_client::{Life, commit_and_close, commit_three, two_lives};
 use jb_deck::{Batch, Prepared, is_batch, prepare};
 use jb_disk::{Disk, MemoryDisk};
+use jb_front::format;
 use jb_handle::{Shape, Stopped};
 use jb_queue::read_queue;
-use jb_recover::{Recovered, format, recover};
+use jb_recover::{Recovered, recover};
 use std::alloc::Global;
 use std::test::Fail;
 

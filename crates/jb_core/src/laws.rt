@@ -13,8 +13,8 @@ pub fn sound()
     ensures { (shape : Shape) (log : Log) (m : Machine) → Ran shape log m → IsSound m }
 {}
 
-/// The words on seats are those of a finite map: after a seat was set, changed or dropped it holds that, and every other
-/// one what it held. A machine that a run reaches lists each seat once, as a drop needs it.
+/// The words on seats are those of a finite map: after a seat was set, changed or dropped it holds that, and every
+/// other one what it held. A machine that a run reaches lists each seat once, as a drop needs it.
 #[tactic(auto, using(crate::proofs::SeatMap::seats_are_map))]
 pub fn seats()
     ensures { SeatsAreMap }

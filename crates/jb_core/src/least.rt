@@ -19,7 +19,8 @@ pub fn is_least(
     limit: u32,
 ) -> Result<bool, Memory>
     requires size { IsWithinSize handles.now }
-    ensures { IfOk result (λ yes. IsTrue yes ↔ IsLeastCut (piece_cost geometry handles.now) limit (length handles.now) bounds.now) }
+    ensures { IfOk result (λ yes. IsTrue yes ↔ IsLeastCut (piece_cost geometry handles.now) limit (length handles.now)
+        bounds.now) }
 {
     let planned = plan(alloc, handles, geometry, limit)?;
     match planned.answer {
@@ -41,7 +42,8 @@ fn costs_exactly(
     blocks: u64,
 ) -> Result<bool, Memory>
     requires size { IsWithinSize handles.now }
-    ensures { IfOk result (λ yes. IsTrue yes ↔ CostsExactly (piece_cost geometry handles.now) limit (length handles.now) blocks bounds.now) }
+    ensures { IfOk result (λ yes. IsTrue yes ↔ CostsExactly (piece_cost geometry handles.now) limit
+        (length handles.now) blocks bounds.now) }
 {
     let Some((&first, ends)) = bounds.split_first() else {
         return Ok(false);
@@ -63,7 +65,8 @@ fn goes_on(
     blocks: u64,
 ) -> Result<bool, Memory>
     requires size { IsWithinSize handles.now }
-    ensures { IfOk result (λ yes. IsTrue yes ↔ GoesOn (piece_cost geometry handles.now) limit (length handles.now) 0 blocks ends.now) }
+    ensures { IfOk result (λ yes. IsTrue yes ↔ GoesOn (piece_cost geometry handles.now) limit (length handles.now) 0
+        blocks ends.now) }
 {
     let mut start = 0;
     let mut left = blocks;

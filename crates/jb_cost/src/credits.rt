@@ -11,7 +11,8 @@ use crate::geometry::Geometry;
 pub fn worst_cost(credits: u32, geometry: Geometry) -> u64
     ensures value { result ≡ worst_cost_of geometry credits }
     ensures bound { (h : StoppedValue) → map.len h.words ≤ credits → cost geometry (h ∷ []) ≤ result }
-    ensures reached { (h : StoppedValue) → map.len h.words ≡ credits → AreCopies h.words → cost geometry (h ∷ []) ≡ result }
+    ensures reached { (h : StoppedValue) → map.len h.words ≡ credits → AreCopies h.words
+        → cost geometry (h ∷ []) ≡ result }
 {
     geometry.blocks(u64::from(credits), 0)
 }

@@ -61,7 +61,8 @@ impl Footprint {
     /// one; the footprint is as it was.
     pub fn add_left(&mut self, handle: &Stopped) -> Result<u64, Memory>
         requires room { self.old.copies + self.old.frees + map.len handle.now.words ≤ 2 ^ 62 }
-        ensures ok { IfOk result (λ blocks. (g : GeometryValue) (hs : List StoppedValue) → self.old ≡ covered_by g hs → (self.new ≡ covered_by g (handle.now ∷ hs)) × (blocks ≡ cost g (handle.now ∷ hs))) }
+        ensures ok { IfOk result (λ blocks. (g : GeometryValue) (hs : List StoppedValue) → self.old ≡ covered_by g hs
+            → (self.new ≡ covered_by g (handle.now ∷ hs)) × (blocks ≡ cost g (handle.now ∷ hs))) }
         ensures err { OnErr result (self.new ≡ self.old) }
         ensures grows { OnErr result (0 < map.len handle.now.words) }
     {

@@ -56,7 +56,9 @@ impl LastTouches {
     pub fn add(&mut self, handle: &Stopped, start: Option<u64>) -> Result<(), Memory>
         requires sound { IsSound self.old }
         ensures sound { OnOk result (IsSound self.new) }
-        ensures tells { OnOk result ((g : GeometryValue) (hs : List StoppedValue) (n : ℕ) (ps : List (Option ℕ)) → Tells g hs n ps self.old → n < length hs → handle.now ≡ get_or hs n handle.now → price ps n ≡ start → Tells g hs (n + 1) ps self.new) }
+        ensures tells { OnOk result ((g : GeometryValue) (hs : List StoppedValue) (n : ℕ) (ps : List (Option ℕ))
+            → Tells g hs n ps self.old → n < length hs → handle.now ≡ get_or hs n handle.now → price ps n ≡ start
+            → Tells g hs (n + 1) ps self.new) }
     {
         let from = self.owned.len();
         let spans = &mut self.shortcuts.spans;
@@ -74,7 +76,9 @@ impl LastTouches {
         requires sound { IsSound self.old }
         requires few { homes_of self.old ≤ 2 ^ 62 }
         ensures sound { IsSound self.new }
-        ensures tells { (g : GeometryValue) (hs : List StoppedValue) (n : ℕ) (ps : List (Option ℕ)) → Tells g hs n ps self.old → Tells g hs n ps self.new × BestStart (λ i. piece_cost g hs i n) limit ps 0 n result }
+        ensures tells { (g : GeometryValue) (hs : List StoppedValue) (n : ℕ) (ps : List (Option ℕ))
+            → Tells g hs n ps self.old → Tells g hs n ps self.new
+            × BestStart (λ i. piece_cost g hs i n) limit ps 0 n result }
     {
         best_start(self.geometry, &self.owned, &mut self.shortcuts, limit)
     }

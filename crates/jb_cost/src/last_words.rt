@@ -32,8 +32,10 @@ impl LastWords {
     /// Puts the words of a further handle.
     pub(crate) fn put_all(&mut self, words: &Words) -> Result<(), Memory>
         ensures grows { OnErr result (0 < map.len words.now) }
-        ensures copies { OnOk result ((q : ℕ) → contains nat_cmp self.new.copies q ≡ later is_copied (map.get words.now q) (contains nat_cmp self.old.copies q)) }
-        ensures frees { OnOk result ((q : ℕ) → contains nat_cmp self.new.frees q ≡ later is_freed (map.get words.now q) (contains nat_cmp self.old.frees q)) }
+        ensures copies { OnOk result ((q : ℕ) → contains nat_cmp self.new.copies q ≡ later is_copied
+            (map.get words.now q) (contains nat_cmp self.old.copies q)) }
+        ensures frees { OnOk result ((q : ℕ) → contains nat_cmp self.new.frees q ≡ later is_freed (map.get words.now q)
+            (contains nat_cmp self.old.frees q)) }
     {
         for (home, word) in words.entries() {
             self.put(*home, word)?;
@@ -42,8 +44,10 @@ impl LastWords {
     }
 
     fn put(&mut self, home: u64, word: &Word) -> Result<(), Memory>
-        ensures copies { OnOk result ((q : ℕ) → contains nat_cmp self.new.copies q ≡ (if nat_eq q home then is_copy word.now else contains nat_cmp self.old.copies q)) }
-        ensures frees { OnOk result ((q : ℕ) → contains nat_cmp self.new.frees q ≡ (if nat_eq q home then not (is_copy word.now) else contains nat_cmp self.old.frees q)) }
+        ensures copies { OnOk result ((q : ℕ) → contains nat_cmp self.new.copies
+            q ≡ (if nat_eq q home then is_copy word.now else contains nat_cmp self.old.copies q)) }
+        ensures frees { OnOk result ((q : ℕ) → contains nat_cmp self.new.frees
+            q ≡ (if nat_eq q home then not (is_copy word.now) else contains nat_cmp self.old.frees q)) }
     {
         if word.is_copy() {
             self.copies.insert(home)?;

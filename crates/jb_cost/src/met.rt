@@ -25,13 +25,18 @@ pub(crate) fn meet(
     fresh: &mut Vec<u64>,
     words: &Words,
 ) -> Result<Met, Memory>
-    ensures homes { OnOk result ((q : ℕ) → contains nat_cmp homes.new q ≡ (contains nat_cmp homes.old q || map.contains_key words.now q)) }
-    ensures copies { IfOk result (λ met. met.copies ≡ new_homes is_copy (set.from_list homes.old.keys) (map.entries words.now)) }
-    ensures frees { IfOk result (λ met. met.frees ≡ new_homes is_free (set.from_list homes.old.keys) (map.entries words.now)) }
+    ensures homes { OnOk result ((q : ℕ) → contains nat_cmp homes.new
+        q ≡ (contains nat_cmp homes.old q || map.contains_key words.now q)) }
+    ensures copies { IfOk result (λ met. met.copies ≡ new_homes is_copy (set.from_list homes.old.keys)
+        (map.entries words.now)) }
+    ensures frees { IfOk result (λ met. met.frees ≡ new_homes is_free (set.from_list homes.old.keys)
+        (map.entries words.now)) }
     ensures grows { OnErr result (0 < map.len words.now) }
     ensures few { IfOk result (λ met. met.copies + met.frees ≤ map.len words.now) }
-    ensures partly { OnErr result ((q : ℕ) → contains nat_cmp homes.new q ≡ (contains nat_cmp homes.old q || list_any (nat_eq q) fresh.new.items)) }
-    ensures apart { OnErr result ((q : ℕ) → (contains nat_cmp homes.old q && list_any (nat_eq q) fresh.new.items) ≡ false) }
+    ensures partly { OnErr result ((q : ℕ) → contains nat_cmp homes.new
+        q ≡ (contains nat_cmp homes.old q || list_any (nat_eq q) fresh.new.items)) }
+    ensures apart { OnErr result ((q : ℕ) → (contains nat_cmp homes.old q && list_any (nat_eq q) fresh.new.items)
+        ≡ false) }
 {
     fresh.clear();
     fresh.reserve(words.len())?;
@@ -52,7 +57,8 @@ pub(crate) fn meet(
 
 /// Takes these homes out again.
 pub(crate) fn part(homes: &mut BTreeSet<u64>, fresh: &[u64])
-    ensures { (q : ℕ) → contains nat_cmp homes.new q ≡ (contains nat_cmp homes.old q && not (list_any (nat_eq q) fresh.now)) }
+    ensures { (q : ℕ) → contains nat_cmp homes.new q
+        ≡ (contains nat_cmp homes.old q && not (list_any (nat_eq q) fresh.now)) }
 {
     for home in fresh {
         homes.remove(home);

@@ -32,9 +32,12 @@ pub(crate) fn take_over(
     ensures number { length owned.new.items ≡ length owned.old.items }
     ensures idle { (k : ℕ) → IsIdle (owned_at owned.old.items k) → IsIdle (owned_at owned.new.items k) }
     ensures ordered { IsOrdered nat_cmp last.old → IsOrdered nat_cmp last.new }
-    ensures follows { OnOk result ((q : ℕ) → get nat_cmp last.new q ≡ later_touch (length owned.old.items) (map.get words.now q) (get nat_cmp last.old q)) }
-    ensures copies { IfOk result (λ gained. CountsBut copies_of kept (length owned.old.items) gained.copies owned.new.items last.new) }
-    ensures frees { IfOk result (λ gained. CountsBut frees_of not (length owned.old.items) gained.frees owned.new.items last.new) }
+    ensures follows { OnOk result ((q : ℕ) → get nat_cmp last.new q ≡ later_touch (length owned.old.items)
+        (map.get words.now q) (get nat_cmp last.old q)) }
+    ensures copies { IfOk result (λ gained. CountsBut copies_of kept (length owned.old.items) gained.copies
+        owned.new.items last.new) }
+    ensures frees { IfOk result (λ gained. CountsBut frees_of not (length owned.old.items) gained.frees owned.new.items
+        last.new) }
 {
     let handle = owned.len();
     let mut gained = Owned::none();
@@ -51,8 +54,10 @@ pub(crate) fn take_over(
 /// that handle no longer holds.
 fn lose(owned: &mut Vec<Owned>, spans: &mut Vec<Option<Span>>, before: Option<Touch>)
     requires inside { (t : TouchValue) → before ≡ Some t → t.handle < length owned.old.items }
-    requires copies { (t : TouchValue) → before ≡ Some t → (if t.copy then 1 else 0) ≤ (owned_at owned.old.items t.handle).copies }
-    requires frees { (t : TouchValue) → before ≡ Some t → (if t.copy then 0 else 1) ≤ (owned_at owned.old.items t.handle).frees }
+    requires copies { (t : TouchValue) → before ≡ Some t
+        → (if t.copy then 1 else 0) ≤ (owned_at owned.old.items t.handle).copies }
+    requires frees { (t : TouchValue) → before ≡ Some t
+        → (if t.copy then 0 else 1) ≤ (owned_at owned.old.items t.handle).frees }
     requires spans { AreSpans owned.old.items spans.old.items }
     ensures spans { AreSpans owned.new.items spans.new.items }
     ensures places { length spans.new.items ≡ length spans.old.items }
@@ -60,8 +65,10 @@ fn lose(owned: &mut Vec<Owned>, spans: &mut Vec<Option<Span>>, before: Option<To
         AreBest ps owned.new.items spans.new.items }
     ensures number { length owned.new.items ≡ length owned.old.items }
     ensures idle { (k : ℕ) → IsIdle (owned_at owned.old.items k) → IsIdle (owned_at owned.new.items k) }
-    ensures copies { (i : ℕ) → owned_from copies_of owned.new.items i + unwrap_or (option_map (counts_since kept i) before) 0 ≡ owned_from copies_of owned.old.items i }
-    ensures frees { (i : ℕ) → owned_from frees_of owned.new.items i + unwrap_or (option_map (counts_since not i) before) 0 ≡ owned_from frees_of owned.old.items i }
+    ensures copies { (i : ℕ) → owned_from copies_of owned.new.items i + unwrap_or
+        (option_map (counts_since kept i) before) 0 ≡ owned_from copies_of owned.old.items i }
+    ensures frees { (i : ℕ) → owned_from frees_of owned.new.items i + unwrap_or
+        (option_map (counts_since not i) before) 0 ≡ owned_from frees_of owned.old.items i }
 {
     let Some(touch) = before else { return };
     forget(spans, touch.handle);

@@ -7,12 +7,13 @@ use crate::scripts::{handles_of, prepared, refused};
 use jb_block::{Width, get32};
 use jb_deck::{Checked, Deck, OpenFault};
 use jb_disk::MemoryDisk;
-use jb_recover::{Recovered, recover, renumber, widen};
+use jb_front::{renumber, widen};
+use jb_recover::{Recovered, recover};
 use std::alloc::Global;
 use std::test::Fail;
 
-/// A name, whether the journal is widened before it is opened, or renumbered; the rows of the small image that differ before,
-/// and the next number and the width after.
+/// A name, whether the journal is widened before it is opened, or renumbered; the rows of the small image that differ
+/// before, and the next number and the width after.
 const CHANGED: [(&str, bool, &[Row], (u64, Width)); 5] = [
     (
         "no number left, renumbered",
@@ -114,7 +115,8 @@ fn journals_that_were_changed_in_their_place_are_opened(rt: HostRuntime) -> Resu
 }
 
 /// A name, the rows of the small image that differ, the handle that is committed, whether its transaction is then
-/// recovered and the journal widened, or is checkpointed and the journal renumbered; and the next number and the width after.
+/// recovered and the journal widened, or is checkpointed and the journal renumbered; and the next number and the width
+/// after.
 const USED: [(&str, &[Row], &str, bool, (u64, Width)); 2] = [
     (
         "the last number",

@@ -49,7 +49,7 @@ const CASES: [Case; 7] = [
         blocks: BLOCKS,
         image: &[NAMED],
         steps: &[
-            Step::Commits("h w5=c03b399801020304 r7\n", &[(0, 1, 2)]),
+            Step::Commits("h w5=c03b399801020304 r7\n", &[(0, 1, 2, 4)]),
             Step::Word(7, Some(false)),
             Step::Word(6, None),
             Step::Word(5, Some(true)),
@@ -58,7 +58,7 @@ const CASES: [Case; 7] = [
             Step::Writes(16, 1024, Err(FreeFault::NotFree)),
             Step::Writes(5, 1023, Err(FreeFault::NotFree)),
             Step::Writes(7, 1023, Err(FreeFault::Length)),
-            Step::Ends(&[(0, 1, 2)], 3),
+            Step::Ends(&[(0, 1, 2, 4)], 3),
         ],
         groups: &[],
         rows: &[
@@ -82,7 +82,7 @@ const CASES: [Case; 7] = [
         name: "the same with block numbers of 64 bits",
         blocks: BLOCKS,
         image: &[NAMED, (0, 0x20, [0, 0, 2, 0])],
-        steps: &[Step::Commits("h w5=c03b399801020304 r7\n", &[(0, 1, 2)])],
+        steps: &[Step::Commits("h w5=c03b399801020304 r7\n", &[(0, 1, 2, 4)])],
         groups: &[],
         rows: &[
             (0, 0x10, [33, 1, 2, 1]),
@@ -106,7 +106,7 @@ const CASES: [Case; 7] = [
         name: "two copies",
         blocks: BLOCKS,
         image: &[NAMED],
-        steps: &[Step::Commits("h w5=0d w6=0e\n", &[(0, 1, 2)])],
+        steps: &[Step::Commits("h w5=0d w6=0e\n", &[(0, 1, 2, 4)])],
         groups: &[],
         rows: &[
             (0, 0x10, [33, 1, 2, 1]),
@@ -132,7 +132,7 @@ const CASES: [Case; 7] = [
         steps: &[
             Step::Commits(
                 "h w1=01 w2=02 w3=03 r9\nh w3=13 r2\nh w9=09 w8=08 w7=07 w6=06 w4=04\n",
-                &[(0, 2, 2), (2, 3, 3)],
+                &[(0, 2, 2, 5), (2, 3, 3, 7)],
             ),
             Step::Word(2, Some(false)),
             Step::Word(9, Some(true)),
@@ -173,8 +173,8 @@ const CASES: [Case; 7] = [
             Step::Refuses(1, (16, 7, NARROW), TWO, Refusal::WrongTicket(0)),
             Step::Refuses(0, (16, 7, NARROW), TWO, Refusal::OtherShape),
             Step::Refuses(0, (16, 8, NARROW), TWELVE, Refusal::NumbersSpent),
-            Step::Commits(SIX, &[(0, 1, 4294967295)]),
-            Step::Ends(&[(0, 1, 4294967295)], 4294967296),
+            Step::Commits(SIX, &[(0, 1, 4294967295, 8)]),
+            Step::Ends(&[(0, 1, 4294967295, 8)], 4294967296),
             Step::Refuses(1, (16, 8, NARROW), "h\n", Refusal::NumbersSpent),
             Step::Commits("", &[]),
             Step::Checkpoints(4294967295, 6),
@@ -199,8 +199,8 @@ const CASES: [Case; 7] = [
         blocks: BLOCKS,
         image: &[],
         steps: &[
-            Step::Commits("h\nh\n", &[(0, 2, 2)]),
-            Step::Commits("h\n", &[(2, 3, 3)]),
+            Step::Commits("h\nh\n", &[(0, 2, 2, 1)]),
+            Step::Commits("h\n", &[(2, 3, 3, 1)]),
             Step::Checkpoints(2, 0),
         ],
         groups: &[(1, 2, &[], &[]), (2, 3, &[], &[])],

@@ -56,10 +56,12 @@ const GAP: [Row; 6] = [
 
 const GAP_AFTER: [Row; 2] = [(0, 0x20, [0, 0, 1, 0]), (3, 0, [0, 0, 0, 0])];
 
-/// The rows of an image, those that opening it changes, where its log begins, and how many calls of the disk that takes.
+/// The rows of an image, those that opening it changes, where its log begins, and how many calls of the disk that
+/// takes.
 type Case<'a> = (&'a [Row], &'a [Row], u64, u64);
 
-/// What a crash may leave: the whole image once the journal is opened, and before its log what was there, or what is then.
+/// What a crash may leave: the whole image once the journal is opened, and before its log what was there, or what is
+/// then.
 #[derive(Drop)]
 struct Wanted {
     whole: MemoryDisk,
@@ -113,7 +115,8 @@ fn disk_of<D: Disk + Drop>(opened: Result<Deck<D>, (D, OpenFault)>) -> (D, Optio
     }
 }
 
-/// Whether what is left mends where a call is the last one, and where it alone fails; and whether the journal was opened.
+/// Whether what is left mends where a call is the last one, and where it alone fails; and whether the journal was
+/// opened.
 fn mends_at(
     alloc: Global,
     case: Case<'_>,

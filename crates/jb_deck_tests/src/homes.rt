@@ -9,8 +9,8 @@ use jb_deck::FreeFault;
 const SEVENS: [u32; 4] = [0x7777_7777, 0x7777_7777, 0x7777_7777, 0x7777_7777];
 
 const FREED: [Step; 3] = [
-    Step::Commits("h w5=aa\n", &[(0, 1, 2)]),
-    Step::Commits("h r5\n", &[(1, 2, 3)]),
+    Step::Commits("h w5=aa\n", &[(0, 1, 2, 3)]),
+    Step::Commits("h r5\n", &[(1, 2, 3, 2)]),
     Step::Writes(5, 1024, Ok(())),
 ];
 
@@ -21,14 +21,14 @@ pub const FREES: [Case; 5] = [
         blocks: BLOCKS,
         image: &[],
         steps: &[
-            Step::Commits("h w5=c03b3998 r7\n", &[(0, 1, 2)]),
+            Step::Commits("h w5=c03b3998 r7\n", &[(0, 1, 2, 4)]),
             Step::Writes(7, 1024, Ok(())),
             Step::Checkpoints(2, 1),
             Step::Idle,
             Step::Writes(7, 1024, Err(FreeFault::NotFree)),
             Step::Word(7, None),
             Step::Word(5, None),
-            Step::Ends(&[(0, 1, 2)], 3),
+            Step::Ends(&[(0, 1, 2, 4)], 3),
         ],
         groups: &[(1, 2, &[7], &[(5, MAGIC)])],
         rows: &[
@@ -44,10 +44,10 @@ pub const FREES: [Case; 5] = [
         blocks: BLOCKS,
         image: &[],
         steps: &[
-            Step::Commits("h w5=c03b3998 r7\n", &[(0, 1, 2)]),
+            Step::Commits("h w5=c03b3998 r7\n", &[(0, 1, 2, 4)]),
             Step::Checkpoints(2, 1),
-            Step::Commits("h w1=0b\n", &[(1, 2, 3)]),
-            Step::Ends(&[(0, 1, 2), (1, 2, 3)], 4),
+            Step::Commits("h w1=0b\n", &[(1, 2, 3, 3)]),
+            Step::Ends(&[(0, 1, 2, 4), (1, 2, 3, 3)], 4),
         ],
         groups: &[
             (1, 2, &[7], &[(5, MAGIC)]),
@@ -75,10 +75,10 @@ pub const FREES: [Case; 5] = [
         blocks: BLOCKS,
         image: &[],
         steps: &[
-            Step::Commits("h w5=aa\nh w6=ab\n", &[(0, 2, 2)]),
-            Step::Commits("h r5\n", &[(2, 3, 3)]),
+            Step::Commits("h w5=aa\nh w6=ab\n", &[(0, 2, 2, 4)]),
+            Step::Commits("h r5\n", &[(2, 3, 3, 2)]),
             Step::Writes(5, 1024, Ok(())),
-            Step::Commits("h w5=ac\n", &[(3, 4, 4)]),
+            Step::Commits("h w5=ac\n", &[(3, 4, 4, 3)]),
             Step::Word(5, Some(true)),
             Step::Writes(5, 1024, Err(FreeFault::NotFree)),
             Step::Checkpoints(2, 1),
@@ -111,7 +111,7 @@ pub const FREES: [Case; 5] = [
             (2, 0x10, [9, 0, 0, 0]),
             (3, 0, [0, 0x0102_0304, 0, 0]),
         ],
-        steps: &[Step::Commits("h w5=c03b3998 r7\n", &[(0, 1, 3)])],
+        steps: &[Step::Commits("h w5=c03b3998 r7\n", &[(0, 1, 3, 4)])],
         groups: &[(1, 3, &[7], &[(5, MAGIC)])],
         rows: &[(0, 0x10, [33, 1, 3, 1])],
         recovered: (1, 1, 0, 5),

@@ -12,6 +12,8 @@ mod contents;
 #[cfg(test)]
 mod crashes;
 #[cfg(test)]
+mod entries;
+#[cfg(test)]
 mod faults;
 #[cfg(test)]
 mod frames;

@@ -86,10 +86,10 @@ pub const ROUNDS: [Case; 4] = [
         blocks: BLOCKS,
         image: &[],
         steps: &[
-            Step::Commits(SIX, &[(0, 1, 2)]),
-            Step::Commits(SIX, &[(1, 2, 3)]),
-            Step::Commits(SIX, &[(2, 3, 4)]),
-            Step::Commits(SIX, &[(3, 4, 5)]),
+            Step::Commits(SIX, &[(0, 1, 2, 8)]),
+            Step::Commits(SIX, &[(1, 2, 3, 8)]),
+            Step::Commits(SIX, &[(2, 3, 4, 8)]),
+            Step::Commits(SIX, &[(3, 4, 5, 8)]),
         ],
         groups: &[
             (1, 2, &[], &SIX_COPIES),
@@ -114,12 +114,21 @@ pub const ROUNDS: [Case; 4] = [
         blocks: BLOCKS,
         image: &[],
         steps: &[
-            Step::Commits(SIX, &[(0, 1, 2)]),
-            Step::Commits(SIX, &[(1, 2, 3)]),
-            Step::Commits(SIX, &[(2, 3, 4)]),
-            Step::Commits(SIX, &[(3, 4, 5)]),
-            Step::Commits("h w0=1a\n", &[(4, 5, 6)]),
-            Step::Ends(&[(0, 1, 2), (1, 2, 3), (2, 3, 4), (3, 4, 5), (4, 5, 6)], 7),
+            Step::Commits(SIX, &[(0, 1, 2, 8)]),
+            Step::Commits(SIX, &[(1, 2, 3, 8)]),
+            Step::Commits(SIX, &[(2, 3, 4, 8)]),
+            Step::Commits(SIX, &[(3, 4, 5, 8)]),
+            Step::Commits("h w0=1a\n", &[(4, 5, 6, 3)]),
+            Step::Ends(
+                &[
+                    (0, 1, 2, 8),
+                    (1, 2, 3, 8),
+                    (2, 3, 4, 8),
+                    (3, 4, 5, 8),
+                    (4, 5, 6, 3),
+                ],
+                7,
+            ),
         ],
         groups: &[
             (1, 2, &[], &SIX_COPIES),
@@ -137,11 +146,11 @@ pub const ROUNDS: [Case; 4] = [
         blocks: BLOCKS,
         image: &[],
         steps: &[
-            Step::Commits(SIX, &[(0, 1, 2)]),
-            Step::Commits(SIX, &[(1, 2, 3)]),
-            Step::Commits(SIX, &[(2, 3, 4)]),
-            Step::Commits("h w0=1a w1=1b w2=1c\n", &[(3, 4, 5)]),
-            Step::Commits("h w0=2a w1=2b w2=2c w3=2d\n", &[(4, 5, 6)]),
+            Step::Commits(SIX, &[(0, 1, 2, 8)]),
+            Step::Commits(SIX, &[(1, 2, 3, 8)]),
+            Step::Commits(SIX, &[(2, 3, 4, 8)]),
+            Step::Commits("h w0=1a w1=1b w2=1c\n", &[(3, 4, 5, 5)]),
+            Step::Commits("h w0=2a w1=2b w2=2c w3=2d\n", &[(4, 5, 6, 6)]),
         ],
         groups: &[
             (1, 2, &[], &SIX_COPIES),
@@ -180,7 +189,7 @@ pub const ROUNDS: [Case; 4] = [
         blocks: HOMES + 40,
         image: &[(0, 0x48, [32, 0, 0, 0])],
         steps: &[
-            Step::Commits(TWENTIES, &[(0, 1, 2), (1, 2, 3)]),
+            Step::Commits(TWENTIES, &[(0, 1, 2, 22), (1, 2, 3, 22)]),
             Step::Word(19, None),
             Step::Word(20, Some(true)),
         ],

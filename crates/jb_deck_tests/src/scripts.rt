@@ -16,8 +16,8 @@ use std::test::Fail;
 /// A shape that a batch is made for: how many homes, which limit, and how wide block numbers are.
 pub type Made = (u64, u32, Width);
 
-/// The entry of a group: its first ticket, the one after its last, and its number.
-pub type Told = (u64, u64, u32);
+/// The entry of a group: its first ticket, the one after its last, its number, and how many log blocks it takes.
+pub type Told = (u64, u64, u32, u32);
 
 /// A call, and what it answers.
 #[derive(Clone, Copy)]
@@ -123,8 +123,8 @@ pub fn next_ticket<D: Disk>(deck: &Deck<D>) -> u64 {
 
 /// Whether entries are these.
 fn are(entries: &[Entry], told: &[Told]) -> bool {
-    for (entry, (first, past, number)) in entries.iter().zip(told) {
-        if (entry.first, entry.past, entry.number) != (*first, *past, *number) {
+    for (entry, wanted) in entries.iter().zip(told) {
+        if (entry.first, entry.past, entry.number, entry.blocks) != *wanted {
             return false;
         }
     }

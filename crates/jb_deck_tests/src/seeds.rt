@@ -9,7 +9,8 @@ use crate::model::{Homes, Model, Touch};
 use jb_block::{BlockSize, Width};
 use jb_deck::{Deck, OpenFault};
 use jb_disk::{Disk, FuseDisk, MemoryDisk};
-use jb_recover::{format, recover};
+use jb_front::format;
+use jb_recover::recover;
 use std::alloc::Global;
 use std::test::Fail;
 

@@ -9,14 +9,16 @@ use crate::model::Homes;
 use crate::stops::{NEW, SECTORS, run, stopped};
 use jb_block::{BlockSize, Width};
 use jb_disk::{FuseDisk, MemoryDisk};
-use jb_recover::{format, recover};
+use jb_front::format;
+use jb_recover::recover;
 use std::alloc::Global;
 use std::test::Fail;
 
 /// More calls of the disk than the script makes, and than a recovery makes.
 const MOST: u64 = 400;
 
-/// Of the pending sectors all are old, all are newest, old and newest in turn, or the first or the last one alone is newest.
+/// Of the pending sectors all are old, all are newest, old and newest in turn, or the first or the last one alone is
+/// newest.
 const CHOICES: u32 = 5;
 
 const UUID: [u8; 16] = [0, 1, 2, 3, 4, 5, 6, 7, 8, 9, 10, 11, 12, 13, 14, 15];
@@ -225,7 +227,7 @@ fn a_script_may_be_stopped_and_crashed_at_every_call(rt: HostRuntime) -> Result<
         images = images.saturating_add(mend_all(alloc, &fuse.into_inner(), &wanted)?);
         if ended {
             assert_eq!(rt; left.was, SETTLED[6]);
-            assert_eq!(rt; (calls, images), (139, 128405));
+            assert_eq!(rt; (calls, images), (139, 109515));
             return Ok(());
         }
     }

@@ -1,5 +1,5 @@
 -- A journal that was just opened stands as it must.
-use Rattle.std.proofs.Common.{◌≡◌, ◌⊎◌, ℕ, ◌≤◌, List, [], Option, Some, None, Ok, inl, ⊎_elim, refl, ap, sym, subst, ◌∙◌, arith}
+use Rattle.std.proofs.Common.{◌≡◌, ◌⊎◌, ℕ, ◌≤◌, List, [], All, Option, Some, None, Ok, inl, ⊎_elim, refl, ap, sym, subst, ◌∙◌, arith}
 use Rattle.std.proofs.lemmas.List.Elements.{All-nil}
 use Rattle.jb_disk.specs.Image.{Image}
 use Rattle.jb_disk.specs.Kept.{Kept}
@@ -21,7 +21,7 @@ use Rattle.jb_deck.specs.Since.{LiveOf, homes_of}
 use Rattle.jb_deck.specs.declared.log.Log.{Log}
 use Rattle.jb_deck.proofs.Histories.{Stood}
 use Rattle.jb_desk.specs.Origin.{Begun, own_on, revoking_in}
-use Rattle.jb_desk.specs.Since.{IsBegunOn, IsSince}
+use Rattle.jb_desk.specs.Since.{IsBegunOn, IsCosted, IsSince}
 use Rattle.jb_desk.proofs.Firsts.{first-none}
 
 none-live : (gs : List Group) → gs ≡ [] → LiveOf [] gs
@@ -46,6 +46,15 @@ pub opened-since : {D : Type 0} (size count faults : D → ℕ) (honest : D → 
     → (honest disk → (home : ℕ) → homes_of newest deck home ≡ recovered_home (size disk) (count disk) (newest disk) home)
     → IsSince size count faults honest newest may_leave moment left_since b deck
 opened-since {D = D} size count faults honest newest may_leave moment left_since counts_now b disk deck begun kept fault_count new opens leaves now stands = record {
+  given = [];
+  has = (let past : past_after 0 deck.trail ≡ 0 = ap (past_after 0) new.trail in
+      record {
+        stopped = All-nil (λ (x : Stopped). b.stops x.words);
+        tickets = tt;
+        settled = omega (arith, past);
+        all = λ up. sym past;
+        costs = subst (All (IsCosted deck.shape [])) (sym new.trail) (All-nil (IsCosted deck.shape []));
+      });
   since = λ h.
       let honest_on = begun.stays_honest h in
       let op = opens honest_on in
@@ -59,11 +68,6 @@ opened-since {D = D} size count faults honest newest may_leave moment left_since
         no_fewer = let same = begun.same_faults in omega (arith, fault_count, same);
         up = λ few none. new.aborted;
         same = own-opened (size disk) (count disk) (newest disk) b.own deck.log op.sb op.taken op.log begun.own;
-        given = [];
-        stopped = All-nil (λ (x : Stopped). b.stops x.words);
-        tickets = tt;
-        settled = omega (arith, past);
-        all = λ up. sym past;
         stood = λ up home kept_word. stands honest_on home ∙ begun.homes home;
         live = λ up. none-live deck.groups new.groups;
         now = λ c may.

@@ -48,24 +48,24 @@ cut-last n (a ∷ bs) cut = bound-last n a bs cut.1
 
 -- ---- the entries
 
-from-past : (ticket number a : ℕ) (bs : List ℕ) (k : ℕ) → k ≤ length bs → past_after (ticket + a) (take k (entries_from ticket number a bs)) ≡ ticket + slice_index (a ∷ bs) k
-from-past ticket number a bs zero within = refl
-from-past ticket number a [] (suc k) within = absurd (let h : ⊥ = omega (arith, within) in h)
-from-past ticket number a (b ∷ bs) (suc k) within = from-past ticket (number + 1) b bs k (omega (arith, within))
+from-past : (c : ℕ → ℕ → ℕ) (ticket number a : ℕ) (bs : List ℕ) (k : ℕ) → k ≤ length bs → past_after (ticket + a) (take k (entries_from c ticket number a bs)) ≡ ticket + slice_index (a ∷ bs) k
+from-past c ticket number a bs zero within = refl
+from-past c ticket number a [] (suc k) within = absurd (let h : ⊥ = omega (arith, within) in h)
+from-past c ticket number a (b ∷ bs) (suc k) within = from-past c ticket (number + 1) b bs k (omega (arith, within))
 
 -- those of the first groups end at the bound of these
-pub for-past : (n ticket number k : ℕ) (bounds : List ℕ) → IsCut n bounds → k ≤ groups_in bounds → past_after ticket (take k (entries_for ticket number bounds)) ≡ ticket + slice_index bounds k
-for-past n ticket number k [] cut within = absurd cut
-for-past n ticket number k (a ∷ bs) cut within =
+pub for-past : (c : ℕ → ℕ → ℕ) (n ticket number k : ℕ) (bounds : List ℕ) → IsCut n bounds → k ≤ groups_in bounds → past_after ticket (take k (entries_for c ticket number bounds)) ≡ ticket + slice_index bounds k
+for-past c n ticket number k [] cut within = absurd cut
+for-past c n ticket number k (a ∷ bs) cut within =
     let none = cut.0 in
     let same : ticket ≡ ticket + a = omega (arith, none) in
-    ap (λ f. past_after f (take k (entries_from ticket number a bs))) same ∙ from-past ticket number a bs k within
+    ap (λ f. past_after f (take k (entries_from c ticket number a bs))) same ∙ from-past c ticket number a bs k within
 
-from-length : (ticket number a : ℕ) (bs : List ℕ) → length (entries_from ticket number a bs) ≡ length bs
-from-length ticket number a [] = refl
-from-length ticket number a (b ∷ bs) = ap suc (from-length ticket (number + 1) b bs)
+from-length : (c : ℕ → ℕ → ℕ) (ticket number a : ℕ) (bs : List ℕ) → length (entries_from c ticket number a bs) ≡ length bs
+from-length c ticket number a [] = refl
+from-length c ticket number a (b ∷ bs) = ap suc (from-length c ticket (number + 1) b bs)
 
 -- there is one for each group
-pub for-length : (ticket number : ℕ) (bounds : List ℕ) → length (entries_for ticket number bounds) ≡ groups_in bounds
-for-length ticket number [] = refl
-for-length ticket number (a ∷ bs) = from-length ticket number a bs
+pub for-length : (c : ℕ → ℕ → ℕ) (ticket number : ℕ) (bounds : List ℕ) → length (entries_for c ticket number bounds) ≡ groups_in bounds
+for-length c ticket number [] = refl
+for-length c ticket number (a ∷ bs) = from-length c ticket number a bs

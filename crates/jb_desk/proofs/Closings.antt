@@ -9,13 +9,14 @@ use Rattle.jb_desk.specs.declared.desk.closing.CloseFault.{CloseFault}
 use Rattle.jb_desk.specs.declared.desk.closing.CloseFault.TheVariants.{SeatsOut, TrailsDiffer}
 use Rattle.jb_desk.specs.declared.desk.closing.Closed.{Closed}
 use Rattle.jb_desk.specs.declared.origin.Origin.{Ghosts}
+use Rattle.jb_history.specs.declared.place.Place.{Ghosts as Places}
 use Rattle.jb_desk.specs.declared.seat.Left.{Left}
 
 pub first-ok : {A B : Type 0} (P Q : A → Type 0) (r : Result A B) → IfOk r (λ a. P a × Q a) → IfOk r P
 first-ok P Q (Ok a) is = is.0
 first-ok P Q (Err e) is = tt
 
-pub not-closed : {D C H N : Type 0} {O : Ghosts H} (counter : Counter H N O) (works : Worked D C) (desk : Desk D C H N O) (lefts : Vec (Left H N)) (r : Result (Closed D C) (CloseFault D C H N O)) → IfErr r (DiffersAs counter works) → IfErr r (IsNotClosed desk lefts)
+pub not-closed : {D C H N : Type 0} {O : Ghosts H} {P : Places H} (counter : Counter H N O P) (works : Worked D C) (desk : Desk D C H N O P) (lefts : Vec (Left H N O P)) (r : Result (Closed D C) (CloseFault D C H N O P)) → IfErr r (DiffersAs counter works) → IfErr r (IsNotClosed desk lefts)
 not-closed counter works desk lefts (Ok closed) is = tt
 not-closed counter works desk lefts (Err (SeatsOut back kept)) is = absurd is
 not-closed counter works desk lefts (Err (TrailsDiffer deck clock book)) is = is.3

@@ -86,13 +86,14 @@ none-at first least past ticket (e ∷ es) d is low all = none-at e.past (e.numb
 
 -- ---- two entries
 
-entry-of : (a b : Entry) → (a.first ≡ b.first) × ((a.past ≡ b.past) × (a.number ≡ b.number)) → a ≡ b
-entry-of a b is = λ i. record { first = is.0 i; past = is.1.0 i; number = is.1.1 i }
+entry-of : (a b : Entry) → (a.first ≡ b.first) × ((a.past ≡ b.past) × ((a.number ≡ b.number) × (a.blocks ≡ b.blocks))) → a ≡ b
+entry-of a b is = λ i. record { first = is.0 i; past = is.1.0 i; number = is.1.1.0 i; blocks = is.1.1.1 i }
 
-parts-of : (a b : Entry) → a ≡ b → (a.first ≡ b.first) × ((a.past ≡ b.past) × (a.number ≡ b.number))
-parts-of a b is = (ap (λ (e : Entry). e.first) is, (ap (λ (e : Entry). e.past) is, ap (λ (e : Entry). e.number) is))
+parts-of : (a b : Entry) → a ≡ b → (a.first ≡ b.first) × ((a.past ≡ b.past) × ((a.number ≡ b.number) × (a.blocks ≡ b.blocks)))
+parts-of a b is = (ap (λ (e : Entry). e.first) is, (ap (λ (e : Entry). e.past) is, (ap (λ (e : Entry). e.number) is, ap (λ (e : Entry). e.blocks) is)))
 
-pub entry-Decides : (a b : Entry) → Decides ((a.first == b.first) && ((a.past == b.past) && (a.number == b.number))) (a ≡ b)
+pub entry-Decides : (a b : Entry) → Decides ((a.first == b.first) && ((a.past == b.past) && ((a.number == b.number) && (a.blocks == b.blocks)))) (a ≡ b)
 entry-Decides a b =
-    let all = Decides-and (a.first == b.first) ((a.past == b.past) && (a.number == b.number)) (Decides-eqb a.first b.first) (Decides-and (a.past == b.past) (a.number == b.number) (Decides-eqb a.past b.past) (Decides-eqb a.number b.number)) in
+    let last = Decides-and (a.number == b.number) (a.blocks == b.blocks) (Decides-eqb a.number b.number) (Decides-eqb a.blocks b.blocks) in
+    let all = Decides-and (a.first == b.first) ((a.past == b.past) && ((a.number == b.number) && (a.blocks == b.blocks))) (Decides-eqb a.first b.first) (Decides-and (a.past == b.past) ((a.number == b.number) && (a.blocks == b.blocks)) (Decides-eqb a.past b.past) last) in
     (λ test. entry-of a b (all.0 test), λ is. all.1 (parts-of a b is))

@@ -3,10 +3,12 @@ pub mod Begins
 pub mod Bounds
 pub mod Callings
 pub mod Closings
+pub mod Costed
 pub mod Cuts
 pub mod Firsts
 pub mod Follows
 pub mod Grouped
+pub mod Histories
 pub mod Keeping
 pub mod Least
 pub mod Limits

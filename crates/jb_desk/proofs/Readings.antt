@@ -1,11 +1,13 @@
 -- A home that is read from a journal since its desk was started.
-use Rattle.std.proofs.Common.{◌≡◌, ℕ, false, ◌≤◌, List, Result, Ok, Err, OnOk, refl, ap, sym, subst, ◌∙◌, arith}
+use Rattle.std.proofs.Common.{◌≡◌, ℕ, false, ◌≤◌, List, length, Result, Ok, Err, OnOk, refl, ap, sym, subst, ◌∙◌, arith}
 use Rattle.jb_disk.specs.Image.{Image}
 use Rattle.jb_disk.specs.Kept.{Kept}
 use Rattle.jb_disk.specs.Time.{LeavesOnly}
 use Rattle.jb_disk.proofs.Moments.{weaken}
+use Rattle.jb_handle.specs.declared.stopped.Stopped.{Stopped}
 use Rattle.jb_super.specs.Journal.{SameJournal}
 use Rattle.jb_deck.specs.Deck.{OpenDeck, on_disk}
+use Rattle.jb_deck.specs.Done.{past_after}
 use Rattle.jb_deck.specs.Follows.{FollowsNone}
 use Rattle.jb_deck.specs.Log.{standing}
 use Rattle.jb_deck.specs.Reading.{AnswersRead, IsAsBefore}
@@ -14,15 +16,15 @@ use Rattle.jb_deck.specs.declared.read.ReadHomeFault.{ReadHomeFault}
 use Rattle.jb_deck.specs.declared.read.ReadHomeFault.TheVariants.{Aborted, OutOfRange, Length, DeviceFault}
 use Rattle.jb_desk.specs.Journal.{ReadsHome}
 use Rattle.jb_desk.specs.Origin.{Begun}
-use Rattle.jb_desk.specs.Since.{IsSince, Since}
-use Rattle.jb_desk.proofs.Sincing.{none-since}
+use Rattle.jb_desk.specs.Since.{IsSinceOf, Since, WasGiven}
+use Rattle.jb_desk.proofs.Sincing.{given-none, none-since, plain-is}
 
-module _ {D : Type 0} (size count faults : D → ℕ) (honest : D → Type 0) (newest : D → Image) (may_leave : D → Image → Type 0) (moment : D → ℕ) (left_since : D → ℕ → Image → Type 0) (counts_now : (disk : D) (t : ℕ) (c : Image) → honest disk → t ≤ moment disk → may_leave disk c → left_since disk t c) (b : Begun) (old new : OpenDeck D) (kept : Kept size count honest old.disk new.disk) where
+module _ {D : Type 0} (size count faults : D → ℕ) (honest : D → Type 0) (newest : D → Image) (may_leave : D → Image → Type 0) (moment : D → ℕ) (left_since : D → ℕ → Image → Type 0) (counts_now : (disk : D) (t : ℕ) (c : Image) → honest disk → t ≤ moment disk → may_leave disk c → left_since disk t c) (b : Begun) (known : Stopped → Type 0) (plain : (h : Stopped) → known h → b.stops h.words) (old new : OpenDeck D) (kept : Kept size count honest old.disk new.disk) where
   abbrev Is : OpenDeck D → Type 0
-  Is d = IsSince size count faults honest newest may_leave moment left_since b d
+  Is d = IsSinceOf size count faults honest newest may_leave moment left_since b known d
 
-  abbrev Stands : OpenDeck D → Type 0
-  Stands d = Since size count faults honest newest may_leave moment left_since b d
+  abbrev Stands : List Stopped → OpenDeck D → Type 0
+  Stands given d = Since size count faults honest newest may_leave moment left_since b given d
 
   -- what a crash leaves of a read
   abbrev As : Image → Type 0
@@ -35,9 +37,9 @@ module _ {D : Type 0} (size count faults : D → ℕ) (honest : D → Type 0) (n
   Content = honest old.disk → newest new.disk ≡ newest old.disk
 
   -- the home was read, or the disk did not read it
-  stands : new ≡ on_disk old new.disk → faults old.disk ≤ faults new.disk → newest new.disk ≡ newest old.disk → (s : Stands old) → old.aborted ≡ false → LeavesOnly moment left_since old.disk new.disk As → Stands new
-  stands same more content s up leaves =
-      none-since size count faults honest newest may_leave moment left_since counts_now b old new kept s up
+  stands : new ≡ on_disk old new.disk → faults old.disk ≤ faults new.disk → newest new.disk ≡ newest old.disk → (given : List Stopped) → past_after 0 old.trail ≤ length given → (s : Stands given old) → old.aborted ≡ false → LeavesOnly moment left_since old.disk new.disk As → Stands given new
+  stands same more content given settled s up leaves =
+      none-since size count faults honest newest may_leave moment left_since counts_now b known plain old new kept given settled s up
       (weaken moment left_since old.disk new.disk As (FollowsNone old.log.sb (size old.disk) (count old.disk) (homes_of newest old)) (λ c was. was.follows) leaves)
       (ap (λ (d : OpenDeck D). d.trail) same)
       (subst (λ (d : OpenDeck D). SameJournal old.log.sb d.log.sb) (sym same) refl)
@@ -45,18 +47,27 @@ module _ {D : Type 0} (size count faults : D → ℕ) (honest : D → Type 0) (n
       (λ few none. ap (λ (d : OpenDeck D). d.aborted) same ∙ up)
       (λ still. (
         λ home. ap (λ (d : OpenDeck D). homes_of newest d home) same ∙ ap (λ image. standing old.log old.groups image home) content,
-        subst (λ (d : OpenDeck D). LiveOf s.given d.groups) (sym same) (s.live up),
+        subst (λ (d : OpenDeck D). LiveOf given d.groups) (sym same) (s.live up),
       ))
+
+  -- nothing is given
+  given : (is : Is old) → new ≡ on_disk old new.disk → old.aborted ≡ false → WasGiven known is.given new
+  given is same up =
+      given-none size count faults honest newest may_leave moment left_since counts_now b known plain old new kept is.given is.has up (ap (λ (d : OpenDeck D). d.trail) same) (ap (λ (d : OpenDeck D). d.shape) same)
 
   pub read-since : (home bytes : ℕ) (r : Result (Unit {0}) ReadHomeFault) → AnswersRead (size old.disk) (faults old.disk) (faults new.disk) old new home bytes r → Content → LeavesAs → Is old → Is new
   read-since home bytes (Ok done) answers content leaves is = record {
-    since = λ h. let s = is.since h in let same = answers.3 in stands answers.4 (omega (arith, same)) (content s.stays_honest) s answers.0 (leaves answers.0 s.stays_honest);
+    given = is.given;
+    has = given is answers.4 answers.0;
+    since = λ h. let s = is.since h in let same = answers.3 in stands answers.4 (omega (arith, same)) (content s.stays_honest) is.given is.has.settled s answers.0 (leaves answers.0 s.stays_honest);
   }
   read-since home bytes (Err Aborted) answers content leaves is = subst (λ (d : OpenDeck D). Is d) (sym answers.1) is
   read-since home bytes (Err OutOfRange) answers content leaves is = subst (λ (d : OpenDeck D). Is d) (sym answers.2) is
   read-since home bytes (Err Length) answers content leaves is = subst (λ (d : OpenDeck D). Is d) (sym answers.3) is
   read-since home bytes (Err DeviceFault) answers content leaves is = record {
-    since = λ h. let s = is.since h in stands answers.4 answers.3.no_fewer (content s.stays_honest) s answers.0 (leaves answers.0 s.stays_honest);
+    given = is.given;
+    has = given is answers.4 answers.0;
+    since = λ h. let s = is.since h in stands answers.4 answers.3.no_fewer (content s.stays_honest) is.given is.has.settled s answers.0 (leaves answers.0 s.stays_honest);
   }
 
   pub read-home : (home bytes : ℕ) (found : List ℕ) (r : Result (Unit {0}) ReadHomeFault) → AnswersRead (size old.disk) (faults old.disk) (faults new.disk) old new home bytes r
@@ -68,6 +79,6 @@ module _ {D : Type 0} (size count faults : D → ℕ) (honest : D → Type 0) (n
     answers = answers;
     stands = λ h. reads (is.since h).stays_honest;
     content = λ h. content (is.since h).stays_honest;
-    before = is;
-    after = after;
+    before = plain-is size count faults honest newest may_leave moment left_since counts_now b known plain old is;
+    after = plain-is size count faults honest newest may_leave moment left_since counts_now b known plain new after;
   }

@@ -64,6 +64,18 @@ pub sees-held : (held after : Option Gathered) (b : Gathered) (v w : Front) (fau
 sees-held held after b v w fault (inl is) up again taken = subst (λ f. SeesRound held after v w (Err f)) (sym is) (inr (b, up, again, taken))
 sees-held held after b v w fault (inr is) up again taken = subst (λ f. SeesRound held after v w (Err f)) (sym is) (inr (b, up, again, taken))
 
+-- nothing is taken up only where nothing is held
+pub gives-none : (old new : Account) (held given : Option Gathered) → given ≡ None → GivesBatch (Ok given) held old new → held ≡ None
+gives-none old new None given is gives = refl
+gives-none old new (Some h) given is gives = let same : ◌≡◌ {A = Option Gathered} None (Some h) = sym is ∙ gives.1 in absurd (let never : ⊥ = cc in never)
+
+-- a batch that is not committed is held on
+pub answers-held : (held after : Option Gathered) (b : Gathered) (n : ℕ) (fault : RoundFault) → (fault ≡ round.Memory) ⊎ (fault ≡ round.Refused) → TakesUp held b → after ≡ Some b → AnswersRound held after n (Err fault)
+answers-held None after b n fault (inl is) up again = subst (λ f. AnswersRound None after n (Err f)) (sym is) (ap is_some again)
+answers-held None after b n fault (inr is) up again = subst (λ f. AnswersRound None after n (Err f)) (sym is) (ap is_some again)
+answers-held (Some h) after b n fault (inl is) up again = subst (λ f. AnswersRound (Some h) after n (Err f)) (sym is) (again ∙ ap (λ x. Some x) up)
+answers-held (Some h) after b n fault (inr is) up again = subst (λ f. AnswersRound (Some h) after n (Err f)) (sym is) (again ∙ ap (λ x. Some x) up)
+
 -- what is answered of the batch that is taken up is the round's answer
 pub answers-up : (held after : Option Gathered) (b : Gathered) (n : ℕ) (r : Result Round RoundFault) → TakesUp held b → AnswersRound (Some b) after n r → AnswersRound held after n r
 answers-up (Some h) after b n r up is = subst (λ (x : Gathered). AnswersRound (Some x) after n r) up is
@@ -74,7 +86,12 @@ answers-up None after b n (Err round.DeviceFault) up is = is
 answers-up None after b n (Err round.Memory) up is = ap is_some is
 answers-up None after b n (Err round.Refused) up is = ap is_some is
 
--- of the batch that is taken up, the round's is
+-- a batch that is held on is no commit
+pub round-held : {D : Type 0} (size count faults : D → ℕ) (honest : D → Type 0) (newest : D → Image) (may_leave : D → Image → Type 0) (moment : D → ℕ) (left_since : D → ℕ → Image → Type 0) (begun : Begun) (held : Option Gathered) (fault : RoundFault) → (fault ≡ round.Memory) ⊎ (fault ≡ round.Refused) → CommitsRound size count faults honest newest may_leave moment left_since begun held (Err fault)
+round-held size count faults honest newest may_leave moment left_since begun held fault (inl is) = subst (λ f. CommitsRound size count faults honest newest may_leave moment left_since begun held (Err f)) (sym is) tt
+round-held size count faults honest newest may_leave moment left_since begun held fault (inr is) = subst (λ f. CommitsRound size count faults honest newest may_leave moment left_since begun held (Err f)) (sym is) tt
+
+-- what is done with the batch that is taken up is done in the round
 pub round-up : {D : Type 0} (size count faults : D → ℕ) (honest : D → Type 0) (newest : D → Image) (may_leave : D → Image → Type 0) (moment : D → ℕ) (left_since : D → ℕ → Image → Type 0) (begun : Begun) (held : Option Gathered) (b : Gathered) (r : Result Round RoundFault)
     → TakesUp held b → CommitsRound size count faults honest newest may_leave moment left_since begun (Some b) r → CommitsRound size count faults honest newest may_leave moment left_since begun held r
 round-up size count faults honest newest may_leave moment left_since begun held b (Ok (Idle seen)) up is = tt

@@ -1,8 +1,9 @@
 -- A journal since its desk was started: what each of its calls keeps.
-use Rattle.std.proofs.Common.{◌≡◌, ◌⊎◌, ℕ, Bool, true, false, ◌+◌, ◌<◌, ◌≤◌, List, [], ◌∷◌, ◌++◌, length, take, slice_index, Result, Ok, Err, IfOk, OnOk, inl, inr, ⊎_elim, refl, ap, sym, subst, ◌∙◌, arith}
+use Rattle.std.proofs.Common.{◌≡◌, ◌⊎◌, ℕ, Bool, true, false, ◌+◌, ◌<◌, ◌≤◌, List, [], ◌∷◌, ◌++◌, length, take, slice_index, All, Result, Ok, Err, IfOk, OnOk, inl, inr, ⊎_elim, refl, ap, sym, subst, ◌∙◌, arith}
 use Rattle.std.proofs.lemmas.List.{length-append, length-take-le}
-use Rattle.std.proofs.lemmas.List.Elements.{All-append}
+use Rattle.std.proofs.lemmas.List.Elements.{All-append, All-weaker}
 use mathlib.Core.List.{append-nil}
+use Rattle.jb_batch.specs.Costs.{cost_in}
 use Rattle.jb_batch.specs.Prepared.{Planned, IsPlanned}
 use Rattle.jb_block.specs.declared.stamp.Stamp.{Stamp}
 use Rattle.jb_cost.specs.Cut.{IsCut}
@@ -12,8 +13,10 @@ use Rattle.jb_disk.specs.Kept.{Kept}
 use Rattle.jb_disk.specs.Time.{LeavesOnly}
 use Rattle.jb_handle.specs.Tickets.{TicketsFrom}
 use Rattle.jb_handle.specs.Words.{word}
+use Rattle.jb_handle.specs.declared.shape.Shape.{Shape}
 use Rattle.jb_handle.specs.declared.stopped.Stopped.{Stopped}
 use Rattle.jb_handle.proofs.Tickets.{tickets-append}
+use Rattle.jb_log.specs.Found.{log_blocks}
 use Rattle.jb_super.specs.Journal.{SameJournal}
 use Rattle.jb_deck.specs.Checkpoints.{AnswersCheckpoint, Checkpoints, TakesOldest}
 use Rattle.jb_deck.specs.Committing.{AnswersBatch, CommitsBatch, CommitsOnDisk, FindsLive, LeavesGroups, SettlesSome, TakesBatch}
@@ -21,6 +24,7 @@ use Rattle.jb_deck.specs.Deck.{OpenDeck}
 use Rattle.jb_deck.specs.Done.{entries_of, past_after}
 use Rattle.jb_deck.specs.Follows.{FollowsNone, StandsBy}
 use Rattle.jb_deck.specs.Gathering.{groups_in, entries_for}
+use Rattle.jb_deck.specs.Log.{transactions}
 use Rattle.jb_deck.specs.Since.{Ended, LiveOf, call_of, homes_of}
 use Rattle.jb_deck.specs.Trailing.{FollowsSome}
 use Rattle.jb_deck.specs.declared.batched.BatchFault.{BatchFault}
@@ -33,12 +37,20 @@ use Rattle.jb_deck.specs.declared.done.Entry.{Entry}
 use Rattle.jb_deck.proofs.Histories.{calls-stood}
 use Rattle.jb_deck.proofs.Owning.{same-then}
 use Rattle.jb_deck.proofs.Sinces.{ended-is-call}
-use Rattle.jb_desk.specs.Journal.{ChecksRound, FailsAs, IsRound}
+use Rattle.jb_desk.specs.Journal.{blocks_in_use, ChecksAt, ChecksRound, FailsAs, IsRound, TakesHomeAt}
+use Rattle.jb_desk.specs.declared.checkpoint.CheckpointRound.{CheckpointRound}
+use Rattle.jb_desk.specs.declared.checkpoint.CheckpointRound.TheVariants.{Home}
 use Rattle.jb_desk.specs.Origin.{Begun}
-use Rattle.jb_desk.specs.Since.{AreStops, HasFirst, IsSince, Since}
+use Rattle.jb_desk.specs.Since.{HasFirst, IsCosted, IsSince, IsSinceOf, Since, WasGiven, may_stop}
 use Rattle.jb_desk.proofs.Bounds.{cut-high, cut-last, for-length, for-past, past-append}
+use Rattle.jb_desk.proofs.Costed.{costed-all, costed-more}
 use Rattle.jb_desk.proofs.Firsts.{first-longer, first-none, first-some}
 use Rattle.jb_desk.proofs.Rounds.{follow-past, for-follow}
+
+-- what a round answers of what the journal answers
+abbrev pub round_of : Result Checked CheckpointFault → Result CheckpointRound CheckpointFault
+round_of (Ok checked) = Ok (Home checked)
+round_of (Err fault) = Err fault
 
 not-both : (x : Bool) → x ≡ true → x ≡ false → ⊥
 not-both true one other = let h : ⊥ = cc in h
@@ -48,16 +60,33 @@ not-both false one other = let h : ⊥ = cc in h
 pub more-counted : (start before after : ℕ) → start ≤ before → MoreFaults before after → start < 18446744073709551615 → after ≡ start → ⊥
 more-counted start before after low more few same = let rises = more.rises in omega (arith, low, rises, few, same)
 
-module _ {D : Type 0} (size count faults : D → ℕ) (honest : D → Type 0) (newest : D → Image) (may_leave : D → Image → Type 0) (moment : D → ℕ) (left_since : D → ℕ → Image → Type 0) (counts_now : (disk : D) (t : ℕ) (c : Image) → honest disk → t ≤ moment disk → may_leave disk c → left_since disk t c) (b : Begun) where
-  abbrev Is : OpenDeck D → Type 0
-  Is d = IsSince size count faults honest newest may_leave moment left_since b d
+-- the same journal, where less is known of each of the handles
+pub is-weaker : {D : Type 0} (size count faults : D → ℕ) (honest : D → Type 0) (newest : D → Image) (may_leave : D → Image → Type 0) (moment : D → ℕ) (left_since : D → ℕ → Image → Type 0) (b : Begun) (known less : Stopped → Type 0) → ((h : Stopped) → known h → less h) → (d : OpenDeck D) → IsSinceOf size count faults honest newest may_leave moment left_since b known d → IsSinceOf size count faults honest newest may_leave moment left_since b less d
+is-weaker size count faults honest newest may_leave moment left_since b known less weaker d is = record {
+  given = is.given;
+  has = record {
+    stopped = All-weaker known less weaker is.given is.has.stopped;
+    tickets = is.has.tickets;
+    settled = is.has.settled;
+    all = is.has.all;
+    costs = is.has.costs;
+  };
+  since = is.since;
+}
 
-  abbrev Stands : OpenDeck D → Type 0
-  Stands d = Since size count faults honest newest may_leave moment left_since b d
+module _ {D : Type 0} (size count faults : D → ℕ) (honest : D → Type 0) (newest : D → Image) (may_leave : D → Image → Type 0) (moment : D → ℕ) (left_since : D → ℕ → Image → Type 0) (counts_now : (disk : D) (t : ℕ) (c : Image) → honest disk → t ≤ moment disk → may_leave disk c → left_since disk t c) (b : Begun) (known : Stopped → Type 0) (plain : (h : Stopped) → known h → b.stops h.words) where
+  abbrev Is : OpenDeck D → Type 0
+  Is d = IsSinceOf size count faults honest newest may_leave moment left_since b known d
+
+  abbrev Stands : List Stopped → OpenDeck D → Type 0
+  Stands given d = Since size count faults honest newest may_leave moment left_since b given d
+
+  pub plain-is : (d : OpenDeck D) → Is d → IsSince size count faults honest newest may_leave moment left_since b d
+  plain-is d is = is-weaker size count faults honest newest may_leave moment left_since b known (may_stop b) plain d is
 
   -- ---- a batch
 
-  module _ (p : Planned) (stamp : Stamp) (old new : OpenDeck D) (planned : IsPlanned p) (tickets : TicketsFrom p.batch.first p.batch.handles) (stopped : AreStops b p.batch.handles) (kept : Kept size count honest old.disk new.disk) where
+  module _ (p : Planned) (stamp : Stamp) (old new : OpenDeck D) (planned : IsPlanned p) (tickets : TicketsFrom p.batch.first p.batch.handles) (stopped : All known p.batch.handles) (kept : Kept size count honest old.disk new.disk) where
     abbrev hs : List Stopped
     hs = p.batch.handles
 
@@ -67,48 +96,94 @@ module _ {D : Type 0} (size count faults : D → ℕ) (honest : D → Type 0) (n
     abbrev Left : ℕ → ℕ → Image → Type 0
     Left least most c = FollowsSome old.log.sb (size old.disk) (count old.disk) (homes_of newest old) hs p.groups least most c
 
+    -- what the groups of the batch cost
+    abbrev c : ℕ → ℕ → ℕ
+    c = cost_in p.batch.shape hs
+
     -- where the trail ends after the entries of the first groups
-    past-some : (k : ℕ) (told : List Entry) → k ≤ groups_in p.groups → p.batch.first ≡ past_after 0 old.trail → new.trail ≡ old.trail ++ told → told ≡ take k (entries_for p.batch.first old.log.next p.groups) → past_after 0 new.trail ≡ p.batch.first + slice_index p.groups k
+    past-some : (k : ℕ) (told : List Entry) → k ≤ groups_in p.groups → p.batch.first ≡ past_after 0 old.trail → new.trail ≡ old.trail ++ told → told ≡ take k (entries_for c p.batch.first old.log.next p.groups) → past_after 0 new.trail ≡ p.batch.first + slice_index p.groups k
     past-some k told within at trail are =
         ap (past_after 0) trail ∙ past-append 0 old.trail told ∙ ap (λ es. past_after (past_after 0 old.trail) es) are
-        ∙ ap (λ f. past_after f (take k (entries_for p.batch.first old.log.next p.groups))) (sym at)
-        ∙ for-past (length hs) p.batch.first old.log.next k p.groups cut within
+        ∙ ap (λ f. past_after f (take k (entries_for c p.batch.first old.log.next p.groups))) (sym at)
+        ∙ for-past c (length hs) p.batch.first old.log.next k p.groups cut within
 
     past-all : (done : Done) → p.batch.first ≡ past_after 0 old.trail → CommitsBatch p stamp old new done → past_after 0 new.trail ≡ p.batch.first + length hs
     past-all done at commits =
         ap (past_after 0) commits.trail ∙ past-append 0 old.trail (entries_of done) ∙ ap (λ es. past_after (past_after 0 old.trail) es) commits.entries
-        ∙ ap (λ f. past_after f (entries_for p.batch.first old.log.next p.groups)) (sym at)
-        ∙ follow-past p.batch.first old.log.next (p.batch.first + length hs) (entries_for p.batch.first old.log.next p.groups) (for-follow (length hs) p.batch.first old.log.next p.groups cut)
+        ∙ ap (λ f. past_after f (entries_for c p.batch.first old.log.next p.groups)) (sym at)
+        ∙ follow-past p.batch.first old.log.next (p.batch.first + length hs) (entries_for c p.batch.first old.log.next p.groups) (for-follow c (length hs) p.batch.first old.log.next p.groups cut)
 
-    module _ (s : Stands old) (takes : TakesBatch old p) (leaves : LeavesOnly moment left_since old.disk new.disk (Left 0 (groups_in p.groups))) where
-      given-all : length s.given ≡ p.batch.first
-      given-all = s.all takes.up ∙ sym takes.ticket
+    module _ (given : List Stopped) (has : WasGiven known given old) (takes : TakesBatch old p) where
+      given-all : length given ≡ p.batch.first
+      given-all = has.all takes.up ∙ sym takes.ticket
 
-      all-tickets : TicketsFrom 0 (s.given ++ hs)
-      all-tickets = tickets-append 0 s.given hs s.tickets (let at : p.batch.first ≡ 0 + length s.given = (let same = given-all in omega (arith, same)) in subst (λ n. TicketsFrom n hs) at tickets)
+      all-tickets : TicketsFrom 0 (given ++ hs)
+      all-tickets = tickets-append 0 given hs has.tickets (let at : p.batch.first ≡ 0 + length given = (let same = given-all in omega (arith, same)) in subst (λ n. TicketsFrom n hs) at tickets)
 
-      all-stopped : AreStops b (s.given ++ hs)
-      all-stopped = All-append (λ h. b.stops h.words) s.given hs s.stopped stopped
+      all-stopped : All known (given ++ hs)
+      all-stopped = All-append known given hs has.stopped stopped
 
-      has-some : (least most low : ℕ) (c : Image) → most ≤ groups_in p.groups → low ≤ length s.given + slice_index p.groups least → Left least most c → HasFirst b (s.given ++ hs) low c
-      has-some least most low c = first-some b old.log.sb s.same (size old.disk) (count old.disk) s.same_size s.same_count s.given (homes_of newest old) (s.stood takes.up) hs p.groups least most low c cut
+      -- what the entries of the batch cost, by the journal's shape and after the handles before it
+      all-costed : (es : List Entry) → new.trail ≡ old.trail ++ es → new.shape ≡ old.shape → All (IsCosted p.batch.shape (given ++ hs)) (old.trail ++ es) → All (IsCosted new.shape (given ++ hs)) new.trail
+      all-costed es trail shape costed =
+          subst (λ (x : Shape × List Entry). All (IsCosted x.0 (given ++ hs)) x.1) (λ i. ((takes.shape ∙ sym shape) i, sym trail i)) costed
 
-      ever-some : (c : Image) → left_since new.disk b.since c → b.left c ⊎ HasFirst b (s.given ++ hs) 0 c
-      ever-some c left =
-          ⊎_elim
-          (λ (was : left_since old.disk b.since c). ⊎_elim (λ (l : b.left c). inl l) (λ (f : HasFirst b s.given 0 c). inr (first-longer b s.given hs 0 c f)) (s.ever c was))
-          (λ (f : Left 0 (groups_in p.groups) c). inr (has-some 0 (groups_in p.groups) 0 c (omega arith) (omega arith) f))
-          (leaves.before b.since c s.later left)
+      costed-old : All (IsCosted p.batch.shape given) old.trail
+      costed-old = subst (λ (x : Shape). All (IsCosted x given) old.trail) (sym takes.shape) has.costs
 
-      pub commit-ok : (done : Done) → faults new.disk ≡ faults old.disk → CommitsBatch p stamp old new done → CommitsOnDisk newest p stamp old new → ((c : Image) → may_leave new.disk c → Left (groups_in p.groups) (groups_in p.groups) c) → (t : Stands new) × (t.given ≡ s.given ++ hs)
-      commit-ok done counted commits on_disk now =
-          let ended : Ended D = record { settled = hs; deck = new } in
-          let called = ended-is-call newest s.given old ended (s.live takes.up) (inl (record { batch = p; planned = planned; stamp = stamp; done = done; settles = refl; answers = commits; commits = on_disk })) in
+      -- all of the batch was given
+      pub given-ok : (done : Done) → CommitsBatch p stamp old new done → WasGiven known (given ++ hs) new
+      given-ok done commits =
           let past = past-all done takes.ticket commits in
-          let all = length-append s.given hs in
+          let all = length-append given hs in
           let at = given-all in
-          let last = cut-last (length hs) p.groups cut in
-          let low : past_after 0 new.trail ≤ length s.given + slice_index p.groups (groups_in p.groups) = omega (arith, past, at, last) in (
+          record {
+            stopped = all-stopped;
+            tickets = all-tickets;
+            settled = omega (arith, past, all, at);
+            all = λ up. (let eq : length (given ++ hs) ≡ past_after 0 new.trail = omega (arith, past, all, at) in eq);
+            costs = all-costed (entries_of done) commits.trail commits.shape
+                (subst (λ es. All (IsCosted p.batch.shape (given ++ hs)) (old.trail ++ es)) (ap (λ n. entries_for c n old.log.next p.groups) at ∙ sym commits.entries)
+                (costed-all p.batch.shape given hs old.log.next p.groups old.trail cut costed-old));
+          }
+
+      pub given-some : (settled : Done) → SettlesSome p stamp old new settled → WasGiven known (given ++ hs) new
+      given-some settled some =
+          let few = some.some in
+          let within : some.groups ≤ groups_in p.groups = omega (arith, few) in
+          let past = past-some some.groups (entries_of settled) within takes.ticket some.trail some.entries in
+          let all = length-append given hs in
+          let at = given-all in
+          let high = cut-high (length hs) p.groups some.groups cut within in
+          record {
+            stopped = all-stopped;
+            tickets = all-tickets;
+            settled = omega (arith, past, all, at, high);
+            all = λ up. absurd (not-both new.aborted some.aborted up);
+            costs = all-costed (entries_of settled) some.trail some.shape
+                (subst (λ es. All (IsCosted p.batch.shape (given ++ hs)) (old.trail ++ es)) (ap (λ n. take some.groups (entries_for c n old.log.next p.groups)) at ∙ sym some.entries)
+                (costed-more p.batch.shape given hs old.log.next some.groups p.groups old.trail cut costed-old));
+          }
+
+      module _ (s : Stands given old) (leaves : LeavesOnly moment left_since old.disk new.disk (Left 0 (groups_in p.groups))) where
+        has-some : (least most low : ℕ) (x : Image) → most ≤ groups_in p.groups → low ≤ length given + slice_index p.groups least → Left least most x → HasFirst b (given ++ hs) low x
+        has-some least most low x = first-some b old.log.sb s.same (size old.disk) (count old.disk) s.same_size s.same_count given (homes_of newest old) (s.stood takes.up) hs p.groups least most low x cut
+
+        ever-some : (x : Image) → left_since new.disk b.since x → b.left x ⊎ HasFirst b (given ++ hs) 0 x
+        ever-some x left =
+            ⊎_elim
+            (λ (was : left_since old.disk b.since x). ⊎_elim (λ (l : b.left x). inl l) (λ (f : HasFirst b given 0 x). inr (first-longer b given hs 0 x f)) (s.ever x was))
+            (λ (f : Left 0 (groups_in p.groups) x). inr (has-some 0 (groups_in p.groups) 0 x (omega arith) (omega arith) f))
+            (leaves.before b.since x s.later left)
+
+        pub commit-ok : (done : Done) → faults new.disk ≡ faults old.disk → CommitsBatch p stamp old new done → CommitsOnDisk newest p stamp old new → ((x : Image) → may_leave new.disk x → Left (groups_in p.groups) (groups_in p.groups) x) → Stands (given ++ hs) new
+        commit-ok done counted commits on_disk now =
+            let ended : Ended D = record { settled = hs; deck = new } in
+            let called = ended-is-call newest given old ended (s.live takes.up) (inl (record { batch = p; planned = planned; stamp = stamp; done = done; settles = refl; answers = commits; commits = on_disk })) in
+            let past = past-all done takes.ticket commits in
+            let at = given-all in
+            let last = cut-last (length hs) p.groups cut in
+            let low : past_after 0 new.trail ≤ length given + slice_index p.groups (groups_in p.groups) = omega (arith, past, at, last) in
             record {
               same_size = kept.same_size ∙ s.same_size;
               same_count = kept.same_count ∙ s.same_count;
@@ -116,49 +191,35 @@ module _ {D : Type 0} (size count faults : D → ℕ) (honest : D → Type 0) (n
               no_fewer = let before = s.no_fewer in omega (arith, before, counted);
               up = λ few none. commits.up;
               same = same-then b.own old.log.sb new.log.sb s.same commits.moved;
-              given = s.given ++ hs;
-              stopped = all-stopped;
-              tickets = all-tickets;
-              settled = omega (arith, past, all, at);
-              all = λ up. (let eq : length (s.given ++ hs) ≡ past_after 0 new.trail = omega (arith, past, all, at) in eq);
-              stood = λ up. calls-stood s.given (call_of newest ended ∷ []) b.homes (homes_of newest old) (s.stood takes.up) (called.0, tt);
+              stood = λ up. calls-stood given (call_of newest ended ∷ []) b.homes (homes_of newest old) (s.stood takes.up) (called.0, tt);
               live = λ up. called.1;
-              now = λ c may. has-some (groups_in p.groups) (groups_in p.groups) (past_after 0 new.trail) c (omega arith) low (now c may);
+              now = λ x may. has-some (groups_in p.groups) (groups_in p.groups) (past_after 0 new.trail) x (omega arith) low (now x may);
               later = let before = s.later in let on = leaves.later in omega (arith, before, on);
               ever = ever-some;
-            },
-            refl,
-          )
+            }
 
-      pub commit-some : (settled : Done) → MoreFaults (faults old.disk) (faults new.disk) → SettlesSome p stamp old new settled → ((c : Image) → may_leave new.disk c → Left (length (entries_of settled)) (length (entries_of settled) + 1) c) → Stands new
-      commit-some settled more some now =
-          let few = some.some in
-          let within : some.groups ≤ groups_in p.groups = omega (arith, few) in
-          let past = past-some some.groups (entries_of settled) within takes.ticket some.trail some.entries in
-          let number = for-length p.batch.first old.log.next p.groups in
-          let told : length (entries_of settled) ≡ some.groups = ap length some.entries ∙ length-take-le some.groups (entries_for p.batch.first old.log.next p.groups) (omega (arith, within, number)) in
-          let all = length-append s.given hs in
-          let at = given-all in
-          let high = cut-high (length hs) p.groups some.groups cut within in
-          let low : past_after 0 new.trail ≤ length s.given + slice_index p.groups some.groups = omega (arith, past, at) in
-          record {
-            same_size = kept.same_size ∙ s.same_size;
-            same_count = kept.same_count ∙ s.same_count;
-            stays_honest = kept.stays_honest s.stays_honest;
-            no_fewer = let before = s.no_fewer in let rise = more.no_fewer in omega (arith, before, rise);
-            up = λ few none. absurd (more-counted b.faults (faults old.disk) (faults new.disk) s.no_fewer more few none);
-            same = same-then b.own old.log.sb new.log.sb s.same some.moved;
-            given = s.given ++ hs;
-            stopped = all-stopped;
-            tickets = all-tickets;
-            settled = omega (arith, past, all, at, high);
-            all = λ up. absurd (not-both new.aborted some.aborted up);
-            stood = λ up. absurd (not-both new.aborted some.aborted up);
-            live = λ up. absurd (not-both new.aborted some.aborted up);
-            now = λ c may. has-some some.groups (some.groups + 1) (past_after 0 new.trail) c (omega (arith, few)) low (subst (λ n. Left n (n + 1) c) told (now c may));
-            later = let before = s.later in let on = leaves.later in omega (arith, before, on);
-            ever = ever-some;
-          }
+        pub commit-some : (settled : Done) → MoreFaults (faults old.disk) (faults new.disk) → SettlesSome p stamp old new settled → ((x : Image) → may_leave new.disk x → Left (length (entries_of settled)) (length (entries_of settled) + 1) x) → Stands (given ++ hs) new
+        commit-some settled more some now =
+            let few = some.some in
+            let within : some.groups ≤ groups_in p.groups = omega (arith, few) in
+            let past = past-some some.groups (entries_of settled) within takes.ticket some.trail some.entries in
+            let number = for-length c p.batch.first old.log.next p.groups in
+            let told : length (entries_of settled) ≡ some.groups = ap length some.entries ∙ length-take-le some.groups (entries_for c p.batch.first old.log.next p.groups) (omega (arith, within, number)) in
+            let at = given-all in
+            let low : past_after 0 new.trail ≤ length given + slice_index p.groups some.groups = omega (arith, past, at) in
+            record {
+              same_size = kept.same_size ∙ s.same_size;
+              same_count = kept.same_count ∙ s.same_count;
+              stays_honest = kept.stays_honest s.stays_honest;
+              no_fewer = let before = s.no_fewer in let rise = more.no_fewer in omega (arith, before, rise);
+              up = λ few none. absurd (more-counted b.faults (faults old.disk) (faults new.disk) s.no_fewer more few none);
+              same = same-then b.own old.log.sb new.log.sb s.same some.moved;
+              stood = λ up. absurd (not-both new.aborted some.aborted up);
+              live = λ up. absurd (not-both new.aborted some.aborted up);
+              now = λ x may. has-some some.groups (some.groups + 1) (past_after 0 new.trail) x (omega arith) low (subst (λ n. Left n (n + 1) x) told (now x may));
+              later = let before = s.later in let on = leaves.later in omega (arith, before, on);
+              ever = ever-some;
+            }
 
     abbrev Leaves : Type 0
     Leaves = old.aborted ≡ false → honest old.disk → LeavesOnly moment left_since old.disk new.disk (Left 0 (groups_in p.groups))
@@ -168,7 +229,9 @@ module _ {D : Type 0} (size count faults : D → ℕ) (honest : D → Type 0) (n
 
     pub commit-since : (r : Result Done BatchFault) → AnswersBatch (faults old.disk) (faults new.disk) p stamp old new r → (honest old.disk → OnOk r (CommitsOnDisk newest p stamp old new)) → Leaves → Now r → Is old → Is new
     commit-since (Ok done) answers on_disk leaves now is = record {
-      since = λ h. let s = is.since h in (commit-ok s answers.0 (leaves answers.0.up s.stays_honest) done answers.1 answers.2 (on_disk s.stays_honest) (now answers.0.up s.stays_honest)).0;
+      given = is.given ++ hs;
+      has = given-ok is.given is.has answers.0 done answers.2;
+      since = λ h. let s = is.since h in commit-ok is.given is.has answers.0 s (leaves answers.0.up s.stays_honest) done answers.1 answers.2 (on_disk s.stays_honest) (now answers.0.up s.stays_honest);
     }
     commit-since (Err (batch.Aborted back)) answers on_disk leaves now is = subst (λ (d : OpenDeck D). Is d) (sym answers.2) is
     commit-since (Err (batch.WrongTicket back expected)) answers on_disk leaves now is = subst (λ (d : OpenDeck D). Is d) (sym answers.4) is
@@ -176,10 +239,13 @@ module _ {D : Type 0} (size count faults : D → ℕ) (honest : D → Type 0) (n
     commit-since (Err (batch.NumbersSpent back)) answers on_disk leaves now is = subst (λ (d : OpenDeck D). Is d) (sym answers.5) is
     commit-since (Err (batch.Memory back)) answers on_disk leaves now is = subst (λ (d : OpenDeck D). Is d) (sym answers.3) is
     commit-since (Err (batch.DeviceFault settled)) answers on_disk leaves now is = record {
-      since = λ h. let s = is.since h in commit-some s answers.0 (leaves answers.0.up s.stays_honest) settled answers.1 answers.2 (now answers.0.up s.stays_honest);
+      given = is.given ++ hs;
+      has = given-some is.given is.has answers.0 settled answers.2;
+      since = λ h. let s = is.since h in commit-some is.given is.has answers.0 s (leaves answers.0.up s.stays_honest) settled answers.1 answers.2 (now answers.0.up s.stays_honest);
     }
 
     pub commit-round : (r : Result Done BatchFault) → AnswersBatch (faults old.disk) (faults new.disk) p stamp old new r → (honest old.disk → OnOk r (CommitsOnDisk newest p stamp old new)) → (honest old.disk → OnOk r (FindsLive (size old.disk) (count old.disk) new.log new.groups (newest new.disk))) → Leaves → Now r → Is old → IfOk r (IsRound size count faults honest newest may_leave moment left_since b p)
+    unfolding commit-since plain-is is-weaker
     commit-round (Ok done) answers on_disk finds leaves now is = record {
       planned = planned;
       stamp = stamp;
@@ -190,20 +256,20 @@ module _ {D : Type 0} (size count faults : D → ℕ) (honest : D → Type 0) (n
       commits = answers.2;
       on_disk = λ h. on_disk (is.since h).stays_honest;
       finds = λ h. finds (is.since h).stays_honest;
-      before = is;
-      after = commit-since (Ok done) answers on_disk leaves now is;
-      adds = λ h. let s = is.since h in commit-ok s answers.0 (leaves answers.0.up s.stays_honest) done answers.1 answers.2 (on_disk s.stays_honest) (now answers.0.up s.stays_honest);
+      before = plain-is old is;
+      after = plain-is new (commit-since (Ok done) answers on_disk leaves now is);
+      adds = refl;
     }
     commit-round (Err fault) answers on_disk finds leaves now is = tt
 
     pub commit-fails : (r : Result Done BatchFault) → AnswersBatch (faults old.disk) (faults new.disk) p stamp old new r → Is new → FailsAs size count faults honest newest may_leave moment left_since b r
     commit-fails (Ok done) answers is = tt
-    commit-fails (Err (batch.Aborted back)) answers is = record { deck = new; since = is; failed = ap (λ (d : OpenDeck D). d.aborted) answers.2 ∙ answers.0 }
+    commit-fails (Err (batch.Aborted back)) answers is = record { deck = new; since = plain-is new is; failed = ap (λ (d : OpenDeck D). d.aborted) answers.2 ∙ answers.0 }
     commit-fails (Err (batch.WrongTicket back expected)) answers is = tt
     commit-fails (Err (batch.OtherShape back)) answers is = tt
     commit-fails (Err (batch.NumbersSpent back)) answers is = tt
     commit-fails (Err (batch.Memory back)) answers is = tt
-    commit-fails (Err (batch.DeviceFault settled)) answers is = record { deck = new; since = is; failed = answers.2.aborted }
+    commit-fails (Err (batch.DeviceFault settled)) answers is = record { deck = new; since = plain-is new is; failed = answers.2.aborted }
 
   -- ---- the oldest group
 
@@ -211,23 +277,33 @@ module _ {D : Type 0} (size count faults : D → ℕ) (honest : D → Type 0) (n
     abbrev None : Image → Type 0
     None c = FollowsNone old.log.sb (size old.disk) (count old.disk) (homes_of newest old) c
 
-    module _ (s : Stands old) (up : old.aborted ≡ false) (leaves : LeavesOnly moment left_since old.disk new.disk None) (trail : new.trail ≡ old.trail) where
-      has-none : (c : Image) → None c → HasFirst b s.given (past_after 0 old.trail) c
-      has-none c = first-none b old.log.sb s.same (size old.disk) (count old.disk) s.same_size s.same_count s.given (homes_of newest old) (s.stood up) (past_after 0 old.trail) c s.settled
+    -- nothing is given
+    pub given-none : (given : List Stopped) → WasGiven known given old → old.aborted ≡ false → new.trail ≡ old.trail → new.shape ≡ old.shape → WasGiven known given new
+    given-none given has up trail shape = record {
+      stopped = has.stopped;
+      tickets = has.tickets;
+      settled = subst (λ es. past_after 0 es ≤ length given) (sym trail) has.settled;
+      all = λ still. has.all up ∙ ap (past_after 0) (sym trail);
+      costs = subst (λ (x : Shape × List Entry). All (IsCosted x.0 given) x.1) (λ i. (sym shape i, sym trail i)) has.costs;
+    }
 
-      now-none : (c : Image) → may_leave new.disk c → HasFirst b s.given (past_after 0 new.trail) c
+    module _ (given : List Stopped) (settled : past_after 0 old.trail ≤ length given) (s : Stands given old) (up : old.aborted ≡ false) (leaves : LeavesOnly moment left_since old.disk new.disk None) (trail : new.trail ≡ old.trail) where
+      has-none : (c : Image) → None c → HasFirst b given (past_after 0 old.trail) c
+      has-none c = first-none b old.log.sb s.same (size old.disk) (count old.disk) s.same_size s.same_count given (homes_of newest old) (s.stood up) (past_after 0 old.trail) c settled
+
+      now-none : (c : Image) → may_leave new.disk c → HasFirst b given (past_after 0 new.trail) c
       now-none c may =
-          subst (λ es. HasFirst b s.given (past_after 0 es) c) (sym trail)
+          subst (λ es. HasFirst b given (past_after 0 es) c) (sym trail)
           (has-none c (leaves.each c (counts_now new.disk (moment old.disk) c (kept.stays_honest s.stays_honest) leaves.later may)))
 
-      ever-none : (c : Image) → left_since new.disk b.since c → b.left c ⊎ HasFirst b s.given 0 c
+      ever-none : (c : Image) → left_since new.disk b.since c → b.left c ⊎ HasFirst b given 0 c
       ever-none c left =
           ⊎_elim (s.ever c)
           (λ (f : None c). let first = has-none c f in inr (record { many = first.many; from = omega arith; to = first.to; recovered = first.recovered }))
           (leaves.before b.since c s.later left)
 
-      -- nothing is given, and the homes stand as they did
-      pub none-since : SameJournal old.log.sb new.log.sb → faults old.disk ≤ faults new.disk → (b.faults < 18446744073709551615 → faults new.disk ≡ b.faults → new.aborted ≡ false) → (new.aborted ≡ false → ((home : ℕ) → homes_of newest new home ≡ homes_of newest old home) × LiveOf s.given new.groups) → Stands new
+      -- the homes stand as they did
+      pub none-since : SameJournal old.log.sb new.log.sb → faults old.disk ≤ faults new.disk → (b.faults < 18446744073709551615 → faults new.disk ≡ b.faults → new.aborted ≡ false) → (new.aborted ≡ false → ((home : ℕ) → homes_of newest new home ≡ homes_of newest old home) × LiveOf given new.groups) → Stands given new
       none-since same more fails same_homes = record {
         same_size = kept.same_size ∙ s.same_size;
         same_count = kept.same_count ∙ s.same_count;
@@ -235,12 +311,7 @@ module _ {D : Type 0} (size count faults : D → ℕ) (honest : D → Type 0) (n
         no_fewer = let before = s.no_fewer in omega (arith, before, more);
         up = fails;
         same = same-then b.own old.log.sb new.log.sb s.same same;
-        given = s.given;
-        stopped = s.stopped;
-        tickets = s.tickets;
-        settled = subst (λ es. past_after 0 es ≤ length s.given) (sym trail) s.settled;
-        all = λ still. s.all up ∙ ap (past_after 0) (sym trail);
-        stood = λ still home kept_word. subst (StandsBy (word s.given home) (b.homes home)) (sym ((same_homes still).0 home)) (s.stood up home kept_word);
+        stood = λ still home kept_word. subst (StandsBy (word given home) (b.homes home)) (sym ((same_homes still).0 home)) (s.stood up home kept_word);
         live = λ still. (same_homes still).1;
         now = now-none;
         later = let before = s.later in let on = leaves.later in omega (arith, before, on);
@@ -250,25 +321,29 @@ module _ {D : Type 0} (size count faults : D → ℕ) (honest : D → Type 0) (n
     abbrev LeavesNone : Type 0
     LeavesNone = old.aborted ≡ false → honest old.disk → LeavesOnly moment left_since old.disk new.disk None
 
-    home-since : (checked : Checked) → faults new.disk ≡ faults old.disk → TakesOldest old new checked → Checkpoints newest old new → (s : Stands old) → old.aborted ≡ false → LeavesOnly moment left_since old.disk new.disk None → Stands new
-    home-since checked counted takes goes s up leaves =
+    home-since : (checked : Checked) → faults new.disk ≡ faults old.disk → TakesOldest old new checked → Checkpoints newest old new → (given : List Stopped) → past_after 0 old.trail ≤ length given → (s : Stands given old) → old.aborted ≡ false → LeavesOnly moment left_since old.disk new.disk None → Stands given new
+    home-since checked counted takes goes given settled s up leaves =
         let ended : Ended D = record { settled = []; deck = new } in
-        let called = ended-is-call newest s.given old ended (s.live up) (inr (inl (record { checked = checked; settles = refl; answers = takes; checkpoints = goes }))) in
-        none-since s up leaves takes.trail (subst (λ l. SameJournal old.log.sb l.sb) (sym takes.log) refl) (omega (arith, counted)) (λ few none. takes.live)
-        (λ still. (goes.standing, subst (λ hs. LiveOf hs new.groups) (append-nil s.given) called.1))
+        let called = ended-is-call newest given old ended (s.live up) (inr (inl (record { checked = checked; settles = refl; answers = takes; checkpoints = goes }))) in
+        none-since given settled s up leaves takes.trail (subst (λ l. SameJournal old.log.sb l.sb) (sym takes.log) refl) (omega (arith, counted)) (λ few none. takes.live)
+        (λ still. (goes.standing, subst (λ hs. LiveOf hs new.groups) (append-nil given) called.1))
 
     pub checkpoint-since : (r : Result Checked CheckpointFault) → AnswersCheckpoint (faults old.disk) (faults new.disk) old new r → (honest old.disk → OnOk r (Checkpoints newest old new)) → LeavesNone → Is old → Is new
     checkpoint-since (Ok checked) answers checkpoints leaves is = record {
-      since = λ h. let s = is.since h in home-since checked answers.1 answers.2 (checkpoints s.stays_honest) s answers.0 (leaves answers.0 s.stays_honest);
+      given = is.given;
+      has = given-none is.given is.has answers.0 answers.2.trail answers.2.shape;
+      since = λ h. let s = is.since h in home-since checked answers.1 answers.2 (checkpoints s.stays_honest) is.given is.has.settled s answers.0 (leaves answers.0 s.stays_honest);
     }
     checkpoint-since (Err checkpoint.Aborted) answers checkpoints leaves is = subst (λ (d : OpenDeck D). Is d) (sym answers.1) is
     checkpoint-since (Err checkpoint.Nothing) answers checkpoints leaves is = subst (λ (d : OpenDeck D). Is d) (sym answers.2) is
     checkpoint-since (Err checkpoint.DeviceFault) answers checkpoints leaves is =
         let failed : new.aborted ≡ true = ap (λ (d : OpenDeck D). d.aborted) answers.3 in
         record {
+          given = is.given;
+          has = given-none is.given is.has answers.0 (ap (λ (d : OpenDeck D). d.trail) answers.3) (ap (λ (d : OpenDeck D). d.shape) answers.3);
           since = λ h.
               let s = is.since h in
-              none-since s answers.0 (leaves answers.0 s.stays_honest) (ap (λ (d : OpenDeck D). d.trail) answers.3)
+              none-since is.given is.has.settled s answers.0 (leaves answers.0 s.stays_honest) (ap (λ (d : OpenDeck D). d.trail) answers.3)
               (subst (λ (d : OpenDeck D). SameJournal old.log.sb d.log.sb) (sym answers.3) refl)
               answers.2.no_fewer (λ few none. absurd (more-counted b.faults (faults old.disk) (faults new.disk) s.no_fewer answers.2 few none))
               (λ still. absurd (not-both new.aborted failed still));
@@ -282,9 +357,30 @@ module _ {D : Type 0} (size count faults : D → ℕ) (honest : D → Type 0) (n
       up = answers.0;
       takes = answers.2;
       checkpoints = λ h. checkpoints (is.since h).stays_honest;
-      before = is;
-      after = after;
+      before = plain-is old is;
+      after = plain-is new after;
     }
-    checkpoint-round (Err checkpoint.Aborted) answers checkpoints is after = record { deck = old; since = is; failed = answers.0 }
-    checkpoint-round (Err checkpoint.Nothing) answers checkpoints is after = record { deck = old; since = is; up = answers.0; none = answers.1 }
-    checkpoint-round (Err checkpoint.DeviceFault) answers checkpoints is after = record { deck = new; since = after; failed = ap (λ (d : OpenDeck D). d.aborted) answers.3 }
+    checkpoint-round (Err checkpoint.Aborted) answers checkpoints is after = record { deck = old; since = plain-is old is; failed = answers.0 }
+    checkpoint-round (Err checkpoint.Nothing) answers checkpoints is after = record { deck = old; since = plain-is old is; up = answers.0; none = answers.1 }
+    checkpoint-round (Err checkpoint.DeviceFault) answers checkpoints is after = record { deck = new; since = plain-is new after; failed = ap (λ (d : OpenDeck D). d.aborted) answers.3 }
+
+    -- the same at a level, where as many blocks were in use unless the journal had failed
+    module _ (level : ℕ) (high : old.aborted ≡ false → level ≤ blocks_in_use old) where
+      pub home-at : (checked : Checked) → AnswersCheckpoint (faults old.disk) (faults new.disk) old new (Ok checked) → (honest old.disk → Checkpoints newest old new) → Is old → Is new
+          → TakesHomeAt size count faults honest newest may_leave moment left_since b level checked
+      unfolding checkpoint-round
+      home-at checked answers checkpoints is after = record { takes = checkpoint-round (Ok checked) answers checkpoints is after; high = high answers.0 }
+
+      pub fault-at : (fault : CheckpointFault) → AnswersCheckpoint (faults old.disk) (faults new.disk) old new (Err fault) → Is old → Is new
+          → ChecksAt size count faults honest newest may_leave moment left_since b level (Err fault)
+      fault-at checkpoint.Aborted answers is after = checkpoint-round (Err checkpoint.Aborted) answers (λ h. tt) is after
+      fault-at checkpoint.Nothing answers is after =
+          let none : blocks_in_use old ≡ 0 = ap (λ gs. log_blocks (transactions old.log gs)) answers.1 in
+          let some : level ≤ blocks_in_use old = high answers.0 in
+          (omega (arith, none, some), checkpoint-round (Err checkpoint.Nothing) answers (λ h. tt) is after)
+      fault-at checkpoint.DeviceFault answers is after = checkpoint-round (Err checkpoint.DeviceFault) answers (λ h. tt) is after
+
+      pub round-at : (r : Result Checked CheckpointFault) → AnswersCheckpoint (faults old.disk) (faults new.disk) old new r → (honest old.disk → OnOk r (Checkpoints newest old new)) → Is old → Is new
+          → ChecksAt size count faults honest newest may_leave moment left_since b level (round_of r)
+      round-at (Ok checked) answers checkpoints is after = home-at checked answers checkpoints is after
+      round-at (Err fault) answers checkpoints is after = fault-at fault answers is after

@@ -6,16 +6,17 @@ use Rattle.jb_desk.specs.declared.seat.Left.{Left}
 use Rattle.jb_desk.specs.declared.counter.Counter.{Counter}
 use Rattle.jb_desk.specs.Works.{Worked}
 use Rattle.jb_desk.specs.declared.origin.Origin.{Ghosts}
+use Rattle.jb_history.specs.declared.place.Place.{Ghosts as Places}
 use Rattle.jb_desk.specs.declared.desk.Desk.{Desk}
 use Rattle.jb_desk.specs.declared.desk.closing.CloseFault.{CloseFault}
 use Rattle.jb_desk.specs.declared.desk.closing.CloseFault.TheVariants.{SeatsOut, TrailsDiffer}
 
 -- the same desk and all that the seats left; or a journal and a book that have settled different groups
-abbrev pub IsNotClosed : {D C H N : Type 0} {O : Ghosts H} → Desk D C H N O → Vec (Left H N) → CloseFault D C H N O → Type 0
+abbrev pub IsNotClosed : {D C H N : Type 0} {O : Ghosts H} {P : Places H} → Desk D C H N O P → Vec (Left H N O P) → CloseFault D C H N O P → Type 0
 IsNotClosed desk lefts (SeatsOut back kept) = (desk_id back ≡ desk_id desk) × (shape_in back ≡ shape_in desk) × (kept ≡ lefts)
 IsNotClosed desk lefts (TrailsDiffer deck clock book) = deck.trail ≢ book.items
 
 -- the journal and the book of what the locks guarded, which have settled different groups
-abbrev pub DiffersAs : {D C H N : Type 0} {O : Ghosts H} → Counter H N O → Worked D C → CloseFault D C H N O → Type 0
+abbrev pub DiffersAs : {D C H N : Type 0} {O : Ghosts H} {P : Places H} → Counter H N O P → Worked D C → CloseFault D C H N O P → Type 0
 DiffersAs counter works (SeatsOut back kept) = ⊥
 DiffersAs counter works (TrailsDiffer deck clock book) = (deck ≡ works.deck) × (clock ≡ works.clock) × (book.items ≡ counter.book.trail) × (deck.trail ≢ book.items)

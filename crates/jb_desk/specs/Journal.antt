@@ -1,14 +1,15 @@
 -- What a round of a desk has done to its journal.
-use Rattle.std.specs.Prelude.{◌≡◌, ◌++◌, true, false, ℕ, List, [], Option, Result, Ok, Err, OnOk}
+use Rattle.std.specs.Prelude.{◌≡◌, ◌<◌, ◌≤◌, ◌⊎◌, ◌++◌, true, false, ℕ, List, [], Option, Result, Ok, Err, OnOk}
 use Rattle.jb_batch.specs.Batch.{Gathered}
 use Rattle.jb_batch.specs.Prepared.{Planned, IsPlanned}
 use Rattle.jb_block.specs.declared.stamp.Stamp.{Stamp}
 use Rattle.jb_disk.specs.Image.{Image}
 use Rattle.jb_disk.specs.Kept.{Kept}
-use Rattle.jb_deck.specs.Checkpoints.{Checkpoints, TakesOldest}
+use Rattle.jb_log.specs.Found.{log_blocks}
+use Rattle.jb_deck.specs.Checkpoints.{AnswersCheckpoint, Checkpoints, TakesOldest}
 use Rattle.jb_deck.specs.Committing.{CommitsBatch, CommitsOnDisk, FindsLive, TakesBatch}
 use Rattle.jb_deck.specs.Deck.{OpenDeck}
-use Rattle.jb_deck.specs.Log.{standing}
+use Rattle.jb_deck.specs.Log.{standing, transactions}
 use Rattle.jb_deck.specs.Reading.{AnswersRead}
 use Rattle.jb_deck.specs.declared.batched.BatchFault.{BatchFault}
 use Rattle.jb_deck.specs.declared.batched.BatchFault.TheVariants as batch
@@ -18,12 +19,25 @@ use Rattle.jb_deck.specs.declared.checked.CheckpointFault.TheVariants as checkpo
 use Rattle.jb_deck.specs.declared.done.Done.{Done}
 use Rattle.jb_deck.specs.declared.read.ReadHomeFault.{ReadHomeFault}
 use Rattle.jb_desk.specs.Origin.{Begun}
-use Rattle.jb_desk.specs.Since.{IsSince, Since}
+use Rattle.jb_desk.specs.Since.{IsSince}
 use Rattle.jb_desk.specs.Views.{TakesUp}
+use Rattle.jb_desk.specs.declared.checkpoint.CheckpointRound.{CheckpointRound}
+use Rattle.jb_desk.specs.declared.checkpoint.CheckpointRound.TheVariants.{Low, Home}
 use Rattle.jb_desk.specs.declared.committer.Round.{Round}
 use Rattle.jb_desk.specs.declared.committer.Round.TheVariants.{Idle, Committed}
 use Rattle.jb_desk.specs.declared.committer.RoundFault.{RoundFault}
 use Rattle.jb_desk.specs.declared.committer.RoundFault.TheVariants.{Aborted, Memory, DeviceFault, Refused}
+
+-- how many blocks of its log the live groups of a journal take
+abbrev pub blocks_in_use : {D : Type 0} → OpenDeck D → ℕ
+blocks_in_use d = log_blocks (transactions d.log d.groups)
+
+-- What a checkpoint at a level answers, and what it makes of the journal, of which so many calls had failed before it and after it. The journal has not failed
+-- and fewer blocks of its log than the level are in use, exactly where it answers `Low`, with how many: it does nothing then. Otherwise it is the journal's own
+abbrev pub AnswersAt : {D : Type 0} → ℕ → ℕ → ℕ → OpenDeck D → OpenDeck D → Result CheckpointRound CheckpointFault → Type 0
+AnswersAt level before after old new (Ok (Low used)) = (old.aborted ≡ false) × (used ≡ blocks_in_use old) × (used < level) × (new ≡ old)
+AnswersAt level before after old new (Ok (Home checked)) = (level ≤ blocks_in_use old) × AnswersCheckpoint before after old new (Ok checked)
+AnswersAt level before after old new (Err fault) = ((old.aborted ≡ true) ⊎ (level ≤ blocks_in_use old)) × AnswersCheckpoint before after old new (Err fault)
 
 module _ {D : Type 0} (size count faults : D → ℕ) (honest : D → Type 0) (newest : D → Image) (may_leave : D → Image → Type 0) (moment : D → ℕ) (left_since : D → ℕ → Image → Type 0) (b : Begun) where
   -- the desk's journal before and after it committed this batch, of which these are the groups; the handles that it was given are
@@ -40,7 +54,7 @@ module _ {D : Type 0} (size count faults : D → ℕ) (honest : D → Type 0) (n
     pub finds : b.honest → FindsLive (size old.disk) (count old.disk) new.log new.groups (newest new.disk)
     pub before : IsSince size count faults honest newest may_leave moment left_since b old
     pub after : IsSince size count faults honest newest may_leave moment left_since b new
-    pub adds : (h : b.honest) → (s : Since size count faults honest newest may_leave moment left_since b new) × (s.given ≡ (before.since h).given ++ p.batch.handles)
+    pub adds : after.given ≡ before.given ++ p.batch.handles
 
   -- the desk's journal has failed
   pub record HasFailed : Type 0 where
@@ -103,3 +117,25 @@ module _ {D : Type 0} (size count faults : D → ℕ) (honest : D → Type 0) (n
   ChecksRound (Err checkpoint.Nothing) = HasNone
   ChecksRound (Err checkpoint.Aborted) = HasFailed
   ChecksRound (Err checkpoint.DeviceFault) = HasFailed
+
+  -- fewer blocks of the log than the level are in use in the desk's journal, which has not failed: so many
+  pub record IsLow (level used : ℕ) : Type 0 where
+    pub deck : OpenDeck D
+    pub since : IsSince size count faults honest newest may_leave moment left_since b deck
+    pub up : deck.aborted ≡ false
+    pub in_use : used ≡ blocks_in_use deck
+    pub low : used < level
+
+  -- the oldest live group was written home, where so many blocks of the log were in use at least
+  pub record TakesHomeAt (level : ℕ) (checked : Checked) : Type 0 where
+    pub takes : TakesHome checked
+    pub high : level ≤ blocks_in_use takes.old
+
+  -- What a round of a checkpointer at a level has done: fewer blocks of the log are in use; or the oldest group is home and as many were; or none was live, and the
+  -- level is 0; or the journal has failed
+  abbrev pub ChecksAt : ℕ → Result CheckpointRound CheckpointFault → Type 0
+  ChecksAt level (Ok (Low used)) = IsLow level used
+  ChecksAt level (Ok (Home checked)) = TakesHomeAt level checked
+  ChecksAt level (Err checkpoint.Nothing) = (level ≡ 0) × HasNone
+  ChecksAt level (Err checkpoint.Aborted) = HasFailed
+  ChecksAt level (Err checkpoint.DeviceFault) = HasFailed

@@ -5,6 +5,7 @@ pub mod Closing
 pub mod Desks
 pub mod Ends
 pub mod Events
+pub mod History
 pub mod Journal
 pub mod Opened
 pub mod Origin

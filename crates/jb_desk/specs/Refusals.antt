@@ -2,6 +2,8 @@
 use Rattle.std.specs.Prelude.{◌≡◌, ℕ, ◌<◌}
 use Rattle.jb_handle.specs.Handle.{holder}
 use Rattle.jb_handle.specs.declared.handle.Handle.{Handle}
+use Rattle.jb_desk.specs.declared.origin.Origin.{Ghosts}
+use Rattle.jb_history.specs.declared.place.Place.{Ghosts as Places}
 use Rattle.jb_desk.specs.declared.seat.Seat.{Seat}
 use Rattle.jb_desk.specs.declared.fault.BeginFault.{BeginFault}
 use Rattle.jb_desk.specs.declared.fault.BeginFault.TheVariants as begin
@@ -9,7 +11,7 @@ use Rattle.jb_desk.specs.declared.fault.StopFault.{StopFault}
 use Rattle.jb_desk.specs.declared.fault.StopFault.TheVariants.{Aborted, NotOpen, Memory}
 
 -- with `Aborted` the seat of the handle, which is lost; otherwise the handle as it was
-abbrev pub HandsBack : {H N : Type 0} → Handle (Seat H N) → StopFault H N → Type 0
+abbrev pub HandsBack : {H N : Type 0} {O : Ghosts H} {P : Places H} → Handle (Seat H N O P) → StopFault H N O P → Type 0
 HandsBack handle (Aborted seat) = seat ≡ holder handle
 HandsBack handle (NotOpen back) = back ≡ handle
 HandsBack handle (Memory back) = back ≡ handle

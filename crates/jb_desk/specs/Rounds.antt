@@ -14,16 +14,18 @@ use Rattle.jb_desk.specs.declared.committer.Round.TheVariants.{Idle, Committed}
 use Rattle.jb_desk.specs.declared.committer.RoundFault.{RoundFault}
 use Rattle.jb_desk.specs.declared.committer.RoundFault.TheVariants.{Aborted, Memory, DeviceFault, Refused}
 use Rattle.jb_desk.specs.declared.fault.WrongBatch.{WrongBatch}
+use Rattle.jb_desk.specs.declared.origin.Origin.{Ghosts}
+use Rattle.jb_history.specs.declared.place.Place.{Ghosts as Places}
 use Rattle.jb_desk.specs.declared.seat.Seat.{Seat}
 
 -- ---- a committer
 
 -- the seat that commits
-abbrev pub seat_of : {H N : Type 0} → Committer H N → Seat H N
+abbrev pub seat_of : {H N : Type 0} {O : Ghosts H} {P : Places H} → Committer H N O P → Seat H N O P
 seat_of c = c.seat
 
 -- the batch that it holds
-abbrev pub held_by : {H N : Type 0} → Committer H N → Option Gathered
+abbrev pub held_by : {H N : Type 0} {O : Ghosts H} {P : Places H} → Committer H N O P → Option Gathered
 held_by c = c.batch
 
 -- ---- the book
@@ -96,7 +98,7 @@ AnswersRound old new settled (Err Memory) = StaysHeld old new
 AnswersRound old new settled (Err Refused) = StaysHeld old new
 
 -- a round that finds nothing to commit leaves the seat as it was
-abbrev pub IdleKeeps : {H N : Type 0} → Seat H N → Seat H N → Result Round RoundFault → Type 0
+abbrev pub IdleKeeps : {H N : Type 0} {O : Ghosts H} {P : Places H} → Seat H N O P → Seat H N O P → Result Round RoundFault → Type 0
 IdleKeeps old new (Ok (Idle seen)) = new ≡ old
 IdleKeeps old new (Ok (Committed done)) = Unit {0}
 IdleKeeps old new (Err fault) = Unit {0}

@@ -1,34 +1,49 @@
 -- What contracts say of a seat and of what it leaves: which board it is of, what it has seen, and what it has counted.
-use Rattle.std.specs.Prelude.{ℕ}
+use Rattle.std.specs.Prelude.{◌≡◌, ℕ, List}
+use Rattle.jb_handle.specs.Word.{WordMap}
 use Rattle.jb_board.specs.Seats.{BoardId, seat_board, seat_view}
 use Rattle.jb_board.specs.declared.front.Front.{Front}
+use Rattle.jb_desk.specs.declared.origin.Origin.{Ghosts}
+use Rattle.jb_history.specs.declared.place.Place.{Ghosts as Places}
 use Rattle.jb_desk.specs.declared.seat.Seat.{Seat}
 use Rattle.jb_desk.specs.declared.seat.Left.{Left}
 
 -- how many handles stopped with the seat
-abbrev pub stops : {H N : Type 0} → Seat H N → ℕ
+abbrev pub stops : {H N : Type 0} {O : Ghosts H} {P : Places H} → Seat H N O P → ℕ
 stops s = s.handles.amount
 
 -- how many home blocks these handles had touched, added up
-abbrev pub changes : {H N : Type 0} → Seat H N → ℕ
+abbrev pub changes : {H N : Type 0} {O : Ghosts H} {P : Places H} → Seat H N O P → ℕ
 changes s = s.changes.amount
 
 -- the number of a seat in the book
-abbrev pub seat_number : {H N : Type 0} → Seat H N → ℕ
+abbrev pub seat_number : {H N : Type 0} {O : Ghosts H} {P : Places H} → Seat H N O P → ℕ
 seat_number s = s.number
 
 -- the board of the desk that gave the seat
-abbrev pub desk_of : {H N : Type 0} → Seat H N → BoardId
+abbrev pub desk_of : {H N : Type 0} {O : Ghosts H} {P : Places H} → Seat H N O P → BoardId
 desk_of s = seat_board s.board
 
 -- the counts that the seat is sure of
-abbrev pub view_of : {H N : Type 0} → Seat H N → Front
+abbrev pub view_of : {H N : Type 0} {O : Ghosts H} {P : Places H} → Seat H N O P → Front
 view_of s = seat_view s.board
 
 -- the stops of a seat that has left
-abbrev pub stops_left : {H N : Type 0} → Left H N → ℕ
+abbrev pub stops_left : {H N : Type 0} {O : Ghosts H} {P : Places H} → Left H N O P → ℕ
 stops_left l = l.handles.amount
 
 -- the home blocks that its handles had touched
-abbrev pub changes_left : {H N : Type 0} → Left H N → ℕ
+abbrev pub changes_left : {H N : Type 0} {O : Ghosts H} {P : Places H} → Left H N O P → ℕ
 changes_left l = l.changes.amount
+
+-- the handles that stopped with the seat, each with its ticket and its words
+abbrev pub made_by : {H N : Type 0} {O : Ghosts H} {P : Places H} → Seat H N O P → List (ℕ × WordMap)
+made_by s = s.made
+
+-- the handles that stopped with a seat that has left
+abbrev pub made_left : {H N : Type 0} {O : Ghosts H} {P : Places H} → Left H N O P → List (ℕ × WordMap)
+made_left l = l.made
+
+-- the same handles stopped with the seat before and after
+abbrev pub KeepsStops : {H N : Type 0} {O : Ghosts H} {P : Places H} → Seat H N O P → Seat H N O P → Type 0
+KeepsStops old new = (stops new ≡ stops old) × (changes new ≡ changes old) × (made_by new ≡ made_by old)

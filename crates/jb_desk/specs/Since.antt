@@ -1,8 +1,10 @@
 -- How a journal stands since its desk was started: which handles it was given, what its homes hold, and what a crash leaves.
 use Rattle.std.specs.Prelude.{◌≡◌, ◌≢◌, ◌⊎◌, ℕ, ◌-◌, ◌<◌, ◌≤◌, ◌^◌, false, List, All, length, take, Some}
 use Rattle.jb_disk.specs.Image.{Image}
+use Rattle.jb_batch.specs.Costs.{cost_in}
 use Rattle.jb_handle.specs.Tickets.{TicketsFrom}
 use Rattle.jb_handle.specs.Words.{word}
+use Rattle.jb_handle.specs.declared.shape.Shape.{Shape}
 use Rattle.jb_handle.specs.declared.stopped.Stopped.{Stopped}
 use Rattle.jb_handle.specs.declared.word.Word.TheVariants.{Free}
 use Rattle.jb_super.specs.Journal.{SameJournal}
@@ -26,9 +28,28 @@ pub record HasFirst (b : Begun) (given : List Stopped) (least : ℕ) (c : Image)
 abbrev pub AreStops : Begun → List Stopped → Type 0
 AreStops b hs = All (λ h. b.stops h.words) hs
 
--- The journal of the start, on its disk, and the handles that it was given since, in the order of their tickets: those that its trail has settled, and on a journal that
--- has failed the batch in hand after them. While it has not failed its homes stand as they say, those that are free aside.
-pub record Since {D : Type 0} (size count faults : D → ℕ) (honest : D → Type 0) (newest : D → Image) (may_leave : D → Image → Type 0) (moment : D → ℕ) (left_since : D → ℕ → Image → Type 0) (b : Begun) (d : OpenDeck D) : Type 0 where
+-- the handle stopped with words that a handle may stop with
+abbrev pub may_stop : Begun → Stopped → Type 0
+may_stop b h = b.stops h.words
+
+-- the entry is of handles of this list, one at least, and its blocks are what these cost as one group of a journal of this shape
+pub record IsCosted (shape : Shape) (given : List Stopped) (e : Entry) : Type 0 where
+  pub some : e.first < e.past
+  pub within : e.past ≤ length given
+  pub blocks : e.blocks ≡ cost_in shape given e.first e.past
+
+-- The handles that a journal was given, in the order of their tickets, of each of which this is known: those that its trail has settled, each group
+-- with what its handles cost, and on a journal that has failed the batch in hand after them
+pub record WasGiven {D : Type 0} (is : Stopped → Type 0) (given : List Stopped) (d : OpenDeck D) : Type 0 where
+  pub stopped : All is given
+  pub tickets : TicketsFrom 0 given
+  pub settled : past_after 0 d.trail ≤ length given
+  pub all : d.aborted ≡ false → length given ≡ past_after 0 d.trail
+  pub costs : All (IsCosted d.shape given) d.trail
+
+-- The journal of the start, on its disk, since then, when it was given these handles. While it has not failed its homes stand as they say, those
+-- that are free aside.
+pub record Since {D : Type 0} (size count faults : D → ℕ) (honest : D → Type 0) (newest : D → Image) (may_leave : D → Image → Type 0) (moment : D → ℕ) (left_since : D → ℕ → Image → Type 0) (b : Begun) (given : List Stopped) (d : OpenDeck D) : Type 0 where
   pub same_size : size d.disk ≡ b.size
   pub same_count : count d.disk ≡ b.count
   pub stays_honest : honest d.disk
@@ -36,11 +57,6 @@ pub record Since {D : Type 0} (size count faults : D → ℕ) (honest : D → Ty
   pub no_fewer : b.faults ≤ faults d.disk
   pub up : b.faults < 2 ^ 64 - 1 → faults d.disk ≡ b.faults → d.aborted ≡ false
   pub same : SameJournal b.own d.log.sb
-  pub given : List Stopped
-  pub stopped : AreStops b given
-  pub tickets : TicketsFrom 0 given
-  pub settled : past_after 0 d.trail ≤ length given
-  pub all : d.aborted ≡ false → length given ≡ past_after 0 d.trail
   pub stood : d.aborted ≡ false → (home : ℕ) → word given home ≢ Some Free → StandsBy (word given home) (b.homes home) (homes_of newest d home)
   pub live : d.aborted ≡ false → LiveOf given d.groups
   -- what a crash may leave now has the settled ones at least
@@ -49,9 +65,15 @@ pub record Since {D : Type 0} (size count faults : D → ℕ) (honest : D → Ty
   pub later : b.since ≤ moment d.disk
   pub ever : (c : Image) → left_since d.disk b.since c → b.left c ⊎ HasFirst b given 0 c
 
--- where the disk of the start is honest, the journal stands as it must since then (`Since`)
-pub record IsSince {D : Type 0} (size count faults : D → ℕ) (honest : D → Type 0) (newest : D → Image) (may_leave : D → Image → Type 0) (moment : D → ℕ) (left_since : D → ℕ → Image → Type 0) (b : Begun) (d : OpenDeck D) : Type 0 where
-  pub since : b.honest → Since size count faults honest newest may_leave moment left_since b d
+-- the journal was given handles, each as `is` says (`WasGiven`), and where the disk of the start is honest it stands as it must since then (`Since`)
+pub record IsSinceOf {D : Type 0} (size count faults : D → ℕ) (honest : D → Type 0) (newest : D → Image) (may_leave : D → Image → Type 0) (moment : D → ℕ) (left_since : D → ℕ → Image → Type 0) (b : Begun) (is : Stopped → Type 0) (d : OpenDeck D) : Type 0 where
+  pub given : List Stopped
+  pub has : WasGiven is given d
+  pub since : b.honest → Since size count faults honest newest may_leave moment left_since b given d
+
+-- the same of handles that each stopped with words that a handle may stop with
+abbrev pub IsSince : {D : Type 0} → (D → ℕ) → (D → ℕ) → (D → ℕ) → (D → Type 0) → (D → Image) → (D → Image → Type 0) → (D → ℕ) → (D → ℕ → Image → Type 0) → Begun → OpenDeck D → Type 0
+IsSince size count faults honest newest may_leave moment left_since b d = IsSinceOf size count faults honest newest may_leave moment left_since b (may_stop b) d
 
 -- the disk and the trail are those of a journal that stands as it must since the start
 pub record EndsSince {D : Type 0} (size count faults : D → ℕ) (honest : D → Type 0) (newest : D → Image) (may_leave : D → Image → Type 0) (moment : D → ℕ) (left_since : D → ℕ → Image → Type 0) (b : Begun) (disk : D) (trail : List Entry) : Type 0 where

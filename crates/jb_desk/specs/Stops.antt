@@ -1,28 +1,31 @@
 -- What a stop makes of a handle, its seat and the book.
-use Rattle.std.specs.Prelude.{◌≡◌, ℕ, ◌+◌, ◌^◌, ◌≤◌, true}
+use Rattle.std.specs.Prelude.{◌≡◌, ℕ, ◌+◌, ◌^◌, ◌≤◌, true, [], ◌∷◌, ◌++◌}
 use Rattle.jb_handle.specs.Handle.{holder, changes_of}
 use Rattle.jb_handle.specs.Held.{touched}
 use Rattle.jb_handle.specs.declared.handle.Handle.{Handle}
 use Rattle.jb_desk.specs.Account.{Account, queued, dropped_of, CanStop, RefusesStop}
-use Rattle.jb_desk.specs.Seats.{stops, changes}
+use Rattle.jb_desk.specs.Seats.{stops, changes, made_by}
 use Rattle.jb_desk.specs.declared.fault.EnqueueFault.TheVariants as book
+use Rattle.jb_desk.specs.declared.origin.Origin.{Ghosts}
+use Rattle.jb_history.specs.declared.place.Place.{Ghosts as Places}
 use Rattle.jb_desk.specs.declared.seat.Seat.{Seat}
 use Rattle.jb_desk.specs.declared.fault.StopFault.{StopFault}
 use Rattle.jb_desk.specs.declared.fault.StopFault.TheVariants.{Aborted, NotOpen, Memory}
 
 -- the handle has stopped: its words are queued under the next ticket, and its seat counts it and the homes that it touched
-pub record IsStopped {H N : Type 0} (handle : Handle (Seat H N)) (old : Account) (seat : Seat H N) (ticket : ℕ) (new : Account) : Type 0 where
+pub record IsStopped {H N : Type 0} {O : Ghosts H} {P : Places H} (handle : Handle (Seat H N O P)) (old : Account) (seat : Seat H N O P) (ticket : ℕ) (new : Account) : Type 0 where
   pub same_number : seat.number ≡ (holder handle).number
   pub same_board : seat.board ≡ (holder handle).board
   pub could : CanStop old seat.number (changes_of handle).words
   pub queued_as : new ≡ queued seat.number (changes_of handle).words old
   pub next : ticket ≡ old.shadow.next
   pub few : ticket ≤ 2 ^ 61
+  pub made : made_by seat ≡ made_by (holder handle) ++ (ticket, (changes_of handle).words) ∷ []
   pub counted : stops seat ≡ stops (holder handle) + 1
   pub touching : changes seat ≡ changes (holder handle) + touched (changes_of handle)
 
 -- why it has not, and what stands
-abbrev pub RefusesStopOf : {H N : Type 0} → Handle (Seat H N) → Account → StopFault H N → Account → Type 0
+abbrev pub RefusesStopOf : {H N : Type 0} {O : Ghosts H} {P : Places H} → Handle (Seat H N O P) → Account → StopFault H N O P → Account → Type 0
 RefusesStopOf handle old (Aborted seat) new = (old.aborted ≡ true) × (seat ≡ holder handle) × (new ≡ dropped_of seat.number old)
 RefusesStopOf handle old (NotOpen back) new = RefusesStop old (holder handle).number (changes_of handle).words book.NotOpen × (back ≡ handle) × (new ≡ old)
 RefusesStopOf handle old (Memory back) new = RefusesStop old (holder handle).number (changes_of handle).words book.Memory × (back ≡ handle) × (new ≡ old)

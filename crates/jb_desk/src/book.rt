@@ -220,7 +220,8 @@ impl<S: Origin> Book<S> {
     /// Takes the whole queue as a batch, which always has a cut. `None` where nothing is queued, where
     /// a batch is out, or where the book has failed.
     pub fn take(&mut self) -> Option<Batch>
-        ensures batch { IfSome result (λ batch. batch ≡ gathered self.old.shadow.taken self.old.shadow.queue self.old.shape) }
+        ensures batch { IfSome result (λ batch. batch ≡ gathered self.old.shadow.taken self.old.shadow.queue
+            self.old.shape) }
         ensures cut { IfSome result (λ _. HasCut self.old.shape self.old.shadow.queue) }
         ensures stops { IfSome result (λ batch. AreStops S.begun batch.handles) }
         ensures taken { IfSome result (λ _. CanTake self.old × (self.new ≡ taken_all self.old)) }
@@ -248,7 +249,8 @@ impl<S: Origin> Book<S> {
     /// `WrongBatch` where the groups do not go on where the settled ones end, in tickets and numbers,
     /// or are not of the taken handles; the book is as it was.
     pub fn settle(&mut self, done: &Done) -> Result<(), WrongBatch>
-        ensures ok { OnOk result ((past : ℕ) × Settles self.old past (entries_of done.now) × (self.new ≡ settled_to past (entries_of done.now) self.old)) }
+        ensures ok { OnOk result ((past : ℕ) × Settles self.old past (entries_of done.now)
+            × (self.new ≡ settled_to past (entries_of done.now) self.old)) }
         ensures wrong { OnErr result ((past : ℕ) → Settles self.old past (entries_of done.now) → ⊥) }
         ensures err { OnErr result (self.new ≡ self.old) }
     {

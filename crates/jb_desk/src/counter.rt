@@ -1,10 +1,11 @@
-ghost use Rattle.std.specs.Prelude.{◌≡◌, ◌+◌, ◌<◌, ◌≤◌, ◌^◌, ◌⊎◌, true, None, IsTrue, ◌↔◌, OnOk, OnErr, IfOk, IfErr, IfSome, IfNone, vec_len};
+ghost use Rattle.std.specs.Prelude.{◌≡◌, ◌+◌, ◌<◌, ◌≤◌, ◌^◌, ◌⊎◌, true, None, IsTrue, ◌↔◌, OnOk, OnErr, IfOk, IfErr, IfSome, IfNone, [], All, length};
 ghost use Rattle.std.specs.FinMap as map;
-ghost use Rattle.std.specs.List.{sum_by};
 ghost use Rattle.jb_handle.specs.Handle.{holder, changes_of};
 ghost use Rattle.jb_handle.specs.Held.{held, touched};
+ghost use Rattle.jb_desk.specs.History.{IsInHistory};
 
 mod idle;
+mod lefts;
 mod over;
 mod progress;
 mod rounds;
@@ -15,7 +16,8 @@ use crate::origin::Origin;
 use crate::seat::{Left, Seat};
 pub use idle::NoBatch;
 use jb_board::{BoardSeat, Tickets};
-use jb_handle::{Handle, Shape};
+use jb_handle::{Handle, Shape, Words};
+use jb_history::{History, Made, Scribe};
 pub use over::Over;
 pub(crate) use progress::Progress;
 use std::alloc::Global;
@@ -26,7 +28,8 @@ use std::sync::ledger::{Blank, Ledger, Share};
 const MOST: u64 = 1 << 61;
 
 /// What the first lock of a desk guards: the book, and the ledgers in which the handles that stopped
-/// and the blocks that they touched are counted. Of each ledger the parts that no seat has are spare.
+/// and the blocks that they touched are counted, and the right to add to the history of stops. Of each
+/// ledger the parts that no seat has are spare.
 #[derive(Drop)]
 pub(crate) struct Counter<H: Origin, N: Ledger> {
     book: Book<H>,
@@ -34,10 +37,13 @@ pub(crate) struct Counter<H: Origin, N: Ledger> {
     changes: ledger::Book<N>,
     spare_handles: Share<H>,
     spare_changes: Share<N>,
+    scribe: Scribe<Words, H>,
     /// how many seats were given
     given: u64,
     ghost handles_counted: { handles.total ≡ book.shadow.next },
     ghost changes_counted: { changes.total ≡ book.changes },
+    ghost all_recorded: { length scribe ≡ book.shadow.next },
+    ghost queue_recorded: { All (IsInHistory scribe) book.shadow.queue },
     ghost handles_left: { spare_handles.parts + given ≡ 2305843009213693953 },
     ghost changes_left: { spare_changes.parts + given ≡ 2305843009213693953 },
     ghost no_handles: { spare_handles.amount ≡ 0 },
@@ -47,15 +53,21 @@ pub(crate) struct Counter<H: Origin, N: Ledger> {
 
 impl<H: Origin, N: Ledger> Counter<H, N> {
     ghost use Rattle.jb_desk.specs.Account.{granted_to, dropped_of, refusal, RefusesBegin, IsSettledBy, IsAwaited, fault_of};
-    ghost use Rattle.jb_desk.specs.Seats.{stops, changes, stops_left, changes_left};
+    ghost use Rattle.jb_desk.specs.Seats.{stops, changes, made_by, stops_left, changes_left, made_left};
     ghost use Rattle.jb_desk.specs.Stops.{IsStopped, RefusesStopOf};
     ghost use Rattle.jb_board.specs.Seats.{given_by};
 
-    /// A book that nobody has asked anything, and two ledgers in which nothing is counted.
-    pub fn new(book: Book<H>, handles: Blank, changes: Blank) -> Counter<H, N>
+    /// A book that nobody has asked anything, two ledgers in which nothing is counted, and a history without an
+    /// entry.
+    pub fn new(
+        book: Book<H>,
+        handles: Blank,
+        changes: Blank,
+        scribe: Scribe<Words, H>,
+    ) -> Counter<H, N>
         requires handles { (handles.name ≡ H.name) × (handles.parts ≡ H.parts) × (H.parts ≡ 2305843009213693953) }
         requires changes { (changes.name ≡ N.name) × (changes.parts ≡ N.parts) × (N.parts ≡ 2305843009213693953) }
-        requires fresh { (book.shadow.next ≡ 0) × (book.changes ≡ 0) }
+        requires fresh { (book.shadow.next ≡ 0) × (book.changes ≡ 0) × (book.shadow.queue ≡ []) × (scribe ≡ []) }
         ensures { result.book ≡ book }
     {
         let (handles, spare_handles) = handles.open::<H>();
@@ -66,15 +78,19 @@ impl<H: Origin, N: Ledger> Counter<H, N> {
             changes,
             spare_handles,
             spare_changes,
+            scribe,
             given: 0,
         }
     }
 
     /// One more seat, with this place at the board. `None` where the book is shut, or where 2^61 seats
     /// were given.
-    pub fn seat(&mut self, board: BoardSeat) -> Option<Seat<H, N>>
-        ensures seat { IfSome result (λ seat. (seat.board ≡ board) × (stops seat ≡ 0) × (changes seat ≡ 0)) }
-        ensures number { IfSome result (λ seat. (seat.number ≡ self.old.given) × (self.new.given ≡ self.old.given + 1)) }
+    pub fn seat(&mut self, board: BoardSeat, made: Made<Words, H>) -> Option<Seat<H, N>>
+        requires { made ≡ [] }
+        ensures seat { IfSome result (λ seat. (seat.board ≡ board) × (stops seat ≡ 0) × (changes seat ≡ 0)
+            × (made_by seat ≡ [])) }
+        ensures number { IfSome result (λ seat. (seat.number ≡ self.old.given)
+            × (self.new.given ≡ self.old.given + 1)) }
         ensures none { IfNone result ((self.old.book.shut ≡ true) ⊎ (2 ^ 61 ≤ self.old.given)) }
         ensures kept { IfNone result (self.new.given ≡ self.old.given) }
         ensures book { self.new.book ≡ self.old.book }
@@ -97,12 +113,14 @@ impl<H: Origin, N: Ledger> Counter<H, N> {
             board,
             handles,
             changes,
+            made,
         })
     }
 
     /// A seat leaves. A handle that the book still lists for it is dropped.
     pub fn leave(&mut self, seat: Seat<H, N>) -> Left<H, N>
-        ensures left { (stops_left result ≡ stops seat) × (changes_left result ≡ changes seat) }
+        ensures left { (stops_left result ≡ stops seat) × (changes_left result ≡ changes seat)
+            × (made_left result ≡ made_by seat) }
         ensures book { self.new.book ≡ dropped_of seat.number self.old.book }
     {
         let Seat {
@@ -110,9 +128,14 @@ impl<H: Origin, N: Ledger> Counter<H, N> {
             board: _,
             handles,
             changes,
+            made,
         } = seat;
         self.book.drop_open(number);
-        Left { handles, changes }
+        Left {
+            handles,
+            changes,
+            made,
+        }
     }
 
     /// A seat begins a handle of so many credits.
@@ -127,7 +150,8 @@ impl<H: Origin, N: Ledger> Counter<H, N> {
         seat: Seat<H, N>,
         credits: u32,
     ) -> Result<Handle<Seat<H, N>>, (Seat<H, N>, BeginFault)>
-        ensures ok { IfOk result (λ handle. (holder handle ≡ seat) × (changes_of handle ≡ held credits shape map.empty)) }
+        ensures ok { IfOk result (λ handle. (holder handle ≡ seat)
+            × (changes_of handle ≡ held credits shape map.empty)) }
         ensures book { OnOk result (self.new.book ≡ granted_to seat.number credits self.old.book) }
         ensures granted { OnOk result (refusal self.old.book seat.number credits ≡ None) }
         ensures back { IfErr result (λ back. back.0 ≡ seat) }
@@ -141,13 +165,17 @@ impl<H: Origin, N: Ledger> Counter<H, N> {
     }
 
     /// A handle stops: it joins the queue and gets the next ticket, and its seat's shares count it and
-    /// the blocks that it touched.
+    /// the blocks that it touched. It is added to the history, as one of the seat's.
     ///
     /// # Errors
     ///
     /// `Aborted` with the seat, and the handle is dropped; `NotOpen` and `Memory` with the handle, and
     /// nothing has changed.
-    pub fn stop(&mut self, handle: Handle<Seat<H, N>>) -> Result<(Seat<H, N>, u64), StopFault<H, N>>
+    pub fn stop(
+        &mut self,
+        history: &History<Words, H>,
+        handle: Handle<Seat<H, N>>,
+    ) -> Result<(Seat<H, N>, u64), StopFault<H, N>>
         requires { H.begun.stops (changes_of handle).words }
         ensures ok { IfOk result (λ given. IsStopped handle self.old.book given.0 given.1 self.new.book) }
         ensures refused { IfErr result (λ fault. RefusesStopOf handle self.old.book fault self.new.book) }
@@ -158,12 +186,14 @@ impl<H: Origin, N: Ledger> Counter<H, N> {
             book,
             handles,
             changes,
+            scribe,
             ..
         } = self;
         match book.enqueue(number, handle) {
             Ok((mut seat, ticket)) => {
                 handles.add(&mut seat.handles, 1);
                 changes.add(&mut seat.changes, u64::from(touched));
+                book.record_last(history, scribe, &mut seat.made);
                 Ok((seat, ticket))
             }
             Err((handle, EnqueueFault::Aborted)) => {
@@ -209,7 +239,8 @@ impl<H: Origin, N: Ledger> Counter<H, N> {
         ensures ok { IfOk result (λ number. IsSettledBy self.now.book.trail ticket number) }
         ensures few { OnOk result (ticket < 2 ^ 61) }
         ensures given { OnOk result (ticket < self.now.book.shadow.next) }
-        ensures err { IfErr result (λ fault. (self.now.book.shadow.settled ≤ ticket) × (fault ≡ fault_of self.now.book)) }
+        ensures err { IfErr result (λ fault. (self.now.book.shadow.settled ≤ ticket)
+            × (fault ≡ fault_of self.now.book)) }
     {
         match self.book.number_of(ticket) {
             Some(number) => Ok(number),
@@ -240,38 +271,5 @@ impl<H: Origin, N: Ledger> Counter<H, N> {
         ensures { result.now ≡ self.now.book }
     {
         &self.book
-    }
-
-    /// Takes it apart where every seat that was given has left: into the book, and how many handles
-    /// stopped and how many blocks they had touched, which are the sums over what the seats left.
-    pub fn totals(self, lefts: Vec<Left<H, N>>) -> (Book<H>, u64, u64)
-        requires parts { (H.parts ≡ 2305843009213693953) × (N.parts ≡ 2305843009213693953) }
-        requires all { vec_len lefts ≡ self.given }
-        ensures book { result.0 ≡ self.book }
-        ensures handles { (result.1 ≡ self.book.shadow.next) × (result.1 ≡ sum_by stops_left lefts.items) }
-        ensures changes { (result.2 ≡ self.book.changes) × (result.2 ≡ sum_by changes_left lefts.items) }
-        ensures few { (result.1 ≤ 2 ^ 61) × (result.2 ≤ 2 ^ 61) }
-    {
-        let Counter {
-            book,
-            mut handles,
-            mut changes,
-            mut spare_handles,
-            mut spare_changes,
-            given: _,
-        } = self;
-        for left in lefts {
-            let Left {
-                handles: stops,
-                changes: touched,
-            } = left;
-            spare_handles.merge(stops);
-            spare_changes.merge(touched);
-        }
-        handles.audit(&mut spare_handles);
-        changes.audit(&mut spare_changes);
-        let stops = book.next();
-        let touched = book.changes();
-        (book, stops, touched)
     }
 }

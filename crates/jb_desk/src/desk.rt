@@ -1,4 +1,4 @@
-ghost use Rattle.std.specs.Prelude.{◌≡◌, ◌+◌, ◌<◌, ◌^◌, [], false, IfOk, IfErr, OnOk, OnErr};
+ghost use Rattle.std.specs.Prelude.{◌≡◌, ◌+◌, ◌<◌, ◌^◌, [], ◌∷◌, ◌++◌, false, IfOk, IfErr, OnOk, OnErr};
 ghost use Rattle.std.specs.FinMap as map;
 ghost use Rattle.jb_handle.specs.Handle.{holder, changes_of};
 ghost use Rattle.jb_handle.specs.Held.{held, touched};
@@ -18,13 +18,15 @@ use crate::counter::Counter;
 use crate::fault::{BeginFault, SeatFault, StopFault, WaitFault};
 use crate::origin::Origin;
 use crate::seat::{Left, Seat};
+use crate::stops::Stops;
 use crate::turns::Turns;
 use crate::works::Works;
 pub use closing::{CloseFault, Closed};
 use jb_board::{Board, Front};
 use jb_deck::Deck;
 use jb_disk::{Clock, Disk};
-use jb_handle::{Handle, Shape};
+use jb_handle::{Handle, Shape, Words};
+use jb_history::History;
 use std::alloc::Global;
 use std::sync::ledger::{Blank, Ledger};
 use std::sync::{Condvar, Mutex, Wait};
@@ -41,36 +43,42 @@ pub struct Desk<D: Disk, C: Clock, H: Origin, N: Ledger> {
     moved: Condvar,
     turns: Turns,
     board: Board<H>,
+    history: History<Words, H>,
     shape: Shape,
     alloc: Global,
 }
 
 impl<D: Disk, C: Clock, H: Origin, N: Ledger> Desk<D, C, H, N> {
     ghost use Rattle.jb_desk.specs.Desks.{desk_id, shape_in};
-    ghost use Rattle.jb_desk.specs.Seats.{stops, changes, seat_number, desk_of, view_of, stops_left, changes_left};
+    ghost use Rattle.jb_desk.specs.Seats.{KeepsStops, stops, changes, made_by, seat_number, desk_of, view_of, stops_left, changes_left, made_left};
+    ghost use Rattle.jb_desk.specs.History.{history_in};
     ghost use Rattle.jb_desk.specs.Refusals.{HandsBack, IsTooMany};
     ghost use Rattle.jb_desk.specs.Since.{IsSince};
     ghost use Rattle.jb_desk.specs.Views.{with_settled};
 
-    /// A desk over a journal that has committed nothing yet and has not failed. `handles` and `changes`
-    /// are new ledgers, in which the handles that stop and the blocks that they touched are counted. What is
-    /// promised of the disk from now on is said of the start that the caller picks (`H.begun`).
+    /// A desk over a journal that has committed nothing yet and has not failed. `handles` is a new ledger,
+    /// in which the handles that stop are counted, with a new history of them, and `changes` a new ledger,
+    /// in which the blocks that they touched are. What is promised of the disk from now on is said of the
+    /// start that the caller picks (`H.begun`).
     ///
     /// # Errors
     ///
     /// All four parts, where there is no memory for the board.
     pub fn start(
         alloc: Global,
-        handles: Blank,
+        handles: Stops,
         changes: Blank,
         deck: Deck<D>,
         clock: C,
-    ) -> Result<Desk<D, C, H, N>, (Blank, Blank, Deck<D>, C)>
-        requires handles { (handles.name ≡ H.name) × (handles.parts ≡ H.parts) × (H.parts ≡ 2 ^ 61 + 1) }
+    ) -> Result<Desk<D, C, H, N>, (Stops, Blank, Deck<D>, C)>
+        requires handles { (handles.tickets.name ≡ H.name) × (handles.tickets.parts ≡ H.parts)
+            × (H.parts ≡ 2 ^ 61 + 1) }
+        requires history { history_in handles ≡ H.history }
         requires changes { (changes.name ≡ N.name) × (changes.parts ≡ N.parts) × (N.parts ≡ 2 ^ 61 + 1) }
         requires fresh { deck.trail ≡ [] }
         requires running { deck.aborted ≡ false }
-        requires begun { IsSince D.size D.count D.faults D.honest D.newest D.may_leave D.moment D.left_since H.begun deck }
+        requires begun { IsSince D.size D.count D.faults D.honest D.newest D.may_leave D.moment D.left_since H.begun
+            deck }
         ensures shape { IfOk result (λ desk. shape_in desk ≡ deck.shape) }
         ensures back { IfErr result (λ back. back ≡ (handles, changes, deck, clock)) }
     {
@@ -79,12 +87,16 @@ impl<D: Disk, C: Clock, H: Origin, N: Ledger> Desk<D, C, H, N> {
         };
         let shape = deck.shape();
         let book = Book::new(alloc, shape, u64::from(deck.usable()));
+        let Stops { tickets, history } = handles;
+        let (history, mut scribe) = history.named::<H>();
+        let sight = history.show(&mut scribe);
         Ok(Desk {
-            counter: Mutex::new(Counter::new(book, handles, changes)),
-            works: Mutex::new(Works::new(deck, clock)),
+            counter: Mutex::new(Counter::new(book, tickets, changes, scribe)),
+            works: Mutex::new(Works::new(deck, clock, sight)),
             moved: Condvar::new(),
             turns: Turns::new(),
             board,
+            history,
             shape,
             alloc,
         })
@@ -96,15 +108,18 @@ impl<D: Disk, C: Clock, H: Origin, N: Ledger> Desk<D, C, H, N> {
     ///
     /// `Closed` where the desk is shut, or where 2^61 seats were given.
     pub fn seat<R: Wait>(&self, rt: &R) -> Result<Seat<H, N>, SeatFault>
-        ensures { IfOk result (λ seat. (desk_of seat ≡ desk_id self.now) × (stops seat ≡ 0) × (changes seat ≡ 0) × (view_of seat ≡ front 0 0 0)) }
+        ensures { IfOk result (λ seat. (desk_of seat ≡ desk_id self.now) × (stops seat ≡ 0) × (changes seat ≡ 0)
+            × (made_by seat ≡ []) × (view_of seat ≡ front 0 0 0)) }
     {
-        let seat = self.counter.lock(rt).seat(self.board.enter());
+        let made = self.history.enter();
+        let seat = self.counter.lock(rt).seat(self.board.enter(), made);
         seat.ok_or(SeatFault::Closed)
     }
 
     /// A seat leaves. A handle that the book still lists for it is dropped.
     pub fn leave<R: Wait>(&self, rt: &R, seat: Seat<H, N>) -> Left<H, N>
-        ensures { (stops_left result ≡ stops seat) × (changes_left result ≡ changes seat) }
+        ensures { (stops_left result ≡ stops seat) × (changes_left result ≡ changes seat)
+            × (made_left result ≡ made_by seat) }
     {
         let left = self.counter.lock(rt).leave(seat);
         self.moved.notify_all();
@@ -129,7 +144,8 @@ impl<D: Disk, C: Clock, H: Origin, N: Ledger> Desk<D, C, H, N> {
         seat: Seat<H, N>,
         credits: u32,
     ) -> Result<Handle<Seat<H, N>>, (Seat<H, N>, BeginFault)>
-        ensures ok { IfOk result (λ handle. (holder handle ≡ seat) × (changes_of handle ≡ held credits (shape_in self.now) map.empty)) }
+        ensures ok { IfOk result (λ handle. (holder handle ≡ seat)
+            × (changes_of handle ≡ held credits (shape_in self.now) map.empty)) }
         ensures back { IfErr result (λ back. back.0 ≡ seat) }
         ensures refused { IfErr result (λ back. IsTooMany credits back.1) }
     {
@@ -153,15 +169,19 @@ impl<D: Disk, C: Clock, H: Origin, N: Ledger> Desk<D, C, H, N> {
     ) -> Result<(Seat<H, N>, u64), StopFault<H, N>>
         requires seat { desk_of (holder handle) ≡ desk_id self.now }
         requires words { H.begun.stops (changes_of handle).words }
-        ensures seat { IfOk result (λ given. (desk_of given.0 ≡ desk_id self.now) × (seat_number given.0 ≡ seat_number (holder handle))) }
+        ensures seat { IfOk result (λ given. (desk_of given.0 ≡ desk_id self.now)
+            × (seat_number given.0 ≡ seat_number (holder handle))) }
         ensures handles { IfOk result (λ given. stops given.0 ≡ stops (holder handle) + 1) }
-        ensures changes { IfOk result (λ given. changes given.0 ≡ changes (holder handle) + touched (changes_of handle)) }
+        ensures changes { IfOk result (λ given. changes given.0 ≡ changes (holder handle) + touched
+            (changes_of handle)) }
+        ensures made { IfOk result (λ given. made_by given.0 ≡ made_by (holder handle)
+            ++ (given.1, (changes_of handle).words) ∷ []) }
         ensures stopped { IfOk result (λ given. given.1 < (view_of given.0).stopped) }
         ensures view { IfOk result (λ given. view_of given.0 ≡ raised_stopped (view_of (holder handle)) (given.1 + 1)) }
         ensures refused { IfErr result (HandsBack handle) }
     {
         let mut counter = self.counter.lock(rt);
-        let (mut seat, ticket) = counter.stop(handle)?;
+        let (mut seat, ticket) = counter.stop(&self.history, handle)?;
         let tickets = counter.tickets();
         drop(counter);
         self.moved.notify_all();
@@ -186,7 +206,7 @@ impl<D: Disk, C: Clock, H: Origin, N: Ledger> Desk<D, C, H, N> {
         ensures view { view_of seat.new ≡ result }
         ensures ordered { InOrder result }
         ensures rises { IsWithin (view_of seat.old) result }
-        ensures counted { (stops seat.new ≡ stops seat.old) × (changes seat.new ≡ changes seat.old) }
+        ensures counted { KeepsStops seat.old seat.new }
     {
         self.board.look(&mut seat.board)
     }
@@ -209,7 +229,7 @@ impl<D: Disk, C: Clock, H: Origin, N: Ledger> Desk<D, C, H, N> {
         ensures settled { IfOk result (λ _. ticket < (view_of seat.new).settled) }
         ensures view { OnOk result (view_of seat.new ≡ with_settled (ticket + 1) (view_of seat.old)) }
         ensures err { OnErr result (seat.new ≡ seat.old) }
-        ensures counted { (stops seat.new ≡ stops seat.old) × (changes seat.new ≡ changes seat.old) }
+        ensures counted { KeepsStops seat.old seat.new }
     {
         let counter = self.moved.wait_while(
             rt,

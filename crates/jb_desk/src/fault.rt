@@ -1,3 +1,4 @@
+use crate::origin::Origin;
 use crate::seat::Seat;
 use jb_handle::Handle;
 use std::fmt;
@@ -58,7 +59,7 @@ pub enum SeatFault {
 
 /// Why a desk does not stop a handle.
 #[must_use]
-pub enum StopFault<H: Ledger, N: Ledger> {
+pub enum StopFault<H: Origin, N: Ledger> {
     /// The journal has failed. The handle is dropped with all of its changes; here is its seat.
     Aborted(Seat<H, N>),
     /// The book lists no open handle of the seat, or the words are not within its credits or do not
@@ -68,7 +69,7 @@ pub enum StopFault<H: Ledger, N: Ledger> {
     Memory(Handle<Seat<H, N>>),
 }
 
-impl<H: Ledger, N: Ledger> fmt::Display for StopFault<H, N> {
+impl<H: Origin, N: Ledger> fmt::Display for StopFault<H, N> {
     fn fmt<W: fmt::Write>(&self, f: &mut fmt::Formatter<W>) -> fmt::Result {
         match self {
             StopFault::Aborted(_) => write!(

@@ -37,7 +37,8 @@ pub fn past_of(entries: &[Entry], first: u64, least: u64, limit: u64) -> Option<
 
 /// The number of the entry that has the ticket, where the entries tile the tickets from 0 on.
 pub fn number_in(entries: &[Entry], ticket: u64) -> Option<u32>
-    ensures some { IfSome result (λ number. (settled : ℕ) → Follow 0 0 settled entries.now → IsSettledBy entries.now ticket number × (ticket < settled)) }
+    ensures some { IfSome result (λ number. (settled : ℕ) → Follow 0 0 settled entries.now
+        → IsSettledBy entries.now ticket number × (ticket < settled)) }
     ensures none { IfNone result ((settled : ℕ) → Follow 0 0 settled entries.now → settled ≤ ticket) }
 {
     let before = entries.partition_point(|entry| entry.past <= ticket);

@@ -1,25 +1,30 @@
 //! A batch that a committer holds.
-ghost use Rattle.std.specs.Prelude.{◌≡◌, ◌+◌, ◌≤◌, length};
+ghost use Rattle.std.specs.Prelude.{◌≡◌, ◌+◌, ◌≤◌, length, All};
 
 use crate::origin::Origin;
 use jb_board::Tickets;
 use jb_deck::Batch;
+use jb_handle::Words;
+use jb_history::Sight;
 use std::marker::Model;
 
 /// A batch whose handles stopped with words that a handle may stop with (`S.begun`), and that its tickets
-/// were given. It must be used up, as the batch in it.
+/// were given; and a first part of the history of stops that has its handles. It must be used up, as the
+/// batch in it.
 #[must_use]
 pub struct Held<S: Origin> {
     batch: Batch,
     tickets: Tickets<S>,
+    sight: Sight<Words, S>,
 }
 
 impl<S: Origin> Model for Held<S> {
     ghost use Rattle.std.specs.Coded.{codes};
-    ghost use Rattle.std.specs.Prelude.{◌+◌, ◌≤◌, length};
+    ghost use Rattle.std.specs.Prelude.{◌+◌, ◌≤◌, length, All};
     ghost use Rattle.jb_board.specs.Seats.{given_by};
     ghost use Rattle.jb_handle.specs.Word.{words_code};
     ghost use Rattle.jb_batch.specs.Batch.{Gathered};
+    ghost use Rattle.jb_desk.specs.History.{IsInHistory};
     ghost use Rattle.jb_desk.specs.Since.{AreStops};
 
     ghost Value = { Gathered };
@@ -28,35 +33,46 @@ impl<S: Origin> Model for Held<S> {
 
     ghost view = { λ h. h.batch };
 
-    ghost invariant = { λ h. AreStops S.begun h.batch.handles × (h.batch.first + length h.batch.handles ≤ given_by h.tickets) };
+    ghost invariant = { λ h. AreStops S.begun h.batch.handles × (h.batch.first + length h.batch.handles ≤ given_by h.tickets) × All (IsInHistory h.sight) h.batch.handles };
 }
 
 impl<S: Origin> Held<S> {
     ghost use Rattle.jb_board.specs.Seats.{given_by};
+    ghost use Rattle.jb_desk.specs.History.{IsInHistory};
     ghost use Rattle.jb_desk.specs.Since.{AreStops};
 
     /// A batch to be held.
-    pub(crate) fn of(batch: Batch, tickets: Tickets<S>) -> Held<S>
+    pub(crate) fn of(batch: Batch, tickets: Tickets<S>, sight: Sight<Words, S>) -> Held<S>
         requires stops { AreStops S.begun batch.handles }
         requires given { batch.first + length batch.handles ≤ given_by tickets }
+        requires history { All (IsInHistory sight) batch.handles }
         ensures { result ≡ batch }
     {
-        Held { batch, tickets }
+        Held {
+            batch,
+            tickets,
+            sight,
+        }
     }
 
-    /// The batch again, and that its tickets were given.
-    pub(crate) fn end(self) -> (Batch, Tickets<S>)
+    /// The batch again, that its tickets were given, and what has its handles.
+    pub(crate) fn end(self) -> (Batch, Tickets<S>, Sight<Words, S>)
         ensures batch { result.0 ≡ self }
         ensures stops { AreStops S.begun result.0.handles }
         ensures given { result.0.first + length result.0.handles ≤ given_by result.1 }
+        ensures history { All (IsInHistory result.2) result.0.handles }
     {
-        let Held { batch, tickets } = self;
-        (batch, tickets)
+        let Held {
+            batch,
+            tickets,
+            sight,
+        } = self;
+        (batch, tickets, sight)
     }
 
     /// The batch is lost.
     pub(crate) fn lose(self) {
-        let (batch, _) = self.end();
+        let (batch, _, _) = self.end();
         let _lost = batch.end();
     }
 }

@@ -24,7 +24,7 @@ pub fn step_shadowed(state: &mut State, event: Event) -> Result<Reply, CoreFault
     ensures step { Steps event state.old result state.new }
     ensures shadow { StepsShadow event state.old result state.new }
 {
-    let _up = state.is_up();
+    let _up = state.is_up(); // for the proof alone: only methods say that a state is sound
     step(state, event)
 }
 

@@ -2,6 +2,7 @@
 #![tactic(auto)]
 
 mod book;
+mod checkpoint;
 mod committer;
 mod counter;
 mod desk;
@@ -14,10 +15,12 @@ mod opening;
 mod origin;
 mod room;
 mod seat;
+mod stops;
 mod turns;
 mod works;
 
 pub use book::Book;
+pub use checkpoint::CheckpointRound;
 pub use committer::{Committer, Round, RoundFault};
 pub use counter::{NoBatch, Over};
 pub use desk::{CloseFault, Closed, Desk};
@@ -26,3 +29,4 @@ pub use fault::{BeginFault, EnqueueFault, SeatFault, StopFault, WaitFault, Wrong
 pub use opening::open;
 pub use origin::Origin;
 pub use seat::{Left, Seat};
+pub use stops::Stops;

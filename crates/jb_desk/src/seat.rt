@@ -1,27 +1,35 @@
 //! What a thread has of a desk, and what it leaves there.
-ghost use Rattle.std.specs.Prelude.{◌≡◌};
+ghost use Rattle.std.specs.Prelude.{◌≡◌, length};
 
+use crate::origin::Origin;
 use jb_board::BoardSeat;
+use jb_handle::Words;
+use jb_history::Made;
 use std::sync::ledger::{Ledger, Share};
 
-/// A thread's place at a desk: its number in the book, its seat at the board, and its shares of the
-/// two ledgers, in which its stops and the blocks that they touched are counted. It must be used
-/// up: it leaves the desk or goes into a handle, and cannot be dropped by accident.
+/// A thread's place at a desk: its number in the book, its seat at the board, its shares of the two
+/// ledgers, in which its stops and the blocks that they touched are counted, and what the history of the
+/// desk's stops has of it. It must be used up: it leaves the desk or goes into a handle, and cannot be
+/// dropped by accident.
 #[must_use]
-pub struct Seat<H: Ledger, N: Ledger> {
+pub struct Seat<H: Origin, N: Ledger> {
     pub(crate) number: u64,
     pub(crate) board: BoardSeat,
     pub(crate) handles: Share<H>,
     pub(crate) changes: Share<N>,
+    pub(crate) made: Made<Words, H>,
     ghost part_of_handles: { handles.parts ≡ 1 },
     ghost part_of_changes: { changes.parts ≡ 1 },
+    ghost all_made: { length made ≡ handles.amount },
 }
 
-/// What a seat leaves when it leaves its desk: its shares, by which the desk is closed.
+/// What a seat leaves when it leaves its desk: its shares and its stops, by which the desk is closed.
 #[derive(Drop)]
-pub struct Left<H: Ledger, N: Ledger> {
+pub struct Left<H: Origin, N: Ledger> {
     pub(crate) handles: Share<H>,
     pub(crate) changes: Share<N>,
+    pub(crate) made: Made<Words, H>,
     ghost part_of_handles: { handles.parts ≡ 1 },
     ghost part_of_changes: { changes.parts ≡ 1 },
+    ghost all_made: { length made ≡ handles.amount },
 }

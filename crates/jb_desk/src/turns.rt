@@ -34,7 +34,8 @@ impl Turns {
         }
     }
 
-    /// Waits until all that came before have gone on; says how many handles were settled when one last waited for room in vain.
+    /// Waits until all that came before have gone on; says how many handles were settled when one last waited for room
+    /// in vain.
     pub(crate) fn wait<R: Wait>(&self, rt: &R) -> Option<u64> {
         let mut line = self.line.lock(rt);
         let place = line.came;

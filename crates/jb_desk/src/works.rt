@@ -1,23 +1,29 @@
-ghost use Rattle.std.specs.Prelude.{◌≡◌, length, IfOk};
+ghost use Rattle.std.specs.Prelude.{◌≡◌, [], false, length, All, IfOk};
 
+use crate::checkpoint::CheckpointRound;
 use crate::origin::Origin;
 use jb_deck::{BatchFault, Checked, CheckpointFault, Deck, Done, Prepared, ReadHomeFault};
 use jb_disk::{Clock, Disk};
+use jb_handle::Words;
+use jb_history::{History, Sight};
 use std::marker::{Model, PhantomData};
 
 /// What the second lock of a desk guards: the journal on its disk, and the clock that stamps its
-/// groups. The journal stands as it must since the desk was started.
+/// groups, with a first part of the history of stops. The journal stands as it must since the desk was
+/// started, and was given the first handles of this history.
 #[derive(Drop)]
 pub(crate) struct Works<D: Disk, C: Clock, S: Origin> {
     deck: Deck<D>,
     clock: C,
+    sight: Sight<Words, S>,
     origin: PhantomData<S>,
 }
 
 impl<D: Disk, C: Clock, S: Origin> Model for Works<D, C, S> {
     ghost use Rattle.std.specs.Coded.{codes};
     ghost use Rattle.jb_handle.specs.Word.{words_code};
-    ghost use Rattle.jb_desk.specs.Since.{IsSince};
+    ghost use Rattle.jb_desk.specs.History.{IsStop};
+    ghost use Rattle.jb_desk.specs.Since.{IsSinceOf};
     ghost use Rattle.jb_desk.specs.Works.{Worked, worked};
 
     ghost Value = { Worked D C };
@@ -26,7 +32,7 @@ impl<D: Disk, C: Clock, S: Origin> Model for Works<D, C, S> {
 
     ghost view = { λ w. worked w.deck w.clock };
 
-    ghost invariant = { λ w. IsSince D.size D.count D.faults D.honest D.newest D.may_leave D.moment D.left_since S.begun w.deck };
+    ghost invariant = { λ w. IsSinceOf D.size D.count D.faults D.honest D.newest D.may_leave D.moment D.left_since S.begun (IsStop S.begun w.sight) w.deck };
 }
 
 impl<D: Disk, C: Clock, S: Origin> Works<D, C, S> {
@@ -34,37 +40,55 @@ impl<D: Disk, C: Clock, S: Origin> Works<D, C, S> {
     ghost use Rattle.jb_deck.specs.Committing.{AnswersBatch};
     ghost use Rattle.jb_batch.specs.Prepared.{IsPlanned};
     ghost use Rattle.jb_deck.specs.Reading.{AnswersRead};
-    ghost use Rattle.jb_desk.specs.Journal.{ChecksRound, FailsAs, IsRound, ReadsHome};
+    ghost use Rattle.jb_desk.specs.Journal.{AnswersAt, ChecksAt, ChecksRound, FailsAs, IsRound, ReadsHome};
     ghost use Rattle.jb_desk.specs.Rounds.{CommitsAs};
-    ghost use Rattle.jb_desk.specs.Since.{AreStops, IsSince};
+    ghost use Rattle.jb_desk.specs.History.{IsInHistory, IsStop};
+    ghost use Rattle.jb_desk.specs.Since.{AreStops, IsSince, IsSinceOf};
     ghost use Rattle.jb_desk.specs.Works.{worked};
 
-    /// A journal that stands as it must since the start, and a clock.
-    pub fn new(deck: Deck<D>, clock: C) -> Works<D, C, S>
-        requires { IsSince D.size D.count D.faults D.honest D.newest D.may_leave D.moment D.left_since S.begun deck }
+    /// A journal that stands as it must since the start and has committed nothing, a clock, and what was seen
+    /// of the history.
+    pub fn new(deck: Deck<D>, clock: C, sight: Sight<Words, S>) -> Works<D, C, S>
+        requires fresh { deck.trail ≡ [] }
+        requires running { deck.aborted ≡ false }
+        requires begun { IsSince D.size D.count D.faults D.honest D.newest D.may_leave D.moment D.left_since S.begun
+            deck }
         ensures { result ≡ worked deck clock }
     {
         Works {
             deck,
             clock,
+            sight,
             origin: PhantomData,
         }
     }
 
-    /// Commits a batch with the clock's stamp.
+    /// Commits a batch with the clock's stamp. Its handles are those of the history, as was seen.
     ///
     /// # Errors
     ///
     /// Those of the journal's own commit.
-    pub fn commit(&mut self, prepared: Prepared) -> Result<Done, BatchFault>
+    pub fn commit(
+        &mut self,
+        prepared: Prepared,
+        history: &History<Words, S>,
+        seen: &mut Sight<Words, S>,
+    ) -> Result<Done, BatchFault>
         requires planned { IsPlanned prepared }
         requires stops { AreStops S.begun prepared.batch.handles }
-        ensures answers { (stamp : Stamp) × C.tells self.old.clock stamp × AnswersBatch (D.faults self.old.deck.disk) (D.faults self.new.deck.disk) prepared stamp self.old.deck self.new.deck result }
+        requires history { All (IsInHistory seen.old) prepared.batch.handles }
+        ensures answers { (stamp : Stamp) × C.tells self.old.clock stamp
+            × AnswersBatch (D.faults self.old.deck.disk) (D.faults self.new.deck.disk) prepared stamp self.old.deck
+            self.new.deck result }
         ensures told { CommitsAs prepared result }
-        ensures round { IfOk result (IsRound D.size D.count D.faults D.honest D.newest D.may_leave D.moment D.left_since S.begun prepared) }
-        ensures failed { FailsAs D.size D.count D.faults D.honest D.newest D.may_leave D.moment D.left_since S.begun result }
+        ensures round { IfOk result (IsRound D.size D.count D.faults D.honest D.newest D.may_leave D.moment
+            D.left_since S.begun prepared) }
+        ensures failed { FailsAs D.size D.count D.faults D.honest D.newest D.may_leave D.moment D.left_since S.begun
+            result }
         ensures clock { self.new.clock ≡ self.old.clock }
+        ensures kept { seen.new ≡ seen.old }
     {
+        history.learn(&mut self.sight, seen);
         // their tickets are known by looking at the handles
         let _handles = prepared.batch().handles();
         let stamp = self.clock.now();
@@ -77,10 +101,33 @@ impl<D: Disk, C: Clock, S: Origin> Works<D, C, S> {
     ///
     /// Those of the journal's own checkpoint.
     pub fn checkpoint(&mut self) -> Result<Checked, CheckpointFault>
-        ensures round { ChecksRound D.size D.count D.faults D.honest D.newest D.may_leave D.moment D.left_since S.begun result }
+        ensures round { ChecksRound D.size D.count D.faults D.honest D.newest D.may_leave D.moment D.left_since S.begun
+            result }
         ensures clock { self.new.clock ≡ self.old.clock }
     {
         self.deck.checkpoint_one()
+    }
+
+    /// The same, where so many blocks of the log are in use at least.
+    ///
+    /// # Errors
+    ///
+    /// Those of the journal's own checkpoint.
+    pub fn checkpoint_at(&mut self, level: u32) -> Result<CheckpointRound, CheckpointFault>
+        ensures answers { AnswersAt level (D.faults self.old.deck.disk) (D.faults self.new.deck.disk) self.old.deck
+            self.new.deck result }
+        ensures round { ChecksAt D.size D.count D.faults D.honest D.newest D.may_leave D.moment D.left_since S.begun
+            level result }
+        ensures clock { self.new.clock ≡ self.old.clock }
+    {
+        let in_use = self.deck.in_use();
+        if !self.deck.aborted() && in_use < level {
+            return Ok(CheckpointRound::Low(in_use));
+        }
+        match self.deck.checkpoint_one() {
+            Ok(checked) => Ok(CheckpointRound::Home(checked)),
+            Err(fault) => Err(fault),
+        }
     }
 
     /// Reads a home block as it stands.
@@ -89,19 +136,27 @@ impl<D: Disk, C: Clock, S: Origin> Works<D, C, S> {
     ///
     /// Those of the journal's own read.
     pub fn read(&mut self, home: u64, buf: &mut [u8]) -> Result<(), ReadHomeFault>
-        ensures answers { AnswersRead (D.size self.old.deck.disk) (D.faults self.old.deck.disk) (D.faults self.new.deck.disk) self.old.deck self.new.deck home (length buf.old) result }
-        ensures home { ReadsHome D.size D.count D.faults D.honest D.newest D.may_leave D.moment D.left_since S.begun home (length buf.old) buf.new result }
+        ensures answers { AnswersRead (D.size self.old.deck.disk) (D.faults self.old.deck.disk)
+            (D.faults self.new.deck.disk) self.old.deck self.new.deck home (length buf.old) result }
+        ensures home { ReadsHome D.size D.count D.faults D.honest D.newest D.may_leave D.moment D.left_since S.begun
+            home (length buf.old) buf.new result }
         ensures clock { self.new.clock ≡ self.old.clock }
     {
         self.deck.read_home(home, buf)
     }
 
-    /// Takes it apart, into the journal and the clock.
-    pub fn end(self) -> (Deck<D>, C)
+    /// Takes it apart, into the journal, the clock, and what was seen of the history.
+    pub fn end(self) -> (Deck<D>, C, Sight<Words, S>)
         ensures parts { (result.0 ≡ self.deck) × (result.1 ≡ self.clock) }
-        ensures since { IsSince D.size D.count D.faults D.honest D.newest D.may_leave D.moment D.left_since S.begun result.0 }
+        ensures since { IsSinceOf D.size D.count D.faults D.honest D.newest D.may_leave D.moment D.left_since S.begun
+            (IsStop S.begun result.2) result.0 }
     {
-        let Works { deck, clock, .. } = self;
-        (deck, clock)
+        let Works {
+            deck,
+            clock,
+            sight,
+            ..
+        } = self;
+        (deck, clock, sight)
     }
 }

@@ -1,5 +1,6 @@
 //! Groups that are brought home: a checkpoint that fails, and a checkpointer that ends.
 ghost use Rattle.std.specs.Prelude.{◌≡◌, ◌+◌, ◌^◌};
+ghost use Rattle.jb_desk.specs.History.{history_in};
 ghost use Rattle.jb_desk.specs.Desks.{desk_id};
 ghost use Rattle.jb_desk.specs.Seats.{desk_of};
 ghost use Rattle.jb_handle.specs.Word.{WordMap};
@@ -10,7 +11,7 @@ use crate::journal::{
 };
 use jb_block::Memory;
 use jb_deck::{Checked, CheckpointFault, Entry, ReadHomeFault};
-use jb_desk::{BeginFault, Origin, RoundFault, Seat, WaitFault};
+use jb_desk::{BeginFault, Origin, RoundFault, Seat, Stops, WaitFault};
 use jb_disk::{Disk, MemoryDisk, OneFaultDisk};
 use std::alloc::Global;
 use std::marker::Brand;
@@ -37,13 +38,14 @@ struct Found {
     counts: Option<(u64, u64, usize)>,
 }
 
-/// One round, which commits one handle under this ticket and number.
+/// One round, which commits one handle of one copy under this ticket and number.
 fn one(ticket: u64, number: u32) -> Came {
     Came::Committed(
         Some(Entry {
             first: ticket,
             past: ticket.saturating_add(1),
             number,
+            blocks: 3,
         }),
         1,
     )
@@ -55,6 +57,7 @@ const FAILED: Found = Found {
             first: 0,
             past: 1,
             number: 2,
+            blocks: 3,
         }),
         1,
     ),
@@ -117,12 +120,13 @@ fn failing<R: Wait, H: Origin, N: Ledger>(
     rt: &R,
     alloc: Global,
     call: u64,
-    handles: Blank,
+    handles: Stops,
     changes: Blank,
 ) -> Result<Option<Found>, Memory>
     requires blind { H.begun.honest → ⊥ }
     requires any { (words : WordMap) → H.begun.stops words }
-    requires handles { (handles.name ≡ H.name) × (handles.parts ≡ H.parts) × (H.parts ≡ 2 ^ 61 + 1) }
+    requires handles { (handles.tickets.name ≡ H.name) × (handles.tickets.parts ≡ H.parts) × (H.parts ≡ 2 ^ 61 + 1) }
+    requires history { history_in handles ≡ H.history }
     requires changes { (changes.name ≡ N.name) × (changes.parts ≡ N.parts) × (N.parts ≡ 2 ^ 61 + 1) }
 {
     let Some(disk) = formatted(alloc)? else {
@@ -145,7 +149,7 @@ fn the_round_after_a_failed_checkpoint_fails_the_book(rt: HostRuntime) -> Result
             &rt,
             rt.alloc(),
             call,
-            Blank::new(PARTS),
+            Stops::new(rt.alloc(), PARTS)?,
             Blank::new(PARTS),
         )?;
         if let Some(found) = found {
@@ -203,10 +207,11 @@ fn ends_with_no_group<
     R: Threads + Wait + Clock + Sync,
     H: Origin + Send + Sync,
     N: Ledger + Send + Sync,
->(rt: &R, alloc: Global, handles: Blank, changes: Blank) -> Result<bool, Fail>
+>(rt: &R, alloc: Global, handles: Stops, changes: Blank) -> Result<bool, Fail>
     requires blind { H.begun.honest → ⊥ }
     requires any { (words : WordMap) → H.begun.stops words }
-    requires handles { (handles.name ≡ H.name) × (handles.parts ≡ H.parts) × (H.parts ≡ 2 ^ 61 + 1) }
+    requires handles { (handles.tickets.name ≡ H.name) × (handles.tickets.parts ≡ H.parts) × (H.parts ≡ 2 ^ 61 + 1) }
+    requires history { history_in handles ≡ H.history }
     requires changes { (changes.name ≡ N.name) × (changes.parts ≡ N.parts) × (N.parts ≡ 2 ^ 61 + 1) }
 {
     let Some(disk) = formatted(alloc)? else {
@@ -247,7 +252,7 @@ fn a_checkpointer_ends_with_no_group(rt: HostRuntime) -> Result<(), Fail> {
         let is_right = ends_with_no_group::<HostRuntime, Brand, Brand>(
             &rt,
             rt.alloc(),
-            Blank::new(PARTS),
+            Stops::new(rt.alloc(), PARTS)?,
             Blank::new(PARTS),
         )?;
         assert!(rt; is_right, "{race}");

@@ -1,5 +1,6 @@
 //! Calls of a desk over the small journal, with the answers that its limits give by hand.
 ghost use Rattle.std.specs.Prelude.{◌≡◌, ◌+◌, ◌^◌};
+ghost use Rattle.jb_desk.specs.History.{history_in};
 ghost use Rattle.jb_handle.specs.Word.{WordMap};
 
 use crate::blind::start;
@@ -9,7 +10,7 @@ use crate::journal::{
 use jb_block::Memory;
 use jb_board::Front;
 use jb_deck::{Checked, CheckpointFault};
-use jb_desk::{BeginFault, Origin, Seat, SeatFault, WaitFault};
+use jb_desk::{BeginFault, Origin, Seat, SeatFault, Stops, WaitFault};
 use jb_disk::MemoryDisk;
 use jb_handle::Handle;
 use std::alloc::Global;
@@ -197,12 +198,13 @@ fn rows<R: Wait, H: Origin, N: Ledger>(
     rt: &R,
     alloc: Global,
     row: Row,
-    handles: Blank,
+    handles: Stops,
     changes: Blank,
 ) -> Result<Option<Answer>, Memory>
     requires blind { H.begun.honest → ⊥ }
     requires any { (words : WordMap) → H.begun.stops words }
-    requires handles { (handles.name ≡ H.name) × (handles.parts ≡ H.parts) × (H.parts ≡ 2 ^ 61 + 1) }
+    requires handles { (handles.tickets.name ≡ H.name) × (handles.tickets.parts ≡ H.parts) × (H.parts ≡ 2 ^ 61 + 1) }
+    requires history { history_in handles ≡ H.history }
     requires changes { (changes.name ≡ N.name) × (changes.parts ≡ N.parts) × (N.parts ≡ 2 ^ 61 + 1) }
 {
     let Some(disk) = formatted(alloc)? else {
@@ -282,7 +284,7 @@ fn desks_answer_as_worked_by_hand(rt: HostRuntime) -> Result<(), Fail> {
             &rt,
             rt.alloc(),
             row,
-            Blank::new(PARTS),
+            Stops::new(rt.alloc(), PARTS)?,
             Blank::new(PARTS),
         )?;
         assert_eq!(rt; found, Some(wanted));

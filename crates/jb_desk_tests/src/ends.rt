@@ -1,5 +1,6 @@
 //! How committers and checkpointers end, and that all that stopped is done then.
 ghost use Rattle.std.specs.Prelude.{◌≡◌, ◌+◌, ◌^◌};
+ghost use Rattle.jb_desk.specs.History.{history_in};
 ghost use Rattle.jb_handle.specs.Word.{WordMap};
 
 use crate::blind::start;
@@ -7,7 +8,7 @@ use crate::journal::{CLOCK, PARTS, Still, formatted, opened, over_at, refused, r
 use jb_block::Memory;
 use jb_board::Front;
 use jb_deck::CheckpointFault;
-use jb_desk::{BeginFault, Origin, SeatFault};
+use jb_desk::{BeginFault, Origin, SeatFault, Stops};
 use jb_disk::MemoryDisk;
 use std::alloc::Global;
 use std::marker::Brand;
@@ -81,12 +82,13 @@ fn ended<R: Wait, H: Origin, N: Ledger>(
 fn desk_ended<R: Wait, H: Origin, N: Ledger>(
     rt: &R,
     alloc: Global,
-    handles: Blank,
+    handles: Stops,
     changes: Blank,
 ) -> Result<Option<Found>, Memory>
     requires blind { H.begun.honest → ⊥ }
     requires any { (words : WordMap) → H.begun.stops words }
-    requires handles { (handles.name ≡ H.name) × (handles.parts ≡ H.parts) × (H.parts ≡ 2 ^ 61 + 1) }
+    requires handles { (handles.tickets.name ≡ H.name) × (handles.tickets.parts ≡ H.parts) × (H.parts ≡ 2 ^ 61 + 1) }
+    requires history { history_in handles ≡ H.history }
     requires changes { (changes.name ≡ N.name) × (changes.parts ≡ N.parts) × (N.parts ≡ 2 ^ 61 + 1) }
 {
     let Some(disk) = formatted(alloc)? else {
@@ -106,7 +108,7 @@ fn a_desk_that_is_shut_ends_with_all_done(rt: HostRuntime) -> Result<(), Fail> {
     let found = desk_ended::<HostRuntime, Brand, Brand>(
         &rt,
         rt.alloc(),
-        Blank::new(PARTS),
+        Stops::new(rt.alloc(), PARTS)?,
         Blank::new(PARTS),
     )?;
     let wanted = Found {

@@ -1,5 +1,6 @@
 //! A round over a disk that fails once, at each of its calls.
 ghost use Rattle.std.specs.Prelude.{◌≡◌, ◌+◌, ◌^◌};
+ghost use Rattle.jb_desk.specs.History.{history_in};
 ghost use Rattle.jb_handle.specs.Word.{WordMap};
 
 use crate::blind::start;
@@ -8,7 +9,7 @@ use crate::journal::{
 };
 use jb_block::{BlockSize, Memory};
 use jb_deck::Entry;
-use jb_desk::{BeginFault, Origin, RoundFault};
+use jb_desk::{BeginFault, Origin, RoundFault, Stops};
 use jb_disk::{Disk, MemoryDisk, OneFaultDisk};
 use jb_recover::recover;
 use std::alloc::Global;
@@ -49,6 +50,7 @@ const COMMITTED: Found = Found {
             first: 0,
             past: 1,
             number: 2,
+            blocks: 3,
         }),
         1,
     ),
@@ -134,12 +136,13 @@ fn failing<R: Wait, H: Origin, N: Ledger>(
     rt: &R,
     alloc: Global,
     call: u64,
-    handles: Blank,
+    handles: Stops,
     changes: Blank,
 ) -> Result<Option<Found>, Memory>
     requires blind { H.begun.honest → ⊥ }
     requires any { (words : WordMap) → H.begun.stops words }
-    requires handles { (handles.name ≡ H.name) × (handles.parts ≡ H.parts) × (H.parts ≡ 2 ^ 61 + 1) }
+    requires handles { (handles.tickets.name ≡ H.name) × (handles.tickets.parts ≡ H.parts) × (H.parts ≡ 2 ^ 61 + 1) }
+    requires history { history_in handles ≡ H.history }
     requires changes { (changes.name ≡ N.name) × (changes.parts ≡ N.parts) × (N.parts ≡ 2 ^ 61 + 1) }
 {
     let Some(disk) = formatted(alloc)? else {
@@ -162,7 +165,7 @@ fn close_adds_up_after_each_fault(rt: HostRuntime) -> Result<(), Fail> {
             &rt,
             rt.alloc(),
             call,
-            Blank::new(PARTS),
+            Stops::new(rt.alloc(), PARTS)?,
             Blank::new(PARTS),
         )?;
         if found == Some(COMMITTED) {

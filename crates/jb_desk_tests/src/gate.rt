@@ -1,5 +1,6 @@
 //! A handle stops while the disk is at work for another thread.
 ghost use Rattle.std.specs.Prelude.{◌≡◌, ◌+◌, ◌^◌};
+ghost use Rattle.jb_desk.specs.History.{history_in};
 ghost use Rattle.jb_disk.specs.Faults.{CountsFault, counted};
 ghost use Rattle.jb_handle.specs.Word.{WordMap};
 
@@ -9,7 +10,7 @@ use crate::journal::{
 };
 use jb_block::{BlockSize, Memory};
 use jb_deck::Entry;
-use jb_desk::{Left, Origin, WaitFault};
+use jb_desk::{Left, Origin, Stops, WaitFault};
 use jb_disk::{Disk, Fault, MemoryDisk};
 use std::alloc::Global;
 use std::marker::Brand;
@@ -201,12 +202,13 @@ fn gated<R: Threads + Wait + Clock + Sync, H: Origin + Send + Sync, N: Ledger + 
     rt: &R,
     alloc: Global,
     gate: &Gate,
-    handles: Blank,
+    handles: Stops,
     changes: Blank,
 ) -> Result<Option<Answer>, Memory>
     requires blind { H.begun.honest → ⊥ }
     requires any { (words : WordMap) → H.begun.stops words }
-    requires handles { (handles.name ≡ H.name) × (handles.parts ≡ H.parts) × (H.parts ≡ 2 ^ 61 + 1) }
+    requires handles { (handles.tickets.name ≡ H.name) × (handles.tickets.parts ≡ H.parts) × (H.parts ≡ 2 ^ 61 + 1) }
+    requires history { history_in handles ≡ H.history }
     requires changes { (changes.name ≡ N.name) × (changes.parts ≡ N.parts) × (N.parts ≡ 2 ^ 61 + 1) }
 {
     let Some(disk) = formatted(alloc)? else {
@@ -244,13 +246,14 @@ fn gated<R: Threads + Wait + Clock + Sync, H: Origin + Send + Sync, N: Ledger + 
     }))
 }
 
-/// One round, which commits one handle under this ticket and number.
+/// One round, which commits one handle of one copy under this ticket and number.
 fn one(ticket: u64, number: u32) -> Came {
     Came::Committed(
         Some(Entry {
             first: ticket,
             past: ticket.saturating_add(1),
             number,
+            blocks: 3,
         }),
         1,
     )
@@ -263,7 +266,7 @@ fn gate_two_stops(rt: HostRuntime) -> Result<(), Fail> {
         &rt,
         rt.alloc(),
         &gate,
-        Blank::new(PARTS),
+        Stops::new(rt.alloc(), PARTS)?,
         Blank::new(PARTS),
     )?;
     let wanted = Answer {

@@ -10,12 +10,12 @@ use jb_block::{BlockSize, Memory, Width, put32};
 use jb_deck::{Deck, Entry};
 use jb_desk::{
     BeginFault, CloseFault, Committer, Desk, Ended, Left, Origin, Round, RoundFault, Seat,
-    StopFault,
+    StopFault, Stops,
 };
 use jb_disk::{Disk, FixedClock, MemoryDisk};
+use jb_front::format;
 use jb_group::Stamp;
 use jb_handle::{Handle, Shape};
-use jb_recover::format;
 use std::alloc::Global;
 use std::sync::Wait;
 use std::sync::ledger::Ledger;
@@ -154,7 +154,7 @@ pub fn write<R: Wait, D: Disk, H: Origin, N: Ledger>(
 }
 
 /// Writes home blocks in a handle.
-pub fn written<H: Ledger, N: Ledger>(
+pub fn written<H: Origin, N: Ledger>(
     handle: Handle<Seat<H, N>>,
     homes: &[u64],
 ) -> Handle<Seat<H, N>>

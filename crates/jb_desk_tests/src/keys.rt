@@ -60,7 +60,8 @@ pub fn changes_of(key: u64) -> [Option<Change>; CHANGES] {
     changes
 }
 
-/// The block that the handle with this key writes to a home. One key in eight makes it begin as a block of the log does.
+/// The block that the handle with this key writes to a home. One key in eight makes it begin as a block of the log
+/// does.
 pub fn block_of(key: u64, home: usize) -> [u8; 1024] {
     let fill = u8::try_from(key % 251).unwrap_or(0);
     let mut block = [fill; 1024];

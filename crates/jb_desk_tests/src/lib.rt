@@ -22,6 +22,7 @@ mod journal;
 #[cfg(test)]
 mod keys;
 #[cfg(test)]
+#[cfg(test)]
 mod load;
 #[cfg(test)]
 mod read_beside;

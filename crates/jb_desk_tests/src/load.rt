@@ -1,6 +1,7 @@
 //! Eight threads stop handles while one thread commits and one brings groups home; also where the disk stops at some
 //! call, and the image that a crash leaves is recovered.
 ghost use Rattle.std.specs.Prelude.{◌≡◌, ◌+◌, ◌^◌};
+ghost use Rattle.jb_desk.specs.History.{history_in};
 ghost use Rattle.jb_handle.specs.Word.{WordMap};
 
 use crate::blind::start;
@@ -10,9 +11,10 @@ use crate::keys::{Draws, HOMES};
 use crate::threads::{Report, Reports, work_all};
 use jb_block::{BlockSize, Width};
 use jb_deck::Entry;
-use jb_desk::{Ended, Left, Origin};
+use jb_desk::{Ended, Left, Origin, Stops};
 use jb_disk::{FuseDisk, MemoryDisk};
-use jb_recover::{format, recover};
+use jb_front::format;
+use jb_recover::recover;
 use std::alloc::Global;
 use std::marker::Brand;
 use std::sync::Wait;
@@ -61,7 +63,7 @@ fn journal(alloc: Global) -> Result<MemoryDisk, Fail> {
 
 /// What all threads report, put together; the stops are in the order of their tickets.
 #[derive(Drop)]
-struct Sums<H: Ledger, N: Ledger> {
+struct Sums<H: Origin, N: Ledger> {
     lefts: Vec<Left<H, N>>,
     stops: Vec<Stop>,
     waited: Vec<(u64, u32)>,
@@ -69,7 +71,7 @@ struct Sums<H: Ledger, N: Ledger> {
 }
 
 /// Puts the threads' reports together.
-fn sums_of<H: Ledger, N: Ledger>(
+fn sums_of<H: Origin, N: Ledger>(
     alloc: Global,
     reports: Reports<H, N>,
 ) -> Result<Sums<H, N>, Fail> {
@@ -109,12 +111,13 @@ fn outcome_of<R: Threads + Wait + Clock + Sync, H: Origin + Send + Sync, N: Ledg
     rt: &R,
     alloc: Global,
     load: Load,
-    handles: Blank,
+    handles: Stops,
     changes: Blank,
 ) -> Result<Option<Outcome>, Fail>
     requires blind { H.begun.honest → ⊥ }
     requires any { (words : WordMap) → H.begun.stops words }
-    requires handles { (handles.name ≡ H.name) × (handles.parts ≡ H.parts) × (H.parts ≡ 2 ^ 61 + 1) }
+    requires handles { (handles.tickets.name ≡ H.name) × (handles.tickets.parts ≡ H.parts) × (H.parts ≡ 2 ^ 61 + 1) }
+    requires history { history_in handles ≡ H.history }
     requires changes { (changes.name ≡ N.name) × (changes.parts ≡ N.parts) × (N.parts ≡ 2 ^ 61 + 1) }
 {
     let Some(deck) = opened(alloc, FuseDisk::of(journal(alloc)?, load.calls)) else {
@@ -235,7 +238,7 @@ fn homes_are_those_of_the_tickets_in_order(rt: HostRuntime) -> Result<(), Fail> 
             &rt,
             alloc,
             load,
-            Blank::new(PARTS),
+            Stops::new(rt.alloc(), PARTS)?,
             Blank::new(PARTS),
         )?;
         if let Some(outcome) = outcome {

@@ -1,12 +1,13 @@
 //! A home that is read while a round is at work for another thread.
 ghost use Rattle.std.specs.Prelude.{◌≡◌, ◌+◌, ◌^◌};
+ghost use Rattle.jb_desk.specs.History.{history_in};
 ghost use Rattle.jb_handle.specs.Word.{WordMap};
 
 use crate::blind::start;
 use crate::gate::{Gate, GateDisk, has_come};
 use crate::journal::{CLOCK, PARTS, Still, formatted, opened, retired, round, write};
 use crate::reads::filled;
-use jb_desk::Origin;
+use jb_desk::{Origin, Stops};
 use jb_disk::Disk;
 use std::alloc::Global;
 use std::marker::Brand;
@@ -42,12 +43,13 @@ fn beside<R: Threads + Wait + Clock + Sync, H: Origin + Send + Sync, N: Ledger +
     rt: &R,
     alloc: Global,
     gate: &Gate,
-    handles: Blank,
+    handles: Stops,
     changes: Blank,
 ) -> Result<(Option<u8>, Option<u8>), Fail>
     requires blind { H.begun.honest → ⊥ }
     requires any { (words : WordMap) → H.begun.stops words }
-    requires handles { (handles.name ≡ H.name) × (handles.parts ≡ H.parts) × (H.parts ≡ 2 ^ 61 + 1) }
+    requires handles { (handles.tickets.name ≡ H.name) × (handles.tickets.parts ≡ H.parts) × (H.parts ≡ 2 ^ 61 + 1) }
+    requires history { history_in handles ≡ H.history }
     requires changes { (changes.name ≡ N.name) × (changes.parts ≡ N.parts) × (N.parts ≡ 2 ^ 61 + 1) }
 {
     let Some(disk) = formatted(alloc)? else {
@@ -91,7 +93,7 @@ fn a_read_beside_a_round_waits_for_it(rt: HostRuntime) -> Result<(), Fail> {
         &rt,
         rt.alloc(),
         &gate,
-        Blank::new(PARTS),
+        Stops::new(rt.alloc(), PARTS)?,
         Blank::new(PARTS),
     )?;
     assert_eq!(rt; found, (Some(0), Some(7)));

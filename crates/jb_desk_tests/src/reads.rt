@@ -1,12 +1,13 @@
 //! Homes that are read at a desk: after each round and each checkpoint, and where the read fails.
 ghost use Rattle.std.specs.Prelude.{◌≡◌, ◌+◌, ◌^◌};
+ghost use Rattle.jb_desk.specs.History.{history_in};
 ghost use Rattle.jb_handle.specs.Word.{WordMap};
 
 use crate::blind::start;
 use crate::journal::{CLOCK, Came, PARTS, Still, formatted, opened, retired, round, stop};
 use jb_block::Memory;
 use jb_deck::ReadHomeFault;
-use jb_desk::Origin;
+use jb_desk::{Origin, Stops};
 use jb_disk::{Disk, OneFaultDisk};
 use std::alloc::Global;
 use std::marker::Brand;
@@ -77,8 +78,8 @@ fn take<R: Wait, D: Disk, H: Origin, N: Ledger>(rt: &R, desk: &Still<D, H, N>, s
     is_done
 }
 
-/// A home has a copy in the log alone, then at home too, then a newer one in the log beside the older one at home, and is
-/// written twice in a batch. Others are written at the first and last place.
+/// A home has a copy in the log alone, then at home too, then a newer one in the log beside the older one at home, and
+/// is written twice in a batch. Others are written at the first and last place.
 const STEPS: [Step; 15] = [
     Step::Fill(1, 11),
     Step::Round,
@@ -131,12 +132,13 @@ type Refused = (Result<(), ReadHomeFault>, Result<(), ReadHomeFault>);
 fn stepped<R: Wait, H: Origin, N: Ledger>(
     rt: &R,
     alloc: Global,
-    handles: Blank,
+    handles: Stops,
     changes: Blank,
 ) -> Result<(Option<(usize, Homes)>, Refused), Fail>
     requires blind { H.begun.honest → ⊥ }
     requires any { (words : WordMap) → H.begun.stops words }
-    requires handles { (handles.name ≡ H.name) × (handles.parts ≡ H.parts) × (H.parts ≡ 2 ^ 61 + 1) }
+    requires handles { (handles.tickets.name ≡ H.name) × (handles.tickets.parts ≡ H.parts) × (H.parts ≡ 2 ^ 61 + 1) }
+    requires history { history_in handles ≡ H.history }
     requires changes { (changes.name ≡ N.name) × (changes.parts ≡ N.parts) × (N.parts ≡ 2 ^ 61 + 1) }
 {
     let Some(disk) = formatted(alloc)? else {
@@ -159,7 +161,7 @@ fn homes_are_read_as_they_are_committed(rt: HostRuntime) -> Result<(), Fail> {
     let (found, refused) = stepped::<HostRuntime, Brand, Brand>(
         &rt,
         rt.alloc(),
-        Blank::new(PARTS),
+        Stops::new(rt.alloc(), PARTS)?,
         Blank::new(PARTS),
     )?;
     assert_eq!(rt; found, None);
@@ -176,12 +178,13 @@ fn failing<R: Wait, H: Origin, N: Ledger>(
     rt: &R,
     alloc: Global,
     call: u64,
-    handles: Blank,
+    handles: Stops,
     changes: Blank,
 ) -> Result<Option<(Result<(), ReadHomeFault>, bool, Option<u8>)>, Memory>
     requires blind { H.begun.honest → ⊥ }
     requires any { (words : WordMap) → H.begun.stops words }
-    requires handles { (handles.name ≡ H.name) × (handles.parts ≡ H.parts) × (H.parts ≡ 2 ^ 61 + 1) }
+    requires handles { (handles.tickets.name ≡ H.name) × (handles.tickets.parts ≡ H.parts) × (H.parts ≡ 2 ^ 61 + 1) }
+    requires history { history_in handles ≡ H.history }
     requires changes { (changes.name ≡ N.name) × (changes.parts ≡ N.parts) × (N.parts ≡ 2 ^ 61 + 1) }
 {
     let Some(disk) = formatted(alloc)? else {
@@ -205,7 +208,7 @@ fn a_read_that_fails_fails_nothing_else(rt: HostRuntime) -> Result<(), Fail> {
             &rt,
             rt.alloc(),
             call,
-            Blank::new(PARTS),
+            Stops::new(rt.alloc(), PARTS)?,
             Blank::new(PARTS),
         )?;
         if let Some(found) = found {

@@ -1,5 +1,6 @@
 //! Rounds of a committer over the small journal, with the answers that its limits give by hand.
 ghost use Rattle.std.specs.Prelude.{◌≡◌, ◌+◌, ◌^◌};
+ghost use Rattle.jb_desk.specs.History.{history_in};
 ghost use Rattle.jb_handle.specs.Word.{WordMap};
 
 use crate::blind::start;
@@ -10,7 +11,7 @@ use crate::journal::{
 use jb_block::Memory;
 use jb_board::Front;
 use jb_deck::{Checked, CheckpointFault, Entry};
-use jb_desk::{BeginFault, Origin, RoundFault, WaitFault};
+use jb_desk::{BeginFault, Origin, RoundFault, Stops, WaitFault};
 use jb_disk::MemoryDisk;
 use std::alloc::Global;
 use std::marker::Brand;
@@ -137,12 +138,13 @@ fn rows<R: Wait, H: Origin, N: Ledger>(
     rt: &R,
     alloc: Global,
     is_last: bool,
-    handles: Blank,
+    handles: Stops,
     changes: Blank,
 ) -> Result<Option<Answer>, Memory>
     requires blind { H.begun.honest → ⊥ }
     requires any { (words : WordMap) → H.begun.stops words }
-    requires handles { (handles.name ≡ H.name) × (handles.parts ≡ H.parts) × (H.parts ≡ 2 ^ 61 + 1) }
+    requires handles { (handles.tickets.name ≡ H.name) × (handles.tickets.parts ≡ H.parts) × (H.parts ≡ 2 ^ 61 + 1) }
+    requires history { history_in handles ≡ H.history }
     requires changes { (changes.name ≡ N.name) × (changes.parts ≡ N.parts) × (N.parts ≡ 2 ^ 61 + 1) }
 {
     let disk = if is_last {
@@ -189,6 +191,7 @@ const ROWS: [(bool, Answer); 2] = [
                         first: 0,
                         past: 1,
                         number: 2,
+                        blocks: 3,
                     }),
                     1,
                 ),
@@ -235,7 +238,7 @@ fn rounds_answer_as_worked_by_hand(rt: HostRuntime) -> Result<(), Fail> {
             &rt,
             rt.alloc(),
             is_last,
-            Blank::new(PARTS),
+            Stops::new(rt.alloc(), PARTS)?,
             Blank::new(PARTS),
         )?;
         assert_eq!(rt; found, Some(wanted));

@@ -10,7 +10,7 @@ use crate::homes::Stop;
 use crate::journal::{Still, Why, retired, stop};
 use crate::keys::{CHANGES, Change, Draws, block_of, changes_of};
 use jb_block::Memory;
-use jb_desk::{BeginFault, Ended, Left, Origin, Seat, StopFault, WaitFault};
+use jb_desk::{BeginFault, Ended, Left, Origin, Seat, StopFault, Stops, WaitFault};
 use jb_disk::Disk;
 use jb_handle::{Handle, TouchFault};
 use std::alloc::Global;
@@ -25,7 +25,7 @@ const TURNS: u32 = 1_000_000;
 
 /// What a thread has done at a desk.
 #[derive(Drop)]
-pub struct Report<H: Ledger, N: Ledger> {
+pub struct Report<H: Origin, N: Ledger> {
     /// what its seat left
     pub left: Option<Left<H, N>>,
     /// the handles that it stopped
@@ -40,7 +40,7 @@ pub struct Report<H: Ledger, N: Ledger> {
     pub is_wrong: bool,
 }
 
-impl<H: Ledger, N: Ledger> Report<H, N> {
+impl<H: Origin, N: Ledger> Report<H, N> {
     fn new(alloc: Global) -> Report<H, N> {
         Report {
             left: None,
@@ -80,7 +80,7 @@ fn has_pushed<T: Copy>(items: &mut Vec<T>, item: T) -> bool {
 }
 
 /// Makes one change in a handle.
-fn touch<H: Ledger, N: Ledger>(
+fn touch<H: Origin, N: Ledger>(
     handle: &mut Handle<Seat<H, N>>,
     key: u64,
     change: Change,
@@ -96,7 +96,7 @@ fn touch<H: Ledger, N: Ledger>(
 }
 
 /// Makes the changes of this key in a handle. One that is out of memory is made once more.
-fn change_all<H: Ledger, N: Ledger>(
+fn change_all<H: Origin, N: Ledger>(
     handle: Handle<Seat<H, N>>,
     key: u64,
     report: &mut Report<H, N>,
@@ -243,7 +243,7 @@ fn commit<R: Wait, D: Disk, H: Origin, N: Ledger>(
 
 /// What all threads report, where each has run.
 #[derive(Drop)]
-pub struct Reports<H: Ledger, N: Ledger> {
+pub struct Reports<H: Origin, N: Ledger> {
     pub of_threads: Vec<Report<H, N>>,
     /// what the committer's seat left
     pub left: Left<H, N>,

@@ -1,9 +1,10 @@
 //! Handles that wait for room are begun in the order in which they came.
 ghost use Rattle.std.specs.Prelude.{◌≡◌, ◌+◌, ◌^◌};
+ghost use Rattle.jb_desk.specs.History.{history_in};
 
 use crate::blind::start;
 use crate::journal::{CLOCK, PARTS, Still, formatted, opened};
-use jb_desk::Origin;
+use jb_desk::{Origin, Stops};
 use jb_disk::{FixedClock, MemoryDisk};
 use std::alloc::Global;
 use std::marker::Brand;
@@ -49,11 +50,12 @@ fn come<R: Wait + Clock, H: Origin, N: Ledger>(
 fn order<R: Threads + Wait + Clock + Sync, H: Origin + Send + Sync, N: Ledger + Send + Sync>(
     rt: &R,
     alloc: Global,
-    handles: Blank,
+    handles: Stops,
     changes: Blank,
 ) -> Result<Vec<usize>, Fail>
     requires blind { H.begun.honest → ⊥ }
-    requires handles { (handles.name ≡ H.name) × (handles.parts ≡ H.parts) × (H.parts ≡ 2 ^ 61 + 1) }
+    requires handles { (handles.tickets.name ≡ H.name) × (handles.tickets.parts ≡ H.parts) × (H.parts ≡ 2 ^ 61 + 1) }
+    requires history { history_in handles ≡ H.history }
     requires changes { (changes.name ≡ N.name) × (changes.parts ≡ N.parts) × (N.parts ≡ 2 ^ 61 + 1) }
 {
     let Some(disk) = formatted(alloc)? else {
@@ -78,7 +80,7 @@ fn handles_that_wait_for_room_are_begun_in_the_order_of_arrival(
     let begun = order::<HostRuntime, Brand, Brand>(
         &rt,
         rt.alloc(),
-        Blank::new(PARTS),
+        Stops::new(rt.alloc(), PARTS)?,
         Blank::new(PARTS),
     )?;
     assert_eq!(rt;

@@ -1,11 +1,12 @@
 //! A thread that waits for a ticket goes on once the ticket is settled.
 ghost use Rattle.std.specs.Prelude.{◌≡◌, ◌+◌, ◌^◌};
+ghost use Rattle.jb_desk.specs.History.{history_in};
 ghost use Rattle.jb_handle.specs.Word.{WordMap};
 
 use crate::blind::start;
 use crate::gate::has_come;
 use crate::journal::{CLOCK, PARTS, Still, formatted, opened, retired, round, write};
-use jb_desk::{Origin, WaitFault};
+use jb_desk::{Origin, Stops, WaitFault};
 use jb_disk::MemoryDisk;
 use std::alloc::Global;
 use std::marker::Brand;
@@ -76,12 +77,13 @@ fn commit<R: Wait + Clock, H: Origin, N: Ledger>(
 fn waited<R: Threads + Wait + Clock + Sync, H: Origin + Send + Sync, N: Ledger + Send + Sync>(
     rt: &R,
     alloc: Global,
-    handles: Blank,
+    handles: Stops,
     changes: Blank,
 ) -> Result<(Option<Result<u32, WaitFault>>, bool), Fail>
     requires blind { H.begun.honest → ⊥ }
     requires any { (words : WordMap) → H.begun.stops words }
-    requires handles { (handles.name ≡ H.name) × (handles.parts ≡ H.parts) × (H.parts ≡ 2 ^ 61 + 1) }
+    requires handles { (handles.tickets.name ≡ H.name) × (handles.tickets.parts ≡ H.parts) × (H.parts ≡ 2 ^ 61 + 1) }
+    requires history { history_in handles ≡ H.history }
     requires changes { (changes.name ≡ N.name) × (changes.parts ≡ N.parts) × (N.parts ≡ 2 ^ 61 + 1) }
 {
     let Some(disk) = formatted(alloc)? else {
@@ -106,7 +108,7 @@ fn a_commit_ends_the_wait_for_its_ticket(rt: HostRuntime) -> Result<(), Fail> {
     let found = waited::<HostRuntime, Brand, Brand>(
         &rt,
         rt.alloc(),
-        Blank::new(PARTS),
+        Stops::new(rt.alloc(), PARTS)?,
         Blank::new(PARTS),
     )?;
     assert_eq!(rt; found, (Some(Ok(2)), true));

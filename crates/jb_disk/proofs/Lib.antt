@@ -9,6 +9,7 @@ pub mod Moments
 pub mod Outcomes
 pub mod Reached
 pub mod Replays
+pub mod Running
 pub mod Sectors
 pub mod Stepping
 pub mod Syncs

@@ -1,3 +1,4 @@
+pub mod Ahead
 pub mod Called
 pub mod Calls
 pub mod Faults
@@ -12,6 +13,7 @@ pub mod Memory
 pub mod Mixing
 pub mod Once
 pub mod OneFault
+pub mod Runs
 pub mod Steps
 pub mod Time
 pub mod Versions

@@ -1,11 +1,12 @@
 //! What is assumed of a disk: whole blocks of 512-byte sectors, and what a crash may leave of them.
-ghost use Rattle.std.specs.Prelude.{Bool, false, is_ok, IsTrue, IsErr, ◌≡◌, ◌<◌, ◌≤◌, ℕ, length, OnOk, set};
+ghost use Rattle.std.specs.Prelude.{Bool, false, is_ok, IsTrue, IsErr, ◌≡◌, ◌<◌, ◌≤◌, ◌^◌, ◌+◌, ◌*◌, ℕ, length, OnOk, set};
 ghost use Rattle.jb_block.specs.Size.{bytes_of, IsBlockSize};
 ghost use Rattle.jb_disk.specs.Image.{Image, block, Torn, Same, Only, HasShape};
 ghost use Rattle.jb_disk.specs.Time.{Goes};
 ghost use Rattle.jb_disk.specs.Called.{Called, Reads, Writes, Syncs};
 ghost use Rattle.jb_disk.specs.Faults.{CountsFault};
 ghost use Rattle.jb_disk.specs.Kept.{Kept, Untouched};
+ghost use Rattle.jb_disk.specs.Runs.{ReadsRun};
 
 use crate::Fault;
 use jb_block::BlockSize;
@@ -60,7 +61,8 @@ pub trait Disk {
         requires place { place < count self.old }
         requires block { length buf.old ≡ size self.old }
         ensures kept { Kept size count honest self.old self.new }
-        ensures spent { IsTrue (fails_next self.old) → IsErr result × Untouched newest may_leave moment self.old self.new }
+        ensures spent { IsTrue (fails_next self.old) → IsErr result
+            × Untouched newest may_leave moment self.old self.new }
         ensures faults { CountsFault result (faults self.old) (faults self.new) }
         ensures own { own (Reads place) self.old self.new (is_ok result) }
         ensures found { honest self.old → OnOk result (buf.new ≡ block (newest self.old) place) }
@@ -74,7 +76,8 @@ pub trait Disk {
         requires place { place < count self.old }
         requires block { length bytes.now ≡ size self.old }
         ensures kept { Kept size count honest self.old self.new }
-        ensures spent { IsTrue (fails_next self.old) → IsErr result × Untouched newest may_leave moment self.old self.new }
+        ensures spent { IsTrue (fails_next self.old) → IsErr result
+            × Untouched newest may_leave moment self.old self.new }
         ensures faults { CountsFault result (faults self.old) (faults self.new) }
         ensures own { own (Writes place bytes.now) self.old self.new (is_ok result) }
         ensures written { honest self.old → OnOk result (newest self.new ≡ set (newest self.old) place bytes.now) }
@@ -85,12 +88,36 @@ pub trait Disk {
     /// of what was written before it.
     fn sync(&mut self) -> Result<(), Fault>
         ensures kept { Kept size count honest self.old self.new }
-        ensures spent { IsTrue (fails_next self.old) → IsErr result × Untouched newest may_leave moment self.old self.new }
+        ensures spent { IsTrue (fails_next self.old) → IsErr result
+            × Untouched newest may_leave moment self.old self.new }
         ensures faults { CountsFault result (faults self.old) (faults self.new) }
         ensures own { own Syncs self.old self.new (is_ok result) }
         ensures newest { honest self.old → newest self.new ≡ newest self.old }
         ensures durable { honest self.old → OnOk result (Only (newest self.old) (may_leave self.new)) }
         ensures goes { honest self.old → Goes may_leave moment left_since Same self.old self.new };
+
+    /// Reads `blocks` blocks from the one at `place` on into `buf`, which has their length: one at least. Most
+    /// disks make one call of `read` for each of them. After a fault `buf` may hold anything.
+    fn read_run(&mut self, place: u64, blocks: usize, buf: &mut [u8]) -> Result<(), Fault>
+        requires some { 0 < blocks }
+        requires place { place + blocks ≤ count self.old }
+        requires range { place + blocks < 2 ^ 64 }
+        requires block { length buf.old ≡ size self.old * blocks }
+        ensures kept { Kept size count honest self.old self.new }
+        ensures spent { IsTrue (fails_next self.old) → IsErr result
+            × Untouched newest may_leave moment self.old self.new }
+        ensures faults { CountsFault result (faults self.old) (faults self.new) }
+        ensures found { honest self.old → OnOk result
+            (ReadsRun (size self.old) blocks place (newest self.old) buf.new) }
+        ensures newest { honest self.old → newest self.new ≡ newest self.old }
+        ensures goes { honest self.old → Goes may_leave moment left_since Same self.old self.new }
+    {
+        let size = self.block_size().bytes() as usize;
+        for k in 0..blocks {
+            self.read(place + k as u64, &mut buf[size * k..size * k + size])?;
+        }
+        Ok(())
+    }
 
     /// The size is one that a journal's blocks may have.
     ghost has_size: { (disk : Self) → IsBlockSize (size disk) };

@@ -94,9 +94,12 @@ impl Disk for FileDisk {
 
     fn read(&mut self, place: u64, buf: &mut [u8]) -> Result<(), Fault> {
         let at = place * u64::from(self.size.bytes());
-        let whole = buf.len();
-        let answer = self.file.read_at(buf, at);
-        settle(is_whole(&answer, whole), &mut self.faults)
+        settle(read_whole(&self.file, at, buf), &mut self.faults)
+    }
+
+    fn read_run(&mut self, place: u64, _blocks: usize, buf: &mut [u8]) -> Result<(), Fault> {
+        let at = place * u64::from(self.size.bytes());
+        settle(read_whole(&self.file, at, buf), &mut self.faults)
     }
 
     fn write(&mut self, place: u64, bytes: &[u8]) -> Result<(), Fault> {
@@ -117,6 +120,14 @@ fn whole_blocks(len: u64, size: BlockSize) -> u64
     ensures addressed { result * bytes_of size < 2 ^ 64 }
 {
     len / u64::from(size.bytes())
+}
+
+/// Fills the buffer with the bytes of the file from offset `at` on, by one call; tells whether there were
+/// as many.
+fn read_whole(file: &File, at: u64, buf: &mut [u8]) -> bool {
+    let len = buf.len();
+    let answer = file.read_at(buf, at);
+    is_whole(&answer, len)
 }
 
 /// Whether so many bytes were moved, and no fewer.

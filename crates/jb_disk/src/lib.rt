@@ -1,6 +1,7 @@
 //! Disks of whole blocks: what a read gives, what a crash may leave, and disks for tests.
 #![tactic(auto)]
 
+mod ahead;
 mod clock;
 mod disk;
 mod fault;
@@ -11,6 +12,7 @@ mod memory;
 mod one_fault;
 mod sector;
 
+pub use ahead::Ahead;
 pub use clock::{Clock, FixedClock};
 pub use disk::Disk;
 pub use fault::Fault;
@@ -18,3 +20,4 @@ pub use file::FileDisk;
 pub use fuse::FuseDisk;
 pub use memory::MemoryDisk;
 pub use one_fault::OneFaultDisk;
+pub use sector::SECTOR;

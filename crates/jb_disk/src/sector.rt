@@ -12,13 +12,15 @@ use jb_block::{BlockSize, Memory};
 use std::alloc::Global;
 
 /// How many bytes a disk writes whole or not at all.
-const SECTOR: usize = 512;
+pub const SECTOR: usize = 512;
 
 /// How many calls there are up to the last sync, that one included.
 fn until_sync(calls: &[Call]) -> usize
     ensures within { result ≤ length calls.now }
-    ensures before { (first : List (List ℕ)) → synced first (steps_of calls.now) ≡ replay first (steps_of (take result calls.now)) }
-    ensures behind { (place : ℕ) → written (steps_of calls.now) place ≡ written (steps_of (drop result calls.now)) place }
+    ensures before { (first : List (List ℕ)) → synced first (steps_of calls.now) ≡ replay first
+        (steps_of (take result calls.now)) }
+    ensures behind { (place : ℕ) → written (steps_of calls.now) place ≡ written (steps_of (drop result calls.now))
+        place }
     ensures writes { AreWrites (steps_of (drop result calls.now)) }
 {
     let mut count = 0;
@@ -44,7 +46,8 @@ pub(crate) fn copy_of(alloc: Global, blocks: &[Vec<u8>]) -> Result<Vec<Vec<u8>>,
 
 /// Writes to the blocks what the calls wrote.
 fn replay_calls(image: &mut [Vec<u8>], calls: &[Call])
-    requires { (size : ℕ) × HasShape (length image.old) size (image_of image.old) × AreWhole (length image.old) size (steps_of calls.now) }
+    requires { (size : ℕ) × HasShape (length image.old) size (image_of image.old)
+        × AreWhole (length image.old) size (steps_of calls.now) }
     ensures { image_of image.new ≡ replay (image_of image.old) (steps_of calls.now) }
 {
     for call in calls {
@@ -76,7 +79,8 @@ fn writes_by_place<'a>(
     requires whole { (size : ℕ) × AreWhole count size (steps_of calls.now) }
     requires writes { AreWrites (steps_of calls.now) }
     ensures places { IfOk result (λ table. length table.items ≡ count) }
-    ensures writes { IfOk result (λ table. (place : ℕ) → place < count → writes_at (table_of table.items) place ≡ written (steps_of calls.now) place) }
+    ensures writes { IfOk result (λ table. (place : ℕ) → place < count
+        → writes_at (table_of table.items) place ≡ written (steps_of calls.now) place) }
     ensures grows { OnErr result (0 < count) }
 {
     let mut table = no_writes(alloc, count)?;
@@ -104,7 +108,8 @@ fn behind(choice: &[u32], n: usize) -> &[u32]
 
 /// The write whose bytes a sector takes, or none where it keeps those of the sync.
 fn pick<'a>(writes: &[&'a [u8]], number: u32) -> Option<&'a [u8]>
-    ensures { (old : List ℕ) → MatchOption result (version (old ∷ bytes_of_writes writes.now) number ≡ old) (λ w. version (old ∷ bytes_of_writes writes.now) number ≡ w.now) }
+    ensures { (old : List ℕ) → MatchOption result (version (old ∷ bytes_of_writes writes.now) number ≡ old)
+        (λ w. version (old ∷ bytes_of_writes writes.now) number ≡ w.now) }
 {
     let chosen = number as usize % (writes.len() + 1);
     if chosen == 0 {
@@ -127,7 +132,8 @@ fn copy_sector(to: &mut [u8], from: &[u8], k: usize)
 fn mix(block: &mut [u8], writes: &[&[u8]], sectors: usize, choice: &[u32])
     requires size { length block.old ≡ 512 * sectors }
     requires whole { All (λ b. length b ≡ 512 * sectors) (bytes_of_writes writes.now) }
-    ensures { (k : ℕ) → k < sectors → sector k block.new ≡ sector k (version (block.old ∷ bytes_of_writes writes.now) (get_or choice.now k 0)) }
+    ensures { (k : ℕ) → k < sectors → sector k block.new ≡ sector k
+        (version (block.old ∷ bytes_of_writes writes.now) (get_or choice.now k 0)) }
 {
     for k in 0..sectors {
         if let Some(bytes) = pick(writes, number_at(choice, k)) {
@@ -141,9 +147,13 @@ fn mix(block: &mut [u8], writes: &[&[u8]], sectors: usize, choice: &[u32])
 fn choose(image: &mut [Vec<u8>], writes: &[Vec<&[u8]>], sectors: usize, choice: &[u32])
     requires shape { HasShape (length image.old) (512 * sectors) (image_of image.old) }
     requires places { length writes.now ≡ length image.old }
-    requires whole { (place : ℕ) → place < length image.old → All (λ b. length b ≡ 512 * sectors) (writes_at (table_of writes.now) place) }
+    requires whole { (place : ℕ) → place < length image.old
+        → All (λ b. length b ≡ 512 * sectors) (writes_at (table_of writes.now) place) }
     ensures shape { HasShape (length image.old) (512 * sectors) (image_of image.new) }
-    ensures chosen { (place k : ℕ) → place < length image.old → k < sectors → sector k (block_at (image_of image.new) place) ≡ sector k (version (block_at (image_of image.old) place ∷ writes_at (table_of writes.now) place) (get_or choice.now (any_below (table_of writes.now) place * sectors + k) 0)) }
+    ensures chosen { (place k : ℕ) → place < length image.old → k < sectors
+        → sector k (block_at (image_of image.new) place) ≡ sector k
+        (version (block_at (image_of image.old) place ∷ writes_at (table_of writes.now) place)
+        (get_or choice.now (any_below (table_of writes.now) place * sectors + k) 0)) }
 {
     let mut rest = choice;
     for place in 0..image.len() {
@@ -157,7 +167,8 @@ fn choose(image: &mut [Vec<u8>], writes: &[Vec<&[u8]>], sectors: usize, choice: 
 
 /// The blocks that the calls lead to from these first ones.
 fn synced_image(alloc: Global, first: &[Vec<u8>], calls: &[Call]) -> Result<Vec<Vec<u8>>, Memory>
-    requires { (size : ℕ) × HasShape (length first.now) size (image_of first.now) × AreWhole (length first.now) size (steps_of calls.now) }
+    requires { (size : ℕ) × HasShape (length first.now) size (image_of first.now)
+        × AreWhole (length first.now) size (steps_of calls.now) }
     ensures synced { IfOk result (λ image. image_of image.items ≡ replay (image_of first.now) (steps_of calls.now)) }
     ensures grows { OnErr result (0 < length first.now) }
 {
@@ -179,7 +190,10 @@ pub(crate) fn crash_image(
     ensures count { IfOk result (λ image. length image.items ≡ length first.now) }
     ensures shape { IfOk result (λ image. HasShape (length first.now) (bytes_of size) (image_of image.items)) }
     ensures grows { OnErr result (0 < length first.now) }
-    ensures chosen { IfOk result (λ image. (place k : ℕ) → place < length first.now → k < bytes_of size / 512 → sector k (block_at (image_of image.items) place) ≡ sector k (version (versions (image_of first.now) (steps_of calls.now) place) (get_or choice.now (written_below (steps_of calls.now) place * (bytes_of size / 512) + k) 0))) }
+    ensures chosen { IfOk result (λ image. (place k : ℕ) → place < length first.now → k < bytes_of size / 512
+        → sector k (block_at (image_of image.items) place) ≡ sector k
+        (version (versions (image_of first.now) (steps_of calls.now) place)
+        (get_or choice.now (written_below (steps_of calls.now) place * (bytes_of size / 512) + k) 0))) }
 {
     let synced = until_sync(calls);
     let mut image = synced_image(alloc, first, &calls[..synced])?;

@@ -27,6 +27,31 @@ fn look<D: Disk>(disk: &mut D, place: u64) -> Result<[u8; 4], Fault> {
     Ok([bytes[0], bytes[511], bytes[512], bytes[1023]])
 }
 
+/// The first and the last byte of each of up to three blocks in a row, read by one call.
+fn look_run<D: Disk>(disk: &mut D, place: u64, blocks: usize) -> Result<[u8; 6], Fault> {
+    let count = disk.blocks();
+    if blocks == 0 || 3 < blocks || count < place || count - place < blocks as u64 {
+        return Err(Fault);
+    }
+    let size = disk.block_size().bytes() as usize;
+    let mut bytes = [0; 3 * 4096];
+    disk.read_run(place, blocks, &mut bytes[..size * blocks])?;
+    let mut ends = [0; 6];
+    for k in 0..blocks {
+        ends[2 * k] = bytes[size * k];
+        ends[2 * k + 1] = bytes[size * k + size - 1];
+    }
+    Ok(ends)
+}
+
+/// Fills each of the first five blocks of a disk with its place and one more.
+fn number<D: Disk>(disk: &mut D) -> Result<(), Fault> {
+    for byte in 1..6u8 {
+        fill(disk, u64::from(byte) - 1, byte)?;
+    }
+    Ok(())
+}
+
 /// Which of three calls, a write, a sync and a read, succeed.
 fn three_calls<D: Disk>(disk: &mut D) -> [bool; 3] {
     let written = fill(disk, 1, 7).is_ok();
@@ -89,6 +114,51 @@ fn calls_fail_by_their_number(rt: HostRuntime) -> Result<(), Fail> {
         assert_eq!(rt; three_calls(&mut disk), but_one, "at {calls}");
         assert_eq!(rt; look(&mut disk.into_inner(), 1), Ok(content), "at {calls}");
     }
+    Ok(())
+}
+
+/// Blocks in a row: of a disk in memory, behind a fuse, which counts each block, and of a file.
+#[test]
+fn a_run_gives_each_of_its_blocks(rt: HostRuntime) -> Result<(), Fail> {
+    const PATH: &str = "data/run.img";
+    let rows = [
+        (0, 1, [1, 1, 0, 0, 0, 0]),
+        (0, 3, [1, 1, 2, 2, 3, 3]),
+        (1, 3, [2, 2, 3, 3, 4, 4]),
+        (3, 2, [4, 4, 5, 5, 0, 0]),
+    ];
+    let _ = fs::create_dir(&rt, "data");
+    fs::write(&rt, PATH, [0; 5 * 1024 + 700].as_slice())?;
+    let mut file = opened(OpenOptions::new().read(true).write(true).open(&rt, PATH)?);
+    let mut memory = MemoryDisk::new(rt.alloc(), BlockSize::OneKib, 5)?;
+    assert_eq!(rt; number(&mut memory), Ok(()));
+    assert_eq!(rt; file.as_mut().map(|disk| number(disk)), Some(Ok(())));
+    for (place, blocks, ends) in rows {
+        assert_eq!(rt;
+            look_run(&mut memory, place, blocks),
+            Ok(ends),
+            "at {place}"
+        );
+        assert_eq!(rt;
+            file.as_mut().map(|disk| look_run(disk, place, blocks)),
+            Some(Ok(ends)),
+            "at {place}"
+        );
+    }
+    let mut fuse = FuseDisk::of(memory, 5);
+    assert_eq!(rt; look_run(&mut fuse, 1, 3), Ok([2, 2, 3, 3, 4, 4]));
+    assert_eq!(rt; look_run(&mut fuse, 1, 3), Err(Fault));
+    fs::write(&rt, PATH, [9; 3 * 1024 + 512].as_slice())?;
+    assert_eq!(rt;
+        file.as_mut().map(|disk| look_run(disk, 1, 2)),
+        Some(Ok([9, 9, 9, 9, 0, 0]))
+    );
+    assert_eq!(rt;
+        file.as_mut().map(|disk| look_run(disk, 1, 3)),
+        Some(Err(Fault))
+    );
+    fs::remove_file(&rt, PATH)?;
+    let _ = fs::remove_dir(&rt, "data");
     Ok(())
 }
 

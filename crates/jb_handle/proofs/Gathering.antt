@@ -1,18 +1,18 @@
 -- The words of handles, gathered one after the other.
-use Rattle.std.proofs.Common.{◌≡◌, ◌⊎◌, ℕ, zero, suc, ◌+◌, ◌<◌, ◌≤◌, Bool, true, false, cond, nat_eq, T, List, [], ◌∷◌, ◌++◌, length, get_or, take, Option, Some, None, inl, inr, ⊎_elim, refl, sym, ap, ◌∙◌, arith}
+use Rattle.std.proofs.Common.{◌≡◌, ◌⊎◌, ℕ, zero, suc, ◌+◌, ◌<◌, ◌≤◌, Bool, true, false, cond, nat_eq, T, List, [], ◌∷◌, length, get_or, take, drop, Option, Some, None, is_some, Result, Ok, Err, OnOk, inl, inr, ⊎_elim, refl, sym, ap, ◌∙◌, arith}
 use Rattle.std.specs.Option.{option_or}
 use Rattle.std.specs.Ordering.{eq_by_cmp, nat_cmp}
 use Rattle.std.specs.Cmp.{nat_cmp_total}
 use Rattle.std.specs.FinMap as map
-use Rattle.std.proofs.lemmas.List.{take_all, take_more}
+use Rattle.std.proofs.lemmas.Bool.Decides.{nat_tests}
+use Rattle.std.proofs.lemmas.List.{drop_more, take_all}
 use Rattle.jb_handle.specs.declared.word.Word.{Word}
 use Rattle.jb_handle.specs.declared.stopped.Stopped.{Stopped}
 use Rattle.jb_handle.specs.Word.{WordMap}
 use Rattle.jb_handle.specs.Words.{word, words_of}
 use Rattle.jb_handle.proofs.LastWord.{or-cond, get-words_of}
-use Rattle.jb_handle.proofs.Rising.{find-take, tied-cond}
-use Rattle.jb_handle.proofs.Touched.{word-append}
-use Rattle.jb_handle.proofs.Options.{or-none}
+use Rattle.jb_handle.proofs.Rising.{find-before, find-take, tied-cond}
+use Rattle.jb_handle.proofs.Options.{or-none, or-nothing}
 
 -- one word more of a handle
 pub word-more : (es : List (ℕ × Word)) → T (map.is_sorted nat_cmp es) → (i : ℕ) (e : ℕ × Word) → e ≡ get_or es i e → i < length es → (m n : WordMap) (w : Word) → w ≡ e.1 → n ≡ map.insert m e.0 w
@@ -27,6 +27,41 @@ word-more es rising i e here inside m n w same put q before so_far =
     ∙ ap (λ (x : ℕ × Word). option_or (cond (nat_eq q x.0) (Some x.1) (map.find nat_cmp q (take i es))) before) here
     ∙ ap (λ found. option_or found before) (sym (find-take es rising i e inside q))
 
+or-added : (t : Bool) (w : Word) (before found : Option Word) → (t ≡ true → found ≡ None) → option_or (option_or before found) (cond t (Some w) None) ≡ option_or before (cond t (Some w) found)
+or-added true w before found none = ap (λ f. option_or (option_or before f) (Some w)) (none refl) ∙ ap (λ x. option_or x (Some w)) (or-nothing before)
+or-added false w before found none = or-nothing (option_or before found)
+
+-- one word more of a handle, on a home that has none
+pub word-added : (es : List (ℕ × Word)) → T (map.is_sorted nat_cmp es) → (i : ℕ) (e : ℕ × Word) → e ≡ get_or es i e → i < length es → (m n : WordMap) (q : ℕ) (before : Option Word)
+    → map.get n q ≡ option_or (map.get m q) (cond (nat_eq q e.0) (Some e.1) None) → map.get m q ≡ option_or before (map.find nat_cmp q (take i es)) → map.get n q ≡ option_or before (map.find nat_cmp q (take (i + 1) es))
+word-added es rising i e here inside m n q before put so_far =
+    put
+    ∙ ap (λ x. option_or x (cond (nat_eq q e.0) (Some e.1) None)) so_far
+    ∙ or-added (nat_eq q e.0) e.1 before (map.find nat_cmp q (take i es)) (λ same.
+    let tied : q ≡ e.0 = grind (arith, nat_tests, same) in
+    ap (λ h. map.find nat_cmp h (take i es)) (tied ∙ ap (λ (x : ℕ × Word). x.0) here) ∙ find-before es rising i e inside)
+    ∙ ap (λ (x : ℕ × Word). option_or before (cond (nat_eq q x.0) (Some x.1) (map.find nat_cmp q (take i es)))) here
+    ∙ ap (option_or before) (sym (find-take es rising i e inside q))
+
+put-by : (t : Bool) (v : Word) (had : Option Word) → (t ≡ true → had ≡ None) → cond t (Some v) had ≡ option_or had (cond t (Some v) None)
+put-by true v had none = ap (λ h. option_or h (Some v)) (sym (none refl))
+put-by false v had none = sym (or-nothing had)
+
+has-none : (had : Option Word) → is_some had ≡ false → had ≡ None
+has-none None is = refl
+has-none (Some w) is = let never : ◌≡◌ {A = Bool} true false = is in absurd (let h : ⊥ = cc in h)
+
+-- a word on a home that has none
+pub put-added : {V E : Type 0} (r : Result V E) (m n : WordMap) (home : ℕ) (w v : Word) → w ≡ v → is_some (map.get m home) ≡ false → OnOk r (n ≡ map.insert m home w)
+    → OnOk r ((q : ℕ) → map.get n q ≡ option_or (map.get m q) (cond (nat_eq q home) (Some v) None))
+put-added (Err e) m n home w v same none put = tt
+put-added (Ok x) m n home w v same none put = λ q.
+    ap (λ x. map.get x q) put
+    ∙ map.get-insert nat_cmp_total m home w q
+    ∙ tied-cond q home (Some w) (map.get m q)
+    ∙ ap (λ x. cond (nat_eq q home) (Some x) (map.get m q)) same
+    ∙ put-by (nat_eq q home) v (map.get m q) (λ tied. let there : q ≡ home = grind (arith, nat_tests, tied) in ap (map.get m) there ∙ has-none (map.get m home) none)
+
 -- all words of a handle
 pub words-whole : (words : WordMap) (es : List (ℕ × Word)) → es ≡ map.entries words → (i : ℕ) → length es ≤ i → (q : ℕ) (before : Option Word) → option_or (map.find nat_cmp q (take i es)) before ≡ option_or (map.get words q) before
 words-whole words es same i whole q before = ap (λ found. option_or found before) (ap (map.find nat_cmp q) (take_all i es whole ∙ same) ∙ sym (map.get-entries words q))
@@ -35,17 +70,18 @@ words-whole words es same i whole q before = ap (λ found. option_or found befor
 pub some-entry : (words : WordMap) (es : List (ℕ × Word)) → es ≡ map.entries words → (i : ℕ) → i < length es → 0 < map.len words
 some-entry words es same i inside = let all : map.len words ≡ length es = map.len-entries words ∙ ap length (sym same) in omega (arith, all)
 
--- one handle more
-pub handle-more : (hs : List Stopped) (i : ℕ) (h : Stopped) → h ≡ get_or hs i h → i < length hs → (m n : WordMap) (q : ℕ) → map.get n q ≡ option_or (map.get h.words q) (map.get m q) → map.get m q ≡ word (take i hs) q → map.get n q ≡ word (take (i + 1) hs) q
-handle-more hs i h here inside m n q put so_far =
+-- an earlier handle's words, where those of the later ones stay
+pub handle-earlier : (hs : List Stopped) (i past : ℕ) (h : Stopped) → i + 1 ≡ past → h ≡ get_or hs i h → i < length hs → (m n : WordMap) (q : ℕ)
+    → map.get n q ≡ option_or (map.get m q) (map.get h.words q) → map.get m q ≡ word (drop past hs) q → map.get n q ≡ word (drop i hs) q
+handle-earlier hs i past h next here inside m n q put so_far =
     put
-    ∙ ap (option_or (map.get h.words q)) so_far
-    ∙ sym (word-append (take i hs) h q)
-    ∙ ap (λ gs. word gs q) (ap (λ g. take i hs ++ g ∷ []) here ∙ sym (take_more hs i h inside))
+    ∙ ap (λ w. option_or w (map.get h.words q)) (so_far ∙ ap (λ k. word (drop k hs) q) (sym next))
+    ∙ ap (λ (g : Stopped). option_or (word (drop (i + 1) hs) q) (map.get g.words q)) here
+    ∙ ap (λ gs. word gs q) (sym (drop_more hs i h inside))
 
 -- all handles
-pub handles-whole : (hs : List Stopped) (i : ℕ) → length hs ≤ i → (m : WordMap) → ((q : ℕ) → map.get m q ≡ word (take i hs) q) → m ≡ words_of hs
-handles-whole hs i whole m so_far = map.same_map nat_cmp_total map.nat_cmp-IsAntisymmetric m (words_of hs) (λ q. so_far q ∙ ap (λ gs. word gs q) (take_all i hs whole) ∙ sym (get-words_of hs q))
+pub handles-whole : (hs : List Stopped) (m : WordMap) → ((q : ℕ) → map.get m q ≡ word hs q) → m ≡ words_of hs
+handles-whole hs m so_far = map.same_map nat_cmp_total map.nat_cmp-IsAntisymmetric m (words_of hs) (λ q. so_far q ∙ sym (get-words_of hs q))
 
 -- where no handle has a word on a home, none of them has
 none-each : (hs : List Stopped) (i : ℕ) (d : Stopped) (q : ℕ) → i < length hs → word hs q ≡ None → map.get (get_or hs i d).words q ≡ None
@@ -75,9 +111,9 @@ found-partly (e ∷ es) (suc i) q = either (eq_by_cmp nat_cmp q e.0) (map.find n
     either true x y so = inr refl
     either false x y so = so
 
-pub words-partly : (words : WordMap) (es : List (ℕ × Word)) → es ≡ map.entries words → (i q : ℕ) (now before : Option Word) → now ≡ option_or (map.find nat_cmp q (take i es)) before → (now ≡ before) ⊎ (now ≡ option_or (map.get words q) before)
+pub words-partly : (words : WordMap) (es : List (ℕ × Word)) → es ≡ map.entries words → (i q : ℕ) (now before : Option Word) → now ≡ option_or before (map.find nat_cmp q (take i es)) → (now ≡ before) ⊎ (now ≡ option_or before (map.get words q))
 words-partly words es same i q now before so =
     ⊎_elim
-    (λ none. inl (so ∙ ap (λ found. option_or found before) none))
-    (λ all. inr (so ∙ ap (λ found. option_or found before) (all ∙ ap (map.find nat_cmp q) same ∙ sym (map.get-entries words q))))
+    (λ none. inl (so ∙ ap (option_or before) none ∙ or-nothing before))
+    (λ all. inr (so ∙ ap (option_or before) (all ∙ ap (map.find nat_cmp q) same ∙ sym (map.get-entries words q))))
     (found-partly es i q)

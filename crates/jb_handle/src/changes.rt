@@ -38,8 +38,8 @@ impl From<Memory> for TouchFault {
     }
 }
 
-/// What a handle has changed so far: its credits, which bound how many different blocks it may touch,
-/// and the last word on each block that it touched. It may be dropped, and kept in a map.
+/// What a handle has changed so far: its credits (`h_total_credits`), which bound how many different blocks
+/// it may touch, and the last word on each block that it touched. It may be dropped, and kept in a map.
 #[derive(Drop)]
 pub struct Changes {
     credits: u32,
@@ -129,7 +129,8 @@ impl Changes {
         ensures granted { OnOk result (refusal self.old op ≡ None) }
         ensures err { OnErr result (self.new ≡ self.old) }
         ensures refused { IfErr result (λ fault. (fault ≡ OutOfMemory) ⊎ (refusal self.old op ≡ Some fault)) }
-        ensures memory { IfErr result (λ fault. fault ≡ OutOfMemory → (refusal self.old op ≡ None) × (map.contains_key self.old.words (home_of op) ≡ false)) }
+        ensures memory { IfErr result (λ fault. fault ≡ OutOfMemory → (refusal self.old op ≡ None)
+            × (map.contains_key self.old.words (home_of op) ≡ false)) }
     {
         match op {
             Op::Write(home, payload) => {
@@ -151,7 +152,8 @@ impl Changes {
         ensures ok { OnOk result (self.new ≡ after self.old (Write home bytes.now)) }
         ensures granted { OnOk result (refusal self.old (Write home bytes.now) ≡ None) }
         ensures err { OnErr result (self.new ≡ self.old) }
-        ensures refused { IfErr result (λ fault. (fault ≡ OutOfMemory) ⊎ (refusal self.old (Write home bytes.now) ≡ Some fault)) }
+        ensures refused { IfErr result (λ fault. (fault ≡ OutOfMemory)
+            ⊎ (refusal self.old (Write home bytes.now) ≡ Some fault)) }
         ensures memory { IfErr result (λ fault. fault ≡ OutOfMemory → refusal self.old (Write home bytes.now) ≡ None) }
     {
         self.admit(home, Some(bytes.len()))?;
@@ -169,8 +171,10 @@ impl Changes {
         ensures ok { OnOk result (self.new ≡ after self.old (Revoke home)) }
         ensures granted { OnOk result (refusal self.old (Revoke home) ≡ None) }
         ensures err { OnErr result (self.new ≡ self.old) }
-        ensures refused { IfErr result (λ fault. (fault ≡ OutOfMemory) ⊎ (refusal self.old (Revoke home) ≡ Some fault)) }
-        ensures memory { IfErr result (λ fault. fault ≡ OutOfMemory → (refusal self.old (Revoke home) ≡ None) × (map.contains_key self.old.words home ≡ false)) }
+        ensures refused { IfErr result (λ fault. (fault ≡ OutOfMemory)
+            ⊎ (refusal self.old (Revoke home) ≡ Some fault)) }
+        ensures memory { IfErr result (λ fault. fault ≡ OutOfMemory → (refusal self.old (Revoke home) ≡ None)
+            × (map.contains_key self.old.words home ≡ false)) }
     {
         self.admit(home, None)?;
         self.keep(home, Word::Free)
@@ -187,8 +191,10 @@ impl Changes {
         ensures ok { OnOk result (self.new ≡ put_at self.old home word.now) }
         ensures granted { OnOk result (refusal_at self.old home (len_in word.now) ≡ None) }
         ensures err { OnErr result (self.new ≡ self.old) }
-        ensures refused { IfErr result (λ fault. (fault ≡ OutOfMemory) ⊎ (refusal_at self.old home (len_in word.now) ≡ Some fault)) }
-        ensures memory { IfErr result (λ fault. fault ≡ OutOfMemory → (refusal_at self.old home (len_in word.now) ≡ None)
+        ensures refused { IfErr result (λ fault. (fault ≡ OutOfMemory)
+            ⊎ (refusal_at self.old home (len_in word.now) ≡ Some fault)) }
+        ensures memory { IfErr result (λ fault. fault ≡ OutOfMemory
+            → (refusal_at self.old home (len_in word.now) ≡ None)
             × (is_copy word.now ≡ false → map.contains_key self.old.words home ≡ false)) }
     {
         self.admit(home, word.len())?;

@@ -1,4 +1,4 @@
-ghost use Rattle.std.specs.Prelude.{◌≡◌, ◌<◌, ◌⊎◌, ℕ, None, IfOk, OnOk, OnErr};
+ghost use Rattle.std.specs.Prelude.{◌≡◌, ◌<◌, ◌⊎◌, ℕ, nat_eq, if◌then◌else◌, None, Some, is_some, IfOk, OnOk, OnErr};
 ghost use Rattle.std.specs.Option.{option_or};
 ghost use Rattle.std.specs.FinMap as map;
 
@@ -50,26 +50,47 @@ impl Gathered {
         ensures err { OnErr result (self.new ≡ self.old) }
         ensures new { OnErr result (map.get self.old home ≡ None) }
     {
-        word.holds_bytes();
+        word.holds_bytes(); // for the proof alone: words hold bytes
         self.tree.insert(home, word)?;
         Ok(())
     }
 
-    /// Puts a copy of each word of a handle.
+    /// Puts a copy of each word of an earlier handle: a home block that has a word keeps it, and no copy is made.
     ///
     /// # Errors
     ///
     /// `Memory` where there is none for a copy or a further word, and never for a handle without words. Then
-    /// each home block has its word as it was, or the handle's.
-    pub fn put_all(&mut self, words: &Words) -> Result<(), Memory>
-        ensures ok { OnOk result ((home : ℕ) → map.get self.new home ≡ option_or (map.get words.now home) (map.get self.old home)) }
+    /// each home block has its word as it was, or the handle's where it had none.
+    pub fn add_all(&mut self, words: &Words) -> Result<(), Memory>
+        ensures ok { OnOk result ((home : ℕ) →
+            map.get self.new home ≡ option_or (map.get self.old home) (map.get words.now home)) }
         ensures err { OnErr result (0 < map.len words.now) }
-        ensures partly { OnErr result ((home : ℕ) → (map.get self.new home ≡ map.get self.old home) ⊎ (map.get self.new home ≡ option_or (map.get words.now home) (map.get self.old home))) }
+        ensures partly { OnErr result ((home : ℕ) → (map.get self.new home ≡ map.get self.old home)
+            ⊎ (map.get self.new home ≡ option_or (map.get self.old home) (map.get words.now home))) }
     {
         for (home, word) in words.entries() {
-            self.put(*home, word.try_clone()?)?;
+            self.add(*home, word)?;
         }
         Ok(())
+    }
+
+    /// Puts a copy of a word on a home block, unless it has one.
+    fn add(&mut self, home: u64, word: &Word) -> Result<(), Memory>
+        ensures ok { OnOk result ((q : ℕ) → map.get self.new q
+            ≡ option_or (map.get self.old q) (if nat_eq q home then Some word.now else None)) }
+        ensures err { OnErr result (self.new ≡ self.old) }
+    {
+        if self.has(home) {
+            return Ok(());
+        }
+        self.put(home, word.try_clone()?)
+    }
+
+    /// Whether a home block has a word.
+    fn has(&self, home: u64) -> bool
+        ensures { result ≡ is_some (map.get self.now home) }
+    {
+        self.tree.contains_key(&home)
     }
 
     /// The words in the order of their homes.

@@ -91,8 +91,10 @@ impl<S> Handle<S> {
         ensures ok { OnOk result (changes_of self.new ≡ after (changes_of self.old) (Write home bytes.now)) }
         ensures granted { OnOk result (refusal (changes_of self.old) (Write home bytes.now) ≡ None) }
         ensures err { OnErr result (changes_of self.new ≡ changes_of self.old) }
-        ensures refused { IfErr result (λ fault. (fault ≡ Memory) ⊎ (refusal (changes_of self.old) (Write home bytes.now) ≡ Some fault)) }
-        ensures memory { IfErr result (λ fault. fault ≡ Memory → refusal (changes_of self.old) (Write home bytes.now) ≡ None) }
+        ensures refused { IfErr result (λ fault. (fault ≡ Memory)
+            ⊎ (refusal (changes_of self.old) (Write home bytes.now) ≡ Some fault)) }
+        ensures memory { IfErr result (λ fault. fault ≡ Memory
+            → refusal (changes_of self.old) (Write home bytes.now) ≡ None) }
     {
         self.changes.write(home, bytes)
     }
@@ -108,8 +110,10 @@ impl<S> Handle<S> {
         ensures ok { OnOk result (changes_of self.new ≡ after (changes_of self.old) (Revoke home)) }
         ensures granted { OnOk result (refusal (changes_of self.old) (Revoke home) ≡ None) }
         ensures err { OnErr result (changes_of self.new ≡ changes_of self.old) }
-        ensures refused { IfErr result (λ fault. (fault ≡ Memory) ⊎ (refusal (changes_of self.old) (Revoke home) ≡ Some fault)) }
-        ensures memory { IfErr result (λ fault. fault ≡ Memory → (refusal (changes_of self.old) (Revoke home) ≡ None) × (map.contains_key (changes_of self.old).words home ≡ false)) }
+        ensures refused { IfErr result (λ fault. (fault ≡ Memory)
+            ⊎ (refusal (changes_of self.old) (Revoke home) ≡ Some fault)) }
+        ensures memory { IfErr result (λ fault. fault ≡ Memory → (refusal (changes_of self.old) (Revoke home) ≡ None)
+            × (map.contains_key (changes_of self.old).words home ≡ false)) }
     {
         self.changes.revoke(home)
     }
@@ -128,7 +132,8 @@ impl<S> Handle<S> {
         ensures err { OnErr result (changes_of self.new ≡ changes_of self.old) }
         ensures refused { IfErr result (λ fault. (fault ≡ Memory)
             ⊎ (refusal_at (changes_of self.old) home (len_in word.now) ≡ Some fault)) }
-        ensures memory { IfErr result (λ fault. fault ≡ Memory → (refusal_at (changes_of self.old) home (len_in word.now) ≡ None)
+        ensures memory { IfErr result (λ fault. fault ≡ Memory
+            → (refusal_at (changes_of self.old) home (len_in word.now) ≡ None)
             × (is_copy word.now ≡ false → map.contains_key (changes_of self.old).words home ≡ false)) }
     {
         self.changes.put(home, word)

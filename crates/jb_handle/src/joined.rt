@@ -10,7 +10,7 @@ use std::alloc::Global;
 
 impl Words {
     /// The words of a list of handles as those of one: of several words on one home block the last
-    /// handle's counts.
+    /// handle's counts, and it alone is copied.
     ///
     /// # Errors
     ///
@@ -20,8 +20,8 @@ impl Words {
         ensures err { OnErr result (0 < map.len (words_of handles.now)) }
     {
         let mut gathered = Gathered::new(alloc);
-        for handle in handles {
-            gathered.put_all(&handle.words)?;
+        for at in (0..handles.len()).rev() {
+            gathered.add_all(&handles[at].words)?;
         }
         gathered.into_words(alloc)
     }

@@ -1,6 +1,6 @@
 use crate::payload::Payload;
 
-/// A change of one home block by a handle.
+/// A change of one home block by a handle (of a metadata buffer, in the kernel).
 #[derive(Debug, Drop)]
 pub enum Op {
     /// The home block gets these bytes (`jbd2_journal_dirty_metadata`). It cancels a revoke of

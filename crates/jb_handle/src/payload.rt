@@ -1,11 +1,11 @@
 ghost use Rattle.std.specs.Prelude.{◌≡◌, List, ℕ, ◌-◌, ◌≤◌, length, take, IfOk};
 ghost use Rattle.jb_block.specs.Fields.{padded, AreBytes};
 
-use jb_block::Memory;
+use jb_block::{Memory, are_bytes};
 use std::alloc::Global;
 use std::marker::Model;
 
-/// The content of a block: some first bytes, and zeros after them up to the block's length. Only
+/// The content of a block (`b_data`): some first bytes, and zeros after them up to the block's length. Only
 /// the first bytes take memory.
 #[derive(Debug, Drop)]
 pub struct Payload {
@@ -60,7 +60,7 @@ impl Payload {
         })
     }
 
-    /// The numbers of a payload are bytes. It does nothing: the fact is its contract.
+    /// The numbers of a payload are bytes. It does nothing: the fact is its contract, for proofs.
     pub fn holds_bytes(&self)
         ensures { AreBytes self.now }
     {
@@ -94,11 +94,4 @@ impl Payload {
         front.copy_from_slice(&self.bytes);
         back.fill(0);
     }
-}
-
-/// A slice of bytes holds bytes. It does nothing: the fact is its contract.
-fn are_bytes(bytes: &[u8])
-    ensures { AreBytes bytes.now }
-{
-    let _bytes = bytes;
 }

@@ -4,7 +4,7 @@ use crate::payload::Payload;
 use crate::shape::Shape;
 use jb_block::Memory;
 
-/// The last word of a handle on a home block.
+/// The last word of a handle on a home block: a copy (a dirty metadata buffer) or a revoke (`jbd2_revoke_record_s`).
 #[derive(Debug, Drop)]
 pub enum Word {
     /// The block was changed: it is logged as a copy that holds these bytes.

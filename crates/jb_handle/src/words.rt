@@ -13,7 +13,7 @@ use std::collections::BTreeMap;
 use std::marker::Model;
 
 /// What a handle leaves at each home block that it touched: home block numbers that rise, each with
-/// its last word.
+/// its last word. (The kernel keeps this for a whole transaction: `t_buffers`, and the revoke table.)
 #[derive(Debug, Drop)]
 pub struct Words {
     entries: Vec<(u64, Word)>,
@@ -111,7 +111,7 @@ impl Words {
         ensures err { OnErr result (self.new ≡ self.old) }
         ensures new { OnErr result (map.get self.old home ≡ None) }
     {
-        word.holds_bytes();
+        word.holds_bytes(); // for the proof alone: words hold bytes
         match place_of(&self.entries, home) {
             Ok(at) => {
                 self.entries[at] = (home, word);

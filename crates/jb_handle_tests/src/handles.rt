@@ -57,7 +57,8 @@ fn change(
     }
 }
 
-/// Credits bound the blocks that a handle touches, and of several faults the first is answered, by each call of a change.
+/// Credits bound the blocks that a handle touches, and of several faults the first is answered, by each call of a
+/// change.
 #[test]
 fn changes_are_taken_or_refused(rt: HostRuntime) -> Result<(), Fail> {
     for by_word in [false, true] {

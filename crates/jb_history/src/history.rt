@@ -8,8 +8,7 @@ use crate::steps::{Add, Enter, Entries, Look, Sights, Tell};
 use crate::tokens::{Made, Scribe, Sight};
 use crate::view::View;
 use atomic_table::{Seat, Table};
-use jb_block::Memory;
-use std::alloc::Global;
+use std::alloc::{AllocError as Memory, Global};
 use std::marker::{Model, PhantomData};
 
 /// A new history, which has no name yet.

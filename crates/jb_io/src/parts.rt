@@ -10,13 +10,14 @@ use std::io::Write;
 /// another program (PIPE_BUF of pipe(7)).
 const GATHERED: usize = 4096;
 
-/// Writes a text that is given in parts, and takes no memory. A text of at most 4096 bytes is written by one call, where
-/// the writer takes it whole; a longer one is written part by part. An empty text is not written and never fails.
+/// Writes a text that is given in parts, and takes no memory. A text of at most 4096 bytes is written by one call,
+/// where the writer takes it whole; a longer one is written part by part. An empty text is not written and never fails.
 ///
 /// # Errors
 /// `WriteFault` where the writer took only the beginning of the text.
 pub fn put_parts<W: Write>(writer: &mut W, parts: &[&str]) -> Result<(), WriteFault>
-    ensures puts { Puts (W.contents writer.old) (W.contents writer.new) (spelled (map (λ part. part.now) parts.now)) result }
+    ensures puts { Puts (W.contents writer.old) (W.contents writer.new) (spelled (map (λ part. part.now) parts.now))
+        result }
     ensures empty { spelled (map (λ part. part.now) parts.now) ≡ [] → IsOk result }
 {
     match gathered(parts) {
@@ -45,7 +46,8 @@ fn gathered(parts: &[&str]) -> Option<ArrayVec<u8, GATHERED>>
 /// # Errors
 /// `WriteFault` where the writer took only the beginning of the text.
 fn put_each<W: Write>(writer: &mut W, parts: &[&str]) -> Result<(), WriteFault>
-    ensures puts { Puts (W.contents writer.old) (W.contents writer.new) (spelled (map (λ part. part.now) parts.now)) result }
+    ensures puts { Puts (W.contents writer.old) (W.contents writer.new) (spelled (map (λ part. part.now) parts.now))
+        result }
     ensures empty { spelled (map (λ part. part.now) parts.now) ≡ [] → IsOk result }
 {
     for part in parts {

@@ -53,7 +53,8 @@ pub fn read_within<R: Read>(
     requires { limit < 4294967296 }
     ensures all { IfOk result (λ text. IfSome (R.remaining reader.old) (λ bytes. text.items ≡ bytes)) }
     ensures within { IfOk result (λ text. length text.items ≤ limit) }
-    ensures too_long { result ≡ Err ReadFault.TooLong → IfSome (R.remaining reader.old) (λ bytes. limit < length bytes) }
+    ensures too_long { result ≡ Err ReadFault.TooLong
+        → IfSome (R.remaining reader.old) (λ bytes. limit < length bytes) }
 {
     let text = read_front(alloc, reader, limit + 1)?;
     if text.len() <= limit {

@@ -1,11 +1,32 @@
 -- What a run tells of its end.
-use Rattle.std.proofs.Common.{◌≡◌, ℕ, ◌≤◌, List, sym, subst, ◌∙◌, arith}
+use Rattle.std.proofs.Common.{◌≡◌, ℕ, ◌≤◌, List, [], ◌∷◌, sym, ap, subst, ◌∙◌, arith}
+use Rattle.jb_cost.specs.Pieces.{joined}
+use Rattle.jb_disk.specs.Image.{Image}
+use Rattle.jb_handle.specs.Word.{WordMap}
+use Rattle.jb_handle.specs.declared.shape.Shape.{Shape}
 use Rattle.jb_deck.specs.Done.{Follow, past_after}
 use Rattle.jb_deck.specs.declared.done.Entry.{Entry}
 use Rattle.jb_desk.proofs.Rounds.{follow-past}
+use Rattle.jb_desk.specs.History.{AreAllStops, EndsWith}
+use Rattle.jb_desk.specs.Origin.{Begun}
 
 -- the settled handles are those of the trail
 pub settled-as : (settled handles : ℕ) (trail : List Entry) → settled ≡ past_after 0 trail → (past : ℕ) × Follow 0 0 past trail × (past ≤ handles) → Follow 0 0 settled trail × (settled ≤ handles)
 settled-as settled handles trail is (past, follows, within) =
     let same : past ≡ settled = sym (follow-past 0 0 past trail follows) ∙ sym is in
     (subst (λ p. Follow 0 0 p trail) same follows, omega (arith, same, within))
+
+-- how a desk ends, without the seat that has stopped no handle
+pub ends-without : {D : Type 0} (size count faults : D → ℕ) (honest : D → Type 0) (newest : D → Image) (may_leave : D → Image → Type 0) (moment : D → ℕ) (left_since : D → ℕ → Image → Type 0) (b : Begun)
+    (all stopped : List (List (ℕ × WordMap))) (handles : ℕ) (shape : Shape) (disk : D) (trail : List Entry) → all ≡ [] ∷ stopped
+    → EndsWith size count faults honest newest may_leave moment left_since b all handles shape disk trail → EndsWith size count faults honest newest may_leave moment left_since b stopped handles shape disk trail
+ends-without size count faults honest newest may_leave moment left_since b all stopped handles shape disk trail is ends = record {
+  log = ends.log;
+  number = ends.number;
+  stopped = subst (λ (xs : List (ℕ × WordMap)). AreAllStops ends.log xs) (ap joined is) ends.stopped;
+  deck = ends.deck;
+  same_disk = ends.same_disk;
+  same_shape = ends.same_shape;
+  same_trail = ends.same_trail;
+  since = ends.since;
+}

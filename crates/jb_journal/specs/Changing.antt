@@ -1,9 +1,10 @@
 -- What a client's change of home blocks answers.
-use Rattle.std.specs.Prelude.{◌≡◌, ℕ, Result, Ok, Err}
+use Rattle.std.specs.Prelude.{◌≡◌, ℕ, List, [], ◌∷◌, ◌++◌, Result, Ok, Err}
 use Rattle.std.specs.Borrow.{MutBor}
 use Rattle.std.specs.Fn.{Once, FnOnceReturnsAtMut}
 use Rattle.jb_handle.specs.Handle.{changes_of}
 use Rattle.jb_handle.specs.Held.{Held}
+use Rattle.jb_handle.specs.Word.{WordMap}
 use Rattle.jb_handle.specs.declared.handle.Handle.{Handle}
 use Rattle.jb_journal.specs.declared.fault.HandleFault.{HandleFault}
 use Rattle.jb_journal.specs.declared.fault.HandleFault.TheVariants.{Begin, Refused, Aborted, NotOpen, Memory}
@@ -21,20 +22,26 @@ module _ {F T E : Type 0} (g : Once F (MutBor (Handle (Unit {0})) × Unit {0}) (
     pub answer : T
     pub called : IsCalled (Ok answer)
 
-  -- what f gave is given where its handle stopped, and is the refusal where it refused; it was not called where the handle was not begun
-  abbrev pub AnswersChange : Result (T × ℕ) (HandleFault E) → Type 0
-  AnswersChange (Ok given) = IsCalled (Ok given.0)
-  AnswersChange (Err (Begin fault)) = Unit {0}
-  AnswersChange (Err (Refused fault)) = IsCalled (Err fault)
-  AnswersChange (Err Aborted) = IsCalledWell
-  AnswersChange (Err NotOpen) = IsCalledWell
-  AnswersChange (Err Memory) = IsCalledWell
+  -- f gave this, and the handle stopped under this ticket, with the words that f left in it: with these the client has stopped one handle more
+  pub record IsChanged (answer : T) (ticket : ℕ) (old new : List (ℕ × WordMap)) : Type 0 where
+    pub called : IsCalled (Ok answer)
+    pub stopped : new ≡ old ++ (ticket, (changes_of called.after).words) ∷ []
 
--- a handle stops with this answer, or the desk refuses it
-abbrev pub Stops : {T E : Type 0} → T → Result (T × ℕ) (HandleFault E) → Type 0
-Stops answer (Ok given) = given.0 ≡ answer
-Stops answer (Err (Begin fault)) = ⊥
-Stops answer (Err (Refused fault)) = ⊥
-Stops answer (Err Aborted) = Unit {0}
-Stops answer (Err NotOpen) = Unit {0}
-Stops answer (Err Memory) = Unit {0}
+  -- What f gave is given where its handle stopped, and is the refusal where it refused; it was not called where the handle was not begun. Only a handle
+  -- that stopped is one more of those that the client has stopped
+  abbrev pub AnswersChange : List (ℕ × WordMap) → List (ℕ × WordMap) → Result (T × ℕ) (HandleFault E) → Type 0
+  AnswersChange old new (Ok given) = IsChanged given.0 given.1 old new
+  AnswersChange old new (Err (Begin fault)) = new ≡ old
+  AnswersChange old new (Err (Refused fault)) = IsCalled (Err fault) × (new ≡ old)
+  AnswersChange old new (Err Aborted) = IsCalledWell × (new ≡ old)
+  AnswersChange old new (Err NotOpen) = IsCalledWell × (new ≡ old)
+  AnswersChange old new (Err Memory) = IsCalledWell × (new ≡ old)
+
+-- a handle stops with this answer and these words, or the desk refuses it
+abbrev pub Stops : {T E : Type 0} → T → WordMap → List (ℕ × WordMap) → List (ℕ × WordMap) → Result (T × ℕ) (HandleFault E) → Type 0
+Stops answer words old new (Ok given) = (given.0 ≡ answer) × (new ≡ old ++ (given.1, words) ∷ [])
+Stops answer words old new (Err (Begin fault)) = ⊥
+Stops answer words old new (Err (Refused fault)) = ⊥
+Stops answer words old new (Err Aborted) = new ≡ old
+Stops answer words old new (Err NotOpen) = new ≡ old
+Stops answer words old new (Err Memory) = new ≡ old

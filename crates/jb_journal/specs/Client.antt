@@ -1,37 +1,47 @@
 -- What contracts say of a worker's client.
-use Rattle.std.specs.Prelude.{◌≡◌, Option, Some, None}
+use Rattle.std.specs.Prelude.{◌≡◌, ℕ, List, [], Option, Some, None}
 use Rattle.jb_board.specs.Front.{front}
 use Rattle.jb_board.specs.Seats.{BoardId}
 use Rattle.jb_board.specs.declared.front.Front.{Front}
 use Rattle.jb_desk.specs.Desks.{desk_id, shape_in}
 use Rattle.jb_desk.specs.Origin.{Begun}
-use Rattle.jb_desk.specs.Seats.{desk_of, view_of}
+use Rattle.jb_desk.specs.Seats.{made_by, desk_of, view_of}
 use Rattle.jb_desk.specs.declared.seat.Seat.{Seat}
 use Rattle.jb_handle.specs.Word.{WordMap}
 use Rattle.jb_handle.specs.declared.shape.Shape.{Shape}
 use Rattle.jb_desk.specs.declared.origin.Origin.{Ghosts as OriginGhosts}
+use Rattle.jb_history.specs.declared.place.Place.{Ghosts as Places}
 use Rattle.jb_journal.specs.declared.client.Client.{Client}
 
 -- there is a seat, of that board
-abbrev pub SeatedAt : {H N : Type 0} → BoardId → Option (Seat H N) → Type 0
+abbrev pub SeatedAt : {H N : Type 0} {O : OriginGhosts H} {P : Places H} → BoardId → Option (Seat H N O P) → Type 0
 SeatedAt board None = ⊥
 SeatedAt board (Some seat) = desk_of seat ≡ board
 
 -- the counts that a seat is sure of
-abbrev pub seen_from : {H N : Type 0} → Option (Seat H N) → Front
+abbrev pub seen_from : {H N : Type 0} {O : OriginGhosts H} {P : Places H} → Option (Seat H N O P) → Front
 seen_from None = front 0 0 0
 seen_from (Some seat) = view_of seat
 
-module _ {D C R H N : Type 0} {O : OriginGhosts H} where
+-- the handles that stopped with a seat, each with its ticket and its words
+abbrev pub made_from : {H N : Type 0} {O : OriginGhosts H} {P : Places H} → Option (Seat H N O P) → List (ℕ × WordMap)
+made_from None = []
+made_from (Some seat) = made_by seat
+
+module _ {D C R H N : Type 0} {O : OriginGhosts H} {P : Places H} where
   -- a client with a seat at its desk, where handles may stop with any words
-  pub record IsClient (b : Begun) (client : Client D C R H N O) : Type 0 where
+  pub record IsClient (b : Begun) (client : Client D C R H N O P) : Type 0 where
     pub seated : SeatedAt (desk_id client.desk.now) client.seat
     pub any : (words : WordMap) → b.stops words
 
   -- the counts that the client is sure of
-  abbrev pub seen_by : Client D C R H N O → Front
+  abbrev pub seen_by : Client D C R H N O P → Front
   seen_by client = seen_from client.seat
 
+  -- the handles that the client has stopped, in their order, each with its ticket and its words
+  abbrev pub client_stops : Client D C R H N O P → List (ℕ × WordMap)
+  client_stops client = made_from client.seat
+
   -- what its handles have to fit
-  abbrev pub shape_of : Client D C R H N O → Shape
+  abbrev pub shape_of : Client D C R H N O P → Shape
   shape_of client = shape_in client.desk.now

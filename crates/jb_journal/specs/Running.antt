@@ -1,26 +1,60 @@
 -- What the threads of a journal leave.
-use Rattle.std.specs.Prelude.{◌≡◌, ℕ, ◌<◌, ◌≤◌, Bool, true, false, List, length, slice_index_or, Option, Some, None, IfSome}
+use Rattle.std.specs.Prelude.{◌≡◌, ℕ, ◌<◌, ◌≤◌, Bool, true, false, List, [], length, slice_index_or, Option, Some, None, IfSome}
 use Rattle.std.specs.Bool.{OnTrue}
+use Rattle.jb_disk.specs.Image.{Image}
+use Rattle.jb_handle.specs.Word.{WordMap}
+use Rattle.jb_handle.specs.declared.shape.Shape.{Shape}
 use Rattle.jb_deck.specs.Done.{Follow}
 use Rattle.jb_desk.specs.Ends.{is_shut}
 use Rattle.jb_desk.specs.declared.ended.Ended.{Ended}
 use Rattle.jb_desk.specs.declared.ended.Ended.TheVariants as ended
+use Rattle.jb_desk.specs.History.{EndsWith}
+use Rattle.jb_desk.specs.Origin.{Begun}
+use Rattle.jb_desk.specs.Seats.{made_by, made_left}
+use Rattle.jb_desk.specs.declared.origin.Origin.{Ghosts}
+use Rattle.jb_desk.specs.declared.seat.Left.{Left}
+use Rattle.jb_desk.specs.declared.seat.Seat.{Seat}
+use Rattle.jb_history.specs.declared.place.Place.{Ghosts as Places}
 use Rattle.jb_journal.specs.declared.ran.Ran.{Ran}
+use Rattle.jb_journal.specs.declared.threads.Threaded.{Threaded}
 use Rattle.jb_journal.specs.declared.threads.Worked.{Worked}
 
--- each of so many workers answered what it may
-pub record AreAnswers {T : Type 0} (may : ℕ → ℕ → T → Type 0) (workers : ℕ) (answers : List T) : Type 0 where
+-- each of so many workers answered what it may with the handles that its client has stopped
+pub record AreAnswers {T : Type 0} (may : ℕ → ℕ → List (ℕ × WordMap) → T → Type 0) (workers : ℕ) (stopped : List (List (ℕ × WordMap))) (answers : List T) : Type 0 where
   pub number : length answers ≡ workers
-  pub each : (at : ℕ) (d : T) → at < workers → may workers at (slice_index_or answers at d)
+  pub same : length stopped ≡ workers
+  pub each : (at : ℕ) (none : List (ℕ × WordMap)) (d : T) → at < workers → may workers at (slice_index_or stopped at none) (slice_index_or answers at d)
 
--- what a worker answered
-abbrev pub answer_of : {T H N : Type 0} → Worked T H N → Option T
-answer_of w = w.answer
+-- the handles that stopped with a seat that has left, where there was one
+abbrev pub stops_left_by : {H N : Type 0} {O : Ghosts H} {P : Places H} → Option (Left H N O P) → List (ℕ × WordMap)
+stops_left_by None = []
+stops_left_by (Some left) = made_left left
 
--- each of so many workers has answered what it may, or had no seat
-pub record HaveWorked {T H N : Type 0} (may : ℕ → ℕ → T → Type 0) (workers : ℕ) (ran : List (Worked T H N)) : Type 0 where
-  pub number : length ran ≡ workers
-  pub each : (at : ℕ) (d : Worked T H N) → at < workers → IfSome (answer_of (slice_index_or ran at d)) (may workers at)
+module _ {T H N : Type 0} {O : Ghosts H} {P : Places H} where
+  -- what a worker answered
+  abbrev pub answer_of : Worked T H N O P → Option T
+  answer_of w = w.answer
+
+  -- the handles that a worker's client has stopped
+  abbrev pub stops_of_worked : Worked T H N O P → List (ℕ × WordMap)
+  stops_of_worked w = stops_left_by w.left
+
+  -- each of so many workers has answered what it may, or had no seat
+  pub record HaveWorked (may : ℕ → ℕ → List (ℕ × WordMap) → T → Type 0) (workers : ℕ) (ran : List (Worked T H N O P)) : Type 0 where
+    pub number : length ran ≡ workers
+    pub each : (at : ℕ) (d : Worked T H N O P) → at < workers
+        → IfSome (answer_of (slice_index_or ran at d)) (may workers at (stops_of_worked (slice_index_or ran at d)))
+
+  -- the workers have answered, and the committer has stopped no handle
+  pub record HasThreaded (may : ℕ → ℕ → List (ℕ × WordMap) → T → Type 0) (workers : ℕ) (ran : Threaded T H N O P) : Type 0 where
+    pub worked : HaveWorked may workers ran.workers.items
+    pub committed : made_left ran.committer ≡ []
+
+-- a seat that was there has left, with what it stopped
+abbrev pub HasLeft : {H N : Type 0} {O : Ghosts H} {P : Places H} → Option (Seat H N O P) → Option (Left H N O P × Ended) → Type 0
+HasLeft None left = left ≡ None
+HasLeft (Some seat) None = ⊥
+HasLeft (Some seat) (Some left) = made_left left.0 ≡ made_by seat
 
 -- how a checkpointer ends, where one was asked for: as the desk is over, or as the journal has failed
 abbrev pub EndsChecked : Bool → Option Ended → Type 0
@@ -38,3 +72,12 @@ pub record EndsRun {T D : Type 0} (checkpoint : Bool) (ran : Ran T D) : Type 0 w
   pub within : ran.settled ≤ ran.handles
   pub all : OnTrue (is_shut ran.commit) (ran.settled ≡ ran.handles)
   pub checked : EndsChecked checkpoint ran.checkpoint
+
+-- What was run: there are the handles that each worker's client has stopped, with which it answered what it may. They are all of one history, of as
+-- many as are told, and each is there once; the journal that the disk is left with was given the first of this history
+pub record RanAll {T D : Type 0} (size count faults : D → ℕ) (honest : D → Type 0) (newest : D → Image) (may_leave : D → Image → Type 0) (moment : D → ℕ) (left_since : D → ℕ → Image → Type 0) (b : Begun) (may : ℕ → ℕ → List (ℕ × WordMap) → T → Type 0) (workers : ℕ) (ran : Ran T D) : Type 0 where
+  pub stopped : List (List (ℕ × WordMap))
+  pub answers : AreAnswers may workers stopped ran.answers.items
+  -- that of the journal, by which its groups have cost what its trail says
+  pub shape : Shape
+  pub ends : EndsWith size count faults honest newest may_leave moment left_since b stopped ran.handles shape ran.disk ran.trail.items

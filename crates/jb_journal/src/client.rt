@@ -4,8 +4,8 @@ ghost use Rattle.std.specs.FinMap as map;
 ghost use Rattle.std.specs.Fn.{FnOnceReturnsAtMut};
 ghost use Rattle.jb_handle.specs.Held.{held};
 ghost use Rattle.jb_desk.specs.Desks.{desk_id, shape_in};
-ghost use Rattle.jb_desk.specs.Seats.{desk_of, view_of};
-ghost use Rattle.jb_handle.specs.Handle.{holder};
+ghost use Rattle.jb_desk.specs.Seats.{made_by, desk_of, view_of};
+ghost use Rattle.jb_handle.specs.Handle.{holder, changes_of};
 ghost use Rattle.jb_handle.specs.Word.{WordMap};
 ghost use Rattle.jb_journal.specs.Changing.{AnswersChange, Stops};
 
@@ -28,7 +28,7 @@ pub struct Client<'a, D: Disk, C: Clock, R, H: Origin, N: Ledger> {
 
 impl<'a, D: Disk, C: Clock, R: Wait + time::Clock, H: Origin, N: Ledger> Client<'a, D, C, R, H, N> {
     ghost use Rattle.jb_desk.specs.Journal.{ReadsHome};
-    ghost use Rattle.jb_journal.specs.Client.{IsClient, seen_by, shape_of};
+    ghost use Rattle.jb_journal.specs.Client.{IsClient, made_from, seen_by, shape_of, client_stops};
 
     /// A client at a desk, where handles may stop with any words.
     pub(crate) fn new(
@@ -39,6 +39,7 @@ impl<'a, D: Disk, C: Clock, R: Wait + time::Clock, H: Origin, N: Ledger> Client<
         requires desk { desk_of seat ≡ desk_id desk.now }
         requires any { (words : WordMap) → H.begun.stops words }
         ensures client { IsClient H.begun result }
+        ensures stopped { client_stops result ≡ made_by seat }
     {
         Client {
             rt,
@@ -53,7 +54,9 @@ impl<'a, D: Disk, C: Clock, R: Wait + time::Clock, H: Origin, N: Ledger> Client<
     }
 
     /// The seat, once the worker has ended.
-    pub(crate) fn into_seat(self) -> Option<Seat<H, N>> {
+    pub(crate) fn into_seat(self) -> Option<Seat<H, N>>
+        ensures { made_from result ≡ client_stops self.entry }
+    {
         let Client {
             rt: _rt,
             desk: _desk,
@@ -62,9 +65,10 @@ impl<'a, D: Disk, C: Clock, R: Wait + time::Clock, H: Origin, N: Ledger> Client<
         seat
     }
 
-    /// Changes home blocks by one handle of so many credits (`jbd2_journal_start`, `jbd2_journal_stop`): waits until the
-    /// log has room for it, calls `change` with it, and stops it where that is `Ok`. The changes of a handle that stopped
-    /// are all in one transaction. Gives what `change` gave, and the ticket of the handle, by which it is waited for.
+    /// Changes home blocks by one handle of so many credits (`jbd2_journal_start`, `jbd2_journal_stop`): waits until
+    /// the log has room for it, calls `change` with it, and stops it where that is `Ok`. The changes of a handle that
+    /// stopped are all in one transaction. Gives what `change` gave, and the ticket of the handle, by which it is
+    /// waited for.
     ///
     /// # Errors
     ///
@@ -78,7 +82,8 @@ impl<'a, D: Disk, C: Clock, R: Wait + time::Clock, H: Origin, N: Ledger> Client<
         requires client { IsClient H.begun self.old }
         requires callable { F.IsAlwaysCallable change }
         ensures client { IsClient H.begun self.new }
-        ensures changed { AnswersChange F.FnOnce change (held credits (shape_of self.old) map.empty) result }
+        ensures changed { AnswersChange F.FnOnce change (held credits (shape_of self.old) map.empty)
+            (client_stops self.old) (client_stops self.new) result }
         ensures stopped { IfOk result (λ given. given.1 < (seen_by self.new).stopped) }
         ensures shape { shape_of self.new ≡ shape_of self.old }
     {
@@ -91,15 +96,16 @@ impl<'a, D: Disk, C: Clock, R: Wait + time::Clock, H: Origin, N: Ledger> Client<
         changed
     }
 
-    /// Reads a home block as it is committed, whether it is in the log or in its place. What another handle has written and is
-    /// not committed yet is not in it. Waits while the disk is at work for another thread.
+    /// Reads a home block as it is committed, whether it is in the log or in its place. What another handle has written
+    /// and is not committed yet is not in it. Waits while the disk is at work for another thread.
     ///
     /// # Errors
     ///
-    /// In this order: `Aborted` where the journal has failed, `OutOfRange` where there is no such home block, `Length` where
-    /// `buf` has not the length of one block, and `DeviceFault` where the read fails; it can be tried again then.
+    /// In this order: `Aborted` where the journal has failed, `OutOfRange` where there is no such home block, `Length`
+    /// where `buf` has not the length of one block, and `DeviceFault` where the read fails; it can be tried again then.
     pub fn read(&self, home: u64, buf: &mut [u8]) -> Result<(), ReadHomeFault>
-        ensures { ReadsHome D.size D.count D.faults D.honest D.newest D.may_leave D.moment D.left_since H.begun home (length buf.old) buf.new result }
+        ensures { ReadsHome D.size D.count D.faults D.honest D.newest D.may_leave D.moment D.left_since H.begun home
+            (length buf.old) buf.new result }
     {
         self.desk.read(self.rt, home, buf)
     }
@@ -130,6 +136,7 @@ impl<'a, D: Disk, C: Clock, R: Wait + time::Clock, H: Origin, N: Ledger> Client<
         ensures client { IsClient H.begun self.new }
         ensures settled { IfOk result (λ _. ticket < (seen_by self.new).settled) }
         ensures shape { shape_of self.new ≡ shape_of self.old }
+        ensures kept { client_stops self.new ≡ client_stops self.old }
     {
         let (rt, desk) = (self.rt, self.desk);
         match &mut self.seat {
@@ -160,7 +167,8 @@ fn change_at<
     requires any { (words : WordMap) → H.begun.stops words }
     requires callable { F.IsAlwaysCallable change }
     ensures desk { desk_of result.0 ≡ desk_id desk.now }
-    ensures changed { AnswersChange F.FnOnce change (held credits (shape_in desk.now) map.empty) result.1 }
+    ensures changed { AnswersChange F.FnOnce change (held credits (shape_in desk.now) map.empty) (made_by seat)
+        (made_by result.0) result.1 }
     ensures stopped { IfOk result.1 (λ given. given.1 < (view_of result.0).stopped) }
 {
     let handle = match desk.begin_waiting(rt, seat, credits) {
@@ -197,7 +205,7 @@ fn stop<D: Disk, C: Clock, R: Wait, H: Origin, N: Ledger, T: Drop, E>(
     requires desk { desk_of (holder handle) ≡ desk_id desk.now }
     requires any { (words : WordMap) → H.begun.stops words }
     ensures desk { desk_of result.0 ≡ desk_id desk.now }
-    ensures answer { Stops answer result.1 }
+    ensures answer { Stops answer (changes_of handle).words (made_by (holder handle)) (made_by result.0) result.1 }
     ensures stopped { IfOk result.1 (λ given. given.1 < (view_of result.0).stopped) }
 {
     match desk.stop(rt, handle) {

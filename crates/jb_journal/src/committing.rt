@@ -1,7 +1,8 @@
 //! What has stopped is committed.
 ghost use Rattle.std.specs.Prelude.{◌≡◌, None, IfSome};
 ghost use Rattle.jb_desk.specs.Desks.{desk_id};
-ghost use Rattle.jb_desk.specs.Seats.{desk_of};
+ghost use Rattle.jb_desk.specs.Seats.{made_by, made_left, desk_of};
+ghost use Rattle.jb_journal.specs.Running.{HasLeft};
 
 use jb_desk::{Desk, Ended, Left, Origin, Seat};
 use jb_disk::{Clock, Disk};
@@ -16,6 +17,7 @@ fn commit_all<D: Disk, C: Clock, R: Wait, H: Origin, N: Ledger>(
     seat: Seat<H, N>,
 ) -> (Left<H, N>, Ended)
     requires { desk_of seat ≡ desk_id desk.now }
+    ensures { made_left result.0 ≡ made_by seat }
 {
     let (committer, ended) = desk.run_committer(rt, desk.committer(seat));
     let seat = match desk.retire(rt, committer) {
@@ -33,6 +35,7 @@ pub(crate) fn commit_from<D: Disk, C: Clock, R: Wait, H: Origin, N: Ledger>(
 ) -> Option<(Left<H, N>, Ended)>
     requires { IfSome place.old (λ seat. desk_of seat ≡ desk_id desk.now) }
     ensures taken { place.new ≡ None }
+    ensures left { HasLeft place.old result }
 {
     match place.take() {
         Some(seat) => Some(commit_all(rt, desk, seat)),

@@ -4,27 +4,28 @@ ghost use Rattle.std.specs.Prelude.{◌≡◌};
 use crate::fault::RunFault;
 use crate::threads::Worked;
 use jb_block::Memory;
-use jb_desk::Left;
+use jb_desk::{Left, Origin};
 use std::alloc::Global;
 use std::sync::ledger::Ledger;
 
 /// What all threads leave.
 #[derive(Drop)]
-pub(crate) struct Gathered<T, H: Ledger, N: Ledger> {
+pub(crate) struct Gathered<T, H: Origin, N: Ledger> {
     /// What their seats left.
     pub lefts: Vec<Left<H, N>>,
     /// What the workers answered, in the order of their places.
     pub answers: Vec<T>,
 }
 
-impl<T: Drop, H: Ledger, N: Ledger> Gathered<T, H, N> {
+impl<T: Drop, H: Origin, N: Ledger> Gathered<T, H, N> {
     ghost use Rattle.std.specs.Prelude.{◌≡◌, ◌++◌, ◌∷◌, [], map, Some, IfOk, OnOk, IfErr, ◌⊎◌};
-    ghost use Rattle.jb_journal.specs.Running.{answer_of};
+    ghost use Rattle.jb_desk.specs.Seats.{made_left};
+    ghost use Rattle.jb_journal.specs.Running.{answer_of, stops_of_worked};
     ghost use Rattle.jb_journal.specs.declared.fault.RunFault.TheVariants.{Accounts, Memory as OutOfMemory};
 
     /// Nothing. Takes no memory.
     pub fn new(alloc: Global) -> Gathered<T, H, N>
-        ensures { result.answers.items ≡ [] }
+        ensures { (result.lefts.items ≡ []) × (result.answers.items ≡ []) }
     {
         Gathered {
             lefts: Vec::new(alloc),
@@ -38,6 +39,7 @@ impl<T: Drop, H: Ledger, N: Ledger> Gathered<T, H, N> {
     /// `Memory` where there is none for that.
     pub fn add_left(&mut self, left: Left<H, N>) -> Result<(), Memory>
         ensures answers { self.new.answers ≡ self.old.answers }
+        ensures lefts { OnOk result (self.new.lefts.items ≡ self.old.lefts.items ++ left ∷ []) }
     {
         Ok(self.lefts.push(left)?)
     }
@@ -47,7 +49,8 @@ impl<T: Drop, H: Ledger, N: Ledger> Gathered<T, H, N> {
     /// # Errors
     /// `Memory` where there is none for that.
     fn add_answer(&mut self, answer: T) -> Result<(), Memory>
-        ensures { OnOk result (self.new.answers.items ≡ self.old.answers.items ++ answer ∷ []) }
+        ensures answers { OnOk result (self.new.answers.items ≡ self.old.answers.items ++ answer ∷ []) }
+        ensures lefts { self.new.lefts ≡ self.old.lefts }
     {
         Ok(self.answers.push(answer)?)
     }
@@ -57,7 +60,10 @@ impl<T: Drop, H: Ledger, N: Ledger> Gathered<T, H, N> {
     /// # Errors
     /// `Accounts` where it had no seat, `Memory` where there is none for that.
     fn add(&mut self, worked: Worked<T, H, N>) -> Result<(), RunFault>
-        ensures answers { OnOk result (map Some self.new.answers.items ≡ map Some self.old.answers.items ++ worked.answer ∷ []) }
+        ensures answers { OnOk result (map Some self.new.answers.items ≡ map Some self.old.answers.items
+            ++ worked.answer ∷ []) }
+        ensures stops { OnOk result (map made_left self.new.lefts.items ≡ map made_left self.old.lefts.items
+            ++ stops_of_worked worked ∷ []) }
         ensures faults { IfErr result (λ fault. (fault ≡ OutOfMemory) ⊎ (fault ≡ Accounts)) }
     {
         let Worked { left, answer } = worked;
@@ -76,6 +82,8 @@ impl<T: Drop, H: Ledger, N: Ledger> Gathered<T, H, N> {
     pub fn add_all(&mut self, workers: Vec<Worked<T, H, N>>) -> Result<(), RunFault>
         requires { self.old.answers.items ≡ [] }
         ensures answers { OnOk result (map Some self.new.answers.items ≡ map answer_of workers.items) }
+        ensures stops { OnOk result (map made_left self.new.lefts.items ≡ map made_left self.old.lefts.items ++ map
+            stops_of_worked workers.items) }
         ensures faults { IfErr result (λ fault. (fault ≡ OutOfMemory) ⊎ (fault ≡ Accounts)) }
     {
         for worked in workers {

@@ -1,5 +1,5 @@
-//! The front door: workers change the home blocks of a journal, one thread each, while what they stopped is committed and
-//! written home.
+//! The front door: workers change the home blocks of a journal, one thread each, while what they stopped is committed
+//! and written home.
 #![tactic(auto)]
 
 mod client;

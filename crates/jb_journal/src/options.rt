@@ -3,7 +3,12 @@
 pub struct Options {
     /// How many workers there are, a thread each, from 1 to 64.
     pub workers: usize,
-    /// Whether committed transactions are written home meanwhile (`jbd2_log_do_checkpoint`). Otherwise a commit writes the
-    /// oldest ones home where it needs their room, and the last ones are left to recovery.
+    /// Whether committed transactions are written home meanwhile (`jbd2_log_do_checkpoint`). Otherwise a commit writes
+    /// the oldest ones home where it needs their room, and the last ones are left to recovery.
     pub checkpoint: bool,
+    /// How many blocks of the log have to be in use until committed transactions are written home, while workers or
+    /// their commits are at work; with 0 each is as soon as it is committed. A level that leaves room for some
+    /// transactions of the most blocks lets a home that changes often be written less often, and a commit still finds
+    /// room. At the end all are written home. Without `checkpoint` it means nothing.
+    pub level: u32,
 }

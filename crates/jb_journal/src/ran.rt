@@ -16,8 +16,8 @@ pub struct Ran<T, D> {
     pub changes: u64,
     /// The transactions that were committed, in the order of their tickets.
     pub trail: Vec<Entry>,
-    /// How the committer ended: `Shut` where every handle that stopped is settled. Otherwise the journal is to be
-    /// recovered, and the handles after the settled ones may be lost.
+    /// How the committer ended. Where it is `Shut`, every handle that stopped is settled. Otherwise the journal is to
+    /// be recovered, and the handles after the settled ones may be lost.
     pub commit: Ended,
     /// How the checkpointer ended; `None` where there was none.
     pub checkpoint: Option<Ended>,

@@ -1,11 +1,12 @@
 //! A journal is run.
-ghost use Rattle.std.specs.Prelude.{◌≡◌, ◌+◌, ◌^◌, ◌≤◌, ◌⊎◌, IfErr, IfOk};
+ghost use Rattle.std.specs.Prelude.{◌≡◌, ◌+◌, ◌^◌, ◌≤◌, ◌⊎◌, [], false, IfErr, IfOk};
 ghost use Rattle.jb_deck.specs.Done.{past_after};
 ghost use Rattle.jb_desk.specs.Desks.{shape_in};
-ghost use Rattle.jb_desk.specs.Since.{EndsSince, IsBegunOn};
+ghost use Rattle.jb_desk.specs.History.{history_in};
+ghost use Rattle.jb_desk.specs.Since.{EndsSince, IsBegunOn, IsSince};
 ghost use Rattle.jb_handle.specs.Word.{WordMap};
 ghost use Rattle.jb_journal.specs.Refusing.{RefusesRun};
-ghost use Rattle.jb_journal.specs.Running.{AreAnswers, EndsRun};
+ghost use Rattle.jb_journal.specs.Running.{EndsRun, RanAll};
 ghost use Rattle.jb_journal.specs.Starting.{started_on};
 ghost use Rattle.jb_journal.specs.declared.fault.RunFault.TheVariants.{Accounts, Memory as OutOfMemory};
 
@@ -15,8 +16,8 @@ use crate::options::Options;
 use crate::ran::Ran;
 use crate::threads::{Threaded, run_all};
 use crate::worker::Worker;
-use jb_deck::Entry;
-use jb_desk::{Closed, Desk, Origin};
+use jb_deck::{Deck, Entry};
+use jb_desk::{Closed, Desk, Origin, Stops};
 use jb_disk::{Clock, Disk};
 use std::alloc::Global;
 use std::marker::Brand;
@@ -29,8 +30,8 @@ use std::time;
 const PARTS: u64 = (1 << 61) + 1;
 
 /// Opens the journal on a disk, runs the workers, commits what they stopped, and closes the journal. The disk is given
-/// back with what the workers answered. Nothing is written home at the end: what is in the log is left to
-/// [`recover`](crate::recover), which is called before the journal is opened again.
+/// back with what the workers answered. With `Options::checkpoint` all that is committed is written home; otherwise what
+/// is still in the log is left to [`recover`](crate::recover), which is called before the journal is opened again.
 ///
 /// # Errors
 /// - `Open` where the journal was not opened, and nothing ran.
@@ -45,30 +46,64 @@ pub fn run<
     R: AllocGlobal + Threads + Wait + time::Clock + Sync,
 >(rt: &R, disk: D, clock: C, options: Options, worker: &W) -> Result<Ran<T, D>, RunFault>
     requires workers { (1 ≤ options.workers) × (options.workers ≤ 64) }
-    ensures answers { IfOk result (λ ran. AreAnswers (W.answers worker.now) options.workers ran.answers.items) }
+    ensures ran { IfOk result (RanAll D.size D.count D.faults D.honest D.newest D.may_leave D.moment D.left_since
+        (started_on D.size D.count D.faults D.honest D.newest D.moment D.left_since disk) (W.answers worker.now)
+        options.workers) }
     ensures ends { IfOk result (EndsRun options.checkpoint) }
-    ensures since { IfOk result (λ ran. EndsSince D.size D.count D.faults D.honest D.newest D.may_leave D.moment D.left_since (started_on D.size D.count D.faults D.honest D.newest D.moment D.left_since disk) ran.disk ran.trail.items) }
+    ensures since { IfOk result (λ ran. EndsSince D.size D.count D.faults D.honest D.newest D.may_leave D.moment
+        D.left_since (started_on D.size D.count D.faults D.honest D.newest D.moment D.left_since disk) ran.disk
+        ran.trail.items) }
     ensures refused { IfErr result (RefusesRun D.size D.count D.faults D.honest D.newest disk) }
 {
-    let (handles, changes) = (Blank::new(PARTS), Blank::new(PARTS));
-    run_on::<T, W, D, C, R, Brand, Brand>(
-        rt,
-        rt.alloc(),
-        disk,
-        clock,
-        options,
-        worker,
-        handles,
-        changes,
-    )
+    run_on::<T, W, D, C, R, Brand>(rt, rt.alloc(), disk, clock, options, worker)
 }
 
-/// The same, with ledgers and a start that the caller picks (`H.begun`): what is promised of the disk is said of that
-/// start.
+/// The same, with a start that the caller picks (`H.begun`): what is promised of the disk is said of that start.
 ///
 /// # Errors
 /// Those of [`run`].
 pub fn run_on<
+    T: Drop + Send,
+    W: Worker<T> + Sync,
+    D: Disk + Drop + Send,
+    C: Clock + Drop + Send,
+    R: Threads + Wait + time::Clock + Sync,
+    H: Origin,
+>(
+    rt: &R,
+    alloc: Global,
+    disk: D,
+    clock: C,
+    options: Options,
+    worker: &W,
+) -> Result<Ran<T, D>, RunFault>
+    requires workers { (1 ≤ options.workers) × (options.workers ≤ 64) }
+    requires begun { IsBegunOn D.size D.count D.faults D.honest D.newest D.moment D.left_since H.begun disk }
+    requires any { (words : WordMap) → H.begun.stops words }
+    ensures ran { IfOk result (RanAll D.size D.count D.faults D.honest D.newest D.may_leave D.moment D.left_since
+        H.begun (W.answers worker.now) options.workers) }
+    ensures ends { IfOk result (EndsRun options.checkpoint) }
+    ensures since { IfOk result (λ ran. EndsSince D.size D.count D.faults D.honest D.newest D.may_leave D.moment
+        D.left_since H.begun ran.disk ran.trail.items) }
+    ensures refused { IfErr result (RefusesRun D.size D.count D.faults D.honest D.newest disk) }
+{
+    let deck = match jb_desk::open::<D, H>(alloc, disk) {
+        Ok(deck) => deck,
+        Err(fault) => return Err(RunFault::Open(fault)),
+    };
+    let _shape = deck.shape(); // for the proof alone: what its handles have to fit
+    let Ok(handles) = Stops::new(alloc, PARTS) else {
+        return Err(RunFault::Memory);
+    };
+    let changes = Blank::new(PARTS);
+    run_open::<T, W, D, C, R, Brand, Brand>(
+        rt, alloc, handles, changes, deck, clock, options, worker,
+    )
+}
+
+/// Runs the workers at a desk over a journal that was just opened. The desk's ledgers are `handles`, with its history,
+/// and `changes`.
+fn run_open<
     T: Drop + Send,
     W: Worker<T> + Sync,
     D: Disk + Drop + Send,
@@ -79,28 +114,26 @@ pub fn run_on<
 >(
     rt: &R,
     alloc: Global,
-    disk: D,
+    handles: Stops,
+    changes: Blank,
+    deck: Deck<D>,
     clock: C,
     options: Options,
     worker: &W,
-    handles: Blank,
-    changes: Blank,
 ) -> Result<Ran<T, D>, RunFault>
-    requires handles { (handles.name ≡ H.name) × (handles.parts ≡ H.parts) × (H.parts ≡ 2 ^ 61 + 1) }
+    requires handles { (handles.tickets.name ≡ H.name) × (handles.tickets.parts ≡ H.parts) × (H.parts ≡ 2 ^ 61 + 1)
+        × (history_in handles ≡ H.history) }
     requires changes { (changes.name ≡ N.name) × (changes.parts ≡ N.parts) × (N.parts ≡ 2 ^ 61 + 1) }
-    requires workers { (1 ≤ options.workers) × (options.workers ≤ 64) }
-    requires begun { IsBegunOn D.size D.count D.faults D.honest D.newest D.moment D.left_since H.begun disk }
+    requires deck { (deck.trail ≡ []) × (deck.aborted ≡ false)
+        × IsSince D.size D.count D.faults D.honest D.newest D.may_leave D.moment D.left_since H.begun deck }
     requires any { (words : WordMap) → H.begun.stops words }
-    ensures answers { IfOk result (λ ran. AreAnswers (W.answers worker.now) options.workers ran.answers.items) }
+    ensures ran { IfOk result (RanAll D.size D.count D.faults D.honest D.newest D.may_leave D.moment D.left_since
+        H.begun (W.answers worker.now) options.workers) }
     ensures ends { IfOk result (EndsRun options.checkpoint) }
-    ensures since { IfOk result (λ ran. EndsSince D.size D.count D.faults D.honest D.newest D.may_leave D.moment D.left_since H.begun ran.disk ran.trail.items) }
-    ensures refused { IfErr result (RefusesRun D.size D.count D.faults D.honest D.newest disk) }
+    ensures since { IfOk result (λ ran. EndsSince D.size D.count D.faults D.honest D.newest D.may_leave D.moment
+        D.left_since H.begun ran.disk ran.trail.items) }
+    ensures faults { IfErr result (λ fault. (fault ≡ OutOfMemory) ⊎ (fault ≡ Accounts)) }
 {
-    let deck = match jb_desk::open::<D, H>(alloc, disk) {
-        Ok(deck) => deck,
-        Err(fault) => return Err(RunFault::Open(fault)),
-    };
-    let _shape = deck.shape(); // for the proof alone: what its handles have to fit
     let Ok(desk) = Desk::<D, C, H, N>::start(alloc, handles, changes, deck, clock) else {
         return Err(RunFault::Memory);
     };
@@ -125,9 +158,11 @@ fn run_at<
 ) -> Result<Ran<T, D>, RunFault>
     requires parts { (H.parts ≡ 2 ^ 61 + 1) × (N.parts ≡ 2 ^ 61 + 1) }
     requires any { (words : WordMap) → H.begun.stops words }
-    ensures answers { IfOk result (λ ran. AreAnswers (W.answers worker.now) options.workers ran.answers.items) }
+    ensures ran { IfOk result (RanAll D.size D.count D.faults D.honest D.newest D.may_leave D.moment D.left_since
+        H.begun (W.answers worker.now) options.workers) }
     ensures ends { IfOk result (EndsRun options.checkpoint) }
-    ensures since { IfOk result (λ ran. EndsSince D.size D.count D.faults D.honest D.newest D.may_leave D.moment D.left_since H.begun ran.disk ran.trail.items) }
+    ensures since { IfOk result (λ ran. EndsSince D.size D.count D.faults D.honest D.newest D.may_leave D.moment
+        D.left_since H.begun ran.disk ran.trail.items) }
     ensures faults { IfErr result (λ fault. (fault ≡ OutOfMemory) ⊎ (fault ≡ Accounts)) }
 {
     let (ran, checkpoint) = run_all(rt, alloc, &desk, options, worker);

@@ -2,7 +2,7 @@
 ghost use Rattle.std.specs.Prelude.{◌≡◌, ◌<◌, ◌≤◌, ◌⊎◌, IfErr, IfOk, IfSome};
 ghost use Rattle.jb_handle.specs.Word.{WordMap};
 ghost use Rattle.jb_journal.specs.declared.fault.RunFault.TheVariants.{Accounts, Memory as OutOfMemory};
-ghost use Rattle.jb_journal.specs.Running.{HaveWorked, EndsChecked};
+ghost use Rattle.jb_journal.specs.Running.{HasThreaded, HaveWorked, EndsChecked, stops_of_worked};
 
 use crate::client::Client;
 use crate::committing::commit_from;
@@ -20,7 +20,7 @@ use std::{thread, time};
 
 /// What a worker leaves.
 #[derive(Drop)]
-pub(crate) struct Worked<T, H: Ledger, N: Ledger> {
+pub(crate) struct Worked<T, H: Origin, N: Ledger> {
     /// What its seat left; `None` where it had none.
     pub left: Option<Left<H, N>>,
     /// What it answered.
@@ -29,7 +29,7 @@ pub(crate) struct Worked<T, H: Ledger, N: Ledger> {
 
 /// What the threads leave.
 #[derive(Drop)]
-pub(crate) struct Threaded<T, H: Ledger, N: Ledger> {
+pub(crate) struct Threaded<T, H: Origin, N: Ledger> {
     /// What the workers leave.
     pub workers: Vec<Worked<T, H, N>>,
     /// What the committer's seat left.
@@ -38,8 +38,8 @@ pub(crate) struct Threaded<T, H: Ledger, N: Ledger> {
     pub commit: Ended,
 }
 
-/// Runs the workers and commits what they stopped, and writes committed transactions home where that is asked for; says how
-/// that ended, too.
+/// Runs the workers and commits what they stopped, and writes committed transactions home where that is asked for; says
+/// how that ended, too.
 pub(crate) fn run_all<
     T: Drop + Send,
     W: Worker<T> + Sync,
@@ -56,7 +56,7 @@ pub(crate) fn run_all<
     worker: &W,
 ) -> (Result<Threaded<T, H, N>, RunFault>, Option<Ended>)
     requires any { (words : WordMap) → H.begun.stops words }
-    ensures ran { IfOk result.0 (λ ran. HaveWorked (W.answers worker.now) options.workers ran.workers.items) }
+    ensures ran { IfOk result.0 (HasThreaded (W.answers worker.now) options.workers) }
     ensures faults { IfErr result.0 (λ fault. (fault ≡ OutOfMemory) ⊎ (fault ≡ Accounts)) }
     ensures ended { EndsChecked options.checkpoint result.1 }
 {
@@ -66,7 +66,7 @@ pub(crate) fn run_all<
     // the checkpointer is first, since the first closure runs last where no thread can be made
     let (checkpoint, ran) = thread::join(
         rt,
-        || desk.run_checkpointer(rt),
+        || desk.run_checkpointer_at(rt, options.level),
         || -> Result<Threaded<T, H, N>, RunFault>
             requires { (words : WordMap) → H.begun.stops words }
         { run_workers(rt, alloc, desk, options.workers, worker) },
@@ -91,7 +91,7 @@ fn run_workers<
     worker: &W,
 ) -> Result<Threaded<T, H, N>, RunFault>
     requires any { (words : WordMap) → H.begun.stops words }
-    ensures ran { IfOk result (λ ran. HaveWorked (W.answers worker.now) workers ran.workers.items) }
+    ensures ran { IfOk result (HasThreaded (W.answers worker.now) workers) }
     ensures faults { IfErr result (λ fault. (fault ≡ OutOfMemory) ⊎ (fault ≡ Accounts)) }
 {
     let Ok(seat) = desk.seat(rt) else {
@@ -145,7 +145,7 @@ fn work<
         workers,
         &|at: usize| -> Worked<T, H, N>
             requires { (words : WordMap) → H.begun.stops words }
-            ensures { IfSome result.answer (W.answers worker.entry.now workers at) }
+            ensures { IfSome result.answer (W.answers worker.entry.now workers at (stops_of_worked result)) }
         { work_at(rt, desk, workers, worker, at) },
     );
     desk.shut(rt);
@@ -161,7 +161,7 @@ fn work_at<T, W: Worker<T>, D: Disk, C: Clock, R: Wait + time::Clock, H: Origin,
     at: usize,
 ) -> Worked<T, H, N>
     requires any { (words : WordMap) → H.begun.stops words }
-    ensures { IfSome result.answer (W.answers worker.now workers at) }
+    ensures { IfSome result.answer (W.answers worker.now workers at (stops_of_worked result)) }
 {
     let Ok(seat) = desk.seat(rt) else {
         return Worked {

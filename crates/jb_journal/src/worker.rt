@@ -1,4 +1,5 @@
-ghost use Rattle.std.specs.Prelude.{ℕ};
+ghost use Rattle.std.specs.Prelude.{◌≡◌, ℕ, List, []};
+ghost use Rattle.jb_handle.specs.Word.{WordMap};
 
 use crate::client::Client;
 use jb_desk::Origin;
@@ -9,10 +10,11 @@ use std::time;
 
 /// What each thread does with the journal. It is shared by all workers, and answers a `T` each.
 pub trait Worker<T> {
-    ghost use Rattle.jb_journal.specs.Client.{IsClient};
+    ghost use Rattle.jb_journal.specs.Client.{IsClient, client_stops};
 
-    /// What a worker may answer, of so many, at this place.
-    ghost answers: { Self → ℕ → ℕ → T → Type 0 };
+    /// What a worker may answer, of so many, at this place, whose client has stopped these handles: each has its ticket
+    /// and its words.
+    ghost answers: { Self → ℕ → ℕ → List (ℕ × WordMap) → T → Type 0 };
 
     /// Works with the journal through a client of its own, as the worker at the place `at` of so many.
     fn work<'a, D: Disk, C: Clock, R: Wait + time::Clock, H: Origin, N: Ledger>(
@@ -22,5 +24,6 @@ pub trait Worker<T> {
         at: usize,
     ) -> T
         requires client { IsClient H.begun client.old }
-        ensures answers { answers self.now workers at result };
+        requires fresh { client_stops client.old ≡ [] }
+        ensures answers { answers self.now workers at (client_stops client.new) result };
 }

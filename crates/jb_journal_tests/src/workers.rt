@@ -23,7 +23,8 @@ fn formatted(alloc: Global) -> Result<MemoryDisk, Fail> {
     Ok(disk)
 }
 
-/// The first byte of each of the first ten homes, once a crash has left the newest of all sectors and the journal is recovered.
+/// The first byte of each of the first ten homes, once a crash has left the newest of all sectors and the journal is
+/// recovered.
 fn homes(alloc: Global, disk: &MemoryDisk) -> Result<[u8; 10], Fail> {
     let mut disk = disk.crash(&[])?;
     recover(alloc, &mut disk)?;
@@ -47,6 +48,7 @@ fn by(workers: usize) -> Options
     Options {
         workers: workers.clamp(1, 64),
         checkpoint: false,
+        level: 0,
     }
 }
 
@@ -61,8 +63,8 @@ type Found = (
     Option<u8>,
 );
 
-/// Each worker writes its place and one to two homes, by one handle of so many credits; the second home is this much after
-/// the first.
+/// Each worker writes its place and one to two homes, by one handle of so many credits; the second home is this much
+/// after the first.
 #[derive(Drop)]
 struct Pairs {
     credits: u32,
@@ -70,7 +72,7 @@ struct Pairs {
 }
 
 impl Worker<Found> for Pairs {
-    ghost answers = { λ pairs workers at answer. Unit {0} };
+    ghost answers = { λ pairs workers at stopped answer. Unit {0} };
 
     fn work<'a, D: Disk, C: Clock, R: Wait + time::Clock, H: Origin, N: Ledger>(
         &self,
@@ -153,5 +155,26 @@ fn a_journal_is_recovered_before_it_is_run(rt: HostRuntime) -> Result<(), Fail> 
     recover(rt.alloc(), &mut left)?;
     let again = run(&rt, left, CLOCK, by(2), &pairs).map(|ran| ran.handles);
     assert_eq!(rt; again, Ok(2));
+    Ok(())
+}
+
+#[test]
+fn a_journal_is_written_home_at_its_end_at_every_level(rt: HostRuntime) -> Result<(), Fail> {
+    let pairs = Pairs {
+        credits: 2,
+        apart: 1,
+    };
+    for level in [0, 5, u32::MAX] {
+        let options = Options {
+            checkpoint: true,
+            level,
+            ..by(2)
+        };
+        let ran = run(&rt, formatted(rt.alloc())?, CLOCK, options, &pairs)?;
+        assert!(rt; matches!(ran.checkpoint, Some(Ended::Shut(_))), "{level}");
+        // one that is not clean would have to be recovered
+        let again = run(&rt, ran.disk, CLOCK, options, &pairs).map(|ran| ran.handles);
+        assert_eq!(rt; again, Ok(2), "{level}");
+    }
     Ok(())
 }

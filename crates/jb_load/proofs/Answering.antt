@@ -6,18 +6,19 @@ use Rattle.jb_disk.specs.Image.{Image}
 use Rattle.jb_handle.specs.declared.shape.Shape.{Shape}
 use Rattle.jb_handle.specs.declared.stopped.Stopped.{Stopped}
 use Rattle.jb_desk.specs.Origin.{Begun}
-use Rattle.jb_load.specs.Loads.{AnswersLoad, EndsCheckpoint, IsOpened, Loads}
+use Rattle.jb_load.specs.Loads.{AnswersLoad, EndsCheckpoint, IsOpened}
 use Rattle.jb_load.specs.Settled.{LoadedSince, LoadsSince}
 use Rattle.jb_load.specs.declared.fault.LoadFault.{LoadFault}
 use Rattle.jb_load.specs.declared.fault.LoadFault.TheVariants.{Accounts, Memory}
 use Rattle.jb_load.specs.declared.loaded.Loaded.{Loaded}
 use Rattle.jb_load.specs.declared.options.LoadOptions.{LoadOptions}
 
-module _ {D : Type 0} (size count faults : D → ℕ) (honest : D → Type 0) (newest : D → Image) (disk : D) (bs : BlockSize) (queue : List Stopped) (options : LoadOptions) (shape : Shape) (same : bytes_of bs ≡ size disk)
+module _ {D : Type 0} (size count faults : D → ℕ) (honest : D → Type 0) (newest : D → Image) (may_leave : D → Image → Type 0) (moment : D → ℕ) (left_since : D → ℕ → Image → Type 0) (b : Begun) (disk : D) (bs : BlockSize) (queue : List Stopped) (options : LoadOptions) (shape : Shape) (same : bytes_of bs ≡ size disk)
     (opened : IsOpened size count faults honest newest disk shape) where
-  pub answers-as : (r : Result (Loaded × D) LoadFault) → IfOk r (λ ended. Loads shape queue options.threads ended.0) → IfOk r (λ ended. EndsCheckpoint options.checkpoint ended.0.checkpoint) → IfErr r (λ fault. (fault ≡ Memory) ⊎ (fault ≡ Accounts))
+  pub answers-as : (r : Result (Loaded × D) LoadFault) → IfOk r (λ ended. LoadedSince size count faults honest newest may_leave moment left_since b shape queue options.threads ended.0 ended.1)
+      → IfOk r (λ ended. EndsCheckpoint options.checkpoint ended.0.checkpoint) → IfErr r (λ fault. (fault ≡ Memory) ⊎ (fault ≡ Accounts))
       → AnswersLoad size count faults honest newest disk bs queue options r
-  answers-as (Ok (loaded, after)) loads ended none = (same, (shape, opened, loads), ended)
+  answers-as (Ok (loaded, after)) since ended none = (same, (shape, opened, since.loads), ended)
   answers-as (Err fault) none ended why =
       elim why [
         | inl is ↦ subst (λ (x : LoadFault). AnswersLoad size count faults honest newest disk bs queue options (Err x)) (sym is) (same, (shape, opened))

@@ -1,7 +1,7 @@
 pub mod Adding
 pub mod Answering
-pub mod Counting
-pub mod Grouping
+pub mod Costing
 pub mod Refusals
 pub mod Stepping
 pub mod Summing
+pub mod Tallying

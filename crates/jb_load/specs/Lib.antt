@@ -1,4 +1,3 @@
-pub mod Blocks
 pub mod Faults
 pub mod Gathering
 pub mod Loads

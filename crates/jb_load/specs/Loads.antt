@@ -1,44 +1,46 @@
 -- What a load answers.
-use Rattle.std.specs.Prelude.{◌≡◌, ◌≢◌, ℕ, ◌<◌, ◌≤◌, Bool, true, false, List, length, slice_index_or, Option, Some, None, Result, Ok, Err}
-use Rattle.std.specs.List.{flat_map}
-use Rattle.std.specs.List.Sorted.{IsPermutation}
+use Rattle.std.specs.Prelude.{◌≡◌, ◌≢◌, ℕ, ◌<◌, ◌≤◌, Bool, true, false, List, length, map, slice_index_or, Option, Some, None, Result, Ok, Err}
+use Rattle.std.specs.List.{flat_map, sum_by}
 use Rattle.jb_block.specs.Size.{bytes_of}
 use Rattle.jb_block.specs.declared.size.BlockSize.{BlockSize}
 use Rattle.jb_disk.specs.Image.{Image}
 use Rattle.jb_disk.specs.Kept.{Kept}
 use Rattle.jb_handle.specs.declared.shape.Shape.{Shape}
 use Rattle.jb_handle.specs.declared.stopped.Stopped.{Stopped}
-use Rattle.jb_cost.specs.declared.geometry.Geometry.{Geometry}
-use Rattle.jb_batch.specs.Costs.{geometry_of}
+use Rattle.jb_handle.specs.Word.{WordMap}
+use Rattle.jb_history.specs.Rule.{with_places}
+use Rattle.jb_batch.specs.Costs.{cost_in}
 use Rattle.jb_deck.specs.Deck.{OpenDeck, IsShapeOf}
 use Rattle.jb_deck.specs.Done.{Follow}
 use Rattle.jb_deck.specs.Opening.{OpenFaults, Opens, RefusesOpen}
 use Rattle.jb_deck.specs.declared.done.Entry.{Entry}
 use Rattle.jb_deck.specs.declared.fault.OpenFault.{OpenFault}
+use Rattle.jb_desk.specs.History.{AreAllStops}
 use Rattle.jb_desk.specs.declared.ended.Ended.{Ended}
 use Rattle.jb_desk.specs.declared.ended.Ended.TheVariants as ended
-use Rattle.jb_load.specs.Blocks.{blocks_in, stopped_of, CountFrom}
 use Rattle.jb_load.specs.Gathering.{first_refused}
-use Rattle.jb_load.specs.Runs.{IsRun, Run, touching}
+use Rattle.jb_load.specs.Runs.{IsRun, Run, touched_by}
 use Rattle.jb_load.specs.declared.fault.LoadFault.{LoadFault}
 use Rattle.jb_load.specs.declared.fault.LoadFault.TheVariants as fault
 use Rattle.jb_load.specs.declared.loaded.Loaded.{Loaded}
 use Rattle.jb_load.specs.declared.options.LoadOptions.{LoadOptions}
-use Rattle.jb_load.specs.declared.worker.Stop.{Stop}
+
+-- the handles with these words, under the tickets from 0 on
+abbrev pub with_tickets : List WordMap → List Stopped
+with_tickets log = map (λ s. record { ticket = s.0; words = s.1 }) (with_places 0 log)
 
 -- the counts are those of the handles that stopped, each under a ticket of its own, and of the groups that settled them
-pub record Counts (queue : List Stopped) (g : Geometry) (stops : List Stop) (trail : List Entry) (loaded : Loaded) : Type 0 where
-  -- the handles that stopped, in the order of their tickets
-  pub order : List Stop
-  pub same : IsPermutation stops order
-  pub tickets : CountFrom 0 order
+pub record Counts (queue : List Stopped) (shape : Shape) (stops : List (ℕ × WordMap)) (trail : List Entry) (loaded : Loaded) : Type 0 where
+  -- the words of the handles that stopped, in the order of their tickets
+  pub log : List WordMap
+  pub stopped : AreAllStops log stops
   pub queued : loaded.queued ≡ length queue
-  pub handles : loaded.handles ≡ length order
-  pub changes : loaded.changes ≡ touching queue order
+  pub handles : loaded.handles ≡ length log
+  pub changes : loaded.changes ≡ touched_by stops
   pub follows : Follow 0 0 loaded.settled trail
   pub within : loaded.settled ≤ loaded.handles
   pub groups : loaded.groups ≡ length trail
-  pub blocks : loaded.blocks ≡ blocks_in g (stopped_of queue order) trail
+  pub blocks : loaded.blocks ≡ sum_by (λ e. cost_in shape (with_tickets log) e.first e.past) trail
 
 -- each of so many workers has run the first of its handles
 pub record AreRuns (shape : Shape) (queue : List Stopped) (threads : ℕ) (runs : List Run) : Type 0 where
@@ -62,7 +64,7 @@ pub record Loads (shape : Shape) (queue : List Stopped) (threads : ℕ) (loaded 
   -- the groups that settled handles
   pub trail : List Entry
   pub worked : AreRuns shape queue threads runs
-  pub counts : Counts queue (geometry_of shape) (flat_map (λ (r : Run). r.stops) runs) trail loaded
+  pub counts : Counts queue shape (flat_map (λ (r : Run). r.stops) runs) trail loaded
   pub refused : loaded.refused ≡ first_refused runs
 
 module _ {D : Type 0} (size count faults : D → ℕ) (honest : D → Type 0) (newest : D → Image) (disk : D) where

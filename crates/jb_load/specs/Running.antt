@@ -1,44 +1,66 @@
 -- What the threads of a load leave.
-use Rattle.std.specs.Prelude.{◌≡◌, ℕ, ◌<◌, List, length, slice_index_or, Option, Some, None}
-use Rattle.std.specs.List.{All, flat_map, sum_by}
-use Rattle.jb_desk.specs.Seats.{stops, changes, stops_left, changes_left}
+use Rattle.std.specs.Prelude.{◌≡◌, ℕ, ◌+◌, ◌<◌, List, [], ◌∷◌, ◌++◌, length, map as each, slice_index_or, Option, Some, None}
+use Rattle.std.specs.List.{flat_map, sum_by}
+use Rattle.std.specs.FinMap as map
+use Rattle.jb_cost.specs.Pieces.{joined}
+use Rattle.jb_deck.specs.Done.{Follow}
+use Rattle.jb_deck.specs.declared.done.Entry.{Entry}
+use Rattle.jb_desk.specs.Seats.{stops, changes, made_by, stops_left, changes_left, made_left}
 use Rattle.jb_desk.specs.declared.ended.Ended.{Ended}
+use Rattle.jb_desk.specs.declared.origin.Origin.{Ghosts}
+use Rattle.jb_history.specs.declared.place.Place.{Ghosts as Places}
 use Rattle.jb_desk.specs.declared.seat.Left.{Left}
 use Rattle.jb_desk.specs.declared.seat.Seat.{Seat}
+use Rattle.jb_handle.specs.Word.{WordMap}
 use Rattle.jb_handle.specs.declared.shape.Shape.{Shape}
 use Rattle.jb_handle.specs.declared.stopped.Stopped.{Stopped}
 use Rattle.jb_load.specs.Gathering.{first_refused}
 use Rattle.jb_load.specs.Loads.{AreRuns}
-use Rattle.jb_load.specs.Runs.{Run, IsRun, IsCounted, run_of, touching}
+use Rattle.jb_load.specs.Runs.{Run, IsRun, IsCounted, run_of, touched_by}
 use Rattle.jb_load.specs.declared.gather.Gathered.{Gathered}
-use Rattle.jb_load.specs.declared.worker.Stop.{Stop}
+use Rattle.jb_load.specs.declared.loaded.Loaded.{Loaded}
 use Rattle.jb_load.specs.declared.worker.Worked.{Worked}
 use Rattle.jb_load.specs.declared.running.Ran.{Ran}
 
--- each worker has run its handles, and its seat has counted them
-pub record AreWorked {H N : Type 0} (shape : Shape) (queue : List Stopped) (threads : ℕ) (workers : List (Worked H N)) : Type 0 where
-  pub number : length workers ≡ threads
-  pub run : (at : ℕ) (d : Worked H N) → at < threads → IsRun shape queue threads at (run_of (slice_index_or workers at d))
-  pub counted : (at : ℕ) (d : Worked H N) → at < threads → IsCounted queue (slice_index_or workers at d)
+-- the seat has stopped one handle more, with this ticket and these words
+abbrev pub StopsOne : {H N : Type 0} {O : Ghosts H} {P : Places H} → Seat H N O P → ℕ → WordMap → Seat H N O P → Type 0
+StopsOne old ticket words new = (stops new ≡ stops old + 1) × (changes new ≡ changes old + map.len words) × (made_by new ≡ made_by old ++ (ticket, words) ∷ [])
 
--- a seat that was there has left, with what it counted
-abbrev pub LeavesAs : {H N : Type 0} → Option (Seat H N) → Option (Left H N × Ended) → Type 0
+-- each worker has run its handles, and its seat has counted them
+pub record AreWorked {H N : Type 0} {O : Ghosts H} {P : Places H} (shape : Shape) (queue : List Stopped) (threads : ℕ) (workers : List (Worked H N O P)) : Type 0 where
+  pub number : length workers ≡ threads
+  pub run : (at : ℕ) (d : Worked H N O P) → at < threads → IsRun shape queue threads at (run_of (slice_index_or workers at d))
+  pub counted : (at : ℕ) (d : Worked H N O P) → at < threads → IsCounted (slice_index_or workers at d)
+
+-- a seat has left, with what it counted and stopped
+abbrev pub LeavesWith : {H N : Type 0} {O : Ghosts H} {P : Places H} → Seat H N O P → Left H N O P → Type 0
+LeavesWith seat left = (stops_left left ≡ stops seat) × (changes_left left ≡ changes seat) × (made_left left ≡ made_by seat)
+
+-- a seat that was there has left, with what it counted and stopped
+abbrev pub LeavesAs : {H N : Type 0} {O : Ghosts H} {P : Places H} → Option (Seat H N O P) → Option (Left H N O P × Ended) → Type 0
 LeavesAs None left = left ≡ None
 LeavesAs (Some seat) None = ⊥
-LeavesAs (Some seat) (Some left) = (stops_left left.0 ≡ stops seat) × (changes_left left.0 ≡ changes seat)
+LeavesAs (Some seat) (Some left) = LeavesWith seat left.0
 
 -- the workers have run, and the committer has stopped no handle
-pub record HasRun {H N : Type 0} (shape : Shape) (queue : List Stopped) (threads : ℕ) (ran : Ran H N) : Type 0 where
+pub record HasRun {H N : Type 0} {O : Ghosts H} {P : Places H} (shape : Shape) (queue : List Stopped) (threads : ℕ) (ran : Ran H N O P) : Type 0 where
   pub workers : AreWorked shape queue threads ran.workers.items
-  pub stops : stops_left ran.committer ≡ 0
   pub changes : changes_left ran.committer ≡ 0
+  pub made : made_left ran.committer ≡ []
 
--- what all workers report, and what the seats have counted of it
-pub record IsGathered {H N : Type 0} (shape : Shape) (queue : List Stopped) (threads : ℕ) (g : Gathered H N) : Type 0 where
+-- what all workers report, and that the seats have counted and stopped just that
+pub record IsGathered {H N : Type 0} {O : Ghosts H} {P : Places H} (shape : Shape) (queue : List Stopped) (threads : ℕ) (g : Gathered H N O P) : Type 0 where
   pub runs : List Run
   pub worked : AreRuns shape queue threads runs
-  pub stops : g.stops.items ≡ flat_map (λ (r : Run). r.stops) runs
   pub refused : g.refused ≡ first_refused runs
-  pub inside : All (λ (s : Stop). s.handle < length queue) g.stops.items
-  pub handles : sum_by stops_left g.lefts.items ≡ length g.stops.items
-  pub changes : sum_by changes_left g.lefts.items ≡ touching queue g.stops.items
+  pub made : joined (each made_left g.lefts.items) ≡ flat_map (λ (r : Run). r.stops) runs
+  pub changes : sum_by changes_left g.lefts.items ≡ touched_by (flat_map (λ (r : Run). r.stops) runs)
+
+-- the counts are these: of so many handles, which touched so many blocks, and of the groups of this trail
+pub record CountsUp (queued handles changes : ℕ) (trail : List Entry) (loaded : Loaded) : Type 0 where
+  pub are_queued : loaded.queued ≡ queued
+  pub have_stopped : loaded.handles ≡ handles
+  pub have_changed : loaded.changes ≡ changes
+  pub follows : Follow 0 0 loaded.settled trail
+  pub groups : loaded.groups ≡ length trail
+  pub blocks : loaded.blocks ≡ sum_by (λ e. e.blocks) trail

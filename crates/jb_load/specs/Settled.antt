@@ -5,7 +5,10 @@ use Rattle.jb_handle.specs.Word.{WordMap}
 use Rattle.jb_handle.specs.declared.shape.Shape.{Shape}
 use Rattle.jb_handle.specs.declared.stopped.Stopped.{Stopped}
 use Rattle.jb_desk.specs.Origin.{Begun}
-use Rattle.jb_desk.specs.Since.{EndsSince}
+use Rattle.jb_desk.specs.History.{IsStop}
+use Rattle.jb_desk.specs.Since.{IsSinceOf}
+use Rattle.jb_deck.specs.Deck.{OpenDeck}
+use Rattle.jb_deck.specs.declared.done.Entry.{Entry}
 use Rattle.jb_load.specs.Loads.{IsOpened, Loads}
 use Rattle.jb_load.specs.Runs.{handle_at}
 use Rattle.jb_load.specs.declared.loaded.Loaded.{Loaded}
@@ -19,10 +22,19 @@ abbrev pub MayStop : Begun → List Stopped → Type 0
 MayStop b queue = (at : ℕ) → at < length queue → b.stops (handle_at queue at).words
 
 module _ {D : Type 0} (size count faults : D → ℕ) (honest : D → Type 0) (newest : D → Image) (may_leave : D → Image → Type 0) (moment : D → ℕ) (left_since : D → ℕ → Image → Type 0) (b : Begun) where
-  -- the groups that the load counts are those of a journal that stands as it must since the start, and that has the disk
+  -- The disk and the trail are those of a journal that stands as it must since the start, and that was given handles with these words and no
+  -- others: the handle with ticket k has the words at place k
+  pub record EndsGiven (words : List WordMap) (disk : D) (trail : List Entry) : Type 0 where
+    pub deck : OpenDeck D
+    pub same_disk : deck.disk ≡ disk
+    pub same_trail : deck.trail ≡ trail
+    pub since : IsSinceOf size count faults honest newest may_leave moment left_since b (IsStop b words) deck
+
+  -- The groups that the load counts are those of a journal that stands as it must since the start, and that has the disk. It was given
+  -- the first of the handles of the queue that stopped, in the order of their tickets: the settled ones, and after a fault of the disk perhaps more
   pub record LoadedSince (shape : Shape) (queue : List Stopped) (threads : ℕ) (loaded : Loaded) (disk : D) : Type 0 where
     pub loads : Loads shape queue threads loaded
-    pub since : EndsSince size count faults honest newest may_leave moment left_since b disk loads.trail
+    pub since : EndsGiven loads.counts.log disk loads.trail
 
   -- the journal on the disk of before was opened, and the handles had to fit its shape
   abbrev pub LoadsSince : D → List Stopped → ℕ → Loaded → D → Type 0

@@ -1,8 +1,8 @@
 //! What has stopped is committed.
 ghost use Rattle.std.specs.Prelude.{◌≡◌, None, IfSome};
 ghost use Rattle.jb_desk.specs.Desks.{desk_id};
-ghost use Rattle.jb_desk.specs.Seats.{stops, changes, desk_of, stops_left, changes_left};
-ghost use Rattle.jb_load.specs.Running.{LeavesAs};
+ghost use Rattle.jb_desk.specs.Seats.{desk_of};
+ghost use Rattle.jb_load.specs.Running.{LeavesAs, LeavesWith};
 
 use jb_desk::{Desk, Ended, Left, Origin, Seat};
 use jb_disk::{Clock, Disk};
@@ -17,7 +17,7 @@ pub(crate) fn commit_all<D: Disk, C: Clock, R: Wait, H: Origin, N: Ledger>(
     seat: Seat<H, N>,
 ) -> (Left<H, N>, Ended)
     requires { desk_of seat ≡ desk_id desk.now }
-    ensures { (stops_left result.0 ≡ stops seat) × (changes_left result.0 ≡ changes seat) }
+    ensures { LeavesWith seat result.0 }
 {
     let (committer, ended) = desk.run_committer(rt, desk.committer(seat));
     let seat = match desk.retire(rt, committer) {

@@ -4,49 +4,44 @@ ghost use Rattle.jb_load.specs.Gathering.{earlier_of};
 
 use crate::loaded::Refused;
 use crate::running::Ran;
-use crate::worker::{Stop, Worked};
+use crate::worker::Worked;
 use jb_block::Memory;
-use jb_desk::Left;
+use jb_desk::{Left, Origin};
 use std::alloc::Global;
 use std::sync::ledger::Ledger;
 
 /// What all workers leave.
 #[derive(Drop)]
-pub(crate) struct Gathered<H: Ledger, N: Ledger> {
+pub(crate) struct Gathered<H: Origin, N: Ledger> {
     /// What their seats left.
     pub lefts: Vec<Left<H, N>>,
-    /// The handles that stopped.
-    pub stops: Vec<Stop>,
     /// The first one of the queue that was refused.
     pub refused: Option<Refused>,
 }
 
-impl<H: Ledger, N: Ledger> Gathered<H, N> {
+impl<H: Origin, N: Ledger> Gathered<H, N> {
     ghost use Rattle.std.specs.Prelude.{◌≡◌, ℕ, List, vec_capacity, ◌≤◌, ◌+◌, ◌++◌, ◌∷◌, [], map, None, IfOk, OnOk};
     ghost use Rattle.std.specs.List.{flat_map, sum_by};
     ghost use Rattle.std.specs.Option.{option_to_list};
-    ghost use Rattle.jb_desk.specs.Seats.{stops_left, changes_left};
+    ghost use Rattle.jb_desk.specs.Seats.{changes_left};
     ghost use Rattle.jb_load.specs.Gathering.{earlier_of, first_refused};
-    ghost use Rattle.jb_load.specs.Runs.{run_of, stops_in, changes_in};
+    ghost use Rattle.jb_load.specs.Runs.{run_of, changes_in};
     ghost use Rattle.jb_load.specs.Running.{HasRun, IsGathered};
     ghost use Rattle.jb_handle.specs.declared.shape.Shape.{Shape as ShapeValue};
     ghost use Rattle.jb_handle.specs.declared.stopped.Stopped.{Stopped as StoppedValue};
 
-    /// Nothing, with room for what so many seats and handles leave.
+    /// Nothing, with room for what so many seats leave.
     ///
     /// # Errors
     /// `Memory` where there is none for that.
-    pub fn with_room(alloc: Global, seats: usize, handles: usize) -> Result<Gathered<H, N>, Memory>
-        ensures none { IfOk result (λ g. (g.lefts.items ≡ []) × (g.stops.items ≡ []) × (g.refused ≡ None)) }
-        ensures room { IfOk result (λ g. (seats ≤ vec_capacity g.lefts) × (handles ≤ vec_capacity g.stops)) }
+    pub fn with_room(alloc: Global, seats: usize) -> Result<Gathered<H, N>, Memory>
+        ensures none { IfOk result (λ g. (g.lefts.items ≡ []) × (g.refused ≡ None)) }
+        ensures room { IfOk result (λ g. seats ≤ vec_capacity g.lefts) }
     {
         let mut lefts = Vec::new(alloc);
         lefts.reserve(seats)?;
-        let mut stops = Vec::new(alloc);
-        stops.reserve(handles)?;
         Ok(Gathered {
             lefts,
-            stops,
             refused: None,
         })
     }
@@ -57,7 +52,7 @@ impl<H: Ledger, N: Ledger> Gathered<H, N> {
     /// `Memory` where there is none for that.
     fn add_left(&mut self, left: Left<H, N>) -> Result<(), Memory>
         ensures lefts { OnOk result (self.new.lefts.items ≡ self.old.lefts.items ++ left ∷ []) }
-        ensures rest { (self.new.stops ≡ self.old.stops) × (self.new.refused ≡ self.old.refused) }
+        ensures rest { self.new.refused ≡ self.old.refused }
     {
         Ok(self.lefts.push(left)?)
     }
@@ -68,20 +63,14 @@ impl<H: Ledger, N: Ledger> Gathered<H, N> {
     /// `Memory` where there is none for that.
     fn add(&mut self, worked: Worked<H, N>) -> Result<(), Memory>
         ensures lefts { OnOk result (self.new.lefts.items ≡ self.old.lefts.items ++ option_to_list worked.left) }
-        ensures stops { OnOk result (self.new.stops.items ≡ self.old.stops.items ++ worked.stops.items) }
         ensures refused { OnOk result (self.new.refused ≡ earlier_of self.old.refused worked.refused) }
-        ensures counted { OnOk result (sum_by stops_left self.new.lefts.items ≡ sum_by stops_left self.old.lefts.items + stops_in worked.left) }
-        ensures changed { OnOk result (sum_by changes_left self.new.lefts.items ≡ sum_by changes_left self.old.lefts.items + changes_in worked.left) }
+        ensures changed { OnOk result (sum_by changes_left self.new.lefts.items ≡ sum_by changes_left
+            self.old.lefts.items + changes_in worked.left) }
     {
-        let Worked {
-            left,
-            mut stops,
-            refused,
-        } = worked;
+        let Worked { left, refused } = worked;
         if let Some(left) = left {
             self.add_left(left)?;
         }
-        self.stops.append(&mut stops)?;
         self.refused = earlier(self.refused, refused);
         Ok(())
     }
@@ -91,9 +80,11 @@ impl<H: Ledger, N: Ledger> Gathered<H, N> {
     /// # Errors
     /// `Memory` where there is none for that.
     pub fn gather(self, ran: Ran<H, N>) -> Result<Gathered<H, N>, Memory>
-        requires empty { (self.lefts.items ≡ []) × (self.stops.items ≡ []) × (self.refused ≡ None) }
-        ensures lefts { IfOk result (λ gathered. gathered.lefts.items ≡ ran.committer ∷ flat_map (λ w. option_to_list w.left) ran.workers.items) }
-        ensures gathered { IfOk result (λ gathered. (shape : ShapeValue) (queue : List StoppedValue) (threads : ℕ) → HasRun shape queue threads ran → IsGathered shape queue threads gathered) }
+        requires empty { (self.lefts.items ≡ []) × (self.refused ≡ None) }
+        ensures lefts { IfOk result (λ gathered. gathered.lefts.items ≡ ran.committer ∷ flat_map
+            (λ w. option_to_list w.left) ran.workers.items) }
+        ensures gathered { IfOk result (λ gathered. (shape : ShapeValue) (queue : List StoppedValue) (threads : ℕ)
+            → HasRun shape queue threads ran → IsGathered shape queue threads gathered) }
     {
         let mut gathered = self;
         gathered.add_left(ran.committer)?;
@@ -106,12 +97,12 @@ impl<H: Ledger, N: Ledger> Gathered<H, N> {
     /// # Errors
     /// `Memory` where there is none for that.
     fn add_all(&mut self, workers: Vec<Worked<H, N>>) -> Result<(), Memory>
-        requires none { (self.old.stops.items ≡ []) × (self.old.refused ≡ None) }
-        ensures lefts { OnOk result (self.new.lefts.items ≡ self.old.lefts.items ++ flat_map (λ w. option_to_list w.left) workers.items) }
-        ensures stops { OnOk result (self.new.stops.items ≡ flat_map (λ w. w.stops.items) workers.items) }
+        requires none { self.old.refused ≡ None }
+        ensures lefts { OnOk result (self.new.lefts.items ≡ self.old.lefts.items ++ flat_map
+            (λ w. option_to_list w.left) workers.items) }
         ensures refused { OnOk result (self.new.refused ≡ first_refused (map run_of workers.items)) }
-        ensures counted { OnOk result (sum_by stops_left self.new.lefts.items ≡ sum_by stops_left self.old.lefts.items + sum_by (λ w. stops_in w.left) workers.items) }
-        ensures changed { OnOk result (sum_by changes_left self.new.lefts.items ≡ sum_by changes_left self.old.lefts.items + sum_by (λ w. changes_in w.left) workers.items) }
+        ensures changed { OnOk result (sum_by changes_left self.new.lefts.items ≡ sum_by changes_left
+            self.old.lefts.items + sum_by (λ w. changes_in w.left) workers.items) }
     {
         for worked in workers {
             self.add(worked)?;

@@ -2,12 +2,12 @@
 ghost use Rattle.std.specs.Prelude.{◌≡◌, ◌+◌, max, IfOk, IfErr, OnErr};
 ghost use Rattle.std.specs.FinMap as map;
 ghost use Rattle.jb_handle.specs.Handle.{holder, changes_of};
-ghost use Rattle.jb_handle.specs.Held.{touched};
 ghost use Rattle.jb_handle.specs.Word.{WordMap};
 ghost use Rattle.jb_handle.specs.declared.shape.Shape.{Shape as ShapeValue};
 ghost use Rattle.jb_load.specs.Refusing.{IsRefusedFor};
 ghost use Rattle.jb_desk.specs.Desks.{desk_id, shape_in};
-ghost use Rattle.jb_desk.specs.Seats.{stops, changes, desk_of, view_of};
+ghost use Rattle.jb_desk.specs.Seats.{KeepsStops, desk_of, view_of};
+ghost use Rattle.jb_load.specs.Running.{StopsOne};
 
 use crate::fault::HandleFault;
 use crate::words::put_words;
@@ -29,8 +29,8 @@ pub(crate) fn run_handle<D: Disk, C: Clock, R: Wait + time::Clock, H: Origin, N:
     requires words { H.begun.stops words.now }
     ensures desk { desk_of result.0 ≡ desk_id desk.now }
     ensures ticket { IfOk result.1 (λ ticket. (view_of result.0).stopped ≡ max (view_of seat).stopped (ticket + 1)) }
-    ensures stopped { IfOk result.1 (λ _. (stops result.0 ≡ stops seat + 1) × (changes result.0 ≡ changes seat + map.len words.now)) }
-    ensures refused { OnErr result.1 ((stops result.0 ≡ stops seat) × (changes result.0 ≡ changes seat)) }
+    ensures stopped { IfOk result.1 (λ ticket. StopsOne seat ticket words.now result.0) }
+    ensures refused { OnErr result.1 (KeepsStops seat result.0) }
     ensures why { IfErr result.1 (IsRefusedFor (shape_in desk.now) words.now) }
 {
     // more than these are too many in any journal
@@ -52,9 +52,10 @@ fn fill<D: Disk, C: Clock, R: Wait, H: Origin, N: Ledger>(
     requires fresh { (changes_of handle).words ≡ map.empty }
     requires words { H.begun.stops words.now }
     ensures desk { desk_of result.0 ≡ desk_id desk.now }
-    ensures ticket { IfOk result.1 (λ ticket. (view_of result.0).stopped ≡ max (view_of (holder handle)).stopped (ticket + 1)) }
-    ensures stopped { IfOk result.1 (λ _. (stops result.0 ≡ stops (holder handle) + 1) × (changes result.0 ≡ changes (holder handle) + map.len words.now)) }
-    ensures refused { OnErr result.1 ((stops result.0 ≡ stops (holder handle)) × (changes result.0 ≡ changes (holder handle))) }
+    ensures ticket { IfOk result.1 (λ ticket. (view_of result.0).stopped ≡ max (view_of (holder handle)).stopped
+        (ticket + 1)) }
+    ensures stopped { IfOk result.1 (λ ticket. StopsOne (holder handle) ticket words.now result.0) }
+    ensures refused { OnErr result.1 (KeepsStops (holder handle) result.0) }
     ensures why { IfErr result.1 (IsRefusedFor (changes_of handle).shape words.now) }
 {
     let mut handle = handle;
@@ -73,9 +74,10 @@ fn stop<D: Disk, C: Clock, R: Wait, H: Origin, N: Ledger>(
     requires desk { desk_of (holder handle) ≡ desk_id desk.now }
     requires words { H.begun.stops (changes_of handle).words }
     ensures desk { desk_of result.0 ≡ desk_id desk.now }
-    ensures ticket { IfOk result.1 (λ ticket. (view_of result.0).stopped ≡ max (view_of (holder handle)).stopped (ticket + 1)) }
-    ensures stopped { IfOk result.1 (λ _. (stops result.0 ≡ stops (holder handle) + 1) × (changes result.0 ≡ changes (holder handle) + touched (changes_of handle))) }
-    ensures refused { OnErr result.1 ((stops result.0 ≡ stops (holder handle)) × (changes result.0 ≡ changes (holder handle))) }
+    ensures ticket { IfOk result.1 (λ ticket. (view_of result.0).stopped ≡ max (view_of (holder handle)).stopped
+        (ticket + 1)) }
+    ensures stopped { IfOk result.1 (λ ticket. StopsOne (holder handle) ticket (changes_of handle).words result.0) }
+    ensures refused { OnErr result.1 (KeepsStops (holder handle) result.0) }
     ensures why { IfErr result.1 (λ fault. (shape : ShapeValue) (words : WordMap) → IsRefusedFor shape words fault) }
 {
     match desk.stop(rt, handle) {

@@ -1,8 +1,8 @@
 //! The handles of a queue text are run through a desk, by threads, and committed.
 #![tactic(auto)]
 
-mod blocks;
 mod committing;
+mod counting;
 mod fault;
 mod gather;
 mod handle;

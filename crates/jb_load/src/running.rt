@@ -22,7 +22,7 @@ use std::{thread, time};
 
 /// What the threads of a load leave.
 #[derive(Drop)]
-pub(crate) struct Ran<H: Ledger, N: Ledger> {
+pub(crate) struct Ran<H: Origin, N: Ledger> {
     /// What the workers leave.
     pub workers: Vec<Worked<H, N>>,
     /// What the committer's seat left.
@@ -144,7 +144,7 @@ fn run_workers<
         threads,
         &|at: usize| -> Worked<H, N>
             requires { (1 ≤ threads) × (threads ≤ 64) × MayStop H.begun queue.now }
-        { work(rt, alloc, desk, queue, threads, at) },
+        { work(rt, desk, queue, threads, at) },
     );
     desk.shut(rt);
     workers

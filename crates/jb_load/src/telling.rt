@@ -19,7 +19,8 @@ pub fn tell_loaded<O: Write, E: Write>(
     out: &mut O,
     err: &mut E,
 ) -> Result<u8, WriteFault>
-    ensures { TellsLoad loaded.now (O.contents out.old) (O.contents out.new) (E.contents err.old) (E.contents err.new) result }
+    ensures { TellsLoad loaded.now (O.contents out.old) (O.contents out.new) (E.contents err.old) (E.contents err.new)
+        result }
 {
     put_counts(loaded, out)?;
     let _ignored = put_faults(loaded, err);

@@ -1,5 +1,5 @@
-//! Loads over disks that fail at each of their calls: the counts add up, all threads end, and recovery finds the homes as
-//! the first so many handles leave them.
+//! Loads over disks that fail at each of their calls: the counts add up, all threads end, and recovery finds the homes
+//! as the first so many handles leave them.
 
 use crate::journal::{formatted, load, recovered};
 use crate::lent::LentDisk;
@@ -17,8 +17,8 @@ use std::time::{Clock, Duration};
 const FIVE: &str =
     "bs 1024\nlimit 6\nh w1=01 w2=01 w3=01\nh w1=02 w2=02 w4=02\nh w1=03 w2=03 w5=03\nh w1=04 w2=04 w6=04\nh w1=05 w2=05 w7=05\n";
 
-/// Loads with the call of this number as the first that fails, and as the only one too; gives the number of handles that
-/// recovery finds.
+/// Loads with the call of this number as the first that fails, and as the only one too; gives the number of handles
+/// that recovery finds.
 fn load_failing<R: Threads + Wait + Clock + Sync>(
     rt: &R,
     alloc: Global,
@@ -44,8 +44,8 @@ fn load_failing<R: Threads + Wait + Clock + Sync>(
     Ok((answer, found))
 }
 
-/// Whether the counts add up: of the handles that stopped the first ones are settled, and recovery finds these at least; where
-/// a thread did not end `Shut`, that is reported.
+/// Whether the counts add up: of the handles that stopped the first ones are settled, and recovery finds these at
+/// least; where a thread did not end `Shut`, that is reported.
 fn adds_up(loaded: &Loaded, found: u64) -> bool {
     loaded.settled <= loaded.handles
         && loaded.settled <= found

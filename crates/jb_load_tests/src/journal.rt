@@ -3,19 +3,16 @@
 use crate::lent::LentDisk;
 use jb_block::{BlockSize, Stamp, Width, put32};
 use jb_disk::{Disk, FixedClock, MemoryDisk};
+use jb_front::format;
 use jb_load::{LoadFault, LoadOptions, Loaded, load_on, tell_loaded};
 use jb_queue::read_queue;
-use jb_recover::{format, recover};
+use jb_recover::recover;
 use std::alloc::Global;
 use std::marker::Brand;
-use std::sync::ledger::Blank;
 use std::sync::{Mutex, Wait};
 use std::test::Fail;
 use std::thread::Threads;
 use std::time::{Clock, Duration};
-
-/// The parts of each ledger of a desk.
-const PARTS: u64 = (1 << 61) + 1;
 
 /// The clock of all loads.
 const CLOCK: FixedClock = FixedClock {
@@ -32,8 +29,8 @@ pub const HELD: LoadOptions = LoadOptions {
     checkpoint: false,
 };
 
-/// A journal of 32 usable log blocks and 16 home blocks of zeros, of which a group takes so many log blocks at most, after a
-/// transaction of this number.
+/// A journal of 32 usable log blocks and 16 home blocks of zeros, of which a group takes so many log blocks at most,
+/// after a transaction of this number.
 pub fn formatted(alloc: Global, most: u32, number: u32) -> Result<MemoryDisk, Fail> {
     let mut disk = MemoryDisk::new(alloc, BlockSize::OneKib, 49)?;
     format(&mut disk, 33, most, [0; 16], Width::Narrow)?;
@@ -56,16 +53,8 @@ pub fn load<D: Disk + Drop + Send, R: Threads + Wait + Clock + Sync>(
 ) -> Result<Result<Loaded, LoadFault>, Fail> {
     let queue = read_queue(alloc, text.as_bytes())?;
     let threads = options.threads.clamp(1, 64);
-    let answer = load_on::<D, FixedClock, R, Brand, Brand>(
-        rt,
-        alloc,
-        disk,
-        CLOCK,
-        &queue,
-        LoadOptions { threads, ..options },
-        Blank::new(PARTS),
-        Blank::new(PARTS),
-    );
+    let options = LoadOptions { threads, ..options };
+    let answer = load_on::<D, FixedClock, R, Brand>(rt, alloc, disk, CLOCK, &queue, options);
     Ok(answer.map(|(loaded, _)| loaded))
 }
 

@@ -19,6 +19,13 @@ const FOUR_HOMES: [u8; HOMES] = [
     0, 0x01, 0x02, 0x23, 0x24, 0x25, 0, 0, 0, 0, 0, 0, 0, 0, 0, 0,
 ];
 
+/// Three handles on five home blocks, of which each shares some with another.
+const THREE: &str = "bs 1024\nlimit 7\nh w1=01 w2=02 w3=03\nh w3=13 w4=14 w5=15\nh w1=21 w2=22\n";
+
+const THREE_HOMES: [u8; HOMES] = [
+    0, 0x21, 0x22, 0x13, 0x14, 0x15, 0, 0, 0, 0, 0, 0, 0, 0, 0, 0,
+];
+
 /// What is loaded into which journal, what is reported, and what recovery finds then.
 struct Row {
     most: u32,
@@ -31,7 +38,7 @@ struct Row {
     homes: [u8; HOMES],
 }
 
-const ROWS: [Row; 10] = [
+const ROWS: [Row; 12] = [
     Row {
         most: 0,
         number: 1,
@@ -61,6 +68,26 @@ const ROWS: [Row; 10] = [
         err: "",
         found: (0, 0),
         homes: FOUR_HOMES,
+    },
+    Row {
+        most: 7,
+        number: 1,
+        text: THREE,
+        options: HELD,
+        out: "handles 3 changes 8 settled 3 groups 1 blocks 7\n",
+        err: "",
+        found: (1, 5),
+        homes: THREE_HOMES,
+    },
+    Row {
+        most: 6,
+        number: 1,
+        text: THREE,
+        options: HELD,
+        out: "handles 3 changes 8 settled 3 groups 3 blocks 14\n",
+        err: "",
+        found: (3, 8),
+        homes: THREE_HOMES,
     },
     Row {
         most: 6,

@@ -1,6 +1,7 @@
 //! Calls of the journal.
 
-use crate::journals::{HOME_5, MAGIC, STAMP, let_go, opened, prepared, small, word_at};
+use crate::journals::{HOME_5, STAMP, let_go, opened, prepared, small, word_at};
+use jb_block::MAGIC;
 use jb_deck::{BatchFault, Deck, Done, Entry, OpenFault, Prepared};
 use jb_disk::MemoryDisk;
 use jb_recover::recover;
@@ -12,6 +13,7 @@ const GROUP: [Entry; 1] = [Entry {
     first: 0,
     past: 1,
     number: 2,
+    blocks: 4,
 }];
 
 /// A disk that is given back for want of memory opens as one that was never opened.
@@ -42,8 +44,8 @@ fn open_again(alloc: Global, disk: MemoryDisk) -> Result<Deck<MemoryDisk>, Wrong
     }
 }
 
-/// A journal that ran out of memory is as it was, and commits the batch that is handed back. One whose disk failed is aborted, and
-/// recovers to the homes before the batch or after it.
+/// A journal that ran out of memory is as it was, and commits the batch that is handed back. One whose disk failed is
+/// aborted, and recovers to the homes before the batch or after it.
 pub fn commit_batch_row(rt: &HostRuntime) -> Result<Met, Wrong> {
     let alloc = rt.alloc();
     let mut deck = opened(alloc)?;

@@ -1,7 +1,7 @@
 //! Disks in memory, their recovery and their text.
 
-use crate::journals::{HOME_5, MAGIC, committed, put_word, small, word_at};
-use jb_block::BlockSize;
+use crate::journals::{HOME_5, committed, put_word, small, word_at};
+use jb_block::{BlockSize, MAGIC};
 use jb_disk::{Disk, MemoryDisk};
 use jb_dump::{DumpFault, dump};
 use jb_recover::{RecoverFault, Recovered, recover};

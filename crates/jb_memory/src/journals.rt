@@ -1,15 +1,12 @@
 //! The journal that the rows of disks and decks use, and what is committed to it.
 
-use jb_block::{BlockSize, Stamp, Width, get32, put32};
+use jb_block::{BlockSize, MAGIC, Stamp, Width, get32, put32};
 use jb_deck::{Batch, BatchFault, Deck, Prepared, is_batch, prepare};
 use jb_disk::{Disk, MemoryDisk};
 use jb_handle::Shape;
 use jb_queue::read_queue;
 use jb_refusing::{Wrong, must};
 use std::alloc::Global;
-
-/// The number with which the journal's own blocks begin, and the front of home 5's block once the handle is recovered.
-pub const MAGIC: u32 = 0xC03B_3998;
 
 /// The place of home block 5.
 pub const HOME_5: u64 = 38;

@@ -6,7 +6,8 @@ use jb_log::{Block, Piece, ReadFault, Seen, read_transactions};
 use jb_refusing::{Met, Wrong, ample, must, refusing};
 use std::alloc::Global;
 
-/// The fronts of a log's blocks: a revoke of home 7, a descriptor of home 5, its data, and a commit block, all of number 2.
+/// The fronts of a log's blocks: a revoke of home 7, a descriptor of home 5, its data, and a commit block, all of
+/// number 2.
 const FRONTS: [[u8; 20]; 4] = [
     [
         0xc0, 0x3b, 0x39, 0x98, 0, 0, 0, 5, 0, 0, 0, 2, 0, 0, 0, 0x14, 0, 0, 0, 7,

@@ -1,12 +1,14 @@
 //! Desks over the small journal: how they start, give seats and are closed.
 ghost use Rattle.std.specs.Prelude.{◌≡◌, ◌+◌, ◌^◌, [], false, IfOk, IfErr};
+ghost use Rattle.jb_desk.specs.History.{history_in};
 
 use jb_block::{BlockSize, Stamp, Width, get32};
 use jb_deck::Deck;
-use jb_desk::{Closed, Desk, Left, Origin, Seat};
+use jb_desk::{Closed, Desk, Left, Origin, Seat, Stops};
 use jb_disk::{Disk, FixedClock, MemoryDisk};
+use jb_front::format;
 use jb_handle::Shape;
-use jb_recover::{format, recover};
+use jb_recover::recover;
 use jb_refusing::{Met, Wrong, ample, must, refusing};
 use std::alloc::Global;
 use std::fs::File;
@@ -36,7 +38,8 @@ pub const SHAPE: Shape = Shape {
 /// The first word of a home block that a handle wrote.
 pub const WORD: u32 = 0x0707_0707;
 
-/// What a desk that was closed comes to: handles, changes and groups, and the first word of home 1 once the journal is recovered.
+/// What a desk that was closed comes to: handles, changes and groups, and the first word of home 1 once the journal is
+/// recovered.
 pub type Sums = (u64, u64, usize, u32);
 
 /// A new journal of 32 usable log blocks and 16 home blocks, of which a group takes 8 log blocks at most.
@@ -57,18 +60,32 @@ fn opened(alloc: Global) -> Result<Deck<MemoryDisk>, Wrong>
     }
 }
 
+/// A ledger and a history that were refused for want of memory are made again.
+pub fn stops_row<R: Files<File = File> + AllocGlobal>(rt: &R) -> Result<Met, Wrong> {
+    let alloc = rt.alloc();
+    refusing(rt);
+    let first = Stops::new(alloc, PARTS);
+    ample(rt);
+    let (met, _stops) = match first {
+        Ok(stops) => (Met::Ample, stops),
+        Err(_) => (Met::Memory, Stops::new(alloc, PARTS)?),
+    };
+    Ok(met)
+}
+
 /// What a desk is started with, when it is handed back.
-type Parts = (Blank, Blank, Deck<MemoryDisk>, FixedClock);
+type Parts = (Stops, Blank, Deck<MemoryDisk>, FixedClock);
 
 /// Starts a desk over a journal, of which nothing is known at the start.
 fn start<H: Origin, N: Ledger>(
     alloc: Global,
-    handles: Blank,
+    handles: Stops,
     changes: Blank,
     deck: Deck<MemoryDisk>,
 ) -> Result<Small<H, N>, Parts>
     requires blind { H.begun.honest → ⊥ }
-    requires handles { (handles.name ≡ H.name) × (handles.parts ≡ H.parts) × (H.parts ≡ 2 ^ 61 + 1) }
+    requires handles { (handles.tickets.name ≡ H.name) × (handles.tickets.parts ≡ H.parts) × (H.parts ≡ 2 ^ 61 + 1) }
+    requires history { history_in handles ≡ H.history }
     requires changes { (changes.name ≡ N.name) × (changes.parts ≡ N.parts) × (N.parts ≡ 2 ^ 61 + 1) }
     requires fresh { deck.trail ≡ [] }
     requires running { deck.aborted ≡ false }
@@ -80,11 +97,12 @@ fn start<H: Origin, N: Ledger>(
 /// A desk over a new journal.
 pub fn started<H: Origin, N: Ledger>(
     alloc: Global,
-    handles: Blank,
+    handles: Stops,
     changes: Blank,
 ) -> Result<Small<H, N>, Wrong>
     requires blind { H.begun.honest → ⊥ }
-    requires handles { (handles.name ≡ H.name) × (handles.parts ≡ H.parts) × (H.parts ≡ 2 ^ 61 + 1) }
+    requires handles { (handles.tickets.name ≡ H.name) × (handles.tickets.parts ≡ H.parts) × (H.parts ≡ 2 ^ 61 + 1) }
+    requires history { history_in handles ≡ H.history }
     requires changes { (changes.name ≡ N.name) × (changes.parts ≡ N.parts) × (N.parts ≡ 2 ^ 61 + 1) }
 {
     match start(alloc, handles, changes, opened(alloc)?) {
@@ -97,11 +115,12 @@ pub fn started<H: Origin, N: Ledger>(
 pub fn start_row<R: Files<File = File> + Wait, H: Origin, N: Ledger>(
     rt: &R,
     alloc: Global,
-    handles: Blank,
+    handles: Stops,
     changes: Blank,
 ) -> Result<Met, Wrong>
     requires blind { H.begun.honest → ⊥ }
-    requires handles { (handles.name ≡ H.name) × (handles.parts ≡ H.parts) × (H.parts ≡ 2 ^ 61 + 1) }
+    requires handles { (handles.tickets.name ≡ H.name) × (handles.tickets.parts ≡ H.parts) × (H.parts ≡ 2 ^ 61 + 1) }
+    requires history { history_in handles ≡ H.history }
     requires changes { (changes.name ≡ N.name) × (changes.parts ≡ N.parts) × (N.parts ≡ 2 ^ 61 + 1) }
 {
     let deck = opened(alloc)?;
@@ -206,6 +225,7 @@ fn sums_of(alloc: Global, closed: Closed<MemoryDisk, FixedClock>) -> Result<Sums
         clock: _,
         handles,
         changes,
+        shape: _,
         trail,
     } = closed;
     let mut disk = disk;

@@ -1,6 +1,6 @@
 //! A load, whose workers and committer are threads.
 
-use crate::desks::{CLOCK, PARTS, formatted};
+use crate::desks::{CLOCK, formatted};
 use jb_deck::OpenFault;
 use jb_desk::Ended;
 use jb_disk::{Disk, FixedClock};
@@ -12,7 +12,6 @@ use std::fs::File;
 use std::marker::Brand;
 use std::rt::Files;
 use std::sync::Wait;
-use std::sync::ledger::Blank;
 use std::thread::Threads;
 use std::time::Clock;
 
@@ -33,16 +32,7 @@ fn load<D: Disk + Drop + Send, R: Threads + Wait + Clock + Sync>(
     disk: D,
     queue: &QueueText,
 ) -> Result<Loaded, LoadFault> {
-    let answer = load_on::<D, FixedClock, R, Brand, Brand>(
-        rt,
-        alloc,
-        disk,
-        CLOCK,
-        queue,
-        HELD,
-        Blank::new(PARTS),
-        Blank::new(PARTS),
-    );
+    let answer = load_on::<D, FixedClock, R, Brand>(rt, alloc, disk, CLOCK, queue, HELD);
     match answer {
         Ok((loaded, _)) => Ok(loaded),
         Err(fault) => Err(fault),
@@ -58,8 +48,8 @@ fn is_all(loaded: &Loaded) -> bool {
         && loaded.blocks == 6
 }
 
-/// How a load met refused memory. One allocation is refused, so where a handle ran out of it nothing else did, and the others are
-/// settled.
+/// How a load met refused memory. One allocation is refused, so where a handle ran out of it nothing else did, and the
+/// others are settled.
 fn met_by(answer: &Result<Loaded, LoadFault>) -> Result<Met, Wrong> {
     match answer {
         Ok(loaded) => match (loaded.refused, loaded.commit) {

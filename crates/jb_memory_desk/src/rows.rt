@@ -1,10 +1,11 @@
 //! The rows by their names.
 ghost use Rattle.std.specs.Prelude.{◌≡◌, ◌+◌, ◌^◌};
+ghost use Rattle.jb_desk.specs.History.{history_in};
 ghost use Rattle.jb_handle.specs.Word.{WordMap};
 
 use crate::desks::{PARTS, started};
 use crate::{books, desks, loads, rounds, stopping};
-use jb_desk::Origin;
+use jb_desk::{Origin, Stops};
 use jb_refusing::{Met, Wrong};
 use std::alloc::Global;
 use std::fs::File;
@@ -53,6 +54,7 @@ pub fn row<R: Files<File = File> + AllocGlobal + Threads + Wait + Clock + Sync>(
         "Book::open" => Some(books::open_row(rt)),
         "Book::enqueue" => Some(books::enqueue_row(rt)),
         "load_on" => Some(loads::load_row(rt)),
+        "Stops::new" => Some(desks::stops_row(rt)),
         "Desk::start" => Some(start_row(rt)),
         _ => match of_desk(name) {
             Some(row) => Some(desk_row(rt, row)),
@@ -69,7 +71,7 @@ fn board_row<R: Files<File = File> + AllocGlobal>(rt: &R) -> Result<Met, Wrong> 
 
 /// Starts a desk where memory may be refused.
 fn start_row<R: Files<File = File> + AllocGlobal + Wait>(rt: &R) -> Result<Met, Wrong> {
-    let (handles, changes) = (Blank::new(PARTS), Blank::new(PARTS));
+    let (handles, changes) = (Stops::new(rt.alloc(), PARTS)?, Blank::new(PARTS));
     desks::start_row::<R, Brand, Brand>(rt, rt.alloc(), handles, changes)
 }
 
@@ -78,7 +80,7 @@ fn desk_row<R: Files<File = File> + AllocGlobal + Threads + Wait + Sync>(
     rt: &R,
     row: OfDesk,
 ) -> Result<Met, Wrong> {
-    let (handles, changes) = (Blank::new(PARTS), Blank::new(PARTS));
+    let (handles, changes) = (Stops::new(rt.alloc(), PARTS)?, Blank::new(PARTS));
     run_row::<R, Brand, Brand>(rt, rt.alloc(), row, handles, changes)
 }
 
@@ -87,10 +89,11 @@ fn run_row<
     R: Files<File = File> + Threads + Wait + Sync,
     H: Origin + Send + Sync,
     N: Ledger + Send + Sync,
->(rt: &R, alloc: Global, row: OfDesk, handles: Blank, changes: Blank) -> Result<Met, Wrong>
+>(rt: &R, alloc: Global, row: OfDesk, handles: Stops, changes: Blank) -> Result<Met, Wrong>
     requires blind { H.begun.honest → ⊥ }
     requires any { (words : WordMap) → H.begun.stops words }
-    requires handles { (handles.name ≡ H.name) × (handles.parts ≡ H.parts) × (H.parts ≡ 2 ^ 61 + 1) }
+    requires handles { (handles.tickets.name ≡ H.name) × (handles.tickets.parts ≡ H.parts) × (H.parts ≡ 2 ^ 61 + 1) }
+    requires history { history_in handles ≡ H.history }
     requires changes { (changes.name ≡ N.name) × (changes.parts ≡ N.parts) × (N.parts ≡ 2 ^ 61 + 1) }
 {
     let desk = started::<H, N>(alloc, handles, changes)?;

@@ -208,8 +208,8 @@ fn stop_both<R: Threads + Wait + Sync, H: Origin + Send + Sync, N: Ledger + Send
     ended
 }
 
-/// Two threads stop a handle each where memory may be refused. One that ran out of memory stops when it is asked again, while the
-/// other one is at work.
+/// Two threads stop a handle each where memory may be refused. One that ran out of memory stops when it is asked again,
+/// while the other one is at work.
 pub fn stop_beside_stop_row<
     R: Files<File = File> + Threads + Wait + Sync,
     H: Origin + Send + Sync,

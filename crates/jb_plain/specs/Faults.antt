@@ -9,17 +9,20 @@ use Rattle.jb_front.specs.declared.change.ChangeFault.{ChangeFault}
 use Rattle.jb_front.specs.declared.change.ChangeFault.TheVariants as changing
 use Rattle.jb_front.specs.declared.fault.FormatFault.{FormatFault}
 use Rattle.jb_front.specs.declared.fault.FormatFault.TheVariants as formatting
+use Rattle.jb_recover.specs.declared.fault.PeekFault.{PeekFault}
+use Rattle.jb_recover.specs.declared.fault.PeekFault.TheVariants as peeking
 use Rattle.jb_recover.specs.declared.fault.RecoverFault.{RecoverFault}
 use Rattle.jb_recover.specs.declared.fault.RecoverFault.TheVariants as recovering
 use Rattle.jb_super.specs.declared.fault.SuperFault.{SuperFault}
 use Rattle.jb_super.specs.declared.fault.SuperFault.TheVariants as super
 use Rattle.jb_plain.specs.declared.fault.CommandFault.{CommandFault}
-use Rattle.jb_plain.specs.declared.fault.CommandFault.TheVariants.{CannotRead, InUse, CannotMake, BadOption, TooLong, ReadFault, Super, BadRevoke, HomeOutOfRange, NeedsRecovery, NumbersSpent, BlockSize, Accounts, Geometry, DeviceFault, Memory, WriteFault}
+use Rattle.jb_plain.specs.declared.fault.CommandFault.TheVariants.{CannotRead, InUse, SameFile, CannotMake, BadOption, TooLong, ReadFault, Super, BadRevoke, HomeOutOfRange, NoHome, NeedsRecovery, NumbersSpent, BlockSize, Accounts, Geometry, DeviceFault, Memory, WriteFault}
 
 -- the exit status
 abbrev pub status_of : CommandFault → ℕ
 status_of (CannotRead name code) = 2
 status_of (InUse name) = 2
+status_of (SameFile name) = 2
 status_of (CannotMake name code) = 2
 status_of (BadOption name) = 2
 status_of (TooLong name) = 2
@@ -27,6 +30,7 @@ status_of ReadFault = 1
 status_of (Super fault) = 1
 status_of (BadRevoke place) = 1
 status_of (HomeOutOfRange home number homes) = 1
+status_of (NoHome home homes) = 1
 status_of NeedsRecovery = 1
 status_of NumbersSpent = 1
 status_of BlockSize = 1
@@ -51,6 +55,7 @@ super_line (super.Feature word bits) =
 abbrev pub line_of : CommandFault → List ℕ
 line_of (CannotRead name code) = spelled (codes "jb: cannot read " ∷ name.now ∷ codes "\n" ∷ [])
 line_of (InUse name) = spelled (codes "jb: in use " ∷ name.now ∷ codes "\n" ∷ [])
+line_of (SameFile name) = spelled (codes "jb: same file " ∷ name.now ∷ codes "\n" ∷ [])
 line_of (CannotMake name code) = spelled (codes "jb: cannot make " ∷ name.now ∷ codes "\n" ∷ [])
 line_of (BadOption name) = spelled (codes "jb: bad option\n" ∷ [])
 line_of (TooLong name) = spelled (codes "jb: too long " ∷ name.now ∷ codes "\n" ∷ [])
@@ -59,6 +64,7 @@ line_of (Super fault) = super_line fault
 line_of (BadRevoke place) = spelled (codes "jb: BadRevoke " ∷ decimal place ∷ codes "\n" ∷ [])
 line_of (HomeOutOfRange home number homes) =
     spelled (codes "jb: HomeOutOfRange " ∷ decimal home ∷ codes " " ∷ decimal number ∷ codes "\n" ∷ [])
+line_of (NoHome home homes) = spelled (codes "jb: NoHome " ∷ decimal home ∷ codes "\n" ∷ [])
 line_of NeedsRecovery = spelled (codes "jb: NeedsRecovery\n" ∷ [])
 line_of NumbersSpent = spelled (codes "jb: NumbersSpent\n" ∷ [])
 line_of BlockSize = spelled (codes "jb: BlockSize\n" ∷ [])
@@ -84,6 +90,7 @@ beside_of (CannotRead name code) = of_code code
 beside_of (CannotMake name code) = of_code code
 beside_of (BadOption name) = FirstBad name
 beside_of (HomeOutOfRange home number homes) = of_homes homes
+beside_of (NoHome home homes) = of_homes homes
 beside_of _ = Nothing
 
 -- the line for a word of the command line that is not UTF-8
@@ -110,6 +117,13 @@ recover_fault homes (recovering.Super fault) = Super fault
 recover_fault homes (recovering.BadRevoke place) = BadRevoke place
 recover_fault homes (recovering.HomeOutOfRange home number) = HomeOutOfRange home number homes
 recover_fault homes recovering.Memory = Memory
+
+-- what a fault of a peek is reported as, into an image with so many home blocks, where that is known
+abbrev pub peek_fault : Option ℕ → PeekFault → CommandFault
+peek_fault homes peeking.DeviceFault = DeviceFault
+peek_fault homes (peeking.Super fault) = Super fault
+peek_fault homes (peeking.BadRevoke place) = BadRevoke place
+peek_fault homes (peeking.HomeOutOfRange home) = NoHome home homes
 
 -- what a fault of a change of a clean journal is reported as
 abbrev pub change_fault : ChangeFault → CommandFault

@@ -1,5 +1,5 @@
 -- How the commands over images end over a file.
-use Rattle.std.specs.Prelude.{◌≡◌, ◌⊎◌, ◌-◌, ℕ, List, [], Option, Some, Result, Ok, Err}
+use Rattle.std.specs.Prelude.{◌≡◌, ◌≢◌, ◌⊎◌, ◌-◌, ℕ, ⊤, List, [], Option, Some, None, Result, Ok, Err}
 use Rattle.hex.specs.Hex.{decode_of}
 use Rattle.jb_block.specs.Size.{bytes_of}
 use Rattle.jb_disk.specs.File.{count_of, faults_of, size_of}
@@ -10,13 +10,19 @@ use Rattle.jb_front.specs.Renumbering.{IsRenumbering, Renumbers, RenumbersAs}
 use Rattle.jb_front.specs.Widening.{IsWidened, Widens, WidensAs}
 use Rattle.jb_super.specs.Faults.{super_in}
 use Rattle.jb_super.specs.Superblock.{Superblock}
-use Rattle.jb_words.specs.Named.{Options}
+use Rattle.jb_super.specs.declared.fault.SuperFault.TheVariants.{Geometry as NoGeometry}
+use Rattle.jb_words.specs.Named.{CatWords, Options}
+use Rattle.jb_pair.specs.Images.{image_count, image_faults, image_size}
+use Rattle.jb_pair.specs.Pair.{back_disk, front_disk}
+use Rattle.jb_pair.specs.declared.image.ImageDisk.{ImageDisk}
+use Rattle.jb_pair.specs.declared.image.ImageDisk.TheVariants.{One, Two}
+use Rattle.jb_plain.specs.Cat.{CatsOn}
 use Rattle.jb_plain.specs.Change.{ChangesOn, renumbered_line, widened_line}
 use Rattle.jb_plain.specs.Format.{FormatsOn}
 use Rattle.jb_plain.specs.Options.{AreGood, IsFirstBad, IsJournalLength}
 use Rattle.jb_plain.specs.Recover.{RecoversOn}
 use Rattle.jb_plain.specs.declared.fault.CommandFault.{CommandFault}
-use Rattle.jb_plain.specs.declared.fault.CommandFault.TheVariants.{BadOption, CannotMake, CannotRead, Geometry, InUse, Memory, Super}
+use Rattle.jb_plain.specs.declared.fault.CommandFault.TheVariants.{BadOption, CannotMake, CannotRead, Geometry, InUse, Memory, SameFile, Super}
 
 -- the file of this name was not made: an option is bad; or none is, and a journal may not have so many blocks; or it may, and the
 -- system refuses the file
@@ -43,45 +49,80 @@ abbrev pub EndsOfFormat : List ℕ → Options → Option (List ℕ) → Option 
 EndsOfFormat name o out_old out_new end =
     ((fault : CommandFault) × (end ≡ Err fault) × IsUnmade name o fault × (out_new ≡ out_old)) ⊎ (AreGood o × FormatsFile o out_old out_new end)
 
--- the image of this name was not read, or another program has locked it, or its first bytes are refused as a superblock
+-- the file of this name was not read, or another program has locked it, or it is that of the journal too, or its first bytes are refused as a superblock
 abbrev pub IsUnread : List ℕ → CommandFault → Type 0
 IsUnread name (CannotRead told code) = told.now ≡ name
 IsUnread name (InUse told) = told.now ≡ name
+IsUnread name (SameFile told) = told.now ≡ name
 IsUnread name (Super fault) = (front : List ℕ) × (super_in front ≡ Err fault)
 IsUnread name Memory = Unit {0}
 IsUnread name _ = ⊥
+
+-- a journal's first bytes are a superblock, and its file has fewer blocks than that says, or more
+abbrev pub IsOtherLength : CommandFault → Type 0
+IsOtherLength fault = (fault ≡ Super NoGeometry) × ((front : List ℕ) × (sb : Superblock) × (blocks : ℕ) × (super_in front ≡ Ok sb) × (blocks ≢ sb.maxlen))
+
+-- the image of this name, with the journal in a file of its own where one is named, was not opened
+abbrev pub IsShut : List ℕ → Option (List ℕ) → CommandFault → Type 0
+IsShut name None fault = IsUnread name fault
+IsShut name (Some journal) fault = IsUnread name fault ⊎ (IsUnread journal fault ⊎ IsOtherLength fault)
+
+-- some first bytes are a superblock, which says this block size and so many blocks of the journal
+abbrev pub SaysShape : ℕ → ℕ → Type 0
+SaysShape size maxlen = (front : List ℕ) × (sb : Superblock) × (super_in front ≡ Ok sb) × (size ≡ sb.block_size) × (maxlen ≡ sb.maxlen)
 
 -- some first bytes are a superblock, which says this block size
 abbrev pub SaysSize : ℕ → Type 0
 SaysSize size = (front : List ℕ) × (sb : Superblock) × (super_in front ≡ Ok sb) × (size ≡ sb.block_size)
 
--- some first bytes are a superblock, which says the file's block size; so many home blocks are after the journal that it says
-abbrev pub IsOpened : FileDisk → ℕ → Type 0
-IsOpened disk homes =
-    (front : List ℕ) × (sb : Superblock) × (super_in front ≡ Ok sb) × (bytes_of (size_of disk) ≡ sb.block_size) × (homes ≡ count_of disk - sb.maxlen)
+-- the files that were named: one, or a journal of exactly its superblock's blocks and another of the same block size
+abbrev pub IsHeldBy : Option (List ℕ) → ImageDisk → Superblock → Type 0
+IsHeldBy None (One file) sb = ⊤
+IsHeldBy None (Two pair) sb = ⊥
+IsHeldBy (Some journal) (One file) sb = ⊥
+IsHeldBy (Some journal) (Two pair) sb = (count_of (front_disk pair) ≡ sb.maxlen) × (size_of (back_disk pair) ≡ size_of (front_disk pair))
 
--- a file was recovered, in blocks of the size that its first bytes say; a fault is reported with the number of home blocks after
+-- some first bytes are a superblock, which says the image's block size; so many home blocks are after the journal that it says
+abbrev pub IsOpened : Option (List ℕ) → ImageDisk → ℕ → Type 0
+IsOpened journal disk homes =
+    (front : List ℕ) × (sb : Superblock) × (super_in front ≡ Ok sb) × (image_size disk ≡ sb.block_size) × (homes ≡ image_count disk - sb.maxlen) × IsHeldBy journal disk sb
+
+-- an image was recovered, in blocks of the size that its first bytes say; a fault is reported with the number of home blocks after
 -- the journal that they say. No clause says what a file holds: of its content nothing follows
-pub record RecoversFile (out_old out_new : Option (List ℕ)) (end : Result ℕ CommandFault) : Type 0 where
-  pub old : FileDisk
-  pub new : FileDisk
+pub record RecoversFile (journal : Option (List ℕ)) (out_old out_new : Option (List ℕ)) (end : Result ℕ CommandFault) : Type 0 where
+  pub old : ImageDisk
+  pub new : ImageDisk
   pub homes : ℕ
-  pub opened : IsOpened old homes
-  pub recovers : RecoversOn (λ (f : FileDisk). bytes_of (size_of f)) count_of faults_of (λ _. ⊥) (λ _. []) (λ _ _. ⊥) (λ _. 0) (λ _ _ _. ⊥) (Some homes) old new out_old out_new end
+  pub opened : IsOpened journal old homes
+  pub recovers : RecoversOn image_size image_count image_faults (λ _. ⊥) (λ _. []) (λ _ _. ⊥) (λ _. 0) (λ _ _ _. ⊥) (Some homes) old new out_old out_new end
 
 -- the image was not read, and nothing was done; or it was recovered, and the answer is reported
-abbrev pub EndsOfRecover : List ℕ → Option (List ℕ) → Option (List ℕ) → Result ℕ CommandFault → Type 0
-EndsOfRecover name out_old out_new end =
-    ((fault : CommandFault) × (end ≡ Err fault) × IsUnread name fault × (out_new ≡ out_old)) ⊎ RecoversFile out_old out_new end
+abbrev pub EndsOfRecover : List ℕ → Option (List ℕ) → Option (List ℕ) → Option (List ℕ) → Result ℕ CommandFault → Type 0
+EndsOfRecover name journal out_old out_new end =
+    ((fault : CommandFault) × (end ≡ Err fault) × IsShut name journal fault × (out_new ≡ out_old)) ⊎ RecoversFile journal out_old out_new end
+
+-- home blocks of an image were written as their peeks gave them, in blocks of the size that its first bytes say, as many as asked for from one on.
+-- No clause says what a file holds: of its content nothing follows
+pub record CatsFile (words : CatWords) (out_old out_new : Option (List ℕ)) (end : Result ℕ CommandFault) : Type 0 where
+  pub old : ImageDisk
+  pub new : ImageDisk
+  pub homes : ℕ
+  pub opened : IsOpened words.journal old homes
+  pub cats : CatsOn image_size image_count (λ _. ⊥) (λ _. []) (Some homes) words.home words.count words.hex old new out_old out_new end
+
+-- the image was not opened, and nothing was done; or its home blocks were written, and the answer is reported
+abbrev pub EndsOfCat : List ℕ → CatWords → Option (List ℕ) → Option (List ℕ) → Result ℕ CommandFault → Type 0
+EndsOfCat name words out_old out_new end =
+    ((fault : CommandFault) × (end ≡ Err fault) × IsShut name words.journal fault × (out_new ≡ out_old)) ⊎ CatsFile words out_old out_new end
 
 -- the clean journal in a file was changed, in blocks of the size that its first bytes say. No clause says what a file holds: of
 -- its content nothing follows
 pub record ChangesFile {T : Type 0} (Does : ℕ → ℕ → Image → Image → Result T ChangeFault → Type 0) (IsMidst EndsAlike : ℕ → ℕ → Image → Image → Type 0)
     (line : T → List ℕ) (out_old out_new : Option (List ℕ)) (end : Result ℕ CommandFault) : Type 0 where
-  pub old : FileDisk
-  pub new : FileDisk
-  pub size : SaysSize (bytes_of (size_of old))
-  pub changes : ChangesOn (λ (f : FileDisk). bytes_of (size_of f)) count_of faults_of (λ _. ⊥) (λ _. []) (λ _ _. ⊥) (λ _. 0) (λ _ _ _. ⊥)
+  pub old : ImageDisk
+  pub new : ImageDisk
+  pub size : SaysSize (image_size old)
+  pub changes : ChangesOn image_size image_count image_faults (λ _. ⊥) (λ _. []) (λ _ _. ⊥) (λ _. 0) (λ _ _ _. ⊥)
       Does IsMidst EndsAlike line old new out_old out_new end
 
 -- the image was not read, and nothing was done; or its journal was given its first number again, and the answer is reported

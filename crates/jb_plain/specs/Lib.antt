@@ -1,3 +1,4 @@
+pub mod Cat
 pub mod Change
 pub mod Dump
 pub mod Ends

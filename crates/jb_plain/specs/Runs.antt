@@ -3,12 +3,12 @@ use Rattle.std.specs.Prelude.{◌≡◌, ◌⊎◌, ℕ, Bool, false, List, Opti
 use Rattle.std.specs.Str.{bytes_eq}
 use Rattle.jb_io.specs.Puts.{PutsPart}
 use Rattle.jb_words.specs.Named.{Asked}
-use Rattle.jb_words.specs.Named.Asked.{AsksCheck, AsksCost, AsksDump, AsksFormat, AsksPlan, AsksRecover, AsksRenumber, AsksWiden}
+use Rattle.jb_words.specs.Named.Asked.{AsksCat, AsksCheck, AsksCost, AsksDump, AsksFormat, AsksPlan, AsksRecover, AsksRenumber, AsksWiden}
 use Rattle.jb_answers.specs.Check.{CheckSays}
 use Rattle.jb_answers.specs.Cost.{cost_said}
 use Rattle.jb_answers.specs.Limits.{cert_limit}
-use Rattle.jb_plain.specs.Dump.{EndsOfDump}
-use Rattle.jb_plain.specs.Files.{EndsOfFormat, EndsOfRecover, EndsOfRenumber, EndsOfWiden}
+use Rattle.jb_plain.specs.Dump.{EndsOfDump, choice_of}
+use Rattle.jb_plain.specs.Files.{EndsOfCat, EndsOfFormat, EndsOfRecover, EndsOfRenumber, EndsOfWiden}
 use Rattle.jb_answers.specs.Plan.{PlanSays}
 use Rattle.jb_answers.specs.Said.{Said}
 use Rattle.jb_plain.specs.Said.{Outputs, Tells}
@@ -45,7 +45,7 @@ Closes (Err fault) old new ended =
 abbrev pub reads_input : Asked → Bool
 reads_input (AsksCost file) = bytes_eq file (codes "-")
 reads_input (AsksPlan file) = bytes_eq file (codes "-")
-reads_input (AsksDump file) = bytes_eq file (codes "-")
+reads_input (AsksDump file options) = bytes_eq file (codes "-")
 reads_input _ = false
 
 -- how the command that the words ask for ends
@@ -53,9 +53,10 @@ abbrev pub EndsAsked : Asked → Option (List ℕ) → Outputs → Outputs → R
 EndsAsked (AsksCost file) = Ends (λ text words. cost_said text ≡ Some words) file
 EndsAsked (AsksPlan file) = Ends PlanSays file
 EndsAsked (AsksCheck file cert) = λ _. EndsOfTwo CheckSays file cert
-EndsAsked (AsksDump file) = λ input. OutAlone (EndsOfDump file input)
+EndsAsked (AsksDump file options) = λ input. OutAlone (EndsOfDump (choice_of options) file input)
 EndsAsked (AsksFormat image options) = λ _. OutAlone (EndsOfFormat image options)
-EndsAsked (AsksRecover image) = λ _. OutAlone (EndsOfRecover image)
+EndsAsked (AsksCat image words) = λ _. OutAlone (EndsOfCat image words)
+EndsAsked (AsksRecover image journal) = λ _. OutAlone (EndsOfRecover image journal)
 EndsAsked (AsksRenumber image) = λ _. OutAlone (EndsOfRenumber image)
 EndsAsked (AsksWiden image) = λ _. OutAlone (EndsOfWiden image)
 

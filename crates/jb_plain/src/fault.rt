@@ -2,21 +2,24 @@ ghost use Rattle.std.specs.Prelude.{◌≡◌};
 
 use jb_advice::Beside;
 use jb_dump::DumpFault;
+use jb_front::{ChangeFault, FormatFault};
 use jb_io::WriteFault;
-use jb_recover::{ChangeFault, FormatFault, RecoverFault};
+use jb_recover::{PeekFault, RecoverFault};
 use jb_super::SuperFault;
 use std::alloc::AllocError;
 
 /// Why a command ends without an answer of its own.
 #[derive(Clone, Copy, Debug)]
 pub enum CommandFault<'a> {
-    /// The file of this name, or standard input for `-`, could not be opened or read; with the number of the system's error, where
-    /// it has one.
+    /// The file of this name, or standard input for `-`, could not be opened or read; with the number of the system's
+    /// error, where it has one.
     CannotRead(&'a str, Option<i32>),
     /// Another program has locked the image of this name.
     InUse(&'a str),
-    /// The file of this name could not be made: it is there already, or the system refuses it; with the number of the system's
-    /// error, where it has one.
+    /// The image of this name is the file of the journal, too.
+    SameFile(&'a str),
+    /// The file of this name could not be made: it is there already, or the system refuses it; with the number of the
+    /// system's error, where it has one.
     CannotMake(&'a str, Option<i32>),
     /// The option of this name, with its two hyphens, is the first that has a value that it may not have.
     BadOption(&'static str),
@@ -26,12 +29,14 @@ pub enum CommandFault<'a> {
     ReadFault,
     /// Journal block 0 is refused for this; `Geometry` also where there are fewer blocks than `s_maxlen`.
     Super(SuperFault),
-    /// The block at this place of the journal, of a committed transaction, is a revoke block whose `r_count` is above the
-    /// block size.
+    /// The block at this place of the journal, of a committed transaction, is a revoke block whose `r_count` is above
+    /// the block size.
     BadRevoke(u64),
-    /// A copy that is not revoked is for this home block, which the image does not have; its transaction has this number. Last how
-    /// many home blocks the image has, where that is known.
+    /// A copy that is not revoked is for this home block, which the image does not have; its transaction has this
+    /// number. Last how many home blocks the image has, where that is known.
     HomeOutOfRange(u64, u32, Option<u64>),
+    /// The image does not have this home block. Last how many it has, where that is known.
+    NoHome(u64, Option<u64>),
     /// The log of the journal is not clean, and it is to be recovered first.
     NeedsRecovery,
     /// The journal has no number left for a transaction, and it is to be renumbered first.
@@ -119,7 +124,7 @@ impl<'a> From<ChangeFault> for CommandFault<'a> {
 }
 
 impl<'a> CommandFault<'a> {
-    ghost use Rattle.jb_plain.specs.Faults.{beside_of, recover_fault, status_of};
+    ghost use Rattle.jb_plain.specs.Faults.{beside_of, peek_fault, recover_fault, status_of};
 
     /// The program's exit status: 2 where an option or a file was the reason, else 1.
     pub fn status(self) -> u8
@@ -127,10 +132,12 @@ impl<'a> CommandFault<'a> {
     {
         match self {
             CommandFault::CannotRead(_, _) | CommandFault::TooLong(_) => 2,
-            CommandFault::InUse(_) | CommandFault::CannotMake(_, _) => 2,
+            CommandFault::InUse(_) | CommandFault::SameFile(_) | CommandFault::CannotMake(_, _) =>
+                2,
             CommandFault::BadOption(_) => 2,
             CommandFault::ReadFault | CommandFault::Super(_) | CommandFault::BadRevoke(_) => 1,
             CommandFault::HomeOutOfRange(_, _, _)
+            | CommandFault::NoHome(_, _)
             | CommandFault::NeedsRecovery
             | CommandFault::NumbersSpent => 1,
             CommandFault::BlockSize | CommandFault::Accounts | CommandFault::Geometry => 1,
@@ -153,6 +160,18 @@ impl<'a> CommandFault<'a> {
         }
     }
 
+    /// A fault of a peek into an image with so many home blocks, where that is known.
+    pub(crate) fn of_peek(fault: PeekFault, homes: Option<u64>) -> CommandFault<'a>
+        ensures value { result ≡ peek_fault homes fault }
+    {
+        match fault {
+            PeekFault::DeviceFault => CommandFault::DeviceFault,
+            PeekFault::Super(fault) => CommandFault::Super(fault),
+            PeekFault::BadRevoke(place) => CommandFault::BadRevoke(place),
+            PeekFault::HomeOutOfRange(home) => CommandFault::NoHome(home, homes),
+        }
+    }
+
     /// What a second line says of it beside the words of its row.
     pub fn beside(self) -> Beside
         ensures value { result ≡ beside_of self.entry }
@@ -162,6 +181,7 @@ impl<'a> CommandFault<'a> {
             CommandFault::CannotRead(_, Some(code)) => Beside::System(code),
             CommandFault::CannotMake(_, Some(code)) => Beside::System(code),
             CommandFault::HomeOutOfRange(_, _, Some(homes)) => Beside::Homes(homes),
+            CommandFault::NoHome(_, Some(homes)) => Beside::Homes(homes),
             _ => Beside::Nothing,
         }
     }

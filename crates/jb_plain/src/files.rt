@@ -1,14 +1,16 @@
 //! The commands over files: each opens its files, and reads, makes or changes them.
 
 mod changes;
+mod homes;
 mod journals;
 mod making;
 mod opening;
 mod texts;
 
 pub(crate) use changes::{recover_file, renumber_file, widen_file};
-pub(crate) use journals::dump_named;
+pub(crate) use homes::cat_file;
+pub(crate) use journals::{choice_of, dump_named};
 pub(crate) use making::format_file;
-pub use opening::open_counted;
+pub use opening::{Opening, open_counted};
 pub use texts::read_file;
 pub(crate) use texts::{read_file_within, read_text};

@@ -30,8 +30,8 @@ pub(crate) struct NewFile {
 /// The image that the options ask for.
 ///
 /// # Errors
-/// The name of the first option that is bad, in this order: `--bs` is not 1024, 2048 or 4096; `--journal` or `--max` is above
-/// 2^32 - 1; `--uuid` is not 32 hexadecimal digits; or with `--homes` the file has 2^63 bytes or more.
+/// The name of the first option that is bad, in this order: `--bs` is not 1024, 2048 or 4096; `--journal` or `--max` is
+/// above 2^32 - 1; `--uuid` is not 32 hexadecimal digits; or with `--homes` the file has 2^63 bytes or more.
 pub(crate) fn new_file(options: FormatOptions<'_>) -> Result<NewFile, &'static str>
     ensures good { IfOk result (λ _. AreGood (options_said options.entry)) }
     ensures asked { IfOk result (IsAskedBy (options_said options.entry)) }

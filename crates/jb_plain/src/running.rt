@@ -6,8 +6,8 @@ ghost use Rattle.jb_plain.specs.Runs.{Closes, EndsAsked, EndsOfTwo, Runs, reads_
 use crate::ended::{Ended, alone};
 use crate::fault::CommandFault;
 use crate::files::{
-    dump_named, format_file, read_file, read_file_within, read_text, recover_file, renumber_file,
-    widen_file,
+    cat_file, choice_of, dump_named, format_file, read_file, read_file_within, read_text,
+    recover_file, renumber_file, widen_file,
 };
 use crate::streams::{CERT_LIMIT, tell};
 use jb_answers::{check_answer, cost_answer, fault_answer, plan_answer};
@@ -45,9 +45,10 @@ pub fn perform<'a, R: Files<File = File> + AllocGlobal, I: Read, O: Write, E: Wr
             tell(&answer, out, err)
         }
         Plain::Check { file, cert } => perform_check(rt, file, cert, out, err),
-        Plain::Dump { file } => dump_named(rt, file, input, out),
+        Plain::Dump { file, options } => dump_named(rt, file, choice_of(options), input, out),
         Plain::Format { image, options } => format_file(rt, image, options, out),
-        Plain::Recover { image } => recover_file(rt, image, out),
+        Plain::Cat { image, options } => cat_file(rt, image, options, out),
+        Plain::Recover { image, journal } => recover_file(rt, image, journal, out),
         Plain::Renumber { image } => renumber_file(rt, image, out),
         Plain::Widen { image } => widen_file(rt, image, out),
     }

@@ -1,5 +1,7 @@
-//! The commands over any disk, any reader and any writer: their contracts say what was called and which bytes were written.
+//! The commands over any disk, any reader and any writer: their contracts say what was called and which bytes were
+//! written.
 
+mod catting;
 mod changing;
 mod dumping;
 mod fault_line;
@@ -10,6 +12,7 @@ mod recovering;
 mod refusal;
 mod telling;
 
+pub use catting::cat_on;
 pub use changing::{renumber_on, widen_on};
 pub(crate) use changing::{tell_renumbering, tell_widening};
 pub use dumping::dump_from;

@@ -7,7 +7,7 @@ use Rattle.std.proofs.lemmas.Bool.{cases_lt}
 use Rattle.jb_cost.specs.Cut.{RisesTo, EachFrom, total_from, IsCut, EachPiece, total, price, FitsCut, IsLeastCut, IsReached, ArePrices, Hold, IsFirstToAttain}
 use Rattle.jb_cost.proofs.Cuts.{rises-le, reached-push, reached-none}
 use Rattle.jb_cost.proofs.Bounds.{hold-fewer, lower, price-exact}
-use Rattle.jb_plan.specs.Step.{Step, IsBest, BestFrom, step_of, AreSteps, price_of, from_of, GoBack, AreWithin, IsTable}
+use Rattle.jb_plan.specs.Step.{Step, IsBest, BestFrom, step_of, AreSteps, price_of, from_of, AreBefore, AreWithin, IsTable}
 
 price-kept : (ps more : List (Option ℕ)) (i : ℕ) → i < length ps → price (ps ++ more) i ≡ price ps i
 price-kept ps more i less = get_or-append ps more None i less
@@ -157,7 +157,7 @@ module _ (c : ℕ → ℕ → ℕ) (limit : ℕ) where
   answers-none ps froms n steps is other fitting = let low = lower c limit n ps (hold-steps ps froms n steps) other fitting in let e : None ≡ Some low.0 = sym is ∙ low.1 in cc
 
   -- the start of one step more is before its end
-  pub back-more : (ps : List (Option ℕ)) (froms : List ℕ) (n : ℕ) (best : Option Step) → GoBack froms → length froms ≡ n + 1 → BestFrom c limit ps 0 (n + 1) best → GoBack (froms ++ (from_of best ∷ []))
+  pub back-more : (ps : List (Option ℕ)) (froms : List ℕ) (n : ℕ) (best : Option Step) → AreBefore froms → length froms ≡ n + 1 → BestFrom c limit ps 0 (n + 1) best → AreBefore (froms ++ (from_of best ∷ []))
   back-more ps froms n best back starts found j above within = elim (cases_lt j (n + 1)) [ inl less ↦ earlier less | inr more ↦ last (omega (arith, more, simp length-append at within)) ]
     where
       now : (best : Option Step) → BestFrom c limit ps 0 (n + 1) best → from_of best < n + 1

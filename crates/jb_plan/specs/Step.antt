@@ -53,8 +53,8 @@ from_of None = 0
 from_of (Some s) = s.from
 
 -- each start is before its end
-abbrev pub GoBack : List ℕ → Type 0
-GoBack froms = (j : ℕ) → 0 < j → j < length froms → slice_index froms j < j
+abbrev pub AreBefore : List ℕ → Type 0
+AreBefore froms = (j : ℕ) → 0 < j → j < length froms → slice_index froms j < j
 
 -- twice what the first j handles weigh: they cost no more, however they are cut
 abbrev pub most_of : List Stopped → ℕ → ℕ
@@ -69,5 +69,5 @@ pub record IsTable (c : ℕ → ℕ → ℕ) (limit : ℕ) (w : ℕ → ℕ) (n 
   pub steps : AreSteps c limit ps froms n
   pub number : length ps ≡ n + 1
   pub starts : length froms ≡ n + 1
-  pub back : GoBack froms
+  pub back : AreBefore froms
   pub within : AreWithin w ps

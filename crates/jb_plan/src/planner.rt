@@ -29,8 +29,10 @@ pub fn plan(
     limit: u32,
 ) -> Result<Planned, Memory>
     requires size { IsWithinSize handles.now }
-    ensures prices { IfOk result (λ planned. ArePrices (piece_cost geometry handles.now) limit (length handles.now) planned.prices.items) }
-    ensures answer { IfOk result (λ planned. Answers (piece_cost geometry handles.now) limit (length handles.now) planned.prices.items planned.answer) }
+    ensures prices { IfOk result (λ planned. ArePrices (piece_cost geometry handles.now) limit (length handles.now)
+        planned.prices.items) }
+    ensures answer { IfOk result (λ planned. Answers (piece_cost geometry handles.now) limit (length handles.now)
+        planned.prices.items planned.answer) }
 {
     let end = handles.len();
     let table = table_of(alloc, handles, geometry, limit)?;

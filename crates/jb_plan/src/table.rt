@@ -23,7 +23,8 @@ pub(crate) fn table_of(
     limit: u32,
 ) -> Result<Table, Memory>
     requires size { IsWithinSize handles.now }
-    ensures { IfOk result (λ table. IsTable (piece_cost geometry handles.now) limit (most_of handles.now) (length handles.now) table.prices.items table.froms.items) }
+    ensures { IfOk result (λ table. IsTable (piece_cost geometry handles.now) limit (most_of handles.now)
+        (length handles.now) table.prices.items table.froms.items) }
 {
     let mut touches = LastTouches::new(alloc, geometry);
     let mut prices = vec![in alloc; Some(0)]?;

@@ -22,7 +22,8 @@ pub(crate) fn first_undercut(
     requires size { IsWithinSize handles.now }
     requires number { length prices.now ≡ length handles.now + 1 }
     ensures grows { OnErr result (0 < length handles.now) }
-    ensures first { IfOk result (λ found. FirstAmong (piece_cost geometry handles.now) limit (length handles.now) prices.now (length handles.now) found) }
+    ensures first { IfOk result (λ found. FirstAmong (piece_cost geometry handles.now) limit (length handles.now)
+        prices.now (length handles.now) found) }
 {
     let mut touches = LastTouches::new(alloc, geometry);
     let mut first: Option<(usize, usize)> = None;
@@ -75,7 +76,8 @@ fn least_undercut(
     requires size { IsWithinSize handles.now }
     requires end_in { end ≤ length handles.now }
     requires number { length prices.now ≡ length handles.now + 1 }
-    ensures { IfOk result (λ found. LeastTo (piece_cost geometry handles.now) limit (length handles.now) prices.now 0 end found) }
+    ensures { IfOk result (λ found. LeastTo (piece_cost geometry handles.now) limit (length handles.now) prices.now 0
+        end found) }
 {
     let mut footprint = Footprint::new(alloc, geometry);
     let mut least = None;

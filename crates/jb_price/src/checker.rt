@@ -31,9 +31,12 @@ pub fn check(
 ) -> Result<Verdict, Memory>
     requires size { IsWithinSize handles.now }
     requires number { length cert.now.prices.items ≡ length handles.now + 1 }
-    ensures verdict { IfOk result (λ verdict. Says (piece_cost geometry handles.now) limit (length handles.now) cert.now.prices.items cert.now.answer verdict) }
-    ensures accepted { IfOk result (λ verdict. verdict ≡ Verdict.Accepted → IsRight (piece_cost geometry handles.now) limit (length handles.now) cert.now.answer) }
-    ensures hold { IfOk result (λ verdict. verdict ≡ Verdict.Accepted → Hold (piece_cost geometry handles.now) limit (length handles.now) cert.now.prices.items) }
+    ensures verdict { IfOk result (λ verdict. Says (piece_cost geometry handles.now) limit (length handles.now)
+        cert.now.prices.items cert.now.answer verdict) }
+    ensures accepted { IfOk result (λ verdict. verdict ≡ Verdict.Accepted
+        → IsRight (piece_cost geometry handles.now) limit (length handles.now) cert.now.answer) }
+    ensures hold { IfOk result (λ verdict. verdict ≡ Verdict.Accepted
+        → Hold (piece_cost geometry handles.now) limit (length handles.now) cert.now.prices.items) }
     ensures opening { OnErr result (price cert.now.prices.items 0 ≡ Some 0) }
     ensures grows { OnErr result (0 < length handles.now) }
 {
@@ -57,7 +60,8 @@ fn check_answer(
     requires size { IsWithinSize handles.now }
     requires number { length cert.now.prices.items ≡ length handles.now + 1 }
     ensures grows { OnErr result (0 < length handles.now) }
-    ensures verdict { IfOk result (λ verdict. AnswerSays (piece_cost geometry handles.now) limit (length handles.now) cert.now.prices.items cert.now.answer verdict) }
+    ensures verdict { IfOk result (λ verdict. AnswerSays (piece_cost geometry handles.now) limit (length handles.now)
+        cert.now.prices.items cert.now.answer verdict) }
 {
     let end_price = cert.prices[handles.len()];
     match (&cert.answer, end_price) {
@@ -81,7 +85,8 @@ fn check_cut(
 ) -> Result<Verdict, Memory>
     requires size { IsWithinSize handles.now }
     ensures grows { OnErr result (0 < length handles.now) }
-    ensures verdict { IfOk result (λ verdict. CutSays (piece_cost geometry handles.now) limit (length handles.now) end_price bounds.now total verdict) }
+    ensures verdict { IfOk result (λ verdict. CutSays (piece_cost geometry handles.now) limit (length handles.now)
+        end_price bounds.now total verdict) }
 {
     if !is_cut(bounds, handles.len()) {
         return Ok(Verdict::Refused(Reason::NotACut));

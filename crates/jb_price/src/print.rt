@@ -57,7 +57,8 @@ fn push_answer(text: &mut String, answer: &CertAnswer) -> Result<(), Memory>
 
 /// Adds the line of a cut to the text, without the LF at its end.
 fn push_bounds(text: &mut String, bounds: &[usize]) -> Result<(), Memory>
-    ensures { OnOk result (string_bytes text.new ≡ string_bytes text.old ++ (codes "cut" ++ spaced (map decimal bounds.now))) }
+    ensures { OnOk result (string_bytes text.new ≡ string_bytes text.old
+        ++ (codes "cut" ++ spaced (map decimal bounds.now))) }
 {
     text.push_str("cut")?;
     for bound in bounds {

@@ -59,7 +59,8 @@ fn read_prices(alloc: Global, line: &[u8]) -> Result<Vec<Option<u64>>, CertFault
 fn price_list(alloc: Global, text: &[u8]) -> Result<Vec<Option<u64>>, CertFault>
     ensures ok { IfOk result (λ prices. after_each price_of_word [] (words text.now) ≡ Some prices.items) }
     ensures begun { OnOk result (IsSome (first_of price_of_word (words text.now))) }
-    ensures err { IfErr result (Refuses (IsSome (first_of price_of_word (words text.now))) (on_line 1 (after_each price_of_word [] (words text.now)))) }
+    ensures err { IfErr result (Refuses (IsSome (first_of price_of_word (words text.now)))
+        (on_line 1 (after_each price_of_word [] (words text.now)))) }
 {
     let mut prices = Vec::new(alloc);
     let mut rest = Some(text);

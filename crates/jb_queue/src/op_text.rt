@@ -8,13 +8,10 @@ ghost use Rattle.jb_queue.specs.Queue.{Gives, home_named, data_of, fitting, op_o
 
 use crate::digits::decode;
 use crate::fault::Cause;
-use jb_block::BlockSize;
+use jb_block::{BlockSize, MOST_BYTES};
 use jb_handle::{Payload, Word};
 use jb_text::{number, part};
 use std::alloc::Global;
-
-/// The most bytes that a block has.
-const MOST: usize = 4096;
 
 /// The home block that a word of a handle's line names, and the word that it leaves there; or the cause for
 /// which it is no such word. The whole word is judged before a copy of its bytes is kept.
@@ -60,7 +57,7 @@ fn read_payload(alloc: Global, text: &[u8], bs: BlockSize) -> Result<Payload, Ca
     if len == 0 || len > size {
         return Err(Cause::DataWord);
     }
-    let mut most = [0; MOST];
+    let mut most = [0; MOST_BYTES];
     read_digits(alloc, digits, &mut most[..len], size)
 }
 

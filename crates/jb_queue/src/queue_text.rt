@@ -134,7 +134,8 @@ fn read_limit(line: &[u8]) -> Option<u32>
 fn read_handles(alloc: Global, text: &[u8], bs: BlockSize) -> Result<Vec<Stopped>, QueueFault>
     ensures ok { IfOk result (λ handles. after_lines (bytes_of bs) [] (lines text.now) ≡ Ok handles.items) }
     ensures err { IfErr result (Reports (after_lines (bytes_of bs) [] (lines text.now))) }
-    ensures memory { IfErr result (λ fault. fault.cause ≡ OutOfMemory → MayGrow (bytes_of bs) (lines text.now) fault.line) }
+    ensures memory { IfErr result (λ fault. fault.cause ≡ OutOfMemory
+        → MayGrow (bytes_of bs) (lines text.now) fault.line) }
 {
     let mut handles = Vec::new(alloc);
     let mut rest = text;

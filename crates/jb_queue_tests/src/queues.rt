@@ -6,8 +6,8 @@ use std::test::Fail;
 /// The first bytes of a copy of zeros.
 const ZEROS: Option<[u8; 4]> = Some([0, 0, 0, 0]);
 
-/// A queue text; its block size and width; its limit; how many blocks each handle touches; and words of it: a handle, a home
-/// block, and the first four bytes of its copy, or that it is free.
+/// A queue text; its block size and width; its limit; how many blocks each handle touches; and words of it: a handle, a
+/// home block, and the first four bytes of its copy, or that it is free.
 type Queue<'a> = (
     &'a str,
     (usize, Width),

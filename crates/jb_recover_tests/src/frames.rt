@@ -1,6 +1,6 @@
 //! What no call over a clean or a dirty journal changes, and no crash in one either: block 0 but for where the log
-//! begins and the number there, and the blocks before the log. All blocks after the journal are homes on a disk as small
-//! as these.
+//! begins and the number there, and the blocks before the log. All blocks after the journal are homes on a disk as
+//! small as these.
 
 use crate::images::read_at;
 use jb_block::get32;
@@ -11,8 +11,8 @@ use std::test::Fail;
 /// Where a superblock has the place of the log's first block (`s_first`).
 const FIRST: usize = 0x14;
 
-/// Where it has the number of the first transaction and the place at which the log begins (`s_sequence`, `s_start`), and
-/// the byte after them.
+/// Where it has the number of the first transaction and the place at which the log begins (`s_sequence`, `s_start`),
+/// and the byte after them.
 const MOVES: usize = 0x18;
 
 const STAYS: usize = 0x20;

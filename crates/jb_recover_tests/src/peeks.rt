@@ -91,7 +91,7 @@ fn homes_are_peeked_at(rt: HostRuntime) -> Result<(), Fail> {
 }
 
 /// A clean journal's home whose log holds a copy of it, and a peek of which each call fails in turn: it reads and
-/// does not sync, so nine calls are enough.
+/// does not sync, so six calls are enough.
 #[test]
 fn calls_of_a_peek_fail(rt: HostRuntime) -> Result<(), Fail> {
     let alloc = rt.alloc();
@@ -99,7 +99,7 @@ fn calls_of_a_peek_fail(rt: HostRuntime) -> Result<(), Fail> {
     let mut fuse = FuseDisk::of(stale, 2);
     assert_eq!(rt; peeked(&mut fuse, 5), (Ok(()), [0, 0, 0, 5]));
     let failed = Err(PeekFault::DeviceFault);
-    for call in 0..9 {
+    for call in 0..6 {
         let mut faulty = OneFaultDisk::of(small(alloc, &ESCAPED, &[])?, call);
         assert_eq!(rt; peeked(&mut faulty, 5).0, failed, "{call}");
         assert_eq!(rt; peeked(&mut faulty, 5).0, Ok(()), "{call}");

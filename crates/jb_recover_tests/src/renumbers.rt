@@ -4,7 +4,8 @@ use crate::frames::same_frame;
 use crate::images::{Row, difference, difference_from, headed};
 use crate::small::{HOMES, MAGIC, clean, commit, journal, small};
 use jb_disk::{FuseDisk, MemoryDisk, OneFaultDisk};
-use jb_recover::{ChangeFault, Renumbered, recover, renumber};
+use jb_front::{ChangeFault, Renumbered, renumber};
+use jb_recover::recover;
 use jb_super::SuperFault;
 use std::alloc::Global;
 use std::test::Fail;
@@ -122,8 +123,8 @@ fn versions(mixture: u32) -> [u32; SECTORS] {
     choice
 }
 
-/// Whether the image that a crash leaves is the old one before the log, and keeps that and the homes, both by a recovery and by a renumbering that is begun again,
-/// which then leaves no header.
+/// Whether the image that a crash leaves is the old one before the log, and keeps that and the homes, both by a
+/// recovery and by a renumbering that is begun again, which then leaves no header.
 fn keeps_homes(
     alloc: Global,
     disk: &MemoryDisk,

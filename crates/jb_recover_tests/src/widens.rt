@@ -4,7 +4,8 @@ use crate::frames::same_frame;
 use crate::images::{Row, difference, difference_from};
 use crate::small::{HOMES, MAGIC, clean, commit, counts, small};
 use jb_disk::{FuseDisk, MemoryDisk, OneFaultDisk};
-use jb_recover::{ChangeFault, Widened, recover, widen};
+use jb_front::{ChangeFault, Widened, widen};
+use jb_recover::recover;
 use jb_super::SuperFault;
 use std::alloc::Global;
 use std::test::Fail;
@@ -71,8 +72,8 @@ fn what_is_left(rt: HostRuntime) -> Result<(), Fail> {
     Ok(())
 }
 
-/// Whether the image that a crash leaves has block 0 as it was or as it is wanted, keeps it and the homes in a recovery,
-/// and widens to the expected one.
+/// Whether the image that a crash leaves has block 0 as it was or as it is wanted, keeps it and the homes in a
+/// recovery, and widens to the expected one.
 fn keeps(
     alloc: Global,
     disk: &MemoryDisk,

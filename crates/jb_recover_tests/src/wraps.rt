@@ -13,8 +13,8 @@ const MAXLEN: u64 = 33;
 
 const BLOCKS: u64 = MAXLEN + 9;
 
-/// A log that begins at place 29 and wraps to place 1: number 2 with copies of homes 5 (escaped), 6 and 7, number 3 with
-/// a revoke of home 6 and copies of homes 7 and 3 (escaped), and number 4 without its commit block.
+/// A log that begins at place 29 and wraps to place 1: number 2 with copies of homes 5 (escaped), 6 and 7, number 3
+/// with a revoke of home 6 and copies of homes 7 and 3 (escaped), and number 4 without its commit block.
 const JOURNAL: [Row; 22] = [
     (0, 0, [MAGIC, 4, 0, 1024]),
     (0, 1, [33, 1, 2, 29]),

@@ -11,7 +11,8 @@ pub enum Met {
     Ample,
     /// The first call answered that memory ran out, and the second one as with ample memory.
     Memory,
-    /// The disk in memory failed a call for want of memory, and the first call answered so; what must stand then stands.
+    /// The disk in memory failed a call for want of memory, and the first call answered so; what must stand then
+    /// stands.
     Fault,
 }
 
@@ -50,8 +51,9 @@ pub fn must(holds: bool, wrong: Wrong) -> Result<(), Wrong>
     if holds { Ok(()) } else { Err(wrong) }
 }
 
-/// The status of a program that ran a row: 0 where the call answered as with ample memory at once, 3 where it did so after
-/// memory ran out, 4 where the disk failed for want of memory, 1 where something was wrong, and 2 where there is no such row.
+/// The status of a program that ran a row: 0 where the call answered as with ample memory at once, 3 where it did so
+/// after memory ran out, 4 where the disk failed for want of memory, 1 where something was wrong, and 2 where there is
+/// no such row.
 pub fn status_of(found: Option<Result<Met, Wrong>>) -> u8 {
     match found {
         Some(Ok(Met::Ample)) => 0,

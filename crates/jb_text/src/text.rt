@@ -27,8 +27,8 @@ pub fn next_line(text: &[u8]) -> Option<(&[u8], &[u8])>
     }
 }
 
-/// The first word of a text whose words are separated by single spaces, and the text after the space that follows it, where
-/// there is one.
+/// The first word of a text whose words are separated by single spaces, and the text after the space that follows it,
+/// where there is one.
 pub fn next_word(text: &[u8]) -> (&[u8], Option<&[u8]>)
     ensures words { words text.now ≡ result.0.now ∷ words_in (option_copied result.1) }
     ensures shorter { IfSome result.1 (λ rest. length rest.now < length text.now) }

@@ -4,11 +4,10 @@ use Rattle.jb_advice.specs.declared.beside.Beside.{Beside}
 use Rattle.jb_advice.specs.declared.beside.Beside.TheVariants.{Homes, Nothing}
 use Rattle.jb_answers.specs.Faulty.{queue_fault}
 use Rattle.jb_answers.specs.Said.{Said}
-use Rattle.jb_block.specs.Size.{bytes_of}
 use Rattle.jb_deck.specs.declared.fault.OpenFault.{OpenFault}
 use Rattle.jb_deck.specs.declared.fault.OpenFault.TheVariants as opening
-use Rattle.jb_disk.specs.File.{count_of, faults_of, size_of}
-use Rattle.jb_disk.specs.declared.file.FileDisk.{FileDisk}
+use Rattle.jb_pair.specs.Images.{image_count, image_faults, image_size}
+use Rattle.jb_pair.specs.declared.image.ImageDisk.{ImageDisk}
 use Rattle.jb_io.specs.declared.putting.WriteFault.{WriteFault}
 use Rattle.jb_load.specs.Loads.{AnswersLoad}
 use Rattle.jb_load.specs.Telling.{TellsLoad}
@@ -25,7 +24,7 @@ use Rattle.jb_queue.specs.declared.fault.QueueFault.{QueueFault}
 use Rattle.jb_queue.specs.declared.queue_text.QueueText.{QueueText}
 use Rattle.jb_words.specs.Wanted.{Loading}
 use Rattle.jb_plain.specs.Ends.{alone}
-use Rattle.jb_plain.specs.Files.{IsOpened, IsUnread}
+use Rattle.jb_plain.specs.Files.{IsOpened, IsShut}
 use Rattle.jb_plain.specs.Runs.{Closes}
 use Rattle.jb_plain.specs.Said.{Outputs, Tells}
 use Rattle.jb_plain.specs.Texts.{HasNoText, IsText}
@@ -74,19 +73,19 @@ beside_in homes None = Nothing
 beside_in homes (Some refused) = beside_fault homes refused.fault
 
 -- what a load into an image of so many home blocks answered is reported: its lines, or its fault, and then nothing is written
-abbrev pub ReportsLoad : ℕ → Result (Loaded × FileDisk) LoadFault → Outputs → Outputs → Result Ended CommandFault → Type 0
+abbrev pub ReportsLoad : ℕ → Result (Loaded × ImageDisk) LoadFault → Outputs → Outputs → Result Ended CommandFault → Type 0
 ReportsLoad homes (Ok ended) old new end =
     (told : Result ℕ WriteFault) × (end ≡ end_by (beside_in homes ended.0.refused) told) × TellsLoad ended.0 old.out new.out old.err new.err told
 ReportsLoad homes (Err fault) old new end = (end ≡ Err (load_fault fault)) × (new ≡ old)
 
 -- a queue was loaded into an open image, as the clause of a load says of the answer, and that answer is reported
-pub record LoadsOn (options : LoadOptions) (homes : ℕ) (disk : FileDisk) (queue : QueueText) (old new : Outputs) (end : Result Ended CommandFault) : Type 0 where
-  pub answer : Result (Loaded × FileDisk) LoadFault
-  pub loads : AnswersLoad (λ (f : FileDisk). bytes_of (size_of f)) count_of faults_of (λ _. ⊥) (λ _. []) disk queue.bs queue.handles.items options answer
+pub record LoadsOn (options : LoadOptions) (homes : ℕ) (disk : ImageDisk) (queue : QueueText) (old new : Outputs) (end : Result Ended CommandFault) : Type 0 where
+  pub answer : Result (Loaded × ImageDisk) LoadFault
+  pub loads : AnswersLoad image_size image_count image_faults (λ _. ⊥) (λ _. []) disk queue.bs queue.handles.items options answer
   pub told : ReportsLoad homes answer old new end
 
 -- the queue of a text was loaded, or the text's first fault is reported
-abbrev pub EndsOfText : Loading → ℕ → FileDisk → Result Queue QueueFault → Outputs → Outputs → Result Ended CommandFault → Type 0
+abbrev pub EndsOfText : Loading → ℕ → ImageDisk → Result Queue QueueFault → Outputs → Outputs → Result Ended CommandFault → Type 0
 EndsOfText load homes disk (Ok value) old new end =
     (queue : QueueText) × (options : LoadOptions) × (value_of queue ≡ value) × IsAskedBy load options × LoadsOn options homes disk queue old new end
 EndsOfText load homes disk (Err fault) old new end =
@@ -95,16 +94,16 @@ EndsOfText load homes disk (Err fault) old new end =
 -- the image was opened, in blocks of the size that its first bytes say, with so many home blocks after the journal that they say; then the text was not had, and nothing was done, or it was,
 -- and what it holds is loaded or refused. No clause says what a file holds: of an image's content nothing follows
 pub record EndsOpened (load : Loading) (old new : Outputs) (end : Result Ended CommandFault) : Type 0 where
-  pub disk : FileDisk
+  pub disk : ImageDisk
   pub homes : ℕ
-  pub opened : IsOpened disk homes
+  pub opened : IsOpened load.journal disk homes
   pub ends : ((fault : CommandFault) × (end ≡ Err fault) × HasNoText load.file None fault × (new ≡ old))
       ⊎ ((text : List ℕ) × IsText None text × EndsOfText load homes disk (queue_of text) old new end)
 
 -- the image was not opened: the number of threads is bad, or it is not and the image was not read
 abbrev pub IsUnopened : Loading → CommandFault → Type 0
 IsUnopened load (BadOption name) = (name.now ≡ codes "--threads") × (HasThreads load → ⊥)
-IsUnopened load fault = HasThreads load × IsUnread load.image fault
+IsUnopened load fault = HasThreads load × IsShut load.image load.journal fault
 
 -- the image was not opened, and nothing was done; or it was, and the text came next
 abbrev pub EndsOfLoad : Loading → Outputs → Outputs → Result Ended CommandFault → Type 0

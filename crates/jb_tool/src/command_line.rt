@@ -40,10 +40,12 @@ pub fn run<
         (record { out = O.contents out.new; err = E.contents err.new }) result
         ⊎ Closes (Err CommandMemory) (record { out = O.contents out.old; err = E.contents err.old })
         (record { out = O.contents out.new; err = E.contents err.new }) result) }
-    ensures refused { words.now ≢ [] → (faults_in (map S.text words.now) ≢ []) ⊎ (wanted_in (map S.text words.now) ≡ None)
+    ensures refused { words.now ≢ [] → (faults_in (map S.text words.now) ≢ [])
+        ⊎ (wanted_in (map S.text words.now) ≡ None)
         → RefusesWords (faults_in (map S.text words.now)) (wanted_in (map S.text words.now)) (record { out = O.contents out.old; err = E.contents err.old })
         (record { out = O.contents out.new; err = E.contents err.new }) result }
-    ensures unread { words.now ≢ [] → IfSome (wanted_in (map S.text words.now)) (λ wanted. wants_input wanted ≡ false) → input.new ≡ input.old }
+    ensures unread { words.now ≢ [] → IfSome (wanted_in (map S.text words.now)) (λ wanted. wants_input wanted ≡ false)
+        → input.new ≡ input.old }
 {
     if words.is_empty() {
         return run_plain(rt, Plain::Cost { file: "-" }, input, out, err);

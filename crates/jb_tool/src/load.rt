@@ -1,15 +1,16 @@
 //! `jb load`: the handles of a queue text, run by threads and committed to an image.
-ghost use Rattle.std.specs.Prelude.{◌≡◌, ◌≤◌, ◌↔◌, IsSome, IfSome};
+ghost use Rattle.std.specs.Prelude.{◌≡◌, ◌≤◌, ◌↔◌, Ok, IsSome, IfSome};
 ghost use Rattle.jb_words.specs.Wanted.{load_said};
-ghost use Rattle.jb_tool.specs.Load.{EndsOfLoad, HasThreads, IsAskedBy, LoadsOn, RunsLoad, beside_in, load_fault};
+ghost use Rattle.jb_tool.specs.Load.{EndsOfLoad, HasThreads, IsAskedBy, LoadsOn, ReportsLoad, RunsLoad, beside_in, load_fault};
 
 use jb_advice::Beside;
 use jb_answers::fault_answer;
 use jb_block::Stamp;
 use jb_deck::OpenFault;
-use jb_disk::{FileDisk, FixedClock};
+use jb_disk::FixedClock;
 use jb_load::{HandleFault, LoadFault, LoadOptions, Loaded, Refused, load_on, tell_loaded};
-use jb_plain::{CommandFault, Ended, close, open_counted, read_file, tell};
+use jb_pair::ImageDisk;
+use jb_plain::{CommandFault, Ended, Opening, close, open_counted, read_file, tell};
 use jb_queue::{QueueText, read_queue};
 use jb_words::LoadWords;
 use std::fs::File;
@@ -17,12 +18,8 @@ use std::io::Write;
 use std::marker::Brand;
 use std::rt::Files;
 use std::sync::Wait;
-use std::sync::ledger::Blank;
 use std::thread::Threads;
 use std::time::Clock;
-
-/// How many parts the ledgers of a load have.
-const PARTS: u64 = (1 << 61) + 1;
 
 /// The most threads that may run the handles.
 const MOST_THREADS: u64 = 64;
@@ -44,7 +41,8 @@ pub(crate) fn run_load<
 ///
 /// # Errors
 /// `CommandFault::BadOption` where `--threads` is not from 1 to 64, before any file is looked at; those of `open_counted` and
-/// of `read_file`; and those of `load_queue`. Nothing was written to the outputs then, but for `CommandFault::WriteFault`.
+/// of `read_file`; and those of `load_queue`. Nothing was written to the outputs then, but for
+/// `CommandFault::WriteFault`.
 fn load_files<
     'a,
     R: Files<File = File> + AllocGlobal + Threads + Wait + Clock + Sync,
@@ -57,7 +55,7 @@ fn load_files<
     let Some(options) = load_options(load) else {
         return Err(CommandFault::BadOption("--threads"));
     };
-    let (disk, homes) = open_counted(rt, load.image)?;
+    let (disk, homes) = open_counted(rt, load.image, load.journal, Opening::Change)?;
     let text = read_file(rt, load.file)?;
     match read_queue(rt.alloc(), text.as_slice()) {
         Ok(queue) => load_queue(rt, disk, homes, load.stamp, &queue, options, out, err),
@@ -77,7 +75,7 @@ fn load_files<
 /// Those of `load_on`, and `CommandFault::WriteFault` where standard output took only the beginning of its line.
 fn load_queue<'a, R: AllocGlobal + Threads + Wait + Clock + Sync, O: Write, E: Write>(
     rt: &R,
-    disk: FileDisk,
+    disk: ImageDisk,
     homes: u64,
     stamp: u64,
     queue: &QueueText,
@@ -95,32 +93,45 @@ fn load_queue<'a, R: AllocGlobal + Threads + Wait + Clock + Sync, O: Write, E: W
             nsec: 0,
         },
     };
-    let (handles, changes) = (Blank::new(PARTS), Blank::new(PARTS));
-    let loaded = load_on::<FileDisk, FixedClock, R, Brand, Brand>(
+    let loaded = load_on::<ImageDisk, FixedClock, R, Brand>(
         rt,
         rt.alloc(),
         disk,
         clock,
         queue,
         options,
-        handles,
-        changes,
     );
     match loaded {
-        Ok((loaded, disk)) => {
-            drop(disk);
-            let status = tell_loaded(&loaded, out, err)?;
-            Ok(Ended {
-                status,
-                beside: beside_of(&loaded, homes),
-            })
-        }
+        Ok(ended) => tell_ended(ended, homes, out, err),
         Err(fault) => Err(fault_of(fault)),
     }
 }
 
-/// What a second line says of a load into an image of so many home blocks beside the words of its first line's row: their number,
-/// where a handle was refused for want of one.
+/// Closes an image of so many home blocks, and tells what came of a load into it.
+///
+/// # Errors
+/// `CommandFault::WriteFault` where standard output took only the beginning of its line.
+fn tell_ended<'a, O: Write, E: Write>(
+    ended: (Loaded, ImageDisk),
+    homes: u64,
+    out: &mut O,
+    err: &mut E,
+) -> Result<Ended, CommandFault<'a>>
+    ensures reports { ReportsLoad homes (Ok ended) (record { out = O.contents out.old; err = E.contents err.old })
+        (record { out = O.contents out.new; err = E.contents err.new }) result }
+{
+    let (loaded, disk) = ended;
+    // no line is written while an image is open
+    drop(disk);
+    let status = tell_loaded(&loaded, out, err)?;
+    Ok(Ended {
+        status,
+        beside: beside_of(&loaded, homes),
+    })
+}
+
+/// What a second line says of a load into an image of so many home blocks beside the words of its first line's row:
+/// their number, where a handle was refused for want of one.
 fn beside_of(loaded: &Loaded, homes: u64) -> Beside
     ensures { result ≡ beside_in homes loaded.now.refused }
 {

@@ -39,7 +39,8 @@ const ROWS: &[Row] = &[
     (&["--version"], Beside::Nothing),
 ];
 
-/// The numbers of `--bs`, `--journal`, `--homes` and `--max`, the digits of `--uuid`, and what a second line says beside.
+/// The numbers of `--bs`, `--journal`, `--homes` and `--max`, the digits of `--uuid`, and what a second line says
+/// beside.
 const FORMATS: &[([&str; 5], Beside)] = &[
     (
         ["512", "4294967296", "0", "4294967296", ""],

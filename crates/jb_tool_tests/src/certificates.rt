@@ -7,8 +7,8 @@ use std::test::Fail;
 
 const GROWING: &str = "bs 1024\nlimit 6\nh w1 w2\nh w3 w4\nh w3 w4\nh w3 w4 w5\n";
 
-/// The text of a queue and of a certificate, the status of the check, and what it writes to standard output and to standard
-/// error.
+/// The text of a queue and of a certificate, the status of the check, and what it writes to standard output and to
+/// standard error.
 type Check = (&'static str, &'static str, u8, &'static str, &'static str);
 
 const CHECKS: &[Check] = &[

@@ -8,8 +8,8 @@ use std::alloc::Global;
 use std::fs;
 use std::test::Fail;
 
-/// The number and the start that the superblock says, its incompatible features, how many of its bytes the file has, and what
-/// `widen` answers; where it refuses, `renumber` refuses the same.
+/// The number and the start that the superblock says, its incompatible features, how many of its bytes the file has,
+/// and what `widen` answers; where it refuses, `renumber` refuses the same.
 type Row = ([u32; 2], u32, usize, Result<&'static str, &'static str>);
 
 const WIDENED: Result<&str, &str> = Ok("widened limit 8\n");
@@ -32,8 +32,8 @@ const ROWS: &[Row] = &[
     ([2, 0], 1, 0, Err("jb: Super ShortBlock\n")),
 ];
 
-/// The front of the image of a log of three headed blocks, at the places 1, 2 and 4, as a file of this many bytes has it; its
-/// log bare of them or not.
+/// The front of the image of a log of three headed blocks, at the places 1, 2 and 4, as a file of this many bytes has
+/// it; its log bare of them or not.
 fn front(
     alloc: Global,
     log: [u32; 2],
@@ -110,8 +110,8 @@ fn each_change_answers_its_row_and_a_refused_image_stays(rt: HostRuntime) -> Res
 /// More calls than a change of the small image makes.
 const MOST: u64 = 60;
 
-/// How many calls of the disk a change of a new journal makes, each of which may fail, and what it writes then; nothing where a
-/// call fails and that is not what is answered, or something is written.
+/// How many calls of the disk a change of a new journal makes, each of which may fail, and what it writes then; nothing
+/// where a call fails and that is not what is answered, or something is written.
 fn calls_of(alloc: Global, wide: bool) -> Result<Option<(u64, Vec<u8>)>, Fail> {
     for call in 0..MOST {
         let (mut new, mut out) = (

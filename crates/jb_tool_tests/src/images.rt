@@ -204,8 +204,8 @@ fn a_locked_image_is_not_touched(rt: HostRuntime) -> Result<(), Fail> {
     Ok(())
 }
 
-/// The incompatible features of an image, the count of its revoke block, the home of its copy, how many of its bytes the file
-/// has, and what a recovery answers.
+/// The incompatible features of an image, the count of its revoke block, the home of its copy, how many of its bytes
+/// the file has, and what a recovery answers.
 type Recovery = (u32, u32, u32, usize, Result<&'static str, &'static str>);
 
 const RECOVERIES: &[Recovery] = &[

@@ -8,6 +8,8 @@ mod certificates;
 #[cfg(test)]
 mod changes;
 #[cfg(test)]
+mod homes;
+#[cfg(test)]
 mod images;
 #[cfg(test)]
 mod journals;

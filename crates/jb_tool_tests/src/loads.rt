@@ -255,8 +255,8 @@ end transactions=1 expected=3
     Ok(())
 }
 
-/// Loads whose handles are committed while others run, so that their groups are not known, and which of the handles is the last
-/// one, where there is one thread.
+/// Loads whose handles are committed while others run, so that their groups are not known, and which of the handles is
+/// the last one, where there is one thread.
 const TOGETHER: &[(&[&str], Option<u8>)] = &[
     (&[], Some(4)),
     (&["--checkpoint"], Some(4)),

@@ -34,9 +34,9 @@ pub fn add_block(journal: &mut Vec<u8>, size: usize, words: &[u32]) -> Result<()
     journal.resize(end, 0)
 }
 
-/// A superblock that says where its log begins, and with which number; a revoke of home 7 with this count, and a copy of a home
-/// that begins with the magic, as one committed transaction of number 2 at the places 1 to 4 of 33 blocks of journal; and 16
-/// home blocks, of which number 5 begins with these words.
+/// A superblock that says where its log begins, and with which number; a revoke of home 7 with this count, and a copy
+/// of a home that begins with the magic, as one committed transaction of number 2 at the places 1 to 4 of 33 blocks of
+/// journal; and 16 home blocks, of which number 5 begins with these words.
 pub fn image(
     alloc: Global,
     log: [u32; 2],

@@ -16,10 +16,6 @@ file_app name = with_rule (new_app name) (required_word (codes "FILE"))
 abbrev pub check_app : App
 check_app = with_rule (file_app (codes "check")) (required_word (codes "CERT"))
 
--- `dump FILE`
-abbrev pub dump_app : App
-dump_app = file_app (codes "dump")
-
 -- an option with a number that has to fit 64 bits
 abbrev pub number_option : Text → Rule
 number_option name = record (new_rule name) {
@@ -35,6 +31,23 @@ required_number name = record (number_option name) { required = true }
 -- the same, with this number where it is left out
 abbrev pub number_or : Text → Text → Rule
 number_or name number = record (number_option name) { defaults = number ∷ [] }
+
+-- a number that has to be there and fit 64 bits
+abbrev pub number_word : Text → Rule
+number_word name = record (new_rule name) { parser = Some (Unsigned 0 18446744073709551615); required = true }
+
+-- `-n N`, 1 where it is left out
+abbrev pub count_option : Rule
+count_option = record (new_rule (codes "n")) {
+  short = Some 110;
+  value_names = 1;
+  defaults = codes "1" ∷ [];
+  parser = Some (Unsigned 0 18446744073709551615);
+}
+
+-- `--journal FILE`
+abbrev pub journal_option : Rule
+journal_option = record (new_rule (codes "journal")) { long = Some (codes "journal"); value_names = 1 }
 
 -- `--uuid HEX`, 32 zeros where it is left out
 abbrev pub uuid_option : Rule
@@ -60,11 +73,27 @@ format_app =
     let parts = with_rule (with_rule sized (required_number (codes "journal"))) (required_number (codes "homes")) in
     with_rule (with_rule (with_rule parts (number_or (codes "max") (codes "0"))) uuid_option) (flag (codes "wide"))
 
--- `load IMAGE FILE [--threads N] [--hold] [--stamp SEC] [--checkpoint]`
+-- `dump FILE [--home N] [--last N] [--super]`
+abbrev pub dump_app : App
+dump_app =
+    let numbered = with_rule (with_rule (file_app (codes "dump")) (number_option (codes "home"))) (number_option (codes "last")) in
+    with_rule numbered (flag (codes "super"))
+
+-- `cat IMAGE HOME [-n N] [--hex] [--journal FILE]`
+abbrev pub cat_app : App
+cat_app =
+    let numbered = with_rule (with_rule (image_app (codes "cat")) (number_word (codes "HOME"))) count_option in
+    with_rule (with_rule numbered (flag (codes "hex"))) journal_option
+
+-- `recover IMAGE [--journal FILE]`
+abbrev pub recover_app : App
+recover_app = with_rule (image_app (codes "recover")) journal_option
+
+-- `load IMAGE FILE [--journal FILE] [--threads N] [--hold] [--stamp SEC] [--checkpoint]`
 abbrev pub load_app : App
 load_app =
     let files = with_rule (image_app (codes "load")) (required_word (codes "FILE")) in
-    let held = with_rule (with_rule files (number_or (codes "threads") (codes "1"))) (flag (codes "hold")) in
+    let held = with_rule (with_rule (with_rule files journal_option) (number_or (codes "threads") (codes "1"))) (flag (codes "hold")) in
     with_rule (with_rule held (number_or (codes "stamp") (codes "0"))) (flag (codes "checkpoint"))
 
 -- `jb`: its words begin with a command, and it has a version
@@ -81,7 +110,8 @@ jb_app =
     let cost = (file_app (codes "cost")).top in
     let plan = (file_app (codes "plan")).top in
     let over_queues = with_subcommand (with_subcommand (with_subcommand jb_top cost) plan) check_app.top in
-    let over_files = with_subcommand (with_subcommand over_queues dump_app.top) format_app.top in
+    let read = with_subcommand (with_subcommand over_queues dump_app.top) cat_app.top in
+    let over_files = with_subcommand read format_app.top in
     let loaded = with_subcommand over_files load_app.top in
-    let recovered = with_subcommand loaded (image_app (codes "recover")).top in
+    let recovered = with_subcommand loaded recover_app.top in
     with_subcommand (with_subcommand recovered (image_app (codes "renumber")).top) (image_app (codes "widen")).top

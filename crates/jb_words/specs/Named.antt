@@ -5,9 +5,11 @@ use Rattle.std.specs.List.{list_all}
 use Rattle.std.specs.Str.{bytes_eq}
 use Rattle.std.specs.Str.Parse.{digits_value, without_leading_plus}
 use Rattle.clap.specs.Words.{Row, Text, first_of, one_of}
+use Rattle.jb_words.specs.declared.plain.CatOptions.{CatOptions}
+use Rattle.jb_words.specs.declared.plain.DumpOptions.{DumpOptions}
 use Rattle.jb_words.specs.declared.plain.FormatOptions.{FormatOptions}
 use Rattle.jb_words.specs.declared.plain.Plain.{Plain}
-use Rattle.jb_words.specs.declared.plain.Plain.TheVariants.{Check, Cost, Dump, Format, Plan, Recover, Renumber, Widen}
+use Rattle.jb_words.specs.declared.plain.Plain.TheVariants.{Cat, Check, Cost, Dump, Format, Plan, Recover, Renumber, Widen}
 
 -- the options of `format` as they were given
 pub record Options : Type 0 where
@@ -18,14 +20,22 @@ pub record Options : Type 0 where
   pub uuid : Text
   pub wide : Bool
 
+-- the words of `cat` after its image as they were given
+pub record CatWords : Type 0 where
+  pub home : ℕ
+  pub count : ℕ
+  pub hex : Bool
+  pub journal : Option Text
+
 -- a command with its words
 pub data Asked : Type 0 where
   AsksCost : Text → Asked
   AsksPlan : Text → Asked
   AsksCheck : Text → Text → Asked
-  AsksDump : Text → Asked
+  AsksDump : Text → DumpOptions → Asked
+  AsksCat : Text → CatWords → Asked
   AsksFormat : Text → Options → Asked
-  AsksRecover : Text → Asked
+  AsksRecover : Text → Option Text → Asked
   AsksRenumber : Text → Asked
   AsksWiden : Text → Asked
 
@@ -33,14 +43,19 @@ pub data Asked : Type 0 where
 abbrev pub options_said : FormatOptions → Options
 options_said o = record { bs = o.bs; journal = o.journal; homes = o.homes; max = o.max; uuid = o.uuid.now; wide = o.wide }
 
+-- the same of `cat`
+abbrev pub cat_said : CatOptions → CatWords
+cat_said o = record { home = o.home; count = o.count; hex = o.hex; journal = option_map (λ word. word.now) o.journal }
+
 -- what a value of the program's own type asks for
 abbrev pub asks : Plain → Asked
 asks (Cost file) = AsksCost file.now
 asks (Plan file) = AsksPlan file.now
 asks (Check file cert) = AsksCheck file.now cert.now
-asks (Dump file) = AsksDump file.now
+asks (Dump file options) = AsksDump file.now options
 asks (Format image options) = AsksFormat image.now (options_said options)
-asks (Recover image) = AsksRecover image.now
+asks (Cat image options) = AsksCat image.now (cat_said options)
+asks (Recover image journal) = AsksRecover image.now (option_map (λ word. word.now) journal)
 asks (Renumber image) = AsksRenumber image.now
 asks (Widen image) = AsksWiden image.now
 
@@ -72,6 +87,12 @@ number_in name rows = option_and_then number_said (one_of name rows)
 abbrev pub flag_in : Text → List Row → Option Bool
 flag_in name rows = option_map (λ text. bytes_eq text (codes "true")) (first_of name rows)
 
+-- `dump FILE ..`
+abbrev pub dump_in : List Row → Option Asked
+dump_in rows =
+    option_and_then (λ file. option_map (λ alone. AsksDump file (record { home = number_in (codes "home") rows; last = number_in (codes "last") rows; superblock = alone }))
+    (flag_in (codes "super") rows)) (file_in rows)
+
 -- the options of `format`
 abbrev pub options_in : List Row → Option Options
 options_in rows =
@@ -85,15 +106,27 @@ abbrev pub format_in : List Row → Option Asked
 format_in rows =
     option_and_then (λ image. option_map (λ options. AsksFormat image options) (options_in rows)) (image_in rows)
 
+-- the file with the journal, where one was given
+abbrev pub journal_asked : List Row → Option Text
+journal_asked rows = first_of (codes "journal") rows
+
+-- `cat IMAGE HOME ..`
+abbrev pub cat_in : List Row → Option Asked
+cat_in rows =
+    option_and_then (λ image. option_and_then (λ home. option_and_then (λ count.
+    option_map (λ hex. AsksCat image (record { home = home; count = count; hex = hex; journal = journal_asked rows }))
+    (flag_in (codes "hex") rows)) (number_in (codes "n") rows)) (number_in (codes "HOME") rows)) (image_in rows)
+
 -- the command of this name, with the words that stand under the names of its arguments
 abbrev pub asked : Text → List Row → Option Asked
 asked name rows =
     if bytes_eq name (codes "cost") then option_map (λ file. AsksCost file) (file_in rows)
     else if bytes_eq name (codes "plan") then option_map (λ file. AsksPlan file) (file_in rows)
     else if bytes_eq name (codes "check") then check_in rows
-    else if bytes_eq name (codes "dump") then option_map (λ file. AsksDump file) (file_in rows)
+    else if bytes_eq name (codes "dump") then dump_in rows
+    else if bytes_eq name (codes "cat") then cat_in rows
     else if bytes_eq name (codes "format") then format_in rows
-    else if bytes_eq name (codes "recover") then option_map (λ image. AsksRecover image) (image_in rows)
+    else if bytes_eq name (codes "recover") then option_map (λ image. AsksRecover image (journal_asked rows)) (image_in rows)
     else if bytes_eq name (codes "renumber") then option_map (λ image. AsksRenumber image) (image_in rows)
     else if bytes_eq name (codes "widen") then option_map (λ image. AsksWiden image) (image_in rows)
     else None

@@ -1,13 +1,16 @@
 ghost use Rattle.std.specs.Prelude.{◌≡◌, IfOk, false};
 ghost use Rattle.clap.specs.Words.{App, app_of, new_app, rule_of, with_rule, with_subcommand};
 ghost use Rattle.clap.specs.declared.builder.command.Command.TheViews.{out-Command as fields_of};
-ghost use Rattle.jb_words.specs.App.{check_app, file_app, format_app, image_app, jb_app, jb_top, load_app, required_word as word_rule};
+ghost use Rattle.jb_words.specs.App.{cat_app, check_app, dump_app, file_app, format_app, image_app, jb_app, jb_top, load_app, recover_app, required_word as word_rule};
 
 mod options;
 mod texts;
 
 use clap::{Arg, Command};
-use options::{flag, number_or, required_number, uuid_option};
+use options::{
+    count_option, flag, journal_option, number_option, number_or, number_word, required_number,
+    uuid_option,
+};
 use std::alloc::{AllocError, Global};
 
 /// A word that has to be there, by the name that usage shows.
@@ -78,6 +81,50 @@ fn check<'a>(alloc: Global) -> Result<Command<'a>, AllocError>
     with(command, required_word(alloc, "CERT", help))
 }
 
+/// `jb dump`.
+fn dump<'a>(alloc: Global) -> Result<Command<'a>, AllocError>
+    ensures app { IfOk result (λ c. app_of c ≡ dump_app) }
+    ensures own { IfOk result (λ c. (fields_of c).has_globals ≡ false) }
+{
+    let about = "Prints the committed transactions of a journal, block by block";
+    let help = "A file with the whole journal at its front, or - for standard input";
+    let command = over(alloc, "dump", about, "FILE", help)?;
+    let help = "Only the lines that speak of home block N";
+    let command = with(command, number_option(alloc, "home", "N", help))?;
+    let help = "Of the transactions only the last N";
+    let command = with(command, number_option(alloc, "last", "N", help))?;
+    with(
+        command,
+        flag(alloc, "super", "Only the lines of the superblock"),
+    )
+}
+
+/// `jb cat`.
+fn cat<'a>(alloc: Global) -> Result<Command<'a>, AllocError>
+    ensures app { IfOk result (λ c. app_of c ≡ cat_app) }
+    ensures own { IfOk result (λ c. (fields_of c).has_globals ≡ false) }
+{
+    let about = "Writes home blocks of an image as recovery would leave them";
+    let command = over_image(alloc, "cat", about)?;
+    let command = with(
+        command,
+        number_word(alloc, "HOME", "The number of the first home block"),
+    )?;
+    let command = with(command, count_option(alloc, "How many home blocks"))?;
+    let help = "Writes lines of hexadecimal digits, as xxd does";
+    let command = with(command, flag(alloc, "hex", help))?;
+    with(command, journal_option(alloc))
+}
+
+/// `jb recover`.
+fn recover<'a>(alloc: Global) -> Result<Command<'a>, AllocError>
+    ensures app { IfOk result (λ c. app_of c ≡ recover_app) }
+    ensures own { IfOk result (λ c. (fields_of c).has_globals ≡ false) }
+{
+    let about = "Writes home what an image's journal has committed, and empties its log";
+    with(over_image(alloc, "recover", about)?, journal_option(alloc))
+}
+
 /// `jb format`.
 fn format<'a>(alloc: Global) -> Result<Command<'a>, AllocError>
     ensures app { IfOk result (λ c. app_of c ≡ format_app) }
@@ -107,6 +154,7 @@ fn load<'a>(alloc: Global) -> Result<Command<'a>, AllocError>
     let command = over_image(alloc, "load", about)?;
     let help = "A queue text of the image's block size";
     let command = with(command, required_word(alloc, "FILE", help))?;
+    let command = with(command, journal_option(alloc))?;
     let help = "How many threads run the handles, 1 to 64";
     let command = with(command, number_or(alloc, "threads", "N", "1", help))?;
     let help = "Commits once all handles have run, as one batch";
@@ -161,13 +209,11 @@ pub fn jb_command<'a>(alloc: Global) -> Result<Command<'a>, AllocError>
     let about = "Prints a least cut of the queue into groups, with its prices";
     let with_plan = also(with_cost, over_queue(alloc, "plan", about));
     let with_check = also(with_plan, check(alloc));
-    let about = "Prints the committed transactions of a journal, block by block";
-    let help = "A file with the whole journal at its front, or - for standard input";
-    let with_dump = also(with_check, over(alloc, "dump", about, "FILE", help));
-    let with_format = also(with_dump, format(alloc));
+    let with_dump = also(with_check, dump(alloc));
+    let with_cat = also(with_dump, cat(alloc));
+    let with_format = also(with_cat, format(alloc));
     let with_load = also(with_format, load(alloc));
-    let about = "Writes home what an image's journal has committed, and empties its log";
-    let with_recover = also(with_load, over_image(alloc, "recover", about));
+    let with_recover = also(with_load, recover(alloc));
     let about = "Restarts the transaction numbers of a clean journal at 1";
     let with_renumber = also(with_recover, over_image(alloc, "renumber", about));
     let about = "Gives a clean journal block numbers of 64 bits";

@@ -18,10 +18,19 @@ pub enum Plain<'a> {
         /// The text of the certificate.
         cert: &'a str,
     },
-    /// `jb dump FILE`: the text of a journal.
+    /// `jb dump FILE ..`: the text of a journal.
     Dump {
         /// The file with the whole journal.
         file: &'a str,
+        /// Which lines of the text.
+        options: DumpOptions,
+    },
+    /// `jb cat IMAGE HOME ..`: home blocks of an image, as recovery would leave them.
+    Cat {
+        /// The file with the journal and the home blocks, or the home blocks alone.
+        image: &'a str,
+        /// Which blocks, and how.
+        options: CatOptions<'a>,
     },
     /// `jb format IMAGE ..`: a new file with a journal and home blocks.
     Format {
@@ -32,8 +41,10 @@ pub enum Plain<'a> {
     },
     /// `jb recover IMAGE`: the home blocks of an image as the committed transactions of its journal leave them.
     Recover {
-        /// The file with the journal and the home blocks.
+        /// The file with the journal and the home blocks, or the home blocks alone.
         image: &'a str,
+        /// `--journal`: the file with the journal, where the image has the home blocks alone.
+        journal: Option<&'a str>,
     },
     /// `jb renumber IMAGE`: the journal of an image, clean, with its first number again.
     Renumber {
@@ -45,6 +56,30 @@ pub enum Plain<'a> {
         /// The file with the journal and the home blocks.
         image: &'a str,
     },
+}
+
+/// The options of `jb dump` as they were given.
+#[derive(Clone, Copy)]
+pub struct DumpOptions {
+    /// `--home`: the home block whose lines alone are printed.
+    pub home: Option<u64>,
+    /// `--last`: how many last transactions alone have their lines printed.
+    pub last: Option<u64>,
+    /// `--super`: whether the lines of the superblock alone are printed.
+    pub superblock: bool,
+}
+
+/// The words and options of `jb cat` after the image, as they were given, not checked yet.
+#[derive(Clone, Copy)]
+pub struct CatOptions<'a> {
+    /// The number of the first home block.
+    pub home: u64,
+    /// `-n`: how many home blocks.
+    pub count: u64,
+    /// `--hex`: whether their bytes are written in hexadecimal digits.
+    pub hex: bool,
+    /// `--journal`: the file with the journal, where the image has the home blocks alone.
+    pub journal: Option<&'a str>,
 }
 
 /// The options of `jb format` as they were given, not checked yet.

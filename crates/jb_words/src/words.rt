@@ -3,12 +3,12 @@ ghost use Rattle.clap.specs.Kinds.{FailsBy};
 ghost use Rattle.clap.specs.Words.{app_of, first_of, found_of, rows_of, subcommand_of, subcommand_rows_of};
 ghost use Rattle.jb_words.specs.App.{jb_app};
 ghost use Rattle.jb_words.specs.Faults.{HasKind, faults_in};
-ghost use Rattle.jb_words.specs.Named.{asked, asks, check_in, flag_in, format_in, number_in, options_in, options_said};
+ghost use Rattle.jb_words.specs.Named.{asked, asks, cat_in, check_in, dump_in, flag_in, format_in, number_in, options_in, options_said};
 ghost use Rattle.jb_words.specs.Wanted.{load_in, load_said, wanted_in, wanted_of, wants};
 
 use crate::command::{LoadWords, Words};
 use crate::commands::jb_command;
-use crate::plain::{FormatOptions, Plain};
+use crate::plain::{CatOptions, DumpOptions, FormatOptions, Plain};
 use clap::error::ErrorKind;
 use clap::{ArgMatches, Command, Error};
 use std::alloc::{AllocError, Global};
@@ -84,6 +84,7 @@ fn load_of<'a>(found: &ArgMatches<'a>) -> Option<LoadWords<'a>>
     Some(LoadWords {
         image: word_of(found, "IMAGE")?,
         file: word_of(found, "FILE")?,
+        journal: word_of(found, "journal"),
         threads: number_of(found, "threads")?,
         hold: flag_of(found, "hold")?,
         stamp: number_of(found, "stamp")?,
@@ -103,12 +104,12 @@ fn plain_of<'a>(name: &str, found: &ArgMatches<'a>) -> Option<Plain<'a>>
             file: word_of(found, "FILE")?,
         }),
         "check" => check_of(found),
-        "dump" => Some(Plain::Dump {
-            file: word_of(found, "FILE")?,
-        }),
+        "dump" => dump_of(found),
+        "cat" => cat_of(found),
         "format" => format_of(found),
         "recover" => Some(Plain::Recover {
             image: word_of(found, "IMAGE")?,
+            journal: word_of(found, "journal"),
         }),
         "renumber" => Some(Plain::Renumber {
             image: word_of(found, "IMAGE")?,
@@ -127,6 +128,35 @@ fn check_of<'a>(found: &ArgMatches<'a>) -> Option<Plain<'a>>
     Some(Plain::Check {
         file: word_of(found, "FILE")?,
         cert: word_of(found, "CERT")?,
+    })
+}
+
+/// The words of `jb dump`.
+fn dump_of<'a>(found: &ArgMatches<'a>) -> Option<Plain<'a>>
+    ensures { option_map asks result ≡ dump_in (rows_of (found_of found.now)) }
+{
+    Some(Plain::Dump {
+        file: word_of(found, "FILE")?,
+        options: DumpOptions {
+            home: number_of(found, "home"),
+            last: number_of(found, "last"),
+            superblock: flag_of(found, "super")?,
+        },
+    })
+}
+
+/// The words of `jb cat`.
+fn cat_of<'a>(found: &ArgMatches<'a>) -> Option<Plain<'a>>
+    ensures { option_map asks result ≡ cat_in (rows_of (found_of found.now)) }
+{
+    Some(Plain::Cat {
+        image: word_of(found, "IMAGE")?,
+        options: CatOptions {
+            home: number_of(found, "HOME")?,
+            count: number_of(found, "n")?,
+            hex: flag_of(found, "hex")?,
+            journal: word_of(found, "journal"),
+        },
     })
 }
 

@@ -1,4 +1,4 @@
-use jb_words::{FormatOptions, LoadWords, Plain, Words, parse};
+use jb_words::{CatOptions, DumpOptions, FormatOptions, LoadWords, Plain, Words, parse};
 use std::alloc::Global;
 
 /// The command that the words ask for: its name, and its words in the order of `Plain` and `LoadWords`.
@@ -7,9 +7,14 @@ fn asked<'a>(alloc: Global, words: &'a [&'a str]) -> Option<(&'a str, &'a str, &
         Words::Plain(Plain::Cost { file }) => Some(("cost", file, "")),
         Words::Plain(Plain::Plan { file }) => Some(("plan", file, "")),
         Words::Plain(Plain::Check { file, cert }) => Some(("check", file, cert)),
-        Words::Plain(Plain::Dump { file }) => Some(("dump", file, "")),
+        Words::Plain(Plain::Dump { file, .. }) => Some(("dump", file, "")),
         Words::Plain(Plain::Format { image, options }) => Some(("format", image, options.uuid)),
-        Words::Plain(Plain::Recover { image }) => Some(("recover", image, "")),
+        Words::Plain(Plain::Cat { image, options }) => {
+            Some(("cat", image, options.journal.unwrap_or("")))
+        }
+        Words::Plain(Plain::Recover { image, journal }) => {
+            Some(("recover", image, journal.unwrap_or("")))
+        }
         Words::Plain(Plain::Renumber { image }) => Some(("renumber", image, "")),
         Words::Plain(Plain::Widen { image }) => Some(("widen", image, "")),
         Words::Load(load) => Some(("load", load.image, load.file)),
@@ -49,6 +54,71 @@ fn loading(alloc: Global, words: &[&str]) -> Option<([u64; 2], [bool; 2])> {
         Words::Plain(_) => None,
     }
 }
+
+/// The options of a command that shows home blocks: HOME and -n, and whether --hex stands there.
+fn shown(alloc: Global, words: &[&str]) -> Option<([u64; 2], bool)> {
+    match parse(alloc, words).ok()? {
+        Words::Plain(Plain::Cat { options, .. }) => {
+            let CatOptions {
+                home,
+                count,
+                hex,
+                ..
+            } = options;
+            Some(([home, count], hex))
+        }
+        _ => None,
+    }
+}
+
+/// The options of a dump: --home and --last, and whether --super stands there.
+fn chosen(alloc: Global, words: &[&str]) -> Option<([Option<u64>; 2], bool)> {
+    match parse(alloc, words).ok()? {
+        Words::Plain(Plain::Dump { options, .. }) => {
+            let DumpOptions {
+                home,
+                last,
+                superblock,
+            } = options;
+            Some(([home, last], superblock))
+        }
+        _ => None,
+    }
+}
+
+/// Dumps, and their options: --home and --last, and whether --super stands there.
+const DUMPS: &[(&[&str], Option<u64>, Option<u64>, bool)] = &[
+    (&["dump", "a"], None, None, false),
+    (&["dump", "--home", "5", "a"], Some(5), None, false),
+    (
+        &["dump", "a", "--last=18446744073709551615"],
+        None,
+        Some(u64::MAX),
+        false,
+    ),
+    (&["dump", "--super", "a"], None, None, true),
+    (
+        &["dump", "--last", "0", "--super", "a", "--home=+07"],
+        Some(7),
+        Some(0),
+        true,
+    ),
+];
+
+/// Commands that show home blocks, their options, and the file of their journal.
+const CATS: &[(&[&str], ([u64; 2], bool), &str)] = &[
+    (&["cat", "a.img", "5"], ([5, 1], false), ""),
+    (
+        &["cat", "--hex", "a.img", "-n", "3", "18446744073709551615"],
+        ([u64::MAX, 3], true),
+        "",
+    ),
+    (
+        &["cat", "a.img", "--journal", "j", "0", "-n0"],
+        ([0, 0], false),
+        "j",
+    ),
+];
 
 const ANY_ORDER: [&str; 12] = [
     "format",
@@ -104,8 +174,11 @@ fn commands_with_their_words_are_taken(rt: HostRuntime) {
         (["cost", "--", "-x"].as_slice(), ("cost", "-x", "")),
         (["plan", "-"].as_slice(), ("plan", "-", "")),
         (["check", "a", "b"].as_slice(), ("check", "a", "b")),
-        (["dump", "a"].as_slice(), ("dump", "a", "")),
         (["recover", "a.img"].as_slice(), ("recover", "a.img", "")),
+        (
+            ["recover", "--journal=j", "a.img"].as_slice(),
+            ("recover", "a.img", "j"),
+        ),
         (["renumber", "a.img"].as_slice(), ("renumber", "a.img", "")),
         (["widen", "--", "-"].as_slice(), ("widen", "-", "")),
         (
@@ -127,6 +200,17 @@ fn commands_with_their_words_are_taken(rt: HostRuntime) {
         numbers(rt.alloc(), &LEFT_OUT),
         Some(([1024, 33, 16, 0], false))
     );
+    for (words, home, last, superblock) in DUMPS {
+        assert_eq!(rt; asked(rt.alloc(), words), Some(("dump", "a", "")));
+        assert_eq!(rt;
+            chosen(rt.alloc(), words),
+            Some(([*home, *last], *superblock))
+        );
+    }
+    for (words, wanted, journal) in CATS {
+        assert_eq!(rt; asked(rt.alloc(), words), Some(("cat", "a.img", *journal)));
+        assert_eq!(rt; shown(rt.alloc(), words), Some(*wanted));
+    }
     for (words, wanted) in LOADS {
         assert_eq!(rt;
             asked(rt.alloc(), words),

@@ -42,6 +42,11 @@ const ANSWERED_BY_CLAP: &[(&[&str], bool, &str)] = &[
         "error: the following required arguments were not provided:\n  <IMAGE>\n\nUsage: jb recover <IMAGE>\n\nFor more information, try '--help'.\n",
     ),
     (
+        &["cat", "a.img"],
+        true,
+        "error: the following required arguments were not provided:\n  <HOME>\n\nUsage: jb cat <IMAGE> <HOME>\n\nFor more information, try '--help'.\n",
+    ),
+    (
         &["load", "a.img"],
         true,
         "error: the following required arguments were not provided:\n  <FILE>\n\nUsage: jb load <IMAGE> <FILE>\n\nFor more information, try '--help'.\n",
@@ -85,7 +90,12 @@ const ANSWERED_BY_CLAP: &[(&[&str], bool, &str)] = &[
     (
         &["dump", "-h"],
         false,
-        "Prints the committed transactions of a journal, block by block\n\nUsage: jb dump <FILE>\n\nArguments:\n  <FILE>  A file with the whole journal at its front, or - for standard input\n\nOptions:\n  -h, --help  Print help (see more with '--help')\n",
+        "Prints the committed transactions of a journal, block by block\n\nUsage: jb dump [OPTIONS] <FILE>\n\nArguments:\n  <FILE>  A file with the whole journal at its front, or - for standard input\n\nOptions:\n      --home <N>  Only the lines that speak of home block N\n      --last <N>  Of the transactions only the last N\n      --super     Only the lines of the superblock\n  -h, --help      Print help (see more with '--help')\n",
+    ),
+    (
+        &["cat", "-h"],
+        false,
+        "Writes home blocks of an image as recovery would leave them\n\nUsage: jb cat [OPTIONS] <IMAGE> <HOME>\n\nArguments:\n  <IMAGE>  A file or block device with a journal at its front, and the home blocks after it\n  <HOME>   The number of the first home block\n\nOptions:\n  -n <N>                How many home blocks [default: 1]\n      --hex             Writes lines of hexadecimal digits, as xxd does\n      --journal <FILE>  The file with the journal; IMAGE has the home blocks alone then\n  -h, --help            Print help (see more with '--help')\n",
     ),
     (
         &["format", "-h"],
@@ -95,12 +105,12 @@ const ANSWERED_BY_CLAP: &[(&[&str], bool, &str)] = &[
     (
         &["load", "-h"],
         false,
-        "Commits the handles of a queue text to an image, run by threads\n\nUsage: jb load [OPTIONS] <IMAGE> <FILE>\n\nArguments:\n  <IMAGE>  A file or block device with a journal at its front, and the home blocks after it\n  <FILE>   A queue text of the image's block size\n\nOptions:\n      --threads <N>  How many threads run the handles, 1 to 64 [default: 1]\n      --hold         Commits once all handles have run, as one batch\n      --stamp <SEC>  The time of the commit blocks, in seconds since 1970 [default: 0]\n      --checkpoint   Writes home what is committed, too\n  -h, --help         Print help (see more with '--help')\n",
+        "Commits the handles of a queue text to an image, run by threads\n\nUsage: jb load [OPTIONS] <IMAGE> <FILE>\n\nArguments:\n  <IMAGE>  A file or block device with a journal at its front, and the home blocks after it\n  <FILE>   A queue text of the image's block size\n\nOptions:\n      --journal <FILE>  The file with the journal; IMAGE has the home blocks alone then\n      --threads <N>     How many threads run the handles, 1 to 64 [default: 1]\n      --hold            Commits once all handles have run, as one batch\n      --stamp <SEC>     The time of the commit blocks, in seconds since 1970 [default: 0]\n      --checkpoint      Writes home what is committed, too\n  -h, --help            Print help (see more with '--help')\n",
     ),
     (
         &["recover", "-h"],
         false,
-        "Writes home what an image's journal has committed, and empties its log\n\nUsage: jb recover <IMAGE>\n\nArguments:\n  <IMAGE>  A file or block device with a journal at its front, and the home blocks after it\n\nOptions:\n  -h, --help  Print help (see more with '--help')\n",
+        "Writes home what an image's journal has committed, and empties its log\n\nUsage: jb recover [OPTIONS] <IMAGE>\n\nArguments:\n  <IMAGE>  A file or block device with a journal at its front, and the home blocks after it\n\nOptions:\n      --journal <FILE>  The file with the journal; IMAGE has the home blocks alone then\n  -h, --help            Print help (see more with '--help')\n",
     ),
     (
         &["help", "renumber"],
@@ -110,7 +120,7 @@ const ANSWERED_BY_CLAP: &[(&[&str], bool, &str)] = &[
     (
         &["-h"],
         false,
-        "A block journal in jbd2's format\n\nUsage: jb <COMMAND>\n\nCommands:\n  cost      Prints the log blocks that the queue takes as one group\n  plan      Prints a least cut of the queue into groups, with its prices\n  check     Checks a certificate of the queue, whoever made it\n  dump      Prints the committed transactions of a journal, block by block\n  format    Makes an image: a new journal, and home blocks of zeros after it\n  load      Commits the handles of a queue text to an image, run by threads\n  recover   Writes home what an image's journal has committed, and empties its log\n  renumber  Restarts the transaction numbers of a clean journal at 1\n  widen     Gives a clean journal block numbers of 64 bits\n  help      Print this message or the help of the given subcommand(s)\n\nOptions:\n  -h, --help     Print help (see more with '--help')\n  -V, --version  Print version\n",
+        "A block journal in jbd2's format\n\nUsage: jb <COMMAND>\n\nCommands:\n  cost      Prints the log blocks that the queue takes as one group\n  plan      Prints a least cut of the queue into groups, with its prices\n  check     Checks a certificate of the queue, whoever made it\n  dump      Prints the committed transactions of a journal, block by block\n  cat       Writes home blocks of an image as recovery would leave them\n  format    Makes an image: a new journal, and home blocks of zeros after it\n  load      Commits the handles of a queue text to an image, run by threads\n  recover   Writes home what an image's journal has committed, and empties its log\n  renumber  Restarts the transaction numbers of a clean journal at 1\n  widen     Gives a clean journal block numbers of 64 bits\n  help      Print this message or the help of the given subcommand(s)\n\nOptions:\n  -h, --help     Print help (see more with '--help')\n  -V, --version  Print version\n",
     ),
 ];
 

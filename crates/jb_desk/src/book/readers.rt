@@ -3,10 +3,13 @@ use crate::book::Book;
 use crate::follow::number_in;
 use crate::origin::Origin;
 use jb_deck::Entry;
-use jb_handle::Shape;
+use jb_handle::{Shape, Words};
+use jb_history::{History, Made, Scribe};
 
 impl<S: Origin> Book<S> {
-    ghost use Rattle.std.specs.Prelude.{◌≡◌, ℕ, ◌<◌, ◌≤◌, ◌^◌, ◌↔◌, IfSome, IfNone, IsTrue};
+    ghost use Rattle.std.specs.Prelude.{◌≡◌, ℕ, ◌<◌, ◌≤◌, ◌^◌, ◌↔◌, List, [], ◌∷◌, ◌++◌, length, IfSome, IfNone, IsTrue};
+    ghost use Rattle.jb_handle.specs.declared.stopped.Stopped.{Stopped};
+    ghost use Rattle.jb_history.specs.Rule.{with_last};
     ghost use Rattle.jb_desk.specs.Account.{IsSound, IsOver, IsSettledBy, CanTake};
     ghost use Rattle.jb_desk.specs.Shadow.{reserved};
     ghost use Rattle.jb_deck.specs.Done.{Follow};
@@ -108,5 +111,20 @@ impl<S: Origin> Book<S> {
     {
         let Book { trail, .. } = self;
         trail
+    }
+
+    /// Adds the words of the handle that stopped last to the history of stops, as made for this token.
+    pub(crate) fn record_last(
+        &self,
+        history: &History<Words, S>,
+        scribe: &mut Scribe<Words, S>,
+        made: &mut Made<Words, S>,
+    )
+        requires { 0 < length self.now.shadow.queue }
+        ensures { (before : List Stopped) (last : Stopped) → self.now.shadow.queue ≡ before ++ last ∷ []
+            → (scribe.new ≡ with_last scribe.old last.words)
+            × (made.new ≡ with_last made.old (length scribe.old, last.words)) }
+    {
+        history.add(scribe, made, &self.queue[self.queue.len() - 1].words);
     }
 }

@@ -32,7 +32,8 @@ impl<H: Origin, N: Ledger> Counter<H, N> {
     pub fn no_batch(&self) -> NoBatch
         requires running { self.now.book.aborted ≡ false }
         requires none { CanTake self.now.book → ⊥ }
-        ensures { result.seen ≡ front self.now.book.shadow.settled self.now.book.shadow.taken self.now.book.shadow.next }
+        ensures { result.seen ≡ front self.now.book.shadow.settled self.now.book.shadow.taken
+            self.now.book.shadow.next }
     {
         // that the book is sound is known by looking at it
         let _reserved = self.book.reserved();

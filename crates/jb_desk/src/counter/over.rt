@@ -26,7 +26,8 @@ impl<H: Origin, N: Ledger> Counter<H, N> {
 
     /// That the desk is over, where it is.
     pub fn over(&self) -> Option<Over>
-        ensures some { IfSome result (λ over. IsOver self.now.book × (self.now.book.aborted ≡ false) × (over.settled ≡ self.now.book.shadow.settled)) }
+        ensures some { IfSome result (λ over. IsOver self.now.book × (self.now.book.aborted ≡ false)
+            × (over.settled ≡ self.now.book.shadow.settled)) }
         ensures none { IfNone result (IsOver self.now.book → self.now.book.aborted ≡ false → ⊥) }
     {
         if self.book.is_aborted() || !self.book.is_over() {

@@ -7,6 +7,8 @@ use crate::fault::WrongBatch;
 use crate::held::Held;
 use crate::origin::Origin;
 use jb_deck::Done;
+use jb_handle::Words;
+use jb_history::History;
 use std::sync::ledger::Ledger;
 
 impl<H: Origin, N: Ledger> Counter<H, N> {
@@ -19,9 +21,14 @@ impl<H: Origin, N: Ledger> Counter<H, N> {
     /// # Errors
     ///
     /// `Aborted` where the journal has failed. A batch that is held is lost, so that none is committed then.
-    pub fn next_batch(&mut self, held: Option<Held<H>>) -> Result<Option<Held<H>>, RoundFault>
+    pub fn next_batch(
+        &mut self,
+        history: &History<Words, H>,
+        held: Option<Held<H>>,
+    ) -> Result<Option<Held<H>>, RoundFault>
         ensures batch { GivesBatch result held self.old.book self.new.book }
-        ensures none { IfOk result (λ given. IfNone given ((self.new.book.aborted ≡ false) × (CanTake self.new.book → ⊥))) }
+        ensures none { IfOk result (λ given. IfNone given
+            ((self.new.book.aborted ≡ false) × (CanTake self.new.book → ⊥))) }
     {
         match held {
             Some(batch) if self.book.is_aborted() => {
@@ -30,10 +37,13 @@ impl<H: Origin, N: Ledger> Counter<H, N> {
             }
             None if self.book.is_aborted() => Err(RoundFault::Aborted),
             Some(batch) => Ok(Some(batch)),
-            None => match self.book.take() {
-                Some(batch) => Ok(Some(Held::of(batch, self.tickets()))),
-                None => Ok(None),
-            },
+            None => {
+                let sight = history.show(&mut self.scribe);
+                match self.book.take() {
+                    Some(batch) => Ok(Some(Held::of(batch, self.tickets(), sight))),
+                    None => Ok(None),
+                }
+            }
         }
     }
 

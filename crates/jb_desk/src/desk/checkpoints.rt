@@ -1,4 +1,5 @@
 //! Committed groups are brought home.
+use crate::checkpoint::CheckpointRound;
 use crate::counter::Progress;
 use crate::desk::Desk;
 use crate::ended::Ended;
@@ -10,7 +11,7 @@ use std::sync::ledger::Ledger;
 
 impl<D: Disk, C: Clock, H: Origin, N: Ledger> Desk<D, C, H, N> {
     ghost use Rattle.jb_desk.specs.Ends.{EndsChecking};
-    ghost use Rattle.jb_desk.specs.Journal.{ChecksRound};
+    ghost use Rattle.jb_desk.specs.Journal.{ChecksAt, ChecksRound};
 
     /// Writes the oldest committed group home (`jbd2_log_do_checkpoint`). The book is not locked
     /// while the disk is at work.
@@ -20,15 +21,46 @@ impl<D: Disk, C: Clock, H: Origin, N: Ledger> Desk<D, C, H, N> {
     /// Those of [`Deck::checkpoint_one`](jb_deck::Deck::checkpoint_one). The book does not fail with the
     /// journal: the next batch does that, so that groups which are committed can still be settled.
     pub fn checkpoint_round<R: Wait>(&self, rt: &R) -> Result<Checked, CheckpointFault>
-        ensures { ChecksRound D.size D.count D.faults D.honest D.newest D.may_leave D.moment D.left_since H.begun result }
+        ensures { ChecksRound D.size D.count D.faults D.honest D.newest D.may_leave D.moment D.left_since H.begun
+            result }
     {
         self.works.lock(rt).checkpoint()
+    }
+
+    /// The same at a level: it writes home only where so many blocks of the log are in use
+    /// ([`Deck::in_use`](jb_deck::Deck::in_use)). At the level 0 it always does.
+    ///
+    /// # Errors
+    ///
+    /// Those of [`checkpoint_round`](Desk::checkpoint_round): `Aborted` whatever is in use, and `Nothing` at the level
+    /// 0 alone, since a live group is in use above it.
+    pub fn checkpoint_round_at<R: Wait>(
+        &self,
+        rt: &R,
+        level: u32,
+    ) -> Result<CheckpointRound, CheckpointFault>
+        ensures { ChecksAt D.size D.count D.faults D.honest D.newest D.may_leave D.moment D.left_since H.begun level
+            result }
+    {
+        self.works.lock(rt).checkpoint_at(level)
     }
 
     /// Writes committed groups home, the oldest first, until the desk is over and no group is left, or until
     /// the journal has failed.
     pub fn run_checkpointer<R: Wait>(&self, rt: &R) -> Ended
-        ensures { EndsChecking D.size D.count D.faults D.honest D.newest D.may_leave D.moment D.left_since H.begun result }
+        ensures { EndsChecking D.size D.count D.faults D.honest D.newest D.may_leave D.moment D.left_since H.begun
+            result }
+    {
+        self.run_checkpointer_at(rt, 0)
+    }
+
+    /// The same at a level: while the desk is not over, it rests where fewer blocks of the log than the level are in
+    /// use. Where a transaction of the most blocks has room above the level, commits find room as long as the
+    /// checkpointer keeps up with them, and need not write home themselves. A home that changes often is written less
+    /// often under a high level, and more of the log is read by a recovery.
+    pub fn run_checkpointer_at<R: Wait>(&self, rt: &R, level: u32) -> Ended
+        ensures { EndsChecking D.size D.count D.faults D.honest D.newest D.may_leave D.moment D.left_since H.begun
+            result }
     {
         for _ in rt.forever() {
             // asked before the checkpoint, so that what is settled since then is not missed
@@ -36,8 +68,11 @@ impl<D: Disk, C: Clock, H: Origin, N: Ledger> Desk<D, C, H, N> {
             if before.is_aborted {
                 return Ended::Aborted;
             }
-            match self.checkpoint_round(rt) {
-                Ok(_) => {}
+            // what a desk that is over has left is written home whole
+            let level = if before.over.is_some() { 0 } else { level };
+            match self.checkpoint_round_at(rt, level) {
+                Ok(CheckpointRound::Home(_)) => {}
+                Ok(CheckpointRound::Low(_)) => self.await_progress(rt, before),
                 Err(CheckpointFault::Nothing) => {
                     if let Some(over) = before.over {
                         return Ended::Shut(over);

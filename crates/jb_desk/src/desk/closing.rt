@@ -1,8 +1,9 @@
 //! A desk is closed.
-ghost use Rattle.std.specs.Prelude.{◌≡◌, ℕ, ◌+◌, ◌≤◌, ◌^◌, IfOk, IfErr, vec_len};
+ghost use Rattle.std.specs.Prelude.{◌≡◌, ℕ, ◌+◌, ◌≤◌, ◌^◌, IfOk, IfErr, vec_len, map};
 ghost use Rattle.std.specs.List.{sum_by};
 ghost use Rattle.jb_deck.specs.Done.{Follow};
-ghost use Rattle.jb_desk.specs.Seats.{stops_left, changes_left};
+ghost use Rattle.jb_desk.specs.Seats.{stops_left, changes_left, made_left};
+ghost use Rattle.jb_desk.specs.History.{EndsWith};
 ghost use Rattle.jb_desk.specs.Closing.{DiffersAs};
 ghost use Rattle.jb_desk.specs.Since.{EndsSince};
 
@@ -14,6 +15,8 @@ use crate::seat::Left;
 use crate::works::Works;
 use jb_deck::{Deck, Entry};
 use jb_disk::{Clock, Disk};
+use jb_handle::{Shape, Words};
+use jb_history::History;
 use std::fmt;
 use std::sync::Mutex;
 use std::sync::ledger::Ledger;
@@ -29,6 +32,8 @@ pub struct Closed<D, C> {
     pub handles: u64,
     /// How many home blocks these had touched, added up.
     pub changes: u64,
+    /// What the handles had to fit in the journal.
+    pub shape: Shape,
     /// The groups that were settled, in the order of their tickets.
     pub trail: Vec<Entry>,
 }
@@ -67,7 +72,8 @@ impl<D: Disk, C: Clock, H: Origin, N: Ledger> fmt::Display for CloseFault<D, C, 
 }
 
 impl<D: Disk, C: Clock, H: Origin, N: Ledger> Desk<D, C, H, N> {
-    ghost use Rattle.jb_desk.specs.Seats.{stops_left, changes_left};
+    ghost use Rattle.jb_desk.specs.Seats.{stops_left, changes_left, made_left};
+    ghost use Rattle.jb_desk.specs.History.{EndsWith};
     ghost use Rattle.jb_desk.specs.Closing.{IsNotClosed};
     ghost use Rattle.jb_desk.specs.Since.{EndsSince};
 
@@ -82,8 +88,13 @@ impl<D: Disk, C: Clock, H: Origin, N: Ledger> Desk<D, C, H, N> {
         ensures handles { IfOk result (λ closed. closed.handles ≡ sum_by stops_left lefts.items) }
         ensures changes { IfOk result (λ closed. closed.changes ≡ sum_by changes_left lefts.items) }
         ensures few { IfOk result (λ closed. (closed.handles ≤ 2 ^ 61) × (closed.changes ≤ 2 ^ 61)) }
-        ensures trail { IfOk result (λ closed. (past : ℕ) × Follow 0 0 past closed.trail.items × (past ≤ closed.handles)) }
-        ensures since { IfOk result (λ closed. EndsSince D.size D.count D.faults D.honest D.newest D.may_leave D.moment D.left_since H.begun closed.disk closed.trail.items) }
+        ensures trail { IfOk result (λ closed. (past : ℕ) × Follow 0 0 past closed.trail.items
+            × (past ≤ closed.handles)) }
+        ensures since { IfOk result (λ closed. EndsSince D.size D.count D.faults D.honest D.newest D.may_leave D.moment
+            D.left_since H.begun closed.disk closed.trail.items) }
+        ensures stops { IfOk result (λ closed. EndsWith D.size D.count D.faults D.honest D.newest D.may_leave D.moment
+            D.left_since H.begun (map made_left lefts.items) closed.handles closed.shape closed.disk
+            closed.trail.items) }
         ensures refused { IfErr result (IsNotClosed self lefts) }
     {
         let Desk {
@@ -92,6 +103,7 @@ impl<D: Disk, C: Clock, H: Origin, N: Ledger> Desk<D, C, H, N> {
             moved,
             turns,
             board,
+            history,
             shape,
             alloc,
         } = self;
@@ -103,43 +115,54 @@ impl<D: Disk, C: Clock, H: Origin, N: Ledger> Desk<D, C, H, N> {
                 moved,
                 turns,
                 board,
+                history,
                 shape,
                 alloc,
             };
             return Err(CloseFault::SeatsOut(desk, lefts));
         }
-        close_parts(counter, works.into_inner(), lefts)
+        close_parts(&history, counter, works.into_inner(), lefts)
     }
 }
 
 /// Closes what the two locks guarded, where every seat that was given has left.
 fn close_parts<D: Disk, C: Clock, H: Origin, N: Ledger>(
+    history: &History<Words, H>,
     counter: Counter<H, N>,
     works: Works<D, C, H>,
     lefts: Vec<Left<H, N>>,
 ) -> Result<Closed<D, C>, CloseFault<D, C, H, N>>
     requires parts { (H.parts ≡ 2305843009213693953) × (N.parts ≡ 2305843009213693953) }
     requires all { vec_len lefts ≡ counter.given }
-    ensures handles { IfOk result (λ closed. (closed.handles ≡ sum_by stops_left lefts.items) × (closed.handles ≡ counter.book.shadow.next)) }
-    ensures changes { IfOk result (λ closed. (closed.changes ≡ sum_by changes_left lefts.items) × (closed.changes ≡ counter.book.changes)) }
+    ensures handles { IfOk result (λ closed. (closed.handles ≡ sum_by stops_left lefts.items)
+        × (closed.handles ≡ counter.book.shadow.next)) }
+    ensures changes { IfOk result (λ closed. (closed.changes ≡ sum_by changes_left lefts.items)
+        × (closed.changes ≡ counter.book.changes)) }
     ensures few { IfOk result (λ closed. (closed.handles ≤ 2 ^ 61) × (closed.changes ≤ 2 ^ 61)) }
-    ensures trail { IfOk result (λ closed. (closed.trail.items ≡ counter.book.trail) × (closed.trail.items ≡ works.deck.trail)) }
+    ensures trail { IfOk result (λ closed. (closed.trail.items ≡ counter.book.trail)
+        × (closed.trail.items ≡ works.deck.trail)) }
     ensures tiles { IfOk result (λ closed. (past : ℕ) × Follow 0 0 past closed.trail.items × (past ≤ closed.handles)) }
-    ensures since { IfOk result (λ closed. EndsSince D.size D.count D.faults D.honest D.newest D.may_leave D.moment D.left_since H.begun closed.disk closed.trail.items) }
+    ensures since { IfOk result (λ closed. EndsSince D.size D.count D.faults D.honest D.newest D.may_leave D.moment
+        D.left_since H.begun closed.disk closed.trail.items) }
+    ensures stops { IfOk result (λ closed. EndsWith D.size D.count D.faults D.honest D.newest D.may_leave D.moment
+        D.left_since H.begun (map made_left lefts.items) closed.handles closed.shape closed.disk closed.trail.items) }
     ensures given { IfOk result (λ closed. (closed.disk ≡ works.deck.disk) × (closed.clock ≡ works.clock)) }
     ensures refused { IfErr result (DiffersAs counter works) }
 {
-    let (book, handles, changes) = counter.totals(lefts);
-    let (deck, clock) = works.end();
+    let (book, handles, changes, mut scribe) = counter.totals(history, lefts);
+    let (deck, clock, sight) = works.end();
+    history.check(&mut scribe, sight);
     if !are_same(book.trail(), deck.trail()) {
         let book = book.into_trail();
         return Err(CloseFault::TrailsDiffer { deck, clock, book });
     }
+    let shape = deck.shape();
     Ok(Closed {
         disk: deck.close(),
         clock,
         handles,
         changes,
+        shape,
         trail: book.into_trail(),
     })
 }

@@ -14,7 +14,7 @@ impl<D: Disk, C: Clock, H: Origin, N: Ledger> Desk<D, C, H, N> {
     ghost use Rattle.jb_desk.specs.Desks.{desk_id};
     ghost use Rattle.jb_desk.specs.Ends.{EndsHolding};
     ghost use Rattle.jb_desk.specs.Rounds.{seat_of, held_by};
-    ghost use Rattle.jb_desk.specs.Seats.{stops, changes, seat_number, desk_of, view_of};
+    ghost use Rattle.jb_desk.specs.Seats.{KeepsStops, seat_number, desk_of, view_of};
     ghost use Rattle.jb_board.specs.Front.{IsWithin};
 
     /// Commits what stops, round after round, until the desk is over, or until a round fails.
@@ -24,10 +24,11 @@ impl<D: Disk, C: Clock, H: Origin, N: Ledger> Desk<D, C, H, N> {
         committer: Committer<H, N>,
     ) -> (Committer<H, N>, Ended)
         requires { desk_of (seat_of committer) ≡ desk_id self.now }
-        ensures desk { (desk_of (seat_of result.0) ≡ desk_of (seat_of committer)) × (seat_number (seat_of result.0) ≡ seat_number (seat_of committer)) }
+        ensures desk { (desk_of (seat_of result.0) ≡ desk_of (seat_of committer))
+            × (seat_number (seat_of result.0) ≡ seat_number (seat_of committer)) }
         ensures rises { IsWithin (view_of (seat_of committer)) (view_of (seat_of result.0)) }
         ensures held { EndsHolding result.1 (held_by result.0) }
-        ensures counted { (stops (seat_of result.0) ≡ stops (seat_of committer)) × (changes (seat_of result.0) ≡ changes (seat_of committer)) }
+        ensures counted { KeepsStops (seat_of committer) (seat_of result.0) }
     {
         let mut committer = committer;
         for _ in rt.forever() {

@@ -22,7 +22,8 @@ impl<D: Disk, C: Clock, H: Origin, N: Ledger> Desk<D, C, H, N> {
     /// failed, `OutOfRange` where the disk has no such home block, `Length` where `buf` has not the length of
     /// one block, and `DeviceFault` where the read fails, which fails neither the journal nor the book.
     pub fn read<R: Wait>(&self, rt: &R, home: u64, buf: &mut [u8]) -> Result<(), ReadHomeFault>
-        ensures { ReadsHome D.size D.count D.faults D.honest D.newest D.may_leave D.moment D.left_since H.begun home (length buf.old) buf.new result }
+        ensures { ReadsHome D.size D.count D.faults D.honest D.newest D.may_leave D.moment D.left_since H.begun home
+            (length buf.old) buf.new result }
     {
         self.works.lock(rt).read(home, buf)
     }

@@ -1,5 +1,5 @@
 //! Batches are committed, one in each round of a committer.
-ghost use Rattle.std.specs.Prelude.{◌≡◌, ◌⊎◌, ◌+◌, ◌≤◌, length, None, Some, IfErr, OnOk};
+ghost use Rattle.std.specs.Prelude.{◌≡◌, ◌⊎◌, ◌+◌, ◌≤◌, length, None, Some, All, IfErr, OnOk};
 ghost use Rattle.jb_deck.specs.Done.{first_of, entries_of, past_after};
 ghost use Rattle.jb_batch.specs.Prepared.{IsPlanned};
 ghost use Rattle.jb_desk.specs.Seats.{view_of};
@@ -13,6 +13,8 @@ use crate::seat::Seat;
 use jb_board::Tickets;
 use jb_deck::{Batch, BatchFault, Done, PrepareFault, Prepared, prepare};
 use jb_disk::{Clock, Disk};
+use jb_handle::Words;
+use jb_history::Sight;
 use std::sync::Wait;
 use std::sync::ledger::Ledger;
 
@@ -20,7 +22,8 @@ impl<D: Disk, C: Clock, H: Origin, N: Ledger> Desk<D, C, H, N> {
     ghost use Rattle.jb_desk.specs.Desks.{desk_id};
     ghost use Rattle.jb_desk.specs.Journal.{CommitsRound};
     ghost use Rattle.jb_desk.specs.Rounds.{seat_of, held_by, AnswersRound, IdleKeeps, end_of as end_in};
-    ghost use Rattle.jb_desk.specs.Seats.{stops, changes, seat_number, desk_of};
+    ghost use Rattle.jb_desk.specs.Seats.{KeepsStops, seat_number, desk_of};
+    ghost use Rattle.jb_desk.specs.History.{IsInHistory};
     ghost use Rattle.jb_desk.specs.Since.{AreStops};
     ghost use Rattle.jb_desk.specs.Views.{SeesCommit, SeesRound};
     ghost use Rattle.jb_board.specs.Seats.{given_by};
@@ -42,28 +45,32 @@ impl<D: Disk, C: Clock, H: Origin, N: Ledger> Desk<D, C, H, N> {
         committer: &mut Committer<H, N>,
     ) -> Result<Round, RoundFault>
         requires { desk_of (seat_of committer.old) ≡ desk_id self.now }
-        ensures desk { (desk_of (seat_of committer.new) ≡ desk_of (seat_of committer.old)) × (seat_number (seat_of committer.new) ≡ seat_number (seat_of committer.old)) }
-        ensures answers { AnswersRound (held_by committer.old) (held_by committer.new) (view_of (seat_of committer.new)).settled result }
+        ensures desk { (desk_of (seat_of committer.new) ≡ desk_of (seat_of committer.old))
+            × (seat_number (seat_of committer.new) ≡ seat_number (seat_of committer.old)) }
+        ensures answers { AnswersRound (held_by committer.old) (held_by committer.new)
+            (view_of (seat_of committer.new)).settled result }
         ensures idle { IdleKeeps (seat_of committer.old) (seat_of committer.new) result }
-        ensures view { SeesRound (held_by committer.old) (held_by committer.new) (view_of (seat_of committer.old)) (view_of (seat_of committer.new)) result }
-        ensures counted { (stops (seat_of committer.new) ≡ stops (seat_of committer.old)) × (changes (seat_of committer.new) ≡ changes (seat_of committer.old)) }
-        ensures round { CommitsRound D.size D.count D.faults D.honest D.newest D.may_leave D.moment D.left_since H.begun (held_by committer.old) result }
+        ensures view { SeesRound (held_by committer.old) (held_by committer.new) (view_of (seat_of committer.old))
+            (view_of (seat_of committer.new)) result }
+        ensures counted { KeepsStops (seat_of committer.old) (seat_of committer.new) }
+        ensures round { CommitsRound D.size D.count D.faults D.honest D.newest D.may_leave D.moment D.left_since
+            H.begun (held_by committer.old) result }
     {
         let held = committer.batch.take();
         let mut counter = self.counter.lock(rt);
-        let Some(held) = counter.next_batch(held)? else {
+        let Some(held) = counter.next_batch(&self.history, held)? else {
             return Ok(Round::Idle(counter.no_batch()));
         };
         drop(counter);
-        let (batch, tickets) = held.end();
+        let (batch, tickets, sight) = held.end();
         let end = past(&batch);
         self.board
             .raise_stopped(&mut committer.seat.board, end, &tickets);
         self.board.raise_taken(&mut committer.seat.board, end);
         match prepare(self.alloc, batch) {
-            Ok(prepared) => self.commit(rt, committer, prepared, tickets),
+            Ok(prepared) => self.commit(rt, committer, prepared, tickets, sight),
             Err((batch, fault)) => {
-                committer.hold(Held::of(batch, tickets));
+                committer.hold(Held::of(batch, tickets, sight));
                 Err(match fault {
                     PrepareFault::Memory => RoundFault::Memory,
                     PrepareFault::NoCut(_) => RoundFault::Refused,
@@ -79,6 +86,7 @@ impl<D: Disk, C: Clock, H: Origin, N: Ledger> Desk<D, C, H, N> {
         committer: &mut Committer<H, N>,
         prepared: Prepared,
         tickets: Tickets<H>,
+        sight: Sight<Words, H>,
     ) -> Result<Round, RoundFault>
         requires desk { desk_of (seat_of committer.old) ≡ desk_id self.now }
         requires free { held_by committer.old ≡ None }
@@ -86,14 +94,23 @@ impl<D: Disk, C: Clock, H: Origin, N: Ledger> Desk<D, C, H, N> {
         requires stops { AreStops H.begun prepared.batch.handles }
         requires taken { end_in prepared.batch ≤ (view_of (seat_of committer.old)).taken }
         requires given { end_in prepared.batch ≤ given_by tickets }
-        ensures desk { (desk_of (seat_of committer.new) ≡ desk_of (seat_of committer.old)) × (seat_number (seat_of committer.new) ≡ seat_number (seat_of committer.old)) }
-        ensures answers { AnswersRound (Some prepared.batch) (held_by committer.new) (view_of (seat_of committer.new)).settled result }
-        ensures view { SeesCommit prepared.batch (view_of (seat_of committer.old)) (view_of (seat_of committer.new)) result }
-        ensures counted { (stops (seat_of committer.new) ≡ stops (seat_of committer.old)) × (changes (seat_of committer.new) ≡ changes (seat_of committer.old)) }
-        ensures round { CommitsRound D.size D.count D.faults D.honest D.newest D.may_leave D.moment D.left_since H.begun (Some prepared.batch) result }
+        requires history { All (IsInHistory sight) prepared.batch.handles }
+        ensures desk { (desk_of (seat_of committer.new) ≡ desk_of (seat_of committer.old))
+            × (seat_number (seat_of committer.new) ≡ seat_number (seat_of committer.old)) }
+        ensures answers { AnswersRound (Some prepared.batch) (held_by committer.new)
+            (view_of (seat_of committer.new)).settled result }
+        ensures view { SeesCommit prepared.batch (view_of (seat_of committer.old)) (view_of (seat_of committer.new))
+            result }
+        ensures counted { KeepsStops (seat_of committer.old) (seat_of committer.new) }
+        ensures round { CommitsRound D.size D.count D.faults D.honest D.newest D.may_leave D.moment D.left_since
+            H.begun (Some prepared.batch) result }
     {
         // bound first, so that the lock is free again before the book's is taken
-        let result = self.works.lock(rt).commit(prepared);
+        let mut sight = sight;
+        let result = self
+            .works
+            .lock(rt)
+            .commit(prepared, &self.history, &mut sight);
         match result {
             Ok(done) => {
                 self.settle(rt, &mut committer.seat, &done)?;
@@ -109,7 +126,7 @@ impl<D: Disk, C: Clock, H: Origin, N: Ledger> Desk<D, C, H, N> {
                 Err(RoundFault::Aborted)
             }
             Err(BatchFault::Memory(prepared)) => {
-                committer.hold(Held::of(prepared.back(), tickets));
+                committer.hold(Held::of(prepared.back(), tickets, sight));
                 Err(RoundFault::Memory)
             }
             Err(
@@ -117,7 +134,7 @@ impl<D: Disk, C: Clock, H: Origin, N: Ledger> Desk<D, C, H, N> {
                 | BatchFault::OtherShape(prepared)
                 | BatchFault::NumbersSpent(prepared),
             ) => {
-                committer.hold(Held::of(prepared.back(), tickets));
+                committer.hold(Held::of(prepared.back(), tickets, sight));
                 Err(RoundFault::Refused)
             }
         }
@@ -128,10 +145,12 @@ impl<D: Disk, C: Clock, H: Origin, N: Ledger> Desk<D, C, H, N> {
         requires desk { desk_of seat.old ≡ desk_id self.now }
         requires taken { past_after (first_of done.now) (entries_of done.now) ≤ (view_of seat.old).taken }
         ensures desk { (desk_of seat.new ≡ desk_of seat.old) × (seat_number seat.new ≡ seat_number seat.old) }
-        ensures settled { OnOk result (past_after (first_of done.now) (entries_of done.now) ≤ (view_of seat.new).settled) }
-        ensures view { OnOk result (view_of seat.new ≡ raised_settled (view_of seat.old) (past_after (first_of done.now) (entries_of done.now))) }
+        ensures settled { OnOk result (past_after (first_of done.now)
+            (entries_of done.now) ≤ (view_of seat.new).settled) }
+        ensures view { OnOk result (view_of seat.new ≡ raised_settled (view_of seat.old)
+            (past_after (first_of done.now) (entries_of done.now))) }
         ensures failed { IfErr result (λ fault. (fault ≡ Aborted) × (seat.new ≡ seat.old)) }
-        ensures counted { (stops seat.new ≡ stops seat.old) × (changes seat.new ≡ changes seat.old) }
+        ensures counted { KeepsStops seat.old seat.new }
     {
         let settled = self.counter.lock(rt).settle(done);
         self.moved.notify_all();
@@ -147,8 +166,9 @@ impl<D: Disk, C: Clock, H: Origin, N: Ledger> Desk<D, C, H, N> {
         requires desk { desk_of seat.old ≡ desk_id self.now }
         requires taken { past_after (first_of done.now) (entries_of done.now) ≤ (view_of seat.old).taken }
         ensures desk { (desk_of seat.new ≡ desk_of seat.old) × (seat_number seat.new ≡ seat_number seat.old) }
-        ensures view { (seat.new ≡ seat.old) ⊎ (view_of seat.new ≡ raised_settled (view_of seat.old) (past_after (first_of done.now) (entries_of done.now))) }
-        ensures counted { (stops seat.new ≡ stops seat.old) × (changes seat.new ≡ changes seat.old) }
+        ensures view { (seat.new ≡ seat.old) ⊎ (view_of seat.new ≡ raised_settled (view_of seat.old)
+            (past_after (first_of done.now) (entries_of done.now))) }
+        ensures counted { KeepsStops seat.old seat.new }
     {
         let settled = self.counter.lock(rt).settle_last(done);
         self.moved.notify_all();

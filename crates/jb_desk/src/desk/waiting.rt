@@ -35,7 +35,8 @@ impl<D: Disk, C: Clock, H: Origin, N: Ledger> Desk<D, C, H, N> {
         seat: Seat<H, N>,
         credits: u32,
     ) -> Result<Handle<Seat<H, N>>, (Seat<H, N>, BeginFault)>
-        ensures ok { IfOk result (λ handle. (holder handle ≡ seat) × (changes_of handle ≡ held credits (shape_in self.now) map.empty)) }
+        ensures ok { IfOk result (λ handle. (holder handle ≡ seat)
+            × (changes_of handle ≡ held credits (shape_in self.now) map.empty)) }
         ensures back { IfErr result (λ back. back.0 ≡ seat) }
         ensures refused { IfErr result (λ back. IsTooMany credits back.1) }
     {
@@ -45,8 +46,8 @@ impl<D: Disk, C: Clock, H: Origin, N: Ledger> Desk<D, C, H, N> {
         begun
     }
 
-    /// Begins a handle, and waits while the book is full: until ten seconds have gone by in which no handle was settled. Says how
-    /// many were settled then.
+    /// Begins a handle, and waits while the book is full: until ten seconds have gone by in which no handle was
+    /// settled. Says how many were settled then.
     fn begin_in_turn<R: Wait + time::Clock>(
         &self,
         rt: &R,
@@ -57,7 +58,8 @@ impl<D: Disk, C: Clock, H: Origin, N: Ledger> Desk<D, C, H, N> {
         Result<Handle<Seat<H, N>>, (Seat<H, N>, BeginFault)>,
         Option<u64>,
     )
-        ensures ok { IfOk result.0 (λ handle. (holder handle ≡ seat) × (changes_of handle ≡ held credits (shape_in self.now) map.empty)) }
+        ensures ok { IfOk result.0 (λ handle. (holder handle ≡ seat)
+            × (changes_of handle ≡ held credits (shape_in self.now) map.empty)) }
         ensures back { IfErr result.0 (λ back. back.0 ≡ seat) }
         ensures refused { IfErr result.0 (λ back. IsTooMany credits back.1) }
     {

@@ -9,7 +9,7 @@ use crate::files::opening::lock;
 use crate::options::new_file;
 use crate::streams::{new_limit, tell_format};
 use jb_disk::FileDisk;
-use jb_recover::format;
+use jb_front::format;
 use jb_words::FormatOptions;
 use std::fs::{File, Metadata};
 use std::io::{ErrorKind, Write};
@@ -17,21 +17,22 @@ use std::os::unix::fs::MetadataExt;
 use std::rt::Files;
 use std::{fs, io};
 
-/// Makes the image that the options ask for, in a new file of this name: a new journal, and home blocks of zeros after it.
-/// Tells the most log blocks of a transaction, and gives status 0. The file is closed before the line is written.
+/// Makes the image that the options ask for, in a new file of this name: a new journal, and home blocks of zeros after
+/// it. Tells the most log blocks of a transaction, and gives status 0. The file is closed before the line is written.
 ///
 /// # Errors
 /// `CommandFault::BadOption` where an option is bad, and `CommandFault::Geometry` where a journal may not have so many blocks, before
-/// any file is looked at; `CommandFault::CannotMake` where the file is there already or the system refuses it or its length;
-/// `CommandFault::Memory` where memory ran out; `CommandFault::DeviceFault` where the journal was not written. The file that
-/// was made is removed again then. Last `CommandFault::WriteFault`, after which the image is there.
+/// any file is looked at; `CommandFault::CannotMake` where the file is there already or the system refuses it or its
+/// length; `CommandFault::Memory` where memory ran out; `CommandFault::DeviceFault` where the journal was not written.
+/// The file that was made is removed again then. Last `CommandFault::WriteFault`, after which the image is there.
 pub(crate) fn format_file<'a, R: Files<File = File> + AllocGlobal, O: Write>(
     rt: &R,
     image: &'a str,
     options: FormatOptions<'_>,
     out: &mut O,
 ) -> Result<u8, CommandFault<'a>>
-    ensures ends { EndsOfFormat image.entry.now (options_said options.entry) (O.contents out.old) (O.contents out.new) result }
+    ensures ends { EndsOfFormat image.entry.now (options_said options.entry) (O.contents out.old) (O.contents out.new)
+        result }
 {
     let new = match new_file(options) {
         Ok(new) => new,
@@ -60,7 +61,8 @@ fn make_file<'a, R: Files<File = File>>(
     name: &'a str,
     len: u64,
 ) -> Result<File, CommandFault<'a>>
-    ensures unmade { IfErr result (λ fault. (o : Options) → AreGood o → IsJournalLength o.journal → IsUnmade name.entry.now o fault) }
+    ensures unmade { IfErr result (λ fault. (o : Options) → AreGood o → IsJournalLength o.journal
+        → IsUnmade name.entry.now o fault) }
 {
     let file = match File::create_new(rt, name) {
         Ok(file) => file,

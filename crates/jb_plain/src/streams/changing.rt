@@ -7,11 +7,11 @@ use crate::fault::CommandFault;
 use crate::streams::telling::tell_line;
 use itoa::Buffer;
 use jb_disk::Disk;
-use jb_recover::{ChangeFault, Renumbered, Widened, renumber, widen};
+use jb_front::{ChangeFault, Renumbered, Widened, renumber, widen};
 use std::io::Write;
 
-/// Gives the clean journal at the front of a disk its first number again. Tells how many blocks of its log became zeros and
-/// the number of the next transaction, and gives status 0. No memory is taken.
+/// Gives the clean journal at the front of a disk its first number again. Tells how many blocks of its log became zeros
+/// and the number of the next transaction, and gives status 0. No memory is taken.
 ///
 /// # Errors
 /// `CommandFault::Super` where the superblock is refused, and `CommandFault::NeedsRecovery` where the log is not clean: the disk is as it was;
@@ -25,8 +25,8 @@ pub fn renumber_on<'a, D: Disk, O: Write>(disk: &mut D, out: &mut O) -> Result<u
     tell_renumbering(answer, out)
 }
 
-/// Gives the clean journal at the front of a disk block numbers of 64 bits, where it has them not. Tells whether it had, with
-/// the most log blocks of a transaction, and gives status 0. No memory is taken.
+/// Gives the clean journal at the front of a disk block numbers of 64 bits, where it has them not. Tells whether it
+/// had, with the most log blocks of a transaction, and gives status 0. No memory is taken.
 ///
 /// # Errors
 /// As those of `renumber_on`.
@@ -41,8 +41,8 @@ pub fn widen_on<'a, D: Disk, O: Write>(disk: &mut D, out: &mut O) -> Result<u8, 
 /// Writes the line of a renumbering that is done, and gives status 0.
 ///
 /// # Errors
-/// The fault of a renumbering that failed, and then nothing was written; `CommandFault::WriteFault` where `out` took only the
-/// beginning of the line.
+/// The fault of a renumbering that failed, and then nothing was written; `CommandFault::WriteFault` where `out` took
+/// only the beginning of the line.
 pub(crate) fn tell_renumbering<'a, O: Write>(
     answer: Result<Renumbered, ChangeFault>,
     out: &mut O,
@@ -58,8 +58,8 @@ pub(crate) fn tell_renumbering<'a, O: Write>(
 /// Writes the line of a widening that is done, and gives status 0.
 ///
 /// # Errors
-/// The fault of a widening that failed, and then nothing was written; `CommandFault::WriteFault` where `out` took only the
-/// beginning of the line.
+/// The fault of a widening that failed, and then nothing was written; `CommandFault::WriteFault` where `out` took only
+/// the beginning of the line.
 pub(crate) fn tell_widening<'a, O: Write>(
     answer: Result<Widened, ChangeFault>,
     out: &mut O,

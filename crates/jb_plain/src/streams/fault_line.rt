@@ -21,6 +21,7 @@ impl<'a> CommandFault<'a> {
             CommandFault::CannotRead(name, _) => put_line(err, &["jb: cannot read ", name, "\n"]),
             CommandFault::TooLong(name) => put_line(err, &["jb: too long ", name, "\n"]),
             CommandFault::InUse(name) => put_line(err, &["jb: in use ", name, "\n"]),
+            CommandFault::SameFile(name) => put_line(err, &["jb: same file ", name, "\n"]),
             CommandFault::CannotMake(name, _) => put_line(err, &["jb: cannot make ", name, "\n"]),
             CommandFault::BadOption(_) => put_line(err, &["jb: bad option\n"]),
             CommandFault::ReadFault => put_line(err, &["jb: ReadFault\n"]),
@@ -31,6 +32,9 @@ impl<'a> CommandFault<'a> {
             CommandFault::HomeOutOfRange(home, number, _) => {
                 let (home, number) = (first.format(home), second.format(number));
                 put_line(err, &["jb: HomeOutOfRange ", home, " ", number, "\n"]);
+            }
+            CommandFault::NoHome(home, _) => {
+                put_line(err, &["jb: NoHome ", first.format(home), "\n"]);
             }
             CommandFault::NeedsRecovery => put_line(err, &["jb: NeedsRecovery\n"]),
             CommandFault::NumbersSpent => put_line(err, &["jb: NumbersSpent\n"]),

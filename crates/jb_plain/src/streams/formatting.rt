@@ -13,17 +13,17 @@ use crate::streams::telling::tell_line;
 use itoa::Buffer;
 use jb_block::{BlockSize, Width};
 use jb_disk::Disk;
-use jb_recover::{FormatFault, format};
+use jb_front::{FormatFault, format};
 use jb_super::Super;
 use std::io::Write;
 
-/// Makes a new journal of `journal` blocks at the front of a disk, with block numbers of this width. Tells the most log blocks
-/// of a transaction, and gives status 0. No memory is taken.
+/// Makes a new journal of `journal` blocks at the front of a disk, with block numbers of this width. Tells the most log
+/// blocks of a transaction, and gives status 0. No memory is taken.
 ///
 /// # Errors
 /// `CommandFault::Geometry` where the journal has fewer than 9 blocks or more than 2^31 - 1, or the disk fewer than it: nothing is
-/// written; `CommandFault::DeviceFault` where block 0 was not written or synced; `CommandFault::WriteFault` where `out` took only the
-/// beginning of the line, after the journal is made. But for the last nothing was written to `out`.
+/// written; `CommandFault::DeviceFault` where block 0 was not written or synced; `CommandFault::WriteFault` where `out`
+/// took only the beginning of the line, after the journal is made. But for the last nothing was written to `out`.
 pub fn format_on<'a, D: Disk, O: Write>(
     disk: &mut D,
     journal: u32,
@@ -32,7 +32,8 @@ pub fn format_on<'a, D: Disk, O: Write>(
     width: Width,
     out: &mut O,
 ) -> Result<u8, CommandFault<'a>>
-    ensures formats { FormatsOn D.size D.count D.faults D.honest D.newest D.may_leave D.moment D.left_since journal max_transaction uuid (is_wide width) disk.old disk.new
+    ensures formats { FormatsOn D.size D.count D.faults D.honest D.newest D.may_leave D.moment D.left_since journal
+        max_transaction uuid (is_wide width) disk.old disk.new
         (O.contents out.old) (O.contents out.new) result }
 {
     let limit = new_limit(disk.block_size(), journal, max_transaction, uuid, width);
@@ -46,8 +47,8 @@ pub fn format_on<'a, D: Disk, O: Write>(
 /// Writes the line of a new journal with this limit that is made, and gives status 0.
 ///
 /// # Errors
-/// The fault of the making of a journal, where it failed, and then nothing was written; `CommandFault::WriteFault` where `out`
-/// took only the beginning of the line.
+/// The fault of the making of a journal, where it failed, and then nothing was written; `CommandFault::WriteFault`
+/// where `out` took only the beginning of the line.
 pub(crate) fn tell_format<'a, O: Write>(
     limit: u32,
     answer: Result<(), FormatFault>,
@@ -70,7 +71,8 @@ pub(crate) fn new_limit(
     width: Width,
 ) -> Option<u32>
     ensures good { IsSome result ↔ IsJournalLength journal }
-    ensures value { IfSome result (λ limit. limit ≡ limit_of (of_width (is_wide width) (new_super (bytes_of size) journal max_transaction uuid))) }
+    ensures value { IfSome result (λ limit. limit ≡ limit_of
+        (of_width (is_wide width) (new_super (bytes_of size) journal max_transaction uuid))) }
 {
     Some(Super::new(size, journal, max_transaction, uuid, width)?.limit())
 }

@@ -9,8 +9,8 @@ use std::io::Read;
 /// The most bytes that a queue text may have.
 pub const TEXT_LIMIT: usize = 16_777_216;
 
-/// The most bytes that a certificate may have: nine for each byte of a queue text, so that what `jb plan` writes for any queue
-/// text within its limit can be read back.
+/// The most bytes that a certificate may have: nine for each byte of a queue text, so that what `jb plan` writes for
+/// any queue text within its limit can be read back.
 pub const CERT_LIMIT: usize = 9 * TEXT_LIMIT;
 
 /// The whole of a reader, as the text of this name, which may have so many bytes.

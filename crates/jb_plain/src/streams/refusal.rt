@@ -7,10 +7,13 @@ use crate::fault::CommandFault;
 use crate::streams::putting::put_line;
 use std::io::{ErrorKind, Write};
 
-/// Answers words that the system could not hand over: a word that is not UTF-8, or out of memory. Gives the exit status.
+/// Answers words that the system could not hand over: a word that is not UTF-8, or out of memory. Gives the exit
+/// status.
 pub fn refuse_words<E: Write>(kind: ErrorKind, err: &mut E) -> u8
-    ensures text { kind ≡ ErrorKind.InvalidData → (result ≡ 2) × PutsPart (E.contents err.old) (E.contents err.new) not_utf8 }
-    ensures memory { kind ≢ ErrorKind.InvalidData → (result ≡ 1) × PutsPart (E.contents err.old) (E.contents err.new) (line_of Memory) }
+    ensures text { kind ≡ ErrorKind.InvalidData → (result ≡ 2)
+        × PutsPart (E.contents err.old) (E.contents err.new) not_utf8 }
+    ensures memory { kind ≢ ErrorKind.InvalidData → (result ≡ 1)
+        × PutsPart (E.contents err.old) (E.contents err.new) (line_of Memory) }
 {
     if kind == ErrorKind::InvalidData {
         put_line(

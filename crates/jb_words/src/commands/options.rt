@@ -1,7 +1,7 @@
 //! The options of the commands.
 ghost use Rattle.std.specs.Prelude.{◌≡◌, false};
 ghost use Rattle.clap.specs.Words.{rule_of};
-ghost use Rattle.jb_words.specs.App.{flag as flag_rule, number_option as number_rule, number_or as number_or_rule, required_number as required_rule, uuid_option as uuid_rule};
+ghost use Rattle.jb_words.specs.App.{count_option as count_rule, flag as flag_rule, journal_option as journal_rule, number_word as number_word_rule, number_option as number_rule, number_or as number_or_rule, required_number as required_rule, uuid_option as uuid_rule};
 
 use clap::{Arg, ArgAction, value_parser};
 use std::alloc::Global;
@@ -10,7 +10,12 @@ use std::alloc::Global;
 const NO_UUID: &str = "00000000000000000000000000000000";
 
 /// An option with a number, which usage shows by this name.
-fn number_option<'a>(alloc: Global, name: &'a str, value: &'a str, help: &'a str) -> Arg<'a>
+pub(crate) fn number_option<'a>(
+    alloc: Global,
+    name: &'a str,
+    value: &'a str,
+    help: &'a str,
+) -> Arg<'a>
     ensures rule { rule_of result ≡ number_rule name.entry.now }
     ensures own { result.global ≡ false }
 {
@@ -41,6 +46,41 @@ pub(crate) fn number_or<'a>(
     ensures own { result.global ≡ false }
 {
     number_option(alloc, name, value, help).default_value(number)
+}
+
+/// A number that has to be there, by the name that usage shows.
+pub(crate) fn number_word<'a>(alloc: Global, name: &'a str, help: &'a str) -> Arg<'a>
+    ensures rule { rule_of result ≡ number_word_rule name.entry.now }
+    ensures own { result.global ≡ false }
+{
+    Arg::new(alloc, name)
+        .required(true)
+        .value_parser(value_parser!(u64))
+        .help(help)
+}
+
+/// `-n N`, with 1 where it is left out.
+pub(crate) fn count_option<'a>(alloc: Global, help: &'a str) -> Arg<'a>
+    ensures rule { rule_of result ≡ count_rule }
+    ensures own { result.global ≡ false }
+{
+    Arg::new(alloc, "n")
+        .short('n')
+        .value_name("N")
+        .value_parser(value_parser!(u64))
+        .default_value("1")
+        .help(help)
+}
+
+/// The option for the file with the journal.
+pub(crate) fn journal_option<'a>(alloc: Global) -> Arg<'a>
+    ensures rule { rule_of result ≡ journal_rule }
+    ensures own { result.global ≡ false }
+{
+    Arg::new(alloc, "journal")
+        .long("journal")
+        .value_name("FILE")
+        .help("The file with the journal; IMAGE has the home blocks alone then")
 }
 
 /// The option for the UUID of a journal.

@@ -14,11 +14,14 @@ A queue text, the FILE of cost, plan, check and load, has a line for each handle
 An image has the journal first, its superblock at the front, and the home blocks after it: home block N
 is the block at s_maxlen + N. It is a regular file or a block device. The FILE of dump is a journal,
 whatever comes after it; it may be a pipe.
+With --journal FILE the journal is the whole of another file, with exactly s_maxlen blocks, and home block
+N is block N of the image: a file system, with its journal copied out. renumber and widen take a journal
+alone as their image.
 
-Locks: load, recover, renumber and widen lock their image while they use it (flock), and format the file
-that it makes. An image that another program has locked is refused at once, with jb: in use NAME and
-status 2. dump takes no lock. Nothing keeps out a program that takes none, as cp, and where the system has
-no lock for a file jb goes on without.
+Locks: load, recover, renumber and widen lock their files while they use them (flock), and format the one
+that it makes. cat shares its lock with others that only read. A file that another program has locked is
+refused at once, with jb: in use NAME and status 2. dump takes no lock. Nothing keeps out a program that
+takes none, as cp, and where the system has no lock for a file jb goes on without.
 
 Status: 0 where a command is done, and what it judges fits or is accepted; 1 where it is not, or an image
 is refused, or a read, a write or memory failed; 2 where the words, a file or a text cannot be taken. With
@@ -45,6 +48,7 @@ pub(crate) fn more_of(command: &str) -> &'static str {
         "plan" => PLAN,
         "check" => CHECK,
         "dump" => DUMP,
+        "cat" => CAT,
         "format" => FORMAT,
         "load" => LOAD,
         "recover" => RECOVER,
@@ -75,11 +79,30 @@ Example:
   jb check queue.txt queue.cert     # accepted";
 
 const DUMP: &str =
-    "Status: 0 where they are printed, 1 where the journal is refused, by the name of its fault, or a read
+    "With --home N these lines alone are printed: each copy of home block N, each descriptor block with a tag of
+it, and each revoke block that names it; the last two say the transaction's number. With --last N the lines
+of all transactions before the last N are left out, with --super all lines but the first two. Of several
+options each leaves out its lines. The whole journal is read, and refused, whatever is printed.
+
+Status: 0 where they are printed, 1 where the journal is refused, by the name of its fault, or a read
 fails, 2 where the file cannot be opened.
 
+Examples:
+  jb dump journal.bin
+  jb dump journal.bin --home 5 --last 2     # what the last two transactions do to home block 5";
+
+const CAT: &str =
+    "The image is opened for reading, and nothing is written to it. Each block is what the last copy of it that
+is not revoked makes of it, or the block as it stands; the log is read twice for each. A copy for another
+home block that the image does not have is not looked at, though recover refuses it.
+
+With --hex a block is lines as xxd prints them, with offsets from 0 on over all the blocks, of 32 bits.
+
+Status: 0 where they are written, 1 where the image is refused, by the name of its fault, or does not have
+the block: the blocks before it are written then, 2 where the file cannot be opened or read, or is in use.
+
 Example:
-  jb dump journal.bin";
+  jb cat a.img 5 --hex -n 2";
 
 const FORMAT: &str =
     "Status: 0 where the image is made, 1 where the numbers make no journal, 2 where an option is bad or the
@@ -104,8 +127,9 @@ const RECOVER: &str =
     "Status: 0 where the image is recovered, 1 where it is refused, by the name of its fault, and stays as it
 is, 2 where the file cannot be opened or read. After jb: DeviceFault, status 1, it is to be called again.
 
-Example:
-  jb recover a.img     # transactions 1 copies 5 revoked 0 next 4";
+Examples:
+  jb recover a.img     # transactions 1 copies 5 revoked 0 next 4
+  jb recover fs.img --journal journal.bin";
 
 const RENUMBER: &str =
     "Status: 0 where the journal is renumbered, 1 where it is refused, by the name of its fault, and stays as

@@ -21,7 +21,7 @@ returns-clause-some c = λ settled is.
 
 pub returns-in_err-entry-clause-none : goal.returns-in_err-entry-clause-none
 returns-in_err-entry-clause-none c = rw c.from_residual.ensures (λ settled is.
-    let none : Entry = record { first = 0; past = 0; number = 0 } in
+    let none : Entry = record { first = 0; past = 0; number = 0; blocks = 0 } in
     let es = c.args.entries.now in
     let ticket = c.args.ticket in
     let over = c.in_err-entry.ensures.lookup.3 in

@@ -7,7 +7,7 @@ use Rattle.jb_desk.proofs.follow.past_of.Goals as goal
 
 pub loop-entry-preserved : goal.loop-entry-preserved
 loop-entry-preserved c =
-    let none : Entry = record { first = 0; past = 0; number = 0 } in
+    let none : Entry = record { first = 0; past = 0; number = 0; blocks = 0 } in
     let e : Entry = get_or c.args.entries.now c.loop-entry.entry-index none in
     let there : c.loop-entry.entry-index < length c.args.entries.now = c.loop-entry-test.true in
     let here : e ≡ get_or c.args.entries.now c.loop-entry.entry-index e = get_or_default c.args.entries.now c.loop-entry.entry-index none e there in

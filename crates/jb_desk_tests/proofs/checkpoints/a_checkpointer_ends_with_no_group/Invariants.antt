@@ -1,7 +1,11 @@
+use Rattle.jb_desk.specs.History.{history_in}
 use Rattle.jb_desk_tests.proofs.checkpoints.a_checkpointer_ends_with_no_group.Given as goal
 
 abbrev pub ghosts-ends_with_no_group-H-Ledger : goal.ghosts-ends_with_no_group-H-Ledger
-ghosts-ends_with_no_group-H-Ledger g a = record { name = a.handles.name; parts = a.handles.parts }
+ghosts-ends_with_no_group-H-Ledger g a = record { name = a.handles.tickets.name; parts = a.handles.tickets.parts }
+
+abbrev pub ghosts-ends_with_no_group-H-Place : goal.ghosts-ends_with_no_group-H-Place
+ghosts-ends_with_no_group-H-Place g a = record { history = history_in a.handles }
 
 abbrev pub ghosts-ends_with_no_group-N-Ledger : goal.ghosts-ends_with_no_group-N-Ledger
 ghosts-ends_with_no_group-N-Ledger g a = record { name = a.changes.name; parts = a.changes.parts }

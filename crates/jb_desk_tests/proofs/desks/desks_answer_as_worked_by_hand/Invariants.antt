@@ -1,7 +1,11 @@
+use Rattle.jb_desk.specs.History.{history_in}
 use Rattle.jb_desk_tests.proofs.desks.desks_answer_as_worked_by_hand.Given as goal
 
 abbrev pub ghosts-rows-H-Ledger : goal.ghosts-rows-H-Ledger
-ghosts-rows-H-Ledger g a = record { name = a.handles.name; parts = a.handles.parts }
+ghosts-rows-H-Ledger g a = record { name = a.handles.tickets.name; parts = a.handles.tickets.parts }
+
+abbrev pub ghosts-rows-H-Place : goal.ghosts-rows-H-Place
+ghosts-rows-H-Place g a = record { history = history_in a.handles }
 
 abbrev pub ghosts-rows-N-Ledger : goal.ghosts-rows-N-Ledger
 ghosts-rows-N-Ledger g a = record { name = a.changes.name; parts = a.changes.parts }

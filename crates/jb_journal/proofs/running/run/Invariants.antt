@@ -1,12 +1,6 @@
 use Rattle.jb_journal.specs.Starting.{started_on}
 use Rattle.jb_journal.proofs.running.run.Given as goal
 
-abbrev pub ghosts-run_on-H-Ledger : goal.ghosts-run_on-H-Ledger
-ghosts-run_on-H-Ledger g a = record { name = a.handles.name; parts = a.handles.parts }
-
-abbrev pub ghosts-run_on-N-Ledger : goal.ghosts-run_on-N-Ledger
-ghosts-run_on-N-Ledger g a = record { name = a.changes.name; parts = a.changes.parts }
-
 abbrev pub ghosts-run_on-H-Origin : goal.ghosts-run_on-H-Origin
 ghosts-run_on-H-Origin g a = record {
   begun = started_on g.D.Disk.size g.D.Disk.count g.D.Disk.faults g.D.Disk.honest g.D.Disk.newest g.D.Disk.moment g.D.Disk.left_since a.disk;

@@ -8,4 +8,4 @@ pub returns-clause-refused : goal.returns-clause-refused
 returns-clause-refused g c =
     refuses-as g.D.Disk.size g.D.Disk.count g.D.Disk.faults g.D.Disk.honest g.D.Disk.newest c.args.disk
     (c.shape-shape.result, c.in-Ok.ensures.opened c.shape-shape.result c.shape-shape.ensures.journal)
-    c.run_at.result c.run_at.ensures.faults
+    c.run_open.result c.run_open.ensures.faults

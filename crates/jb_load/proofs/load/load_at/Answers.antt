@@ -1,50 +1,49 @@
-use Rattle.std.proofs.Common.{List, IfOk, subst, ◌∙◌}
-use Rattle.std.specs.List.Sorted.{IsPermutation}
+use Rattle.std.proofs.Common.{◌≡◌, List, All, IfOk, sym, subst, ◌∙◌, arith}
+use Rattle.std.proofs.lemmas.List.Elements.{All-weaker}
+use Rattle.jb_handle.specs.declared.shape.Shape.{Shape}
+use Rattle.jb_deck.specs.declared.done.Entry.{Entry}
+use Rattle.jb_deck.proofs.Shapes.{shape-same}
 use Rattle.jb_desk.specs.Desks.{shape_in}
+use Rattle.jb_desk.specs.History.{AreAllStops, IsInHistory, IsStop}
+use Rattle.jb_desk.specs.Since.{IsCosted}
 use Rattle.jb_load.specs.Loads.{AreRuns}
 use Rattle.jb_load.specs.Running.{HasRun}
-use Rattle.jb_load.specs.declared.worker.Stop.{Stop}
+use Rattle.jb_desk.proofs.Rounds.{follow-past}
+use Rattle.jb_load.proofs.Costing.{blocks-are}
 use Rattle.jb_load.proofs.load.load_at.Goals as goal
 
-pub count_up-requires-clause-inside : goal.count_up-requires-clause-inside
-count_up-requires-clause-inside g c =
-    let ran = subst (λ r. IfOk r (HasRun {H = g.row.H.Denot} {N = g.row.N.Denot} (shape_in c.args.desk) c.args.queue.now c.args.options.threads)) c.in_ok-ran.was c.run-ran.ensures.ran in
-    (c.in_ok-lefts.ensures.gathered (shape_in c.args.desk) c.args.queue.now c.args.options.threads ran).inside
-
-pub count_up-requires-clause-handles : goal.count_up-requires-clause-handles
-count_up-requires-clause-handles g c =
-    let ran = subst (λ r. IfOk r (HasRun {H = g.row.H.Denot} {N = g.row.N.Denot} (shape_in c.args.desk) c.args.queue.now c.args.options.threads)) c.in_ok-ran.was c.run-ran.ensures.ran in
-    c.in-Ok.ensures.handles ∙ (c.in_ok-lefts.ensures.gathered (shape_in c.args.desk) c.args.queue.now c.args.options.threads ran).handles
-
-pub count_up-requires-clause-changes : goal.count_up-requires-clause-changes
-count_up-requires-clause-changes g c =
-    let ran = subst (λ r. IfOk r (HasRun {H = g.row.H.Denot} {N = g.row.N.Denot} (shape_in c.args.desk) c.args.queue.now c.args.options.threads)) c.in_ok-ran.was c.run-ran.ensures.ran in
-    c.in-Ok.ensures.changes ∙ (c.in_ok-lefts.ensures.gathered (shape_in c.args.desk) c.args.queue.now c.args.options.threads ran).changes
-
-pub returns-clause-loaded : goal.returns-clause-loaded
-returns-clause-loaded g c =
-    let ran = subst (λ r. IfOk r (HasRun {H = g.row.H.Denot} {N = g.row.N.Denot} (shape_in c.args.desk) c.args.queue.now c.args.options.threads)) c.in_ok-ran.was c.run-ran.ensures.ran in
-    let gathered = c.in_ok-lefts.ensures.gathered (shape_in c.args.desk) c.args.queue.now c.args.options.threads ran in
-    let counts = c.in_ok-loaded.ensures.counts in
-    record {
-      runs = gathered.runs;
-      trail = c.in-Ok.closed.trail.items;
-      worked = subst (λ shape. AreRuns shape c.args.queue.now c.args.options.threads gathered.runs) c.requires.shape gathered.worked;
-      counts = record {
-        order = counts.order;
-        same = subst (λ (xs : List Stop). IsPermutation xs counts.order) gathered.stops counts.same;
-        tickets = counts.tickets;
-        queued = counts.queued;
-        handles = counts.handles;
-        changes = counts.changes;
-        follows = counts.follows;
-        within = counts.within;
-        groups = counts.groups;
-        blocks = counts.blocks;
-      };
-      refused = c.in_ok-loaded.ensures.outcome.0 ∙ gathered.refused;
-    }
-
 pub returns-clause-since : goal.returns-clause-since
-unfolding returns-clause-loaded
-returns-clause-since g c = record { loads = returns-clause-loaded g c; since = c.in-Ok.ensures.since }
+returns-clause-since g c =
+    let b = g.H.Origin.begun in
+    let queue = c.args.queue.now in
+    let threads = c.args.options.threads in
+    let trail = c.in-Ok.closed.trail.items in
+    let ran = subst (λ r. IfOk r (HasRun {H = g.row.H.Denot} {N = g.row.N.Denot} {O = g.H.Origin} {P = g.H.Place} (shape_in c.args.desk) queue threads)) c.in_ok-ran.was c.run-ran.ensures.ran in
+    let gathered = c.in_ok-lefts.ensures.gathered (shape_in c.args.desk) queue threads ran in
+    let ends = c.in-Ok.ensures.stops in
+    let counts = c.count_up-loaded.ensures.counts in
+    let tiles = c.in-Ok.ensures.trail in
+    let shape : ends.deck.shape ≡ c.args.shape = ends.same_shape ∙ shape-same c.in-Ok.closed.shape c.args.shape c.if-ne.ensures in
+    let costs : All (IsCosted c.args.shape ends.since.given) trail =
+    subst (λ (x : Shape × List Entry). All (IsCosted x.0 ends.since.given) x.1) (λ i. (shape i, ends.same_trail i)) ends.since.has.costs in
+    let stand = All-weaker (IsStop b ends.log) (IsInHistory ends.log) (λ h is. is.1) ends.since.given ends.since.has.stopped in
+    record {
+      loads = record {
+        runs = gathered.runs;
+        trail = trail;
+        worked = subst (λ shape. AreRuns shape queue threads gathered.runs) c.requires.shape gathered.worked;
+        counts = record {
+          log = ends.log;
+          stopped = subst (AreAllStops ends.log) gathered.made ends.stopped;
+          queued = counts.are_queued;
+          handles = counts.have_stopped ∙ sym ends.number;
+          changes = counts.have_changed ∙ c.in-Ok.ensures.changes ∙ gathered.changes;
+          follows = counts.follows;
+          within = (let one = follow-past 0 0 c.count_up-loaded.result.settled trail counts.follows in let other = follow-past 0 0 tiles.0 trail tiles.1 in let most = tiles.2 in omega (arith, one, other, most, counts.have_stopped));
+          groups = counts.groups;
+          blocks = counts.blocks ∙ blocks-are ends.log ends.since.given stand ends.since.has.tickets c.args.shape trail costs;
+        };
+        refused = c.count_up-loaded.ensures.outcome.0 ∙ gathered.refused;
+      };
+      since = record { deck = ends.deck; same_disk = ends.same_disk; same_trail = ends.same_trail; since = ends.since };
+    }

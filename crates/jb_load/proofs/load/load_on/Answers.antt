@@ -17,14 +17,14 @@ returns-in_default-clause-answers g c = (
 pub returns-clause-answers : goal.returns-clause-answers
 returns-clause-answers g c =
     let same : bytes_of c.args.queue.now.bs ≡ g.D.Disk.size c.args.disk = omega arith in
-    subst (λ hs. AnswersLoad g.D.Disk.size g.D.Disk.count g.D.Disk.faults g.D.Disk.honest g.D.Disk.newest c.args.disk c.args.queue.now.bs hs c.args.options c.load_at.result) c.deref.ensures.value
-    (answers-as g.D.Disk.size g.D.Disk.count g.D.Disk.faults g.D.Disk.honest g.D.Disk.newest c.args.disk c.args.queue.now.bs c.deref.result.now c.args.options c.shape-shape.result same
+    subst (λ hs. AnswersLoad g.D.Disk.size g.D.Disk.count g.D.Disk.faults g.D.Disk.honest g.D.Disk.newest c.args.disk c.args.queue.now.bs hs c.args.options c.load_open.result) c.deref.ensures.value
+    (answers-as g.D.Disk.size g.D.Disk.count g.D.Disk.faults g.D.Disk.honest g.D.Disk.newest g.D.Disk.may_leave g.D.Disk.moment g.D.Disk.left_since g.H.Origin.begun c.args.disk c.args.queue.now.bs c.deref.result.now c.args.options c.shape-shape.result same
     (c.in-Ok.ensures.opened c.shape-shape.result c.shape-shape.ensures.journal)
-    c.load_at.result c.load_at.ensures.loaded c.load_at.ensures.ended c.load_at.ensures.faults)
+    c.load_open.result c.load_open.ensures.since c.load_open.ensures.ended c.load_open.ensures.faults)
 
 pub returns-clause-since : goal.returns-clause-since
 returns-clause-since g c =
-    subst (λ hs. IfOk c.load_at.result (λ ended. LoadsSince g.D.Disk.size g.D.Disk.count g.D.Disk.faults g.D.Disk.honest g.D.Disk.newest g.D.Disk.may_leave g.D.Disk.moment g.D.Disk.left_since g.H.Origin.begun c.args.disk hs c.args.options.threads ended.0 ended.1)) c.deref.ensures.value
+    subst (λ hs. IfOk c.load_open.result (λ ended. LoadsSince g.D.Disk.size g.D.Disk.count g.D.Disk.faults g.D.Disk.honest g.D.Disk.newest g.D.Disk.may_leave g.D.Disk.moment g.D.Disk.left_since g.H.Origin.begun c.args.disk hs c.args.options.threads ended.0 ended.1)) c.deref.ensures.value
     (loads-since g.D.Disk.size g.D.Disk.count g.D.Disk.faults g.D.Disk.honest g.D.Disk.newest g.D.Disk.may_leave g.D.Disk.moment g.D.Disk.left_since g.H.Origin.begun c.args.disk c.deref.result.now c.args.options.threads c.shape-shape.result
     (c.in-Ok.ensures.opened c.shape-shape.result c.shape-shape.ensures.journal)
-    c.load_at.result c.load_at.ensures.since)
+    c.load_open.result c.load_open.ensures.since)

@@ -3,12 +3,6 @@ use Rattle.jb_desk.specs.Origin.{own_on}
 use Rattle.jb_load.specs.Settled.{IsOfQueue}
 use Rattle.jb_load_tests.proofs.journal.load.Given as goal
 
-abbrev pub ghosts-load_on-H-Ledger : goal.ghosts-load_on-H-Ledger
-ghosts-load_on-H-Ledger g a = record { name = a.handles.name; parts = a.handles.parts }
-
-abbrev pub ghosts-load_on-N-Ledger : goal.ghosts-load_on-N-Ledger
-ghosts-load_on-N-Ledger g a = record { name = a.changes.name; parts = a.changes.parts }
-
 abbrev pub ghosts-load_on-H-Origin : goal.ghosts-load_on-H-Origin
 ghosts-load_on-H-Origin g a = record {
   begun = record {

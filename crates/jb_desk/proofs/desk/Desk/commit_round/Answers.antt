@@ -1,12 +1,14 @@
-use Rattle.std.proofs.Common.{◌≡◌, ◌⊎◌, Some, inl, inr, sym, ap, subst, ◌∙◌}
+use Rattle.std.proofs.Common.{All, ◌≡◌, ◌⊎◌, Some, inl, inr, sym, ap, subst, ◌∙◌}
 use Rattle.jb_batch.specs.Batch.{Gathered}
 use Rattle.jb_board.specs.Steps.{raised_taken}
+use Rattle.jb_desk.specs.History.{IsInHistory}
+use Rattle.jb_desk.specs.Since.{AreStops}
 use Rattle.jb_desk.specs.Rounds.{held_by, seat_of}
 use Rattle.jb_desk.specs.Rounds.{end_of as end_in}
 use Rattle.jb_desk.specs.Seats.{view_of}
 use Rattle.jb_desk.specs.Views.{TakesUp, with_taken}
 use Rattle.jb_desk.specs.declared.committer.RoundFault.TheVariants.{Memory, Refused}
-use Rattle.jb_desk.proofs.Seen.{answers-up, gives-takes, round-up, sees-held, sees-taken}
+use Rattle.jb_desk.proofs.Seen.{answers-held, answers-up, gives-none, gives-takes, round-held, round-up, sees-held, sees-taken}
 use Rattle.jb_desk.proofs.desk.Desk.commit_round.Goals.{in-Memory, in-NoCut}
 use Rattle.jb_desk.proofs.desk.Desk.commit_round.Goals as goal
 
@@ -58,3 +60,42 @@ returns-in-Ok-clause-round g c =
     let up : TakesUp held b = subst (TakesUp held) (sym c.end-batch.ensures.batch) (subst (λ h. TakesUp h c.in-Some.held) c.take-held.ensures.value (gives-takes _ _ c.take-held.result c.in_ok-held.field-0 c.in-Some.held c.in-Some.is c.in_ok-held.ensures.batch)) in
     round-up g.D.Disk.size g.D.Disk.count g.D.Disk.faults g.D.Disk.honest g.D.Disk.newest g.D.Disk.may_leave g.D.Disk.moment g.D.Disk.left_since g.H.Origin.begun held c.in-Ok.prepared.batch c.commit.result
     (subst (TakesUp held) (sym same) up) c.commit.ensures.round
+
+pub returns-in_default-clause-answers : goal.returns-in_default-clause-answers
+returns-in_default-clause-answers g c = (sym c.take-held.ensures.value ∙ gives-none _ _ c.take-held.result c.in_ok-held.field-0 c.in_default.is c.in_ok-held.ensures.batch, c.take-held.ensures.after)
+
+pub commit-requires-clause-stops : goal.commit-requires-clause-stops
+commit-requires-clause-stops g c = subst (λ (x : Gathered). AreStops g.H.Origin.begun x.handles) (sym c.in-Ok.ensures.batch) c.end-batch.ensures.stops
+
+pub commit-requires-clause-history : goal.commit-requires-clause-history
+commit-requires-clause-history g c = subst (λ (x : Gathered). All (IsInHistory c.end-batch.result.2) x.handles) (sym c.in-Ok.ensures.batch) c.end-batch.ensures.history
+
+pub of-requires-clause-stops : goal.of-requires-clause-stops
+of-requires-clause-stops g c = subst (λ (x : Gathered). AreStops g.H.Origin.begun x.handles) (sym c.in-Err.ensures.back) c.end-batch.ensures.stops
+
+pub of-requires-clause-history : goal.of-requires-clause-history
+of-requires-clause-history g c = subst (λ (x : Gathered). All (IsInHistory c.end-batch.result.2) x.handles) (sym c.in-Err.ensures.back) c.end-batch.ensures.history
+
+pub returns-after-fault-clause-answers : goal.returns-after-fault-clause-answers
+returns-after-fault-clause-answers g c =
+    let held = held_by c.args.committer.now in
+    let b : Gathered = c.end-batch.result.0 in
+    let same : c.in-Err.batch ≡ b = c.in-Err.ensures.back in
+    let up : TakesUp held b = subst (TakesUp held) (sym c.end-batch.ensures.batch) (subst (λ h. TakesUp h c.in-Some.held) c.take-held.ensures.value (gives-takes _ _ c.take-held.result c.in_ok-held.field-0 c.in-Some.held c.in-Some.is c.in_ok-held.ensures.batch)) in
+    let fault : (c.match-fault.result ≡ Memory) ⊎ (c.match-fault.result ≡ Refused) =
+    elim c.match-fault.branch [
+      | in-Memory w ↦ inl w.result-is
+      | in-NoCut w ↦ inr w.result-is
+    ] in
+    answers-held held (held_by c.hold.new.self) c.in-Err.batch (view_of (seat_of c.hold.new.self)).settled c.match-fault.result fault
+    (subst (TakesUp held) (sym same) up)
+    (c.hold.ensures.1 ∙ ap (λ (x : Gathered). Some x) c.of.ensures)
+
+pub returns-after-fault-clause-round : goal.returns-after-fault-clause-round
+returns-after-fault-clause-round g c =
+    let fault : (c.match-fault.result ≡ Memory) ⊎ (c.match-fault.result ≡ Refused) =
+    elim c.match-fault.branch [
+      | in-Memory w ↦ inl w.result-is
+      | in-NoCut w ↦ inr w.result-is
+    ] in
+    round-held g.D.Disk.size g.D.Disk.count g.D.Disk.faults g.D.Disk.honest g.D.Disk.newest g.D.Disk.may_leave g.D.Disk.moment g.D.Disk.left_since g.H.Origin.begun (held_by c.args.committer.now) c.match-fault.result fault

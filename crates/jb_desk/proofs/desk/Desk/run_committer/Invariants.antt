@@ -1,7 +1,7 @@
 use Rattle.std.proofs.Common.{◌≡◌}
 use Rattle.jb_board.specs.Front.{IsWithin}
 use Rattle.jb_desk.specs.Rounds.{seat_of}
-use Rattle.jb_desk.specs.Seats.{stops, changes, seat_number, desk_of, view_of}
+use Rattle.jb_desk.specs.Seats.{KeepsStops, seat_number, desk_of, view_of}
 use Rattle.jb_desk.proofs.desk.Desk.run_committer.Given as goal
 
 abbrev pub invariant-loop : goal.invariant-loop
@@ -10,5 +10,4 @@ invariant-loop g l =
     × (desk_of (seat_of l.committer) ≡ desk_of (seat_of l.initial.committer))
     × (seat_number (seat_of l.committer) ≡ seat_number (seat_of l.initial.committer))
     × IsWithin (view_of (seat_of l.initial.committer)) (view_of (seat_of l.committer))
-    × (stops (seat_of l.committer) ≡ stops (seat_of l.initial.committer))
-    × (changes (seat_of l.committer) ≡ changes (seat_of l.initial.committer))
+    × KeepsStops (seat_of l.initial.committer) (seat_of l.committer)

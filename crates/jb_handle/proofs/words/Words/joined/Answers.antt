@@ -1,26 +1,34 @@
-use Rattle.std.proofs.Common.{◌≡◌, ◌<◌, Result, Ok, Err, IfOk, OnErr, ap, subst, ◌∙◌, arith}
+use Rattle.std.proofs.Common.{◌≡◌, ◌<◌, ◌-◌, Result, Ok, Err, IfOk, OnErr, length, drop, ap, sym, subst, ◌∙◌, arith}
+use Rattle.std.proofs.lemmas.List.{drop_all}
+use Rattle.std.specs.Option.{option_or}
 use Rattle.std.specs.Ordering.{nat_cmp}
 use Rattle.std.specs.FinMap as map
+use Rattle.jb_handle.specs.declared.stopped.Stopped.{Stopped}
 use Rattle.jb_handle.specs.Word.{WordMap}
-use Rattle.jb_handle.specs.Words.{words_of}
+use Rattle.jb_handle.specs.Words.{word, words_of}
 use Rattle.jb_block.proofs.Refusals.{on-refusal}
-use Rattle.jb_handle.proofs.Gathering.{handle-more, handles-whole, some-words}
+use Rattle.jb_handle.proofs.Gathering.{handle-earlier, handles-whole, some-words}
 use Rattle.jb_handle.proofs.words.Words.joined.Goals as goal
 use Rattle.jb_handle.proofs.words.Words.joined.Goals.{After-into_words}
 
-pub loop-handle-init : goal.loop-handle-init
-loop-handle-init c q = ap (λ m. map.get m q) c.new-gathered.ensures ∙ map.get-empty nat_cmp q
+pub loop-at-init : goal.loop-at-init
+loop-at-init c q =
+    ap (λ m. map.get m q) c.new-gathered.ensures
+    ∙ map.get-empty nat_cmp q
+    ∙ ap (λ hs. word hs q) (sym (drop_all (length c.args.handles.now) c.args.handles.now (omega arith)))
 
-pub returns-in_err-put_all-clause-err : goal.returns-in_err-put_all-clause-err
-returns-in_err-put_all-clause-err c =
-    on-refusal c.from_residual.result (some-words c.args.handles.now c.loop-handle.handle-index c.handle-item.result c.handle-item.is c.loop-handle-test.true (c.in_err-put_all.ensures.err))
+pub returns-in_err-add_all-clause-err : goal.returns-in_err-add_all-clause-err
+returns-in_err-add_all-clause-err c =
+    on-refusal c.from_residual.result (some-words c.args.handles.now (c.loop-at.at - 1) c.index-handles-at.result c.index-handles-at.is (omega arith) (subst (λ (h : Stopped). 0 < map.len h.words) (sym c.index-handles-at.is) c.in_err-add_all.ensures.err))
 
-pub loop-handle-preserved : goal.loop-handle-preserved
-loop-handle-preserved c q =
-    handle-more c.args.handles.now c.loop-handle.handle-index c.handle-item.result c.handle-item.is c.loop-handle-test.true c.loop-handle.gathered _ q (c.in_ok-put_all.ensures.ok q) (c.loop-handle.invariant q)
+pub loop-at-preserved : goal.loop-at-preserved
+loop-at-preserved c q =
+    handle-earlier c.args.handles.now (c.loop-at.at - 1) c.loop-at.at c.index-handles-at.result (omega arith) c.index-handles-at.is (omega arith) c.loop-at.gathered _ q (c.in_ok-add_all.ensures.ok q ∙ ap (λ (h : Stopped). option_or (map.get c.loop-at.gathered q) (map.get h.words q)) (sym c.index-handles-at.is)) (c.loop-at.invariant q)
 
-whole : (c : After-into_words) → c.loop-handle.gathered ≡ words_of c.args.handles.now
-whole c = handles-whole c.args.handles.now c.loop-handle.handle-index (omega arith) c.loop-handle.gathered c.loop-handle.invariant
+whole : (c : After-into_words) → c.loop-at.gathered ≡ words_of c.args.handles.now
+whole c =
+    let none : c.loop-at.at ≡ 0 = omega arith in
+    handles-whole c.args.handles.now c.loop-at.gathered (λ q. c.loop-at.invariant q ∙ ap (λ k. word (drop k c.args.handles.now) q) none)
 
 ok-same : {E : Type 0} (r : Result WordMap E) (m n : WordMap) → m ≡ n → IfOk r (λ words. words ≡ m) → IfOk r (λ words. words ≡ n)
 ok-same (Ok words) m n same is = is ∙ same

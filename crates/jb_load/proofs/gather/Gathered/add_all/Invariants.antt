@@ -1,17 +1,15 @@
 use Rattle.std.proofs.Common.{◌≡◌, ◌+◌, ◌++◌, map}
 use Rattle.std.specs.List.{flat_map, sum_by}
 use Rattle.std.specs.Option.{option_to_list}
-use Rattle.jb_desk.specs.Seats.{stops_left, changes_left}
+use Rattle.jb_desk.specs.Seats.{changes_left}
 use Rattle.jb_load.specs.Gathering.{first_refused}
-use Rattle.jb_load.specs.Runs.{run_of, stops_in, changes_in}
+use Rattle.jb_load.specs.Runs.{run_of, changes_in}
 use Rattle.jb_load.proofs.gather.Gathered.add_all.Given as goal
 
 -- what the workers so far leave is added
 abbrev pub invariant-loop-worked : goal.invariant-loop-worked
 invariant-loop-worked g l = record {
   lefts : l.self.lefts.items ≡ l.initial.self.lefts.items ++ flat_map (λ w. option_to_list w.left) l.yielded;
-  stops : l.self.stops.items ≡ flat_map (λ w. w.stops.items) l.yielded;
   refused : l.self.refused ≡ first_refused (map run_of l.yielded);
-  counted : sum_by stops_left l.self.lefts.items ≡ sum_by stops_left l.initial.self.lefts.items + sum_by (λ w. stops_in w.left) l.yielded;
   changed : sum_by changes_left l.self.lefts.items ≡ sum_by changes_left l.initial.self.lefts.items + sum_by (λ w. changes_in w.left) l.yielded;
 }

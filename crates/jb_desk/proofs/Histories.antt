@@ -1,0 +1,81 @@
+-- Handles that stand in the history of a desk's stops.
+use Rattle.std.proofs.Common.{append_assoc, append-nil, map, ◌≡◌, ℕ, List, [], ◌∷◌, ◌++◌, length, All, get_or, false, sym, ap, subst, ◌∙◌, arith, refl}
+use Rattle.std.proofs.lemmas.List.Elements.{All-push, All-weaker}
+use mathlib.Core.List.{IsPrefix}
+use Rattle.jb_disk.specs.Image.{Image}
+use Rattle.jb_deck.specs.Deck.{OpenDeck}
+use Rattle.jb_deck.specs.Done.{past_after}
+use Rattle.jb_cost.specs.Pieces.{joined}
+use Rattle.jb_handle.specs.Word.{WordMap}
+use Rattle.jb_handle.specs.declared.stopped.Stopped.{Stopped}
+use Rattle.std.specs.List.{sum_by}
+use Rattle.jb_history.specs.Rule.{StandsIn, with_last, with_places}
+use Rattle.jb_history.proofs.Placed.{get_last, placed_on}
+use Rattle.std.proofs.lemmas.List.{length-append}
+use Rattle.jb_desk.specs.Account.{Account, queued}
+use Rattle.jb_desk.specs.History.{AreAllStops, IsInHistory, IsStop}
+use Rattle.jb_desk.specs.Origin.{Begun}
+use Rattle.jb_desk.specs.Since.{AreStops, IsSince, IsSinceOf}
+
+-- what stands in a first part of the history stands in the whole
+pub stop-on : (b : Begun) (xs ys : List WordMap) → IsPrefix xs ys → (h : Stopped) → IsStop b xs h → IsStop b ys h
+stop-on b xs ys p h s = (s.0, placed_on xs ys p (h.ticket, h.words) s.1)
+
+pub all-stops : (b : Begun) (xs ys : List WordMap) → IsPrefix xs ys → (hs : List Stopped) → AreStops b hs → All (IsInHistory xs) hs → All (IsStop b ys) hs
+all-stops b xs ys p hs stops stand k d lt = let h = get_or hs k d in (stops k d lt, placed_on xs ys p (h.ticket, h.words) (stand k d lt))
+
+-- one more handle stops, at the end of the history
+pub recorded-more : (log : List WordMap) (queue : List Stopped) (ticket : ℕ) (words : WordMap) → All (IsInHistory log) queue → length log ≡ ticket
+    → All (IsInHistory (log ++ words ∷ [])) (queue ++ record { ticket = ticket; words = words } ∷ [])
+recorded-more log queue ticket words stand at =
+    let more = log ++ words ∷ [] in
+    All-push (IsInHistory more) queue (record { ticket = ticket; words = words })
+    (All-weaker (IsInHistory log) (IsInHistory more) (λ h is. placed_on log more (words ∷ [], refl) (h.ticket, h.words) is) queue stand)
+    (subst (λ k. IsInHistory more (record { ticket = k; words = words })) at (get_last log words))
+
+-- a journal that has committed nothing was given no handle, so anything is known of each
+pub none-given : {D : Type 0} (size count faults : D → ℕ) (honest : D → Type 0) (newest : D → Image) (may_leave : D → Image → Type 0) (moment : D → ℕ) (left_since : D → ℕ → Image → Type 0) (b : Begun) (known : Stopped → Type 0) (d : OpenDeck D) → d.trail ≡ [] → d.aborted ≡ false → IsSince size count faults honest newest may_leave moment left_since b d → IsSinceOf size count faults honest newest may_leave moment left_since b known d
+none-given size count faults honest newest may_leave moment left_since b known d fresh up is =
+    let none : length is.given ≡ 0 = is.has.all up ∙ ap (past_after 0) fresh in
+    record {
+      given = is.given;
+      has = record {
+        stopped = λ k x lt. absurd (omega (arith, lt, none));
+        tickets = is.has.tickets;
+        settled = is.has.settled;
+        all = is.has.all;
+        costs = is.has.costs;
+      };
+      since = is.since;
+    }
+
+-- one more list is joined to those before
+pub joined-more : {X Y : Type 0} (f : X → List Y) (xs : List X) (x : X) → joined (map f (xs ++ x ∷ [])) ≡ joined (map f xs) ++ f x
+joined-more f [] x = append-nil (f x)
+joined-more f (y ∷ xs) x = ap (λ l. f y ++ l) (joined-more f xs x) ∙ sym (append_assoc (f y) (joined (map f xs)) (f x))
+
+-- what is known of the history and of all stops, once they were compared
+pub all-stopped : (old new : List WordMap) (made stops : List (ℕ × WordMap)) (handles : ℕ) → new ≡ old → made ≡ stops → length old ≡ handles → All (StandsIn old) made
+    → ((weight : ℕ × WordMap → ℕ) → sum_by weight made ≡ sum_by weight (with_places 0 old)) → (length new ≡ handles) × AreAllStops new stops
+all-stopped old new made stops handles kept are number stand once = (
+  ap length kept ∙ number,
+  subst (λ (x : List WordMap × List (ℕ × WordMap)). AreAllStops x.0 x.1) (λ i. (sym kept i, are i)) record { stand = stand; once = once },
+)
+
+-- a stop is recorded: as many entries as tickets
+pub recorded-number : (log more : List WordMap) (old new : Account) (seat : ℕ) (words : WordMap) → new ≡ queued seat words old
+    → (new.shadow.queue ≡ old.shadow.queue ++ record { ticket = old.shadow.next; words = words } ∷ [] → more ≡ with_last log words) → length log ≡ old.shadow.next → length more ≡ new.shadow.next
+recorded-number log more old new seat words is adds number =
+    let longer = ap length (adds (ap (λ (a : Account). a.shadow.queue) is)) in
+    let one = length-append log (words ∷ []) in
+    let next = ap (λ (a : Account). a.shadow.next) is in
+    let goal : length more ≡ new.shadow.next = omega (arith, longer, one, next, number) in
+    goal
+
+-- and the queue stands in the history
+pub recorded-queue : (log more : List WordMap) (old new : Account) (seat : ℕ) (words : WordMap) → new ≡ queued seat words old
+    → (new.shadow.queue ≡ old.shadow.queue ++ record { ticket = old.shadow.next; words = words } ∷ [] → more ≡ with_last log words) → length log ≡ old.shadow.next
+    → All (IsInHistory log) old.shadow.queue → All (IsInHistory more) new.shadow.queue
+recorded-queue log more old new seat words is adds number stand =
+    let queue = ap (λ (a : Account). a.shadow.queue) is in
+    subst (λ (x : List WordMap × List Stopped). All (IsInHistory x.0) x.1) (λ i. (sym (adds queue) i, sym queue i)) (recorded-more log old.shadow.queue old.shadow.next words stand number)

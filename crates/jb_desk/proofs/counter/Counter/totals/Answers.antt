@@ -1,0 +1,21 @@
+use Rattle.std.proofs.Common.{◌≡◌, sym, ◌∙◌, length, map, arith}
+use Rattle.jb_cost.specs.Pieces.{joined}
+use Rattle.jb_desk.specs.Seats.{made_left}
+use Rattle.jb_desk.proofs.Histories.{all-stopped}
+use Rattle.jb_desk.proofs.counter.Counter.totals.Goals as goal
+
+pub returns-clause-history : goal.returns-clause-history
+returns-clause-history g c =
+    let self = c.args.self in
+    let parts = c.merged-spare_handles.ensures.parts.0 in
+    let left = self.handles_left in
+    let all = c.requires.all in
+    let whole = c.requires.parts.0 in
+    let next = c.audit.ensures.whole (omega (arith, parts, left, all, whole)) in
+    let many = c.merged-spare_handles.ensures.many in
+    let none = self.no_handles in
+    let counted = self.handles_counted in
+    let recorded = self.all_recorded in
+    let number : length c.merged-spare_handles.result.2 ≡ length self.scribe = omega (arith, next, many, none, counted, recorded) in
+    all-stopped self.scribe c.audit-3.new.scribe c.merged-spare_handles.result.2 (joined (map made_left c.args.lefts.items)) c.next-stops.result c.audit-3.ensures.kept c.merged-spare_handles.ensures.made
+    (self.all_recorded ∙ sym c.next-stops.ensures.value) c.audit-3.ensures.stands (c.audit-3.ensures.whole number)

@@ -1,0 +1,45 @@
+-- The history of a desk's stops: the words of each handle that stopped, at its ticket.
+use Rattle.std.specs.Prelude.{◌≡◌, ℕ, List, All, length}
+use Rattle.std.specs.List.{sum_by}
+use Rattle.jb_cost.specs.Pieces.{joined}
+use Rattle.jb_deck.specs.declared.done.Entry.{Entry}
+use Rattle.jb_disk.specs.Image.{Image}
+use Rattle.jb_handle.specs.Word.{WordMap}
+use Rattle.jb_handle.specs.declared.shape.Shape.{Shape}
+use Rattle.jb_handle.specs.declared.stopped.Stopped.{Stopped}
+use Rattle.jb_history.specs.Rule.{StandsIn, with_places}
+use Rattle.jb_deck.specs.Deck.{OpenDeck}
+use Rattle.jb_history.specs.History.{HistoryId, history_id}
+use Rattle.jb_desk.specs.declared.stops.Stops.{Stops}
+use Rattle.jb_desk.specs.Origin.{Begun}
+use Rattle.jb_desk.specs.Since.{IsSinceOf}
+
+-- the identity of the history that a desk is started with
+abbrev pub history_in : Stops → HistoryId
+history_in s = history_id s.history
+
+-- the handle is the one of the history that has its ticket
+abbrev pub IsInHistory : List WordMap → Stopped → Type 0
+IsInHistory log h = StandsIn log (h.ticket, h.words)
+
+-- the same, and a handle may stop with its words
+abbrev pub IsStop : Begun → List WordMap → Stopped → Type 0
+IsStop b log h = b.stops h.words × IsInHistory log h
+
+-- These stops, each with its ticket and its words, are all of the history, and each of them once: however stops are weighed, they weigh
+-- as much as the history
+pub record AreAllStops (log : List WordMap) (stops : List (ℕ × WordMap)) : Type 0 where
+  pub stand : All (StandsIn log) stops
+  pub once : (weight : ℕ × WordMap → ℕ) → sum_by weight stops ≡ sum_by weight (with_places 0 log)
+
+-- How a desk ends whose seats have stopped these handles: there is one history of so many stops, which has them all and no others, and the
+-- journal on the disk was given the first handles of this history
+pub record EndsWith {D : Type 0} (size count faults : D → ℕ) (honest : D → Type 0) (newest : D → Image) (may_leave : D → Image → Type 0) (moment : D → ℕ) (left_since : D → ℕ → Image → Type 0) (b : Begun) (stops : List (List (ℕ × WordMap))) (handles : ℕ) (shape : Shape) (disk : D) (trail : List Entry) : Type 0 where
+  pub log : List WordMap
+  pub number : length log ≡ handles
+  pub stopped : AreAllStops log (joined stops)
+  pub deck : OpenDeck D
+  pub same_disk : deck.disk ≡ disk
+  pub same_shape : deck.shape ≡ shape
+  pub same_trail : deck.trail ≡ trail
+  pub since : IsSinceOf size count faults honest newest may_leave moment left_since b (IsStop b log) deck

@@ -1,0 +1,85 @@
+//! What seats have left is put together.
+ghost use Rattle.std.specs.Prelude.{◌≡◌, ◌+◌, ◌≤◌, ◌^◌, length, map, vec_len};
+ghost use Rattle.std.specs.List.{sum_by};
+ghost use Rattle.jb_cost.specs.Pieces.{joined};
+ghost use Rattle.jb_desk.specs.Seats.{stops_left, changes_left, made_left};
+
+use crate::book::Book;
+use crate::counter::Counter;
+use crate::origin::Origin;
+use crate::seat::Left;
+use jb_handle::Words;
+use jb_history::{History, Made, Scribe};
+use std::sync::ledger::{Ledger, Share};
+
+/// Merges what seats have left into two shares, and puts their stops together.
+fn merged<H: Origin, N: Ledger>(
+    history: &History<Words, H>,
+    handles: Share<H>,
+    changes: Share<N>,
+    lefts: Vec<Left<H, N>>,
+) -> (Share<H>, Share<N>, Made<Words, H>)
+    ensures parts { (result.0.parts ≡ handles.parts + vec_len lefts)
+        × (result.1.parts ≡ changes.parts + vec_len lefts) }
+    ensures handles { result.0.amount ≡ handles.amount + sum_by stops_left lefts.items }
+    ensures changes { result.1.amount ≡ changes.amount + sum_by changes_left lefts.items }
+    ensures made { result.2 ≡ joined (map made_left lefts.items) }
+    ensures many { result.0.amount ≡ handles.amount + length result.2 }
+{
+    let (mut all_handles, mut all_changes) = (handles, changes);
+    let mut all = history.enter();
+    for left in lefts {
+        let Left {
+            handles,
+            changes,
+            made,
+        } = left;
+        all_handles.merge(handles);
+        all_changes.merge(changes);
+        history.join(&mut all, made);
+    }
+    (all_handles, all_changes, all)
+}
+
+impl<H: Origin, N: Ledger> Counter<H, N> {
+    ghost use Rattle.jb_desk.specs.History.{AreAllStops};
+
+    /// Takes it apart where every seat that was given has left: into the book, how many handles
+    /// stopped and how many blocks they had touched, which are the sums over what the seats left, and the
+    /// history, which has all stops of the seats and no others.
+    pub fn totals(
+        self,
+        history: &History<Words, H>,
+        lefts: Vec<Left<H, N>>,
+    ) -> (Book<H>, u64, u64, Scribe<Words, H>)
+        requires parts { (H.parts ≡ 2305843009213693953) × (N.parts ≡ 2305843009213693953) }
+        requires all { vec_len lefts ≡ self.given }
+        ensures book { result.0 ≡ self.book }
+        ensures handles { (result.1 ≡ self.book.shadow.next) × (result.1 ≡ sum_by stops_left lefts.items) }
+        ensures changes { (result.2 ≡ self.book.changes) × (result.2 ≡ sum_by changes_left lefts.items) }
+        ensures few { (result.1 ≤ 2 ^ 61) × (result.2 ≤ 2 ^ 61) }
+        ensures history { (length result.3 ≡ result.1) × AreAllStops result.3 (joined (map made_left lefts.items)) }
+    {
+        let Counter {
+            book,
+            mut handles,
+            mut changes,
+            spare_handles,
+            spare_changes,
+            mut scribe,
+            given: _,
+        } = self;
+        let (mut spare_handles, mut spare_changes, all) = merged(
+            history,
+            spare_handles,
+            spare_changes,
+            lefts,
+        );
+        handles.audit(&mut spare_handles);
+        changes.audit(&mut spare_changes);
+        history.audit(&mut scribe, all);
+        let stops = book.next();
+        let touched = book.changes();
+        (book, stops, touched, scribe)
+    }
+}

@@ -1,0 +1,72 @@
+-- Blocks in a row, read one after the other.
+use Rattle.std.proofs.Common.{◌≡◌, ◌<◌, ◌≤◌, ℕ, ◌+◌, ◌-◌, ◌*◌, IsTrue, List, ◌++◌, length, take, drop, ⊎_elim, ap, sym, ◌∙◌, subst, arith}
+use Rattle.std.proofs.lemmas.Bool.{cases_lt}
+use Rattle.std.proofs.lemmas.List.{drop-take, take-append-le}
+use Rattle.std.proofs.lemmas.Slice.{take-put_mid_below, between-put_mid}
+use borrow.Rule.Slice.PartMut.{put_mid}
+use Rattle.jb_disk.specs.Image.{Image, block, Same}
+use Rattle.jb_disk.specs.Kept.{Kept}
+use Rattle.jb_disk.specs.Runs.{part, ReadsRun}
+use Rattle.jb_disk.specs.Time.{Goes}
+use Rattle.jb_disk.specs.declared.disk.Disk.{Ghosts}
+use Rattle.jb_disk.specs.declared.fault.Fault.{Fault}
+use Rattle.std.specs.Prelude.{Result, Ok, Err, IsOk, IsErr}
+
+-- ---- a buffer of blocks
+
+-- a block is in the front of the buffer that ends with it
+part-front : (size k : ℕ) (bytes : List ℕ) → part size k bytes ≡ drop (size * k) (take (size * k + size) bytes)
+part-front size k bytes = sym (drop-take (size * k) size bytes)
+
+-- the block that was read is there
+pub part-put : (size k m : ℕ) (to ys : List ℕ) → m ≡ size → length ys ≡ size → size * k + size ≤ length to → part size k (put_mid (size * k) m to ys) ≡ ys
+part-put size k m to ys is long within =
+    ap (λ n. take n (drop (size * k) (put_mid (size * k) m to ys))) (let h : size ≡ size * k + size - size * k = omega arith in h)
+    ∙ between-put_mid (size * k) m to ys (size * k + size) (omega (arith, within)) (omega (arith, long))
+
+-- and those before it have stayed
+pub part-before : (size j k m : ℕ) (to ys : List ℕ) → j < k → size * k ≤ length to → part size j (put_mid (size * k) m to ys) ≡ part size j to
+part-before size j k m to ys below within =
+    let up : size * j + size ≤ size * k = grind (arith, below) in
+    part-front size j (put_mid (size * k) m to ys)
+    ∙ ap (drop (size * j)) (take-put_mid_below (size * k) m to ys (size * j + size) up within)
+    ∙ sym (part-front size j to)
+
+-- what is behind the blocks does not matter
+pub part-append : (size k : ℕ) (xs ys : List ℕ) → size * k + size ≤ length xs → part size k (xs ++ ys) ≡ part size k xs
+part-append size k xs ys within =
+    part-front size k (xs ++ ys) ∙ ap (drop (size * k)) (take-append-le (size * k + size) xs ys within) ∙ sym (part-front size k xs)
+
+-- one block more is read
+pub reads-more : (size n place m : ℕ) (c : Image) (to ys : List ℕ) → m ≡ size → length ys ≡ size → size * n + size ≤ length to
+    → ReadsRun size n place c to → ys ≡ block c (place + n) → ReadsRun size (n + 1) place c (put_mid (size * n) m to ys)
+reads-more size n place m c to ys is long within so_far found k below =
+    ⊎_elim (λ less. part-before size k n m to ys less (omega (arith, within)) ∙ so_far k less)
+    (λ past.
+    let same : n ≡ k = omega (arith, below, past) in
+    subst (λ j. part size j (put_mid (size * n) m to ys) ≡ block c (place + j)) same (part-put size n m to ys is long within ∙ found))
+    (cases_lt k n)
+
+-- ---- the loop
+
+-- the first k blocks from a place on are read
+pub record ReadSoFar {D : Type 0} (G : Ghosts D) (place k : ℕ) (old now : D) (buf : List ℕ) : Type 0 where
+  pub kept : Kept G.size G.count G.honest old now
+  pub same_faults : G.faults now ≡ G.faults old
+  pub found : G.honest old → ReadsRun (G.size old) k place (G.newest old) buf
+  pub same_newest : G.honest old → G.newest now ≡ G.newest old
+  pub goes : G.honest old → Goes G.may_leave G.moment G.left_since Same old now
+  pub untried : k ≡ 0 → now ≡ old
+  pub passed : 0 < k → IsTrue (G.fails_next old) → ⊥
+
+-- a call that succeeded was not one that had to fail
+pub not_spent : {D : Type 0} (G : Ghosts D) (k : ℕ) (old now : D) (result : Result Unit Fault) → (k ≡ 0 → now ≡ old) → (0 < k → IsTrue (G.fails_next old) → ⊥)
+    → (IsTrue (G.fails_next now) → IsErr result) → IsOk result → IsTrue (G.fails_next old) → ⊥
+not_spent G k old now result untried passed spent ok burnt = ⊎_elim
+    (λ more. passed more burnt)
+    (λ none. both result ok (spent (subst (λ d. IsTrue (G.fails_next d)) (sym (untried (omega (arith, none)))) burnt)))
+    (cases_lt 0 k)
+  where
+    both : (r : Result Unit Fault) → IsOk r → IsErr r → ⊥
+    both (Ok x) is err = let h : ⊥ = cc in h
+    both (Err f) is err = let h : ⊥ = cc in h

@@ -1,0 +1,32 @@
+use Rattle.std.proofs.Common.{◌<◌, T, length, sym, ap, subst, ◌∙◌, arith}
+use Rattle.std.specs.Option.{option_or}
+use Rattle.std.specs.Ordering.{nat_cmp}
+use Rattle.std.specs.FinMap as map
+use Rattle.jb_block.proofs.Refusals.{on-refusal}
+use Rattle.jb_handle.specs.Word.{WordMap}
+use Rattle.jb_handle.proofs.Gathering.{word-added, words-partly, some-entry}
+use Rattle.jb_handle.proofs.Options.{or-nothing}
+use Rattle.std.proofs.lemmas.List.{take_all}
+use Rattle.jb_handle.proofs.gathered.Gathered.add_all.Goals as goal
+
+pub loop-home-init : goal.loop-home-init
+loop-home-init c q = sym (or-nothing (map.get c.args.self.now q))
+
+pub loop-home-preserved : goal.loop-home-preserved
+loop-home-preserved c =
+    let rising : T (map.is_sorted nat_cmp c.entries-home-items.result.now) = subst (λ es. T (map.is_sorted nat_cmp es)) (sym c.entries-home-items.ensures) (map.entries_sorted c.args.words.now) in
+    let inside : c.loop-home.home-index < length c.entries-home-items.result.now = omega arith in
+    λ q. word-added _ rising c.loop-home.home-index c.loop-home-item.result c.loop-home-item.is inside c.loop-home.self _ q _ (c.in_ok-add.ensures.ok q) (c.loop-home.invariant q)
+
+pub returns-clause-ok : goal.returns-clause-ok
+returns-clause-ok c q =
+    c.loop-home.invariant q
+    ∙ ap (option_or (map.get c.args.self.now q)) (ap (map.find nat_cmp q) (take_all c.loop-home.home-index c.entries-home-items.result.now (omega arith) ∙ c.entries-home-items.ensures) ∙ sym (map.get-entries c.args.words.now q))
+
+pub returns-in_err-add-clause-err : goal.returns-in_err-add-clause-err
+returns-in_err-add-clause-err c = on-refusal c.from_residual.result (some-entry c.args.words.now _ c.entries-home-items.ensures c.loop-home.home-index c.loop-home-test.true)
+
+pub returns-in_err-add-clause-partly : goal.returns-in_err-add-clause-partly
+returns-in_err-add-clause-partly c =
+    on-refusal c.from_residual.result
+    (λ q. words-partly c.args.words.now _ c.entries-home-items.ensures c.loop-home.home-index q _ _ (ap (λ (m : WordMap). map.get m q) c.in_err-add.ensures.err ∙ c.loop-home.invariant q))

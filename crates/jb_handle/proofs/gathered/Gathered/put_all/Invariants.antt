@@ -1,9 +1,0 @@
-use Rattle.std.proofs.Common.{◌≡◌, ℕ, take}
-use Rattle.std.specs.Option.{option_or}
-use Rattle.std.specs.Ordering.{nat_cmp}
-use Rattle.std.specs.FinMap as map
-use Rattle.jb_handle.proofs.gathered.Gathered.put_all.Given as goal
-
--- the words so far replace those from before
-abbrev pub invariant-loop-home : goal.invariant-loop-home
-invariant-loop-home l = (q : ℕ) → map.get l.self q ≡ option_or (map.find nat_cmp q (take l.home-index l.home-items)) (map.get l.initial.self q)

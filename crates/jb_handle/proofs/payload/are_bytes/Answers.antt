@@ -1,5 +1,0 @@
-use Rattle.std.proofs.Common.{rules}
-use Rattle.jb_handle.proofs.payload.are_bytes.Goals as goal
-
-pub returns : goal.returns
-returns c = λ i. search (rules, c.type_inv.bytes i)

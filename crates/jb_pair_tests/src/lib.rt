@@ -1,0 +1,7 @@
+//! Tests of two disks as one.
+#![tactic(auto)]
+
+#[cfg(test)]
+mod calls;
+#[cfg(test)]
+mod recovered;
