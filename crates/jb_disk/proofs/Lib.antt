@@ -1,4 +1,5 @@
 pub mod Buffers
+pub mod Chains
 pub mod Choices
 pub mod Counts
 pub mod Crashes
@@ -10,6 +11,7 @@ pub mod Outcomes
 pub mod Reached
 pub mod Replays
 pub mod Running
+pub mod RunWrites
 pub mod Sectors
 pub mod Stepping
 pub mod Syncs

@@ -80,7 +80,7 @@ module _ {D : Type 0} (may_leave : D → Image → Type 0) (moment : D → ℕ) 
   }
 
   -- one run after another
-  steps-joined : (step next both : Image → Image → Type 0) (old mid new : D) → ((c d : Image) → step c d → both c d) → ((c d e : Image) → step c d → next d e → both c e) → Steps may_leave moment left_since step old mid → Steps may_leave moment left_since next mid new → Steps may_leave moment left_since both old new
+  pub steps-joined : (step next both : Image → Image → Type 0) (old mid new : D) → ((c d : Image) → step c d → both c d) → ((c d e : Image) → step c d → next d e → both c e) → Steps may_leave moment left_since step old mid → Steps may_leave moment left_since next mid new → Steps may_leave moment left_since both old new
   steps-joined step next both old mid new begins joins first second =
       let back : (c : Image) → ((d : Image) × may_leave mid d × next d c) → (d : Image) × may_leave old d × both d c = λ c from. let before = first.now from.0 from.1 in (before.0, before.1, joins before.0 from.0 c before.2 from.2) in
       let begun : (c : Image) → ((d : Image) × may_leave old d × step d c) → (d : Image) × may_leave old d × both d c = λ c from. (from.0, from.1, begins from.0 c from.2) in

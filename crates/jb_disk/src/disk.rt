@@ -6,7 +6,8 @@ ghost use Rattle.jb_disk.specs.Time.{Goes};
 ghost use Rattle.jb_disk.specs.Called.{Called, Reads, Writes, Syncs};
 ghost use Rattle.jb_disk.specs.Faults.{CountsFault};
 ghost use Rattle.jb_disk.specs.Kept.{Kept, Untouched};
-ghost use Rattle.jb_disk.specs.Runs.{ReadsRun};
+ghost use Rattle.jb_disk.specs.Runs.{ReadsRun, TornRun, WroteRun};
+ghost use Rattle.jb_disk.specs.Steps.{Steps};
 
 use crate::Fault;
 use jb_block::BlockSize;
@@ -115,6 +116,33 @@ pub trait Disk {
         let size = self.block_size().bytes() as usize;
         for k in 0..blocks {
             self.read(place + k as u64, &mut buf[size * k..size * k + size])?;
+        }
+        Ok(())
+    }
+
+    /// Writes `bytes`, which has the length of `blocks` blocks, to the blocks from the one at `place` on: one at
+    /// least. Most disks make one call of `write` for each of them. Until a sync succeeds, a crash may leave each
+    /// sector of them as it was or as it is written, whatever it leaves of the others; after a fault a read may
+    /// find either, too.
+    fn write_run(&mut self, place: u64, blocks: usize, bytes: &[u8]) -> Result<(), Fault>
+        requires some { 0 < blocks }
+        requires place { place + blocks ≤ count self.old }
+        requires range { place + blocks < 2 ^ 64 }
+        requires block { length bytes.now ≡ size self.old * blocks }
+        ensures kept { Kept size count honest self.old self.new }
+        ensures spent { IsTrue (fails_next self.old) → IsErr result
+            × Untouched newest may_leave moment self.old self.new }
+        ensures faults { CountsFault result (faults self.old) (faults self.new) }
+        ensures written { honest self.old → OnOk result
+            (WroteRun (size self.old) blocks place bytes.now (newest self.old) (newest self.new)) }
+        ensures torn { honest self.old →
+            TornRun (size self.old) blocks place bytes.now (newest self.old) (newest self.new) }
+        ensures steps { honest self.old → Steps may_leave moment left_since
+            (TornRun (size self.old) blocks place bytes.now) self.old self.new }
+    {
+        let size = self.block_size().bytes() as usize;
+        for k in 0..blocks {
+            self.write(place + k as u64, &bytes[size * k..size * k + size])?;
         }
         Ok(())
     }

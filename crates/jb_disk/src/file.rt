@@ -104,8 +104,12 @@ impl Disk for FileDisk {
 
     fn write(&mut self, place: u64, bytes: &[u8]) -> Result<(), Fault> {
         let at = place * u64::from(self.size.bytes());
-        let answer = self.file.write_at(bytes, at);
-        settle(is_whole(&answer, bytes.len()), &mut self.faults)
+        settle(write_whole(&self.file, at, bytes), &mut self.faults)
+    }
+
+    fn write_run(&mut self, place: u64, _blocks: usize, bytes: &[u8]) -> Result<(), Fault> {
+        let at = place * u64::from(self.size.bytes());
+        settle(write_whole(&self.file, at, bytes), &mut self.faults)
     }
 
     fn sync(&mut self) -> Result<(), Fault> {
@@ -128,6 +132,12 @@ fn read_whole(file: &File, at: u64, buf: &mut [u8]) -> bool {
     let len = buf.len();
     let answer = file.read_at(buf, at);
     is_whole(&answer, len)
+}
+
+/// Writes the bytes to the file from offset `at` on, by one call; tells whether all of them were written.
+fn write_whole(file: &File, at: u64, bytes: &[u8]) -> bool {
+    let answer = file.write_at(bytes, at);
+    is_whole(&answer, bytes.len())
 }
 
 /// Whether so many bytes were moved, and no fewer.

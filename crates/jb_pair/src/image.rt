@@ -82,6 +82,13 @@ impl Disk for ImageDisk {
         }
     }
 
+    fn write_run(&mut self, place: u64, blocks: usize, bytes: &[u8]) -> Result<(), Fault> {
+        match self {
+            ImageDisk::One(file) => file.write_run(place, blocks, bytes),
+            ImageDisk::Two(pair) => pair.write_run(place, blocks, bytes),
+        }
+    }
+
     fn sync(&mut self) -> Result<(), Fault> {
         match self {
             ImageDisk::One(file) => file.sync(),

@@ -117,6 +117,21 @@ impl<A: Disk, B: Disk> Disk for PairDisk<A, B> {
         }
     }
 
+    fn write_run(&mut self, place: u64, blocks: usize, bytes: &[u8]) -> Result<(), Fault> {
+        let front = self.front.blocks();
+        if place + blocks as u64 <= front {
+            return self.front.write_run(place, blocks, bytes);
+        }
+        if front <= place {
+            return self.back.write_run(place - front, blocks, bytes);
+        }
+        let count = (front - place) as usize;
+        let size = self.front.block_size().bytes() as usize;
+        let (first, rest) = bytes.split_at(size * count);
+        self.front.write_run(place, count, first)?;
+        self.back.write_run(0, blocks - count, rest)
+    }
+
     fn sync(&mut self) -> Result<(), Fault> {
         self.front.sync()?;
         self.back.sync()
