@@ -118,11 +118,14 @@ fn main(rt: HostRuntime) -> ExitCode {
         return ExitCode::from(1);
     };
     let (image, moves) = (words.nth(1), words.next());
-    let answer = match run_words(&rt, image, moves) {
+    let told = match run_words(&rt, image, moves) {
         Ok(sum) => writeln!(rt.stdout(), "the accounts hold {sum}"),
-        Err(failed) => writeln!(rt.stderr(), "{failed}"),
+        Err(failed) => {
+            let _told = writeln!(rt.stderr(), "{failed}");
+            return ExitCode::from(1);
+        }
     };
-    match answer {
+    match told {
         Ok(()) => ExitCode::SUCCESS,
         Err(_) => ExitCode::from(1),
     }
