@@ -1,6 +1,4 @@
 //! Entries are taken from the front of the trail.
-ghost use Rattle.std.specs.Prelude.{IfOk};
-
 use crate::desk::Desk;
 use crate::origin::Origin;
 use jb_block::Memory;
