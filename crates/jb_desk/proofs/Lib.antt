@@ -6,6 +6,7 @@ pub mod Closings
 pub mod Costed
 pub mod Cuts
 pub mod Firsts
+pub mod Fronts
 pub mod Follows
 pub mod Grouped
 pub mod Histories
