@@ -19,6 +19,7 @@ pub mod SeatCredits
 pub mod Seen
 pub mod Shadows
 pub mod Sincing
+pub mod Takings
 pub mod Telling
 pub mod Ties
 pub mod Touching
