@@ -23,11 +23,11 @@ use Rattle.jb_cost.proofs.Granted.{covers-append, covers-weight}
 use Rattle.jb_core.proofs.Accepted.{found-none, first-false, still-up}
 use Rattle.jb_core.proofs.Entries.{sum-insert, length-insert_entry, length-remove_entry}
 use Rattle.jb_deck.specs.declared.done.Entry.{Entry}
-use Rattle.jb_deck.specs.Done.{Follow}
+use Rattle.jb_deck.specs.Done.{Follow, start_of}
 use Rattle.jb_desk.specs.declared.fault.BeginFault.TheVariants.{Aborted, Closed, Busy, TooManyCredits, Full}
 use Rattle.jb_desk.specs.Account.{Account, IsSound, granted_to, dropped_of, queued, taken_all, settled_to, failed_of, is_full, refusal, IsOpenFor, CanTake, Settles}
 use Rattle.jb_desk.specs.Shadow.{credits_at, reserved}
-use Rattle.jb_desk.proofs.Follows.{follow-append, follow-length}
+use Rattle.jb_desk.proofs.Follows.{follow-length, follow-on}
 use Rattle.jb_desk.proofs.SeatCredits.{length-less, sum-gone, sum-less}
 
 -- ---- the calls
@@ -219,7 +219,7 @@ module _ (a : Account) (sound : IsSound a) where
         changed = sound.changed;
         granted = sound.granted;
         counted = sound.counted;
-        trail = subst (λ p. Follow 0 0 p (a.trail ++ entries)) there (follow-append 0 0 a.shadow.settled past a.trail entries sound.trail is.follow);
+        trail = subst (λ p. Follow (start_of (a.trail ++ entries)) 0 p (a.trail ++ entries)) there (follow-on a.shadow.settled past a.trail entries sound.trail is.follow);
       }
 
   -- the account with what is settled so

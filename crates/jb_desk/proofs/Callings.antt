@@ -10,6 +10,7 @@ use Rattle.jb_handle.proofs.Tickets.{tickets-append}
 use Rattle.jb_cost.specs.Pieces.{joined, pieces}
 use Rattle.jb_batch.specs.Batch.{gathered}
 use Rattle.jb_deck.specs.declared.done.Entry.{Entry}
+use Rattle.jb_deck.specs.Done.{start_of}
 use Rattle.jb_core.specs.declared.event.Event.TheVariants as event
 use Rattle.jb_core.specs.declared.event.Reply.TheVariants.{Plain, Ticket}
 use Rattle.jb_core.specs.Lives.{Log, settled_now, handles_of, stop_order}
@@ -108,7 +109,7 @@ module _ (shape : Shape) (calls : List Call) (a : Account) (s : Stands shape cal
         out = taken ∙ s.out;
         numbered = tickets-append 0 (stops_of calls) (record { ticket = ticket; words = ws } ∷ []) s.numbered (omega (arith, is, counted), tt);
         counted = omega (arith, longer, counted);
-        trail = s.trail ∙ sym (more-stops 0 0 a.shadow.settled (stops_of calls) (record { ticket = ticket; words = ws } ∷ []) a.trail follow few-stops);
+        trail = s.trail ∙ sym (more-stops (start_of a.trail) 0 a.shadow.settled (stops_of calls) (record { ticket = ticket; words = ws } ∷ []) a.trail follow few-stops);
       }
 
   call-dropped : (seat : ℕ) → Stands shape (Dropped seat ∷ calls) (dropped_of seat a)

@@ -6,12 +6,18 @@ use Rattle.std.proofs.lemmas.Bool.Decides.{Decides-and, Decides-eqb}
 use Rattle.std.specs.Bool.{Decides}
 use Rattle.std.specs.List.Sorted.{IsNonDecreasingBy}
 use Rattle.jb_deck.specs.declared.done.Entry.{Entry}
-use Rattle.jb_deck.specs.Done.{Follow, least_after}
+use Rattle.jb_deck.specs.Done.{Follow, least_after, start_of}
 use Rattle.jb_desk.specs.Account.{IsSettledBy}
 
 pub follow-append : (first least mid past : ℕ) (es fs : List Entry) → Follow first least mid es → Follow mid (least_after least es) past fs → Follow first least past (es ++ fs)
 follow-append first least mid past [] fs one two = subst (λ f. Follow f least past fs) (sym one) two
 follow-append first least mid past (e ∷ es) fs one two = (one.0, one.1, one.2, follow-append e.past (e.number + 1) mid past es fs one.3 two)
+
+-- further entries of a trail go on where it ends; where it is empty, it ends at 0
+pub follow-on : (mid past : ℕ) (es fs : List Entry) → Follow (start_of es) 0 mid es → Follow mid (least_after 0 es) past fs → Follow (start_of (es ++ fs)) 0 past (es ++ fs)
+follow-on mid past [] [] one two = one ∙ two
+follow-on mid past [] (f ∷ fs) one two = subst (λ n. Follow n 0 past (f ∷ fs)) (sym two.0) two
+follow-on mid past (e ∷ es) fs one two = follow-append e.first 0 mid past (e ∷ es) fs one two
 
 -- the tickets go up, at least one for each entry
 pub follow-length : (first least past : ℕ) (es : List Entry) → Follow first least past es → first + length es ≤ past

@@ -14,7 +14,7 @@ use Rattle.jb_cost.specs.Cut.{RisesTo, IsCut}
 use Rattle.jb_cost.specs.Pieces.{joined}
 use Rattle.jb_batch.specs.Costs.{geometry_of}
 use Rattle.jb_deck.specs.declared.done.Entry.{Entry}
-use Rattle.jb_deck.specs.Done.{Follow}
+use Rattle.jb_deck.specs.Done.{Follow, start_of}
 use Rattle.jb_core.proofs.Accepted.{still-up}
 use Rattle.jb_desk.specs.Account.{Account, IsSound, IsStart, InLine, touched_in}
 use Rattle.jb_desk.specs.Calls.{AreOfFirst, handles_in}
@@ -50,7 +50,7 @@ started shape usable a small start =
       changed = omega (arith, changes, sums);
       granted = omega (arith, granted);
       counted = omega (arith, touched);
-      trail = subst (Follow 0 0 a.shadow.settled) (sym start.trail) (sym settled);
+      trail = subst (λ (es : List Entry). Follow (start_of es) 0 a.shadow.settled es) (sym start.trail) (sym settled);
     }
 
 -- ---- the handles of an entry

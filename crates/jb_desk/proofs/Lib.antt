@@ -6,6 +6,7 @@ pub mod Closings
 pub mod Costed
 pub mod Cuts
 pub mod Firsts
+pub mod Fronts
 pub mod Follows
 pub mod Grouped
 pub mod Histories
@@ -18,6 +19,7 @@ pub mod SeatCredits
 pub mod Seen
 pub mod Shadows
 pub mod Sincing
+pub mod Takings
 pub mod Telling
 pub mod Ties
 pub mod Touching

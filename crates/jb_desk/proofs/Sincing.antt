@@ -74,6 +74,11 @@ is-weaker size count faults honest newest may_leave moment left_since b known le
   since = is.since;
 }
 
+-- it was given the same handles
+pub weaker-given : {D : Type 0} (size count faults : D → ℕ) (honest : D → Type 0) (newest : D → Image) (may_leave : D → Image → Type 0) (moment : D → ℕ) (left_since : D → ℕ → Image → Type 0) (b : Begun) (known less : Stopped → Type 0) (weaker : (h : Stopped) → known h → less h) (d : OpenDeck D) (is : IsSinceOf size count faults honest newest may_leave moment left_since b known d) → (is-weaker size count faults honest newest may_leave moment left_since b known less weaker d is).given ≡ is.given
+unfolding is-weaker
+weaker-given size count faults honest newest may_leave moment left_since b known less weaker d is = refl
+
 module _ {D : Type 0} (size count faults : D → ℕ) (honest : D → Type 0) (newest : D → Image) (may_leave : D → Image → Type 0) (moment : D → ℕ) (left_since : D → ℕ → Image → Type 0) (counts_now : (disk : D) (t : ℕ) (c : Image) → honest disk → t ≤ moment disk → may_leave disk c → left_since disk t c) (b : Begun) (known : Stopped → Type 0) (plain : (h : Stopped) → known h → b.stops h.words) where
   abbrev Is : OpenDeck D → Type 0
   Is d = IsSinceOf size count faults honest newest may_leave moment left_since b known d

@@ -11,7 +11,7 @@ use Rattle.jb_handle.specs.Word.{WordMap}
 use Rattle.jb_cost.specs.Credits.{IsMost, Covers}
 use Rattle.jb_deck.specs.declared.done.Entry.{Entry}
 use Rattle.jb_batch.specs.Costs.{geometry_of}
-use Rattle.jb_deck.specs.Done.{Follow, least_after}
+use Rattle.jb_deck.specs.Done.{Follow, least_after, start_of}
 use Rattle.jb_desk.specs.declared.fault.BeginFault.{BeginFault}
 use Rattle.jb_desk.specs.declared.fault.BeginFault.TheVariants.{Aborted, Closed, Busy, TooManyCredits, Full, Memory}
 use Rattle.jb_desk.specs.declared.fault.WaitFault.{WaitFault}
@@ -32,7 +32,7 @@ pub record Account : Type 0 where
   pub granted : ℕ
   -- the home blocks touched by all handles that stopped, added up
   pub changes : ℕ
-  -- an entry for each group that is settled
+  -- an entry for each group that is settled, or for the last ones of these: the last one at least
   pub trail : List Entry
   pub shut : Bool
   pub aborted : Bool
@@ -73,7 +73,8 @@ pub record IsSound (a : Account) : Type 0 where
   pub changed : a.changes + sum (values_of a.shadow.seats) ≤ a.granted
   pub granted : a.granted ≤ 2 ^ 61
   pub counted : touched_in a.shadow.queue ≤ a.changes
-  pub trail : Follow 0 0 a.shadow.settled a.trail
+  -- what is left of the trail goes up to the settled tickets; where no group was settled it is empty
+  pub trail : Follow (start_of a.trail) 0 a.shadow.settled a.trail
 
 -- ---- what each call makes of it
 
@@ -112,6 +113,22 @@ settled_to past entries a = record a { shadow = settled_by (past - a.shadow.sett
 -- the account once the journal has failed: all that was not settled is lost
 abbrev pub failed_of : Account → Account
 failed_of a = record a { shadow = lost a.shadow; aborted = true }
+
+-- what is left of a trail once the entries at its front that end at this ticket or before it were taken; the last entry always stays
+abbrev pub trail_from : ℕ → List Entry → List Entry
+trail_from past [] = []
+trail_from past (e ∷ []) = e ∷ []
+trail_from past (e ∷ f ∷ es) = if nat_le e.past past then trail_from past (f ∷ es) else e ∷ f ∷ es
+
+-- the account once these were taken from its trail
+abbrev pub shortened : ℕ → Account → Account
+shortened past a = record a { trail = trail_from past a.trail }
+
+-- the ticket of the first handle of the last entry, 0 where there is none
+abbrev pub last_start : List Entry → ℕ
+last_start [] = 0
+last_start (e ∷ []) = e.first
+last_start (e ∷ f ∷ es) = last_start (f ∷ es)
 
 -- ---- what each call refuses
 
@@ -163,6 +180,11 @@ pub record Settles (a : Account) (past : ℕ) (entries : List Entry) : Type 0 wh
 abbrev pub IsSettledBy : List Entry → ℕ → ℕ → Type 0
 IsSettledBy [] ticket number = ⊥
 IsSettledBy (e ∷ es) ticket number = ((e.first ≤ ticket) × (ticket < e.past) × (number ≡ e.number)) ⊎ IsSettledBy es ticket number
+
+-- the number of the group that settled a ticket; or none, where the group's entry was taken
+abbrev pub AnswersNumber : Account → ℕ → Option ℕ → Type 0
+AnswersNumber a ticket (Some number) = IsSettledBy a.trail ticket number
+AnswersNumber a ticket None = ticket < start_of a.trail
 
 -- some handle has the ticket, and it may yet be settled
 pub record IsAwaited (a : Account) (ticket : ℕ) : Type 0 where

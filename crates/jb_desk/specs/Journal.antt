@@ -1,5 +1,7 @@
 -- What a round of a desk has done to its journal.
 use Rattle.std.specs.Prelude.{◌≡◌, ◌<◌, ◌≤◌, ◌⊎◌, ◌++◌, true, false, ℕ, List, [], Option, Result, Ok, Err, OnOk}
+use Rattle.std.specs.Global.{Vec}
+use Rattle.std.specs.declared.alloc.AllocError.{AllocError}
 use Rattle.jb_batch.specs.Batch.{Gathered}
 use Rattle.jb_batch.specs.Prepared.{Planned, IsPlanned}
 use Rattle.jb_block.specs.declared.stamp.Stamp.{Stamp}
@@ -11,12 +13,14 @@ use Rattle.jb_deck.specs.Committing.{CommitsBatch, CommitsOnDisk, FindsLive, Tak
 use Rattle.jb_deck.specs.Deck.{OpenDeck}
 use Rattle.jb_deck.specs.Log.{standing, transactions}
 use Rattle.jb_deck.specs.Reading.{AnswersRead}
+use Rattle.jb_deck.specs.Taking.{CanTake, TakesTrail, oldest_number}
 use Rattle.jb_deck.specs.declared.batched.BatchFault.{BatchFault}
 use Rattle.jb_deck.specs.declared.batched.BatchFault.TheVariants as batch
 use Rattle.jb_deck.specs.declared.checked.Checked.{Checked}
 use Rattle.jb_deck.specs.declared.checked.CheckpointFault.{CheckpointFault}
 use Rattle.jb_deck.specs.declared.checked.CheckpointFault.TheVariants as checkpoint
 use Rattle.jb_deck.specs.declared.done.Done.{Done}
+use Rattle.jb_deck.specs.declared.done.Entry.{Entry}
 use Rattle.jb_deck.specs.declared.read.ReadHomeFault.{ReadHomeFault}
 use Rattle.jb_desk.specs.Origin.{Begun}
 use Rattle.jb_desk.specs.Since.{IsSince}
@@ -72,6 +76,28 @@ module _ {D : Type 0} (size count faults : D → ℕ) (honest : D → Type 0) (n
     pub checkpoints : b.honest → Checkpoints newest old new
     pub before : IsSince size count faults honest newest may_leave moment left_since b old
     pub after : IsSince size count faults honest newest may_leave moment left_since b new
+
+  -- the desk's journal before and after these entries were taken from the front of its trail: of groups that are home, with no ticket from `past` on
+  pub record TakesEntries (taken : List Entry) : Type 0 where
+    pub past : ℕ
+    pub old : OpenDeck D
+    pub new : OpenDeck D
+    pub takes : TakesTrail past old new taken
+    pub before : IsSince size count faults honest newest may_leave moment left_since b old
+    pub after : IsSince size count faults honest newest may_leave moment left_since b new
+    pub same : after.given ≡ before.given
+
+  -- the first entry of the desk's journal may be taken
+  pub record HasEntries : Type 0 where
+    pub past : ℕ
+    pub deck : OpenDeck D
+    pub since : IsSince size count faults honest newest may_leave moment left_since b deck
+    pub some : CanTake (oldest_number deck) past deck.trail
+
+  -- entries of the desk's journal were taken; or there was no memory for some that may be
+  abbrev pub GivesTrail : Result (Vec Entry) AllocError → Type 0
+  GivesTrail (Ok taken) = TakesEntries taken.items
+  GivesTrail (Err memory) = HasEntries
 
   -- no group is live in the desk's journal, which has not failed
   pub record HasNone : Type 0 where

@@ -1,14 +1,20 @@
 -- What a call makes of the counts that its seat is sure of.
-use Rattle.std.specs.Prelude.{◌≡◌, ◌⊎◌, ℕ, ◌<◌, ◌≤◌, max, Option, Some, None, Result, Ok, Err}
+use Rattle.std.specs.Prelude.{◌≡◌, ◌⊎◌, ℕ, ◌+◌, ◌<◌, ◌≤◌, max, Option, Some, None, Result, Ok, Err}
 use Rattle.jb_batch.specs.Batch.{Gathered}
 use Rattle.jb_board.specs.Front.{front}
 use Rattle.jb_board.specs.Steps.{raised_settled}
 use Rattle.jb_board.specs.declared.front.Front.{Front}
 use Rattle.jb_desk.specs.Rounds.{AnswersRound, end_of}
+use Rattle.jb_desk.specs.Seats.{view_of}
 use Rattle.jb_desk.specs.declared.committer.Round.{Round}
 use Rattle.jb_desk.specs.declared.committer.Round.TheVariants.{Idle, Committed}
 use Rattle.jb_desk.specs.declared.committer.RoundFault.{RoundFault}
 use Rattle.jb_desk.specs.declared.committer.RoundFault.TheVariants.{Aborted, Memory, DeviceFault, Refused}
+use Rattle.jb_desk.specs.declared.fault.WaitFault.{WaitFault}
+use Rattle.jb_desk.specs.declared.fault.WaitFault.TheVariants as wait
+use Rattle.jb_desk.specs.declared.origin.Origin.{Ghosts}
+use Rattle.jb_desk.specs.declared.seat.Seat.{Seat}
+use Rattle.jb_history.specs.declared.place.Place.{Ghosts as Places}
 
 -- the tickets below this one are taken
 abbrev pub with_taken : ℕ → Front → Front
@@ -17,6 +23,13 @@ with_taken past v = front v.settled (max v.taken past) (max v.stopped past)
 -- the tickets below this one are settled
 abbrev pub with_settled : ℕ → Front → Front
 with_settled past v = front (max v.settled past) (max v.taken past) (max v.stopped past)
+
+-- why a wait for this ticket names no group, and what it makes of its seat: where the group's entry was taken the ticket is settled, and the seat is sure of
+-- it; otherwise the seat is as it was
+abbrev pub RefusesWait : {H N : Type 0} {O : Ghosts H} {P : Places H} → ℕ → Seat H N O P → Seat H N O P → WaitFault → Type 0
+RefusesWait ticket old new wait.Aborted = new ≡ old
+RefusesWait ticket old new wait.Taken = view_of new ≡ with_settled (ticket + 1) (view_of old)
+RefusesWait ticket old new wait.Unknown = new ≡ old
 
 -- what the commit of a taken batch makes of them: the batch is settled whole, or after a fault of the disk a first part of it
 -- and not all, or nothing is

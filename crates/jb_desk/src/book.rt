@@ -5,6 +5,7 @@ ghost use Rattle.jb_batch.specs.Costs.{HasCut};
 ghost use Rattle.jb_deck.specs.Done.{entries_of};
 
 mod readers;
+mod taking;
 
 use crate::fault::{BeginFault, EnqueueFault, WrongBatch};
 use crate::follow::past_of;
@@ -22,7 +23,7 @@ use std::mem;
 const MOST: u64 = 1 << 61;
 
 /// The book of a desk: which seats have an open handle, the queue of stopped handles, which tickets
-/// are taken and settled, and the groups that settled them. Each handle in the queue stopped with words
+/// are taken and settled, and the last groups that settled them. Each handle in the queue stopped with words
 /// that a handle may stop with (`S.begun`).
 #[derive(Drop)]
 pub struct Book<S: Origin> {

@@ -9,6 +9,7 @@ mod lefts;
 mod over;
 mod progress;
 mod rounds;
+mod taking;
 
 use crate::book::Book;
 use crate::fault::{BeginFault, EnqueueFault, StopFault, WaitFault};
@@ -52,7 +53,7 @@ pub(crate) struct Counter<H: Origin, N: Ledger> {
 }
 
 impl<H: Origin, N: Ledger> Counter<H, N> {
-    ghost use Rattle.jb_desk.specs.Account.{granted_to, dropped_of, refusal, RefusesBegin, IsSettledBy, IsAwaited, fault_of};
+    ghost use Rattle.jb_desk.specs.Account.{granted_to, dropped_of, refusal, RefusesBegin, AnswersNumber, IsAwaited, fault_of};
     ghost use Rattle.jb_desk.specs.Seats.{stops, changes, made_by, stops_left, changes_left, made_left};
     ghost use Rattle.jb_desk.specs.Stops.{IsStopped, RefusesStopOf};
     ghost use Rattle.jb_board.specs.Seats.{given_by};
@@ -230,20 +231,23 @@ impl<H: Origin, N: Ledger> Counter<H, N> {
         !self.book.is_aborted() && self.book.settled() <= ticket && ticket < self.book.next()
     }
 
-    /// The number of the transaction that settled a ticket.
+    /// The number of the transaction that settled a ticket; `None` where its entry was taken.
     ///
     /// # Errors
     ///
     /// Where it is not settled: `Aborted` if the journal has failed, and otherwise `Unknown`.
-    pub fn number_of(&self, ticket: u64) -> Result<u32, WaitFault>
-        ensures ok { IfOk result (λ number. IsSettledBy self.now.book.trail ticket number) }
+    pub fn number_of(&self, ticket: u64) -> Result<Option<u32>, WaitFault>
+        ensures ok { IfOk result (AnswersNumber self.now.book ticket) }
         ensures few { OnOk result (ticket < 2 ^ 61) }
         ensures given { OnOk result (ticket < self.now.book.shadow.next) }
         ensures err { IfErr result (λ fault. (self.now.book.shadow.settled ≤ ticket)
             × (fault ≡ fault_of self.now.book)) }
     {
+        if ticket < self.book.start() {
+            return Ok(None);
+        }
         match self.book.number_of(ticket) {
-            Some(number) => Ok(number),
+            Some(number) => Ok(Some(number)),
             None if self.book.is_aborted() => Err(WaitFault::Aborted),
             None => Err(WaitFault::Unknown),
         }

@@ -11,6 +11,7 @@ mod committers;
 mod committing;
 mod reading;
 mod rounds;
+mod taking;
 mod waiting;
 
 use crate::book::Book;
@@ -54,7 +55,7 @@ impl<D: Disk, C: Clock, H: Origin, N: Ledger> Desk<D, C, H, N> {
     ghost use Rattle.jb_desk.specs.History.{history_in};
     ghost use Rattle.jb_desk.specs.Refusals.{HandsBack, IsTooMany};
     ghost use Rattle.jb_desk.specs.Since.{IsSince};
-    ghost use Rattle.jb_desk.specs.Views.{with_settled};
+    ghost use Rattle.jb_desk.specs.Views.{with_settled, RefusesWait};
 
     /// A desk over a journal that has committed nothing yet and has not failed. `handles` is a new ledger,
     /// in which the handles that stop are counted, with a new history of them, and `changes` a new ledger,
@@ -216,8 +217,9 @@ impl<D: Disk, C: Clock, H: Origin, N: Ledger> Desk<D, C, H, N> {
     ///
     /// # Errors
     ///
-    /// `Aborted` where the journal has failed and the ticket is not settled; `Unknown` where no handle
-    /// has the ticket.
+    /// `Aborted` where the journal has failed and the ticket is not settled; `Taken` where it is settled and the entry
+    /// of its transaction was taken from the trail, so that its number is not known any more; `Unknown` where no handle
+    /// has the ticket. Only after `Taken` the seat is sure that the ticket is settled.
     pub fn wait<R: Wait>(
         &self,
         rt: &R,
@@ -228,7 +230,7 @@ impl<D: Disk, C: Clock, H: Origin, N: Ledger> Desk<D, C, H, N> {
         ensures desk { (desk_of seat.new ≡ desk_of seat.old) × (seat_number seat.new ≡ seat_number seat.old) }
         ensures settled { IfOk result (λ _. ticket < (view_of seat.new).settled) }
         ensures view { OnOk result (view_of seat.new ≡ with_settled (ticket + 1) (view_of seat.old)) }
-        ensures err { OnErr result (seat.new ≡ seat.old) }
+        ensures refused { IfErr result (RefusesWait ticket seat.old seat.new) }
         ensures counted { KeepsStops seat.old seat.new }
     {
         let counter = self.moved.wait_while(
@@ -243,6 +245,6 @@ impl<D: Disk, C: Clock, H: Origin, N: Ledger> Desk<D, C, H, N> {
         self.board.raise_stopped(&mut seat.board, count, &tickets);
         self.board.raise_taken(&mut seat.board, count);
         self.board.raise_settled(&mut seat.board, count);
-        Ok(number)
+        number.ok_or(WaitFault::Taken)
     }
 }

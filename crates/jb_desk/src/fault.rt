@@ -91,6 +91,9 @@ pub enum WaitFault {
     /// The journal has failed, and the ticket is not settled.
     #[error("the journal has failed before the handle was settled; recover it and open it again")]
     Aborted,
+    /// The ticket is settled, and the entry of its group was taken from the trail.
+    #[error("the handle is settled; its transaction is among the entries that were taken from the trail")]
+    Taken,
     /// Nobody has the ticket.
     #[error("no handle has the ticket")]
     Unknown,

@@ -1,6 +1,6 @@
-ghost use Rattle.std.specs.Prelude.{◌≡◌, ℕ, ◌+◌, ◌^◌, ◌<◌, ◌≤◌, ◌↔◌, IsTrue, IfSome, IfNone};
-ghost use Rattle.jb_deck.specs.Done.{Follow, least_after, past_after, first_of, entries_of};
-ghost use Rattle.jb_desk.specs.Account.{IsSettledBy};
+ghost use Rattle.std.specs.Prelude.{◌≡◌, ℕ, ◌+◌, ◌^◌, ◌<◌, ◌≤◌, ◌↔◌, drop, length, IsTrue, IfSome, IfNone};
+ghost use Rattle.jb_deck.specs.Done.{Follow, least_after, past_after, start_of, first_of, entries_of};
+ghost use Rattle.jb_desk.specs.Account.{IsSettledBy, last_start, trail_from};
 
 use jb_deck::{Done, Entry};
 
@@ -35,15 +35,54 @@ pub fn past_of(entries: &[Entry], first: u64, least: u64, limit: u64) -> Option<
     Some((past, next))
 }
 
-/// The number of the entry that has the ticket, where the entries tile the tickets from 0 on.
+/// The number of the entry that has the ticket, where the entries tile the tickets from their first one on and the
+/// ticket is not below it.
 pub fn number_in(entries: &[Entry], ticket: u64) -> Option<u32>
-    ensures some { IfSome result (λ number. (settled : ℕ) → Follow 0 0 settled entries.now
+    requires { start_of entries.now ≤ ticket }
+    ensures some { IfSome result (λ number. (settled : ℕ) → Follow (start_of entries.now) 0 settled entries.now
         → IsSettledBy entries.now ticket number × (ticket < settled)) }
-    ensures none { IfNone result ((settled : ℕ) → Follow 0 0 settled entries.now → settled ≤ ticket) }
+    ensures none { IfNone result ((settled : ℕ) → Follow (start_of entries.now) 0 settled entries.now
+        → settled ≤ ticket) }
 {
     let before = entries.partition_point(|entry| entry.past <= ticket);
     let entry = entries.get(before)?;
     Some(entry.number)
+}
+
+/// The ticket of the first handle of the first entry, 0 where there is none.
+pub fn first_start(entries: &[Entry]) -> u64
+    ensures { result ≡ start_of entries.now }
+{
+    match entries.first() {
+        Some(entry) => entry.first,
+        None => 0,
+    }
+}
+
+/// The ticket of the first handle of the last entry, 0 where there is none.
+pub fn start_of_last(entries: &[Entry]) -> u64
+    ensures { result ≡ last_start entries.now }
+{
+    match entries.last() {
+        Some(entry) => entry.first,
+        None => 0,
+    }
+}
+
+/// How many entries at the front end at this ticket or before it. The last entry is none of them.
+pub fn count_to(entries: &[Entry], past: u64) -> usize
+    ensures within { result ≤ length entries.now }
+    ensures rest { drop result entries.now ≡ trail_from past entries.now }
+{
+    let last = entries.len().saturating_sub(1);
+    let mut count = 0;
+    for &entry in &entries[..last] {
+        if entry.past > past {
+            return count;
+        }
+        count += 1;
+    }
+    count
 }
 
 /// Whether two lists of entries are the same.

@@ -37,6 +37,18 @@ pub fn push_all(trail: &mut Vec<Entry>, entries: &[Entry])
     }
 }
 
+/// Drops the first `n` entries. The room that the trail has stays its own.
+pub fn drop_entries(trail: &mut Vec<Entry>, n: usize)
+    requires { n ≤ length trail.old.items }
+    ensures items { trail.new.items ≡ drop n trail.old.items }
+    ensures len { vec_len trail.new + n ≡ vec_len trail.old }
+    ensures capacity { vec_capacity trail.new ≡ vec_capacity trail.old }
+{
+    let left = trail.len() - n;
+    trail.rotate_left(n);
+    trail.truncate(left);
+}
+
 /// Drops the first `n` credits, and says how many these are together.
 pub fn drop_first(credits: &mut Vec<u32>, n: usize) -> u64
     requires there { n ≤ length credits.old.items }

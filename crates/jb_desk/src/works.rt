@@ -1,8 +1,11 @@
-ghost use Rattle.std.specs.Prelude.{◌≡◌, [], false, length, All, IfOk};
+ghost use Rattle.std.specs.Prelude.{◌≡◌, [], false, length, All, IfOk, OnErr};
 
 use crate::checkpoint::CheckpointRound;
 use crate::origin::Origin;
-use jb_deck::{BatchFault, Checked, CheckpointFault, Deck, Done, Prepared, ReadHomeFault};
+use jb_block::Memory;
+use jb_deck::{
+    BatchFault, Checked, CheckpointFault, Deck, Done, Entry, Prepared, ReadHomeFault,
+};
 use jb_disk::{Clock, Disk};
 use jb_handle::Words;
 use jb_history::{History, Sight};
@@ -40,7 +43,8 @@ impl<D: Disk, C: Clock, S: Origin> Works<D, C, S> {
     ghost use Rattle.jb_deck.specs.Committing.{AnswersBatch};
     ghost use Rattle.jb_batch.specs.Prepared.{IsPlanned};
     ghost use Rattle.jb_deck.specs.Reading.{AnswersRead};
-    ghost use Rattle.jb_desk.specs.Journal.{AnswersAt, ChecksAt, ChecksRound, FailsAs, IsRound, ReadsHome};
+    ghost use Rattle.jb_deck.specs.Taking.{CanTake, TakesTrail, oldest_number};
+    ghost use Rattle.jb_desk.specs.Journal.{AnswersAt, ChecksAt, ChecksRound, FailsAs, GivesTrail, IsRound, ReadsHome};
     ghost use Rattle.jb_desk.specs.Rounds.{CommitsAs};
     ghost use Rattle.jb_desk.specs.History.{IsInHistory, IsStop};
     ghost use Rattle.jb_desk.specs.Since.{AreStops, IsSince, IsSinceOf};
@@ -143,6 +147,23 @@ impl<D: Disk, C: Clock, S: Origin> Works<D, C, S> {
         ensures clock { self.new.clock ≡ self.old.clock }
     {
         self.deck.read_home(home, buf)
+    }
+
+    /// Takes entries from the front of the trail: those of groups that are home, with no ticket from `past` on. The
+    /// last entry stays.
+    ///
+    /// # Errors
+    ///
+    /// Those of the journal's own call.
+    pub fn take_trail(&mut self, past: u64) -> Result<Vec<Entry>, Memory>
+        ensures taken { IfOk result (λ taken. TakesTrail past self.old.deck self.new.deck taken.items) }
+        ensures refused { OnErr result ((self.new.deck ≡ self.old.deck)
+            × CanTake (oldest_number self.old.deck) past self.old.deck.trail) }
+        ensures gives { GivesTrail D.size D.count D.faults D.honest D.newest D.may_leave D.moment D.left_since S.begun
+            result }
+        ensures clock { self.new.clock ≡ self.old.clock }
+    {
+        self.deck.take_trail(past)
     }
 
     /// Takes it apart, into the journal, the clock, and what was seen of the history.

@@ -202,6 +202,24 @@ pub fn round<R: Wait, D: Disk, H: Origin, N: Ledger>(
     }
 }
 
+/// Stops a handle that writes a home block, and commits it.
+pub fn commit<R: Wait, D: Disk, H: Origin, N: Ledger>(
+    rt: &R,
+    desk: &Still<D, H, N>,
+    seat: Seat<H, N>,
+    home: u64,
+) -> (Seat<H, N>, Came)
+    requires any { (words : WordMap) → H.begun.stops words }
+    requires desk { desk_of seat ≡ desk_id desk.now }
+    ensures { desk_of result.0 ≡ desk_id desk.now }
+{
+    let (seat, _) = write(rt, desk, seat, 1, &[home]);
+    let mut committer = desk.committer(seat);
+    let came = round(rt, desk, &mut committer);
+    let (seat, _) = retired(rt, desk, committer);
+    (seat, came)
+}
+
 /// A committer retires, or gives up where it is handed back. Says whether it retired.
 pub fn retired<R: Wait, D: Disk, H: Origin, N: Ledger>(
     rt: &R,

@@ -22,6 +22,9 @@ mod journal;
 #[cfg(test)]
 mod keys;
 #[cfg(test)]
+mod levels;
+#[cfg(test)]
+mod lives;
 #[cfg(test)]
 mod load;
 #[cfg(test)]

@@ -69,7 +69,7 @@ impl<H: Origin, N: Ledger> Report<H, N> {
         match answer {
             Ok(number) => self.is_wrong |= !has_pushed(&mut self.waited, (ticket, number)),
             Err(WaitFault::Aborted) => self.is_aborted = true,
-            Err(WaitFault::Unknown) => self.is_wrong = true,
+            Err(WaitFault::Taken | WaitFault::Unknown) => self.is_wrong = true,
         }
     }
 }

@@ -4,17 +4,22 @@ use Rattle.jb_cost.specs.Pieces.{joined}
 use Rattle.jb_disk.specs.Image.{Image}
 use Rattle.jb_handle.specs.Word.{WordMap}
 use Rattle.jb_handle.specs.declared.shape.Shape.{Shape}
-use Rattle.jb_deck.specs.Done.{Follow, past_after}
+use Rattle.jb_deck.specs.Done.{Follow, past_after, start_of}
 use Rattle.jb_deck.specs.declared.done.Entry.{Entry}
 use Rattle.jb_desk.proofs.Rounds.{follow-past}
 use Rattle.jb_desk.specs.History.{AreAllStops, EndsWith}
 use Rattle.jb_desk.specs.Origin.{Begun}
 
--- the settled handles are those of the trail
-pub settled-as : (settled handles : ℕ) (trail : List Entry) → settled ≡ past_after 0 trail → (past : ℕ) × Follow 0 0 past trail × (past ≤ handles) → Follow 0 0 settled trail × (settled ≤ handles)
+-- where a trail ends
+ends-at : (past : ℕ) (trail : List Entry) → Follow (start_of trail) 0 past trail → past_after 0 trail ≡ past
+ends-at past [] follows = follows
+ends-at past (e ∷ es) follows = follow-past e.first 0 past (e ∷ es) follows
+
+-- the settled handles go up to there
+pub settled-as : (settled handles : ℕ) (trail : List Entry) → settled ≡ past_after 0 trail → (past : ℕ) × Follow (start_of trail) 0 past trail × (past ≤ handles) → Follow (start_of trail) 0 settled trail × (settled ≤ handles)
 settled-as settled handles trail is (past, follows, within) =
-    let same : past ≡ settled = sym (follow-past 0 0 past trail follows) ∙ sym is in
-    (subst (λ p. Follow 0 0 p trail) same follows, omega (arith, same, within))
+    let same : past ≡ settled = sym (ends-at past trail follows) ∙ sym is in
+    (subst (λ p. Follow (start_of trail) 0 p trail) same follows, omega (arith, same, within))
 
 -- how a desk ends, without the seat that has stopped no handle
 pub ends-without : {D : Type 0} (size count faults : D → ℕ) (honest : D → Type 0) (newest : D → Image) (may_leave : D → Image → Type 0) (moment : D → ℕ) (left_since : D → ℕ → Image → Type 0) (b : Begun)

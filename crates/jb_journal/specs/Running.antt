@@ -4,7 +4,7 @@ use Rattle.std.specs.Bool.{OnTrue}
 use Rattle.jb_disk.specs.Image.{Image}
 use Rattle.jb_handle.specs.Word.{WordMap}
 use Rattle.jb_handle.specs.declared.shape.Shape.{Shape}
-use Rattle.jb_deck.specs.Done.{Follow}
+use Rattle.jb_deck.specs.Done.{Follow, start_of}
 use Rattle.jb_desk.specs.Ends.{is_shut}
 use Rattle.jb_desk.specs.declared.ended.Ended.{Ended}
 use Rattle.jb_desk.specs.declared.ended.Ended.TheVariants as ended
@@ -66,9 +66,9 @@ EndsChecked true (Some ended.Aborted) = Unit {0}
 EndsChecked true (Some ended.Memory) = ⊥
 EndsChecked true (Some ended.Refused) = ⊥
 
--- what a run tells of its end: the settled handles are those of the trail, and as many as are told to have stopped where the committer ended as the desk was over
+-- what a run tells of its end: the settled handles go up to where the trail ends, and are as many as are told to have stopped where the committer ended as the desk was over
 pub record EndsRun {T D : Type 0} (checkpoint : Bool) (ran : Ran T D) : Type 0 where
-  pub follows : Follow 0 0 ran.settled ran.trail.items
+  pub follows : Follow (start_of ran.trail.items) 0 ran.settled ran.trail.items
   pub within : ran.settled ≤ ran.handles
   pub all : OnTrue (is_shut ran.commit) (ran.settled ≡ ran.handles)
   pub checked : EndsChecked checkpoint ran.checkpoint

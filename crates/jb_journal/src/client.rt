@@ -1,16 +1,18 @@
 //! What a worker has of the journal.
-ghost use Rattle.std.specs.Prelude.{◌≡◌, ◌<◌, None, Some, IfOk, length};
+ghost use Rattle.std.specs.Prelude.{◌≡◌, ◌<◌, None, Some, IfErr, IfOk, length};
 ghost use Rattle.std.specs.FinMap as map;
 ghost use Rattle.std.specs.Fn.{FnOnceReturnsAtMut};
 ghost use Rattle.jb_handle.specs.Held.{held};
 ghost use Rattle.jb_desk.specs.Desks.{desk_id, shape_in};
 ghost use Rattle.jb_desk.specs.Seats.{made_by, desk_of, view_of};
+ghost use Rattle.jb_desk.specs.declared.fault.WaitFault.TheVariants.{Taken};
 ghost use Rattle.jb_handle.specs.Handle.{holder, changes_of};
 ghost use Rattle.jb_handle.specs.Word.{WordMap};
 ghost use Rattle.jb_journal.specs.Changing.{AnswersChange, Stops};
 
 use crate::fault::HandleFault;
-use jb_deck::ReadHomeFault;
+use jb_block::Memory;
+use jb_deck::{Entry, ReadHomeFault};
 use jb_desk::{Desk, Origin, Seat, StopFault, WaitFault};
 use jb_disk::{Clock, Disk};
 use jb_handle::Handle;
@@ -27,7 +29,7 @@ pub struct Client<'a, D: Disk, C: Clock, R, H: Origin, N: Ledger> {
 }
 
 impl<'a, D: Disk, C: Clock, R: Wait + time::Clock, H: Origin, N: Ledger> Client<'a, D, C, R, H, N> {
-    ghost use Rattle.jb_desk.specs.Journal.{ReadsHome};
+    ghost use Rattle.jb_desk.specs.Journal.{GivesTrail, ReadsHome};
     ghost use Rattle.jb_journal.specs.Client.{IsClient, made_from, seen_by, shape_of, client_stops};
 
     /// A client at a desk, where handles may stop with any words.
@@ -110,6 +112,20 @@ impl<'a, D: Disk, C: Clock, R: Wait + time::Clock, H: Origin, N: Ledger> Client<
         self.desk.read(self.rt, home, buf)
     }
 
+    /// Takes the entries of groups that are settled and home from the front of the trail; the last one stays. A journal
+    /// that runs for long takes them now and then, as the trail grows by an entry for each transaction. What was taken
+    /// is not in [`Ran::trail`](crate::Ran::trail). Waits while the disk is at work for another thread.
+    ///
+    /// # Errors
+    ///
+    /// `Memory` where there is none for the entries: none is taken.
+    pub fn take_trail(&self) -> Result<Vec<Entry>, Memory>
+        ensures { GivesTrail D.size D.count D.faults D.honest D.newest D.may_leave D.moment D.left_since H.begun
+            result }
+    {
+        self.desk.take_trail(self.rt)
+    }
+
     /// The seat is put back.
     fn sit(&mut self, seat: Seat<H, N>)
         requires { self.old.seat ≡ None }
@@ -130,11 +146,13 @@ impl<'a, D: Disk, C: Clock, R: Wait + time::Clock, H: Origin, N: Ledger> Client<
     ///
     /// # Errors
     ///
-    /// `Aborted` where the journal has failed and the handle is not committed; `Unknown` where no handle has the ticket.
+    /// `Aborted` where the journal has failed and the handle is not committed; `Taken` where it is committed and the
+    /// entry of its transaction was taken from the trail; `Unknown` where no handle has the ticket.
     pub fn wait(&mut self, ticket: u64) -> Result<u32, WaitFault>
         requires client { IsClient H.begun self.old }
         ensures client { IsClient H.begun self.new }
         ensures settled { IfOk result (λ _. ticket < (seen_by self.new).settled) }
+        ensures taken { IfErr result (λ fault. fault ≡ Taken → ticket < (seen_by self.new).settled) }
         ensures shape { shape_of self.new ≡ shape_of self.old }
         ensures kept { client_stops self.new ≡ client_stops self.old }
     {

@@ -14,7 +14,8 @@ pub struct Ran<T, D> {
     pub settled: u64,
     /// How many home blocks these had touched, added up.
     pub changes: u64,
-    /// The transactions that were committed, in the order of their tickets.
+    /// The transactions that were committed, in the order of their tickets, without those that a worker has taken from
+    /// the trail. They begin at the ticket 0 where none was.
     pub trail: Vec<Entry>,
     /// How the committer ended. Where it is `Shut`, every handle that stopped is settled. Otherwise the journal is to
     /// be recovered, and the handles after the settled ones may be lost.

@@ -1,7 +1,7 @@
 //! What a load did is counted up.
-ghost use Rattle.std.specs.Prelude.{◌≡◌, ℕ, ◌<◌, ◌^◌};
+ghost use Rattle.std.specs.Prelude.{◌≡◌, ℕ, ◌<◌, ◌^◌, ◌↔◌, IsTrue};
 ghost use Rattle.std.specs.List.{sum_by};
-ghost use Rattle.jb_deck.specs.Done.{Follow};
+ghost use Rattle.jb_deck.specs.Done.{Follow, start_of};
 ghost use Rattle.jb_load.specs.Running.{CountsUp};
 
 use crate::loaded::{Loaded, Outcome};
@@ -30,6 +30,16 @@ pub(crate) fn count_up<D: Drop, C: Drop>(
         refused: outcome.refused,
         commit: outcome.commit,
         checkpoint: outcome.checkpoint,
+    }
+}
+
+/// Whether a trail begins at the ticket 0, as it does where no entry was taken from it.
+pub(crate) fn begins_at_first(trail: &[Entry]) -> bool
+    ensures { IsTrue result ↔ (start_of trail.now ≡ 0) }
+{
+    match trail.first() {
+        Some(entry) => entry.first == 0,
+        None => true,
     }
 }
 

@@ -8,7 +8,7 @@ ghost use Rattle.jb_deck.specs.Deck.{IsShapeOf};
 ghost use Rattle.jb_handle.specs.declared.shape.Shape.{Shape as ShapeValue};
 ghost use Rattle.jb_load.specs.declared.fault.LoadFault.TheVariants.{Accounts, Memory as OutOfMemory};
 
-use crate::counting::count_up;
+use crate::counting::{begins_at_first, count_up};
 use crate::fault::LoadFault;
 use crate::gather::Gathered;
 use crate::loaded::{Loaded, Outcome};
@@ -39,7 +39,8 @@ const PARTS: u64 = (1 << 61) + 1;
 /// - `BlockSize` where the block size of the queue is not the disk's.
 /// - `Open` where the journal was not opened.
 /// - `Memory` where there was none for the desk or a thread's answer; handles may have been committed then.
-/// - `Accounts` where the desk's sums do not agree, or its journal has another shape, which cannot happen.
+/// - `Accounts` where the desk's sums do not agree, its journal has another shape, or its trail was taken, which cannot
+///   happen.
 pub fn load_on<
     D: Disk + Drop + Send,
     C: Clock + Drop + Send,
@@ -171,6 +172,10 @@ fn load_at<
         return Err(LoadFault::Accounts);
     };
     if closed.shape != shape {
+        return Err(LoadFault::Accounts);
+    }
+    // nobody takes entries from the trail of a load
+    if !begins_at_first(&closed.trail) {
         return Err(LoadFault::Accounts);
     }
     let outcome = Outcome {

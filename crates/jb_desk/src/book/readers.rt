@@ -7,12 +7,12 @@ use jb_handle::{Shape, Words};
 use jb_history::{History, Made, Scribe};
 
 impl<S: Origin> Book<S> {
-    ghost use Rattle.std.specs.Prelude.{◌≡◌, ℕ, ◌<◌, ◌≤◌, ◌^◌, ◌↔◌, List, [], ◌∷◌, ◌++◌, length, IfSome, IfNone, IsTrue};
+    ghost use Rattle.std.specs.Prelude.{◌≡◌, ℕ, ◌<◌, ◌≤◌, ◌^◌, ◌↔◌, ◌⊎◌, List, [], ◌∷◌, ◌++◌, length, IfSome, IfNone, IsTrue};
     ghost use Rattle.jb_handle.specs.declared.stopped.Stopped.{Stopped};
     ghost use Rattle.jb_history.specs.Rule.{with_last};
     ghost use Rattle.jb_desk.specs.Account.{IsSound, IsOver, IsSettledBy, CanTake};
     ghost use Rattle.jb_desk.specs.Shadow.{reserved};
-    ghost use Rattle.jb_deck.specs.Done.{Follow};
+    ghost use Rattle.jb_deck.specs.Done.{Follow, start_of};
 
     /// The shape of the journal that its handles are for.
     pub fn shape(&self) -> Shape
@@ -59,7 +59,7 @@ impl<S: Origin> Book<S> {
         self.open_sum + self.line_sum
     }
 
-    /// The groups that are settled, in the order of their tickets.
+    /// The groups that are settled and were not taken, in the order of their tickets.
     pub fn trail(&self) -> &[Entry]
         ensures { result.now ≡ self.now.trail }
     {
@@ -94,20 +94,24 @@ impl<S: Origin> Book<S> {
         self.shut
     }
 
-    /// The number of the transaction that settled a ticket. `None` where it is not settled.
+    /// The number of the transaction that settled a ticket. `None` where it is not settled, or where the group's entry
+    /// was taken.
     pub fn number_of(&self, ticket: u64) -> Option<u32>
         ensures some { IfSome result (λ number. IsSettledBy self.now.trail ticket number) }
         ensures settled { IfSome result (λ _. (ticket < self.now.shadow.settled) × (ticket < 2 ^ 61)) }
         ensures given { IfSome result (λ _. ticket < self.now.shadow.next) }
-        ensures none { IfNone result (self.now.shadow.settled ≤ ticket) }
+        ensures none { IfNone result ((ticket < start_of self.now.trail) ⊎ (self.now.shadow.settled ≤ ticket)) }
     {
+        if ticket < self.start() {
+            return None;
+        }
         number_in(&self.trail, ticket)
     }
 
     /// Takes the book apart, into its trail.
     pub fn into_trail(self) -> Vec<Entry>
         ensures value { result.items ≡ self.trail }
-        ensures tiles { (past : ℕ) × Follow 0 0 past result.items × (past ≤ self.shadow.next) }
+        ensures tiles { (past : ℕ) × Follow (start_of result.items) 0 past result.items × (past ≤ self.shadow.next) }
     {
         let Book { trail, .. } = self;
         trail

@@ -1,7 +1,7 @@
 //! A desk is closed.
 ghost use Rattle.std.specs.Prelude.{◌≡◌, ℕ, ◌+◌, ◌≤◌, ◌^◌, IfOk, IfErr, vec_len, map};
 ghost use Rattle.std.specs.List.{sum_by};
-ghost use Rattle.jb_deck.specs.Done.{Follow};
+ghost use Rattle.jb_deck.specs.Done.{Follow, start_of};
 ghost use Rattle.jb_desk.specs.Seats.{stops_left, changes_left, made_left};
 ghost use Rattle.jb_desk.specs.History.{EndsWith};
 ghost use Rattle.jb_desk.specs.Closing.{DiffersAs};
@@ -34,7 +34,8 @@ pub struct Closed<D, C> {
     pub changes: u64,
     /// What the handles had to fit in the journal.
     pub shape: Shape,
-    /// The groups that were settled, in the order of their tickets.
+    /// The groups that were settled, in the order of their tickets, without those whose entries were taken. They begin
+    /// at the ticket 0 where none was.
     pub trail: Vec<Entry>,
 }
 
@@ -88,8 +89,8 @@ impl<D: Disk, C: Clock, H: Origin, N: Ledger> Desk<D, C, H, N> {
         ensures handles { IfOk result (λ closed. closed.handles ≡ sum_by stops_left lefts.items) }
         ensures changes { IfOk result (λ closed. closed.changes ≡ sum_by changes_left lefts.items) }
         ensures few { IfOk result (λ closed. (closed.handles ≤ 2 ^ 61) × (closed.changes ≤ 2 ^ 61)) }
-        ensures trail { IfOk result (λ closed. (past : ℕ) × Follow 0 0 past closed.trail.items
-            × (past ≤ closed.handles)) }
+        ensures trail { IfOk result (λ closed. (past : ℕ) × Follow (start_of closed.trail.items) 0 past
+            closed.trail.items × (past ≤ closed.handles)) }
         ensures since { IfOk result (λ closed. EndsSince D.size D.count D.faults D.honest D.newest D.may_leave D.moment
             D.left_since H.begun closed.disk closed.trail.items) }
         ensures stops { IfOk result (λ closed. EndsWith D.size D.count D.faults D.honest D.newest D.may_leave D.moment
@@ -141,7 +142,8 @@ fn close_parts<D: Disk, C: Clock, H: Origin, N: Ledger>(
     ensures few { IfOk result (λ closed. (closed.handles ≤ 2 ^ 61) × (closed.changes ≤ 2 ^ 61)) }
     ensures trail { IfOk result (λ closed. (closed.trail.items ≡ counter.book.trail)
         × (closed.trail.items ≡ works.deck.trail)) }
-    ensures tiles { IfOk result (λ closed. (past : ℕ) × Follow 0 0 past closed.trail.items × (past ≤ closed.handles)) }
+    ensures tiles { IfOk result (λ closed. (past : ℕ) × Follow (start_of closed.trail.items) 0 past closed.trail.items
+        × (past ≤ closed.handles)) }
     ensures since { IfOk result (λ closed. EndsSince D.size D.count D.faults D.honest D.newest D.may_leave D.moment
         D.left_since H.begun closed.disk closed.trail.items) }
     ensures stops { IfOk result (λ closed. EndsWith D.size D.count D.faults D.honest D.newest D.may_leave D.moment

@@ -23,6 +23,7 @@ returns-clause-since g c =
     let ends = c.in-Ok.ensures.stops in
     let counts = c.count_up-loaded.ensures.counts in
     let tiles = c.in-Ok.ensures.trail in
+    let begins : start_of trail ≡ 0 = starts c in
     let shape : ends.deck.shape ≡ c.args.shape = ends.same_shape ∙ shape-same c.in-Ok.closed.shape c.args.shape c.if-ne.ensures in
     let costs : All (IsCosted c.args.shape ends.since.given) trail =
     subst (λ (x : Shape × List Entry). All (IsCosted x.0 ends.since.given) x.1) (λ i. (shape i, ends.same_trail i)) ends.since.has.costs in
@@ -39,7 +40,7 @@ returns-clause-since g c =
           handles = counts.have_stopped ∙ sym ends.number;
           changes = counts.have_changed ∙ c.in-Ok.ensures.changes ∙ gathered.changes;
           follows = counts.follows;
-          within = (let one = follow-past 0 0 c.count_up-loaded.result.settled trail counts.follows in let other = follow-past 0 0 tiles.0 trail tiles.1 in let most = tiles.2 in omega (arith, one, other, most, counts.have_stopped));
+          within = (let one = follow-past 0 0 c.count_up-loaded.result.settled trail counts.follows in let other = follow-past 0 0 tiles.0 trail (subst (λ n. Follow n 0 tiles.0 trail) begins tiles.1) in let most = tiles.2 in omega (arith, one, other, most, counts.have_stopped));
           groups = counts.groups;
           blocks = counts.blocks ∙ blocks-are ends.log ends.since.given stand ends.since.has.tickets c.args.shape trail costs;
         };

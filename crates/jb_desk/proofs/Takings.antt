@@ -1,0 +1,98 @@
+-- Entries that are taken from the trail of a journal since its desk was started.
+use Rattle.std.proofs.Common.{◌≡◌, ℕ, ◌≤◌, List, ◌++◌, length, drop, All, Result, Ok, Err, IfOk, OnErr, refl, ap, sym, subst, ◌∙◌}
+use Rattle.std.proofs.Math.Seq.{drop-append_seam}
+use Rattle.std.proofs.lemmas.List.Elements.{All-drop}
+use Rattle.std.specs.Global.{Vec}
+use Rattle.std.specs.declared.alloc.AllocError.{AllocError}
+use Rattle.jb_disk.specs.Image.{Image}
+use Rattle.jb_handle.specs.declared.stopped.Stopped.{Stopped}
+use Rattle.jb_deck.specs.Deck.{OpenDeck}
+use Rattle.jb_deck.specs.Done.{past_after}
+use Rattle.jb_deck.specs.Taking.{CanTake, TakesTrail, oldest_number}
+use Rattle.jb_deck.specs.declared.done.Entry.{Entry}
+use Rattle.jb_deck.proofs.Takings.{next-rest}
+use Rattle.jb_desk.specs.Journal.{GivesTrail}
+use Rattle.jb_desk.specs.Origin.{Begun}
+use Rattle.jb_desk.specs.Since.{HasFirst, IsCosted, IsSince, IsSinceOf, Since, WasGiven, may_stop}
+use Rattle.jb_desk.proofs.Sincing.{is-weaker, weaker-given}
+
+-- what holds of all entries holds of the last ones
+all-rest : (P : Entry → Type 0) (all taken rest : List Entry) → all ≡ taken ++ rest → All P all → All P rest
+all-rest P all taken rest is each = subst (All P) (ap (drop (length taken)) is ∙ drop-append_seam taken rest) (All-drop P (length taken) all each)
+
+module _ {D : Type 0} (size count faults : D → ℕ) (honest : D → Type 0) (newest : D → Image) (may_leave : D → Image → Type 0) (moment : D → ℕ) (left_since : D → ℕ → Image → Type 0) (b : Begun) (known : Stopped → Type 0) (plain : (h : Stopped) → known h → b.stops h.words) (past : ℕ) (old new : OpenDeck D) where
+  abbrev Is : OpenDeck D → Type 0
+  Is d = IsSinceOf size count faults honest newest may_leave moment left_since b known d
+
+  abbrev Stands : List Stopped → OpenDeck D → Type 0
+  Stands given d = Since size count faults honest newest may_leave moment left_since b given d
+
+  plain-is : (d : OpenDeck D) → Is d → IsSince size count faults honest newest may_leave moment left_since b d
+  plain-is d is = is-weaker size count faults honest newest may_leave moment left_since b known (may_stop b) plain d is
+
+  given-same : (d : OpenDeck D) (is : Is d) → (plain-is d is).given ≡ is.given
+  unfolding plain-is
+  given-same d is = weaker-given size count faults honest newest may_leave moment left_since b known (may_stop b) plain d is
+
+  module _ (taken : List Entry) (takes : TakesTrail past old new taken) where
+    -- the journal with what is left of its trail
+    abbrev left : OpenDeck D
+    left = record old { trail = new.trail }
+
+    -- the last entry is the same
+    ends : past_after 0 old.trail ≡ past_after 0 new.trail
+    ends = ap (past_after 0) takes.is ∙ (next-rest (oldest_number old) past taken new.trail takes.stops).0
+
+    left-given : (given : List Stopped) → WasGiven known given old → WasGiven known given left
+    left-given given has = record {
+      stopped = has.stopped;
+      tickets = has.tickets;
+      settled = subst (λ n. n ≤ length given) ends has.settled;
+      all = λ up. has.all up ∙ ends;
+      costs = all-rest (IsCosted old.shape given) old.trail taken new.trail takes.is has.costs;
+    }
+
+    left-stands : (given : List Stopped) → Stands given old → Stands given left
+    left-stands given s = record {
+      same_size = s.same_size;
+      same_count = s.same_count;
+      stays_honest = s.stays_honest;
+      no_fewer = s.no_fewer;
+      up = s.up;
+      same = s.same;
+      stood = s.stood;
+      live = s.live;
+      now = λ c may. subst (λ n. HasFirst b given n c) ends (s.now c may);
+      later = s.later;
+      ever = s.ever;
+    }
+
+    taken-since : Is old → Is new
+    taken-since is = record {
+      given = is.given;
+      has = subst (λ (d : OpenDeck D). WasGiven known is.given d) (sym takes.same) (left-given is.given is.has);
+      since = λ h. subst (λ (d : OpenDeck D). Stands is.given d) (sym takes.same) (left-stands is.given (is.since h));
+    }
+
+  abbrev Takes : Result (Vec Entry) AllocError → Type 0
+  Takes r = IfOk r (λ taken. TakesTrail past old new taken.items)
+
+  abbrev Keeps : Result (Vec Entry) AllocError → Type 0
+  Keeps r = OnErr r ((new ≡ old) × CanTake (oldest_number old) past old.trail)
+
+  pub take-since : (r : Result (Vec Entry) AllocError) → Takes r → Keeps r → Is old → Is new
+  take-since (Ok taken) takes keeps is = taken-since taken.items takes is
+  take-since (Err memory) takes keeps is = subst (λ (d : OpenDeck D). Is d) (sym keeps.0) is
+
+  pub gives-trail : (r : Result (Vec Entry) AllocError) → Takes r → Keeps r → Is old → GivesTrail size count faults honest newest may_leave moment left_since b r
+  unfolding taken-since plain-is
+  gives-trail (Ok taken) takes keeps is = record {
+    past = past;
+    old = old;
+    new = new;
+    takes = takes;
+    before = plain-is old is;
+    after = plain-is new (taken-since taken.items takes is);
+    same = given-same new (taken-since taken.items takes is) ∙ sym (given-same old is);
+  }
+  gives-trail (Err memory) takes keeps is = record { past = past; deck = old; since = plain-is old is; some = keeps.1 }

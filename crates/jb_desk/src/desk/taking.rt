@@ -1,0 +1,34 @@
+//! Entries are taken from the front of the trail.
+use crate::desk::Desk;
+use crate::origin::Origin;
+use jb_block::Memory;
+use jb_deck::Entry;
+use jb_disk::{Clock, Disk};
+use std::sync::Wait;
+use std::sync::ledger::Ledger;
+
+impl<D: Disk, C: Clock, H: Origin, N: Ledger> Desk<D, C, H, N> {
+    ghost use Rattle.jb_desk.specs.Journal.{GivesTrail};
+
+    /// Takes the entries of groups that are settled and home from the front of the trail, which so does not grow for
+    /// ever. The last entry always stays. A [`wait`](Desk::wait) for a ticket of an entry that was taken answers
+    /// `Taken`, and [`close`](Desk::close) gives only the entries that were not. Waits while the disk is at work for
+    /// another thread; the book is not locked meanwhile.
+    ///
+    /// # Errors
+    ///
+    /// `Memory` where there is none for the entries: none is taken.
+    pub fn take_trail<R: Wait>(&self, rt: &R) -> Result<Vec<Entry>, Memory>
+        ensures { GivesTrail D.size D.count D.faults D.honest D.newest D.may_leave D.moment D.left_since H.begun
+            result }
+    {
+        // the book may be behind the journal, never ahead of it; what it has last stays in both
+        let past = self.counter.lock(rt).last_start();
+        let taken = self.works.lock(rt).take_trail(past);
+        let taken = taken?;
+        if let Some(entry) = taken.last() {
+            self.counter.lock(rt).drop_to(entry.past);
+        }
+        Ok(taken)
+    }
+}
