@@ -3,9 +3,7 @@ ghost use Rattle.std.specs.Prelude.{◌≡◌, [], false, length, All, IfOk, OnE
 use crate::checkpoint::CheckpointRound;
 use crate::origin::Origin;
 use jb_block::Memory;
-use jb_deck::{
-    BatchFault, Checked, CheckpointFault, Deck, Done, Entry, Prepared, ReadHomeFault,
-};
+use jb_deck::{BatchFault, Checked, CheckpointFault, Deck, Done, Entry, Prepared, ReadHomeFault};
 use jb_disk::{Clock, Disk};
 use jb_handle::Words;
 use jb_history::{History, Sight};

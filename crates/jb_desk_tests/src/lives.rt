@@ -115,7 +115,7 @@ fn rounds<R: Wait, D: Disk, H: Origin, N: Ledger>(
     seat
 }
 
-fn lived<R: Wait, H: Origin, N: Ledger>(
+fn outcome<R: Wait, H: Origin, N: Ledger>(
     rt: &R,
     alloc: Global,
     life: Life,
@@ -137,10 +137,7 @@ fn lived<R: Wait, H: Origin, N: Ledger>(
     };
     let mut seat = rounds(rt, &desk, seat, life, &mut taken);
     let last = life.rounds.saturating_sub(1);
-    let numbers = (
-        desk.wait(rt, &mut seat, 0),
-        desk.wait(rt, &mut seat, last),
-    );
+    let numbers = (desk.wait(rt, &mut seat, 0), desk.wait(rt, &mut seat, last));
     lefts.push_reserved(desk.leave(rt, seat));
     let Ok(closed) = desk.close(lefts) else {
         return Ok(None);
@@ -158,7 +155,7 @@ fn lived<R: Wait, H: Origin, N: Ledger>(
     }))
 }
 
-fn life<R: Wait, H: Origin, N: Ledger>(
+fn live<R: Wait, H: Origin, N: Ledger>(
     rt: &R,
     alloc: Global,
     life: Life,
@@ -180,7 +177,7 @@ fn life<R: Wait, H: Origin, N: Ledger>(
     let Ok(desk) = start::<_, _, H, N>(alloc, handles, changes, deck, CLOCK) else {
         return Err(Memory);
     };
-    lived(rt, alloc, life, desk)
+    outcome(rt, alloc, life, desk)
 }
 
 /// Where each group is brought home at once, the trail has two entries at most; where none is but for room, the 32 blocks
@@ -261,7 +258,7 @@ const ROWS: [(Life, Lived); 5] = [
 #[test]
 fn a_trail_that_is_taken_stays_short(rt: HostRuntime) -> Result<(), Fail> {
     for (index, (row, wanted)) in ROWS.into_iter().enumerate() {
-        let found = life::<HostRuntime, Brand, Brand>(
+        let found = live::<HostRuntime, Brand, Brand>(
             &rt,
             rt.alloc(),
             row,

@@ -1,11 +1,11 @@
 use Rattle.jb_desk.specs.History.{history_in}
 use Rattle.jb_desk_tests.proofs.lives.a_trail_that_is_taken_stays_short.Given as goal
 
-abbrev pub ghosts-life-H-Ledger : goal.ghosts-life-H-Ledger
-ghosts-life-H-Ledger g a = record { name = a.handles.tickets.name; parts = a.handles.tickets.parts }
+abbrev pub ghosts-live-H-Ledger : goal.ghosts-live-H-Ledger
+ghosts-live-H-Ledger g a = record { name = a.handles.tickets.name; parts = a.handles.tickets.parts }
 
-abbrev pub ghosts-life-H-Place : goal.ghosts-life-H-Place
-ghosts-life-H-Place g a = record { history = history_in a.handles }
+abbrev pub ghosts-live-H-Place : goal.ghosts-live-H-Place
+ghosts-live-H-Place g a = record { history = history_in a.handles }
 
-abbrev pub ghosts-life-N-Ledger : goal.ghosts-life-N-Ledger
-ghosts-life-N-Ledger g a = record { name = a.changes.name; parts = a.changes.parts }
+abbrev pub ghosts-live-N-Ledger : goal.ghosts-live-N-Ledger
+ghosts-live-N-Ledger g a = record { name = a.changes.name; parts = a.changes.parts }

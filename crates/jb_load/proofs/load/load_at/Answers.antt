@@ -1,7 +1,8 @@
-use Rattle.std.proofs.Common.{◌≡◌, List, All, IfOk, sym, subst, ◌∙◌, arith}
+use Rattle.std.proofs.Common.{rules, ◌≡◌, List, All, IfOk, sym, subst, ◌∙◌, arith}
 use Rattle.std.proofs.lemmas.List.Elements.{All-weaker}
 use Rattle.jb_handle.specs.declared.shape.Shape.{Shape}
 use Rattle.jb_deck.specs.declared.done.Entry.{Entry}
+use Rattle.jb_deck.specs.Done.{Follow, start_of}
 use Rattle.jb_deck.proofs.Shapes.{shape-same}
 use Rattle.jb_desk.specs.Desks.{shape_in}
 use Rattle.jb_desk.specs.History.{AreAllStops, IsInHistory, IsStop}
@@ -23,7 +24,7 @@ returns-clause-since g c =
     let ends = c.in-Ok.ensures.stops in
     let counts = c.count_up-loaded.ensures.counts in
     let tiles = c.in-Ok.ensures.trail in
-    let begins : start_of trail ≡ 0 = starts c in
+    let begins : start_of trail ≡ 0 = search rules in
     let shape : ends.deck.shape ≡ c.args.shape = ends.same_shape ∙ shape-same c.in-Ok.closed.shape c.args.shape c.if-ne.ensures in
     let costs : All (IsCosted c.args.shape ends.since.given) trail =
     subst (λ (x : Shape × List Entry). All (IsCosted x.0 ends.since.given) x.1) (λ i. (shape i, ends.same_trail i)) ends.since.has.costs in
