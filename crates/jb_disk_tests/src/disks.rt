@@ -44,6 +44,28 @@ fn look_run<D: Disk>(disk: &mut D, place: u64, blocks: usize) -> Result<[u8; 6],
     Ok(ends)
 }
 
+/// Fills up to three blocks in a row, by one call, with 7, 8 and 9.
+fn fill_run<D: Disk>(disk: &mut D, place: u64, blocks: usize) -> Result<(), Fault> {
+    let count = disk.blocks();
+    if blocks == 0 || 3 < blocks || count < place || count - place < blocks as u64 {
+        return Err(Fault);
+    }
+    let size = disk.block_size().bytes() as usize;
+    let mut bytes = [9; 3 * 4096];
+    bytes[..size].fill(7);
+    bytes[size..2 * size].fill(8);
+    disk.write_run(place, blocks, &bytes[..size * blocks])
+}
+
+/// The first five blocks of a disk, each as `look` sees it.
+fn look_each<D: Disk>(disk: &mut D) -> Result<[[u8; 4]; 5], Fault> {
+    let mut blocks = [[0; 4]; 5];
+    for place in 0..5 {
+        blocks[place] = look(disk, place as u64)?;
+    }
+    Ok(blocks)
+}
+
 /// Fills each of the first five blocks of a disk with its place and one more.
 fn number<D: Disk>(disk: &mut D) -> Result<(), Fault> {
     for byte in 1..6u8 {
@@ -157,6 +179,94 @@ fn a_run_gives_each_of_its_blocks(rt: HostRuntime) -> Result<(), Fail> {
         file.as_mut().map(|disk| look_run(disk, 1, 3)),
         Some(Err(Fault))
     );
+    fs::remove_file(&rt, PATH)?;
+    let _ = fs::remove_dir(&rt, "data");
+    Ok(())
+}
+
+/// Three blocks in a row that are written by one call, by the number of calls that pass a fuse: whether it succeeds, what
+/// is read then, and what a crash leaves by a choice: each sector is old or new by itself, whatever the others are.
+#[test]
+fn a_run_is_written_block_by_block(rt: HostRuntime) -> Result<(), Fail> {
+    let all = [[1; 4], [7; 4], [8; 4], [9; 4], [5; 4]];
+    let old = [[1; 4], [2; 4], [3; 4], [4; 4], [5; 4]];
+    let rows: [(u64, &[u32], bool, [[u8; 4]; 5], [[u8; 4]; 5]); 7] = [
+        (3, &[], true, all, old),
+        (3, &[1, 1, 1, 1, 1, 1], true, all, all),
+        (
+            3,
+            &[0, 1, 1, 0, 0, 1],
+            true,
+            all,
+            [[1; 4], [2, 2, 7, 7], [8, 8, 3, 3], [4, 4, 9, 9], [5; 4]],
+        ),
+        (
+            3,
+            &[0, 0, 0, 0, 1, 0],
+            true,
+            all,
+            [[1; 4], [2; 4], [3; 4], [9, 9, 4, 4], [5; 4]],
+        ),
+        (
+            2,
+            &[1, 0, 0, 1, 1, 1],
+            false,
+            [[1; 4], [7; 4], [8; 4], [4; 4], [5; 4]],
+            [[1; 4], [7, 7, 2, 2], [3, 3, 8, 8], [4; 4], [5; 4]],
+        ),
+        (
+            1,
+            &[0, 1, 1, 1, 1, 1],
+            false,
+            [[1; 4], [7; 4], [3; 4], [4; 4], [5; 4]],
+            [[1; 4], [2, 2, 7, 7], [3; 4], [4; 4], [5; 4]],
+        ),
+        (0, &[1, 1, 1, 1, 1, 1], false, old, old),
+    ];
+    for (calls, choice, written, found, left) in rows {
+        let mut disk = MemoryDisk::new(rt.alloc(), BlockSize::OneKib, 5)?;
+        assert_eq!(rt; number(&mut disk), Ok(()));
+        assert_eq!(rt; disk.sync(), Ok(()));
+        let mut fuse = FuseDisk::of(disk, calls);
+        assert_eq!(rt; fill_run(&mut fuse, 1, 3).is_ok(), written, "at {calls}");
+        let mut disk = fuse.into_inner();
+        assert_eq!(rt; look_each(&mut disk), Ok(found), "at {calls}");
+        assert_eq!(rt; look_each(&mut disk.crash(choice)?), Ok(left), "at {calls}");
+    }
+    Ok(())
+}
+
+/// Three blocks in a row of a file: its other blocks stay, and so do all in a file that may only be read.
+#[test]
+fn a_run_is_written_to_a_file(rt: HostRuntime) -> Result<(), Fail> {
+    const PATH: &str = "data/written.img";
+    let _ = fs::create_dir(&rt, "data");
+    fs::write(&rt, PATH, [0; 5 * 1024 + 700].as_slice())?;
+    let rows = [
+        (3, 1, [1, 2, 3, 7, 5]),
+        (1, 3, [1, 7, 8, 9, 5]),
+        (3, 2, [1, 7, 8, 7, 8]),
+    ];
+    let mut file = opened(OpenOptions::new().read(true).write(true).open(&rt, PATH)?);
+    let mut again = opened(File::open(&rt, PATH)?);
+    if let (Some(disk), Some(reader)) = (&mut file, &mut again) {
+        assert_eq!(rt; number(disk), Ok(()));
+        for (place, blocks, found) in rows {
+            assert_eq!(rt; fill_run(disk, place, blocks), Ok(()), "at {place}");
+            assert_eq!(rt;
+                look_each(reader),
+                Ok(found.map(|byte| [byte; 4])),
+                "at {place}"
+            );
+        }
+        assert_eq!(rt; fill_run(reader, 0, 3), Err(Fault));
+        assert_eq!(rt;
+            look_each(reader),
+            Ok([1, 7, 8, 7, 8].map(|byte| [byte; 4]))
+        );
+    }
+    assert_eq!(rt; again.map(|disk| disk.blocks()), Some(5));
+    assert_eq!(rt; fs::metadata(&rt, PATH)?.len(), 5 * 1024 + 700);
     fs::remove_file(&rt, PATH)?;
     let _ = fs::remove_dir(&rt, "data");
     Ok(())

@@ -38,6 +38,22 @@ fn look_run<D: Disk>(disk: &mut D, place: u64, blocks: usize) -> Result<[u8; 4],
     Ok([bytes[0], bytes[1024], bytes[2048], bytes[3072]])
 }
 
+/// Fills up to four blocks in a row, by one call, with 5, 6, 7 and 8.
+fn fill_run<D: Disk>(disk: &mut D, place: u64, blocks: usize) -> Result<(), Fault> {
+    let count = disk.blocks();
+    if blocks == 0 || 4 < blocks || count < place || count - place < blocks as u64 {
+        return Err(Fault);
+    }
+    if disk.block_size() != BlockSize::OneKib {
+        return Err(Fault);
+    }
+    let mut bytes = [5; 4096];
+    bytes[1024..2048].fill(6);
+    bytes[2048..3072].fill(7);
+    bytes[3072..].fill(8);
+    disk.write_run(place, blocks, &bytes[..1024 * blocks])
+}
+
 /// The first bytes of the two blocks of a disk, and of what a crash leaves at least of it.
 fn found(disk: &mut MemoryDisk) -> Result<[Result<u8, Fault>; 4], Fail> {
     let mut left = disk.crash(&[])?;
@@ -158,6 +174,43 @@ fn a_run_is_read_where_its_blocks_are(rt: HostRuntime) -> Result<(), Fail> {
         assert_eq!(rt;
             look_run(&mut disk, place, blocks).is_err(),
             second,
+            "at {place}"
+        );
+    }
+    Ok(())
+}
+
+/// A run of blocks is written to the disk that has them, or to both, the first disk's first: by the number of the call
+/// that fails of each, whether it succeeds, and the four blocks then.
+#[test]
+fn a_run_is_written_where_its_blocks_are(rt: HostRuntime) -> Result<(), Fail> {
+    let rows = [
+        (0, 2, 9, 9, true, [5, 6, 0, 0]),
+        (1, 2, 9, 9, true, [0, 5, 6, 0]),
+        (2, 2, 9, 9, true, [0, 0, 5, 6]),
+        (3, 1, 9, 9, true, [0, 0, 0, 5]),
+        (0, 4, 9, 9, true, [5, 6, 7, 8]),
+        (0, 4, 1, 9, false, [5, 0, 0, 0]),
+        (1, 3, 9, 0, false, [0, 5, 0, 0]),
+        (1, 3, 9, 1, false, [0, 5, 6, 0]),
+    ];
+    for (place, blocks, front, back, written, held) in rows {
+        let mut disk = two(rt.alloc(), front, back)?;
+        assert_eq!(rt;
+            fill_run(&mut disk, place, blocks).is_ok(),
+            written,
+            "at {place}"
+        );
+        let (one, other) = disk.into_parts();
+        let [first, second, third, fourth] = held;
+        assert_eq!(rt;
+            found(&mut one.into_inner())?,
+            [first, second, 0, 0].map(Ok),
+            "at {place}"
+        );
+        assert_eq!(rt;
+            found(&mut other.into_inner())?,
+            [third, fourth, 0, 0].map(Ok),
             "at {place}"
         );
     }
