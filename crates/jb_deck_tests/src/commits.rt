@@ -5,6 +5,7 @@ use crate::homes::FREES;
 use crate::images::{BLOCKS, HOMES, MAGIC, Row};
 use crate::rounds::{ROUNDS, SIX, SIX_COPIES};
 use crate::scripts::{Refusal, Step};
+use crate::taking::TAKINGS;
 use jb_block::Width;
 use jb_deck::FreeFault;
 use std::test::Fail;
@@ -215,5 +216,6 @@ fn batches_are_committed_as_worked_by_hand(rt: HostRuntime) -> Result<(), Fail> 
     assert_eq!(rt; first_case(rt.alloc(), &CASES)?, None);
     assert_eq!(rt; first_case(rt.alloc(), &FREES)?, None);
     assert_eq!(rt; first_case(rt.alloc(), &ROUNDS)?, None);
+    assert_eq!(rt; first_case(rt.alloc(), &TAKINGS)?, None);
     Ok(())
 }

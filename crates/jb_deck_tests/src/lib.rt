@@ -40,4 +40,6 @@ mod seeds;
 #[cfg(test)]
 mod stops;
 #[cfg(test)]
+mod taking;
+#[cfg(test)]
 mod worked;

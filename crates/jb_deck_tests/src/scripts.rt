@@ -34,6 +34,8 @@ pub enum Step {
     Writes(u64, usize, Result<(), FreeFault>),
     /// The last word on a home, whether it is a copy.
     Word(u64, Option<bool>),
+    /// These entries, which have no ticket from this one on, are taken from the trail.
+    Takes(u64, &'static [Told]),
     /// The whole trail, and the number of the next transaction.
     Ends(&'static [Told], u64),
 }
@@ -209,6 +211,7 @@ fn answers<D: Disk>(alloc: Global, deck: &mut Deck<D>, step: Step) -> Result<boo
             Ok(deck.write_free(home, &bytes) == answer)
         }
         Step::Word(home, copy) => Ok(deck.word_of(home).map(Word::is_copy) == copy),
+        Step::Takes(past, entries) => Ok(are(&deck.take_trail(past)?, entries)),
         Step::Ends(trail, next) => Ok(are(deck.trail(), trail) && deck.next_number() == next),
     }
 }

@@ -1,6 +1,6 @@
 //! Calls of the journal.
 
-use crate::journals::{HOME_5, STAMP, let_go, opened, prepared, small, word_at};
+use crate::journals::{HOME_5, STAMP, let_go, opened, prepared, settled_twice, small, word_at};
 use jb_block::MAGIC;
 use jb_deck::{BatchFault, Deck, Done, Entry, OpenFault, Prepared};
 use jb_disk::MemoryDisk;
@@ -90,6 +90,26 @@ fn commit_again(deck: &mut Deck<MemoryDisk>, batch: Prepared) -> Result<Done, Wr
             Err(Wrong::Answer)
         }
     }
+}
+
+/// A journal that ran out of memory keeps its trail, of which it then gives the entry of the group that is home.
+pub fn take_trail_row(rt: &HostRuntime) -> Result<Met, Wrong> {
+    let mut deck = settled_twice(rt.alloc())?;
+    refusing(rt);
+    let first = deck.take_trail(2);
+    ample(rt);
+    let (met, taken) = match first {
+        Ok(taken) => (Met::Ample, taken),
+        Err(_) => {
+            must(deck.trail().len() == 2, Wrong::Stands)?;
+            (Met::Memory, deck.take_trail(2)?)
+        }
+    };
+    must(
+        taken.as_slice() == GROUP.as_slice() && deck.trail().len() == 1,
+        Wrong::Answer,
+    )?;
+    Ok(met)
 }
 
 /// Whether the journal's disk recovers to one of these first words of home 5.

@@ -65,20 +65,42 @@ pub fn opened(alloc: Global) -> Result<Deck<MemoryDisk>, Wrong> {
 
 /// The handle as a batch with its plan.
 pub fn prepared(alloc: Global, shape: Shape) -> Result<Prepared, Wrong> {
-    let handles = match read_queue(alloc, HANDLE) {
+    prepared_from(alloc, 0, shape)
+}
+
+/// The handle as a batch from this ticket on, with its plan.
+fn prepared_from(alloc: Global, first: u64, shape: Shape) -> Result<Prepared, Wrong> {
+    let mut handles = match read_queue(alloc, HANDLE) {
         Ok(queue) => queue.handles,
         Err(_) => return Err(Wrong::Inputs),
     };
-    if !is_batch(0, &handles, shape) {
+    for handle in &mut handles {
+        handle.ticket = first;
+    }
+    if !is_batch(first, &handles, shape) {
         return Err(Wrong::Inputs);
     }
-    match prepare(alloc, Batch::of(0, handles, shape)) {
+    match prepare(alloc, Batch::of(first, handles, shape)) {
         Ok(prepared) => Ok(prepared),
         Err((batch, _)) => {
             let _handles = batch.end();
             Err(Wrong::Inputs)
         }
     }
+}
+
+/// The journal after the handle was committed twice, where the first group is home.
+pub fn settled_twice(alloc: Global) -> Result<Deck<MemoryDisk>, Wrong> {
+    let mut deck = opened(alloc)?;
+    for first in 0..2 {
+        let batch = prepared_from(alloc, first, deck.shape())?;
+        if let Err(fault) = deck.commit_batch(batch, STAMP) {
+            let_go(fault);
+            return Err(Wrong::Inputs);
+        }
+    }
+    must(deck.checkpoint_one().is_ok(), Wrong::Inputs)?;
+    Ok(deck)
 }
 
 /// The journal's disk after the handle was committed.

@@ -49,6 +49,7 @@ fn journal_row(rt: &HostRuntime, name: &str) -> Option<Result<Met, Wrong>> {
         "dump" => Some(disks::dump_row(rt)),
         "Deck::open" => Some(decks::open_row(rt)),
         "commit_batch" => Some(decks::commit_batch_row(rt)),
+        "take_trail" => Some(decks::take_trail_row(rt)),
         _ => None,
     }
 }
