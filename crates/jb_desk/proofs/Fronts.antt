@@ -1,11 +1,10 @@
 -- The front of a trail, and what is left once entries were taken from it.
-use Rattle.std.proofs.Common.{◌≡◌, ℕ, zero, suc, ◌+◌, ◌-◌, ◌<◌, ◌≤◌, Bool, nat_le, if◌then◌else◌, List, [], ◌∷◌, ◌++◌, length, drop, get_or, Option, Some, slice_get, inl, inr, refl, sym, ap, subst, ◌∙◌, arith}
+use Rattle.std.proofs.Common.{◌≡◌, ℕ, zero, suc, ◌+◌, ◌-◌, ◌<◌, ◌≤◌, Bool, if◌then◌else◌, List, [], ◌∷◌, length, drop, get_or, Some, slice_get, inl, inr, refl, sym, ap, subst, ◌∙◌, arith}
 use Rattle.std.proofs.lemmas.Bool.{le-leb, lt-leb, cases_lt}
 use Rattle.jb_deck.specs.declared.done.Entry.{Entry}
-use Rattle.jb_deck.specs.Done.{Follow, least_after, past_after, start_of}
+use Rattle.jb_deck.specs.Done.{Follow, least_after, start_of}
 use Rattle.jb_desk.specs.Account.{Account, IsSound, last_start, shortened, trail_from}
 use Rattle.jb_desk.proofs.Follows.{follow-length}
-use Rattle.jb_desk.proofs.Rounds.{follow-lower}
 
 -- ---- what is left
 

@@ -28,7 +28,7 @@ for-follow c n ticket number (a ∷ bs) is =
     let same : ticket + a ≡ ticket = omega arith in
     subst (λ f. Follow f number (ticket + n) (entries_from c ticket number a bs)) same (from-follow c n a ticket number bs is.1)
 
-pub follow-lower : (first least low past : ℕ) (es : List Entry) → low ≤ least → Follow first least past es → Follow first low past es
+follow-lower : (first least low past : ℕ) (es : List Entry) → low ≤ least → Follow first least past es → Follow first low past es
 follow-lower first least low past [] less is = is
 follow-lower first least low past (e ∷ es) less is = let up = is.2 in (is.0, is.1, omega arith, is.3)
 

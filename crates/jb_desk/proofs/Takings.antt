@@ -1,5 +1,5 @@
 -- Entries that are taken from the trail of a journal since its desk was started.
-use Rattle.std.proofs.Common.{◌≡◌, ℕ, ◌≤◌, List, ◌++◌, length, drop, All, Result, Ok, Err, IfOk, OnErr, refl, ap, sym, subst, ◌∙◌}
+use Rattle.std.proofs.Common.{◌≡◌, ℕ, ◌≤◌, List, ◌++◌, length, drop, All, Result, Ok, Err, IfOk, OnErr, ap, sym, subst, ◌∙◌}
 use Rattle.std.proofs.Math.Seq.{drop-append_seam}
 use Rattle.std.proofs.lemmas.List.Elements.{All-drop}
 use Rattle.std.specs.Global.{Vec}
@@ -7,7 +7,7 @@ use Rattle.std.specs.declared.alloc.AllocError.{AllocError}
 use Rattle.jb_disk.specs.Image.{Image}
 use Rattle.jb_handle.specs.declared.stopped.Stopped.{Stopped}
 use Rattle.jb_deck.specs.Deck.{OpenDeck}
-use Rattle.jb_deck.specs.Done.{past_after}
+use Rattle.jb_deck.specs.Done.{Follow, past_after, start_of}
 use Rattle.jb_deck.specs.Taking.{CanTake, TakesTrail, oldest_number}
 use Rattle.jb_deck.specs.declared.done.Entry.{Entry}
 use Rattle.jb_deck.proofs.Takings.{next-rest}
@@ -74,6 +74,9 @@ module _ {D : Type 0} (size count faults : D → ℕ) (honest : D → Type 0) (n
       since = λ h. subst (λ (d : OpenDeck D). Stands is.given d) (sym takes.same) (left-stands is.given (is.since h));
     }
 
+  abbrev Tiles : Type 0
+  Tiles = Follow (start_of old.trail) 0 (past_after 0 old.trail) old.trail
+
   abbrev Takes : Result (Vec Entry) AllocError → Type 0
   Takes r = IfOk r (λ taken. TakesTrail past old new taken.items)
 
@@ -84,15 +87,16 @@ module _ {D : Type 0} (size count faults : D → ℕ) (honest : D → Type 0) (n
   take-since (Ok taken) takes keeps is = taken-since taken.items takes is
   take-since (Err memory) takes keeps is = subst (λ (d : OpenDeck D). Is d) (sym keeps.0) is
 
-  pub gives-trail : (r : Result (Vec Entry) AllocError) → Takes r → Keeps r → Is old → GivesTrail size count faults honest newest may_leave moment left_since b r
+  pub gives-trail : (r : Result (Vec Entry) AllocError) → Tiles → Takes r → Keeps r → Is old → GivesTrail size count faults honest newest may_leave moment left_since b r
   unfolding taken-since plain-is
-  gives-trail (Ok taken) takes keeps is = record {
+  gives-trail (Ok taken) tiles takes keeps is = record {
     past = past;
     old = old;
     new = new;
+    tiles = tiles;
     takes = takes;
     before = plain-is old is;
     after = plain-is new (taken-since taken.items takes is);
     same = given-same new (taken-since taken.items takes is) ∙ sym (given-same old is);
   }
-  gives-trail (Err memory) takes keeps is = record { past = past; deck = old; since = plain-is old is; some = keeps.1 }
+  gives-trail (Err memory) tiles takes keeps is = record { past = past; deck = old; since = plain-is old is; some = keeps.1 }

@@ -11,6 +11,7 @@ use Rattle.jb_log.specs.Found.{log_blocks}
 use Rattle.jb_deck.specs.Checkpoints.{AnswersCheckpoint, Checkpoints, TakesOldest}
 use Rattle.jb_deck.specs.Committing.{CommitsBatch, CommitsOnDisk, FindsLive, TakesBatch}
 use Rattle.jb_deck.specs.Deck.{OpenDeck}
+use Rattle.jb_deck.specs.Done.{Follow, past_after, start_of}
 use Rattle.jb_deck.specs.Log.{standing, transactions}
 use Rattle.jb_deck.specs.Reading.{AnswersRead}
 use Rattle.jb_deck.specs.Taking.{CanTake, TakesTrail, oldest_number}
@@ -77,11 +78,13 @@ module _ {D : Type 0} (size count faults : D → ℕ) (honest : D → Type 0) (n
     pub before : IsSince size count faults honest newest may_leave moment left_since b old
     pub after : IsSince size count faults honest newest may_leave moment left_since b new
 
-  -- the desk's journal before and after these entries were taken from the front of its trail: of groups that are home, with no ticket from `past` on
+  -- the desk's journal before and after these entries were taken from the front of its trail, which has no gap: of groups that are home, with no ticket from
+  -- `past` on. It was given the same handles
   pub record TakesEntries (taken : List Entry) : Type 0 where
     pub past : ℕ
     pub old : OpenDeck D
     pub new : OpenDeck D
+    pub tiles : Follow (start_of old.trail) 0 (past_after 0 old.trail) old.trail
     pub takes : TakesTrail past old new taken
     pub before : IsSince size count faults honest newest may_leave moment left_since b old
     pub after : IsSince size count faults honest newest may_leave moment left_since b new

@@ -1,4 +1,4 @@
-ghost use Rattle.std.specs.Prelude.{◌≡◌, ◌+◌, ◌<◌, ◌^◌, [], ◌∷◌, ◌++◌, false, IfOk, IfErr, OnOk, OnErr};
+ghost use Rattle.std.specs.Prelude.{◌≡◌, ◌+◌, ◌<◌, ◌^◌, [], ◌∷◌, ◌++◌, false, IfOk, IfErr, OnOk};
 ghost use Rattle.std.specs.FinMap as map;
 ghost use Rattle.jb_handle.specs.Handle.{holder, changes_of};
 ghost use Rattle.jb_handle.specs.Held.{held, touched};

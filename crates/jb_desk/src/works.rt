@@ -161,6 +161,8 @@ impl<D: Disk, C: Clock, S: Origin> Works<D, C, S> {
             result }
         ensures clock { self.new.clock ≡ self.old.clock }
     {
+        // that its entries leave no gap is known by looking at them
+        let _trail = self.deck.trail();
         self.deck.take_trail(past)
     }
 

@@ -6,10 +6,10 @@ ghost use Rattle.jb_desk.specs.Seats.{desk_of};
 ghost use Rattle.jb_handle.specs.Handle.{holder};
 ghost use Rattle.jb_handle.specs.Word.{WordMap};
 
-use crate::desks::{Small, WORD, sums};
+use crate::desks::{Small, WORD, sums, sums_with};
 use crate::stopping::written;
 use jb_deck::CheckpointFault;
-use jb_desk::{Committer, Ended, Origin, Round, RoundFault, Seat, StopFault};
+use jb_desk::{Committer, Ended, Left, Origin, Round, RoundFault, Seat, StopFault};
 use jb_refusing::{Met, Wrong, ample, must, refusing};
 use std::alloc::Global;
 use std::fs::File;
@@ -186,4 +186,51 @@ pub fn checkpoint_round_row<R: Files<File = File> + Wait, H: Origin, N: Ledger>(
         Err(CheckpointFault::DeviceFault) => Ok(Met::Fault),
         Err(_) => Err(Wrong::Answer),
     }
+}
+
+/// Commits a handle with a seat that then leaves.
+fn settled<R: Wait, H: Origin, N: Ledger>(
+    rt: &R,
+    desk: &Small<H, N>,
+) -> Result<Left<H, N>, Wrong>
+    requires { (words : WordMap) → H.begun.stops words }
+{
+    let Some(mut committer) = stopped(rt, desk) else {
+        return Err(Wrong::Inputs);
+    };
+    let committed = round_again(rt, desk, &mut committer);
+    let (seat, _) = retired(rt, desk, committer);
+    let left = desk.leave(rt, seat);
+    must(committed.is_ok(), Wrong::Inputs)?;
+    Ok(left)
+}
+
+/// A desk that has no memory for the entries keeps its trail, and then gives the entry of the group that is home.
+pub fn take_trail_row<R: Files<File = File> + Wait, H: Origin, N: Ledger>(
+    rt: &R,
+    alloc: Global,
+    desk: Small<H, N>,
+) -> Result<Met, Wrong>
+    requires any { (words : WordMap) → H.begun.stops words }
+    requires parts { (H.parts ≡ 2 ^ 61 + 1) × (N.parts ≡ 2 ^ 61 + 1) }
+{
+    let mut lefts = Vec::new(alloc);
+    lefts.reserve(1)?;
+    lefts.push_reserved(settled(rt, &desk)?);
+    let last = settled(rt, &desk)?;
+    must(desk.checkpoint_round(rt).is_ok(), Wrong::Inputs)?;
+    refusing(rt);
+    let first = desk.take_trail(rt);
+    ample(rt);
+    let (met, taken) = match first {
+        Ok(taken) => (Met::Ample, taken),
+        Err(_) => (Met::Memory, desk.take_trail(rt)?),
+    };
+    match taken.as_slice() {
+        [entry] => must(entry.past == 1 && entry.number == 2, Wrong::Answer)?,
+        _ => return Err(Wrong::Answer),
+    }
+    let found = sums_with(alloc, desk, lefts, last)?;
+    must(found == (2, 2, 1, WORD), Wrong::Stands)?;
+    Ok(met)
 }

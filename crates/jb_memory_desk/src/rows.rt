@@ -27,6 +27,7 @@ enum OfDesk {
     CommitRound,
     RunCommitter,
     CheckpointRound,
+    TakeTrail,
 }
 
 /// The row of a desk of this name.
@@ -40,6 +41,7 @@ fn of_desk(name: &str) -> Option<OfDesk> {
         "commit_round" => Some(OfDesk::CommitRound),
         "run_committer" => Some(OfDesk::RunCommitter),
         "checkpoint_round" => Some(OfDesk::CheckpointRound),
+        "take_trail" => Some(OfDesk::TakeTrail),
         _ => None,
     }
 }
@@ -106,5 +108,6 @@ fn run_row<
         OfDesk::CommitRound => rounds::commit_round_row(rt, alloc, desk),
         OfDesk::RunCommitter => rounds::run_committer_row(rt, alloc, desk),
         OfDesk::CheckpointRound => rounds::checkpoint_round_row(rt, alloc, desk),
+        OfDesk::TakeTrail => rounds::take_trail_row(rt, alloc, desk),
     }
 }
