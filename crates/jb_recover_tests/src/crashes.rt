@@ -87,6 +87,32 @@ const MANY_AFTER: [Row; 9] = [
     (HOMES + 7, 0, [107, 0, 0, 0]),
 ];
 
+/// Copies of the homes 3 and 4, and then of 4 and 3: a run of two, and two of one.
+const RUNS: [Row; 14] = [
+    (1, 0, [MAGIC, 1, 2, 3]),
+    (1, 1, [2, 4, 10, 0]),
+    (2, 0, [103, 0, 0, 0]),
+    (2, 63, [0, 0, 0, 103]),
+    (3, 0, [104, 0, 0, 0]),
+    (3, 63, [0, 0, 0, 104]),
+    (4, 0, [MAGIC, 2, 2, 0]),
+    (5, 0, [MAGIC, 1, 3, 4]),
+    (5, 1, [2, 3, 10, 0]),
+    (6, 0, [204, 0, 0, 0]),
+    (6, 63, [0, 0, 0, 204]),
+    (7, 0, [203, 0, 0, 0]),
+    (7, 63, [0, 0, 0, 203]),
+    (8, 0, [MAGIC, 2, 3, 0]),
+];
+
+const RUNS_AFTER: [Row; 5] = [
+    (0, 1, [33, 1, 4, 0]),
+    (HOMES + 3, 0, [203, 0, 0, 0]),
+    (HOMES + 3, 63, [0, 0, 0, 203]),
+    (HOMES + 4, 0, [204, 0, 0, 0]),
+    (HOMES + 4, 63, [0, 0, 0, 204]),
+];
+
 /// A log that begins after two blocks that are not of it, and words in block 0 after the superblock.
 const GAP: [Row; 8] = [
     (0, 1, [33, 3, 2, 3]),
@@ -248,6 +274,7 @@ fn every_call_may_be_the_last_before_a_crash(rt: HostRuntime) -> Result<(), Fail
             Some(4),
         ),
         case_of("twice", Image::Small(&TWICE, &TWICE_AFTER), 3, Some(9)),
+        case_of("runs", Image::Small(&RUNS, &RUNS_AFTER), 3, Some(81)),
         case_of("gap", Image::Small(&GAP, &GAP_AFTER), 2, Some(4)),
         case_of("many", Image::Small(&MANY, &MANY_AFTER), 2, None),
     ];
