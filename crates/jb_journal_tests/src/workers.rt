@@ -178,3 +178,67 @@ fn a_journal_is_written_home_at_its_end_at_every_level(rt: HostRuntime) -> Resul
     }
     Ok(())
 }
+
+/// What a worker found that took the trail: how many entries it took, the ticket after theirs, and what is answered of
+/// the first ticket then.
+#[derive(Clone, Copy, Debug, PartialEq)]
+struct Taken {
+    entries: usize,
+    past: u64,
+    first: Result<u32, WaitFault>,
+}
+
+/// A worker writes a home so many times, waits each time, and takes the trail.
+#[derive(Drop)]
+struct Long {
+    rounds: u64,
+}
+
+impl Worker<Taken> for Long {
+    ghost answers = { λ long workers at stopped answer. Unit {0} };
+
+    fn work<'a, D: Disk, C: Clock, R: Wait + time::Clock, H: Origin, N: Ledger>(
+        &self,
+        client: &mut Client<'a, D, C, R, H, N>,
+        _workers: usize,
+        _at: usize,
+    ) -> Taken
+        requires client { IsClient H.begun client.old }
+    {
+        let (mut entries, mut past) = (0_usize, 0);
+        for _ in 0..self.rounds {
+            let changed = client.change(
+                1,
+                |handle: &mut Handle<()>| -> Result<(), TouchFault> { handle.write(1, &[7; 1024]) },
+            );
+            if let Ok(((), ticket)) = changed {
+                let _waited = client.wait(ticket);
+            }
+            if let Ok(taken) = client.take_trail() {
+                entries = entries.saturating_add(taken.len());
+                past = taken.last().map_or(past, |entry| entry.past);
+            }
+        }
+        Taken {
+            entries,
+            past,
+            first: client.wait(0),
+        }
+    }
+}
+
+#[test]
+fn a_trail_that_is_taken_stays_short(rt: HostRuntime) -> Result<(), Fail> {
+    let long = Long { rounds: 60 };
+    let ran = run(&rt, formatted(rt.alloc())?, CLOCK, by(1), &long)?;
+    // the 32 blocks of the log have room for ten transactions of one home; all before them are home
+    let taken = Taken {
+        entries: 50,
+        past: 50,
+        first: Err(WaitFault::Taken),
+    };
+    assert_eq!(rt; ran.answers.first().copied(), Some(taken));
+    assert_eq!(rt; (ran.handles, ran.settled, ran.trail.len()), (60, 60, 10));
+    assert_eq!(rt; ran.trail.first().map(|entry| entry.first), Some(50));
+    Ok(())
+}
