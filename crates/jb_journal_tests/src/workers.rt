@@ -207,10 +207,9 @@ impl Worker<Taken> for Long {
     {
         let (mut entries, mut past) = (0_usize, 0);
         for _ in 0..self.rounds {
-            let changed = client.change(
-                1,
-                |handle: &mut Handle<()>| -> Result<(), TouchFault> { handle.write(1, &[7; 1024]) },
-            );
+            let changed = client.change(1, |handle: &mut Handle<()>| -> Result<(), TouchFault> {
+                handle.write(1, &[7; 1024])
+            });
             if let Ok(((), ticket)) = changed {
                 let _waited = client.wait(ticket);
             }

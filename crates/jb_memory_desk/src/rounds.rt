@@ -189,10 +189,7 @@ pub fn checkpoint_round_row<R: Files<File = File> + Wait, H: Origin, N: Ledger>(
 }
 
 /// Commits a handle with a seat that then leaves.
-fn settled<R: Wait, H: Origin, N: Ledger>(
-    rt: &R,
-    desk: &Small<H, N>,
-) -> Result<Left<H, N>, Wrong>
+fn settled<R: Wait, H: Origin, N: Ledger>(rt: &R, desk: &Small<H, N>) -> Result<Left<H, N>, Wrong>
     requires { (words : WordMap) → H.begun.stops words }
 {
     let Some(mut committer) = stopped(rt, desk) else {
