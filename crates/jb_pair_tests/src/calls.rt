@@ -47,11 +47,16 @@ fn fill_run<D: Disk>(disk: &mut D, place: u64, blocks: usize) -> Result<(), Faul
     if disk.block_size() != BlockSize::OneKib {
         return Err(Fault);
     }
+    disk.write_run(place, blocks, &four()[..1024 * blocks])
+}
+
+/// Four blocks, of 5, 6, 7 and 8.
+fn four() -> [u8; 4096] {
     let mut bytes = [5; 4096];
     bytes[1024..2048].fill(6);
     bytes[2048..3072].fill(7);
     bytes[3072..].fill(8);
-    disk.write_run(place, blocks, &bytes[..1024 * blocks])
+    bytes
 }
 
 /// The first bytes of the two blocks of a disk, and of what a crash leaves at least of it.
