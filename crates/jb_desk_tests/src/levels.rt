@@ -44,7 +44,7 @@ fn commit_all<R: Wait, D: Disk, H: Origin, N: Ledger>(
     seat
 }
 
-/// The first byte of home 0 on the disk, behind the 33 blocks of the journal.
+/// The first byte of home 0 on the disk, after the 33 blocks of the journal.
 fn first_byte(disk: MemoryDisk) -> Option<u8> {
     let mut disk = disk;
     let mut block = [0; 1024];
