@@ -26,7 +26,8 @@ pub(crate) fn put_second_line<W: Write>(
     beside: Beside,
 ) -> Result<(), WriteFault>
     ensures { (system : List ℕ) × Puts (W.contents writer.old) (W.contents writer.new)
-        (second_line (map (λ row. (row.0.now, row.1.now)) OPTIONS.now) system (option_map (λ words. words.now) advice.entry) beside) result }
+        (second_line (map (λ row. (row.0.now, row.1.now)) OPTIONS.now) system
+        (option_map (λ words. words.now) advice.entry) beside) result }
 {
     match advice {
         Some(words) => put_words(writer, words, beside),

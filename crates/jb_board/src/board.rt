@@ -38,7 +38,8 @@ pub struct BoardSeat {
 impl<L: Ledger> Board<L> {
     ghost use Rattle.jb_board.specs.Front.{front, InOrder, IsWithin};
     ghost use Rattle.jb_board.specs.Seats.{board_id, seat_board, seat_view, given_by};
-    ghost use Rattle.jb_board.specs.Steps.{saw_settled, saw_taken, saw_stopped, raised_settled, raised_taken, raised_stopped};
+    ghost use Rattle.jb_board.specs.Steps.{saw_settled, saw_taken, saw_stopped};
+    ghost use Rattle.jb_board.specs.Steps.{raised_settled, raised_taken, raised_stopped};
 
     /// A board on which no ticket is counted, with its first seat.
     ///

@@ -1,6 +1,7 @@
 //! What each kind of step does to the view of the seat that steps.
 ghost use Rattle.jb_board.specs.Front.{front};
-ghost use Rattle.jb_board.specs.Steps.{Enters, SeesSettled, SeesTaken, SeesStopped, RaisesSettled, RaisesTaken, RaisesStopped};
+ghost use Rattle.jb_board.specs.Steps.{Enters, SeesSettled, SeesTaken, SeesStopped};
+ghost use Rattle.jb_board.specs.Steps.{RaisesSettled, RaisesTaken, RaisesStopped};
 
 use crate::front::Front;
 use atomic_table::{Join, Play, Split};

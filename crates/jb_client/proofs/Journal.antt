@@ -10,10 +10,10 @@ use Rattle.jb_handle.specs.declared.stopped.Stopped.{Stopped}
 use Rattle.jb_ready.specs.Ready.{has_revoke, revoking, revoking_if, with_revoke}
 use Rattle.jb_recover.specs.Outcomes.{IsCleanOf}
 use Rattle.jb_deck.specs.Opening.{opened_log}
-use Rattle.jb_deck.specs.Since.{IsRecoveredTo}
-use Rattle.jb_deck.specs.declared.log.Log.{Log}
+use Rattle.jb_ring.specs.declared.log.Log.{Log}
 use Rattle.jb_deck.proofs.Opened.{revoking-same}
-use Rattle.jb_deck.proofs.Owning.{same-then}
+use Rattle.jb_ring.proofs.Owning.{same-then}
+use Rattle.jb_since.specs.Calls.{IsRecoveredTo}
 
 -- the superblock of a log that was opened is the one at first, with the feature for revoke blocks, but for where the log begins
 pub opened-recovered : (l : Log) (sb : Superblock) → l ≡ opened_log sb → (size count : ℕ) (before : ℕ → List ℕ) (hs : List Stopped) (c : Image) → IsRecoveredTo l.sb size count before hs c → IsRecoveredTo (revoking sb) size count before hs c

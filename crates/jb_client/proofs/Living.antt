@@ -16,13 +16,13 @@ use Rattle.jb_batch.specs.Prepared.{Planned}
 use Rattle.jb_front.specs.Front.{super_on}
 use Rattle.jb_ready.specs.Ready.{revoking}
 use Rattle.jb_recover.specs.Outcomes.{IsCleanOf, KeepsJournal, recovered}
-use Rattle.jb_deck.specs.Follows.{Chained, Follows, HoldsBy, StandsBy}
+use Rattle.jb_ring.specs.Follows.{Chained, Follows, HoldsBy, StandsBy}
 use Rattle.jb_deck.specs.Gathering.{groups_in}
 use Rattle.jb_deck.specs.Opening.{FollowsEntry, home_by, opened_log, recovered_home}
 use Rattle.jb_deck.specs.Trailing.{FollowsSome, handles_to}
-use Rattle.jb_deck.specs.declared.log.Log.{Log}
+use Rattle.jb_ring.specs.declared.log.Log.{Log}
 use Rattle.jb_deck.proofs.Opened.{revoking-same}
-use Rattle.jb_deck.proofs.Owning.{own-follows, same-then}
+use Rattle.jb_ring.proofs.Owning.{own-follows, same-then}
 use Rattle.jb_client.specs.Lives.{HoldsHandles, HoldsMore, LeftByLife}
 use Rattle.jb_client.proofs.Journal.{clean-as, one-super, revoking-twice, same-maxlen, same-revoking}
 

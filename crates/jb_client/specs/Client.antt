@@ -8,8 +8,8 @@ use Rattle.jb_front.specs.Front.{super_on}
 use Rattle.jb_ready.specs.Ready.{revoking}
 use Rattle.jb_deck.specs.Gathering.{groups_in}
 use Rattle.jb_deck.specs.Opening.{recovered_home}
-use Rattle.jb_deck.specs.Since.{IsRecoveredTo}
 use Rattle.jb_deck.specs.Trailing.{handles_to}
+use Rattle.jb_since.specs.Calls.{IsRecoveredTo}
 
 -- the image is recovered to all these handles, and those of the first groups of a batch after them, at least so many of the groups
 pub record HasPrefix (own : Superblock) (size count : ℕ) (before : ℕ → List ℕ) (settled : List Stopped) (batch : Planned) (least : ℕ) (c : Image) : Type 0 where

@@ -10,7 +10,7 @@ use Rattle.jb_batch.specs.Prepared.{Planned}
 use Rattle.jb_front.specs.Front.{super_on}
 use Rattle.jb_ready.specs.Ready.{revoking}
 use Rattle.jb_recover.specs.Outcomes.{IsCleanOf, recovered}
-use Rattle.jb_deck.specs.Follows.{Follows, StandsBy}
+use Rattle.jb_ring.specs.Follows.{Follows, StandsBy}
 use Rattle.jb_deck.specs.Gathering.{groups_in}
 use Rattle.jb_deck.specs.Opening.{recovered_home}
 use Rattle.jb_deck.specs.Trailing.{handles_to}

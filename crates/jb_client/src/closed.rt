@@ -5,7 +5,7 @@ ghost use Rattle.jb_client.specs.Client.{LeavesAll};
 use crate::commit::{commit, give_up};
 use jb_batch::Prepared;
 use jb_block::Stamp;
-use jb_deck::{Deck, laws};
+use jb_deck::Deck;
 use jb_disk::Disk;
 use std::alloc::Global;
 
@@ -25,8 +25,8 @@ pub fn commit_and_close<D: Disk>(
     ensures all { D.honest disk → IfOk result (λ closed. LeavesAll D.may_leave (D.size disk) (D.count disk)
         (D.newest disk) batch.batch.handles closed) }
 {
-    laws::since::<D>();
-    laws::stood();
+    jb_since::since::<D>();
+    jb_deck::laws::stood();
     let mut deck = match Deck::open(alloc, disk) {
         Ok(deck) => deck,
         Err((disk, _)) => {

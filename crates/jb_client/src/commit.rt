@@ -4,10 +4,10 @@ ghost use Rattle.jb_disk.specs.Kept.{Kept};
 ghost use Rattle.jb_disk.specs.Time.{LeavesOnly};
 ghost use Rattle.jb_batch.specs.Prepared.{IsPlanned};
 ghost use Rattle.jb_deck.specs.Gathering.{groups_in};
-ghost use Rattle.jb_deck.specs.Leaving.{AllHave};
-ghost use Rattle.jb_deck.specs.Log.{standing};
-ghost use Rattle.jb_deck.specs.Since.{IsEnded};
+ghost use Rattle.jb_ring.specs.Leaving.{AllHave};
+ghost use Rattle.jb_ring.specs.Log.{standing};
 ghost use Rattle.jb_deck.specs.Trailing.{FollowsSome};
+ghost use Rattle.jb_since.specs.Since.{IsEnded};
 
 use jb_batch::Prepared;
 use jb_block::Stamp;
@@ -47,8 +47,7 @@ pub(crate) fn commit<D: Disk>(
     ensures planned { IsPlanned batch }
     ensures kept { Kept D.size D.count D.honest deck.old.disk deck.new.disk }
     ensures up { OnOk result ((deck.old.aborted ≡ false) × (deck.new.aborted ≡ false)) }
-    ensures ended { D.honest deck.old.disk → OnOk result
-        (IsEnded D.newest deck.old (record { settled = batch.batch.handles; deck = deck.new })) }
+    ensures ended { D.honest deck.old.disk → OnOk result (IsEnded D.newest deck.old batch.batch.handles deck.new) }
     ensures leaves { deck.old.aborted ≡ false → D.honest deck.old.disk
         → LeavesOnly D.moment D.left_since deck.old.disk deck.new.disk
         (FollowsSome deck.old.log.sb (D.size deck.old.disk) (D.count deck.old.disk)

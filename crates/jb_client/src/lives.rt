@@ -78,7 +78,7 @@ fn live(alloc: Global, disk: MemoryDisk, life: Life) -> Result<MemoryDisk, Recov
         → HoldsHandles own (bytes_of disk.size) disk.count before hs (newest_of disk)
         → HoldsMore own (bytes_of disk.size) disk.count before hs life.batch (newest_of new)) }
 {
-    jb_deck::laws::chained();
+    jb_ring::laws::chained();
     jb_recover::laws::recovered();
     let Life {
         batch,

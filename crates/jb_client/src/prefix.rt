@@ -5,7 +5,7 @@ ghost use Rattle.jb_client.specs.Client.{LeavesPrefix};
 use crate::commit::{commit, give_up};
 use jb_batch::Prepared;
 use jb_block::Stamp;
-use jb_deck::{Deck, laws};
+use jb_deck::Deck;
 use jb_disk::Disk;
 use std::alloc::Global;
 
@@ -29,7 +29,7 @@ pub fn commit_three<D: Disk + Drop>(
     ensures prefix { D.honest disk → IfOk result (λ deck. LeavesPrefix D.may_leave D.moment D.left_since (D.size disk)
         (D.count disk) (D.newest disk) (first.batch.handles ++ second.batch.handles) third deck.disk) }
 {
-    laws::since::<D>();
+    jb_since::since::<D>();
     let mut deck = match Deck::open(alloc, disk) {
         Ok(deck) => deck,
         Err((disk, _)) => {

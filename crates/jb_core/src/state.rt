@@ -53,7 +53,8 @@ impl State {
     ghost use Rattle.jb_core.specs.Steps.{Steps, StepsTake};
     ghost use Rattle.jb_core.specs.Ran.{IsStart};
     ghost use Rattle.jb_core.specs.Sound.{IsSound};
-    ghost use Rattle.jb_core.specs.declared.event.Event.TheVariants.{Open, Touch, Stop, Abandon, Settle, Checkpoint, Crash, Restart};
+    ghost use Rattle.jb_core.specs.declared.event.Event.TheVariants.{Open, Touch, Stop, Abandon};
+    ghost use Rattle.jb_core.specs.declared.event.Event.TheVariants.{Settle, Checkpoint, Crash, Restart};
 
     /// A machine that is up, with nothing open, queued, taken or settled. Takes no memory.
     pub fn new(alloc: Global, shape: Shape) -> State

@@ -1,6 +1,7 @@
 //! The handles that have stopped, in the order of their stops: the settled ones, then the taken ones, then the queue.
 ghost use Rattle.std.specs.Option.{option_copied};
-ghost use Rattle.std.specs.Prelude.{slice_get, slice_range, ◌++◌, ◌≡◌, ◌≤◌, ◌<◌, ◌^◌, [], length, take, sum, OnOk, OnErr, IsTrue};
+ghost use Rattle.std.specs.Prelude.{slice_get, slice_range, ◌++◌, ◌≡◌, ◌≤◌, ◌<◌, ◌^◌};
+ghost use Rattle.std.specs.Prelude.{[], length, take, sum, OnOk, OnErr, IsTrue};
 ghost use Rattle.jb_cost.specs.Cut.{IsCut};
 
 use crate::sums::{end_after, push_ends, sum_between};

@@ -1,5 +1,5 @@
 -- Which handle touched each home last, and how many homes each handle owns by that.
-use Rattle.std.specs.Prelude.{◌≡◌, ℕ, ◌+◌, Bool, ◌&&◌, cond, nat_le, List, drop, slice_index_or, Option, Some, None}
+use Rattle.std.specs.Prelude.{◌≡◌, ℕ, ◌+◌, Bool, ◌&&◌, not, cond, nat_le, List, drop, slice_index_or, Option, Some, None}
 use Rattle.std.specs.List.{sum_by}
 use Rattle.std.specs.BTreeMap.{BTreeMap, values}
 use Rattle.jb_handle.specs.declared.word.Word.{Word}
@@ -52,6 +52,11 @@ Counts count kind os last = (i : ℕ) → owned_from count os i ≡ sum_by (coun
 -- the same, where handle n has taken over some homes and is not in the list
 abbrev pub CountsBut : (Owned → ℕ) → (Bool → Bool) → ℕ → ℕ → List Owned → BTreeMap ℕ Touch → Type 0
 CountsBut count kind n extra os last = (i : ℕ) → owned_from count os i + cond (nat_le i n) extra 0 ≡ sum_by (counts_since kind i) (values last)
+
+-- both counts of the homes that the handles own, where handle n has gained these and is not in the list
+pub record Gains (n : ℕ) (gained : Owned) (os : List Owned) (last : BTreeMap ℕ Touch) : Type 0 where
+  pub copies : CountsBut copies_of kept n gained.copies os last
+  pub frees : CountsBut frees_of not n gained.frees os last
 
 -- the last touch of a home, once handle n has this word there
 abbrev pub later_touch : ℕ → Option Word → Option Touch → Option Touch

@@ -35,7 +35,12 @@ impl Model for Footprint {
 
     ghost coded = { Prim.hlevel (codes, set_code) };
 
-    ghost view = { λ a. record { geometry = a.geometry; homes = set.from_list a.homes.keys; copies = a.copies; frees = a.frees } };
+    ghost view = { λ a. record {
+      geometry = a.geometry;
+      homes = set.from_list a.homes.keys;
+      copies = a.copies;
+      frees = a.frees;
+    } };
 }
 
 impl Footprint {

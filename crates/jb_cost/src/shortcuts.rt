@@ -17,7 +17,8 @@ pub(crate) struct Shortcuts {
 }
 
 impl Shortcuts {
-    ghost use Rattle.std.specs.Prelude.{◌≡◌, ℕ, [], ◌∷◌, ◌++◌, ◌+◌, ◌*◌, ◌/◌, ◌^◌, ◌<◌, ◌≤◌, List, Option, Some, length, IfSome, OnOk};
+    ghost use Rattle.std.specs.Prelude.{◌≡◌, ℕ, [], ◌∷◌, ◌++◌, ◌+◌, ◌*◌, ◌/◌, ◌^◌};
+    ghost use Rattle.std.specs.Prelude.{◌<◌, ◌≤◌, List, Option, Some, length, IfSome, OnOk};
     ghost use Rattle.jb_cost.specs.declared.span.Span.{Span as SpanValue};
     ghost use Rattle.jb_cost.specs.Owned.{owned_from, copies_of, frees_of};
     ghost use Rattle.jb_cost.specs.Starts.{LeastPrice, BestStart, AreIdle, GoBack, AreLeast, stretch_at};

@@ -4,7 +4,8 @@ ghost use Rattle.std.specs.Ordering.{nat_cmp};
 ghost use Rattle.std.specs.BTreeMap.{IsOrdered, get};
 ghost use Rattle.std.specs.FinMap as map;
 ghost use Rattle.jb_cost.specs.declared.owned.Touch.{Touch as TouchValue};
-ghost use Rattle.jb_cost.specs.Owned.{IsIdle, owned_at, owned_from, copies_of, frees_of, kept, counts_since, Counts, CountsBut, later_touch};
+ghost use Rattle.jb_cost.specs.Owned.{IsIdle, owned_at, owned_from, copies_of, frees_of, kept, counts_since};
+ghost use Rattle.jb_cost.specs.Owned.{Counts, Gains, later_touch};
 ghost use Rattle.jb_cost.specs.Spans.{AreSpans, AreBest};
 
 use crate::owned::{Owned, Touch};
@@ -34,10 +35,7 @@ pub(crate) fn take_over(
     ensures ordered { IsOrdered nat_cmp last.old → IsOrdered nat_cmp last.new }
     ensures follows { OnOk result ((q : ℕ) → get nat_cmp last.new q ≡ later_touch (length owned.old.items)
         (map.get words.now q) (get nat_cmp last.old q)) }
-    ensures copies { IfOk result (λ gained. CountsBut copies_of kept (length owned.old.items) gained.copies
-        owned.new.items last.new) }
-    ensures frees { IfOk result (λ gained. CountsBut frees_of not (length owned.old.items) gained.frees owned.new.items
-        last.new) }
+    ensures gained { IfOk result (λ gained. Gains (length owned.old.items) gained owned.new.items last.new) }
 {
     let handle = owned.len();
     let mut gained = Owned::none();

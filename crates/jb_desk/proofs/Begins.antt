@@ -14,12 +14,12 @@ use Rattle.jb_super.specs.Journal.{SameJournal}
 use Rattle.jb_super.specs.Superblock.{Superblock}
 use Rattle.jb_deck.specs.Deck.{OpenDeck}
 use Rattle.jb_deck.specs.Done.{past_after}
-use Rattle.jb_deck.specs.Follows.{FollowsNone}
-use Rattle.jb_deck.specs.Leaving.{AllHave}
+use Rattle.jb_ring.specs.Follows.{FollowsNone}
+use Rattle.jb_ring.specs.Leaving.{AllHave}
 use Rattle.jb_deck.specs.Opening.{FollowsEntry, IsNew, Opens, opened_log, recovered_home}
-use Rattle.jb_deck.specs.Since.{LiveOf, homes_of}
-use Rattle.jb_deck.specs.declared.log.Log.{Log}
-use Rattle.jb_deck.proofs.Histories.{Stood}
+use Rattle.jb_ring.specs.declared.log.Log.{Log}
+use Rattle.jb_since.specs.Since.{LiveOf, deck_homes}
+use Rattle.jb_since.proofs.Stood.{Stood}
 use Rattle.jb_desk.specs.Origin.{Begun, own_on, revoking_in}
 use Rattle.jb_desk.specs.Since.{IsBegunOn, IsCosted, IsSince}
 use Rattle.jb_desk.proofs.Firsts.{first-none}
@@ -43,7 +43,7 @@ pub opened-since : {D : Type 0} (size count faults : D → ℕ) (honest : D → 
     → (honest disk → Opens (size disk) (count disk) (newest disk) (newest deck.disk) deck.log)
     → (honest disk → LeavesOnly moment left_since disk deck.disk (λ c. may_leave disk c ⊎ FollowsEntry (size disk) (count disk) (newest disk) c))
     → (honest disk → AllHave may_leave deck.disk (FollowsNone deck.log.sb (size disk) (count disk) (recovered_home (size disk) (count disk) (newest disk))))
-    → (honest disk → (home : ℕ) → homes_of newest deck home ≡ recovered_home (size disk) (count disk) (newest disk) home)
+    → (honest disk → (home : ℕ) → deck_homes newest deck home ≡ recovered_home (size disk) (count disk) (newest disk) home)
     → IsSince size count faults honest newest may_leave moment left_since b deck
 opened-since {D = D} size count faults honest newest may_leave moment left_since counts_now b disk deck begun kept fault_count new opens leaves now stands = record {
   given = [];
@@ -60,7 +60,7 @@ opened-since {D = D} size count faults honest newest may_leave moment left_since
       let op = opens honest_on in
       let left = leaves honest_on in
       let past : past_after 0 deck.trail ≡ 0 = ap (past_after 0) new.trail in
-      let stood : Stood [] b.homes (recovered_home (size disk) (count disk) (newest disk)) = λ home kept_word. begun.homes home in
+      let stood : Stood [] b.homes (recovered_home (size disk) (count disk) (newest disk)) = λ home. begun.homes home in
       record {
         same_size = kept.same_size ∙ begun.same_size;
         same_count = kept.same_count ∙ begun.same_count;
@@ -68,7 +68,7 @@ opened-since {D = D} size count faults honest newest may_leave moment left_since
         no_fewer = let same = begun.same_faults in omega (arith, fault_count, same);
         up = λ few none. new.aborted;
         same = own-opened (size disk) (count disk) (newest disk) b.own deck.log op.sb op.taken op.log begun.own;
-        stood = λ up home kept_word. stands honest_on home ∙ begun.homes home;
+        stood = λ up home. stands honest_on home ∙ begun.homes home;
         live = λ up. none-live deck.groups new.groups;
         now = λ c may.
             first-none b deck.log.sb (own-opened (size disk) (count disk) (newest disk) b.own deck.log op.sb op.taken op.log begun.own) (size disk) (count disk) begun.same_size begun.same_count []

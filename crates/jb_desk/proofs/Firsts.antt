@@ -8,12 +8,11 @@ use Rattle.jb_disk.specs.Image.{Image}
 use Rattle.jb_handle.specs.declared.stopped.Stopped.{Stopped}
 use Rattle.jb_super.specs.Journal.{SameJournal}
 use Rattle.jb_super.specs.Superblock.{Superblock}
-use Rattle.jb_deck.specs.Follows.{Follows, FollowsNone}
+use Rattle.jb_ring.specs.Follows.{Follows, FollowsNone}
 use Rattle.jb_deck.specs.Gathering.{groups_in}
-use Rattle.jb_deck.specs.Since.{IsRecoveredTo}
 use Rattle.jb_deck.specs.Trailing.{FollowsSome, handles_to}
-use Rattle.jb_deck.proofs.Histories.{Stood, stood-holds}
-use Rattle.jb_deck.proofs.Owning.{same-then}
+use Rattle.jb_since.specs.Calls.{IsRecoveredTo}
+use Rattle.jb_since.proofs.Stood.{Stood, stood-recovered}
 use Rattle.jb_desk.specs.Origin.{Begun}
 use Rattle.jb_desk.specs.Since.{HasFirst}
 use Rattle.jb_desk.proofs.Bounds.{cut-high, cut-rise}
@@ -54,13 +53,7 @@ module _ (b : Begun) where
   module _ (own : Superblock) (same : SameJournal b.own own) (n m : ℕ) (sized : n ≡ b.size) (counted : m ≡ b.count) (given : List Stopped) (homes : ℕ → List ℕ) (stood : Stood given b.homes homes) where
     recovered : (more : List Stopped) (c : Image) → Follows own n m homes more c → Recovered (given ++ more) c
     recovered more c f =
-        let is : IsRecoveredTo b.own n m b.homes (given ++ more) c = record {
-          sb = f.sb;
-          same = same-then b.own own f.sb same f.same;
-          taken = f.taken;
-          not_refused = f.not_refused;
-          each = stood-holds own n m b.homes given homes more c stood f;
-        } in
+        let is = stood-recovered b.own own n m b.homes given homes more c same stood f in
         subst (λ k. IsRecoveredTo b.own k b.count b.homes (given ++ more) c) sized (subst (λ k. IsRecoveredTo b.own n k b.homes (given ++ more) c) counted is)
 
     pub first-none : (least : ℕ) (c : Image) → least ≤ length given → FollowsNone own n m homes c → HasFirst b given least c

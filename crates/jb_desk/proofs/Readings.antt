@@ -8,10 +8,10 @@ use Rattle.jb_handle.specs.declared.stopped.Stopped.{Stopped}
 use Rattle.jb_super.specs.Journal.{SameJournal}
 use Rattle.jb_deck.specs.Deck.{OpenDeck, on_disk}
 use Rattle.jb_deck.specs.Done.{past_after}
-use Rattle.jb_deck.specs.Follows.{FollowsNone}
-use Rattle.jb_deck.specs.Log.{standing}
+use Rattle.jb_ring.specs.Follows.{FollowsNone}
+use Rattle.jb_ring.specs.Log.{standing}
 use Rattle.jb_deck.specs.Reading.{AnswersRead, IsAsBefore}
-use Rattle.jb_deck.specs.Since.{LiveOf, homes_of}
+use Rattle.jb_since.specs.Since.{LiveOf, deck_homes}
 use Rattle.jb_deck.specs.declared.read.ReadHomeFault.{ReadHomeFault}
 use Rattle.jb_deck.specs.declared.read.ReadHomeFault.TheVariants.{Aborted, OutOfRange, Length, DeviceFault}
 use Rattle.jb_desk.specs.Journal.{ReadsHome}
@@ -28,7 +28,7 @@ module _ {D : Type 0} (size count faults : D → ℕ) (honest : D → Type 0) (n
 
   -- what a crash leaves of a read
   abbrev As : Image → Type 0
-  As c = IsAsBefore old.log.sb (size old.disk) (count old.disk) (homes_of newest old) (newest old.disk) c
+  As c = IsAsBefore old.log.sb (size old.disk) (count old.disk) (deck_homes newest old) (newest old.disk) c
 
   abbrev LeavesAs : Type 0
   LeavesAs = old.aborted ≡ false → honest old.disk → LeavesOnly moment left_since old.disk new.disk As
@@ -40,13 +40,13 @@ module _ {D : Type 0} (size count faults : D → ℕ) (honest : D → Type 0) (n
   stands : new ≡ on_disk old new.disk → faults old.disk ≤ faults new.disk → newest new.disk ≡ newest old.disk → (given : List Stopped) → past_after 0 old.trail ≤ length given → (s : Stands given old) → old.aborted ≡ false → LeavesOnly moment left_since old.disk new.disk As → Stands given new
   stands same more content given settled s up leaves =
       none-since size count faults honest newest may_leave moment left_since counts_now b known plain old new kept given settled s up
-      (weaken moment left_since old.disk new.disk As (FollowsNone old.log.sb (size old.disk) (count old.disk) (homes_of newest old)) (λ c was. was.follows) leaves)
+      (weaken moment left_since old.disk new.disk As (FollowsNone old.log.sb (size old.disk) (count old.disk) (deck_homes newest old)) (λ c was. was.follows) leaves)
       (ap (λ (d : OpenDeck D). d.trail) same)
       (subst (λ (d : OpenDeck D). SameJournal old.log.sb d.log.sb) (sym same) refl)
       more
       (λ few none. ap (λ (d : OpenDeck D). d.aborted) same ∙ up)
       (λ still. (
-        λ home. ap (λ (d : OpenDeck D). homes_of newest d home) same ∙ ap (λ image. standing old.log old.groups image home) content,
+        λ home. ap (λ (d : OpenDeck D). deck_homes newest d home) same ∙ ap (λ image. standing old.log old.groups image home) content,
         subst (λ (d : OpenDeck D). LiveOf given d.groups) (sym same) (s.live up),
       ))
 

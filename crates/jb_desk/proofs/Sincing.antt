@@ -1,5 +1,5 @@
 -- A journal since its desk was started: what each of its calls keeps.
-use Rattle.std.proofs.Common.{◌≡◌, ◌⊎◌, ℕ, Bool, true, false, ◌+◌, ◌<◌, ◌≤◌, List, [], ◌∷◌, ◌++◌, length, take, slice_index, All, Result, Ok, Err, IfOk, OnOk, inl, inr, ⊎_elim, refl, ap, sym, subst, ◌∙◌, arith}
+use Rattle.std.proofs.Common.{◌≡◌, ◌⊎◌, ℕ, Bool, true, false, ◌+◌, ◌<◌, ◌≤◌, List, [], ◌++◌, length, take, slice_index, All, Result, Ok, Err, IfOk, OnOk, inl, inr, ⊎_elim, refl, ap, sym, subst, ◌∙◌, arith}
 use Rattle.std.proofs.lemmas.List.{length-append, length-take-le}
 use Rattle.std.proofs.lemmas.List.Elements.{All-append, All-weaker}
 use mathlib.Core.List.{append-nil}
@@ -22,10 +22,9 @@ use Rattle.jb_deck.specs.Checkpoints.{AnswersCheckpoint, Checkpoints, TakesOldes
 use Rattle.jb_deck.specs.Committing.{AnswersBatch, CommitsBatch, CommitsOnDisk, FindsLive, LeavesGroups, SettlesSome, TakesBatch}
 use Rattle.jb_deck.specs.Deck.{OpenDeck}
 use Rattle.jb_deck.specs.Done.{entries_of, past_after}
-use Rattle.jb_deck.specs.Follows.{FollowsNone, StandsBy}
+use Rattle.jb_ring.specs.Follows.{FollowsNone, StandsBy}
 use Rattle.jb_deck.specs.Gathering.{groups_in, entries_for}
-use Rattle.jb_deck.specs.Log.{transactions}
-use Rattle.jb_deck.specs.Since.{Ended, LiveOf, call_of, homes_of}
+use Rattle.jb_ring.specs.Log.{transactions}
 use Rattle.jb_deck.specs.Trailing.{FollowsSome}
 use Rattle.jb_deck.specs.declared.batched.BatchFault.{BatchFault}
 use Rattle.jb_deck.specs.declared.batched.BatchFault.TheVariants as batch
@@ -34,9 +33,10 @@ use Rattle.jb_deck.specs.declared.checked.CheckpointFault.{CheckpointFault}
 use Rattle.jb_deck.specs.declared.checked.CheckpointFault.TheVariants as checkpoint
 use Rattle.jb_deck.specs.declared.done.Done.{Done}
 use Rattle.jb_deck.specs.declared.done.Entry.{Entry}
-use Rattle.jb_deck.proofs.Histories.{calls-stood}
-use Rattle.jb_deck.proofs.Owning.{same-then}
-use Rattle.jb_deck.proofs.Sinces.{ended-is-call}
+use Rattle.jb_ring.proofs.Owning.{same-then}
+use Rattle.jb_since.specs.Since.{LiveOf, checkpointed, committed, deck_homes}
+use Rattle.jb_since.proofs.Sinces.{ended-is-call}
+use Rattle.jb_since.proofs.Stood.{call-stood}
 use Rattle.jb_desk.specs.Journal.{blocks_in_use, ChecksAt, ChecksRound, FailsAs, IsRound, TakesHomeAt}
 use Rattle.jb_desk.specs.declared.checkpoint.CheckpointRound.{CheckpointRound}
 use Rattle.jb_desk.specs.declared.checkpoint.CheckpointRound.TheVariants.{Home}
@@ -99,7 +99,7 @@ module _ {D : Type 0} (size count faults : D → ℕ) (honest : D → Type 0) (n
     cut = planned.least.fitting.cut
 
     abbrev Left : ℕ → ℕ → Image → Type 0
-    Left least most c = FollowsSome old.log.sb (size old.disk) (count old.disk) (homes_of newest old) hs p.groups least most c
+    Left least most c = FollowsSome old.log.sb (size old.disk) (count old.disk) (deck_homes newest old) hs p.groups least most c
 
     -- what the groups of the batch cost
     abbrev c : ℕ → ℕ → ℕ
@@ -172,7 +172,7 @@ module _ {D : Type 0} (size count faults : D → ℕ) (honest : D → Type 0) (n
 
       module _ (s : Stands given old) (leaves : LeavesOnly moment left_since old.disk new.disk (Left 0 (groups_in p.groups))) where
         has-some : (least most low : ℕ) (x : Image) → most ≤ groups_in p.groups → low ≤ length given + slice_index p.groups least → Left least most x → HasFirst b (given ++ hs) low x
-        has-some least most low x = first-some b old.log.sb s.same (size old.disk) (count old.disk) s.same_size s.same_count given (homes_of newest old) (s.stood takes.up) hs p.groups least most low x cut
+        has-some least most low x = first-some b old.log.sb s.same (size old.disk) (count old.disk) s.same_size s.same_count given (deck_homes newest old) (s.stood takes.up) hs p.groups least most low x cut
 
         ever-some : (x : Image) → left_since new.disk b.since x → b.left x ⊎ HasFirst b (given ++ hs) 0 x
         ever-some x left =
@@ -183,8 +183,7 @@ module _ {D : Type 0} (size count faults : D → ℕ) (honest : D → Type 0) (n
 
         pub commit-ok : (done : Done) → faults new.disk ≡ faults old.disk → CommitsBatch p stamp old new done → CommitsOnDisk newest p stamp old new → ((x : Image) → may_leave new.disk x → Left (groups_in p.groups) (groups_in p.groups) x) → Stands (given ++ hs) new
         commit-ok done counted commits on_disk now =
-            let ended : Ended D = record { settled = hs; deck = new } in
-            let called = ended-is-call newest given old ended (s.live takes.up) (inl (record { batch = p; planned = planned; stamp = stamp; done = done; settles = refl; answers = commits; commits = on_disk })) in
+            let called = ended-is-call newest given old hs new (s.live takes.up) (committed p stamp done new planned commits on_disk) in
             let past = past-all done takes.ticket commits in
             let at = given-all in
             let last = cut-last (length hs) p.groups cut in
@@ -196,7 +195,7 @@ module _ {D : Type 0} (size count faults : D → ℕ) (honest : D → Type 0) (n
               no_fewer = let before = s.no_fewer in omega (arith, before, counted);
               up = λ few none. commits.up;
               same = same-then b.own old.log.sb new.log.sb s.same commits.moved;
-              stood = λ up. calls-stood given (call_of newest ended ∷ []) b.homes (homes_of newest old) (s.stood takes.up) (called.0, tt);
+              stood = λ up. call-stood given hs b.homes (deck_homes newest old) (deck_homes newest new) (s.stood takes.up) called.0;
               live = λ up. called.1;
               now = λ x may. has-some (groups_in p.groups) (groups_in p.groups) (past_after 0 new.trail) x (omega arith) low (now x may);
               later = let before = s.later in let on = leaves.later in omega (arith, before, on);
@@ -230,7 +229,7 @@ module _ {D : Type 0} (size count faults : D → ℕ) (honest : D → Type 0) (n
     Leaves = old.aborted ≡ false → honest old.disk → LeavesOnly moment left_since old.disk new.disk (Left 0 (groups_in p.groups))
 
     abbrev Now : Result Done BatchFault → Type 0
-    Now r = old.aborted ≡ false → honest old.disk → (c : Image) → may_leave new.disk c → LeavesGroups old.log.sb (size old.disk) (count old.disk) (homes_of newest old) p r c
+    Now r = old.aborted ≡ false → honest old.disk → (c : Image) → may_leave new.disk c → LeavesGroups old.log.sb (size old.disk) (count old.disk) (deck_homes newest old) p r c
 
     pub commit-since : (r : Result Done BatchFault) → AnswersBatch (faults old.disk) (faults new.disk) p stamp old new r → (honest old.disk → OnOk r (CommitsOnDisk newest p stamp old new)) → Leaves → Now r → Is old → Is new
     commit-since (Ok done) answers on_disk leaves now is = record {
@@ -280,7 +279,7 @@ module _ {D : Type 0} (size count faults : D → ℕ) (honest : D → Type 0) (n
 
   module _ (old new : OpenDeck D) (kept : Kept size count honest old.disk new.disk) where
     abbrev None : Image → Type 0
-    None c = FollowsNone old.log.sb (size old.disk) (count old.disk) (homes_of newest old) c
+    None c = FollowsNone old.log.sb (size old.disk) (count old.disk) (deck_homes newest old) c
 
     -- nothing is given
     pub given-none : (given : List Stopped) → WasGiven known given old → old.aborted ≡ false → new.trail ≡ old.trail → new.shape ≡ old.shape → WasGiven known given new
@@ -294,7 +293,7 @@ module _ {D : Type 0} (size count faults : D → ℕ) (honest : D → Type 0) (n
 
     module _ (given : List Stopped) (settled : past_after 0 old.trail ≤ length given) (s : Stands given old) (up : old.aborted ≡ false) (leaves : LeavesOnly moment left_since old.disk new.disk None) (trail : new.trail ≡ old.trail) where
       has-none : (c : Image) → None c → HasFirst b given (past_after 0 old.trail) c
-      has-none c = first-none b old.log.sb s.same (size old.disk) (count old.disk) s.same_size s.same_count given (homes_of newest old) (s.stood up) (past_after 0 old.trail) c settled
+      has-none c = first-none b old.log.sb s.same (size old.disk) (count old.disk) s.same_size s.same_count given (deck_homes newest old) (s.stood up) (past_after 0 old.trail) c settled
 
       now-none : (c : Image) → may_leave new.disk c → HasFirst b given (past_after 0 new.trail) c
       now-none c may =
@@ -308,7 +307,7 @@ module _ {D : Type 0} (size count faults : D → ℕ) (honest : D → Type 0) (n
           (leaves.before b.since c s.later left)
 
       -- the homes stand as they did
-      pub none-since : SameJournal old.log.sb new.log.sb → faults old.disk ≤ faults new.disk → (b.faults < 18446744073709551615 → faults new.disk ≡ b.faults → new.aborted ≡ false) → (new.aborted ≡ false → ((home : ℕ) → homes_of newest new home ≡ homes_of newest old home) × LiveOf given new.groups) → Stands given new
+      pub none-since : SameJournal old.log.sb new.log.sb → faults old.disk ≤ faults new.disk → (b.faults < 18446744073709551615 → faults new.disk ≡ b.faults → new.aborted ≡ false) → (new.aborted ≡ false → ((home : ℕ) → deck_homes newest new home ≡ deck_homes newest old home) × LiveOf given new.groups) → Stands given new
       none-since same more fails same_homes = record {
         same_size = kept.same_size ∙ s.same_size;
         same_count = kept.same_count ∙ s.same_count;
@@ -316,7 +315,7 @@ module _ {D : Type 0} (size count faults : D → ℕ) (honest : D → Type 0) (n
         no_fewer = let before = s.no_fewer in omega (arith, before, more);
         up = fails;
         same = same-then b.own old.log.sb new.log.sb s.same same;
-        stood = λ still home kept_word. subst (StandsBy (word given home) (b.homes home)) (sym ((same_homes still).0 home)) (s.stood up home kept_word);
+        stood = λ still home. subst (StandsBy (word given home) (b.homes home)) (sym ((same_homes still).0 home)) (s.stood up home);
         live = λ still. (same_homes still).1;
         now = now-none;
         later = let before = s.later in let on = leaves.later in omega (arith, before, on);
@@ -328,8 +327,7 @@ module _ {D : Type 0} (size count faults : D → ℕ) (honest : D → Type 0) (n
 
     home-since : (checked : Checked) → faults new.disk ≡ faults old.disk → TakesOldest old new checked → Checkpoints newest old new → (given : List Stopped) → past_after 0 old.trail ≤ length given → (s : Stands given old) → old.aborted ≡ false → LeavesOnly moment left_since old.disk new.disk None → Stands given new
     home-since checked counted takes goes given settled s up leaves =
-        let ended : Ended D = record { settled = []; deck = new } in
-        let called = ended-is-call newest given old ended (s.live up) (inr (inl (record { checked = checked; settles = refl; answers = takes; checkpoints = goes }))) in
+        let called = ended-is-call newest given old [] new (s.live up) (checkpointed checked new takes goes) in
         none-since given settled s up leaves takes.trail (subst (λ l. SameJournal old.log.sb l.sb) (sym takes.log) refl) (omega (arith, counted)) (λ few none. takes.live)
         (λ still. (goes.standing, subst (λ hs. LiveOf hs new.groups) (append-nil given) called.1))
 

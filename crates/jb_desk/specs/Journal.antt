@@ -12,7 +12,7 @@ use Rattle.jb_deck.specs.Checkpoints.{AnswersCheckpoint, Checkpoints, TakesOldes
 use Rattle.jb_deck.specs.Committing.{CommitsBatch, CommitsOnDisk, FindsLive, TakesBatch}
 use Rattle.jb_deck.specs.Deck.{OpenDeck}
 use Rattle.jb_deck.specs.Done.{Follow, past_after, start_of}
-use Rattle.jb_deck.specs.Log.{standing, transactions}
+use Rattle.jb_ring.specs.Log.{standing, transactions}
 use Rattle.jb_deck.specs.Reading.{AnswersRead}
 use Rattle.jb_deck.specs.Taking.{CanTake, TakesTrail, oldest_number}
 use Rattle.jb_deck.specs.declared.batched.BatchFault.{BatchFault}

@@ -1,18 +1,18 @@
 -- How a journal stands since its desk was started: which handles it was given, what its homes hold, and what a crash leaves.
-use Rattle.std.specs.Prelude.{◌≡◌, ◌≢◌, ◌⊎◌, ℕ, ◌-◌, ◌<◌, ◌≤◌, ◌^◌, false, List, All, length, take, Some}
+use Rattle.std.specs.Prelude.{◌≡◌, ◌⊎◌, ℕ, ◌-◌, ◌<◌, ◌≤◌, ◌^◌, false, List, All, length, take}
 use Rattle.jb_disk.specs.Image.{Image}
 use Rattle.jb_batch.specs.Costs.{cost_in}
 use Rattle.jb_handle.specs.Tickets.{TicketsFrom}
 use Rattle.jb_handle.specs.Words.{word}
 use Rattle.jb_handle.specs.declared.shape.Shape.{Shape}
 use Rattle.jb_handle.specs.declared.stopped.Stopped.{Stopped}
-use Rattle.jb_handle.specs.declared.word.Word.TheVariants.{Free}
 use Rattle.jb_super.specs.Journal.{SameJournal}
 use Rattle.jb_deck.specs.Deck.{OpenDeck}
 use Rattle.jb_deck.specs.Done.{past_after}
-use Rattle.jb_deck.specs.Follows.{StandsBy}
+use Rattle.jb_ring.specs.Follows.{StandsBy}
 use Rattle.jb_deck.specs.Opening.{recovered_home, FollowsEntry}
-use Rattle.jb_deck.specs.Since.{IsRecoveredTo, LiveOf, homes_of}
+use Rattle.jb_since.specs.Calls.{IsRecoveredTo}
+use Rattle.jb_since.specs.Since.{LiveOf, deck_homes}
 use Rattle.jb_deck.specs.declared.done.Entry.{Entry}
 use Rattle.jb_desk.specs.Origin.{Begun, own_on}
 
@@ -57,7 +57,7 @@ pub record Since {D : Type 0} (size count faults : D → ℕ) (honest : D → Ty
   pub no_fewer : b.faults ≤ faults d.disk
   pub up : b.faults < 2 ^ 64 - 1 → faults d.disk ≡ b.faults → d.aborted ≡ false
   pub same : SameJournal b.own d.log.sb
-  pub stood : d.aborted ≡ false → (home : ℕ) → word given home ≢ Some Free → StandsBy (word given home) (b.homes home) (homes_of newest d home)
+  pub stood : d.aborted ≡ false → (home : ℕ) → StandsBy (word given home) (b.homes home) (deck_homes newest d home)
   pub live : d.aborted ≡ false → LiveOf given d.groups
   -- what a crash may leave now has the settled ones at least
   pub now : (c : Image) → may_leave d.disk c → HasFirst b given (past_after 0 d.trail) c

@@ -68,7 +68,9 @@ impl<S: Origin> Model for Book<S> {
 
 impl<S: Origin> Book<S> {
     ghost use Rattle.jb_desk.specs.Since.{AreStops};
-    ghost use Rattle.jb_desk.specs.Account.{IsStart, granted_to, dropped_of, queued, taken_all, settled_to, failed_of, is_full, refusal, RefusesBegin, IsOpenFor, CanStop, RefusesStop, CanTake, Settles};
+    ghost use Rattle.jb_desk.specs.Account.{IsStart, granted_to, dropped_of, queued, taken_all};
+    ghost use Rattle.jb_desk.specs.Account.{settled_to, failed_of, is_full, refusal, RefusesBegin};
+    ghost use Rattle.jb_desk.specs.Account.{IsOpenFor, CanStop, RefusesStop, CanTake, Settles};
 
     /// A book in which nothing has happened yet, for a journal of this shape with so many usable
     /// log blocks. Takes no memory.

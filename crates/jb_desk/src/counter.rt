@@ -1,4 +1,5 @@
-ghost use Rattle.std.specs.Prelude.{◌≡◌, ◌+◌, ◌<◌, ◌≤◌, ◌^◌, ◌⊎◌, true, None, IsTrue, ◌↔◌, OnOk, OnErr, IfOk, IfErr, IfSome, IfNone, [], All, length};
+ghost use Rattle.std.specs.Prelude.{◌≡◌, ◌+◌, ◌<◌, ◌≤◌, ◌^◌, ◌⊎◌, true, None, IsTrue, ◌↔◌};
+ghost use Rattle.std.specs.Prelude.{OnOk, OnErr, IfOk, IfErr, IfSome, IfNone, [], All, length};
 ghost use Rattle.std.specs.FinMap as map;
 ghost use Rattle.jb_handle.specs.Handle.{holder, changes_of};
 ghost use Rattle.jb_handle.specs.Held.{held, touched};
@@ -53,7 +54,8 @@ pub(crate) struct Counter<H: Origin, N: Ledger> {
 }
 
 impl<H: Origin, N: Ledger> Counter<H, N> {
-    ghost use Rattle.jb_desk.specs.Account.{granted_to, dropped_of, refusal, RefusesBegin, AnswersNumber, IsAwaited, fault_of};
+    ghost use Rattle.jb_desk.specs.Account.{granted_to, dropped_of, refusal, RefusesBegin};
+    ghost use Rattle.jb_desk.specs.Account.{AnswersNumber, IsAwaited, fault_of};
     ghost use Rattle.jb_desk.specs.Seats.{stops, changes, made_by, stops_left, changes_left, made_left};
     ghost use Rattle.jb_desk.specs.Stops.{IsStopped, RefusesStopOf};
     ghost use Rattle.jb_board.specs.Seats.{given_by};

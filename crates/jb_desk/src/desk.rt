@@ -51,7 +51,8 @@ pub struct Desk<D: Disk, C: Clock, H: Origin, N: Ledger> {
 
 impl<D: Disk, C: Clock, H: Origin, N: Ledger> Desk<D, C, H, N> {
     ghost use Rattle.jb_desk.specs.Desks.{desk_id, shape_in};
-    ghost use Rattle.jb_desk.specs.Seats.{KeepsStops, stops, changes, made_by, seat_number, desk_of, view_of, stops_left, changes_left, made_left};
+    ghost use Rattle.jb_desk.specs.Seats.{KeepsStops, stops, changes, made_by, seat_number};
+    ghost use Rattle.jb_desk.specs.Seats.{desk_of, view_of, stops_left, changes_left, made_left};
     ghost use Rattle.jb_desk.specs.History.{history_in};
     ghost use Rattle.jb_desk.specs.Refusals.{HandsBack, IsTooMany};
     ghost use Rattle.jb_desk.specs.Since.{IsSince};

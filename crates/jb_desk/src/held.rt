@@ -33,7 +33,9 @@ impl<S: Origin> Model for Held<S> {
 
     ghost view = { λ h. h.batch };
 
-    ghost invariant = { λ h. AreStops S.begun h.batch.handles × (h.batch.first + length h.batch.handles ≤ given_by h.tickets) × All (IsInHistory h.sight) h.batch.handles };
+    ghost invariant = { λ h. AreStops S.begun h.batch.handles
+        × (h.batch.first + length h.batch.handles ≤ given_by h.tickets)
+        × All (IsInHistory h.sight) h.batch.handles };
 }
 
 impl<S: Origin> Held<S> {

@@ -33,7 +33,8 @@ impl<D: Disk, C: Clock, S: Origin> Model for Works<D, C, S> {
 
     ghost view = { λ w. worked w.deck w.clock };
 
-    ghost invariant = { λ w. IsSinceOf D.size D.count D.faults D.honest D.newest D.may_leave D.moment D.left_since S.begun (IsStop S.begun w.sight) w.deck };
+    ghost invariant = { λ w. IsSinceOf D.size D.count D.faults D.honest D.newest D.may_leave D.moment D.left_since
+        S.begun (IsStop S.begun w.sight) w.deck };
 }
 
 impl<D: Disk, C: Clock, S: Origin> Works<D, C, S> {

@@ -1,5 +1,6 @@
 //! What is assumed of a disk: whole blocks of 512-byte sectors, and what a crash may leave of them.
-ghost use Rattle.std.specs.Prelude.{Bool, false, is_ok, IsTrue, IsErr, ◌≡◌, ◌<◌, ◌≤◌, ◌^◌, ◌+◌, ◌*◌, ℕ, length, OnOk, set};
+ghost use Rattle.std.specs.Prelude.{Bool, false, is_ok, IsTrue, IsErr, ◌≡◌, ◌<◌, ◌≤◌};
+ghost use Rattle.std.specs.Prelude.{◌^◌, ◌+◌, ◌*◌, ℕ, length, OnOk, set};
 ghost use Rattle.jb_block.specs.Size.{bytes_of, IsBlockSize};
 ghost use Rattle.jb_disk.specs.Image.{Image, block, Torn, Same, Only, HasShape};
 ghost use Rattle.jb_disk.specs.Time.{Goes};
@@ -154,13 +155,16 @@ pub trait Disk {
     ghost newest_may_stay: { (disk : Self) → honest disk → may_leave disk (newest disk) };
 
     /// What a crash may leave has as many blocks as the disk, each of the disk's size.
-    ghost has_shape: { (disk : Self) (c : Image) → honest disk → may_leave disk c → HasShape (count disk) (size disk) c };
+    ghost has_shape: { (disk : Self) (c : Image) → honest disk → may_leave disk c
+        → HasShape (count disk) (size disk) c };
 
     /// So has what a crash at some moment from that one on might have left.
-    ghost has_shape_since: { (disk : Self) (t : ℕ) (c : Image) → honest disk → left_since disk t c → HasShape (count disk) (size disk) c };
+    ghost has_shape_since: { (disk : Self) (t : ℕ) (c : Image) → honest disk → left_since disk t c
+        → HasShape (count disk) (size disk) c };
 
     /// This moment is one of those since an earlier one.
-    ghost counts_now: { (disk : Self) (t : ℕ) (c : Image) → honest disk → t ≤ moment disk → may_leave disk c → left_since disk t c };
+    ghost counts_now: { (disk : Self) (t : ℕ) (c : Image) → honest disk → t ≤ moment disk → may_leave disk c
+        → left_since disk t c };
 
     /// Since this moment there is no other.
     ghost only_now: { (disk : Self) (c : Image) → honest disk → left_since disk (moment disk) c → may_leave disk c };

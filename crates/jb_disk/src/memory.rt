@@ -4,7 +4,8 @@ ghost use Rattle.jb_block.specs.Size.{bytes_of};
 ghost use Rattle.jb_disk.specs.Calls.{steps_of, image_of};
 ghost use Rattle.jb_disk.specs.History.{Wrote, Synced, newest_of, MayLeave, LeftSince, IsSound};
 ghost use Rattle.jb_disk.specs.Versions.{IsChosen};
-ghost use Rattle.jb_disk.specs.Lives.{is_block_size, newest_stays, left_has_shape, since_has_shape, left_since_now, left_only_now};
+ghost use Rattle.jb_disk.specs.Lives.{is_block_size, newest_stays, left_has_shape};
+ghost use Rattle.jb_disk.specs.Lives.{since_has_shape, left_since_now, left_only_now};
 
 use crate::sector::{copy_of, crash_image};
 use crate::{Disk, Fault};
@@ -119,11 +120,14 @@ impl Disk for MemoryDisk {
 
     ghost has_size = { λ h. is_block_size h.size };
 
-    ghost newest_may_stay = { λ h sound. newest_stays h.count (bytes_of h.size) h.first h.steps sound.shape sound.whole };
+    ghost newest_may_stay = { λ h sound.
+        newest_stays h.count (bytes_of h.size) h.first h.steps sound.shape sound.whole };
 
-    ghost has_shape = { λ h c sound left. left_has_shape h.count (bytes_of h.size) h.first h.steps c sound.shape sound.whole left };
+    ghost has_shape = { λ h c sound left.
+        left_has_shape h.count (bytes_of h.size) h.first h.steps c sound.shape sound.whole left };
 
-    ghost has_shape_since = { λ h t c sound left. since_has_shape h.count (bytes_of h.size) h.first h.steps t c sound.shape sound.whole left };
+    ghost has_shape_since = { λ h t c sound left.
+        since_has_shape h.count (bytes_of h.size) h.first h.steps t c sound.shape sound.whole left };
 
     ghost counts_now = { λ h t c sound earlier left. left_since_now h.first h.steps t c earlier left };
 

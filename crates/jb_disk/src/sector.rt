@@ -1,5 +1,6 @@
 //! What a crash makes of the blocks of a disk in memory, sector by sector.
-ghost use Rattle.std.specs.Prelude.{◌≡◌, ◌<◌, ◌≤◌, ◌+◌, ◌*◌, ◌/◌, ◌∷◌, ℕ, List, [], length, take, drop, get_or, All, IfOk, OnErr, MatchOption};
+ghost use Rattle.std.specs.Prelude.{◌≡◌, ◌<◌, ◌≤◌, ◌+◌, ◌*◌, ◌/◌, ◌∷◌, ℕ, List};
+ghost use Rattle.std.specs.Prelude.{[], length, take, drop, get_or, All, IfOk, OnErr, MatchOption};
 ghost use Rattle.jb_block.specs.Size.{bytes_of};
 ghost use Rattle.jb_disk.specs.Calls.{steps_of, image_of};
 ghost use Rattle.jb_disk.specs.History.{replay, AreWhole};

@@ -1,6 +1,8 @@
 ghost use Rattle.std.specs.Prelude.{◌≡◌, [], IfOk, OnOk, IfErr, IsSome, Some, None, Ok, option_map};
 ghost use Rattle.jb_text.specs.Parts.{lines, words, first_of, number_of};
-ghost use Rattle.jb_price.specs.Claims.{read_of, claim_of, claim_in, cut_of, price_of as price_of_word, prices_in, cut_in, total_in, after_each, on_line, with_total, first_price, BeginsWithPrice, Refuses};
+ghost use Rattle.jb_price.specs.Claims.{read_of, claim_of, claim_in, cut_of, price_of as price_of_word};
+ghost use Rattle.jb_price.specs.Claims.{prices_in, cut_in, total_in, after_each, on_line};
+ghost use Rattle.jb_price.specs.Claims.{with_total, first_price, BeginsWithPrice, Refuses};
 
 use crate::certificate::{Cert, CertAnswer};
 use crate::fault::CertFault;

@@ -8,7 +8,9 @@ ghost use Rattle.jb_queue.specs.declared.fault.Cause.TheVariants.{Memory as OutO
 ghost use Rattle.jb_text.specs.Parts.{first_of, lines, number_of, words};
 ghost use Rattle.jb_handle.specs.Size.{weight};
 ghost use Rattle.jb_queue.specs.QueueText.{value_of};
-ghost use Rattle.jb_queue.specs.Queue.{Gives, Reports, BeginsHandle, FirstReads, MayGrow, MayGrowAt, after_ops, handle_of, queue_of, after_lines, format_behind, format_of, limit_of, size_of_bytes, width_behind};
+ghost use Rattle.jb_queue.specs.Queue.{Gives, Reports, BeginsHandle, FirstReads, MayGrow};
+ghost use Rattle.jb_queue.specs.Queue.{MayGrowAt, after_ops, handle_of, queue_of, after_lines};
+ghost use Rattle.jb_queue.specs.Queue.{format_behind, format_of, limit_of, size_of_bytes, width_behind};
 
 use crate::fault::{Cause, QueueFault};
 use crate::op_text::read_op;

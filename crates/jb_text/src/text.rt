@@ -1,6 +1,7 @@
 ghost use Rattle.std.specs.Prelude.{◌≡◌, ◌<◌, [], ◌∷◌, length, MatchOption, IfSome};
 ghost use Rattle.std.specs.Option.{option_copied};
-ghost use Rattle.jb_text.specs.Parts.{before, onward, lines, words, words_in, FirstLine, number_of, number_from, with_digit as with_digit_of};
+ghost use Rattle.jb_text.specs.Parts.{before, onward, lines, words, words_in};
+ghost use Rattle.jb_text.specs.Parts.{FirstLine, number_of, number_from, with_digit as with_digit_of};
 
 /// The bytes before the first `delimiter`, and those from it on: all of them and none, where there is no `delimiter`.
 pub fn part(bytes: &[u8], delimiter: u8) -> (&[u8], &[u8])

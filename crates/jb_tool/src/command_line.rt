@@ -42,7 +42,8 @@ pub fn run<
         (record { out = O.contents out.new; err = E.contents err.new }) result) }
     ensures refused { words.now ≢ [] → (faults_in (map S.text words.now) ≢ [])
         ⊎ (wanted_in (map S.text words.now) ≡ None)
-        → RefusesWords (faults_in (map S.text words.now)) (wanted_in (map S.text words.now)) (record { out = O.contents out.old; err = E.contents err.old })
+        → RefusesWords (faults_in (map S.text words.now)) (wanted_in (map S.text words.now))
+        (record { out = O.contents out.old; err = E.contents err.old })
         (record { out = O.contents out.new; err = E.contents err.new }) result }
     ensures unread { words.now ≢ [] → IfSome (wanted_in (map S.text words.now)) (λ wanted. wants_input wanted ≡ false)
         → input.new ≡ input.old }
@@ -63,9 +64,11 @@ fn tell_refusal<O: Write, E: Write>(error: &Error, out: &mut O, err: &mut E) -> 
         (record { out = O.contents out.old; err = E.contents err.old })
         (record { out = O.contents out.new; err = E.contents err.new }) result }
     ensures shown { (kind_of error.now ≡ ErrorKind.DisplayHelp) ⊎ (kind_of error.now ≡ ErrorKind.DisplayVersion)
-        → ((result ≡ with_status 0) × (E.contents err.new ≡ E.contents err.old)) ⊎ ((result ≡ with_status 1) × PutsPart (E.contents err.old) (E.contents err.new) (line_of WriteFault)) }
+        → ((result ≡ with_status 0) × (E.contents err.new ≡ E.contents err.old))
+        ⊎ ((result ≡ with_status 1) × PutsPart (E.contents err.old) (E.contents err.new) (line_of WriteFault)) }
     ensures mistake { kind_of error.now ≢ ErrorKind.OutOfMemory → kind_of error.now ≢ ErrorKind.DisplayHelp
-        → kind_of error.now ≢ ErrorKind.DisplayVersion → (result ≡ with_status 2) × (O.contents out.new ≡ O.contents out.old) }
+        → kind_of error.now ≢ ErrorKind.DisplayVersion
+        → (result ≡ with_status 2) × (O.contents out.new ≡ O.contents out.old) }
 {
     if error.kind() == ErrorKind::OutOfMemory {
         CommandFault::Memory.tell(err);

@@ -1,7 +1,8 @@
 //! `jb load`: the handles of a queue text, run by threads and committed to an image.
 ghost use Rattle.std.specs.Prelude.{◌≡◌, ◌≤◌, ◌↔◌, Ok, IsSome, IfSome};
 ghost use Rattle.jb_words.specs.Wanted.{load_said};
-ghost use Rattle.jb_tool.specs.Load.{EndsOfLoad, HasThreads, IsAskedBy, LoadsOn, ReportsLoad, RunsLoad, beside_in, load_fault};
+ghost use Rattle.jb_tool.specs.Load.{EndsOfLoad, HasThreads, IsAskedBy, LoadsOn};
+ghost use Rattle.jb_tool.specs.Load.{ReportsLoad, RunsLoad, beside_in, load_fault};
 
 use jb_advice::Beside;
 use jb_answers::fault_answer;

@@ -1,7 +1,8 @@
 ghost use Rattle.std.specs.Prelude.{◌≡◌, IfOk, false};
 ghost use Rattle.clap.specs.Words.{App, app_of, new_app, rule_of, with_rule, with_subcommand};
 ghost use Rattle.clap.specs.declared.builder.command.Command.TheViews.{out-Command as fields_of};
-ghost use Rattle.jb_words.specs.App.{cat_app, check_app, dump_app, file_app, format_app, image_app, jb_app, jb_top, load_app, recover_app, required_word as word_rule};
+ghost use Rattle.jb_words.specs.App.{cat_app, check_app, dump_app, file_app, format_app, image_app};
+ghost use Rattle.jb_words.specs.App.{jb_app, jb_top, load_app, recover_app, required_word as word_rule};
 
 mod options;
 mod texts;

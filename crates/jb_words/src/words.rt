@@ -3,7 +3,8 @@ ghost use Rattle.clap.specs.Kinds.{FailsBy};
 ghost use Rattle.clap.specs.Words.{app_of, first_of, found_of, rows_of, subcommand_of, subcommand_rows_of};
 ghost use Rattle.jb_words.specs.App.{jb_app};
 ghost use Rattle.jb_words.specs.Faults.{HasKind, faults_in};
-ghost use Rattle.jb_words.specs.Named.{asked, asks, cat_in, check_in, dump_in, flag_in, format_in, number_in, options_in, options_said};
+ghost use Rattle.jb_words.specs.Named.{asked, asks, cat_in, check_in, dump_in};
+ghost use Rattle.jb_words.specs.Named.{flag_in, format_in, number_in, options_in, options_said};
 ghost use Rattle.jb_words.specs.Wanted.{load_in, load_said, wanted_in, wanted_of, wants};
 
 use crate::command::{LoadWords, Words};

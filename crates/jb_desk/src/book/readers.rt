@@ -7,7 +7,8 @@ use jb_handle::{Shape, Words};
 use jb_history::{History, Made, Scribe};
 
 impl<S: Origin> Book<S> {
-    ghost use Rattle.std.specs.Prelude.{◌≡◌, ℕ, ◌<◌, ◌≤◌, ◌^◌, ◌↔◌, ◌⊎◌, List, [], ◌∷◌, ◌++◌, length, IfSome, IfNone, IsTrue};
+    ghost use Rattle.std.specs.Prelude.{◌≡◌, ℕ, ◌<◌, ◌≤◌, ◌^◌, ◌↔◌, ◌⊎◌, List};
+    ghost use Rattle.std.specs.Prelude.{[], ◌∷◌, ◌++◌, length, IfSome, IfNone, IsTrue};
     ghost use Rattle.jb_handle.specs.declared.stopped.Stopped.{Stopped};
     ghost use Rattle.jb_history.specs.Rule.{with_last};
     ghost use Rattle.jb_desk.specs.Account.{IsSound, IsOver, IsSettledBy, CanTake};

@@ -140,15 +140,14 @@ fn close_parts<D: Disk, C: Clock, H: Origin, N: Ledger>(
     ensures changes { IfOk result (λ closed. (closed.changes ≡ sum_by changes_left lefts.items)
         × (closed.changes ≡ counter.book.changes)) }
     ensures few { IfOk result (λ closed. (closed.handles ≤ 2 ^ 61) × (closed.changes ≤ 2 ^ 61)) }
-    ensures trail { IfOk result (λ closed. (closed.trail.items ≡ counter.book.trail)
-        × (closed.trail.items ≡ works.deck.trail)) }
     ensures tiles { IfOk result (λ closed. (past : ℕ) × Follow (start_of closed.trail.items) 0 past closed.trail.items
         × (past ≤ closed.handles)) }
     ensures since { IfOk result (λ closed. EndsSince D.size D.count D.faults D.honest D.newest D.may_leave D.moment
         D.left_since H.begun closed.disk closed.trail.items) }
     ensures stops { IfOk result (λ closed. EndsWith D.size D.count D.faults D.honest D.newest D.may_leave D.moment
         D.left_since H.begun (map made_left lefts.items) closed.handles closed.shape closed.disk closed.trail.items) }
-    ensures given { IfOk result (λ closed. (closed.disk ≡ works.deck.disk) × (closed.clock ≡ works.clock)) }
+    ensures given { IfOk result (λ closed. (closed.disk ≡ works.deck.disk) × (closed.clock ≡ works.clock)
+        × (closed.trail.items ≡ counter.book.trail) × (closed.trail.items ≡ works.deck.trail)) }
     ensures refused { IfErr result (DiffersAs counter works) }
 {
     let (book, handles, changes, mut scribe) = counter.totals(history, lefts);

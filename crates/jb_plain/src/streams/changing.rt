@@ -19,7 +19,8 @@ use std::io::Write;
 /// beginning of the line, after a renumbering that is done. But for the last nothing was written to `out`.
 pub fn renumber_on<'a, D: Disk, O: Write>(disk: &mut D, out: &mut O) -> Result<u8, CommandFault<'a>>
     ensures renumbers { ChangesOn D.size D.count D.faults D.honest D.newest D.may_leave D.moment D.left_since
-        Renumbers IsRenumbering RenumbersAs renumbered_line disk.old disk.new (O.contents out.old) (O.contents out.new) result }
+        Renumbers IsRenumbering RenumbersAs renumbered_line disk.old disk.new
+        (O.contents out.old) (O.contents out.new) result }
 {
     let answer = renumber(disk);
     tell_renumbering(answer, out)

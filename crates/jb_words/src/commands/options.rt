@@ -1,7 +1,10 @@
 //! The options of the commands.
 ghost use Rattle.std.specs.Prelude.{◌≡◌, false};
 ghost use Rattle.clap.specs.Words.{rule_of};
-ghost use Rattle.jb_words.specs.App.{count_option as count_rule, flag as flag_rule, journal_option as journal_rule, number_word as number_word_rule, number_option as number_rule, number_or as number_or_rule, required_number as required_rule, uuid_option as uuid_rule};
+ghost use Rattle.jb_words.specs.App.{count_option as count_rule, flag as flag_rule};
+ghost use Rattle.jb_words.specs.App.{journal_option as journal_rule, number_word as number_word_rule};
+ghost use Rattle.jb_words.specs.App.{number_option as number_rule, number_or as number_or_rule};
+ghost use Rattle.jb_words.specs.App.{required_number as required_rule, uuid_option as uuid_rule};
 
 use clap::{Arg, ArgAction, value_parser};
 use std::alloc::Global;

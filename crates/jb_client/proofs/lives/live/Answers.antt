@@ -1,7 +1,6 @@
-use Rattle.std.proofs.Common.{◌≡◌, ◌⊎◌, ℕ, List, length, refl, ap, sym, subst, ◌∙◌, inl, inr, ⊎_elim}
+use Rattle.std.proofs.Common.{◌≡◌, ◌⊎◌, length, ap, sym, subst, ◌∙◌, inl, inr, ⊎_elim}
 use Rattle.jb_block.specs.Size.{bytes_of}
 use Rattle.jb_disk.specs.History.{History, MayLeave, newest_of, replay}
-use Rattle.jb_disk.specs.Image.{Image}
 use Rattle.jb_disk.specs.Lives.{left_since_now}
 use Rattle.jb_front.proofs.Entering.{entry-as}
 use Rattle.jb_recover.specs.Outcomes.{KeepsJournal, recovered}
@@ -26,7 +25,7 @@ returns-clause-rest c = λ rest.
     let size = bytes_of crashed.size in
     let kept = c.recover.ensures.kept in
     let sound = c.in_ok-disk.ensures.sound in
-    let ended = c.in_ok-recover.ensures.ends sound in
+    let ended = (c.in_ok-recover.ensures.recovers sound).3 in
     let at : recovered size crashed.count (newest_of new) ≡ newest_of new = ap (recovered size crashed.count) ended ∙ c.recovered.ensures.once size crashed.count (newest_of crashed) ∙ sym ended in
     record {
       sound = kept.stays_honest sound;
@@ -55,7 +54,7 @@ returns-clause-lives c = λ rest own before hs entry.
     let same_size : bytes_of crashed.size ≡ size = ap bytes_of (c.in_ok-disk.ensures.size ∙ ap (λ (h : History). h.size) c.into_inner.ensures) ∙ kept.same_size in
     let same_count : crashed.count ≡ count = c.in_ok-disk.ensures.count ∙ ap (λ (h : History). h.count) c.into_inner.ensures ∙ kept.same_count in
     let image : newest_of crashed ≡ crashed.first = ap (replay crashed.first) c.in_ok-disk.ensures.fresh.0 in
-    let ended : new ≡ recovered size count crashed.first = entry-as (λ s n b. new ≡ recovered s n b) size count (bytes_of crashed.size) crashed.count crashed.first (newest_of crashed) same_size same_count image (c.in_ok-recover.ensures.ends sound) in
+    let ended : new ≡ recovered size count crashed.first = entry-as (λ s n b. new ≡ recovered s n b) size count (bytes_of crashed.size) crashed.count crashed.first (newest_of crashed) same_size same_count image ((c.in_ok-recover.ensures.recovers sound).3) in
     let keeps : KeepsJournal size count crashed.first new = entry-as (λ s n b. KeepsJournal s n b new) size count (bytes_of crashed.size) crashed.count crashed.first (newest_of crashed) same_size same_count image (c.in_ok-recover.ensures.journal sound) in
     let more = life-more size count own before hs base batch c.chained.ensures (length batch.batch.handles) c.run-last.ensures.planned.least.fitting.cut at_rest.still holds crashed.first new left ended keeps in
     subst (λ (h : History). HoldsMore own (bytes_of h.size) h.count before hs batch new) is more

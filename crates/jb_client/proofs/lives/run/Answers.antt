@@ -1,8 +1,8 @@
-use Rattle.std.proofs.Common.{◌≡◌, ◌⊎◌, length, sym, subst}
+use Rattle.std.proofs.Common.{◌⊎◌, length, sym, subst}
 use Rattle.jb_disk.specs.Time.{LeavesOnly}
 use Rattle.jb_deck.specs.Gathering.{groups_in}
-use Rattle.jb_deck.specs.Since.{homes_of}
 use Rattle.jb_deck.specs.Trailing.{FollowsSome}
+use Rattle.jb_since.specs.Since.{deck_homes}
 use Rattle.jb_client.specs.Lives.{LeftByLife}
 use Rattle.jb_client.proofs.Living.{committed-left, opened-left}
 use Rattle.jb_client.proofs.lives.run.Goals as goal
@@ -26,7 +26,7 @@ returns-in-Ok-clause-leaves g c = λ honest.
     let new = c.commit-settled.new.deck.disk in
     let hs = batch.batch.handles in
     let groups = batch.groups in
-    let stood = homes_of g.D.Disk.newest opened in
+    let stood = deck_homes g.D.Disk.newest opened in
     let leaves = c.commit-settled.ensures.leaves c.in-Ok.ensures.new.aborted (kept.stays_honest honest) in
     let sized = subst (λ s. LeavesOnly g.D.Disk.moment g.D.Disk.left_since opened.disk new (FollowsSome opened.log.sb s (g.D.Disk.count opened.disk) stood hs groups 0 (groups_in groups))) kept.same_size leaves in
     let counted = subst (λ n. LeavesOnly g.D.Disk.moment g.D.Disk.left_since opened.disk new (FollowsSome opened.log.sb size n stood hs groups 0 (groups_in groups))) kept.same_count sized in

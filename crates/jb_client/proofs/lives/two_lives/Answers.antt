@@ -1,10 +1,10 @@
-use Rattle.std.proofs.Common.{◌≡◌, ℕ, List, [], refl, ap, sym, subst, ◌∙◌}
+use Rattle.std.proofs.Common.{◌≡◌, [], ap, sym, subst, ◌∙◌}
 use Rattle.jb_block.specs.Size.{bytes_of}
 use Rattle.jb_disk.specs.History.{newest_of}
 use Rattle.jb_recover.specs.Outcomes.{recovered}
 use Rattle.jb_deck.specs.Opening.{recovered_home}
 use Rattle.jb_deck.specs.Trailing.{handles_to}
-use Rattle.jb_client.specs.Lives.{HasTwoLives, HoldsHandles, HoldsMore, IsAtRest}
+use Rattle.jb_client.specs.Lives.{HoldsHandles, HoldsMore, IsAtRest}
 use Rattle.jb_client.proofs.Living.{holds-none, ok-then}
 use Rattle.jb_client.proofs.lives.two_lives.Goals as goal
 
@@ -23,7 +23,7 @@ returns-in-Ok c = record {
       let kept = c.in_default.ensures.kept in
       let keeps = c.in_default.ensures.journal sound in
       let own = keeps.own in
-      let ended = c.in_default.ensures.ends sound in
+      let ended = (c.in_default.ensures.recovers sound).3 in
       let at : recovered size count new1 ≡ new1 = ap (recovered size count) ended ∙ c.recovered.ensures.once size count base ∙ sym ended in
       let rest : IsAtRest d1 = record {
         sound = kept.stays_honest sound;

@@ -1,12 +1,12 @@
-use Rattle.std.proofs.Common.{◌≡◌, ℕ, List, [], ◌∷◌, ◌++◌, ◌∙◌, refl, inl, inr, subst}
+use Rattle.std.proofs.Common.{◌≡◌, ℕ, [], ◌++◌, ◌∙◌, subst}
 use mathlib.Core.List.{append-nil}
 use Rattle.jb_disk.specs.Image.{Image}
 use Rattle.jb_ready.specs.Ready.{revoking}
-use Rattle.jb_handle.specs.declared.stopped.Stopped.{Stopped}
 use Rattle.jb_deck.specs.Gathering.{groups_in}
 use Rattle.jb_deck.specs.Opening.{recovered_home}
-use Rattle.jb_deck.specs.Since.{Ended, IsRecoveredTo, homes_of}
 use Rattle.jb_deck.specs.Trailing.{FollowsSome, handles_to}
+use Rattle.jb_since.specs.Calls.{IsRecoveredTo, at_first, one_more}
+use Rattle.jb_since.specs.Since.{checkpointed, deck_homes, in_commit}
 use Rattle.jb_client.specs.Client.{HasPrefix}
 use Rattle.jb_client.proofs.Journal.{opened-recovered}
 use Rattle.jb_client.proofs.prefix.commit_three.Goals as goal
@@ -38,17 +38,16 @@ returns-in-Ok-commit-3 g c = record {
       let same_count : g.D.Disk.count d3.disk ≡ count = k3.same_count ∙ k2.same_count ∙ k1.same_count ∙ k0.same_count in
       let before = recovered_home size count base in
       let settled = first.batch.handles ++ second.batch.handles in
-      let e1 : Ended g.row.D.Denot = record { settled = first.batch.handles; deck = d1 } in
-      let e2 : Ended g.row.D.Denot = record { settled = second.batch.handles; deck = d2 } in
-      let e3 : Ended g.row.D.Denot = record { settled = []; deck = d3 } in
       let up = c.in-Ok-checkpoint_one.ensures.answers.2.live in
       let leaves = c.commit-3.ensures.leaves up h3 in
-      let taken : (least : ℕ) (image : Image) → FollowsSome d3.log.sb (g.D.Disk.size d3.disk) (g.D.Disk.count d3.disk) (homes_of g.D.Disk.newest d3) third.batch.handles third.groups least (groups_in third.groups) image → HasPrefix (revoking opens.sb) size count before settled third least image = λ least image f.
+      let taken : (least : ℕ) (image : Image) → FollowsSome d3.log.sb (g.D.Disk.size d3.disk) (g.D.Disk.count d3.disk) (deck_homes g.D.Disk.newest d3) third.batch.handles third.groups least (groups_in third.groups) image → HasPrefix (revoking opens.sb) size count before settled third least image = λ least image f.
       let more = handles_to third.groups f.groups third.batch.handles in
-      let is = c.since.ensures (g.D.Disk.size d3.disk) (g.D.Disk.count d3.disk) before opened (e1 ∷ e2 ∷ e3 ∷ []) more image
-      (record { new = c.in-Ok.ensures.new; stands = c.in-Ok.ensures.stands honest })
-      (c.in-Ok-commit.ensures.ended h0, (c.in-Ok-commit-2.ensures.ended h1, (inr (inl (record { checked = c.in-Ok-checkpoint_one.field-0; settles = refl; answers = c.in-Ok-checkpoint_one.ensures.answers.2; checkpoints = c.in-Ok-checkpoint_one.ensures.checkpoints h2 })), tt)))
-      (inl (record { batch = third; least = least; most = groups_in third.groups; leaves = f; handles = refl })) in
+      let calls = one_more settled d2 [] d3
+      (one_more first.batch.handles d1 second.batch.handles d2 (one_more [] opened first.batch.handles d1 at_first (c.in-Ok-commit.ensures.ended h0)) (c.in-Ok-commit-2.ensures.ended h1))
+      (checkpointed c.in-Ok-checkpoint_one.field-0 d3 c.in-Ok-checkpoint_one.ensures.answers.2 (c.in-Ok-checkpoint_one.ensures.checkpoints h2)) in
+      let is = c.since.ensures (g.D.Disk.size d3.disk) (g.D.Disk.count d3.disk) before opened d3 (settled ++ []) more image
+      c.in-Ok.ensures.new (c.in-Ok.ensures.stands honest) calls
+      (in_commit third least (groups_in third.groups) image f) in
       let all = subst (λ hs. IsRecoveredTo opened.log.sb (g.D.Disk.size d3.disk) (g.D.Disk.count d3.disk) before (hs ++ more) image) (append-nil settled) is in
       record {
         groups = f.groups;

@@ -24,8 +24,8 @@ returns-clause-sound c =
           let n = length os in
           let less = touch-below n (map.get c.args.handle.now.words q) (get nat_cmp c.args.self.now.last q) touch (sym (taken.follows q) ∙ is) (sound.below q) in
           omega (arith, less, taken.number, ap length owned, length-append now (gained ∷ []));
-      copies = rw owned (counts-joined copies_of kept now gained c.take_over.new.last (rw taken.number taken.copies));
-      frees = rw owned (counts-joined frees_of not now gained c.take_over.new.last (rw taken.number taken.frees));
+      copies = rw owned (counts-joined copies_of kept now gained c.take_over.new.last (rw taken.number taken.gained.copies));
+      frees = rw owned (counts-joined frees_of not now gained c.take_over.new.last (rw taken.number taken.gained.frees));
       shortcuts =
           let at : c.len-from.result ≡ length os = omega arith in
           let was = c.args.self.now.shortcuts in

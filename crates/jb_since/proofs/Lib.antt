@@ -1,0 +1,2 @@
+pub mod Sinces
+pub mod Stood
