@@ -170,8 +170,8 @@ fn in_use_at_last<R: Wait + Clock, D: Disk, H: Origin, N: Ledger>(
     None
 }
 
-/// Commits two handles and then a third beside a checkpointer, and shuts the desk. Says how many blocks are in use a while
-/// after the second, and once there are fewer than the level after the third.
+/// Commits two handles and then a third beside a checkpointer, and shuts the desk. Says how many blocks are in use
+/// a while after the second, and once there are fewer than the level after the third.
 fn commit_beside<R: Wait + Clock, D: Disk, H: Origin, N: Ledger>(
     rt: &R,
     desk: &Still<D, H, N>,

@@ -180,8 +180,8 @@ fn live<R: Wait, H: Origin, N: Ledger>(
     outcome(rt, alloc, life, desk)
 }
 
-/// Where each group is brought home at once, the trail has two entries at most; where none is but for room, the 32 blocks
-/// of the log hold ten groups of three, and one group more is home.
+/// Where each group is brought home at once, the trail has two entries at most; where none is but for room, the 32
+/// blocks of the log hold ten groups of three, and one group more is home.
 const ROWS: [(Life, Lived); 5] = [
     (
         Life {

@@ -184,8 +184,9 @@ fn a_run_gives_each_of_its_blocks(rt: HostRuntime) -> Result<(), Fail> {
     Ok(())
 }
 
-/// Three blocks in a row that are written by one call, by the number of calls that pass a fuse: whether it succeeds, what
-/// is read then, and what a crash leaves by a choice: each sector is old or new by itself, whatever the others are.
+/// Three blocks in a row that are written by one call, by the number of calls that pass a fuse: whether it
+/// succeeds, what is read then, and what a crash leaves by a choice: each sector is old or new by itself, whatever
+/// the others are.
 #[test]
 fn a_run_is_written_block_by_block(rt: HostRuntime) -> Result<(), Fail> {
     let all = [[1; 4], [7; 4], [8; 4], [9; 4], [5; 4]];

@@ -29,9 +29,10 @@ use std::time;
 /// How many parts the ledgers of a desk have.
 const PARTS: u64 = (1 << 61) + 1;
 
-/// Opens the journal on a disk, runs the workers, commits what they stopped, and closes the journal. The disk is given
-/// back with what the workers answered. With `Options::checkpoint` all that is committed is written home; otherwise what
-/// is still in the log is left to [`recover`](crate::recover), which is called before the journal is opened again.
+/// Opens the journal on a disk, runs the workers, commits what they stopped, and closes the journal. The disk is
+/// given back with what the workers answered. With `Options::checkpoint` all that is committed is written home;
+/// otherwise what is still in the log is left to [`recover`](crate::recover), which is called before the journal is
+/// opened again.
 ///
 /// # Errors
 /// - `Open` where the journal was not opened, and nothing ran.

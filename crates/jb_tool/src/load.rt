@@ -41,8 +41,8 @@ pub(crate) fn run_load<
 /// Loads the queue text of one file into the image that another one is, and tells what came of it.
 ///
 /// # Errors
-/// `CommandFault::BadOption` where `--threads` is not from 1 to 64, before any file is looked at; those of `open_counted` and
-/// of `read_file`; and those of `load_queue`. Nothing was written to the outputs then, but for
+/// `CommandFault::BadOption` where `--threads` is not from 1 to 64, before any file is looked at; those of
+/// `open_counted` and of `read_file`; and those of `load_queue`. Nothing was written to the outputs then, but for
 /// `CommandFault::WriteFault`.
 fn load_files<
     'a,

@@ -47,7 +47,8 @@ pub(crate) fn dump_named<'a, R: Files + AllocGlobal, I: Read, O: Write>(
 /// Writes those lines of the text of the journal in the file of this name which a choice takes, and gives status 0.
 ///
 /// # Errors
-/// `CommandFault::CannotRead` where the file cannot be opened, `CommandFault::Memory` where memory ran out, and those of `dump_from`.
+/// `CommandFault::CannotRead` where the file cannot be opened, `CommandFault::Memory` where memory ran out, and
+/// those of `dump_from`.
 fn dump_file<'a, R: Files + AllocGlobal, O: Write>(
     rt: &R,
     file: &'a str,

@@ -21,10 +21,11 @@ use std::{fs, io};
 /// it. Tells the most log blocks of a transaction, and gives status 0. The file is closed before the line is written.
 ///
 /// # Errors
-/// `CommandFault::BadOption` where an option is bad, and `CommandFault::Geometry` where a journal may not have so many blocks, before
-/// any file is looked at; `CommandFault::CannotMake` where the file is there already or the system refuses it or its
-/// length; `CommandFault::Memory` where memory ran out; `CommandFault::DeviceFault` where the journal was not written.
-/// The file that was made is removed again then. Last `CommandFault::WriteFault`, after which the image is there.
+/// `CommandFault::BadOption` where an option is bad, and `CommandFault::Geometry` where a journal may not have so
+/// many blocks, before any file is looked at; `CommandFault::CannotMake` where the file is there already or the
+/// system refuses it or its length; `CommandFault::Memory` where memory ran out; `CommandFault::DeviceFault` where
+/// the journal was not written. The file that was made is removed again then. Last `CommandFault::WriteFault`,
+/// after which the image is there.
 pub(crate) fn format_file<'a, R: Files<File = File> + AllocGlobal, O: Write>(
     rt: &R,
     image: &'a str,

@@ -129,8 +129,8 @@ fn are_one(one: io::Result<Metadata>, other: io::Result<Metadata>) -> bool {
 /// The block size and the number of blocks of the journal that a file of this name begins with.
 ///
 /// # Errors
-/// `CommandFault::CannotRead` where the file cannot be read; `CommandFault::Super` where its first bytes are no superblock;
-/// `CommandFault::Memory` where memory ran out.
+/// `CommandFault::CannotRead` where the file cannot be read; `CommandFault::Super` where its first bytes are no
+/// superblock; `CommandFault::Memory` where memory ran out.
 fn shape_of<'a, R: Read>(
     alloc: Global,
     file: &mut R,

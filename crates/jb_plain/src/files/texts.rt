@@ -45,8 +45,8 @@ pub fn read_file<'a, R: Files + AllocGlobal>(
 /// The text of the file of this name, which may have so many bytes.
 ///
 /// # Errors
-/// `CommandFault::CannotRead` where the file cannot be opened or read, `CommandFault::TooLong` where it has more bytes than
-/// `limit`, `CommandFault::Memory` where memory ran out.
+/// `CommandFault::CannotRead` where the file cannot be opened or read, `CommandFault::TooLong` where it has more
+/// bytes than `limit`, `CommandFault::Memory` where memory ran out.
 pub(crate) fn read_file_within<'a, R: Files + AllocGlobal>(
     rt: &R,
     name: &'a str,

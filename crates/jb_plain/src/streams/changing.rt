@@ -14,9 +14,10 @@ use std::io::Write;
 /// and the number of the next transaction, and gives status 0. No memory is taken.
 ///
 /// # Errors
-/// `CommandFault::Super` where the superblock is refused, and `CommandFault::NeedsRecovery` where the log is not clean: the disk is as it was;
-/// `CommandFault::DeviceFault` where a call of the disk failed: it is to be called again; `CommandFault::WriteFault` where `out` took only the
-/// beginning of the line, after a renumbering that is done. But for the last nothing was written to `out`.
+/// `CommandFault::Super` where the superblock is refused, and `CommandFault::NeedsRecovery` where the log is not
+/// clean: the disk is as it was; `CommandFault::DeviceFault` where a call of the disk failed: it is to be called
+/// again; `CommandFault::WriteFault` where `out` took only the beginning of the line, after a renumbering that is
+/// done. But for the last nothing was written to `out`.
 pub fn renumber_on<'a, D: Disk, O: Write>(disk: &mut D, out: &mut O) -> Result<u8, CommandFault<'a>>
     ensures renumbers { ChangesOn D.size D.count D.faults D.honest D.newest D.may_leave D.moment D.left_since
         Renumbers IsRenumbering RenumbersAs renumbered_line disk.old disk.new

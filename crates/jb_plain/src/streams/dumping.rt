@@ -9,9 +9,9 @@ use std::io::{Read, Write};
 /// reader is read for the journal's blocks and no further.
 ///
 /// # Errors
-/// `CommandFault::ReadFault` where a read fails; `CommandFault::Super` and `CommandFault::BadRevoke` where the journal has no text; `CommandFault::Memory`
-/// where memory ran out; `CommandFault::WriteFault` where `out` took only the beginning of the text. But for the last
-/// nothing was written.
+/// `CommandFault::ReadFault` where a read fails; `CommandFault::Super` and `CommandFault::BadRevoke` where the
+/// journal has no text; `CommandFault::Memory` where memory ran out; `CommandFault::WriteFault` where `out` took
+/// only the beginning of the text. But for the last nothing was written.
 pub fn dump_from<'a, I: Read, O: Write>(
     alloc: Global,
     journal: &mut I,

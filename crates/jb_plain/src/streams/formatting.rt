@@ -21,9 +21,10 @@ use std::io::Write;
 /// blocks of a transaction, and gives status 0. No memory is taken.
 ///
 /// # Errors
-/// `CommandFault::Geometry` where the journal has fewer than 9 blocks or more than 2^31 - 1, or the disk fewer than it: nothing is
-/// written; `CommandFault::DeviceFault` where block 0 was not written or synced; `CommandFault::WriteFault` where `out`
-/// took only the beginning of the line, after the journal is made. But for the last nothing was written to `out`.
+/// `CommandFault::Geometry` where the journal has fewer than 9 blocks or more than 2^31 - 1, or the disk fewer than
+/// it: nothing is written; `CommandFault::DeviceFault` where block 0 was not written or synced;
+/// `CommandFault::WriteFault` where `out` took only the beginning of the line, after the journal is made. But for
+/// the last nothing was written to `out`.
 pub fn format_on<'a, D: Disk, O: Write>(
     disk: &mut D,
     journal: u32,

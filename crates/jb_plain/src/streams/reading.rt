@@ -16,8 +16,8 @@ pub const CERT_LIMIT: usize = 9 * TEXT_LIMIT;
 /// The whole of a reader, as the text of this name, which may have so many bytes.
 ///
 /// # Errors
-/// `CommandFault::CannotRead` where a read failed, `CommandFault::TooLong` where there are more bytes than `limit`, `CommandFault::Memory` where
-/// a growth was refused.
+/// `CommandFault::CannotRead` where a read failed, `CommandFault::TooLong` where there are more bytes than `limit`,
+/// `CommandFault::Memory` where a growth was refused.
 pub(crate) fn read_as<'a, R: Read>(
     alloc: Global,
     reader: &mut R,

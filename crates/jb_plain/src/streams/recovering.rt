@@ -15,10 +15,10 @@ use std::io::Write;
 /// revoked, and the number of the next transaction, and gives status 0. Only the recovery takes memory.
 ///
 /// # Errors
-/// `CommandFault::Super`, `CommandFault::BadRevoke` and `CommandFault::HomeOutOfRange` where the disk is refused, and `CommandFault::Memory` where a growth
-/// was refused: the disk is as it was; `CommandFault::DeviceFault` where a call of the disk failed: recovery is to be
-/// called again; `CommandFault::WriteFault` where `out` took only the beginning of the line, after a recovery that is
-/// done. But for the last nothing was written to `out`.
+/// `CommandFault::Super`, `CommandFault::BadRevoke` and `CommandFault::HomeOutOfRange` where the disk is refused,
+/// and `CommandFault::Memory` where a growth was refused: the disk is as it was; `CommandFault::DeviceFault` where
+/// a call of the disk failed: recovery is to be called again; `CommandFault::WriteFault` where `out` took only the
+/// beginning of the line, after a recovery that is done. But for the last nothing was written to `out`.
 pub fn recover_on<'a, D: Disk, O: Write>(
     alloc: Global,
     disk: &mut D,

@@ -11,7 +11,8 @@ use std::io::Write;
 /// Writes an answer and gives its status. A fault of standard error is ignored.
 ///
 /// # Errors
-/// `CommandFault::WriteFault` where standard output took only the beginning of its text, and never where there is none for it.
+/// `CommandFault::WriteFault` where standard output took only the beginning of its text, and never where there is
+/// none for it.
 pub fn tell<'a, O: Write, E: Write>(
     answer: &Answer,
     out: &mut O,
