@@ -87,6 +87,20 @@ after_lines size had (line ∷ more) = do
   words ← at_line (length had + 3) (handle_of size line)
   after_lines size (had ++ record { ticket = length had; words = words } ∷ []) more
 
+-- the handles that were read; none where there is a fault
+abbrev pub handles_or_none : Result (List Stopped) QueueFault → List Stopped
+handles_or_none (Ok handles) = handles
+handles_or_none (Err fault) = []
+
+-- the handles of a text whose first line is the third of a queue text
+abbrev pub handles_in : ℕ → List ℕ → List Stopped
+handles_in size text = handles_or_none (after_lines size [] (lines text))
+
+-- there are handles, so many
+abbrev pub IsCount : Result (List Stopped) QueueFault → ℕ → Type 0
+IsCount (Ok handles) count = count ≡ length handles
+IsCount (Err fault) count = ⊥
+
 -- the size of a block in bytes
 abbrev pub size_of_bytes : ℕ → Option BlockSize
 size_of_bytes n = if n == 1024 then Some OneKib else if n == 2048 then Some TwoKib else if n == 4096 then Some FourKib else None
