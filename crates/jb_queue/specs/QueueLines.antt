@@ -10,7 +10,7 @@ use Rattle.jb_queue.specs.declared.queue_lines.HandleReader.{HandleReader}
 use Rattle.jb_queue.specs.declared.queue_lines.QueueLines.{QueueLines}
 
 -- its handles
-abbrev pub handles_of : QueueLines → List Stopped
+unfoldable pub handles_of : QueueLines → List Stopped
 handles_of queue = handles_in (bytes_of queue.bs) queue.text.now
 
 -- its value

@@ -29,20 +29,24 @@ pub struct QueueLines<'a> {
     pub(crate) count: usize,
     ghost reads: { IsOk (after_lines (bytes_of bs) [] (lines text.now)) },
     ghost counted: { count ≡ length (handles_in (bytes_of bs) text.now) },
+    ghost few: { count ≤ length text.now },
 }
 
 impl<'a> QueueLines<'a> {
-    ghost use Rattle.std.specs.Prelude.{IsTrue, ◌↔◌};
+    ghost use Rattle.std.specs.Prelude.{IsTrue, ◌↔◌, ◌<◌, ◌^◌};
     ghost use Rattle.jb_queue.specs.QueueLines.{handles_of, IsPlaced};
 
     /// How many handles there are.
+    #[tactic(auto, unfolding(crate::specs::QueueLines::handles_of))]
     pub fn len(&self) -> usize
-        ensures { result ≡ length (handles_of self.now) }
+        ensures value { result ≡ length (handles_of self.now) }
+        ensures bound { result < 2 ^ 63 }
     {
         self.count
     }
 
     /// Whether there is no handle.
+    #[tactic(auto, unfolding(crate::specs::QueueLines::handles_of))]
     pub fn is_empty(&self) -> bool
         ensures { IsTrue result ↔ (length (handles_of self.now) ≡ 0) }
     {
@@ -50,6 +54,7 @@ impl<'a> QueueLines<'a> {
     }
 
     /// A reader that stands at the first handle.
+    #[tactic(auto, unfolding(crate::specs::QueueLines::handles_of))]
     pub fn reader(&self) -> HandleReader<'a>
         ensures { IsPlaced result (handles_of self.now) 0 }
     {
@@ -113,6 +118,7 @@ fn pass_lines(text: &[u8], passed: usize) -> &[u8]
 /// nothing of it is kept.
 pub(crate) fn count_handles(alloc: Global, text: &[u8], bs: BlockSize) -> Result<usize, QueueFault>
     ensures ok { IfOk result (IsCount (after_lines (bytes_of bs) [] (lines text.now))) }
+    ensures few { IfOk result (λ count. count ≤ length text.now) }
     ensures err { IfErr result (Reports (after_lines (bytes_of bs) [] (lines text.now))) }
     ensures memory { IfErr result (λ fault. fault.cause ≡ OutOfMemory
         → MayGrow (bytes_of bs) (lines text.now) fault.line) }

@@ -76,6 +76,7 @@ pub fn read_queue(alloc: Global, text: &[u8]) -> Result<QueueText, QueueFault>
 /// # Errors
 ///
 /// As those of [`read_queue`].
+#[tactic(auto, unfolding(crate::specs::QueueLines::handles_of))]
 pub fn read_lines(alloc: Global, text: &[u8]) -> Result<QueueLines<'_>, QueueFault>
     ensures ok { IfOk result (λ queue. queue_of text.now ≡ Ok (queue_in queue)) }
     ensures err { IfErr result (Reports (queue_of text.now)) }
