@@ -52,7 +52,7 @@ pub fn load_on<
     alloc: Global,
     disk: D,
     clock: C,
-    queue: &QueueLines<'_>,
+    queue: &QueueLines,
     options: LoadOptions,
 ) -> Result<(Loaded, D), LoadFault>
     requires threads { (1 ≤ options.threads) × (options.threads ≤ 64) }
@@ -120,7 +120,7 @@ fn load_open<
     deck: Deck<D>,
     clock: C,
     shape: Shape,
-    queue: &QueueLines<'_>,
+    queue: &QueueLines,
     options: LoadOptions,
 ) -> Result<(Loaded, D), LoadFault>
     requires handles { (handles.tickets.name ≡ H.name) × (handles.tickets.parts ≡ H.parts) × (H.parts ≡ 2 ^ 61 + 1)
@@ -152,7 +152,7 @@ fn load_at<
     alloc: Global,
     desk: Desk<D, C, H, N>,
     shape: Shape,
-    queue: &QueueLines<'_>,
+    queue: &QueueLines,
     options: LoadOptions,
 ) -> Result<(Loaded, D), LoadFault>
     requires threads { (1 ≤ options.threads) × (options.threads ≤ 64) }

@@ -44,7 +44,7 @@ pub(crate) fn run<
     rt: &R,
     alloc: Global,
     desk: &Desk<D, C, H, N>,
-    queue: &QueueLines<'_>,
+    queue: &QueueLines,
     options: LoadOptions,
 ) -> (Result<Ran<H, N>, LoadFault>, Option<Ended>)
     requires threads { (1 ≤ options.threads) × (options.threads ≤ 64) }
@@ -62,8 +62,6 @@ pub(crate) fn run<
         || desk.run_checkpointer(rt),
         || -> Result<Ran<H, N>, LoadFault>
             requires { (1 ≤ options.threads) × (options.threads ≤ 64) × MayStop H.begun (handles_of queue.now) }
-            ensures { IfOk result (HasRun (shape_in desk.entry.now) (handles_of queue.entry.now) options.threads)
-                × IfErr result (λ fault. (fault ≡ OutOfMemory) ⊎ (fault ≡ Accounts)) }
         { run_threads(rt, alloc, desk, queue, options) },
     );
     (ran, Some(checkpoint))
@@ -80,7 +78,7 @@ fn run_threads<
     rt: &R,
     alloc: Global,
     desk: &Desk<D, C, H, N>,
-    queue: &QueueLines<'_>,
+    queue: &QueueLines,
     options: LoadOptions,
 ) -> Result<Ran<H, N>, LoadFault>
     requires threads { (1 ≤ options.threads) × (options.threads ≤ 64) }
@@ -107,8 +105,6 @@ fn run_threads<
         || commit_from(rt, desk, &mut place),
         || -> Result<Vec<Worked<H, N>>, Memory>
             requires { (1 ≤ options.threads) × (options.threads ≤ 64) × MayStop H.begun (handles_of queue.now) }
-            ensures { IfOk result (λ workers. AreWorked (shape_in desk.entry.now) (handles_of queue.entry.now)
-                options.threads workers.items) }
         { run_workers(rt, alloc, desk, queue, options.threads) },
     );
     if let Some(seat) = place {
@@ -136,7 +132,7 @@ fn run_workers<
     rt: &R,
     alloc: Global,
     desk: &Desk<D, C, H, N>,
-    queue: &QueueLines<'_>,
+    queue: &QueueLines,
     threads: usize,
 ) -> Result<Vec<Worked<H, N>>, Memory>
     requires threads { (1 ≤ threads) × (threads ≤ 64) }

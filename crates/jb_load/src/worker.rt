@@ -33,7 +33,7 @@ pub(crate) fn work<D: Disk, C: Clock, R: Wait + time::Clock, H: Origin, N: Ledge
     rt: &R,
     alloc: Global,
     desk: &Desk<D, C, H, N>,
-    queue: &QueueLines<'_>,
+    queue: &QueueLines,
     step: usize,
     at: usize,
 ) -> Worked<H, N>
@@ -57,7 +57,7 @@ fn run_all<D: Disk, C: Clock, R: Wait + time::Clock, H: Origin, N: Ledger>(
     alloc: Global,
     desk: &Desk<D, C, H, N>,
     seat: Seat<H, N>,
-    queue: &QueueLines<'_>,
+    queue: &QueueLines,
     step: usize,
     at: usize,
 ) -> Worked<H, N>

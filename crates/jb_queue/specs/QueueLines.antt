@@ -11,7 +11,7 @@ use Rattle.jb_queue.specs.declared.queue_lines.QueueLines.{QueueLines}
 
 -- its handles
 unfoldable pub handles_of : QueueLines → List Stopped
-handles_of queue = handles_in (bytes_of queue.bs) queue.text.now
+handles_of queue = handles_in (bytes_of queue.bs) queue.text.items
 
 -- its value
 abbrev pub queue_in : QueueLines → Queue

@@ -13,26 +13,26 @@ use jb_handle::Words;
 use jb_text::next_line;
 use std::alloc::Global;
 
-/// A queue text that is of the form. It keeps none of the handles: these are read from the text when they are asked
-/// for.
+/// A queue text that is of the form. It keeps the text and none of the handles: these are read from it when they are
+/// asked for.
 #[derive(Drop)]
-pub struct QueueLines<'a> {
+pub struct QueueLines {
     /// The size of a block.
     pub bs: BlockSize,
     /// The most log blocks that a group may take.
     pub limit: u32,
     /// The width of the block numbers.
     pub width: Width,
-    /// The lines of the handles.
-    pub(crate) text: &'a [u8],
-    /// How many handles they are.
+    /// The whole text.
+    pub(crate) text: Vec<u8>,
+    /// How many handles it lists.
     pub(crate) count: usize,
-    ghost reads: { IsOk (after_lines (bytes_of bs) [] (lines text.now)) },
-    ghost counted: { count ≡ length (handles_in (bytes_of bs) text.now) },
-    ghost few: { count ≤ length text.now },
+    ghost reads: { IsOk (after_lines (bytes_of bs) [] (drop 2 (lines text.items))) },
+    ghost counted: { count ≡ length (handles_in (bytes_of bs) text.items) },
+    ghost few: { count ≤ length text.items },
 }
 
-impl<'a> QueueLines<'a> {
+impl QueueLines {
     ghost use Rattle.std.specs.Prelude.{IsTrue, ◌↔◌, ◌<◌, ◌^◌};
     ghost use Rattle.jb_queue.specs.QueueLines.{handles_of, IsPlaced};
 
@@ -55,12 +55,12 @@ impl<'a> QueueLines<'a> {
 
     /// A reader that stands at the first handle.
     #[tactic(auto, unfolding(crate::specs::QueueLines::handles_of))]
-    pub fn reader(&self) -> HandleReader<'a>
+    pub fn reader(&self) -> HandleReader<'_>
         ensures { IsPlaced result (handles_of self.now) 0 }
     {
         HandleReader {
             bs: self.bs,
-            rest: self.text,
+            rest: pass_lines(&self.text, 2),
         }
     }
 }
@@ -118,7 +118,6 @@ fn pass_lines(text: &[u8], passed: usize) -> &[u8]
 /// nothing of it is kept.
 pub(crate) fn count_handles(alloc: Global, text: &[u8], bs: BlockSize) -> Result<usize, QueueFault>
     ensures ok { IfOk result (IsCount (after_lines (bytes_of bs) [] (lines text.now))) }
-    ensures few { IfOk result (λ count. count ≤ length text.now) }
     ensures err { IfErr result (Reports (after_lines (bytes_of bs) [] (lines text.now))) }
     ensures memory { IfErr result (λ fault. fault.cause ≡ OutOfMemory
         → MayGrow (bytes_of bs) (lines text.now) fault.line) }

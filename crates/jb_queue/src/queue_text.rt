@@ -71,31 +71,31 @@ pub fn read_queue(alloc: Global, text: &[u8]) -> Result<QueueText, QueueFault>
 }
 
 /// Reads the text of a queue without keeping its handles, which are then read from it one by one
-/// ([`QueueLines::reader`]). Each handle's words take memory while its line is looked at.
+/// ([`QueueLines::reader`]). The words of one handle at a time take memory.
 ///
 /// # Errors
 ///
 /// As those of [`read_queue`].
 #[tactic(auto, unfolding(crate::specs::QueueLines::handles_of))]
-pub fn read_lines(alloc: Global, text: &[u8]) -> Result<QueueLines<'_>, QueueFault>
-    ensures ok { IfOk result (λ queue. queue_of text.now ≡ Ok (queue_in queue)) }
-    ensures err { IfErr result (Reports (queue_of text.now)) }
-    ensures memory { IfErr result (λ fault. fault.cause ≡ OutOfMemory → MayGrowAt text.now fault.line) }
-    ensures within { IfOk result (λ queue. 2 * weight (handles_of queue) ≤ length text.now + 1) }
+pub fn read_lines(alloc: Global, text: Vec<u8>) -> Result<QueueLines, QueueFault>
+    ensures ok { IfOk result (λ queue. queue_of text.items ≡ Ok (queue_in queue)) }
+    ensures err { IfErr result (Reports (queue_of text.items)) }
+    ensures memory { IfErr result (λ fault. fault.cause ≡ OutOfMemory → MayGrowAt text.items fault.line) }
+    ensures within { IfOk result (λ queue. 2 * weight (handles_of queue) ≤ length text.items + 1) }
 {
-    let Some(((bs, width), text)) = first_format(text) else {
+    let Some(((bs, width), rest)) = first_format(text.as_slice()) else {
         return Err(QueueFault {
             line: 1,
             cause: Cause::BlockSizeLine,
         });
     };
-    let Some((limit, text)) = first_limit(text) else {
+    let Some((limit, rest)) = first_limit(rest) else {
         return Err(QueueFault {
             line: 2,
             cause: Cause::LimitLine,
         });
     };
-    let count = count_handles(alloc, text, bs)?;
+    let count = count_handles(alloc, rest, bs)?;
     Ok(QueueLines {
         bs,
         limit,
