@@ -28,8 +28,8 @@ returns-in-Ok g c =
       );
     }
 
-pub returns : goal.returns
-returns g c =
+pub returns-in_ok-status-in-Err : goal.returns-in_ok-status-in-Err
+returns-in_ok-status-in-Err g c =
     let text = c.in_ok-text.text.items in
     let words = said c.in_ok-answer-in-Err.answer in
     let fault = c.in-Err.ensures.err in
