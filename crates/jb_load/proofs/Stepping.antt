@@ -31,6 +31,10 @@ pub record Stepped (queue : List Stopped) (step at next : ℕ) (ss : List (ℕ �
   pub place : next ≡ at + step * length ss
   pub steps : StepsBy queue step at ss
 
+-- no handle has stopped
+pub stepped-none : (queue : List Stopped) (step at : ℕ) (ss : List (ℕ × WordMap)) → ss ≡ [] → Stepped queue step at at ss
+stepped-none queue step at ss none = subst (Stepped queue step at at) (sym none) (record { place = (let z = mul-suc step 0 in omega (arith, z)); steps = tt })
+
 pub stepped-more : (queue : List Stopped) (step at next : ℕ) (ss ts : List (ℕ × WordMap)) (s : ℕ × WordMap) (h : Stopped) → s.1 ≡ (get_or queue next h).words → next < length queue → ts ≡ ss ++ s ∷ [] → Stepped queue step at next ss → Stepped queue step at (next + step) ts
 stepped-more queue step at next ss ts s h is there more so_far =
     let here : get_or queue next h ≡ handle_at queue next = get_or_default queue next h (record { ticket = 0; words = map.empty }) there in

@@ -1,11 +1,11 @@
 -- What the threads of a load leave.
-use Rattle.std.specs.Prelude.{◌≡◌, ℕ, ◌+◌, ◌<◌, List, [], ◌∷◌, ◌++◌, length, map as each, slice_index_or, Option, Some, None}
+use Rattle.std.specs.Prelude.{◌≡◌, ℕ, ◌+◌, ◌<◌, List, [], ◌∷◌, ◌++◌, length, map as each, slice_index_or, Option, Some, None, Result, Ok, Err}
 use Rattle.std.specs.List.{flat_map, sum_by}
 use Rattle.std.specs.FinMap as map
 use Rattle.jb_cost.specs.Pieces.{joined}
 use Rattle.jb_deck.specs.Done.{Follow}
 use Rattle.jb_deck.specs.declared.done.Entry.{Entry}
-use Rattle.jb_desk.specs.Seats.{stops, changes, made_by, stops_left, changes_left, made_left}
+use Rattle.jb_desk.specs.Seats.{KeepsStops, stops, changes, made_by, stops_left, changes_left, made_left}
 use Rattle.jb_desk.specs.declared.ended.Ended.{Ended}
 use Rattle.jb_desk.specs.declared.origin.Origin.{Ghosts}
 use Rattle.jb_history.specs.declared.place.Place.{Ghosts as Places}
@@ -16,7 +16,9 @@ use Rattle.jb_handle.specs.declared.shape.Shape.{Shape}
 use Rattle.jb_handle.specs.declared.stopped.Stopped.{Stopped}
 use Rattle.jb_load.specs.Gathering.{first_refused}
 use Rattle.jb_load.specs.Loads.{AreRuns}
-use Rattle.jb_load.specs.Runs.{Run, IsRun, IsCounted, run_of, touched_by}
+use Rattle.jb_load.specs.Refusing.{IsRefusedFor}
+use Rattle.jb_load.specs.Runs.{Run, IsRun, IsCounted, handle_at, run_of, touched_by}
+use Rattle.jb_load.specs.declared.fault.HandleFault.{HandleFault}
 use Rattle.jb_load.specs.declared.gather.Gathered.{Gathered}
 use Rattle.jb_load.specs.declared.loaded.Loaded.{Loaded}
 use Rattle.jb_load.specs.declared.worker.Worked.{Worked}
@@ -25,6 +27,11 @@ use Rattle.jb_load.specs.declared.running.Ran.{Ran}
 -- the seat has stopped one handle more, with this ticket and these words
 abbrev pub StopsOne : {H N : Type 0} {O : Ghosts H} {P : Places H} → Seat H N O P → ℕ → WordMap → Seat H N O P → Type 0
 StopsOne old ticket words new = (stops new ≡ stops old + 1) × (changes new ≡ changes old + map.len words) × (made_by new ≡ made_by old ++ (ticket, words) ∷ [])
+
+-- the handle at a place of the queue was run: it stopped with its words, or it was refused for what its fault says and the seat is as it was
+abbrev pub RunsAt : {H N : Type 0} {O : Ghosts H} {P : Places H} → Shape → List Stopped → ℕ → Seat H N O P → Seat H N O P → Result ℕ HandleFault → Type 0
+RunsAt shape queue at old new (Ok ticket) = StopsOne old ticket (handle_at queue at).words new
+RunsAt shape queue at old new (Err fault) = KeepsStops old new × IsRefusedFor shape (handle_at queue at).words fault
 
 -- each worker has run its handles, and its seat has counted them
 pub record AreWorked {H N : Type 0} {O : Ghosts H} {P : Places H} (shape : Shape) (queue : List Stopped) (threads : ℕ) (workers : List (Worked H N O P)) : Type 0 where

@@ -6,6 +6,7 @@ ghost use Rattle.jb_desk.specs.History.{history_in};
 ghost use Rattle.jb_desk.specs.Since.{IsBegunOn, IsSince};
 ghost use Rattle.jb_deck.specs.Deck.{IsShapeOf};
 ghost use Rattle.jb_handle.specs.declared.shape.Shape.{Shape as ShapeValue};
+ghost use Rattle.jb_queue.specs.QueueLines.{handles_of};
 ghost use Rattle.jb_load.specs.declared.fault.LoadFault.TheVariants.{Accounts, Memory as OutOfMemory};
 
 use crate::counting::{begins_at_first, count_up};
@@ -17,8 +18,8 @@ use crate::running::run;
 use jb_deck::{Deck, OpenFault};
 use jb_desk::{Closed, Desk, Origin, Stops};
 use jb_disk::{Clock, Disk};
-use jb_handle::{Shape, Stopped};
-use jb_queue::QueueText;
+use jb_handle::Shape;
+use jb_queue::QueueLines;
 use std::alloc::Global;
 use std::marker::Brand;
 use std::sync::Wait;
@@ -51,16 +52,16 @@ pub fn load_on<
     alloc: Global,
     disk: D,
     clock: C,
-    queue: &QueueText,
+    queue: &QueueLines,
     options: LoadOptions,
 ) -> Result<(Loaded, D), LoadFault>
     requires threads { (1 ≤ options.threads) × (options.threads ≤ 64) }
     requires begun { IsBegunOn D.size D.count D.faults D.honest D.newest D.moment D.left_since H.begun disk }
-    requires words { MayStop H.begun queue.now.handles.items }
-    ensures answers { AnswersLoad D.size D.count D.faults D.honest D.newest disk queue.now.bs queue.now.handles.items
+    requires words { MayStop H.begun (handles_of queue.now) }
+    ensures answers { AnswersLoad D.size D.count D.faults D.honest D.newest disk queue.now.bs (handles_of queue.now)
         options result }
     ensures since { IfOk result (λ ended. LoadsSince D.size D.count D.faults D.honest D.newest D.may_leave D.moment
-        D.left_since H.begun disk queue.now.handles.items options.threads ended.0 ended.1) }
+        D.left_since H.begun disk (handles_of queue.now) options.threads ended.0 ended.1) }
 {
     if queue.bs.bytes() != disk.block_size().bytes() {
         return Err(LoadFault::BlockSize);
@@ -82,7 +83,7 @@ pub fn load_on<
         deck,
         clock,
         shape,
-        &queue.handles,
+        queue,
         options,
     )
 }
@@ -119,7 +120,7 @@ fn load_open<
     deck: Deck<D>,
     clock: C,
     shape: Shape,
-    queue: &[Stopped],
+    queue: &QueueLines,
     options: LoadOptions,
 ) -> Result<(Loaded, D), LoadFault>
     requires handles { (handles.tickets.name ≡ H.name) × (handles.tickets.parts ≡ H.parts) × (H.parts ≡ 2 ^ 61 + 1)
@@ -127,10 +128,10 @@ fn load_open<
     requires changes { (changes.name ≡ N.name) × (changes.parts ≡ N.parts) × (N.parts ≡ 2 ^ 61 + 1) }
     requires deck { (deck.trail ≡ []) × (deck.aborted ≡ false) × (deck.shape ≡ shape) }
     requires begun { IsSince D.size D.count D.faults D.honest D.newest D.may_leave D.moment D.left_since H.begun deck }
-    requires queue { (1 ≤ options.threads) × (options.threads ≤ 64) × MayStop H.begun queue.now }
+    requires queue { (1 ≤ options.threads) × (options.threads ≤ 64) × MayStop H.begun (handles_of queue.now) }
     ensures ended { IfOk result (λ ended. EndsCheckpoint options.checkpoint ended.0.checkpoint) }
     ensures since { IfOk result (λ ended. LoadedSince D.size D.count D.faults D.honest D.newest D.may_leave D.moment
-        D.left_since H.begun shape queue.now options.threads ended.0 ended.1) }
+        D.left_since H.begun shape (handles_of queue.now) options.threads ended.0 ended.1) }
     ensures faults { IfErr result (λ fault. (fault ≡ OutOfMemory) ⊎ (fault ≡ Accounts)) }
 {
     let Ok(desk) = Desk::<D, C, H, N>::start(alloc, handles, changes, deck, clock) else {
@@ -151,16 +152,16 @@ fn load_at<
     alloc: Global,
     desk: Desk<D, C, H, N>,
     shape: Shape,
-    queue: &[Stopped],
+    queue: &QueueLines,
     options: LoadOptions,
 ) -> Result<(Loaded, D), LoadFault>
     requires threads { (1 ≤ options.threads) × (options.threads ≤ 64) }
     requires parts { (H.parts ≡ 2 ^ 61 + 1) × (N.parts ≡ 2 ^ 61 + 1) }
     requires shape { shape_in desk ≡ shape }
-    requires words { MayStop H.begun queue.now }
+    requires words { MayStop H.begun (handles_of queue.now) }
     ensures ended { IfOk result (λ ended. EndsCheckpoint options.checkpoint ended.0.checkpoint) }
     ensures since { IfOk result (λ ended. LoadedSince D.size D.count D.faults D.honest D.newest D.may_leave D.moment
-        D.left_since H.begun shape queue.now options.threads ended.0 ended.1) }
+        D.left_since H.begun shape (handles_of queue.now) options.threads ended.0 ended.1) }
     ensures faults { IfErr result (λ fault. (fault ≡ OutOfMemory) ⊎ (fault ≡ Accounts)) }
 {
     let room = Gathered::with_room(alloc, options.threads + 1)?;

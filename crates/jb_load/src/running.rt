@@ -5,6 +5,7 @@ ghost use Rattle.jb_load.specs.declared.fault.LoadFault.TheVariants.{Accounts, M
 ghost use Rattle.jb_load.specs.Loads.{EndsCheckpoint};
 ghost use Rattle.jb_load.specs.Settled.{MayStop};
 ghost use Rattle.jb_load.specs.Running.{AreWorked, HasRun};
+ghost use Rattle.jb_queue.specs.QueueLines.{handles_of};
 
 use crate::committing::{commit_all, commit_from};
 use crate::fault::LoadFault;
@@ -13,7 +14,7 @@ use crate::worker::{Worked, work};
 use jb_block::Memory;
 use jb_desk::{Desk, Ended, Left, Origin};
 use jb_disk::{Clock, Disk};
-use jb_handle::Stopped;
+use jb_queue::QueueLines;
 use std::alloc::Global;
 use std::sync::Wait;
 use std::sync::ledger::Ledger;
@@ -43,12 +44,12 @@ pub(crate) fn run<
     rt: &R,
     alloc: Global,
     desk: &Desk<D, C, H, N>,
-    queue: &[Stopped],
+    queue: &QueueLines,
     options: LoadOptions,
 ) -> (Result<Ran<H, N>, LoadFault>, Option<Ended>)
     requires threads { (1 ≤ options.threads) × (options.threads ≤ 64) }
-    requires words { MayStop H.begun queue.now }
-    ensures ran { IfOk result.0 (HasRun (shape_in desk.now) queue.now options.threads) }
+    requires words { MayStop H.begun (handles_of queue.now) }
+    ensures ran { IfOk result.0 (HasRun (shape_in desk.now) (handles_of queue.now) options.threads) }
     ensures faults { IfErr result.0 (λ fault. (fault ≡ OutOfMemory) ⊎ (fault ≡ Accounts)) }
     ensures ended { EndsCheckpoint options.checkpoint result.1 }
 {
@@ -60,7 +61,7 @@ pub(crate) fn run<
         rt,
         || desk.run_checkpointer(rt),
         || -> Result<Ran<H, N>, LoadFault>
-            requires { (1 ≤ options.threads) × (options.threads ≤ 64) × MayStop H.begun queue.now }
+            requires { (1 ≤ options.threads) × (options.threads ≤ 64) × MayStop H.begun (handles_of queue.now) }
         { run_threads(rt, alloc, desk, queue, options) },
     );
     (ran, Some(checkpoint))
@@ -77,12 +78,12 @@ fn run_threads<
     rt: &R,
     alloc: Global,
     desk: &Desk<D, C, H, N>,
-    queue: &[Stopped],
+    queue: &QueueLines,
     options: LoadOptions,
 ) -> Result<Ran<H, N>, LoadFault>
     requires threads { (1 ≤ options.threads) × (options.threads ≤ 64) }
-    requires words { MayStop H.begun queue.now }
-    ensures ran { IfOk result (HasRun (shape_in desk.now) queue.now options.threads) }
+    requires words { MayStop H.begun (handles_of queue.now) }
+    ensures ran { IfOk result (HasRun (shape_in desk.now) (handles_of queue.now) options.threads) }
     ensures faults { IfErr result (λ fault. (fault ≡ OutOfMemory) ⊎ (fault ≡ Accounts)) }
 {
     let Ok(seat) = desk.seat(rt) else {
@@ -103,7 +104,7 @@ fn run_threads<
         rt,
         || commit_from(rt, desk, &mut place),
         || -> Result<Vec<Worked<H, N>>, Memory>
-            requires { (1 ≤ options.threads) × (options.threads ≤ 64) × MayStop H.begun queue.now }
+            requires { (1 ≤ options.threads) × (options.threads ≤ 64) × MayStop H.begun (handles_of queue.now) }
         { run_workers(rt, alloc, desk, queue, options.threads) },
     );
     if let Some(seat) = place {
@@ -131,20 +132,20 @@ fn run_workers<
     rt: &R,
     alloc: Global,
     desk: &Desk<D, C, H, N>,
-    queue: &[Stopped],
+    queue: &QueueLines,
     threads: usize,
 ) -> Result<Vec<Worked<H, N>>, Memory>
     requires threads { (1 ≤ threads) × (threads ≤ 64) }
-    requires words { MayStop H.begun queue.now }
-    ensures { IfOk result (λ workers. AreWorked (shape_in desk.now) queue.now threads workers.items) }
+    requires words { MayStop H.begun (handles_of queue.now) }
+    ensures { IfOk result (λ workers. AreWorked (shape_in desk.now) (handles_of queue.now) threads workers.items) }
 {
     let workers = thread::map_indices(
         rt,
         alloc,
         threads,
         &|at: usize| -> Worked<H, N>
-            requires { (1 ≤ threads) × (threads ≤ 64) × MayStop H.begun queue.now }
-        { work(rt, desk, queue, threads, at) },
+            requires { (1 ≤ threads) × (threads ≤ 64) × MayStop H.begun (handles_of queue.now) }
+        { work(rt, alloc, desk, queue, threads, at) },
     );
     desk.shut(rt);
     workers

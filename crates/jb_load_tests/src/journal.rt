@@ -5,7 +5,7 @@ use jb_block::{BlockSize, Stamp, Width, put32};
 use jb_disk::{Disk, FixedClock, MemoryDisk};
 use jb_front::format;
 use jb_load::{LoadFault, LoadOptions, Loaded, load_on, tell_loaded};
-use jb_queue::read_queue;
+use jb_queue::read_lines;
 use jb_recover::recover;
 use std::alloc::Global;
 use std::marker::Brand;
@@ -51,7 +51,7 @@ pub fn load<D: Disk + Drop + Send, R: Threads + Wait + Clock + Sync>(
     text: &str,
     options: LoadOptions,
 ) -> Result<Result<Loaded, LoadFault>, Fail> {
-    let queue = read_queue(alloc, text.as_bytes())?;
+    let queue = read_lines(alloc, text.as_bytes().to_vec(alloc)?)?;
     let threads = options.threads.clamp(1, 64);
     let options = LoadOptions { threads, ..options };
     let answer = load_on::<D, FixedClock, R, Brand>(rt, alloc, disk, CLOCK, &queue, options);

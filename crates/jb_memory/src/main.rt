@@ -23,6 +23,7 @@ fn row(rt: &HostRuntime, name: &str) -> Option<Result<Met, Wrong>> {
         "add_left" => Some(values::add_left_row(rt)),
         "check" => Some(values::check_row(rt)),
         "read_queue" => Some(texts::read_queue_row(rt)),
+        "read_lines" => Some(texts::read_lines_row(rt)),
         "read_cert" => Some(texts::read_cert_row(rt)),
         "print_cert" => Some(texts::print_cert_row(rt)),
         "read_tags" => Some(texts::read_tags_row(rt)),

@@ -2,13 +2,20 @@
 
 use jb_block::{Width, put32};
 use jb_price::{CertFault, print_cert, read_cert};
-use jb_queue::{Cause, QueueFault, read_queue};
+use jb_queue::{Cause, QueueFault, QueueLines, read_lines, read_queue};
 use jb_refusing::{Met, Wrong, ample, must, refusing};
 use jb_revoke::{RevokeFault, read_revokes};
 use jb_tags::read_tags;
+use std::alloc::Global;
 
 /// Three handles that fit into one group.
 pub const THREE: &[u8] = b"bs 1024\nlimit 7\nh w1 w2 w3\nh w3 w4 w5\nh w1 w2\n";
+
+/// A handle was not read again, for want of memory.
+const OUT: QueueFault = QueueFault {
+    line: 3,
+    cause: Cause::Memory,
+};
 
 /// Their certificate.
 pub const CERTIFICATE: &str = "prices 0 5 7 7\ncut 0 3\ntotal 7\n";
@@ -36,6 +43,51 @@ pub fn read_queue_row(rt: &HostRuntime) -> Result<Met, Wrong> {
         Err(_) => return Err(Wrong::Answer),
     };
     must(queue.handles.len() == 3 && queue.limit == 7, Wrong::Answer)?;
+    Ok(met)
+}
+
+/// Reads a text's lines, and each handle from them.
+fn handles_read(alloc: Global, text: Vec<u8>) -> Result<usize, QueueFault> {
+    let queue = read_lines(alloc, text)?;
+    read_each(alloc, &queue)
+}
+
+/// How many words the handles of a text have, read one after the other.
+fn read_each(alloc: Global, queue: &QueueLines) -> Result<usize, QueueFault> {
+    let mut reader = queue.reader();
+    let mut words = 0usize;
+    while let Some(handle) = reader.read(alloc, 0).map_err(|_| OUT)? {
+        words = words.saturating_add(handle.len());
+    }
+    Ok(words)
+}
+
+/// A text that is read without its handles, and its handles then; what ran out of memory is read again.
+pub fn read_lines_row(rt: &HostRuntime) -> Result<Met, Wrong> {
+    let alloc = rt.alloc();
+    let (Ok(text), Ok(again)) = (THREE.to_vec(alloc), THREE.to_vec(alloc)) else {
+        return Err(Wrong::Inputs);
+    };
+    refusing(rt);
+    let first = handles_read(alloc, text);
+    ample(rt);
+    let (met, words) = match first {
+        Ok(words) => (Met::Ample, words),
+        Err(
+            QueueFault {
+                line,
+                cause: Cause::Memory,
+            },
+        ) => {
+            must(3 <= line && line <= 5, Wrong::Answer)?;
+            match handles_read(alloc, again) {
+                Ok(words) => (Met::Memory, words),
+                Err(_) => return Err(Wrong::Answer),
+            }
+        }
+        Err(_) => return Err(Wrong::Answer),
+    };
+    must(words == 8, Wrong::Answer)?;
     Ok(met)
 }
 

@@ -5,7 +5,7 @@ use jb_deck::OpenFault;
 use jb_desk::Ended;
 use jb_disk::{Disk, FixedClock};
 use jb_load::{HandleFault, LoadFault, LoadOptions, Loaded, load_on};
-use jb_queue::{QueueText, read_queue};
+use jb_queue::{QueueLines, read_lines};
 use jb_refusing::{Met, Wrong, ample, must, refusing};
 use std::alloc::Global;
 use std::fs::File;
@@ -30,7 +30,7 @@ fn load<D: Disk + Drop + Send, R: Threads + Wait + Clock + Sync>(
     rt: &R,
     alloc: Global,
     disk: D,
-    queue: &QueueText,
+    queue: &QueueLines,
 ) -> Result<Loaded, LoadFault> {
     let answer = load_on::<D, FixedClock, R, Brand>(rt, alloc, disk, CLOCK, queue, HELD);
     match answer {
@@ -83,7 +83,10 @@ pub fn load_row<R: Files<File = File> + AllocGlobal + Threads + Wait + Clock + S
     rt: &R,
 ) -> Result<Met, Wrong> {
     let alloc = rt.alloc();
-    let Ok(queue) = read_queue(alloc, TEXT) else {
+    let Ok(text) = TEXT.to_vec(alloc) else {
+        return Err(Wrong::Inputs);
+    };
+    let Ok(queue) = read_lines(alloc, text) else {
         return Err(Wrong::Inputs);
     };
     let disk = formatted(alloc)?;

@@ -5,6 +5,7 @@ pub mod FaultyOps
 pub mod FaultyText
 pub mod Handles
 pub mod Ops
+pub mod Placed
 pub mod SpelledHandles
 pub mod SpelledOps
 pub mod SpelledText

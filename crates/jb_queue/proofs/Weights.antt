@@ -4,7 +4,7 @@ use Rattle.std.specs.Ordering.{nat_cmp}
 use Rattle.std.specs.Cmp.{nat_cmp_total}
 use Rattle.std.specs.FinMap as map
 use Rattle.std.proofs.lemmas.Bool.{cases_eq}
-use Rattle.std.proofs.lemmas.List.Sums.{sum_by-append}
+use Rattle.std.proofs.lemmas.List.Sums.{sum_by-append, sum_by-cons}
 use Rattle.jb_queue.specs.declared.fault.Cause.{Cause}
 use Rattle.jb_queue.specs.declared.fault.Cause.TheVariants.{HandleLine}
 use Rattle.jb_queue.specs.declared.fault.QueueFault.{QueueFault}
@@ -109,7 +109,7 @@ lines-weight size had (line ∷ more) now reads =
     lines-case size had line more now (handle_of size line) refl reads (λ had' further. lines-weight size had' more now further)
 
 -- the lines that are left after the first
-after-first : {A : Type 0} (rest : List (List ℕ)) (given : Option A) (x : A) (more : List (List ℕ)) → ◌≡◌ {A = Option (A × List (List ℕ))} (Some (x, more)) (option_map (λ y. (y, rest)) given) → more ≡ rest
+pub after-first : {A : Type 0} (rest : List (List ℕ)) (given : Option A) (x : A) (more : List (List ℕ)) → ◌≡◌ {A = Option (A × List (List ℕ))} (Some (x, more)) (option_map (λ y. (y, rest)) given) → more ≡ rest
 after-first rest None x more is = cc
 after-first {A = A} rest (Some y) x more is =
     let pair : ◌≡◌ {A = A × List (List ℕ)} (x, more) (y, rest) = cc in
@@ -126,3 +126,11 @@ queue-weight size handles text first second one two reads =
     let light = lines-weight size [] second handles reads in
     let whole = lines-total text in
     omega (arith, light, whole, one, two)
+
+-- there are no more handles than they weigh
+pub number-weight : (handles : List Stopped) → length handles ≤ weight handles
+number-weight [] = omega arith
+number-weight (handle ∷ handles) =
+    let rest = number-weight handles in
+    let sums : weight (handle ∷ handles) ≡ map.len handle.words + 1 + weight handles = sum_by-cons (λ (h : Stopped). map.len h.words + 1) handle handles in
+    omega (arith, rest, sums)

@@ -1,4 +1,5 @@
 pub mod Faults
 pub mod Queue
+pub mod QueueLines
 pub mod QueueText
 pub mod Spelling

@@ -1,5 +1,5 @@
 -- What the text of a queue says, step by step: its lines from the first on, and the words of a line from the left.
-use Rattle.std.specs.Prelude.{◌≡◌, ℕ, ◌+◌, ◌≤◌, ◌==◌, ◌&&◌, nat_lt, nat_le, Bool, if◌then◌else◌, List, [], ◌∷◌, ◌++◌, length, codes, Option, Some, None, Result, Ok, Err, IsOk}
+use Rattle.std.specs.Prelude.{◌≡◌, ℕ, ◌+◌, ◌≤◌, ◌==◌, ◌&&◌, nat_lt, nat_le, Bool, if◌then◌else◌, List, [], ◌∷◌, ◌++◌, length, drop, codes, Option, Some, None, Result, Ok, Err, IsOk}
 use Rattle.std.specs.Option.{option_and_then}
 use Rattle.std.specs.Str.{bytes_eq}
 use Rattle.std.specs.FinMap as map
@@ -86,6 +86,20 @@ after_lines size had [] = Ok had
 after_lines size had (line ∷ more) = do
   words ← at_line (length had + 3) (handle_of size line)
   after_lines size (had ++ record { ticket = length had; words = words } ∷ []) more
+
+-- the handles that were read; none where there is a fault
+abbrev pub handles_or_none : Result (List Stopped) QueueFault → List Stopped
+handles_or_none (Ok handles) = handles
+handles_or_none (Err fault) = []
+
+-- the handles of a queue text, whose first is on its third line
+abbrev pub handles_in : ℕ → List ℕ → List Stopped
+handles_in size text = handles_or_none (after_lines size [] (drop 2 (lines text)))
+
+-- there are handles, so many
+abbrev pub IsCount : Result (List Stopped) QueueFault → ℕ → Type 0
+IsCount (Ok handles) count = count ≡ length handles
+IsCount (Err fault) count = ⊥
 
 -- the size of a block in bytes
 abbrev pub size_of_bytes : ℕ → Option BlockSize

@@ -8,12 +8,14 @@ ghost use Rattle.jb_queue.specs.declared.fault.Cause.TheVariants.{Memory as OutO
 ghost use Rattle.jb_text.specs.Parts.{first_of, lines, number_of, words};
 ghost use Rattle.jb_handle.specs.Size.{weight};
 ghost use Rattle.jb_queue.specs.QueueText.{value_of};
+ghost use Rattle.jb_queue.specs.QueueLines.{handles_of, queue_in};
 ghost use Rattle.jb_queue.specs.Queue.{Gives, Reports, BeginsHandle, FirstReads, MayGrow};
 ghost use Rattle.jb_queue.specs.Queue.{MayGrowAt, after_ops, handle_of, queue_of, after_lines};
 ghost use Rattle.jb_queue.specs.Queue.{format_behind, format_of, limit_of, size_of_bytes, width_behind};
 
 use crate::fault::{Cause, QueueFault};
 use crate::op_text::read_op;
+use crate::queue_lines::{QueueLines, count_handles};
 use jb_block::{BlockSize, Width};
 use jb_handle::{Gathered, Stopped, Words};
 use jb_text::{next_line, next_word, number, part};
@@ -65,6 +67,41 @@ pub fn read_queue(alloc: Global, text: &[u8]) -> Result<QueueText, QueueFault>
         limit,
         width,
         handles,
+    })
+}
+
+/// Reads the text of a queue without keeping its handles, which are then read from it one by one
+/// ([`QueueLines::reader`]). The words of one handle at a time take memory.
+///
+/// # Errors
+///
+/// As those of [`read_queue`].
+#[tactic(auto, unfolding(crate::specs::QueueLines::handles_of))]
+pub fn read_lines(alloc: Global, text: Vec<u8>) -> Result<QueueLines, QueueFault>
+    ensures ok { IfOk result (λ queue. queue_of text.items ≡ Ok (queue_in queue)) }
+    ensures err { IfErr result (Reports (queue_of text.items)) }
+    ensures memory { IfErr result (λ fault. fault.cause ≡ OutOfMemory → MayGrowAt text.items fault.line) }
+    ensures within { IfOk result (λ queue. 2 * weight (handles_of queue) ≤ length text.items + 1) }
+{
+    let Some(((bs, width), rest)) = first_format(text.as_slice()) else {
+        return Err(QueueFault {
+            line: 1,
+            cause: Cause::BlockSizeLine,
+        });
+    };
+    let Some((limit, rest)) = first_limit(rest) else {
+        return Err(QueueFault {
+            line: 2,
+            cause: Cause::LimitLine,
+        });
+    };
+    let count = count_handles(alloc, rest, bs)?;
+    Ok(QueueLines {
+        bs,
+        limit,
+        width,
+        text,
+        count,
     })
 }
 
@@ -163,7 +200,7 @@ fn read_handles(alloc: Global, text: &[u8], bs: BlockSize) -> Result<Vec<Stopped
 }
 
 /// The words of the handle that a line lists.
-fn read_handle(alloc: Global, line: &[u8], bs: BlockSize) -> Result<Words, Cause>
+pub(crate) fn read_handle(alloc: Global, line: &[u8], bs: BlockSize) -> Result<Words, Cause>
     ensures gives { Gives result (handle_of (bytes_of bs) line.now) }
     ensures begins { result ≡ Err OutOfMemory → BeginsHandle (bytes_of bs) line.now }
 {

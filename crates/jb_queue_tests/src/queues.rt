@@ -1,6 +1,6 @@
 use jb_block::Width;
-use jb_handle::Word;
-use jb_queue::{Cause, read_queue};
+use jb_handle::{Word, Words};
+use jb_queue::{Cause, read_lines, read_queue};
 use std::test::Fail;
 
 /// The first bytes of a copy of zeros.
@@ -142,7 +142,7 @@ const FAULTY: &[(&str, u64, Cause)] = &[
 
 /// Texts with their first fault, and two queues without a handle.
 #[test]
-fn the_first_fault_is_named(rt: HostRuntime) {
+fn the_first_fault_is_named(rt: HostRuntime) -> Result<(), Fail> {
     for text in ["bs 2048\nlimit 3", "bs 4096\nlimit 2147483646\n"] {
         match read_queue(rt.alloc(), text.as_bytes()) {
             Ok(queue) => assert!(rt; queue.handles.is_empty(), "{text}"),
@@ -154,5 +154,56 @@ fn the_first_fault_is_named(rt: HostRuntime) {
             Ok(_) => assert!(rt; false, "{text}"),
             Err(fault) => assert!(rt; fault.line == line && fault.cause == cause, "{text}"),
         }
+        match read_lines(rt.alloc(), text.as_bytes().to_vec(rt.alloc())?) {
+            Ok(_) => assert!(rt; false, "{text}"),
+            Err(fault) => assert!(rt; fault.line == line && fault.cause == cause, "{text}"),
+        }
     }
+    Ok(())
+}
+
+/// Whether two words are free, or copies with the same first bytes.
+fn is_alike(one: &Word, other: &Word) -> bool {
+    match (one, other) {
+        (Word::Copy(one), Word::Copy(other)) if one.len() > 3 && other.len() > 3 => {
+            one.front() == other.front()
+        }
+        (Word::Free, Word::Free) => true,
+        _ => false,
+    }
+}
+
+/// Whether two handles leave like words at the same home blocks.
+fn are_alike(one: &Words, other: &Words) -> bool {
+    let mut pairs = one.entries().iter().zip(other.entries());
+    one.len() == other.len()
+        && pairs.all(|(one, other)| one.0 == other.0 && is_alike(&one.1, &other.1))
+}
+
+/// The handles of a text that are read from its lines, all of them or each second one, are those of its queue.
+#[test]
+fn handles_are_read_from_the_lines(rt: HostRuntime) -> Result<(), Fail> {
+    let alloc = rt.alloc();
+    for (text, ..) in QUEUES {
+        let queue = read_queue(alloc, text.as_bytes())?;
+        let lines = read_lines(alloc, text.as_bytes().to_vec(alloc)?)?;
+        assert_eq!(rt; lines.len(), queue.handles.len());
+        assert!(rt;
+            lines.bs == queue.bs && lines.limit == queue.limit && lines.width == queue.width,
+            "{text}"
+        );
+        for step in [1, 2] {
+            let mut reader = lines.reader();
+            let mut passed = 0;
+            for handle in queue.handles.iter().step_by(step) {
+                match reader.read(alloc, passed)? {
+                    Some(words) => assert!(rt; are_alike(&words, &handle.words), "{text}"),
+                    None => assert!(rt; false, "{text}"),
+                }
+                passed = step.saturating_sub(1);
+            }
+            assert!(rt; reader.read(alloc, passed)?.is_none(), "{text}");
+        }
+    }
+    Ok(())
 }

@@ -19,9 +19,7 @@ use Rattle.jb_load.specs.declared.loaded.Loaded.{Loaded}
 use Rattle.jb_load.specs.declared.loaded.Refused.{Refused}
 use Rattle.jb_load.specs.declared.options.LoadOptions.{LoadOptions}
 use Rattle.jb_queue.specs.Queue.{Queue, queue_of}
-use Rattle.jb_queue.specs.QueueText.{value_of}
 use Rattle.jb_queue.specs.declared.fault.QueueFault.{QueueFault}
-use Rattle.jb_queue.specs.declared.queue_text.QueueText.{QueueText}
 use Rattle.jb_words.specs.Wanted.{Loading}
 use Rattle.jb_plain.specs.Ends.{alone}
 use Rattle.jb_plain.specs.Files.{IsOpened, IsShut}
@@ -79,15 +77,14 @@ ReportsLoad homes (Ok ended) old new end =
 ReportsLoad homes (Err fault) old new end = (end ≡ Err (load_fault fault)) × (new ≡ old)
 
 -- a queue was loaded into an open image, as the clause of a load says of the answer, and that answer is reported
-pub record LoadsOn (options : LoadOptions) (homes : ℕ) (disk : ImageDisk) (queue : QueueText) (old new : Outputs) (end : Result Ended CommandFault) : Type 0 where
+pub record LoadsOn (options : LoadOptions) (homes : ℕ) (disk : ImageDisk) (queue : Queue) (old new : Outputs) (end : Result Ended CommandFault) : Type 0 where
   pub answer : Result (Loaded × ImageDisk) LoadFault
-  pub loads : AnswersLoad image_size image_count image_faults (λ _. ⊥) (λ _. []) disk queue.bs queue.handles.items options answer
+  pub loads : AnswersLoad image_size image_count image_faults (λ _. ⊥) (λ _. []) disk queue.size queue.handles options answer
   pub told : ReportsLoad homes answer old new end
 
 -- the queue of a text was loaded, or the text's first fault is reported
 abbrev pub EndsOfText : Loading → ℕ → ImageDisk → Result Queue QueueFault → Outputs → Outputs → Result Ended CommandFault → Type 0
-EndsOfText load homes disk (Ok value) old new end =
-    (queue : QueueText) × (options : LoadOptions) × (value_of queue ≡ value) × IsAskedBy load options × LoadsOn options homes disk queue old new end
+EndsOfText load homes disk (Ok queue) old new end = (options : LoadOptions) × IsAskedBy load options × LoadsOn options homes disk queue old new end
 EndsOfText load homes disk (Err fault) old new end =
     (words : Said) × (told : Result ℕ CommandFault) × (queue_fault fault ≡ Some words) × (end ≡ alone told) × Tells words old new told
 

@@ -1,5 +1,6 @@
 //! `jb load`: the handles of a queue text, run by threads and committed to an image.
 ghost use Rattle.std.specs.Prelude.{◌≡◌, ◌≤◌, ◌↔◌, Ok, IsSome, IfSome};
+ghost use Rattle.jb_queue.specs.QueueLines.{queue_in};
 ghost use Rattle.jb_words.specs.Wanted.{load_said};
 ghost use Rattle.jb_tool.specs.Load.{EndsOfLoad, HasThreads, IsAskedBy, LoadsOn};
 ghost use Rattle.jb_tool.specs.Load.{ReportsLoad, RunsLoad, beside_in, load_fault};
@@ -12,7 +13,7 @@ use jb_disk::FixedClock;
 use jb_load::{HandleFault, LoadFault, LoadOptions, Loaded, Refused, load_on, tell_loaded};
 use jb_pair::ImageDisk;
 use jb_plain::{CommandFault, Ended, Opening, close, open_counted, read_file, tell};
-use jb_queue::{QueueText, read_queue};
+use jb_queue::{QueueLines, read_lines};
 use jb_words::LoadWords;
 use std::fs::File;
 use std::io::Write;
@@ -58,7 +59,7 @@ fn load_files<
     };
     let (disk, homes) = open_counted(rt, load.image, load.journal, Opening::Change)?;
     let text = read_file(rt, load.file)?;
-    match read_queue(rt.alloc(), text.as_slice()) {
+    match read_lines(rt.alloc(), text) {
         Ok(queue) => load_queue(rt, disk, homes, load.stamp, &queue, options, out, err),
         Err(fault) => {
             // no line is written while an image is open
@@ -79,13 +80,13 @@ fn load_queue<'a, R: AllocGlobal + Threads + Wait + Clock + Sync, O: Write, E: W
     disk: ImageDisk,
     homes: u64,
     stamp: u64,
-    queue: &QueueText,
+    queue: &QueueLines,
     options: LoadOptions,
     out: &mut O,
     err: &mut E,
 ) -> Result<Ended, CommandFault<'a>>
     requires threads { (1 ≤ options.threads) × (options.threads ≤ 64) }
-    ensures loads { LoadsOn options homes disk queue.now (record { out = O.contents out.old; err = E.contents err.old })
+    ensures loads { LoadsOn options homes disk (queue_in queue.now) (record { out = O.contents out.old; err = E.contents err.old })
         (record { out = O.contents out.new; err = E.contents err.new }) result }
 {
     let clock = FixedClock {

@@ -7,6 +7,7 @@ use Rattle.jb_deck.proofs.Shapes.{shape-same}
 use Rattle.jb_desk.specs.Desks.{shape_in}
 use Rattle.jb_desk.specs.History.{AreAllStops, IsInHistory, IsStop}
 use Rattle.jb_desk.specs.Since.{IsCosted}
+use Rattle.jb_queue.specs.QueueLines.{handles_of}
 use Rattle.jb_load.specs.Loads.{AreRuns}
 use Rattle.jb_load.specs.Running.{HasRun}
 use Rattle.jb_desk.proofs.Rounds.{follow-past}
@@ -16,7 +17,7 @@ use Rattle.jb_load.proofs.load.load_at.Goals as goal
 pub returns-clause-since : goal.returns-clause-since
 returns-clause-since g c =
     let b = g.H.Origin.begun in
-    let queue = c.args.queue.now in
+    let queue = handles_of c.args.queue.now in
     let threads = c.args.options.threads in
     let trail = c.in-Ok.closed.trail.items in
     let ran = subst (λ r. IfOk r (HasRun {H = g.row.H.Denot} {N = g.row.N.Denot} {O = g.H.Origin} {P = g.H.Place} (shape_in c.args.desk) queue threads)) c.in_ok-ran.was c.run-ran.ensures.ran in
@@ -37,7 +38,7 @@ returns-clause-since g c =
         counts = record {
           log = ends.log;
           stopped = subst (AreAllStops ends.log) gathered.made ends.stopped;
-          queued = counts.are_queued;
+          queued = counts.are_queued ∙ c.len.ensures.value;
           handles = counts.have_stopped ∙ sym ends.number;
           changes = counts.have_changed ∙ c.in-Ok.ensures.changes ∙ gathered.changes;
           follows = counts.follows;

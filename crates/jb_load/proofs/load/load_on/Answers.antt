@@ -1,7 +1,6 @@
-use Rattle.std.proofs.Common.{◌≡◌, IfOk, subst, arith}
+use Rattle.std.proofs.Common.{◌≡◌, arith}
 use Rattle.jb_block.specs.Size.{bytes_of}
-use Rattle.jb_load.specs.Loads.{AnswersLoad}
-use Rattle.jb_load.specs.Settled.{LoadsSince}
+use Rattle.jb_queue.specs.QueueLines.{handles_of}
 use Rattle.jb_load.proofs.Answering.{answers-as, loads-since}
 use Rattle.jb_load.proofs.load.load_on.Goals as goal
 
@@ -17,14 +16,12 @@ returns-in_default-clause-answers g c = (
 pub returns-clause-answers : goal.returns-clause-answers
 returns-clause-answers g c =
     let same : bytes_of c.args.queue.now.bs ≡ g.D.Disk.size c.args.disk = omega arith in
-    subst (λ hs. AnswersLoad g.D.Disk.size g.D.Disk.count g.D.Disk.faults g.D.Disk.honest g.D.Disk.newest c.args.disk c.args.queue.now.bs hs c.args.options c.load_open.result) c.deref.ensures.value
-    (answers-as g.D.Disk.size g.D.Disk.count g.D.Disk.faults g.D.Disk.honest g.D.Disk.newest g.D.Disk.may_leave g.D.Disk.moment g.D.Disk.left_since g.H.Origin.begun c.args.disk c.args.queue.now.bs c.deref.result.now c.args.options c.shape-shape.result same
+    answers-as g.D.Disk.size g.D.Disk.count g.D.Disk.faults g.D.Disk.honest g.D.Disk.newest g.D.Disk.may_leave g.D.Disk.moment g.D.Disk.left_since g.H.Origin.begun c.args.disk c.args.queue.now.bs (handles_of c.args.queue.now) c.args.options c.shape-shape.result same
     (c.in-Ok.ensures.opened c.shape-shape.result c.shape-shape.ensures.journal)
-    c.load_open.result c.load_open.ensures.since c.load_open.ensures.ended c.load_open.ensures.faults)
+    c.load_open.result c.load_open.ensures.since c.load_open.ensures.ended c.load_open.ensures.faults
 
 pub returns-clause-since : goal.returns-clause-since
 returns-clause-since g c =
-    subst (λ hs. IfOk c.load_open.result (λ ended. LoadsSince g.D.Disk.size g.D.Disk.count g.D.Disk.faults g.D.Disk.honest g.D.Disk.newest g.D.Disk.may_leave g.D.Disk.moment g.D.Disk.left_since g.H.Origin.begun c.args.disk hs c.args.options.threads ended.0 ended.1)) c.deref.ensures.value
-    (loads-since g.D.Disk.size g.D.Disk.count g.D.Disk.faults g.D.Disk.honest g.D.Disk.newest g.D.Disk.may_leave g.D.Disk.moment g.D.Disk.left_since g.H.Origin.begun c.args.disk c.deref.result.now c.args.options.threads c.shape-shape.result
+    loads-since g.D.Disk.size g.D.Disk.count g.D.Disk.faults g.D.Disk.honest g.D.Disk.newest g.D.Disk.may_leave g.D.Disk.moment g.D.Disk.left_since g.H.Origin.begun c.args.disk (handles_of c.args.queue.now) c.args.options.threads c.shape-shape.result
     (c.in-Ok.ensures.opened c.shape-shape.result c.shape-shape.ensures.journal)
-    c.load_open.result c.load_open.ensures.since)
+    c.load_open.result c.load_open.ensures.since

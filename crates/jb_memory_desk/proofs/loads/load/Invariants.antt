@@ -1,6 +1,7 @@
 use Rattle.jb_deck.specs.Opening.{recovered_home}
 use Rattle.jb_desk.specs.Origin.{own_on}
 use Rattle.jb_load.specs.Settled.{IsOfQueue}
+use Rattle.jb_queue.specs.QueueLines.{handles_of}
 use Rattle.jb_memory_desk.proofs.loads.load.Given as goal
 
 abbrev pub ghosts-load_on-H-Origin : goal.ghosts-load_on-H-Origin
@@ -14,6 +15,6 @@ ghosts-load_on-H-Origin g a = record {
     homes = recovered_home (g.D.Disk.size a.disk) (g.D.Disk.count a.disk) (g.D.Disk.newest a.disk);
     since = g.D.Disk.moment a.disk;
     left = λ c. Unit {0};
-    stops = IsOfQueue a.queue.now.handles.items;
+    stops = IsOfQueue (handles_of a.queue.now);
   };
 }

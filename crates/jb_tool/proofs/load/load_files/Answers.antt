@@ -11,7 +11,7 @@ returns-in_err-text g c = record {
 pub returns-in-Ok : goal.returns-in-Ok
 returns-in-Ok g c =
     let text = c.in_ok-text.text.items in
-    let read = rw c.as_slice.ensures.value at c.in-Ok.ensures.ok in
+    let read = c.in-Ok.ensures.ok in
     record {
       ends = inr (
         c.in-Some.ensures.good.0 refl,
@@ -22,17 +22,17 @@ returns-in-Ok g c =
           ends = inr (
             text,
             c.in_ok-text.ensures.text,
-            rw read (c.in-Ok.queue, c.in-Some.options, refl, c.in-Some.ensures.asked, c.load_queue.ensures.loads),
+            rw read (c.in-Some.options, c.in-Some.ensures.asked, c.load_queue.ensures.loads),
           );
         },
       );
     }
 
-pub returns : goal.returns
-returns g c =
+pub returns-in_ok-status-in-Err : goal.returns-in_ok-status-in-Err
+returns-in_ok-status-in-Err g c =
     let text = c.in_ok-text.text.items in
     let words = said c.in_ok-answer-in-Err.answer in
-    let fault = rw c.as_slice.ensures.value at c.in-Err.ensures.err in
+    let fault = c.in-Err.ensures.err in
     let is = named_by _ c.in-Err.fault.line c.in-Err.fault.cause words fault c.in_ok-answer-in-Err.ensures.said in
     record {
       ends = inr (

@@ -2,6 +2,7 @@ use Rattle.std.proofs.Common.{[]}
 use Rattle.jb_deck.specs.Opening.{recovered_home}
 use Rattle.jb_desk.specs.Origin.{own_on}
 use Rattle.jb_load.specs.Settled.{IsOfQueue}
+use Rattle.jb_queue.specs.QueueLines.{handles_of}
 use Rattle.jb_pair.specs.Images.{image_count, image_faults, image_size}
 use Rattle.jb_tool.proofs.load.load_queue.Given as goal
 
@@ -17,6 +18,6 @@ ghosts-load_on-H-Origin g a = record {
     homes = recovered_home (image_size a.disk) (image_count a.disk) [];
     since = 0;
     left = λ c. Unit {0};
-    stops = IsOfQueue a.queue.now.handles.items;
+    stops = IsOfQueue (handles_of a.queue.now);
   };
 }

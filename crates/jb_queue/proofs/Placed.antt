@@ -1,0 +1,149 @@
+-- The handles of a queue, read from its text one by one.
+use Rattle.std.proofs.Common.{◌≡◌, ◌∙◌, sym, ap, subst, ℕ, zero, suc, ◌+◌, ◌-◌, ◌<◌, ◌≤◌, List, [], ◌∷◌, ◌++◌, length, length-append, drop, get_or, arith, refl, Option, Some, Result, Ok, Err, IsOk}
+use Rattle.std.proofs.Math.Seq.{drop-nil, get_or-append_seam}
+use Rattle.std.proofs.lemmas.List.{append_assoc, drop-drop, length-drop}
+use Rattle.jb_queue.specs.declared.fault.Cause.{Cause}
+use Rattle.jb_queue.specs.declared.fault.QueueFault.{QueueFault}
+use Rattle.jb_handle.specs.declared.stopped.Stopped.{Stopped}
+use Rattle.jb_handle.specs.Word.{WordMap}
+use Rattle.jb_queue.specs.Queue.{IsCount, after_lines, handle_of, handles_or_none}
+use Rattle.jb_text.specs.Parts.{first_of}
+use Rattle.jb_queue.proofs.Weights.{after-first}
+use Rattle.jb_queue.proofs.Handles.{lines-goes, lines-fails, lines-end}
+
+-- after one line more
+pub drop-more : {A : Type 0} (n : ℕ) (ls : List A) (line : A) (more : List A) → drop n ls ≡ line ∷ more → drop (n + 1) ls ≡ more
+drop-more n ls line more is = sym (drop-drop 1 n ls) ∙ ap (drop 1) is
+
+-- after more lines than there are
+pub drop-past : {A : Type 0} (n m : ℕ) (ls : List A) → drop n ls ≡ [] → n ≤ m → drop m ls ≡ []
+drop-past n m ls is less =
+    let whole : n + (m - n) ≡ m = omega (arith, less) in
+    subst (λ k. drop k ls ≡ []) whole (sym (drop-drop (m - n) n ls) ∙ ap (drop (m - n)) is ∙ drop-nil (m - n))
+
+-- after handles of this number, the lines give all
+pub record IsAt (size : ℕ) (all : List Stopped) (at : ℕ) (ls : List (List ℕ)) : Type 0 where
+  pub had : List Stopped
+  pub number : length had ≡ at
+  pub reads : after_lines size had ls ≡ Ok all
+
+-- the first of the lines is a handle's, if all are
+pub record First (size : ℕ) (all had : List Stopped) (line : List ℕ) (more : List (List ℕ)) : Type 0 where
+  pub words : WordMap
+  pub is : handle_of size line ≡ Ok words
+  pub reads : after_lines size (had ++ record { ticket = length had; words = words } ∷ []) more ≡ Ok all
+
+first-case : (size : ℕ) (all had : List Stopped) (line : List ℕ) (more : List (List ℕ)) (h : Result WordMap Cause) → handle_of size line ≡ h → after_lines size had (line ∷ more) ≡ Ok all → First size all had line more
+first-case size all had line more (Ok words) is reads = record { words = words; is = is; reads = sym (lines-goes size had line more words is) ∙ reads }
+first-case size all had line more (Err cause) is reads =
+    let never : ◌≡◌ {A = Result (List Stopped) QueueFault} (Err (record { line = length had + 3; cause = cause })) (Ok all) = sym (lines-fails size had line more cause is) ∙ reads in cc
+
+pub first-line : (size : ℕ) (all had : List Stopped) (line : List ℕ) (more : List (List ℕ)) → after_lines size had (line ∷ more) ≡ Ok all → First size all had line more
+first-line size all had line more reads = first-case size all had line more (handle_of size line) refl reads
+
+-- all handles are those before and one for each line
+pub record Begins (all had : List Stopped) (ls : List (List ℕ)) : Type 0 where
+  pub more : List Stopped
+  pub parts : all ≡ had ++ more
+  pub number : length more ≡ length ls
+
+pub begins : (size : ℕ) (all had : List Stopped) (ls : List (List ℕ)) → after_lines size had ls ≡ Ok all → Begins all had ls
+begins size all had [] reads =
+    let both : ◌≡◌ {A = Result (List Stopped) QueueFault} (Ok had) (Ok all) = sym (lines-end size had) ∙ reads in
+    let same : had ≡ all = cc in
+    record { more = []; parts = sym same ∙ sym (append_none had); number = refl }
+  where
+    append_none : (xs : List Stopped) → xs ++ [] ≡ xs
+    append_none [] = refl
+    append_none (x ∷ xs) = ap (λ ys. x ∷ ys) (append_none xs)
+begins size all had (line ∷ ls) reads =
+    let first = first-line size all had line ls reads in
+    let one : Stopped = record { ticket = length had; words = first.words } in
+    let rest = begins size all (had ++ one ∷ []) ls first.reads in
+    record { more = one ∷ rest.more; parts = rest.parts ∙ append_assoc had (one ∷ []) rest.more; number = ap suc rest.number }
+
+-- how many there are
+pub number-all : (size : ℕ) (all : List Stopped) (at : ℕ) (ls : List (List ℕ)) → IsAt size all at ls → length all ≡ at + length ls
+number-all size all at ls placed =
+    let b = begins size all placed.had ls placed.reads in
+    let sums = ap length b.parts ∙ length-append placed.had b.more in
+    omega (arith, sums, placed.number, b.number)
+
+-- lines are passed over
+pub passes : (size : ℕ) (all : List Stopped) (n at to : ℕ) (ls : List (List ℕ)) → IsAt size all at ls → to ≡ at + n → n ≤ length ls → IsAt size all to (drop n ls)
+passes size all zero at to ls placed is within = record { had = placed.had; number = (let has = placed.number in omega (arith, has, is)); reads = placed.reads }
+passes size all (suc n) at to [] placed is within = absurd (omega (arith, within))
+passes size all (suc n) at to (line ∷ ls) placed is within =
+    let first = first-line size all placed.had line ls placed.reads in
+    let one : Stopped = record { ticket = length placed.had; words = first.words } in
+    passes size all n (at + 1) to ls
+    (record { had = placed.had ++ one ∷ []; number = (let sums = length-append placed.had (one ∷ []) in let has = placed.number in omega (arith, sums, has)); reads = first.reads })
+    (omega (arith, is)) (omega (arith, within))
+
+-- the handle at a place, and what is left after it
+pub record Next (size : ℕ) (all : List Stopped) (at : ℕ) (line : List ℕ) (more : List (List ℕ)) : Type 0 where
+  pub there : at < length all
+  pub words : WordMap
+  pub read : handle_of size line ≡ Ok words
+  pub is : (d : Stopped) → words ≡ (get_or all at d).words
+  pub after : IsAt size all (at + 1) more
+
+next-here : (size : ℕ) (all : List Stopped) (at : ℕ) (line : List ℕ) (more : List (List ℕ)) → IsAt size all at (line ∷ more) → Next size all at line more
+next-here size all at line more placed =
+    let first = first-line size all placed.had line more placed.reads in
+    let one : Stopped = record { ticket = length placed.had; words = first.words } in
+    let b = begins size all (placed.had ++ one ∷ []) more first.reads in
+    let parts : all ≡ placed.had ++ one ∷ b.more = b.parts ∙ append_assoc placed.had (one ∷ []) b.more in
+    record {
+      there = (let whole = number-all size all at (line ∷ more) placed in omega (arith, whole));
+      words = first.words;
+      read = first.is;
+      is = λ d. sym (ap (λ (x : Stopped). x.words) (ap (λ hs. get_or hs at d) parts ∙ ap (λ n. get_or (placed.had ++ one ∷ b.more) n d) (sym placed.number) ∙ get_or-append_seam placed.had one b.more d));
+      after = record { had = placed.had ++ one ∷ []; number = (let sums = length-append placed.had (one ∷ []) in let has = placed.number in omega (arith, sums, has)); reads = first.reads };
+    }
+
+pub next-is : (size : ℕ) (all : List Stopped) (n at : ℕ) (ls : List (List ℕ)) (line : List ℕ) (more : List (List ℕ)) → IsAt size all at ls → drop n ls ≡ line ∷ more → Next size all (at + n) line more
+next-is size all n at ls line more placed is =
+    let less = ap length is in
+    let dropped = length-drop n ls in
+    next-here size all (at + n) line more (subst (IsAt size all (at + n)) is (passes size all n at (at + n) ls placed refl (omega (arith, less, dropped))))
+
+-- no handle is left
+pub none-left : (size : ℕ) (all : List Stopped) (n at : ℕ) (ls : List (List ℕ)) → IsAt size all at ls → drop n ls ≡ [] → length all ≤ at + n
+none-left size all n at ls placed is =
+    let whole = number-all size all at ls placed in
+    let less = ap length is in
+    let dropped = length-drop n ls in
+    omega (arith, whole, less, dropped)
+
+-- all handles are counted
+pub count-all : (size : ℕ) (had : List Stopped) (ls : List (List ℕ)) (whole : Result (List Stopped) QueueFault) (count : ℕ) → ls ≡ [] → after_lines size had ls ≡ whole → count ≡ length had → IsCount whole count
+count-all size had ls whole count none so_far is = subst (λ read. IsCount read count) (sym (lines-end size had) ∙ ap (after_lines size had) (sym none) ∙ so_far) is
+
+-- what is left of some lines after the first one, which was read
+first-off : {A : Type 0} (read : List ℕ → Option A) (ls : List (List ℕ)) (x : A) (more : List (List ℕ)) → ◌≡◌ {A = Option (A × List (List ℕ))} (Some (x, more)) (first_of read ls) → more ≡ drop 1 ls
+first-off read [] x more is = cc
+first-off read (line ∷ rest) x more is = after-first rest (read line) x more is
+
+-- and after the second one
+pub second-off : {A B : Type 0} (one : List ℕ → Option A) (other : List ℕ → Option B) (ls second third : List (List ℕ)) (x : A) (y : B)
+    → ◌≡◌ {A = Option (A × List (List ℕ))} (Some (x, second)) (first_of one ls) → ◌≡◌ {A = Option (B × List (List ℕ))} (Some (y, third)) (first_of other second) → third ≡ drop 2 ls
+second-off one other ls second third x y is also = first-off other second y third also ∙ ap (drop 1) (first-off one ls x second is) ∙ drop-drop 1 1 ls
+
+-- the handles that were counted
+pub counted-ok : (read : Result (List Stopped) QueueFault) (count : ℕ) → IsCount read count → IsOk read
+counted-ok (Ok handles) count is = refl
+counted-ok (Err fault) count is = absurd is
+
+pub counted-are : (read : Result (List Stopped) QueueFault) → IsOk read → read ≡ Ok (handles_or_none read)
+counted-are (Ok handles) is = refl
+counted-are (Err fault) is = cc
+
+pub counted-number : (read : Result (List Stopped) QueueFault) (count : ℕ) → IsCount read count → count ≡ length (handles_or_none read)
+counted-number (Ok handles) count is = is
+counted-number (Err fault) count is = absurd is
+
+-- one line has one handle's words
+pub same-words : (read : Result WordMap Cause) (one other : WordMap) → read ≡ Ok one → read ≡ Ok other → one ≡ other
+same-words read one other is also =
+    let both : ◌≡◌ {A = Result WordMap Cause} (Ok one) (Ok other) = sym is ∙ also in cc

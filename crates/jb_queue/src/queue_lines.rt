@@ -1,0 +1,138 @@
+//! The handles of a queue text, which are read from it when they are asked for.
+
+ghost use Rattle.std.specs.Prelude.{◌≡◌, ◌*◌, ◌+◌, ◌≤◌, [], drop, length, IsOk, IfOk, IfErr, Ok};
+ghost use Rattle.jb_block.specs.Size.{bytes_of};
+ghost use Rattle.jb_queue.specs.declared.fault.Cause.TheVariants.{Memory as OutOfMemory};
+ghost use Rattle.jb_text.specs.Parts.{lines};
+ghost use Rattle.jb_queue.specs.Queue.{Reports, IsCount, MayGrow, after_lines, handles_in};
+
+use crate::fault::{Cause, QueueFault};
+use crate::queue_text::read_handle;
+use jb_block::{BlockSize, Memory, Width};
+use jb_handle::Words;
+use jb_text::next_line;
+use std::alloc::Global;
+
+/// A queue text that is of the form. It keeps the text and none of the handles: these are read from it when they are
+/// asked for.
+#[derive(Drop)]
+pub struct QueueLines {
+    /// The size of a block.
+    pub bs: BlockSize,
+    /// The most log blocks that a group may take.
+    pub limit: u32,
+    /// The width of the block numbers.
+    pub width: Width,
+    /// The whole text.
+    pub(crate) text: Vec<u8>,
+    /// How many handles it lists.
+    pub(crate) count: usize,
+    ghost reads: { IsOk (after_lines (bytes_of bs) [] (drop 2 (lines text.items))) },
+    ghost counted: { count ≡ length (handles_in (bytes_of bs) text.items) },
+    ghost few: { count ≤ length text.items },
+}
+
+impl QueueLines {
+    ghost use Rattle.std.specs.Prelude.{IsTrue, ◌↔◌, ◌<◌, ◌^◌};
+    ghost use Rattle.jb_queue.specs.QueueLines.{handles_of, IsPlaced};
+
+    /// How many handles there are.
+    #[tactic(auto, unfolding(crate::specs::QueueLines::handles_of))]
+    pub fn len(&self) -> usize
+        ensures value { result ≡ length (handles_of self.now) }
+        ensures bound { result < 2 ^ 63 }
+    {
+        self.count
+    }
+
+    /// Whether there is no handle.
+    #[tactic(auto, unfolding(crate::specs::QueueLines::handles_of))]
+    pub fn is_empty(&self) -> bool
+        ensures { IsTrue result ↔ (length (handles_of self.now) ≡ 0) }
+    {
+        self.count == 0
+    }
+
+    /// A reader that stands at the first handle.
+    #[tactic(auto, unfolding(crate::specs::QueueLines::handles_of))]
+    pub fn reader(&self) -> HandleReader<'_>
+        ensures { IsPlaced result (handles_of self.now) 0 }
+    {
+        HandleReader {
+            bs: self.bs,
+            rest: pass_lines(&self.text, 2),
+        }
+    }
+}
+
+/// Reads handles of a queue text in their order.
+#[derive(Drop)]
+pub struct HandleReader<'a> {
+    bs: BlockSize,
+    /// The lines of the handles that are left.
+    rest: &'a [u8],
+}
+
+impl HandleReader<'_> {
+    ghost use Rattle.std.specs.Prelude.{ℕ, List};
+    ghost use Rattle.jb_handle.specs.declared.stopped.Stopped.{Stopped as StoppedValue};
+    ghost use Rattle.jb_queue.specs.QueueLines.{HasRead, IsPlaced};
+
+    /// Passes over so many handles, and reads the words of the next one; `None` where none is left. The reader then
+    /// stands after it. What is passed over takes no memory.
+    ///
+    /// # Errors
+    ///
+    /// `Memory` where there is none for the words of the handle; the reader stands after it then, too.
+    pub fn read(&mut self, alloc: Global, passed: usize) -> Result<Option<Words>, Memory>
+        ensures { (all : List StoppedValue) (at : ℕ) → IsPlaced self.old all at
+            → HasRead all (at + passed) self.new result }
+    {
+        self.rest = pass_lines(self.rest, passed);
+        let Some((line, behind)) = next_line(self.rest) else {
+            return Ok(None);
+        };
+        self.rest = behind;
+        match read_handle(alloc, line, self.bs) {
+            Ok(words) => Ok(Some(words)),
+            Err(_) => Err(Memory),
+        }
+    }
+}
+
+/// The text after so many of its lines; no text where it has fewer.
+fn pass_lines(text: &[u8], passed: usize) -> &[u8]
+    ensures { lines result.now ≡ drop passed (lines text.now) }
+{
+    let mut rest = text;
+    'lines: for i in 0..passed {
+        match next_line(rest) {
+            Some((_, behind)) => rest = behind,
+            None => return rest,
+        }
+    }
+    rest
+}
+
+/// How many handles the lines of a text are, which are those from the third of a queue text on. Each is read, and
+/// nothing of it is kept.
+pub(crate) fn count_handles(alloc: Global, text: &[u8], bs: BlockSize) -> Result<usize, QueueFault>
+    ensures ok { IfOk result (IsCount (after_lines (bytes_of bs) [] (lines text.now))) }
+    ensures err { IfErr result (Reports (after_lines (bytes_of bs) [] (lines text.now))) }
+    ensures memory { IfErr result (λ fault. fault.cause ≡ OutOfMemory
+        → MayGrow (bytes_of bs) (lines text.now) fault.line) }
+{
+    let mut count = 0;
+    let mut rest = text;
+    while let Some((line, behind)) = next_line(rest) {
+        match read_handle(alloc, line, bs) {
+            Ok(_words) => count += 1,
+            Err(cause) => return Err(QueueFault {
+                line: count as u64 + 3,
+                cause,
+            }),
+        }
+        rest = behind;
+    }
+    Ok(count)
+}
