@@ -1,6 +1,7 @@
 //! The handles of a queue text are run through a desk, by threads, and committed.
 #![tactic(auto)]
 
+mod bounds;
 mod committing;
 mod counting;
 mod fault;

@@ -9,6 +9,7 @@ ghost use Rattle.jb_handle.specs.declared.shape.Shape.{Shape as ShapeValue};
 ghost use Rattle.jb_queue.specs.QueueLines.{handles_of};
 ghost use Rattle.jb_load.specs.declared.fault.LoadFault.TheVariants.{Accounts, Memory as OutOfMemory};
 
+use crate::bounds::{Runtime, SharedClock, SharedDisk, SharedLedger, SharedOrigin};
 use crate::counting::{begins_at_first, count_up};
 use crate::fault::LoadFault;
 use crate::gather::Gathered;
@@ -76,15 +77,7 @@ pub fn load_on<
     };
     let changes = Blank::new(PARTS);
     load_open::<D, C, R, Brand, Brand>(
-        rt,
-        alloc,
-        handles,
-        changes,
-        deck,
-        clock,
-        shape,
-        queue,
-        options,
+        rt, alloc, handles, changes, deck, clock, shape, queue, options,
     )
 }
 
@@ -107,9 +100,9 @@ fn open<D: Disk + Drop, H: Origin>(alloc: Global, disk: D) -> Result<Deck<D>, Op
 /// Runs the handles of a queue at a desk over a journal that was just opened. The desk's ledgers are `handles`, with
 /// its history, and `changes`.
 fn load_open<
-    D: Disk + Drop + Send,
-    C: Clock + Drop + Send,
-    R: Threads + Wait + time::Clock + Sync,
+    D: SharedDisk,
+    C: SharedClock,
+    R: Runtime,
     H: Origin + Send + Sync,
     N: Ledger + Send + Sync,
 >(
@@ -141,13 +134,7 @@ fn load_open<
 }
 
 /// Runs the handles of a queue at a new desk, and closes it.
-fn load_at<
-    D: Disk + Drop + Send,
-    C: Clock + Drop + Send,
-    R: Threads + Wait + time::Clock + Sync,
-    H: Origin + Send + Sync,
-    N: Ledger + Send + Sync,
->(
+fn load_at<D: SharedDisk, C: SharedClock, R: Runtime, H: SharedOrigin, N: SharedLedger>(
     rt: &R,
     alloc: Global,
     desk: Desk<D, C, H, N>,

@@ -7,6 +7,7 @@ ghost use Rattle.jb_load.specs.Settled.{MayStop};
 ghost use Rattle.jb_load.specs.Running.{AreWorked, HasRun};
 ghost use Rattle.jb_queue.specs.QueueLines.{handles_of};
 
+use crate::bounds::{Runtime, SharedClock, SharedDisk, SharedLedger, SharedOrigin};
 use crate::committing::{commit_all, commit_from};
 use crate::fault::LoadFault;
 use crate::options::LoadOptions;
@@ -18,7 +19,6 @@ use jb_queue::QueueLines;
 use std::alloc::Global;
 use std::sync::Wait;
 use std::sync::ledger::Ledger;
-use std::thread::Threads;
 use std::{thread, time};
 
 /// What the threads of a load leave.
@@ -34,13 +34,7 @@ pub(crate) struct Ran<H: Origin, N: Ledger> {
 
 /// Runs the handles of a queue and commits them, and brings committed groups home where that is asked for; says how
 /// that ended, too.
-pub(crate) fn run<
-    D: Disk + Drop + Send,
-    C: Clock + Drop + Send,
-    R: Threads + Wait + time::Clock + Sync,
-    H: Origin + Send + Sync,
-    N: Ledger + Send + Sync,
->(
+pub(crate) fn run<D: SharedDisk, C: SharedClock, R: Runtime, H: SharedOrigin, N: SharedLedger>(
     rt: &R,
     alloc: Global,
     desk: &Desk<D, C, H, N>,
@@ -68,13 +62,7 @@ pub(crate) fn run<
 }
 
 /// Runs the handles of a queue and commits them, at the same time or one after the other. The desk is shut then.
-fn run_threads<
-    D: Disk + Drop + Send,
-    C: Clock + Drop + Send,
-    R: Threads + Wait + time::Clock + Sync,
-    H: Origin + Send + Sync,
-    N: Ledger + Send + Sync,
->(
+fn run_threads<D: SharedDisk, C: SharedClock, R: Runtime, H: SharedOrigin, N: SharedLedger>(
     rt: &R,
     alloc: Global,
     desk: &Desk<D, C, H, N>,
@@ -122,13 +110,7 @@ fn run_threads<
 }
 
 /// Runs the workers and then shuts the desk.
-fn run_workers<
-    D: Disk + Drop + Send,
-    C: Clock + Drop + Send,
-    R: Threads + Wait + time::Clock + Sync,
-    H: Origin + Send + Sync,
-    N: Ledger + Send + Sync,
->(
+fn run_workers<D: SharedDisk, C: SharedClock, R: Runtime, H: SharedOrigin, N: SharedLedger>(
     rt: &R,
     alloc: Global,
     desk: &Desk<D, C, H, N>,
