@@ -76,15 +76,7 @@ pub fn load_on<
     };
     let changes = Blank::new(PARTS);
     load_open::<D, C, R, Brand, Brand>(
-        rt,
-        alloc,
-        handles,
-        changes,
-        deck,
-        clock,
-        shape,
-        queue,
-        options,
+        rt, alloc, handles, changes, deck, clock, shape, queue, options,
     )
 }
 
