@@ -86,7 +86,8 @@ fn load_queue<'a, R: AllocGlobal + Threads + Wait + Clock + Sync, O: Write, E: W
     err: &mut E,
 ) -> Result<Ended, CommandFault<'a>>
     requires threads { (1 ≤ options.threads) × (options.threads ≤ 64) }
-    ensures loads { LoadsOn options homes disk (queue_in queue.now) (record { out = O.contents out.old; err = E.contents err.old })
+    ensures loads { LoadsOn options homes disk (queue_in queue.now)
+        (record { out = O.contents out.old; err = E.contents err.old })
         (record { out = O.contents out.new; err = E.contents err.new }) result }
 {
     let clock = FixedClock {

@@ -1,4 +1,4 @@
-use Rattle.std.proofs.Common.{◌≡◌, [], ◌∷◌, ◌++◌, length, refl, sym, arith}
+use Rattle.std.proofs.Common.{[], ◌∷◌, ◌++◌, refl, arith}
 use Rattle.std.proofs.lemmas.List.{length_push}
 use Rattle.jb_block.specs.Size.{bytes_of}
 use Rattle.jb_text.specs.Parts.{lines}
