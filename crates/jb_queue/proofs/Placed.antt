@@ -147,3 +147,8 @@ counted-number (Err fault) count is = absurd is
 pub same-words : (read : Result WordMap Cause) (one other : WordMap) → read ≡ Ok one → read ≡ Ok other → one ≡ other
 same-words read one other is also =
     let both : ◌≡◌ {A = Result WordMap Cause} (Ok one) (Ok other) = sym is ∙ also in cc
+
+-- what was answered
+pub ok-value : {A : Type 0} (read : Result A Cause) → IsOk read → (x : A) × (read ≡ Ok x)
+ok-value (Ok x) is = (x, refl)
+ok-value (Err cause) is = cc

@@ -153,6 +153,11 @@ Gives (Ok x) read = read ≡ Ok x
 Gives (Err Memory) read = Unit {0}
 Gives (Err cause) read = read ≡ Err cause
 
+-- what a reader gives that keeps nothing: the definition has an answer, or this fault, unless memory ran out
+abbrev pub Judges : {A : Type 0} → Result Unit Cause → Result A Cause → Type 0
+Judges (Ok done) read = IsOk read
+Judges {A} (Err cause) read = Gives {A = A} (Err cause) read
+
 -- the first of some words, if there is one, is of the form
 abbrev pub FirstReads : ℕ → List (List ℕ) → Type 0
 FirstReads size [] = Unit {0}

@@ -1,16 +1,19 @@
 //! The handles of a queue text, which are read from it when they are asked for.
 
-ghost use Rattle.std.specs.Prelude.{◌≡◌, ◌*◌, ◌+◌, ◌≤◌, [], drop, length, IsOk, IfOk, IfErr, Ok};
+ghost use Rattle.std.specs.Prelude.{◌≡◌, ◌*◌, ◌+◌, ◌≤◌, [], drop, length, IsOk, IfOk, IfErr, Ok, Err};
 ghost use Rattle.jb_block.specs.Size.{bytes_of};
 ghost use Rattle.jb_queue.specs.declared.fault.Cause.TheVariants.{Memory as OutOfMemory};
-ghost use Rattle.jb_text.specs.Parts.{lines};
-ghost use Rattle.jb_queue.specs.Queue.{Reports, IsCount, MayGrow, after_lines, handles_in};
+ghost use Rattle.std.specs.FinMap as map;
+ghost use Rattle.jb_text.specs.Parts.{lines, words};
+ghost use Rattle.jb_queue.specs.Queue.{BeginsHandle, FirstReads, Judges, Reports, IsCount, MayGrow};
+ghost use Rattle.jb_queue.specs.Queue.{after_lines, after_ops, handle_of, handles_in};
 
 use crate::fault::{Cause, QueueFault};
+use crate::op_text::read_op;
 use crate::queue_text::read_handle;
 use jb_block::{BlockSize, Memory, Width};
 use jb_handle::Words;
-use jb_text::next_line;
+use jb_text::{next_line, next_word};
 use std::alloc::Global;
 
 /// A queue text that is of the form. It keeps the text and none of the handles: these are read from it when they are
@@ -114,8 +117,7 @@ fn pass_lines(text: &[u8], passed: usize) -> &[u8]
     rest
 }
 
-/// How many handles the lines of a text are, which are those from the third of a queue text on. Each is read, and
-/// nothing of it is kept.
+/// How many handles the lines of a text are, which are those from the third of a queue text on.
 pub(crate) fn count_handles(alloc: Global, text: &[u8], bs: BlockSize) -> Result<usize, QueueFault>
     ensures ok { IfOk result (IsCount (after_lines (bytes_of bs) [] (lines text.now))) }
     ensures err { IfErr result (Reports (after_lines (bytes_of bs) [] (lines text.now))) }
@@ -125,8 +127,8 @@ pub(crate) fn count_handles(alloc: Global, text: &[u8], bs: BlockSize) -> Result
     let mut count = 0;
     let mut rest = text;
     while let Some((line, behind)) = next_line(rest) {
-        match read_handle(alloc, line, bs) {
-            Ok(_words) => count += 1,
+        match check_handle(alloc, line, bs) {
+            Ok(()) => count += 1,
             Err(cause) => return Err(QueueFault {
                 line: count as u64 + 3,
                 cause,
@@ -135,4 +137,30 @@ pub(crate) fn count_handles(alloc: Global, text: &[u8], bs: BlockSize) -> Result
         rest = behind;
     }
     Ok(count)
+}
+
+/// Judges the line of a handle as it is read, and keeps nothing of it.
+fn check_handle(alloc: Global, line: &[u8], bs: BlockSize) -> Result<(), Cause>
+    ensures judges { Judges result (handle_of (bytes_of bs) line.now) }
+    ensures begins { result ≡ Err OutOfMemory → BeginsHandle (bytes_of bs) line.now }
+{
+    match line {
+        [b'h'] => Ok(()),
+        [b'h', b' ', text @ ..] => check_ops(alloc, text, bs),
+        _ => Err(Cause::HandleLine),
+    }
+}
+
+/// Judges the words of a handle, from after the first space of its line on. The bytes of one word at a time take memory.
+fn check_ops(alloc: Global, text: &[u8], bs: BlockSize) -> Result<(), Cause>
+    ensures judges { Judges result (after_ops (bytes_of bs) map.empty (words text.now)) }
+    ensures first { result ≡ Err OutOfMemory → FirstReads (bytes_of bs) (words text.now) }
+{
+    let mut rest = Some(text);
+    while let Some(text) = rest {
+        let (word, behind) = next_word(text);
+        let _op = read_op(alloc, word, bs)?;
+        rest = behind;
+    }
+    Ok(())
 }
