@@ -154,9 +154,9 @@ Gives (Err Memory) read = Unit {0}
 Gives (Err cause) read = read ≡ Err cause
 
 -- what a reader gives that keeps nothing: the definition has an answer, or this fault, unless memory ran out
-abbrev pub Judges : {A : Type 0} → Result Unit Cause → Result A Cause → Type 0
-Judges (Ok done) read = IsOk read
-Judges {A} (Err cause) read = Gives {A = A} (Err cause) read
+abbrev pub JudgesText : {A : Type 0} → Result Unit Cause → Result A Cause → Type 0
+JudgesText (Ok done) read = IsOk read
+JudgesText {A} (Err cause) read = Gives {A = A} (Err cause) read
 
 -- the first of some words, if there is one, is of the form
 abbrev pub FirstReads : ℕ → List (List ℕ) → Type 0

@@ -5,7 +5,7 @@ ghost use Rattle.jb_block.specs.Size.{bytes_of};
 ghost use Rattle.jb_queue.specs.declared.fault.Cause.TheVariants.{Memory as OutOfMemory};
 ghost use Rattle.std.specs.FinMap as map;
 ghost use Rattle.jb_text.specs.Parts.{lines, words};
-ghost use Rattle.jb_queue.specs.Queue.{BeginsHandle, FirstReads, Judges, Reports, IsCount, MayGrow};
+ghost use Rattle.jb_queue.specs.Queue.{BeginsHandle, FirstReads, JudgesText, Reports, IsCount, MayGrow};
 ghost use Rattle.jb_queue.specs.Queue.{after_lines, after_ops, handle_of, handles_in};
 
 use crate::fault::{Cause, QueueFault};
@@ -139,9 +139,9 @@ pub(crate) fn count_handles(alloc: Global, text: &[u8], bs: BlockSize) -> Result
     Ok(count)
 }
 
-/// Judges the line of a handle as it is read, and keeps nothing of it.
+/// JudgesText the line of a handle as it is read, and keeps nothing of it.
 fn check_handle(alloc: Global, line: &[u8], bs: BlockSize) -> Result<(), Cause>
-    ensures judges { Judges result (handle_of (bytes_of bs) line.now) }
+    ensures judges { JudgesText result (handle_of (bytes_of bs) line.now) }
     ensures begins { result ≡ Err OutOfMemory → BeginsHandle (bytes_of bs) line.now }
 {
     match line {
@@ -151,9 +151,9 @@ fn check_handle(alloc: Global, line: &[u8], bs: BlockSize) -> Result<(), Cause>
     }
 }
 
-/// Judges the words of a handle, from after the first space of its line on. The bytes of one word at a time take memory.
+/// JudgesText the words of a handle, from after the first space of its line on. The bytes of one word at a time take memory.
 fn check_ops(alloc: Global, text: &[u8], bs: BlockSize) -> Result<(), Cause>
-    ensures judges { Judges result (after_ops (bytes_of bs) map.empty (words text.now)) }
+    ensures judges { JudgesText result (after_ops (bytes_of bs) map.empty (words text.now)) }
     ensures first { result ≡ Err OutOfMemory → FirstReads (bytes_of bs) (words text.now) }
 {
     let mut rest = Some(text);
