@@ -71,7 +71,7 @@ pub fn read_queue(alloc: Global, text: &[u8]) -> Result<QueueText, QueueFault>
 }
 
 /// Reads the text of a queue without keeping its handles, which are then read from it one by one
-/// ([`QueueLines::reader`]). The words of one handle at a time take memory.
+/// ([`QueueLines::reader`]). The bytes of one word at a time take memory.
 ///
 /// # Errors
 ///
