@@ -56,8 +56,12 @@ fn handles_read(alloc: Global, text: Vec<u8>) -> Result<usize, QueueFault> {
 fn read_each(alloc: Global, queue: &QueueLines) -> Result<usize, QueueFault> {
     let mut reader = queue.reader();
     let mut words = 0usize;
-    while let Some(handle) = reader.read(alloc, 0).map_err(|_| OUT)? {
-        words = words.saturating_add(handle.len());
+    for _handle in 0..queue.len() {
+        match reader.read(alloc, 0) {
+            Ok(Some(handle)) => words = words.saturating_add(handle.len()),
+            Ok(None) => return Ok(words),
+            Err(_) => return Err(OUT),
+        }
     }
     Ok(words)
 }
