@@ -1,10 +1,11 @@
 #!/usr/bin/env python3
-"""load_speed.py JB [RUNS]: what a load takes beside its own reads, writes and syncs, and beside reading its text.
+"""load_speed.py JB [JB..]: what a load takes beside its own reads, writes and syncs, and beside reading its text.
 
-Each load is run RUNS times (three) on a new image in memory (/dev/shm). strace then notes the calls of one more run, and replay.c makes
-the same calls over again and nothing else; `jb cost` of the text is what reading it takes. A line for each load, with the least of the
-runs: seconds by the clock and processor seconds of the load, of its calls and of its text, the ratio of the first to the other two
-together, by the clock and by processor seconds, and the peak memory beside the text's size. Needs strace and a C compiler. On a machine with other work only the processor seconds tell something."""
+Each load is run by each program RUNS times (five) on a new image in memory (/dev/shm). strace then notes the calls of one more run, and
+replay.c makes the same calls over again and nothing else; `jb cost` of the text is what reading it takes. A line for each load and
+program, with the least of the runs: seconds by the clock and processor seconds of the load, of its calls and of its text, the ratio of
+the first to the other two together, by the clock and by processor seconds, and the peak memory beside the text's size. Needs strace, a
+C compiler and GNU time. On a machine with other work only the processor seconds tell something."""
 import os
 import random
 import re
@@ -13,8 +14,7 @@ import sys
 import tempfile
 import time
 
-JB = os.path.realpath(sys.argv[1])
-RUNS = int(sys.argv[2]) if len(sys.argv) > 2 else 3
+RUNS = 5
 HERE = os.path.dirname(os.path.realpath(__file__))
 CALL = re.compile(r"^(?:\d+ +)?(pread64|pwrite64|fdatasync|fsync)\((\d+)(?:, .*, (\d+), (\d+))?(?:\)| <unfinished)")
 
@@ -41,29 +41,42 @@ LOADS = {
 }
 
 
-def new_image(bs, journal, homes):
+def new_image(jb, bs, journal, homes):
     if os.path.exists("image"):
         os.remove("image")
-    subprocess.run([JB, "format", "image", "--bs", str(bs), "--journal", str(journal), "--homes", str(homes)], check=True, stdout=subprocess.DEVNULL)
+    subprocess.run([jb, "format", "image", "--bs", str(bs), "--journal", str(journal), "--homes", str(homes)], check=True, stdout=subprocess.DEVNULL)
 
 
 def taken(command, most=0):
-    """Seconds by the clock, processor seconds and peak memory in MiB of a command, whose status is at most so much."""
+    """Seconds by the clock and of the processor of a command, whose status is at most so much."""
     start = time.monotonic()
-    child = subprocess.Popen(command, stdout=subprocess.DEVNULL)
+    child = subprocess.Popen(command, stdout=subprocess.DEVNULL, stderr=subprocess.DEVNULL)
     _, status, use = os.wait4(child.pid, 0)
     child.returncode = os.waitstatus_to_exitcode(status)
     if not 0 <= child.returncode <= most:
         sys.exit("%s: status %d" % (" ".join(command), child.returncode))
-    return time.monotonic() - start, use.ru_utime + use.ru_stime, use.ru_maxrss / 1024
+    return time.monotonic() - start, use.ru_utime + use.ru_stime
 
 
-def least(command, before=lambda: None, most=0):
+def peak_of(command):
+    """The peak memory of a command in MiB: a child of Python itself has at least Python's."""
+    subprocess.run(["time", "-q", "-f", "%M", "-o", "peak", *command], check=True, stdout=subprocess.DEVNULL)
+    with open("peak") as peak:
+        return int(peak.read()) / 1024
+
+
+def replayed(calls):
+    """Seconds by the clock and of the processor that the calls of a file take on the image `image`."""
+    return tuple(map(float, subprocess.run(["./replay", "image", calls, "1"], check=True, capture_output=True, text=True).stdout.split()))
+
+
+def least_of(run, before=lambda: None):
+    """The least of each time of several runs, with something done before each of them."""
     runs = []
     for _ in range(RUNS):
         before()
-        runs.append(taken(command, most))
-    return min(r[0] for r in runs), min(r[1] for r in runs), max(r[2] for r in runs)
+        runs.append(run())
+    return tuple(map(min, zip(*runs)))
 
 
 def calls_of(command, trace):
@@ -81,34 +94,41 @@ def calls_of(command, trace):
     return count
 
 
-def one(name, bs, journal, homes, limit, threads, lines):
+def write_queue(bs, limit, lines):
     with open("queue", "w") as file:
         file.write("bs %d\nlimit %d\n" % (bs, limit))
         for line in lines():
             file.write(line + "\n")
+
+
+def one(name, jb, bs, journal, homes, threads):
     size = os.path.getsize("queue") / 2**20
-    load = [JB, "load", "image", "queue", "--threads", str(threads)]
-    clock, cpu, peak = least(load, lambda: new_image(bs, journal, homes))
-    text = least([JB, "cost", "queue"], most=1)  # 1: all handles are over the limit as one group
-    new_image(bs, journal, homes)
+    load = [jb, "load", "image", "queue", "--threads", str(threads)]
+    clock, cpu = least_of(lambda: taken(load), lambda: new_image(jb, bs, journal, homes))
+    text = least_of(lambda: taken([jb, "cost", "queue"], 1))  # 1: all handles are over the limit as one group
+    new_image(jb, bs, journal, homes)
+    peak = peak_of(load)
+    new_image(jb, bs, journal, homes)
     count = calls_of(load, "trace")
-    new_image(bs, journal, homes)
-    replay = subprocess.run(["./replay", "image", "calls", str(RUNS)], check=True, capture_output=True, text=True).stdout.split()
-    calls = float(replay[0]), float(replay[1])
+    calls = least_of(lambda: replayed("calls"), lambda: new_image(jb, bs, journal, homes))
     ratios = [whole / (alone + read) for whole, alone, read in zip((clock, cpu), calls, text)]
-    print("| %s | %.2f | %.2f | %d | %.3f | %.3f | %.3f | %.3f | %.1f | %.1f | %.0f of %.1f MiB |" % (name, clock, cpu, count, *calls, *text[:2], *ratios, peak, size), flush=True)
+    print("| %s | %.2f | %.2f | %d | %.3f | %.3f | %.3f | %.3f | %.1f | %.1f | %.1f of %.1f MiB |" % (name, clock, cpu, count, *calls, *text, *ratios, peak, size), flush=True)
 
 
 def main():
+    jbs = [os.path.realpath(it) for it in sys.argv[1:]]
     print("load average %s" % open("/proc/loadavg").read().split()[0])
     print("| Load | jb, s | processor | calls | calls alone, s | processor | text alone, s | processor | ratio | of processor s | peak |")
     print("|---|---|---|---|---|---|---|---|---|---|---|")
     with tempfile.TemporaryDirectory(dir="/dev/shm" if os.path.isdir("/dev/shm") else None) as folder:
         os.chdir(folder)
         subprocess.run(["cc", "-O2", "-o", "replay", os.path.join(HERE, "replay.c")], check=True)
-        for name, load in LOADS.items():
-            one(name, *load)
+        for name, (bs, journal, homes, limit, threads, lines) in LOADS.items():
+            write_queue(bs, limit, lines)
+            for jb in jbs:
+                one("%s, %s" % (name, os.path.basename(jb)) if len(jbs) > 1 else name, jb, bs, journal, homes, threads)
         os.chdir("/")
 
 
-main()
+if __name__ == "__main__":
+    main()

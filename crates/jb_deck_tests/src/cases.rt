@@ -56,37 +56,65 @@ fn played(alloc: Global, case: &Case) -> Result<Result<MemoryDisk, Wrong>, Fail>
     }
 }
 
-/// The first thing of a case that is wrong.
-fn first_wrong_of(alloc: Global, case: &Case) -> Result<Option<Wrong>, Fail> {
-    let mut disk = match played(alloc, case)? {
-        Ok(disk) => disk,
-        Err(wrong) => return Ok(Some(wrong)),
-    };
+/// The disk that a case's calls are to leave.
+fn laid(alloc: Global, case: &Case) -> Result<MemoryDisk, Fail> {
     let mut wanted = small(alloc, case.blocks, case.image, &[])?;
     for group in case.groups {
         lay_group(alloc, &mut wanted, group)?;
     }
     put_rows(alloc, &mut wanted, case.rows)?;
-    if let Some(place) = difference(alloc, &mut disk, &mut wanted, 0)? {
-        return Ok(Some(Wrong::Block(place)));
-    }
-    // every call that changes the disk ends with a sync
-    let mut disk = disk.crash(&[])?;
-    if let Some(place) = difference(alloc, &mut disk, &mut wanted, 0)? {
-        return Ok(Some(Wrong::Left(place)));
-    }
+    Ok(wanted)
+}
+
+/// What recovery reports of a case.
+fn report(case: &Case) -> Recovered {
     let (transactions, copies, revoked, next) = case.recovered;
-    let recovered = Recovered {
+    Recovered {
         transactions,
         copies,
         revoked,
         next,
-    };
-    if recover(alloc, &mut disk) != Ok(recovered) {
+    }
+}
+
+/// The first thing that is wrong once what a crash left of a case is recovered.
+fn first_wrong_home(
+    alloc: Global,
+    case: &Case,
+    mut disk: MemoryDisk,
+    mut wanted: MemoryDisk,
+) -> Result<Option<Wrong>, Fail> {
+    if recover(alloc, &mut disk) != Ok(report(case)) {
         return Ok(Some(Wrong::Recovered));
     }
     put_rows(alloc, &mut wanted, case.after)?;
     Ok(difference(alloc, &mut disk, &mut wanted, 0)?.map(Wrong::Home))
+}
+
+/// The first thing that is wrong on the disk that the calls of a case left.
+fn first_wrong_block(
+    alloc: Global,
+    case: &Case,
+    mut disk: MemoryDisk,
+) -> Result<Option<Wrong>, Fail> {
+    let mut wanted = laid(alloc, case)?;
+    if let Some(place) = difference(alloc, &mut disk, &mut wanted, 0)? {
+        return Ok(Some(Wrong::Block(place)));
+    }
+    // every call that changes the disk ends with a sync
+    let mut left = disk.crash(&[])?;
+    if let Some(place) = difference(alloc, &mut left, &mut wanted, 0)? {
+        return Ok(Some(Wrong::Left(place)));
+    }
+    first_wrong_home(alloc, case, left, wanted)
+}
+
+/// The first thing of a case that is wrong.
+fn first_wrong_of(alloc: Global, case: &Case) -> Result<Option<Wrong>, Fail> {
+    match played(alloc, case)? {
+        Ok(disk) => first_wrong_block(alloc, case, disk),
+        Err(wrong) => Ok(Some(wrong)),
+    }
 }
 
 /// The first case in which something is wrong, and what.

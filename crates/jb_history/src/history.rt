@@ -84,7 +84,7 @@ impl<E, L: Place> History<E, L> {
         }
     }
 
-    /// AddsEntry an entry, which is made for this token.
+    /// Adds an entry, which is made for this token.
     pub fn add(&self, scribe: &mut Scribe<E, L>, made: &mut Made<E, L>, entry: &E)
         ensures whole { scribe.new ≡ with_last scribe.old entry.now }
         ensures made { made.new ≡ made.old ++ (length scribe.old, entry.now) ∷ [] }

@@ -139,7 +139,7 @@ pub(crate) fn count_handles(alloc: Global, text: &[u8], bs: BlockSize) -> Result
     Ok(count)
 }
 
-/// JudgesText the line of a handle as it is read, and keeps nothing of it.
+/// Judges the line of a handle as it is read, and keeps nothing of it.
 fn check_handle(alloc: Global, line: &[u8], bs: BlockSize) -> Result<(), Cause>
     ensures judges { JudgesText result (handle_of (bytes_of bs) line.now) }
     ensures begins { result ≡ Err OutOfMemory → BeginsHandle (bytes_of bs) line.now }
@@ -151,7 +151,8 @@ fn check_handle(alloc: Global, line: &[u8], bs: BlockSize) -> Result<(), Cause>
     }
 }
 
-/// JudgesText the words of a handle, from after the first space of its line on. The bytes of one word at a time take memory.
+/// Judges the words of a handle, from after the first space of its line on. The bytes of one word at a time take
+/// memory.
 fn check_ops(alloc: Global, text: &[u8], bs: BlockSize) -> Result<(), Cause>
     ensures judges { JudgesText result (after_ops (bytes_of bs) map.empty (words text.now)) }
     ensures first { result ≡ Err OutOfMemory → FirstReads (bytes_of bs) (words text.now) }
