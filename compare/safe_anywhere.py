@@ -131,7 +131,7 @@ def device():
     new, loaded = made()
     for commands, content in [
         ([["dump"], ["cat", "1"], ["recover"], ["renumber"], ["widen"], ["dump"]], loaded),
-        ([["load", "queue"], ["recover"], ["dump"]], new),
+        ([["load", "queue", "--hold", "--threads", "1"], ["recover"], ["dump"]], new),  # one group, whatever the timing
     ]:
         fresh({"file": content, "backing": content, "queue": QUEUE})
         made_device = subprocess.run(["losetup", "--find", "--show", "backing"], stdout=subprocess.PIPE, stderr=subprocess.PIPE)
