@@ -2,9 +2,8 @@
 //! recovery makes of these.
 
 use crate::groups::{Laid, lay_group};
-use crate::images::{Row, difference, put_rows, small};
-use crate::scripts::{Step, first_wrong};
-use jb_deck::Deck;
+use crate::images::{Row, crashed, difference, put_rows, small};
+use crate::scripts::{Step, first_wrong, opened};
 use jb_disk::MemoryDisk;
 use jb_recover::{Recovered, recover};
 use std::alloc::Global;
@@ -47,7 +46,7 @@ fn played(alloc: Global, case: &Case) -> Result<Result<MemoryDisk, Wrong>, Fail>
     if recover(alloc, &mut disk).is_err() {
         return Ok(Err(Wrong::Opening));
     }
-    let Ok(mut deck) = Deck::open(alloc, disk) else {
+    let Some(mut deck) = opened(alloc, disk) else {
         return Ok(Err(Wrong::Opening));
     };
     match first_wrong(alloc, &mut deck, case.steps)? {
@@ -56,19 +55,17 @@ fn played(alloc: Global, case: &Case) -> Result<Result<MemoryDisk, Wrong>, Fail>
     }
 }
 
-/// The disk that a case's calls are to leave.
-fn laid(alloc: Global, case: &Case) -> Result<MemoryDisk, Fail> {
-    let mut wanted = small(alloc, case.blocks, case.image, &[])?;
+/// Lays what a case's calls are to leave over its image.
+fn lay(case: &Case, disk: &mut MemoryDisk) -> Result<(), Fail> {
     for group in case.groups {
-        lay_group(alloc, &mut wanted, group)?;
+        lay_group(disk, group)?;
     }
-    put_rows(alloc, &mut wanted, case.rows)?;
-    Ok(wanted)
+    put_rows(disk, case.rows)
 }
 
-/// What recovery reports of a case.
-fn report(case: &Case) -> Recovered {
-    let (transactions, copies, revoked, next) = case.recovered;
+/// What recovery reports: transactions, copies, revoked copies and the next number.
+pub fn report(told: (u32, u32, u32, u64)) -> Recovered {
+    let (transactions, copies, revoked, next) = told;
     Recovered {
         transactions,
         copies,
@@ -81,38 +78,49 @@ fn report(case: &Case) -> Recovered {
 fn first_wrong_home(
     alloc: Global,
     case: &Case,
-    mut disk: MemoryDisk,
-    mut wanted: MemoryDisk,
+    disk: &mut MemoryDisk,
+    wanted: &mut MemoryDisk,
 ) -> Result<Option<Wrong>, Fail> {
-    if recover(alloc, &mut disk) != Ok(report(case)) {
+    if recover(alloc, disk) != Ok(report(case.recovered)) {
         return Ok(Some(Wrong::Recovered));
     }
-    put_rows(alloc, &mut wanted, case.after)?;
-    Ok(difference(alloc, &mut disk, &mut wanted, 0)?.map(Wrong::Home))
+    put_rows(wanted, case.after)?;
+    Ok(difference(disk, wanted, 0)?.map(Wrong::Home))
+}
+
+/// The first thing that is wrong in what a crash leaves of a case: all that stands on the disk, since every call that
+/// changes it ends with a sync.
+fn first_wrong_left(
+    alloc: Global,
+    case: &Case,
+    disk: &MemoryDisk,
+    wanted: &mut MemoryDisk,
+) -> Result<Option<Wrong>, Fail> {
+    let mut left = crashed(disk, &[])?;
+    match difference(&mut left, wanted, 0)? {
+        Some(place) => Ok(Some(Wrong::Left(place))),
+        None => first_wrong_home(alloc, case, &mut left, wanted),
+    }
 }
 
 /// The first thing that is wrong on the disk that the calls of a case left.
 fn first_wrong_block(
     alloc: Global,
     case: &Case,
-    mut disk: MemoryDisk,
+    disk: &mut MemoryDisk,
 ) -> Result<Option<Wrong>, Fail> {
-    let mut wanted = laid(alloc, case)?;
-    if let Some(place) = difference(alloc, &mut disk, &mut wanted, 0)? {
-        return Ok(Some(Wrong::Block(place)));
+    let mut wanted = small(alloc, case.blocks, case.image, &[])?;
+    lay(case, &mut wanted)?;
+    match difference(disk, &mut wanted, 0)? {
+        Some(place) => Ok(Some(Wrong::Block(place))),
+        None => first_wrong_left(alloc, case, disk, &mut wanted),
     }
-    // every call that changes the disk ends with a sync
-    let mut left = disk.crash(&[])?;
-    if let Some(place) = difference(alloc, &mut left, &mut wanted, 0)? {
-        return Ok(Some(Wrong::Left(place)));
-    }
-    first_wrong_home(alloc, case, left, wanted)
 }
 
 /// The first thing of a case that is wrong.
 fn first_wrong_of(alloc: Global, case: &Case) -> Result<Option<Wrong>, Fail> {
     match played(alloc, case)? {
-        Ok(disk) => first_wrong_block(alloc, case, disk),
+        Ok(mut disk) => first_wrong_block(alloc, case, &mut disk),
         Err(wrong) => Ok(Some(wrong)),
     }
 }

@@ -1,9 +1,9 @@
 //! Journals that are changed in their place, opened, and called; some of them were used before.
 
-use crate::groups::STAMP;
-use crate::images::{BLOCKS, MAGIC, Row, difference, read_at, small};
+use crate::cases::report;
+use crate::images::{BLOCKS, MAGIC, Row, difference, fail, read_at, small};
 use crate::rounds::SIX;
-use crate::scripts::{handles_of, prepared, refused};
+use crate::scripts::{handles_of, opened, settle};
 use jb_block::{Width, get32};
 use jb_deck::{Checked, Deck, OpenFault};
 use jb_disk::MemoryDisk;
@@ -12,9 +12,15 @@ use jb_recover::{Recovered, recover};
 use std::alloc::Global;
 use std::test::Fail;
 
+/// The next number of a journal, and how wide its block numbers are.
+type Told = (u64, Width);
+
+/// The number of a transaction, how wide its tags are, and what recovery reports.
+type Committed = (Told, Recovered);
+
 /// A name, whether the journal is widened before it is opened, or renumbered; the rows of the small image that differ
 /// before, and the next number and the width after.
-const CHANGED: [(&str, bool, &[Row], (u64, Width)); 5] = [
+const CHANGED: [(&str, bool, &[Row], Told); 5] = [
     (
         "no number left, renumbered",
         false,
@@ -41,75 +47,83 @@ const CHANGED: [(&str, bool, &[Row], (u64, Width)); 5] = [
     ),
 ];
 
+/// Widens or renumbers a journal in its place.
+fn change(disk: &mut MemoryDisk, widens: bool) -> Result<(), Fail> {
+    let is_changed = if widens {
+        widen(disk).is_ok()
+    } else {
+        renumber(disk).is_ok()
+    };
+    if is_changed {
+        Ok(())
+    } else {
+        fail("it is not changed")
+    }
+}
+
 /// The small image with these rows, its journal changed in its place.
 fn changed(alloc: Global, widens: bool, rows: &[Row]) -> Result<MemoryDisk, Fail> {
     let mut disk = small(alloc, BLOCKS, rows, &[])?;
-    if widens {
-        widen(&mut disk)?;
-    } else {
-        renumber(&mut disk)?;
-    }
+    change(&mut disk, widens)?;
     Ok(disk)
 }
 
-/// Opens a journal, commits six copies as one group and recovers: its number, how wide its tags are by the place
-/// of the second one, and what recovery reports.
-fn committed(alloc: Global, disk: MemoryDisk) -> Result<Option<(u64, Width, Recovered)>, Fail> {
-    let Ok(mut deck) = Deck::open(alloc, disk) else {
+/// How wide the tags of a log's first descriptor are, by the place of the second one.
+fn tag_width(disk: &mut MemoryDisk) -> Result<Width, Fail> {
+    let mut block = [0; 1024];
+    read_at(disk, 1, &mut block)?;
+    if get32(&block, 40) == 1 {
+        Ok(Width::Wide)
+    } else {
+        Ok(Width::Narrow)
+    }
+}
+
+/// Opens a journal, commits six copies as one group and recovers: its number, how wide its tags are, and what recovery
+/// reports.
+fn committed(alloc: Global, disk: MemoryDisk) -> Result<Option<Committed>, Fail> {
+    let Some(mut deck) = opened(alloc, disk) else {
         return Ok(None);
     };
-    let Some(batch) = prepared(alloc, 0, handles_of(alloc, SIX, 0)?, deck.shape())? else {
+    if settle(alloc, &mut deck, handles_of(alloc, SIX, 0)?)?.is_none() {
         return Ok(None);
-    };
-    match deck.commit_batch(batch, STAMP) {
-        Ok(_) => {}
-        Err(fault) => {
-            let _told = refused(fault);
-            return Ok(None);
-        }
     }
     let number = deck.next_number().saturating_sub(1);
     let mut disk = deck.close();
-    let mut block = [0u8; 1024];
-    read_at(&mut disk, 1, &mut block)?;
-    let width = if get32(&block, 40) == 1 {
-        Width::Wide
-    } else {
-        Width::Narrow
+    let width = tag_width(&mut disk)?;
+    match recover(alloc, &mut disk) {
+        Ok(recovered) => Ok(Some(((number, width), recovered))),
+        Err(_) => Ok(None),
+    }
+}
+
+/// What a commit of six copies comes to in a journal of this next number and width.
+fn six(told: Told) -> Committed {
+    (told, report((1, 6, 0, told.0.saturating_add(2))))
+}
+
+/// What a journal that is changed in its place says of itself, the first block that opening it changes, and what it
+/// commits.
+fn used_after(
+    alloc: Global,
+    widens: bool,
+    rows: &[Row],
+) -> Result<Option<(Told, Option<u64>, Option<Committed>)>, Fail> {
+    let mut wanted = changed(alloc, widens, rows)?;
+    let Some(deck) = opened(alloc, changed(alloc, widens, rows)?) else {
+        return Ok(None);
     };
-    let recovered = recover(alloc, &mut disk)?;
-    Ok(Some((number, width, recovered)))
+    let told = (deck.next_number(), deck.shape().width);
+    let mut disk = deck.close();
+    let differs = difference(&mut disk, &mut wanted, 0)?;
+    Ok(Some((told, differs, committed(alloc, disk)?)))
 }
 
 #[test]
 fn journals_that_were_changed_in_their_place_are_opened(rt: HostRuntime) -> Result<(), Fail> {
-    let alloc = rt.alloc();
-    for (name, widens, rows, told) in CHANGED {
-        let mut wanted = changed(alloc, widens, rows)?;
-        let Ok(deck) = Deck::open(alloc, changed(alloc, widens, rows)?) else {
-            assert!(rt; false, "{name} is not opened");
-            return Ok(());
-        };
-        let is = (deck.next_number(), deck.shape().width);
-        assert!(rt; is == told, "{name}");
-        let mut disk = deck.close();
-        assert_eq!(rt;
-            difference(alloc, &mut disk, &mut wanted, 0)?,
-            None,
-            "{name}"
-        );
-        let (next, width) = told;
-        let recovered = Recovered {
-            transactions: 1,
-            copies: 6,
-            revoked: 0,
-            next: next.saturating_add(2),
-        };
-        assert_eq!(rt;
-            committed(alloc, disk)?,
-            Some((next, width, recovered)),
-            "{name}"
-        );
+    for (name, widens, rows, told) in &CHANGED {
+        let seen = used_after(rt.alloc(), *widens, rows)?;
+        assert_eq!(rt; seen, Some((*told, None, Some(six(*told)))), "{name}");
     }
     Ok(())
 }
@@ -117,7 +131,7 @@ fn journals_that_were_changed_in_their_place_are_opened(rt: HostRuntime) -> Resu
 /// A name, the rows of the small image that differ, the handle that is committed, whether its transaction is then
 /// recovered and the journal widened, or is checkpointed and the journal renumbered; and the next number and the width
 /// after.
-const USED: [(&str, &[Row], &str, bool, (u64, Width)); 2] = [
+const USED: [(&str, &[Row], &str, bool, Told); 2] = [
     (
         "the last number",
         &[(0, 0x10, [33, 1, 4294967294, 0])],
@@ -141,18 +155,11 @@ fn used(
     lines: &str,
     checkpoints: bool,
 ) -> Result<Option<MemoryDisk>, Fail> {
-    let Ok(mut deck) = Deck::open(alloc, small(alloc, BLOCKS, rows, &[])?) else {
+    let Some(mut deck) = opened(alloc, small(alloc, BLOCKS, rows, &[])?) else {
         return Ok(None);
     };
-    let Some(batch) = prepared(alloc, 0, handles_of(alloc, lines, 0)?, deck.shape())? else {
+    if settle(alloc, &mut deck, handles_of(alloc, lines, 0)?)?.is_none() {
         return Ok(None);
-    };
-    match deck.commit_batch(batch, STAMP) {
-        Ok(_) => {}
-        Err(fault) => {
-            let _told = refused(fault);
-            return Ok(None);
-        }
     }
     let checked = Checked {
         number: 4294967295,
@@ -166,16 +173,10 @@ fn used(
 
 /// Widens a journal once it is recovered.
 fn recovered_and_widened(alloc: Global, mut disk: MemoryDisk) -> Result<Option<MemoryDisk>, Fail> {
-    let recovered = Recovered {
-        transactions: 1,
-        copies: 1,
-        revoked: 0,
-        next: 4,
-    };
-    if recover(alloc, &mut disk) != Ok(recovered) {
+    if recover(alloc, &mut disk) != Ok(report((1, 1, 0, 4))) {
         return Ok(None);
     }
-    widen(&mut disk)?;
+    change(&mut disk, true)?;
     Ok(Some(disk))
 }
 
@@ -184,38 +185,36 @@ fn spent_and_renumbered(alloc: Global, disk: MemoryDisk) -> Result<Option<Memory
     let Err((mut disk, OpenFault::NumbersSpent)) = Deck::open(alloc, disk) else {
         return Ok(None);
     };
-    renumber(&mut disk)?;
+    change(&mut disk, false)?;
     Ok(Some(disk))
+}
+
+/// What a journal commits that was used before, and then changed in its place.
+fn used_again(
+    alloc: Global,
+    rows: &[Row],
+    lines: &str,
+    widens: bool,
+) -> Result<Option<Committed>, Fail> {
+    let Some(disk) = used(alloc, rows, lines, !widens)? else {
+        return Ok(None);
+    };
+    let changed = if widens {
+        recovered_and_widened(alloc, disk)?
+    } else {
+        spent_and_renumbered(alloc, disk)?
+    };
+    match changed {
+        Some(disk) => committed(alloc, disk),
+        None => Ok(None),
+    }
 }
 
 #[test]
 fn journals_that_were_used_are_changed_and_used_again(rt: HostRuntime) -> Result<(), Fail> {
-    let alloc = rt.alloc();
-    for (name, rows, lines, widens, (next, width)) in USED {
-        let Some(disk) = used(alloc, rows, lines, !widens)? else {
-            assert!(rt; false, "{name} is not used");
-            return Ok(());
-        };
-        let changed = if widens {
-            recovered_and_widened(alloc, disk)?
-        } else {
-            spent_and_renumbered(alloc, disk)?
-        };
-        let Some(disk) = changed else {
-            assert!(rt; false, "{name} is not changed");
-            return Ok(());
-        };
-        let recovered = Recovered {
-            transactions: 1,
-            copies: 6,
-            revoked: 0,
-            next: next.saturating_add(2),
-        };
-        assert_eq!(rt;
-            committed(alloc, disk)?,
-            Some((next, width, recovered)),
-            "{name}"
-        );
+    for (name, rows, lines, widens, told) in &USED {
+        let seen = used_again(rt.alloc(), rows, lines, *widens)?;
+        assert_eq!(rt; seen, Some(six(*told)), "{name}");
     }
     Ok(())
 }

@@ -1,11 +1,9 @@
 //! Batches that are committed while the log has room, and that are refused.
 
 use crate::cases::{Case, first_case};
-use crate::homes::FREES;
 use crate::images::{BLOCKS, HOMES, MAGIC, Row};
-use crate::rounds::{ROUNDS, SIX, SIX_COPIES};
+use crate::rounds::{SIX, SIX_COPIES};
 use crate::scripts::{Refusal, Step};
-use crate::taking::TAKINGS;
 use jb_block::Width;
 use jb_deck::FreeFault;
 use std::test::Fail;
@@ -214,8 +212,5 @@ const CASES: [Case; 7] = [
 #[test]
 fn batches_are_committed_as_worked_by_hand(rt: HostRuntime) -> Result<(), Fail> {
     assert_eq!(rt; first_case(rt.alloc(), &CASES)?, None);
-    assert_eq!(rt; first_case(rt.alloc(), &FREES)?, None);
-    assert_eq!(rt; first_case(rt.alloc(), &ROUNDS)?, None);
-    assert_eq!(rt; first_case(rt.alloc(), &TAKINGS)?, None);
     Ok(())
 }

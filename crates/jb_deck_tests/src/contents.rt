@@ -3,7 +3,6 @@
 use crate::images::{MAGIC, put_words, read_at};
 use crate::model::Homes;
 use jb_disk::Disk;
-use std::alloc::Global;
 use std::test::Fail;
 
 /// What a crash may leave: all homes as they were or all as they become, and of one home each sector as
@@ -48,15 +47,14 @@ pub fn fill(block: &mut [u8], number: u32) {
 
 /// Whether the disk has these homes, from a place on; sectors of one home may be of other contents.
 pub fn holds<D: Disk>(
-    alloc: Global,
     disk: &mut D,
     first: u64,
     homes: &Homes,
     torn: Option<(usize, u32)>,
 ) -> Result<bool, Fail> {
-    let mut block = vec![in alloc; 0; 1024]?;
-    let mut wanted = vec![in alloc; 0; 1024]?;
-    let mut other = vec![in alloc; 0; 1024]?;
+    let mut block = [0; 1024];
+    let mut wanted = [0; 1024];
+    let mut other = [0; 1024];
     for (home, number) in homes.iter().enumerate() {
         read_at(disk, first.saturating_add(home as u64), &mut block)?;
         fill(&mut wanted, *number);
@@ -82,14 +80,9 @@ fn is_mixed(block: &[u8], one: &[u8], other: &[u8]) -> bool {
 }
 
 /// Whether the homes of a disk, from a place on, are among what a crash may leave.
-pub fn is_left<D: Disk>(
-    alloc: Global,
-    disk: &mut D,
-    first: u64,
-    left: &Left,
-) -> Result<bool, Fail> {
-    if holds(alloc, disk, first, &left.was, left.torn)? {
+pub fn is_left<D: Disk>(disk: &mut D, first: u64, left: &Left) -> Result<bool, Fail> {
+    if holds(disk, first, &left.was, left.torn)? {
         return Ok(true);
     }
-    holds(alloc, disk, first, &left.becomes, left.torn)
+    holds(disk, first, &left.becomes, left.torn)
 }

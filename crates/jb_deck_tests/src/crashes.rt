@@ -2,7 +2,7 @@
 //! leaves of it.
 
 use crate::frames::Frame;
-use crate::images::{BLOCKS, HOMES, MAGIC, Row, difference, small};
+use crate::images::{BLOCKS, HOMES, MAGIC, Row, crashed, difference, small};
 use jb_deck::{Deck, OpenFault};
 use jb_disk::{Disk, FuseDisk, MemoryDisk, OneFaultDisk};
 use jb_recover::recover;
@@ -82,8 +82,19 @@ fn make_wanted(alloc: Global, case: Case<'_>) -> Result<Wanted, Fail> {
     })
 }
 
-/// Whether what each of these choices leaves has the blocks before the log, recovers, and has the wanted homes then; a
-/// crash after the journal was opened leaves the wanted image.
+/// Whether what a crash left has the blocks before the log, recovers, and then is as wanted from a place on.
+fn mends(
+    alloc: Global,
+    left: &mut MemoryDisk,
+    wanted: &mut Wanted,
+    from: u64,
+) -> Result<bool, Fail> {
+    let is_kept = wanted.was.is_kept(alloc, left)? || wanted.becomes.is_kept(alloc, left)?;
+    let is_recovered = is_kept && recover(alloc, left).is_ok();
+    Ok(is_recovered && difference(left, &mut wanted.whole, from)?.is_none())
+}
+
+/// Whether what each of these choices leaves does: the homes, and where the journal was opened before, the whole image.
 fn all_mend(
     alloc: Global,
     disk: &MemoryDisk,
@@ -92,14 +103,7 @@ fn all_mend(
 ) -> Result<bool, Fail> {
     let from = if opened == Some(true) { 0 } else { HOMES };
     for choice in CHOICES {
-        let mut left = disk.crash(&choice)?;
-        if !wanted.was.is_kept(alloc, &mut left)? && !wanted.becomes.is_kept(alloc, &mut left)? {
-            return Ok(false);
-        }
-        if recover(alloc, &mut left).is_err() {
-            return Ok(false);
-        }
-        if difference(alloc, &mut left, &mut wanted.whole, from)?.is_some() {
+        if !mends(alloc, &mut crashed(disk, &choice)?, wanted, from)? {
             return Ok(false);
         }
     }
@@ -133,22 +137,27 @@ fn mends_at(
     Ok((mends, ended == Some(true)))
 }
 
+/// After how many calls the journal is open; as an error, the first number of calls of which what is left does not mend.
+fn opened_after(alloc: Global, case: Case<'_>) -> Result<Result<u64, u64>, Fail> {
+    let mut wanted = make_wanted(alloc, case)?;
+    for call in 0..MOST {
+        let (mends, is_open) = mends_at(alloc, case, &mut wanted, call)?;
+        if !mends {
+            return Ok(Err(call));
+        }
+        if is_open {
+            return Ok(Ok(call));
+        }
+    }
+    Ok(Err(MOST))
+}
+
 #[test]
 fn every_call_may_fail_or_be_the_last(rt: HostRuntime) -> Result<(), Fail> {
-    let alloc = rt.alloc();
     // A sync, the superblock, the log's blocks, those of them that are zeroed, the superblock and a sync.
     let cases: [Case<'_>; 2] = [(&ROWS, &AFTER, 1, 39), (&GAP, &GAP_AFTER, 3, 36)];
     for case in cases {
-        let mut wanted = make_wanted(alloc, case)?;
-        let mut opened = None;
-        for call in 0..MOST {
-            if opened.is_none() {
-                let (mends, whole) = mends_at(alloc, case, &mut wanted, call)?;
-                assert!(rt; mends, "{} {call}", case.2);
-                opened = whole.then_some(call);
-            }
-        }
-        assert_eq!(rt; opened, Some(case.3), "{}", case.2);
+        assert_eq!(rt; opened_after(rt.alloc(), case)?, Ok(case.3), "{}", case.2);
     }
     Ok(())
 }

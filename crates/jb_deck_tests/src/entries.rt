@@ -1,12 +1,12 @@
 //! How many log blocks an entry has, by the number of copies and of freed homes.
 
-use crate::groups::STAMP;
-use crate::scripts::{prepared, refused};
-use jb_block::{BlockSize, Width};
-use jb_deck::{Deck, Entry};
-use jb_disk::MemoryDisk;
+use crate::images::zeros;
+use crate::lives::{push_handle, put_word};
+use crate::scripts::{opened, settle};
+use jb_block::Width;
+use jb_deck::Entry;
 use jb_front::format;
-use jb_handle::{Payload, Stopped, Word, Words};
+use jb_handle::{Stopped, Words};
 use std::alloc::Global;
 use std::test::Fail;
 
@@ -23,32 +23,28 @@ const ROWS: [(u64, u64, u32); 5] = [
 fn one(alloc: Global, copies: u64, frees: u64) -> Result<Vec<Stopped>, Fail> {
     let mut words = Words::new(alloc);
     for home in 0..copies {
-        words.put(home, Word::Copy(Payload::of(alloc, &[1; 1024])?))?;
+        put_word(alloc, &mut words, home, Some(&[1; 1024]))?;
     }
     for home in copies..copies.saturating_add(frees) {
-        words.put(home, Word::Free)?;
+        put_word(alloc, &mut words, home, None)?;
     }
     let mut handles = Vec::new(alloc);
-    handles.push(Stopped { ticket: 0, words })?;
+    push_handle(&mut handles, 0, words)?;
     Ok(handles)
 }
 
 /// The entry of such a handle in a journal of 599 usable log blocks and 400 homes.
 fn entry(alloc: Global, copies: u64, frees: u64) -> Result<Option<Entry>, Fail> {
-    let mut disk = MemoryDisk::new(alloc, BlockSize::OneKib, 1000)?;
-    format(&mut disk, 600, 0, [0; 16], Width::Narrow)?;
-    let Ok(mut deck) = Deck::open(alloc, disk) else {
+    let mut disk = zeros(alloc, 1000)?;
+    if format(&mut disk, 600, 0, [0; 16], Width::Narrow).is_err() {
+        return Ok(None);
+    }
+    let Some(mut deck) = opened(alloc, disk) else {
         return Ok(None);
     };
-    let Some(batch) = prepared(alloc, 0, one(alloc, copies, frees)?, deck.shape())? else {
-        return Ok(None);
-    };
-    match deck.commit_batch(batch, STAMP) {
-        Ok(done) => Ok(done.entries().first().copied()),
-        Err(fault) => {
-            let _told = refused(fault);
-            Ok(None)
-        }
+    match settle(alloc, &mut deck, one(alloc, copies, frees)?)? {
+        Some(done) => Ok(done.entries().first().copied()),
+        None => Ok(None),
     }
 }
 

@@ -1,10 +1,10 @@
 //! A commit of which one sync fails, and what a crash leaves of it then.
 
+use crate::cases::report;
 use crate::frames::Frame;
-use crate::images::{BLOCKS, HOMES, MAGIC, Row, difference, small};
-use crate::scripts::{Refusal, refuses};
+use crate::images::{BLOCKS, HOMES, MAGIC, Row, crashed, difference, small};
+use crate::scripts::{Refusal, opened, refuses};
 use jb_block::Width;
-use jb_deck::Deck;
 use jb_disk::{MemoryDisk, OneFaultDisk};
 use jb_recover::{Recovered, recover};
 use std::alloc::Global;
@@ -18,7 +18,13 @@ const AFTER_COMMIT: u64 = 41;
 
 /// The call that fails, which of the pending sectors are new, what recovery reports (transactions, copies, revoked
 /// copies and the next number), and whether all is as it was once the journal is opened again.
-const ROWS: [(u64, &[u32], (u32, u32, u32, u64), bool); 6] = [
+type Given = (u64, &'static [u32], (u32, u32, u32, u64), bool);
+
+/// What recovery reports, the next number of the journal that is then opened, and the first block that is not as it
+/// should be.
+type Seen = (Recovered, u64, Option<u64>);
+
+const ROWS: [Given; 6] = [
     (AFTER_COMMIT, &[], (0, 0, 0, 3), false),
     (AFTER_COMMIT, &[0, 1], (0, 0, 0, 3), false),
     (AFTER_COMMIT, &[1], (1, 1, 0, 4), false),
@@ -35,7 +41,7 @@ const COPY: [Row; 1] = [(HOMES + 5, 0, [MAGIC, 0x0102_0304, 0, 0])];
 /// What the choice leaves of a disk on which a commit has met the fault of this call, if it did.
 fn left(alloc: Global, call: u64, choice: &[u32]) -> Result<Option<MemoryDisk>, Fail> {
     let disk = OneFaultDisk::of(small(alloc, BLOCKS, &[], &[])?, call);
-    let Ok(mut deck) = Deck::open(alloc, disk) else {
+    let Some(mut deck) = opened(alloc, disk) else {
         return Ok(None);
     };
     let made = (16, 8, Width::Narrow);
@@ -43,37 +49,60 @@ fn left(alloc: Global, call: u64, choice: &[u32]) -> Result<Option<MemoryDisk>, 
     if !refuses(alloc, &mut deck, 0, made, lines, Refusal::DeviceFault(0))? {
         return Ok(None);
     }
-    Ok(Some(deck.close().into_inner().crash(choice)?))
+    Ok(Some(crashed(&deck.close().into_inner(), choice)?))
+}
+
+/// What recovery reports of a disk, if what stands before the log is as it was, before and after.
+fn mended(alloc: Global, disk: &mut MemoryDisk, frame: &Frame) -> Result<Option<Recovered>, Fail> {
+    let was_kept = frame.is_kept(alloc, disk)?;
+    let recovered = recover(alloc, disk);
+    let is_kept = frame.is_kept(alloc, disk)?;
+    match recovered {
+        Ok(recovered) if was_kept && is_kept => Ok(Some(recovered)),
+        _ => Ok(None),
+    }
+}
+
+/// The next number of a journal that is opened again, and the first block of it, from a place on, that is not as in
+/// the small image with these rows.
+fn reopened(
+    alloc: Global,
+    disk: MemoryDisk,
+    rows: &[Row],
+    from: u64,
+) -> Result<Option<(u64, Option<u64>)>, Fail> {
+    let mut wanted = small(alloc, BLOCKS, rows, &[])?;
+    let Some(deck) = opened(alloc, disk) else {
+        return Ok(None);
+    };
+    let number = deck.next_number();
+    let differs = difference(&mut deck.close(), &mut wanted, from)?;
+    Ok(Some((number, differs)))
+}
+
+/// What recovery reports of a row, and what the journal is then.
+fn seen(alloc: Global, row: &Given) -> Result<Option<Seen>, Fail> {
+    let (call, choice, told, same) = row;
+    let Some(mut disk) = left(alloc, *call, choice)? else {
+        return Ok(None);
+    };
+    let frame = Frame::of(alloc, &mut small(alloc, BLOCKS, &[], &[])?, 1)?;
+    let Some(recovered) = mended(alloc, &mut disk, &frame)? else {
+        return Ok(None);
+    };
+    let rows = if told.1 > 0 { COPY.as_slice() } else { &[] };
+    let from = if *same { 0 } else { HOMES };
+    match reopened(alloc, disk, rows, from)? {
+        Some((number, differs)) => Ok(Some((recovered, number, differs))),
+        None => Ok(None),
+    }
 }
 
 #[test]
 fn syncs_that_fail_leave_what_is_worked_out_by_hand(rt: HostRuntime) -> Result<(), Fail> {
-    let alloc = rt.alloc();
-    let frame = Frame::of(alloc, &mut small(alloc, BLOCKS, &[], &[])?, 1)?;
-    for (call, choice, (transactions, copies, revoked, next), same) in ROWS {
-        let Some(mut disk) = left(alloc, call, choice)? else {
-            assert!(rt; false, "{call} is not met by the commit");
-            return Ok(());
-        };
-        assert!(rt; frame.is_kept(alloc, &mut disk)?, "{call}");
-        let recovered = Recovered {
-            transactions,
-            copies,
-            revoked,
-            next,
-        };
-        assert_eq!(rt; recover(alloc, &mut disk), Ok(recovered), "{call}");
-        assert!(rt; frame.is_kept(alloc, &mut disk)?, "{call}");
-        let Ok(deck) = Deck::open(alloc, disk) else {
-            assert!(rt; false, "it is not opened again");
-            return Ok(());
-        };
-        assert_eq!(rt; deck.next_number(), next, "{call}");
-        let homes = if copies > 0 { COPY.as_slice() } else { &[] };
-        let mut wanted = small(alloc, BLOCKS, homes, &[])?;
-        let from = if same { 0 } else { HOMES };
-        let differs = difference(alloc, &mut deck.close(), &mut wanted, from)?;
-        assert_eq!(rt; differs, None, "{call}");
+    for row in &ROWS {
+        let wanted = (report(row.2), row.2.3, None);
+        assert_eq!(rt; seen(rt.alloc(), row)?, Some(wanted), "{}", row.0);
     }
     Ok(())
 }

@@ -1,9 +1,10 @@
 //! Journals whose transactions go home, or are recovered, between two batches; and homes that are freed.
 
-use crate::cases::Case;
+use crate::cases::{Case, first_case};
 use crate::images::{BLOCKS, HOMES, MAGIC};
 use crate::scripts::Step;
 use jb_deck::FreeFault;
+use std::test::Fail;
 
 /// The bytes that a script writes to a free home.
 const SEVENS: [u32; 4] = [0x7777_7777, 0x7777_7777, 0x7777_7777, 0x7777_7777];
@@ -15,7 +16,7 @@ const FREED: [Step; 3] = [
 ];
 
 /// Copies that go home, and homes that are freed.
-pub const FREES: [Case; 5] = [
+const FREES: [Case; 5] = [
     Case {
         name: "the escaped copy goes home",
         blocks: BLOCKS,
@@ -118,3 +119,9 @@ pub const FREES: [Case; 5] = [
         after: &[(0, 0x10, [33, 1, 4, 0]), (HOMES + 5, 0, [MAGIC, 0, 0, 0])],
     },
 ];
+
+#[test]
+fn homes_are_freed_as_worked_by_hand(rt: HostRuntime) -> Result<(), Fail> {
+    assert_eq!(rt; first_case(rt.alloc(), &FREES)?, None);
+    Ok(())
+}

@@ -2,9 +2,10 @@
 
 use crate::contents::{Left, fill, only};
 use crate::groups::STAMP;
+use crate::images::fail;
 use crate::model::{Homes, Model, Touch};
 use crate::scripts::{next_ticket, prepared, refused};
-use jb_deck::{BatchFault, CheckpointFault, Deck, FreeFault};
+use jb_deck::{BatchFault, CheckpointFault, Deck, FreeFault, Prepared};
 use jb_disk::Disk;
 use jb_handle::{Payload, Shape, Stopped, Word, Words};
 use std::alloc::Global;
@@ -21,20 +22,36 @@ pub enum Call<'a> {
     Write(usize, u32),
 }
 
+/// A further word of a handle: a copy of this block, or that the home is free.
+pub fn put_word(
+    alloc: Global,
+    words: &mut Words,
+    home: u64,
+    block: Option<&[u8]>,
+) -> Result<(), Fail> {
+    let word = match block {
+        Some(block) => Word::Copy(Payload::of(alloc, block)?),
+        None => Word::Free,
+    };
+    words.put(home, word)?;
+    Ok(())
+}
+
+/// A further handle of a batch.
+pub fn push_handle(handles: &mut Vec<Stopped>, ticket: u64, words: Words) -> Result<(), Fail> {
+    handles.push(Stopped { ticket, words })?;
+    Ok(())
+}
+
 /// The words of one handle of a batch.
 fn words_of(alloc: Global, touches: &[Touch], handle: usize) -> Result<Words, Fail> {
     let mut words = Words::new(alloc);
-    let mut block = vec![in alloc; 0; 1024]?;
+    let mut block = [0; 1024];
     for (of, home, copy) in touches {
         if *of == handle {
-            let word = match copy {
-                Some(contents) => {
-                    fill(&mut block, *contents);
-                    Word::Copy(Payload::of(alloc, &block)?)
-                }
-                None => Word::Free,
-            };
-            words.put(*home as u64, word)?;
+            fill(&mut block, copy.unwrap_or(0));
+            let copied = copy.is_some().then_some(block.as_slice());
+            put_word(alloc, &mut words, *home as u64, copied)?;
         }
     }
     Ok(words)
@@ -46,8 +63,7 @@ fn stopped(alloc: Global, first: u64, call: (usize, &[Touch])) -> Result<Vec<Sto
     let mut handles = Vec::new(alloc);
     let mut ticket = first;
     for handle in 0..count {
-        let words = words_of(alloc, touches, handle)?;
-        handles.push(Stopped { ticket, words })?;
+        push_handle(&mut handles, ticket, words_of(alloc, touches, handle)?)?;
         ticket = ticket.saturating_add(1);
     }
     Ok(handles)
@@ -98,27 +114,39 @@ fn commit<D: Disk>(
     };
     let states = after_each(alloc, model, &bounds, call.1)?;
     let Some(batch) = prepared(alloc, first, stopped(alloc, first, call)?, shape)? else {
-        return Err("it was planned before".into());
+        return fail("it was planned before");
     };
+    match settled_by(deck, batch)? {
+        None => Ok(None),
+        Some(settled) => Ok(Some(left_after(&states, settled)?)),
+    }
+}
+
+/// Commits a batch; after a fault, how many groups are settled.
+fn settled_by<D: Disk>(deck: &mut Deck<D>, batch: Prepared) -> Result<Option<usize>, Fail> {
+    let bounds = batch.groups().len();
     match deck.commit_batch(batch, STAMP) {
-        Ok(done) if done.entries().len().saturating_add(1) == states.len() => Ok(None),
-        Ok(_) => Err("a group is missing".into()),
-        Err(BatchFault::DeviceFault { settled }) => {
-            let mut rest = states.iter().skip(settled.entries().len());
-            let Some(was) = rest.next() else {
-                return Err("too many groups are settled".into());
-            };
-            Ok(Some(Left {
-                was: *was,
-                becomes: *rest.next().unwrap_or(was),
-                torn: None,
-            }))
-        }
+        Ok(done) if done.entries().len().saturating_add(1) == bounds => Ok(None),
+        Ok(_) => fail("a group is missing"),
+        Err(BatchFault::DeviceFault { settled }) => Ok(Some(settled.entries().len())),
         Err(fault) => {
             let _told = refused(fault);
-            Err("the batch is refused".into())
+            fail("the batch is refused")
         }
     }
+}
+
+/// What a crash may leave where the homes go through these states and so many groups are settled.
+fn left_after(states: &[Homes], settled: usize) -> Result<Left, Fail> {
+    let mut rest = states.iter().skip(settled);
+    let Some(was) = rest.next() else {
+        return fail("too many groups are settled");
+    };
+    Ok(Left {
+        was: *was,
+        becomes: *rest.next().unwrap_or(was),
+        torn: None,
+    })
 }
 
 /// Calls a journal and its model; after a fault, what a crash may leave. An answer that the model does not have
@@ -138,11 +166,11 @@ pub fn make_call<D: Disk>(
                 Ok(_) if is => Ok(None),
                 Err(CheckpointFault::Nothing) if !is => Ok(None),
                 Err(CheckpointFault::DeviceFault) if is => Ok(Some(only(stood))),
-                _ => Err("the checkpoint".into()),
+                _ => fail("the checkpoint"),
             }
         }
         Call::Write(home, contents) => {
-            let mut block = vec![in alloc; 0; 1024]?;
+            let mut block = [0; 1024];
             fill(&mut block, contents);
             write(deck, model, (home, contents), &block)
         }
@@ -169,6 +197,6 @@ fn write<D: Disk>(
             left.torn = Some((home, number));
             Ok(Some(left))
         }
-        _ => Err("the written home".into()),
+        _ => fail("the written home"),
     }
 }

@@ -1,16 +1,22 @@
 //! Journals that are opened, and that are refused.
 
 use crate::images::{BLOCKS, MAGIC, Row, difference, small};
+use crate::scripts::opened;
 use jb_block::{BlockSize, Width};
 use jb_deck::{CheckpointFault, Deck, FreeFault, OpenFault};
+use jb_disk::MemoryDisk;
 use jb_super::SuperFault;
+use std::alloc::Global;
 use std::test::Fail;
 
 const ZEROS: [u32; 4] = [0, 0, 0, 0];
 
-/// A name, the rows of the small image that differ, the next number, how many blocks the log has and how wide
-/// block numbers are, and the rows that opening it changes.
-const OPENED: [(&str, &[Row], (u64, u32, Width), &[Row]); 11] = [
+/// The next number, how many blocks the log has, and how wide block numbers are.
+type Told = (u64, u32, Width);
+
+/// A name, the rows of the small image that differ, what the journal says of itself, and the rows that opening it
+/// changes.
+const OPENED: [(&str, &[Row], Told, &[Row]); 11] = [
     ("as it is made", &[], (2, 32, Width::Narrow), &[]),
     (
         "a later number, and an older one",
@@ -168,57 +174,68 @@ const REFUSED: [(&str, u64, &[Row], OpenFault); 14] = [
     ),
 ];
 
+/// Whether a journal of the small image is as one whose log is empty.
+fn is_new(deck: &mut Deck<MemoryDisk>) -> bool {
+    let shape = deck.shape();
+    shape.bs == BlockSize::OneKib
+        && shape.homes == 16
+        && shape.limit == deck.usable() / 4
+        && deck.trail().is_empty()
+        && !deck.aborted()
+        && is_idle(deck)
+}
+
+/// Whether a journal has nothing to checkpoint, and no last word on a home.
+fn is_idle(deck: &mut Deck<MemoryDisk>) -> bool {
+    deck.checkpoint_one() == Err(CheckpointFault::Nothing)
+        && deck.word_of(5).is_none()
+        && deck.write_free(5, &[1, 2]) == Err(FreeFault::NotFree)
+}
+
+/// What the journal of an image with these rows says of itself, whether it is new, and the first block in which it then
+/// differs from the image with further rows.
+fn opens(
+    alloc: Global,
+    rows: &[Row],
+    after: &[Row],
+) -> Result<Option<(Told, bool, Option<u64>)>, Fail> {
+    let mut wanted = small(alloc, BLOCKS, rows, after)?;
+    let Some(mut deck) = opened(alloc, small(alloc, BLOCKS, rows, &[])?) else {
+        return Ok(None);
+    };
+    let told = (deck.next_number(), deck.usable(), deck.shape().width);
+    let is_new = is_new(&mut deck);
+    let differs = difference(&mut deck.close(), &mut wanted, 0)?;
+    Ok(Some((told, is_new, differs)))
+}
+
 #[test]
 fn journals_are_opened_as_worked_by_hand(rt: HostRuntime) -> Result<(), Fail> {
-    let alloc = rt.alloc();
-    for (name, rows, told, after) in OPENED {
-        let mut wanted = small(alloc, BLOCKS, rows, after)?;
-        let Ok(mut deck) = Deck::open(alloc, small(alloc, BLOCKS, rows, &[])?) else {
-            assert!(rt; false, "{name} is not opened");
-            return Ok(());
-        };
-        let shape = deck.shape();
-        let is = (deck.next_number(), deck.usable(), shape.width);
-        assert!(rt; is == told, "{name}");
-        assert!(rt; shape.bs == BlockSize::OneKib, "{name}");
-        assert!(rt; shape.homes == 16 && shape.limit == told.1 / 4, "{name}");
-        assert!(rt; deck.trail().is_empty() && !deck.aborted(), "{name}");
-        assert_eq!(rt;
-            deck.checkpoint_one(),
-            Err(CheckpointFault::Nothing),
-            "{name}"
-        );
-        assert!(rt; deck.word_of(5).is_none(), "{name}");
-        assert_eq!(rt;
-            deck.write_free(5, &[1, 2]),
-            Err(FreeFault::NotFree),
-            "{name}"
-        );
-        let mut disk = deck.close();
-        assert_eq!(rt;
-            difference(alloc, &mut disk, &mut wanted, 0)?,
-            None,
-            "{name}"
-        );
+    for (name, rows, told, after) in &OPENED {
+        let seen = opens(rt.alloc(), rows, after)?;
+        assert_eq!(rt; seen, Some((*told, true, None)), "{name}");
     }
     Ok(())
 }
 
+/// Why a journal is not opened, and the first block that has changed.
+fn refusal(
+    alloc: Global,
+    blocks: u64,
+    rows: &[Row],
+) -> Result<Option<(OpenFault, Option<u64>)>, Fail> {
+    let mut wanted = small(alloc, blocks, rows, &[])?;
+    let Err((mut disk, fault)) = Deck::open(alloc, small(alloc, blocks, rows, &[])?) else {
+        return Ok(None);
+    };
+    Ok(Some((fault, difference(&mut disk, &mut wanted, 0)?)))
+}
+
 #[test]
 fn journals_are_refused_and_stay(rt: HostRuntime) -> Result<(), Fail> {
-    let alloc = rt.alloc();
-    for (name, blocks, rows, fault) in REFUSED {
-        let mut wanted = small(alloc, blocks, rows, &[])?;
-        let Err((mut disk, told)) = Deck::open(alloc, small(alloc, blocks, rows, &[])?) else {
-            assert!(rt; false, "{name} is opened");
-            return Ok(());
-        };
-        assert_eq!(rt; told, fault, "{name}");
-        assert_eq!(rt;
-            difference(alloc, &mut disk, &mut wanted, 0)?,
-            None,
-            "{name}"
-        );
+    for (name, blocks, rows, fault) in &REFUSED {
+        let seen = refusal(rt.alloc(), *blocks, rows)?;
+        assert_eq!(rt; seen, Some((*fault, None)), "{name}");
     }
     Ok(())
 }

@@ -1,8 +1,9 @@
 //! Batches that make room in the log and go round it.
 
-use crate::cases::Case;
+use crate::cases::{Case, first_case};
 use crate::images::{BLOCKS, HOMES, Row};
 use crate::scripts::Step;
+use std::test::Fail;
 
 /// A handle of six copies, which takes eight log blocks.
 pub const SIX: &str = "h w0=0a w1=0b w2=0c w3=0d w4=0e w5=0f\n";
@@ -80,7 +81,7 @@ const TWENTIES: &str =
     "h w0 w1 w2 w3 w4 w5 w6 w7 w8 w9 w10 w11 w12 w13 w14 w15 w16 w17 w18 w19\nh w20 w21 w22 w23 w24 w25 w26 w27 w28 w29 w30 w31 w32 w33 w34 w35 w36 w37 w38 w39\n";
 
 /// Each goes round the log, or fills it.
-pub const ROUNDS: [Case; 4] = [
+const ROUNDS: [Case; 4] = [
     Case {
         name: "four groups of eight blocks fill the log",
         blocks: BLOCKS,
@@ -199,3 +200,9 @@ pub const ROUNDS: [Case; 4] = [
         after: &[(0, 0x10, [33, 1, 4, 0])],
     },
 ];
+
+#[test]
+fn batches_go_round_the_log_as_worked_by_hand(rt: HostRuntime) -> Result<(), Fail> {
+    assert_eq!(rt; first_case(rt.alloc(), &ROUNDS)?, None);
+    Ok(())
+}

@@ -4,7 +4,7 @@ use crate::groups::STAMP;
 use crate::images::put_words;
 use jb_block::{BlockSize, Width};
 use jb_deck::{
-    Batch, BatchFault, Checked, CheckpointFault, Deck, Entry, FreeFault, Prepared, is_batch,
+    Batch, BatchFault, Checked, CheckpointFault, Deck, Done, Entry, FreeFault, Prepared, is_batch,
     prepare,
 };
 use jb_disk::Disk;
@@ -59,9 +59,7 @@ pub type Kept = (u64, Shape, usize, usize, u64);
 /// The handles of these lines, with tickets from `first` on.
 pub fn handles_of(alloc: Global, lines: &str, first: u64) -> Result<Vec<Stopped>, Fail> {
     let mut text = b"bs 1024\nlimit 8\n".to_vec(alloc)?;
-    for byte in lines.as_bytes() {
-        text.push(*byte)?;
-    }
+    text.extend_from_slice(lines.as_bytes())?;
     let mut handles = read_queue(alloc, &text)?.handles;
     for handle in &mut handles {
         handle.ticket = handle.ticket.saturating_add(first);
@@ -115,6 +113,11 @@ pub fn refused(fault: BatchFault) -> (Refusal, Option<Kept>) {
     }
 }
 
+/// The journal on a disk, or none where it is not opened.
+pub fn opened<D: Disk + Drop>(alloc: Global, disk: D) -> Option<Deck<D>> {
+    Deck::open(alloc, disk).ok()
+}
+
 /// The ticket of the next handle.
 pub fn next_ticket<D: Disk>(deck: &Deck<D>) -> u64 {
     match deck.trail().last() {
@@ -133,6 +136,24 @@ fn are(entries: &[Entry], told: &[Told]) -> bool {
     entries.len() == told.len()
 }
 
+/// The groups of these handles, or none where no cut fits or the batch is refused.
+pub fn settle<D: Disk>(
+    alloc: Global,
+    deck: &mut Deck<D>,
+    handles: Vec<Stopped>,
+) -> Result<Option<Done>, Fail> {
+    let Some(batch) = prepared(alloc, next_ticket(deck), handles, deck.shape())? else {
+        return Ok(None);
+    };
+    match deck.commit_batch(batch, STAMP) {
+        Ok(done) => Ok(Some(done)),
+        Err(fault) => {
+            let _told = refused(fault);
+            Ok(None)
+        }
+    }
+}
+
 fn commits<D: Disk>(
     alloc: Global,
     deck: &mut Deck<D>,
@@ -140,17 +161,27 @@ fn commits<D: Disk>(
     entries: &[Told],
 ) -> Result<bool, Fail> {
     let first = next_ticket(deck);
-    let handles = handles_of(alloc, lines, first)?;
-    let Some(batch) = prepared(alloc, first, handles, deck.shape())? else {
-        return Ok(false);
-    };
-    match deck.commit_batch(batch, STAMP) {
-        Ok(done) => Ok(done.first() == first && are(done.entries(), entries)),
-        Err(fault) => {
-            let _told = refused(fault);
-            Ok(false)
-        }
+    match settle(alloc, deck, handles_of(alloc, lines, first)?)? {
+        Some(done) => Ok(done.first() == first && are(done.entries(), entries)),
+        None => Ok(false),
     }
+}
+
+/// Whether so many bytes that are written to a home are answered so.
+fn writes<D: Disk>(
+    alloc: Global,
+    deck: &mut Deck<D>,
+    home: u64,
+    len: usize,
+    answer: Result<(), FreeFault>,
+) -> Result<bool, Fail> {
+    let mut bytes = vec![in alloc; 0; len]?;
+    put_words(
+        &mut bytes,
+        0,
+        &[0x7777_7777, 0x7777_7777, 0x7777_7777, 0x7777_7777],
+    );
+    Ok(deck.write_free(home, &bytes) == answer)
 }
 
 /// Whether a batch for this shape is refused so, and handed back as it was where it is not lost.
@@ -201,17 +232,12 @@ fn answers<D: Disk>(alloc: Global, deck: &mut Deck<D>, step: Step) -> Result<boo
             Ok(deck.checkpoint_one() == Ok(Checked { number, blocks }))
         }
         Step::Idle => Ok(deck.checkpoint_one() == Err(CheckpointFault::Nothing)),
-        Step::Writes(home, len, answer) => {
-            let mut bytes = vec![in alloc; 0; len]?;
-            put_words(
-                &mut bytes,
-                0,
-                &[0x7777_7777, 0x7777_7777, 0x7777_7777, 0x7777_7777],
-            );
-            Ok(deck.write_free(home, &bytes) == answer)
-        }
+        Step::Writes(home, len, answer) => writes(alloc, deck, home, len, answer),
         Step::Word(home, copy) => Ok(deck.word_of(home).map(Word::is_copy) == copy),
-        Step::Takes(past, entries) => Ok(are(&deck.take_trail(past)?, entries)),
+        Step::Takes(past, entries) => Ok(
+            deck.take_trail(past)
+                .is_ok_and(|taken| are(&taken, entries)),
+        ),
         Step::Ends(trail, next) => Ok(are(deck.trail(), trail) && deck.next_number() == next),
     }
 }

@@ -1,12 +1,12 @@
 //! Journals of any size that are called at random and lose their power at random, again and again: each image that a
 //! crash leaves recovers to homes that the plain model has, also where recovery loses its power.
 
-use crate::contents::{Left, fill, holds, is_left, only};
-use crate::frames::Frame;
-use crate::images::{put_words, read_at, write_at};
+use crate::contents::{Left, fill, holds, only};
+use crate::frames::{Frame, Wanted};
+use crate::images::{crashed, fail, put_words, read_at, write_at, zeros};
 use crate::lives::{Call, make_call};
 use crate::model::{Homes, Model, Touch};
-use jb_block::{BlockSize, Width};
+use jb_block::Width;
 use jb_deck::{Deck, OpenFault};
 use jb_disk::{Disk, FuseDisk, MemoryDisk};
 use jb_front::format;
@@ -21,6 +21,20 @@ const CRASHES: u64 = 10_000;
 const LIVES: u32 = 12;
 
 const CALLS: u32 = 24;
+
+/// How many of so many calls are checkpoints and how many are writes; the others are commits.
+#[derive(Clone, Copy)]
+pub struct Odds {
+    pub checkpoints: u32,
+    pub writes: u32,
+    pub calls: u32,
+}
+
+const ODDS: Odds = Odds {
+    checkpoints: 1,
+    writes: 2,
+    calls: 8,
+};
 
 /// How many images each crash leaves.
 const IMAGES: u32 = 3;
@@ -55,15 +69,15 @@ pub struct Layout {
 
 /// Lets the log of a new journal begin after so many further blocks, and fills these, and block 0 after the
 /// superblock.
-fn put_gap(alloc: Global, disk: &mut MemoryDisk, maxlen: u32, gap: u32) -> Result<(), Fail> {
-    let mut block = vec![in alloc; 0; 1024]?;
+fn put_gap(disk: &mut MemoryDisk, maxlen: u32, gap: u32) -> Result<(), Fail> {
+    let mut block = [0; 1024];
     read_at(disk, 0, &mut block)?;
     put_words(&mut block, 0x10, &[maxlen, gap.saturating_add(1), 1, 0]);
     for at in AFTER {
         put_words(&mut block, at, &[7, 7, 7, 7]);
     }
     write_at(disk, 0, &block)?;
-    let mut filled = vec![in alloc; 0; 1024]?;
+    let mut filled = [0; 1024];
     for place in 1..=gap {
         fill(&mut filled, place);
         write_at(disk, u64::from(place), &filled)?;
@@ -83,11 +97,11 @@ pub fn image(alloc: Global, seed: &mut Seed) -> Result<(MemoryDisk, Layout), Fai
         Width::Wide
     };
     let blocks = u64::from(maxlen).saturating_add(16);
-    let mut disk = MemoryDisk::new(alloc, BlockSize::OneKib, blocks)?;
+    let mut disk = zeros(alloc, blocks)?;
     if format(&mut disk, maxlen, most, [7; 16], width).is_err() {
-        return Err("it is not made".into());
+        return fail("it is not made");
     }
-    put_gap(alloc, &mut disk, maxlen, gap)?;
+    put_gap(&mut disk, maxlen, gap)?;
     let homes = u64::from(maxlen);
     Ok((disk, Layout { gap, homes }))
 }
@@ -118,6 +132,28 @@ pub fn touches(
     Ok((count as usize, touches))
 }
 
+/// Makes a call at random; after a fault, what a crash may leave.
+pub fn call_at_random<D: Disk>(
+    alloc: Global,
+    seed: &mut Seed,
+    next: &mut u32,
+    deck: &mut Deck<D>,
+    model: &mut Model,
+    odds: Odds,
+) -> Result<Option<Left>, Fail> {
+    let (count, list) = touches(alloc, seed, next)?;
+    let drawn = seed.below(odds.calls);
+    let call = if drawn < odds.checkpoints {
+        Call::Checkpoint
+    } else if drawn < odds.checkpoints.saturating_add(odds.writes) {
+        Call::Write(seed.below(4) as usize, *next)
+    } else {
+        Call::Commit(count, &list)
+    };
+    *next = next.wrapping_add(1);
+    make_call(alloc, deck, model, call)
+}
+
 /// Calls a journal at random; after a fault, what a crash may leave.
 fn live<D: Disk>(
     alloc: Global,
@@ -127,14 +163,7 @@ fn live<D: Disk>(
     model: &mut Model,
 ) -> Result<Left, Fail> {
     for _ in 0..CALLS {
-        let (count, list) = touches(alloc, seed, next)?;
-        let call = match seed.below(8) {
-            0 => Call::Checkpoint,
-            1 | 2 => Call::Write(seed.below(4) as usize, *next),
-            _ => Call::Commit(count, &list),
-        };
-        *next = next.wrapping_add(1);
-        if let Some(left) = make_call(alloc, deck, model, call)? {
+        if let Some(left) = call_at_random(alloc, seed, next, deck, model, ODDS)? {
             return Ok(left);
         }
     }
@@ -157,34 +186,32 @@ fn choice(seed: &mut Seed) -> [u32; 128] {
     choice
 }
 
-/// What a crash leaves of a disk, recovered; one recovery in two loses its power first. The homes are among those that
-/// may be left, and what stands before the log is as it was.
+/// What one more crash leaves of a disk whose recovery loses its power.
+fn stopped(alloc: Global, seed: &mut Seed, disk: MemoryDisk) -> Result<MemoryDisk, Fail> {
+    let mut fuse = FuseDisk::of(disk, u64::from(seed.below(160)));
+    let _ended = recover(alloc, &mut fuse);
+    crashed(&fuse.into_inner(), &choice(seed))
+}
+
+/// What a crash leaves of a disk, recovered; one recovery in two loses its power first. It is as wanted.
 fn recovered(
     alloc: Global,
     seed: &mut Seed,
     disk: &MemoryDisk,
-    (homes, frame): (u64, &Frame),
-    left: &Left,
+    homes: u64,
+    wanted: &Wanted,
 ) -> Result<MemoryDisk, Fail> {
-    let mut found = disk.crash(&choice(seed))?;
-    if !frame.is_kept(alloc, &mut found)? {
-        return Err("what stands before the log has changed".into());
+    let mut found = crashed(disk, &choice(seed))?;
+    if !wanted.frame.is_kept(alloc, &mut found)? {
+        return fail("what stands before the log has changed");
     }
     if seed.below(2) == 0 {
-        let mut fuse = FuseDisk::of(found, u64::from(seed.below(160)));
-        let _ended = recover(alloc, &mut fuse);
-        found = fuse.into_inner().crash(&choice(seed))?;
+        found = stopped(alloc, seed, found)?;
     }
-    if recover(alloc, &mut found).is_err() {
-        return Err("it is not recovered".into());
+    match wanted.first_wrong(alloc, &mut found, homes)? {
+        Some(wrong) => fail(wrong),
+        None => Ok(found),
     }
-    if !is_left(alloc, &mut found, homes, left)? {
-        return Err("the homes are no prefix".into());
-    }
-    if !frame.is_kept(alloc, &mut found)? {
-        return Err("recovery has changed what stands before the log".into());
-    }
-    Ok(found)
 }
 
 /// One life of a journal on a disk that has these homes, from a place on, until its power goes: the disk, and what
@@ -200,33 +227,54 @@ fn life(
     let mut deck = match Deck::open(alloc, FuseDisk::of(disk, calls)) {
         Ok(deck) => deck,
         Err((fuse, OpenFault::DeviceFault)) => return Ok((fuse.into_inner(), only(*homes))),
-        Err(_) => return Err("it is not opened".into()),
+        Err(_) => return fail("it is not opened"),
     };
     let mut model = Model::new(alloc, *homes, u64::from(deck.usable()));
     let left = live(alloc, seed, next, &mut deck, &mut model)?;
     Ok((deck.close().into_inner(), left))
 }
 
+/// Recovers each of the images that a crash leaves; the last one of them.
+fn last_recovered(
+    alloc: Global,
+    seed: &mut Seed,
+    disk: &MemoryDisk,
+    homes: u64,
+    wanted: &Wanted,
+) -> Result<MemoryDisk, Fail> {
+    for _ in 1..IMAGES {
+        let _found = recovered(alloc, seed, disk, homes, wanted)?;
+    }
+    recovered(alloc, seed, disk, homes, wanted)
+}
+
+/// What the homes of a recovered disk hold, or none where the sectors of one are of two contents.
+fn known(disk: &mut MemoryDisk, homes: u64, left: &Left) -> Result<Option<Homes>, Fail> {
+    if holds(disk, homes, &left.was, None)? {
+        return Ok(Some(left.was));
+    }
+    if holds(disk, homes, &left.becomes, None)? {
+        return Ok(Some(left.becomes));
+    }
+    Ok(None)
+}
+
 /// Lives of a journal on one image, until the homes of one are known no more; how many images were recovered.
 fn lives(alloc: Global, seed: &mut Seed, next: &mut u32) -> Result<u64, Fail> {
     let (mut disk, layout) = image(alloc, seed)?;
-    let first = layout.homes;
     let frame = Frame::of(alloc, &mut disk, u64::from(layout.gap).saturating_add(1))?;
     let mut homes: Homes = [0; 16];
+    let left = only(homes);
+    let mut wanted = Wanted { left, frame };
     let mut crashes: u64 = 0;
     for _ in 0..LIVES {
         let (last, left) = life(alloc, seed, next, disk, &homes)?;
-        disk = recovered(alloc, seed, &last, (first, &frame), &left)?;
-        for _ in 1..IMAGES {
-            disk = recovered(alloc, seed, &last, (first, &frame), &left)?;
-        }
+        wanted.left = left;
+        disk = last_recovered(alloc, seed, &last, layout.homes, &wanted)?;
         crashes = crashes.saturating_add(u64::from(IMAGES));
-        if holds(alloc, &mut disk, first, &left.was, None)? {
-            homes = left.was;
-        } else if holds(alloc, &mut disk, first, &left.becomes, None)? {
-            homes = left.becomes;
-        } else {
-            return Ok(crashes);
+        match known(&mut disk, layout.homes, &left)? {
+            Some(known) => homes = known,
+            None => return Ok(crashes),
         }
     }
     Ok(crashes)

@@ -1,9 +1,9 @@
 //! A script of a journal's calls of which a call of the disk fails, or every one from one on; what a crash then
 //! leaves is recovered, and recovery is broken off by a crash too.
 
-use crate::contents::{Left, is_left, only};
-use crate::frames::Frame;
-use crate::images::{BLOCKS, HOMES, Row, difference, small};
+use crate::contents::{Left, only};
+use crate::frames::{Frame, Wanted};
+use crate::images::{BLOCKS, HOMES, Row, crashed, difference, fail, small};
 use crate::lives::{Call, make_call};
 use crate::model::{Homes, Model};
 use crate::scripts::{Refusal, refuses};
@@ -106,13 +106,6 @@ pub fn before(alloc: Global) -> Result<MemoryDisk, Fail> {
     small(alloc, BLOCKS, &ROWS, &[])
 }
 
-/// What a crash may leave: of the homes, and before the log.
-#[derive(Drop)]
-struct Wanted {
-    left: Left,
-    frame: Frame,
-}
-
 /// What a crash may leave of a script that began with the small image.
 fn make_wanted(alloc: Global, left: Left) -> Result<Wanted, Fail> {
     let frame = Frame::of(alloc, &mut before(alloc)?, 1)?;
@@ -141,18 +134,31 @@ pub fn run<D: Disk + Drop>(
     let mut deck = match Deck::open(alloc, disk) {
         Ok(deck) => deck,
         Err((disk, OpenFault::DeviceFault)) => return Ok((disk, only(homes), false)),
-        Err(_) => return Err("it is not opened".into()),
+        Err(_) => return fail("it is not opened"),
     };
     let mut model = Model::new(alloc, homes, u64::from(deck.usable()));
+    let met = first_fault(alloc, &mut deck, &mut model, script)?;
+    let ended = met.is_none();
+    let left = met.unwrap_or(only(model.standing()));
+    Ok((deck.close(), left, ended))
+}
+
+/// Calls a journal by a script up to its first fault, after which it refuses each call: what a crash may leave then.
+fn first_fault<D: Disk>(
+    alloc: Global,
+    deck: &mut Deck<D>,
+    model: &mut Model,
+    script: &[Call<'_>],
+) -> Result<Option<Left>, Fail> {
     for next in script {
-        if let Some(left) = make_call(alloc, &mut deck, &mut model, *next)? {
-            if !is_aborted(alloc, &mut deck)? {
-                return Err("it is not aborted".into());
+        if let Some(left) = make_call(alloc, deck, model, *next)? {
+            if !is_aborted(alloc, deck)? {
+                return fail("it is not aborted");
             }
-            return Ok((deck.close(), left, false));
+            return Ok(Some(left));
         }
     }
-    Ok((deck.close(), only(model.standing()), true))
+    Ok(None)
 }
 
 /// The choice of this number.
@@ -176,12 +182,8 @@ fn choice(number: u32) -> [u32; SECTORS] {
 
 /// Whether what this choice leaves of a disk has block 0 as it was, and recovers to homes that may be left.
 fn mends(alloc: Global, disk: &MemoryDisk, choice: &[u32], wanted: &Wanted) -> Result<bool, Fail> {
-    let mut found = disk.crash(choice)?;
-    if !wanted.frame.is_kept(alloc, &mut found)? || recover(alloc, &mut found).is_err() {
-        return Ok(false);
-    }
-    let is_kept = wanted.frame.is_kept(alloc, &mut found)?;
-    Ok(is_kept && is_left(alloc, &mut found, HOMES, &wanted.left)?)
+    let wrong = wanted.first_wrong(alloc, &mut crashed(disk, choice)?, HOMES)?;
+    Ok(wrong.is_none())
 }
 
 /// Whether what each of the first choices leaves does.
@@ -196,7 +198,7 @@ fn all_mend(alloc: Global, disk: &MemoryDisk, choices: u32, wanted: &Wanted) -> 
 
 /// A recovery of what a crash left, that is stopped after so many calls: its disk, and whether it ended before.
 pub fn stopped(alloc: Global, disk: &MemoryDisk, calls: u64) -> Result<(MemoryDisk, bool), Fail> {
-    let mut fuse = FuseDisk::of(disk.crash(&[])?, calls);
+    let mut fuse = FuseDisk::of(crashed(disk, &[])?, calls);
     let ended = recover(alloc, &mut fuse).is_ok();
     Ok((fuse.into_inner(), ended))
 }
@@ -226,30 +228,49 @@ fn mends_whenever(alloc: Global, disk: &MemoryDisk, wanted: &Wanted) -> Result<b
     Ok(true)
 }
 
+/// Whether a script of which one call fails ends as one that is stopped there, and leaves the same disk.
+fn fails_alike(
+    alloc: Global,
+    calls: u64,
+    disk: &mut MemoryDisk,
+    ended: bool,
+) -> Result<bool, Fail> {
+    let (faulty, _, whole) = run(alloc, OneFaultDisk::of(before(alloc)?, calls), &SCRIPT)?;
+    Ok(whole == ended && difference(&mut faulty.into_inner(), disk, 0)?.is_none())
+}
+
+/// Whether what a script left that was stopped after so many calls mends, where recovery is stopped too, and is what it
+/// leaves where that call alone fails.
+fn mends_after(
+    alloc: Global,
+    number: u32,
+    disk: &mut MemoryDisk,
+    wanted: &Wanted,
+    ended: bool,
+) -> Result<bool, Fail> {
+    let found = crashed(disk, &choice(number % 10))?;
+    let last = all_mend(alloc, disk, ALL, wanted)? && mends_whenever(alloc, &found, wanted)?;
+    Ok(last && fails_alike(alloc, u64::from(number), disk, ended)?)
+}
+
+/// Whether what a script leaves mends where it is stopped after so many calls; and whether it ended before.
+fn mends_at(alloc: Global, number: u32) -> Result<(bool, bool), Fail> {
+    let fuse = FuseDisk::of(before(alloc)?, u64::from(number));
+    let (fuse, left, ended) = run(alloc, fuse, &SCRIPT)?;
+    let wanted = make_wanted(alloc, left)?;
+    let mends = mends_after(alloc, number, &mut fuse.into_inner(), &wanted, ended)?;
+    Ok((mends, ended))
+}
+
 #[test]
 fn every_call_of_a_script_may_fail_or_be_the_last(rt: HostRuntime) -> Result<(), Fail> {
-    let alloc = rt.alloc();
     for number in 0..MOST {
-        let calls = u64::from(number);
-        let (fuse, left, ended) = run(alloc, FuseDisk::of(before(alloc)?, calls), &SCRIPT)?;
-        let mut disk = fuse.into_inner();
-        let wanted = make_wanted(alloc, left)?;
-        assert!(rt; all_mend(alloc, &disk, ALL, &wanted)?, "{calls}");
-        let found = disk.crash(&choice(number % 10))?;
-        assert!(rt; mends_whenever(alloc, &found, &wanted)?, "{calls}");
-        let (faulty, _, whole) = run(alloc, OneFaultDisk::of(before(alloc)?, calls), &SCRIPT)?;
-        assert!(rt; whole == ended, "{calls}");
-        let mut once = faulty.into_inner();
-        assert_eq!(rt;
-            difference(alloc, &mut once, &mut disk, 0)?,
-            None,
-            "{calls}"
-        );
+        let (mends, ended) = mends_at(rt.alloc(), number)?;
+        assert!(rt; mends, "{number}");
         if ended {
-            assert_eq!(rt; calls, 151);
+            assert_eq!(rt; number, 151);
             return Ok(());
         }
     }
-    assert!(rt; false, "it never ends");
-    Ok(())
+    fail("it never ends")
 }

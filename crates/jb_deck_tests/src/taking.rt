@@ -1,16 +1,16 @@
 //! Trails that are taken from the front.
 
-use crate::cases::Case;
-use crate::images::{BLOCKS, HOMES, small};
+use crate::cases::{Case, first_case};
+use crate::images::{BLOCKS, HOMES, fail, small};
 use crate::rounds::{SIX, SIX_COPIES};
-use crate::scripts::{Refusal, Step, first_wrong};
+use crate::scripts::{Refusal, Step, first_wrong, opened};
 use jb_block::Width;
-use jb_deck::Deck;
 use jb_disk::OneFaultDisk;
+use std::alloc::Global;
 use std::test::Fail;
 
 /// Entries are taken where their groups are home and their tickets are below the one that is given; the last stays.
-pub const TAKINGS: [Case; 1] = [Case {
+const TAKINGS: [Case; 1] = [Case {
     name: "a trail that is taken",
     blocks: BLOCKS,
     image: &[],
@@ -73,14 +73,23 @@ const FAILED: [Step; 8] = [
 ];
 
 #[test]
-fn a_journal_that_failed_gives_its_entries(rt: HostRuntime) -> Result<(), Fail> {
-    let alloc = rt.alloc();
+fn trails_are_taken_as_worked_by_hand(rt: HostRuntime) -> Result<(), Fail> {
+    assert_eq!(rt; first_case(rt.alloc(), &TAKINGS)?, None);
+    Ok(())
+}
+
+/// The first call of a journal that is not answered as it should be, and whether it has failed then.
+fn first_wrong_failed(alloc: Global) -> Result<(Option<usize>, bool), Fail> {
     let disk = OneFaultDisk::of(small(alloc, BLOCKS, &[], &[])?, THIRD_COMMIT);
-    let Ok(mut deck) = Deck::open(alloc, disk) else {
-        assert!(rt; false, "it is not opened");
-        return Ok(());
+    let Some(mut deck) = opened(alloc, disk) else {
+        return fail("it is not opened");
     };
-    assert_eq!(rt; first_wrong(alloc, &mut deck, &FAILED)?, None);
-    assert!(rt; deck.aborted());
+    let wrong = first_wrong(alloc, &mut deck, &FAILED)?;
+    Ok((wrong, deck.aborted()))
+}
+
+#[test]
+fn a_journal_that_failed_gives_its_entries(rt: HostRuntime) -> Result<(), Fail> {
+    assert_eq!(rt; first_wrong_failed(rt.alloc())?, (None, true));
     Ok(())
 }

@@ -1,16 +1,15 @@
 //! A script whose homes are worked out by hand, on a new journal: it is stopped after every number of calls of the disk
 //! and crashed in five ways, and the recovery of each image is stopped and crashed in the same ways.
 
-use crate::contents::{EIGHT, Left, is_left};
-use crate::frames::Frame;
-use crate::images::{BLOCKS, difference};
+use crate::contents::{EIGHT, Left};
+use crate::frames::{Frame, Wanted};
+use crate::images::{BLOCKS, crashed, difference, fail, zeros};
 use crate::lives::Call;
 use crate::model::Homes;
 use crate::stops::{NEW, SECTORS, run, stopped};
-use jb_block::{BlockSize, Width};
+use jb_block::Width;
 use jb_disk::{FuseDisk, MemoryDisk};
 use jb_front::format;
-use jb_recover::recover;
 use std::alloc::Global;
 use std::test::Fail;
 
@@ -91,18 +90,11 @@ const SETTLED: [Homes; 7] = [
 
 /// A new journal of 33 blocks with 16 homes of zeros.
 fn formatted(alloc: Global) -> Result<MemoryDisk, Fail> {
-    let mut disk = MemoryDisk::new(alloc, BlockSize::OneKib, BLOCKS)?;
+    let mut disk = zeros(alloc, BLOCKS)?;
     if format(&mut disk, 33, 0, UUID, Width::Narrow).is_err() {
-        return Err("it is not made".into());
+        return fail("it is not made");
     }
     Ok(disk)
-}
-
-/// What a crash may leave: of the homes, and before the log.
-#[derive(Drop)]
-struct Wanted {
-    left: Left,
-    frame: Frame,
 }
 
 /// The versions of the sectors from one place on: the newest ones.
@@ -116,14 +108,22 @@ fn newest_from(place: usize) -> [u32; SECTORS] {
     choice
 }
 
+/// Whether what a crash leaves of a disk by this choice has other contents than an image.
+fn differs(
+    disk: &MemoryDisk,
+    choice: &[u32; SECTORS],
+    image: &mut MemoryDisk,
+) -> Result<bool, Fail> {
+    Ok(difference(image, &mut crashed(disk, choice)?, 0)?.is_some())
+}
+
 /// The last of the pending sectors whose newest content is another one than its old content.
-fn last_sector(alloc: Global, disk: &MemoryDisk) -> Result<usize, Fail> {
-    let mut old = disk.crash(&[])?;
+fn last_sector(disk: &MemoryDisk) -> Result<usize, Fail> {
+    let mut old = crashed(disk, &[])?;
     let mut last: usize = 0;
     for step in [16, 8, 4, 2, 1] {
         let further = last.saturating_add(step);
-        let mut new = disk.crash(&newest_from(further))?;
-        if difference(alloc, &mut old, &mut new, 0)?.is_some() {
+        if differs(disk, &newest_from(further), &mut old)? {
             last = further;
         }
     }
@@ -150,34 +150,25 @@ fn choice(number: u32, last: usize) -> [u32; SECTORS] {
 
 /// Recovers what a crash left. It has what stands before the log, then too, and homes that may be left.
 fn mend(alloc: Global, found: &mut MemoryDisk, wanted: &Wanted) -> Result<(), Fail> {
-    if !wanted.frame.is_kept(alloc, found)? || recover(alloc, found).is_err() {
-        return Err("it is not recovered".into());
+    match wanted.first_wrong(alloc, found, 33)? {
+        Some(wrong) => fail(wrong),
+        None => Ok(()),
     }
-    if !wanted.frame.is_kept(alloc, found)? {
-        return Err("what stands before the log has changed".into());
-    }
-    if !is_left(alloc, found, 33, &wanted.left)? {
-        return Err("the homes are none that may be left".into());
-    }
-    Ok(())
 }
 
 /// Recovers what each choice leaves of a disk.
 fn mend_each(alloc: Global, disk: &MemoryDisk, wanted: &Wanted) -> Result<(), Fail> {
-    let last = last_sector(alloc, disk)?;
+    let last = last_sector(disk)?;
     for number in 0..CHOICES {
-        mend(alloc, &mut disk.crash(&choice(number, last))?, wanted)?;
+        mend(alloc, &mut crashed(disk, &choice(number, last))?, wanted)?;
     }
     Ok(())
 }
 
 /// Whether a disk has other contents than an image that a crash left, or may have them after one more crash.
-fn is_changed(alloc: Global, disk: &MemoryDisk, found: &MemoryDisk) -> Result<bool, Fail> {
-    let mut was = found.crash(&[])?;
-    let mut old = disk.crash(&[])?;
-    let mut new = disk.crash(&newest_from(0))?;
-    let is_old = difference(alloc, &mut was, &mut old, 0)?.is_none();
-    Ok(!is_old || difference(alloc, &mut was, &mut new, 0)?.is_some())
+fn is_changed(disk: &MemoryDisk, found: &MemoryDisk) -> Result<bool, Fail> {
+    let mut was = crashed(found, &[])?;
+    Ok(differs(disk, &[0; SECTORS], &mut was)? || differs(disk, &newest_from(0), &mut was)?)
 }
 
 /// Stops the recovery of an image after every number of calls and crashes it by each choice; how many images that are.
@@ -186,7 +177,7 @@ fn mend_stopped(alloc: Global, found: &MemoryDisk, wanted: &Wanted) -> Result<u6
     let mut images: u64 = 0;
     for calls in 0..MOST {
         let (once, ended) = stopped(alloc, found, calls)?;
-        if calls == 0 || is_changed(alloc, &once, found)? {
+        if calls == 0 || is_changed(&once, found)? {
             mend_each(alloc, &once, wanted)?;
         }
         images = images.saturating_add(u64::from(CHOICES));
@@ -194,15 +185,15 @@ fn mend_stopped(alloc: Global, found: &MemoryDisk, wanted: &Wanted) -> Result<u6
             return Ok(images);
         }
     }
-    Err("a recovery never ends".into())
+    fail("a recovery never ends")
 }
 
 /// Crashes a disk by each choice and stops the recovery of each image; how many images that are.
 fn mend_all(alloc: Global, disk: &MemoryDisk, wanted: &Wanted) -> Result<u64, Fail> {
-    let last = last_sector(alloc, disk)?;
+    let last = last_sector(disk)?;
     let mut images: u64 = 0;
     for number in 0..CHOICES {
-        let found = disk.crash(&choice(number, last))?;
+        let found = crashed(disk, &choice(number, last))?;
         images = images.saturating_add(mend_stopped(alloc, &found, wanted)?);
     }
     Ok(images)
@@ -215,22 +206,26 @@ fn is_worked(homes: &Homes) -> bool {
     SETTLED.contains(homes) || unwritten == SETTLED[1]
 }
 
+/// A script that is stopped after so many calls: what a crash may leave, how many images are recovered, and whether it
+/// ended.
+fn images_at(alloc: Global, calls: u64) -> Result<(Left, u64, bool), Fail> {
+    let (fuse, left, ended) = run(alloc, FuseDisk::of(formatted(alloc)?, calls), &SCRIPT)?;
+    let frame = Frame::of(alloc, &mut formatted(alloc)?, 1)?;
+    let images = mend_all(alloc, &fuse.into_inner(), &Wanted { left, frame })?;
+    Ok((left, images, ended))
+}
+
 #[test]
 fn a_script_may_be_stopped_and_crashed_at_every_call(rt: HostRuntime) -> Result<(), Fail> {
-    let alloc = rt.alloc();
     let mut images: u64 = 0;
     for calls in 0..MOST {
-        let (fuse, left, ended) = run(alloc, FuseDisk::of(formatted(alloc)?, calls), &SCRIPT)?;
+        let (left, further, ended) = images_at(rt.alloc(), calls)?;
         assert!(rt; is_worked(&left.was) && is_worked(&left.becomes), "{calls}");
-        let frame = Frame::of(alloc, &mut formatted(alloc)?, 1)?;
-        let wanted = Wanted { left, frame };
-        images = images.saturating_add(mend_all(alloc, &fuse.into_inner(), &wanted)?);
+        images = images.saturating_add(further);
         if ended {
-            assert_eq!(rt; left.was, SETTLED[6]);
-            assert_eq!(rt; (calls, images), (139, 109515));
+            assert_eq!(rt; (calls, images, left.was), (139, 109515, SETTLED[6]));
             return Ok(());
         }
     }
-    assert!(rt; false, "it never ends");
-    Ok(())
+    fail("it never ends")
 }
