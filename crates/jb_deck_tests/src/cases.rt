@@ -7,6 +7,7 @@ use crate::scripts::{Step, first_wrong, opened};
 use jb_disk::MemoryDisk;
 use jb_recover::{Recovered, recover};
 use std::alloc::Global;
+use std::process::Abort;
 use std::test::Fail;
 
 /// A journal that is recovered and opened, the calls, the blocks of the disk after them, and what recovery then
@@ -40,12 +41,18 @@ pub enum Wrong {
     Home(u64),
 }
 
+/// The image of a case once it is recovered, or none where it is not.
+fn recovered(alloc: Global, case: &Case) -> Result<Option<MemoryDisk>, Fail> {
+    let mut disk = small(alloc, case.blocks, case.image, &[])?;
+    let is_recovered = recover(alloc, &mut disk).is_ok();
+    Ok(if is_recovered { Some(disk) } else { None })
+}
+
 /// The disk after the calls, or which is the first that does not answer as it should.
 fn played(alloc: Global, case: &Case) -> Result<Result<MemoryDisk, Wrong>, Fail> {
-    let mut disk = small(alloc, case.blocks, case.image, &[])?;
-    if recover(alloc, &mut disk).is_err() {
+    let Some(disk) = recovered(alloc, case)? else {
         return Ok(Err(Wrong::Opening));
-    }
+    };
     let Some(mut deck) = opened(alloc, disk) else {
         return Ok(Err(Wrong::Opening));
     };
@@ -126,11 +133,17 @@ fn first_wrong_of(alloc: Global, case: &Case) -> Result<Option<Wrong>, Fail> {
 }
 
 /// The first case in which something is wrong, and what.
-pub fn first_case(alloc: Global, cases: &[Case]) -> Result<Option<(&'static str, Wrong)>, Fail> {
+fn first_case(alloc: Global, cases: &[Case]) -> Result<Option<(&'static str, Wrong)>, Fail> {
     for case in cases {
         if let Some(wrong) = first_wrong_of(alloc, case)? {
             return Ok(Some((case.name, wrong)));
         }
     }
     Ok(None)
+}
+
+/// Nothing is wrong in any of these cases. A table is long to prove beside anything else, so a test only names one.
+pub fn assert_cases(rt: &impl Abort, alloc: Global, cases: &[Case]) -> Result<(), Fail> {
+    assert_eq!(rt; first_case(alloc, cases)?, None);
+    Ok(())
 }

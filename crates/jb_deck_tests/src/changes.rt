@@ -10,6 +10,7 @@ use jb_disk::MemoryDisk;
 use jb_front::{renumber, widen};
 use jb_recover::{Recovered, recover};
 use std::alloc::Global;
+use std::process::Abort;
 use std::test::Fail;
 
 /// The next number of a journal, and how wide its block numbers are.
@@ -20,7 +21,9 @@ type Committed = (Told, Recovered);
 
 /// A name, whether the journal is widened before it is opened, or renumbered; the rows of the small image that differ
 /// before, and the next number and the width after.
-const CHANGED: [(&str, bool, &[Row], Told); 5] = [
+type Changed<'a> = (&'a str, bool, &'a [Row], Told);
+
+const CHANGED: [Changed<'static>; 5] = [
     (
         "no number left, renumbered",
         false,
@@ -119,13 +122,18 @@ fn used_after(
     Ok(Some((told, differs, committed(alloc, disk)?)))
 }
 
-#[test]
-fn journals_that_were_changed_in_their_place_are_opened(rt: HostRuntime) -> Result<(), Fail> {
-    for (name, widens, rows, told) in &CHANGED {
-        let seen = used_after(rt.alloc(), *widens, rows)?;
+/// The journals of these rows are opened, and used.
+fn assert_changed(rt: &impl Abort, alloc: Global, rows: &[Changed<'_>]) -> Result<(), Fail> {
+    for (name, widens, rows, told) in rows {
+        let seen = used_after(alloc, *widens, rows)?;
         assert_eq!(rt; seen, Some((*told, None, Some(six(*told)))), "{name}");
     }
     Ok(())
+}
+
+#[test]
+fn journals_that_were_changed_in_their_place_are_opened(rt: HostRuntime) -> Result<(), Fail> {
+    assert_changed(&rt, rt.alloc(), &CHANGED)
 }
 
 /// A name, the rows of the small image that differ, the handle that is committed, whether its transaction is then

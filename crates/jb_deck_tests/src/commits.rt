@@ -1,6 +1,6 @@
 //! Batches that are committed while the log has room, and that are refused.
 
-use crate::cases::{Case, first_case};
+use crate::cases::{Case, assert_cases};
 use crate::images::{BLOCKS, HOMES, MAGIC, Row};
 use crate::rounds::{SIX, SIX_COPIES};
 use crate::scripts::{Refusal, Step};
@@ -211,6 +211,5 @@ const CASES: [Case; 7] = [
 
 #[test]
 fn batches_are_committed_as_worked_by_hand(rt: HostRuntime) -> Result<(), Fail> {
-    assert_eq!(rt; first_case(rt.alloc(), &CASES)?, None);
-    Ok(())
+    assert_cases(&rt, rt.alloc(), &CASES)
 }

@@ -119,6 +119,33 @@ fn disk_of<D: Disk + Drop>(opened: Result<Deck<D>, (D, OpenFault)>) -> (D, Optio
     }
 }
 
+/// Whether what is left mends where a call is the last one; and whether the journal was opened.
+fn mends_last(
+    alloc: Global,
+    case: Case<'_>,
+    wanted: &mut Wanted,
+    call: u64,
+) -> Result<(bool, Option<bool>), Fail> {
+    let before = small(alloc, BLOCKS, case.0, &[])?;
+    let (fuse, opened) = disk_of(Deck::open(alloc, FuseDisk::of(before, call)));
+    Ok((all_mend(alloc, &fuse.into_inner(), wanted, opened)?, opened))
+}
+
+/// The same where a call alone fails.
+fn mends_alone(
+    alloc: Global,
+    case: Case<'_>,
+    wanted: &mut Wanted,
+    call: u64,
+) -> Result<(bool, Option<bool>), Fail> {
+    let before = small(alloc, BLOCKS, case.0, &[])?;
+    let (faulty, opened) = disk_of(Deck::open(alloc, OneFaultDisk::of(before, call)));
+    Ok((
+        all_mend(alloc, &faulty.into_inner(), wanted, opened)?,
+        opened,
+    ))
+}
+
 /// Whether what is left mends where a call is the last one, and where it alone fails; and whether the journal was
 /// opened.
 fn mends_at(
@@ -127,12 +154,8 @@ fn mends_at(
     wanted: &mut Wanted,
     call: u64,
 ) -> Result<(bool, bool), Fail> {
-    let before = small(alloc, BLOCKS, case.0, &[])?;
-    let (fuse, ended) = disk_of(Deck::open(alloc, FuseDisk::of(before, call)));
-    let last = all_mend(alloc, &fuse.into_inner(), wanted, ended)?;
-    let before = small(alloc, BLOCKS, case.0, &[])?;
-    let (faulty, once) = disk_of(Deck::open(alloc, OneFaultDisk::of(before, call)));
-    let alone = all_mend(alloc, &faulty.into_inner(), wanted, once)?;
+    let (last, ended) = mends_last(alloc, case, wanted, call)?;
+    let (alone, once) = mends_alone(alloc, case, wanted, call)?;
     let mends = ended.is_some() && once == ended && last && alone;
     Ok((mends, ended == Some(true)))
 }

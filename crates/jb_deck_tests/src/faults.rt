@@ -8,6 +8,7 @@ use jb_block::Width;
 use jb_disk::{MemoryDisk, OneFaultDisk};
 use jb_recover::{Recovered, recover};
 use std::alloc::Global;
+use std::process::Abort;
 use std::test::Fail;
 
 /// The sync that fails, by its number among the calls of the disk: opening the small image makes 34; then the
@@ -98,11 +99,16 @@ fn seen(alloc: Global, row: &Given) -> Result<Option<Seen>, Fail> {
     }
 }
 
-#[test]
-fn syncs_that_fail_leave_what_is_worked_out_by_hand(rt: HostRuntime) -> Result<(), Fail> {
-    for row in &ROWS {
+/// The rows are as they were worked out.
+fn assert_rows(rt: &impl Abort, alloc: Global, rows: &[Given]) -> Result<(), Fail> {
+    for row in rows {
         let wanted = (report(row.2), row.2.3, None);
-        assert_eq!(rt; seen(rt.alloc(), row)?, Some(wanted), "{}", row.0);
+        assert_eq!(rt; seen(alloc, row)?, Some(wanted), "{}", row.0);
     }
     Ok(())
+}
+
+#[test]
+fn syncs_that_fail_leave_what_is_worked_out_by_hand(rt: HostRuntime) -> Result<(), Fail> {
+    assert_rows(&rt, rt.alloc(), &ROWS)
 }

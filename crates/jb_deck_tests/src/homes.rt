@@ -1,6 +1,6 @@
 //! Journals whose transactions go home, or are recovered, between two batches; and homes that are freed.
 
-use crate::cases::{Case, first_case};
+use crate::cases::{Case, assert_cases};
 use crate::images::{BLOCKS, HOMES, MAGIC};
 use crate::scripts::Step;
 use jb_deck::FreeFault;
@@ -122,6 +122,5 @@ const FREES: [Case; 5] = [
 
 #[test]
 fn homes_are_freed_as_worked_by_hand(rt: HostRuntime) -> Result<(), Fail> {
-    assert_eq!(rt; first_case(rt.alloc(), &FREES)?, None);
-    Ok(())
+    assert_cases(&rt, rt.alloc(), &FREES)
 }

@@ -7,6 +7,7 @@ use jb_deck::{CheckpointFault, Deck, FreeFault, OpenFault};
 use jb_disk::MemoryDisk;
 use jb_super::SuperFault;
 use std::alloc::Global;
+use std::process::Abort;
 use std::test::Fail;
 
 const ZEROS: [u32; 4] = [0, 0, 0, 0];
@@ -16,7 +17,9 @@ type Told = (u64, u32, Width);
 
 /// A name, the rows of the small image that differ, what the journal says of itself, and the rows that opening it
 /// changes.
-const OPENED: [(&str, &[Row], Told, &[Row]); 11] = [
+type Opened<'a> = (&'a str, &'a [Row], Told, &'a [Row]);
+
+const OPENED: [Opened<'static>; 11] = [
     ("as it is made", &[], (2, 32, Width::Narrow), &[]),
     (
         "a later number, and an older one",
@@ -92,7 +95,9 @@ const OPENED: [(&str, &[Row], Told, &[Row]); 11] = [
 ];
 
 /// A name, how many blocks the disk has, the rows of the small image that differ, and the fault.
-const REFUSED: [(&str, u64, &[Row], OpenFault); 14] = [
+type Refused<'a> = (&'a str, u64, &'a [Row], OpenFault);
+
+const REFUSED: [Refused<'static>; 14] = [
     ("no block", 0, &[], OpenFault::Super(SuperFault::ShortBlock)),
     (
         "a disk that is cut",
@@ -209,13 +214,18 @@ fn opens(
     Ok(Some((told, is_new, differs)))
 }
 
-#[test]
-fn journals_are_opened_as_worked_by_hand(rt: HostRuntime) -> Result<(), Fail> {
-    for (name, rows, told, after) in &OPENED {
-        let seen = opens(rt.alloc(), rows, after)?;
+/// The journals of these rows are opened.
+fn assert_opened(rt: &impl Abort, alloc: Global, rows: &[Opened<'_>]) -> Result<(), Fail> {
+    for (name, rows, told, after) in rows {
+        let seen = opens(alloc, rows, after)?;
         assert_eq!(rt; seen, Some((*told, true, None)), "{name}");
     }
     Ok(())
+}
+
+#[test]
+fn journals_are_opened_as_worked_by_hand(rt: HostRuntime) -> Result<(), Fail> {
+    assert_opened(&rt, rt.alloc(), &OPENED)
 }
 
 /// Why a journal is not opened, and the first block that has changed.
@@ -231,11 +241,16 @@ fn refusal(
     Ok(Some((fault, difference(&mut disk, &mut wanted, 0)?)))
 }
 
-#[test]
-fn journals_are_refused_and_stay(rt: HostRuntime) -> Result<(), Fail> {
-    for (name, blocks, rows, fault) in &REFUSED {
-        let seen = refusal(rt.alloc(), *blocks, rows)?;
+/// The journals of these rows are refused.
+fn assert_refused(rt: &impl Abort, alloc: Global, rows: &[Refused<'_>]) -> Result<(), Fail> {
+    for (name, blocks, rows, fault) in rows {
+        let seen = refusal(alloc, *blocks, rows)?;
         assert_eq!(rt; seen, Some((*fault, None)), "{name}");
     }
     Ok(())
+}
+
+#[test]
+fn journals_are_refused_and_stay(rt: HostRuntime) -> Result<(), Fail> {
+    assert_refused(&rt, rt.alloc(), &REFUSED)
 }

@@ -1,6 +1,6 @@
 //! Batches that make room in the log and go round it.
 
-use crate::cases::{Case, first_case};
+use crate::cases::{Case, assert_cases};
 use crate::images::{BLOCKS, HOMES, Row};
 use crate::scripts::Step;
 use std::test::Fail;
@@ -203,6 +203,5 @@ const ROUNDS: [Case; 4] = [
 
 #[test]
 fn batches_go_round_the_log_as_worked_by_hand(rt: HostRuntime) -> Result<(), Fail> {
-    assert_eq!(rt; first_case(rt.alloc(), &ROUNDS)?, None);
-    Ok(())
+    assert_cases(&rt, rt.alloc(), &ROUNDS)
 }

@@ -1,6 +1,6 @@
 //! Trails that are taken from the front.
 
-use crate::cases::{Case, first_case};
+use crate::cases::{Case, assert_cases};
 use crate::images::{BLOCKS, HOMES, fail, small};
 use crate::rounds::{SIX, SIX_COPIES};
 use crate::scripts::{Refusal, Step, first_wrong, opened};
@@ -74,8 +74,7 @@ const FAILED: [Step; 8] = [
 
 #[test]
 fn trails_are_taken_as_worked_by_hand(rt: HostRuntime) -> Result<(), Fail> {
-    assert_eq!(rt; first_case(rt.alloc(), &TAKINGS)?, None);
-    Ok(())
+    assert_cases(&rt, rt.alloc(), &TAKINGS)
 }
 
 /// The first call of a journal that is not answered as it should be, and whether it has failed then.
