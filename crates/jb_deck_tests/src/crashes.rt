@@ -160,7 +160,8 @@ fn mends_at(
     Ok((mends, ended == Some(true)))
 }
 
-/// After how many calls the journal is open; as an error, the first number of calls of which what is left does not mend.
+/// After how many calls the journal is open; as an error, the first number of calls after which what is left does not
+/// mend.
 fn opened_after(alloc: Global, case: Case<'_>) -> Result<Result<u64, u64>, Fail> {
     let mut wanted = make_wanted(alloc, case)?;
     for call in 0..MOST {
