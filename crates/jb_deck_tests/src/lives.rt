@@ -116,17 +116,20 @@ fn commit<D: Disk>(
     let Some(batch) = prepared(alloc, first, stopped(alloc, first, call)?, shape)? else {
         return fail("it was planned before");
     };
-    match settled_by(deck, batch)? {
+    match settled_by(deck, batch, states.len())? {
         None => Ok(None),
         Some(settled) => Ok(Some(left_after(&states, settled)?)),
     }
 }
 
-/// Commits a batch; after a fault, how many groups are settled.
-fn settled_by<D: Disk>(deck: &mut Deck<D>, batch: Prepared) -> Result<Option<usize>, Fail> {
-    let bounds = batch.groups().len();
+/// Commits a batch whose groups take the homes through so many states; after a fault, how many groups are settled.
+fn settled_by<D: Disk>(
+    deck: &mut Deck<D>,
+    batch: Prepared,
+    states: usize,
+) -> Result<Option<usize>, Fail> {
     match deck.commit_batch(batch, STAMP) {
-        Ok(done) if done.entries().len().saturating_add(1) == bounds => Ok(None),
+        Ok(done) if done.entries().len().saturating_add(1) == states => Ok(None),
         Ok(_) => fail("a group is missing"),
         Err(BatchFault::DeviceFault { settled }) => Ok(Some(settled.entries().len())),
         Err(fault) => {
