@@ -1,20 +1,26 @@
 #!/usr/bin/env python3
 """What each crate takes of a gate: run it beside one, and end it with Ctrl-C, or let it end once the gate has.
 
-    rt ci > gate.log 2>&1 & compare/gate_times.py
+    rt ci > gate.log 2>&1 & compare/gate_times.py [FOLDER]
 
-It reads the list of processes every second and prints a row for each crate: seconds by the clock of its proof, of its
-tests' proof (of NAME_tests in the row of NAME) and of its edits, and processor seconds of all three. Of a prover that
-starts and ends between two looks nothing is seen.
+It reads the list of processes every second and prints a row for each crate: processor seconds of its proof, of its
+tests' proof (of NAME_tests in the row of NAME) and of its edits, and after each the seconds by the clock. Processor
+seconds grow with the load of the machine: only rows of one run, or of runs side by side, can be compared. With a
+FOLDER, proofs and tests count only where they run below it. Of a prover that starts and ends between two looks
+nothing is seen.
 """
 import os
 import re
+import sys
 import time
 
 TICK = os.sysconf("SC_CLK_TCK")
 
 
-def provers():
+KINDS = ("proof", "tests", "edits")
+
+
+def provers(below):
     """Each prover that runs: its process, its crate, what it proves, and the processor seconds that it has used."""
     found = {}
     for pid in filter(str.isdigit, os.listdir("/proc")):
@@ -31,6 +37,8 @@ def provers():
         name = words[words.index("--crate-name") + 1]
         is_of_tests = name.endswith("_tests") or "--test" in words
         kind = "edits" if "/rt-edit-" in folder else "tests" if is_of_tests else "proof"
+        if kind != "edits" and not folder.startswith(below):
+            continue
         seconds = sum(map(int, fields[11:15])) / TICK  # its own, and those of the copies of it that have ended
         found[pid] = (fields[1], (pid, name.removesuffix("_tests"), kind, seconds))
     return [it for parent, it in found.values() if parent not in found]
@@ -49,13 +57,21 @@ def is_at_work():
     return False
 
 
+def cell(clock, used, crate, kind):
+    """Processor seconds of a crate's proof, tests or edits, and seconds by the clock; of all crates where none is named."""
+    processor = sum(it for (_, *key), it in used.items() if key[1] == kind and crate in (key[0], None))
+    by_the_clock = sum(it for key, it in clock.items() if key[1] == kind and crate in (key[0], None))
+    return f"{processor:.0f} ({by_the_clock:.0f})" if by_the_clock else ""
+
+
 def main():
+    below = os.path.abspath(sys.argv[1]) if len(sys.argv) > 1 else ""
     clock, used, began = {}, {}, time.monotonic()
     last, idle = began, 0
     try:
         while idle < 30:
             time.sleep(1)
-            now, found = time.monotonic(), provers()
+            now, found = time.monotonic(), provers(below)
             for crate, kind in {(it[1], it[2]) for it in found}:
                 clock[crate, kind] = clock.get((crate, kind), 0) + now - last
             for pid, crate, kind, seconds in found:
@@ -63,11 +79,9 @@ def main():
             last, idle = now, 0 if is_at_work() else idle + 1
     except KeyboardInterrupt:
         pass
-    print("| Crate | Proof | Tests | Edits | Processor seconds |\n|---|---|---|---|---|")
-    for crate in sorted({it[0] for it in clock}):
-        row = [round(clock.get((crate, kind), 0)) for kind in ("proof", "tests", "edits")]
-        row.append(round(sum(seconds for key, seconds in used.items() if key[1] == crate)))
-        print(f"| {crate} | {' | '.join(map(str, row))} |")
+    print("| Crate | Proof | Tests | Edits |\n|---|---|---|---|")
+    for crate in [*sorted({it[0] for it in clock}), None]:
+        print(f"| {crate or 'all'} | {' | '.join(cell(clock, used, crate, kind) for kind in KINDS)} |")
     print(f"\n{round(last - began - idle)} seconds in all, {round(sum(used.values()))} processor seconds of the prover.")
 
 
