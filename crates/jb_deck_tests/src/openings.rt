@@ -1,13 +1,12 @@
 //! Journals that are opened, and that are refused.
 
-use crate::images::{BLOCKS, MAGIC, Row, difference, small};
+use crate::images::{BLOCKS, MAGIC, Row, Wrong, assert_right, difference, found, small};
 use crate::scripts::opened;
 use jb_block::{BlockSize, Width};
 use jb_deck::{CheckpointFault, Deck, FreeFault, OpenFault};
-use jb_disk::MemoryDisk;
+use jb_disk::{Disk, MemoryDisk};
 use jb_super::SuperFault;
 use std::alloc::Global;
-use std::process::Abort;
 use std::test::Fail;
 
 const ZEROS: [u32; 4] = [0, 0, 0, 0];
@@ -17,9 +16,9 @@ type Told = (u64, u32, Width);
 
 /// A name, the rows of the small image that differ, what the journal says of itself, and the rows that opening it
 /// changes.
-type Opened<'a> = (&'a str, &'a [Row], Told, &'a [Row]);
+type Opened = (&'static str, &'static [Row], Told, &'static [Row]);
 
-const OPENED: [Opened<'static>; 11] = [
+static OPENED: [Opened; 11] = [
     ("as it is made", &[], (2, 32, Width::Narrow), &[]),
     (
         "a later number, and an older one",
@@ -95,9 +94,9 @@ const OPENED: [Opened<'static>; 11] = [
 ];
 
 /// A name, how many blocks the disk has, the rows of the small image that differ, and the fault.
-type Refused<'a> = (&'a str, u64, &'a [Row], OpenFault);
+type Refused = (&'static str, u64, &'static [Row], OpenFault);
 
-const REFUSED: [Refused<'static>; 14] = [
+static REFUSED: [Refused; 14] = [
     ("no block", 0, &[], OpenFault::Super(SuperFault::ShortBlock)),
     (
         "a disk that is cut",
@@ -197,60 +196,81 @@ fn is_idle(deck: &mut Deck<MemoryDisk>) -> bool {
         && deck.write_free(5, &[1, 2]) == Err(FreeFault::NotFree)
 }
 
-/// What the journal of an image with these rows says of itself, whether it is new, and the first block in which it then
-/// differs from the image with further rows.
-fn opens(
-    alloc: Global,
-    rows: &[Row],
-    after: &[Row],
-) -> Result<Option<(Told, bool, Option<u64>)>, Fail> {
-    let mut wanted = small(alloc, BLOCKS, rows, after)?;
+/// What is wrong with the journal of an image with these rows, and the first block in which it then differs from the
+/// image with further rows.
+fn first_wrong_opened(alloc: Global, of: &Opened) -> Result<Option<Wrong>, Fail> {
+    let (row, rows, told, after) = *of;
     let Some(mut deck) = opened(alloc, small(alloc, BLOCKS, rows, &[])?) else {
-        return Ok(None);
+        return found(row, "it is not opened", 0);
     };
-    let told = (deck.next_number(), deck.usable(), deck.shape().width);
-    let is_new = is_new(&mut deck);
-    let differs = difference(&mut deck.close(), &mut wanted, 0)?;
-    Ok(Some((told, is_new, differs)))
+    if (deck.next_number(), deck.usable(), deck.shape().width) != told || !is_new(&mut deck) {
+        return found(row, "what it says of itself", 0);
+    }
+    first_other(alloc, row, &mut deck.close(), rows, after)
 }
 
-/// The journals of these rows are opened.
-fn assert_opened(rt: &impl Abort, alloc: Global, rows: &[Opened<'_>]) -> Result<(), Fail> {
-    for (name, rows, told, after) in rows {
-        let seen = opens(alloc, rows, after)?;
-        assert_eq!(rt; seen, Some((*told, true, None)), "{name}");
+/// The first block in which a disk is not the small image with these rows and then those.
+fn first_other(
+    alloc: Global,
+    row: &'static str,
+    disk: &mut MemoryDisk,
+    rows: &[Row],
+    after: &[Row],
+) -> Result<Option<Wrong>, Fail> {
+    let mut wanted = small(alloc, disk.blocks(), rows, after)?;
+    match difference(disk, &mut wanted, 0)? {
+        Some(place) => found(row, "block", place),
+        None => Ok(None),
     }
-    Ok(())
+}
+
+/// What is wrong with the first of these journals that is not opened as it should be.
+fn first_wrong_of_opened(alloc: Global) -> Result<Option<Wrong>, Fail> {
+    for row in &OPENED {
+        let wrong = first_wrong_opened(alloc, row)?;
+        if wrong.is_some() {
+            return Ok(wrong);
+        }
+    }
+    Ok(None)
 }
 
 #[test]
 fn journals_are_opened_as_worked_by_hand(rt: HostRuntime) -> Result<(), Fail> {
-    assert_opened(&rt, rt.alloc(), &OPENED)
-}
-
-/// Why a journal is not opened, and the first block that has changed.
-fn refusal(
-    alloc: Global,
-    blocks: u64,
-    rows: &[Row],
-) -> Result<Option<(OpenFault, Option<u64>)>, Fail> {
-    let mut wanted = small(alloc, blocks, rows, &[])?;
-    let Err((mut disk, fault)) = Deck::open(alloc, small(alloc, blocks, rows, &[])?) else {
-        return Ok(None);
-    };
-    Ok(Some((fault, difference(&mut disk, &mut wanted, 0)?)))
-}
-
-/// The journals of these rows are refused.
-fn assert_refused(rt: &impl Abort, alloc: Global, rows: &[Refused<'_>]) -> Result<(), Fail> {
-    for (name, blocks, rows, fault) in rows {
-        let seen = refusal(alloc, *blocks, rows)?;
-        assert_eq!(rt; seen, Some((*fault, None)), "{name}");
-    }
+    assert_right(&rt, first_wrong_of_opened(rt.alloc())?);
     Ok(())
+}
+
+/// The disk of a journal that is refused, and why.
+fn refused(alloc: Global, disk: MemoryDisk) -> Option<(MemoryDisk, OpenFault)> {
+    Deck::open(alloc, disk).err()
+}
+
+/// What is wrong where a journal is not refused so, or has changed.
+fn first_wrong_refused(alloc: Global, of: &Refused) -> Result<Option<Wrong>, Fail> {
+    let (row, blocks, rows, fault) = *of;
+    let Some((mut disk, told)) = refused(alloc, small(alloc, blocks, rows, &[])?) else {
+        return found(row, "it is opened", 0);
+    };
+    if told != fault {
+        return found(row, "the refusal", 0);
+    }
+    first_other(alloc, row, &mut disk, rows, &[])
+}
+
+/// What is wrong with the first of these journals that is not refused as it should be.
+fn first_wrong_of_refused(alloc: Global) -> Result<Option<Wrong>, Fail> {
+    for row in &REFUSED {
+        let wrong = first_wrong_refused(alloc, row)?;
+        if wrong.is_some() {
+            return Ok(wrong);
+        }
+    }
+    Ok(None)
 }
 
 #[test]
 fn journals_are_refused_and_stay(rt: HostRuntime) -> Result<(), Fail> {
-    assert_refused(&rt, rt.alloc(), &REFUSED)
+    assert_right(&rt, first_wrong_of_refused(rt.alloc())?);
+    Ok(())
 }

@@ -1,7 +1,7 @@
 //! Calls of a journal, with the answers that are worked out by hand.
 
 use crate::groups::STAMP;
-use crate::images::put_words;
+use crate::images::{fail, put_words};
 use jb_block::{BlockSize, Width};
 use jb_deck::{
     Batch, BatchFault, Checked, CheckpointFault, Deck, Done, Entry, FreeFault, Prepared, is_batch,
@@ -116,6 +116,14 @@ pub fn refused(fault: BatchFault) -> (Refusal, Option<Kept>) {
 /// The journal on a disk, or none where it is not opened.
 pub fn opened<D: Disk + Drop>(alloc: Global, disk: D) -> Option<Deck<D>> {
     Deck::open(alloc, disk).ok()
+}
+
+/// The journal on a disk.
+pub fn opening<D: Disk + Drop>(alloc: Global, disk: D) -> Result<Deck<D>, Fail> {
+    match opened(alloc, disk) {
+        Some(deck) => Ok(deck),
+        None => fail("it is not opened"),
+    }
 }
 
 /// The ticket of the next handle.
