@@ -1,16 +1,18 @@
 //! Trails that are taken from the front.
 
 use crate::cases::{Case, assert_cases};
-use crate::images::{BLOCKS, HOMES, fail, small};
+use crate::faults::faulty;
+use crate::images::{BLOCKS, HOMES, Wrong, assert_right, found};
 use crate::rounds::{SIX, SIX_COPIES};
-use crate::scripts::{Refusal, Step, first_wrong, opened};
+use crate::scripts::{Refusal, Step, first_wrong};
 use jb_block::Width;
-use jb_disk::OneFaultDisk;
+use jb_deck::Deck;
+use jb_disk::Disk;
 use std::alloc::Global;
 use std::test::Fail;
 
 /// Entries are taken where their groups are home and their tickets are below the one that is given; the last stays.
-const TAKINGS: [Case; 1] = [Case {
+static TAKINGS: [Case; 1] = [Case {
     name: "a trail that is taken",
     blocks: BLOCKS,
     image: &[],
@@ -60,8 +62,11 @@ const TAKINGS: [Case; 1] = [Case {
 /// reads and writes the superblock, and syncs.
 const THIRD_COMMIT: u64 = 46;
 
+/// What a failure of it names.
+const ROW: &str = "a journal that failed";
+
 /// Two groups, of which one is home, and a third that does not come to the disk.
-const FAILED: [Step; 8] = [
+static FAILED: [Step; 8] = [
     Step::Commits("h\n", &[(0, 1, 2, 1)]),
     Step::Commits("h\n", &[(1, 2, 3, 1)]),
     Step::Checkpoints(2, 0),
@@ -77,18 +82,25 @@ fn trails_are_taken_as_worked_by_hand(rt: HostRuntime) -> Result<(), Fail> {
     assert_cases(&rt, rt.alloc(), &TAKINGS)
 }
 
-/// The first call of a journal that is not answered as it should be, and whether it has failed then.
-fn first_wrong_failed(alloc: Global) -> Result<(Option<usize>, bool), Fail> {
-    let disk = OneFaultDisk::of(small(alloc, BLOCKS, &[], &[])?, THIRD_COMMIT);
-    let Some(mut deck) = opened(alloc, disk) else {
-        return fail("it is not opened");
-    };
-    let wrong = first_wrong(alloc, &mut deck, &FAILED)?;
-    Ok((wrong, deck.aborted()))
+/// What is wrong with a journal of which the third commit fails.
+fn first_wrong_failed(alloc: Global) -> Result<Option<Wrong>, Fail> {
+    match faulty(alloc, THIRD_COMMIT)? {
+        Some(mut deck) => first_wrong_called(alloc, &mut deck),
+        None => found(ROW, "it is not opened", 0),
+    }
+}
+
+/// The first call of such a journal that is not answered as it should be, or that it has not failed then.
+fn first_wrong_called<D: Disk>(alloc: Global, deck: &mut Deck<D>) -> Result<Option<Wrong>, Fail> {
+    let wrong = first_wrong(alloc, ROW, deck, &FAILED)?;
+    if wrong.is_none() && !deck.aborted() {
+        return found(ROW, "it is not aborted", 0);
+    }
+    Ok(wrong)
 }
 
 #[test]
 fn a_journal_that_failed_gives_its_entries(rt: HostRuntime) -> Result<(), Fail> {
-    assert_eq!(rt; first_wrong_failed(rt.alloc())?, (None, true));
+    assert_right(&rt, first_wrong_failed(rt.alloc())?);
     Ok(())
 }
