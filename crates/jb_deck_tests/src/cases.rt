@@ -3,8 +3,7 @@
 
 use crate::groups::{Laid, lay_group};
 use crate::images::{Row, Wrong, assert_right, crashed, difference, found, put_rows, small};
-use crate::scripts::{Step, first_wrong, opened};
-use jb_deck::Deck;
+use crate::scripts::{Step, called};
 use jb_disk::MemoryDisk;
 use jb_recover::{Recovered, recover};
 use std::alloc::Global;
@@ -24,36 +23,21 @@ pub struct Case {
     pub after: &'static [Row],
 }
 
-/// The journal of a case, recovered and opened, or none where it is not.
-fn begun(alloc: Global, case: &Case) -> Result<Option<Deck<MemoryDisk>>, Fail> {
+/// The image of a case once it is recovered, or none where it is not.
+fn recovered(alloc: Global, case: &Case) -> Result<Option<MemoryDisk>, Fail> {
     let mut disk = small(alloc, case.blocks, case.image, &[])?;
     let is_recovered = recover(alloc, &mut disk).is_ok();
-    Ok(if is_recovered {
-        opened(alloc, disk)
-    } else {
-        None
-    })
+    Ok(if is_recovered { Some(disk) } else { None })
 }
 
 /// The first thing of a case that is wrong.
 fn first_wrong_of(alloc: Global, case: &Case) -> Result<Option<Wrong>, Fail> {
-    match begun(alloc, case)? {
-        Some(deck) => first_wrong_called(alloc, case, deck),
-        None => found(case.name, "it is not recovered or not opened", 0),
-    }
-}
-
-/// The first thing that is wrong when a journal is called by a case's script, or after that.
-fn first_wrong_called(
-    alloc: Global,
-    case: &Case,
-    mut deck: Deck<MemoryDisk>,
-) -> Result<Option<Wrong>, Fail> {
-    let wrong = first_wrong(alloc, case.name, &mut deck, case.steps)?;
-    let mut disk = deck.close();
-    match wrong {
-        Some(_) => Ok(wrong),
-        None => first_wrong_left(alloc, case, &mut disk),
+    let Some(disk) = recovered(alloc, case)? else {
+        return found(case.name, "it is not recovered", 0);
+    };
+    match called(alloc, case.name, disk, case.steps)? {
+        Ok(mut disk) => first_wrong_left(alloc, case, &mut disk),
+        Err(wrong) => Ok(Some(wrong)),
     }
 }
 
@@ -124,19 +108,10 @@ fn first_wrong_home(
     }
 }
 
-/// What is wrong with the first of these cases in which something is.
-fn first_wrong_of_cases(alloc: Global, cases: &[Case]) -> Result<Option<Wrong>, Fail> {
-    for case in cases {
-        let wrong = first_wrong_of(alloc, case)?;
-        if wrong.is_some() {
-            return Ok(wrong);
-        }
-    }
-    Ok(None)
-}
-
 /// Nothing is wrong in any of these cases.
 pub fn assert_cases(rt: &impl Abort, alloc: Global, cases: &[Case]) -> Result<(), Fail> {
-    assert_right(rt, first_wrong_of_cases(alloc, cases)?);
+    for case in cases {
+        assert_right(rt, first_wrong_of(alloc, case)?);
+    }
     Ok(())
 }

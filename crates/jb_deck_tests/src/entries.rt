@@ -5,7 +5,7 @@ use crate::lives::{push_handle, put_word};
 use crate::scripts::{opened, settles};
 use jb_block::Width;
 use jb_deck::Deck;
-use jb_disk::MemoryDisk;
+use jb_disk::{Disk, MemoryDisk};
 use jb_front::format;
 use jb_handle::{Stopped, Words};
 use std::alloc::Global;
@@ -42,37 +42,33 @@ fn begun(alloc: Global) -> Result<Option<Deck<MemoryDisk>>, Fail> {
     Ok(if is_made { opened(alloc, disk) } else { None })
 }
 
-/// What is wrong with the entry of such a handle in such a journal.
+/// What is wrong with a row.
 fn first_wrong_of(alloc: Global, of: &Given) -> Result<Option<Wrong>, Fail> {
-    let (row, copies, frees, blocks) = *of;
-    let handles = one(alloc, copies, frees)?;
-    let Some(mut deck) = begun(alloc)? else {
-        return found(row, "it is not made or not opened", 0);
-    };
-    if settles(alloc, &mut deck, handles, &[(0, 1, 2, blocks)])? {
-        Ok(None)
-    } else {
-        found(
-            row,
-            "it is no entry with so many blocks:",
-            u64::from(blocks),
-        )
+    match begun(alloc)? {
+        Some(mut deck) => first_wrong_entry(alloc, of, &mut deck),
+        None => found(of.0, "it is not made or not opened", 0),
     }
 }
 
-/// What is wrong with the first of the rows whose entry is not as it should be.
-fn first_wrong_of_rows(alloc: Global) -> Result<Option<Wrong>, Fail> {
-    for row in &ROWS {
-        let wrong = first_wrong_of(alloc, row)?;
-        if wrong.is_some() {
-            return Ok(wrong);
-        }
+/// What is wrong with the entry of a row's handle in a new journal.
+fn first_wrong_entry<D: Disk>(
+    alloc: Global,
+    of: &Given,
+    deck: &mut Deck<D>,
+) -> Result<Option<Wrong>, Fail> {
+    let (row, copies, frees, blocks) = *of;
+    let handles = one(alloc, copies, frees)?;
+    if settles(alloc, deck, handles, &[(0, 1, 2, blocks)])? {
+        Ok(None)
+    } else {
+        found(row, "it is no entry of so many blocks:", u64::from(blocks))
     }
-    Ok(None)
 }
 
 #[test]
 fn an_entry_has_the_blocks_of_its_group(rt: HostRuntime) -> Result<(), Fail> {
-    assert_right(&rt, first_wrong_of_rows(rt.alloc())?);
+    for row in &ROWS {
+        assert_right(&rt, first_wrong_of(rt.alloc(), row)?);
+    }
     Ok(())
 }

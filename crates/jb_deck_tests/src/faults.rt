@@ -5,9 +5,8 @@ use crate::frames::Frame;
 use crate::images::{
     BLOCKS, HOMES, MAGIC, Row, Wrong, assert_right, crashed, difference, found, small,
 };
-use crate::scripts::{Refusal, opened, refuses};
+use crate::scripts::{Refusal, Step, called, opened};
 use jb_block::Width;
-use jb_deck::Deck;
 use jb_disk::{MemoryDisk, OneFaultDisk};
 use jb_recover::{Recovered, recover};
 use std::alloc::Global;
@@ -19,83 +18,80 @@ const BEFORE_COMMIT: u64 = 39;
 
 const AFTER_COMMIT: u64 = 41;
 
+/// The copy at home.
+const COPY: [Row; 1] = [(HOMES + 5, 0, [MAGIC, 0x0102_0304, 0, 0])];
+
 /// A name, the call that fails, which of the pending sectors are new, what recovery reports (transactions, copies,
-/// revoked copies and the next number), and whether all is as it was once the journal is opened again.
+/// revoked copies and the next number); and once the journal is opened again, from which place on all is as it was, but
+/// for these rows.
 type Given = (
     &'static str,
     u64,
     &'static [u32],
     (u32, u32, u32, u64),
-    bool,
+    u64,
+    &'static [Row],
 );
 
 static ROWS: [Given; 6] = [
     (
-        "after the commit block, all old",
+        "the commit block is written, and all sectors are old",
         AFTER_COMMIT,
         &[],
         (0, 0, 0, 3),
-        false,
+        HOMES,
+        &[],
     ),
     (
-        "after the commit block, the second sector new",
+        "the commit block is written, and the second sector is new",
         AFTER_COMMIT,
         &[0, 1],
         (0, 0, 0, 3),
-        false,
+        HOMES,
+        &[],
     ),
     (
-        "after the commit block, the first sector new",
+        "the commit block is written, and the first sector is new",
         AFTER_COMMIT,
         &[1],
         (1, 1, 0, 4),
-        false,
+        HOMES,
+        &COPY,
     ),
     (
-        "before the commit block, all old",
+        "no commit block is written, and all sectors are old",
         BEFORE_COMMIT,
         &[],
         (0, 0, 0, 2),
-        true,
+        0,
+        &[],
     ),
     (
-        "before the commit block, the first sector of the superblock new",
+        "no commit block is written, and the first sector of the superblock is new",
         BEFORE_COMMIT,
         &[1],
         (0, 0, 0, 3),
-        false,
+        HOMES,
+        &[],
     ),
-    // The number of the revoke block is the next one.
+    // Its number is the next one.
     (
-        "before the commit block, the first sector of the revoke block new",
+        "no commit block is written, and the first sector of the revoke block is new",
         BEFORE_COMMIT,
         &[0, 0, 1],
         (0, 0, 0, 2),
-        true,
+        0,
+        &[],
     ),
 ];
 
-/// The copy at home.
-const COPY: [Row; 1] = [(HOMES + 5, 0, [MAGIC, 0x0102_0304, 0, 0])];
-
-/// The journal of the small image on a disk of which this call fails, or none where it is not opened.
-pub fn faulty(alloc: Global, call: u64) -> Result<Option<Deck<OneFaultDisk<MemoryDisk>>>, Fail> {
-    let disk = small(alloc, BLOCKS, &[], &[])?;
-    Ok(opened(alloc, OneFaultDisk::of(disk, call)))
-}
-
-/// What the choice leaves of the disk of a journal whose commit meets a fault, or none where it meets none.
-fn left(
-    alloc: Global,
-    mut deck: Deck<OneFaultDisk<MemoryDisk>>,
-    choice: &[u32],
-) -> Result<Option<MemoryDisk>, Fail> {
-    let made = (16, 8, Width::Narrow);
-    let lines = "h w5=c03b399801020304 r7\n";
-    let is_met = refuses(alloc, &mut deck, 0, made, lines, Refusal::DeviceFault(0))?;
-    let left = crashed(&deck.close().into_inner(), choice)?;
-    Ok(if is_met { Some(left) } else { None })
-}
+/// The commit, which meets the fault.
+static COMMIT: [Step; 1] = [Step::Refuses(
+    0,
+    (16, 8, Width::Narrow),
+    "h w5=c03b399801020304 r7\n",
+    Refusal::DeviceFault(0),
+)];
 
 /// What recovery reports of a disk, if what stands before the log is as it was, before and after.
 fn mended(alloc: Global, disk: &mut MemoryDisk, frame: &Frame) -> Result<Option<Recovered>, Fail> {
@@ -110,70 +106,68 @@ fn mended(alloc: Global, disk: &mut MemoryDisk, frame: &Frame) -> Result<Option<
 
 /// What is wrong with a row.
 fn first_wrong_of(alloc: Global, of: &Given) -> Result<Option<Wrong>, Fail> {
-    let Some(deck) = faulty(alloc, of.1)? else {
-        return found(of.0, "it is not opened", 0);
-    };
-    match left(alloc, deck, of.2)? {
-        Some(disk) => first_wrong_left(alloc, of, disk),
-        None => found(of.0, "the commit is not refused so", 0),
+    let disk = OneFaultDisk::of(small(alloc, BLOCKS, &[], &[])?, of.1);
+    match called(alloc, of.0, disk, &COMMIT)? {
+        Ok(disk) => first_wrong_left(alloc, of, &disk.into_inner()),
+        Err(wrong) => Ok(Some(wrong)),
     }
 }
 
-/// What is wrong with what is left of a row, once it is recovered, and once it is opened again.
-fn first_wrong_left(
-    alloc: Global,
-    of: &Given,
-    mut disk: MemoryDisk,
-) -> Result<Option<Wrong>, Fail> {
-    match first_wrong_mended(alloc, of, &mut disk)? {
+/// What is wrong with what a row's choice leaves of a disk, once it is recovered, and once it is opened again.
+fn first_wrong_left(alloc: Global, of: &Given, disk: &MemoryDisk) -> Result<Option<Wrong>, Fail> {
+    let mut left = crashed(disk, of.2)?;
+    match first_wrong_mended(alloc, of, &mut left)? {
         Some(wrong) => Ok(Some(wrong)),
-        None => first_wrong_opened(alloc, of, disk),
+        None => first_wrong_opened(alloc, of, left),
     }
+}
+
+/// What stands before the log of the small image.
+fn front(alloc: Global) -> Result<Frame, Fail> {
+    Frame::of(alloc, &mut small(alloc, BLOCKS, &[], &[])?, 1)
 }
 
 /// What is wrong with what is left of a row once it is recovered.
 fn first_wrong_mended(
     alloc: Global,
     of: &Given,
-    disk: &mut MemoryDisk,
+    left: &mut MemoryDisk,
 ) -> Result<Option<Wrong>, Fail> {
-    let frame = Frame::of(alloc, &mut small(alloc, BLOCKS, &[], &[])?, 1)?;
-    match mended(alloc, disk, &frame)? {
-        Some(told) if told == report(of.3) => Ok(None),
-        Some(_) => found(of.0, "what recovery reports", 0),
-        None => found(
-            of.0,
-            "it is not recovered, or what stands before the log has changed",
-            0,
-        ),
+    let told = mended(alloc, left, &front(alloc)?)?;
+    if told == Some(report(of.3)) {
+        return Ok(None);
     }
+    let what = if told.is_some() {
+        "what recovery reports"
+    } else {
+        "it is not recovered, or what stands before the log has changed"
+    };
+    found(of.0, what, 0)
 }
 
 /// What is wrong with what is left of a row once it is opened again.
-fn first_wrong_opened(alloc: Global, of: &Given, disk: MemoryDisk) -> Result<Option<Wrong>, Fail> {
-    let Some(deck) = opened(alloc, disk) else {
+fn first_wrong_opened(alloc: Global, of: &Given, left: MemoryDisk) -> Result<Option<Wrong>, Fail> {
+    let Some(deck) = opened(alloc, left) else {
         return found(of.0, "it is not opened again", 0);
     };
     let number = deck.next_number();
-    first_wrong_block(alloc, of, number, &mut deck.close())
+    let mut disk = deck.close();
+    if number == of.3.3 {
+        first_wrong_block(alloc, of, &mut disk)
+    } else {
+        found(of.0, "the next number", number)
+    }
 }
 
-/// Whether the next number of what is left of a row is wrong, or the first block that is not as in the small image
-/// with the copy at home, if it is to be.
+/// The first block of what is left of a row that is not as it should be.
 fn first_wrong_block(
     alloc: Global,
     of: &Given,
-    number: u64,
     disk: &mut MemoryDisk,
 ) -> Result<Option<Wrong>, Fail> {
-    let (row, _, _, told, same) = *of;
-    if number != told.3 {
-        return found(row, "the next number", number);
-    }
-    let rows = if told.1 > 0 { COPY.as_slice() } else { &[] };
-    let from = if same { 0 } else { HOMES };
-    match difference(disk, &mut small(alloc, BLOCKS, rows, &[])?, from)? {
-        Some(place) => found(row, "block", place),
+    let mut wanted = small(alloc, BLOCKS, of.5, &[])?;
+    match difference(disk, &mut wanted, of.4)? {
+        Some(place) => found(of.0, "block", place),
         None => Ok(None),
     }
 }

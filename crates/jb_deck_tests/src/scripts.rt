@@ -38,6 +38,8 @@ pub enum Step {
     Takes(u64, &'static [Told]),
     /// The whole trail, and the number of the next transaction.
     Ends(&'static [Told], u64),
+    /// The journal has failed.
+    Aborted,
 }
 
 /// Why a batch is refused.
@@ -278,6 +280,7 @@ fn answers<D: Disk>(alloc: Global, deck: &mut Deck<D>, step: &Step) -> Result<bo
         Step::Word(home, copy) => Ok(has_word(deck, home, copy)),
         Step::Takes(past, entries) => Ok(takes(deck, past, entries)),
         Step::Ends(trail, next) => Ok(are(deck.trail(), trail) && deck.next_number() == next),
+        Step::Aborted => Ok(deck.aborted()),
     }
 }
 
@@ -294,4 +297,23 @@ pub fn first_wrong<D: Disk>(
         }
     }
     Ok(None)
+}
+
+/// The disk of the journal of a row after these calls, or what is wrong first.
+pub fn called<D: Disk + Drop>(
+    alloc: Global,
+    row: &'static str,
+    disk: D,
+    steps: &[Step],
+) -> Result<Result<D, Wrong>, Fail> {
+    let Some(mut deck) = opened(alloc, disk) else {
+        let what = "it is not opened";
+        return Ok(Err(Wrong { row, what, at: 0 }));
+    };
+    let wrong = first_wrong(alloc, row, &mut deck, steps)?;
+    let disk = deck.close();
+    Ok(match wrong {
+        Some(wrong) => Err(wrong),
+        None => Ok(disk),
+    })
 }

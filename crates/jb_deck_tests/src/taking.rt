@@ -1,13 +1,11 @@
 //! Trails that are taken from the front.
 
 use crate::cases::{Case, assert_cases};
-use crate::faults::faulty;
-use crate::images::{BLOCKS, HOMES, Wrong, assert_right, found};
+use crate::images::{BLOCKS, HOMES, Wrong, assert_right, small};
 use crate::rounds::{SIX, SIX_COPIES};
-use crate::scripts::{Refusal, Step, first_wrong};
+use crate::scripts::{Refusal, Step, called};
 use jb_block::Width;
-use jb_deck::Deck;
-use jb_disk::Disk;
+use jb_disk::OneFaultDisk;
 use std::alloc::Global;
 use std::test::Fail;
 
@@ -62,11 +60,8 @@ static TAKINGS: [Case; 1] = [Case {
 /// reads and writes the superblock, and syncs.
 const THIRD_COMMIT: u64 = 46;
 
-/// What a failure of it names.
-const ROW: &str = "a journal that failed";
-
 /// Two groups, of which one is home, and a third that does not come to the disk.
-static FAILED: [Step; 8] = [
+static FAILED: [Step; 9] = [
     Step::Commits("h\n", &[(0, 1, 2, 1)]),
     Step::Commits("h\n", &[(1, 2, 3, 1)]),
     Step::Checkpoints(2, 0),
@@ -75,6 +70,7 @@ static FAILED: [Step; 8] = [
     Step::Takes(9, &[(0, 1, 2, 1)]),
     Step::Takes(9, &[]),
     Step::Ends(&[(1, 2, 3, 1)], 4),
+    Step::Aborted,
 ];
 
 #[test]
@@ -84,19 +80,8 @@ fn trails_are_taken_as_worked_by_hand(rt: HostRuntime) -> Result<(), Fail> {
 
 /// What is wrong with a journal of which the third commit fails.
 fn first_wrong_failed(alloc: Global) -> Result<Option<Wrong>, Fail> {
-    match faulty(alloc, THIRD_COMMIT)? {
-        Some(mut deck) => first_wrong_called(alloc, &mut deck),
-        None => found(ROW, "it is not opened", 0),
-    }
-}
-
-/// The first call of such a journal that is not answered as it should be, or that it has not failed then.
-fn first_wrong_called<D: Disk>(alloc: Global, deck: &mut Deck<D>) -> Result<Option<Wrong>, Fail> {
-    let wrong = first_wrong(alloc, ROW, deck, &FAILED)?;
-    if wrong.is_none() && !deck.aborted() {
-        return found(ROW, "it is not aborted", 0);
-    }
-    Ok(wrong)
+    let disk = OneFaultDisk::of(small(alloc, BLOCKS, &[], &[])?, THIRD_COMMIT);
+    Ok(called(alloc, "a journal that failed", disk, &FAILED)?.err())
 }
 
 #[test]
