@@ -3,8 +3,8 @@
 
 use crate::groups::{Laid, lay_group};
 use crate::images::{Row, Wrong, assert_right, crashed, difference, found, put_rows, small};
-use crate::scripts::{Step, called};
-use jb_disk::MemoryDisk;
+use crate::scripts::{Step, first_wrong, opened};
+use jb_disk::{Disk, MemoryDisk};
 use jb_recover::{Recovered, recover};
 use std::alloc::Global;
 use std::process::Abort;
@@ -21,6 +21,25 @@ pub struct Case {
     pub rows: &'static [Row],
     pub recovered: (u32, u32, u32, u64),
     pub after: &'static [Row],
+}
+
+/// The disk of the journal of a row after these calls, or what is wrong first.
+pub fn called<D: Disk + Drop>(
+    alloc: Global,
+    row: &'static str,
+    disk: D,
+    steps: &[Step],
+) -> Result<Result<D, Wrong>, Fail> {
+    let Some(mut deck) = opened(alloc, disk) else {
+        let what = "it is not opened";
+        return Ok(Err(Wrong { row, what, at: 0 }));
+    };
+    let wrong = first_wrong(alloc, row, &mut deck, steps)?;
+    let disk = deck.close();
+    Ok(match wrong {
+        Some(wrong) => Err(wrong),
+        None => Ok(disk),
+    })
 }
 
 /// The image of a case once it is recovered, or none where it is not.
@@ -57,13 +76,12 @@ fn first_wrong_left(
     disk: &mut MemoryDisk,
 ) -> Result<Option<Wrong>, Fail> {
     let mut wanted = small(alloc, case.blocks, case.image, &[])?;
-    lay(case, &mut wanted)?;
     let mut left = crashed(disk, &[])?;
     first_wrong_block(alloc, case, disk, &mut left, &mut wanted)
 }
 
-/// The first block of a disk, or of what a crash left of it, that is not as wanted; or what is wrong once that is
-/// recovered.
+/// The first block of a disk, or of what a crash left of it, that is not as the case's image with what its calls are
+/// to leave; or what is wrong once that is recovered.
 fn first_wrong_block(
     alloc: Global,
     case: &Case,
@@ -71,6 +89,7 @@ fn first_wrong_block(
     left: &mut MemoryDisk,
     wanted: &mut MemoryDisk,
 ) -> Result<Option<Wrong>, Fail> {
+    lay(case, wanted)?;
     if let Some(place) = difference(disk, wanted, 0)? {
         return found(case.name, "block", place);
     }

@@ -298,22 +298,3 @@ pub fn first_wrong<D: Disk>(
     }
     Ok(None)
 }
-
-/// The disk of the journal of a row after these calls, or what is wrong first.
-pub fn called<D: Disk + Drop>(
-    alloc: Global,
-    row: &'static str,
-    disk: D,
-    steps: &[Step],
-) -> Result<Result<D, Wrong>, Fail> {
-    let Some(mut deck) = opened(alloc, disk) else {
-        let what = "it is not opened";
-        return Ok(Err(Wrong { row, what, at: 0 }));
-    };
-    let wrong = first_wrong(alloc, row, &mut deck, steps)?;
-    let disk = deck.close();
-    Ok(match wrong {
-        Some(wrong) => Err(wrong),
-        None => Ok(disk),
-    })
-}

@@ -1,11 +1,10 @@
 //! Trails that are taken from the front.
 
-use crate::cases::{Case, assert_cases};
-use crate::images::{BLOCKS, HOMES, Wrong, assert_right, small};
+use crate::cases::{Case, assert_cases, called};
+use crate::images::{BLOCKS, HOMES, Wrong, assert_right, faulty};
 use crate::rounds::{SIX, SIX_COPIES};
-use crate::scripts::{Refusal, Step, called};
+use crate::scripts::{Refusal, Step};
 use jb_block::Width;
-use jb_disk::OneFaultDisk;
 use std::alloc::Global;
 use std::test::Fail;
 
@@ -80,7 +79,7 @@ fn trails_are_taken_as_worked_by_hand(rt: HostRuntime) -> Result<(), Fail> {
 
 /// What is wrong with a journal of which the third commit fails.
 fn first_wrong_failed(alloc: Global) -> Result<Option<Wrong>, Fail> {
-    let disk = OneFaultDisk::of(small(alloc, BLOCKS, &[], &[])?, THIRD_COMMIT);
+    let disk = faulty(alloc, THIRD_COMMIT)?;
     Ok(called(alloc, "a journal that failed", disk, &FAILED)?.err())
 }
 
