@@ -2,9 +2,11 @@
 //! recovery makes of these.
 
 use crate::groups::{Laid, lay_group};
-use crate::images::{Row, Wrong, assert_right, crashed, difference, found, put_rows, small};
+use crate::images::{
+    BLOCKS, Row, Wrong, assert_right, crashed, difference, found, put_rows, small,
+};
 use crate::scripts::{Step, first_wrong, opened};
-use jb_disk::{Disk, MemoryDisk};
+use jb_disk::{Disk, MemoryDisk, OneFaultDisk};
 use jb_recover::{Recovered, recover};
 use std::alloc::Global;
 use std::process::Abort;
@@ -24,7 +26,7 @@ pub struct Case {
 }
 
 /// The disk of the journal of a row after these calls, or what is wrong first.
-pub fn called<D: Disk + Drop>(
+fn called<D: Disk + Drop>(
     alloc: Global,
     row: &'static str,
     disk: D,
@@ -40,6 +42,21 @@ pub fn called<D: Disk + Drop>(
         Some(wrong) => Err(wrong),
         None => Ok(disk),
     })
+}
+
+/// The small image after these calls of its journal, on a disk of which the call of this number fails, or what is wrong
+/// first.
+pub fn called_with_fault(
+    alloc: Global,
+    row: &'static str,
+    call: u64,
+    steps: &[Step],
+) -> Result<Result<MemoryDisk, Wrong>, Fail> {
+    let disk = OneFaultDisk::of(small(alloc, BLOCKS, &[], &[])?, call);
+    match called(alloc, row, disk, steps)? {
+        Ok(disk) => Ok(Ok(disk.into_inner())),
+        Err(wrong) => Ok(Err(wrong)),
+    }
 }
 
 /// The image of a case once it is recovered, or none where it is not.

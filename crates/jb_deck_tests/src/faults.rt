@@ -1,9 +1,9 @@
 //! A commit of which one sync fails, and what a crash leaves of it then.
 
-use crate::cases::{called, report};
+use crate::cases::{called_with_fault, report};
 use crate::frames::Frame;
 use crate::images::{
-    BLOCKS, HOMES, MAGIC, Row, Wrong, assert_right, crashed, difference, faulty, found, small,
+    BLOCKS, HOMES, MAGIC, Row, Wrong, assert_right, crashed, difference, found, small,
 };
 use crate::scripts::{Refusal, Step, opened};
 use jb_block::Width;
@@ -95,8 +95,8 @@ static COMMIT: [Step; 1] = [Step::Refuses(
 
 /// What is wrong with a row.
 fn first_wrong_of(alloc: Global, of: &Given) -> Result<Option<Wrong>, Fail> {
-    match called(alloc, of.name, faulty(alloc, of.call)?, &COMMIT)? {
-        Ok(disk) => first_wrong_left(alloc, of, &disk.into_inner()),
+    match called_with_fault(alloc, of.name, of.call, &COMMIT)? {
+        Ok(disk) => first_wrong_left(alloc, of, &disk),
         Err(wrong) => Ok(Some(wrong)),
     }
 }
@@ -104,19 +104,25 @@ fn first_wrong_of(alloc: Global, of: &Given) -> Result<Option<Wrong>, Fail> {
 /// What is wrong with what a row's choice leaves of a disk, once it is recovered, and once it is opened again.
 fn first_wrong_left(alloc: Global, of: &Given, disk: &MemoryDisk) -> Result<Option<Wrong>, Fail> {
     let mut left = crashed(disk, of.choice)?;
-    match first_wrong_mended(alloc, of, &mut left, &front(alloc)?)? {
+    match first_wrong_mended(alloc, of, &mut left)? {
         Some(wrong) => Ok(Some(wrong)),
         None => first_wrong_opened(alloc, of, left),
     }
 }
 
-/// What stands before the log of the small image.
-fn front(alloc: Global) -> Result<Frame, Fail> {
-    Frame::of(alloc, &mut small(alloc, BLOCKS, &[], &[])?, 1)
+/// What is wrong with what is left of a row once it is recovered, or with what stands before the log.
+fn first_wrong_mended(
+    alloc: Global,
+    of: &Given,
+    left: &mut MemoryDisk,
+) -> Result<Option<Wrong>, Fail> {
+    let front = Frame::of(alloc, &mut small(alloc, BLOCKS, &[], &[])?, 1)?;
+    first_wrong_recovered(alloc, of, left, &front)
 }
 
-/// What is wrong with what is left of a row once it is recovered, or with what stands before the log, before and after.
-fn first_wrong_mended(
+/// What is wrong with what recovery reports of what is left of a row, or with what stands before the log, before and
+/// after.
+fn first_wrong_recovered(
     alloc: Global,
     of: &Given,
     left: &mut MemoryDisk,

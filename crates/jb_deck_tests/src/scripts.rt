@@ -144,7 +144,14 @@ pub fn next_ticket<D: Disk>(deck: &Deck<D>) -> u64 {
 /// Whether entries are these.
 fn are(entries: &[Entry], told: &[Told]) -> bool {
     for (entry, wanted) in entries.iter().zip(told) {
-        if (entry.first, entry.past, entry.number, entry.blocks) != *wanted {
+        let (first, past, number, blocks) = *wanted;
+        let told = Entry {
+            first,
+            past,
+            number,
+            blocks,
+        };
+        if *entry != told {
             return false;
         }
     }
@@ -236,9 +243,8 @@ pub fn refuses<D: Disk>(
     if limit < 3 || limit > 2147483646 {
         return Ok(false);
     }
-    let bs = BlockSize::OneKib;
     let shape = Shape {
-        bs,
+        bs: BlockSize::OneKib,
         homes,
         limit,
         width,

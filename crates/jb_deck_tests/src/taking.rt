@@ -1,7 +1,7 @@
 //! Trails that are taken from the front.
 
-use crate::cases::{Case, assert_cases, called};
-use crate::images::{BLOCKS, HOMES, Wrong, assert_right, faulty};
+use crate::cases::{Case, assert_cases, called_with_fault};
+use crate::images::{BLOCKS, HOMES, Wrong, assert_right};
 use crate::rounds::{SIX, SIX_COPIES};
 use crate::scripts::{Refusal, Step};
 use jb_block::Width;
@@ -79,8 +79,7 @@ fn trails_are_taken_as_worked_by_hand(rt: HostRuntime) -> Result<(), Fail> {
 
 /// What is wrong with a journal of which the third commit fails.
 fn first_wrong_failed(alloc: Global) -> Result<Option<Wrong>, Fail> {
-    let disk = faulty(alloc, THIRD_COMMIT)?;
-    Ok(called(alloc, "a journal that failed", disk, &FAILED)?.err())
+    Ok(called_with_fault(alloc, "a journal that failed", THIRD_COMMIT, &FAILED)?.err())
 }
 
 #[test]
