@@ -52,31 +52,38 @@ pub fn holds<D: Disk>(
     homes: &Homes,
     torn: Option<(usize, u32)>,
 ) -> Result<bool, Fail> {
-    let mut block = [0; 1024];
-    let mut wanted = [0; 1024];
-    let mut other = [0; 1024];
     for (home, number) in homes.iter().enumerate() {
-        read_at(disk, first.saturating_add(home as u64), &mut block)?;
-        fill(&mut wanted, *number);
-        let contents = match torn {
+        let other = match torn {
             Some((at, contents)) if at == home => contents,
             _ => *number,
         };
-        fill(&mut other, contents);
-        if !is_mixed(&block, &wanted, &other) {
+        if !has_either(disk, first.saturating_add(home as u64), *number, other)? {
             return Ok(false);
         }
     }
     Ok(true)
 }
 
+/// Whether each sector of the block at a place is of these contents or of the others.
+fn has_either<D: Disk>(disk: &mut D, place: u64, one: u32, other: u32) -> Result<bool, Fail> {
+    let mut block = [0; 1024];
+    let mut ours = [0; 1024];
+    let mut theirs = [0; 1024];
+    read_at(disk, place, &mut block)?;
+    fill(&mut ours, one);
+    fill(&mut theirs, other);
+    Ok(is_mixed(&block, &ours, &theirs))
+}
+
 /// Whether each sector of a block is that of one block or of the other.
-fn is_mixed(block: &[u8], one: &[u8], other: &[u8]) -> bool {
-    let (Some(low), Some(high)) = (block.get(..512), block.get(512..)) else {
-        return false;
-    };
-    (one.get(..512) == Some(low) || other.get(..512) == Some(low))
-        && (one.get(512..) == Some(high) || other.get(512..) == Some(high))
+fn is_mixed(block: &[u8; 1024], one: &[u8; 1024], other: &[u8; 1024]) -> bool {
+    is_either(&block[..512], &one[..512], &other[..512])
+        && is_either(&block[512..], &one[512..], &other[512..])
+}
+
+/// Whether bytes are these or those.
+fn is_either(bytes: &[u8], one: &[u8], other: &[u8]) -> bool {
+    bytes == one || bytes == other
 }
 
 /// Whether the homes of a disk, from a place on, are among what a crash may leave.

@@ -101,6 +101,34 @@ fn after_each(
     Ok(states)
 }
 
+/// What the homes hold before a batch and after each of its groups, which are put into the model; none where no cut
+/// fits.
+fn states_of(
+    alloc: Global,
+    first: u64,
+    model: &mut Model,
+    call: (usize, &[Touch]),
+    shape: Shape,
+) -> Result<Option<Vec<Homes>>, Fail> {
+    match bounds(alloc, first, call, shape)? {
+        Some(bounds) => Ok(Some(after_each(alloc, model, &bounds, call.1)?)),
+        None => Ok(None),
+    }
+}
+
+/// A batch with its plan, which was made before.
+fn planned(
+    alloc: Global,
+    first: u64,
+    call: (usize, &[Touch]),
+    shape: Shape,
+) -> Result<Prepared, Fail> {
+    match prepared(alloc, first, stopped(alloc, first, call)?, shape)? {
+        Some(batch) => Ok(batch),
+        None => fail("it was planned before"),
+    }
+}
+
 /// Commits a batch; after a fault, what a crash may leave.
 fn commit<D: Disk>(
     alloc: Global,
@@ -108,17 +136,23 @@ fn commit<D: Disk>(
     model: &mut Model,
     call: (usize, &[Touch]),
 ) -> Result<Option<Left>, Fail> {
-    let (first, shape) = (next_ticket(deck), deck.shape());
-    let Some(bounds) = bounds(alloc, first, call, shape)? else {
-        return Ok(None);
-    };
-    let states = after_each(alloc, model, &bounds, call.1)?;
-    let Some(batch) = prepared(alloc, first, stopped(alloc, first, call)?, shape)? else {
-        return fail("it was planned before");
-    };
-    match settled_by(deck, batch, states.len())? {
+    match states_of(alloc, next_ticket(deck), model, call, deck.shape())? {
+        Some(states) => commit_through(alloc, deck, call, &states),
         None => Ok(None),
-        Some(settled) => Ok(Some(left_after(&states, settled)?)),
+    }
+}
+
+/// Commits a batch that takes the homes through these states; after a fault, what a crash may leave.
+fn commit_through<D: Disk>(
+    alloc: Global,
+    deck: &mut Deck<D>,
+    call: (usize, &[Touch]),
+    states: &[Homes],
+) -> Result<Option<Left>, Fail> {
+    let batch = planned(alloc, next_ticket(deck), call, deck.shape())?;
+    match settled_by(deck, batch, states.len())? {
+        Some(settled) => Ok(Some(left_after(states, settled)?)),
+        None => Ok(None),
     }
 }
 
@@ -162,34 +196,34 @@ pub fn make_call<D: Disk>(
 ) -> Result<Option<Left>, Fail> {
     match call {
         Call::Commit(count, touches) => commit(alloc, deck, model, (count, touches)),
-        Call::Checkpoint => {
-            let stood = model.standing();
-            let is = model.checkpoint();
-            match deck.checkpoint_one() {
-                Ok(_) if is => Ok(None),
-                Err(CheckpointFault::Nothing) if !is => Ok(None),
-                Err(CheckpointFault::DeviceFault) if is => Ok(Some(only(stood))),
-                _ => fail("the checkpoint"),
-            }
-        }
-        Call::Write(home, contents) => {
-            let mut block = [0; 1024];
-            fill(&mut block, contents);
-            write(deck, model, (home, contents), &block)
-        }
+        Call::Checkpoint => checkpoint(deck, model),
+        Call::Write(home, contents) => write(deck, model, home, contents),
     }
 }
 
-/// Writes these contents, as this block, to a home.
+/// Checkpoints the oldest transaction; after a fault, what a crash may leave.
+fn checkpoint<D: Disk>(deck: &mut Deck<D>, model: &mut Model) -> Result<Option<Left>, Fail> {
+    let stood = model.standing();
+    let is = model.checkpoint();
+    match deck.checkpoint_one() {
+        Ok(_) if is => Ok(None),
+        Err(CheckpointFault::Nothing) if !is => Ok(None),
+        Err(CheckpointFault::DeviceFault) if is => Ok(Some(only(stood))),
+        _ => fail("the checkpoint"),
+    }
+}
+
+/// Writes these contents to a home; after a fault, what a crash may leave.
 fn write<D: Disk>(
     deck: &mut Deck<D>,
     model: &mut Model,
-    contents: (usize, u32),
-    block: &[u8],
+    home: usize,
+    number: u32,
 ) -> Result<Option<Left>, Fail> {
-    let (home, number) = contents;
+    let mut block = [0; 1024];
+    fill(&mut block, number);
     let is = model.is_free(home);
-    match deck.write_free(home as u64, block) {
+    match deck.write_free(home as u64, &block) {
         Ok(()) if is => {
             model.write(home, number);
             Ok(None)
