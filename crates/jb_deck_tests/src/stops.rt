@@ -1,15 +1,14 @@
 //! A script of a journal's calls of which a call of the disk fails, or every one from one on; what a crash then
 //! leaves is recovered, and recovery is broken off by a crash too.
 
-use crate::contents::{Left, only};
+use crate::contents::Left;
 use crate::frames::{Frame, Wanted};
-use crate::images::{BLOCKS, HOMES, Row, crashed, difference, fail, small};
-use crate::lives::{Call, make_call};
-use crate::model::{Homes, Model};
-use crate::scripts::{Refusal, refuses};
-use jb_block::Width;
-use jb_deck::{CheckpointFault, Deck, FreeFault, OpenFault};
-use jb_disk::{Disk, FuseDisk, MemoryDisk, OneFaultDisk};
+use crate::images::{
+    BLOCKS, HOMES, Row, Wrong, assert_right, crashed, difference, fail, found, small,
+};
+use crate::lives::Call;
+use crate::runs::{Ran, run_over, run_to};
+use jb_disk::{FuseDisk, MemoryDisk};
 use jb_recover::recover;
 use std::alloc::Global;
 use std::test::Fail;
@@ -34,7 +33,7 @@ const SOME: u32 = 6;
 
 /// A group with an escaped copy and a freed home, which is written; home 3, which is copied, freed, written and free
 /// to the end; groups that fill the log, and some that make room and go round its end; and all are checkpointed.
-pub const SCRIPT: [Call<'static>; 15] = [
+pub static SCRIPT: [Call<'static>; 15] = [
     Call::Commit(0, &[]),
     Call::Commit(1, &[(0, 5, Some(7)), (0, 7, None)]),
     Call::Write(7, 8),
@@ -93,7 +92,7 @@ pub const SCRIPT: [Call<'static>; 15] = [
 ];
 
 /// Homes of zeros, and words in block 0 after the superblock.
-const ROWS: [Row; 5] = [
+static ROWS: [Row; 5] = [
     (HOMES + 5, 0, [0, 0, 0, 0]),
     (0, 0x50, [7, 7, 7, 7]),
     (0, 0x1F0, [7, 7, 7, 7]),
@@ -106,59 +105,11 @@ pub fn before(alloc: Global) -> Result<MemoryDisk, Fail> {
     small(alloc, BLOCKS, &ROWS, &[])
 }
 
-/// What a crash may leave of a script that began with the small image.
-fn make_wanted(alloc: Global, left: Left) -> Result<Wanted, Fail> {
-    let frame = Frame::of(alloc, &mut before(alloc)?, 1)?;
+/// What a crash may leave of a disk that was as this one.
+pub fn wanted_of(alloc: Global, was: MemoryDisk, left: Left) -> Result<Wanted, Fail> {
+    let mut disk = was;
+    let frame = Frame::of(alloc, &mut disk, 1)?;
     Ok(Wanted { left, frame })
-}
-
-/// Whether a journal that is aborted refuses each call.
-fn is_aborted<D: Disk>(alloc: Global, deck: &mut Deck<D>) -> Result<bool, Fail> {
-    let other = (16, 7, Width::Narrow);
-    Ok(
-        deck.aborted()
-            && deck.checkpoint_one() == Err(CheckpointFault::Aborted)
-            && deck.write_free(16, &[]) == Err(FreeFault::Aborted)
-            && refuses(alloc, deck, 99, other, "h w1\n", Refusal::Aborted)?
-            && refuses(alloc, deck, 0, other, "", Refusal::Aborted)?,
-    )
-}
-
-/// Runs a script up to its first fault: the disk, what a crash may leave of it, and whether it met none.
-pub fn run<D: Disk + Drop>(
-    alloc: Global,
-    disk: D,
-    script: &[Call<'_>],
-) -> Result<(D, Left, bool), Fail> {
-    let homes: Homes = [0; 16];
-    let mut deck = match Deck::open(alloc, disk) {
-        Ok(deck) => deck,
-        Err((disk, OpenFault::DeviceFault)) => return Ok((disk, only(homes), false)),
-        Err(_) => return fail("it is not opened"),
-    };
-    let mut model = Model::new(alloc, homes, u64::from(deck.usable()));
-    let met = first_fault(alloc, &mut deck, &mut model, script)?;
-    let ended = met.is_none();
-    let left = met.unwrap_or(only(model.standing()));
-    Ok((deck.close(), left, ended))
-}
-
-/// Calls a journal by a script up to its first fault, after which it refuses each call: what a crash may leave then.
-fn first_fault<D: Disk>(
-    alloc: Global,
-    deck: &mut Deck<D>,
-    model: &mut Model,
-    script: &[Call<'_>],
-) -> Result<Option<Left>, Fail> {
-    for next in script {
-        if let Some(left) = make_call(alloc, deck, model, *next)? {
-            if !is_aborted(alloc, deck)? {
-                return fail("it is not aborted");
-            }
-            return Ok(Some(left));
-        }
-    }
-    Ok(None)
 }
 
 /// The choice of this number.
@@ -180,27 +131,49 @@ fn choice(number: u32) -> [u32; SECTORS] {
     choice
 }
 
-/// Whether what this choice leaves of a disk has block 0 as it was, and recovers to homes that may be left.
-fn mends(alloc: Global, disk: &MemoryDisk, choice: &[u32], wanted: &Wanted) -> Result<bool, Fail> {
-    let wrong = wanted.first_wrong(alloc, &mut crashed(disk, choice)?, HOMES)?;
-    Ok(wrong.is_none())
+/// What is wrong with what this choice leaves of a disk: it has block 0 as it was, and recovers to homes that may be
+/// left.
+pub fn wrong_left(
+    alloc: Global,
+    disk: &MemoryDisk,
+    choice: &[u32],
+    wanted: &Wanted,
+) -> Result<Option<&'static str>, Fail> {
+    let mut image = crashed(disk, choice)?;
+    wanted.first_wrong(alloc, &mut image, HOMES)
 }
 
-/// Whether what each of the first choices leaves does.
-fn all_mend(alloc: Global, disk: &MemoryDisk, choices: u32, wanted: &Wanted) -> Result<bool, Fail> {
+/// The first that is wrong with what each of the first choices leaves.
+fn first_wrong_left(
+    alloc: Global,
+    disk: &MemoryDisk,
+    choices: u32,
+    wanted: &Wanted,
+) -> Result<Option<&'static str>, Fail> {
     for number in 0..choices {
-        if !mends(alloc, disk, &choice(number), wanted)? {
-            return Ok(false);
+        let wrong = wrong_left(alloc, disk, &choice(number), wanted)?;
+        if wrong.is_some() {
+            return Ok(wrong);
         }
     }
-    Ok(true)
+    Ok(None)
 }
 
-/// A recovery of what a crash left, that is stopped after so many calls: its disk, and whether it ended before.
-pub fn stopped(alloc: Global, disk: &MemoryDisk, calls: u64) -> Result<(MemoryDisk, bool), Fail> {
+/// A recovery that is stopped: its disk, and whether it ended before.
+#[derive(Drop)]
+pub struct Once {
+    pub disk: MemoryDisk,
+    pub ended: bool,
+}
+
+/// A recovery of what a crash left, that is stopped after so many calls.
+pub fn stopped(alloc: Global, disk: &MemoryDisk, calls: u64) -> Result<Once, Fail> {
     let mut fuse = FuseDisk::of(crashed(disk, &[])?, calls);
     let ended = recover(alloc, &mut fuse).is_ok();
-    Ok((fuse.into_inner(), ended))
+    Ok(Once {
+        disk: fuse.into_inner(),
+        ended,
+    })
 }
 
 /// How many calls the recovery of what a crash left makes.
@@ -208,69 +181,109 @@ fn calls_of(alloc: Global, disk: &MemoryDisk) -> Result<u64, Fail> {
     let mut calls: u64 = 0;
     for step in [256, 128, 64, 32, 16, 8, 4, 2, 1] {
         let further = calls.saturating_add(step);
-        if !stopped(alloc, disk, further)?.1 {
+        if !stopped(alloc, disk, further)?.ended {
             calls = further;
         }
     }
     Ok(calls.saturating_add(1))
 }
 
-/// Whether what a crash left recovers to homes that may be left where recovery is stopped too, after any of its last
-/// calls: the ones before them only read.
-fn mends_whenever(alloc: Global, disk: &MemoryDisk, wanted: &Wanted) -> Result<bool, Fail> {
+/// The first that is wrong where the recovery of what a crash left is stopped after so many calls.
+fn wrong_once(
+    alloc: Global,
+    disk: &MemoryDisk,
+    calls: u64,
+    wanted: &Wanted,
+) -> Result<Option<&'static str>, Fail> {
+    let once = stopped(alloc, disk, calls)?;
+    first_wrong_left(alloc, &once.disk, SOME, wanted)
+}
+
+/// The first that is wrong where the recovery of what this choice leaves is stopped, after any of its last calls: the
+/// ones before them only read.
+fn first_wrong_once(
+    alloc: Global,
+    disk: &MemoryDisk,
+    wanted: &Wanted,
+) -> Result<Option<&'static str>, Fail> {
     let all = calls_of(alloc, disk)?;
     for calls in all.saturating_sub(LAST)..all {
-        let (once, _) = stopped(alloc, disk, calls)?;
-        if !all_mend(alloc, &once, SOME, wanted)? {
-            return Ok(false);
+        let wrong = wrong_once(alloc, disk, calls, wanted)?;
+        if wrong.is_some() {
+            return Ok(wrong);
         }
     }
-    Ok(true)
+    Ok(None)
 }
 
-/// Whether a script of which one call fails ends as one that is stopped there, and leaves the same disk.
-fn fails_alike(
-    alloc: Global,
-    calls: u64,
-    disk: &mut MemoryDisk,
-    ended: bool,
-) -> Result<bool, Fail> {
-    let (faulty, _, whole) = run(alloc, OneFaultDisk::of(before(alloc)?, calls), &SCRIPT)?;
-    Ok(whole == ended && difference(&mut faulty.into_inner(), disk, 0)?.is_none())
+/// Whether the script of which one call fails ends as one that is stopped there, and leaves the same disk.
+fn fails_alike(alloc: Global, call: u64, ran: &mut Ran<MemoryDisk>) -> Result<bool, Fail> {
+    let mut other = run_over(alloc, before(alloc)?, call, &SCRIPT)?;
+    Ok(other.ended == ran.ended && difference(&mut other.disk, &mut ran.disk, 0)?.is_none())
 }
 
-/// Whether what a script left that was stopped after so many calls mends, where recovery is stopped too, and is what it
-/// leaves where that call alone fails.
-fn mends_after(
+/// What is wrong with what a crash leaves of the script that was stopped after so many calls, where recovery is stopped
+/// too.
+fn wrong_mended(
     alloc: Global,
     number: u32,
-    disk: &mut MemoryDisk,
+    disk: &MemoryDisk,
     wanted: &Wanted,
-    ended: bool,
-) -> Result<bool, Fail> {
-    let found = crashed(disk, &choice(number % 10))?;
-    let last = all_mend(alloc, disk, ALL, wanted)? && mends_whenever(alloc, &found, wanted)?;
-    Ok(last && fails_alike(alloc, u64::from(number), disk, ended)?)
+) -> Result<Option<&'static str>, Fail> {
+    let image = crashed(disk, &choice(number % 10))?;
+    let wrong = first_wrong_left(alloc, disk, ALL, wanted)?;
+    if wrong.is_some() {
+        return Ok(wrong);
+    }
+    first_wrong_once(alloc, &image, wanted)
 }
 
-/// Whether what a script leaves mends where it is stopped after so many calls; and whether it ended before.
-fn mends_at(alloc: Global, number: u32) -> Result<(bool, bool), Fail> {
-    let fuse = FuseDisk::of(before(alloc)?, u64::from(number));
-    let (fuse, left, ended) = run(alloc, fuse, &SCRIPT)?;
-    let wanted = make_wanted(alloc, left)?;
-    let mends = mends_after(alloc, number, &mut fuse.into_inner(), &wanted, ended)?;
-    Ok((mends, ended))
+/// What is wrong with the script that was stopped after so many calls: what it left mends, and is what it leaves where
+/// that call alone fails.
+fn wrong_ran(
+    alloc: Global,
+    number: u32,
+    ran: &mut Ran<MemoryDisk>,
+) -> Result<Option<&'static str>, Fail> {
+    let wanted = wanted_of(alloc, before(alloc)?, ran.left)?;
+    let wrong = wrong_mended(alloc, number, &ran.disk, &wanted)?;
+    if wrong.is_some() || fails_alike(alloc, u64::from(number), ran)? {
+        return Ok(wrong);
+    }
+    Ok(Some("it leaves something else where one call fails"))
+}
+
+/// What is wrong with the script that is stopped after so many calls; and whether it ended before.
+fn wrong_at(alloc: Global, number: u32) -> Result<(Option<&'static str>, bool), Fail> {
+    let mut ran = run_to(alloc, before(alloc)?, u64::from(number), &SCRIPT)?;
+    let wrong = wrong_ran(alloc, number, &mut ran)?;
+    Ok((wrong, ran.ended))
+}
+
+/// What is wrong with the script that is stopped after the first number of calls where something is.
+fn first_wrong_stop(alloc: Global) -> Result<Option<Wrong>, Fail> {
+    for number in 0..MOST {
+        let (wrong, ended) = wrong_at(alloc, number)?;
+        if let Some(what) = wrong {
+            return found(what, "calls of the script", u64::from(number));
+        }
+        if ended {
+            return wrong_end(number);
+        }
+    }
+    fail("it never ends")
+}
+
+/// What is wrong with the script that makes so many calls.
+fn wrong_end(number: u32) -> Result<Option<Wrong>, Fail> {
+    if number == 151 {
+        return Ok(None);
+    }
+    found("the script ends", "calls", u64::from(number))
 }
 
 #[test]
 fn every_call_of_a_script_may_fail_or_be_the_last(rt: HostRuntime) -> Result<(), Fail> {
-    for number in 0..MOST {
-        let (mends, ended) = mends_at(rt.alloc(), number)?;
-        assert!(rt; mends, "{number}");
-        if ended {
-            assert_eq!(rt; number, 151);
-            return Ok(());
-        }
-    }
-    fail("it never ends")
+    assert_right(&rt, first_wrong_stop(rt.alloc())?);
+    Ok(())
 }

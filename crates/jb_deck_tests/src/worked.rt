@@ -2,14 +2,15 @@
 //! and crashed in five ways, and the recovery of each image is stopped and crashed in the same ways.
 
 use crate::contents::{EIGHT, Left};
-use crate::frames::{Frame, Wanted};
-use crate::images::{BLOCKS, crashed, difference, fail, zeros};
+use crate::draws::formatted;
+use crate::frames::Wanted;
+use crate::images::{Wrong, assert_right, crashed, difference, fail, found};
 use crate::lives::Call;
 use crate::model::Homes;
-use crate::stops::{NEW, SECTORS, run, stopped};
+use crate::runs::run_to;
+use crate::stops::{NEW, SECTORS, stopped, wanted_of, wrong_left};
 use jb_block::Width;
-use jb_disk::{FuseDisk, MemoryDisk};
-use jb_front::format;
+use jb_disk::MemoryDisk;
 use std::alloc::Global;
 use std::test::Fail;
 
@@ -24,7 +25,7 @@ const UUID: [u8; 16] = [0, 1, 2, 3, 4, 5, 6, 7, 8, 9, 10, 11, 12, 13, 14, 15];
 
 /// A group with an escaped copy and a freed home, which is written; three groups that fill the log, and two that make
 /// room and go round its end. Then they are checkpointed; the last call finds nothing.
-const SCRIPT: [Call<'static>; 12] = [
+static SCRIPT: [Call<'static>; 12] = [
     Call::Commit(1, &[(0, 5, Some(EIGHT)), (0, 7, None)]),
     Call::Write(7, 17),
     Call::Commit(
@@ -78,7 +79,7 @@ const SCRIPT: [Call<'static>; 12] = [
 ];
 
 /// The homes after the first handles: of none, of one, and so on to six. Home 7 is the second call's.
-const SETTLED: [Homes; 7] = [
+static SETTLED: [Homes; 7] = [
     [0; 16],
     [0, 0, 0, 0, 0, EIGHT, 0, 17, 0, 0, 0, 0, 0, 0, 0, 0],
     [20, 21, 22, 23, 24, 25, 0, 17, 0, 0, 0, 0, 0, 0, 0, 0],
@@ -89,12 +90,8 @@ const SETTLED: [Homes; 7] = [
 ];
 
 /// A new journal of 33 blocks with 16 homes of zeros.
-fn formatted(alloc: Global) -> Result<MemoryDisk, Fail> {
-    let mut disk = zeros(alloc, BLOCKS)?;
-    if format(&mut disk, 33, 0, UUID, Width::Narrow).is_err() {
-        return fail("it is not made");
-    }
-    Ok(disk)
+fn before(alloc: Global) -> Result<MemoryDisk, Fail> {
+    formatted(alloc, 33, 0, UUID, Width::Narrow)
 }
 
 /// The versions of the sectors from one place on: the newest ones.
@@ -148,9 +145,14 @@ fn choice(number: u32, last: usize) -> [u32; SECTORS] {
     choice
 }
 
-/// Recovers what a crash left. It has what stands before the log, then too, and homes that may be left.
-fn mend(alloc: Global, found: &mut MemoryDisk, wanted: &Wanted) -> Result<(), Fail> {
-    match wanted.first_wrong(alloc, found, 33)? {
+/// Recovers what this choice leaves of a disk. It has what stands before the log, then too, and homes that may be left.
+fn mend(
+    alloc: Global,
+    disk: &MemoryDisk,
+    choice: &[u32; SECTORS],
+    wanted: &Wanted,
+) -> Result<(), Fail> {
+    match wrong_left(alloc, disk, choice, wanted)? {
         Some(wrong) => fail(wrong),
         None => Ok(()),
     }
@@ -160,7 +162,7 @@ fn mend(alloc: Global, found: &mut MemoryDisk, wanted: &Wanted) -> Result<(), Fa
 fn mend_each(alloc: Global, disk: &MemoryDisk, wanted: &Wanted) -> Result<(), Fail> {
     let last = last_sector(disk)?;
     for number in 0..CHOICES {
-        mend(alloc, &mut crashed(disk, &choice(number, last))?, wanted)?;
+        mend(alloc, disk, &choice(number, last), wanted)?;
     }
     Ok(())
 }
@@ -171,15 +173,21 @@ fn is_changed(disk: &MemoryDisk, found: &MemoryDisk) -> Result<bool, Fail> {
     Ok(differs(disk, &[0; SECTORS], &mut was)? || differs(disk, &newest_from(0), &mut was)?)
 }
 
+/// Stops the recovery of an image after so many calls and crashes it by each choice; whether it ended before. Where
+/// nothing was written yet, that leaves the image itself, which is recovered once.
+fn mend_once(alloc: Global, image: &MemoryDisk, calls: u64, wanted: &Wanted) -> Result<bool, Fail> {
+    let once = stopped(alloc, image, calls)?;
+    if calls == 0 || is_changed(&once.disk, image)? {
+        mend_each(alloc, &once.disk, wanted)?;
+    }
+    Ok(once.ended)
+}
+
 /// Stops the recovery of an image after every number of calls and crashes it by each choice; how many images that are.
-/// Where nothing was written yet, they are the image itself, which is recovered once.
-fn mend_stopped(alloc: Global, found: &MemoryDisk, wanted: &Wanted) -> Result<u64, Fail> {
+fn mend_stopped(alloc: Global, image: &MemoryDisk, wanted: &Wanted) -> Result<u64, Fail> {
     let mut images: u64 = 0;
     for calls in 0..MOST {
-        let (once, ended) = stopped(alloc, found, calls)?;
-        if calls == 0 || is_changed(&once, found)? {
-            mend_each(alloc, &once, wanted)?;
-        }
+        let ended = mend_once(alloc, image, calls, wanted)?;
         images = images.saturating_add(u64::from(CHOICES));
         if ended {
             return Ok(images);
@@ -188,13 +196,24 @@ fn mend_stopped(alloc: Global, found: &MemoryDisk, wanted: &Wanted) -> Result<u6
     fail("a recovery never ends")
 }
 
+/// Stops the recovery of what this choice leaves of a disk; how many images that are.
+fn mend_left(
+    alloc: Global,
+    disk: &MemoryDisk,
+    choice: &[u32; SECTORS],
+    wanted: &Wanted,
+) -> Result<u64, Fail> {
+    let image = crashed(disk, choice)?;
+    mend_stopped(alloc, &image, wanted)
+}
+
 /// Crashes a disk by each choice and stops the recovery of each image; how many images that are.
 fn mend_all(alloc: Global, disk: &MemoryDisk, wanted: &Wanted) -> Result<u64, Fail> {
     let last = last_sector(disk)?;
     let mut images: u64 = 0;
     for number in 0..CHOICES {
-        let found = crashed(disk, &choice(number, last))?;
-        images = images.saturating_add(mend_stopped(alloc, &found, wanted)?);
+        let further = mend_left(alloc, disk, &choice(number, last), wanted)?;
+        images = images.saturating_add(further);
     }
     Ok(images)
 }
@@ -206,26 +225,47 @@ fn is_worked(homes: &Homes) -> bool {
     SETTLED.contains(homes) || unwritten == SETTLED[1]
 }
 
-/// A script that is stopped after so many calls: what a crash may leave, how many images are recovered, and whether it
-/// ended.
+/// The script that is stopped after so many calls: what a crash may leave, how many images are recovered, and whether
+/// it ended.
 fn images_at(alloc: Global, calls: u64) -> Result<(Left, u64, bool), Fail> {
-    let (fuse, left, ended) = run(alloc, FuseDisk::of(formatted(alloc)?, calls), &SCRIPT)?;
-    let frame = Frame::of(alloc, &mut formatted(alloc)?, 1)?;
-    let images = mend_all(alloc, &fuse.into_inner(), &Wanted { left, frame })?;
-    Ok((left, images, ended))
+    let ran = run_to(alloc, before(alloc)?, calls, &SCRIPT)?;
+    let wanted = wanted_of(alloc, before(alloc)?, ran.left)?;
+    let images = mend_all(alloc, &ran.disk, &wanted)?;
+    Ok((ran.left, images, ran.ended))
+}
+
+/// What is wrong with the script that is stopped after the first number of calls where something is.
+fn first_wrong_stop(alloc: Global) -> Result<Option<Wrong>, Fail> {
+    let mut images: u64 = 0;
+    for calls in 0..MOST {
+        let (left, further, ended) = images_at(alloc, calls)?;
+        if !is_worked(&left.was) || !is_worked(&left.becomes) {
+            return found("the homes of the script", "calls", calls);
+        }
+        images = images.saturating_add(further);
+        if ended {
+            return wrong_end(calls, images, &left.was);
+        }
+    }
+    fail("it never ends")
+}
+
+/// What is wrong with the script that makes so many calls, crashes to so many images and leaves these homes.
+fn wrong_end(calls: u64, images: u64, homes: &Homes) -> Result<Option<Wrong>, Fail> {
+    if calls != 139 {
+        return found("the whole script", "calls", calls);
+    }
+    if images != 109515 {
+        return found("the whole script", "images", images);
+    }
+    if *homes != SETTLED[6] {
+        return found("the whole script", "the homes after calls", calls);
+    }
+    Ok(None)
 }
 
 #[test]
 fn a_script_may_be_stopped_and_crashed_at_every_call(rt: HostRuntime) -> Result<(), Fail> {
-    let mut images: u64 = 0;
-    for calls in 0..MOST {
-        let (left, further, ended) = images_at(rt.alloc(), calls)?;
-        assert!(rt; is_worked(&left.was) && is_worked(&left.becomes), "{calls}");
-        images = images.saturating_add(further);
-        if ended {
-            assert_eq!(rt; (calls, images, left.was), (139, 109515, SETTLED[6]));
-            return Ok(());
-        }
-    }
-    fail("it never ends")
+    assert_right(&rt, first_wrong_stop(rt.alloc())?);
+    Ok(())
 }
