@@ -52,27 +52,22 @@ pub fn holds<D: Disk>(
     homes: &Homes,
     torn: Option<(usize, u32)>,
 ) -> Result<bool, Fail> {
+    let mut block = [0; 1024];
+    let mut wanted = [0; 1024];
+    let mut other = [0; 1024];
     for (home, number) in homes.iter().enumerate() {
-        let other = match torn {
+        read_at(disk, first.saturating_add(home as u64), &mut block)?;
+        fill(&mut wanted, *number);
+        let contents = match torn {
             Some((at, contents)) if at == home => contents,
             _ => *number,
         };
-        if !has_either(disk, first.saturating_add(home as u64), *number, other)? {
+        fill(&mut other, contents);
+        if !is_mixed(&block, &wanted, &other) {
             return Ok(false);
         }
     }
     Ok(true)
-}
-
-/// Whether each sector of the block at a place is of these contents or of the others.
-fn has_either<D: Disk>(disk: &mut D, place: u64, one: u32, other: u32) -> Result<bool, Fail> {
-    let mut block = [0; 1024];
-    let mut ours = [0; 1024];
-    let mut theirs = [0; 1024];
-    read_at(disk, place, &mut block)?;
-    fill(&mut ours, one);
-    fill(&mut theirs, other);
-    Ok(is_mixed(&block, &ours, &theirs))
 }
 
 /// Whether each sector of a block is that of one block or of the other.

@@ -3,7 +3,7 @@
 use crate::contents::{Left, fill, only};
 use crate::groups::STAMP;
 use crate::images::fail;
-use crate::model::{Homes, Model, Touch};
+use crate::model::{Model, Touch};
 use crate::scripts::{next_ticket, prepared, refused};
 use jb_deck::{BatchFault, CheckpointFault, Deck, FreeFault, Prepared};
 use jb_disk::Disk;
@@ -84,38 +84,6 @@ fn bounds(
     Ok(Some(bounds?))
 }
 
-/// What the homes hold after each of these groups, which are put into the model.
-fn after_each(
-    alloc: Global,
-    model: &mut Model,
-    bounds: &[usize],
-    touches: &[Touch],
-) -> Result<Vec<Homes>, Fail> {
-    let mut states = vec![in alloc; model.standing()]?;
-    let mut low = 0;
-    for high in bounds.iter().skip(1) {
-        model.commit(touches, low, *high)?;
-        states.push(model.standing())?;
-        low = *high;
-    }
-    Ok(states)
-}
-
-/// What the homes hold before a batch and after each of its groups, which are put into the model; none where no cut
-/// fits.
-fn states_of(
-    alloc: Global,
-    first: u64,
-    model: &mut Model,
-    call: (usize, &[Touch]),
-    shape: Shape,
-) -> Result<Option<Vec<Homes>>, Fail> {
-    match bounds(alloc, first, call, shape)? {
-        Some(bounds) => Ok(Some(after_each(alloc, model, &bounds, call.1)?)),
-        None => Ok(None),
-    }
-}
-
 /// A batch with its plan, which was made before.
 fn planned(
     alloc: Global,
@@ -129,43 +97,23 @@ fn planned(
     }
 }
 
-/// Commits a batch; after a fault, what a crash may leave.
-fn commit<D: Disk>(
-    alloc: Global,
-    deck: &mut Deck<D>,
-    model: &mut Model,
-    call: (usize, &[Touch]),
-) -> Result<Option<Left>, Fail> {
-    match states_of(alloc, next_ticket(deck), model, call, deck.shape())? {
-        Some(states) => commit_through(alloc, deck, call, &states),
-        None => Ok(None),
-    }
-}
-
-/// Commits a batch that takes the homes through these states; after a fault, what a crash may leave.
-fn commit_through<D: Disk>(
-    alloc: Global,
-    deck: &mut Deck<D>,
-    call: (usize, &[Touch]),
-    states: &[Homes],
-) -> Result<Option<Left>, Fail> {
-    let batch = planned(alloc, next_ticket(deck), call, deck.shape())?;
-    match settled_by(deck, batch, states.len())? {
-        Some(settled) => Ok(Some(left_after(states, settled)?)),
-        None => Ok(None),
-    }
-}
-
-/// Commits a batch whose groups take the homes through so many states; after a fault, how many groups are settled.
+/// Commits a batch whose plan has so many groups; after a fault, how many of them are settled.
 fn settled_by<D: Disk>(
     deck: &mut Deck<D>,
     batch: Prepared,
-    states: usize,
+    groups: usize,
 ) -> Result<Option<usize>, Fail> {
     match deck.commit_batch(batch, STAMP) {
-        Ok(done) if done.entries().len().saturating_add(1) == states => Ok(None),
+        Ok(done) if done.entries().len() == groups => Ok(None),
         Ok(_) => fail("a group is missing"),
-        Err(BatchFault::DeviceFault { settled }) => Ok(Some(settled.entries().len())),
+        Err(BatchFault::DeviceFault { settled }) => {
+            let count = settled.entries().len();
+            if count > groups {
+                fail("too many groups are settled")
+            } else {
+                Ok(Some(count))
+            }
+        }
         Err(fault) => {
             let _told = refused(fault);
             fail("the batch is refused")
@@ -173,17 +121,52 @@ fn settled_by<D: Disk>(
     }
 }
 
-/// What a crash may leave where the homes go through these states and so many groups are settled.
-fn left_after(states: &[Homes], settled: usize) -> Result<Left, Fail> {
-    let mut rest = states.iter().skip(settled);
-    let Some(was) = rest.next() else {
-        return fail("too many groups are settled");
-    };
-    Ok(Left {
-        was: *was,
-        becomes: *rest.next().unwrap_or(was),
-        torn: None,
-    })
+/// Puts the groups of a batch into the model: what a crash may leave where so many of them are settled.
+fn put_groups(
+    model: &mut Model,
+    bounds: &[usize],
+    touches: &[Touch],
+    settled: usize,
+) -> Result<Left, Fail> {
+    let mut left = only(model.standing());
+    let mut low = 0;
+    for (i, high) in bounds.iter().skip(1).enumerate() {
+        model.commit(touches, low, *high)?;
+        if i < settled {
+            left = only(model.standing());
+        } else if i == settled {
+            left.becomes = model.standing();
+        }
+        low = *high;
+    }
+    Ok(left)
+}
+
+/// Commits a batch whose groups have these bounds; after a fault, what a crash may leave.
+fn commit_groups<D: Disk>(
+    alloc: Global,
+    deck: &mut Deck<D>,
+    model: &mut Model,
+    call: (usize, &[Touch]),
+    bounds: &[usize],
+) -> Result<Option<Left>, Fail> {
+    let batch = planned(alloc, next_ticket(deck), call, deck.shape())?;
+    let settled = settled_by(deck, batch, bounds.len().saturating_sub(1))?;
+    let left = put_groups(model, bounds, call.1, settled.unwrap_or(usize::MAX))?;
+    Ok(settled.is_some().then_some(left))
+}
+
+/// Commits a batch, or leaves it out where none fits; after a fault, what a crash may leave.
+fn commit<D: Disk>(
+    alloc: Global,
+    deck: &mut Deck<D>,
+    model: &mut Model,
+    call: (usize, &[Touch]),
+) -> Result<Option<Left>, Fail> {
+    match bounds(alloc, next_ticket(deck), call, deck.shape())? {
+        Some(bounds) => commit_groups(alloc, deck, model, call, &bounds),
+        None => Ok(None),
+    }
 }
 
 /// Calls a journal and its model; after a fault, what a crash may leave. An answer that the model does not have

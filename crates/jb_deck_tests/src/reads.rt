@@ -5,8 +5,9 @@ use crate::draws::{Odds, Seed, call_at_random, image_at_random};
 use crate::images::{BLOCKS, HOMES, Row, Wrong, assert_right, found, small};
 use crate::lives::{Call, make_call};
 use crate::model::{Homes, Model};
-use crate::scripts::opening;
+use crate::scripts::{Refusal, Step, first_wrong, opening};
 use crate::stops::{SCRIPT, before};
+use jb_block::Width;
 use jb_deck::{Deck, ReadHomeFault};
 use jb_disk::{Disk, FuseDisk, OneFaultDisk};
 use std::alloc::Global;
@@ -44,10 +45,10 @@ fn reads_at_random<D: Disk>(
     seed: &mut Seed,
     next: &mut u32,
     deck: &mut Deck<D>,
+    model: &mut Model,
 ) -> Result<bool, Fail> {
-    let mut model = Model::new(alloc, [0; 16], u64::from(deck.usable()));
     for _ in 0..CALLS {
-        let ended = call_at_random(alloc, seed, next, deck, &mut model, ODDS)?;
+        let ended = call_at_random(alloc, seed, next, deck, model, ODDS)?;
         if ended.is_some() || !reads_as(deck, &model.standing()) {
             return Ok(false);
         }
@@ -59,7 +60,8 @@ fn reads_at_random<D: Disk>(
 fn random_reads(alloc: Global, seed: &mut Seed, next: &mut u32) -> Result<bool, Fail> {
     let image = image_at_random(alloc, seed)?;
     let mut deck = opening(alloc, image.disk)?;
-    reads_at_random(alloc, seed, next, &mut deck)
+    let mut model = Model::new(alloc, [0; 16], u64::from(deck.usable()));
+    reads_at_random(alloc, seed, next, &mut deck, &mut model)
 }
 
 /// The first of the journals at random of which a home is not read as the model has it.
@@ -85,31 +87,33 @@ fn reads_after<D: Disk>(
 }
 
 /// The first call of the script after which a home is not read as the model has it.
-fn first_misread<D: Disk>(alloc: Global, deck: &mut Deck<D>) -> Result<Option<Wrong>, Fail> {
-    let mut model = Model::new(alloc, [0; 16], u64::from(deck.usable()));
+fn first_misread<D: Disk>(
+    alloc: Global,
+    deck: &mut Deck<D>,
+    model: &mut Model,
+) -> Result<Option<Wrong>, Fail> {
     if !reads_as(deck, &model.standing()) {
         return found("the script", "before call", 0);
     }
     for (i, call) in SCRIPT.iter().enumerate() {
-        if !reads_after(alloc, deck, &mut model, *call)? {
+        if !reads_after(alloc, deck, model, *call)? {
             return found("the script", "after call", i as u64);
         }
     }
     Ok(None)
 }
 
-/// What is wrong with the first reads of these journals that are not as the model has them.
+/// The first call of the script, on the image before it, after which a home is not read as the model has it.
 fn first_wrong_read(alloc: Global) -> Result<Option<Wrong>, Fail> {
-    let wrong = first_misread(alloc, &mut opening(alloc, before(alloc)?)?)?;
-    if wrong.is_some() {
-        return Ok(wrong);
-    }
-    first_wrong_at_random(alloc)
+    let mut deck = opening(alloc, before(alloc)?)?;
+    let mut model = Model::new(alloc, [0; 16], u64::from(deck.usable()));
+    first_misread(alloc, &mut deck, &mut model)
 }
 
 #[test]
 fn every_home_is_read_as_it_stands_after_every_call(rt: HostRuntime) -> Result<(), Fail> {
     assert_right(&rt, first_wrong_read(rt.alloc())?);
+    assert_right(&rt, first_wrong_at_random(rt.alloc())?);
     Ok(())
 }
 
@@ -144,14 +148,14 @@ fn read_into<D: Disk>(
     Ok(deck.read_home(home, &mut bytes))
 }
 
-/// The first of these reads that is not refused so.
-fn first_other<D: Disk>(alloc: Global, deck: &mut Deck<D>) -> Result<Option<Wrong>, Fail> {
+/// The first of these reads that is not refused so; then what is wrong with two reads of home 5.
+fn first_wrong_refused<D: Disk>(alloc: Global, deck: &mut Deck<D>) -> Result<Option<Wrong>, Fail> {
     for (row, home, len, fault) in &REFUSALS {
         if read_into(alloc, deck, *home, *len)? != Err(*fault) {
             return found(row, "the read of home", *home);
         }
     }
-    Ok(None)
+    wrong_twice(deck)
 }
 
 /// What is wrong with two reads of home 5, of which the first meets a fault: the journal has not failed, and the second
@@ -171,14 +175,10 @@ fn wrong_twice<D: Disk>(deck: &mut Deck<D>) -> Result<Option<Wrong>, Fail> {
     Ok(None)
 }
 
-/// The first of these reads that is wrong.
-fn first_wrong_refused<D: Disk + Drop>(alloc: Global, disk: D) -> Result<Option<Wrong>, Fail> {
+/// The first of these reads of the journal on a disk that is wrong.
+fn first_wrong_on<D: Disk + Drop>(alloc: Global, disk: D) -> Result<Option<Wrong>, Fail> {
     let mut deck = opening(alloc, disk)?;
-    let wrong = first_other(alloc, &mut deck)?;
-    if wrong.is_some() {
-        return Ok(wrong);
-    }
-    wrong_twice(&mut deck)
+    first_wrong_refused(alloc, &mut deck)
 }
 
 #[test]
@@ -186,17 +186,22 @@ fn a_read_is_refused_in_order_and_a_fault_of_it_is_not_the_journals(
     rt: HostRuntime,
 ) -> Result<(), Fail> {
     let disk = small(rt.alloc(), BLOCKS, &FIVE, &[])?;
-    let wrong = first_wrong_refused(rt.alloc(), OneFaultDisk::of(disk, OPENED))?;
+    let wrong = first_wrong_on(rt.alloc(), OneFaultDisk::of(disk, OPENED))?;
     assert_right(&rt, wrong);
     Ok(())
 }
 
-/// What is wrong with a commit that fails, or a read after it. A checkpoint with nothing live makes no call of the disk,
-/// a commit does.
+/// A commit that fails. A checkpoint with nothing live makes no call of the disk, a commit does.
+static FAILS: [Step; 1] = [Step::Refuses(
+    0,
+    (16, 8, Width::Narrow),
+    "h w5\n",
+    Refusal::DeviceFault(0),
+)];
+
+/// What is wrong with a commit that fails, or with a read after it.
 fn wrong_after_fault<D: Disk>(alloc: Global, deck: &mut Deck<D>) -> Result<Option<Wrong>, Fail> {
-    let mut model = Model::new(alloc, [0; 16], u64::from(deck.usable()));
-    let call = Call::Commit(1, &[(0, 5, Some(1))]);
-    if make_call(alloc, deck, &mut model, call)?.is_none() {
+    if first_wrong(alloc, deck, &FAILS)?.is_some() {
         return found("a journal that failed", "the commit of home", 5);
     }
     if deck.read_home(16, &mut [0; 1024]) != Err(ReadHomeFault::Aborted) {

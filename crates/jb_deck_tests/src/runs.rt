@@ -1,6 +1,7 @@
 //! Scripts of a journal's calls that are run up to their first fault.
 
 use crate::contents::{Left, only};
+use crate::frames::{Frame, Wanted};
 use crate::images::fail;
 use crate::lives::{Call, make_call};
 use crate::model::Model;
@@ -13,9 +14,16 @@ use std::test::Fail;
 
 /// A script that is run up to its first fault: the disk, what a crash may leave of it, and whether it met none.
 #[derive(Drop)]
-pub struct Ran<D> {
-    pub disk: D,
-    pub left: Left,
+struct Ran<D> {
+    disk: D,
+    left: Left,
+    ended: bool,
+}
+
+/// A disk, and whether what was called ended before the disk failed.
+#[derive(Drop)]
+pub struct Once {
+    pub disk: MemoryDisk,
     pub ended: bool,
 }
 
@@ -37,30 +45,25 @@ fn refuse_each<D: Disk>(alloc: Global, deck: &mut Deck<D>) -> Result<(), Fail> {
 
 /// Runs a script on a disk up to its first fault.
 fn run<D: Disk + Drop>(alloc: Global, disk: D, script: &[Call<'_>]) -> Result<Ran<D>, Fail> {
-    match Deck::open(alloc, disk) {
-        Ok(deck) => run_on(alloc, deck, script),
-        Err((disk, OpenFault::DeviceFault)) => Ok(Ran {
-            disk,
-            left: only([0; 16]),
-            ended: false,
-        }),
-        Err(_) => fail("it is not opened"),
-    }
-}
-
-/// Runs a script on a journal up to its first fault.
-fn run_on<D: Disk + Drop>(
-    alloc: Global,
-    opened: Deck<D>,
-    script: &[Call<'_>],
-) -> Result<Ran<D>, Fail> {
-    let mut deck = opened;
+    let mut deck = match Deck::open(alloc, disk) {
+        Ok(deck) => deck,
+        Err((disk, OpenFault::DeviceFault)) => {
+            return Ok(Ran {
+                disk,
+                left: only([0; 16]),
+                ended: false,
+            });
+        }
+        Err(_) => return fail("it is not opened"),
+    };
     let mut model = Model::new(alloc, [0; 16], u64::from(deck.usable()));
     let met = first_fault(alloc, &mut deck, &mut model, script)?;
+    let ended = met.is_none();
+    let left = met.unwrap_or(only(model.standing()));
     Ok(Ran {
         disk: deck.close(),
-        left: met.unwrap_or(only(model.standing())),
-        ended: met.is_none(),
+        left,
+        ended,
     })
 }
 
@@ -80,32 +83,44 @@ fn first_fault<D: Disk>(
     Ok(None)
 }
 
-/// Runs a script whose disk makes so many calls.
+/// A script that is run on a disk that fails: the disk, what a crash may leave of it, and whether it met no fault.
+#[derive(Drop)]
+pub struct Stop {
+    pub disk: MemoryDisk,
+    pub wanted: Wanted,
+    pub ended: bool,
+}
+
+/// Runs a script on a disk whose log begins at block 1, and which makes so many calls.
 pub fn run_to(
     alloc: Global,
-    disk: MemoryDisk,
+    before: MemoryDisk,
     calls: u64,
     script: &[Call<'_>],
-) -> Result<Ran<MemoryDisk>, Fail> {
-    let Ran { disk, left, ended } = run(alloc, FuseDisk::of(disk, calls), script)?;
-    Ok(Ran {
-        disk: disk.into_inner(),
-        left,
-        ended,
+) -> Result<Stop, Fail> {
+    let mut disk = before;
+    let frame = Frame::of(alloc, &mut disk, 1)?;
+    let ran = run(alloc, FuseDisk::of(disk, calls), script)?;
+    Ok(Stop {
+        disk: ran.disk.into_inner(),
+        wanted: Wanted {
+            left: ran.left,
+            frame,
+        },
+        ended: ran.ended,
     })
 }
 
-/// Runs a script whose disk fails one call.
+/// Runs a script on a disk that fails one call: the disk, and whether it met none.
 pub fn run_over(
     alloc: Global,
-    disk: MemoryDisk,
+    before: MemoryDisk,
     call: u64,
     script: &[Call<'_>],
-) -> Result<Ran<MemoryDisk>, Fail> {
-    let Ran { disk, left, ended } = run(alloc, OneFaultDisk::of(disk, call), script)?;
-    Ok(Ran {
-        disk: disk.into_inner(),
-        left,
-        ended,
+) -> Result<Once, Fail> {
+    let ran = run(alloc, OneFaultDisk::of(before, call), script)?;
+    Ok(Once {
+        disk: ran.disk.into_inner(),
+        ended: ran.ended,
     })
 }

@@ -1,13 +1,12 @@
 //! A script of a journal's calls of which a call of the disk fails, or every one from one on; what a crash then
 //! leaves is recovered, and recovery is broken off by a crash too.
 
-use crate::contents::Left;
-use crate::frames::{Frame, Wanted};
+use crate::frames::Wanted;
 use crate::images::{
     BLOCKS, HOMES, Row, Wrong, assert_right, crashed, difference, fail, found, small,
 };
 use crate::lives::Call;
-use crate::runs::{Ran, run_over, run_to};
+use crate::runs::{Once, Stop, run_over, run_to};
 use jb_disk::{FuseDisk, MemoryDisk};
 use jb_recover::recover;
 use std::alloc::Global;
@@ -105,13 +104,6 @@ pub fn before(alloc: Global) -> Result<MemoryDisk, Fail> {
     small(alloc, BLOCKS, &ROWS, &[])
 }
 
-/// What a crash may leave of a disk that was as this one.
-pub fn wanted_of(alloc: Global, was: MemoryDisk, left: Left) -> Result<Wanted, Fail> {
-    let mut disk = was;
-    let frame = Frame::of(alloc, &mut disk, 1)?;
-    Ok(Wanted { left, frame })
-}
-
 /// The choice of this number.
 fn choice(number: u32) -> [u32; SECTORS] {
     let mut choice = [0; SECTORS];
@@ -157,13 +149,6 @@ fn first_wrong_left(
         }
     }
     Ok(None)
-}
-
-/// A recovery that is stopped: its disk, and whether it ended before.
-#[derive(Drop)]
-pub struct Once {
-    pub disk: MemoryDisk,
-    pub ended: bool,
 }
 
 /// A recovery of what a crash left, that is stopped after so many calls.
@@ -217,37 +202,32 @@ fn first_wrong_once(
 }
 
 /// Whether the script of which one call fails ends as one that is stopped there, and leaves the same disk.
-fn fails_alike(alloc: Global, call: u64, ran: &mut Ran<MemoryDisk>) -> Result<bool, Fail> {
+fn fails_alike(alloc: Global, call: u64, stop: &mut Stop) -> Result<bool, Fail> {
     let mut other = run_over(alloc, before(alloc)?, call, &SCRIPT)?;
-    Ok(other.ended == ran.ended && difference(&mut other.disk, &mut ran.disk, 0)?.is_none())
+    let differs = difference(&mut other.disk, &mut stop.disk, 0)?;
+    Ok(other.ended == stop.ended && differs.is_none())
 }
 
-/// What is wrong with what a crash leaves of the script that was stopped after so many calls, where recovery is stopped
-/// too.
-fn wrong_mended(
+/// The first that is wrong where the recovery of what this choice leaves of a disk is stopped.
+fn wrong_stopped(
     alloc: Global,
-    number: u32,
     disk: &MemoryDisk,
+    choice: &[u32],
     wanted: &Wanted,
 ) -> Result<Option<&'static str>, Fail> {
-    let image = crashed(disk, &choice(number % 10))?;
-    let wrong = first_wrong_left(alloc, disk, ALL, wanted)?;
-    if wrong.is_some() {
-        return Ok(wrong);
-    }
+    let image = crashed(disk, choice)?;
     first_wrong_once(alloc, &image, wanted)
 }
 
-/// What is wrong with the script that was stopped after so many calls: what it left mends, and is what it leaves where
-/// that call alone fails.
-fn wrong_ran(
-    alloc: Global,
-    number: u32,
-    ran: &mut Ran<MemoryDisk>,
-) -> Result<Option<&'static str>, Fail> {
-    let wanted = wanted_of(alloc, before(alloc)?, ran.left)?;
-    let wrong = wrong_mended(alloc, number, &ran.disk, &wanted)?;
-    if wrong.is_some() || fails_alike(alloc, u64::from(number), ran)? {
+/// What is wrong with the script that was stopped after so many calls: what it left mends, where recovery is stopped
+/// too, and is what it leaves where that call alone fails.
+fn wrong_after(alloc: Global, number: u32, stop: &mut Stop) -> Result<Option<&'static str>, Fail> {
+    let wrong = first_wrong_left(alloc, &stop.disk, ALL, &stop.wanted)?;
+    if wrong.is_some() {
+        return Ok(wrong);
+    }
+    let wrong = wrong_stopped(alloc, &stop.disk, &choice(number % 10), &stop.wanted)?;
+    if wrong.is_some() || fails_alike(alloc, u64::from(number), stop)? {
         return Ok(wrong);
     }
     Ok(Some("it leaves something else where one call fails"))
@@ -255,9 +235,9 @@ fn wrong_ran(
 
 /// What is wrong with the script that is stopped after so many calls; and whether it ended before.
 fn wrong_at(alloc: Global, number: u32) -> Result<(Option<&'static str>, bool), Fail> {
-    let mut ran = run_to(alloc, before(alloc)?, u64::from(number), &SCRIPT)?;
-    let wrong = wrong_ran(alloc, number, &mut ran)?;
-    Ok((wrong, ran.ended))
+    let mut stop = run_to(alloc, before(alloc)?, u64::from(number), &SCRIPT)?;
+    let wrong = wrong_after(alloc, number, &mut stop)?;
+    Ok((wrong, stop.ended))
 }
 
 /// What is wrong with the script that is stopped after the first number of calls where something is.
@@ -267,19 +247,14 @@ fn first_wrong_stop(alloc: Global) -> Result<Option<Wrong>, Fail> {
         if let Some(what) = wrong {
             return found(what, "calls of the script", u64::from(number));
         }
+        if ended && number == 151 {
+            return Ok(None);
+        }
         if ended {
-            return wrong_end(number);
+            return found("the script ends", "calls", u64::from(number));
         }
     }
     fail("it never ends")
-}
-
-/// What is wrong with the script that makes so many calls.
-fn wrong_end(number: u32) -> Result<Option<Wrong>, Fail> {
-    if number == 151 {
-        return Ok(None);
-    }
-    found("the script ends", "calls", u64::from(number))
 }
 
 #[test]

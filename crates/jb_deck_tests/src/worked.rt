@@ -8,7 +8,7 @@ use crate::images::{Wrong, assert_right, crashed, difference, fail, found};
 use crate::lives::Call;
 use crate::model::Homes;
 use crate::runs::run_to;
-use crate::stops::{NEW, SECTORS, stopped, wanted_of, wrong_left};
+use crate::stops::{NEW, SECTORS, stopped, wrong_left};
 use jb_block::Width;
 use jb_disk::MemoryDisk;
 use std::alloc::Global;
@@ -228,10 +228,9 @@ fn is_worked(homes: &Homes) -> bool {
 /// The script that is stopped after so many calls: what a crash may leave, how many images are recovered, and whether
 /// it ended.
 fn images_at(alloc: Global, calls: u64) -> Result<(Left, u64, bool), Fail> {
-    let ran = run_to(alloc, before(alloc)?, calls, &SCRIPT)?;
-    let wanted = wanted_of(alloc, before(alloc)?, ran.left)?;
-    let images = mend_all(alloc, &ran.disk, &wanted)?;
-    Ok((ran.left, images, ran.ended))
+    let stop = run_to(alloc, before(alloc)?, calls, &SCRIPT)?;
+    let images = mend_all(alloc, &stop.disk, &stop.wanted)?;
+    Ok((stop.wanted.left, images, stop.ended))
 }
 
 /// What is wrong with the script that is stopped after the first number of calls where something is.
