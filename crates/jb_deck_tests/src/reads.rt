@@ -2,7 +2,7 @@
 
 use crate::contents::fill;
 use crate::draws::{Odds, Seed, call_at_random, image_at_random};
-use crate::images::{BLOCKS, HOMES, Row, Wrong, assert_right, found, small};
+use crate::images::{BLOCKS, HOMES, Row, fail, fail_at, small};
 use crate::lives::{Call, make_call};
 use crate::model::{Homes, Model};
 use crate::scripts::{Refusal, Step, first_wrong, opening};
@@ -39,40 +39,42 @@ fn reads_as<D: Disk>(deck: &mut Deck<D>, homes: &Homes) -> bool {
     deck.read_home(16, &mut block) == Err(ReadHomeFault::OutOfRange)
 }
 
-/// Whether all homes are read as the model has them after each of these calls at random.
-fn reads_at_random<D: Disk>(
+/// All homes of a journal are read as the model has them after each of these calls at random.
+fn read_at_random<D: Disk>(
     alloc: Global,
     seed: &mut Seed,
     next: &mut u32,
     deck: &mut Deck<D>,
     model: &mut Model,
-) -> Result<bool, Fail> {
+    journal: u32,
+) -> Result<(), Fail> {
     for _ in 0..CALLS {
         let ended = call_at_random(alloc, seed, next, deck, model, ODDS)?;
         if ended.is_some() || !reads_as(deck, &model.standing()) {
-            return Ok(false);
+            return fail_at(
+                "a home after a call at random of journal",
+                u64::from(journal),
+            );
         }
     }
-    Ok(true)
+    Ok(())
 }
 
-/// Whether they are on a journal at random.
-fn random_reads(alloc: Global, seed: &mut Seed, next: &mut u32) -> Result<bool, Fail> {
+/// So are those of a journal at random.
+fn read_one(alloc: Global, seed: &mut Seed, next: &mut u32, journal: u32) -> Result<(), Fail> {
     let image = image_at_random(alloc, seed)?;
     let mut deck = opening(alloc, image.disk)?;
     let mut model = Model::new(alloc, [0; 16], u64::from(deck.usable()));
-    reads_at_random(alloc, seed, next, &mut deck, &mut model)
+    read_at_random(alloc, seed, next, &mut deck, &mut model, journal)
 }
 
-/// The first of the journals at random of which a home is not read as the model has it.
-fn first_wrong_at_random(alloc: Global) -> Result<Option<Wrong>, Fail> {
+/// So are those of each journal at random.
+fn read_each(alloc: Global) -> Result<(), Fail> {
     let (mut seed, mut next) = (Seed { state: 5 }, 1);
     for journal in 0..JOURNALS {
-        if !random_reads(alloc, &mut seed, &mut next)? {
-            return found("calls at random", "journal", u64::from(journal));
-        }
+        read_one(alloc, &mut seed, &mut next, journal)?;
     }
-    Ok(None)
+    Ok(())
 }
 
 /// Whether a call meets no fault, and each home is then read as the model has it.
@@ -86,35 +88,30 @@ fn reads_after<D: Disk>(
     Ok(met.is_none() && reads_as(deck, &model.standing()))
 }
 
-/// The first call of the script after which a home is not read as the model has it.
-fn first_misread<D: Disk>(
-    alloc: Global,
-    deck: &mut Deck<D>,
-    model: &mut Model,
-) -> Result<Option<Wrong>, Fail> {
+/// All homes are read as the model has them before the script, and after each of its calls.
+fn read_beside<D: Disk>(alloc: Global, deck: &mut Deck<D>, model: &mut Model) -> Result<(), Fail> {
     if !reads_as(deck, &model.standing()) {
-        return found("the script", "before call", 0);
+        return fail("a home before the script");
     }
     for (i, call) in SCRIPT.iter().enumerate() {
         if !reads_after(alloc, deck, model, *call)? {
-            return found("the script", "after call", i as u64);
+            return fail_at("a home after the script's call", i as u64);
         }
     }
-    Ok(None)
+    Ok(())
 }
 
-/// The first call of the script, on the image before it, after which a home is not read as the model has it.
-fn first_wrong_read(alloc: Global) -> Result<Option<Wrong>, Fail> {
+/// The script is called on the image before it, and all homes are read.
+fn read_script(alloc: Global) -> Result<(), Fail> {
     let mut deck = opening(alloc, before(alloc)?)?;
     let mut model = Model::new(alloc, [0; 16], u64::from(deck.usable()));
-    first_misread(alloc, &mut deck, &mut model)
+    read_beside(alloc, &mut deck, &mut model)
 }
 
 #[test]
 fn every_home_is_read_as_it_stands_after_every_call(rt: HostRuntime) -> Result<(), Fail> {
-    assert_right(&rt, first_wrong_read(rt.alloc())?);
-    assert_right(&rt, first_wrong_at_random(rt.alloc())?);
-    Ok(())
+    read_script(rt.alloc())?;
+    read_each(rt.alloc())
 }
 
 /// A name, a home, how long the buffer is, and the answer, on the small image with sixteen homes.
@@ -148,37 +145,41 @@ fn read_into<D: Disk>(
     Ok(deck.read_home(home, &mut bytes))
 }
 
-/// The first of these reads that is not refused so; then what is wrong with two reads of home 5.
-fn first_wrong_refused<D: Disk>(alloc: Global, deck: &mut Deck<D>) -> Result<Option<Wrong>, Fail> {
-    for (row, home, len, fault) in &REFUSALS {
-        if read_into(alloc, deck, *home, *len)? != Err(*fault) {
-            return found(row, "the read of home", *home);
-        }
-    }
-    wrong_twice(deck)
-}
-
 /// What is wrong with two reads of home 5, of which the first meets a fault: the journal has not failed, and the second
 /// one has its bytes.
-fn wrong_twice<D: Disk>(deck: &mut Deck<D>) -> Result<Option<Wrong>, Fail> {
+fn wrong_twice<D: Disk>(deck: &mut Deck<D>) -> Option<&'static str> {
     let mut block = [0; 1024];
-    if deck.read_home(5, &mut block) != Err(ReadHomeFault::DeviceFault) {
-        return found("a fault", "the read of home", 5);
-    }
-    if deck.aborted() {
-        return found("a fault", "the journal fails by the read of home", 5);
-    }
+    let first = deck.read_home(5, &mut block);
+    let is_aborted = deck.aborted();
     let second = deck.read_home(5, &mut block);
-    if second != Ok(()) || !block.starts_with(&[0, 0, 0, 5, 0, 0, 0, 5]) {
-        return found("after a fault", "the read of home", 5);
+    if first != Err(ReadHomeFault::DeviceFault) {
+        Some("the read that meets a fault")
+    } else if is_aborted {
+        Some("the journal fails by a read")
+    } else if second != Ok(()) || !block.starts_with(&[0, 0, 0, 5, 0, 0, 0, 5]) {
+        Some("the read after a fault")
+    } else {
+        None
     }
-    Ok(None)
 }
 
-/// The first of these reads of the journal on a disk that is wrong.
-fn first_wrong_on<D: Disk + Drop>(alloc: Global, disk: D) -> Result<Option<Wrong>, Fail> {
+/// Each of these reads is refused so; then home 5 is read twice.
+fn refuse_each<D: Disk>(alloc: Global, deck: &mut Deck<D>) -> Result<(), Fail> {
+    for (row, home, len, fault) in &REFUSALS {
+        if read_into(alloc, deck, *home, *len)? != Err(*fault) {
+            return fail(row);
+        }
+    }
+    match wrong_twice(deck) {
+        Some(wrong) => fail(wrong),
+        None => Ok(()),
+    }
+}
+
+/// The reads of a journal on this disk.
+fn refuse_on<D: Disk + Drop>(alloc: Global, disk: D) -> Result<(), Fail> {
     let mut deck = opening(alloc, disk)?;
-    first_wrong_refused(alloc, &mut deck)
+    refuse_each(alloc, &mut deck)
 }
 
 #[test]
@@ -186,9 +187,7 @@ fn a_read_is_refused_in_order_and_a_fault_of_it_is_not_the_journals(
     rt: HostRuntime,
 ) -> Result<(), Fail> {
     let disk = small(rt.alloc(), BLOCKS, &FIVE, &[])?;
-    let wrong = first_wrong_on(rt.alloc(), OneFaultDisk::of(disk, OPENED))?;
-    assert_right(&rt, wrong);
-    Ok(())
+    refuse_on(rt.alloc(), OneFaultDisk::of(disk, OPENED))
 }
 
 /// A commit that fails. A checkpoint with nothing live makes no call of the disk, a commit does.
@@ -199,27 +198,25 @@ static FAILS: [Step; 1] = [Step::Refuses(
     Refusal::DeviceFault(0),
 )];
 
-/// What is wrong with a commit that fails, or with a read after it.
-fn wrong_after_fault<D: Disk>(alloc: Global, deck: &mut Deck<D>) -> Result<Option<Wrong>, Fail> {
+/// A commit fails, and then a read.
+fn fail_then_read<D: Disk>(alloc: Global, deck: &mut Deck<D>) -> Result<(), Fail> {
     if first_wrong(alloc, deck, &FAILS)?.is_some() {
-        return found("a journal that failed", "the commit of home", 5);
+        return fail("the commit does not fail");
     }
     if deck.read_home(16, &mut [0; 1024]) != Err(ReadHomeFault::Aborted) {
-        return found("a journal that failed", "the read of home", 16);
+        return fail("the read of a journal that failed");
     }
-    Ok(None)
+    Ok(())
 }
 
-/// The same of a journal whose disk makes no call after it is opened.
-fn wrong_aborted<D: Disk + Drop>(alloc: Global, disk: D) -> Result<Option<Wrong>, Fail> {
+/// The same of a journal on this disk.
+fn fail_on<D: Disk + Drop>(alloc: Global, disk: D) -> Result<(), Fail> {
     let mut deck = opening(alloc, disk)?;
-    wrong_after_fault(alloc, &mut deck)
+    fail_then_read(alloc, &mut deck)
 }
 
 #[test]
 fn a_journal_that_failed_refuses_each_read(rt: HostRuntime) -> Result<(), Fail> {
     let disk = small(rt.alloc(), BLOCKS, &FIVE, &[])?;
-    let wrong = wrong_aborted(rt.alloc(), FuseDisk::of(disk, OPENED))?;
-    assert_right(&rt, wrong);
-    Ok(())
+    fail_on(rt.alloc(), FuseDisk::of(disk, OPENED))
 }

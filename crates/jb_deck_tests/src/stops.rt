@@ -2,9 +2,7 @@
 //! leaves is recovered, and recovery is broken off by a crash too.
 
 use crate::frames::Wanted;
-use crate::images::{
-    BLOCKS, HOMES, Row, Wrong, assert_right, crashed, difference, fail, found, small,
-};
+use crate::images::{BLOCKS, HOMES, Row, crashed, difference, fail, fail_at, small};
 use crate::lives::Call;
 use crate::runs::{Once, Stop, run_over, run_to};
 use jb_disk::{FuseDisk, MemoryDisk};
@@ -125,7 +123,7 @@ fn choice(number: u32) -> [u32; SECTORS] {
 
 /// What is wrong with what this choice leaves of a disk: it has block 0 as it was, and recovers to homes that may be
 /// left.
-pub fn wrong_left(
+fn wrong_left(
     alloc: Global,
     disk: &MemoryDisk,
     choice: &[u32],
@@ -135,20 +133,32 @@ pub fn wrong_left(
     wanted.first_wrong(alloc, &mut image, HOMES)
 }
 
-/// The first that is wrong with what each of the first choices leaves.
-fn first_wrong_left(
+/// Recovers what this choice leaves of a disk of this script, which is stopped after so many calls.
+pub fn mend(
     alloc: Global,
+    calls: u64,
+    disk: &MemoryDisk,
+    choice: &[u32],
+    wanted: &Wanted,
+) -> Result<(), Fail> {
+    match wrong_left(alloc, disk, choice, wanted)? {
+        Some(wrong) => fail_at(wrong, calls),
+        None => Ok(()),
+    }
+}
+
+/// Recovers what each of the first choices leaves.
+fn mend_all(
+    alloc: Global,
+    calls: u64,
     disk: &MemoryDisk,
     choices: u32,
     wanted: &Wanted,
-) -> Result<Option<&'static str>, Fail> {
+) -> Result<(), Fail> {
     for number in 0..choices {
-        let wrong = wrong_left(alloc, disk, &choice(number), wanted)?;
-        if wrong.is_some() {
-            return Ok(wrong);
-        }
+        mend(alloc, calls, disk, &choice(number), wanted)?;
     }
-    Ok(None)
+    Ok(())
 }
 
 /// A recovery of what a crash left, that is stopped after so many calls.
@@ -173,85 +183,79 @@ fn calls_of(alloc: Global, disk: &MemoryDisk) -> Result<u64, Fail> {
     Ok(calls.saturating_add(1))
 }
 
-/// The first that is wrong where the recovery of what a crash left is stopped after so many calls.
-fn wrong_once(
+/// Recovers what a crash left once more where its recovery is stopped after so many calls of its own.
+fn mend_once(
     alloc: Global,
-    disk: &MemoryDisk,
     calls: u64,
+    disk: &MemoryDisk,
+    own: u64,
     wanted: &Wanted,
-) -> Result<Option<&'static str>, Fail> {
-    let once = stopped(alloc, disk, calls)?;
-    first_wrong_left(alloc, &once.disk, SOME, wanted)
+) -> Result<(), Fail> {
+    let once = stopped(alloc, disk, own)?;
+    mend_all(alloc, calls, &once.disk, SOME, wanted)
 }
 
-/// The first that is wrong where the recovery of what this choice leaves is stopped, after any of its last calls: the
-/// ones before them only read.
-fn first_wrong_once(
+/// Recovers what a crash left once more where its recovery is stopped after any of its last calls: the ones before them
+/// only read.
+fn mend_whenever(
     alloc: Global,
+    calls: u64,
     disk: &MemoryDisk,
     wanted: &Wanted,
-) -> Result<Option<&'static str>, Fail> {
+) -> Result<(), Fail> {
     let all = calls_of(alloc, disk)?;
-    for calls in all.saturating_sub(LAST)..all {
-        let wrong = wrong_once(alloc, disk, calls, wanted)?;
-        if wrong.is_some() {
-            return Ok(wrong);
-        }
+    for own in all.saturating_sub(LAST)..all {
+        mend_once(alloc, calls, disk, own, wanted)?;
     }
-    Ok(None)
+    Ok(())
 }
 
-/// Whether the script of which one call fails ends as one that is stopped there, and leaves the same disk.
-fn fails_alike(alloc: Global, call: u64, stop: &mut Stop) -> Result<bool, Fail> {
-    let mut other = run_over(alloc, before(alloc)?, call, &SCRIPT)?;
-    let differs = difference(&mut other.disk, &mut stop.disk, 0)?;
-    Ok(other.ended == stop.ended && differs.is_none())
-}
-
-/// The first that is wrong where the recovery of what this choice leaves of a disk is stopped.
-fn wrong_stopped(
+/// Recovers what this choice leaves where recovery is stopped too.
+fn mend_stopped(
     alloc: Global,
+    calls: u64,
     disk: &MemoryDisk,
     choice: &[u32],
     wanted: &Wanted,
-) -> Result<Option<&'static str>, Fail> {
+) -> Result<(), Fail> {
     let image = crashed(disk, choice)?;
-    first_wrong_once(alloc, &image, wanted)
+    mend_whenever(alloc, calls, &image, wanted)
 }
 
-/// What is wrong with the script that was stopped after so many calls: what it left mends, where recovery is stopped
-/// too, and is what it leaves where that call alone fails.
-fn wrong_after(alloc: Global, number: u32, stop: &mut Stop) -> Result<Option<&'static str>, Fail> {
-    let wrong = first_wrong_left(alloc, &stop.disk, ALL, &stop.wanted)?;
-    if wrong.is_some() {
-        return Ok(wrong);
+/// The script of which one call fails ends as one that is stopped there, and leaves the same disk.
+fn fail_alike(alloc: Global, call: u64, stop: &mut Stop) -> Result<(), Fail> {
+    let mut other = run_over(alloc, before(alloc)?, call, &SCRIPT)?;
+    let differs = difference(&mut other.disk, &mut stop.disk, 0)?;
+    if other.ended == stop.ended && differs.is_none() {
+        return Ok(());
     }
-    let wrong = wrong_stopped(alloc, &stop.disk, &choice(number % 10), &stop.wanted)?;
-    if wrong.is_some() || fails_alike(alloc, u64::from(number), stop)? {
-        return Ok(wrong);
-    }
-    Ok(Some("it leaves something else where one call fails"))
+    fail_at(
+        "the script leaves something else where one call fails",
+        call,
+    )
 }
 
-/// What is wrong with the script that is stopped after so many calls; and whether it ended before.
-fn wrong_at(alloc: Global, number: u32) -> Result<(Option<&'static str>, bool), Fail> {
+/// What the script left that was stopped after so many calls mends, where recovery is stopped too, and is what it leaves
+/// where that call alone fails.
+fn mend_after(alloc: Global, number: u32, stop: &mut Stop) -> Result<(), Fail> {
+    let calls = u64::from(number);
+    mend_all(alloc, calls, &stop.disk, ALL, &stop.wanted)?;
+    mend_stopped(alloc, calls, &stop.disk, &choice(number % 10), &stop.wanted)?;
+    fail_alike(alloc, calls, stop)
+}
+
+/// Stops the script after so many calls; whether it ended before.
+fn stop_at(alloc: Global, number: u32) -> Result<bool, Fail> {
     let mut stop = run_to(alloc, before(alloc)?, u64::from(number), &SCRIPT)?;
-    let wrong = wrong_after(alloc, number, &mut stop)?;
-    Ok((wrong, stop.ended))
+    mend_after(alloc, number, &mut stop)?;
+    Ok(stop.ended)
 }
 
-/// What is wrong with the script that is stopped after the first number of calls where something is.
-fn first_wrong_stop(alloc: Global) -> Result<Option<Wrong>, Fail> {
+/// Stops the script after every number of calls; how many it makes.
+fn last_stop(alloc: Global) -> Result<u32, Fail> {
     for number in 0..MOST {
-        let (wrong, ended) = wrong_at(alloc, number)?;
-        if let Some(what) = wrong {
-            return found(what, "calls of the script", u64::from(number));
-        }
-        if ended && number == 151 {
-            return Ok(None);
-        }
-        if ended {
-            return found("the script ends", "calls", u64::from(number));
+        if stop_at(alloc, number)? {
+            return Ok(number);
         }
     }
     fail("it never ends")
@@ -259,6 +263,6 @@ fn first_wrong_stop(alloc: Global) -> Result<Option<Wrong>, Fail> {
 
 #[test]
 fn every_call_of_a_script_may_fail_or_be_the_last(rt: HostRuntime) -> Result<(), Fail> {
-    assert_right(&rt, first_wrong_stop(rt.alloc())?);
+    assert_eq!(rt; last_stop(rt.alloc())?, 151);
     Ok(())
 }

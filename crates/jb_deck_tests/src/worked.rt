@@ -4,11 +4,11 @@
 use crate::contents::{EIGHT, Left};
 use crate::draws::formatted;
 use crate::frames::Wanted;
-use crate::images::{Wrong, assert_right, crashed, difference, fail, found};
+use crate::images::{crashed, difference, fail, fail_at};
 use crate::lives::Call;
 use crate::model::Homes;
 use crate::runs::run_to;
-use crate::stops::{NEW, SECTORS, stopped, wrong_left};
+use crate::stops::{NEW, SECTORS, mend, stopped};
 use jb_block::Width;
 use jb_disk::MemoryDisk;
 use std::alloc::Global;
@@ -145,24 +145,11 @@ fn choice(number: u32, last: usize) -> [u32; SECTORS] {
     choice
 }
 
-/// Recovers what this choice leaves of a disk. It has what stands before the log, then too, and homes that may be left.
-fn mend(
-    alloc: Global,
-    disk: &MemoryDisk,
-    choice: &[u32; SECTORS],
-    wanted: &Wanted,
-) -> Result<(), Fail> {
-    match wrong_left(alloc, disk, choice, wanted)? {
-        Some(wrong) => fail(wrong),
-        None => Ok(()),
-    }
-}
-
-/// Recovers what each choice leaves of a disk.
-fn mend_each(alloc: Global, disk: &MemoryDisk, wanted: &Wanted) -> Result<(), Fail> {
+/// Recovers what each choice leaves of a disk of the script, which is stopped after so many calls.
+fn mend_each(alloc: Global, calls: u64, disk: &MemoryDisk, wanted: &Wanted) -> Result<(), Fail> {
     let last = last_sector(disk)?;
     for number in 0..CHOICES {
-        mend(alloc, disk, &choice(number, last), wanted)?;
+        mend(alloc, calls, disk, &choice(number, last), wanted)?;
     }
     Ok(())
 }
@@ -173,46 +160,59 @@ fn is_changed(disk: &MemoryDisk, found: &MemoryDisk) -> Result<bool, Fail> {
     Ok(differs(disk, &[0; SECTORS], &mut was)? || differs(disk, &newest_from(0), &mut was)?)
 }
 
-/// Stops the recovery of an image after so many calls and crashes it by each choice; whether it ended before. Where
-/// nothing was written yet, that leaves the image itself, which is recovered once.
-fn mend_once(alloc: Global, image: &MemoryDisk, calls: u64, wanted: &Wanted) -> Result<bool, Fail> {
-    let once = stopped(alloc, image, calls)?;
-    if calls == 0 || is_changed(&once.disk, image)? {
-        mend_each(alloc, &once.disk, wanted)?;
+/// Stops the recovery of an image after so many calls of its own and crashes it by each choice; whether it ended
+/// before. Where nothing was written yet, that leaves the image itself, which is recovered once.
+fn mend_once(
+    alloc: Global,
+    calls: u64,
+    image: &MemoryDisk,
+    own: u64,
+    wanted: &Wanted,
+) -> Result<bool, Fail> {
+    let once = stopped(alloc, image, own)?;
+    if own == 0 || is_changed(&once.disk, image)? {
+        mend_each(alloc, calls, &once.disk, wanted)?;
     }
     Ok(once.ended)
 }
 
 /// Stops the recovery of an image after every number of calls and crashes it by each choice; how many images that are.
-fn mend_stopped(alloc: Global, image: &MemoryDisk, wanted: &Wanted) -> Result<u64, Fail> {
+fn mend_stopped(
+    alloc: Global,
+    calls: u64,
+    image: &MemoryDisk,
+    wanted: &Wanted,
+) -> Result<u64, Fail> {
     let mut images: u64 = 0;
-    for calls in 0..MOST {
-        let ended = mend_once(alloc, image, calls, wanted)?;
+    for own in 0..MOST {
+        let ended = mend_once(alloc, calls, image, own, wanted)?;
         images = images.saturating_add(u64::from(CHOICES));
         if ended {
             return Ok(images);
         }
     }
-    fail("a recovery never ends")
+    fail_at("a recovery never ends", calls)
 }
 
 /// Stops the recovery of what this choice leaves of a disk; how many images that are.
 fn mend_left(
     alloc: Global,
+    calls: u64,
     disk: &MemoryDisk,
     choice: &[u32; SECTORS],
     wanted: &Wanted,
 ) -> Result<u64, Fail> {
     let image = crashed(disk, choice)?;
-    mend_stopped(alloc, &image, wanted)
+    mend_stopped(alloc, calls, &image, wanted)
 }
 
-/// Crashes a disk by each choice and stops the recovery of each image; how many images that are.
-fn mend_all(alloc: Global, disk: &MemoryDisk, wanted: &Wanted) -> Result<u64, Fail> {
+/// Crashes a disk of the script, which is stopped after so many calls, by each choice and stops the recovery of each
+/// image; how many images that are.
+fn mend_all(alloc: Global, calls: u64, disk: &MemoryDisk, wanted: &Wanted) -> Result<u64, Fail> {
     let last = last_sector(disk)?;
     let mut images: u64 = 0;
     for number in 0..CHOICES {
-        let further = mend_left(alloc, disk, &choice(number, last), wanted)?;
+        let further = mend_left(alloc, calls, disk, &choice(number, last), wanted)?;
         images = images.saturating_add(further);
     }
     Ok(images)
@@ -229,42 +229,41 @@ fn is_worked(homes: &Homes) -> bool {
 /// it ended.
 fn images_at(alloc: Global, calls: u64) -> Result<(Left, u64, bool), Fail> {
     let stop = run_to(alloc, before(alloc)?, calls, &SCRIPT)?;
-    let images = mend_all(alloc, &stop.disk, &stop.wanted)?;
+    let images = mend_all(alloc, calls, &stop.disk, &stop.wanted)?;
     Ok((stop.wanted.left, images, stop.ended))
 }
 
-/// What is wrong with the script that is stopped after the first number of calls where something is.
-fn first_wrong_stop(alloc: Global) -> Result<Option<Wrong>, Fail> {
+/// Stops the script after every number of calls.
+fn stop_each(alloc: Global) -> Result<(), Fail> {
     let mut images: u64 = 0;
     for calls in 0..MOST {
         let (left, further, ended) = images_at(alloc, calls)?;
         if !is_worked(&left.was) || !is_worked(&left.becomes) {
-            return found("the homes of the script", "calls", calls);
+            return fail_at("homes of the script that is stopped after calls", calls);
         }
         images = images.saturating_add(further);
         if ended {
-            return wrong_end(calls, images, &left.was);
+            return end(calls, images, &left.was);
         }
     }
     fail("it never ends")
 }
 
-/// What is wrong with the script that makes so many calls, crashes to so many images and leaves these homes.
-fn wrong_end(calls: u64, images: u64, homes: &Homes) -> Result<Option<Wrong>, Fail> {
+/// The whole script makes so many calls, is crashed to so many images and leaves these homes.
+fn end(calls: u64, images: u64, homes: &Homes) -> Result<(), Fail> {
     if calls != 139 {
-        return found("the whole script", "calls", calls);
+        return fail_at("calls of the whole script:", calls);
     }
     if images != 109515 {
-        return found("the whole script", "images", images);
+        return fail_at("images of the whole script:", images);
     }
     if *homes != SETTLED[6] {
-        return found("the whole script", "the homes after calls", calls);
+        return fail_at("homes of the whole script, after calls", calls);
     }
-    Ok(None)
+    Ok(())
 }
 
 #[test]
 fn a_script_may_be_stopped_and_crashed_at_every_call(rt: HostRuntime) -> Result<(), Fail> {
-    assert_right(&rt, first_wrong_stop(rt.alloc())?);
-    Ok(())
+    stop_each(rt.alloc())
 }
