@@ -97,23 +97,11 @@ fn planned(
     }
 }
 
-/// Commits a batch whose plan has so many groups; after a fault, how many of them are settled.
-fn settled_by<D: Disk>(
-    deck: &mut Deck<D>,
-    batch: Prepared,
-    groups: usize,
-) -> Result<Option<usize>, Fail> {
+/// Commits a batch: how many groups are settled, and whether it met a fault.
+fn settled_by<D: Disk>(deck: &mut Deck<D>, batch: Prepared) -> Result<(usize, bool), Fail> {
     match deck.commit_batch(batch, STAMP) {
-        Ok(done) if done.entries().len() == groups => Ok(None),
-        Ok(_) => fail("a group is missing"),
-        Err(BatchFault::DeviceFault { settled }) => {
-            let count = settled.entries().len();
-            if count > groups {
-                fail("too many groups are settled")
-            } else {
-                Ok(Some(count))
-            }
-        }
+        Ok(done) => Ok((done.entries().len(), false)),
+        Err(BatchFault::DeviceFault { settled }) => Ok((settled.entries().len(), true)),
         Err(fault) => {
             let _told = refused(fault);
             fail("the batch is refused")
@@ -151,9 +139,13 @@ fn commit_groups<D: Disk>(
     bounds: &[usize],
 ) -> Result<Option<Left>, Fail> {
     let batch = planned(alloc, next_ticket(deck), call, deck.shape())?;
-    let settled = settled_by(deck, batch, bounds.len().saturating_sub(1))?;
-    let left = put_groups(model, bounds, call.1, settled.unwrap_or(usize::MAX))?;
-    Ok(settled.is_some().then_some(left))
+    let groups = bounds.len().saturating_sub(1);
+    let (settled, met) = settled_by(deck, batch)?;
+    if settled > groups || (!met && settled < groups) {
+        return fail("a group is missing, or too many groups are settled");
+    }
+    let left = put_groups(model, bounds, call.1, settled)?;
+    Ok(met.then_some(left))
 }
 
 /// Commits a batch, or leaves it out where none fits; after a fault, what a crash may leave.

@@ -118,15 +118,25 @@ fn every_home_is_read_as_it_stands_after_every_call(rt: HostRuntime) -> Result<(
 type Refused = (&'static str, u64, usize, ReadHomeFault);
 
 static REFUSALS: [Refused; 4] = [
-    ("after the last home", 16, 1024, ReadHomeFault::OutOfRange),
     (
-        "after the last home, a short buffer",
+        "the read after the last home",
+        16,
+        1024,
+        ReadHomeFault::OutOfRange,
+    ),
+    (
+        "the read after the last home, into a short buffer",
         16,
         1023,
         ReadHomeFault::OutOfRange,
     ),
-    ("a short buffer", 5, 1023, ReadHomeFault::Length),
-    ("an empty buffer", 5, 0, ReadHomeFault::Length),
+    (
+        "the read into a short buffer",
+        5,
+        1023,
+        ReadHomeFault::Length,
+    ),
+    ("the read into an empty buffer", 5, 0, ReadHomeFault::Length),
 ];
 
 /// The calls that opening the small image makes.

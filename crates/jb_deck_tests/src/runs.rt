@@ -57,9 +57,7 @@ fn run<D: Disk + Drop>(alloc: Global, disk: D, script: &[Call<'_>]) -> Result<Ra
         Err(_) => return fail("it is not opened"),
     };
     let mut model = Model::new(alloc, [0; 16], u64::from(deck.usable()));
-    let met = first_fault(alloc, &mut deck, &mut model, script)?;
-    let ended = met.is_none();
-    let left = met.unwrap_or(only(model.standing()));
+    let (left, ended) = first_fault(alloc, &mut deck, &mut model, script)?;
     Ok(Ran {
         disk: deck.close(),
         left,
@@ -67,20 +65,21 @@ fn run<D: Disk + Drop>(alloc: Global, disk: D, script: &[Call<'_>]) -> Result<Ra
     })
 }
 
-/// Calls a journal by a script up to its first fault, after which it refuses each call: what a crash may leave then.
+/// Calls a journal by a script up to its first fault, after which it refuses each call: what a crash may leave then, and
+/// whether it met none.
 fn first_fault<D: Disk>(
     alloc: Global,
     deck: &mut Deck<D>,
     model: &mut Model,
     script: &[Call<'_>],
-) -> Result<Option<Left>, Fail> {
+) -> Result<(Left, bool), Fail> {
     for next in script {
         if let Some(left) = make_call(alloc, deck, model, *next)? {
             refuse_each(alloc, deck)?;
-            return Ok(Some(left));
+            return Ok((left, false));
         }
     }
-    Ok(None)
+    Ok((only(model.standing()), true))
 }
 
 /// A script that is run on a disk that fails: the disk, what a crash may leave of it, and whether it met no fault.

@@ -112,46 +112,33 @@ fn recovered(
     Ok(image)
 }
 
-/// The life of a journal: its disk, and what a crash may leave.
-#[derive(Drop)]
-struct Life<D> {
-    disk: D,
-    left: Left,
-}
-
-/// One life of a journal on a disk that has these homes, until its power goes.
+/// One life of a journal on a disk, until its power goes: the disk. `left` is what a crash may leave, before and after.
 fn live_on<D: Disk + Drop>(
     alloc: Global,
     seed: &mut Seed,
     next: &mut u32,
     disk: D,
-    homes: &Homes,
-) -> Result<Life<D>, Fail> {
+    left: &mut Left,
+) -> Result<D, Fail> {
     match Deck::open(alloc, disk) {
-        Ok(deck) => live_with(alloc, seed, next, deck, homes),
-        Err((disk, OpenFault::DeviceFault)) => Ok(Life {
-            disk,
-            left: only(*homes),
-        }),
+        Ok(deck) => live_with(alloc, seed, next, deck, left),
+        Err((disk, OpenFault::DeviceFault)) => Ok(disk),
         Err(_) => fail("it is not opened"),
     }
 }
 
-/// The life of a journal that is opened.
+/// The life of a journal that is opened, on homes of which only one state may be left.
 fn live_with<D: Disk + Drop>(
     alloc: Global,
     seed: &mut Seed,
     next: &mut u32,
     opened: Deck<D>,
-    homes: &Homes,
-) -> Result<Life<D>, Fail> {
+    left: &mut Left,
+) -> Result<D, Fail> {
     let mut deck = opened;
-    let mut model = Model::new(alloc, *homes, u64::from(deck.usable()));
-    let left = live(alloc, seed, next, &mut deck, &mut model)?;
-    Ok(Life {
-        disk: deck.close(),
-        left,
-    })
+    let mut model = Model::new(alloc, left.was, u64::from(deck.usable()));
+    *left = live(alloc, seed, next, &mut deck, &mut model)?;
+    Ok(deck.close())
 }
 
 /// Recovers each of the images that a crash leaves; the last one of them.
@@ -190,9 +177,8 @@ fn last_of_life(
     wanted: &mut Wanted,
 ) -> Result<MemoryDisk, Fail> {
     let fuse = FuseDisk::of(disk, u64::from(seed.below(200)));
-    let Life { disk, left } = live_on(alloc, seed, next, fuse, &wanted.left.was)?;
-    wanted.left = left;
-    last_recovered(alloc, seed, &disk.into_inner(), homes, wanted)
+    let fuse = live_on(alloc, seed, next, fuse, &mut wanted.left)?;
+    last_recovered(alloc, seed, &fuse.into_inner(), homes, wanted)
 }
 
 /// Lives of a journal on one disk, until the homes of one are known no more; how many images were recovered.

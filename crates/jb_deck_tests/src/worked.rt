@@ -155,9 +155,8 @@ fn mend_each(alloc: Global, calls: u64, disk: &MemoryDisk, wanted: &Wanted) -> R
 }
 
 /// Whether a disk has other contents than an image that a crash left, or may have them after one more crash.
-fn is_changed(disk: &MemoryDisk, found: &MemoryDisk) -> Result<bool, Fail> {
-    let mut was = crashed(found, &[])?;
-    Ok(differs(disk, &[0; SECTORS], &mut was)? || differs(disk, &newest_from(0), &mut was)?)
+fn is_changed(disk: &MemoryDisk, image: &mut MemoryDisk) -> Result<bool, Fail> {
+    Ok(differs(disk, &[0; SECTORS], image)? || differs(disk, &newest_from(0), image)?)
 }
 
 /// Stops the recovery of an image after so many calls of its own and crashes it by each choice; whether it ended
@@ -165,7 +164,7 @@ fn is_changed(disk: &MemoryDisk, found: &MemoryDisk) -> Result<bool, Fail> {
 fn mend_once(
     alloc: Global,
     calls: u64,
-    image: &MemoryDisk,
+    image: &mut MemoryDisk,
     own: u64,
     wanted: &Wanted,
 ) -> Result<bool, Fail> {
@@ -180,7 +179,7 @@ fn mend_once(
 fn mend_stopped(
     alloc: Global,
     calls: u64,
-    image: &MemoryDisk,
+    image: &mut MemoryDisk,
     wanted: &Wanted,
 ) -> Result<u64, Fail> {
     let mut images: u64 = 0;
@@ -202,8 +201,8 @@ fn mend_left(
     choice: &[u32; SECTORS],
     wanted: &Wanted,
 ) -> Result<u64, Fail> {
-    let image = crashed(disk, choice)?;
-    mend_stopped(alloc, calls, &image, wanted)
+    let mut image = crashed(disk, choice)?;
+    mend_stopped(alloc, calls, &mut image, wanted)
 }
 
 /// Crashes a disk of the script, which is stopped after so many calls, by each choice and stops the recovery of each
