@@ -12,18 +12,10 @@ use jb_disk::{Disk, FuseDisk, MemoryDisk, OneFaultDisk};
 use std::alloc::Global;
 use std::test::Fail;
 
-/// A script that is run up to its first fault: the disk, what a crash may leave of it, and whether it met none.
+/// A disk, and whether what was run on it ended before the disk failed.
 #[derive(Drop)]
-struct Ran<D> {
-    disk: D,
-    left: Left,
-    ended: bool,
-}
-
-/// A disk, and whether what was called ended before the disk failed.
-#[derive(Drop)]
-pub struct Once {
-    pub disk: MemoryDisk,
+pub struct Ran<D> {
+    pub disk: D,
     pub ended: bool,
 }
 
@@ -43,43 +35,43 @@ fn refuse_each<D: Disk>(alloc: Global, deck: &mut Deck<D>) -> Result<(), Fail> {
     Ok(())
 }
 
-/// Runs a script on a disk up to its first fault.
-fn run<D: Disk + Drop>(alloc: Global, disk: D, script: &[Call<'_>]) -> Result<Ran<D>, Fail> {
+/// Runs a script on a disk up to its first fault. `left` is what a crash may leave, before and after.
+fn run<D: Disk + Drop>(
+    alloc: Global,
+    disk: D,
+    script: &[Call<'_>],
+    left: &mut Left,
+) -> Result<Ran<D>, Fail> {
     let mut deck = match Deck::open(alloc, disk) {
         Ok(deck) => deck,
         Err((disk, OpenFault::DeviceFault)) => {
-            return Ok(Ran {
-                disk,
-                left: only([0; 16]),
-                ended: false,
-            });
+            return Ok(Ran { disk, ended: false });
         }
         Err(_) => return fail("it is not opened"),
     };
-    let mut model = Model::new(alloc, [0; 16], u64::from(deck.usable()));
-    let (left, ended) = first_fault(alloc, &mut deck, &mut model, script)?;
-    Ok(Ran {
-        disk: deck.close(),
-        left,
-        ended,
-    })
+    let mut model = Model::new(alloc, left.was, u64::from(deck.usable()));
+    let ended = run_with(alloc, &mut deck, &mut model, script, left)?;
+    let disk = deck.close();
+    Ok(Ran { disk, ended })
 }
 
-/// Calls a journal by a script up to its first fault, after which it refuses each call: what a crash may leave then, and
-/// whether it met none.
-fn first_fault<D: Disk>(
+/// Calls a journal by a script up to its first fault, after which it refuses each call; whether it met none.
+fn run_with<D: Disk>(
     alloc: Global,
     deck: &mut Deck<D>,
     model: &mut Model,
     script: &[Call<'_>],
-) -> Result<(Left, bool), Fail> {
+    left: &mut Left,
+) -> Result<bool, Fail> {
     for next in script {
-        if let Some(left) = make_call(alloc, deck, model, *next)? {
+        if let Some(met) = make_call(alloc, deck, model, *next)? {
+            *left = met;
             refuse_each(alloc, deck)?;
-            return Ok((left, false));
+            return Ok(false);
         }
     }
-    Ok((only(model.standing()), true))
+    *left = only(model.standing());
+    Ok(true)
 }
 
 /// A script that is run on a disk that fails: the disk, what a crash may leave of it, and whether it met no fault.
@@ -90,7 +82,7 @@ pub struct Stop {
     pub ended: bool,
 }
 
-/// Runs a script on a disk whose log begins at block 1, and which makes so many calls.
+/// Runs a script on a disk whose log begins at block 1, whose homes are zeros, and which makes so many calls.
 pub fn run_to(
     alloc: Global,
     before: MemoryDisk,
@@ -99,13 +91,12 @@ pub fn run_to(
 ) -> Result<Stop, Fail> {
     let mut disk = before;
     let frame = Frame::of(alloc, &mut disk, 1)?;
-    let ran = run(alloc, FuseDisk::of(disk, calls), script)?;
+    let left = only([0; 16]);
+    let mut wanted = Wanted { left, frame };
+    let ran = run(alloc, FuseDisk::of(disk, calls), script, &mut wanted.left)?;
     Ok(Stop {
         disk: ran.disk.into_inner(),
-        wanted: Wanted {
-            left: ran.left,
-            frame,
-        },
+        wanted,
         ended: ran.ended,
     })
 }
@@ -116,9 +107,10 @@ pub fn run_over(
     before: MemoryDisk,
     call: u64,
     script: &[Call<'_>],
-) -> Result<Once, Fail> {
-    let ran = run(alloc, OneFaultDisk::of(before, call), script)?;
-    Ok(Once {
+) -> Result<Ran<MemoryDisk>, Fail> {
+    let mut left = only([0; 16]);
+    let ran = run(alloc, OneFaultDisk::of(before, call), script, &mut left)?;
+    Ok(Ran {
         disk: ran.disk.into_inner(),
         ended: ran.ended,
     })

@@ -4,7 +4,7 @@
 use crate::frames::Wanted;
 use crate::images::{BLOCKS, HOMES, Row, crashed, difference, fail, fail_at, small};
 use crate::lives::Call;
-use crate::runs::{Once, Stop, run_over, run_to};
+use crate::runs::{Ran, Stop, run_over, run_to};
 use jb_disk::{FuseDisk, MemoryDisk};
 use jb_recover::recover;
 use std::alloc::Global;
@@ -162,10 +162,10 @@ fn mend_all(
 }
 
 /// A recovery of what a crash left, that is stopped after so many calls.
-pub fn stopped(alloc: Global, disk: &MemoryDisk, calls: u64) -> Result<Once, Fail> {
+pub fn stopped(alloc: Global, disk: &MemoryDisk, calls: u64) -> Result<Ran<MemoryDisk>, Fail> {
     let mut fuse = FuseDisk::of(crashed(disk, &[])?, calls);
     let ended = recover(alloc, &mut fuse).is_ok();
-    Ok(Once {
+    Ok(Ran {
         disk: fuse.into_inner(),
         ended,
     })
@@ -222,12 +222,12 @@ fn mend_stopped(
     mend_whenever(alloc, calls, &image, wanted)
 }
 
-/// The script of which one call fails ends as one that is stopped there, and leaves the same disk.
-fn fail_alike(alloc: Global, call: u64, stop: &mut Stop) -> Result<(), Fail> {
+/// The script of which one call fails ends as one that is stopped there, and leaves the same disk; whether it ended.
+fn fail_alike(alloc: Global, call: u64, stop: &mut Stop) -> Result<bool, Fail> {
     let mut other = run_over(alloc, before(alloc)?, call, &SCRIPT)?;
     let differs = difference(&mut other.disk, &mut stop.disk, 0)?;
     if other.ended == stop.ended && differs.is_none() {
-        return Ok(());
+        return Ok(stop.ended);
     }
     fail_at(
         "the script leaves something else where one call fails",
@@ -236,8 +236,8 @@ fn fail_alike(alloc: Global, call: u64, stop: &mut Stop) -> Result<(), Fail> {
 }
 
 /// What the script left that was stopped after so many calls mends, where recovery is stopped too, and is what it leaves
-/// where that call alone fails.
-fn mend_after(alloc: Global, number: u32, stop: &mut Stop) -> Result<(), Fail> {
+/// where that call alone fails; whether it ended before.
+fn mend_after(alloc: Global, number: u32, stop: &mut Stop) -> Result<bool, Fail> {
     let calls = u64::from(number);
     mend_all(alloc, calls, &stop.disk, ALL, &stop.wanted)?;
     mend_stopped(alloc, calls, &stop.disk, &choice(number % 10), &stop.wanted)?;
@@ -247,8 +247,7 @@ fn mend_after(alloc: Global, number: u32, stop: &mut Stop) -> Result<(), Fail> {
 /// Stops the script after so many calls; whether it ended before.
 fn stop_at(alloc: Global, number: u32) -> Result<bool, Fail> {
     let mut stop = run_to(alloc, before(alloc)?, u64::from(number), &SCRIPT)?;
-    mend_after(alloc, number, &mut stop)?;
-    Ok(stop.ended)
+    mend_after(alloc, number, &mut stop)
 }
 
 /// Stops the script after every number of calls.
