@@ -2,7 +2,7 @@
 
 use crate::cases::report;
 use crate::images::{BLOCKS, MAGIC, Row, check_same, fail, fail_at, read_at, small};
-use crate::openings::{closed, refused};
+use crate::openings::{Told, closed, refused};
 use crate::rounds::SIX;
 use crate::scripts::{Step, first_wrong, opening};
 use jb_block::{Width, get32};
@@ -13,11 +13,8 @@ use jb_recover::recover;
 use std::alloc::Global;
 use std::test::Fail;
 
-/// The next number of a journal, and how wide its block numbers are.
-type Told = (u64, Width);
-
 /// A name, whether the journal is widened before it is opened, or renumbered; the rows of the small image that differ
-/// before, the next number and the width after, and the calls then.
+/// before, what it says of itself after, and the calls then.
 type Changed = (&'static str, bool, &'static [Row], Told, &'static [Step]);
 
 /// Six copies are committed as number 1.
@@ -35,28 +32,28 @@ static CHANGED: [Changed; 5] = [
             (9, 0, [MAGIC, 1, 4294967295, 5]),
             (32, 0, [MAGIC, 2, 4294967294, 0]),
         ],
-        (1, Width::Narrow),
+        (1, 32, Width::Narrow),
         FIRST,
     ),
     (
         "block numbers of 64 bits, renumbered",
         false,
         &[(0, 0x10, [33, 1, 4294967295, 0]), (0, 0x20, [0, 0, 3, 0])],
-        (1, Width::Wide),
+        (1, 32, Width::Wide),
         FIRST,
     ),
     (
         "as it is made, renumbered",
         false,
         &[],
-        (1, Width::Narrow),
+        (1, 32, Width::Narrow),
         FIRST,
     ),
     (
         "as it is made, widened",
         true,
         &[],
-        (2, Width::Wide),
+        (2, 32, Width::Wide),
         &[
             Step::Commits(SIX, &[(0, 1, 2, 8)]),
             Step::Ends(&[(0, 1, 2, 8)], 3),
@@ -66,7 +63,7 @@ static CHANGED: [Changed; 5] = [
         "a narrow block of the log from before, widened",
         true,
         &[(0, 0x10, [33, 1, 7, 0]), (9, 0, [MAGIC, 1, 7, 5])],
-        (8, Width::Wide),
+        (8, 32, Width::Wide),
         &[
             Step::Commits(SIX, &[(0, 1, 8, 8)]),
             Step::Ends(&[(0, 1, 8, 8)], 9),
@@ -75,7 +72,7 @@ static CHANGED: [Changed; 5] = [
 ];
 
 /// A name, the rows of the small image that differ, the calls, whether the journal is then recovered and widened, or
-/// renumbered; the next number and the width after, and the calls then.
+/// renumbered; what it says of itself after, and the calls then.
 type Used = (
     &'static str,
     &'static [Row],
@@ -94,7 +91,7 @@ static USED: [Used; 2] = [
             Step::Checkpoints(4294967295, 6),
         ],
         false,
-        (1, Width::Narrow),
+        (1, 32, Width::Narrow),
         FIRST,
     ),
     (
@@ -102,7 +99,7 @@ static USED: [Used; 2] = [
         &[],
         &[Step::Commits("h w5=c03b399801020304 r7\n", &[(0, 1, 2, 4)])],
         true,
-        (4, Width::Wide),
+        (4, 32, Width::Wide),
         &[
             Step::Commits(SIX, &[(0, 1, 4, 8)]),
             Step::Ends(&[(0, 1, 4, 8)], 5),
@@ -156,7 +153,7 @@ fn played(
     }
 }
 
-/// Checks the log of a journal of this next number and width that has committed six copies as one group: how wide its
+/// Checks the log of a journal that said this of itself and has committed six copies as one group: how wide its
 /// tags are, and what recovery reports.
 fn check_log(
     alloc: Global,
@@ -164,7 +161,7 @@ fn check_log(
     told: Told,
     disk: &mut MemoryDisk,
 ) -> Result<(), Fail> {
-    let (number, width) = told;
+    let (number, _, width) = told;
     if tag_width(disk)? != width {
         return fail_at(row, "the width of its tags at number", number);
     }
@@ -174,7 +171,7 @@ fn check_log(
     Ok(())
 }
 
-/// Checks what a journal of this next number and width commits by these steps.
+/// Checks what a journal that says this of itself commits by these steps.
 fn check_committed(
     alloc: Global,
     row: &'static str,
@@ -187,18 +184,23 @@ fn check_committed(
 }
 
 /// Checks that a disk is as a journal is once it is changed in its place.
-fn check_kept(alloc: Global, of: &Changed, disk: &mut MemoryDisk) -> Result<(), Fail> {
-    let mut wanted = changed(alloc, of.1, of.2)?;
-    check_same(of.0, disk, &mut wanted)
+fn check_kept(
+    alloc: Global,
+    row: &'static str,
+    widens: bool,
+    rows: &[Row],
+    disk: &mut MemoryDisk,
+) -> Result<(), Fail> {
+    let mut wanted = changed(alloc, widens, rows)?;
+    check_same(row, disk, &mut wanted)
 }
 
 /// Checks that opening a journal that is changed in its place keeps its disk, and then what it commits.
 fn check_changed(alloc: Global, of: &Changed) -> Result<(), Fail> {
-    let (row, widens, rows, (number, width), steps) = *of;
-    let before = changed(alloc, widens, rows)?;
-    let mut disk = closed(alloc, row, before, (number, 32, width))?;
-    check_kept(alloc, of, &mut disk)?;
-    check_committed(alloc, row, (number, width), steps, disk)
+    let (row, widens, rows, told, steps) = *of;
+    let mut disk = closed(alloc, row, changed(alloc, widens, rows)?, told)?;
+    check_kept(alloc, row, widens, rows, &mut disk)?;
+    check_committed(alloc, row, told, steps, disk)
 }
 
 #[test]
@@ -210,14 +212,19 @@ fn journals_that_were_changed_in_their_place_are_opened(rt: HostRuntime) -> Resu
 }
 
 /// The disk of a journal that is widened once it is recovered, or renumbered since it is refused: its numbers are spent.
-fn readied(alloc: Global, of: &Used, mut disk: MemoryDisk) -> Result<MemoryDisk, Fail> {
-    if !of.3 {
-        return refused(alloc, of.0, disk, OpenFault::NumbersSpent);
+fn readied(
+    alloc: Global,
+    row: &'static str,
+    widens: bool,
+    mut disk: MemoryDisk,
+) -> Result<MemoryDisk, Fail> {
+    if !widens {
+        return refused(alloc, row, disk, OpenFault::NumbersSpent);
     }
     if recover(alloc, &mut disk) == Ok(report((1, 1, 0, 4))) {
         Ok(disk)
     } else {
-        fail_at(of.0, "it is not recovered", 0)
+        fail_at(row, "it is not recovered", 0)
     }
 }
 
@@ -225,7 +232,7 @@ fn readied(alloc: Global, of: &Used, mut disk: MemoryDisk) -> Result<MemoryDisk,
 fn check_used(alloc: Global, of: &Used) -> Result<(), Fail> {
     let (row, rows, before, widens, told, steps) = *of;
     let disk = played(alloc, row, small(alloc, BLOCKS, rows, &[])?, before)?;
-    let mut disk = readied(alloc, of, disk)?;
+    let mut disk = readied(alloc, row, widens, disk)?;
     change(&mut disk, widens)?;
     check_committed(alloc, row, told, steps, disk)
 }

@@ -151,17 +151,18 @@ fn check_left(
     call: u64,
     left: &Tried<MemoryDisk>,
 ) -> Result<(), Fail> {
-    let (fault, from) = if call < of.4 {
+    let (row, _, _, _, calls) = *of;
+    let (fault, from) = if call < calls {
         (Some(OpenFault::DeviceFault), HOMES)
     } else {
         (None, 0)
     };
     if left.fault != fault {
-        return fail_at(of.0, "how opening it ends at call", call);
+        return fail_at(row, "how opening it ends at call", call);
     }
     for choice in &CHOICES {
         if !mends(alloc, &mut crashed(&left.disk, choice)?, wanted, from)? {
-            return fail_at(of.0, "what a crash leaves does not mend at call", call);
+            return fail_at(row, "what a crash leaves does not mend at call", call);
         }
     }
     Ok(())
