@@ -211,7 +211,8 @@ fn journals_that_were_changed_in_their_place_are_opened(rt: HostRuntime) -> Resu
     Ok(())
 }
 
-/// The disk of a journal that is widened once it is recovered, or renumbered since it is refused: its numbers are spent.
+/// The disk of a journal that is to be widened, once it is recovered; or of one that is to be renumbered, since it is
+/// refused: its numbers are spent.
 fn readied(
     alloc: Global,
     row: &'static str,

@@ -77,6 +77,7 @@ fn frame_of(alloc: Global, rows: &[Row], after: &[Row], first: u64) -> Result<Fr
     Frame::of(alloc, &mut small(alloc, BLOCKS, rows, after)?, first)
 }
 
+/// What a crash may leave of a case.
 fn make_wanted(alloc: Global, of: &Case) -> Result<Wanted, Fail> {
     let (_, rows, after, first, _) = *of;
     let whole = small(alloc, BLOCKS, rows, after)?;
