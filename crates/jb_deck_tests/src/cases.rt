@@ -2,14 +2,11 @@
 //! recovery makes of these.
 
 use crate::groups::{Laid, lay_group};
-use crate::images::{
-    BLOCKS, Row, Wrong, assert_right, crashed, difference, found, put_rows, small,
-};
-use crate::scripts::{Step, first_wrong, opened};
+use crate::images::{BLOCKS, Row, check_same, crashed, difference, fail_in, put_rows, small};
+use crate::scripts::{Step, check_steps, opening};
 use jb_disk::{Disk, MemoryDisk, OneFaultDisk};
 use jb_recover::{Recovered, recover};
 use std::alloc::Global;
-use std::process::Abort;
 use std::test::Fail;
 
 /// A journal that is recovered and opened, the calls, the blocks of the disk after them, and what recovery then
@@ -25,56 +22,42 @@ pub struct Case {
     pub after: &'static [Row],
 }
 
-/// The disk of the journal of a row after these calls, or what is wrong first.
-fn called<D: Disk + Drop>(
+/// The disk of the journal of a row after these calls.
+pub fn called<D: Disk + Drop>(
     alloc: Global,
     row: &'static str,
     disk: D,
     steps: &[Step],
-) -> Result<Result<D, Wrong>, Fail> {
-    let Some(mut deck) = opened(alloc, disk) else {
-        let what = "it is not opened";
-        return Ok(Err(Wrong { row, what, at: 0 }));
-    };
-    let wrong = first_wrong(alloc, row, &mut deck, steps)?;
-    let disk = deck.close();
-    Ok(match wrong {
-        Some(wrong) => Err(wrong),
-        None => Ok(disk),
-    })
+) -> Result<D, Fail> {
+    let mut deck = opening(alloc, disk)?;
+    check_steps(alloc, row, &mut deck, steps)?;
+    Ok(deck.close())
 }
 
-/// The small image after these calls of its journal, on a disk of which the call of this number fails, or what is wrong
-/// first.
+/// The small image after these calls of its journal, on a disk of which the call of this number fails.
 pub fn called_with_fault(
     alloc: Global,
     row: &'static str,
     call: u64,
     steps: &[Step],
-) -> Result<Result<MemoryDisk, Wrong>, Fail> {
+) -> Result<MemoryDisk, Fail> {
     let disk = OneFaultDisk::of(small(alloc, BLOCKS, &[], &[])?, call);
-    match called(alloc, row, disk, steps)? {
-        Ok(disk) => Ok(Ok(disk.into_inner())),
-        Err(wrong) => Ok(Err(wrong)),
-    }
+    Ok(called(alloc, row, disk, steps)?.into_inner())
 }
 
-/// The image of a case once it is recovered, or none where it is not.
-fn recovered(alloc: Global, case: &Case) -> Result<Option<MemoryDisk>, Fail> {
+/// The image of a case once it is recovered.
+fn recovered(alloc: Global, case: &Case) -> Result<MemoryDisk, Fail> {
     let mut disk = small(alloc, case.blocks, case.image, &[])?;
-    let is_recovered = recover(alloc, &mut disk).is_ok();
-    Ok(if is_recovered { Some(disk) } else { None })
+    if recover(alloc, &mut disk).is_err() {
+        return fail_in(case.name, "it is not recovered; blocks", case.blocks);
+    }
+    Ok(disk)
 }
 
-/// The first thing of a case that is wrong.
-fn first_wrong_of(alloc: Global, case: &Case) -> Result<Option<Wrong>, Fail> {
-    let Some(disk) = recovered(alloc, case)? else {
-        return found(case.name, "it is not recovered", 0);
-    };
-    match called(alloc, case.name, disk, case.steps)? {
-        Ok(mut disk) => first_wrong_left(alloc, case, &mut disk),
-        Err(wrong) => Ok(Some(wrong)),
-    }
+/// Checks the calls of a case and what they leave.
+fn check_case(alloc: Global, case: &Case) -> Result<(), Fail> {
+    let mut disk = called(alloc, case.name, recovered(alloc, case)?, case.steps)?;
+    check_left(alloc, case, &mut disk)
 }
 
 /// Lays what a case's calls are to leave over its image.
@@ -85,35 +68,29 @@ fn lay(case: &Case, disk: &mut MemoryDisk) -> Result<(), Fail> {
     put_rows(disk, case.rows)
 }
 
-/// The first thing that is wrong on the disk that the calls of a case left, and in what a crash leaves of it: all that
-/// stands on the disk, since every call that changes it ends with a sync.
-fn first_wrong_left(
-    alloc: Global,
-    case: &Case,
-    disk: &mut MemoryDisk,
-) -> Result<Option<Wrong>, Fail> {
+/// Checks the disk that the calls of a case left, and what a crash leaves of it: all that stands on the disk, since
+/// every call that changes it ends with a sync.
+fn check_left(alloc: Global, case: &Case, disk: &mut MemoryDisk) -> Result<(), Fail> {
     let mut wanted = small(alloc, case.blocks, case.image, &[])?;
     let mut left = crashed(disk, &[])?;
-    first_wrong_block(alloc, case, disk, &mut left, &mut wanted)
+    check_blocks(alloc, case, disk, &mut left, &mut wanted)
 }
 
-/// The first block of a disk, or of what a crash left of it, that is not as the case's image with what its calls are
-/// to leave; or what is wrong once that is recovered.
-fn first_wrong_block(
+/// Checks that a disk, and what a crash left of it, has the blocks of the case's image with what its calls are to leave;
+/// and then what that is once it is recovered.
+fn check_blocks(
     alloc: Global,
     case: &Case,
     disk: &mut MemoryDisk,
     left: &mut MemoryDisk,
     wanted: &mut MemoryDisk,
-) -> Result<Option<Wrong>, Fail> {
+) -> Result<(), Fail> {
     lay(case, wanted)?;
-    if let Some(place) = difference(disk, wanted, 0)? {
-        return found(case.name, "block", place);
-    }
+    check_same(case.name, disk, wanted)?;
     if let Some(place) = difference(left, wanted, 0)? {
-        return found(case.name, "block that a crash leaves", place);
+        return fail_in(case.name, "block that a crash leaves", place);
     }
-    first_wrong_home(alloc, case, left, wanted)
+    check_home(alloc, case, left, wanted)
 }
 
 /// What recovery reports: transactions, copies, revoked copies and the next number.
@@ -127,27 +104,32 @@ pub fn report(told: (u32, u32, u32, u64)) -> Recovered {
     }
 }
 
-/// The first thing that is wrong once what a crash left of a case is recovered.
-fn first_wrong_home(
+/// Checks what a crash left of a case once it is recovered.
+fn check_home(
     alloc: Global,
     case: &Case,
     left: &mut MemoryDisk,
     wanted: &mut MemoryDisk,
-) -> Result<Option<Wrong>, Fail> {
-    if recover(alloc, left) != Ok(report(case.recovered)) {
-        return found(case.name, "what recovery reports", 0);
+) -> Result<(), Fail> {
+    let told = recover(alloc, left);
+    if told != Ok(report(case.recovered)) {
+        return fail_in(
+            case.name,
+            "what recovery reports, with the next number",
+            case.recovered.3,
+        );
     }
     put_rows(wanted, case.after)?;
     match difference(left, wanted, 0)? {
-        Some(place) => found(case.name, "block after recovery", place),
-        None => Ok(None),
+        Some(place) => fail_in(case.name, "block after recovery", place),
+        None => Ok(()),
     }
 }
 
-/// Nothing is wrong in any of these cases.
-pub fn assert_cases(rt: &impl Abort, alloc: Global, cases: &[Case]) -> Result<(), Fail> {
+/// Checks each of these cases.
+pub fn check_cases(alloc: Global, cases: &[Case]) -> Result<(), Fail> {
     for case in cases {
-        assert_right(rt, first_wrong_of(alloc, case)?);
+        check_case(alloc, case)?;
     }
     Ok(())
 }

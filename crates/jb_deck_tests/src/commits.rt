@@ -1,6 +1,6 @@
 //! Batches that are committed while the log has room, and that are refused.
 
-use crate::cases::{Case, assert_cases};
+use crate::cases::{Case, check_cases};
 use crate::images::{BLOCKS, HOMES, MAGIC, Row};
 use crate::rounds::{SIX, SIX_COPIES};
 use crate::scripts::{Refusal, Step};
@@ -216,10 +216,10 @@ static BY_GROUPS: [Case; 3] = [
 
 #[test]
 fn blocks_are_written_as_worked_by_hand(rt: HostRuntime) -> Result<(), Fail> {
-    assert_cases(&rt, rt.alloc(), &BY_BLOCKS)
+    check_cases(rt.alloc(), &BY_BLOCKS)
 }
 
 #[test]
 fn batches_are_committed_as_worked_by_hand(rt: HostRuntime) -> Result<(), Fail> {
-    assert_cases(&rt, rt.alloc(), &BY_GROUPS)
+    check_cases(rt.alloc(), &BY_GROUPS)
 }

@@ -2,10 +2,8 @@
 
 use crate::cases::{called_with_fault, report};
 use crate::frames::Frame;
-use crate::images::{
-    BLOCKS, HOMES, MAGIC, Row, Wrong, assert_right, crashed, difference, found, small,
-};
-use crate::scripts::{Refusal, Step, opened};
+use crate::images::{BLOCKS, HOMES, MAGIC, Row, crashed, difference, fail_in, small};
+use crate::scripts::{Refusal, Step, opening};
 use jb_block::Width;
 use jb_disk::MemoryDisk;
 use jb_recover::recover;
@@ -93,88 +91,71 @@ static COMMIT: [Step; 1] = [Step::Refuses(
     Refusal::DeviceFault(0),
 )];
 
-/// What is wrong with a row.
-fn first_wrong_of(alloc: Global, of: &Given) -> Result<Option<Wrong>, Fail> {
-    match called_with_fault(alloc, of.name, of.call, &COMMIT)? {
-        Ok(disk) => first_wrong_left(alloc, of, &disk),
-        Err(wrong) => Ok(Some(wrong)),
-    }
+/// Checks a row.
+fn check_row(alloc: Global, of: &Given) -> Result<(), Fail> {
+    let disk = called_with_fault(alloc, of.name, of.call, &COMMIT)?;
+    let mut left = crashed(&disk, of.choice)?;
+    check_mended(alloc, of, &mut left)?;
+    check_opened(alloc, of, left)
 }
 
-/// What is wrong with what a row's choice leaves of a disk, once it is recovered, and once it is opened again.
-fn first_wrong_left(alloc: Global, of: &Given, disk: &MemoryDisk) -> Result<Option<Wrong>, Fail> {
-    let mut left = crashed(disk, of.choice)?;
-    match first_wrong_mended(alloc, of, &mut left)? {
-        Some(wrong) => Ok(Some(wrong)),
-        None => first_wrong_opened(alloc, of, left),
-    }
-}
-
-/// What is wrong with what is left of a row once it is recovered, or with what stands before the log.
-fn first_wrong_mended(
-    alloc: Global,
-    of: &Given,
-    left: &mut MemoryDisk,
-) -> Result<Option<Wrong>, Fail> {
+/// Checks what is left of a row as it is recovered.
+fn check_mended(alloc: Global, of: &Given, left: &mut MemoryDisk) -> Result<(), Fail> {
     let front = Frame::of(alloc, &mut small(alloc, BLOCKS, &[], &[])?, 1)?;
-    first_wrong_recovered(alloc, of, left, &front)
+    check_recovered(alloc, of, left, &front)
 }
 
-/// What is wrong with what recovery reports of what is left of a row, or with what stands before the log, before and
-/// after.
-fn first_wrong_recovered(
+/// Checks what recovery reports of what is left of a row, and that what stands before the log is kept, before and after.
+fn check_recovered(
     alloc: Global,
     of: &Given,
     left: &mut MemoryDisk,
     front: &Frame,
-) -> Result<Option<Wrong>, Fail> {
+) -> Result<(), Fail> {
     if !front.is_kept(alloc, left)? {
-        return found(of.name, "what stands before the log has changed", 0);
-    }
-    if recover(alloc, left) != Ok(report(of.recovered)) {
-        return found(of.name, "what recovery reports", 0);
-    }
-    if !front.is_kept(alloc, left)? {
-        return found(
+        return fail_in(
             of.name,
-            "recovery has changed what stands before the log",
-            0,
+            "what stands before the log has changed at call",
+            of.call,
         );
     }
-    Ok(None)
+    if recover(alloc, left) != Ok(report(of.recovered)) {
+        return fail_in(of.name, "what recovery reports after call", of.call);
+    }
+    if !front.is_kept(alloc, left)? {
+        return fail_in(
+            of.name,
+            "recovery has changed what stands before the log after call",
+            of.call,
+        );
+    }
+    Ok(())
 }
 
-/// What is wrong with what is left of a row once it is opened again.
-fn first_wrong_opened(alloc: Global, of: &Given, left: MemoryDisk) -> Result<Option<Wrong>, Fail> {
-    let Some(deck) = opened(alloc, left) else {
-        return found(of.name, "it is not opened again", 0);
-    };
+/// Checks what is left of a row once it is opened again.
+fn check_opened(alloc: Global, of: &Given, left: MemoryDisk) -> Result<(), Fail> {
+    let deck = opening(alloc, left)?;
     let number = deck.next_number();
     let mut disk = deck.close();
-    if number == of.recovered.3 {
-        first_wrong_block(alloc, of, &mut disk)
-    } else {
-        found(of.name, "the next number", number)
+    if number != of.recovered.3 {
+        return fail_in(of.name, "the next number", number);
     }
+    check_block(alloc, of, &mut disk)
 }
 
-/// The first block of what is left of a row that is not as it should be.
-fn first_wrong_block(
-    alloc: Global,
-    of: &Given,
-    disk: &mut MemoryDisk,
-) -> Result<Option<Wrong>, Fail> {
+/// Checks the blocks of what is left of a row.
+fn check_block(alloc: Global, of: &Given, disk: &mut MemoryDisk) -> Result<(), Fail> {
     let mut wanted = small(alloc, BLOCKS, of.rows, &[])?;
     match difference(disk, &mut wanted, of.from)? {
-        Some(place) => found(of.name, "block", place),
-        None => Ok(None),
+        Some(place) => fail_in(of.name, "block", place),
+        None => Ok(()),
     }
 }
 
 #[test]
 fn syncs_that_fail_leave_what_is_worked_out_by_hand(rt: HostRuntime) -> Result<(), Fail> {
     for row in &ROWS {
-        assert_right(&rt, first_wrong_of(rt.alloc(), row)?);
+        check_row(rt.alloc(), row)?;
     }
     Ok(())
 }

@@ -1,6 +1,6 @@
 //! Journals whose transactions go home, or are recovered, between two batches; and homes that are freed.
 
-use crate::cases::{Case, assert_cases};
+use crate::cases::{Case, check_cases};
 use crate::images::{BLOCKS, HOMES, MAGIC};
 use crate::scripts::Step;
 use jb_deck::FreeFault;
@@ -126,10 +126,10 @@ static FREES: [Case; 3] = [
 
 #[test]
 fn copies_go_home_as_worked_by_hand(rt: HostRuntime) -> Result<(), Fail> {
-    assert_cases(&rt, rt.alloc(), &COPIES)
+    check_cases(rt.alloc(), &COPIES)
 }
 
 #[test]
 fn homes_are_freed_as_worked_by_hand(rt: HostRuntime) -> Result<(), Fail> {
-    assert_cases(&rt, rt.alloc(), &FREES)
+    check_cases(rt.alloc(), &FREES)
 }

@@ -1,6 +1,6 @@
 //! Journals that are opened, and that are refused.
 
-use crate::images::{BLOCKS, MAGIC, Row, Wrong, assert_right, difference, found, small};
+use crate::images::{BLOCKS, MAGIC, Row, check_same, fail_in, small};
 use crate::scripts::opened;
 use jb_block::{BlockSize, Width};
 use jb_deck::{CheckpointFault, Deck, FreeFault, OpenFault};
@@ -12,7 +12,7 @@ use std::test::Fail;
 const ZEROS: [u32; 4] = [0, 0, 0, 0];
 
 /// The next number, how many blocks the log has, and how wide block numbers are.
-type Told = (u64, u32, Width);
+pub type Told = (u64, u32, Width);
 
 /// A name, the rows of the small image that differ, what the journal says of itself, and the rows that opening it
 /// changes.
@@ -178,10 +178,11 @@ static REFUSED: [Refused; 14] = [
     ),
 ];
 
-/// Whether a journal of the small image is as one whose log is empty.
-fn is_new(deck: &mut Deck<MemoryDisk>) -> bool {
+/// Whether a journal of the small image says this of itself, and is as one whose log is empty.
+fn is_new(deck: &mut Deck<MemoryDisk>, told: Told) -> bool {
     let shape = deck.shape();
-    shape.bs == BlockSize::OneKib
+    (deck.next_number(), deck.usable(), shape.width) == told
+        && shape.bs == BlockSize::OneKib
         && shape.homes == 16
         && shape.limit == deck.usable() / 4
         && deck.trail().is_empty()
@@ -196,81 +197,83 @@ fn is_idle(deck: &mut Deck<MemoryDisk>) -> bool {
         && deck.write_free(5, &[1, 2]) == Err(FreeFault::NotFree)
 }
 
-/// What is wrong with the journal of an image with these rows, and the first block in which it then differs from the
-/// image with further rows.
-fn first_wrong_opened(alloc: Global, of: &Opened) -> Result<Option<Wrong>, Fail> {
-    let (row, rows, told, after) = *of;
-    let Some(mut deck) = opened(alloc, small(alloc, BLOCKS, rows, &[])?) else {
-        return found(row, "it is not opened", 0);
+/// The disk of a journal that is opened, says this of itself, and is closed.
+pub fn closed(
+    alloc: Global,
+    row: &'static str,
+    disk: MemoryDisk,
+    told: Told,
+) -> Result<MemoryDisk, Fail> {
+    let Some(mut deck) = opened(alloc, disk) else {
+        return fail_in(row, "it is not opened", 0);
     };
-    if (deck.next_number(), deck.usable(), deck.shape().width) != told || !is_new(&mut deck) {
-        return found(row, "what it says of itself", 0);
+    if is_new(&mut deck, told) {
+        Ok(deck.close())
+    } else {
+        fail_in(row, "what it says of itself", 0)
     }
-    first_other(alloc, row, &mut deck.close(), rows, after)
 }
 
-/// The first block in which a disk is not the small image with these rows and then those.
-fn first_other(
+/// Checks that the disk of a row is the small image with these rows and then those.
+fn check_blocks(
     alloc: Global,
     row: &'static str,
     disk: &mut MemoryDisk,
     rows: &[Row],
     after: &[Row],
-) -> Result<Option<Wrong>, Fail> {
+) -> Result<(), Fail> {
     let mut wanted = small(alloc, disk.blocks(), rows, after)?;
-    match difference(disk, &mut wanted, 0)? {
-        Some(place) => found(row, "block", place),
-        None => Ok(None),
-    }
+    check_same(row, disk, &mut wanted)
 }
 
-/// What is wrong with the first of these journals that is not opened as it should be.
-fn first_wrong_of_opened(alloc: Global) -> Result<Option<Wrong>, Fail> {
-    for row in &OPENED {
-        let wrong = first_wrong_opened(alloc, row)?;
-        if wrong.is_some() {
-            return Ok(wrong);
-        }
-    }
-    Ok(None)
+/// Checks the journal of an image, and what opening it changes.
+fn check_opened(alloc: Global, of: &Opened) -> Result<(), Fail> {
+    let (row, rows, told, after) = *of;
+    let mut disk = closed(alloc, row, small(alloc, BLOCKS, rows, &[])?, told)?;
+    check_blocks(alloc, row, &mut disk, rows, after)
 }
 
 #[test]
 fn journals_are_opened_as_worked_by_hand(rt: HostRuntime) -> Result<(), Fail> {
-    assert_right(&rt, first_wrong_of_opened(rt.alloc())?);
+    for row in &OPENED {
+        check_opened(rt.alloc(), row)?;
+    }
     Ok(())
 }
 
 /// The disk of a journal that is refused, and why.
-fn refused(alloc: Global, disk: MemoryDisk) -> Option<(MemoryDisk, OpenFault)> {
+fn refusal(alloc: Global, disk: MemoryDisk) -> Option<(MemoryDisk, OpenFault)> {
     Deck::open(alloc, disk).err()
 }
 
-/// What is wrong where a journal is not refused so, or has changed.
-fn first_wrong_refused(alloc: Global, of: &Refused) -> Result<Option<Wrong>, Fail> {
-    let (row, blocks, rows, fault) = *of;
-    let Some((mut disk, told)) = refused(alloc, small(alloc, blocks, rows, &[])?) else {
-        return found(row, "it is opened", 0);
+/// The disk of a journal that is refused for this fault.
+pub fn refused(
+    alloc: Global,
+    row: &'static str,
+    disk: MemoryDisk,
+    fault: OpenFault,
+) -> Result<MemoryDisk, Fail> {
+    let Some((disk, told)) = refusal(alloc, disk) else {
+        return fail_in(row, "it is opened", 0);
     };
-    if told != fault {
-        return found(row, "the refusal", 0);
+    if told == fault {
+        Ok(disk)
+    } else {
+        fail_in(row, "the refusal", 0)
     }
-    first_other(alloc, row, &mut disk, rows, &[])
 }
 
-/// What is wrong with the first of these journals that is not refused as it should be.
-fn first_wrong_of_refused(alloc: Global) -> Result<Option<Wrong>, Fail> {
-    for row in &REFUSED {
-        let wrong = first_wrong_refused(alloc, row)?;
-        if wrong.is_some() {
-            return Ok(wrong);
-        }
-    }
-    Ok(None)
+/// Checks that a journal is refused, and stays as it was.
+fn check_refused(alloc: Global, of: &Refused) -> Result<(), Fail> {
+    let (row, blocks, rows, fault) = *of;
+    let mut disk = refused(alloc, row, small(alloc, blocks, rows, &[])?, fault)?;
+    check_blocks(alloc, row, &mut disk, rows, &[])
 }
 
 #[test]
 fn journals_are_refused_and_stay(rt: HostRuntime) -> Result<(), Fail> {
-    assert_right(&rt, first_wrong_of_refused(rt.alloc())?);
+    for row in &REFUSED {
+        check_refused(rt.alloc(), row)?;
+    }
     Ok(())
 }

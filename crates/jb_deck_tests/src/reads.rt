@@ -5,7 +5,7 @@ use crate::draws::{Odds, Seed, call_at_random, image_at_random};
 use crate::images::{BLOCKS, HOMES, Row, fail, fail_at, small};
 use crate::lives::{Call, make_call};
 use crate::model::{Homes, Model};
-use crate::scripts::{Refusal, Step, first_wrong, opening};
+use crate::scripts::{Refusal, Step, check_steps, opening};
 use crate::stops::{SCRIPT, before};
 use jb_block::Width;
 use jb_deck::{Deck, ReadHomeFault};
@@ -210,9 +210,7 @@ static FAILS: [Step; 1] = [Step::Refuses(
 
 /// A commit fails, and then a read.
 fn fail_then_read<D: Disk>(alloc: Global, deck: &mut Deck<D>) -> Result<(), Fail> {
-    if first_wrong(alloc, deck, &FAILS)?.is_some() {
-        return fail("the commit does not fail");
-    }
+    check_steps(alloc, "a journal that fails", deck, &FAILS)?;
     if deck.read_home(16, &mut [0; 1024]) != Err(ReadHomeFault::Aborted) {
         return fail("the read of a journal that failed");
     }

@@ -1,6 +1,6 @@
 //! Batches that make room in the log and go round it.
 
-use crate::cases::{Case, assert_cases};
+use crate::cases::{Case, check_cases};
 use crate::images::{BLOCKS, HOMES, Row};
 use crate::scripts::Step;
 use std::test::Fail;
@@ -207,10 +207,10 @@ static ROUNDS: [Case; 2] = [
 
 #[test]
 fn batches_fill_the_log_as_worked_by_hand(rt: HostRuntime) -> Result<(), Fail> {
-    assert_cases(&rt, rt.alloc(), &FILLS)
+    check_cases(rt.alloc(), &FILLS)
 }
 
 #[test]
 fn batches_go_round_the_log_as_worked_by_hand(rt: HostRuntime) -> Result<(), Fail> {
-    assert_cases(&rt, rt.alloc(), &ROUNDS)
+    check_cases(rt.alloc(), &ROUNDS)
 }

@@ -5,7 +5,7 @@ use crate::frames::{Frame, Wanted};
 use crate::images::fail;
 use crate::lives::{Call, make_call};
 use crate::model::Model;
-use crate::scripts::{Refusal, Step, first_wrong};
+use crate::scripts::{Refusal, Step, check_steps};
 use jb_block::Width;
 use jb_deck::{CheckpointFault, Deck, FreeFault, OpenFault};
 use jb_disk::{Disk, FuseDisk, MemoryDisk, OneFaultDisk};
@@ -28,11 +28,10 @@ static ABORTED: [Step; 3] = [
 
 /// A journal that is aborted refuses each call.
 fn refuse_each<D: Disk>(alloc: Global, deck: &mut Deck<D>) -> Result<(), Fail> {
-    let is_aborted = deck.aborted() && deck.checkpoint_one() == Err(CheckpointFault::Aborted);
-    if !is_aborted || first_wrong(alloc, deck, &ABORTED)?.is_some() {
+    if !deck.aborted() || deck.checkpoint_one() != Err(CheckpointFault::Aborted) {
         return fail("it is not aborted");
     }
-    Ok(())
+    check_steps(alloc, "a journal that is aborted", deck, &ABORTED)
 }
 
 /// Runs a script on a disk up to its first fault. `left` is what a crash may leave, before and after.

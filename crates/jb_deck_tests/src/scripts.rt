@@ -1,7 +1,7 @@
 //! Calls of a journal, with the answers that are worked out by hand.
 
 use crate::groups::STAMP;
-use crate::images::{Wrong, fail, found, put_words};
+use crate::images::{fail, fail_in, put_words};
 use jb_block::{BlockSize, Width};
 use jb_deck::{
     Batch, BatchFault, Checked, CheckpointFault, Deck, Done, Entry, FreeFault, Prepared, is_batch,
@@ -283,17 +283,17 @@ fn answers<D: Disk>(alloc: Global, deck: &mut Deck<D>, step: &Step) -> Result<bo
     }
 }
 
-/// The first of these calls of the journal of a row that does not answer so, if there is one.
-pub fn first_wrong<D: Disk>(
+/// Makes these calls of the journal of a row, each of which answers so.
+pub fn check_steps<D: Disk>(
     alloc: Global,
     row: &'static str,
     deck: &mut Deck<D>,
     steps: &[Step],
-) -> Result<Option<Wrong>, Fail> {
+) -> Result<(), Fail> {
     for (i, step) in steps.iter().enumerate() {
         if !answers(alloc, deck, step)? {
-            return found(row, "step", i as u64);
+            return fail_in(row, "step", i as u64);
         }
     }
-    Ok(None)
+    Ok(())
 }

@@ -1,7 +1,7 @@
 //! Trails that are taken from the front.
 
-use crate::cases::{Case, assert_cases, called_with_fault};
-use crate::images::{BLOCKS, HOMES, Wrong, assert_right};
+use crate::cases::{Case, called_with_fault, check_cases};
+use crate::images::{BLOCKS, HOMES};
 use crate::rounds::{SIX, SIX_COPIES};
 use crate::scripts::{Refusal, Step};
 use jb_block::Width;
@@ -74,16 +74,12 @@ static FAILED: [Step; 9] = [
 
 #[test]
 fn trails_are_taken_as_worked_by_hand(rt: HostRuntime) -> Result<(), Fail> {
-    assert_cases(&rt, rt.alloc(), &TAKINGS)
-}
-
-/// What is wrong with a journal of which the third commit fails.
-fn first_wrong_failed(alloc: Global) -> Result<Option<Wrong>, Fail> {
-    Ok(called_with_fault(alloc, "a journal that failed", THIRD_COMMIT, &FAILED)?.err())
+    check_cases(rt.alloc(), &TAKINGS)
 }
 
 #[test]
 fn a_journal_that_failed_gives_its_entries(rt: HostRuntime) -> Result<(), Fail> {
-    assert_right(&rt, first_wrong_failed(rt.alloc())?);
+    let row = "a journal that failed";
+    let _disk = called_with_fault(rt.alloc(), row, THIRD_COMMIT, &FAILED)?;
     Ok(())
 }
