@@ -1,29 +1,29 @@
 //! Journals that are changed in their place, opened, and called; some of them were used before.
 
-use crate::cases::report;
-use crate::images::{BLOCKS, MAGIC, Row, difference, fail, read_at, small};
+use crate::cases::{called, report};
+use crate::images::{BLOCKS, MAGIC, Row, check_same, fail, fail_in, read_at, small};
+use crate::openings::{Told, closed, refused};
 use crate::rounds::SIX;
-use crate::scripts::{handles_of, opened, settle};
+use crate::scripts::Step;
 use jb_block::{Width, get32};
-use jb_deck::{Checked, Deck, OpenFault};
+use jb_deck::OpenFault;
 use jb_disk::MemoryDisk;
 use jb_front::{renumber, widen};
-use jb_recover::{Recovered, recover};
+use jb_recover::recover;
 use std::alloc::Global;
-use std::process::Abort;
 use std::test::Fail;
 
-/// The next number of a journal, and how wide its block numbers are.
-type Told = (u64, Width);
-
-/// The number of a transaction, how wide its tags are, and what recovery reports.
-type Committed = (Told, Recovered);
-
 /// A name, whether the journal is widened before it is opened, or renumbered; the rows of the small image that differ
-/// before, and the next number and the width after.
-type Changed<'a> = (&'a str, bool, &'a [Row], Told);
+/// before, what it says of itself after, and the calls then.
+type Changed = (&'static str, bool, &'static [Row], Told, &'static [Step]);
 
-const CHANGED: [Changed<'static>; 5] = [
+/// Six copies are committed as number 1.
+const FIRST: &[Step] = &[
+    Step::Commits(SIX, &[(0, 1, 1, 8)]),
+    Step::Ends(&[(0, 1, 1, 8)], 2),
+];
+
+static CHANGED: [Changed; 5] = [
     (
         "no number left, renumbered",
         false,
@@ -32,21 +32,78 @@ const CHANGED: [Changed<'static>; 5] = [
             (9, 0, [MAGIC, 1, 4294967295, 5]),
             (32, 0, [MAGIC, 2, 4294967294, 0]),
         ],
-        (1, Width::Narrow),
+        (1, 32, Width::Narrow),
+        FIRST,
     ),
     (
         "block numbers of 64 bits, renumbered",
         false,
         &[(0, 0x10, [33, 1, 4294967295, 0]), (0, 0x20, [0, 0, 3, 0])],
-        (1, Width::Wide),
+        (1, 32, Width::Wide),
+        FIRST,
     ),
-    ("as it is made, renumbered", false, &[], (1, Width::Narrow)),
-    ("as it is made, widened", true, &[], (2, Width::Wide)),
+    (
+        "as it is made, renumbered",
+        false,
+        &[],
+        (1, 32, Width::Narrow),
+        FIRST,
+    ),
+    (
+        "as it is made, widened",
+        true,
+        &[],
+        (2, 32, Width::Wide),
+        &[
+            Step::Commits(SIX, &[(0, 1, 2, 8)]),
+            Step::Ends(&[(0, 1, 2, 8)], 3),
+        ],
+    ),
     (
         "a narrow block of the log from before, widened",
         true,
         &[(0, 0x10, [33, 1, 7, 0]), (9, 0, [MAGIC, 1, 7, 5])],
-        (8, Width::Wide),
+        (8, 32, Width::Wide),
+        &[
+            Step::Commits(SIX, &[(0, 1, 8, 8)]),
+            Step::Ends(&[(0, 1, 8, 8)], 9),
+        ],
+    ),
+];
+
+/// A name, the rows of the small image that differ, the calls, whether the journal is then recovered and widened, or
+/// renumbered; what it says of itself after, and the calls then.
+type Used = (
+    &'static str,
+    &'static [Row],
+    &'static [Step],
+    bool,
+    Told,
+    &'static [Step],
+);
+
+static USED: [Used; 2] = [
+    (
+        "the last number",
+        &[(0, 0x10, [33, 1, 4294967294, 0])],
+        &[
+            Step::Commits(SIX, &[(0, 1, 4294967295, 8)]),
+            Step::Checkpoints(4294967295, 6),
+        ],
+        false,
+        (1, 32, Width::Narrow),
+        FIRST,
+    ),
+    (
+        "an escaped copy",
+        &[],
+        &[Step::Commits("h w5=c03b399801020304 r7\n", &[(0, 1, 2, 4)])],
+        true,
+        (4, 32, Width::Wide),
+        &[
+            Step::Commits(SIX, &[(0, 1, 4, 8)]),
+            Step::Ends(&[(0, 1, 4, 8)], 5),
+        ],
     ),
 ];
 
@@ -82,147 +139,95 @@ fn tag_width(disk: &mut MemoryDisk) -> Result<Width, Fail> {
     }
 }
 
-/// Opens a journal, commits six copies as one group and recovers: its number, how wide its tags are, and what recovery
-/// reports.
-fn committed(alloc: Global, disk: MemoryDisk) -> Result<Option<Committed>, Fail> {
-    let Some(mut deck) = opened(alloc, disk) else {
-        return Ok(None);
-    };
-    if settle(alloc, &mut deck, handles_of(alloc, SIX, 0)?)?.is_none() {
-        return Ok(None);
-    }
-    let number = deck.next_number().saturating_sub(1);
-    let mut disk = deck.close();
-    let width = tag_width(&mut disk)?;
-    match recover(alloc, &mut disk) {
-        Ok(recovered) => Ok(Some(((number, width), recovered))),
-        Err(_) => Ok(None),
-    }
-}
-
-/// What a commit of six copies comes to in a journal of this next number and width.
-fn six(told: Told) -> Committed {
-    (told, report((1, 6, 0, told.0.saturating_add(2))))
-}
-
-/// What a journal that is changed in its place says of itself, the first block that opening it changes, and what it
-/// commits.
-fn used_after(
+/// Checks the log of a journal that said this of itself and has committed six copies as one group: how wide its
+/// tags are, and what recovery reports.
+fn check_log(
     alloc: Global,
-    widens: bool,
-    rows: &[Row],
-) -> Result<Option<(Told, Option<u64>, Option<Committed>)>, Fail> {
-    let mut wanted = changed(alloc, widens, rows)?;
-    let Some(deck) = opened(alloc, changed(alloc, widens, rows)?) else {
-        return Ok(None);
-    };
-    let told = (deck.next_number(), deck.shape().width);
-    let mut disk = deck.close();
-    let differs = difference(&mut disk, &mut wanted, 0)?;
-    Ok(Some((told, differs, committed(alloc, disk)?)))
-}
-
-/// The journals of these rows are opened, and used.
-fn assert_changed(rt: &impl Abort, alloc: Global, rows: &[Changed<'_>]) -> Result<(), Fail> {
-    for (name, widens, rows, told) in rows {
-        let seen = used_after(alloc, *widens, rows)?;
-        assert_eq!(rt; seen, Some((*told, None, Some(six(*told)))), "{name}");
+    row: &'static str,
+    told: Told,
+    disk: &mut MemoryDisk,
+) -> Result<(), Fail> {
+    let (number, _, width) = told;
+    if tag_width(disk)? != width {
+        return fail_in(row, "the width of its tags at number", number);
+    }
+    if recover(alloc, disk) != Ok(report((1, 6, 0, number.saturating_add(2)))) {
+        return fail_in(row, "what recovery reports of number", number);
     }
     Ok(())
 }
 
+/// Checks what a journal that says this of itself commits by these steps.
+fn check_committed(
+    alloc: Global,
+    row: &'static str,
+    told: Told,
+    steps: &[Step],
+    disk: MemoryDisk,
+) -> Result<(), Fail> {
+    let mut disk = called(alloc, row, disk, steps)?;
+    check_log(alloc, row, told, &mut disk)
+}
+
+/// Checks that a disk is as a journal is once it is changed in its place.
+fn check_kept(
+    alloc: Global,
+    row: &'static str,
+    widens: bool,
+    rows: &[Row],
+    disk: &mut MemoryDisk,
+) -> Result<(), Fail> {
+    let mut wanted = changed(alloc, widens, rows)?;
+    check_same(row, disk, &mut wanted)
+}
+
+/// Checks that opening a journal that is changed in its place keeps its disk, and then what it commits.
+fn check_changed(alloc: Global, of: &Changed) -> Result<(), Fail> {
+    let (row, widens, rows, told, steps) = *of;
+    let mut disk = closed(alloc, row, changed(alloc, widens, rows)?, told)?;
+    check_kept(alloc, row, widens, rows, &mut disk)?;
+    check_committed(alloc, row, told, steps, disk)
+}
+
 #[test]
 fn journals_that_were_changed_in_their_place_are_opened(rt: HostRuntime) -> Result<(), Fail> {
-    assert_changed(&rt, rt.alloc(), &CHANGED)
+    for row in &CHANGED {
+        check_changed(rt.alloc(), row)?;
+    }
+    Ok(())
 }
 
-/// A name, the rows of the small image that differ, the handle that is committed, whether its transaction is then
-/// recovered and the journal widened, or is checkpointed and the journal renumbered; and the next number and the width
-/// after.
-const USED: [(&str, &[Row], &str, bool, Told); 2] = [
-    (
-        "the last number",
-        &[(0, 0x10, [33, 1, 4294967294, 0])],
-        SIX,
-        false,
-        (1, Width::Narrow),
-    ),
-    (
-        "an escaped copy",
-        &[],
-        "h w5=c03b399801020304 r7\n",
-        true,
-        (4, Width::Wide),
-    ),
-];
-
-/// The disk of a journal of this image that has committed this handle and, if so, checkpointed its six copies.
-fn used(
+/// The disk of a journal that is to be widened, once it is recovered; or of one that is to be renumbered, since it is
+/// refused: its numbers are spent.
+fn readied(
     alloc: Global,
-    rows: &[Row],
-    lines: &str,
-    checkpoints: bool,
-) -> Result<Option<MemoryDisk>, Fail> {
-    let Some(mut deck) = opened(alloc, small(alloc, BLOCKS, rows, &[])?) else {
-        return Ok(None);
-    };
-    if settle(alloc, &mut deck, handles_of(alloc, lines, 0)?)?.is_none() {
-        return Ok(None);
-    }
-    let checked = Checked {
-        number: 4294967295,
-        blocks: 6,
-    };
-    if checkpoints && deck.checkpoint_one() != Ok(checked) {
-        return Ok(None);
-    }
-    Ok(Some(deck.close()))
-}
-
-/// Widens a journal once it is recovered.
-fn recovered_and_widened(alloc: Global, mut disk: MemoryDisk) -> Result<Option<MemoryDisk>, Fail> {
-    if recover(alloc, &mut disk) != Ok(report((1, 1, 0, 4))) {
-        return Ok(None);
-    }
-    change(&mut disk, true)?;
-    Ok(Some(disk))
-}
-
-/// Renumbers a journal that cannot be opened, since its numbers are spent.
-fn spent_and_renumbered(alloc: Global, disk: MemoryDisk) -> Result<Option<MemoryDisk>, Fail> {
-    let Err((mut disk, OpenFault::NumbersSpent)) = Deck::open(alloc, disk) else {
-        return Ok(None);
-    };
-    change(&mut disk, false)?;
-    Ok(Some(disk))
-}
-
-/// What a journal commits that was used before, and then changed in its place.
-fn used_again(
-    alloc: Global,
-    rows: &[Row],
-    lines: &str,
+    row: &'static str,
     widens: bool,
-) -> Result<Option<Committed>, Fail> {
-    let Some(disk) = used(alloc, rows, lines, !widens)? else {
-        return Ok(None);
-    };
-    let changed = if widens {
-        recovered_and_widened(alloc, disk)?
-    } else {
-        spent_and_renumbered(alloc, disk)?
-    };
-    match changed {
-        Some(disk) => committed(alloc, disk),
-        None => Ok(None),
+    mut disk: MemoryDisk,
+) -> Result<MemoryDisk, Fail> {
+    if !widens {
+        return refused(alloc, row, disk, OpenFault::NumbersSpent);
     }
+    if recover(alloc, &mut disk) == Ok(report((1, 1, 0, 4))) {
+        Ok(disk)
+    } else {
+        fail_in(row, "it is not recovered", 0)
+    }
+}
+
+/// Checks what a journal commits that was used before, and then changed in its place.
+fn check_used(alloc: Global, of: &Used) -> Result<(), Fail> {
+    let (row, rows, before, widens, told, steps) = *of;
+    let disk = called(alloc, row, small(alloc, BLOCKS, rows, &[])?, before)?;
+    let mut disk = readied(alloc, row, widens, disk)?;
+    change(&mut disk, widens)?;
+    check_committed(alloc, row, told, steps, disk)
 }
 
 #[test]
 fn journals_that_were_used_are_changed_and_used_again(rt: HostRuntime) -> Result<(), Fail> {
-    for (name, rows, lines, widens, told) in &USED {
-        let seen = used_again(rt.alloc(), rows, lines, *widens)?;
-        assert_eq!(rt; seen, Some(six(*told)), "{name}");
+    for row in &USED {
+        check_used(rt.alloc(), row)?;
     }
     Ok(())
 }

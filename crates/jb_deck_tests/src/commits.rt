@@ -1,6 +1,6 @@
 //! Batches that are committed while the log has room, and that are refused.
 
-use crate::cases::{Case, assert_cases};
+use crate::cases::{Case, check_cases};
 use crate::images::{BLOCKS, HOMES, MAGIC, Row};
 use crate::rounds::{SIX, SIX_COPIES};
 use crate::scripts::{Refusal, Step};
@@ -20,7 +20,8 @@ const TWO: &str = "h w0 w1 w2 w3\nh w6 w7 w8 w9\n";
 
 const TWELVE: &str = "h w0 w1 w2 w3 w4 w5\nh w6 w7 w8 w9 w10 w11\n";
 
-const CASES: [Case; 7] = [
+/// Each block of the log is worked out by its words.
+static BY_BLOCKS: [Case; 4] = [
     Case {
         name: "nothing is committed",
         blocks: BLOCKS,
@@ -124,6 +125,10 @@ const CASES: [Case; 7] = [
             (HOMES + 6, 0, [0x0E00_0000, 0, 0, 0]),
         ],
     },
+];
+
+/// The blocks of the log are those of groups.
+static BY_GROUPS: [Case; 3] = [
     Case {
         name: "two groups of three handles, and the last word of each home",
         blocks: BLOCKS,
@@ -210,6 +215,11 @@ const CASES: [Case; 7] = [
 ];
 
 #[test]
+fn blocks_are_written_as_worked_by_hand(rt: HostRuntime) -> Result<(), Fail> {
+    check_cases(rt.alloc(), &BY_BLOCKS)
+}
+
+#[test]
 fn batches_are_committed_as_worked_by_hand(rt: HostRuntime) -> Result<(), Fail> {
-    assert_cases(&rt, rt.alloc(), &CASES)
+    check_cases(rt.alloc(), &BY_GROUPS)
 }

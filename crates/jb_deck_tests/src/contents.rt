@@ -71,12 +71,14 @@ pub fn holds<D: Disk>(
 }
 
 /// Whether each sector of a block is that of one block or of the other.
-fn is_mixed(block: &[u8], one: &[u8], other: &[u8]) -> bool {
-    let (Some(low), Some(high)) = (block.get(..512), block.get(512..)) else {
-        return false;
-    };
-    (one.get(..512) == Some(low) || other.get(..512) == Some(low))
-        && (one.get(512..) == Some(high) || other.get(512..) == Some(high))
+fn is_mixed(block: &[u8; 1024], one: &[u8; 1024], other: &[u8; 1024]) -> bool {
+    is_either(&block[..512], &one[..512], &other[..512])
+        && is_either(&block[512..], &one[512..], &other[512..])
+}
+
+/// Whether bytes are these or those.
+fn is_either(bytes: &[u8], one: &[u8], other: &[u8]) -> bool {
+    bytes == one || bytes == other
 }
 
 /// Whether the homes of a disk, from a place on, are among what a crash may leave.

@@ -3,19 +3,18 @@
 
 use crate::contents::{Left, is_left};
 use crate::images::read_at;
+use jb_block::put64;
 use jb_disk::{Disk, MemoryDisk};
 use jb_recover::recover;
 use std::alloc::Global;
 use std::test::Fail;
 
 /// Where a superblock has the number of the first transaction and the place at which the log begins
-/// (`s_sequence`, `s_start`), and the byte after them.
+/// (`s_sequence`, `s_start`), four bytes each.
 const MOVES: usize = 0x18;
 
-const STAYS: usize = 0x20;
-
 /// The blocks of a disk before its log, with zeros where the superblock may change.
-#[derive(Debug, Drop, PartialEq)]
+#[derive(Drop)]
 pub struct Frame {
     first: u64,
     bytes: Vec<u8>,
@@ -28,10 +27,8 @@ impl Frame {
         let mut block = [0; 1024];
         for place in 0..first {
             read_at(disk, place, &mut block)?;
-            for (i, byte) in block.iter_mut().enumerate() {
-                if place == 0 && MOVES <= i && i < STAYS {
-                    *byte = 0;
-                }
+            if place == 0 {
+                put64(&mut block, MOVES, 0);
             }
             bytes.extend_from_slice(&block)?;
         }
@@ -40,7 +37,7 @@ impl Frame {
 
     /// Whether a disk has it still.
     pub fn is_kept<D: Disk>(&self, alloc: Global, disk: &mut D) -> Result<bool, Fail> {
-        Ok(Frame::of(alloc, disk, self.first)? == *self)
+        Ok(Frame::of(alloc, disk, self.first)?.bytes == self.bytes)
     }
 }
 

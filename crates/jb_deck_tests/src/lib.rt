@@ -12,6 +12,8 @@ mod contents;
 #[cfg(test)]
 mod crashes;
 #[cfg(test)]
+mod draws;
+#[cfg(test)]
 mod entries;
 #[cfg(test)]
 mod faults;
@@ -33,6 +35,8 @@ mod openings;
 mod reads;
 #[cfg(test)]
 mod rounds;
+#[cfg(test)]
+mod runs;
 #[cfg(test)]
 mod scripts;
 #[cfg(test)]

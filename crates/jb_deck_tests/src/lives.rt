@@ -3,7 +3,7 @@
 use crate::contents::{Left, fill, only};
 use crate::groups::STAMP;
 use crate::images::fail;
-use crate::model::{Homes, Model, Touch};
+use crate::model::{Model, Touch};
 use crate::scripts::{next_ticket, prepared, refused};
 use jb_deck::{BatchFault, CheckpointFault, Deck, FreeFault, Prepared};
 use jb_disk::Disk;
@@ -84,54 +84,24 @@ fn bounds(
     Ok(Some(bounds?))
 }
 
-/// What the homes hold after each of these groups, which are put into the model.
-fn after_each(
+/// A batch with its plan, which was made before.
+fn planned(
     alloc: Global,
-    model: &mut Model,
-    bounds: &[usize],
-    touches: &[Touch],
-) -> Result<Vec<Homes>, Fail> {
-    let mut states = vec![in alloc; model.standing()]?;
-    let mut low = 0;
-    for high in bounds.iter().skip(1) {
-        model.commit(touches, low, *high)?;
-        states.push(model.standing())?;
-        low = *high;
-    }
-    Ok(states)
-}
-
-/// Commits a batch; after a fault, what a crash may leave.
-fn commit<D: Disk>(
-    alloc: Global,
-    deck: &mut Deck<D>,
-    model: &mut Model,
+    first: u64,
     call: (usize, &[Touch]),
-) -> Result<Option<Left>, Fail> {
-    let (first, shape) = (next_ticket(deck), deck.shape());
-    let Some(bounds) = bounds(alloc, first, call, shape)? else {
-        return Ok(None);
-    };
-    let states = after_each(alloc, model, &bounds, call.1)?;
-    let Some(batch) = prepared(alloc, first, stopped(alloc, first, call)?, shape)? else {
-        return fail("it was planned before");
-    };
-    match settled_by(deck, batch, states.len())? {
-        None => Ok(None),
-        Some(settled) => Ok(Some(left_after(&states, settled)?)),
+    shape: Shape,
+) -> Result<Prepared, Fail> {
+    match prepared(alloc, first, stopped(alloc, first, call)?, shape)? {
+        Some(batch) => Ok(batch),
+        None => fail("it was planned before"),
     }
 }
 
-/// Commits a batch whose groups take the homes through so many states; after a fault, how many groups are settled.
-fn settled_by<D: Disk>(
-    deck: &mut Deck<D>,
-    batch: Prepared,
-    states: usize,
-) -> Result<Option<usize>, Fail> {
+/// Commits a batch: how many groups are settled, and whether it met a fault.
+fn settled_by<D: Disk>(deck: &mut Deck<D>, batch: Prepared) -> Result<(usize, bool), Fail> {
     match deck.commit_batch(batch, STAMP) {
-        Ok(done) if done.entries().len().saturating_add(1) == states => Ok(None),
-        Ok(_) => fail("a group is missing"),
-        Err(BatchFault::DeviceFault { settled }) => Ok(Some(settled.entries().len())),
+        Ok(done) => Ok((done.entries().len(), false)),
+        Err(BatchFault::DeviceFault { settled }) => Ok((settled.entries().len(), true)),
         Err(fault) => {
             let _told = refused(fault);
             fail("the batch is refused")
@@ -139,17 +109,56 @@ fn settled_by<D: Disk>(
     }
 }
 
-/// What a crash may leave where the homes go through these states and so many groups are settled.
-fn left_after(states: &[Homes], settled: usize) -> Result<Left, Fail> {
-    let mut rest = states.iter().skip(settled);
-    let Some(was) = rest.next() else {
-        return fail("too many groups are settled");
-    };
-    Ok(Left {
-        was: *was,
-        becomes: *rest.next().unwrap_or(was),
-        torn: None,
-    })
+/// Puts the groups of a batch into the model: what a crash may leave where so many of them are settled.
+fn put_groups(
+    model: &mut Model,
+    bounds: &[usize],
+    touches: &[Touch],
+    settled: usize,
+) -> Result<Left, Fail> {
+    let mut left = only(model.standing());
+    let mut low = 0;
+    for (i, high) in bounds.iter().skip(1).enumerate() {
+        model.commit(touches, low, *high)?;
+        if i < settled {
+            left = only(model.standing());
+        } else if i == settled {
+            left.becomes = model.standing();
+        }
+        low = *high;
+    }
+    Ok(left)
+}
+
+/// Commits a batch whose groups have these bounds; after a fault, what a crash may leave.
+fn commit_groups<D: Disk>(
+    alloc: Global,
+    deck: &mut Deck<D>,
+    model: &mut Model,
+    call: (usize, &[Touch]),
+    bounds: &[usize],
+) -> Result<Option<Left>, Fail> {
+    let batch = planned(alloc, next_ticket(deck), call, deck.shape())?;
+    let groups = bounds.len().saturating_sub(1);
+    let (settled, met) = settled_by(deck, batch)?;
+    if settled > groups || (!met && settled < groups) {
+        return fail("a group is missing, or too many groups are settled");
+    }
+    let left = put_groups(model, bounds, call.1, settled)?;
+    Ok(met.then_some(left))
+}
+
+/// Commits a batch, or leaves it out where none fits; after a fault, what a crash may leave.
+fn commit<D: Disk>(
+    alloc: Global,
+    deck: &mut Deck<D>,
+    model: &mut Model,
+    call: (usize, &[Touch]),
+) -> Result<Option<Left>, Fail> {
+    match bounds(alloc, next_ticket(deck), call, deck.shape())? {
+        Some(bounds) => commit_groups(alloc, deck, model, call, &bounds),
+        None => Ok(None),
+    }
 }
 
 /// Calls a journal and its model; after a fault, what a crash may leave. An answer that the model does not have
@@ -162,34 +171,34 @@ pub fn make_call<D: Disk>(
 ) -> Result<Option<Left>, Fail> {
     match call {
         Call::Commit(count, touches) => commit(alloc, deck, model, (count, touches)),
-        Call::Checkpoint => {
-            let stood = model.standing();
-            let is = model.checkpoint();
-            match deck.checkpoint_one() {
-                Ok(_) if is => Ok(None),
-                Err(CheckpointFault::Nothing) if !is => Ok(None),
-                Err(CheckpointFault::DeviceFault) if is => Ok(Some(only(stood))),
-                _ => fail("the checkpoint"),
-            }
-        }
-        Call::Write(home, contents) => {
-            let mut block = [0; 1024];
-            fill(&mut block, contents);
-            write(deck, model, (home, contents), &block)
-        }
+        Call::Checkpoint => checkpoint(deck, model),
+        Call::Write(home, contents) => write(deck, model, home, contents),
     }
 }
 
-/// Writes these contents, as this block, to a home.
+/// Checkpoints the oldest transaction; after a fault, what a crash may leave.
+fn checkpoint<D: Disk>(deck: &mut Deck<D>, model: &mut Model) -> Result<Option<Left>, Fail> {
+    let stood = model.standing();
+    let is = model.checkpoint();
+    match deck.checkpoint_one() {
+        Ok(_) if is => Ok(None),
+        Err(CheckpointFault::Nothing) if !is => Ok(None),
+        Err(CheckpointFault::DeviceFault) if is => Ok(Some(only(stood))),
+        _ => fail("the checkpoint"),
+    }
+}
+
+/// Writes these contents to a home; after a fault, what a crash may leave.
 fn write<D: Disk>(
     deck: &mut Deck<D>,
     model: &mut Model,
-    contents: (usize, u32),
-    block: &[u8],
+    home: usize,
+    number: u32,
 ) -> Result<Option<Left>, Fail> {
-    let (home, number) = contents;
+    let mut block = [0; 1024];
+    fill(&mut block, number);
     let is = model.is_free(home);
-    match deck.write_free(home as u64, block) {
+    match deck.write_free(home as u64, &block) {
         Ok(()) if is => {
             model.write(home, number);
             Ok(None)

@@ -1,25 +1,24 @@
 //! Journals that are opened, and that are refused.
 
-use crate::images::{BLOCKS, MAGIC, Row, difference, small};
+use crate::images::{BLOCKS, MAGIC, Row, check_same, fail_in, small};
 use crate::scripts::opened;
 use jb_block::{BlockSize, Width};
 use jb_deck::{CheckpointFault, Deck, FreeFault, OpenFault};
-use jb_disk::MemoryDisk;
+use jb_disk::{Disk, MemoryDisk};
 use jb_super::SuperFault;
 use std::alloc::Global;
-use std::process::Abort;
 use std::test::Fail;
 
 const ZEROS: [u32; 4] = [0, 0, 0, 0];
 
 /// The next number, how many blocks the log has, and how wide block numbers are.
-type Told = (u64, u32, Width);
+pub type Told = (u64, u32, Width);
 
 /// A name, the rows of the small image that differ, what the journal says of itself, and the rows that opening it
 /// changes.
-type Opened<'a> = (&'a str, &'a [Row], Told, &'a [Row]);
+type Opened = (&'static str, &'static [Row], Told, &'static [Row]);
 
-const OPENED: [Opened<'static>; 11] = [
+static OPENED: [Opened; 11] = [
     ("as it is made", &[], (2, 32, Width::Narrow), &[]),
     (
         "a later number, and an older one",
@@ -95,9 +94,9 @@ const OPENED: [Opened<'static>; 11] = [
 ];
 
 /// A name, how many blocks the disk has, the rows of the small image that differ, and the fault.
-type Refused<'a> = (&'a str, u64, &'a [Row], OpenFault);
+type Refused = (&'static str, u64, &'static [Row], OpenFault);
 
-const REFUSED: [Refused<'static>; 14] = [
+static REFUSED: [Refused; 14] = [
     ("no block", 0, &[], OpenFault::Super(SuperFault::ShortBlock)),
     (
         "a disk that is cut",
@@ -179,10 +178,11 @@ const REFUSED: [Refused<'static>; 14] = [
     ),
 ];
 
-/// Whether a journal of the small image is as one whose log is empty.
-fn is_new(deck: &mut Deck<MemoryDisk>) -> bool {
+/// Whether a journal of the small image says this of itself, and is as one whose log is empty.
+fn is_new(deck: &mut Deck<MemoryDisk>, told: Told) -> bool {
     let shape = deck.shape();
-    shape.bs == BlockSize::OneKib
+    (deck.next_number(), deck.usable(), shape.width) == told
+        && shape.bs == BlockSize::OneKib
         && shape.homes == 16
         && shape.limit == deck.usable() / 4
         && deck.trail().is_empty()
@@ -197,60 +197,83 @@ fn is_idle(deck: &mut Deck<MemoryDisk>) -> bool {
         && deck.write_free(5, &[1, 2]) == Err(FreeFault::NotFree)
 }
 
-/// What the journal of an image with these rows says of itself, whether it is new, and the first block in which it then
-/// differs from the image with further rows.
-fn opens(
+/// The disk of a journal that is opened, says this of itself, and is closed.
+pub fn closed(
     alloc: Global,
-    rows: &[Row],
-    after: &[Row],
-) -> Result<Option<(Told, bool, Option<u64>)>, Fail> {
-    let mut wanted = small(alloc, BLOCKS, rows, after)?;
-    let Some(mut deck) = opened(alloc, small(alloc, BLOCKS, rows, &[])?) else {
-        return Ok(None);
+    row: &'static str,
+    disk: MemoryDisk,
+    told: Told,
+) -> Result<MemoryDisk, Fail> {
+    let Some(mut deck) = opened(alloc, disk) else {
+        return fail_in(row, "it is not opened", 0);
     };
-    let told = (deck.next_number(), deck.usable(), deck.shape().width);
-    let is_new = is_new(&mut deck);
-    let differs = difference(&mut deck.close(), &mut wanted, 0)?;
-    Ok(Some((told, is_new, differs)))
+    if is_new(&mut deck, told) {
+        Ok(deck.close())
+    } else {
+        fail_in(row, "what it says of itself", 0)
+    }
 }
 
-/// The journals of these rows are opened.
-fn assert_opened(rt: &impl Abort, alloc: Global, rows: &[Opened<'_>]) -> Result<(), Fail> {
-    for (name, rows, told, after) in rows {
-        let seen = opens(alloc, rows, after)?;
-        assert_eq!(rt; seen, Some((*told, true, None)), "{name}");
-    }
-    Ok(())
+/// Checks that the disk of a row is the small image with these rows and then those.
+fn check_blocks(
+    alloc: Global,
+    row: &'static str,
+    disk: &mut MemoryDisk,
+    rows: &[Row],
+    after: &[Row],
+) -> Result<(), Fail> {
+    let mut wanted = small(alloc, disk.blocks(), rows, after)?;
+    check_same(row, disk, &mut wanted)
+}
+
+/// Checks the journal of an image, and what opening it changes.
+fn check_opened(alloc: Global, of: &Opened) -> Result<(), Fail> {
+    let (row, rows, told, after) = *of;
+    let mut disk = closed(alloc, row, small(alloc, BLOCKS, rows, &[])?, told)?;
+    check_blocks(alloc, row, &mut disk, rows, after)
 }
 
 #[test]
 fn journals_are_opened_as_worked_by_hand(rt: HostRuntime) -> Result<(), Fail> {
-    assert_opened(&rt, rt.alloc(), &OPENED)
-}
-
-/// Why a journal is not opened, and the first block that has changed.
-fn refusal(
-    alloc: Global,
-    blocks: u64,
-    rows: &[Row],
-) -> Result<Option<(OpenFault, Option<u64>)>, Fail> {
-    let mut wanted = small(alloc, blocks, rows, &[])?;
-    let Err((mut disk, fault)) = Deck::open(alloc, small(alloc, blocks, rows, &[])?) else {
-        return Ok(None);
-    };
-    Ok(Some((fault, difference(&mut disk, &mut wanted, 0)?)))
-}
-
-/// The journals of these rows are refused.
-fn assert_refused(rt: &impl Abort, alloc: Global, rows: &[Refused<'_>]) -> Result<(), Fail> {
-    for (name, blocks, rows, fault) in rows {
-        let seen = refusal(alloc, *blocks, rows)?;
-        assert_eq!(rt; seen, Some((*fault, None)), "{name}");
+    for row in &OPENED {
+        check_opened(rt.alloc(), row)?;
     }
     Ok(())
 }
 
+/// The disk of a journal that is refused, and why.
+fn refusal(alloc: Global, disk: MemoryDisk) -> Option<(MemoryDisk, OpenFault)> {
+    Deck::open(alloc, disk).err()
+}
+
+/// The disk of a journal that is refused for this fault.
+pub fn refused(
+    alloc: Global,
+    row: &'static str,
+    disk: MemoryDisk,
+    fault: OpenFault,
+) -> Result<MemoryDisk, Fail> {
+    let Some((disk, told)) = refusal(alloc, disk) else {
+        return fail_in(row, "it is opened", 0);
+    };
+    if told == fault {
+        Ok(disk)
+    } else {
+        fail_in(row, "the refusal", 0)
+    }
+}
+
+/// Checks that a journal is refused, and stays as it was.
+fn check_refused(alloc: Global, of: &Refused) -> Result<(), Fail> {
+    let (row, blocks, rows, fault) = *of;
+    let mut disk = refused(alloc, row, small(alloc, blocks, rows, &[])?, fault)?;
+    check_blocks(alloc, row, &mut disk, rows, &[])
+}
+
 #[test]
 fn journals_are_refused_and_stay(rt: HostRuntime) -> Result<(), Fail> {
-    assert_refused(&rt, rt.alloc(), &REFUSED)
+    for row in &REFUSED {
+        check_refused(rt.alloc(), row)?;
+    }
+    Ok(())
 }

@@ -1,7 +1,7 @@
 //! Calls of a journal, with the answers that are worked out by hand.
 
 use crate::groups::STAMP;
-use crate::images::put_words;
+use crate::images::{fail, fail_in, put_words};
 use jb_block::{BlockSize, Width};
 use jb_deck::{
     Batch, BatchFault, Checked, CheckpointFault, Deck, Done, Entry, FreeFault, Prepared, is_batch,
@@ -38,10 +38,12 @@ pub enum Step {
     Takes(u64, &'static [Told]),
     /// The whole trail, and the number of the next transaction.
     Ends(&'static [Told], u64),
+    /// The journal has failed.
+    Aborted,
 }
 
 /// Why a batch is refused.
-#[derive(Clone, Copy, Debug, PartialEq, Eq)]
+#[derive(Clone, Copy, PartialEq, Eq)]
 pub enum Refusal {
     Aborted,
     WrongTicket(u64),
@@ -86,14 +88,19 @@ pub fn prepared(
     }
 }
 
+/// What a batch is that has so many groups, which take so many log blocks.
+fn kept_as(batch: &Batch, groups: usize, total: u64) -> Kept {
+    (batch.first(), batch.shape(), batch.len(), groups, total)
+}
+
 /// What a batch is, which is let go.
 pub fn kept(prepared: Prepared) -> Kept {
     let groups = prepared.groups().len();
     let total = prepared.total();
     let batch = prepared.back();
-    let (first, shape, len) = (batch.first(), batch.shape(), batch.len());
+    let kept = kept_as(&batch, groups, total);
     let _handles = batch.end();
-    (first, shape, len, groups, total)
+    kept
 }
 
 /// Why a batch is refused, and the batch that is handed back.
@@ -116,6 +123,14 @@ pub fn refused(fault: BatchFault) -> (Refusal, Option<Kept>) {
 /// The journal on a disk, or none where it is not opened.
 pub fn opened<D: Disk + Drop>(alloc: Global, disk: D) -> Option<Deck<D>> {
     Deck::open(alloc, disk).ok()
+}
+
+/// The journal on a disk.
+pub fn opening<D: Disk + Drop>(alloc: Global, disk: D) -> Result<Deck<D>, Fail> {
+    match opened(alloc, disk) {
+        Some(deck) => Ok(deck),
+        None => fail("it is not opened"),
+    }
 }
 
 /// The ticket of the next handle.
@@ -154,17 +169,29 @@ pub fn settle<D: Disk>(
     }
 }
 
+/// Whether the groups of these handles are these.
+pub fn settles<D: Disk>(
+    alloc: Global,
+    deck: &mut Deck<D>,
+    handles: Vec<Stopped>,
+    entries: &[Told],
+) -> Result<bool, Fail> {
+    let first = next_ticket(deck);
+    match settle(alloc, deck, handles)? {
+        Some(done) => Ok(done.first() == first && are(done.entries(), entries)),
+        None => Ok(false),
+    }
+}
+
+/// Whether the groups of the handles of these lines are these.
 fn commits<D: Disk>(
     alloc: Global,
     deck: &mut Deck<D>,
     lines: &str,
     entries: &[Told],
 ) -> Result<bool, Fail> {
-    let first = next_ticket(deck);
-    match settle(alloc, deck, handles_of(alloc, lines, first)?)? {
-        Some(done) => Ok(done.first() == first && are(done.entries(), entries)),
-        None => Ok(false),
-    }
+    let handles = handles_of(alloc, lines, next_ticket(deck))?;
+    settles(alloc, deck, handles, entries)
 }
 
 /// Whether so many bytes that are written to a home are answered so.
@@ -184,6 +211,18 @@ fn writes<D: Disk>(
     Ok(deck.write_free(home, &bytes) == answer)
 }
 
+/// Whether a batch is refused so, and handed back as it was where it is not lost.
+fn is_refused<D: Disk>(deck: &mut Deck<D>, batch: Prepared, why: Refusal) -> bool {
+    let was = kept_as(batch.batch(), batch.groups().len(), batch.total());
+    match deck.commit_batch(batch, STAMP) {
+        Ok(_) => false,
+        Err(fault) => {
+            let lost = matches!(why, Refusal::DeviceFault(_));
+            refused(fault) == (why, if lost { None } else { Some(was) })
+        }
+    }
+}
+
 /// Whether a batch for this shape is refused so, and handed back as it was where it is not lost.
 pub fn refuses<D: Disk>(
     alloc: Global,
@@ -191,67 +230,70 @@ pub fn refuses<D: Disk>(
     first: u64,
     made: Made,
     lines: &str,
-    refusal: Refusal,
+    why: Refusal,
 ) -> Result<bool, Fail> {
     let (homes, limit, width) = made;
     if limit < 3 || limit > 2147483646 {
         return Ok(false);
     }
-    let bs = BlockSize::OneKib;
     let shape = Shape {
-        bs,
+        bs: BlockSize::OneKib,
         homes,
         limit,
         width,
     };
-    let Some(batch) = prepared(alloc, first, handles_of(alloc, lines, first)?, shape)? else {
-        return Ok(false);
-    };
-    let was = kept(batch);
-    let Some(batch) = prepared(alloc, first, handles_of(alloc, lines, first)?, shape)? else {
-        return Ok(false);
-    };
-    match deck.commit_batch(batch, STAMP) {
-        Ok(_) => Ok(false),
-        Err(fault) => {
-            let (told, back) = refused(fault);
-            let lost = matches!(told, Refusal::DeviceFault(_));
-            Ok(told == refusal && back == if lost { None } else { Some(was) })
-        }
+    match prepared(alloc, first, handles_of(alloc, lines, first)?, shape)? {
+        Some(batch) => Ok(is_refused(deck, batch, why)),
+        None => Ok(false),
+    }
+}
+
+/// Whether the oldest transaction is checkpointed so.
+fn checkpoints<D: Disk>(deck: &mut Deck<D>, answer: Result<Checked, CheckpointFault>) -> bool {
+    deck.checkpoint_one() == answer
+}
+
+/// Whether the last word on a home is this one, by whether it is a copy.
+fn has_word<D: Disk>(deck: &Deck<D>, home: u64, copy: Option<bool>) -> bool {
+    deck.word_of(home).map(Word::is_copy) == copy
+}
+
+/// Whether the entries that are taken from the trail are these.
+fn takes<D: Disk>(deck: &mut Deck<D>, past: u64, entries: &[Told]) -> bool {
+    match deck.take_trail(past) {
+        Ok(taken) => are(&taken, entries),
+        Err(_) => false,
     }
 }
 
 /// Whether a call answers so.
-fn answers<D: Disk>(alloc: Global, deck: &mut Deck<D>, step: Step) -> Result<bool, Fail> {
-    match step {
+fn answers<D: Disk>(alloc: Global, deck: &mut Deck<D>, step: &Step) -> Result<bool, Fail> {
+    match *step {
         Step::Commits(lines, entries) => commits(alloc, deck, lines, entries),
-        Step::Refuses(first, made, lines, refusal) => {
-            refuses(alloc, deck, first, made, lines, refusal)
-        }
+        Step::Refuses(first, made, lines, why) => refuses(alloc, deck, first, made, lines, why),
         Step::Checkpoints(number, blocks) => {
-            Ok(deck.checkpoint_one() == Ok(Checked { number, blocks }))
+            Ok(checkpoints(deck, Ok(Checked { number, blocks })))
         }
-        Step::Idle => Ok(deck.checkpoint_one() == Err(CheckpointFault::Nothing)),
+        Step::Idle => Ok(checkpoints(deck, Err(CheckpointFault::Nothing))),
         Step::Writes(home, len, answer) => writes(alloc, deck, home, len, answer),
-        Step::Word(home, copy) => Ok(deck.word_of(home).map(Word::is_copy) == copy),
-        Step::Takes(past, entries) => Ok(
-            deck.take_trail(past)
-                .is_ok_and(|taken| are(&taken, entries)),
-        ),
+        Step::Word(home, copy) => Ok(has_word(deck, home, copy)),
+        Step::Takes(past, entries) => Ok(takes(deck, past, entries)),
         Step::Ends(trail, next) => Ok(are(deck.trail(), trail) && deck.next_number() == next),
+        Step::Aborted => Ok(deck.aborted()),
     }
 }
 
-/// The first of these calls that does not answer so, if there is one.
-pub fn first_wrong<D: Disk>(
+/// Makes these calls of the journal of a row, each of which answers so.
+pub fn check_steps<D: Disk>(
     alloc: Global,
+    row: &'static str,
     deck: &mut Deck<D>,
     steps: &[Step],
-) -> Result<Option<usize>, Fail> {
+) -> Result<(), Fail> {
     for (i, step) in steps.iter().enumerate() {
-        if !answers(alloc, deck, *step)? {
-            return Ok(Some(i));
+        if !answers(alloc, deck, step)? {
+            return fail_in(row, "step", i as u64);
         }
     }
-    Ok(None)
+    Ok(())
 }

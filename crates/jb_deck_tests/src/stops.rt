@@ -1,15 +1,11 @@
 //! A script of a journal's calls of which a call of the disk fails, or every one from one on; what a crash then
 //! leaves is recovered, and recovery is broken off by a crash too.
 
-use crate::contents::{Left, only};
-use crate::frames::{Frame, Wanted};
-use crate::images::{BLOCKS, HOMES, Row, crashed, difference, fail, small};
-use crate::lives::{Call, make_call};
-use crate::model::{Homes, Model};
-use crate::scripts::{Refusal, refuses};
-use jb_block::Width;
-use jb_deck::{CheckpointFault, Deck, FreeFault, OpenFault};
-use jb_disk::{Disk, FuseDisk, MemoryDisk, OneFaultDisk};
+use crate::frames::Wanted;
+use crate::images::{BLOCKS, HOMES, Row, crashed, difference, fail, fail_at, small};
+use crate::lives::Call;
+use crate::runs::{Ran, Stop, run_over, run_to};
+use jb_disk::{FuseDisk, MemoryDisk};
 use jb_recover::recover;
 use std::alloc::Global;
 use std::test::Fail;
@@ -34,7 +30,7 @@ const SOME: u32 = 6;
 
 /// A group with an escaped copy and a freed home, which is written; home 3, which is copied, freed, written and free
 /// to the end; groups that fill the log, and some that make room and go round its end; and all are checkpointed.
-pub const SCRIPT: [Call<'static>; 15] = [
+pub static SCRIPT: [Call<'static>; 15] = [
     Call::Commit(0, &[]),
     Call::Commit(1, &[(0, 5, Some(7)), (0, 7, None)]),
     Call::Write(7, 8),
@@ -93,7 +89,7 @@ pub const SCRIPT: [Call<'static>; 15] = [
 ];
 
 /// Homes of zeros, and words in block 0 after the superblock.
-const ROWS: [Row; 5] = [
+static ROWS: [Row; 5] = [
     (HOMES + 5, 0, [0, 0, 0, 0]),
     (0, 0x50, [7, 7, 7, 7]),
     (0, 0x1F0, [7, 7, 7, 7]),
@@ -104,61 +100,6 @@ const ROWS: [Row; 5] = [
 /// The small image with these rows.
 pub fn before(alloc: Global) -> Result<MemoryDisk, Fail> {
     small(alloc, BLOCKS, &ROWS, &[])
-}
-
-/// What a crash may leave of a script that began with the small image.
-fn make_wanted(alloc: Global, left: Left) -> Result<Wanted, Fail> {
-    let frame = Frame::of(alloc, &mut before(alloc)?, 1)?;
-    Ok(Wanted { left, frame })
-}
-
-/// Whether a journal that is aborted refuses each call.
-fn is_aborted<D: Disk>(alloc: Global, deck: &mut Deck<D>) -> Result<bool, Fail> {
-    let other = (16, 7, Width::Narrow);
-    Ok(
-        deck.aborted()
-            && deck.checkpoint_one() == Err(CheckpointFault::Aborted)
-            && deck.write_free(16, &[]) == Err(FreeFault::Aborted)
-            && refuses(alloc, deck, 99, other, "h w1\n", Refusal::Aborted)?
-            && refuses(alloc, deck, 0, other, "", Refusal::Aborted)?,
-    )
-}
-
-/// Runs a script up to its first fault: the disk, what a crash may leave of it, and whether it met none.
-pub fn run<D: Disk + Drop>(
-    alloc: Global,
-    disk: D,
-    script: &[Call<'_>],
-) -> Result<(D, Left, bool), Fail> {
-    let homes: Homes = [0; 16];
-    let mut deck = match Deck::open(alloc, disk) {
-        Ok(deck) => deck,
-        Err((disk, OpenFault::DeviceFault)) => return Ok((disk, only(homes), false)),
-        Err(_) => return fail("it is not opened"),
-    };
-    let mut model = Model::new(alloc, homes, u64::from(deck.usable()));
-    let met = first_fault(alloc, &mut deck, &mut model, script)?;
-    let ended = met.is_none();
-    let left = met.unwrap_or(only(model.standing()));
-    Ok((deck.close(), left, ended))
-}
-
-/// Calls a journal by a script up to its first fault, after which it refuses each call: what a crash may leave then.
-fn first_fault<D: Disk>(
-    alloc: Global,
-    deck: &mut Deck<D>,
-    model: &mut Model,
-    script: &[Call<'_>],
-) -> Result<Option<Left>, Fail> {
-    for next in script {
-        if let Some(left) = make_call(alloc, deck, model, *next)? {
-            if !is_aborted(alloc, deck)? {
-                return fail("it is not aborted");
-            }
-            return Ok(Some(left));
-        }
-    }
-    Ok(None)
 }
 
 /// The choice of this number.
@@ -180,27 +121,54 @@ fn choice(number: u32) -> [u32; SECTORS] {
     choice
 }
 
-/// Whether what this choice leaves of a disk has block 0 as it was, and recovers to homes that may be left.
-fn mends(alloc: Global, disk: &MemoryDisk, choice: &[u32], wanted: &Wanted) -> Result<bool, Fail> {
-    let wrong = wanted.first_wrong(alloc, &mut crashed(disk, choice)?, HOMES)?;
-    Ok(wrong.is_none())
+/// What is wrong with what this choice leaves of a disk: it has block 0 as it was, and recovers to homes that may be
+/// left.
+fn wrong_left(
+    alloc: Global,
+    disk: &MemoryDisk,
+    choice: &[u32],
+    wanted: &Wanted,
+) -> Result<Option<&'static str>, Fail> {
+    let mut image = crashed(disk, choice)?;
+    wanted.first_wrong(alloc, &mut image, HOMES)
 }
 
-/// Whether what each of the first choices leaves does.
-fn all_mend(alloc: Global, disk: &MemoryDisk, choices: u32, wanted: &Wanted) -> Result<bool, Fail> {
-    for number in 0..choices {
-        if !mends(alloc, disk, &choice(number), wanted)? {
-            return Ok(false);
-        }
+/// Recovers what this choice leaves of a disk of this script, which is stopped after so many calls.
+pub fn mend(
+    alloc: Global,
+    calls: u64,
+    disk: &MemoryDisk,
+    choice: &[u32],
+    wanted: &Wanted,
+) -> Result<(), Fail> {
+    match wrong_left(alloc, disk, choice, wanted)? {
+        Some(wrong) => fail_at(wrong, calls),
+        None => Ok(()),
     }
-    Ok(true)
 }
 
-/// A recovery of what a crash left, that is stopped after so many calls: its disk, and whether it ended before.
-pub fn stopped(alloc: Global, disk: &MemoryDisk, calls: u64) -> Result<(MemoryDisk, bool), Fail> {
+/// Recovers what each of the first choices leaves.
+fn mend_all(
+    alloc: Global,
+    calls: u64,
+    disk: &MemoryDisk,
+    choices: u32,
+    wanted: &Wanted,
+) -> Result<(), Fail> {
+    for number in 0..choices {
+        mend(alloc, calls, disk, &choice(number), wanted)?;
+    }
+    Ok(())
+}
+
+/// A recovery of what a crash left, that is stopped after so many calls.
+pub fn stopped(alloc: Global, disk: &MemoryDisk, calls: u64) -> Result<Ran<MemoryDisk>, Fail> {
     let mut fuse = FuseDisk::of(crashed(disk, &[])?, calls);
     let ended = recover(alloc, &mut fuse).is_ok();
-    Ok((fuse.into_inner(), ended))
+    Ok(Ran {
+        disk: fuse.into_inner(),
+        ended,
+    })
 }
 
 /// How many calls the recovery of what a crash left makes.
@@ -208,69 +176,99 @@ fn calls_of(alloc: Global, disk: &MemoryDisk) -> Result<u64, Fail> {
     let mut calls: u64 = 0;
     for step in [256, 128, 64, 32, 16, 8, 4, 2, 1] {
         let further = calls.saturating_add(step);
-        if !stopped(alloc, disk, further)?.1 {
+        if !stopped(alloc, disk, further)?.ended {
             calls = further;
         }
     }
     Ok(calls.saturating_add(1))
 }
 
-/// Whether what a crash left recovers to homes that may be left where recovery is stopped too, after any of its last
-/// calls: the ones before them only read.
-fn mends_whenever(alloc: Global, disk: &MemoryDisk, wanted: &Wanted) -> Result<bool, Fail> {
-    let all = calls_of(alloc, disk)?;
-    for calls in all.saturating_sub(LAST)..all {
-        let (once, _) = stopped(alloc, disk, calls)?;
-        if !all_mend(alloc, &once, SOME, wanted)? {
-            return Ok(false);
-        }
-    }
-    Ok(true)
-}
-
-/// Whether a script of which one call fails ends as one that is stopped there, and leaves the same disk.
-fn fails_alike(
+/// Recovers what a crash left once more where its recovery is stopped after so many calls of its own.
+fn mend_once(
     alloc: Global,
     calls: u64,
-    disk: &mut MemoryDisk,
-    ended: bool,
-) -> Result<bool, Fail> {
-    let (faulty, _, whole) = run(alloc, OneFaultDisk::of(before(alloc)?, calls), &SCRIPT)?;
-    Ok(whole == ended && difference(&mut faulty.into_inner(), disk, 0)?.is_none())
-}
-
-/// Whether what a script left that was stopped after so many calls mends, where recovery is stopped too, and is what it
-/// leaves where that call alone fails.
-fn mends_after(
-    alloc: Global,
-    number: u32,
-    disk: &mut MemoryDisk,
+    disk: &MemoryDisk,
+    own: u64,
     wanted: &Wanted,
-    ended: bool,
-) -> Result<bool, Fail> {
-    let found = crashed(disk, &choice(number % 10))?;
-    let last = all_mend(alloc, disk, ALL, wanted)? && mends_whenever(alloc, &found, wanted)?;
-    Ok(last && fails_alike(alloc, u64::from(number), disk, ended)?)
+) -> Result<(), Fail> {
+    let once = stopped(alloc, disk, own)?;
+    mend_all(alloc, calls, &once.disk, SOME, wanted)
 }
 
-/// Whether what a script leaves mends where it is stopped after so many calls; and whether it ended before.
-fn mends_at(alloc: Global, number: u32) -> Result<(bool, bool), Fail> {
-    let fuse = FuseDisk::of(before(alloc)?, u64::from(number));
-    let (fuse, left, ended) = run(alloc, fuse, &SCRIPT)?;
-    let wanted = make_wanted(alloc, left)?;
-    let mends = mends_after(alloc, number, &mut fuse.into_inner(), &wanted, ended)?;
-    Ok((mends, ended))
+/// Recovers what a crash left once more where its recovery is stopped after any of its last calls: the ones before them
+/// only read.
+fn mend_whenever(
+    alloc: Global,
+    calls: u64,
+    disk: &MemoryDisk,
+    wanted: &Wanted,
+) -> Result<(), Fail> {
+    let all = calls_of(alloc, disk)?;
+    for own in all.saturating_sub(LAST)..all {
+        mend_once(alloc, calls, disk, own, wanted)?;
+    }
+    Ok(())
+}
+
+/// Recovers what this choice leaves where recovery is stopped too.
+fn mend_stopped(
+    alloc: Global,
+    calls: u64,
+    disk: &MemoryDisk,
+    choice: &[u32],
+    wanted: &Wanted,
+) -> Result<(), Fail> {
+    let image = crashed(disk, choice)?;
+    mend_whenever(alloc, calls, &image, wanted)
+}
+
+/// The script of which one call fails ends as one that is stopped there, and leaves the same disk; whether it ended.
+fn fail_alike(alloc: Global, call: u64, stop: &mut Stop) -> Result<bool, Fail> {
+    let mut other = run_over(alloc, before(alloc)?, call, &SCRIPT)?;
+    let differs = difference(&mut other.disk, &mut stop.disk, 0)?;
+    if other.ended == stop.ended && differs.is_none() {
+        return Ok(stop.ended);
+    }
+    fail_at(
+        "the script leaves something else where one call fails",
+        call,
+    )
+}
+
+/// What the script left that was stopped after so many calls mends, where recovery is stopped too, and is what it leaves
+/// where that call alone fails; whether it ended before.
+fn mend_after(alloc: Global, number: u32, stop: &mut Stop) -> Result<bool, Fail> {
+    let calls = u64::from(number);
+    mend_all(alloc, calls, &stop.disk, ALL, &stop.wanted)?;
+    mend_stopped(alloc, calls, &stop.disk, &choice(number % 10), &stop.wanted)?;
+    fail_alike(alloc, calls, stop)
+}
+
+/// Stops the script after so many calls; whether it ended before.
+fn stop_at(alloc: Global, number: u32) -> Result<bool, Fail> {
+    let mut stop = run_to(alloc, before(alloc)?, u64::from(number), &SCRIPT)?;
+    mend_after(alloc, number, &mut stop)
+}
+
+/// Stops the script after every number of calls.
+fn stop_each(alloc: Global) -> Result<(), Fail> {
+    for number in 0..MOST {
+        if stop_at(alloc, number)? {
+            return end(number);
+        }
+    }
+    fail("it never ends")
+}
+
+/// The whole script makes so many calls.
+fn end(number: u32) -> Result<(), Fail> {
+    if number != 151 {
+        return fail_at("calls of the whole script:", u64::from(number));
+    }
+    Ok(())
 }
 
 #[test]
 fn every_call_of_a_script_may_fail_or_be_the_last(rt: HostRuntime) -> Result<(), Fail> {
-    for number in 0..MOST {
-        let (mends, ended) = mends_at(rt.alloc(), number)?;
-        assert!(rt; mends, "{number}");
-        if ended {
-            assert_eq!(rt; number, 151);
-            return Ok(());
-        }
-    }
-    fail("it never ends")
+    stop_each(rt.alloc())
 }

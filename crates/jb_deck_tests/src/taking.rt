@@ -1,16 +1,15 @@
 //! Trails that are taken from the front.
 
-use crate::cases::{Case, assert_cases};
-use crate::images::{BLOCKS, HOMES, fail, small};
+use crate::cases::{Case, called_with_fault, check_cases};
+use crate::images::{BLOCKS, HOMES};
 use crate::rounds::{SIX, SIX_COPIES};
-use crate::scripts::{Refusal, Step, first_wrong, opened};
+use crate::scripts::{Refusal, Step};
 use jb_block::Width;
-use jb_disk::OneFaultDisk;
 use std::alloc::Global;
 use std::test::Fail;
 
 /// Entries are taken where their groups are home and their tickets are below the one that is given; the last stays.
-const TAKINGS: [Case; 1] = [Case {
+static TAKINGS: [Case; 1] = [Case {
     name: "a trail that is taken",
     blocks: BLOCKS,
     image: &[],
@@ -61,7 +60,7 @@ const TAKINGS: [Case; 1] = [Case {
 const THIRD_COMMIT: u64 = 46;
 
 /// Two groups, of which one is home, and a third that does not come to the disk.
-const FAILED: [Step; 8] = [
+static FAILED: [Step; 9] = [
     Step::Commits("h\n", &[(0, 1, 2, 1)]),
     Step::Commits("h\n", &[(1, 2, 3, 1)]),
     Step::Checkpoints(2, 0),
@@ -70,25 +69,17 @@ const FAILED: [Step; 8] = [
     Step::Takes(9, &[(0, 1, 2, 1)]),
     Step::Takes(9, &[]),
     Step::Ends(&[(1, 2, 3, 1)], 4),
+    Step::Aborted,
 ];
 
 #[test]
 fn trails_are_taken_as_worked_by_hand(rt: HostRuntime) -> Result<(), Fail> {
-    assert_cases(&rt, rt.alloc(), &TAKINGS)
-}
-
-/// The first call of a journal that is not answered as it should be, and whether it has failed then.
-fn first_wrong_failed(alloc: Global) -> Result<(Option<usize>, bool), Fail> {
-    let disk = OneFaultDisk::of(small(alloc, BLOCKS, &[], &[])?, THIRD_COMMIT);
-    let Some(mut deck) = opened(alloc, disk) else {
-        return fail("it is not opened");
-    };
-    let wrong = first_wrong(alloc, &mut deck, &FAILED)?;
-    Ok((wrong, deck.aborted()))
+    check_cases(rt.alloc(), &TAKINGS)
 }
 
 #[test]
 fn a_journal_that_failed_gives_its_entries(rt: HostRuntime) -> Result<(), Fail> {
-    assert_eq!(rt; first_wrong_failed(rt.alloc())?, (None, true));
+    let row = "a journal that failed";
+    let _disk = called_with_fault(rt.alloc(), row, THIRD_COMMIT, &FAILED)?;
     Ok(())
 }

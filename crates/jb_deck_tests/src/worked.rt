@@ -2,14 +2,15 @@
 //! and crashed in five ways, and the recovery of each image is stopped and crashed in the same ways.
 
 use crate::contents::{EIGHT, Left};
-use crate::frames::{Frame, Wanted};
-use crate::images::{BLOCKS, crashed, difference, fail, zeros};
+use crate::draws::formatted;
+use crate::frames::Wanted;
+use crate::images::{crashed, difference, fail, fail_at};
 use crate::lives::Call;
 use crate::model::Homes;
-use crate::stops::{NEW, SECTORS, run, stopped};
+use crate::runs::run_to;
+use crate::stops::{NEW, SECTORS, mend, stopped};
 use jb_block::Width;
-use jb_disk::{FuseDisk, MemoryDisk};
-use jb_front::format;
+use jb_disk::MemoryDisk;
 use std::alloc::Global;
 use std::test::Fail;
 
@@ -24,7 +25,7 @@ const UUID: [u8; 16] = [0, 1, 2, 3, 4, 5, 6, 7, 8, 9, 10, 11, 12, 13, 14, 15];
 
 /// A group with an escaped copy and a freed home, which is written; three groups that fill the log, and two that make
 /// room and go round its end. Then they are checkpointed; the last call finds nothing.
-const SCRIPT: [Call<'static>; 12] = [
+static SCRIPT: [Call<'static>; 12] = [
     Call::Commit(1, &[(0, 5, Some(EIGHT)), (0, 7, None)]),
     Call::Write(7, 17),
     Call::Commit(
@@ -78,7 +79,7 @@ const SCRIPT: [Call<'static>; 12] = [
 ];
 
 /// The homes after the first handles: of none, of one, and so on to six. Home 7 is the second call's.
-const SETTLED: [Homes; 7] = [
+static SETTLED: [Homes; 7] = [
     [0; 16],
     [0, 0, 0, 0, 0, EIGHT, 0, 17, 0, 0, 0, 0, 0, 0, 0, 0],
     [20, 21, 22, 23, 24, 25, 0, 17, 0, 0, 0, 0, 0, 0, 0, 0],
@@ -89,12 +90,8 @@ const SETTLED: [Homes; 7] = [
 ];
 
 /// A new journal of 33 blocks with 16 homes of zeros.
-fn formatted(alloc: Global) -> Result<MemoryDisk, Fail> {
-    let mut disk = zeros(alloc, BLOCKS)?;
-    if format(&mut disk, 33, 0, UUID, Width::Narrow).is_err() {
-        return fail("it is not made");
-    }
-    Ok(disk)
+fn before(alloc: Global) -> Result<MemoryDisk, Fail> {
+    formatted(alloc, 33, 0, UUID, Width::Narrow)
 }
 
 /// The versions of the sectors from one place on: the newest ones.
@@ -148,53 +145,74 @@ fn choice(number: u32, last: usize) -> [u32; SECTORS] {
     choice
 }
 
-/// Recovers what a crash left. It has what stands before the log, then too, and homes that may be left.
-fn mend(alloc: Global, found: &mut MemoryDisk, wanted: &Wanted) -> Result<(), Fail> {
-    match wanted.first_wrong(alloc, found, 33)? {
-        Some(wrong) => fail(wrong),
-        None => Ok(()),
-    }
-}
-
-/// Recovers what each choice leaves of a disk.
-fn mend_each(alloc: Global, disk: &MemoryDisk, wanted: &Wanted) -> Result<(), Fail> {
+/// Recovers what each choice leaves of a disk of the script, which is stopped after so many calls.
+fn mend_each(alloc: Global, calls: u64, disk: &MemoryDisk, wanted: &Wanted) -> Result<(), Fail> {
     let last = last_sector(disk)?;
     for number in 0..CHOICES {
-        mend(alloc, &mut crashed(disk, &choice(number, last))?, wanted)?;
+        mend(alloc, calls, disk, &choice(number, last), wanted)?;
     }
     Ok(())
 }
 
 /// Whether a disk has other contents than an image that a crash left, or may have them after one more crash.
-fn is_changed(disk: &MemoryDisk, found: &MemoryDisk) -> Result<bool, Fail> {
-    let mut was = crashed(found, &[])?;
-    Ok(differs(disk, &[0; SECTORS], &mut was)? || differs(disk, &newest_from(0), &mut was)?)
+fn is_changed(disk: &MemoryDisk, image: &mut MemoryDisk) -> Result<bool, Fail> {
+    Ok(differs(disk, &[0; SECTORS], image)? || differs(disk, &newest_from(0), image)?)
+}
+
+/// Stops the recovery of an image after so many calls of its own and crashes it by each choice; whether it ended
+/// before. Where nothing was written yet, that leaves the image itself, which is recovered once.
+fn mend_once(
+    alloc: Global,
+    calls: u64,
+    image: &mut MemoryDisk,
+    own: u64,
+    wanted: &Wanted,
+) -> Result<bool, Fail> {
+    let once = stopped(alloc, image, own)?;
+    if own == 0 || is_changed(&once.disk, image)? {
+        mend_each(alloc, calls, &once.disk, wanted)?;
+    }
+    Ok(once.ended)
 }
 
 /// Stops the recovery of an image after every number of calls and crashes it by each choice; how many images that are.
-/// Where nothing was written yet, they are the image itself, which is recovered once.
-fn mend_stopped(alloc: Global, found: &MemoryDisk, wanted: &Wanted) -> Result<u64, Fail> {
+fn mend_stopped(
+    alloc: Global,
+    calls: u64,
+    image: &mut MemoryDisk,
+    wanted: &Wanted,
+) -> Result<u64, Fail> {
     let mut images: u64 = 0;
-    for calls in 0..MOST {
-        let (once, ended) = stopped(alloc, found, calls)?;
-        if calls == 0 || is_changed(&once, found)? {
-            mend_each(alloc, &once, wanted)?;
-        }
+    for own in 0..MOST {
+        let ended = mend_once(alloc, calls, image, own, wanted)?;
         images = images.saturating_add(u64::from(CHOICES));
         if ended {
             return Ok(images);
         }
     }
-    fail("a recovery never ends")
+    fail_at("a recovery never ends", calls)
 }
 
-/// Crashes a disk by each choice and stops the recovery of each image; how many images that are.
-fn mend_all(alloc: Global, disk: &MemoryDisk, wanted: &Wanted) -> Result<u64, Fail> {
+/// Stops the recovery of what this choice leaves of a disk; how many images that are.
+fn mend_left(
+    alloc: Global,
+    calls: u64,
+    disk: &MemoryDisk,
+    choice: &[u32; SECTORS],
+    wanted: &Wanted,
+) -> Result<u64, Fail> {
+    let mut image = crashed(disk, choice)?;
+    mend_stopped(alloc, calls, &mut image, wanted)
+}
+
+/// Crashes a disk of the script, which is stopped after so many calls, by each choice and stops the recovery of each
+/// image; how many images that are.
+fn mend_all(alloc: Global, calls: u64, disk: &MemoryDisk, wanted: &Wanted) -> Result<u64, Fail> {
     let last = last_sector(disk)?;
     let mut images: u64 = 0;
     for number in 0..CHOICES {
-        let found = crashed(disk, &choice(number, last))?;
-        images = images.saturating_add(mend_stopped(alloc, &found, wanted)?);
+        let further = mend_left(alloc, calls, disk, &choice(number, last), wanted)?;
+        images = images.saturating_add(further);
     }
     Ok(images)
 }
@@ -206,26 +224,45 @@ fn is_worked(homes: &Homes) -> bool {
     SETTLED.contains(homes) || unwritten == SETTLED[1]
 }
 
-/// A script that is stopped after so many calls: what a crash may leave, how many images are recovered, and whether it
-/// ended.
+/// The script that is stopped after so many calls: what a crash may leave, how many images are recovered, and whether
+/// it ended.
 fn images_at(alloc: Global, calls: u64) -> Result<(Left, u64, bool), Fail> {
-    let (fuse, left, ended) = run(alloc, FuseDisk::of(formatted(alloc)?, calls), &SCRIPT)?;
-    let frame = Frame::of(alloc, &mut formatted(alloc)?, 1)?;
-    let images = mend_all(alloc, &fuse.into_inner(), &Wanted { left, frame })?;
-    Ok((left, images, ended))
+    let stop = run_to(alloc, before(alloc)?, calls, &SCRIPT)?;
+    let images = mend_all(alloc, calls, &stop.disk, &stop.wanted)?;
+    Ok((stop.wanted.left, images, stop.ended))
+}
+
+/// Stops the script after every number of calls.
+fn stop_each(alloc: Global) -> Result<(), Fail> {
+    let mut images: u64 = 0;
+    for calls in 0..MOST {
+        let (left, further, ended) = images_at(alloc, calls)?;
+        if !is_worked(&left.was) || !is_worked(&left.becomes) {
+            return fail_at("homes of the script that is stopped after calls", calls);
+        }
+        images = images.saturating_add(further);
+        if ended {
+            return end(calls, images, &left.was);
+        }
+    }
+    fail("it never ends")
+}
+
+/// The whole script makes so many calls, is crashed to so many images and leaves these homes.
+fn end(calls: u64, images: u64, homes: &Homes) -> Result<(), Fail> {
+    if calls != 139 {
+        return fail_at("calls of the whole script:", calls);
+    }
+    if images != 109515 {
+        return fail_at("images of the whole script:", images);
+    }
+    if *homes != SETTLED[6] {
+        return fail_at("homes of the whole script, after calls", calls);
+    }
+    Ok(())
 }
 
 #[test]
 fn a_script_may_be_stopped_and_crashed_at_every_call(rt: HostRuntime) -> Result<(), Fail> {
-    let mut images: u64 = 0;
-    for calls in 0..MOST {
-        let (left, further, ended) = images_at(rt.alloc(), calls)?;
-        assert!(rt; is_worked(&left.was) && is_worked(&left.becomes), "{calls}");
-        images = images.saturating_add(further);
-        if ended {
-            assert_eq!(rt; (calls, images, left.was), (139, 109515, SETTLED[6]));
-            return Ok(());
-        }
-    }
-    fail("it never ends")
+    stop_each(rt.alloc())
 }

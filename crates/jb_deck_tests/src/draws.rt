@@ -1,0 +1,147 @@
+//! Journals that are drawn at random, and calls of them.
+
+use crate::contents::{Left, fill};
+use crate::images::{Row, fail, put_rows, write_at, zeros};
+use crate::lives::{Call, make_call};
+use crate::model::{Model, Touch};
+use jb_block::Width;
+use jb_deck::Deck;
+use jb_disk::{Disk, MemoryDisk};
+use jb_front::format;
+use std::alloc::Global;
+use std::test::Fail;
+
+/// A generator's state (Knuth's MMIX).
+#[derive(Drop)]
+pub struct Seed {
+    pub state: u64,
+}
+
+impl Seed {
+    /// A number below a limit, or 0.
+    pub fn below(&mut self, limit: u32) -> u32 {
+        self.state = self
+            .state
+            .wrapping_mul(6_364_136_223_846_793_005)
+            .wrapping_add(1_442_695_040_888_963_407);
+        let number = u32::try_from(self.state >> 33).unwrap_or(0);
+        if limit == 0 { 0 } else { number % limit }
+    }
+}
+
+/// How many of so many calls are checkpoints and how many are writes; the others are commits.
+#[derive(Clone, Copy)]
+pub struct Odds {
+    pub checkpoints: u32,
+    pub writes: u32,
+    pub calls: u32,
+}
+
+/// Words of block 0 after the superblock's eighty bytes, in both of its sectors.
+static AFTER: [Row; 4] = [
+    (0, 0x50, [7, 7, 7, 7]),
+    (0, 0x1F0, [7, 7, 7, 7]),
+    (0, 0x200, [7, 7, 7, 7]),
+    (0, 0x3F0, [7, 7, 7, 7]),
+];
+
+/// An image: its disk, how many blocks stand before the log, and the place of home block 0.
+#[derive(Drop)]
+pub struct Image {
+    pub disk: MemoryDisk,
+    pub gap: u32,
+    pub homes: u64,
+}
+
+/// A new journal of so many blocks, with a history of at most so many of them, and the 16 homes after it.
+pub fn formatted(
+    alloc: Global,
+    maxlen: u32,
+    most: u32,
+    uuid: [u8; 16],
+    width: Width,
+) -> Result<MemoryDisk, Fail> {
+    let mut disk = zeros(alloc, u64::from(maxlen).saturating_add(16))?;
+    if format(&mut disk, maxlen, most, uuid, width).is_err() {
+        return fail("it is not made");
+    }
+    Ok(disk)
+}
+
+/// Lets the log of a new journal begin after so many further blocks, and fills these, and block 0 after the
+/// superblock.
+fn put_gap(disk: &mut MemoryDisk, maxlen: u32, gap: u32) -> Result<(), Fail> {
+    put_rows(disk, &[(0, 0x10, [maxlen, gap.saturating_add(1), 1, 0])])?;
+    put_rows(disk, &AFTER)?;
+    let mut filled = [0; 1024];
+    for place in 1..=gap {
+        fill(&mut filled, place);
+        write_at(disk, u64::from(place), &filled)?;
+    }
+    disk.sync()?;
+    Ok(())
+}
+
+/// A new journal of 9 to 42 blocks, up to two of them before the log, and the 16 homes after it.
+pub fn image_at_random(alloc: Global, seed: &mut Seed) -> Result<Image, Fail> {
+    let gap = seed.below(3);
+    let maxlen = seed.below(32).saturating_add(9).saturating_add(gap);
+    let most = seed.below(maxlen);
+    let width = if seed.below(2) == 0 {
+        Width::Narrow
+    } else {
+        Width::Wide
+    };
+    let mut disk = formatted(alloc, maxlen, most, [7; 16], width)?;
+    put_gap(&mut disk, maxlen, gap)?;
+    let homes = u64::from(maxlen);
+    Ok(Image { disk, gap, homes })
+}
+
+/// What a handle does to one of the first homes; the contents have a number that was not used before.
+fn one_touch(seed: &mut Seed, next: &mut u32, homes: u32, handle: u32) -> Touch {
+    let copy = if seed.below(3) == 0 {
+        None
+    } else {
+        Some(*next)
+    };
+    *next = next.wrapping_add(1);
+    (handle as usize, seed.below(homes) as usize, copy)
+}
+
+/// What so many handles do to homes, in the order of their stops, often to the same few.
+fn touches(alloc: Global, seed: &mut Seed, next: &mut u32, count: u32) -> Result<Vec<Touch>, Fail> {
+    let homes = if seed.below(2) == 0 { 16 } else { 4 };
+    let mut touches = Vec::new(alloc);
+    let mut handle = 0;
+    for _ in 0..seed.below(count.saturating_mul(5).saturating_add(1)) {
+        if seed.below(5) == 0 {
+            handle = seed.below(count).max(handle);
+        }
+        touches.push(one_touch(seed, next, homes, handle))?;
+    }
+    Ok(touches)
+}
+
+/// Makes a call at random; after a fault, what a crash may leave.
+pub fn call_at_random<D: Disk>(
+    alloc: Global,
+    seed: &mut Seed,
+    next: &mut u32,
+    deck: &mut Deck<D>,
+    model: &mut Model,
+    odds: Odds,
+) -> Result<Option<Left>, Fail> {
+    let count = seed.below(5).saturating_add(1);
+    let list = touches(alloc, seed, next, count)?;
+    let drawn = seed.below(odds.calls);
+    let call = if drawn < odds.checkpoints {
+        Call::Checkpoint
+    } else if drawn < odds.checkpoints.saturating_add(odds.writes) {
+        Call::Write(seed.below(4) as usize, *next)
+    } else {
+        Call::Commit(count as usize, &list)
+    };
+    *next = next.wrapping_add(1);
+    make_call(alloc, deck, model, call)
+}

@@ -1,0 +1,116 @@
+//! Scripts of a journal's calls that are run up to their first fault.
+
+use crate::contents::{Left, only};
+use crate::frames::{Frame, Wanted};
+use crate::images::fail;
+use crate::lives::{Call, make_call};
+use crate::model::Model;
+use crate::scripts::{Refusal, Step, check_steps};
+use jb_block::Width;
+use jb_deck::{CheckpointFault, Deck, FreeFault, OpenFault};
+use jb_disk::{Disk, FuseDisk, MemoryDisk, OneFaultDisk};
+use std::alloc::Global;
+use std::test::Fail;
+
+/// A disk, and whether what was run on it ended before the disk failed.
+#[derive(Drop)]
+pub struct Ran<D> {
+    pub disk: D,
+    pub ended: bool,
+}
+
+/// What a journal that is aborted answers.
+static ABORTED: [Step; 3] = [
+    Step::Writes(16, 0, Err(FreeFault::Aborted)),
+    Step::Refuses(99, (16, 7, Width::Narrow), "h w1\n", Refusal::Aborted),
+    Step::Refuses(0, (16, 7, Width::Narrow), "", Refusal::Aborted),
+];
+
+/// A journal that is aborted refuses each call.
+fn refuse_each<D: Disk>(alloc: Global, deck: &mut Deck<D>) -> Result<(), Fail> {
+    if !deck.aborted() || deck.checkpoint_one() != Err(CheckpointFault::Aborted) {
+        return fail("it is not aborted");
+    }
+    check_steps(alloc, "a journal that is aborted", deck, &ABORTED)
+}
+
+/// Runs a script on a disk up to its first fault. `left` is what a crash may leave, before and after.
+fn run<D: Disk + Drop>(
+    alloc: Global,
+    disk: D,
+    script: &[Call<'_>],
+    left: &mut Left,
+) -> Result<Ran<D>, Fail> {
+    let mut deck = match Deck::open(alloc, disk) {
+        Ok(deck) => deck,
+        Err((disk, OpenFault::DeviceFault)) => {
+            return Ok(Ran { disk, ended: false });
+        }
+        Err(_) => return fail("it is not opened"),
+    };
+    let mut model = Model::new(alloc, left.was, u64::from(deck.usable()));
+    let ended = run_with(alloc, &mut deck, &mut model, script, left)?;
+    let disk = deck.close();
+    Ok(Ran { disk, ended })
+}
+
+/// Calls a journal by a script up to its first fault, after which it refuses each call; whether it met none.
+fn run_with<D: Disk>(
+    alloc: Global,
+    deck: &mut Deck<D>,
+    model: &mut Model,
+    script: &[Call<'_>],
+    left: &mut Left,
+) -> Result<bool, Fail> {
+    for next in script {
+        if let Some(met) = make_call(alloc, deck, model, *next)? {
+            *left = met;
+            refuse_each(alloc, deck)?;
+            return Ok(false);
+        }
+    }
+    *left = only(model.standing());
+    Ok(true)
+}
+
+/// A script that is run on a disk that fails: the disk, what a crash may leave of it, and whether it met no fault.
+#[derive(Drop)]
+pub struct Stop {
+    pub disk: MemoryDisk,
+    pub wanted: Wanted,
+    pub ended: bool,
+}
+
+/// Runs a script on a disk whose log begins at block 1, whose homes are zeros, and which makes so many calls.
+pub fn run_to(
+    alloc: Global,
+    before: MemoryDisk,
+    calls: u64,
+    script: &[Call<'_>],
+) -> Result<Stop, Fail> {
+    let mut disk = before;
+    let frame = Frame::of(alloc, &mut disk, 1)?;
+    let left = only([0; 16]);
+    let mut wanted = Wanted { left, frame };
+    let ran = run(alloc, FuseDisk::of(disk, calls), script, &mut wanted.left)?;
+    Ok(Stop {
+        disk: ran.disk.into_inner(),
+        wanted,
+        ended: ran.ended,
+    })
+}
+
+/// Runs a script on a disk that fails one call: the disk, and whether it met none.
+pub fn run_over(
+    alloc: Global,
+    before: MemoryDisk,
+    call: u64,
+    script: &[Call<'_>],
+) -> Result<Ran<MemoryDisk>, Fail> {
+    let mut left = only([0; 16]);
+    let ran = run(alloc, OneFaultDisk::of(before, call), script, &mut left)?;
+    Ok(Ran {
+        disk: ran.disk.into_inner(),
+        ended: ran.ended,
+    })
+}
