@@ -2,12 +2,12 @@
 //! recovery makes of these.
 
 use crate::groups::{Laid, lay_group};
-use crate::images::{BLOCKS, Row, check_same, crashed, difference, fail_in, put_rows, small};
+use crate::images::{BLOCKS, Row, check_in, check_none, crashed, difference, put_rows, small};
 use crate::scripts::{Step, check_steps, opening};
 use jb_disk::{Disk, MemoryDisk, OneFaultDisk};
 use jb_recover::{Recovered, recover};
 use std::alloc::Global;
-use std::test::Fail;
+use std::process::Abort;
 
 /// A journal that is recovered and opened, the calls, the blocks of the disk after them, and what recovery then
 /// reports (transactions, copies, revoked copies and the next number) and changes.
@@ -24,73 +24,84 @@ pub struct Case {
 
 /// The disk of the journal of a row after these calls.
 pub fn called<D: Disk + Drop>(
+    rt: &impl Abort,
     alloc: Global,
     row: &'static str,
     disk: D,
     steps: &[Step],
-) -> Result<D, Fail> {
-    let mut deck = opening(alloc, disk)?;
-    check_steps(alloc, row, &mut deck, steps)?;
-    Ok(deck.close())
+) -> D {
+    let mut deck = opening(rt, alloc, disk);
+    check_steps(rt, alloc, row, &mut deck, steps);
+    deck.close()
 }
 
 /// The small image after these calls of its journal, on a disk of which the call of this number fails.
 pub fn called_with_fault(
+    rt: &impl Abort,
     alloc: Global,
     row: &'static str,
     call: u64,
     steps: &[Step],
-) -> Result<MemoryDisk, Fail> {
-    let disk = OneFaultDisk::of(small(alloc, BLOCKS, &[], &[])?, call);
-    Ok(called(alloc, row, disk, steps)?.into_inner())
+) -> MemoryDisk {
+    let disk = OneFaultDisk::of(small(rt, alloc, BLOCKS, &[], &[]), call);
+    called(rt, alloc, row, disk, steps).into_inner()
 }
 
 /// The image of a case once it is recovered.
-fn recovered(alloc: Global, case: &Case) -> Result<MemoryDisk, Fail> {
-    let mut disk = small(alloc, case.blocks, case.image, &[])?;
-    if recover(alloc, &mut disk).is_err() {
-        return fail_in(case.name, "it is not recovered; blocks", case.blocks);
-    }
-    Ok(disk)
+fn recovered(rt: &impl Abort, alloc: Global, case: &Case) -> MemoryDisk {
+    let mut disk = small(rt, alloc, case.blocks, case.image, &[]);
+    let is_recovered = recover(alloc, &mut disk).is_ok();
+    check_in(
+        rt,
+        is_recovered,
+        case.name,
+        "it is not recovered; blocks",
+        case.blocks,
+    );
+    disk
 }
 
 /// Checks the calls of a case and what they leave.
-fn check_case(alloc: Global, case: &Case) -> Result<(), Fail> {
-    let mut disk = called(alloc, case.name, recovered(alloc, case)?, case.steps)?;
-    check_left(alloc, case, &mut disk)
+fn check_case(rt: &impl Abort, alloc: Global, case: &Case) {
+    let mut disk = called(rt, alloc, case.name, recovered(rt, alloc, case), case.steps);
+    check_left(rt, alloc, case, &mut disk)
 }
 
 /// Lays what a case's calls are to leave over its image.
-fn lay(case: &Case, disk: &mut MemoryDisk) -> Result<(), Fail> {
+fn lay(rt: &impl Abort, case: &Case, disk: &mut MemoryDisk) {
     for group in case.groups {
-        lay_group(disk, group)?;
+        lay_group(rt, disk, group);
     }
-    put_rows(disk, case.rows)
+    put_rows(rt, disk, case.rows)
 }
 
 /// Checks the disk that the calls of a case left, and what a crash leaves of it: all that stands on the disk, since
 /// every call that changes it ends with a sync.
-fn check_left(alloc: Global, case: &Case, disk: &mut MemoryDisk) -> Result<(), Fail> {
-    let mut wanted = small(alloc, case.blocks, case.image, &[])?;
-    let mut left = crashed(disk, &[])?;
-    check_blocks(alloc, case, disk, &mut left, &mut wanted)
+fn check_left(rt: &impl Abort, alloc: Global, case: &Case, disk: &mut MemoryDisk) {
+    let mut wanted = small(rt, alloc, case.blocks, case.image, &[]);
+    let mut left = crashed(rt, disk, &[]);
+    check_blocks(rt, alloc, case, disk, &mut left, &mut wanted)
 }
 
 /// Checks that a disk, and what a crash left of it, has the blocks of the case's image with what its calls are to leave;
 /// and then what that is once it is recovered.
 fn check_blocks(
+    rt: &impl Abort,
     alloc: Global,
     case: &Case,
     disk: &mut MemoryDisk,
     left: &mut MemoryDisk,
     wanted: &mut MemoryDisk,
-) -> Result<(), Fail> {
-    lay(case, wanted)?;
-    check_same(case.name, disk, wanted)?;
-    if let Some(place) = difference(left, wanted, 0)? {
-        return fail_in(case.name, "block that a crash leaves", place);
-    }
-    check_home(alloc, case, left, wanted)
+) {
+    lay(rt, case, wanted);
+    check_none(rt, case.name, "block", difference(rt, disk, wanted, 0));
+    check_none(
+        rt,
+        case.name,
+        "block that a crash leaves",
+        difference(rt, left, wanted, 0),
+    );
+    check_home(rt, alloc, case, left, wanted)
 }
 
 /// What recovery reports: transactions, copies, revoked copies and the next number.
@@ -106,30 +117,33 @@ pub fn report(told: (u32, u32, u32, u64)) -> Recovered {
 
 /// Checks what a crash left of a case once it is recovered.
 fn check_home(
+    rt: &impl Abort,
     alloc: Global,
     case: &Case,
     left: &mut MemoryDisk,
     wanted: &mut MemoryDisk,
-) -> Result<(), Fail> {
-    let told = recover(alloc, left);
-    if told != Ok(report(case.recovered)) {
-        return fail_in(
-            case.name,
-            "what recovery reports, with the next number",
-            case.recovered.3,
-        );
-    }
-    put_rows(wanted, case.after)?;
-    match difference(left, wanted, 0)? {
-        Some(place) => fail_in(case.name, "block after recovery", place),
-        None => Ok(()),
-    }
+) {
+    let is_told = recover(alloc, left) == Ok(report(case.recovered));
+    let next = case.recovered.3;
+    check_in(
+        rt,
+        is_told,
+        case.name,
+        "what recovery reports, with the next number",
+        next,
+    );
+    put_rows(rt, wanted, case.after);
+    check_none(
+        rt,
+        case.name,
+        "block after recovery",
+        difference(rt, left, wanted, 0),
+    );
 }
 
 /// Checks each of these cases.
-pub fn check_cases(alloc: Global, cases: &[Case]) -> Result<(), Fail> {
+pub fn check_cases(rt: &impl Abort, alloc: Global, cases: &[Case]) {
     for case in cases {
-        check_case(alloc, case)?;
+        check_case(rt, alloc, case);
     }
-    Ok(())
 }

@@ -1,7 +1,7 @@
 //! Journals that are changed in their place, opened, and called; some of them were used before.
 
 use crate::cases::{called, report};
-use crate::images::{BLOCKS, MAGIC, Row, check_same, fail, fail_in, read_at, small};
+use crate::images::{BLOCKS, MAGIC, Row, check, check_in, check_none, difference, read_at, small};
 use crate::openings::{Told, closed, refused};
 use crate::rounds::SIX;
 use crate::scripts::Step;
@@ -11,7 +11,7 @@ use jb_disk::MemoryDisk;
 use jb_front::{renumber, widen};
 use jb_recover::recover;
 use std::alloc::Global;
-use std::test::Fail;
+use std::process::Abort;
 
 /// A name, whether the journal is widened before it is opened, or renumbered; the rows of the small image that differ
 /// before, what it says of itself after, and the calls then.
@@ -108,126 +108,113 @@ static USED: [Used; 2] = [
 ];
 
 /// Widens or renumbers a journal in its place.
-fn change(disk: &mut MemoryDisk, widens: bool) -> Result<(), Fail> {
+fn change(rt: &impl Abort, disk: &mut MemoryDisk, widens: bool) {
     let is_changed = if widens {
         widen(disk).is_ok()
     } else {
         renumber(disk).is_ok()
     };
-    if is_changed {
-        Ok(())
-    } else {
-        fail("it is not changed")
-    }
+    check(rt, is_changed, "it is not changed")
 }
 
 /// The small image with these rows, its journal changed in its place.
-fn changed(alloc: Global, widens: bool, rows: &[Row]) -> Result<MemoryDisk, Fail> {
-    let mut disk = small(alloc, BLOCKS, rows, &[])?;
-    change(&mut disk, widens)?;
-    Ok(disk)
+fn changed(rt: &impl Abort, alloc: Global, widens: bool, rows: &[Row]) -> MemoryDisk {
+    let mut disk = small(rt, alloc, BLOCKS, rows, &[]);
+    change(rt, &mut disk, widens);
+    disk
 }
 
 /// How wide the tags of a log's first descriptor are, by the place of the second one.
-fn tag_width(disk: &mut MemoryDisk) -> Result<Width, Fail> {
+fn tag_width(rt: &impl Abort, disk: &mut MemoryDisk) -> Width {
     let mut block = [0; 1024];
-    read_at(disk, 1, &mut block)?;
+    read_at(rt, disk, 1, &mut block);
     if get32(&block, 40) == 1 {
-        Ok(Width::Wide)
+        Width::Wide
     } else {
-        Ok(Width::Narrow)
+        Width::Narrow
     }
 }
 
 /// Checks the log of a journal that said this of itself and has committed six copies as one group: how wide its
 /// tags are, and what recovery reports.
-fn check_log(
-    alloc: Global,
-    row: &'static str,
-    told: Told,
-    disk: &mut MemoryDisk,
-) -> Result<(), Fail> {
+fn check_log(rt: &impl Abort, alloc: Global, row: &'static str, told: Told, disk: &mut MemoryDisk) {
     let (number, _, width) = told;
-    if tag_width(disk)? != width {
-        return fail_in(row, "the width of its tags at number", number);
-    }
-    if recover(alloc, disk) != Ok(report((1, 6, 0, number.saturating_add(2)))) {
-        return fail_in(row, "what recovery reports of number", number);
-    }
-    Ok(())
+    let fits = tag_width(rt, disk) == width;
+    check_in(rt, fits, row, "the width of its tags at number", number);
+    let is_told = recover(alloc, disk) == Ok(report((1, 6, 0, number.saturating_add(2))));
+    check_in(rt, is_told, row, "what recovery reports of number", number)
 }
 
 /// Checks what a journal that says this of itself commits by these steps.
 fn check_committed(
+    rt: &impl Abort,
     alloc: Global,
     row: &'static str,
     told: Told,
     steps: &[Step],
     disk: MemoryDisk,
-) -> Result<(), Fail> {
-    let mut disk = called(alloc, row, disk, steps)?;
-    check_log(alloc, row, told, &mut disk)
+) {
+    let mut disk = called(rt, alloc, row, disk, steps);
+    check_log(rt, alloc, row, told, &mut disk)
 }
 
 /// Checks that a disk is as a journal is once it is changed in its place.
 fn check_kept(
+    rt: &impl Abort,
     alloc: Global,
     row: &'static str,
     widens: bool,
     rows: &[Row],
     disk: &mut MemoryDisk,
-) -> Result<(), Fail> {
-    let mut wanted = changed(alloc, widens, rows)?;
-    check_same(row, disk, &mut wanted)
+) {
+    let mut wanted = changed(rt, alloc, widens, rows);
+    check_none(rt, row, "block", difference(rt, disk, &mut wanted, 0))
 }
 
 /// Checks that opening a journal that is changed in its place keeps its disk, and then what it commits.
-fn check_changed(alloc: Global, of: &Changed) -> Result<(), Fail> {
+fn check_changed(rt: &impl Abort, alloc: Global, of: &Changed) {
     let (row, widens, rows, told, steps) = *of;
-    let mut disk = closed(alloc, row, changed(alloc, widens, rows)?, told)?;
-    check_kept(alloc, row, widens, rows, &mut disk)?;
-    check_committed(alloc, row, told, steps, disk)
+    let mut disk = closed(rt, alloc, row, changed(rt, alloc, widens, rows), told);
+    check_kept(rt, alloc, row, widens, rows, &mut disk);
+    check_committed(rt, alloc, row, told, steps, disk)
 }
 
 #[test]
-fn journals_that_were_changed_in_their_place_are_opened(rt: HostRuntime) -> Result<(), Fail> {
+fn journals_that_were_changed_in_their_place_are_opened(rt: HostRuntime) {
     for row in &CHANGED {
-        check_changed(rt.alloc(), row)?;
+        check_changed(&rt, rt.alloc(), row);
     }
-    Ok(())
 }
 
 /// The disk of a journal that is to be widened, once it is recovered; or of one that is to be renumbered, since it is
 /// refused: its numbers are spent.
 fn readied(
+    rt: &impl Abort,
     alloc: Global,
     row: &'static str,
     widens: bool,
     mut disk: MemoryDisk,
-) -> Result<MemoryDisk, Fail> {
+) -> MemoryDisk {
     if !widens {
-        return refused(alloc, row, disk, OpenFault::NumbersSpent);
+        return refused(rt, alloc, row, disk, OpenFault::NumbersSpent);
     }
-    if recover(alloc, &mut disk) == Ok(report((1, 1, 0, 4))) {
-        Ok(disk)
-    } else {
-        fail_in(row, "it is not recovered", 0)
-    }
+    let is_told = recover(alloc, &mut disk) == Ok(report((1, 1, 0, 4)));
+    check_in(rt, is_told, row, "it is not recovered", 0);
+    disk
 }
 
 /// Checks what a journal commits that was used before, and then changed in its place.
-fn check_used(alloc: Global, of: &Used) -> Result<(), Fail> {
+fn check_used(rt: &impl Abort, alloc: Global, of: &Used) {
     let (row, rows, before, widens, told, steps) = *of;
-    let disk = called(alloc, row, small(alloc, BLOCKS, rows, &[])?, before)?;
-    let mut disk = readied(alloc, row, widens, disk)?;
-    change(&mut disk, widens)?;
-    check_committed(alloc, row, told, steps, disk)
+    let disk = called(rt, alloc, row, small(rt, alloc, BLOCKS, rows, &[]), before);
+    let mut disk = readied(rt, alloc, row, widens, disk);
+    change(rt, &mut disk, widens);
+    check_committed(rt, alloc, row, told, steps, disk)
 }
 
 #[test]
-fn journals_that_were_used_are_changed_and_used_again(rt: HostRuntime) -> Result<(), Fail> {
+fn journals_that_were_used_are_changed_and_used_again(rt: HostRuntime) {
     for row in &USED {
-        check_used(rt.alloc(), row)?;
+        check_used(&rt, rt.alloc(), row);
     }
-    Ok(())
 }

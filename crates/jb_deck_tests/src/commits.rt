@@ -6,7 +6,6 @@ use crate::rounds::{SIX, SIX_COPIES};
 use crate::scripts::{Refusal, Step};
 use jb_block::Width;
 use jb_deck::FreeFault;
-use std::test::Fail;
 
 const NARROW: Width = Width::Narrow;
 
@@ -215,11 +214,11 @@ static BY_GROUPS: [Case; 3] = [
 ];
 
 #[test]
-fn blocks_are_written_as_worked_by_hand(rt: HostRuntime) -> Result<(), Fail> {
-    check_cases(rt.alloc(), &BY_BLOCKS)
+fn blocks_are_written_as_worked_by_hand(rt: HostRuntime) {
+    check_cases(&rt, rt.alloc(), &BY_BLOCKS)
 }
 
 #[test]
-fn batches_are_committed_as_worked_by_hand(rt: HostRuntime) -> Result<(), Fail> {
-    check_cases(rt.alloc(), &BY_GROUPS)
+fn batches_are_committed_as_worked_by_hand(rt: HostRuntime) {
+    check_cases(&rt, rt.alloc(), &BY_GROUPS)
 }

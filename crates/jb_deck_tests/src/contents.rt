@@ -3,7 +3,7 @@
 use crate::images::{MAGIC, put_words, read_at};
 use crate::model::Homes;
 use jb_disk::Disk;
-use std::test::Fail;
+use std::process::Abort;
 
 /// What a crash may leave: all homes as they were or all as they become, and of one home each sector as
 /// it is or as these contents have it.
@@ -47,16 +47,17 @@ pub fn fill(block: &mut [u8], number: u32) {
 
 /// Whether the disk has these homes, from a place on; sectors of one home may be of other contents.
 pub fn holds<D: Disk>(
+    rt: &impl Abort,
     disk: &mut D,
     first: u64,
     homes: &Homes,
     torn: Option<(usize, u32)>,
-) -> Result<bool, Fail> {
+) -> bool {
     let mut block = [0; 1024];
     let mut wanted = [0; 1024];
     let mut other = [0; 1024];
     for (home, number) in homes.iter().enumerate() {
-        read_at(disk, first.saturating_add(home as u64), &mut block)?;
+        read_at(rt, disk, first.saturating_add(home as u64), &mut block);
         fill(&mut wanted, *number);
         let contents = match torn {
             Some((at, contents)) if at == home => contents,
@@ -64,10 +65,10 @@ pub fn holds<D: Disk>(
         };
         fill(&mut other, contents);
         if !is_mixed(&block, &wanted, &other) {
-            return Ok(false);
+            return false;
         }
     }
-    Ok(true)
+    true
 }
 
 /// Whether each sector of a block is that of one block or of the other.
@@ -82,9 +83,9 @@ fn is_either(bytes: &[u8], one: &[u8], other: &[u8]) -> bool {
 }
 
 /// Whether the homes of a disk, from a place on, are among what a crash may leave.
-pub fn is_left<D: Disk>(disk: &mut D, first: u64, left: &Left) -> Result<bool, Fail> {
-    if holds(disk, first, &left.was, left.torn)? {
-        return Ok(true);
+pub fn is_left<D: Disk>(rt: &impl Abort, disk: &mut D, first: u64, left: &Left) -> bool {
+    if holds(rt, disk, first, &left.was, left.torn) {
+        return true;
     }
-    holds(disk, first, &left.becomes, left.torn)
+    holds(rt, disk, first, &left.becomes, left.torn)
 }

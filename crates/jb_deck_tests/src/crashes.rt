@@ -2,12 +2,12 @@
 //! leaves of it.
 
 use crate::frames::Frame;
-use crate::images::{BLOCKS, HOMES, MAGIC, Row, crashed, difference, fail_in, small};
+use crate::images::{BLOCKS, HOMES, MAGIC, Row, check_in, crashed, difference, small};
 use jb_deck::{Deck, OpenFault};
 use jb_disk::{Disk, FuseDisk, MemoryDisk, OneFaultDisk};
 use jb_recover::recover;
 use std::alloc::Global;
-use std::test::Fail;
+use std::process::Abort;
 
 /// What a crash leaves of the sectors that are pending, one digit for each: all are old, all new, old and new in
 /// turn, the first is new, or the last one of one block, of two or of three.
@@ -73,35 +73,36 @@ struct Wanted {
 }
 
 /// The frame of the small image with these rows and then those, whose log begins at this place.
-fn frame_of(alloc: Global, rows: &[Row], after: &[Row], first: u64) -> Result<Frame, Fail> {
-    Frame::of(alloc, &mut small(alloc, BLOCKS, rows, after)?, first)
+fn frame_of(rt: &impl Abort, alloc: Global, rows: &[Row], after: &[Row], first: u64) -> Frame {
+    Frame::of(rt, alloc, &mut small(rt, alloc, BLOCKS, rows, after), first)
 }
 
 /// What a crash may leave of a case.
-fn make_wanted(alloc: Global, of: &Case) -> Result<Wanted, Fail> {
+fn make_wanted(rt: &impl Abort, alloc: Global, of: &Case) -> Wanted {
     let (_, rows, after, first, _) = *of;
-    let whole = small(alloc, BLOCKS, rows, after)?;
-    let was = frame_of(alloc, rows, &[], first)?;
-    let becomes = frame_of(alloc, rows, after, first)?;
-    Ok(Wanted {
+    let whole = small(rt, alloc, BLOCKS, rows, after);
+    let was = frame_of(rt, alloc, rows, &[], first);
+    let becomes = frame_of(rt, alloc, rows, after, first);
+    Wanted {
         whole,
         was,
         becomes,
-    })
+    }
 }
 
 /// Whether what a crash left has the blocks before the log, recovers, and then is as wanted from a place on.
 fn mends(
+    rt: &impl Abort,
     alloc: Global,
     left: &mut MemoryDisk,
     wanted: &mut Wanted,
     from: u64,
-) -> Result<bool, Fail> {
-    let is_kept = wanted.was.is_kept(alloc, left)? || wanted.becomes.is_kept(alloc, left)?;
+) -> bool {
+    let is_kept = wanted.was.is_kept(rt, alloc, left) || wanted.becomes.is_kept(rt, alloc, left);
     if !is_kept || recover(alloc, left).is_err() {
-        return Ok(false);
+        return false;
     }
-    Ok(difference(left, &mut wanted.whole, from)?.is_none())
+    difference(rt, left, &mut wanted.whole, from).is_none()
 }
 
 /// The disk of a journal that was opened, or was not for this fault.
@@ -146,60 +147,73 @@ fn left_alone(alloc: Global, disk: MemoryDisk, call: u64) -> Tried<MemoryDisk> {
 /// Checks what each choice leaves of a case of which the call of this number failed: the homes, and where the journal
 /// was opened before, the whole image.
 fn check_left(
+    rt: &impl Abort,
     alloc: Global,
     of: &Case,
     wanted: &mut Wanted,
     call: u64,
     left: &Tried<MemoryDisk>,
-) -> Result<(), Fail> {
+) {
     let (row, _, _, _, calls) = *of;
     let (fault, from) = if call < calls {
         (Some(OpenFault::DeviceFault), HOMES)
     } else {
         (None, 0)
     };
-    if left.fault != fault {
-        return fail_in(row, "how opening it ends at call", call);
-    }
+    check_in(
+        rt,
+        left.fault == fault,
+        row,
+        "how opening it ends at call",
+        call,
+    );
     for choice in &CHOICES {
-        if !mends(alloc, &mut crashed(&left.disk, choice)?, wanted, from)? {
-            return fail_in(row, "what a crash leaves does not mend at call", call);
-        }
+        let is_mended = mends(
+            rt,
+            alloc,
+            &mut crashed(rt, &left.disk, choice),
+            wanted,
+            from,
+        );
+        check_in(
+            rt,
+            is_mended,
+            row,
+            "what a crash leaves does not mend at call",
+            call,
+        );
     }
-    Ok(())
 }
 
 /// Checks what is left of a case where the call of this number and all after it fail.
-fn check_rest(alloc: Global, of: &Case, wanted: &mut Wanted, call: u64) -> Result<(), Fail> {
-    let left = left_rest(alloc, small(alloc, BLOCKS, of.1, &[])?, call);
-    check_left(alloc, of, wanted, call, &left)
+fn check_rest(rt: &impl Abort, alloc: Global, of: &Case, wanted: &mut Wanted, call: u64) {
+    let left = left_rest(alloc, small(rt, alloc, BLOCKS, of.1, &[]), call);
+    check_left(rt, alloc, of, wanted, call, &left)
 }
 
 /// Checks what is left of a case where the call of this number alone fails.
-fn check_alone(alloc: Global, of: &Case, wanted: &mut Wanted, call: u64) -> Result<(), Fail> {
-    let left = left_alone(alloc, small(alloc, BLOCKS, of.1, &[])?, call);
-    check_left(alloc, of, wanted, call, &left)
+fn check_alone(rt: &impl Abort, alloc: Global, of: &Case, wanted: &mut Wanted, call: u64) {
+    let left = left_alone(alloc, small(rt, alloc, BLOCKS, of.1, &[]), call);
+    check_left(rt, alloc, of, wanted, call, &left)
 }
 
 /// Checks what is left of a case for the number of each call, and for the one after them.
-fn check_calls(alloc: Global, of: &Case, wanted: &mut Wanted) -> Result<(), Fail> {
+fn check_calls(rt: &impl Abort, alloc: Global, of: &Case, wanted: &mut Wanted) {
     for call in 0..=of.4 {
-        check_rest(alloc, of, wanted, call)?;
-        check_alone(alloc, of, wanted, call)?;
+        check_rest(rt, alloc, of, wanted, call);
+        check_alone(rt, alloc, of, wanted, call);
     }
-    Ok(())
 }
 
 /// Checks a case.
-fn check_case(alloc: Global, of: &Case) -> Result<(), Fail> {
-    let mut wanted = make_wanted(alloc, of)?;
-    check_calls(alloc, of, &mut wanted)
+fn check_case(rt: &impl Abort, alloc: Global, of: &Case) {
+    let mut wanted = make_wanted(rt, alloc, of);
+    check_calls(rt, alloc, of, &mut wanted)
 }
 
 #[test]
-fn every_call_may_fail_or_be_the_last(rt: HostRuntime) -> Result<(), Fail> {
+fn every_call_may_fail_or_be_the_last(rt: HostRuntime) {
     for case in &CASES {
-        check_case(rt.alloc(), case)?;
+        check_case(&rt, rt.alloc(), case);
     }
-    Ok(())
 }

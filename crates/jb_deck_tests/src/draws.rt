@@ -1,7 +1,7 @@
 //! Journals that are drawn at random, and calls of them.
 
 use crate::contents::{Left, fill};
-use crate::images::{Row, fail, put_rows, write_at, zeros};
+use crate::images::{Row, check, put_rows, write_at, zeros};
 use crate::lives::{Call, make_call};
 use crate::model::{Model, Touch};
 use jb_block::Width;
@@ -9,7 +9,7 @@ use jb_deck::Deck;
 use jb_disk::{Disk, MemoryDisk};
 use jb_front::format;
 use std::alloc::Global;
-use std::test::Fail;
+use std::process::Abort;
 
 /// A generator's state (Knuth's MMIX).
 #[derive(Drop)]
@@ -55,35 +55,38 @@ pub struct Image {
 
 /// A new journal of so many blocks, with a history of at most so many of them, and the 16 homes after it.
 pub fn formatted(
+    rt: &impl Abort,
     alloc: Global,
     maxlen: u32,
     most: u32,
     uuid: [u8; 16],
     width: Width,
-) -> Result<MemoryDisk, Fail> {
-    let mut disk = zeros(alloc, u64::from(maxlen).saturating_add(16))?;
-    if format(&mut disk, maxlen, most, uuid, width).is_err() {
-        return fail("it is not made");
-    }
-    Ok(disk)
+) -> MemoryDisk {
+    let mut disk = zeros(rt, alloc, u64::from(maxlen).saturating_add(16));
+    let is_made = format(&mut disk, maxlen, most, uuid, width).is_ok();
+    check(rt, is_made, "it is not made");
+    disk
 }
 
 /// Lets the log of a new journal begin after so many further blocks, and fills these, and block 0 after the
 /// superblock.
-fn put_gap(disk: &mut MemoryDisk, maxlen: u32, gap: u32) -> Result<(), Fail> {
-    put_rows(disk, &[(0, 0x10, [maxlen, gap.saturating_add(1), 1, 0])])?;
-    put_rows(disk, &AFTER)?;
+fn put_gap(rt: &impl Abort, disk: &mut MemoryDisk, maxlen: u32, gap: u32) {
+    put_rows(
+        rt,
+        disk,
+        &[(0, 0x10, [maxlen, gap.saturating_add(1), 1, 0])],
+    );
+    put_rows(rt, disk, &AFTER);
     let mut filled = [0; 1024];
     for place in 1..=gap {
         fill(&mut filled, place);
-        write_at(disk, u64::from(place), &filled)?;
+        write_at(rt, disk, u64::from(place), &filled);
     }
-    disk.sync()?;
-    Ok(())
+    disk.sync().expect(rt, "a sync");
 }
 
 /// A new journal of 9 to 42 blocks, up to two of them before the log, and the 16 homes after it.
-pub fn image_at_random(alloc: Global, seed: &mut Seed) -> Result<Image, Fail> {
+pub fn image_at_random(rt: &impl Abort, alloc: Global, seed: &mut Seed) -> Image {
     let gap = seed.below(3);
     let maxlen = seed.below(32).saturating_add(9).saturating_add(gap);
     let most = seed.below(maxlen);
@@ -92,10 +95,10 @@ pub fn image_at_random(alloc: Global, seed: &mut Seed) -> Result<Image, Fail> {
     } else {
         Width::Wide
     };
-    let mut disk = formatted(alloc, maxlen, most, [7; 16], width)?;
-    put_gap(&mut disk, maxlen, gap)?;
+    let mut disk = formatted(rt, alloc, maxlen, most, [7; 16], width);
+    put_gap(rt, &mut disk, maxlen, gap);
     let homes = u64::from(maxlen);
-    Ok(Image { disk, gap, homes })
+    Image { disk, gap, homes }
 }
 
 /// What a handle does to one of the first homes; the contents have a number that was not used before.
@@ -110,7 +113,13 @@ fn one_touch(seed: &mut Seed, next: &mut u32, homes: u32, handle: u32) -> Touch 
 }
 
 /// What so many handles do to homes, in the order of their stops, often to the same few.
-fn touches(alloc: Global, seed: &mut Seed, next: &mut u32, count: u32) -> Result<Vec<Touch>, Fail> {
+fn touches(
+    rt: &impl Abort,
+    alloc: Global,
+    seed: &mut Seed,
+    next: &mut u32,
+    count: u32,
+) -> Vec<Touch> {
     let homes = if seed.below(2) == 0 { 16 } else { 4 };
     let mut touches = Vec::new(alloc);
     let mut handle = 0;
@@ -118,22 +127,25 @@ fn touches(alloc: Global, seed: &mut Seed, next: &mut u32, count: u32) -> Result
         if seed.below(5) == 0 {
             handle = seed.below(count).max(handle);
         }
-        touches.push(one_touch(seed, next, homes, handle))?;
+        touches
+            .push(one_touch(seed, next, homes, handle))
+            .expect(rt, "memory");
     }
-    Ok(touches)
+    touches
 }
 
 /// Makes a call at random; after a fault, what a crash may leave.
 pub fn call_at_random<D: Disk>(
+    rt: &impl Abort,
     alloc: Global,
     seed: &mut Seed,
     next: &mut u32,
     deck: &mut Deck<D>,
     model: &mut Model,
     odds: Odds,
-) -> Result<Option<Left>, Fail> {
+) -> Option<Left> {
     let count = seed.below(5).saturating_add(1);
-    let list = touches(alloc, seed, next, count)?;
+    let list = touches(rt, alloc, seed, next, count);
     let drawn = seed.below(odds.calls);
     let call = if drawn < odds.checkpoints {
         Call::Checkpoint
@@ -143,5 +155,5 @@ pub fn call_at_random<D: Disk>(
         Call::Commit(count as usize, &list)
     };
     *next = next.wrapping_add(1);
-    make_call(alloc, deck, model, call)
+    make_call(rt, alloc, deck, model, call)
 }

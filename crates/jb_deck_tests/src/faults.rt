@@ -2,13 +2,13 @@
 
 use crate::cases::{called_with_fault, report};
 use crate::frames::Frame;
-use crate::images::{BLOCKS, HOMES, MAGIC, Row, crashed, difference, fail_in, small};
+use crate::images::{BLOCKS, HOMES, MAGIC, Row, check_in, check_none, crashed, difference, small};
 use crate::scripts::{Refusal, Step, opening};
 use jb_block::Width;
 use jb_disk::MemoryDisk;
 use jb_recover::recover;
 use std::alloc::Global;
-use std::test::Fail;
+use std::process::Abort;
 
 /// The sync that fails, by its number among the calls of the disk: opening the small image makes 34; then the
 /// superblock is read and written, and a revoke block, a descriptor and a copy are written.
@@ -92,70 +92,73 @@ static COMMIT: [Step; 1] = [Step::Refuses(
 )];
 
 /// Checks a row.
-fn check_row(alloc: Global, of: &Given) -> Result<(), Fail> {
-    let disk = called_with_fault(alloc, of.name, of.call, &COMMIT)?;
-    let mut left = crashed(&disk, of.choice)?;
-    check_mended(alloc, of, &mut left)?;
-    check_opened(alloc, of, left)
+fn check_row(rt: &impl Abort, alloc: Global, of: &Given) {
+    let disk = called_with_fault(rt, alloc, of.name, of.call, &COMMIT);
+    let mut left = crashed(rt, &disk, of.choice);
+    check_mended(rt, alloc, of, &mut left);
+    check_opened(rt, alloc, of, left)
 }
 
 /// Checks what is left of a row as it is recovered.
-fn check_mended(alloc: Global, of: &Given, left: &mut MemoryDisk) -> Result<(), Fail> {
-    let front = Frame::of(alloc, &mut small(alloc, BLOCKS, &[], &[])?, 1)?;
-    check_recovered(alloc, of, left, &front)
+fn check_mended(rt: &impl Abort, alloc: Global, of: &Given, left: &mut MemoryDisk) {
+    let front = Frame::of(rt, alloc, &mut small(rt, alloc, BLOCKS, &[], &[]), 1);
+    check_recovered(rt, alloc, of, left, &front)
 }
 
 /// Checks what recovery reports of what is left of a row, and that what stands before the log is kept, before and after.
 fn check_recovered(
+    rt: &impl Abort,
     alloc: Global,
     of: &Given,
     left: &mut MemoryDisk,
     front: &Frame,
-) -> Result<(), Fail> {
-    if !front.is_kept(alloc, left)? {
-        return fail_in(
-            of.name,
-            "what stands before the log has changed at call",
-            of.call,
-        );
-    }
-    if recover(alloc, left) != Ok(report(of.recovered)) {
-        return fail_in(of.name, "what recovery reports after call", of.call);
-    }
-    if !front.is_kept(alloc, left)? {
-        return fail_in(
-            of.name,
-            "recovery has changed what stands before the log after call",
-            of.call,
-        );
-    }
-    Ok(())
+) {
+    let (row, call) = (of.name, of.call);
+    let was_kept = front.is_kept(rt, alloc, left);
+    check_in(
+        rt,
+        was_kept,
+        row,
+        "what stands before the log has changed at call",
+        call,
+    );
+    let is_told = recover(alloc, left) == Ok(report(of.recovered));
+    check_in(rt, is_told, row, "what recovery reports after call", call);
+    let is_kept = front.is_kept(rt, alloc, left);
+    check_in(
+        rt,
+        is_kept,
+        row,
+        "recovery has changed what stands before the log after call",
+        call,
+    )
 }
 
 /// Checks what is left of a row once it is opened again.
-fn check_opened(alloc: Global, of: &Given, left: MemoryDisk) -> Result<(), Fail> {
-    let deck = opening(alloc, left)?;
+fn check_opened(rt: &impl Abort, alloc: Global, of: &Given, left: MemoryDisk) {
+    let deck = opening(rt, alloc, left);
     let number = deck.next_number();
     let mut disk = deck.close();
-    if number != of.recovered.3 {
-        return fail_in(of.name, "the next number", number);
-    }
-    check_block(alloc, of, &mut disk)
+    check_in(
+        rt,
+        number == of.recovered.3,
+        of.name,
+        "the next number",
+        number,
+    );
+    check_block(rt, alloc, of, &mut disk)
 }
 
 /// Checks the blocks of what is left of a row.
-fn check_block(alloc: Global, of: &Given, disk: &mut MemoryDisk) -> Result<(), Fail> {
-    let mut wanted = small(alloc, BLOCKS, of.rows, &[])?;
-    match difference(disk, &mut wanted, of.from)? {
-        Some(place) => fail_in(of.name, "block", place),
-        None => Ok(()),
-    }
+fn check_block(rt: &impl Abort, alloc: Global, of: &Given, disk: &mut MemoryDisk) {
+    let mut wanted = small(rt, alloc, BLOCKS, of.rows, &[]);
+    let place = difference(rt, disk, &mut wanted, of.from);
+    check_none(rt, of.name, "block", place)
 }
 
 #[test]
-fn syncs_that_fail_leave_what_is_worked_out_by_hand(rt: HostRuntime) -> Result<(), Fail> {
+fn syncs_that_fail_leave_what_is_worked_out_by_hand(rt: HostRuntime) {
     for row in &ROWS {
-        check_row(rt.alloc(), row)?;
+        check_row(&rt, rt.alloc(), row);
     }
-    Ok(())
 }

@@ -2,12 +2,12 @@
 //! there, and the blocks before the log. All blocks after the journal are homes on a disk as small as these.
 
 use crate::contents::{Left, is_left};
-use crate::images::read_at;
+use crate::images::{check_at, read_at};
 use jb_block::put64;
 use jb_disk::{Disk, MemoryDisk};
 use jb_recover::recover;
 use std::alloc::Global;
-use std::test::Fail;
+use std::process::Abort;
 
 /// Where a superblock has the number of the first transaction and the place at which the log begins
 /// (`s_sequence`, `s_start`), four bytes each.
@@ -22,22 +22,22 @@ pub struct Frame {
 
 impl Frame {
     /// That of a disk whose log begins at this place (`s_first`).
-    pub fn of<D: Disk>(alloc: Global, disk: &mut D, first: u64) -> Result<Frame, Fail> {
+    pub fn of<D: Disk>(rt: &impl Abort, alloc: Global, disk: &mut D, first: u64) -> Frame {
         let mut bytes = Vec::new(alloc);
         let mut block = [0; 1024];
         for place in 0..first {
-            read_at(disk, place, &mut block)?;
+            read_at(rt, disk, place, &mut block);
             if place == 0 {
                 put64(&mut block, MOVES, 0);
             }
-            bytes.extend_from_slice(&block)?;
+            bytes.extend_from_slice(&block).expect(rt, "memory");
         }
-        Ok(Frame { first, bytes })
+        Frame { first, bytes }
     }
 
     /// Whether a disk has it still.
-    pub fn is_kept<D: Disk>(&self, alloc: Global, disk: &mut D) -> Result<bool, Fail> {
-        Ok(Frame::of(alloc, disk, self.first)?.bytes == self.bytes)
+    pub fn is_kept<D: Disk>(&self, rt: &impl Abort, alloc: Global, disk: &mut D) -> bool {
+        Frame::of(rt, alloc, disk, self.first).bytes == self.bytes
     }
 }
 
@@ -49,25 +49,33 @@ pub struct Wanted {
 }
 
 impl Wanted {
-    /// What is wrong with what a crash left, before it is recovered and after; its homes begin at this place.
-    pub fn first_wrong(
+    /// Recovers what a crash left, whose homes begin at this place: what stands before the log is kept, then too, and the
+    /// homes may be left. `at` is which of the test's images it is.
+    pub fn mend(
         &self,
+        rt: &impl Abort,
         alloc: Global,
-        found: &mut MemoryDisk,
+        image: &mut MemoryDisk,
         homes: u64,
-    ) -> Result<Option<&'static str>, Fail> {
-        if !self.frame.is_kept(alloc, found)? {
-            return Ok(Some("what stands before the log has changed"));
-        }
-        if recover(alloc, found).is_err() {
-            return Ok(Some("it is not recovered"));
-        }
-        if !self.frame.is_kept(alloc, found)? {
-            return Ok(Some("recovery has changed what stands before the log"));
-        }
-        if !is_left(found, homes, &self.left)? {
-            return Ok(Some("the homes are none that may be left"));
-        }
-        Ok(None)
+        at: u64,
+    ) {
+        let was_kept = self.frame.is_kept(rt, alloc, image);
+        check_at(
+            rt,
+            was_kept,
+            "what stands before the log has changed in",
+            at,
+        );
+        let is_recovered = recover(alloc, image).is_ok();
+        check_at(rt, is_recovered, "it is not recovered in", at);
+        let is_kept = self.frame.is_kept(rt, alloc, image);
+        check_at(
+            rt,
+            is_kept,
+            "recovery has changed what stands before the log in",
+            at,
+        );
+        let is_left = is_left(rt, image, homes, &self.left);
+        check_at(rt, is_left, "the homes are none that may be left in", at)
     }
 }

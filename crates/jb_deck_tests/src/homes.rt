@@ -4,7 +4,6 @@ use crate::cases::{Case, check_cases};
 use crate::images::{BLOCKS, HOMES, MAGIC};
 use crate::scripts::Step;
 use jb_deck::FreeFault;
-use std::test::Fail;
 
 /// The bytes that a script writes to a free home.
 const SEVENS: [u32; 4] = [0x7777_7777, 0x7777_7777, 0x7777_7777, 0x7777_7777];
@@ -125,11 +124,11 @@ static FREES: [Case; 3] = [
 ];
 
 #[test]
-fn copies_go_home_as_worked_by_hand(rt: HostRuntime) -> Result<(), Fail> {
-    check_cases(rt.alloc(), &COPIES)
+fn copies_go_home_as_worked_by_hand(rt: HostRuntime) {
+    check_cases(&rt, rt.alloc(), &COPIES)
 }
 
 #[test]
-fn homes_are_freed_as_worked_by_hand(rt: HostRuntime) -> Result<(), Fail> {
-    check_cases(rt.alloc(), &FREES)
+fn homes_are_freed_as_worked_by_hand(rt: HostRuntime) {
+    check_cases(&rt, rt.alloc(), &FREES)
 }

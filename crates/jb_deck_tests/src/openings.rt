@@ -1,13 +1,13 @@
 //! Journals that are opened, and that are refused.
 
-use crate::images::{BLOCKS, MAGIC, Row, check_same, fail_in, small};
+use crate::images::{BLOCKS, MAGIC, Row, check_in, check_none, difference, small};
 use crate::scripts::opened;
 use jb_block::{BlockSize, Width};
 use jb_deck::{CheckpointFault, Deck, FreeFault, OpenFault};
 use jb_disk::{Disk, MemoryDisk};
 use jb_super::SuperFault;
 use std::alloc::Global;
-use std::test::Fail;
+use std::process::Abort;
 
 const ZEROS: [u32; 4] = [0, 0, 0, 0];
 
@@ -199,46 +199,48 @@ fn is_idle(deck: &mut Deck<MemoryDisk>) -> bool {
 
 /// The disk of a journal that is opened, says this of itself, and is closed.
 pub fn closed(
+    rt: &impl Abort,
     alloc: Global,
     row: &'static str,
     disk: MemoryDisk,
     told: Told,
-) -> Result<MemoryDisk, Fail> {
-    let Some(mut deck) = opened(alloc, disk) else {
-        return fail_in(row, "it is not opened", 0);
-    };
-    if is_new(&mut deck, told) {
-        Ok(deck.close())
-    } else {
-        fail_in(row, "what it says of itself", 0)
-    }
+) -> MemoryDisk {
+    let mut deck = opened(alloc, disk).expect(rt, row);
+    check_in(
+        rt,
+        is_new(&mut deck, told),
+        row,
+        "what it says of itself",
+        0,
+    );
+    deck.close()
 }
 
 /// Checks that the disk of a row is the small image with these rows and then those.
 fn check_blocks(
+    rt: &impl Abort,
     alloc: Global,
     row: &'static str,
     disk: &mut MemoryDisk,
     rows: &[Row],
     after: &[Row],
-) -> Result<(), Fail> {
-    let mut wanted = small(alloc, disk.blocks(), rows, after)?;
-    check_same(row, disk, &mut wanted)
+) {
+    let mut wanted = small(rt, alloc, disk.blocks(), rows, after);
+    check_none(rt, row, "block", difference(rt, disk, &mut wanted, 0))
 }
 
 /// Checks the journal of an image, and what opening it changes.
-fn check_opened(alloc: Global, of: &Opened) -> Result<(), Fail> {
+fn check_opened(rt: &impl Abort, alloc: Global, of: &Opened) {
     let (row, rows, told, after) = *of;
-    let mut disk = closed(alloc, row, small(alloc, BLOCKS, rows, &[])?, told)?;
-    check_blocks(alloc, row, &mut disk, rows, after)
+    let mut disk = closed(rt, alloc, row, small(rt, alloc, BLOCKS, rows, &[]), told);
+    check_blocks(rt, alloc, row, &mut disk, rows, after)
 }
 
 #[test]
-fn journals_are_opened_as_worked_by_hand(rt: HostRuntime) -> Result<(), Fail> {
+fn journals_are_opened_as_worked_by_hand(rt: HostRuntime) {
     for row in &OPENED {
-        check_opened(rt.alloc(), row)?;
+        check_opened(&rt, rt.alloc(), row);
     }
-    Ok(())
 }
 
 /// The disk of a journal that is refused, and why.
@@ -248,32 +250,27 @@ fn refusal(alloc: Global, disk: MemoryDisk) -> Option<(MemoryDisk, OpenFault)> {
 
 /// The disk of a journal that is refused for this fault.
 pub fn refused(
+    rt: &impl Abort,
     alloc: Global,
     row: &'static str,
     disk: MemoryDisk,
     fault: OpenFault,
-) -> Result<MemoryDisk, Fail> {
-    let Some((disk, told)) = refusal(alloc, disk) else {
-        return fail_in(row, "it is opened", 0);
-    };
-    if told == fault {
-        Ok(disk)
-    } else {
-        fail_in(row, "the refusal", 0)
-    }
+) -> MemoryDisk {
+    let (disk, told) = refusal(alloc, disk).expect(rt, row);
+    check_in(rt, told == fault, row, "the refusal", 0);
+    disk
 }
 
 /// Checks that a journal is refused, and stays as it was.
-fn check_refused(alloc: Global, of: &Refused) -> Result<(), Fail> {
+fn check_refused(rt: &impl Abort, alloc: Global, of: &Refused) {
     let (row, blocks, rows, fault) = *of;
-    let mut disk = refused(alloc, row, small(alloc, blocks, rows, &[])?, fault)?;
-    check_blocks(alloc, row, &mut disk, rows, &[])
+    let mut disk = refused(rt, alloc, row, small(rt, alloc, blocks, rows, &[]), fault);
+    check_blocks(rt, alloc, row, &mut disk, rows, &[])
 }
 
 #[test]
-fn journals_are_refused_and_stay(rt: HostRuntime) -> Result<(), Fail> {
+fn journals_are_refused_and_stay(rt: HostRuntime) {
     for row in &REFUSED {
-        check_refused(rt.alloc(), row)?;
+        check_refused(&rt, rt.alloc(), row);
     }
-    Ok(())
 }

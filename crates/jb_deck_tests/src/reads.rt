@@ -2,7 +2,7 @@
 
 use crate::contents::fill;
 use crate::draws::{Odds, Seed, call_at_random, image_at_random};
-use crate::images::{BLOCKS, HOMES, Row, fail, fail_at, small};
+use crate::images::{BLOCKS, HOMES, Row, check, check_at, small};
 use crate::lives::{Call, make_call};
 use crate::model::{Homes, Model};
 use crate::scripts::{Refusal, Step, check_steps, opening};
@@ -11,7 +11,7 @@ use jb_block::Width;
 use jb_deck::{Deck, ReadHomeFault};
 use jb_disk::{Disk, FuseDisk, OneFaultDisk};
 use std::alloc::Global;
-use std::test::Fail;
+use std::process::Abort;
 
 /// How many journals are called at random, and how often each.
 const JOURNALS: u32 = 40;
@@ -41,77 +41,78 @@ fn reads_as<D: Disk>(deck: &mut Deck<D>, homes: &Homes) -> bool {
 
 /// All homes of a journal are read as the model has them after each of these calls at random.
 fn read_at_random<D: Disk>(
+    rt: &impl Abort,
     alloc: Global,
     seed: &mut Seed,
     next: &mut u32,
     deck: &mut Deck<D>,
     model: &mut Model,
     journal: u32,
-) -> Result<(), Fail> {
+) {
     for _ in 0..CALLS {
-        let ended = call_at_random(alloc, seed, next, deck, model, ODDS)?;
-        if ended.is_some() || !reads_as(deck, &model.standing()) {
-            return fail_at(
-                "a home after a call at random of journal",
-                u64::from(journal),
-            );
-        }
+        let ended = call_at_random(rt, alloc, seed, next, deck, model, ODDS);
+        let is_read = ended.is_none() && reads_as(deck, &model.standing());
+        check_at(
+            rt,
+            is_read,
+            "a home after a call at random of journal",
+            u64::from(journal),
+        );
     }
-    Ok(())
 }
 
 /// So are those of a journal at random.
-fn read_one(alloc: Global, seed: &mut Seed, next: &mut u32, journal: u32) -> Result<(), Fail> {
-    let image = image_at_random(alloc, seed)?;
-    let mut deck = opening(alloc, image.disk)?;
+fn read_one(rt: &impl Abort, alloc: Global, seed: &mut Seed, next: &mut u32, journal: u32) {
+    let image = image_at_random(rt, alloc, seed);
+    let mut deck = opening(rt, alloc, image.disk);
     let mut model = Model::new(alloc, [0; 16], u64::from(deck.usable()));
-    read_at_random(alloc, seed, next, &mut deck, &mut model, journal)
+    read_at_random(rt, alloc, seed, next, &mut deck, &mut model, journal)
 }
 
 /// So are those of each journal at random.
-fn read_each(alloc: Global) -> Result<(), Fail> {
+fn read_each(rt: &impl Abort, alloc: Global) {
     let (mut seed, mut next) = (Seed { state: 5 }, 1);
     for journal in 0..JOURNALS {
-        read_one(alloc, &mut seed, &mut next, journal)?;
+        read_one(rt, alloc, &mut seed, &mut next, journal);
     }
-    Ok(())
 }
 
 /// Whether a call meets no fault, and each home is then read as the model has it.
 fn reads_after<D: Disk>(
+    rt: &impl Abort,
     alloc: Global,
     deck: &mut Deck<D>,
     model: &mut Model,
     call: Call<'_>,
-) -> Result<bool, Fail> {
-    let met = make_call(alloc, deck, model, call)?;
-    Ok(met.is_none() && reads_as(deck, &model.standing()))
+) -> bool {
+    let met = make_call(rt, alloc, deck, model, call);
+    met.is_none() && reads_as(deck, &model.standing())
 }
 
 /// All homes are read as the model has them before the script, and after each of its calls.
-fn read_beside<D: Disk>(alloc: Global, deck: &mut Deck<D>, model: &mut Model) -> Result<(), Fail> {
-    if !reads_as(deck, &model.standing()) {
-        return fail("a home before the script");
-    }
+fn read_beside<D: Disk>(rt: &impl Abort, alloc: Global, deck: &mut Deck<D>, model: &mut Model) {
+    check(
+        rt,
+        reads_as(deck, &model.standing()),
+        "a home before the script",
+    );
     for (i, call) in SCRIPT.iter().enumerate() {
-        if !reads_after(alloc, deck, model, *call)? {
-            return fail_at("a home after the script's call", i as u64);
-        }
+        let is_read = reads_after(rt, alloc, deck, model, *call);
+        check_at(rt, is_read, "a home after the script's call", i as u64);
     }
-    Ok(())
 }
 
 /// The script is called on the image before it, and all homes are read.
-fn read_script(alloc: Global) -> Result<(), Fail> {
-    let mut deck = opening(alloc, before(alloc)?)?;
+fn read_script(rt: &impl Abort, alloc: Global) {
+    let mut deck = opening(rt, alloc, before(rt, alloc));
     let mut model = Model::new(alloc, [0; 16], u64::from(deck.usable()));
-    read_beside(alloc, &mut deck, &mut model)
+    read_beside(rt, alloc, &mut deck, &mut model)
 }
 
 #[test]
-fn every_home_is_read_as_it_stands_after_every_call(rt: HostRuntime) -> Result<(), Fail> {
-    read_script(rt.alloc())?;
-    read_each(rt.alloc())
+fn every_home_is_read_as_it_stands_after_every_call(rt: HostRuntime) {
+    read_script(&rt, rt.alloc());
+    read_each(&rt, rt.alloc())
 }
 
 /// A name, a home, how long the buffer is, and the answer, on the small image with sixteen homes.
@@ -146,58 +147,50 @@ static FIVE: [Row; 1] = [(HOMES + 5, 0, [5, 5, 5, 5])];
 
 /// How a read of so many bytes ends.
 fn read_into<D: Disk>(
+    rt: &impl Abort,
     alloc: Global,
     deck: &mut Deck<D>,
     home: u64,
     len: usize,
-) -> Result<Result<(), ReadHomeFault>, Fail> {
-    let mut bytes = vec![in alloc; 3; len]?;
-    Ok(deck.read_home(home, &mut bytes))
+) -> Result<(), ReadHomeFault> {
+    let mut bytes = vec![in alloc; 3; len].expect(rt, "memory");
+    deck.read_home(home, &mut bytes)
 }
 
-/// What is wrong with two reads of home 5, of which the first meets a fault: the journal has not failed, and the second
-/// one has its bytes.
-fn wrong_twice<D: Disk>(deck: &mut Deck<D>) -> Option<&'static str> {
+/// Two reads of home 5, of which the first meets a fault: the journal has not failed, and the second one has its bytes.
+fn read_twice<D: Disk>(rt: &impl Abort, deck: &mut Deck<D>) {
     let mut block = [0; 1024];
     let first = deck.read_home(5, &mut block);
-    let is_aborted = deck.aborted();
+    check(
+        rt,
+        first == Err(ReadHomeFault::DeviceFault),
+        "the read that meets a fault",
+    );
+    check(rt, !deck.aborted(), "the journal fails by a read");
     let second = deck.read_home(5, &mut block);
-    if first != Err(ReadHomeFault::DeviceFault) {
-        Some("the read that meets a fault")
-    } else if is_aborted {
-        Some("the journal fails by a read")
-    } else if second != Ok(()) || !block.starts_with(&[0, 0, 0, 5, 0, 0, 0, 5]) {
-        Some("the read after a fault")
-    } else {
-        None
-    }
+    let has_bytes = block.starts_with(&[0, 0, 0, 5, 0, 0, 0, 5]);
+    check(rt, second == Ok(()) && has_bytes, "the read after a fault")
 }
 
 /// Each of these reads is refused so; then home 5 is read twice.
-fn refuse_each<D: Disk>(alloc: Global, deck: &mut Deck<D>) -> Result<(), Fail> {
+fn refuse_each<D: Disk>(rt: &impl Abort, alloc: Global, deck: &mut Deck<D>) {
     for (row, home, len, fault) in &REFUSALS {
-        if read_into(alloc, deck, *home, *len)? != Err(*fault) {
-            return fail(row);
-        }
+        let told = read_into(rt, alloc, deck, *home, *len);
+        check(rt, told == Err(*fault), row);
     }
-    match wrong_twice(deck) {
-        Some(wrong) => fail(wrong),
-        None => Ok(()),
-    }
+    read_twice(rt, deck)
 }
 
 /// The reads of a journal on this disk.
-fn refuse_on<D: Disk + Drop>(alloc: Global, disk: D) -> Result<(), Fail> {
-    let mut deck = opening(alloc, disk)?;
-    refuse_each(alloc, &mut deck)
+fn refuse_on<D: Disk + Drop>(rt: &impl Abort, alloc: Global, disk: D) {
+    let mut deck = opening(rt, alloc, disk);
+    refuse_each(rt, alloc, &mut deck)
 }
 
 #[test]
-fn a_read_is_refused_in_order_and_a_fault_of_it_is_not_the_journals(
-    rt: HostRuntime,
-) -> Result<(), Fail> {
-    let disk = small(rt.alloc(), BLOCKS, &FIVE, &[])?;
-    refuse_on(rt.alloc(), OneFaultDisk::of(disk, OPENED))
+fn a_read_is_refused_in_order_and_a_fault_of_it_is_not_the_journals(rt: HostRuntime) {
+    let disk = small(&rt, rt.alloc(), BLOCKS, &FIVE, &[]);
+    refuse_on(&rt, rt.alloc(), OneFaultDisk::of(disk, OPENED))
 }
 
 /// A commit that fails. A checkpoint with nothing live makes no call of the disk, a commit does.
@@ -209,22 +202,24 @@ static FAILS: [Step; 1] = [Step::Refuses(
 )];
 
 /// A commit fails, and then a read.
-fn fail_then_read<D: Disk>(alloc: Global, deck: &mut Deck<D>) -> Result<(), Fail> {
-    check_steps(alloc, "a journal that fails", deck, &FAILS)?;
-    if deck.read_home(16, &mut [0; 1024]) != Err(ReadHomeFault::Aborted) {
-        return fail("the read of a journal that failed");
-    }
-    Ok(())
+fn fail_then_read<D: Disk>(rt: &impl Abort, alloc: Global, deck: &mut Deck<D>) {
+    check_steps(rt, alloc, "a journal that fails", deck, &FAILS);
+    let told = deck.read_home(16, &mut [0; 1024]);
+    check(
+        rt,
+        told == Err(ReadHomeFault::Aborted),
+        "the read of a journal that failed",
+    )
 }
 
 /// The same of a journal on this disk.
-fn fail_on<D: Disk + Drop>(alloc: Global, disk: D) -> Result<(), Fail> {
-    let mut deck = opening(alloc, disk)?;
-    fail_then_read(alloc, &mut deck)
+fn fail_on<D: Disk + Drop>(rt: &impl Abort, alloc: Global, disk: D) {
+    let mut deck = opening(rt, alloc, disk);
+    fail_then_read(rt, alloc, &mut deck)
 }
 
 #[test]
-fn a_journal_that_failed_refuses_each_read(rt: HostRuntime) -> Result<(), Fail> {
-    let disk = small(rt.alloc(), BLOCKS, &FIVE, &[])?;
-    fail_on(rt.alloc(), FuseDisk::of(disk, OPENED))
+fn a_journal_that_failed_refuses_each_read(rt: HostRuntime) {
+    let disk = small(&rt, rt.alloc(), BLOCKS, &FIVE, &[]);
+    fail_on(&rt, rt.alloc(), FuseDisk::of(disk, OPENED))
 }

@@ -3,7 +3,6 @@
 use crate::cases::{Case, check_cases};
 use crate::images::{BLOCKS, HOMES, Row};
 use crate::scripts::Step;
-use std::test::Fail;
 
 /// A handle of six copies, which takes eight log blocks.
 pub const SIX: &str = "h w0=0a w1=0b w2=0c w3=0d w4=0e w5=0f\n";
@@ -206,11 +205,11 @@ static ROUNDS: [Case; 2] = [
 ];
 
 #[test]
-fn batches_fill_the_log_as_worked_by_hand(rt: HostRuntime) -> Result<(), Fail> {
-    check_cases(rt.alloc(), &FILLS)
+fn batches_fill_the_log_as_worked_by_hand(rt: HostRuntime) {
+    check_cases(&rt, rt.alloc(), &FILLS)
 }
 
 #[test]
-fn batches_go_round_the_log_as_worked_by_hand(rt: HostRuntime) -> Result<(), Fail> {
-    check_cases(rt.alloc(), &ROUNDS)
+fn batches_go_round_the_log_as_worked_by_hand(rt: HostRuntime) {
+    check_cases(&rt, rt.alloc(), &ROUNDS)
 }

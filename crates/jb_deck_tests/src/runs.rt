@@ -2,7 +2,7 @@
 
 use crate::contents::{Left, only};
 use crate::frames::{Frame, Wanted};
-use crate::images::fail;
+use crate::images::{check, fail};
 use crate::lives::{Call, make_call};
 use crate::model::Model;
 use crate::scripts::{Refusal, Step, check_steps};
@@ -10,7 +10,7 @@ use jb_block::Width;
 use jb_deck::{CheckpointFault, Deck, FreeFault, OpenFault};
 use jb_disk::{Disk, FuseDisk, MemoryDisk, OneFaultDisk};
 use std::alloc::Global;
-use std::test::Fail;
+use std::process::Abort;
 
 /// A disk, and whether what was run on it ended before the disk failed.
 #[derive(Drop)]
@@ -27,50 +27,51 @@ static ABORTED: [Step; 3] = [
 ];
 
 /// A journal that is aborted refuses each call.
-fn refuse_each<D: Disk>(alloc: Global, deck: &mut Deck<D>) -> Result<(), Fail> {
-    if !deck.aborted() || deck.checkpoint_one() != Err(CheckpointFault::Aborted) {
-        return fail("it is not aborted");
-    }
-    check_steps(alloc, "a journal that is aborted", deck, &ABORTED)
+fn refuse_each<D: Disk>(rt: &impl Abort, alloc: Global, deck: &mut Deck<D>) {
+    let is_aborted = deck.aborted() && deck.checkpoint_one() == Err(CheckpointFault::Aborted);
+    check(rt, is_aborted, "it is not aborted");
+    check_steps(rt, alloc, "a journal that is aborted", deck, &ABORTED)
 }
 
 /// Runs a script on a disk up to its first fault. `left` is what a crash may leave, before and after.
 fn run<D: Disk + Drop>(
+    rt: &impl Abort,
     alloc: Global,
     disk: D,
     script: &[Call<'_>],
     left: &mut Left,
-) -> Result<Ran<D>, Fail> {
+) -> Ran<D> {
     let mut deck = match Deck::open(alloc, disk) {
         Ok(deck) => deck,
         Err((disk, OpenFault::DeviceFault)) => {
-            return Ok(Ran { disk, ended: false });
+            return Ran { disk, ended: false };
         }
-        Err(_) => return fail("it is not opened"),
+        Err(_) => return fail(rt, "it is not opened"),
     };
     let mut model = Model::new(alloc, left.was, u64::from(deck.usable()));
-    let ended = run_with(alloc, &mut deck, &mut model, script, left)?;
+    let ended = run_with(rt, alloc, &mut deck, &mut model, script, left);
     let disk = deck.close();
-    Ok(Ran { disk, ended })
+    Ran { disk, ended }
 }
 
 /// Calls a journal by a script up to its first fault, after which it refuses each call; whether it met none.
 fn run_with<D: Disk>(
+    rt: &impl Abort,
     alloc: Global,
     deck: &mut Deck<D>,
     model: &mut Model,
     script: &[Call<'_>],
     left: &mut Left,
-) -> Result<bool, Fail> {
+) -> bool {
     for next in script {
-        if let Some(met) = make_call(alloc, deck, model, *next)? {
+        if let Some(met) = make_call(rt, alloc, deck, model, *next) {
             *left = met;
-            refuse_each(alloc, deck)?;
-            return Ok(false);
+            refuse_each(rt, alloc, deck);
+            return false;
         }
     }
     *left = only(model.standing());
-    Ok(true)
+    true
 }
 
 /// A script that is run on a disk that fails: the disk, what a crash may leave of it, and whether it met no fault.
@@ -83,34 +84,42 @@ pub struct Stop {
 
 /// Runs a script on a disk whose log begins at block 1, whose homes are zeros, and which makes so many calls.
 pub fn run_to(
+    rt: &impl Abort,
     alloc: Global,
     before: MemoryDisk,
     calls: u64,
     script: &[Call<'_>],
-) -> Result<Stop, Fail> {
+) -> Stop {
     let mut disk = before;
-    let frame = Frame::of(alloc, &mut disk, 1)?;
+    let frame = Frame::of(rt, alloc, &mut disk, 1);
     let left = only([0; 16]);
     let mut wanted = Wanted { left, frame };
-    let ran = run(alloc, FuseDisk::of(disk, calls), script, &mut wanted.left)?;
-    Ok(Stop {
+    let ran = run(
+        rt,
+        alloc,
+        FuseDisk::of(disk, calls),
+        script,
+        &mut wanted.left,
+    );
+    Stop {
         disk: ran.disk.into_inner(),
         wanted,
         ended: ran.ended,
-    })
+    }
 }
 
 /// Runs a script on a disk that fails one call: the disk, and whether it met none.
 pub fn run_over(
+    rt: &impl Abort,
     alloc: Global,
     before: MemoryDisk,
     call: u64,
     script: &[Call<'_>],
-) -> Result<Ran<MemoryDisk>, Fail> {
+) -> Ran<MemoryDisk> {
     let mut left = only([0; 16]);
-    let ran = run(alloc, OneFaultDisk::of(before, call), script, &mut left)?;
-    Ok(Ran {
+    let ran = run(rt, alloc, OneFaultDisk::of(before, call), script, &mut left);
+    Ran {
         disk: ran.disk.into_inner(),
         ended: ran.ended,
-    })
+    }
 }

@@ -1,7 +1,7 @@
 //! Calls of a journal, with the answers that are worked out by hand.
 
 use crate::groups::STAMP;
-use crate::images::{fail, fail_in, put_words};
+use crate::images::{check_in, put_words};
 use jb_block::{BlockSize, Width};
 use jb_deck::{
     Batch, BatchFault, Checked, CheckpointFault, Deck, Done, Entry, FreeFault, Prepared, is_batch,
@@ -11,7 +11,7 @@ use jb_disk::Disk;
 use jb_handle::{Shape, Stopped, Word};
 use jb_queue::read_queue;
 use std::alloc::Global;
-use std::test::Fail;
+use std::process::Abort;
 
 /// A shape that a batch is made for: how many homes, which limit, and how wide block numbers are.
 pub type Made = (u64, u32, Width);
@@ -59,31 +59,33 @@ pub enum Refusal {
 pub type Kept = (u64, Shape, usize, usize, u64);
 
 /// The handles of these lines, with tickets from `first` on.
-pub fn handles_of(alloc: Global, lines: &str, first: u64) -> Result<Vec<Stopped>, Fail> {
-    let mut text = b"bs 1024\nlimit 8\n".to_vec(alloc)?;
-    text.extend_from_slice(lines.as_bytes())?;
-    let mut handles = read_queue(alloc, &text)?.handles;
+pub fn handles_of(rt: &impl Abort, alloc: Global, lines: &str, first: u64) -> Vec<Stopped> {
+    let mut text = b"bs 1024\nlimit 8\n".to_vec(alloc).expect(rt, "memory");
+    text.extend_from_slice(lines.as_bytes())
+        .expect(rt, "memory");
+    let mut handles = read_queue(alloc, &text).expect(rt, "a queue").handles;
     for handle in &mut handles {
         handle.ticket = handle.ticket.saturating_add(first);
     }
-    Ok(handles)
+    handles
 }
 
 /// These handles as a batch with its plan, or none where they are no batch or none fits.
 pub fn prepared(
+    rt: &impl Abort,
     alloc: Global,
     first: u64,
     handles: Vec<Stopped>,
     shape: Shape,
-) -> Result<Option<Prepared>, Fail> {
+) -> Option<Prepared> {
     if !is_batch(first, &handles, shape) {
-        return Ok(None);
+        return None;
     }
     match prepare(alloc, Batch::of(first, handles, shape)) {
-        Ok(prepared) => Ok(Some(prepared)),
+        Ok(prepared) => Some(prepared),
         Err((batch, _)) => {
             let _handles = batch.end();
-            Ok(None)
+            None
         }
     }
 }
@@ -126,11 +128,8 @@ pub fn opened<D: Disk + Drop>(alloc: Global, disk: D) -> Option<Deck<D>> {
 }
 
 /// The journal on a disk.
-pub fn opening<D: Disk + Drop>(alloc: Global, disk: D) -> Result<Deck<D>, Fail> {
-    match opened(alloc, disk) {
-        Some(deck) => Ok(deck),
-        None => fail("it is not opened"),
-    }
+pub fn opening<D: Disk + Drop>(rt: &impl Abort, alloc: Global, disk: D) -> Deck<D> {
+    opened(alloc, disk).expect(rt, "it is not opened")
 }
 
 /// The ticket of the next handle.
@@ -153,62 +152,66 @@ fn are(entries: &[Entry], told: &[Told]) -> bool {
 
 /// The groups of these handles, or none where no cut fits or the batch is refused.
 pub fn settle<D: Disk>(
+    rt: &impl Abort,
     alloc: Global,
     deck: &mut Deck<D>,
     handles: Vec<Stopped>,
-) -> Result<Option<Done>, Fail> {
-    let Some(batch) = prepared(alloc, next_ticket(deck), handles, deck.shape())? else {
-        return Ok(None);
+) -> Option<Done> {
+    let Some(batch) = prepared(rt, alloc, next_ticket(deck), handles, deck.shape()) else {
+        return None;
     };
     match deck.commit_batch(batch, STAMP) {
-        Ok(done) => Ok(Some(done)),
+        Ok(done) => Some(done),
         Err(fault) => {
             let _told = refused(fault);
-            Ok(None)
+            None
         }
     }
 }
 
 /// Whether the groups of these handles are these.
 pub fn settles<D: Disk>(
+    rt: &impl Abort,
     alloc: Global,
     deck: &mut Deck<D>,
     handles: Vec<Stopped>,
     entries: &[Told],
-) -> Result<bool, Fail> {
+) -> bool {
     let first = next_ticket(deck);
-    match settle(alloc, deck, handles)? {
-        Some(done) => Ok(done.first() == first && are(done.entries(), entries)),
-        None => Ok(false),
+    match settle(rt, alloc, deck, handles) {
+        Some(done) => done.first() == first && are(done.entries(), entries),
+        None => false,
     }
 }
 
 /// Whether the groups of the handles of these lines are these.
 fn commits<D: Disk>(
+    rt: &impl Abort,
     alloc: Global,
     deck: &mut Deck<D>,
     lines: &str,
     entries: &[Told],
-) -> Result<bool, Fail> {
-    let handles = handles_of(alloc, lines, next_ticket(deck))?;
-    settles(alloc, deck, handles, entries)
+) -> bool {
+    let handles = handles_of(rt, alloc, lines, next_ticket(deck));
+    settles(rt, alloc, deck, handles, entries)
 }
 
 /// Whether so many bytes that are written to a home are answered so.
 fn writes<D: Disk>(
+    rt: &impl Abort,
     alloc: Global,
     deck: &mut Deck<D>,
     home: u64,
     len: usize,
     answer: Result<(), FreeFault>,
-) -> Result<bool, Fail> {
-    let mut bytes = vec![in alloc; 0; len]?;
+) -> bool {
+    let mut bytes = vec![in alloc; 0; len].expect(rt, "memory");
     put_words(
         &mut bytes,
         0,
         &[0x7777_7777, 0x7777_7777, 0x7777_7777, 0x7777_7777],
     );
-    Ok(deck.write_free(home, &bytes) == answer)
+    deck.write_free(home, &bytes) == answer
 }
 
 /// Whether a batch is refused so, and handed back as it was where it is not lost.
@@ -225,16 +228,17 @@ fn is_refused<D: Disk>(deck: &mut Deck<D>, batch: Prepared, why: Refusal) -> boo
 
 /// Whether a batch for this shape is refused so, and handed back as it was where it is not lost.
 pub fn refuses<D: Disk>(
+    rt: &impl Abort,
     alloc: Global,
     deck: &mut Deck<D>,
     first: u64,
     made: Made,
     lines: &str,
     why: Refusal,
-) -> Result<bool, Fail> {
+) -> bool {
     let (homes, limit, width) = made;
     if limit < 3 || limit > 2147483646 {
-        return Ok(false);
+        return false;
     }
     let shape = Shape {
         bs: BlockSize::OneKib,
@@ -242,9 +246,9 @@ pub fn refuses<D: Disk>(
         limit,
         width,
     };
-    match prepared(alloc, first, handles_of(alloc, lines, first)?, shape)? {
-        Some(batch) => Ok(is_refused(deck, batch, why)),
-        None => Ok(false),
+    match prepared(rt, alloc, first, handles_of(rt, alloc, lines, first), shape) {
+        Some(batch) => is_refused(deck, batch, why),
+        None => false,
     }
 }
 
@@ -267,33 +271,29 @@ fn takes<D: Disk>(deck: &mut Deck<D>, past: u64, entries: &[Told]) -> bool {
 }
 
 /// Whether a call answers so.
-fn answers<D: Disk>(alloc: Global, deck: &mut Deck<D>, step: &Step) -> Result<bool, Fail> {
+fn answers<D: Disk>(rt: &impl Abort, alloc: Global, deck: &mut Deck<D>, step: &Step) -> bool {
     match *step {
-        Step::Commits(lines, entries) => commits(alloc, deck, lines, entries),
-        Step::Refuses(first, made, lines, why) => refuses(alloc, deck, first, made, lines, why),
-        Step::Checkpoints(number, blocks) => {
-            Ok(checkpoints(deck, Ok(Checked { number, blocks })))
-        }
-        Step::Idle => Ok(checkpoints(deck, Err(CheckpointFault::Nothing))),
-        Step::Writes(home, len, answer) => writes(alloc, deck, home, len, answer),
-        Step::Word(home, copy) => Ok(has_word(deck, home, copy)),
-        Step::Takes(past, entries) => Ok(takes(deck, past, entries)),
-        Step::Ends(trail, next) => Ok(are(deck.trail(), trail) && deck.next_number() == next),
-        Step::Aborted => Ok(deck.aborted()),
+        Step::Commits(lines, entries) => commits(rt, alloc, deck, lines, entries),
+        Step::Refuses(first, made, lines, why) => refuses(rt, alloc, deck, first, made, lines, why),
+        Step::Checkpoints(number, blocks) => { checkpoints(deck, Ok(Checked { number, blocks })) }
+        Step::Idle => checkpoints(deck, Err(CheckpointFault::Nothing)),
+        Step::Writes(home, len, answer) => writes(rt, alloc, deck, home, len, answer),
+        Step::Word(home, copy) => has_word(deck, home, copy),
+        Step::Takes(past, entries) => takes(deck, past, entries),
+        Step::Ends(trail, next) => are(deck.trail(), trail) && deck.next_number() == next,
+        Step::Aborted => deck.aborted(),
     }
 }
 
 /// Makes these calls of the journal of a row, each of which answers so.
 pub fn check_steps<D: Disk>(
+    rt: &impl Abort,
     alloc: Global,
     row: &'static str,
     deck: &mut Deck<D>,
     steps: &[Step],
-) -> Result<(), Fail> {
+) {
     for (i, step) in steps.iter().enumerate() {
-        if !answers(alloc, deck, step)? {
-            return fail_in(row, "step", i as u64);
-        }
+        check_in(rt, answers(rt, alloc, deck, step), row, "step", i as u64);
     }
-    Ok(())
 }

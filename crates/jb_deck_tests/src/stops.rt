@@ -2,13 +2,13 @@
 //! leaves is recovered, and recovery is broken off by a crash too.
 
 use crate::frames::Wanted;
-use crate::images::{BLOCKS, HOMES, Row, crashed, difference, fail, fail_at, small};
+use crate::images::{BLOCKS, HOMES, Row, check_at, crashed, difference, fail, small};
 use crate::lives::Call;
 use crate::runs::{Ran, Stop, run_over, run_to};
 use jb_disk::{FuseDisk, MemoryDisk};
 use jb_recover::recover;
 use std::alloc::Global;
-use std::test::Fail;
+use std::process::Abort;
 
 /// More calls of the disk than the script makes, and than a recovery makes.
 const MOST: u32 = 400;
@@ -98,8 +98,8 @@ static ROWS: [Row; 5] = [
 ];
 
 /// The small image with these rows.
-pub fn before(alloc: Global) -> Result<MemoryDisk, Fail> {
-    small(alloc, BLOCKS, &ROWS, &[])
+pub fn before(rt: &impl Abort, alloc: Global) -> MemoryDisk {
+    small(rt, alloc, BLOCKS, &ROWS, &[])
 }
 
 /// The choice of this number.
@@ -121,154 +121,147 @@ fn choice(number: u32) -> [u32; SECTORS] {
     choice
 }
 
-/// What is wrong with what this choice leaves of a disk: it has block 0 as it was, and recovers to homes that may be
-/// left.
-fn wrong_left(
-    alloc: Global,
-    disk: &MemoryDisk,
-    choice: &[u32],
-    wanted: &Wanted,
-) -> Result<Option<&'static str>, Fail> {
-    let mut image = crashed(disk, choice)?;
-    wanted.first_wrong(alloc, &mut image, HOMES)
-}
-
 /// Recovers what this choice leaves of a disk of this script, which is stopped after so many calls.
 pub fn mend(
+    rt: &impl Abort,
     alloc: Global,
     calls: u64,
     disk: &MemoryDisk,
     choice: &[u32],
     wanted: &Wanted,
-) -> Result<(), Fail> {
-    match wrong_left(alloc, disk, choice, wanted)? {
-        Some(wrong) => fail_at(wrong, calls),
-        None => Ok(()),
-    }
+) {
+    let mut image = crashed(rt, disk, choice);
+    wanted.mend(rt, alloc, &mut image, HOMES, calls)
 }
 
 /// Recovers what each of the first choices leaves.
 fn mend_all(
+    rt: &impl Abort,
     alloc: Global,
     calls: u64,
     disk: &MemoryDisk,
     choices: u32,
     wanted: &Wanted,
-) -> Result<(), Fail> {
+) {
     for number in 0..choices {
-        mend(alloc, calls, disk, &choice(number), wanted)?;
+        mend(rt, alloc, calls, disk, &choice(number), wanted);
     }
-    Ok(())
 }
 
 /// A recovery of what a crash left, that is stopped after so many calls.
-pub fn stopped(alloc: Global, disk: &MemoryDisk, calls: u64) -> Result<Ran<MemoryDisk>, Fail> {
-    let mut fuse = FuseDisk::of(crashed(disk, &[])?, calls);
+pub fn stopped(rt: &impl Abort, alloc: Global, disk: &MemoryDisk, calls: u64) -> Ran<MemoryDisk> {
+    let mut fuse = FuseDisk::of(crashed(rt, disk, &[]), calls);
     let ended = recover(alloc, &mut fuse).is_ok();
-    Ok(Ran {
+    Ran {
         disk: fuse.into_inner(),
         ended,
-    })
+    }
 }
 
 /// How many calls the recovery of what a crash left makes.
-fn calls_of(alloc: Global, disk: &MemoryDisk) -> Result<u64, Fail> {
+fn calls_of(rt: &impl Abort, alloc: Global, disk: &MemoryDisk) -> u64 {
     let mut calls: u64 = 0;
     for step in [256, 128, 64, 32, 16, 8, 4, 2, 1] {
         let further = calls.saturating_add(step);
-        if !stopped(alloc, disk, further)?.ended {
+        if !stopped(rt, alloc, disk, further).ended {
             calls = further;
         }
     }
-    Ok(calls.saturating_add(1))
+    calls.saturating_add(1)
 }
 
 /// Recovers what a crash left once more where its recovery is stopped after so many calls of its own.
 fn mend_once(
+    rt: &impl Abort,
     alloc: Global,
     calls: u64,
     disk: &MemoryDisk,
     own: u64,
     wanted: &Wanted,
-) -> Result<(), Fail> {
-    let once = stopped(alloc, disk, own)?;
-    mend_all(alloc, calls, &once.disk, SOME, wanted)
+) {
+    let once = stopped(rt, alloc, disk, own);
+    mend_all(rt, alloc, calls, &once.disk, SOME, wanted)
 }
 
 /// Recovers what a crash left once more where its recovery is stopped after any of its last calls: the ones before them
 /// only read.
-fn mend_whenever(
-    alloc: Global,
-    calls: u64,
-    disk: &MemoryDisk,
-    wanted: &Wanted,
-) -> Result<(), Fail> {
-    let all = calls_of(alloc, disk)?;
+fn mend_whenever(rt: &impl Abort, alloc: Global, calls: u64, disk: &MemoryDisk, wanted: &Wanted) {
+    let all = calls_of(rt, alloc, disk);
     for own in all.saturating_sub(LAST)..all {
-        mend_once(alloc, calls, disk, own, wanted)?;
+        mend_once(rt, alloc, calls, disk, own, wanted);
     }
-    Ok(())
 }
 
 /// Recovers what this choice leaves where recovery is stopped too.
 fn mend_stopped(
+    rt: &impl Abort,
     alloc: Global,
     calls: u64,
     disk: &MemoryDisk,
     choice: &[u32],
     wanted: &Wanted,
-) -> Result<(), Fail> {
-    let image = crashed(disk, choice)?;
-    mend_whenever(alloc, calls, &image, wanted)
+) {
+    let image = crashed(rt, disk, choice);
+    mend_whenever(rt, alloc, calls, &image, wanted)
 }
 
 /// The script of which one call fails ends as one that is stopped there, and leaves the same disk; whether it ended.
-fn fail_alike(alloc: Global, call: u64, stop: &mut Stop) -> Result<bool, Fail> {
-    let mut other = run_over(alloc, before(alloc)?, call, &SCRIPT)?;
-    let differs = difference(&mut other.disk, &mut stop.disk, 0)?;
-    if other.ended == stop.ended && differs.is_none() {
-        return Ok(stop.ended);
-    }
-    fail_at(
-        "the script leaves something else where one call fails",
+fn fail_alike(rt: &impl Abort, alloc: Global, call: u64, stop: &mut Stop) -> bool {
+    let mut other = run_over(rt, alloc, before(rt, alloc), call, &SCRIPT);
+    let differs = difference(rt, &mut other.disk, &mut stop.disk, 0);
+    let is_alike = other.ended == stop.ended && differs.is_none();
+    check_at(
+        rt,
+        is_alike,
+        "the script leaves something else where one call fails:",
         call,
-    )
+    );
+    stop.ended
 }
 
 /// What the script left that was stopped after so many calls mends, where recovery is stopped too, and is what it leaves
 /// where that call alone fails; whether it ended before.
-fn mend_after(alloc: Global, number: u32, stop: &mut Stop) -> Result<bool, Fail> {
+fn mend_after(rt: &impl Abort, alloc: Global, number: u32, stop: &mut Stop) -> bool {
     let calls = u64::from(number);
-    mend_all(alloc, calls, &stop.disk, ALL, &stop.wanted)?;
-    mend_stopped(alloc, calls, &stop.disk, &choice(number % 10), &stop.wanted)?;
-    fail_alike(alloc, calls, stop)
+    mend_all(rt, alloc, calls, &stop.disk, ALL, &stop.wanted);
+    mend_stopped(
+        rt,
+        alloc,
+        calls,
+        &stop.disk,
+        &choice(number % 10),
+        &stop.wanted,
+    );
+    fail_alike(rt, alloc, calls, stop)
 }
 
 /// Stops the script after so many calls; whether it ended before.
-fn stop_at(alloc: Global, number: u32) -> Result<bool, Fail> {
-    let mut stop = run_to(alloc, before(alloc)?, u64::from(number), &SCRIPT)?;
-    mend_after(alloc, number, &mut stop)
+fn stop_at(rt: &impl Abort, alloc: Global, number: u32) -> bool {
+    let mut stop = run_to(rt, alloc, before(rt, alloc), u64::from(number), &SCRIPT);
+    mend_after(rt, alloc, number, &mut stop)
 }
 
 /// Stops the script after every number of calls.
-fn stop_each(alloc: Global) -> Result<(), Fail> {
+fn stop_each(rt: &impl Abort, alloc: Global) {
     for number in 0..MOST {
-        if stop_at(alloc, number)? {
-            return end(number);
+        if stop_at(rt, alloc, number) {
+            return end(rt, number);
         }
     }
-    fail("it never ends")
+    fail(rt, "it never ends")
 }
 
 /// The whole script makes so many calls.
-fn end(number: u32) -> Result<(), Fail> {
-    if number != 151 {
-        return fail_at("calls of the whole script:", u64::from(number));
-    }
-    Ok(())
+fn end(rt: &impl Abort, number: u32) {
+    check_at(
+        rt,
+        number == 151,
+        "calls of the whole script:",
+        u64::from(number),
+    )
 }
 
 #[test]
-fn every_call_of_a_script_may_fail_or_be_the_last(rt: HostRuntime) -> Result<(), Fail> {
-    stop_each(rt.alloc())
+fn every_call_of_a_script_may_fail_or_be_the_last(rt: HostRuntime) {
+    stop_each(&rt, rt.alloc())
 }

@@ -5,8 +5,6 @@ use crate::images::{BLOCKS, HOMES};
 use crate::rounds::{SIX, SIX_COPIES};
 use crate::scripts::{Refusal, Step};
 use jb_block::Width;
-use std::alloc::Global;
-use std::test::Fail;
 
 /// Entries are taken where their groups are home and their tickets are below the one that is given; the last stays.
 static TAKINGS: [Case; 1] = [Case {
@@ -73,13 +71,12 @@ static FAILED: [Step; 9] = [
 ];
 
 #[test]
-fn trails_are_taken_as_worked_by_hand(rt: HostRuntime) -> Result<(), Fail> {
-    check_cases(rt.alloc(), &TAKINGS)
+fn trails_are_taken_as_worked_by_hand(rt: HostRuntime) {
+    check_cases(&rt, rt.alloc(), &TAKINGS)
 }
 
 #[test]
-fn a_journal_that_failed_gives_its_entries(rt: HostRuntime) -> Result<(), Fail> {
+fn a_journal_that_failed_gives_its_entries(rt: HostRuntime) {
     let row = "a journal that failed";
-    let _disk = called_with_fault(rt.alloc(), row, THIRD_COMMIT, &FAILED)?;
-    Ok(())
+    let _disk = called_with_fault(&rt, rt.alloc(), row, THIRD_COMMIT, &FAILED);
 }

@@ -4,7 +4,7 @@
 use crate::contents::{EIGHT, Left};
 use crate::draws::formatted;
 use crate::frames::Wanted;
-use crate::images::{crashed, difference, fail, fail_at};
+use crate::images::{check_at, crashed, difference, fail};
 use crate::lives::Call;
 use crate::model::Homes;
 use crate::runs::run_to;
@@ -12,7 +12,7 @@ use crate::stops::{NEW, SECTORS, mend, stopped};
 use jb_block::Width;
 use jb_disk::MemoryDisk;
 use std::alloc::Global;
-use std::test::Fail;
+use std::process::Abort;
 
 /// More calls of the disk than the script makes, and than a recovery makes.
 const MOST: u64 = 400;
@@ -90,8 +90,8 @@ static SETTLED: [Homes; 7] = [
 ];
 
 /// A new journal of 33 blocks with 16 homes of zeros.
-fn before(alloc: Global) -> Result<MemoryDisk, Fail> {
-    formatted(alloc, 33, 0, UUID, Width::Narrow)
+fn before(rt: &impl Abort, alloc: Global) -> MemoryDisk {
+    formatted(rt, alloc, 33, 0, UUID, Width::Narrow)
 }
 
 /// The versions of the sectors from one place on: the newest ones.
@@ -107,24 +107,25 @@ fn newest_from(place: usize) -> [u32; SECTORS] {
 
 /// Whether what a crash leaves of a disk by this choice has other contents than an image.
 fn differs(
+    rt: &impl Abort,
     disk: &MemoryDisk,
     choice: &[u32; SECTORS],
     image: &mut MemoryDisk,
-) -> Result<bool, Fail> {
-    Ok(difference(image, &mut crashed(disk, choice)?, 0)?.is_some())
+) -> bool {
+    difference(rt, image, &mut crashed(rt, disk, choice), 0).is_some()
 }
 
 /// The last of the pending sectors whose newest content is another one than its old content.
-fn last_sector(disk: &MemoryDisk) -> Result<usize, Fail> {
-    let mut old = crashed(disk, &[])?;
+fn last_sector(rt: &impl Abort, disk: &MemoryDisk) -> usize {
+    let mut old = crashed(rt, disk, &[]);
     let mut last: usize = 0;
     for step in [16, 8, 4, 2, 1] {
         let further = last.saturating_add(step);
-        if differs(disk, &newest_from(further), &mut old)? {
+        if differs(rt, disk, &newest_from(further), &mut old) {
             last = further;
         }
     }
-    Ok(last)
+    last
 }
 
 /// The choice of this number, where this sector is the last one.
@@ -146,75 +147,77 @@ fn choice(number: u32, last: usize) -> [u32; SECTORS] {
 }
 
 /// Recovers what each choice leaves of a disk of the script, which is stopped after so many calls.
-fn mend_each(alloc: Global, calls: u64, disk: &MemoryDisk, wanted: &Wanted) -> Result<(), Fail> {
-    let last = last_sector(disk)?;
+fn mend_each(rt: &impl Abort, alloc: Global, calls: u64, disk: &MemoryDisk, wanted: &Wanted) {
+    let last = last_sector(rt, disk);
     for number in 0..CHOICES {
-        mend(alloc, calls, disk, &choice(number, last), wanted)?;
+        mend(rt, alloc, calls, disk, &choice(number, last), wanted);
     }
-    Ok(())
 }
 
 /// Whether a disk has other contents than an image that a crash left, or may have them after one more crash.
-fn is_changed(disk: &MemoryDisk, image: &mut MemoryDisk) -> Result<bool, Fail> {
-    Ok(differs(disk, &[0; SECTORS], image)? || differs(disk, &newest_from(0), image)?)
+fn is_changed(rt: &impl Abort, disk: &MemoryDisk, image: &mut MemoryDisk) -> bool {
+    differs(rt, disk, &[0; SECTORS], image) || differs(rt, disk, &newest_from(0), image)
 }
 
 /// Stops the recovery of an image after so many calls of its own and crashes it by each choice; whether it ended
 /// before. Where nothing was written yet, that leaves the image itself, which is recovered once.
 fn mend_once(
+    rt: &impl Abort,
     alloc: Global,
     calls: u64,
     image: &mut MemoryDisk,
     own: u64,
     wanted: &Wanted,
-) -> Result<bool, Fail> {
-    let once = stopped(alloc, image, own)?;
-    if own == 0 || is_changed(&once.disk, image)? {
-        mend_each(alloc, calls, &once.disk, wanted)?;
+) -> bool {
+    let once = stopped(rt, alloc, image, own);
+    if own == 0 || is_changed(rt, &once.disk, image) {
+        mend_each(rt, alloc, calls, &once.disk, wanted);
     }
-    Ok(once.ended)
+    once.ended
 }
 
 /// Stops the recovery of an image after every number of calls and crashes it by each choice; how many images that are.
 fn mend_stopped(
+    rt: &impl Abort,
     alloc: Global,
     calls: u64,
     image: &mut MemoryDisk,
     wanted: &Wanted,
-) -> Result<u64, Fail> {
+) -> u64 {
     let mut images: u64 = 0;
     for own in 0..MOST {
-        let ended = mend_once(alloc, calls, image, own, wanted)?;
+        let ended = mend_once(rt, alloc, calls, image, own, wanted);
         images = images.saturating_add(u64::from(CHOICES));
         if ended {
-            return Ok(images);
+            return images;
         }
     }
-    fail_at("a recovery never ends", calls)
+    fail(rt, "a recovery never ends")
 }
 
 /// Stops the recovery of what this choice leaves of a disk; how many images that are.
 fn mend_left(
+    rt: &impl Abort,
     alloc: Global,
     calls: u64,
     disk: &MemoryDisk,
     choice: &[u32; SECTORS],
     wanted: &Wanted,
-) -> Result<u64, Fail> {
-    let mut image = crashed(disk, choice)?;
-    mend_stopped(alloc, calls, &mut image, wanted)
+) -> u64 {
+    let mut image = crashed(rt, disk, choice);
+    mend_stopped(rt, alloc, calls, &mut image, wanted)
 }
 
 /// Crashes a disk of the script, which is stopped after so many calls, by each choice and stops the recovery of each
 /// image; how many images that are.
-fn mend_all(alloc: Global, calls: u64, disk: &MemoryDisk, wanted: &Wanted) -> Result<u64, Fail> {
-    let last = last_sector(disk)?;
+fn mend_all(rt: &impl Abort, alloc: Global, calls: u64, disk: &MemoryDisk, wanted: &Wanted) -> u64 {
+    let last = last_sector(rt, disk);
     let mut images: u64 = 0;
     for number in 0..CHOICES {
-        let further = mend_left(alloc, calls, disk, &choice(number, last), wanted)?;
+        let further = mend_left(rt, alloc, calls, disk, &choice(number, last), wanted);
         images = images.saturating_add(further);
     }
-    Ok(images)
+    images
 }
 
 /// Whether homes are those after the first handles, home 7 aside where it is not yet written.
@@ -226,43 +229,45 @@ fn is_worked(homes: &Homes) -> bool {
 
 /// The script that is stopped after so many calls: what a crash may leave, how many images are recovered, and whether
 /// it ended.
-fn images_at(alloc: Global, calls: u64) -> Result<(Left, u64, bool), Fail> {
-    let stop = run_to(alloc, before(alloc)?, calls, &SCRIPT)?;
-    let images = mend_all(alloc, calls, &stop.disk, &stop.wanted)?;
-    Ok((stop.wanted.left, images, stop.ended))
+fn images_at(rt: &impl Abort, alloc: Global, calls: u64) -> (Left, u64, bool) {
+    let stop = run_to(rt, alloc, before(rt, alloc), calls, &SCRIPT);
+    let images = mend_all(rt, alloc, calls, &stop.disk, &stop.wanted);
+    (stop.wanted.left, images, stop.ended)
 }
 
 /// Stops the script after every number of calls.
-fn stop_each(alloc: Global) -> Result<(), Fail> {
+fn stop_each(rt: &impl Abort, alloc: Global) {
     let mut images: u64 = 0;
     for calls in 0..MOST {
-        let (left, further, ended) = images_at(alloc, calls)?;
-        if !is_worked(&left.was) || !is_worked(&left.becomes) {
-            return fail_at("homes of the script that is stopped after calls", calls);
-        }
+        let (left, further, ended) = images_at(rt, alloc, calls);
+        let is_known = is_worked(&left.was) && is_worked(&left.becomes);
+        check_at(
+            rt,
+            is_known,
+            "homes of the script that is stopped after calls",
+            calls,
+        );
         images = images.saturating_add(further);
         if ended {
-            return end(calls, images, &left.was);
+            return end(rt, calls, images, &left.was);
         }
     }
-    fail("it never ends")
+    fail(rt, "it never ends")
 }
 
 /// The whole script makes so many calls, is crashed to so many images and leaves these homes.
-fn end(calls: u64, images: u64, homes: &Homes) -> Result<(), Fail> {
-    if calls != 139 {
-        return fail_at("calls of the whole script:", calls);
-    }
-    if images != 109515 {
-        return fail_at("images of the whole script:", images);
-    }
-    if *homes != SETTLED[6] {
-        return fail_at("homes of the whole script, after calls", calls);
-    }
-    Ok(())
+fn end(rt: &impl Abort, calls: u64, images: u64, homes: &Homes) {
+    check_at(rt, calls == 139, "calls of the whole script:", calls);
+    check_at(rt, images == 109515, "images of the whole script:", images);
+    check_at(
+        rt,
+        *homes == SETTLED[6],
+        "homes of the whole script, after calls",
+        calls,
+    )
 }
 
 #[test]
-fn a_script_may_be_stopped_and_crashed_at_every_call(rt: HostRuntime) -> Result<(), Fail> {
-    stop_each(rt.alloc())
+fn a_script_may_be_stopped_and_crashed_at_every_call(rt: HostRuntime) {
+    stop_each(&rt, rt.alloc())
 }
