@@ -45,7 +45,7 @@ fn begun(rt: &impl Abort, alloc: Global) -> Deck<MemoryDisk> {
 fn has_blocks(rt: &impl Abort, alloc: Global, copies: u64, frees: u64, blocks: u32) -> bool {
     let mut deck = begun(rt, alloc);
     let handles = one(rt, alloc, copies, frees);
-    settles(rt, alloc, &mut deck, handles, &[(0, 1, 2, blocks)])
+    settles(alloc, &mut deck, handles, &[(0, 1, 2, blocks)])
 }
 
 #[test]

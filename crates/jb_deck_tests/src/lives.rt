@@ -81,7 +81,7 @@ fn bounds(
     call: (usize, &[Touch]),
     shape: Shape,
 ) -> Option<Vec<usize>> {
-    let Some(batch) = prepared(rt, alloc, first, stopped(rt, alloc, first, call), shape) else {
+    let Some(batch) = prepared(alloc, first, stopped(rt, alloc, first, call), shape) else {
         return None;
     };
     let bounds = batch.groups().to_vec(alloc);
@@ -97,7 +97,7 @@ fn planned(
     call: (usize, &[Touch]),
     shape: Shape,
 ) -> Prepared {
-    prepared(rt, alloc, first, stopped(rt, alloc, first, call), shape).expect(
+    prepared(alloc, first, stopped(rt, alloc, first, call), shape).expect(
         rt,
         "it was planned before",
     )

@@ -72,7 +72,6 @@ pub fn handles_of(rt: &impl Abort, alloc: Global, lines: &str, first: u64) -> Ve
 
 /// These handles as a batch with its plan, or none where they are no batch or none fits.
 pub fn prepared(
-    rt: &impl Abort,
     alloc: Global,
     first: u64,
     handles: Vec<Stopped>,
@@ -151,13 +150,8 @@ fn are(entries: &[Entry], told: &[Told]) -> bool {
 }
 
 /// The groups of these handles, or none where no cut fits or the batch is refused.
-pub fn settle<D: Disk>(
-    rt: &impl Abort,
-    alloc: Global,
-    deck: &mut Deck<D>,
-    handles: Vec<Stopped>,
-) -> Option<Done> {
-    let Some(batch) = prepared(rt, alloc, next_ticket(deck), handles, deck.shape()) else {
+pub fn settle<D: Disk>(alloc: Global, deck: &mut Deck<D>, handles: Vec<Stopped>) -> Option<Done> {
+    let Some(batch) = prepared(alloc, next_ticket(deck), handles, deck.shape()) else {
         return None;
     };
     match deck.commit_batch(batch, STAMP) {
@@ -171,14 +165,13 @@ pub fn settle<D: Disk>(
 
 /// Whether the groups of these handles are these.
 pub fn settles<D: Disk>(
-    rt: &impl Abort,
     alloc: Global,
     deck: &mut Deck<D>,
     handles: Vec<Stopped>,
     entries: &[Told],
 ) -> bool {
     let first = next_ticket(deck);
-    match settle(rt, alloc, deck, handles) {
+    match settle(alloc, deck, handles) {
         Some(done) => done.first() == first && are(done.entries(), entries),
         None => false,
     }
@@ -193,7 +186,7 @@ fn commits<D: Disk>(
     entries: &[Told],
 ) -> bool {
     let handles = handles_of(rt, alloc, lines, next_ticket(deck));
-    settles(rt, alloc, deck, handles, entries)
+    settles(alloc, deck, handles, entries)
 }
 
 /// Whether so many bytes that are written to a home are answered so.
@@ -246,7 +239,7 @@ pub fn refuses<D: Disk>(
         limit,
         width,
     };
-    match prepared(rt, alloc, first, handles_of(rt, alloc, lines, first), shape) {
+    match prepared(alloc, first, handles_of(rt, alloc, lines, first), shape) {
         Some(batch) => is_refused(deck, batch, why),
         None => false,
     }
