@@ -76,32 +76,15 @@ fn lay(rt: &impl Abort, case: &Case, disk: &mut MemoryDisk) {
 }
 
 /// Checks the disk that the calls of a case left, and what a crash leaves of it: all that stands on the disk, since
-/// every call that changes it ends with a sync.
+/// every call that changes it ends with a sync. Then it is recovered.
 fn check_left(rt: &impl Abort, alloc: Global, case: &Case, disk: &mut MemoryDisk) {
     let mut wanted = small(rt, alloc, case.blocks, case.image, &[]);
+    lay(rt, case, &mut wanted);
+    check_none(rt, case.name, "block", difference(rt, disk, &mut wanted, 0));
     let mut left = crashed(rt, disk, &[]);
-    check_blocks(rt, alloc, case, disk, &mut left, &mut wanted)
-}
-
-/// Checks that a disk, and what a crash left of it, has the blocks of the case's image with what its calls are to leave;
-/// and then what that is once it is recovered.
-fn check_blocks(
-    rt: &impl Abort,
-    alloc: Global,
-    case: &Case,
-    disk: &mut MemoryDisk,
-    left: &mut MemoryDisk,
-    wanted: &mut MemoryDisk,
-) {
-    lay(rt, case, wanted);
-    check_none(rt, case.name, "block", difference(rt, disk, wanted, 0));
-    check_none(
-        rt,
-        case.name,
-        "block that a crash leaves",
-        difference(rt, left, wanted, 0),
-    );
-    check_home(rt, alloc, case, left, wanted)
+    let place = difference(rt, &mut left, &mut wanted, 0);
+    check_none(rt, case.name, "block that a crash leaves", place);
+    check_home(rt, alloc, case, &mut left, &mut wanted)
 }
 
 /// What recovery reports: transactions, copies, revoked copies and the next number.

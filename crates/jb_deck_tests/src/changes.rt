@@ -135,17 +135,8 @@ fn tag_width(rt: &impl Abort, disk: &mut MemoryDisk) -> Width {
     }
 }
 
-/// Checks the log of a journal that said this of itself and has committed six copies as one group: how wide its
-/// tags are, and what recovery reports.
-fn check_log(rt: &impl Abort, alloc: Global, row: &'static str, told: Told, disk: &mut MemoryDisk) {
-    let (number, _, width) = told;
-    let fits = tag_width(rt, disk) == width;
-    check_in(rt, fits, row, "the width of its tags at number", number);
-    let is_told = recover(alloc, disk) == Ok(report((1, 6, 0, number.saturating_add(2))));
-    check_in(rt, is_told, row, "what recovery reports of number", number)
-}
-
-/// Checks what a journal that says this of itself commits by these steps.
+/// Checks what a journal that says this of itself commits by these steps, which is six copies as one group: how wide
+/// the tags of its log are, and what recovery reports.
 fn check_committed(
     rt: &impl Abort,
     alloc: Global,
@@ -154,28 +145,20 @@ fn check_committed(
     steps: &[Step],
     disk: MemoryDisk,
 ) {
+    let (number, _, width) = told;
     let mut disk = called(rt, alloc, row, disk, steps);
-    check_log(rt, alloc, row, told, &mut disk)
-}
-
-/// Checks that a disk is as a journal is once it is changed in its place.
-fn check_kept(
-    rt: &impl Abort,
-    alloc: Global,
-    row: &'static str,
-    widens: bool,
-    rows: &[Row],
-    disk: &mut MemoryDisk,
-) {
-    let mut wanted = changed(rt, alloc, widens, rows);
-    check_none(rt, row, "block", difference(rt, disk, &mut wanted, 0))
+    let fits = tag_width(rt, &mut disk) == width;
+    check_in(rt, fits, row, "the width of its tags at number", number);
+    let is_told = recover(alloc, &mut disk) == Ok(report((1, 6, 0, number.saturating_add(2))));
+    check_in(rt, is_told, row, "what recovery reports of number", number)
 }
 
 /// Checks that opening a journal that is changed in its place keeps its disk, and then what it commits.
 fn check_changed(rt: &impl Abort, alloc: Global, of: &Changed) {
     let (row, widens, rows, told, steps) = *of;
+    let mut wanted = changed(rt, alloc, widens, rows);
     let mut disk = closed(rt, alloc, row, changed(rt, alloc, widens, rows), told);
-    check_kept(rt, alloc, row, widens, rows, &mut disk);
+    check_none(rt, row, "block", difference(rt, &mut disk, &mut wanted, 0));
     check_committed(rt, alloc, row, told, steps, disk)
 }
 

@@ -72,17 +72,13 @@ struct Wanted {
     becomes: Frame,
 }
 
-/// The frame of the small image with these rows and then those, whose log begins at this place.
-fn frame_of(rt: &impl Abort, alloc: Global, rows: &[Row], after: &[Row], first: u64) -> Frame {
-    Frame::of(rt, alloc, &mut small(rt, alloc, BLOCKS, rows, after), first)
-}
-
 /// What a crash may leave of a case.
 fn make_wanted(rt: &impl Abort, alloc: Global, of: &Case) -> Wanted {
     let (_, rows, after, first, _) = *of;
-    let whole = small(rt, alloc, BLOCKS, rows, after);
-    let was = frame_of(rt, alloc, rows, &[], first);
-    let becomes = frame_of(rt, alloc, rows, after, first);
+    let mut before = small(rt, alloc, BLOCKS, rows, &[]);
+    let mut whole = small(rt, alloc, BLOCKS, rows, after);
+    let was = Frame::of(rt, alloc, &mut before, first);
+    let becomes = Frame::of(rt, alloc, &mut whole, first);
     Wanted {
         whole,
         was,
@@ -126,24 +122,6 @@ fn left_on<D: Disk + Drop>(alloc: Global, disk: D) -> Tried<D> {
     }
 }
 
-/// The same where the call of this number and all after it fail.
-fn left_rest(alloc: Global, disk: MemoryDisk, call: u64) -> Tried<MemoryDisk> {
-    let Tried { disk, fault } = left_on(alloc, FuseDisk::of(disk, call));
-    Tried {
-        disk: disk.into_inner(),
-        fault,
-    }
-}
-
-/// The same where the call of this number alone fails.
-fn left_alone(alloc: Global, disk: MemoryDisk, call: u64) -> Tried<MemoryDisk> {
-    let Tried { disk, fault } = left_on(alloc, OneFaultDisk::of(disk, call));
-    Tried {
-        disk: disk.into_inner(),
-        fault,
-    }
-}
-
 /// Checks what each choice leaves of a case of which the call of this number failed: the homes, and where the journal
 /// was opened before, the whole image.
 fn check_left(
@@ -152,7 +130,8 @@ fn check_left(
     of: &Case,
     wanted: &mut Wanted,
     call: u64,
-    left: &Tried<MemoryDisk>,
+    disk: &MemoryDisk,
+    met: Option<OpenFault>,
 ) {
     let (row, _, _, _, calls) = *of;
     let (fault, from) = if call < calls {
@@ -160,21 +139,9 @@ fn check_left(
     } else {
         (None, 0)
     };
-    check_in(
-        rt,
-        left.fault == fault,
-        row,
-        "how opening it ends at call",
-        call,
-    );
+    check_in(rt, met == fault, row, "how opening it ends at call", call);
     for choice in &CHOICES {
-        let is_mended = mends(
-            rt,
-            alloc,
-            &mut crashed(rt, &left.disk, choice),
-            wanted,
-            from,
-        );
+        let is_mended = mends(rt, alloc, &mut crashed(rt, disk, choice), wanted, from);
         check_in(
             rt,
             is_mended,
@@ -187,14 +154,32 @@ fn check_left(
 
 /// Checks what is left of a case where the call of this number and all after it fail.
 fn check_rest(rt: &impl Abort, alloc: Global, of: &Case, wanted: &mut Wanted, call: u64) {
-    let left = left_rest(alloc, small(rt, alloc, BLOCKS, of.1, &[]), call);
-    check_left(rt, alloc, of, wanted, call, &left)
+    let before = small(rt, alloc, BLOCKS, of.1, &[]);
+    let left = left_on(alloc, FuseDisk::of(before, call));
+    check_left(
+        rt,
+        alloc,
+        of,
+        wanted,
+        call,
+        &left.disk.into_inner(),
+        left.fault,
+    )
 }
 
 /// Checks what is left of a case where the call of this number alone fails.
 fn check_alone(rt: &impl Abort, alloc: Global, of: &Case, wanted: &mut Wanted, call: u64) {
-    let left = left_alone(alloc, small(rt, alloc, BLOCKS, of.1, &[]), call);
-    check_left(rt, alloc, of, wanted, call, &left)
+    let before = small(rt, alloc, BLOCKS, of.1, &[]);
+    let left = left_on(alloc, OneFaultDisk::of(before, call));
+    check_left(
+        rt,
+        alloc,
+        of,
+        wanted,
+        call,
+        &left.disk.into_inner(),
+        left.fault,
+    )
 }
 
 /// Checks what is left of a case for the number of each call, and for the one after them.

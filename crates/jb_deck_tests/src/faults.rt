@@ -95,25 +95,14 @@ static COMMIT: [Step; 1] = [Step::Refuses(
 fn check_row(rt: &impl Abort, alloc: Global, of: &Given) {
     let disk = called_with_fault(rt, alloc, of.name, of.call, &COMMIT);
     let mut left = crashed(rt, &disk, of.choice);
-    check_mended(rt, alloc, of, &mut left);
+    check_recovered(rt, alloc, of, &mut left);
     check_opened(rt, alloc, of, left)
 }
 
-/// Checks what is left of a row as it is recovered.
-fn check_mended(rt: &impl Abort, alloc: Global, of: &Given, left: &mut MemoryDisk) {
-    let front = Frame::of(rt, alloc, &mut small(rt, alloc, BLOCKS, &[], &[]), 1);
-    check_recovered(rt, alloc, of, left, &front)
-}
-
 /// Checks what recovery reports of what is left of a row, and that what stands before the log is kept, before and after.
-fn check_recovered(
-    rt: &impl Abort,
-    alloc: Global,
-    of: &Given,
-    left: &mut MemoryDisk,
-    front: &Frame,
-) {
+fn check_recovered(rt: &impl Abort, alloc: Global, of: &Given, left: &mut MemoryDisk) {
     let (row, call) = (of.name, of.call);
+    let front = Frame::of(rt, alloc, &mut small(rt, alloc, BLOCKS, &[], &[]), 1);
     let was_kept = front.is_kept(rt, alloc, left);
     check_in(
         rt,
@@ -138,7 +127,6 @@ fn check_recovered(
 fn check_opened(rt: &impl Abort, alloc: Global, of: &Given, left: MemoryDisk) {
     let deck = opening(rt, alloc, left);
     let number = deck.next_number();
-    let mut disk = deck.close();
     check_in(
         rt,
         number == of.recovered.3,
@@ -146,13 +134,8 @@ fn check_opened(rt: &impl Abort, alloc: Global, of: &Given, left: MemoryDisk) {
         "the next number",
         number,
     );
-    check_block(rt, alloc, of, &mut disk)
-}
-
-/// Checks the blocks of what is left of a row.
-fn check_block(rt: &impl Abort, alloc: Global, of: &Given, disk: &mut MemoryDisk) {
     let mut wanted = small(rt, alloc, BLOCKS, of.rows, &[]);
-    let place = difference(rt, disk, &mut wanted, of.from);
+    let place = difference(rt, &mut deck.close(), &mut wanted, of.from);
     check_none(rt, of.name, "block", place)
 }
 

@@ -3,7 +3,7 @@
 use crate::contents::fill;
 use crate::draws::{Odds, Seed, call_at_random, image_at_random};
 use crate::images::{BLOCKS, HOMES, Row, check, check_at, small};
-use crate::lives::{Call, make_call};
+use crate::lives::make_call;
 use crate::model::{Homes, Model};
 use crate::scripts::{Refusal, Step, check_steps, opening};
 use crate::stops::{SCRIPT, before};
@@ -39,19 +39,14 @@ fn reads_as<D: Disk>(deck: &mut Deck<D>, homes: &Homes) -> bool {
     deck.read_home(16, &mut block) == Err(ReadHomeFault::OutOfRange)
 }
 
-/// All homes of a journal are read as the model has them after each of these calls at random.
-fn read_at_random<D: Disk>(
-    rt: &impl Abort,
-    alloc: Global,
-    seed: &mut Seed,
-    next: &mut u32,
-    deck: &mut Deck<D>,
-    model: &mut Model,
-    journal: u32,
-) {
+/// All homes of a journal at random are read as the model has them after each of these calls at random.
+fn read_one(rt: &impl Abort, alloc: Global, seed: &mut Seed, next: &mut u32, journal: u32) {
+    let image = image_at_random(rt, alloc, seed);
+    let mut deck = opening(rt, alloc, image.disk);
+    let mut model = Model::new(alloc, [0; 16], u64::from(deck.usable()));
     for _ in 0..CALLS {
-        let ended = call_at_random(rt, alloc, seed, next, deck, model, ODDS);
-        let is_read = ended.is_none() && reads_as(deck, &model.standing());
+        let met = call_at_random(rt, alloc, seed, next, &mut deck, &mut model, ODDS);
+        let is_read = met.is_none() && reads_as(&mut deck, &model.standing());
         check_at(
             rt,
             is_read,
@@ -59,14 +54,6 @@ fn read_at_random<D: Disk>(
             u64::from(journal),
         );
     }
-}
-
-/// So are those of a journal at random.
-fn read_one(rt: &impl Abort, alloc: Global, seed: &mut Seed, next: &mut u32, journal: u32) {
-    let image = image_at_random(rt, alloc, seed);
-    let mut deck = opening(rt, alloc, image.disk);
-    let mut model = Model::new(alloc, [0; 16], u64::from(deck.usable()));
-    read_at_random(rt, alloc, seed, next, &mut deck, &mut model, journal)
 }
 
 /// So are those of each journal at random.
@@ -77,36 +64,21 @@ fn read_each(rt: &impl Abort, alloc: Global) {
     }
 }
 
-/// Whether a call meets no fault, and each home is then read as the model has it.
-fn reads_after<D: Disk>(
-    rt: &impl Abort,
-    alloc: Global,
-    deck: &mut Deck<D>,
-    model: &mut Model,
-    call: Call<'_>,
-) -> bool {
-    let met = make_call(rt, alloc, deck, model, call);
-    met.is_none() && reads_as(deck, &model.standing())
-}
-
-/// All homes are read as the model has them before the script, and after each of its calls.
-fn read_beside<D: Disk>(rt: &impl Abort, alloc: Global, deck: &mut Deck<D>, model: &mut Model) {
-    check(
-        rt,
-        reads_as(deck, &model.standing()),
-        "a home before the script",
-    );
-    for (i, call) in SCRIPT.iter().enumerate() {
-        let is_read = reads_after(rt, alloc, deck, model, *call);
-        check_at(rt, is_read, "a home after the script's call", i as u64);
-    }
-}
-
-/// The script is called on the image before it, and all homes are read.
+/// The script is called on the image before it; all homes are read as the model has them before it, and after each of its
+/// calls.
 fn read_script(rt: &impl Abort, alloc: Global) {
     let mut deck = opening(rt, alloc, before(rt, alloc));
     let mut model = Model::new(alloc, [0; 16], u64::from(deck.usable()));
-    read_beside(rt, alloc, &mut deck, &mut model)
+    check(
+        rt,
+        reads_as(&mut deck, &model.standing()),
+        "a home before the script",
+    );
+    for (i, call) in SCRIPT.iter().enumerate() {
+        let met = make_call(rt, alloc, &mut deck, &mut model, *call);
+        let is_read = met.is_none() && reads_as(&mut deck, &model.standing());
+        check_at(rt, is_read, "a home after the script's call", i as u64);
+    }
 }
 
 #[test]
@@ -172,19 +144,14 @@ fn read_twice<D: Disk>(rt: &impl Abort, deck: &mut Deck<D>) {
     check(rt, second == Ok(()) && has_bytes, "the read after a fault")
 }
 
-/// Each of these reads is refused so; then home 5 is read twice.
-fn refuse_each<D: Disk>(rt: &impl Abort, alloc: Global, deck: &mut Deck<D>) {
-    for (row, home, len, fault) in &REFUSALS {
-        let told = read_into(rt, alloc, deck, *home, *len);
-        check(rt, told == Err(*fault), row);
-    }
-    read_twice(rt, deck)
-}
-
-/// The reads of a journal on this disk.
+/// Each of these reads of a journal on this disk is refused so; then home 5 is read twice.
 fn refuse_on<D: Disk + Drop>(rt: &impl Abort, alloc: Global, disk: D) {
     let mut deck = opening(rt, alloc, disk);
-    refuse_each(rt, alloc, &mut deck)
+    for (row, home, len, fault) in &REFUSALS {
+        let told = read_into(rt, alloc, &mut deck, *home, *len);
+        check(rt, told == Err(*fault), row);
+    }
+    read_twice(rt, &mut deck)
 }
 
 #[test]
@@ -201,21 +168,16 @@ static FAILS: [Step; 1] = [Step::Refuses(
     Refusal::DeviceFault(0),
 )];
 
-/// A commit fails, and then a read.
-fn fail_then_read<D: Disk>(rt: &impl Abort, alloc: Global, deck: &mut Deck<D>) {
-    check_steps(rt, alloc, "a journal that fails", deck, &FAILS);
+/// A commit of a journal on this disk fails, and then a read.
+fn fail_on<D: Disk + Drop>(rt: &impl Abort, alloc: Global, disk: D) {
+    let mut deck = opening(rt, alloc, disk);
+    check_steps(rt, alloc, "a journal that fails", &mut deck, &FAILS);
     let told = deck.read_home(16, &mut [0; 1024]);
     check(
         rt,
         told == Err(ReadHomeFault::Aborted),
         "the read of a journal that failed",
     )
-}
-
-/// The same of a journal on this disk.
-fn fail_on<D: Disk + Drop>(rt: &impl Abort, alloc: Global, disk: D) {
-    let mut deck = opening(rt, alloc, disk);
-    fail_then_read(rt, alloc, &mut deck)
 }
 
 #[test]

@@ -69,28 +69,6 @@ fn stopped(rt: &impl Abort, alloc: Global, seed: &mut Seed, disk: &MemoryDisk) -
     crashed(rt, &once.disk, &choice(seed))
 }
 
-/// What a crash left has what stands before the log.
-fn keep(rt: &impl Abort, alloc: Global, image: &mut MemoryDisk, frame: &Frame) {
-    let is_kept = frame.is_kept(rt, alloc, image);
-    check(rt, is_kept, "what stands before the log has changed")
-}
-
-/// What a crash leaves of a disk; one image in two is recovered, which loses its power.
-fn image_of(
-    rt: &impl Abort,
-    alloc: Global,
-    seed: &mut Seed,
-    disk: &MemoryDisk,
-    frame: &Frame,
-) -> MemoryDisk {
-    let mut image = crashed(rt, disk, &choice(seed));
-    keep(rt, alloc, &mut image, frame);
-    if seed.below(2) > 0 {
-        return image;
-    }
-    stopped(rt, alloc, seed, &image)
-}
-
 /// What a crash leaves of a disk, recovered; one recovery in two loses its power first. It is as wanted.
 fn recovered(
     rt: &impl Abort,
@@ -100,7 +78,12 @@ fn recovered(
     homes: u64,
     wanted: &Wanted,
 ) -> MemoryDisk {
-    let mut image = image_of(rt, alloc, seed, disk, &wanted.frame);
+    let mut image = crashed(rt, disk, &choice(seed));
+    let is_kept = wanted.frame.is_kept(rt, alloc, &mut image);
+    check(rt, is_kept, "what stands before the log has changed");
+    if seed.below(2) == 0 {
+        image = stopped(rt, alloc, seed, &image);
+    }
     wanted.mend(rt, alloc, &mut image, homes, homes);
     image
 }

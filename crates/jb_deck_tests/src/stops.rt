@@ -170,29 +170,8 @@ fn calls_of(rt: &impl Abort, alloc: Global, disk: &MemoryDisk) -> u64 {
     calls.saturating_add(1)
 }
 
-/// Recovers what a crash left once more where its recovery is stopped after so many calls of its own.
-fn mend_once(
-    rt: &impl Abort,
-    alloc: Global,
-    calls: u64,
-    disk: &MemoryDisk,
-    own: u64,
-    wanted: &Wanted,
-) {
-    let once = stopped(rt, alloc, disk, own);
-    mend_all(rt, alloc, calls, &once.disk, SOME, wanted)
-}
-
-/// Recovers what a crash left once more where its recovery is stopped after any of its last calls: the ones before them
-/// only read.
-fn mend_whenever(rt: &impl Abort, alloc: Global, calls: u64, disk: &MemoryDisk, wanted: &Wanted) {
-    let all = calls_of(rt, alloc, disk);
-    for own in all.saturating_sub(LAST)..all {
-        mend_once(rt, alloc, calls, disk, own, wanted);
-    }
-}
-
-/// Recovers what this choice leaves where recovery is stopped too.
+/// Recovers what this choice leaves where recovery is stopped too, after any of its last calls: the ones before them only
+/// read.
 fn mend_stopped(
     rt: &impl Abort,
     alloc: Global,
@@ -202,7 +181,11 @@ fn mend_stopped(
     wanted: &Wanted,
 ) {
     let image = crashed(rt, disk, choice);
-    mend_whenever(rt, alloc, calls, &image, wanted)
+    let all = calls_of(rt, alloc, &image);
+    for own in all.saturating_sub(LAST)..all {
+        let once = stopped(rt, alloc, &image, own);
+        mend_all(rt, alloc, calls, &once.disk, SOME, wanted);
+    }
 }
 
 /// The script of which one call fails ends as one that is stopped there, and leaves the same disk; whether it ended.
@@ -219,10 +202,11 @@ fn fail_alike(rt: &impl Abort, alloc: Global, call: u64, stop: &mut Stop) -> boo
     stop.ended
 }
 
-/// What the script left that was stopped after so many calls mends, where recovery is stopped too, and is what it leaves
-/// where that call alone fails; whether it ended before.
-fn mend_after(rt: &impl Abort, alloc: Global, number: u32, stop: &mut Stop) -> bool {
+/// Stops the script after so many calls; whether it ended before. What it left mends, where recovery is stopped too, and
+/// is what it leaves where that call alone fails.
+fn stop_at(rt: &impl Abort, alloc: Global, number: u32) -> bool {
     let calls = u64::from(number);
+    let mut stop = run_to(rt, alloc, before(rt, alloc), calls, &SCRIPT);
     mend_all(rt, alloc, calls, &stop.disk, ALL, &stop.wanted);
     mend_stopped(
         rt,
@@ -232,33 +216,18 @@ fn mend_after(rt: &impl Abort, alloc: Global, number: u32, stop: &mut Stop) -> b
         &choice(number % 10),
         &stop.wanted,
     );
-    fail_alike(rt, alloc, calls, stop)
-}
-
-/// Stops the script after so many calls; whether it ended before.
-fn stop_at(rt: &impl Abort, alloc: Global, number: u32) -> bool {
-    let mut stop = run_to(rt, alloc, before(rt, alloc), u64::from(number), &SCRIPT);
-    mend_after(rt, alloc, number, &mut stop)
+    fail_alike(rt, alloc, calls, &mut stop)
 }
 
 /// Stops the script after every number of calls.
 fn stop_each(rt: &impl Abort, alloc: Global) {
     for number in 0..MOST {
         if stop_at(rt, alloc, number) {
-            return end(rt, number);
+            let calls = u64::from(number);
+            return check_at(rt, calls == 151, "calls of the whole script:", calls);
         }
     }
     fail(rt, "it never ends")
-}
-
-/// The whole script makes so many calls.
-fn end(rt: &impl Abort, number: u32) {
-    check_at(
-        rt,
-        number == 151,
-        "calls of the whole script:",
-        u64::from(number),
-    )
 }
 
 #[test]

@@ -176,26 +176,8 @@ fn mend_once(
     once.ended
 }
 
-/// Stops the recovery of an image after every number of calls and crashes it by each choice; how many images that are.
-fn mend_stopped(
-    rt: &impl Abort,
-    alloc: Global,
-    calls: u64,
-    image: &mut MemoryDisk,
-    wanted: &Wanted,
-) -> u64 {
-    let mut images: u64 = 0;
-    for own in 0..MOST {
-        let ended = mend_once(rt, alloc, calls, image, own, wanted);
-        images = images.saturating_add(u64::from(CHOICES));
-        if ended {
-            return images;
-        }
-    }
-    fail(rt, "a recovery never ends")
-}
-
-/// Stops the recovery of what this choice leaves of a disk; how many images that are.
+/// Stops the recovery of what this choice leaves of a disk after every number of calls and crashes it by each choice; how
+/// many images that are.
 fn mend_left(
     rt: &impl Abort,
     alloc: Global,
@@ -205,7 +187,15 @@ fn mend_left(
     wanted: &Wanted,
 ) -> u64 {
     let mut image = crashed(rt, disk, choice);
-    mend_stopped(rt, alloc, calls, &mut image, wanted)
+    let mut images: u64 = 0;
+    for own in 0..MOST {
+        let ended = mend_once(rt, alloc, calls, &mut image, own, wanted);
+        images = images.saturating_add(u64::from(CHOICES));
+        if ended {
+            return images;
+        }
+    }
+    fail(rt, "a recovery never ends")
 }
 
 /// Crashes a disk of the script, which is stopped after so many calls, by each choice and stops the recovery of each
