@@ -99,7 +99,8 @@ fn check_row(rt: &impl Abort, alloc: Global, of: &Given) {
     check_opened(rt, alloc, of, left)
 }
 
-/// Checks what recovery reports of what is left of a row, and that what stands before the log is kept, before and after.
+/// Checks what recovery reports of what is left of a row, and that what stands before the log is kept, before and
+/// after.
 fn check_recovered(rt: &impl Abort, alloc: Global, of: &Given, left: &mut MemoryDisk) {
     let (row, call) = (of.name, of.call);
     let front = Frame::of(rt, alloc, &mut small(rt, alloc, BLOCKS, &[], &[]), 1);

@@ -49,8 +49,8 @@ pub struct Wanted {
 }
 
 impl Wanted {
-    /// Recovers what a crash left, whose homes begin at this place: what stands before the log is kept, then too, and the
-    /// homes may be left. `at` is which of the test's images it is.
+    /// Recovers what a crash left, whose homes begin at this place: what stands before the log is kept, then too, and
+    /// the homes may be left. `at` is which of the test's images it is.
     pub fn mend(
         &self,
         rt: &impl Abort,

@@ -64,8 +64,8 @@ fn read_each(rt: &impl Abort, alloc: Global) {
     }
 }
 
-/// The script is called on the image before it; all homes are read as the model has them before it, and after each of its
-/// calls.
+/// The script is called on the image before it; all homes are read as the model has them before it, and after each of
+/// its calls.
 fn read_script(rt: &impl Abort, alloc: Global) {
     let mut deck = opening(rt, alloc, before(rt, alloc));
     let mut model = Model::new(alloc, [0; 16], u64::from(deck.usable()));

@@ -170,8 +170,8 @@ fn calls_of(rt: &impl Abort, alloc: Global, disk: &MemoryDisk) -> u64 {
     calls.saturating_add(1)
 }
 
-/// Recovers what this choice leaves where recovery is stopped too, after any of its last calls: the ones before them only
-/// read.
+/// Recovers what this choice leaves where recovery is stopped too, after any of its last calls: the ones before them
+/// only read.
 fn mend_stopped(
     rt: &impl Abort,
     alloc: Global,
@@ -202,8 +202,8 @@ fn fail_alike(rt: &impl Abort, alloc: Global, call: u64, stop: &mut Stop) -> boo
     stop.ended
 }
 
-/// Stops the script after so many calls; whether it ended before. What it left mends, where recovery is stopped too, and
-/// is what it leaves where that call alone fails.
+/// Stops the script after so many calls; whether it ended before. What it left mends, where recovery is stopped too,
+/// and is what it leaves where that call alone fails.
 fn stop_at(rt: &impl Abort, alloc: Global, number: u32) -> bool {
     let calls = u64::from(number);
     let mut stop = run_to(rt, alloc, before(rt, alloc), calls, &SCRIPT);

@@ -176,8 +176,8 @@ fn mend_once(
     once.ended
 }
 
-/// Stops the recovery of what this choice leaves of a disk after every number of calls and crashes it by each choice; how
-/// many images that are.
+/// Stops the recovery of what this choice leaves of a disk after every number of calls and crashes it by each choice;
+/// how many images that are.
 fn mend_left(
     rt: &impl Abort,
     alloc: Global,
