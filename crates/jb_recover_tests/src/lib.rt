@@ -20,9 +20,17 @@ mod fronts;
 #[cfg(test)]
 mod images;
 #[cfg(test)]
+mod logs;
+#[cfg(test)]
+mod mixtures;
+#[cfg(test)]
 mod peeks;
 #[cfg(test)]
+mod refusals;
+#[cfg(test)]
 mod renumbers;
+#[cfg(test)]
+mod revokes;
 #[cfg(test)]
 mod small;
 #[cfg(test)]

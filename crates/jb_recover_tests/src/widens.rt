@@ -1,134 +1,210 @@
 //! A clean journal gets block numbers of 64 bits: what is left, on a whole run and where one is broken off.
 
 use crate::frames::same_frame;
-use crate::images::{Row, difference, difference_from};
-use crate::small::{HOMES, MAGIC, clean, commit, counts, small};
+use crate::images::{
+    Row, check_at, check_none, check_none_at, check_row, crashed, difference, fail,
+};
+use crate::small::{Counts, HOMES, MAGIC, reports, small};
 use jb_disk::{FuseDisk, MemoryDisk, OneFaultDisk};
 use jb_front::{ChangeFault, Widened, widen};
 use jb_recover::recover;
 use jb_super::SuperFault;
 use std::alloc::Global;
-use std::test::Fail;
+use std::process::Abort;
 
 /// More calls than a widening makes.
 const MOST: u64 = 20;
 
+/// A name, the rows of the image, those that change, and the answer.
+struct Case {
+    name: &'static str,
+    rows: &'static [Row],
+    after: &'static [Row],
+    answer: Result<Widened, ChangeFault>,
+}
+
 /// A clean journal with narrow headers in its log, bytes after its superblock and a limit of its own.
-const NARROW: [Row; 5] = [
-    (0, 1, [33, 1, 7, 0]),
-    (0, 4, [1, 0, 5, 0]),
-    (0, 40, [7, 7, 7, 7]),
-    (1, 0, [MAGIC, 1, 7, 5]),
-    (4, 0, [MAGIC, 2, 7, 0]),
+static NARROW: Case = Case {
+    name: "narrow",
+    rows: &[
+        (0, 1, [33, 1, 7, 0]),
+        (0, 4, [1, 0, 5, 0]),
+        (0, 40, [7, 7, 7, 7]),
+        (1, 0, [MAGIC, 1, 7, 5]),
+        (4, 0, [MAGIC, 2, 7, 0]),
+    ],
+    after: &[(0, 2, [0, 0, 3, 0])],
+    answer: Ok(Widened {
+        limit: 5,
+        changed: true,
+    }),
+};
+
+static CASES: [Case; 6] = [
+    Case {
+        name: "quarter",
+        rows: &[(0, 1, [33, 1, 2, 0])],
+        after: &[(0, 2, [0, 0, 3, 0])],
+        answer: Ok(Widened {
+            limit: 8,
+            changed: true,
+        }),
+    },
+    Case {
+        name: "wide",
+        rows: &[(0, 1, [33, 1, 2, 0]), (0, 2, [0, 0, 3, 0])],
+        after: &[],
+        answer: Ok(Widened {
+            limit: 8,
+            changed: false,
+        }),
+    },
+    Case {
+        name: "wide alone",
+        rows: &[(0, 1, [33, 1, 2, 0]), (0, 2, [0, 0, 2, 0])],
+        after: &[],
+        answer: Ok(Widened {
+            limit: 8,
+            changed: false,
+        }),
+    },
+    Case {
+        name: "bare",
+        rows: &[(0, 1, [33, 1, 2, 0]), (0, 2, [0, 0, 0, 0])],
+        after: &[(0, 2, [0, 0, 2, 0])],
+        answer: Ok(Widened {
+            limit: 8,
+            changed: true,
+        }),
+    },
+    Case {
+        name: "dirty",
+        rows: &[(1, 0, [MAGIC, 2, 2, 0])],
+        after: &[],
+        answer: Err(ChangeFault::NeedsRecovery),
+    },
+    Case {
+        name: "feature",
+        rows: &[(0, 1, [33, 1, 2, 0]), (0, 2, [0, 0, 17, 0])],
+        after: &[],
+        answer: Err(ChangeFault::Super(SuperFault::Feature { word: 2, bits: 16 })),
+    },
 ];
 
-const NARROW_AFTER: [Row; 1] = [(0, 2, [0, 0, 3, 0])];
+/// What the widening of a case answers that is made again: nothing more is to be done.
+fn next_answer(case: &Case) -> Result<Widened, ChangeFault> {
+    let done = case.answer?;
+    Ok(Widened {
+        limit: done.limit,
+        changed: false,
+    })
+}
 
-/// A name, the rows of the image, those that change, and the answer.
-type Case<'a> = (&'a str, &'a [Row], &'a [Row], Result<Widened, ChangeFault>);
-
-const fn widened(limit: u32, changed: bool) -> Result<Widened, ChangeFault> {
-    Ok(Widened { limit, changed })
+/// Checks what a widening answers and leaves, that nothing is pending then, and what the next one answers.
+fn check_case(rt: &impl Abort, alloc: Global, case: &Case) {
+    let mut disk = small(rt, alloc, case.rows, &[]);
+    let is_told = widen(&mut disk) == case.answer;
+    check_row(rt, is_told, case.name, "what a widening answers");
+    let mut wanted = small(rt, alloc, case.rows, case.after);
+    let place = difference(rt, &mut disk, &mut wanted, 0);
+    check_none(rt, case.name, "block", place);
+    let mut left = crashed(rt, &disk, &[]);
+    let place = difference(rt, &mut left, &mut wanted, 0);
+    check_none(rt, case.name, "block that a crash leaves", place);
+    let is_told = widen(&mut disk) == next_answer(case);
+    check_row(rt, is_told, case.name, "what the next widening answers")
 }
 
 #[test]
-fn what_is_left(rt: HostRuntime) -> Result<(), Fail> {
-    let alloc = rt.alloc();
-    let quarter = [clean(2)];
-    let wide = [clean(2), (0, 2, [0, 0, 3, 0])];
-    let wide_alone = [clean(2), (0, 2, [0, 0, 2, 0])];
-    let bare = [clean(2), (0, 2, [0, 0, 0, 0])];
-    let bare_after = [(0, 2, [0, 0, 2, 0])];
-    let dirty = [commit(1, 2)];
-    let feature = [clean(2), (0, 2, [0, 0, 17, 0])];
-    let cases: [Case<'_>; 7] = [
-        ("narrow", &NARROW, &NARROW_AFTER, widened(5, true)),
-        ("quarter", &quarter, &NARROW_AFTER, widened(8, true)),
-        ("wide", &wide, &[], widened(8, false)),
-        ("wide alone", &wide_alone, &[], widened(8, false)),
-        ("bare", &bare, &bare_after, widened(8, true)),
-        ("dirty", &dirty, &[], Err(ChangeFault::NeedsRecovery)),
-        (
-            "feature",
-            &feature,
-            &[],
-            Err(ChangeFault::Super(SuperFault::Feature { word: 2, bits: 16 })),
-        ),
-    ];
-    for (name, rows, after, answer) in cases {
-        let mut disk = small(alloc, rows, &[])?;
-        assert_eq!(rt; widen(&mut disk), answer, "{name}");
-        let mut wanted = small(alloc, rows, after)?;
-        assert_eq!(rt; difference(alloc, &mut disk, &mut wanted)?, None, "{name}");
-        // Nothing is pending, and nothing more is to be done.
-        let mut left = disk.crash(&[])?;
-        assert_eq!(rt; difference(alloc, &mut left, &mut wanted)?, None, "{name}");
-        let again = match answer {
-            Ok(done) => widened(done.limit, false),
-            Err(fault) => Err(fault),
-        };
-        assert_eq!(rt; widen(&mut disk), again, "{name}");
+fn what_is_left(rt: HostRuntime) {
+    check_case(&rt, rt.alloc(), &NARROW);
+    for case in &CASES {
+        check_case(&rt, rt.alloc(), case);
     }
-    Ok(())
 }
 
-/// Whether the image that a crash leaves has block 0 as it was or as it is wanted, keeps it and the homes in a
-/// recovery, and widens to the expected one.
-fn keeps(
-    alloc: Global,
-    disk: &MemoryDisk,
-    choice: &[u32],
-    wanted: &mut MemoryDisk,
-) -> Result<bool, Fail> {
-    let mut left = disk.crash(choice)?;
-    let mut old = small(alloc, &NARROW, &[])?;
-    let is_old = same_frame(alloc, &mut left, &mut old)?;
-    if !is_old && !same_frame(alloc, &mut left, wanted)? {
-        return Ok(false);
-    }
-    if recover(alloc, &mut left) != Ok(counts(0, 0, 0, 8)) {
-        return Ok(false);
-    }
-    let is_kept = if is_old {
-        same_frame(alloc, &mut left, &mut old)?
-    } else {
-        same_frame(alloc, &mut left, wanted)?
-    };
-    if !is_kept {
-        return Ok(false);
-    }
-    if difference_from(alloc, &mut left, wanted, HOMES)?.is_some() {
-        return Ok(false);
-    }
-    let mut left = disk.crash(choice)?;
-    if widen(&mut left).is_err() {
-        return Ok(false);
-    }
-    Ok(difference(alloc, &mut left, wanted)?.is_none())
+/// The narrow journal, and what its widening leaves.
+fn narrow(rt: &impl Abort, alloc: Global) -> MemoryDisk {
+    small(rt, alloc, NARROW.rows, &[])
 }
 
-#[test]
-fn every_call_may_fail_or_be_the_last(rt: HostRuntime) -> Result<(), Fail> {
-    let alloc = rt.alloc();
-    let mut wanted = small(alloc, &NARROW, &NARROW_AFTER)?;
-    for call in 0..MOST {
-        let mut faulty = OneFaultDisk::of(small(alloc, &NARROW, &[])?, call);
-        let answer = widen(&mut faulty);
-        let mut fuse = FuseDisk::of(small(alloc, &NARROW, &[])?, call);
-        assert_eq!(rt; widen(&mut fuse), answer, "{call}");
-        let disk = fuse.into_inner();
-        assert!(rt; keeps(alloc, &disk, &[], &mut wanted)?, "{call}");
-        assert!(rt; keeps(alloc, &disk, &[1], &mut wanted)?, "{call}");
-        assert!(rt; keeps(alloc, &disk, &[0, 1], &mut wanted)?, "{call}");
-        assert!(rt; keeps(alloc, &disk, &[1, 1], &mut wanted)?, "{call}");
-        if answer == widened(5, true) {
-            return Ok(());
+fn wide(rt: &impl Abort, alloc: Global) -> MemoryDisk {
+    small(rt, alloc, NARROW.rows, NARROW.after)
+}
+
+/// Whether an image that is another one before the log keeps that and the homes in a recovery.
+fn keeps(rt: &impl Abort, alloc: Global, left: &mut MemoryDisk, other: &mut MemoryDisk) -> bool {
+    let is_told = recover(alloc, left) == reports(Counts(0, 0, 0, 8));
+    is_told && same_frame(rt, left, other) && difference(rt, left, other, HOMES).is_none()
+}
+
+/// Whether an image that a crash leaves has block 0 as it was or as it is wanted, and keeps it and the homes in a
+/// recovery.
+fn recovers(rt: &impl Abort, alloc: Global, left: &mut MemoryDisk) -> bool {
+    let mut old = narrow(rt, alloc);
+    let mut new = wide(rt, alloc);
+    if same_frame(rt, left, &mut old) {
+        return keeps(rt, alloc, left, &mut old);
+    }
+    same_frame(rt, left, &mut new) && keeps(rt, alloc, left, &mut new)
+}
+
+/// Whether an image that a crash leaves widens to the expected one.
+fn widens(rt: &impl Abort, alloc: Global, left: &mut MemoryDisk) -> bool {
+    widen(left).is_ok() && difference(rt, left, &mut wide(rt, alloc), 0).is_none()
+}
+
+/// The versions of the sectors that a crash leaves: old, or the newest one.
+static CHOICES: [[u32; 2]; 4] = [[0, 0], [1, 0], [0, 1], [1, 1]];
+
+/// The first of the choices with which a crash leaves an image that does not recover or widen.
+fn losing(rt: &impl Abort, alloc: Global, disk: &MemoryDisk) -> Option<u64> {
+    for (i, choice) in CHOICES.iter().enumerate() {
+        let is_kept = recovers(rt, alloc, &mut crashed(rt, disk, choice));
+        if !is_kept || !widens(rt, alloc, &mut crashed(rt, disk, choice)) {
+            return Some(i as u64);
         }
-        assert_eq!(rt; answer, Err(ChangeFault::DeviceFault), "{call}");
-        assert_eq!(rt; widen(&mut faulty)?.limit, 5, "{call}");
-        let mut again = faulty.into_inner();
-        assert_eq!(rt; difference(alloc, &mut again, &mut wanted)?, None, "{call}");
     }
-    assert!(rt; false, "no widening without a fault");
-    Ok(())
+    None
+}
+
+/// Checks a widening of which this call and all after it fail, which answers this, and what a crash leaves of it.
+fn check_rest(
+    rt: &impl Abort,
+    alloc: Global,
+    call: u64,
+    answer: Result<Widened, ChangeFault>,
+) {
+    let mut fuse = FuseDisk::of(narrow(rt, alloc), call);
+    let is_alike = widen(&mut fuse) == answer;
+    check_at(rt, is_alike, "what it answers where all calls fail from call", call);
+    let choice = losing(rt, alloc, &fuse.into_inner());
+    check_none_at(rt, "a crash leaves another image after call, by choice", call, choice)
+}
+
+/// Checks a widening of which this call fails, alone or with all after it, and the next one; whether no call failed.
+fn check_call(rt: &impl Abort, alloc: Global, call: u64) -> bool {
+    let mut faulty = OneFaultDisk::of(narrow(rt, alloc), call);
+    let answer = widen(&mut faulty);
+    check_rest(rt, alloc, call, answer);
+    if answer == NARROW.answer {
+        return true;
+    }
+    let is_fault = answer == Err(ChangeFault::DeviceFault);
+    check_at(rt, is_fault, "what it answers where a call fails:", call);
+    let limit = widen(&mut faulty).expect(rt, "the next widening").limit;
+    check_at(rt, limit == 5, "the limit after call", call);
+    let place = difference(rt, &mut faulty.into_inner(), &mut wide(rt, alloc), 0);
+    check_none_at(rt, "a block differs after call", call, place);
+    false
+}
+
+#[test]
+fn every_call_may_fail_or_be_the_last(rt: HostRuntime) {
+    for call in 0..MOST {
+        if check_call(&rt, rt.alloc(), call) {
+            return;
+        }
+    }
+    fail(&rt, "no widening without a fault")
 }

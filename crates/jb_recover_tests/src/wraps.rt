@@ -1,12 +1,12 @@
 //! A log that wraps, before and after its recovery.
 
-use crate::images::{Row, Table, image_of};
+use crate::images::{Row, put_rows, zeros};
 use crate::small::MAGIC;
 use jb_block::BlockSize;
 use jb_disk::MemoryDisk;
 use jb_recover::Recovered;
 use std::alloc::Global;
-use std::test::Fail;
+use std::process::Abort;
 
 /// Blocks in the journal, and before the first home block.
 const MAXLEN: u64 = 33;
@@ -15,7 +15,7 @@ const BLOCKS: u64 = MAXLEN + 9;
 
 /// A log that begins at place 29 and wraps to place 1: number 2 with copies of homes 5 (escaped), 6 and 7, number 3
 /// with a revoke of home 6 and copies of homes 7 and 3 (escaped), and number 4 without its commit block.
-const JOURNAL: [Row; 22] = [
+static JOURNAL: [Row; 22] = [
     (0, 0, [MAGIC, 4, 0, 1024]),
     (0, 1, [33, 1, 2, 29]),
     (0, 2, [0, 0, 1, 0]),
@@ -41,7 +41,7 @@ const JOURNAL: [Row; 22] = [
 ];
 
 /// The home blocks before recovery.
-const BEFORE: [Row; 5] = [
+static BEFORE: [Row; 5] = [
     (1, 0, [1, 1, 1, 1]),
     (3, 0, [3, 3, 3, 3]),
     (5, 0, [5, 5, 5, 5]),
@@ -50,17 +50,17 @@ const BEFORE: [Row; 5] = [
 ];
 
 /// The front of the superblock after it.
-const CLEAN: [Row; 1] = [(0, 1, [33, 1, 4, 0])];
+static CLEAN: [Row; 1] = [(0, 1, [33, 1, 4, 0])];
 
 /// The home blocks that it writes.
-const AFTER: [Row; 3] = [
+static AFTER: [Row; 3] = [
     (3, 0, [MAGIC, 303, 0, 0]),
     (5, 0, [MAGIC, 205, 0, 0]),
     (7, 0, [307, 307, 307, 307]),
 ];
 
 /// What its recovery reports.
-pub const COUNTS: Recovered = Recovered {
+pub static COUNTS: Recovered = Recovered {
     transactions: 2,
     copies: 4,
     revoked: 1,
@@ -68,39 +68,17 @@ pub const COUNTS: Recovered = Recovered {
 };
 
 /// The image with the wrapped log, before its recovery.
-pub fn before(alloc: Global) -> Result<MemoryDisk, Fail> {
-    let tables = [
-        Table {
-            base: 0,
-            rows: &JOURNAL,
-        },
-        Table {
-            base: MAXLEN,
-            rows: &BEFORE,
-        },
-    ];
-    image_of(alloc, BlockSize::OneKib, BLOCKS, &tables)
+pub fn before(rt: &impl Abort, alloc: Global) -> MemoryDisk {
+    let mut disk = zeros(rt, alloc, BlockSize::OneKib, BLOCKS);
+    put_rows(rt, &mut disk, 0, &JOURNAL);
+    put_rows(rt, &mut disk, MAXLEN, &BEFORE);
+    disk
 }
 
 /// The same image, recovered.
-pub fn after(alloc: Global) -> Result<MemoryDisk, Fail> {
-    let tables = [
-        Table {
-            base: 0,
-            rows: &JOURNAL,
-        },
-        Table {
-            base: 0,
-            rows: &CLEAN,
-        },
-        Table {
-            base: MAXLEN,
-            rows: &BEFORE,
-        },
-        Table {
-            base: MAXLEN,
-            rows: &AFTER,
-        },
-    ];
-    image_of(alloc, BlockSize::OneKib, BLOCKS, &tables)
+pub fn after(rt: &impl Abort, alloc: Global) -> MemoryDisk {
+    let mut disk = before(rt, alloc);
+    put_rows(rt, &mut disk, 0, &CLEAN);
+    put_rows(rt, &mut disk, MAXLEN, &AFTER);
+    disk
 }
