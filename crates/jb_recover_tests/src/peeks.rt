@@ -116,7 +116,12 @@ fn check_case(rt: &impl Abort, alloc: Global, case: &Case) {
     let mut disk = small(rt, alloc, rows, &[]);
     let (answer, word) = word_peeked(&mut disk, case.home);
     check_row(rt, answer == case.answer, case.name, "what a peek answers");
-    check_row(rt, word == case.word, case.name, "the first word of the bytes");
+    check_row(
+        rt,
+        word == case.word,
+        case.name,
+        "the first word of the bytes",
+    );
     let mut before = small(rt, alloc, rows, &[]);
     let place = difference(rt, &mut disk, &mut before, 0);
     check_none(rt, case.name, "block", place)
@@ -147,8 +152,16 @@ fn escaped(rt: &impl Abort, alloc: Global, after: &[Row]) -> MemoryDisk {
 fn check_stale(rt: &impl Abort, alloc: Global) {
     let mut fuse = FuseDisk::of(escaped(rt, alloc, &[clean(2)]), 2);
     let (answer, word) = word_peeked(&mut fuse, 5);
-    check(rt, answer == Ok(()), "what a peek over a stale copy answers");
-    check(rt, word == [0, 0, 0, 5], "the first word of a home with a stale copy")
+    check(
+        rt,
+        answer == Ok(()),
+        "what a peek over a stale copy answers",
+    );
+    check(
+        rt,
+        word == [0, 0, 0, 5],
+        "the first word of a home with a stale copy",
+    )
 }
 
 /// Checks a peek of which this call fails, and the next one.
@@ -156,9 +169,19 @@ fn check_call(rt: &impl Abort, alloc: Global, call: u64) {
     let mut faulty = OneFaultDisk::of(escaped(rt, alloc, &[]), call);
     let (answer, _) = peeked(&mut faulty, 5);
     let is_fault = answer == Err(PeekFault::DeviceFault);
-    check_at(rt, is_fault, "what a peek answers where a call fails:", call);
+    check_at(
+        rt,
+        is_fault,
+        "what a peek answers where a call fails:",
+        call,
+    );
     let (again, _) = peeked(&mut faulty, 5);
-    check_at(rt, again == Ok(()), "what the next peek answers after call", call)
+    check_at(
+        rt,
+        again == Ok(()),
+        "what the next peek answers after call",
+        call,
+    )
 }
 
 /// A clean journal's home whose log holds a copy of it, and a peek of which each call fails in turn: it reads and

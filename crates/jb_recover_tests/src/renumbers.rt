@@ -174,12 +174,7 @@ fn keeps_homes(
 }
 
 /// The first mixture with which a crash leaves an image that does not keep the homes.
-fn losing(
-    rt: &impl Abort,
-    alloc: Global,
-    disk: &MemoryDisk,
-    old: &mut MemoryDisk,
-) -> Option<u64> {
+fn losing(rt: &impl Abort, alloc: Global, disk: &MemoryDisk, old: &mut MemoryDisk) -> Option<u64> {
     for mixture in &MIXTURES {
         if !keeps_homes(rt, alloc, disk, *mixture, old) {
             return Some(u64::from(*mixture));
@@ -203,10 +198,20 @@ fn broken_off(
 ) -> MemoryDisk {
     let mut fuse = FuseDisk::of(spent(rt, alloc), call);
     let is_alike = renumber(&mut fuse) == answer;
-    check_at(rt, is_alike, "what it answers where all calls fail from call", call);
+    check_at(
+        rt,
+        is_alike,
+        "what it answers where all calls fail from call",
+        call,
+    );
     let disk = fuse.into_inner();
     let mixture = losing(rt, alloc, &disk, &mut spent(rt, alloc));
-    check_none_at(rt, "a crash loses homes after call, by mixture", call, mixture);
+    check_none_at(
+        rt,
+        "a crash loses homes after call, by mixture",
+        call,
+        mixture,
+    );
     disk
 }
 
@@ -228,7 +233,9 @@ fn check_call(rt: &impl Abort, alloc: Global, call: u64) -> bool {
     }
     let is_fault = answer == Err(ChangeFault::DeviceFault);
     check_at(rt, is_fault, "what it answers where a call fails:", call);
-    let next = renumber(&mut faulty).expect(rt, "the next renumbering").next;
+    let next = renumber(&mut faulty)
+        .expect(rt, "the next renumbering")
+        .next;
     check_at(rt, next == 1, "the next number after call", call);
     check_left(rt, alloc, call, &mut faulty.into_inner());
     false

@@ -169,17 +169,22 @@ fn losing(rt: &impl Abort, alloc: Global, disk: &MemoryDisk) -> Option<u64> {
 }
 
 /// Checks a widening of which this call and all after it fail, which answers this, and what a crash leaves of it.
-fn check_rest(
-    rt: &impl Abort,
-    alloc: Global,
-    call: u64,
-    answer: Result<Widened, ChangeFault>,
-) {
+fn check_rest(rt: &impl Abort, alloc: Global, call: u64, answer: Result<Widened, ChangeFault>) {
     let mut fuse = FuseDisk::of(narrow(rt, alloc), call);
     let is_alike = widen(&mut fuse) == answer;
-    check_at(rt, is_alike, "what it answers where all calls fail from call", call);
+    check_at(
+        rt,
+        is_alike,
+        "what it answers where all calls fail from call",
+        call,
+    );
     let choice = losing(rt, alloc, &fuse.into_inner());
-    check_none_at(rt, "a crash leaves another image after call, by choice", call, choice)
+    check_none_at(
+        rt,
+        "a crash leaves another image after call, by choice",
+        call,
+        choice,
+    )
 }
 
 /// Checks a widening of which this call fails, alone or with all after it, and the next one; whether no call failed.
