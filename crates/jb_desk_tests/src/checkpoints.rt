@@ -28,7 +28,7 @@ type Failing<H, N> = Still<OneFaultDisk<MemoryDisk>, H, N>;
 /// What follows a checkpoint after one handle is committed and another has stopped: what a read of no home into half a
 /// block answers, the next round and a begin, what is answered of both tickets, and the handles, changes and groups at
 /// the end.
-#[derive(Clone, Copy)]
+#[derive(Drop)]
 struct Found {
     first: Came,
     checked: Result<Checked, CheckpointFault>,
@@ -39,7 +39,7 @@ struct Found {
 }
 
 /// What a seat is answered after all.
-#[derive(Clone, Copy)]
+#[derive(Drop)]
 struct Answers {
     begun: Option<BeginFault>,
     settled: Result<u32, WaitFault>,
@@ -129,34 +129,19 @@ fn check_failed(rt: &impl Abort, call: u64, found: &Found) -> bool {
     if found.checked != Err(CheckpointFault::DeviceFault) {
         return false;
     }
-    let Answers {
-        begun,
-        settled,
-        lost,
-    } = found.after;
+    let after = &found.after;
+    let is_refused = after.begun == Some(BeginFault::Aborted);
+    let is_settled = after.settled == Ok(2);
+    let is_lost = after.lost == Err(WaitFault::Aborted);
+    let is_first = is_one(found.first, 0, 2);
     let is_second = matches!(found.second, Came::Failed(RoundFault::Aborted));
     let is_read = found.read == Err(ReadHomeFault::Aborted);
-    check_at(
-        rt,
-        is_one(found.first, 0, 2),
-        "the first round, fault",
-        call,
-    );
+    check_at(rt, is_first, "the first round, fault", call);
     check_at(rt, is_read, "a read, fault", call);
     check_at(rt, is_second, "the second round, fault", call);
-    check_at(
-        rt,
-        begun == Some(BeginFault::Aborted),
-        "a begin, fault",
-        call,
-    );
-    check_at(rt, settled == Ok(2), "the settled ticket, fault", call);
-    check_at(
-        rt,
-        lost == Err(WaitFault::Aborted),
-        "the lost ticket, fault",
-        call,
-    );
+    check_at(rt, is_refused, "a begin, fault", call);
+    check_at(rt, is_settled, "the settled ticket, fault", call);
+    check_at(rt, is_lost, "the lost ticket, fault", call);
     check_at(rt, found.counts.0 == 2, "handles, fault", call);
     check_at(rt, found.counts.1 == 2, "changes, fault", call);
     check_at(rt, found.counts.2 == 1, "groups, fault", call);

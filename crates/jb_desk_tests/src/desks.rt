@@ -180,7 +180,7 @@ fn leavers<R: Abort + Wait, H: Origin, N: Ledger>(rt: &R, desk: &Small<H, N>) {
 }
 
 /// What is asked of a new desk.
-#[derive(Clone, Copy)]
+#[derive(Drop)]
 enum Row {
     OneHandle,
     Beside,
