@@ -52,9 +52,9 @@ fn lost_ticket(begun: Option<BeginFault>) -> u64 {
 }
 
 /// What a begin answers, and what is answered of both tickets.
-fn after<R: Wait, H: Origin, N: Ledger>(
+fn after<R: Wait, D: Disk, H: Origin, N: Ledger>(
     rt: &R,
-    desk: &Failing<H, N>,
+    desk: &Still<D, H, N>,
     seat: Seat<H, N>,
 ) -> (Seat<H, N>, Answers)
     requires desk { desk_of seat ≡ desk_id desk.now }
@@ -70,10 +70,10 @@ fn after<R: Wait, H: Origin, N: Ledger>(
     (seat, after)
 }
 
-fn after_checkpoint<R: Abort + Wait, H: Origin, N: Ledger>(
+fn after_checkpoint<R: Abort + Wait, D: Disk + Drop, H: Origin, N: Ledger>(
     rt: &R,
     alloc: Global,
-    desk: Failing<H, N>,
+    desk: Still<D, H, N>,
 ) -> Found
     requires any { (words : WordMap) → H.begun.stops words }
     requires parts { (H.parts ≡ 2 ^ 61 + 1) × (N.parts ≡ 2 ^ 61 + 1) }
@@ -226,6 +226,26 @@ fn run_crowded<
 
 /// Checks that no group is left once a checkpointer has ended that ran while the last handle of the desk was
 /// committed.
+fn check_race<
+    R: Abort + Threads + Wait + Sync,
+    D: Disk + Drop + Send,
+    H: Origin + Send + Sync,
+    N: Ledger + Send + Sync,
+>(rt: &R, race: u64, desk: Still<D, H, N>)
+    requires any { (words : WordMap) → H.begun.stops words }
+{
+    let (_, ended) = thread::join(rt, || commit_last(rt, &desk), || run_crowded(rt, &desk));
+    let is_empty = desk.checkpoint_round(rt) == Err(CheckpointFault::Nothing);
+    check_at(
+        rt,
+        ended.is_shut(),
+        "how the checkpointer ends in race",
+        race,
+    );
+    check_at(rt, is_empty, "a group is left in race", race);
+}
+
+/// Races the threads of a new desk.
 fn ends_with_no_group<
     R: Abort + Threads + Wait + Sync,
     H: Origin + Send + Sync,
@@ -238,20 +258,7 @@ fn ends_with_no_group<
     requires changes { (changes.name ≡ N.name) × (changes.parts ≡ N.parts) × (N.parts ≡ 2 ^ 61 + 1) }
 {
     let desk: Small<H, N> = small(rt, alloc, handles, changes);
-    let (_, ended) = thread::join(rt, || commit_last(rt, &desk), || run_crowded(rt, &desk));
-    let last = desk.checkpoint_round(rt);
-    check_at(
-        rt,
-        ended.is_shut(),
-        "the checkpointer does not end with the desk in race",
-        race,
-    );
-    check_at(
-        rt,
-        last == Err(CheckpointFault::Nothing),
-        "a group is left in race",
-        race,
-    );
+    check_race(rt, race, desk)
 }
 
 #[test]

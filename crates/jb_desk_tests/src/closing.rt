@@ -1,7 +1,7 @@
 //! Desks that are over, and what is counted once they are closed.
 ghost use Rattle.std.specs.Prelude.{◌≡◌, ◌+◌, ◌^◌};
 
-use crate::checks::{check_at, fail};
+use crate::checks::check_of;
 use crate::journal::Still;
 use jb_desk::{CloseFault, Closed, Ended, Left, Origin, Seat, SeatFault};
 use jb_disk::{Disk, FixedClock};
@@ -53,9 +53,10 @@ pub fn closed<D: Disk + Drop, H: Origin, N: Ledger>(
 }
 
 /// Closes a desk of which all seats have left, and checks how many handles and changes it has counted, and how many
-/// groups its trail has.
+/// groups its trail has. Where that is wrong, it gives the desk this name.
 pub fn check_close<D: Disk + Drop, H: Origin, N: Ledger>(
     rt: &impl Abort,
+    name: &'static str,
     desk: Still<D, H, N>,
     lefts: Vec<Left<H, N>>,
     counts: (u64, u64, usize),
@@ -63,25 +64,18 @@ pub fn check_close<D: Disk + Drop, H: Origin, N: Ledger>(
     requires parts { (H.parts ≡ 2 ^ 61 + 1) × (N.parts ≡ 2 ^ 61 + 1) }
 {
     let closed = closed(rt, desk, lefts);
+    let handles = closed.handles;
+    let changes = closed.changes;
     let groups = closed.trail.len();
-    check_at(
-        rt,
-        closed.handles == counts.0,
-        "handles of the desk:",
-        closed.handles,
-    );
-    check_at(
-        rt,
-        closed.changes == counts.1,
-        "changes of the desk:",
-        closed.changes,
-    );
-    check_at(rt, groups == counts.2, "groups of the desk:", groups as u64);
+    check_of(rt, handles == counts.0, name, "handles:", handles);
+    check_of(rt, changes == counts.1, name, "changes:", changes);
+    check_of(rt, groups == counts.2, name, "groups:", groups as u64);
 }
 
 /// Checks that closing a desk is refused while a seat is out, and what is counted once the last one has left.
 pub fn check_close_twice<D: Disk + Drop, H: Origin, N: Ledger>(
     rt: &impl Abort,
+    name: &'static str,
     desk: Still<D, H, N>,
     lefts: Vec<Left<H, N>>,
     last: Left<H, N>,
@@ -92,8 +86,8 @@ pub fn check_close_twice<D: Disk + Drop, H: Origin, N: Ledger>(
     match desk.close(lefts) {
         Err(CloseFault::SeatsOut(desk, mut lefts)) => {
             lefts.push(last).expect(rt, "memory");
-            check_close(rt, desk, lefts, counts)
+            check_close(rt, name, desk, lefts, counts)
         }
-        _ => fail(rt, "closing is not refused while a seat is out"),
+        _ => panic!(rt; "{name}: closing is not refused while a seat is out"),
     }
 }

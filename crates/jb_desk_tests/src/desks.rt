@@ -55,7 +55,7 @@ fn check_stop<R: Abort + Wait, H: Origin, N: Ledger>(
     requires any { (words : WordMap) → H.begun.stops words }
     requires desk { desk_of seat ≡ desk_id desk.now }
 {
-    let mut handle = begun(rt, desk, seat, 1);
+    let mut handle = begun(rt, desk, seat, 1, "one handle");
     let _refused = handle.revoke(1);
     let (mut seat, ticket) = stop(rt, desk, handle);
     let front = desk.front(&mut seat);
@@ -92,12 +92,13 @@ fn one_handle<R: Abort + Wait, H: Origin, N: Ledger>(rt: &R, alloc: Global, desk
     );
     let lefts = left(rt, alloc, &desk, seat);
     check(rt, is_closed(rt, &desk), "a desk that is shut gives a seat");
-    check_close(rt, desk, lefts, (1, 1, 0))
+    check_close(rt, "one handle", desk, lefts, (1, 1, 0))
 }
 
 /// A seat begins a handle, takes it apart, and begins another one. Gives what it leaves.
 fn check_busy<R: Abort + Wait, H: Origin, N: Ledger>(rt: &R, desk: &Small<H, N>) -> Left<H, N> {
-    let (seat, _words) = begun(rt, desk, seated(rt, desk), 1).end();
+    let handle = begun(rt, desk, seated(rt, desk), 1, "a handle that its seat ends");
+    let (seat, _words) = handle.end();
     let (seat, busy) = refused(rt, desk, seat, 1);
     check(
         rt,
@@ -144,7 +145,7 @@ fn strays<R: Abort + Wait, H: Origin, N: Ledger>(rt: &R, alloc: Global, desk: Sm
         over == Some(0),
         "how many handles were settled when the desk was over",
     );
-    check_close_twice(rt, desk, lefts, first, (0, 0, 0))
+    check_close_twice(rt, "strays", desk, lefts, first, (0, 0, 0))
 }
 
 /// Beside five handles of 6 credits, one of 3 is refused, and one of 2 is begun.
@@ -165,7 +166,7 @@ fn beside<R: Abort + Wait, H: Origin, N: Ledger>(rt: &R, desk: &Small<H, N>, cou
     if count == 0 {
         return check_full(rt, desk);
     }
-    let handle = begun(rt, desk, seated(rt, desk), 6);
+    let handle = begun(rt, desk, seated(rt, desk), 6, "one of five handles");
     beside(rt, desk, count - 1);
     let seat = desk.abandon(rt, handle);
     let _left = desk.leave(rt, seat);
@@ -174,7 +175,8 @@ fn beside<R: Abort + Wait, H: Origin, N: Ledger>(rt: &R, desk: &Small<H, N>, cou
 /// Six seats, one after the other, begin a handle of 6 credits and leave with it.
 fn leavers<R: Abort + Wait, H: Origin, N: Ledger>(rt: &R, desk: &Small<H, N>) {
     for _ in 0..6 {
-        let (seat, _words) = begun(rt, desk, seated(rt, desk), 6).end();
+        let handle = begun(rt, desk, seated(rt, desk), 6, "a handle after leavers");
+        let (seat, _words) = handle.end();
         let _left = desk.leave(rt, seat);
     }
 }

@@ -91,7 +91,7 @@ fn desk_ended<R: Abort + Wait, H: Origin, N: Ledger>(
     let seat = end(rt, &desk, seat);
     let lefts = left(rt, alloc, &desk, seat);
     check(rt, is_closed(rt, &desk), "a desk that is shut gives a seat");
-    check_close(rt, desk, lefts, (2, 3, 1))
+    check_close(rt, "the desk", desk, lefts, (2, 3, 1))
 }
 
 #[test]

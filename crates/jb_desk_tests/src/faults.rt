@@ -11,7 +11,7 @@ use crate::journal::{
     stop, write,
 };
 use jb_desk::{BeginFault, EnqueueFault, Origin, RoundFault, Stops};
-use jb_disk::{MemoryDisk, OneFaultDisk};
+use jb_disk::{Disk, MemoryDisk, OneFaultDisk};
 use jb_recover::recover;
 use std::alloc::Global;
 use std::marker::Brand;
@@ -22,8 +22,7 @@ use std::sync::ledger::{Blank, Ledger};
 type Failing<H, N> = Still<OneFaultDisk<MemoryDisk>, H, N>;
 
 /// What follows a round in which one handle is committed while another is open: what the other's stop and a further
-/// begin answer, how many handles have stopped, whether the committer retires, the handles and changes at the end, and
-/// whether recovery finds the home block whole, as it was or as it is written.
+/// begin answer, how many handles have stopped, whether the committer retires, and the handles and changes at the end.
 #[derive(Drop)]
 struct Answers {
     second: Result<u64, EnqueueFault>,
@@ -32,7 +31,6 @@ struct Answers {
     is_retired: bool,
     handles: u64,
     changes: u64,
-    is_whole: bool,
 }
 
 /// What the round came to, and what follows it.
@@ -50,7 +48,6 @@ static FAILED: Answers = Answers {
     is_retired: true,
     handles: 1,
     changes: 1,
-    is_whole: true,
 };
 
 /// What follows a round that commits the handle.
@@ -61,28 +58,31 @@ static COMMITTED: Answers = Answers {
     is_retired: true,
     handles: 2,
     changes: 1,
-    is_whole: true,
 };
 
-/// Whether home block 1 has one byte throughout after a recovery: 0 as it was, or 7 as it is written.
-fn is_whole(rt: &impl Abort, alloc: Global, disk: MemoryDisk) -> bool {
+/// Checks that recovery finds home block 1 whole where this call of the disk fails: it has one byte throughout, 0 as it
+/// was, or 7 as it is written.
+fn check_whole(rt: &impl Abort, alloc: Global, call: u64, disk: MemoryDisk) {
     let mut disk = disk;
-    check(rt, recover(alloc, &mut disk).is_ok(), "it is not recovered");
+    let is_recovered = recover(alloc, &mut disk).is_ok();
+    check_at(rt, is_recovered, "the recovery, fault", call);
     let block = home(rt, &mut disk, 1);
-    block == [0; 1024] || block == [7; 1024]
+    let is_whole = block == [0; 1024] || block == [7; 1024];
+    check_at(rt, is_whole, "the home block, fault", call);
 }
 
-fn after_round<R: Abort + Wait, H: Origin, N: Ledger>(
+/// What the round comes to and what follows it, and the disk then.
+fn after_round<R: Abort + Wait, D: Disk + Drop, H: Origin, N: Ledger>(
     rt: &R,
     alloc: Global,
-    desk: Failing<H, N>,
-) -> Found
+    desk: Still<D, H, N>,
+) -> (Found, D)
     requires any { (words : WordMap) → H.begun.stops words }
     requires parts { (H.parts ≡ 2 ^ 61 + 1) × (N.parts ≡ 2 ^ 61 + 1) }
 {
     let (seat, _) = write(rt, &desk, seated(rt, &desk), 1, &[1]);
     let mut committer = desk.committer(seat);
-    let handle = begun(rt, &desk, seated(rt, &desk), 1);
+    let handle = begun(rt, &desk, seated(rt, &desk), 1, "the other handle");
     let came = round(rt, &desk, &mut committer);
     let (seat, second) = stop(rt, &desk, handle);
     let (mut seat, begun) = refused(rt, &desk, seat, 1);
@@ -91,18 +91,15 @@ fn after_round<R: Abort + Wait, H: Origin, N: Ledger>(
     let (seat, is_retired) = retired(rt, &desk, committer);
     lefts.push(desk.leave(rt, seat)).expect(rt, "memory");
     let closed = closed(rt, desk, lefts);
-    Found {
-        came,
-        answers: Answers {
-            second,
-            begun,
-            stopped,
-            is_retired,
-            handles: closed.handles,
-            changes: closed.changes,
-            is_whole: is_whole(rt, alloc, closed.disk.into_inner()),
-        },
-    }
+    let answers = Answers {
+        second,
+        begun,
+        stopped,
+        is_retired,
+        handles: closed.handles,
+        changes: closed.changes,
+    };
+    (Found { came, answers }, closed.disk)
 }
 
 /// What is found where this call of the disk fails; `None` where the journal cannot be opened then.
@@ -122,7 +119,9 @@ fn failing<R: Abort + Wait, H: Origin, N: Ledger>(
     match opened(alloc, OneFaultDisk::of(formatted(rt, alloc), call)) {
         Some(deck) => {
             let desk: Failing<H, N> = start(rt, alloc, handles, changes, deck);
-            Some(after_round(rt, alloc, desk))
+            let (found, disk) = after_round(rt, alloc, desk);
+            check_whole(rt, alloc, call, disk.into_inner());
+            Some(found)
         }
         None => None,
     }
@@ -144,12 +143,6 @@ fn check_answers(rt: &impl Abort, call: u64, found: &Answers, wanted: &Answers) 
     check_at(rt, is_retired, "whether the committer retires, fault", call);
     check_at(rt, found.handles == wanted.handles, "handles, fault", call);
     check_at(rt, found.changes == wanted.changes, "changes, fault", call);
-    check_at(
-        rt,
-        found.is_whole == wanted.is_whole,
-        "the home block, fault",
-        call,
-    );
 }
 
 /// Checks what is found where this call of the disk fails, or is not made. Says whether the round has failed.

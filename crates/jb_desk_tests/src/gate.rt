@@ -196,7 +196,7 @@ fn second<K: Abort + Wait + Clock, D: Disk, H: Origin, N: Ledger>(
 ) -> Left<H, N>
     requires any { (words : WordMap) → H.begun.stops words }
 {
-    let mut handle = begun(rt, desk, seated(rt, desk), 2);
+    let mut handle = begun(rt, desk, seated(rt, desk), 2, "the second handle");
     gate.has_begun.store(true, Ordering::SeqCst);
     let _refused = handle.write(2, &[2; 1024]);
     await_flag(rt, &gate.is_writing, "the log is not written");
@@ -207,6 +207,23 @@ fn second<K: Abort + Wait + Clock, D: Disk, H: Origin, N: Ledger>(
 }
 
 /// Two threads stop a handle each, the second one while the disk is at work for the first.
+fn stop_both<
+    R: Abort + Threads + Wait + Clock + Sync,
+    D: Disk + Drop + Send,
+    H: Origin + Send + Sync,
+    N: Ledger + Send + Sync,
+>(rt: &R, alloc: Global, gate: &Gate, desk: Still<D, H, N>)
+    requires any { (words : WordMap) → H.begun.stops words }
+    requires parts { (H.parts ≡ 2 ^ 61 + 1) × (N.parts ≡ 2 ^ 61 + 1) }
+{
+    let (other, one) = thread::join(rt, || second(rt, &desk, gate), || first(rt, &desk, gate));
+    let mut lefts = Vec::new(alloc);
+    lefts.push(one).expect(rt, "memory");
+    lefts.push(other).expect(rt, "memory");
+    check_close(rt, "the desk", desk, lefts, (2, 2, 2))
+}
+
+/// Two threads stop a handle each at a new desk.
 fn gated<
     R: Abort + Threads + Wait + Clock + Sync,
     H: Origin + Send + Sync,
@@ -220,11 +237,7 @@ fn gated<
 {
     let deck = opened(alloc, gated_disk(rt, alloc, gate)).expect(rt, "the journal is not opened");
     let desk: Gated<'_, R, H, N> = start(rt, alloc, handles, changes, deck);
-    let (other, one) = thread::join(rt, || second(rt, &desk, gate), || first(rt, &desk, gate));
-    let mut lefts = Vec::new(alloc);
-    lefts.push(one).expect(rt, "memory");
-    lefts.push(other).expect(rt, "memory");
-    check_close(rt, desk, lefts, (2, 2, 2))
+    stop_both(rt, alloc, gate, desk)
 }
 
 #[test]

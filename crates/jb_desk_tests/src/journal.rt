@@ -84,18 +84,19 @@ pub fn seated<R: Abort + Wait, D: Disk, H: Origin, N: Ledger>(
     desk.seat(rt).expect(rt, "there is no seat")
 }
 
-/// Begins a handle that is not refused.
+/// Begins a handle that is not refused. Fails the test where it is, and says that it was this one.
 pub fn begun<R: Abort + Wait, D: Disk, H: Origin, N: Ledger>(
     rt: &R,
     desk: &Still<D, H, N>,
     seat: Seat<H, N>,
     credits: u32,
+    what: &'static str,
 ) -> Handle<Seat<H, N>>
     ensures { holder result ≡ seat }
 {
     match desk.begin(rt, seat, credits) {
         Ok(handle) => handle,
-        Err((_seat, fault)) => panic!(rt; "a handle is not begun: {fault}"),
+        Err((_seat, fault)) => panic!(rt; "{what} is not begun: {fault}"),
     }
 }
 

@@ -156,9 +156,15 @@ fn check_trail(rt: &impl Abort, number: u64, lived: &Lived, taken: &Taken, trail
     let is_longest = longest == lived.longest;
     let left = trail.len();
     let is_left = left == lived.left;
-    check_in(rt, count == lived.taken, number, "taken:", count as u64);
-    check_in(rt, is_longest, number, "at most:", longest as u64);
-    check_in(rt, is_left, number, "left in the trail:", left as u64);
+    check_in(
+        rt,
+        count == lived.taken,
+        number,
+        "entries taken:",
+        count as u64,
+    );
+    check_in(rt, is_longest, number, "entries at most:", longest as u64);
+    check_in(rt, is_left, number, "entries left:", left as u64);
     check_entries(rt, number, &taken.entries, 0);
     check_entries(rt, number, trail, count);
 }

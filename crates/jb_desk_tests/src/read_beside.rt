@@ -63,6 +63,18 @@ fn read<
 }
 
 /// A home is read before a round, and while the disk holds it.
+fn commit_and_read<
+    R: Abort + Threads + Wait + Clock + Sync,
+    D: Disk + Drop + Send,
+    H: Origin + Send + Sync,
+    N: Ledger + Send + Sync,
+>(rt: &R, desk: Still<D, H, N>, gate: &Gate)
+    requires any { (words : WordMap) → H.begun.stops words }
+{
+    thread::join(rt, || commit(rt, &desk), || read(rt, &desk, gate));
+}
+
+/// Commits and reads at a new desk.
 fn beside<
     R: Abort + Threads + Wait + Clock + Sync,
     H: Origin + Send + Sync,
@@ -76,7 +88,7 @@ fn beside<
 {
     let deck = opened(alloc, gated_disk(rt, alloc, gate)).expect(rt, "the journal is not opened");
     let desk: Gated<'_, R, H, N> = start(rt, alloc, handles, changes, deck);
-    thread::join(rt, || commit(rt, &desk), || read(rt, &desk, gate));
+    commit_and_read(rt, desk, gate)
 }
 
 #[test]

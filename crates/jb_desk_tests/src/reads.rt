@@ -72,7 +72,7 @@ fn fill<R: Abort + Wait, D: Disk, H: Origin, N: Ledger>(
     requires any { (words : WordMap) → H.begun.stops words }
     requires desk { desk_of seat ≡ desk_id desk.now }
 {
-    let mut handle = begun(rt, desk, seat, 1);
+    let mut handle = begun(rt, desk, seat, 1, "a handle that fills a home");
     let _refused = handle.write(home, &[byte; 1024]);
     let (seat, ticket) = stop(rt, desk, handle);
     (seat, ticket.is_ok())
@@ -209,7 +209,7 @@ fn homes_are_read_as_they_are_committed(rt: HostRuntime) {
 type Failing<H, N> = Still<OneFaultDisk<MemoryDisk>, H, N>;
 
 /// A read fails, a handle is committed after it, and the home is read again.
-fn check_read<R: Abort + Wait, H: Origin, N: Ledger>(rt: &R, desk: &Failing<H, N>)
+fn check_read<R: Abort + Wait, D: Disk + Drop, H: Origin, N: Ledger>(rt: &R, desk: Still<D, H, N>)
     requires any { (words : WordMap) → H.begun.stops words }
 {
     let read = desk.read(rt, 2, &mut [0; 1024]);
@@ -218,9 +218,9 @@ fn check_read<R: Abort + Wait, H: Origin, N: Ledger>(rt: &R, desk: &Failing<H, N
         read == Err(ReadHomeFault::DeviceFault),
         "the read that fails",
     );
-    take(rt, desk, 0, Step::Fill(1, 11));
-    take(rt, desk, 1, Step::Round);
-    check(rt, filled(rt, desk, 2) == 0, "the home that is read again");
+    take(rt, &desk, 0, Step::Fill(1, 11));
+    take(rt, &desk, 1, Step::Round);
+    check(rt, filled(rt, &desk, 2) == 0, "the home that is read again");
 }
 
 /// Reads where this call of the disk fails; says whether the journal could be opened then.
@@ -240,7 +240,7 @@ fn failing<R: Abort + Wait, H: Origin, N: Ledger>(
     match opened(alloc, OneFaultDisk::of(formatted(rt, alloc), call)) {
         Some(deck) => {
             let desk: Failing<H, N> = start(rt, alloc, handles, changes, deck);
-            check_read(rt, &desk);
+            check_read(rt, desk);
             true
         }
         None => false,

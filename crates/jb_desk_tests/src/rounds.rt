@@ -147,7 +147,7 @@ fn one_round<R: Abort + Wait, H: Origin, N: Ledger>(rt: &R, alloc: Global, desk:
     check_settled(rt, &desk, &mut seat);
     let seat = check_shut(rt, &desk, seat);
     let lefts = left(rt, alloc, &desk, seat);
-    check_close(rt, desk, lefts, (1, 1, 1))
+    check_close(rt, "one round", desk, lefts, (1, 1, 1))
 }
 
 /// A round in which two handles take a group each, where the journal has one number left.
@@ -190,7 +190,7 @@ fn no_number<R: Abort + Wait, H: Origin, N: Ledger>(rt: &R, alloc: Global, desk:
     check(rt, second == Some(1), "the second ticket");
     let seat = check_refused(rt, &desk, seat);
     let lefts = left(rt, alloc, &desk, seat);
-    check_close_twice(rt, desk, lefts, last, (2, 12, 0))
+    check_close_twice(rt, "no number", desk, lefts, last, (2, 12, 0))
 }
 
 /// A new desk over a new journal, or over one with one number left.
