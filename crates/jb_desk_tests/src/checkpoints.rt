@@ -23,6 +23,7 @@ use std::sync::ledger::{Blank, Ledger};
 use std::thread;
 use std::thread::Threads;
 
+/// A desk whose disk fails once.
 type Failing<H, N> = Still<OneFaultDisk<MemoryDisk>, H, N>;
 
 /// What follows a checkpoint after one handle is committed and another has stopped: what a read of no home into half a
@@ -70,6 +71,7 @@ fn after<R: Wait, D: Disk, H: Origin, N: Ledger>(
     (seat, after)
 }
 
+/// Commits a handle, stops another, and brings the first one's group home; then looks what follows.
 fn after_checkpoint<R: Abort + Wait, D: Disk + Drop, H: Origin, N: Ledger>(
     rt: &R,
     alloc: Global,

@@ -19,6 +19,7 @@ use std::process::Abort;
 use std::sync::Wait;
 use std::sync::ledger::{Blank, Ledger};
 
+/// A desk whose disk fails once.
 type Failing<H, N> = Still<OneFaultDisk<MemoryDisk>, H, N>;
 
 /// What follows a round in which one handle is committed while another is open: what the other's stop and a further

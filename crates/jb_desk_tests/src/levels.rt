@@ -51,7 +51,7 @@ fn commit_all<R: Wait, D: Disk, H: Origin, N: Ledger>(
     seat
 }
 
-/// Checks a row on a new desk.
+/// Checks what a desk comes to that has committed nothing yet.
 fn check_row<R: Abort + Wait, H: Origin, N: Ledger>(
     rt: &R,
     alloc: Global,
@@ -83,6 +83,7 @@ fn check_row<R: Abort + Wait, H: Origin, N: Ledger>(
     );
 }
 
+/// A row on a new desk.
 fn level<R: Abort + Wait, H: Origin, N: Ledger>(
     rt: &R,
     alloc: Global,

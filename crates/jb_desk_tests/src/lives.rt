@@ -50,6 +50,7 @@ struct Taken {
 }
 
 impl Taken {
+    /// Nothing yet.
     fn new(alloc: Global) -> Taken {
         Taken {
             entries: Vec::new(alloc),
@@ -152,23 +153,19 @@ fn check_numbers<R: Abort + Wait, D: Disk, H: Origin, N: Ledger>(
 /// Checks what was taken of a trail, and what is left of it.
 fn check_trail(rt: &impl Abort, number: u64, lived: &Lived, taken: &Taken, trail: &[Entry]) {
     let count = taken.entries.len();
+    let is_taken = count == lived.taken;
     let longest = taken.longest;
     let is_longest = longest == lived.longest;
     let left = trail.len();
     let is_left = left == lived.left;
-    check_in(
-        rt,
-        count == lived.taken,
-        number,
-        "entries taken:",
-        count as u64,
-    );
+    check_in(rt, is_taken, number, "entries taken:", count as u64);
     check_in(rt, is_longest, number, "entries at most:", longest as u64);
     check_in(rt, is_left, number, "entries left:", left as u64);
     check_entries(rt, number, &taken.entries, 0);
     check_entries(rt, number, trail, count);
 }
 
+/// Checks what the life of a desk comes to.
 fn outcome<R: Abort + Wait, H: Origin, N: Ledger>(
     rt: &R,
     alloc: Global,
@@ -190,6 +187,7 @@ fn outcome<R: Abort + Wait, H: Origin, N: Ledger>(
     check_trail(rt, number, lived, &taken, &closed.trail);
 }
 
+/// The life of a new desk.
 fn live<R: Abort + Wait, H: Origin, N: Ledger>(
     rt: &R,
     alloc: Global,

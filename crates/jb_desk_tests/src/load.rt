@@ -14,7 +14,7 @@ use crate::report::Report;
 use crate::threads::{Reports, Worked, work_all};
 use jb_block::{BlockSize, Width};
 use jb_deck::Entry;
-use jb_desk::{Ended, Left, Origin, Stops};
+use jb_desk::{Left, Origin, Stops};
 use jb_disk::{FuseDisk, MemoryDisk};
 use jb_front::format;
 use jb_recover::recover;

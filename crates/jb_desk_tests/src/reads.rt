@@ -53,6 +53,7 @@ fn check_homes<R: Abort + Wait, D: Disk, H: Origin, N: Ledger>(
     }
 }
 
+/// What a thread does at a desk whose homes are read.
 #[derive(Clone, Copy)]
 enum Step {
     /// a handle that fills this home with this byte stops
@@ -167,6 +168,7 @@ fn check_steps<R: Abort + Wait, D: Disk, H: Origin, N: Ledger>(rt: &R, desk: &St
     }
 }
 
+/// Takes all steps at a new desk, and then reads into half a block.
 fn stepped<R: Abort + Wait, H: Origin, N: Ledger>(
     rt: &R,
     alloc: Global,
