@@ -2,7 +2,7 @@
 
 use crate::checks::{check_at, check_number, check_text};
 use crate::files::{JOURNAL, MAGIC, WHOLE, add_block, check_file, front_of, pad, remove, write};
-use crate::runs::{End, Host, check_run, joined, ran};
+use crate::runs::{End, Host, check_run, check_status, joined, ran};
 
 /// A run of `jb cat`.
 struct Cat {
@@ -92,13 +92,7 @@ fn check_cat(rt: &impl Host, image: &[&str], cat: &Cat, what: &'static str, row:
     let words = joined(rt, &[&["cat"], image, cat.words]);
     let ran = ran(rt, &words, b"");
     check_text(rt, &ran.err, cat.err, what, row);
-    check_number(
-        rt,
-        u64::from(ran.ended.status),
-        u64::from(cat.status),
-        what,
-        row,
-    );
+    check_status(rt, ran.ended, cat.status, what, row);
     check_number(rt, ran.out.len() as u64, cat.len as u64, what, row);
     check_at(rt, ran.out.starts_with(cat.front), what, row)
 }
@@ -134,8 +128,8 @@ fn home_blocks_are_shown_and_nothing_is_written(rt: HostRuntime) {
     write(&rt, "cat.bin", &journal(&rt, JOURNAL));
     write(&rt, "cat_homes.img", &homes);
     check_cats(&rt);
-    check_file(&rt, "cat.img", &made, "a file that is shown", 1);
-    check_file(&rt, "cat_homes.img", &homes, "a file that is shown", 2);
+    check_file(&rt, "cat.img", &made, "cat", 0);
+    check_file(&rt, "cat_homes.img", &homes, "cat", 0);
     for name in ["cat.img", "cat.bin", "cat_homes.img"] {
         remove(&rt, name);
     }
@@ -168,7 +162,7 @@ fn a_journal_in_its_own_file_is_recovered_and_loaded(rt: HostRuntime) {
     write(&rt, "own.txt", b"bs 1024\nlimit 8\nh w3\n");
     check_own(&rt, "transactions 1 copies 1 revoked 0 next 4\n", 1);
     let wanted = homes(&rt, &[MAGIC, 0x0102_0304]);
-    check_file(&rt, "own.img", &wanted, "the homes after recovery", 1);
+    check_file(&rt, "own.img", &wanted, "recovery", 1);
     check_own(&rt, "transactions 0 copies 0 revoked 0 next 4\n", 2);
     check_own_load(&rt);
     check_own(&rt, "transactions 1 copies 1 revoked 0 next 6\n", 3);
@@ -215,8 +209,8 @@ fn check_refused(rt: &impl Host, len: usize, words: &[&str], end: End, homes: &[
     write(rt, "bad.bin", &journal);
     let all = joined(rt, &[words, &["--journal", "bad.bin"]]);
     check_run(rt, &all, end, "refusal", row);
-    check_file(rt, "bad.bin", &journal, "the journal after refusal", row);
-    check_file(rt, "bad.img", homes, "the homes after refusal", row)
+    check_file(rt, "bad.bin", &journal, "refusal", row);
+    check_file(rt, "bad.img", homes, "refusal", row)
 }
 
 /// Checks each row of the table over these homes.

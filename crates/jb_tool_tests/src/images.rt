@@ -146,7 +146,7 @@ fn check_made(rt: &impl Host, wanted: &[u8]) {
     let more = ["--uuid", "000102030405060708090A0b0c0d0e0f"];
     let words = format_words("front.img", ["2048", "40", "1"], more);
     check_run(rt, &words, (0, "formatted limit 9\n", ""), "format", 1);
-    check_file(rt, "front.img", wanted, "the image after format", 1);
+    check_file(rt, "front.img", wanted, "format", 1);
     let out = "transactions 0 copies 0 revoked 0 next 2\n";
     check_run(rt, &["recover", "front.img"], (0, out, ""), "recovery", 1)
 }
@@ -159,7 +159,7 @@ fn a_new_image_is_its_superblock_and_zeros_and_is_made_once(rt: HostRuntime) {
     // the geometry is judged before the file
     let few = format_words("front.img", ["1024", "8", "16"], NO_MAX);
     check_run(&rt, &few, (1, "", "jb: Geometry\n"), "format", 2);
-    check_file(&rt, "front.img", &wanted, "the image after format", 2);
+    check_file(&rt, "front.img", &wanted, "format", 2);
     remove(&rt, "front.img")
 }
 
@@ -222,7 +222,7 @@ fn check_lock(rt: &impl Host, bytes: &[u8]) {
     let other = File::open(rt, "locked.img").expect(rt, "locked.img");
     check(rt, other.try_lock().is_ok(), "it is not locked");
     check_locked(rt);
-    check_file(rt, "locked.img", bytes, "the locked image", 0)
+    check_file(rt, "locked.img", bytes, "run on a locked image", 0)
 }
 
 #[test]

@@ -1,8 +1,8 @@
 //! Loads of queue texts into images, in files.
 
-use crate::checks::{check_at, check_number};
+use crate::checks::check_at;
 use crate::files::{JOURNAL, read, write};
-use crate::runs::{End, Host, check_run, joined, ran};
+use crate::runs::{End, Host, check_run, check_status, joined, ran};
 use std::fs;
 
 /// A load into a new image, the recovery after it, and home blocks after that.
@@ -251,7 +251,7 @@ static TOGETHER: [(&[&str], Option<u8>); 5] = [
 fn check_same(rt: &impl Host, options: &[&str], row: usize) {
     make(rt, &[], SAME, row);
     let ran = ran(rt, &words_of(rt, options), b"");
-    check_number(rt, u64::from(ran.ended.status), 0, "status of load", row);
+    check_status(rt, ran.ended, 0, "load", row);
     let has_none = ran.err.is_empty();
     check_at(rt, has_none, "standard error of load", row);
     let is_told = ran
@@ -262,8 +262,8 @@ fn check_same(rt: &impl Host, options: &[&str], row: usize) {
 
 /// Checks that a recovery succeeds.
 fn check_recovery(rt: &impl Host, row: usize) {
-    let status = ran(rt, &["recover", "loaded.img"], b"").ended.status;
-    check_number(rt, u64::from(status), 0, "status of recovery", row)
+    let ended = ran(rt, &["recover", "loaded.img"], b"").ended;
+    check_status(rt, ended, 0, "recovery", row)
 }
 
 /// Checks that both blocks are of one handle, and of the last one where that is known.

@@ -122,7 +122,7 @@ fn check_recovered(rt: &impl Host, of: &Recovery, line: &'static str, row: usize
 /// Checks that the recovery of an image is refused, and that it stays.
 fn check_refused(rt: &impl Host, bytes: &[u8], line: &'static str, row: usize) {
     check_run(rt, &["recover", "log.img"], (1, "", line), "refusal", row);
-    check_file(rt, "log.img", bytes, "the image after refusal", row)
+    check_file(rt, "log.img", bytes, "refusal", row)
 }
 
 /// Checks the recovery of a row.

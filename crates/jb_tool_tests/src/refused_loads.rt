@@ -166,7 +166,7 @@ fn check_kept(rt: &impl Host, of: Front, words: &[&str], end: End, row: usize) {
     let bytes = front_of(rt, of);
     write(rt, "loaded.img", &bytes);
     check_run(rt, words, end, "load", row);
-    check_file(rt, "loaded.img", &bytes, "the image after load", row)
+    check_file(rt, "loaded.img", &bytes, "load", row)
 }
 
 /// Checks a load into no image, of which none is made.
@@ -206,7 +206,7 @@ fn check_names(rt: &impl Host) {
     for (row, (words, err)) in NAMES.iter().enumerate() {
         let ran = ran(rt, words, TEN.as_bytes());
         check_ran(rt, &ran, (2, "", err), "load of the names", row);
-        check_file(rt, "loaded.img", &bytes, "the image after the names", row);
+        check_file(rt, "loaded.img", &bytes, "load of the names", row);
     }
 }
 

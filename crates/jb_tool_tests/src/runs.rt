@@ -1,6 +1,6 @@
 //! Runs of the program, and how they end.
 
-use crate::checks::{check_number, check_text};
+use crate::checks::check_text;
 use jb_tool::{Ended, run};
 use std::fs::File;
 use std::io::Read;
@@ -40,12 +40,21 @@ pub fn ran(rt: &impl Host, words: &[&str], input: &[u8]) -> Outcome {
     ran_from(rt, words, &mut rest)
 }
 
-/// Checks how a run ended, and what it wrote. `at` is which one it is, as the row of a table.
+/// Checks the status with which a run ended. `at` is which run it is, as the row of a table.
+pub fn check_status(rt: &impl Abort, ended: Ended, wanted: u8, what: &'static str, at: usize) {
+    let is = ended.status;
+    assert!(rt;
+        is == wanted,
+        "{what} {at}: status {is} in place of {wanted}"
+    );
+}
+
+/// Checks how a run ended, and what it wrote.
 pub fn check_ran(rt: &impl Abort, ran: &Outcome, end: End, what: &'static str, at: usize) {
     let (status, out, err) = end;
     check_text(rt, &ran.err, err, what, at);
     check_text(rt, &ran.out, out, what, at);
-    check_number(rt, u64::from(ran.ended.status), u64::from(status), what, at)
+    check_status(rt, ran.ended, status, what, at)
 }
 
 /// Checks how a run with these words and no input ends, and what it writes.

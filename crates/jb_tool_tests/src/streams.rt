@@ -1,8 +1,8 @@
 //! Inputs and outputs that fail.
 
-use crate::checks::{check_at, check_number, check_text};
+use crate::checks::{check_at, check_text};
 use crate::files::{WHOLE, front_of, remove, write};
-use crate::runs::Host;
+use crate::runs::{Host, check_status};
 use jb_tool::run;
 use std::io::{self, Error, ErrorKind, Read, Write};
 
@@ -122,7 +122,7 @@ fn check_torn_output(
     let mut out = Torn { left, stuck };
     let mut err = Vec::new(rt.alloc());
     let ended = run(rt, words, &mut rest, &mut out, &mut err);
-    check_number(rt, u64::from(ended.status), 1, what, at);
+    check_status(rt, ended, 1, what, at);
     check_text(rt, &err, "jb: WriteFault\n", what, at)
 }
 
@@ -157,14 +157,8 @@ fn check_torn_error(rt: &impl Host, of: &Quiet, torn: (usize, bool), row: usize)
     let mut told = Vec::new(rt.alloc());
     let mut err = Torn { left, stuck };
     let ended = run(rt, words, &mut rest, &mut told, &mut err);
-    check_number(
-        rt,
-        u64::from(ended.status),
-        u64::from(status),
-        "status of row",
-        row,
-    );
-    check_text(rt, &told, out, "row", row)
+    check_status(rt, ended, status, "run", row);
+    check_text(rt, &told, out, "run", row)
 }
 
 /// Checks the same of each of the torn outputs.
@@ -189,7 +183,7 @@ fn check_unwritten<I: Read>(rt: &impl Host, input: &mut I, line: &str, at: usize
     };
     let mut err = Vec::new(rt.alloc());
     let ended = run(rt, &["cost", "-"], input, &mut out, &mut err);
-    check_number(rt, u64::from(ended.status), 2, "status of cost", at);
+    check_status(rt, ended, 2, "cost", at);
     check_text(rt, &err, line, "cost", at)
 }
 
