@@ -113,12 +113,17 @@ fn check_formats(rt: &impl Host) {
     }
 }
 
+/// Checks each row of both tables, on the files that they name.
+fn check_all(rt: &impl Host) {
+    write_all(rt);
+    check_rows(rt);
+    check_formats(rt);
+    remove(rt, "side.img");
+    remove(rt, "clean.img");
+    remove(rt, "side.txt")
+}
+
 #[test]
 fn a_fault_keeps_what_its_line_has_not(rt: HostRuntime) {
-    write_all(&rt);
-    check_rows(&rt);
-    check_formats(&rt);
-    remove(&rt, "side.img");
-    remove(&rt, "clean.img");
-    remove(&rt, "side.txt")
+    check_all(&rt)
 }

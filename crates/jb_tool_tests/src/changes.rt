@@ -2,7 +2,7 @@
 
 use crate::checks::{check, check_at, check_text, fail};
 use crate::files::{Front, WHOLE, check_file, front_of, remove, write};
-use crate::runs::{Host, check_run};
+use crate::runs::{End, Host, check_run};
 use jb_block::{BlockSize, Width};
 use jb_disk::{MemoryDisk, OneFaultDisk};
 use jb_tool::{CommandFault, format_on, renumber_on, widen_on};
@@ -13,6 +13,11 @@ type Row = (Front, Result<&'static str, &'static str>);
 const WIDENED: Result<&str, &str> = Ok("widened limit 8\n");
 
 const ALREADY: &str = "already wide limit 8\n";
+
+const RENUMBERED: End = (0, "renumbered blocks 3 next 1\n", "");
+
+/// No block of the log has a header any more.
+const NONE_LEFT: End = (0, "renumbered blocks 0 next 1\n", "");
 
 static ROWS: [Row; 13] = [
     (([2, 0], 1, WHOLE), WIDENED),
@@ -39,16 +44,9 @@ fn bare(image: &mut [u8]) {
     }
 }
 
-/// Checks the command that writes this line and leaves these bytes in the file.
-fn check_change(
-    rt: &impl Host,
-    command: &'static str,
-    line: &'static str,
-    wanted: &[u8],
-    row: usize,
-) {
-    let words = [command, "changed.img"];
-    check_run(rt, &words, (0, line, ""), command, row);
+/// Checks the command that ends so and leaves these bytes in the file.
+fn check_change(rt: &impl Host, command: &'static str, end: End, wanted: &[u8], row: usize) {
+    check_run(rt, &[command, "changed.img"], end, command, row);
     check_file(rt, "changed.img", wanted, command, row)
 }
 
@@ -58,8 +56,8 @@ fn check_renumbered(rt: &impl Host, of: Front, row: usize) {
     let mut wanted = front_of(rt, ([0, 0], incompat, len));
     bare(&mut wanted);
     write(rt, "changed.img", &front_of(rt, of));
-    check_change(rt, "renumber", "renumbered blocks 3 next 1\n", &wanted, row);
-    check_change(rt, "renumber", "renumbered blocks 0 next 1\n", &wanted, row)
+    check_change(rt, "renumber", RENUMBERED, &wanted, row);
+    check_change(rt, "renumber", NONE_LEFT, &wanted, row)
 }
 
 /// Checks that an image is widened, and then is so already.
@@ -67,18 +65,16 @@ fn check_widened(rt: &impl Host, of: Front, line: &'static str, row: usize) {
     let (log, incompat, len) = of;
     let wanted = front_of(rt, (log, incompat | 2, len));
     write(rt, "changed.img", &front_of(rt, of));
-    check_change(rt, "widen", line, &wanted, row);
-    check_change(rt, "widen", ALREADY, &wanted, row)
+    check_change(rt, "widen", (0, line, ""), &wanted, row);
+    check_change(rt, "widen", (0, ALREADY, ""), &wanted, row)
 }
 
 /// Checks that both commands refuse an image, and that it stays.
 fn check_refused(rt: &impl Host, of: Front, line: &'static str, row: usize) {
     let bytes = front_of(rt, of);
     write(rt, "changed.img", &bytes);
-    for command in ["renumber", "widen"] {
-        check_run(rt, &[command, "changed.img"], (1, "", line), command, row);
-        check_file(rt, "changed.img", &bytes, command, row);
-    }
+    check_change(rt, "renumber", (1, "", line), &bytes, row);
+    check_change(rt, "widen", (1, "", line), &bytes, row)
 }
 
 /// Checks both commands on the image of a row.
@@ -93,12 +89,17 @@ fn check_row(rt: &impl Host, of: &Row, row: usize) {
     }
 }
 
+/// Checks each row of the table.
+fn check_rows(rt: &impl Host) {
+    for (row, of) in ROWS.iter().enumerate() {
+        check_row(rt, of, row);
+    }
+    remove(rt, "changed.img")
+}
+
 #[test]
 fn each_change_answers_its_row_and_a_refused_image_stays(rt: HostRuntime) {
-    for (row, of) in ROWS.iter().enumerate() {
-        check_row(&rt, of, row);
-    }
-    remove(&rt, "changed.img")
+    check_rows(&rt)
 }
 
 /// More calls than a change of the small image makes.
@@ -145,8 +146,13 @@ fn check_calls(rt: &impl Host, widens: bool, calls: usize, line: &'static str) {
     fail(rt, "it never ends")
 }
 
+/// Checks each call of both changes.
+fn check_faults(rt: &impl Host) {
+    check_calls(rt, false, 38, "renumbered blocks 0 next 1\n");
+    check_calls(rt, true, 5, "widened limit 8\n")
+}
+
 #[test]
 fn a_call_that_fails_is_reported_and_nothing_is_written(rt: HostRuntime) {
-    check_calls(&rt, false, 38, "renumbered blocks 0 next 1\n");
-    check_calls(&rt, true, 5, "widened limit 8\n")
+    check_faults(&rt)
 }

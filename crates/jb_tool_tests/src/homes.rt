@@ -1,7 +1,7 @@
 //! Home blocks that are shown, and journals in a file of their own.
 
 use crate::checks::{check_at, check_number, check_text};
-use crate::files::{JOURNAL, MAGIC, WHOLE, add_block, check_file, front_of, pad, remove, write};
+use crate::files::{COPY, JOURNAL, WHOLE, add_block, check_file, front_of, pad, remove, write};
 use crate::runs::{End, Host, check_run, check_status, joined, ran};
 
 /// A run of `jb cat`.
@@ -87,9 +87,9 @@ static CATS: [Cat; 9] = [
     },
 ];
 
-/// Checks `jb cat` of this image.
+/// Checks `jb cat` with these words, and then those of its row.
 fn check_cat(rt: &impl Host, image: &[&str], cat: &Cat, what: &'static str, row: usize) {
-    let words = joined(rt, &[&["cat"], image, cat.words]);
+    let words = joined(rt, image, cat.words);
     let ran = ran(rt, &words, b"");
     check_text(rt, &ran.err, cat.err, what, row);
     check_status(rt, ran.ended, cat.status, what, row);
@@ -114,25 +114,29 @@ fn journal(rt: &impl Host, len: usize) -> Vec<u8> {
 /// Checks `jb cat` of an image, and of home blocks and a journal in files of their own.
 fn check_cats(rt: &impl Host) {
     for (row, cat) in CATS.iter().enumerate() {
-        check_cat(rt, &["cat.img"], cat, "cat of one file", row);
-        let two = ["cat_homes.img", "--journal", "cat.bin"];
+        check_cat(rt, &["cat", "cat.img"], cat, "cat of one file", row);
+        let two = ["cat", "cat_homes.img", "--journal", "cat.bin"];
         check_cat(rt, &two, cat, "cat of two files", row);
     }
 }
 
+/// Checks each row of the table, and that the images stay.
+fn check_shown(rt: &impl Host) {
+    write(rt, "cat.img", &journal(rt, WHOLE));
+    write(rt, "cat.bin", &journal(rt, JOURNAL));
+    write(rt, "cat_homes.img", &homes(rt, &[]));
+    check_cats(rt);
+    check_file(rt, "cat.img", &journal(rt, WHOLE), "cat", 0);
+    check_file(rt, "cat.bin", &journal(rt, JOURNAL), "cat", 0);
+    check_file(rt, "cat_homes.img", &homes(rt, &[]), "cat", 0);
+    remove(rt, "cat.img");
+    remove(rt, "cat.bin");
+    remove(rt, "cat_homes.img")
+}
+
 #[test]
 fn home_blocks_are_shown_and_nothing_is_written(rt: HostRuntime) {
-    let made = journal(&rt, WHOLE);
-    let homes = homes(&rt, &[]);
-    write(&rt, "cat.img", &made);
-    write(&rt, "cat.bin", &journal(&rt, JOURNAL));
-    write(&rt, "cat_homes.img", &homes);
-    check_cats(&rt);
-    check_file(&rt, "cat.img", &made, "cat", 0);
-    check_file(&rt, "cat_homes.img", &homes, "cat", 0);
-    for name in ["cat.img", "cat.bin", "cat_homes.img"] {
-        remove(&rt, name);
-    }
+    check_shown(&rt)
 }
 
 /// Checks a recovery of home blocks whose journal has a file of its own.
@@ -155,20 +159,24 @@ fn check_own_load(rt: &impl Host) {
     check_run(rt, &words, (0, out, ""), "load", 1)
 }
 
+/// Checks two recoveries, a load, and a recovery after it, over home blocks and a journal in files of their own.
+fn check_two_files(rt: &impl Host) {
+    write(rt, "own.bin", &journal(rt, JOURNAL));
+    write(rt, "own.img", &homes(rt, &[]));
+    write(rt, "own.txt", b"bs 1024\nlimit 8\nh w3\n");
+    check_own(rt, "transactions 1 copies 1 revoked 0 next 4\n", 1);
+    check_file(rt, "own.img", &homes(rt, &COPY), "recovery", 1);
+    check_own(rt, "transactions 0 copies 0 revoked 0 next 4\n", 2);
+    check_own_load(rt);
+    check_own(rt, "transactions 1 copies 1 revoked 0 next 6\n", 3);
+    remove(rt, "own.bin");
+    remove(rt, "own.img");
+    remove(rt, "own.txt")
+}
+
 #[test]
 fn a_journal_in_its_own_file_is_recovered_and_loaded(rt: HostRuntime) {
-    write(&rt, "own.bin", &journal(&rt, JOURNAL));
-    write(&rt, "own.img", &homes(&rt, &[]));
-    write(&rt, "own.txt", b"bs 1024\nlimit 8\nh w3\n");
-    check_own(&rt, "transactions 1 copies 1 revoked 0 next 4\n", 1);
-    let wanted = homes(&rt, &[MAGIC, 0x0102_0304]);
-    check_file(&rt, "own.img", &wanted, "recovery", 1);
-    check_own(&rt, "transactions 0 copies 0 revoked 0 next 4\n", 2);
-    check_own_load(&rt);
-    check_own(&rt, "transactions 1 copies 1 revoked 0 next 6\n", 3);
-    for name in ["own.bin", "own.img", "own.txt"] {
-        remove(&rt, name);
-    }
+    check_two_files(&rt)
 }
 
 /// How many blocks the file of the journal has, the words before its option, and how the run ends.
@@ -207,7 +215,7 @@ static REFUSED: [(usize, &[&str], End); 7] = [
 fn check_refused(rt: &impl Host, len: usize, words: &[&str], end: End, homes: &[u8], row: usize) {
     let journal = journal(rt, len);
     write(rt, "bad.bin", &journal);
-    let all = joined(rt, &[words, &["--journal", "bad.bin"]]);
+    let all = joined(rt, words, &["--journal", "bad.bin"]);
     check_run(rt, &all, end, "refusal", row);
     check_file(rt, "bad.bin", &journal, "refusal", row);
     check_file(rt, "bad.img", homes, "refusal", row)
@@ -220,14 +228,19 @@ fn check_refusals(rt: &impl Host, homes: &[u8]) {
     }
 }
 
-#[test]
-fn journals_of_their_own_are_refused_by_name(rt: HostRuntime) {
-    let homes = homes(&rt, &[]);
-    write(&rt, "bad.img", &homes);
-    check_refusals(&rt, &homes);
+/// Checks each row of the table, and a journal that there is not.
+fn check_names(rt: &impl Host) {
+    let homes = homes(rt, &[]);
+    write(rt, "bad.img", &homes);
+    check_refusals(rt, &homes);
     let words = ["recover", "bad.img", "--journal", "no.bin"];
     let end = (2, "", "jb: cannot read no.bin\n");
-    check_run(&rt, &words, end, "recovery without a journal", 0);
-    remove(&rt, "bad.bin");
-    remove(&rt, "bad.img")
+    check_run(rt, &words, end, "recovery without a journal", 0);
+    remove(rt, "bad.bin");
+    remove(rt, "bad.img")
+}
+
+#[test]
+fn journals_of_their_own_are_refused_by_name(rt: HostRuntime) {
+    check_names(&rt)
 }

@@ -100,7 +100,12 @@ fn check_format(rt: &impl Host, of: &Format, row: usize) {
     if end.0 == 0 {
         check_new(rt, more[1] == "--wide", row)
     } else {
-        check_at(rt, is_missing(rt, "new.img"), "no image, row", row)
+        check_at(
+            rt,
+            is_missing(rt, "new.img"),
+            "a refused image is made, row",
+            row,
+        )
     }
 }
 
@@ -151,16 +156,20 @@ fn check_made(rt: &impl Host, wanted: &[u8]) {
     check_run(rt, &["recover", "front.img"], (0, out, ""), "recovery", 1)
 }
 
-#[test]
-fn a_new_image_is_its_superblock_and_zeros_and_is_made_once(rt: HostRuntime) {
-    let wanted = new_image(&rt);
-    check_made(&rt, &wanted);
-    check_names(&rt);
+/// Checks that a new image is made, and that it stays where formats of other files, and of its own, are refused.
+fn check_once(rt: &impl Host) {
+    check_made(rt, &new_image(rt));
+    check_names(rt);
     // the geometry is judged before the file
     let few = format_words("front.img", ["1024", "8", "16"], NO_MAX);
-    check_run(&rt, &few, (1, "", "jb: Geometry\n"), "format", 2);
-    check_file(&rt, "front.img", &wanted, "format", 2);
-    remove(&rt, "front.img")
+    check_run(rt, &few, (1, "", "jb: Geometry\n"), "format", 2);
+    check_file(rt, "front.img", &new_image(rt), "format", 2);
+    remove(rt, "front.img")
+}
+
+#[test]
+fn a_new_image_is_its_superblock_and_zeros_and_is_made_once(rt: HostRuntime) {
+    check_once(&rt)
 }
 
 /// 2^63 - 1024 bytes, which many file systems refuse and some take.
@@ -175,30 +184,39 @@ static LONG: [&str; 8] = [
     "9007199254740958",
 ];
 
-/// How many bytes a file has.
-fn len_of(rt: &impl Host, name: &str) -> u64 {
-    fs::metadata(rt, name).expect(rt, name).len()
+const MADE: End = (0, "formatted limit 8\n", "");
+
+const NOT_MADE: End = (2, "", "jb: cannot make long.img\n");
+
+/// Checks how many bytes the image has, and removes it.
+fn check_len(rt: &impl Host, wanted: u64) {
+    let len = fs::metadata(rt, "long.img").expect(rt, "long.img").len();
+    check_number(rt, len, wanted, "bytes of format", 1);
+    remove(rt, "long.img")
 }
 
 /// Checks that the long image is made whole, and removes it, or that it is refused, and then there is none.
 fn check_long(rt: &impl Host) {
     let ran = ran(rt, &LONG, b"");
     if is_missing(rt, "long.img") {
-        let end = (2, "", "jb: cannot make long.img\n");
-        return check_ran(rt, &ran, end, "format", 1);
+        check_ran(rt, &ran, NOT_MADE, "format", 1)
+    } else {
+        check_ran(rt, &ran, MADE, "format", 1);
+        check_len(rt, 9_223_372_036_854_774_784)
     }
-    check_ran(rt, &ran, (0, "formatted limit 8\n", ""), "format", 1);
-    let len = len_of(rt, "long.img");
-    check_number(rt, len, 9_223_372_036_854_774_784, "bytes of format", 1);
+}
+
+/// Checks a long image, and that a small one of the same name is made after it.
+fn check_whole(rt: &impl Host) {
+    check_long(rt);
+    let words = format_words("long.img", SMALL, NO_MAX);
+    check_run(rt, &words, MADE, "format", 2);
     remove(rt, "long.img")
 }
 
 #[test]
 fn a_file_is_made_whole_or_not_at_all(rt: HostRuntime) {
-    check_long(&rt);
-    let words = format_words("long.img", SMALL, NO_MAX);
-    check_run(&rt, &words, (0, "formatted limit 8\n", ""), "format", 2);
-    remove(&rt, "long.img")
+    check_whole(&rt)
 }
 
 /// Runs that would change the image or lock it.
@@ -225,12 +243,16 @@ fn check_lock(rt: &impl Host, bytes: &[u8]) {
     check_file(rt, "locked.img", bytes, "run on a locked image", 0)
 }
 
+/// Checks the runs on a locked image, and that it is recovered when it is locked no more.
+fn check_unlocked(rt: &impl Host) {
+    write(rt, "locked.img", &front_of(rt, ([2, 1], 1, WHOLE)));
+    check_lock(rt, &front_of(rt, ([2, 1], 1, WHOLE)));
+    let out = "transactions 1 copies 1 revoked 0 next 4\n";
+    check_run(rt, &["recover", "locked.img"], (0, out, ""), "recovery", 0);
+    remove(rt, "locked.img")
+}
+
 #[test]
 fn a_locked_image_is_not_touched(rt: HostRuntime) {
-    let bytes = front_of(&rt, ([2, 1], 1, WHOLE));
-    write(&rt, "locked.img", &bytes);
-    check_lock(&rt, &bytes);
-    let out = "transactions 1 copies 1 revoked 0 next 4\n";
-    check_run(&rt, &["recover", "locked.img"], (0, out, ""), "recovery", 0);
-    remove(&rt, "locked.img")
+    check_unlocked(&rt)
 }

@@ -181,13 +181,13 @@ fn make(rt: &impl Host, format: &[&str], text: &str, row: usize) {
         ["--max", "6"] => "formatted limit 6\n",
         _ => "formatted limit 8\n",
     };
-    let words = joined(rt, &[&FORMAT, format]);
+    let words = joined(rt, &FORMAT, format);
     check_run(rt, &words, (0, out, ""), "format", row)
 }
 
 /// The words of a load of the queue text into the image.
 pub fn words_of<'a>(rt: &impl Host, options: &[&'a str]) -> Vec<&'a str> {
-    joined(rt, &[&["load", "loaded.img", "queue.txt"], options])
+    joined(rt, &["load", "loaded.img", "queue.txt"], options)
 }
 
 /// Checks how the home blocks of an image begin.
@@ -269,25 +269,25 @@ fn check_recovery(rt: &impl Host, row: usize) {
 /// Checks that both blocks are of one handle, and of the last one where that is known.
 fn check_blocks(rt: &impl Host, last: Option<u8>, row: usize) {
     let image = read(rt, "loaded.img");
-    let first = image.get(JOURNAL + 1024);
-    let second = image.get(JOURNAL + 2048);
+    let first = image.get(JOURNAL + 1024).copied();
+    let second = image.get(JOURNAL + 2048).copied();
     check_at(rt, first == second, "blocks of two handles, row", row);
-    let is_one = first.is_some_and(|value| (1..=4).contains(value));
+    let is_one = matches!(first, Some(1..=4));
     check_at(rt, is_one, "blocks of no handle, row", row);
-    let is_last = last.is_none() || last.as_ref() == first;
-    check_at(
-        rt,
-        is_last,
-        "blocks that are not of the last handle, row",
-        row,
-    )
+    let is_last = last.is_none() || last == first;
+    check_at(rt, is_last, "blocks of another handle, row", row)
+}
+
+/// Checks each row of the table.
+fn check_together(rt: &impl Host) {
+    for (row, (options, last)) in TOGETHER.iter().enumerate() {
+        check_same(rt, options, row);
+        check_recovery(rt, row);
+        check_blocks(rt, *last, row);
+    }
 }
 
 #[test]
 fn handles_that_run_together_are_all_committed(rt: HostRuntime) {
-    for (row, (options, last)) in TOGETHER.iter().enumerate() {
-        check_same(&rt, options, row);
-        check_recovery(&rt, row);
-        check_blocks(&rt, *last, row);
-    }
+    check_together(&rt)
 }

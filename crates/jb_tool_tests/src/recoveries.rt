@@ -1,6 +1,6 @@
 //! Images that are recovered.
 
-use crate::files::{MAGIC, WHOLE, add_block, check_file, image, remove, write};
+use crate::files::{COPY, MAGIC, WHOLE, add_block, check_file, image, remove, write};
 use crate::runs::{Host, check_run};
 
 /// An image of which a file has so many bytes, and what its recovery answers.
@@ -111,9 +111,8 @@ fn check_line(rt: &impl Host, line: &'static str, wanted: &[u8], what: &'static 
 /// Checks a recovery, and that one more finds nothing to recover.
 fn check_recovered(rt: &impl Host, of: &Recovery, line: &'static str, row: usize) {
     // clean with number 3, and the copy in home 5 unless it is revoked
-    let copy = [MAGIC, 0x0102_0304];
-    let words = if of.home == 5 { copy.as_slice() } else { &[] };
-    let wanted = image(rt, [3, 0], of.incompat, of.count, of.home, words);
+    let words = if of.home == 5 { COPY } else { [0, 0] };
+    let wanted = image(rt, [3, 0], of.incompat, of.count, of.home, &words);
     check_line(rt, line, &wanted, "recovery", row);
     let line = "transactions 0 copies 0 revoked 0 next 4\n";
     check_line(rt, line, &wanted, "one more recovery", row)
@@ -145,11 +144,16 @@ fn check_short(rt: &impl Host) {
     check_refused(rt, &short, "jb: Super ShortBlock\n", RECOVERIES.len())
 }
 
+/// Checks each row of the table, and an image that is too short.
+fn check_recoveries(rt: &impl Host) {
+    for (row, of) in RECOVERIES.iter().enumerate() {
+        check_recovery(rt, of, row);
+    }
+    check_short(rt);
+    remove(rt, "log.img")
+}
+
 #[test]
 fn each_recovery_answers_its_row_and_a_refused_image_stays(rt: HostRuntime) {
-    for (row, of) in RECOVERIES.iter().enumerate() {
-        check_recovery(&rt, of, row);
-    }
-    check_short(&rt);
-    remove(&rt, "log.img")
+    check_recoveries(&rt)
 }

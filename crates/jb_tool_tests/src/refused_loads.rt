@@ -3,7 +3,7 @@
 use crate::checks::check_at;
 use crate::files::{Front, WHOLE, check_file, front_of, is_missing, write};
 use crate::loads::{TEN, words_of};
-use crate::runs::{End, Host, check_ran, check_run, ran};
+use crate::runs::{End, Host, check_over, check_run};
 use std::fs;
 
 /// A load that is refused.
@@ -204,17 +204,22 @@ fn check_names(rt: &impl Host) {
     let bytes = front_of(rt, (CLEAN, 1, WHOLE));
     write(rt, "loaded.img", &bytes);
     for (row, (words, err)) in NAMES.iter().enumerate() {
-        let ran = ran(rt, words, TEN.as_bytes());
-        check_ran(rt, &ran, (2, "", err), "load of the names", row);
+        let text = TEN.as_bytes();
+        check_over(rt, words, text, (2, "", err), "load of the names", row);
         check_file(rt, "loaded.img", &bytes, "load of the names", row);
     }
 }
 
+/// Checks each row of the table, and the names.
+fn check_refusals(rt: &impl Host) {
+    for (row, of) in REFUSALS.iter().enumerate() {
+        check_refusal(rt, of, row);
+    }
+    put_text(rt, Some(TEN));
+    check_names(rt)
+}
+
 #[test]
 fn each_refused_load_answers_its_row_and_leaves_the_image(rt: HostRuntime) {
-    for (row, of) in REFUSALS.iter().enumerate() {
-        check_refusal(&rt, of, row);
-    }
-    put_text(&rt, Some(TEN));
-    check_names(&rt)
+    check_refusals(&rt)
 }

@@ -11,6 +11,9 @@ use std::thread::Threads;
 use std::time::Clock;
 
 /// What the program needs of its runtime: files, memory, threads, and a clock; and what a test needs to fail.
+///
+/// A test calls one function, which takes any such runtime: of the runtime of a test, each call proves anew that it has
+/// all of these.
 pub trait Host: Files<File = File> + AllocGlobal + Threads + Wait + Clock + Sync + Abort {}
 
 impl<R: Files<File = File> + AllocGlobal + Threads + Wait + Clock + Sync + Abort> Host for R {}
@@ -57,16 +60,27 @@ pub fn check_ran(rt: &impl Abort, ran: &Outcome, end: End, what: &'static str, a
     check_status(rt, ran.ended, status, what, at)
 }
 
-/// Checks how a run with these words and no input ends, and what it writes.
-pub fn check_run(rt: &impl Host, words: &[&str], end: End, what: &'static str, at: usize) {
-    check_ran(rt, &ran(rt, words, b""), end, what, at)
+/// Checks how a run with these words and this input ends, and what it writes.
+pub fn check_over(
+    rt: &impl Host,
+    words: &[&str],
+    input: &[u8],
+    end: End,
+    what: &'static str,
+    at: usize,
+) {
+    check_ran(rt, &ran(rt, words, input), end, what, at)
 }
 
-/// These words, one list after another.
-pub fn joined<'a>(rt: &impl Host, lists: &[&[&'a str]]) -> Vec<&'a str> {
-    let mut words = Vec::new(rt.alloc());
-    for list in lists {
-        words.extend_from_slice(list).expect(rt, "memory");
-    }
-    words
+/// The same with no input.
+pub fn check_run(rt: &impl Host, words: &[&str], end: End, what: &'static str, at: usize) {
+    check_over(rt, words, b"", end, what, at)
+}
+
+/// These words, and then those.
+pub fn joined<'a>(rt: &impl Host, words: &[&'a str], more: &[&'a str]) -> Vec<&'a str> {
+    let mut joined = Vec::new(rt.alloc());
+    joined.extend_from_slice(words).expect(rt, "memory");
+    joined.extend_from_slice(more).expect(rt, "memory");
+    joined
 }

@@ -91,19 +91,19 @@ fn check_line(rt: &impl Host, words: &[&str], writes: [usize; 2], sizes: [usize;
     check_at(rt, is_so, "how many bytes a line has, row", row)
 }
 
-/// Checks each row of the table.
+/// Checks each row of the table, on one image.
 fn check_lines(rt: &impl Host) {
+    write(rt, "line.img", &front_of(rt, ([2, 1], 1, WHOLE)));
+    write(rt, "line.txt", b"bs 1024\nlimit 8\nh w1\nh w16\n");
     for (row, (words, writes, sizes)) in LINES.iter().enumerate() {
         check_line(rt, words, *writes, *sizes, row);
     }
+    remove(rt, "line.img")
 }
 
 #[test]
 fn each_line_is_one_write(rt: HostRuntime) {
-    write(&rt, "line.img", &front_of(&rt, ([2, 1], 1, WHOLE)));
-    write(&rt, "line.txt", b"bs 1024\nlimit 8\nh w1\nh w16\n");
-    check_lines(&rt);
-    remove(&rt, "line.img")
+    check_lines(&rt)
 }
 
 /// An output that takes nothing, one that takes three bytes, and one that takes all and loses it when it is flushed.
@@ -133,11 +133,16 @@ fn check_torn_outputs(rt: &impl Host, words: &[&str], what: &'static str) {
     }
 }
 
+/// Checks a command, help and the version, whose standard output fails.
+fn check_outputs(rt: &impl Host) {
+    check_torn_outputs(rt, &["cost", "-"], "cost to output");
+    check_torn_outputs(rt, &["--help"], "help to output");
+    check_torn_outputs(rt, &["--version"], "version to output")
+}
+
 #[test]
 fn an_output_that_fails_is_reported(rt: HostRuntime) {
-    check_torn_outputs(&rt, &["cost", "-"], "cost to output");
-    check_torn_outputs(&rt, &["--help"], "help to output");
-    check_torn_outputs(&rt, &["--version"], "version to output")
+    check_outputs(&rt)
 }
 
 /// The words and the input of a run, and its status and what it writes to standard output.
@@ -187,11 +192,16 @@ fn check_unwritten<I: Read>(rt: &impl Host, input: &mut I, line: &str, at: usize
     check_text(rt, &err, line, "cost", at)
 }
 
+/// Checks an input that fails, and one that has nothing.
+fn check_inputs(rt: &impl Host) {
+    check_unwritten(rt, &mut Closed, "jb: cannot read -\n", 0);
+    let mut rest = b"".as_slice();
+    check_unwritten(rt, &mut rest, "jb: queue line 1: BlockSizeLine\n", 1)
+}
+
 #[test]
 fn an_input_that_fails_is_reported_and_an_output_that_is_not_written_is_not_flushed(
     rt: HostRuntime,
 ) {
-    check_unwritten(&rt, &mut Closed, "jb: cannot read -\n", 0);
-    let mut rest = b"".as_slice();
-    check_unwritten(&rt, &mut rest, "jb: queue line 1: BlockSizeLine\n", 1)
+    check_inputs(&rt)
 }

@@ -1,7 +1,7 @@
 //! Runs over texts: the words, the input, and what each must answer.
 
 use crate::checks::{check, check_number, check_text};
-use crate::runs::{End, Host, check_ran, ran, ran_from};
+use crate::runs::{End, Host, check_over, check_ran, ran_from};
 use jb_io::{ReadFault, read_within};
 use jb_tool::{TEXT_LIMIT, refuse_words};
 use std::alloc::Global;
@@ -101,11 +101,16 @@ static ROWS: [Row; 21] = [
     ),
 ];
 
+/// Checks each row of the table.
+fn check_runs(rt: &impl Host) {
+    for (row, (words, input, end)) in ROWS.iter().enumerate() {
+        check_over(rt, words, input, *end, "run", row);
+    }
+}
+
 #[test]
 fn each_run_answers_its_row(rt: HostRuntime) {
-    for (row, (words, input, end)) in ROWS.iter().enumerate() {
-        check_ran(&rt, &ran(&rt, words, input), *end, "run", row);
-    }
+    check_runs(&rt)
 }
 
 /// Checks an input that is so many bytes longer than a text may be: all of them but one are left.
@@ -140,12 +145,17 @@ fn check_all_read(rt: &impl Abort, alloc: Global) {
     )
 }
 
+/// Checks inputs that are longer than a text may be, and one that is as long.
+fn check_limits(rt: &impl Host) {
+    check_long(rt, 0, "jb: queue line 1: BlockSizeLine\n", 0);
+    check_long(rt, 3, "jb: too long -\n", 1);
+    check_too_long(rt, rt.alloc());
+    check_all_read(rt, rt.alloc())
+}
+
 #[test]
 fn no_more_than_one_byte_past_the_limit_is_read(rt: HostRuntime) {
-    check_long(&rt, 0, "jb: queue line 1: BlockSizeLine\n", 0);
-    check_long(&rt, 3, "jb: too long -\n", 1);
-    check_too_long(&rt, rt.alloc());
-    check_all_read(&rt, rt.alloc())
+    check_limits(&rt)
 }
 
 /// Checks how words are refused where the system has this error.
