@@ -1,11 +1,13 @@
 //! Clean journals that are changed in their place, in files and on disks whose calls fail.
 
 use crate::checks::{check, check_at, check_text, fail};
-use crate::files::{Front, WHOLE, check_file, front_of, remove, write};
+use crate::files::{Front, WHOLE, check_file, check_front, front_of, remove, write_front};
 use crate::runs::{End, Host, check_run};
 use jb_block::{BlockSize, Width};
 use jb_disk::{MemoryDisk, OneFaultDisk};
 use jb_tool::{CommandFault, format_on, renumber_on, widen_on};
+use std::alloc::Global;
+use std::process::Abort;
 
 /// The front of an image, and what `widen` answers; where it refuses, `renumber` refuses the same.
 type Row = (Front, Result<&'static str, &'static str>);
@@ -44,37 +46,43 @@ fn bare(image: &mut [u8]) {
     }
 }
 
-/// Checks the command that ends so and leaves these bytes in the file.
-fn check_change(rt: &impl Host, command: &'static str, end: End, wanted: &[u8], row: usize) {
-    check_run(rt, &[command, "changed.img"], end, command, row);
-    check_file(rt, "changed.img", wanted, command, row)
+/// Checks that the image is renumbered with this end, and that its log is then bare.
+fn check_renumber(rt: &impl Host, end: End, wanted: Front, row: usize) {
+    check_run(rt, &["renumber", "changed.img"], end, "renumber", row);
+    let mut bytes = front_of(rt, wanted);
+    bare(&mut bytes);
+    check_file(rt, "changed.img", &bytes, "renumber", row)
 }
 
 /// Checks that an image is renumbered, and then is so already.
 fn check_renumbered(rt: &impl Host, of: Front, row: usize) {
     let (_, incompat, len) = of;
-    let mut wanted = front_of(rt, ([0, 0], incompat, len));
-    bare(&mut wanted);
-    write(rt, "changed.img", &front_of(rt, of));
-    check_change(rt, "renumber", RENUMBERED, &wanted, row);
-    check_change(rt, "renumber", NONE_LEFT, &wanted, row)
+    let wanted = ([0, 0], incompat, len);
+    write_front(rt, "changed.img", of);
+    check_renumber(rt, RENUMBERED, wanted, row);
+    check_renumber(rt, NONE_LEFT, wanted, row)
+}
+
+/// Checks the command that ends so, and leaves this front of the image.
+fn check_change(rt: &impl Host, command: &'static str, end: End, wanted: Front, row: usize) {
+    check_run(rt, &[command, "changed.img"], end, command, row);
+    check_front(rt, "changed.img", wanted, command, row)
 }
 
 /// Checks that an image is widened, and then is so already.
 fn check_widened(rt: &impl Host, of: Front, line: &'static str, row: usize) {
     let (log, incompat, len) = of;
-    let wanted = front_of(rt, (log, incompat | 2, len));
-    write(rt, "changed.img", &front_of(rt, of));
-    check_change(rt, "widen", (0, line, ""), &wanted, row);
-    check_change(rt, "widen", (0, ALREADY, ""), &wanted, row)
+    let wanted = (log, incompat | 2, len);
+    write_front(rt, "changed.img", of);
+    check_change(rt, "widen", (0, line, ""), wanted, row);
+    check_change(rt, "widen", (0, ALREADY, ""), wanted, row)
 }
 
 /// Checks that both commands refuse an image, and that it stays.
 fn check_refused(rt: &impl Host, of: Front, line: &'static str, row: usize) {
-    let bytes = front_of(rt, of);
-    write(rt, "changed.img", &bytes);
-    check_change(rt, "renumber", (1, "", line), &bytes, row);
-    check_change(rt, "widen", (1, "", line), &bytes, row)
+    write_front(rt, "changed.img", of);
+    check_change(rt, "renumber", (1, "", line), of, row);
+    check_change(rt, "widen", (1, "", line), of, row)
 }
 
 /// Checks both commands on the image of a row.
@@ -106,9 +114,9 @@ fn each_change_answers_its_row_and_a_refused_image_stays(rt: HostRuntime) {
 const MOST: usize = 60;
 
 /// A disk with a new journal, of which the call of this number fails.
-fn failing(rt: &impl Host, call: usize) -> OneFaultDisk<MemoryDisk> {
-    let mut disk = MemoryDisk::new(rt.alloc(), BlockSize::OneKib, 49).expect(rt, "memory");
-    let mut out = Vec::new(rt.alloc());
+fn failing(rt: &impl Abort, alloc: Global, call: usize) -> OneFaultDisk<MemoryDisk> {
+    let mut disk = MemoryDisk::new(alloc, BlockSize::OneKib, 49).expect(rt, "memory");
+    let mut out = Vec::new(alloc);
     let made = format_on(&mut disk, 33, 0, [0; 16], Width::Narrow, &mut out);
     check(rt, made.is_ok(), "it is not made");
     OneFaultDisk::of(disk, call as u64)
@@ -116,9 +124,15 @@ fn failing(rt: &impl Host, call: usize) -> OneFaultDisk<MemoryDisk> {
 
 /// Changes a new journal on a disk of which the call of this number fails: whether it met none, and then it writes this
 /// line. Else the fault is answered, and nothing is written.
-fn is_changed(rt: &impl Host, widens: bool, call: usize, line: &'static str) -> bool {
-    let mut disk = failing(rt, call);
-    let mut out = Vec::new(rt.alloc());
+fn is_changed(
+    rt: &impl Abort,
+    alloc: Global,
+    widens: bool,
+    call: usize,
+    line: &'static str,
+) -> bool {
+    let mut disk = failing(rt, alloc, call);
+    let mut out = Vec::new(alloc);
     let answer = if widens {
         widen_on(&mut disk, &mut out)
     } else {
@@ -137,22 +151,17 @@ fn is_changed(rt: &impl Host, widens: bool, call: usize, line: &'static str) -> 
 }
 
 /// Checks how many calls of the disk a change of a new journal makes, each of which may fail, and what it writes then.
-fn check_calls(rt: &impl Host, widens: bool, calls: usize, line: &'static str) {
+fn check_calls(rt: &impl Abort, alloc: Global, widens: bool, calls: usize, line: &'static str) {
     for call in 0..MOST {
-        if is_changed(rt, widens, call, line) {
+        if is_changed(rt, alloc, widens, call, line) {
             return check_at(rt, call == calls, "calls that a change makes:", call);
         }
     }
     fail(rt, "it never ends")
 }
 
-/// Checks each call of both changes.
-fn check_faults(rt: &impl Host) {
-    check_calls(rt, false, 38, "renumbered blocks 0 next 1\n");
-    check_calls(rt, true, 5, "widened limit 8\n")
-}
-
 #[test]
 fn a_call_that_fails_is_reported_and_nothing_is_written(rt: HostRuntime) {
-    check_faults(&rt)
+    check_calls(&rt, rt.alloc(), false, 38, "renumbered blocks 0 next 1\n");
+    check_calls(&rt, rt.alloc(), true, 5, "widened limit 8\n")
 }

@@ -1,7 +1,10 @@
 //! Home blocks that are shown, and journals in a file of their own.
 
 use crate::checks::{check_at, check_number, check_text};
-use crate::files::{COPY, JOURNAL, WHOLE, add_block, check_file, front_of, pad, remove, write};
+use crate::files::{
+    COPY, Front, JOURNAL, WHOLE, add_block, check_file, check_front, pad, remove, write,
+    write_front,
+};
 use crate::runs::{End, Host, check_run, check_status, joined, ran};
 
 /// A run of `jb cat`.
@@ -106,9 +109,9 @@ fn homes(rt: &impl Host, words: &[u32]) -> Vec<u8> {
     homes
 }
 
-/// The journal of one transaction, in a file of so many bytes.
-fn journal(rt: &impl Host, len: usize) -> Vec<u8> {
-    front_of(rt, ([2, 1], 1, len))
+/// The image of one transaction, of which a file has so many bytes.
+fn used(len: usize) -> Front {
+    ([2, 1], 1, len)
 }
 
 /// Checks `jb cat` of an image, and of home blocks and a journal in files of their own.
@@ -122,12 +125,12 @@ fn check_cats(rt: &impl Host) {
 
 /// Checks each row of the table, and that the images stay.
 fn check_shown(rt: &impl Host) {
-    write(rt, "cat.img", &journal(rt, WHOLE));
-    write(rt, "cat.bin", &journal(rt, JOURNAL));
+    write_front(rt, "cat.img", used(WHOLE));
+    write_front(rt, "cat.bin", used(JOURNAL));
     write(rt, "cat_homes.img", &homes(rt, &[]));
     check_cats(rt);
-    check_file(rt, "cat.img", &journal(rt, WHOLE), "cat", 0);
-    check_file(rt, "cat.bin", &journal(rt, JOURNAL), "cat", 0);
+    check_front(rt, "cat.img", used(WHOLE), "cat", 0);
+    check_front(rt, "cat.bin", used(JOURNAL), "cat", 0);
     check_file(rt, "cat_homes.img", &homes(rt, &[]), "cat", 0);
     remove(rt, "cat.img");
     remove(rt, "cat.bin");
@@ -161,7 +164,7 @@ fn check_own_load(rt: &impl Host) {
 
 /// Checks two recoveries, a load, and a recovery after it, over home blocks and a journal in files of their own.
 fn check_two_files(rt: &impl Host) {
-    write(rt, "own.bin", &journal(rt, JOURNAL));
+    write_front(rt, "own.bin", used(JOURNAL));
     write(rt, "own.img", &homes(rt, &[]));
     write(rt, "own.txt", b"bs 1024\nlimit 8\nh w3\n");
     check_own(rt, "transactions 1 copies 1 revoked 0 next 4\n", 1);
@@ -213,11 +216,10 @@ static REFUSED: [(usize, &[&str], End); 7] = [
 /// Checks that a run with these words is refused, where the file of the journal has so many bytes, and that both files
 /// stay.
 fn check_refused(rt: &impl Host, len: usize, words: &[&str], end: End, homes: &[u8], row: usize) {
-    let journal = journal(rt, len);
-    write(rt, "bad.bin", &journal);
+    write_front(rt, "bad.bin", used(len));
     let all = joined(rt, words, &["--journal", "bad.bin"]);
     check_run(rt, &all, end, "refusal", row);
-    check_file(rt, "bad.bin", &journal, "refusal", row);
+    check_front(rt, "bad.bin", used(len), "refusal", row);
     check_file(rt, "bad.img", homes, "refusal", row)
 }
 

@@ -2,7 +2,8 @@
 
 use crate::checks::{check, check_at, check_number};
 use crate::files::{
-    MAGIC, UUID, WHOLE, add_block, check_file, front_of, is_missing, pad, read, remove, write,
+    Front, MAGIC, UUID, WHOLE, add_block, check_file, check_front, is_missing, pad, read, remove,
+    write_front,
 };
 use crate::runs::{End, Host, check_ran, check_run, ran};
 use std::fs;
@@ -58,13 +59,20 @@ static FORMATS: [Format; 18] = [
     ),
 ];
 
-/// The words of `jb format` with these sizes, in a file of this name.
-fn format_words<'a>(image: &'a str, sizes: [&'a str; 3], more: [&'a str; 2]) -> [&'a str; 10] {
+/// Checks `jb format` with these sizes, in a file of this name.
+fn check_format(
+    rt: &impl Host,
+    name: &'static str,
+    sizes: [&'static str; 3],
+    more: [&'static str; 2],
+    end: End,
+    at: usize,
+) {
     let [bs, journal, homes] = sizes;
     let [option, value] = more;
-    [
+    let words = [
         "format",
-        image,
+        name,
         "--bs",
         bs,
         "--journal",
@@ -73,7 +81,8 @@ fn format_words<'a>(image: &'a str, sizes: [&'a str; 3], more: [&'a str; 2]) -> 
         homes,
         option,
         value,
-    ]
+    ];
+    check_run(rt, &words, end, name, at)
 }
 
 /// Checks that there is a new image, with the features that are asked for, and removes it.
@@ -88,31 +97,21 @@ fn check_new(rt: &impl Host, is_wide: bool, row: usize) {
 }
 
 /// Checks a format, and that it leaves an image exactly where it is not refused.
-fn check_format(rt: &impl Host, of: &Format, row: usize) {
+fn check_row(rt: &impl Host, of: &Format, row: usize) {
     let (sizes, more, end) = *of;
-    check_run(
-        rt,
-        &format_words("new.img", sizes, more),
-        end,
-        "format",
-        row,
-    );
+    check_format(rt, "new.img", sizes, more, end, row);
     if end.0 == 0 {
         check_new(rt, more[1] == "--wide", row)
     } else {
-        check_at(
-            rt,
-            is_missing(rt, "new.img"),
-            "a refused image is made, row",
-            row,
-        )
+        let has_none = is_missing(rt, "new.img");
+        check_at(rt, has_none, "a refused image is made, row", row)
     }
 }
 
 #[test]
 fn each_format_answers_its_row(rt: HostRuntime) {
     for (row, of) in FORMATS.iter().enumerate() {
-        check_format(&rt, of, row);
+        check_row(&rt, of, row);
     }
 }
 
@@ -130,8 +129,7 @@ static NAMES: [(&str, &str); 4] = [
 /// Checks that a file of each of the names is not made.
 fn check_names(rt: &impl Host) {
     for (row, (name, err)) in NAMES.iter().enumerate() {
-        let words = format_words(name, SMALL, NO_MAX);
-        check_run(rt, &words, (2, "", err), "format of the name", row);
+        check_format(rt, name, SMALL, NO_MAX, (2, "", err), row);
     }
 }
 
@@ -149,8 +147,8 @@ fn new_image(rt: &impl Host) -> Vec<u8> {
 /// Checks the format of the new image, and that it has nothing to recover.
 fn check_made(rt: &impl Host, wanted: &[u8]) {
     let more = ["--uuid", "000102030405060708090A0b0c0d0e0f"];
-    let words = format_words("front.img", ["2048", "40", "1"], more);
-    check_run(rt, &words, (0, "formatted limit 9\n", ""), "format", 1);
+    let end = (0, "formatted limit 9\n", "");
+    check_format(rt, "front.img", ["2048", "40", "1"], more, end, 1);
     check_file(rt, "front.img", wanted, "format", 1);
     let out = "transactions 0 copies 0 revoked 0 next 2\n";
     check_run(rt, &["recover", "front.img"], (0, out, ""), "recovery", 1)
@@ -161,8 +159,9 @@ fn check_once(rt: &impl Host) {
     check_made(rt, &new_image(rt));
     check_names(rt);
     // the geometry is judged before the file
-    let few = format_words("front.img", ["1024", "8", "16"], NO_MAX);
-    check_run(rt, &few, (1, "", "jb: Geometry\n"), "format", 2);
+    let few = ["1024", "8", "16"];
+    let end = (1, "", "jb: Geometry\n");
+    check_format(rt, "front.img", few, NO_MAX, end, 2);
     check_file(rt, "front.img", &new_image(rt), "format", 2);
     remove(rt, "front.img")
 }
@@ -209,8 +208,7 @@ fn check_long(rt: &impl Host) {
 /// Checks a long image, and that a small one of the same name is made after it.
 fn check_whole(rt: &impl Host) {
     check_long(rt);
-    let words = format_words("long.img", SMALL, NO_MAX);
-    check_run(rt, &words, MADE, "format", 2);
+    check_format(rt, "long.img", SMALL, NO_MAX, MADE, 2);
     remove(rt, "long.img")
 }
 
@@ -218,6 +216,9 @@ fn check_whole(rt: &impl Host) {
 fn a_file_is_made_whole_or_not_at_all(rt: HostRuntime) {
     check_whole(&rt)
 }
+
+/// The image of one transaction.
+const USED: Front = ([2, 1], 1, WHOLE);
 
 /// Runs that would change the image or lock it.
 static LOCKED: [&[&str]; 4] = [
@@ -236,17 +237,17 @@ fn check_locked(rt: &impl Host) {
 }
 
 /// Checks that each of the runs is refused while another has the image locked, and that it stays.
-fn check_lock(rt: &impl Host, bytes: &[u8]) {
+fn check_lock(rt: &impl Host) {
     let other = File::open(rt, "locked.img").expect(rt, "locked.img");
     check(rt, other.try_lock().is_ok(), "it is not locked");
     check_locked(rt);
-    check_file(rt, "locked.img", bytes, "run on a locked image", 0)
+    check_front(rt, "locked.img", USED, "run on a locked image", 0)
 }
 
 /// Checks the runs on a locked image, and that it is recovered when it is locked no more.
 fn check_unlocked(rt: &impl Host) {
-    write(rt, "locked.img", &front_of(rt, ([2, 1], 1, WHOLE)));
-    check_lock(rt, &front_of(rt, ([2, 1], 1, WHOLE)));
+    write_front(rt, "locked.img", USED);
+    check_lock(rt);
     let out = "transactions 1 copies 1 revoked 0 next 4\n";
     check_run(rt, &["recover", "locked.img"], (0, out, ""), "recovery", 0);
     remove(rt, "locked.img")

@@ -186,12 +186,18 @@ fn make(rt: &impl Host, format: &[&str], text: &str, row: usize) {
 }
 
 /// The words of a load of the queue text into the image.
-pub fn words_of<'a>(rt: &impl Host, options: &[&'a str]) -> Vec<&'a str> {
+fn words_of<'a>(rt: &impl Host, options: &[&'a str]) -> Vec<&'a str> {
     joined(rt, &["load", "loaded.img", "queue.txt"], options)
 }
 
-/// Checks how the home blocks of an image begin.
-fn check_homes(rt: &impl Host, image: &[u8], homes: &[(usize, [u8; 8])], row: usize) {
+/// Checks a load of the queue text into the image, with these further words.
+pub fn check_words(rt: &impl Host, options: &[&str], end: End, row: usize) {
+    check_run(rt, &words_of(rt, options), end, "load", row)
+}
+
+/// Checks how the home blocks of the image begin.
+fn check_homes(rt: &impl Host, homes: &[(usize, [u8; 8])], row: usize) {
+    let image = read(rt, "loaded.img");
     for (home, front) in homes {
         let at = JOURNAL + home.min(&16) * 1024;
         let is_so = image.get(at..at + 8) == Some(front.as_slice());
@@ -202,10 +208,10 @@ fn check_homes(rt: &impl Host, image: &[u8], homes: &[(usize, [u8; 8])], row: us
 /// Checks a load into a new image, its recovery, and the home blocks after that.
 fn check_load(rt: &impl Host, load: &Load, row: usize) {
     make(rt, load.format, load.text, row);
-    check_run(rt, &words_of(rt, load.options), load.end, "load", row);
+    check_words(rt, load.options, load.end, row);
     let end = (0, load.recovered, "");
     check_run(rt, &["recover", "loaded.img"], end, "recovery", row);
-    check_homes(rt, &read(rt, "loaded.img"), load.homes, row)
+    check_homes(rt, load.homes, row)
 }
 
 #[test]
@@ -218,8 +224,8 @@ fn each_load_answers_its_row_and_is_recovered(rt: HostRuntime) {
 /// Checks a load with a stamp, and the dump of what it leaves.
 fn check_stamp(rt: &impl Host) {
     make(rt, &[], TEN, 0);
-    let words = words_of(rt, &["--stamp", "18446744073709551615"]);
-    check_run(rt, &words, (0, TEN_LOADED, ""), "load", 0);
+    let options = ["--stamp", "18446744073709551615"];
+    check_words(rt, &options, (0, TEN_LOADED, ""), 0);
     let text =
         "super bs=1024 maxlen=33 first=1 sequence=2 start=1 errno=0 compat=00000000 incompat=00000001 rocompat=00000000 max=0 limit=8
 uuid 000102030405060708090a0b0c0d0e0f

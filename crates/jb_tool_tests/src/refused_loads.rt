@@ -1,9 +1,9 @@
 //! Loads that are refused: the image stays as it was.
 
 use crate::checks::check_at;
-use crate::files::{Front, WHOLE, check_file, front_of, is_missing, write};
-use crate::loads::{TEN, words_of};
-use crate::runs::{End, Host, check_over, check_run};
+use crate::files::{Front, WHOLE, check_front, is_missing, write, write_front};
+use crate::loads::{TEN, check_words};
+use crate::runs::{End, Host, check_over};
 use std::fs;
 
 /// A load that is refused.
@@ -162,17 +162,16 @@ fn put_text(rt: &impl Host, text: Option<&str>) {
 }
 
 /// Checks a load into an image, which stays.
-fn check_kept(rt: &impl Host, of: Front, words: &[&str], end: End, row: usize) {
-    let bytes = front_of(rt, of);
-    write(rt, "loaded.img", &bytes);
-    check_run(rt, words, end, "load", row);
-    check_file(rt, "loaded.img", &bytes, "load", row)
+fn check_kept(rt: &impl Host, image: Front, of: &Refusal, row: usize) {
+    write_front(rt, "loaded.img", image);
+    check_words(rt, of.options, of.end, row);
+    check_front(rt, "loaded.img", image, "load", row)
 }
 
 /// Checks a load into no image, of which none is made.
-fn check_none(rt: &impl Host, words: &[&str], end: End, row: usize) {
+fn check_none(rt: &impl Host, of: &Refusal, row: usize) {
     let _none = fs::remove_file(rt, "loaded.img");
-    check_run(rt, words, end, "load", row);
+    check_words(rt, of.options, of.end, row);
     let has_none = is_missing(rt, "loaded.img");
     check_at(rt, has_none, "an image is made by load", row)
 }
@@ -180,10 +179,9 @@ fn check_none(rt: &impl Host, words: &[&str], end: End, row: usize) {
 /// Checks the load of a row.
 fn check_refusal(rt: &impl Host, of: &Refusal, row: usize) {
     put_text(rt, of.text);
-    let words = words_of(rt, of.options);
     match of.image {
-        Some(image) => check_kept(rt, image, &words, of.end, row),
-        None => check_none(rt, &words, of.end, row),
+        Some(image) => check_kept(rt, image, of, row),
+        None => check_none(rt, of, row),
     }
 }
 
@@ -199,14 +197,16 @@ static NAMES: [([&str; 3], &str); 5] = [
     ),
 ];
 
+/// An image that could be loaded into.
+const READY: Front = (CLEAN, 1, WHOLE);
+
 /// Checks each of the loads, with a text on standard input.
 fn check_names(rt: &impl Host) {
-    let bytes = front_of(rt, (CLEAN, 1, WHOLE));
-    write(rt, "loaded.img", &bytes);
+    write_front(rt, "loaded.img", READY);
     for (row, (words, err)) in NAMES.iter().enumerate() {
         let text = TEN.as_bytes();
         check_over(rt, words, text, (2, "", err), "load of the names", row);
-        check_file(rt, "loaded.img", &bytes, "load of the names", row);
+        check_front(rt, "loaded.img", READY, "load of the names", row);
     }
 }
 

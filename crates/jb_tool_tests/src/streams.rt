@@ -1,7 +1,7 @@
 //! Inputs and outputs that fail.
 
 use crate::checks::{check_at, check_text};
-use crate::files::{WHOLE, front_of, remove, write};
+use crate::files::{WHOLE, remove, write, write_front};
 use crate::runs::{Host, check_status};
 use jb_tool::run;
 use std::io::{self, Error, ErrorKind, Read, Write};
@@ -93,7 +93,7 @@ fn check_line(rt: &impl Host, words: &[&str], writes: [usize; 2], sizes: [usize;
 
 /// Checks each row of the table, on one image.
 fn check_lines(rt: &impl Host) {
-    write(rt, "line.img", &front_of(rt, ([2, 1], 1, WHOLE)));
+    write_front(rt, "line.img", ([2, 1], 1, WHOLE));
     write(rt, "line.txt", b"bs 1024\nlimit 8\nh w1\nh w16\n");
     for (row, (words, writes, sizes)) in LINES.iter().enumerate() {
         check_line(rt, words, *writes, *sizes, row);
