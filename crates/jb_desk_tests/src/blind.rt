@@ -2,20 +2,29 @@
 ghost use Rattle.std.specs.Prelude.{◌≡◌, ◌+◌, ◌^◌, [], false};
 ghost use Rattle.jb_desk.specs.History.{history_in};
 
+use crate::journal::{CLOCK, PARTS, Small, Still, formatted, opened};
 use jb_deck::Deck;
 use jb_desk::{Desk, Origin, Stops};
-use jb_disk::{Clock, Disk};
+use jb_disk::Disk;
 use std::alloc::Global;
+use std::process::Abort;
 use std::sync::ledger::{Blank, Ledger};
 
+/// A new ledger for the handles that will stop, and a new history of them.
+pub fn stops(rt: &impl Abort, alloc: Global) -> Stops
+    ensures { result.tickets.parts ≡ 2 ^ 61 + 1 }
+{
+    Stops::new(alloc, PARTS).expect(rt, "memory")
+}
+
 /// Starts a desk over a journal, where nothing is known of the disk at the start, so that any disk will do.
-pub fn start<D: Disk, C: Clock, H: Origin, N: Ledger>(
+pub fn start<D: Disk + Drop, H: Origin, N: Ledger>(
+    rt: &impl Abort,
     alloc: Global,
     handles: Stops,
     changes: Blank,
     deck: Deck<D>,
-    clock: C,
-) -> Result<Desk<D, C, H, N>, (Stops, Blank, Deck<D>, C)>
+) -> Still<D, H, N>
     requires blind { H.begun.honest → ⊥ }
     requires handles { (handles.tickets.name ≡ H.name) × (handles.tickets.parts ≡ H.parts) × (H.parts ≡ 2 ^ 61 + 1) }
     requires history { history_in handles ≡ H.history }
@@ -23,5 +32,23 @@ pub fn start<D: Disk, C: Clock, H: Origin, N: Ledger>(
     requires fresh { deck.trail ≡ [] }
     requires running { deck.aborted ≡ false }
 {
-    Desk::start(alloc, handles, changes, deck, clock)
+    Desk::start(alloc, handles, changes, deck, CLOCK)
+        .ok()
+        .expect(rt, "the desk is not started")
+}
+
+/// Starts a desk over the small journal.
+pub fn small<H: Origin, N: Ledger>(
+    rt: &impl Abort,
+    alloc: Global,
+    handles: Stops,
+    changes: Blank,
+) -> Small<H, N>
+    requires blind { H.begun.honest → ⊥ }
+    requires handles { (handles.tickets.name ≡ H.name) × (handles.tickets.parts ≡ H.parts) × (H.parts ≡ 2 ^ 61 + 1) }
+    requires history { history_in handles ≡ H.history }
+    requires changes { (changes.name ≡ N.name) × (changes.parts ≡ N.parts) × (N.parts ≡ 2 ^ 61 + 1) }
+{
+    let deck = opened(alloc, formatted(rt, alloc)).expect(rt, "the journal is not opened");
+    start(rt, alloc, handles, changes, deck)
 }

@@ -1,91 +1,73 @@
 //! Calls of a book, with the answers that its limits give by hand.
 
+use crate::checks::check_in;
 use jb_block::{BlockSize, Width};
 use jb_desk::{BeginFault, Book, EnqueueFault};
 use jb_handle::{Handle, Shape};
 use std::alloc::Global;
 use std::marker::Brand;
-use std::test::Fail;
+use std::process::Abort;
 
-/// A call: a stop is of a handle with so many credits that revokes these home blocks.
+/// A call, and what it answers.
 #[derive(Clone, Copy)]
 enum Call {
-    Open(u64, u32),
-    Stop(u64, u32, &'static [u64]),
+    /// a seat opens a handle with so many credits
+    Open(u64, u32, Result<(), BeginFault>),
+    /// a seat stops a handle with so many credits that revokes these home blocks, and is given a ticket
+    Stop(u64, u32, &'static [u64], Result<u64, EnqueueFault>),
     Drop(u64),
-    Take,
+    /// gives a batch: its first ticket, and how many handles it has
+    Take(Option<(u64, usize)>),
     Fail,
     Shut,
 }
 
-/// What a call answers: a batch as its first ticket and the number of its handles.
-#[derive(Clone, Copy, Debug, PartialEq)]
-enum Answer {
-    Begun(Result<(), BeginFault>),
-    Stopped(Result<u64, EnqueueFault>),
-    Taken(Option<(u64, usize)>),
-    Done,
-}
-
-const GRANTED: Answer = Answer::Begun(Ok(()));
-
 /// The calls of a new book of a journal with 32 usable log blocks, of which a group takes 8 at most.
-const ROWS: [&[(Call, Answer)]; 3] = [
+static ROWS: [&[Call]; 3] = [
     // five handles of 6 credits leave room for 2 credits more
     &[
-        (Call::Open(1, 6), GRANTED),
-        (Call::Open(2, 6), GRANTED),
-        (Call::Open(3, 6), GRANTED),
-        (Call::Open(4, 6), GRANTED),
-        (Call::Open(5, 6), GRANTED),
-        (Call::Open(6, 3), Answer::Begun(Err(BeginFault::Full(30)))),
-        (Call::Open(6, 2), GRANTED),
+        Call::Open(1, 6, Ok(())),
+        Call::Open(2, 6, Ok(())),
+        Call::Open(3, 6, Ok(())),
+        Call::Open(4, 6, Ok(())),
+        Call::Open(5, 6, Ok(())),
+        Call::Open(6, 3, Err(BeginFault::Full(30))),
+        Call::Open(6, 2, Ok(())),
     ],
     // a handle from its begin to a batch
     &[
-        (
-            Call::Open(1, 7),
-            Answer::Begun(Err(BeginFault::TooManyCredits(6))),
-        ),
-        (Call::Open(1, 6), GRANTED),
-        (Call::Open(1, 1), Answer::Begun(Err(BeginFault::Busy))),
-        (Call::Drop(1), Answer::Done),
-        (Call::Take, Answer::Taken(None)),
-        (
-            Call::Stop(1, 6, &[1]),
-            Answer::Stopped(Err(EnqueueFault::NotOpen)),
-        ),
-        (Call::Open(1, 1), GRANTED),
-        (
-            Call::Stop(1, 6, &[1, 2]),
-            Answer::Stopped(Err(EnqueueFault::NotOpen)),
-        ),
-        (Call::Stop(1, 1, &[1]), Answer::Stopped(Ok(0))),
-        (Call::Open(1, 1), GRANTED),
-        (Call::Stop(1, 1, &[2]), Answer::Stopped(Ok(1))),
-        (Call::Take, Answer::Taken(Some((0, 2)))),
-        (Call::Open(1, 1), GRANTED),
-        (Call::Shut, Answer::Done),
-        (Call::Open(2, 1), Answer::Begun(Err(BeginFault::Closed))),
-        (Call::Stop(1, 1, &[]), Answer::Stopped(Ok(2))),
-        (Call::Take, Answer::Taken(None)),
+        Call::Open(1, 7, Err(BeginFault::TooManyCredits(6))),
+        Call::Open(1, 6, Ok(())),
+        Call::Open(1, 1, Err(BeginFault::Busy)),
+        Call::Drop(1),
+        Call::Take(None),
+        Call::Stop(1, 6, &[1], Err(EnqueueFault::NotOpen)),
+        Call::Open(1, 1, Ok(())),
+        Call::Stop(1, 6, &[1, 2], Err(EnqueueFault::NotOpen)),
+        Call::Stop(1, 1, &[1], Ok(0)),
+        Call::Open(1, 1, Ok(())),
+        Call::Stop(1, 1, &[2], Ok(1)),
+        Call::Take(Some((0, 2))),
+        Call::Open(1, 1, Ok(())),
+        Call::Shut,
+        Call::Open(2, 1, Err(BeginFault::Closed)),
+        Call::Stop(1, 1, &[], Ok(2)),
+        Call::Take(None),
     ],
     // after a failure nothing waits, and open seats stay listed until they are dropped
     &[
-        (Call::Open(1, 1), GRANTED),
-        (Call::Open(2, 1), GRANTED),
-        (Call::Stop(1, 1, &[1]), Answer::Stopped(Ok(0))),
-        (Call::Fail, Answer::Done),
-        (Call::Take, Answer::Taken(None)),
-        (Call::Open(1, 1), Answer::Begun(Err(BeginFault::Aborted))),
-        (
-            Call::Stop(2, 1, &[1]),
-            Answer::Stopped(Err(EnqueueFault::Aborted)),
-        ),
-        (Call::Drop(2), Answer::Done),
+        Call::Open(1, 1, Ok(())),
+        Call::Open(2, 1, Ok(())),
+        Call::Stop(1, 1, &[1], Ok(0)),
+        Call::Fail,
+        Call::Take(None),
+        Call::Open(1, 1, Err(BeginFault::Aborted)),
+        Call::Stop(2, 1, &[1], Err(EnqueueFault::Aborted)),
+        Call::Drop(2),
     ],
 ];
 
+/// A seat stops a handle with so many credits that revokes these home blocks.
 fn stop(
     alloc: Global,
     book: &mut Book<Brand>,
@@ -107,47 +89,65 @@ fn stop(
     }
 }
 
-fn ask(alloc: Global, book: &mut Book<Brand>, shape: Shape, call: Call) -> Answer {
-    match call {
-        Call::Open(seat, credits) => Answer::Begun(book.open(seat, credits)),
-        Call::Stop(seat, credits, homes) => {
-            Answer::Stopped(stop(alloc, book, shape, seat, credits, homes))
+/// A batch is taken: its first ticket, and how many handles it has.
+fn taken(book: &mut Book<Brand>) -> Option<(u64, usize)> {
+    match book.take() {
+        Some(batch) => {
+            let first = batch.first();
+            Some((first, batch.end().len()))
         }
+        None => None,
+    }
+}
+
+/// Calls a book; says whether it answers so.
+fn is_answered(alloc: Global, book: &mut Book<Brand>, shape: Shape, call: Call) -> bool {
+    match call {
+        Call::Open(seat, credits, wanted) => book.open(seat, credits) == wanted,
+        Call::Stop(seat, credits, homes, wanted) => {
+            stop(alloc, book, shape, seat, credits, homes) == wanted
+        }
+        Call::Take(wanted) => taken(book) == wanted,
         Call::Drop(seat) => {
             book.drop_open(seat);
-            Answer::Done
+            true
         }
-        Call::Take => match book.take() {
-            Some(batch) => {
-                let first = batch.first();
-                Answer::Taken(Some((first, batch.end().len())))
-            }
-            None => Answer::Taken(None),
-        },
         Call::Fail => {
             book.fail();
-            Answer::Done
+            true
         }
         Call::Shut => {
             book.shut();
-            Answer::Done
+            true
         }
     }
 }
 
+/// Checks the answers of a new book to the calls of a row.
+fn check_calls(
+    rt: &impl Abort,
+    alloc: Global,
+    book: &mut Book<Brand>,
+    shape: Shape,
+    row: u64,
+    calls: &[Call],
+) {
+    for (number, &call) in calls.iter().enumerate() {
+        let is_so = is_answered(alloc, book, shape, call);
+        check_in(rt, is_so, row, "the answer to call", number as u64);
+    }
+}
+
 #[test]
-fn books_answer_as_worked_by_hand(rt: HostRuntime) -> Result<(), Fail> {
+fn books_answer_as_worked_by_hand(rt: HostRuntime) {
     let shape = Shape {
         bs: BlockSize::OneKib,
         homes: 16,
         limit: 8,
         width: Width::Narrow,
     };
-    for calls in &ROWS {
+    for (row, calls) in ROWS.iter().enumerate() {
         let mut book = Book::<Brand>::new(rt.alloc(), shape, 32);
-        for &(call, wanted) in *calls {
-            assert_eq!(rt; ask(rt.alloc(), &mut book, shape, call), wanted);
-        }
+        check_calls(&rt, rt.alloc(), &mut book, shape, row as u64, calls);
     }
-    Ok(())
 }

@@ -3,180 +3,178 @@ ghost use Rattle.std.specs.Prelude.{◌≡◌, ◌+◌, ◌^◌};
 ghost use Rattle.jb_desk.specs.History.{history_in};
 ghost use Rattle.jb_handle.specs.Word.{WordMap};
 
-use crate::blind::start;
+use crate::blind::{start, stops};
+use crate::checks::{check, check_at, fail};
+use crate::closing::{closed, left};
 use crate::journal::{
-    CLOCK, Came, PARTS, Still, Why, formatted, opened, refused, retired, round, stop, write,
+    Came, PARTS, Still, begun, formatted, home, is_one, opened, refused, retired, round, seated,
+    stop, write,
 };
-use jb_block::{BlockSize, Memory};
-use jb_deck::Entry;
-use jb_desk::{BeginFault, Origin, RoundFault, Stops};
+use jb_desk::{BeginFault, EnqueueFault, Origin, RoundFault, Stops};
 use jb_disk::{Disk, MemoryDisk, OneFaultDisk};
 use jb_recover::recover;
 use std::alloc::Global;
 use std::marker::Brand;
+use std::process::Abort;
 use std::sync::Wait;
 use std::sync::ledger::{Blank, Ledger};
-use std::test::Fail;
 
+/// A desk whose disk fails once.
 type Failing<H, N> = Still<OneFaultDisk<MemoryDisk>, H, N>;
 
 /// What follows a round in which one handle is committed while another is open: what the other's stop and a further
-/// begin answer, how many handles have stopped, whether the committer retires, the handles and changes at the end, and
-/// whether recovery finds the home block whole, as it was or as it is written.
-#[derive(Clone, Copy, Debug, PartialEq)]
-struct Found {
-    came: Came,
-    second: Result<u64, Why>,
+/// begin answer, how many handles have stopped, whether the committer retires, and the handles and changes at the end.
+#[derive(Drop)]
+struct Answers {
+    second: Result<u64, EnqueueFault>,
     begun: Option<BeginFault>,
     stopped: u64,
     is_retired: bool,
-    counts: Option<(u64, u64)>,
-    is_whole: bool,
+    handles: u64,
+    changes: u64,
 }
 
-const FAILED: Found = Found {
-    came: Came::Failed(RoundFault::DeviceFault),
-    second: Err(Why::Aborted),
+/// What the round came to, and what follows it.
+#[derive(Drop)]
+struct Found {
+    came: Came,
+    answers: Answers,
+}
+
+/// What follows a round that fails.
+static FAILED: Answers = Answers {
+    second: Err(EnqueueFault::Aborted),
     begun: Some(BeginFault::Aborted),
     stopped: 1,
     is_retired: true,
-    counts: Some((1, 1)),
-    is_whole: true,
+    handles: 1,
+    changes: 1,
 };
 
-const COMMITTED: Found = Found {
-    came: Came::Committed(
-        Some(Entry {
-            first: 0,
-            past: 1,
-            number: 2,
-            blocks: 3,
-        }),
-        1,
-    ),
+/// What follows a round that commits the handle.
+static COMMITTED: Answers = Answers {
     second: Ok(1),
     begun: None,
     stopped: 2,
     is_retired: true,
-    counts: Some((2, 1)),
-    is_whole: true,
+    handles: 2,
+    changes: 1,
 };
 
-/// Whether home block 1 has one byte throughout after a recovery: 0 as it was, or 7 as it is written.
-fn is_whole(alloc: Global, disk: MemoryDisk) -> bool {
+/// Checks that recovery finds home block 1 whole where this call of the disk fails: it has one byte throughout, 0 as it
+/// was, or 7 as it is written.
+fn check_whole(rt: &impl Abort, alloc: Global, call: u64, disk: MemoryDisk) {
     let mut disk = disk;
-    if recover(alloc, &mut disk).is_err() {
-        return false;
-    }
-    let mut home = [1; 1024];
-    match disk.block_size() {
-        BlockSize::OneKib if disk.blocks() > 34 => {
-            disk.read(34, &mut home).is_ok() && (home == [0; 1024] || home == [7; 1024])
-        }
-        _ => false,
-    }
+    let is_recovered = recover(alloc, &mut disk).is_ok();
+    check_at(rt, is_recovered, "the recovery, fault", call);
+    let block = home(rt, &mut disk, 1);
+    let is_whole = block == [0; 1024] || block == [7; 1024];
+    check_at(rt, is_whole, "the home block, fault", call);
 }
 
-fn after_round<R: Wait, H: Origin, N: Ledger>(
+/// What the round comes to and what follows it, and the disk then.
+fn after_round<R: Abort + Wait, D: Disk + Drop, H: Origin, N: Ledger>(
     rt: &R,
     alloc: Global,
-    desk: Failing<H, N>,
-) -> Result<Option<Found>, Memory>
+    desk: Still<D, H, N>,
+) -> (Found, D)
     requires any { (words : WordMap) → H.begun.stops words }
     requires parts { (H.parts ≡ 2 ^ 61 + 1) × (N.parts ≡ 2 ^ 61 + 1) }
 {
-    let mut lefts = Vec::new(alloc);
-    lefts.reserve(2)?;
-    let Ok(seat) = desk.seat(rt) else {
-        return Ok(None);
-    };
-    let (seat, _) = write(rt, &desk, seat, 1, &[1]);
+    let (seat, _) = write(rt, &desk, seated(rt, &desk), 1, &[1]);
     let mut committer = desk.committer(seat);
-    let Ok(seat) = desk.seat(rt) else {
-        let seat = desk.give_up(rt, committer);
-        let _left = desk.leave(rt, seat);
-        return Ok(None);
-    };
-    let handle = match desk.begin(rt, seat, 1) {
-        Ok(handle) => handle,
-        Err((seat, _)) => {
-            let _left = desk.leave(rt, seat);
-            let seat = desk.give_up(rt, committer);
-            let _left = desk.leave(rt, seat);
-            return Ok(None);
-        }
-    };
+    let handle = begun(rt, &desk, seated(rt, &desk), 1, "the other handle");
     let came = round(rt, &desk, &mut committer);
     let (seat, second) = stop(rt, &desk, handle);
     let (mut seat, begun) = refused(rt, &desk, seat, 1);
     let stopped = desk.front(&mut seat).stopped;
-    lefts.push_reserved(desk.leave(rt, seat));
+    let mut lefts = left(rt, alloc, &desk, seat);
     let (seat, is_retired) = retired(rt, &desk, committer);
-    lefts.push_reserved(desk.leave(rt, seat));
-    let (counts, is_whole) = match desk.close(lefts) {
-        Ok(closed) => (
-            Some((closed.handles, closed.changes)),
-            is_whole(alloc, closed.disk.into_inner()),
-        ),
-        Err(_) => (None, false),
-    };
-    Ok(Some(Found {
-        came,
+    lefts.push(desk.leave(rt, seat)).expect(rt, "memory");
+    let closed = closed(rt, desk, lefts);
+    let answers = Answers {
         second,
         begun,
         stopped,
         is_retired,
-        counts,
-        is_whole,
-    }))
+        handles: closed.handles,
+        changes: closed.changes,
+    };
+    (Found { came, answers }, closed.disk)
 }
 
 /// What is found where this call of the disk fails; `None` where the journal cannot be opened then.
-fn failing<R: Wait, H: Origin, N: Ledger>(
+fn failing<R: Abort + Wait, H: Origin, N: Ledger>(
     rt: &R,
     alloc: Global,
     call: u64,
     handles: Stops,
     changes: Blank,
-) -> Result<Option<Found>, Memory>
+) -> Option<Found>
     requires blind { H.begun.honest → ⊥ }
     requires any { (words : WordMap) → H.begun.stops words }
     requires handles { (handles.tickets.name ≡ H.name) × (handles.tickets.parts ≡ H.parts) × (H.parts ≡ 2 ^ 61 + 1) }
     requires history { history_in handles ≡ H.history }
     requires changes { (changes.name ≡ N.name) × (changes.parts ≡ N.parts) × (N.parts ≡ 2 ^ 61 + 1) }
 {
-    let Some(disk) = formatted(alloc)? else {
-        return Err(Memory);
-    };
-    let Some(deck) = opened(alloc, OneFaultDisk::of(disk, call)) else {
-        return Ok(None);
-    };
-    let Ok(desk) = start::<_, _, H, N>(alloc, handles, changes, deck, CLOCK) else {
-        return Err(Memory);
-    };
-    after_round(rt, alloc, desk)
+    match opened(alloc, OneFaultDisk::of(formatted(rt, alloc), call)) {
+        Some(deck) => {
+            let desk: Failing<H, N> = start(rt, alloc, handles, changes, deck);
+            let (found, disk) = after_round(rt, alloc, desk);
+            check_whole(rt, alloc, call, disk.into_inner());
+            Some(found)
+        }
+        None => None,
+    }
+}
+
+/// Checks what follows a round of which this call of the disk fails.
+fn check_answers(rt: &impl Abort, call: u64, found: &Answers, wanted: &Answers) {
+    let is_second = found.second == wanted.second;
+    let is_begun = found.begun == wanted.begun;
+    let is_retired = found.is_retired == wanted.is_retired;
+    check_at(rt, is_second, "the stop of the other handle, fault", call);
+    check_at(rt, is_begun, "a further begin, fault", call);
+    check_at(
+        rt,
+        found.stopped == wanted.stopped,
+        "stopped handles, fault",
+        call,
+    );
+    check_at(rt, is_retired, "whether the committer retires, fault", call);
+    check_at(rt, found.handles == wanted.handles, "handles, fault", call);
+    check_at(rt, found.changes == wanted.changes, "changes, fault", call);
+}
+
+/// Checks what is found where this call of the disk fails, or is not made. Says whether the round has failed.
+fn check_found(rt: &impl Abort, call: u64, found: &Found) -> bool {
+    if is_one(found.came, 0, 2) {
+        check_answers(rt, call, &found.answers, &COMMITTED);
+        return false;
+    }
+    let has_failed = matches!(found.came, Came::Failed(RoundFault::DeviceFault));
+    check_at(rt, has_failed, "how the round fails, fault", call);
+    check_answers(rt, call, &found.answers, &FAILED);
+    true
 }
 
 #[test]
-fn close_adds_up_after_each_fault(rt: HostRuntime) -> Result<(), Fail> {
+fn close_adds_up_after_each_fault(rt: HostRuntime) {
     let mut has_failed = false;
     for call in 0..200 {
         let found = failing::<HostRuntime, Brand, Brand>(
             &rt,
             rt.alloc(),
             call,
-            Stops::new(rt.alloc(), PARTS)?,
+            stops(&rt, rt.alloc()),
             Blank::new(PARTS),
-        )?;
-        if found == Some(COMMITTED) {
-            assert!(rt; has_failed);
-            return Ok(());
-        }
+        );
         if let Some(found) = found {
-            assert_eq!(rt; found, FAILED);
+            if !check_found(&rt, call, &found) {
+                return check(&rt, has_failed, "no call fails in the round");
+            }
             has_failed = true;
         }
     }
-    assert!(rt; false);
-    Ok(())
+    fail(&rt, "some call of the first 200 always fails")
 }

@@ -4,20 +4,21 @@ ghost use Rattle.jb_desk.specs.History.{history_in};
 ghost use Rattle.jb_disk.specs.Faults.{CountsFault, counted};
 ghost use Rattle.jb_handle.specs.Word.{WordMap};
 
-use crate::blind::start;
+use crate::blind::{start, stops};
+use crate::checks::check;
+use crate::closing::check_close;
 use crate::journal::{
-    CLOCK, Came, PARTS, Still, Why, formatted, opened, retired, round, stop, write,
+    PARTS, Still, begun, formatted, is_one, opened, retired, round, seated, stop, write,
 };
-use jb_block::{BlockSize, Memory};
-use jb_deck::Entry;
-use jb_desk::{Left, Origin, Stops, WaitFault};
+use jb_block::BlockSize;
+use jb_desk::{Left, Origin, Stops};
 use jb_disk::{Disk, Fault, MemoryDisk};
 use std::alloc::Global;
 use std::marker::Brand;
+use std::process::Abort;
 use std::sync::Wait;
 use std::sync::atomic::{AtomicBool, Ordering};
 use std::sync::ledger::{Blank, Ledger};
-use std::test::Fail;
 use std::thread;
 use std::thread::Threads;
 use std::time::{Clock, Duration};
@@ -58,15 +59,38 @@ pub fn has_come<K: Clock>(clock: &K, flag: &AtomicBool) -> bool {
     false
 }
 
+/// Waits until something has happened; fails the test where it does not, and says what.
+pub fn await_flag<R: Abort + Clock>(rt: &R, flag: &AtomicBool, what: &'static str) {
+    check(rt, has_come(rt, flag), what)
+}
+
 /// A disk that holds its first write after the superblock until the second handle has stopped. Where that takes too
 /// long, the write fails.
 #[derive(Drop)]
 pub struct GateDisk<'a, D: Disk, K: Clock> {
-    pub disk: D,
-    pub gate: &'a Gate,
-    pub clock: &'a K,
-    pub is_open: bool,
-    pub failed: u64,
+    disk: D,
+    gate: &'a Gate,
+    clock: &'a K,
+    is_open: bool,
+    failed: u64,
+}
+
+/// A desk over the small journal on such a disk.
+pub type Gated<'a, K, H, N> = Still<GateDisk<'a, MemoryDisk, K>, H, N>;
+
+/// The small journal on such a disk.
+pub fn gated_disk<'a, R: Abort + Clock>(
+    rt: &'a R,
+    alloc: Global,
+    gate: &'a Gate,
+) -> GateDisk<'a, MemoryDisk, R> {
+    GateDisk {
+        disk: formatted(rt, alloc),
+        gate,
+        clock: rt,
+        is_open: false,
+        failed: 0,
+    }
 }
 
 impl<'a, D: Disk, K: Clock> Disk for GateDisk<'a, D, K> {
@@ -135,148 +159,95 @@ fn pass<K: Clock>(clock: &K, gate: &Gate, failed: &mut u64) -> Result<(), Fault>
     Err(Fault)
 }
 
-/// What the thread finds that commits: how two rounds end, and the numbers of both tickets.
-#[derive(Clone, Copy, Debug, PartialEq)]
-struct Found {
-    rounds: (Came, Came),
-    numbers: (Result<u32, WaitFault>, Result<u32, WaitFault>),
-}
-
-fn first<K: Wait + Clock, D: Disk, H: Origin, N: Ledger>(
+/// Commits a handle, and then the one that stops meanwhile. Gives what its seat leaves.
+fn first<K: Abort + Wait + Clock, D: Disk, H: Origin, N: Ledger>(
     rt: &K,
     desk: &Still<D, H, N>,
     gate: &Gate,
-) -> Option<(Left<H, N>, Found)>
+) -> Left<H, N>
     requires any { (words : WordMap) → H.begun.stops words }
 {
-    let Ok(seat) = desk.seat(rt) else {
-        return None;
-    };
-    let (seat, _) = write(rt, desk, seat, 1, &[1]);
-    let _begun = has_come(rt, &gate.has_begun);
+    let (seat, _) = write(rt, desk, seated(rt, desk), 1, &[1]);
+    await_flag(rt, &gate.has_begun, "the second handle is not begun");
     let mut committer = desk.committer(seat);
-    let rounds = (
-        round(rt, desk, &mut committer),
-        round(rt, desk, &mut committer),
-    );
+    let one = round(rt, desk, &mut committer);
+    let other = round(rt, desk, &mut committer);
     let (mut seat, _) = retired(rt, desk, committer);
-    let numbers = (desk.wait(rt, &mut seat, 0), desk.wait(rt, &mut seat, 1));
-    Some((desk.leave(rt, seat), Found { rounds, numbers }))
+    check(rt, is_one(one, 0, 2), "the first round");
+    check(rt, is_one(other, 1, 3), "the second round");
+    check(
+        rt,
+        desk.wait(rt, &mut seat, 0) == Ok(2),
+        "the number of the first ticket",
+    );
+    check(
+        rt,
+        desk.wait(rt, &mut seat, 1) == Ok(3),
+        "the number of the second ticket",
+    );
+    desk.leave(rt, seat)
 }
 
-fn second<K: Wait + Clock, D: Disk, H: Origin, N: Ledger>(
+/// Stops a handle while the disk is at work. Gives what its seat leaves.
+fn second<K: Abort + Wait + Clock, D: Disk, H: Origin, N: Ledger>(
     rt: &K,
     desk: &Still<D, H, N>,
     gate: &Gate,
-) -> Option<(Left<H, N>, Result<u64, Why>)>
+) -> Left<H, N>
     requires any { (words : WordMap) → H.begun.stops words }
 {
-    let Ok(seat) = desk.seat(rt) else {
-        return None;
-    };
-    match desk.begin(rt, seat, 2) {
-        Ok(mut handle) => {
-            gate.has_begun.store(true, Ordering::SeqCst);
-            let _refused = handle.write(2, &[2; 1024]);
-            let _writing = has_come(rt, &gate.is_writing);
-            let (seat, ticket) = stop(rt, desk, handle);
-            gate.has_stopped.store(true, Ordering::SeqCst);
-            Some((desk.leave(rt, seat), ticket))
-        }
-        Err((seat, _)) => {
-            let _left = desk.leave(rt, seat);
-            None
-        }
-    }
+    let mut handle = begun(rt, desk, seated(rt, desk), 2, "the second handle");
+    gate.has_begun.store(true, Ordering::SeqCst);
+    let _refused = handle.write(2, &[2; 1024]);
+    await_flag(rt, &gate.is_writing, "the log is not written");
+    let (seat, ticket) = stop(rt, desk, handle);
+    gate.has_stopped.store(true, Ordering::SeqCst);
+    check(rt, ticket == Ok(1), "the second ticket");
+    desk.leave(rt, seat)
 }
 
-/// The second ticket, what the committer finds, and the handles, changes and groups at the end.
-#[derive(Clone, Copy, Debug, PartialEq)]
-struct Answer {
-    ticket: Result<u64, Why>,
-    found: Found,
-    counts: Option<(u64, u64, usize)>,
+/// Two threads stop a handle each, the second one while the disk is at work for the first.
+fn stop_both<
+    R: Abort + Threads + Wait + Clock + Sync,
+    D: Disk + Drop + Send,
+    H: Origin + Send + Sync,
+    N: Ledger + Send + Sync,
+>(rt: &R, alloc: Global, gate: &Gate, desk: Still<D, H, N>)
+    requires any { (words : WordMap) → H.begun.stops words }
+    requires parts { (H.parts ≡ 2 ^ 61 + 1) × (N.parts ≡ 2 ^ 61 + 1) }
+{
+    let (other, one) = thread::join(rt, || second(rt, &desk, gate), || first(rt, &desk, gate));
+    let mut lefts = Vec::new(alloc);
+    lefts.push(one).expect(rt, "memory");
+    lefts.push(other).expect(rt, "memory");
+    check_close(rt, "the desk", desk, lefts, (2, 2, 2))
 }
 
-fn gated<R: Threads + Wait + Clock + Sync, H: Origin + Send + Sync, N: Ledger + Send + Sync>(
-    rt: &R,
-    alloc: Global,
-    gate: &Gate,
-    handles: Stops,
-    changes: Blank,
-) -> Result<Option<Answer>, Memory>
+/// Two threads stop a handle each at a new desk.
+fn gated<
+    R: Abort + Threads + Wait + Clock + Sync,
+    H: Origin + Send + Sync,
+    N: Ledger + Send + Sync,
+>(rt: &R, alloc: Global, gate: &Gate, handles: Stops, changes: Blank)
     requires blind { H.begun.honest → ⊥ }
     requires any { (words : WordMap) → H.begun.stops words }
     requires handles { (handles.tickets.name ≡ H.name) × (handles.tickets.parts ≡ H.parts) × (H.parts ≡ 2 ^ 61 + 1) }
     requires history { history_in handles ≡ H.history }
     requires changes { (changes.name ≡ N.name) × (changes.parts ≡ N.parts) × (N.parts ≡ 2 ^ 61 + 1) }
 {
-    let Some(disk) = formatted(alloc)? else {
-        return Ok(None);
-    };
-    let disk = GateDisk {
-        disk,
-        gate,
-        clock: rt,
-        is_open: false,
-        failed: 0,
-    };
-    let Some(deck) = opened(alloc, disk) else {
-        return Ok(None);
-    };
-    let Ok(desk) = start::<_, _, H, N>(alloc, handles, changes, deck, CLOCK) else {
-        return Err(Memory);
-    };
-    let (other, one) = thread::join(rt, || second(rt, &desk, gate), || first(rt, &desk, gate));
-    let (Some((other, ticket)), Some((one, found))) = (other, one) else {
-        return Ok(None);
-    };
-    let mut lefts = Vec::new(alloc);
-    lefts.reserve(2)?;
-    lefts.push_reserved(one);
-    lefts.push_reserved(other);
-    let counts = match desk.close(lefts) {
-        Ok(closed) => Some((closed.handles, closed.changes, closed.trail.len())),
-        Err(_) => None,
-    };
-    Ok(Some(Answer {
-        ticket,
-        found,
-        counts,
-    }))
-}
-
-/// One round, which commits one handle of one copy under this ticket and number.
-fn one(ticket: u64, number: u32) -> Came {
-    Came::Committed(
-        Some(Entry {
-            first: ticket,
-            past: ticket.saturating_add(1),
-            number,
-            blocks: 3,
-        }),
-        1,
-    )
+    let deck = opened(alloc, gated_disk(rt, alloc, gate)).expect(rt, "the journal is not opened");
+    let desk: Gated<'_, R, H, N> = start(rt, alloc, handles, changes, deck);
+    stop_both(rt, alloc, gate, desk)
 }
 
 #[test]
-fn gate_two_stops(rt: HostRuntime) -> Result<(), Fail> {
+fn gate_two_stops(rt: HostRuntime) {
     let gate = Gate::shut();
-    let found = gated::<HostRuntime, Brand, Brand>(
+    gated::<HostRuntime, Brand, Brand>(
         &rt,
         rt.alloc(),
         &gate,
-        Stops::new(rt.alloc(), PARTS)?,
+        stops(&rt, rt.alloc()),
         Blank::new(PARTS),
-    )?;
-    let wanted = Answer {
-        ticket: Ok(1),
-        found: Found {
-            rounds: (one(0, 2), one(1, 3)),
-            numbers: (Ok(2), Ok(3)),
-        },
-        counts: Some((2, 2, 2)),
-    };
-    assert_eq!(rt; found, Some(wanted));
-    Ok(())
+    );
 }

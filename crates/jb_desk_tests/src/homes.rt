@@ -1,7 +1,9 @@
 //! What the homes hold, and which handles they hold it of.
+use crate::checks::read_at;
 use crate::keys::{HOMES, block_of, changes_of};
-use jb_block::{BlockSize, get64};
-use jb_disk::{Disk, MemoryDisk};
+use jb_block::get64;
+use jb_disk::MemoryDisk;
+use std::process::Abort;
 
 /// A handle that has stopped: its ticket, and the key that gives its changes.
 #[derive(Clone, Copy)]
@@ -46,18 +48,14 @@ fn content_of(block: &[u8; 1024], home: usize) -> Content {
 }
 
 /// Reads the homes of a disk, which begin at this block.
-pub fn contents_of(disk: &mut MemoryDisk, first: u64) -> Option<Contents> {
+pub fn contents_of(rt: &impl Abort, disk: &mut MemoryDisk, first: u64) -> Contents {
     let mut contents = [Content::Torn; HOMES];
     let mut block = [0; 1024];
     for (home, content) in contents.iter_mut().enumerate() {
-        let place = first.saturating_add(home as u64);
-        match disk.block_size() {
-            BlockSize::OneKib if disk.blocks() > place => disk.read(place, &mut block).ok()?,
-            _ => return None,
-        }
+        read_at(rt, disk, first.saturating_add(home as u64), &mut block);
         *content = content_of(&block, home);
     }
-    Some(contents)
+    contents
 }
 
 /// Whether a home may hold this. One that was revoked may hold whatever a handle wrote to it before, and after a crash

@@ -1,27 +1,31 @@
 //! The small journal, and handles and rounds over it.
-ghost use Rattle.std.specs.Prelude.{◌≡◌, ◌+◌, ◌^◌, [], false, IfSome};
+ghost use Rattle.std.specs.Prelude.{◌≡◌, [], false, IfSome};
 ghost use Rattle.jb_handle.specs.Handle.{holder};
 ghost use Rattle.jb_desk.specs.Desks.{desk_id};
 ghost use Rattle.jb_desk.specs.Rounds.{seat_of};
 ghost use Rattle.jb_desk.specs.Seats.{desk_of};
 ghost use Rattle.jb_handle.specs.Word.{WordMap};
 
-use jb_block::{BlockSize, Memory, Width, put32};
+use crate::checks::{read_at, write_at};
+use jb_block::{BlockSize, Width, put32};
 use jb_deck::{Deck, Entry};
 use jb_desk::{
-    BeginFault, CloseFault, Committer, Desk, Ended, Left, Origin, Round, RoundFault, Seat,
-    StopFault, Stops,
+    BeginFault, Committer, Desk, EnqueueFault, Origin, Round, RoundFault, Seat, StopFault,
 };
 use jb_disk::{Disk, FixedClock, MemoryDisk};
 use jb_front::format;
 use jb_group::Stamp;
 use jb_handle::{Handle, Shape};
 use std::alloc::Global;
+use std::process::Abort;
 use std::sync::Wait;
 use std::sync::ledger::Ledger;
 
 /// A desk over a disk, whose clock stands still.
 pub type Still<D, H, N> = Desk<D, FixedClock, H, N>;
+
+/// A desk over the small journal.
+pub type Small<H, N> = Still<MemoryDisk, H, N>;
 
 /// The parts of each ledger of a desk.
 pub const PARTS: u64 = (1 << 61) + 1;
@@ -40,30 +44,27 @@ pub const SHAPE: Shape = Shape {
 };
 
 /// A new journal of 32 usable log blocks and 16 home blocks, of which a group takes 8 log blocks at most.
-pub fn formatted(alloc: Global) -> Result<Option<MemoryDisk>, Memory> {
-    let mut disk = MemoryDisk::new(alloc, BlockSize::OneKib, 49)?;
-    let formatted = format(&mut disk, 33, 0, [0; 16], Width::Narrow);
-    if formatted.is_err() {
-        return Ok(None);
-    }
-    Ok(Some(disk))
+pub fn formatted(rt: &impl Abort, alloc: Global) -> MemoryDisk {
+    let mut disk = MemoryDisk::new(alloc, BlockSize::OneKib, 49).expect(rt, "memory");
+    format(&mut disk, 33, 0, [0; 16], Width::Narrow).expect(rt, "the journal is not made");
+    disk
 }
 
 /// The same journal after a transaction of this number.
-pub fn numbered(alloc: Global, number: u32) -> Result<Option<MemoryDisk>, Memory> {
-    let Some(mut disk) = formatted(alloc)? else {
-        return Ok(None);
-    };
+pub fn numbered(rt: &impl Abort, alloc: Global, number: u32) -> MemoryDisk {
+    let mut disk = formatted(rt, alloc);
     let mut front = [0; 1024];
-    match disk.block_size() {
-        BlockSize::OneKib if disk.blocks() > 0 => {
-            let _read = disk.read(0, &mut front);
-            put32(&mut front, 24, number);
-            let _written = disk.write(0, &front);
-            Ok(Some(disk))
-        }
-        _ => Ok(None),
-    }
+    read_at(rt, &mut disk, 0, &mut front);
+    put32(&mut front, 24, number);
+    write_at(rt, &mut disk, 0, &front);
+    disk
+}
+
+/// What a disk holds of a home block, which are after the 33 blocks of the journal.
+pub fn home(rt: &impl Abort, disk: &mut MemoryDisk, number: u64) -> [u8; 1024] {
+    let mut block = [0; 1024];
+    read_at(rt, disk, number.saturating_add(33), &mut block);
+    block
 }
 
 /// Opens the journal on a disk.
@@ -73,13 +74,30 @@ pub fn opened<D: Disk + Drop>(alloc: Global, disk: D) -> Option<Deck<D>>
     Deck::open(alloc, disk).ok()
 }
 
-/// Why a handle was not stopped.
-#[derive(Clone, Copy, Debug, PartialEq)]
-pub enum Why {
-    Begin(BeginFault),
-    Aborted,
-    NotOpen,
-    Memory,
+/// A seat of a desk that is not shut.
+pub fn seated<R: Abort + Wait, D: Disk, H: Origin, N: Ledger>(
+    rt: &R,
+    desk: &Still<D, H, N>,
+) -> Seat<H, N>
+    ensures { desk_of result ≡ desk_id desk.now }
+{
+    desk.seat(rt).expect(rt, "there is no seat")
+}
+
+/// Begins a handle that is not refused. Fails the test where it is, and says that it was this one.
+pub fn begun<R: Abort + Wait, D: Disk, H: Origin, N: Ledger>(
+    rt: &R,
+    desk: &Still<D, H, N>,
+    seat: Seat<H, N>,
+    credits: u32,
+    what: &'static str,
+) -> Handle<Seat<H, N>>
+    ensures { holder result ≡ seat }
+{
+    match desk.begin(rt, seat, credits) {
+        Ok(handle) => handle,
+        Err((_seat, fault)) => panic!(rt; "{what} is not begun: {fault}"),
+    }
 }
 
 /// Begins a handle and drops it; says why that was refused.
@@ -102,54 +120,37 @@ pub fn stop<R: Wait, D: Disk, H: Origin, N: Ledger>(
     rt: &R,
     desk: &Still<D, H, N>,
     handle: Handle<Seat<H, N>>,
-) -> (Seat<H, N>, Result<u64, Why>)
+) -> (Seat<H, N>, Result<u64, EnqueueFault>)
     requires any { (words : WordMap) → H.begun.stops words }
     requires desk { desk_of (holder handle) ≡ desk_id desk.now }
     ensures { desk_of result.0 ≡ desk_id desk.now }
 {
     match desk.stop(rt, handle) {
         Ok((seat, ticket)) => (seat, Ok(ticket)),
-        Err(StopFault::Aborted(seat)) => (seat, Err(Why::Aborted)),
-        Err(StopFault::NotOpen(handle)) => (desk.abandon(rt, handle), Err(Why::NotOpen)),
-        Err(StopFault::Memory(handle)) => (desk.abandon(rt, handle), Err(Why::Memory)),
+        Err(StopFault::Aborted(seat)) => (seat, Err(EnqueueFault::Aborted)),
+        Err(StopFault::NotOpen(handle)) => (desk.abandon(rt, handle), Err(EnqueueFault::NotOpen)),
+        Err(StopFault::Memory(handle)) => (desk.abandon(rt, handle), Err(EnqueueFault::Memory)),
     }
 }
 
-/// Begins a handle, revokes a home block and stops it.
-pub fn revoke<R: Wait, D: Disk, H: Origin, N: Ledger>(
-    rt: &R,
-    desk: &Still<D, H, N>,
-    seat: Seat<H, N>,
-    home: u64,
-) -> (Seat<H, N>, Result<u64, Why>)
-    requires any { (words : WordMap) → H.begun.stops words }
-    requires desk { desk_of seat ≡ desk_id desk.now }
-    ensures { desk_of result.0 ≡ desk_id desk.now }
-{
-    match desk.begin(rt, seat, 1) {
-        Ok(mut handle) => {
-            let _refused = handle.revoke(home);
-            stop(rt, desk, handle)
-        }
-        Err((seat, fault)) => (seat, Err(Why::Begin(fault))),
-    }
-}
-
-/// Begins a handle of so many credits, writes home blocks and stops it.
+/// Begins a handle of so many credits, writes home blocks and stops it. Gives its ticket, if it stopped.
 pub fn write<R: Wait, D: Disk, H: Origin, N: Ledger>(
     rt: &R,
     desk: &Still<D, H, N>,
     seat: Seat<H, N>,
     credits: u32,
     homes: &[u64],
-) -> (Seat<H, N>, Result<u64, Why>)
+) -> (Seat<H, N>, Option<u64>)
     requires any { (words : WordMap) → H.begun.stops words }
     requires desk { desk_of seat ≡ desk_id desk.now }
     ensures { desk_of result.0 ≡ desk_id desk.now }
 {
     match desk.begin(rt, seat, credits) {
-        Ok(handle) => stop(rt, desk, written(handle, homes)),
-        Err((seat, fault)) => (seat, Err(Why::Begin(fault))),
+        Ok(handle) => {
+            let (seat, ticket) = stop(rt, desk, written(handle, homes));
+            (seat, ticket.ok())
+        }
+        Err((seat, _)) => (seat, None),
     }
 }
 
@@ -167,20 +168,26 @@ pub fn written<H: Origin, N: Ledger>(
     handle
 }
 
-/// How many handles were settled when the desk was over, where a thread ended for that.
-pub fn over_at(ended: Ended) -> Option<u64> {
-    match ended {
-        Ended::Shut(over) => Some(over.settled()),
-        _ => None,
-    }
-}
-
 /// What a round came to: of a batch that was committed the first group, and how many there were.
-#[derive(Clone, Copy, Debug, PartialEq)]
+#[derive(Clone, Copy)]
 pub enum Came {
     Idle,
     Committed(Option<Entry>, usize),
     Failed(RoundFault),
+}
+
+/// Whether a round has committed one handle of one copy, under this ticket and number.
+pub fn is_one(came: Came, ticket: u64, number: u32) -> bool {
+    let wanted = Entry {
+        first: ticket,
+        past: ticket.saturating_add(1),
+        number,
+        blocks: 3,
+    };
+    match came {
+        Came::Committed(Some(entry), 1) => entry == wanted,
+        _ => false,
+    }
 }
 
 /// One round of a committer.
@@ -190,7 +197,7 @@ pub fn round<R: Wait, D: Disk, H: Origin, N: Ledger>(
     committer: &mut Committer<H, N>,
 ) -> Came
     requires desk { desk_of (seat_of committer.old) ≡ desk_id desk.now }
-    ensures { desk_of (seat_of committer.new) ≡ desk_of (seat_of committer.old) }
+    ensures desk { desk_of (seat_of committer.new) ≡ desk_of (seat_of committer.old) }
 {
     match desk.commit_round(rt, committer) {
         Ok(Round::Idle(_)) => Came::Idle,
@@ -200,6 +207,21 @@ pub fn round<R: Wait, D: Disk, H: Origin, N: Ledger>(
         }
         Err(fault) => Came::Failed(fault),
     }
+}
+
+/// A seat becomes a committer for one round. Says what it came to, and whether the committer retired.
+pub fn round_of<R: Wait, D: Disk, H: Origin, N: Ledger>(
+    rt: &R,
+    desk: &Still<D, H, N>,
+    seat: Seat<H, N>,
+) -> (Seat<H, N>, Came, bool)
+    requires desk { desk_of seat ≡ desk_id desk.now }
+    ensures { desk_of result.0 ≡ desk_id desk.now }
+{
+    let mut committer = desk.committer(seat);
+    let came = round(rt, desk, &mut committer);
+    let (seat, is_retired) = retired(rt, desk, committer);
+    (seat, came, is_retired)
 }
 
 /// Stops a handle that writes a home block, and commits it.
@@ -214,9 +236,7 @@ pub fn commit<R: Wait, D: Disk, H: Origin, N: Ledger>(
     ensures { desk_of result.0 ≡ desk_id desk.now }
 {
     let (seat, _) = write(rt, desk, seat, 1, &[home]);
-    let mut committer = desk.committer(seat);
-    let came = round(rt, desk, &mut committer);
-    let (seat, _) = retired(rt, desk, committer);
+    let (seat, came, _) = round_of(rt, desk, seat);
     (seat, came)
 }
 
@@ -231,33 +251,5 @@ pub fn retired<R: Wait, D: Disk, H: Origin, N: Ledger>(
     match desk.retire(rt, committer) {
         Ok(seat) => (seat, true),
         Err(committer) => (desk.give_up(rt, committer), false),
-    }
-}
-
-/// Closes a desk with what the last seat left; gives the handles and changes that are counted and the groups.
-pub fn close<D: Disk + Drop, H: Origin, N: Ledger>(
-    desk: Still<D, H, N>,
-    lefts: Vec<Left<H, N>>,
-    last: Left<H, N>,
-) -> Option<(u64, u64, usize)>
-    requires parts { (H.parts ≡ 2 ^ 61 + 1) × (N.parts ≡ 2 ^ 61 + 1) }
-{
-    let mut lefts = lefts;
-    lefts.push(last).ok()?;
-    let closed = desk.close(lefts).ok()?;
-    Some((closed.handles, closed.changes, closed.trail.len()))
-}
-
-/// Whether closing a desk is refused for seats that are out, and what is counted once the last one has left.
-pub fn close_twice<D: Disk + Drop, H: Origin, N: Ledger>(
-    desk: Still<D, H, N>,
-    lefts: Vec<Left<H, N>>,
-    last: Left<H, N>,
-) -> (bool, Option<(u64, u64, usize)>)
-    requires parts { (H.parts ≡ 2 ^ 61 + 1) × (N.parts ≡ 2 ^ 61 + 1) }
-{
-    match desk.close(lefts) {
-        Err(CloseFault::SeatsOut(desk, lefts)) => (true, close(desk, lefts, last)),
-        _ => (false, None),
     }
 }

@@ -5,25 +5,32 @@ ghost use Rattle.jb_desk.specs.History.{history_in};
 ghost use Rattle.jb_desk.specs.Seats.{desk_of};
 ghost use Rattle.jb_handle.specs.Word.{WordMap};
 
-use crate::blind::start;
-use crate::journal::{CLOCK, PARTS, Still, commit, formatted, opened};
-use jb_block::{BlockSize, Memory};
+use crate::blind::{small, stops};
+use crate::checks::{check, check_at, check_in, fail};
+use crate::closing::{closed, left};
+use crate::journal::{PARTS, Small, Still, commit, home, seated};
 use jb_deck::{Checked, CheckpointFault};
 use jb_desk::{CheckpointRound, Origin, Seat, Stops};
-use jb_disk::{Disk, MemoryDisk};
+use jb_disk::Disk;
 use std::alloc::Global;
 use std::marker::Brand;
+use std::process::Abort;
 use std::sync::Wait;
 use std::sync::ledger::{Blank, Ledger};
-use std::test::Fail;
 use std::thread;
 use std::thread::Threads;
 use std::time::{Clock, Duration};
 
-type Small<H, N> = Still<MemoryDisk, H, N>;
-
 /// What a round of a checkpointer answers.
 type Answer = Result<CheckpointRound, CheckpointFault>;
+
+/// After so many commits a round at this level: what it answers, and the first byte of home 0 on the disk then.
+struct Row {
+    commits: u64,
+    level: u32,
+    answer: Answer,
+    byte: u8,
+}
 
 /// Commits so many handles one by one, each of which writes the next home.
 fn commit_all<R: Wait, D: Disk, H: Origin, N: Ledger>(
@@ -44,67 +51,55 @@ fn commit_all<R: Wait, D: Disk, H: Origin, N: Ledger>(
     seat
 }
 
-/// The first byte of home 0 on the disk, after the 33 blocks of the journal.
-fn first_byte(disk: MemoryDisk) -> Option<u8> {
-    let mut disk = disk;
-    let mut block = [0; 1024];
-    match disk.block_size() {
-        BlockSize::OneKib if disk.blocks() > 33 => {
-            disk.read(33, &mut block).ok()?;
-            Some(block[0])
-        }
-        _ => None,
-    }
-}
-
-/// What a round at this level answers after so many commits, and the byte of the first home on the disk then.
-fn one_level<R: Wait, H: Origin, N: Ledger>(
+/// Checks what a desk comes to that has committed nothing yet.
+fn check_row<R: Abort + Wait, H: Origin, N: Ledger>(
     rt: &R,
     alloc: Global,
-    row: (u64, u32),
+    number: u64,
+    row: &Row,
     desk: Small<H, N>,
-) -> Result<Option<(Answer, Option<u8>)>, Memory>
+)
     requires any { (words : WordMap) → H.begun.stops words }
     requires parts { (H.parts ≡ 2 ^ 61 + 1) × (N.parts ≡ 2 ^ 61 + 1) }
 {
-    let (commits, level) = row;
-    let mut lefts = Vec::new(alloc);
-    lefts.reserve(1)?;
-    let Ok(seat) = desk.seat(rt) else {
-        return Ok(None);
-    };
-    let seat = commit_all(rt, &desk, seat, commits);
-    let answer = desk.checkpoint_round_at(rt, level);
-    lefts.push_reserved(desk.leave(rt, seat));
-    match desk.close(lefts) {
-        Ok(closed) => Ok(Some((answer, first_byte(closed.disk)))),
-        Err(_) => Ok(None),
-    }
+    let seat = commit_all(rt, &desk, seated(rt, &desk), row.commits);
+    let answer = desk.checkpoint_round_at(rt, row.level);
+    let lefts = left(rt, alloc, &desk, seat);
+    let mut closed = closed(rt, desk, lefts);
+    let byte = home(rt, &mut closed.disk, 0)[0];
+    check_in(
+        rt,
+        answer == row.answer,
+        number,
+        "the answer after commits:",
+        row.commits,
+    );
+    check_in(
+        rt,
+        byte == row.byte,
+        number,
+        "the byte at home:",
+        u64::from(byte),
+    );
 }
 
-fn level<R: Wait, H: Origin, N: Ledger>(
+/// A row on a new desk.
+fn level<R: Abort + Wait, H: Origin, N: Ledger>(
     rt: &R,
     alloc: Global,
-    row: (u64, u32),
+    number: u64,
+    row: &Row,
     handles: Stops,
     changes: Blank,
-) -> Result<Option<(Answer, Option<u8>)>, Memory>
+)
     requires blind { H.begun.honest → ⊥ }
     requires any { (words : WordMap) → H.begun.stops words }
     requires handles { (handles.tickets.name ≡ H.name) × (handles.tickets.parts ≡ H.parts) × (H.parts ≡ 2 ^ 61 + 1) }
     requires history { history_in handles ≡ H.history }
     requires changes { (changes.name ≡ N.name) × (changes.parts ≡ N.parts) × (N.parts ≡ 2 ^ 61 + 1) }
 {
-    let Some(disk) = formatted(alloc)? else {
-        return Ok(None);
-    };
-    let Some(deck) = opened(alloc, disk) else {
-        return Ok(None);
-    };
-    let Ok(desk) = start::<_, _, H, N>(alloc, handles, changes, deck, CLOCK) else {
-        return Err(Memory);
-    };
-    one_level(rt, alloc, row, desk)
+    let desk: Small<H, N> = small(rt, alloc, handles, changes);
+    check_row(rt, alloc, number, row, desk)
 }
 
 /// The oldest group, of one home, is written home.
@@ -114,31 +109,75 @@ const HOME: Answer = Ok(CheckpointRound::Home(Checked {
 }));
 
 /// Each commit takes three blocks of the log.
-const ROWS: [((u64, u32), Answer, u8); 9] = [
-    ((0, 0), Err(CheckpointFault::Nothing), 0),
-    ((0, 1), Ok(CheckpointRound::Low(0)), 0),
-    ((1, 0), HOME, 7),
-    ((1, 3), HOME, 7),
-    ((1, 4), Ok(CheckpointRound::Low(3)), 0),
-    ((2, 0), HOME, 7),
-    ((2, 6), HOME, 7),
-    ((2, 7), Ok(CheckpointRound::Low(6)), 0),
-    ((2, u32::MAX), Ok(CheckpointRound::Low(6)), 0),
+static ROWS: [Row; 9] = [
+    Row {
+        commits: 0,
+        level: 0,
+        answer: Err(CheckpointFault::Nothing),
+        byte: 0,
+    },
+    Row {
+        commits: 0,
+        level: 1,
+        answer: Ok(CheckpointRound::Low(0)),
+        byte: 0,
+    },
+    Row {
+        commits: 1,
+        level: 0,
+        answer: HOME,
+        byte: 7,
+    },
+    Row {
+        commits: 1,
+        level: 3,
+        answer: HOME,
+        byte: 7,
+    },
+    Row {
+        commits: 1,
+        level: 4,
+        answer: Ok(CheckpointRound::Low(3)),
+        byte: 0,
+    },
+    Row {
+        commits: 2,
+        level: 0,
+        answer: HOME,
+        byte: 7,
+    },
+    Row {
+        commits: 2,
+        level: 6,
+        answer: HOME,
+        byte: 7,
+    },
+    Row {
+        commits: 2,
+        level: 7,
+        answer: Ok(CheckpointRound::Low(6)),
+        byte: 0,
+    },
+    Row {
+        commits: 2,
+        level: u32::MAX,
+        answer: Ok(CheckpointRound::Low(6)),
+        byte: 0,
+    },
 ];
 
 #[test]
-fn nothing_is_written_home_below_the_level(rt: HostRuntime) -> Result<(), Fail> {
-    for (row, answer, byte) in ROWS {
-        let found = level::<HostRuntime, Brand, Brand>(
+fn nothing_is_written_home_below_the_level(rt: HostRuntime) {
+    for (number, row) in ROWS.iter().enumerate() {
+        level::<HostRuntime, Brand, Brand>(
             &rt,
             rt.alloc(),
+            number as u64,
             row,
-            Stops::new(rt.alloc(), PARTS)?,
+            stops(&rt, rt.alloc()),
             Blank::new(PARTS),
-        )?;
-        assert_eq!(rt; found, Some((answer, Some(byte))), "{row:?}");
+        );
     }
-    Ok(())
 }
 
 /// The level of the checkpointer that runs. Two groups are below it, and three are not.
@@ -148,90 +187,89 @@ const LEVEL: u32 = 7;
 const APART: u64 = 100;
 
 /// How many blocks of the log are in use.
-fn in_use<R: Wait, D: Disk, H: Origin, N: Ledger>(rt: &R, desk: &Still<D, H, N>) -> Option<u32> {
+fn in_use<R: Abort + Wait, D: Disk, H: Origin, N: Ledger>(rt: &R, desk: &Still<D, H, N>) -> u32 {
     match desk.checkpoint_round_at(rt, u32::MAX) {
-        Ok(CheckpointRound::Low(used)) => Some(used),
-        _ => None,
+        Ok(CheckpointRound::Low(used)) => used,
+        _ => fail(rt, "a round at the highest level"),
     }
 }
 
-/// How many are in use once there are fewer than the level. `None` where that is not so within ten seconds.
-fn in_use_at_last<R: Wait + Clock, D: Disk, H: Origin, N: Ledger>(
+/// How many are in use once there are fewer than the level, within ten seconds.
+fn in_use_at_last<R: Abort + Wait + Clock, D: Disk, H: Origin, N: Ledger>(
     rt: &R,
     desk: &Still<D, H, N>,
-) -> Option<u32> {
+) -> u32 {
     for _ in 0..10_000 {
-        let used = in_use(rt, desk)?;
+        let used = in_use(rt, desk);
         if used < LEVEL {
-            return Some(used);
+            return used;
         }
         thread::sleep(rt, Duration::from_millis(1));
     }
-    None
+    fail(rt, "the checkpointer leaves the log above its level")
 }
 
-/// Commits two handles and then a third beside a checkpointer, and shuts the desk. Says how many blocks are in use
-/// a while after the second, and once there are fewer than the level after the third.
-fn commit_beside<R: Wait + Clock, D: Disk, H: Origin, N: Ledger>(
+/// Commits two handles and then a third beside a checkpointer, and shuts the desk. Two groups are in use a while after
+/// the second, and once there are fewer blocks than the level after the third.
+fn commit_beside<R: Abort + Wait + Clock, D: Disk, H: Origin, N: Ledger>(
     rt: &R,
     desk: &Still<D, H, N>,
-) -> (Option<u32>, Option<u32>)
+)
     requires { (words : WordMap) → H.begun.stops words }
 {
-    let Ok(seat) = desk.seat(rt) else {
-        desk.shut(rt);
-        return (None, None);
-    };
-    let seat = commit_all(rt, desk, seat, 2);
+    let seat = commit_all(rt, desk, seated(rt, desk), 2);
     thread::sleep(rt, Duration::from_millis(APART));
     let low = in_use(rt, desk);
     let (seat, _) = commit(rt, desk, seat, 2);
     let high = in_use_at_last(rt, desk);
     let _left = desk.leave(rt, seat);
     desk.shut(rt);
-    (low, high)
+    check_at(
+        rt,
+        low == 6,
+        "blocks in use after two groups:",
+        u64::from(low),
+    );
+    check_at(
+        rt,
+        high == 6,
+        "blocks in use after three groups:",
+        u64::from(high),
+    );
 }
 
-/// What is in use beside a checkpointer at the level, and whether it has left no group once the desk is over.
-fn beside<R: Threads + Wait + Clock + Sync, H: Origin + Send + Sync, N: Ledger + Send + Sync>(
-    rt: &R,
-    alloc: Global,
-    handles: Stops,
-    changes: Blank,
-) -> Result<((Option<u32>, Option<u32>), bool), Fail>
+/// Commits beside a checkpointer at the level, which leaves no group once the desk is over.
+fn beside<
+    R: Abort + Threads + Wait + Clock + Sync,
+    H: Origin + Send + Sync,
+    N: Ledger + Send + Sync,
+>(rt: &R, alloc: Global, handles: Stops, changes: Blank)
     requires blind { H.begun.honest → ⊥ }
     requires any { (words : WordMap) → H.begun.stops words }
     requires handles { (handles.tickets.name ≡ H.name) × (handles.tickets.parts ≡ H.parts) × (H.parts ≡ 2 ^ 61 + 1) }
     requires history { history_in handles ≡ H.history }
     requires changes { (changes.name ≡ N.name) × (changes.parts ≡ N.parts) × (N.parts ≡ 2 ^ 61 + 1) }
 {
-    let Some(disk) = formatted(alloc)? else {
-        return Err("it is not made".into());
-    };
-    let Some(deck) = opened(alloc, disk) else {
-        return Err("it is not opened".into());
-    };
-    let Ok(desk) = start::<_, _, H, N>(alloc, handles, changes, deck, CLOCK) else {
-        return Err("it is not started".into());
-    };
-    let (ended, used) = thread::join(
+    let desk: Small<H, N> = small(rt, alloc, handles, changes);
+    let (ended, _) = thread::join(
         rt,
         || desk.run_checkpointer_at(rt, LEVEL),
         || commit_beside(rt, &desk),
     );
-    let is_empty = desk.checkpoint_round(rt) == Err(CheckpointFault::Nothing);
-    Ok((used, ended.is_shut() && is_empty))
+    let last = desk.checkpoint_round(rt);
+    check(
+        rt,
+        ended.is_shut(),
+        "the checkpointer does not end with the desk",
+    );
+    check(
+        rt,
+        last == Err(CheckpointFault::Nothing),
+        "a group is left in the log",
+    );
 }
 
 #[test]
-fn a_checkpointer_rests_below_its_level(rt: HostRuntime) -> Result<(), Fail> {
-    let (used, is_over) = beside::<HostRuntime, Brand, Brand>(
-        &rt,
-        rt.alloc(),
-        Stops::new(rt.alloc(), PARTS)?,
-        Blank::new(PARTS),
-    )?;
-    assert_eq!(rt; used, (Some(6), Some(6)));
-    assert!(rt; is_over);
-    Ok(())
+fn a_checkpointer_rests_below_its_level(rt: HostRuntime) {
+    beside::<HostRuntime, Brand, Brand>(&rt, rt.alloc(), stops(&rt, rt.alloc()), Blank::new(PARTS));
 }

@@ -8,6 +8,10 @@ mod books;
 #[cfg(test)]
 mod checkpoints;
 #[cfg(test)]
+mod checks;
+#[cfg(test)]
+mod closing;
+#[cfg(test)]
 mod desks;
 #[cfg(test)]
 mod ends;
@@ -31,6 +35,8 @@ mod load;
 mod read_beside;
 #[cfg(test)]
 mod reads;
+#[cfg(test)]
+mod report;
 #[cfg(test)]
 mod rounds;
 #[cfg(test)]

@@ -5,21 +5,22 @@ ghost use Rattle.jb_desk.specs.History.{history_in};
 ghost use Rattle.jb_desk.specs.Seats.{desk_of};
 ghost use Rattle.jb_handle.specs.Word.{WordMap};
 
-use crate::blind::start;
-use crate::journal::{CLOCK, PARTS, Still, commit, formatted, opened};
+use crate::blind::{small, stops};
+use crate::checks::check_in;
+use crate::closing::{closed, left};
+use crate::journal::{PARTS, Small, Still, commit, seated};
 use jb_block::Memory;
 use jb_deck::Entry;
 use jb_desk::{Origin, Seat, Stops, WaitFault};
-use jb_disk::{Disk, MemoryDisk};
+use jb_disk::Disk;
 use std::alloc::Global;
 use std::marker::Brand;
+use std::process::Abort;
 use std::sync::Wait;
 use std::sync::ledger::{Blank, Ledger};
-use std::test::Fail;
 
 /// How a desk lives: in each round a handle stops and is committed, a group is brought home or is not, and the trail is
 /// taken or is not.
-#[derive(Clone, Copy)]
 struct Life {
     rounds: u64,
     checkpoints: bool,
@@ -27,7 +28,6 @@ struct Life {
 }
 
 /// What such a life comes to.
-#[derive(Clone, Copy, Debug, PartialEq)]
 struct Lived {
     /// how many entries were taken
     taken: usize,
@@ -35,10 +35,10 @@ struct Lived {
     longest: usize,
     /// how many are left at the end
     left: usize,
-    /// what was taken and then what is left is an entry for each ticket, in their order
-    is_whole: bool,
-    /// what is answered of the first ticket, and of the last one
-    numbers: (Result<u32, WaitFault>, Result<u32, WaitFault>),
+    /// what is answered of the first ticket
+    first: Result<u32, WaitFault>,
+    /// what is answered of the last ticket
+    last: Result<u32, WaitFault>,
 }
 
 /// What was taken of a trail.
@@ -47,10 +47,18 @@ struct Taken {
     entries: Vec<Entry>,
     committed: usize,
     longest: usize,
-    has_refused: bool,
 }
 
 impl Taken {
+    /// Nothing yet.
+    fn new(alloc: Global) -> Taken {
+        Taken {
+            entries: Vec::new(alloc),
+            committed: 0,
+            longest: 0,
+        }
+    }
+
     /// A trail has one entry more.
     fn add(&mut self) {
         self.committed = self.committed.saturating_add(1);
@@ -59,11 +67,11 @@ impl Taken {
     }
 
     /// Entries were taken.
-    fn take(&mut self, entries: Result<Vec<Entry>, Memory>) {
-        match entries {
-            Ok(entries) => self.has_refused |= self.entries.extend_from_slice(&entries).is_err(),
-            Err(_) => self.has_refused = true,
-        }
+    fn take(&mut self, rt: &impl Abort, entries: Result<Vec<Entry>, Memory>) {
+        let entries = entries.expect(rt, "the trail is not taken");
+        self.entries
+            .extend_from_slice(&entries)
+            .expect(rt, "memory");
     }
 }
 
@@ -78,22 +86,37 @@ fn entry_of(ticket: usize) -> Entry {
     }
 }
 
-/// Whether these are the entries of the tickets from this one on.
-fn are_from(entries: &[Entry], first: usize) -> bool {
+/// Checks that these are the entries of the tickets from this one on.
+fn check_entries(rt: &impl Abort, row: u64, entries: &[Entry], first: usize) {
     for (index, &entry) in entries.iter().enumerate() {
-        if entry != entry_of(first.saturating_add(index)) {
-            return false;
-        }
+        let ticket = first.saturating_add(index);
+        let is_so = entry == entry_of(ticket);
+        check_in(rt, is_so, row, "the entry of ticket", ticket as u64);
     }
-    true
+}
+
+/// After a round a group is brought home or is not, and the trail is taken or is not.
+fn tend<R: Abort + Wait, D: Disk, H: Origin, N: Ledger>(
+    rt: &R,
+    desk: &Still<D, H, N>,
+    life: &Life,
+    taken: &mut Taken,
+) {
+    taken.add();
+    if life.checkpoints {
+        let _checked = desk.checkpoint_round(rt);
+    }
+    if life.takes {
+        taken.take(rt, desk.take_trail(rt));
+    }
 }
 
 /// The rounds of a life.
-fn rounds<R: Wait, D: Disk, H: Origin, N: Ledger>(
+fn rounds<R: Abort + Wait, D: Disk, H: Origin, N: Ledger>(
     rt: &R,
     desk: &Still<D, H, N>,
     seat: Seat<H, N>,
-    life: Life,
+    life: &Life,
     taken: &mut Taken,
 ) -> Seat<H, N>
     requires any { (words : WordMap) → H.begun.stops words }
@@ -104,85 +127,88 @@ fn rounds<R: Wait, D: Disk, H: Origin, N: Ledger>(
     for round in 0..life.rounds {
         let (back, _) = commit(rt, desk, seat, round % 16);
         seat = back;
-        taken.add();
-        if life.checkpoints {
-            let _checked = desk.checkpoint_round(rt);
-        }
-        if life.takes {
-            taken.take(desk.take_trail(rt));
-        }
+        tend(rt, desk, life, taken);
     }
     seat
 }
 
-fn outcome<R: Wait, H: Origin, N: Ledger>(
+/// Checks what is answered of the first ticket of a life, and of the last one.
+fn check_numbers<R: Abort + Wait, D: Disk, H: Origin, N: Ledger>(
+    rt: &R,
+    desk: &Still<D, H, N>,
+    seat: &mut Seat<H, N>,
+    number: u64,
+    row: &(Life, Lived),
+)
+    requires desk { desk_of seat.old ≡ desk_id desk.now }
+{
+    let (life, lived) = row;
+    let ticket = life.rounds.saturating_sub(1);
+    let is_first = desk.wait(rt, seat, 0) == lived.first;
+    let is_last = desk.wait(rt, seat, ticket) == lived.last;
+    check_in(rt, is_first, number, "the number of ticket", 0);
+    check_in(rt, is_last, number, "the number of ticket", ticket);
+}
+
+/// Checks what was taken of a trail, and what is left of it.
+fn check_trail(rt: &impl Abort, number: u64, lived: &Lived, taken: &Taken, trail: &[Entry]) {
+    let count = taken.entries.len();
+    let is_taken = count == lived.taken;
+    let longest = taken.longest;
+    let is_longest = longest == lived.longest;
+    let left = trail.len();
+    let is_left = left == lived.left;
+    check_in(rt, is_taken, number, "entries taken:", count as u64);
+    check_in(rt, is_longest, number, "entries at most:", longest as u64);
+    check_in(rt, is_left, number, "entries left:", left as u64);
+    check_entries(rt, number, &taken.entries, 0);
+    check_entries(rt, number, trail, count);
+}
+
+/// Checks what the life of a desk comes to.
+fn outcome<R: Abort + Wait, H: Origin, N: Ledger>(
     rt: &R,
     alloc: Global,
-    life: Life,
-    desk: Still<MemoryDisk, H, N>,
-) -> Result<Option<Lived>, Memory>
+    number: u64,
+    row: &(Life, Lived),
+    desk: Small<H, N>,
+)
     requires any { (words : WordMap) → H.begun.stops words }
     requires parts { (H.parts ≡ 2 ^ 61 + 1) × (N.parts ≡ 2 ^ 61 + 1) }
 {
-    let mut lefts = Vec::new(alloc);
-    lefts.reserve(1)?;
-    let mut taken = Taken {
-        entries: Vec::new(alloc),
-        committed: 0,
-        longest: 0,
-        has_refused: false,
-    };
-    let Ok(seat) = desk.seat(rt) else {
-        return Ok(None);
-    };
-    let mut seat = rounds(rt, &desk, seat, life, &mut taken);
-    let last = life.rounds.saturating_sub(1);
-    let numbers = (desk.wait(rt, &mut seat, 0), desk.wait(rt, &mut seat, last));
-    lefts.push_reserved(desk.leave(rt, seat));
-    let Ok(closed) = desk.close(lefts) else {
-        return Ok(None);
-    };
-    let is_whole = !taken.has_refused
-        && are_from(&taken.entries, 0)
-        && are_from(&closed.trail, taken.entries.len())
-        && closed.handles == life.rounds;
-    Ok(Some(Lived {
-        taken: taken.entries.len(),
-        longest: taken.longest,
-        left: closed.trail.len(),
-        is_whole,
-        numbers,
-    }))
+    let (life, lived) = row;
+    let mut taken = Taken::new(alloc);
+    let mut seat = rounds(rt, &desk, seated(rt, &desk), life, &mut taken);
+    check_numbers(rt, &desk, &mut seat, number, row);
+    let lefts = left(rt, alloc, &desk, seat);
+    let closed = closed(rt, desk, lefts);
+    let handles = closed.handles;
+    check_in(rt, handles == life.rounds, number, "handles:", handles);
+    check_trail(rt, number, lived, &taken, &closed.trail);
 }
 
-fn live<R: Wait, H: Origin, N: Ledger>(
+/// The life of a new desk.
+fn live<R: Abort + Wait, H: Origin, N: Ledger>(
     rt: &R,
     alloc: Global,
-    life: Life,
+    number: u64,
+    row: &(Life, Lived),
     handles: Stops,
     changes: Blank,
-) -> Result<Option<Lived>, Memory>
+)
     requires blind { H.begun.honest → ⊥ }
     requires any { (words : WordMap) → H.begun.stops words }
     requires handles { (handles.tickets.name ≡ H.name) × (handles.tickets.parts ≡ H.parts) × (H.parts ≡ 2 ^ 61 + 1) }
     requires history { history_in handles ≡ H.history }
     requires changes { (changes.name ≡ N.name) × (changes.parts ≡ N.parts) × (N.parts ≡ 2 ^ 61 + 1) }
 {
-    let Some(disk) = formatted(alloc)? else {
-        return Ok(None);
-    };
-    let Some(deck) = opened(alloc, disk) else {
-        return Ok(None);
-    };
-    let Ok(desk) = start::<_, _, H, N>(alloc, handles, changes, deck, CLOCK) else {
-        return Err(Memory);
-    };
-    outcome(rt, alloc, life, desk)
+    let desk: Small<H, N> = small(rt, alloc, handles, changes);
+    outcome(rt, alloc, number, row, desk)
 }
 
 /// Where each group is brought home at once, the trail has two entries at most; where none is but for room, the 32
 /// blocks of the log hold ten groups of three, and one group more is home.
-const ROWS: [(Life, Lived); 5] = [
+static ROWS: [(Life, Lived); 5] = [
     (
         Life {
             rounds: 100,
@@ -193,8 +219,8 @@ const ROWS: [(Life, Lived); 5] = [
             taken: 99,
             longest: 2,
             left: 1,
-            is_whole: true,
-            numbers: (Err(WaitFault::Taken), Ok(101)),
+            first: Err(WaitFault::Taken),
+            last: Ok(101),
         },
     ),
     (
@@ -207,8 +233,8 @@ const ROWS: [(Life, Lived); 5] = [
             taken: 0,
             longest: 100,
             left: 100,
-            is_whole: true,
-            numbers: (Ok(2), Ok(101)),
+            first: Ok(2),
+            last: Ok(101),
         },
     ),
     (
@@ -221,8 +247,8 @@ const ROWS: [(Life, Lived); 5] = [
             taken: 90,
             longest: 11,
             left: 10,
-            is_whole: true,
-            numbers: (Err(WaitFault::Taken), Ok(101)),
+            first: Err(WaitFault::Taken),
+            last: Ok(101),
         },
     ),
     (
@@ -235,8 +261,8 @@ const ROWS: [(Life, Lived); 5] = [
             taken: 0,
             longest: 8,
             left: 8,
-            is_whole: true,
-            numbers: (Ok(2), Ok(9)),
+            first: Ok(2),
+            last: Ok(9),
         },
     ),
     (
@@ -249,23 +275,22 @@ const ROWS: [(Life, Lived); 5] = [
             taken: 0,
             longest: 1,
             left: 1,
-            is_whole: true,
-            numbers: (Ok(2), Ok(2)),
+            first: Ok(2),
+            last: Ok(2),
         },
     ),
 ];
 
 #[test]
-fn a_trail_that_is_taken_stays_short(rt: HostRuntime) -> Result<(), Fail> {
-    for (index, (row, wanted)) in ROWS.into_iter().enumerate() {
-        let found = live::<HostRuntime, Brand, Brand>(
+fn a_trail_that_is_taken_stays_short(rt: HostRuntime) {
+    for (number, row) in ROWS.iter().enumerate() {
+        live::<HostRuntime, Brand, Brand>(
             &rt,
             rt.alloc(),
+            number as u64,
             row,
-            Stops::new(rt.alloc(), PARTS)?,
+            stops(&rt, rt.alloc()),
             Blank::new(PARTS),
-        )?;
-        assert_eq!(rt; found, Some(wanted), "{index}");
+        );
     }
-    Ok(())
 }

@@ -4,22 +4,25 @@ ghost use Rattle.std.specs.Prelude.{◌≡◌, ◌+◌, ◌^◌};
 ghost use Rattle.jb_desk.specs.History.{history_in};
 ghost use Rattle.jb_handle.specs.Word.{WordMap};
 
-use crate::blind::start;
+use crate::blind::{start, stops};
+use crate::checks::check_at;
+use crate::closing::closed;
 use crate::homes::{Stop, contents_of, prefix_of};
-use crate::journal::{CLOCK, PARTS, Still, opened};
+use crate::journal::{PARTS, Still, opened};
 use crate::keys::{Draws, HOMES};
-use crate::threads::{Report, Reports, work_all};
+use crate::report::Report;
+use crate::threads::{Reports, Worked, work_all};
 use jb_block::{BlockSize, Width};
 use jb_deck::Entry;
-use jb_desk::{Ended, Left, Origin, Stops};
+use jb_desk::{Left, Origin, Stops};
 use jb_disk::{FuseDisk, MemoryDisk};
 use jb_front::format;
 use jb_recover::recover;
 use std::alloc::Global;
 use std::marker::Brand;
+use std::process::Abort;
 use std::sync::Wait;
 use std::sync::ledger::{Blank, Ledger};
-use std::test::Fail;
 use std::thread::Threads;
 use std::time::Clock;
 
@@ -40,6 +43,9 @@ struct Load {
     calls: u64,
 }
 
+/// A desk whose disk stops.
+type Fused<H, N> = Still<FuseDisk<MemoryDisk>, H, N>;
+
 /// A disk after a load, and what was reported of it.
 #[derive(Drop)]
 struct Outcome {
@@ -48,17 +54,16 @@ struct Outcome {
     stops: Vec<Stop>,
     waited: Vec<(u64, u32)>,
     trail: Vec<Entry>,
-    ended: (Ended, Ended),
+    /// the committer and the checkpointer ended with the desk
+    is_whole: bool,
 }
 
 /// A new journal of 256 usable log blocks, and 64 homes of zeros.
-fn journal(alloc: Global) -> Result<MemoryDisk, Fail> {
+fn journal(rt: &impl Abort, alloc: Global) -> MemoryDisk {
     let blocks = u64::from(JOURNAL).saturating_add(HOMES as u64);
-    let mut disk = MemoryDisk::new(alloc, BlockSize::OneKib, blocks)?;
-    if format(&mut disk, JOURNAL, 0, [0; 16], Width::Narrow).is_err() {
-        return Err("it is not made".into());
-    }
-    Ok(disk)
+    let mut disk = MemoryDisk::new(alloc, BlockSize::OneKib, blocks).expect(rt, "memory");
+    format(&mut disk, JOURNAL, 0, [0; 16], Width::Narrow).expect(rt, "the journal is not made");
+    disk
 }
 
 /// What all threads report, put together; the stops are in the order of their tickets.
@@ -70,80 +75,94 @@ struct Sums<H: Origin, N: Ledger> {
     touched: u64,
 }
 
+impl<H: Origin, N: Ledger> Sums<H, N> {
+    /// Adds what a thread reports.
+    fn add(&mut self, rt: &impl Abort, worked: Worked<H, N>) {
+        let Worked { left, report } = worked;
+        let Report {
+            mut stops,
+            mut waited,
+            touched,
+            ..
+        } = report;
+        self.lefts.push(left).expect(rt, "memory");
+        self.stops.append(&mut stops).expect(rt, "memory");
+        self.waited.append(&mut waited).expect(rt, "memory");
+        self.touched = self.touched.saturating_add(touched);
+    }
+}
+
 /// Puts the threads' reports together.
 fn sums_of<H: Origin, N: Ledger>(
+    rt: &impl Abort,
     alloc: Global,
     reports: Reports<H, N>,
-) -> Result<Sums<H, N>, Fail> {
+) -> Sums<H, N> {
     let mut all = Sums {
         lefts: Vec::new(alloc),
         stops: Vec::new(alloc),
         waited: Vec::new(alloc),
         touched: 0,
     };
-    all.lefts.push(reports.left)?;
-    for report in reports.of_threads {
-        let Report {
-            left,
-            mut stops,
-            mut waited,
-            touched,
-            is_wrong,
-            ..
-        } = report;
-        if is_wrong {
-            return Err("a call was answered wrongly".into());
-        }
-        let Some(left) = left else {
-            return Err("a seat did not leave".into());
-        };
-        all.lefts.push(left)?;
-        all.stops.append(&mut stops)?;
-        all.waited.append(&mut waited)?;
-        all.touched = all.touched.saturating_add(touched);
+    all.lefts.push(reports.left).expect(rt, "memory");
+    for worked in reports.of_threads {
+        all.add(rt, worked);
     }
-    all.stops.sort_by_key(|stop| stop.ticket)?;
-    Ok(all)
+    all.stops
+        .sort_by_key(|stop| stop.ticket)
+        .expect(rt, "memory");
+    all
+}
+
+/// A load of a new desk.
+fn loaded<
+    R: Abort + Threads + Wait + Clock + Sync,
+    H: Origin + Send + Sync,
+    N: Ledger + Send + Sync,
+>(rt: &R, alloc: Global, load: Load, desk: Fused<H, N>) -> Outcome
+    requires any { (words : WordMap) → H.begun.stops words }
+    requires parts { (H.parts ≡ 2 ^ 61 + 1) × (N.parts ≡ 2 ^ 61 + 1) }
+{
+    let reports = work_all(rt, alloc, &desk, load.seed, load.handles);
+    let (committed, checkpointed) = reports.ended;
+    let Sums {
+        lefts,
+        stops,
+        waited,
+        touched,
+    } = sums_of(rt, alloc, reports);
+    let closed = closed(rt, desk, lefts);
+    let has_stops = closed.handles == stops.len() as u64;
+    check_at(rt, has_stops, "handles of load", load.seed);
+    check_at(rt, closed.changes == touched, "changes of load", load.seed);
+    Outcome {
+        disk: closed.disk.into_inner(),
+        stops,
+        waited,
+        trail: closed.trail,
+        is_whole: committed.is_shut() && checkpointed.is_shut(),
+    }
 }
 
 /// A load of a new desk. `None` where the journal could not be opened.
-fn outcome_of<R: Threads + Wait + Clock + Sync, H: Origin + Send + Sync, N: Ledger + Send + Sync>(
-    rt: &R,
-    alloc: Global,
-    load: Load,
-    handles: Stops,
-    changes: Blank,
-) -> Result<Option<Outcome>, Fail>
+fn outcome_of<
+    R: Abort + Threads + Wait + Clock + Sync,
+    H: Origin + Send + Sync,
+    N: Ledger + Send + Sync,
+>(rt: &R, alloc: Global, load: Load, handles: Stops, changes: Blank) -> Option<Outcome>
     requires blind { H.begun.honest → ⊥ }
     requires any { (words : WordMap) → H.begun.stops words }
     requires handles { (handles.tickets.name ≡ H.name) × (handles.tickets.parts ≡ H.parts) × (H.parts ≡ 2 ^ 61 + 1) }
     requires history { history_in handles ≡ H.history }
     requires changes { (changes.name ≡ N.name) × (changes.parts ≡ N.parts) × (N.parts ≡ 2 ^ 61 + 1) }
 {
-    let Some(deck) = opened(alloc, FuseDisk::of(journal(alloc)?, load.calls)) else {
-        return Ok(None);
-    };
-    let Ok(desk) = start::<_, _, H, N>(alloc, handles, changes, deck, CLOCK) else {
-        return Err("there is no desk".into());
-    };
-    let Some(reports) = work_all(rt, alloc, &desk, load.seed, load.handles) else {
-        return Err("a thread did not run".into());
-    };
-    let ended = reports.ended;
-    let all = sums_of(alloc, reports)?;
-    let Ok(closed) = desk.close(all.lefts) else {
-        return Err("it is not closed".into());
-    };
-    if (closed.handles, closed.changes) != (all.stops.len() as u64, all.touched) {
-        return Err("the sums differ".into());
+    match opened(alloc, FuseDisk::of(journal(rt, alloc), load.calls)) {
+        Some(deck) => {
+            let desk: Fused<H, N> = start(rt, alloc, handles, changes, deck);
+            Some(loaded(rt, alloc, load, desk))
+        }
+        None => None,
     }
-    Ok(Some(Outcome {
-        disk: closed.disk.into_inner(),
-        stops: all.stops,
-        waited: all.waited,
-        trail: closed.trail,
-        ended,
-    }))
 }
 
 /// Whether the tickets go up from 0 with no gap.
@@ -190,28 +209,55 @@ fn choice(draws: &mut Draws) -> [u32; 128] {
     choice
 }
 
-/// Whether the homes hold what the stops leave, all of them or, where the disk stopped, a first part of them with all
-/// that are settled, after a crash and a recovery.
-fn is_right(alloc: Global, draws: &mut Draws, outcome: Outcome) -> Result<bool, Fail> {
-    let is_whole = outcome.ended.0.is_shut() && outcome.ended.1.is_shut();
+/// Crashes a disk that stopped, and recovers what is left of it.
+fn crash(rt: &impl Abort, alloc: Global, seed: u64, draws: &mut Draws, disk: &mut MemoryDisk) {
+    let mut left = disk.crash(&choice(draws)).expect(rt, "memory");
+    let is_recovered = recover(alloc, &mut left).is_ok();
+    check_at(rt, is_recovered, "the recovery of load", seed);
+    *disk = left;
+}
+
+/// Checks that the homes hold what the stops of a load leave, all of them or, where the disk stopped, a first part of
+/// them with all that are settled, after a crash and a recovery.
+fn check_outcome(
+    rt: &impl Abort,
+    alloc: Global,
+    draws: &mut Draws,
+    load: Load,
+    outcome: &mut Outcome,
+) {
+    let Load { seed, calls, .. } = load;
+    let is_whole = outcome.is_whole;
     let settled = settled(&outcome.trail);
-    let mut disk = outcome.disk;
     if !is_whole {
-        disk = disk.crash(&choice(draws))?;
-        if recover(alloc, &mut disk).is_err() {
-            return Err("it is not recovered".into());
-        }
+        crash(rt, alloc, seed, draws, &mut outcome.disk);
     }
-    let Some(contents) = contents_of(&mut disk, u64::from(JOURNAL)) else {
-        return Err("a home is not read".into());
-    };
+    let contents = contents_of(rt, &mut outcome.disk, u64::from(JOURNAL));
     let found = prefix_of(&outcome.stops, &contents, settled, !is_whole);
-    Ok(
-        found.is_some()
-            && (!is_whole || settled == outcome.stops.len() as u64)
-            && has_all_tickets(&outcome.stops)
-            && are_in_trail(&outcome.waited, &outcome.trail),
-    )
+    let has_settled = !is_whole || settled == outcome.stops.len() as u64;
+    let has_tickets = has_all_tickets(&outcome.stops);
+    let is_in_trail = are_in_trail(&outcome.waited, &outcome.trail);
+    let may_stop = is_whole || calls < ALL;
+    check_at(rt, may_stop, "how the threads end in load", seed);
+    check_at(rt, found.is_some(), "the homes of load", seed);
+    check_at(rt, has_settled, "the settled handles of load", seed);
+    check_at(rt, has_tickets, "the tickets of load", seed);
+    check_at(rt, is_in_trail, "an answered number of load", seed);
+}
+
+/// Checks a load, whose journal is opened where the disk does not stop.
+fn check_load(
+    rt: &impl Abort,
+    alloc: Global,
+    draws: &mut Draws,
+    load: Load,
+    outcome: Option<Outcome>,
+) {
+    let Load { seed, calls, .. } = load;
+    match outcome {
+        Some(mut outcome) => check_outcome(rt, alloc, draws, load, &mut outcome),
+        None => check_at(rt, calls < ALL, "the opening of load", seed),
+    }
 }
 
 /// The load of this number: the first one is large, and no disk stops it.
@@ -229,24 +275,17 @@ fn load_of(draws: &mut Draws, seed: u64) -> Load {
 }
 
 #[test]
-fn homes_are_those_of_the_tickets_in_order(rt: HostRuntime) -> Result<(), Fail> {
-    let alloc = rt.alloc();
+fn homes_are_those_of_the_tickets_in_order(rt: HostRuntime) {
     for seed in 0..LOADS {
         let mut draws = Draws::of(seed);
         let load = load_of(&mut draws, seed);
         let outcome = outcome_of::<HostRuntime, Brand, Brand>(
             &rt,
-            alloc,
+            rt.alloc(),
             load,
-            Stops::new(rt.alloc(), PARTS)?,
+            stops(&rt, rt.alloc()),
             Blank::new(PARTS),
-        )?;
-        if let Some(outcome) = outcome {
-            let is_whole = outcome.ended.0.is_shut() && outcome.ended.1.is_shut();
-            assert!(rt; is_whole || load.calls < ALL, "{seed}");
-            let is_right = is_right(alloc, &mut draws, outcome)?;
-            assert!(rt; is_right, "{seed}");
-        }
+        );
+        check_load(&rt, rt.alloc(), &mut draws, load, outcome);
     }
-    Ok(())
 }

@@ -3,18 +3,19 @@ ghost use Rattle.std.specs.Prelude.{◌≡◌, ◌+◌, ◌^◌};
 ghost use Rattle.jb_desk.specs.History.{history_in};
 ghost use Rattle.jb_handle.specs.Word.{WordMap};
 
-use crate::blind::start;
-use crate::gate::{Gate, GateDisk, has_come};
-use crate::journal::{CLOCK, PARTS, Still, formatted, opened, retired, round, write};
+use crate::blind::{start, stops};
+use crate::checks::check_at;
+use crate::gate::{Gate, Gated, await_flag, gated_disk};
+use crate::journal::{PARTS, Still, opened, round_of, seated, write};
 use crate::reads::filled;
 use jb_desk::{Origin, Stops};
 use jb_disk::Disk;
 use std::alloc::Global;
 use std::marker::Brand;
+use std::process::Abort;
 use std::sync::Wait;
 use std::sync::atomic::Ordering;
 use std::sync::ledger::{Blank, Ledger};
-use std::test::Fail;
 use std::thread;
 use std::thread::Threads;
 use std::time::{Clock, Duration};
@@ -22,80 +23,82 @@ use std::time::{Clock, Duration};
 /// How long the disk holds a round that another thread reads beside, in milliseconds.
 const APART: u64 = 100;
 
-/// Stops a handle and commits it. Gives what is read between the two.
-fn commit<R: Wait, D: Disk, H: Origin, N: Ledger>(rt: &R, desk: &Still<D, H, N>) -> Option<u8>
+/// Stops a handle and commits it. The home is read between the two as it was.
+fn commit<R: Abort + Wait, D: Disk, H: Origin, N: Ledger>(rt: &R, desk: &Still<D, H, N>)
     requires { (words : WordMap) → H.begun.stops words }
 {
-    let Ok(seat) = desk.seat(rt) else {
-        return None;
-    };
-    let (seat, _) = write(rt, desk, seat, 1, &[1]);
+    let (seat, _) = write(rt, desk, seated(rt, desk), 1, &[1]);
     let before = filled(rt, desk, 1);
-    let mut committer = desk.committer(seat);
-    let _came = round(rt, desk, &mut committer);
-    let (seat, _) = retired(rt, desk, committer);
+    let (seat, _, _) = round_of(rt, desk, seat);
     let _left = desk.leave(rt, seat);
-    before
+    check_at(
+        rt,
+        before == 0,
+        "the home before the round has the byte",
+        u64::from(before),
+    );
 }
 
-/// What is read before a round, and what is while the disk holds it.
-fn beside<R: Threads + Wait + Clock + Sync, H: Origin + Send + Sync, N: Ledger + Send + Sync>(
-    rt: &R,
-    alloc: Global,
-    gate: &Gate,
-    handles: Stops,
-    changes: Blank,
-) -> Result<(Option<u8>, Option<u8>), Fail>
+/// Lets the round go on that the disk holds, after a while.
+fn let_pass<R: Clock>(rt: &R, gate: &Gate) {
+    thread::sleep(rt, Duration::from_millis(APART));
+    gate.has_stopped.store(true, Ordering::SeqCst);
+}
+
+/// Reads the home while the disk holds a round.
+fn read<
+    R: Abort + Threads + Wait + Clock + Sync,
+    D: Disk + Send,
+    H: Origin + Send + Sync,
+    N: Ledger + Send + Sync,
+>(rt: &R, desk: &Still<D, H, N>, gate: &Gate) {
+    await_flag(rt, &gate.is_writing, "the log is not written");
+    let (during, _) = thread::join(rt, || filled(rt, desk, 1), || let_pass(rt, gate));
+    check_at(
+        rt,
+        during == 7,
+        "the home beside the round has the byte",
+        u64::from(during),
+    );
+}
+
+/// A home is read before a round, and while the disk holds it.
+fn commit_and_read<
+    R: Abort + Threads + Wait + Clock + Sync,
+    D: Disk + Drop + Send,
+    H: Origin + Send + Sync,
+    N: Ledger + Send + Sync,
+>(rt: &R, desk: Still<D, H, N>, gate: &Gate)
+    requires any { (words : WordMap) → H.begun.stops words }
+{
+    thread::join(rt, || commit(rt, &desk), || read(rt, &desk, gate));
+}
+
+/// Commits and reads at a new desk.
+fn beside<
+    R: Abort + Threads + Wait + Clock + Sync,
+    H: Origin + Send + Sync,
+    N: Ledger + Send + Sync,
+>(rt: &R, alloc: Global, gate: &Gate, handles: Stops, changes: Blank)
     requires blind { H.begun.honest → ⊥ }
     requires any { (words : WordMap) → H.begun.stops words }
     requires handles { (handles.tickets.name ≡ H.name) × (handles.tickets.parts ≡ H.parts) × (H.parts ≡ 2 ^ 61 + 1) }
     requires history { history_in handles ≡ H.history }
     requires changes { (changes.name ≡ N.name) × (changes.parts ≡ N.parts) × (N.parts ≡ 2 ^ 61 + 1) }
 {
-    let Some(disk) = formatted(alloc)? else {
-        return Err("it is not made".into());
-    };
-    let disk = GateDisk {
-        disk,
-        gate,
-        clock: rt,
-        is_open: false,
-        failed: 0,
-    };
-    let Some(deck) = opened(alloc, disk) else {
-        return Err("it is not opened".into());
-    };
-    let Ok(desk) = start::<_, _, H, N>(alloc, handles, changes, deck, CLOCK) else {
-        return Err("it is not started".into());
-    };
-    let (before, (during, _)) = thread::join(
-        rt,
-        || commit(rt, &desk),
-        || {
-            let _writing = has_come(rt, &gate.is_writing);
-            thread::join(
-                rt,
-                || filled(rt, &desk, 1),
-                || {
-                    thread::sleep(rt, Duration::from_millis(APART));
-                    gate.has_stopped.store(true, Ordering::SeqCst);
-                },
-            )
-        },
-    );
-    Ok((before, during))
+    let deck = opened(alloc, gated_disk(rt, alloc, gate)).expect(rt, "the journal is not opened");
+    let desk: Gated<'_, R, H, N> = start(rt, alloc, handles, changes, deck);
+    commit_and_read(rt, desk, gate)
 }
 
 #[test]
-fn a_read_beside_a_round_waits_for_it(rt: HostRuntime) -> Result<(), Fail> {
+fn a_read_beside_a_round_waits_for_it(rt: HostRuntime) {
     let gate = Gate::shut();
-    let found = beside::<HostRuntime, Brand, Brand>(
+    beside::<HostRuntime, Brand, Brand>(
         &rt,
         rt.alloc(),
         &gate,
-        Stops::new(rt.alloc(), PARTS)?,
+        stops(&rt, rt.alloc()),
         Blank::new(PARTS),
-    )?;
-    assert_eq!(rt; found, (Some(0), Some(7)));
-    Ok(())
+    );
 }

@@ -1,47 +1,59 @@
 //! Homes that are read at a desk: after each round and each checkpoint, and where the read fails.
 ghost use Rattle.std.specs.Prelude.{◌≡◌, ◌+◌, ◌^◌};
+ghost use Rattle.jb_desk.specs.Desks.{desk_id};
 ghost use Rattle.jb_desk.specs.History.{history_in};
+ghost use Rattle.jb_desk.specs.Seats.{desk_of};
 ghost use Rattle.jb_handle.specs.Word.{WordMap};
 
-use crate::blind::start;
-use crate::journal::{CLOCK, Came, PARTS, Still, formatted, opened, retired, round, stop};
-use jb_block::Memory;
+use crate::blind::{small, start, stops};
+use crate::checks::{check, check_at, check_in, fail};
+use crate::journal::{Came, PARTS, Small, Still, begun, formatted, opened, round_of, seated, stop};
 use jb_deck::ReadHomeFault;
-use jb_desk::{Origin, Stops};
-use jb_disk::{Disk, OneFaultDisk};
+use jb_desk::{Origin, Seat, Stops};
+use jb_disk::{Disk, MemoryDisk, OneFaultDisk};
 use std::alloc::Global;
 use std::marker::Brand;
+use std::process::Abort;
 use std::sync::Wait;
 use std::sync::ledger::{Blank, Ledger};
-use std::test::Fail;
 
-/// What each home is filled with, where it is read.
-type Homes = [Option<u8>; 16];
+/// What each home is filled with.
+type Homes = [u8; 16];
 
-/// The byte that fills a home. `None` where the home is not read, or has several bytes.
-pub fn filled<R: Wait, D: Disk, H: Origin, N: Ledger>(
+/// The byte that fills a home, which is read and has no other bytes.
+pub fn filled<R: Abort + Wait, D: Disk, H: Origin, N: Ledger>(
     rt: &R,
     desk: &Still<D, H, N>,
     home: u64,
-) -> Option<u8> {
+) -> u8 {
     let mut block = [0; 1024];
-    desk.read(rt, home, &mut block).ok()?;
+    let read = desk.read(rt, home, &mut block);
     let byte = block[0];
-    if block != [byte; 1024] {
-        return None;
-    }
-    Some(byte)
+    check_at(rt, read.is_ok(), "the read of home", home);
+    check_at(rt, block == [byte; 1024], "several bytes in home", home);
+    byte
 }
 
-/// The same of each home.
-fn all_filled<R: Wait, D: Disk, H: Origin, N: Ledger>(rt: &R, desk: &Still<D, H, N>) -> Homes {
-    let mut homes = [None; 16];
-    for (home, byte) in homes.iter_mut().enumerate() {
-        *byte = filled(rt, desk, home as u64);
+/// Checks what each home is filled with, after the step of this number.
+fn check_homes<R: Abort + Wait, D: Disk, H: Origin, N: Ledger>(
+    rt: &R,
+    desk: &Still<D, H, N>,
+    number: u64,
+    wanted: &Homes,
+) {
+    for (home, &byte) in wanted.iter().enumerate() {
+        let home = home as u64;
+        check_in(
+            rt,
+            filled(rt, desk, home) == byte,
+            number,
+            "the byte of home",
+            home,
+        );
     }
-    homes
 }
 
+/// What a thread does at a desk whose homes are read.
 #[derive(Clone, Copy)]
 enum Step {
     /// a handle that fills this home with this byte stops
@@ -50,37 +62,57 @@ enum Step {
     Checkpoint,
 }
 
-/// Takes a step with a seat of its own. Says whether it succeeded.
-fn take<R: Wait, D: Disk, H: Origin, N: Ledger>(rt: &R, desk: &Still<D, H, N>, step: Step) -> bool
-    requires { (words : WordMap) → H.begun.stops words }
+/// A handle that fills a home with a byte stops.
+fn fill<R: Abort + Wait, D: Disk, H: Origin, N: Ledger>(
+    rt: &R,
+    desk: &Still<D, H, N>,
+    seat: Seat<H, N>,
+    home: u64,
+    byte: u8,
+) -> (Seat<H, N>, bool)
+    requires any { (words : WordMap) → H.begun.stops words }
+    requires desk { desk_of seat ≡ desk_id desk.now }
 {
-    let Ok(seat) = desk.seat(rt) else {
-        return false;
-    };
+    let mut handle = begun(rt, desk, seat, 1, "a handle that fills a home");
+    let _refused = handle.write(home, &[byte; 1024]);
+    let (seat, ticket) = stop(rt, desk, handle);
+    (seat, ticket.is_ok())
+}
+
+/// A round that commits something.
+fn commit<R: Wait, D: Disk, H: Origin, N: Ledger>(
+    rt: &R,
+    desk: &Still<D, H, N>,
+    seat: Seat<H, N>,
+) -> (Seat<H, N>, bool)
+    requires desk { desk_of seat ≡ desk_id desk.now }
+{
+    let (seat, came, _) = round_of(rt, desk, seat);
+    (seat, matches!(came, Came::Committed(_, _)))
+}
+
+/// Takes the step of this number, with a seat of its own.
+fn take<R: Abort + Wait, D: Disk, H: Origin, N: Ledger>(
+    rt: &R,
+    desk: &Still<D, H, N>,
+    number: u64,
+    step: Step,
+)
+    requires any { (words : WordMap) → H.begun.stops words }
+{
+    let seat = seated(rt, desk);
     let (seat, is_done) = match step {
-        Step::Fill(home, byte) => match desk.begin(rt, seat, 1) {
-            Ok(mut handle) => {
-                let _refused = handle.write(home, &[byte; 1024]);
-                let (seat, ticket) = stop(rt, desk, handle);
-                (seat, ticket.is_ok())
-            }
-            Err((seat, _)) => (seat, false),
-        },
-        Step::Round => {
-            let mut committer = desk.committer(seat);
-            let came = round(rt, desk, &mut committer);
-            let (seat, _) = retired(rt, desk, committer);
-            (seat, matches!(came, Came::Committed(_, _)))
-        }
+        Step::Fill(home, byte) => fill(rt, desk, seat, home, byte),
+        Step::Round => commit(rt, desk, seat),
         Step::Checkpoint => (seat, desk.checkpoint_round(rt).is_ok()),
     };
     let _left = desk.leave(rt, seat);
-    is_done
+    check_at(rt, is_done, "a call is refused in step", number);
 }
 
 /// A home has a copy in the log alone, then at home too, then a newer one in the log beside the older one at home, and
 /// is written twice in a batch. Others are written at the first and last place.
-const STEPS: [Step; 15] = [
+static STEPS: [Step; 15] = [
     Step::Fill(1, 11),
     Step::Round,
     Step::Fill(1, 12),
@@ -98,124 +130,138 @@ const STEPS: [Step; 15] = [
     Step::Checkpoint,
 ];
 
-/// The first step that does not succeed, or after which the homes are not read as they are committed.
-fn wrong<R: Wait, D: Disk, H: Origin, N: Ledger>(
-    rt: &R,
-    desk: &Still<D, H, N>,
-) -> Option<(usize, Homes)>
-    requires { (words : WordMap) → H.begun.stops words }
-{
-    let mut stopped = [Some(0); 16];
-    let mut committed = [Some(0); 16];
-    for (index, step) in STEPS.into_iter().enumerate() {
-        let is_done = take(rt, desk, step);
-        match step {
-            Step::Fill(home, byte) => {
-                if let Some(last) = stopped.get_mut(home as usize) {
-                    *last = Some(byte);
-                }
-            }
-            Step::Round => committed = stopped,
-            Step::Checkpoint => {}
-        }
-        let homes = all_filled(rt, desk);
-        if !is_done || homes != committed {
-            return Some((index, homes));
-        }
-    }
-    None
+/// What handles that have stopped fill the homes with, and what those that are committed do.
+#[derive(Drop)]
+struct Written {
+    stopped: Homes,
+    committed: Homes,
 }
 
-/// What a read of no home into half a block answers, and one of a home.
-type Refused = (Result<(), ReadHomeFault>, Result<(), ReadHomeFault>);
+impl Written {
+    /// Notes what a step does.
+    fn note(&mut self, step: Step) {
+        match step {
+            Step::Fill(home, byte) => {
+                if let Some(last) = self.stopped.get_mut(home as usize) {
+                    *last = byte;
+                }
+            }
+            Step::Round => self.committed = self.stopped,
+            Step::Checkpoint => {}
+        }
+    }
+}
 
-fn stepped<R: Wait, H: Origin, N: Ledger>(
+/// Takes all steps, and checks after each that the homes are read as they are committed.
+fn check_steps<R: Abort + Wait, D: Disk, H: Origin, N: Ledger>(rt: &R, desk: &Still<D, H, N>)
+    requires any { (words : WordMap) → H.begun.stops words }
+{
+    let mut filled = Written {
+        stopped: [0; 16],
+        committed: [0; 16],
+    };
+    for (number, &step) in STEPS.iter().enumerate() {
+        let number = number as u64;
+        take(rt, desk, number, step);
+        filled.note(step);
+        check_homes(rt, desk, number, &filled.committed);
+    }
+}
+
+/// Takes all steps at a new desk, and then reads into half a block.
+fn stepped<R: Abort + Wait, H: Origin, N: Ledger>(
     rt: &R,
     alloc: Global,
     handles: Stops,
     changes: Blank,
-) -> Result<(Option<(usize, Homes)>, Refused), Fail>
+)
     requires blind { H.begun.honest → ⊥ }
     requires any { (words : WordMap) → H.begun.stops words }
     requires handles { (handles.tickets.name ≡ H.name) × (handles.tickets.parts ≡ H.parts) × (H.parts ≡ 2 ^ 61 + 1) }
     requires history { history_in handles ≡ H.history }
     requires changes { (changes.name ≡ N.name) × (changes.parts ≡ N.parts) × (N.parts ≡ 2 ^ 61 + 1) }
 {
-    let Some(disk) = formatted(alloc)? else {
-        return Err("it is not made".into());
-    };
-    let Some(deck) = opened(alloc, disk) else {
-        return Err("it is not opened".into());
-    };
-    let Ok(desk) = start::<_, _, H, N>(alloc, handles, changes, deck, CLOCK) else {
-        return Err("it is not started".into());
-    };
-    let found = wrong(rt, &desk);
+    let desk: Small<H, N> = small(rt, alloc, handles, changes);
+    check_steps(rt, &desk);
     let none = desk.read(rt, 16, &mut [0; 512]);
     let short = desk.read(rt, 15, &mut [0; 512]);
-    Ok((found, (none, short)))
+    check(
+        rt,
+        none == Err(ReadHomeFault::OutOfRange),
+        "a read of no home into half a block",
+    );
+    check(
+        rt,
+        short == Err(ReadHomeFault::Length),
+        "a read of a home into half a block",
+    );
 }
 
 #[test]
-fn homes_are_read_as_they_are_committed(rt: HostRuntime) -> Result<(), Fail> {
-    let (found, refused) = stepped::<HostRuntime, Brand, Brand>(
+fn homes_are_read_as_they_are_committed(rt: HostRuntime) {
+    stepped::<HostRuntime, Brand, Brand>(
         &rt,
         rt.alloc(),
-        Stops::new(rt.alloc(), PARTS)?,
+        stops(&rt, rt.alloc()),
         Blank::new(PARTS),
-    )?;
-    assert_eq!(rt; found, None);
-    assert_eq!(rt;
-        refused,
-        (Err(ReadHomeFault::OutOfRange), Err(ReadHomeFault::Length))
     );
-    Ok(())
 }
 
-/// What a read answers of which this call of the disk fails, whether a handle is committed after it, and what is read
-/// again. `None` where the journal cannot be opened then.
-fn failing<R: Wait, H: Origin, N: Ledger>(
+/// A desk whose disk fails once.
+type Failing<H, N> = Still<OneFaultDisk<MemoryDisk>, H, N>;
+
+/// A read fails, a handle is committed after it, and the home is read again.
+fn check_read<R: Abort + Wait, D: Disk + Drop, H: Origin, N: Ledger>(rt: &R, desk: Still<D, H, N>)
+    requires any { (words : WordMap) → H.begun.stops words }
+{
+    let read = desk.read(rt, 2, &mut [0; 1024]);
+    check(
+        rt,
+        read == Err(ReadHomeFault::DeviceFault),
+        "the read that fails",
+    );
+    take(rt, &desk, 0, Step::Fill(1, 11));
+    take(rt, &desk, 1, Step::Round);
+    check(rt, filled(rt, &desk, 2) == 0, "the home that is read again");
+}
+
+/// Reads where this call of the disk fails; says whether the journal could be opened then.
+fn failing<R: Abort + Wait, H: Origin, N: Ledger>(
     rt: &R,
     alloc: Global,
     call: u64,
     handles: Stops,
     changes: Blank,
-) -> Result<Option<(Result<(), ReadHomeFault>, bool, Option<u8>)>, Memory>
+) -> bool
     requires blind { H.begun.honest → ⊥ }
     requires any { (words : WordMap) → H.begun.stops words }
     requires handles { (handles.tickets.name ≡ H.name) × (handles.tickets.parts ≡ H.parts) × (H.parts ≡ 2 ^ 61 + 1) }
     requires history { history_in handles ≡ H.history }
     requires changes { (changes.name ≡ N.name) × (changes.parts ≡ N.parts) × (N.parts ≡ 2 ^ 61 + 1) }
 {
-    let Some(disk) = formatted(alloc)? else {
-        return Err(Memory);
-    };
-    let Some(deck) = opened(alloc, OneFaultDisk::of(disk, call)) else {
-        return Ok(None);
-    };
-    let Ok(desk) = start::<_, _, H, N>(alloc, handles, changes, deck, CLOCK) else {
-        return Err(Memory);
-    };
-    let read = desk.read(rt, 2, &mut [0; 1024]);
-    let is_done = take(rt, &desk, Step::Fill(1, 11)) && take(rt, &desk, Step::Round);
-    Ok(Some((read, is_done, filled(rt, &desk, 2))))
+    match opened(alloc, OneFaultDisk::of(formatted(rt, alloc), call)) {
+        Some(deck) => {
+            let desk: Failing<H, N> = start(rt, alloc, handles, changes, deck);
+            check_read(rt, desk);
+            true
+        }
+        None => false,
+    }
 }
 
 #[test]
-fn a_read_that_fails_fails_nothing_else(rt: HostRuntime) -> Result<(), Fail> {
+fn a_read_that_fails_fails_nothing_else(rt: HostRuntime) {
     for call in 0..200 {
-        let found = failing::<HostRuntime, Brand, Brand>(
+        let is_opened = failing::<HostRuntime, Brand, Brand>(
             &rt,
             rt.alloc(),
             call,
-            Stops::new(rt.alloc(), PARTS)?,
+            stops(&rt, rt.alloc()),
             Blank::new(PARTS),
-        )?;
-        if let Some(found) = found {
-            assert_eq!(rt; found, (Err(ReadHomeFault::DeviceFault), true, Some(0)));
-            return Ok(());
+        );
+        if is_opened {
+            return;
         }
     }
-    assert!(rt; false);
-    Ok(())
+    fail(&rt, "the journal is never opened")
 }

@@ -1,146 +1,206 @@
 //! Rounds of a committer over the small journal, with the answers that its limits give by hand.
 ghost use Rattle.std.specs.Prelude.{◌≡◌, ◌+◌, ◌^◌};
+ghost use Rattle.jb_desk.specs.Desks.{desk_id};
 ghost use Rattle.jb_desk.specs.History.{history_in};
+ghost use Rattle.jb_desk.specs.Seats.{desk_of};
 ghost use Rattle.jb_handle.specs.Word.{WordMap};
 
-use crate::blind::start;
+use crate::blind::{start, stops};
+use crate::checks::check;
+use crate::closing::{check_close, check_close_twice, left, over_at};
 use crate::journal::{
-    CLOCK, Came, PARTS, Still, Why, close_twice, formatted, numbered, opened, over_at, refused,
-    retired, round, write,
+    Came, PARTS, Small, formatted, is_one, numbered, opened, refused, retired, round_of, seated,
+    write,
 };
-use jb_block::Memory;
 use jb_board::Front;
-use jb_deck::{Checked, CheckpointFault, Entry};
-use jb_desk::{BeginFault, Origin, RoundFault, Stops, WaitFault};
-use jb_disk::MemoryDisk;
+use jb_deck::{Checked, CheckpointFault};
+use jb_desk::{BeginFault, Origin, RoundFault, Seat, Stops, WaitFault};
 use std::alloc::Global;
 use std::marker::Brand;
+use std::process::Abort;
 use std::sync::Wait;
 use std::sync::ledger::{Blank, Ledger};
-use std::test::Fail;
 
-type Small<H, N> = Still<MemoryDisk, H, N>;
+/// A handle has stopped.
+const STOPPED: Front = Front {
+    settled: 0,
+    taken: 0,
+    stopped: 1,
+};
 
-/// What a seat finds that commits its own handle, and what is counted at the end: handles, changes and groups.
-#[derive(Clone, Copy, Debug, PartialEq)]
-struct OneRound {
-    nothing: Came,
-    ticket: Result<u64, Why>,
-    before: Front,
-    came: (Came, bool),
-    after: Front,
-    checked: (
-        Result<Checked, CheckpointFault>,
-        Result<Checked, CheckpointFault>,
-    ),
-    numbers: (Result<u32, WaitFault>, Result<u32, WaitFault>),
-    begun: Option<BeginFault>,
-    /// how many handles were settled when the desk was over
-    over: Option<u64>,
-    counts: Option<(u64, u64, usize)>,
+/// It is settled.
+const SETTLED: Front = Front {
+    settled: 1,
+    taken: 1,
+    stopped: 1,
+};
+
+/// Two handles were taken by a round that did not settle them.
+const TAKEN: Front = Front {
+    settled: 0,
+    taken: 2,
+    stopped: 2,
+};
+
+/// The only group goes home.
+const HOME: Checked = Checked {
+    number: 2,
+    blocks: 1,
+};
+
+/// A seat commits after a round that has nothing to commit, since its handle was dropped.
+fn check_idle<R: Abort + Wait, H: Origin, N: Ledger>(
+    rt: &R,
+    desk: &Small<H, N>,
+    seat: Seat<H, N>,
+) -> Seat<H, N>
+    requires desk { desk_of seat ≡ desk_id desk.now }
+    ensures { desk_of result ≡ desk_id desk.now }
+{
+    let (seat, _) = refused(rt, desk, seat, 2);
+    let (seat, came, _) = round_of(rt, desk, seat);
+    check(
+        rt,
+        matches!(came, Came::Idle),
+        "a round with nothing to commit",
+    );
+    seat
 }
 
-fn one_round<R: Wait, H: Origin, N: Ledger>(
+/// A seat commits its own handle.
+fn check_commit<R: Abort + Wait, H: Origin, N: Ledger>(
     rt: &R,
-    alloc: Global,
-    desk: Small<H, N>,
-) -> Result<Option<OneRound>, Memory>
+    desk: &Small<H, N>,
+    seat: Seat<H, N>,
+) -> Seat<H, N>
+    requires any { (words : WordMap) → H.begun.stops words }
+    requires desk { desk_of seat ≡ desk_id desk.now }
+    ensures { desk_of result ≡ desk_id desk.now }
+{
+    let (mut seat, ticket) = write(rt, desk, seat, 1, &[1]);
+    let before = desk.front(&mut seat);
+    let (mut seat, came, is_retired) = round_of(rt, desk, seat);
+    let after = desk.front(&mut seat);
+    check(rt, ticket == Some(0), "the ticket");
+    check(rt, before == STOPPED, "the front before the round");
+    check(rt, is_one(came, 0, 2), "the round");
+    check(rt, is_retired, "the committer does not retire");
+    check(rt, after == SETTLED, "the front after the round");
+    seat
+}
+
+/// The group is brought home, and its ticket is asked for beside one that nobody has.
+fn check_settled<R: Abort + Wait, H: Origin, N: Ledger>(
+    rt: &R,
+    desk: &Small<H, N>,
+    seat: &mut Seat<H, N>,
+)
+    requires desk { desk_of seat.old ≡ desk_id desk.now }
+    ensures { desk_of seat.new ≡ desk_id desk.now }
+{
+    let first = desk.checkpoint_round(rt);
+    let second = desk.checkpoint_round(rt);
+    check(rt, first == Ok(HOME), "the first checkpoint");
+    check(
+        rt,
+        second == Err(CheckpointFault::Nothing),
+        "the second checkpoint",
+    );
+    let settled = desk.wait(rt, seat, 0);
+    let unknown = desk.wait(rt, seat, 1);
+    check(rt, settled == Ok(2), "the number of the ticket");
+    check(
+        rt,
+        unknown == Err(WaitFault::Unknown),
+        "the number of a ticket that nobody has",
+    );
+}
+
+/// The desk is shut, and a committer ends.
+fn check_shut<R: Abort + Wait, H: Origin, N: Ledger>(
+    rt: &R,
+    desk: &Small<H, N>,
+    seat: Seat<H, N>,
+) -> Seat<H, N>
+    requires desk { desk_of seat ≡ desk_id desk.now }
+{
+    desk.shut(rt);
+    let (seat, begun) = refused(rt, desk, seat, 1);
+    let (committer, ended) = desk.run_committer(rt, desk.committer(seat));
+    let (seat, _) = retired(rt, desk, committer);
+    check(
+        rt,
+        begun == Some(BeginFault::Closed),
+        "a begin at a desk that is shut",
+    );
+    check(rt, over_at(ended) == Some(1), "how the committer ends");
+    seat
+}
+
+/// What a seat finds that commits its own handle, and what is counted at the end: handles, changes and groups.
+fn one_round<R: Abort + Wait, H: Origin, N: Ledger>(rt: &R, alloc: Global, desk: Small<H, N>)
     requires any { (words : WordMap) → H.begun.stops words }
     requires parts { (H.parts ≡ 2 ^ 61 + 1) × (N.parts ≡ 2 ^ 61 + 1) }
 {
-    let mut lefts = Vec::new(alloc);
-    lefts.reserve(1)?;
-    let Ok(seat) = desk.seat(rt) else {
-        return Ok(None);
-    };
-    let (seat, _) = refused(rt, &desk, seat, 2);
-    let mut committer = desk.committer(seat);
-    let nothing = round(rt, &desk, &mut committer);
-    let (seat, _) = retired(rt, &desk, committer);
-    let (mut seat, ticket) = write(rt, &desk, seat, 1, &[1]);
-    let before = desk.front(&mut seat);
-    let mut committer = desk.committer(seat);
-    let came = round(rt, &desk, &mut committer);
-    let (mut seat, is_retired) = retired(rt, &desk, committer);
-    let after = desk.front(&mut seat);
-    let checked = (desk.checkpoint_round(rt), desk.checkpoint_round(rt));
-    let numbers = (desk.wait(rt, &mut seat, 0), desk.wait(rt, &mut seat, 1));
-    desk.shut(rt);
-    let (seat, begun) = refused(rt, &desk, seat, 1);
-    let (committer, ended) = desk.run_committer(rt, desk.committer(seat));
-    let (seat, _) = retired(rt, &desk, committer);
-    lefts.push_reserved(desk.leave(rt, seat));
-    let counts = match desk.close(lefts) {
-        Ok(closed) => Some((closed.handles, closed.changes, closed.trail.len())),
-        Err(_) => None,
-    };
-    Ok(Some(OneRound {
-        nothing,
-        ticket,
-        before,
-        came: (came, is_retired),
-        after,
-        checked,
-        numbers,
-        begun,
-        over: over_at(ended),
-        counts,
-    }))
+    let seat = check_idle(rt, &desk, seated(rt, &desk));
+    let mut seat = check_commit(rt, &desk, seat);
+    check_settled(rt, &desk, &mut seat);
+    let seat = check_shut(rt, &desk, seat);
+    let lefts = left(rt, alloc, &desk, seat);
+    check_close(rt, "one round", desk, lefts, (1, 1, 1))
+}
+
+/// A round in which two handles take a group each, where the journal has one number left.
+fn check_refused<R: Abort + Wait, H: Origin, N: Ledger>(
+    rt: &R,
+    desk: &Small<H, N>,
+    seat: Seat<H, N>,
+) -> Seat<H, N>
+    requires desk { desk_of seat ≡ desk_id desk.now }
+{
+    let (mut seat, came, is_retired) = round_of(rt, desk, seat);
+    let front = desk.front(&mut seat);
+    let (seat, begun) = refused(rt, desk, seat, 1);
+    let is_refused = matches!(came, Came::Failed(RoundFault::Refused));
+    check(rt, is_refused, "the round without a number");
+    check(rt, !is_retired, "the committer retires with a batch");
+    check(
+        rt,
+        front == TAKEN,
+        "the front after the round without a number",
+    );
+    check(
+        rt,
+        begun == Some(BeginFault::Aborted),
+        "a begin after a committer has given up",
+    );
+    seat
 }
 
 /// What two handles find of which each takes a group, where the journal has one number left: tickets, how the round
 /// ends, whether the committer retires then, and how the desk is closed.
-#[derive(Clone, Copy, Debug, PartialEq)]
-struct NoNumber {
-    tickets: (Result<u64, Why>, Result<u64, Why>),
-    came: (Came, bool),
-    front: Front,
-    last: Option<BeginFault>,
-    closed: (bool, Option<(u64, u64, usize)>),
-}
-
-fn no_number<R: Wait, H: Origin, N: Ledger>(
-    rt: &R,
-    alloc: Global,
-    desk: Small<H, N>,
-) -> Result<Option<NoNumber>, Memory>
+fn no_number<R: Abort + Wait, H: Origin, N: Ledger>(rt: &R, alloc: Global, desk: Small<H, N>)
     requires any { (words : WordMap) → H.begun.stops words }
     requires parts { (H.parts ≡ 2 ^ 61 + 1) × (N.parts ≡ 2 ^ 61 + 1) }
 {
-    let mut lefts = Vec::new(alloc);
-    lefts.reserve(2)?;
-    let Ok(seat) = desk.seat(rt) else {
-        return Ok(None);
-    };
-    let (seat, first) = write(rt, &desk, seat, 6, &[0, 1, 2, 3, 4, 5]);
+    let (seat, first) = write(rt, &desk, seated(rt, &desk), 6, &[0, 1, 2, 3, 4, 5]);
     let last = desk.leave(rt, seat);
-    let Ok(seat) = desk.seat(rt) else {
-        return Ok(None);
-    };
-    let (seat, second) = write(rt, &desk, seat, 6, &[6, 7, 8, 9, 10, 11]);
-    let mut committer = desk.committer(seat);
-    let came = round(rt, &desk, &mut committer);
-    let (mut seat, is_retired) = retired(rt, &desk, committer);
-    let front = desk.front(&mut seat);
-    let (seat, begun) = refused(rt, &desk, seat, 1);
-    lefts.push_reserved(desk.leave(rt, seat));
-    Ok(Some(NoNumber {
-        tickets: (first, second),
-        came: (came, is_retired),
-        front,
-        last: begun,
-        closed: close_twice(desk, lefts, last),
-    }))
+    let (seat, second) = write(rt, &desk, seated(rt, &desk), 6, &[6, 7, 8, 9, 10, 11]);
+    check(rt, first == Some(0), "the first ticket");
+    check(rt, second == Some(1), "the second ticket");
+    let seat = check_refused(rt, &desk, seat);
+    let lefts = left(rt, alloc, &desk, seat);
+    check_close_twice(rt, "no number", desk, lefts, last, (2, 12, 0))
 }
 
-/// What two new desks answer: the first over a new journal, the second over one with one number left.
-fn rows<R: Wait, H: Origin, N: Ledger>(
+/// A new desk over a new journal, or over one with one number left.
+fn rows<R: Abort + Wait, H: Origin, N: Ledger>(
     rt: &R,
     alloc: Global,
     is_last: bool,
     handles: Stops,
     changes: Blank,
-) -> Result<Option<Answer>, Memory>
+)
     requires blind { H.begun.honest → ⊥ }
     requires any { (words : WordMap) → H.begun.stops words }
     requires handles { (handles.tickets.name ≡ H.name) × (handles.tickets.parts ≡ H.parts) × (H.parts ≡ 2 ^ 61 + 1) }
@@ -148,100 +208,28 @@ fn rows<R: Wait, H: Origin, N: Ledger>(
     requires changes { (changes.name ≡ N.name) × (changes.parts ≡ N.parts) × (N.parts ≡ 2 ^ 61 + 1) }
 {
     let disk = if is_last {
-        numbered(alloc, 4294967294)?
+        numbered(rt, alloc, 4294967294)
     } else {
-        formatted(alloc)?
+        formatted(rt, alloc)
     };
-    let Some(disk) = disk else {
-        return Ok(None);
-    };
-    let Some(deck) = opened(alloc, disk) else {
-        return Ok(None);
-    };
-    let Ok(desk) = start::<_, _, H, N>(alloc, handles, changes, deck, CLOCK) else {
-        return Err(Memory);
-    };
+    let deck = opened(alloc, disk).expect(rt, "the journal is not opened");
+    let desk: Small<H, N> = start(rt, alloc, handles, changes, deck);
     if is_last {
-        Ok(no_number(rt, alloc, desk)?.map(Answer::NoNumber))
+        no_number(rt, alloc, desk)
     } else {
-        Ok(one_round(rt, alloc, desk)?.map(Answer::OneRound))
+        one_round(rt, alloc, desk)
     }
 }
 
-#[derive(Clone, Copy, Debug, PartialEq)]
-enum Answer {
-    OneRound(OneRound),
-    NoNumber(NoNumber),
-}
-
-const ROWS: [(bool, Answer); 2] = [
-    (
-        false,
-        Answer::OneRound(OneRound {
-            nothing: Came::Idle,
-            ticket: Ok(0),
-            before: Front {
-                settled: 0,
-                taken: 0,
-                stopped: 1,
-            },
-            came: (
-                Came::Committed(
-                    Some(Entry {
-                        first: 0,
-                        past: 1,
-                        number: 2,
-                        blocks: 3,
-                    }),
-                    1,
-                ),
-                true,
-            ),
-            after: Front {
-                settled: 1,
-                taken: 1,
-                stopped: 1,
-            },
-            checked: (
-                Ok(Checked {
-                    number: 2,
-                    blocks: 1,
-                }),
-                Err(CheckpointFault::Nothing),
-            ),
-            numbers: (Ok(2), Err(WaitFault::Unknown)),
-            begun: Some(BeginFault::Closed),
-            over: Some(1),
-            counts: Some((1, 1, 1)),
-        }),
-    ),
-    (
-        true,
-        Answer::NoNumber(NoNumber {
-            tickets: (Ok(0), Ok(1)),
-            came: (Came::Failed(RoundFault::Refused), false),
-            front: Front {
-                settled: 0,
-                taken: 2,
-                stopped: 2,
-            },
-            last: Some(BeginFault::Aborted),
-            closed: (true, Some((2, 12, 0))),
-        }),
-    ),
-];
-
 #[test]
-fn rounds_answer_as_worked_by_hand(rt: HostRuntime) -> Result<(), Fail> {
-    for (is_last, wanted) in ROWS {
-        let found = rows::<HostRuntime, Brand, Brand>(
+fn rounds_answer_as_worked_by_hand(rt: HostRuntime) {
+    for is_last in [false, true] {
+        rows::<HostRuntime, Brand, Brand>(
             &rt,
             rt.alloc(),
             is_last,
-            Stops::new(rt.alloc(), PARTS)?,
+            stops(&rt, rt.alloc()),
             Blank::new(PARTS),
-        )?;
-        assert_eq!(rt; found, Some(wanted));
+        );
     }
-    Ok(())
 }

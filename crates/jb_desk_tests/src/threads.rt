@@ -6,78 +6,24 @@ ghost use Rattle.jb_desk.specs.Seats.{desk_of};
 ghost use Rattle.jb_handle.specs.Handle.{holder};
 ghost use Rattle.jb_handle.specs.Word.{WordMap};
 
+use crate::checks::check;
 use crate::homes::Stop;
-use crate::journal::{Still, Why, retired, stop};
+use crate::journal::{Still, retired, seated, stop};
 use crate::keys::{CHANGES, Change, Draws, block_of, changes_of};
-use jb_block::Memory;
-use jb_desk::{BeginFault, Ended, Left, Origin, Seat, StopFault, Stops, WaitFault};
+use crate::report::Report;
+use jb_desk::{Ended, EnqueueFault, Left, Origin, Seat, StopFault};
 use jb_disk::Disk;
 use jb_handle::{Handle, TouchFault};
 use std::alloc::Global;
+use std::process::Abort;
 use std::sync::Wait;
 use std::sync::ledger::Ledger;
 use std::thread;
 use std::thread::Threads;
-use std::time::{Clock, Duration};
+use std::time::Clock;
 
 /// How often a thread tries to begin a handle, in all.
 const TURNS: u32 = 1_000_000;
-
-/// What a thread has done at a desk.
-#[derive(Drop)]
-pub struct Report<H: Origin, N: Ledger> {
-    /// what its seat left
-    pub left: Option<Left<H, N>>,
-    /// the handles that it stopped
-    pub stops: Vec<Stop>,
-    /// the home blocks that these touched, added up
-    pub touched: u64,
-    /// tickets that it waited for, and the numbers that were answered
-    pub waited: Vec<(u64, u32)>,
-    /// the journal has failed
-    pub is_aborted: bool,
-    /// something was answered that should not be
-    pub is_wrong: bool,
-}
-
-impl<H: Origin, N: Ledger> Report<H, N> {
-    fn new(alloc: Global) -> Report<H, N> {
-        Report {
-            left: None,
-            stops: Vec::new(alloc),
-            touched: 0,
-            waited: Vec::new(alloc),
-            is_aborted: false,
-            is_wrong: false,
-        }
-    }
-
-    /// Notes what a stop answered.
-    fn note_stop(&mut self, key: u64, touched: u32, answer: Result<u64, Why>) {
-        match answer {
-            Ok(ticket) => {
-                self.touched = self.touched.saturating_add(u64::from(touched));
-                self.is_wrong |= !has_pushed(&mut self.stops, Stop { ticket, key });
-            }
-            Err(Why::Aborted) => self.is_aborted = true,
-            Err(_) => self.is_wrong = true,
-        }
-    }
-
-    /// Notes what a wait answered.
-    fn note_wait(&mut self, ticket: u64, answer: Result<u32, WaitFault>) {
-        match answer {
-            Ok(number) => self.is_wrong |= !has_pushed(&mut self.waited, (ticket, number)),
-            Err(WaitFault::Aborted) => self.is_aborted = true,
-            Err(WaitFault::Taken | WaitFault::Unknown) => self.is_wrong = true,
-        }
-    }
-}
-
-/// Puts an item at the end of a list. Where that is out of memory it tries once more.
-fn has_pushed<T: Copy>(items: &mut Vec<T>, item: T) -> bool {
-    items.push(item).is_ok() || items.push(item).is_ok()
-}
 
 /// Makes one change in a handle.
 fn touch<H: Origin, N: Ledger>(
@@ -95,22 +41,34 @@ fn touch<H: Origin, N: Ledger>(
     }
 }
 
-/// Makes the changes of this key in a handle. One that is out of memory is made once more.
+/// The same. A change that is out of memory is made once more.
+fn touch_again<H: Origin, N: Ledger>(
+    rt: &impl Abort,
+    handle: &mut Handle<Seat<H, N>>,
+    key: u64,
+    change: Change,
+)
+    ensures { holder handle.new ≡ holder handle.old }
+{
+    let mut made = touch(handle, key, change);
+    if made == Err(TouchFault::Memory) {
+        made = touch(handle, key, change);
+    }
+    check(rt, made.is_ok(), "a change is refused");
+}
+
+/// Makes the changes of this key in a handle.
 fn change_all<H: Origin, N: Ledger>(
+    rt: &impl Abort,
     handle: Handle<Seat<H, N>>,
     key: u64,
-    report: &mut Report<H, N>,
 ) -> Handle<Seat<H, N>>
     ensures { holder result ≡ holder handle }
 {
     let mut handle = handle;
     for next in changes_of(key) {
-        if let Some(next) = next {
-            let mut made = touch(&mut handle, key, next);
-            if made == Err(TouchFault::Memory) {
-                made = touch(&mut handle, key, next);
-            }
-            report.is_wrong |= made.is_err();
+        if let Some(change) = next {
+            touch_again(rt, &mut handle, key, change);
         }
     }
     handle
@@ -121,7 +79,7 @@ fn stop_again<R: Wait, D: Disk, H: Origin, N: Ledger>(
     rt: &R,
     desk: &Still<D, H, N>,
     handle: Handle<Seat<H, N>>,
-) -> (Seat<H, N>, Result<u64, Why>)
+) -> (Seat<H, N>, Result<u64, EnqueueFault>)
     requires any { (words : WordMap) → H.begun.stops words }
     requires desk { desk_of (holder handle) ≡ desk_id desk.now }
     ensures { desk_of result.0 ≡ desk_id desk.now }
@@ -129,89 +87,112 @@ fn stop_again<R: Wait, D: Disk, H: Origin, N: Ledger>(
     match desk.stop(rt, handle) {
         Ok((seat, ticket)) => (seat, Ok(ticket)),
         Err(StopFault::Memory(handle)) => stop(rt, desk, handle),
-        Err(StopFault::Aborted(seat)) => (seat, Err(Why::Aborted)),
-        Err(StopFault::NotOpen(handle)) => (desk.abandon(rt, handle), Err(Why::NotOpen)),
+        Err(StopFault::Aborted(seat)) => (seat, Err(EnqueueFault::Aborted)),
+        Err(StopFault::NotOpen(handle)) => (desk.abandon(rt, handle), Err(EnqueueFault::NotOpen)),
     }
 }
 
 /// Waits for the last ticket that a thread was given.
-fn wait_for_last<R: Wait, D: Disk, H: Origin, N: Ledger>(
+fn wait_for_last<R: Abort + Wait, D: Disk, H: Origin, N: Ledger>(
     rt: &R,
     desk: &Still<D, H, N>,
     seat: &mut Seat<H, N>,
-    report: &mut Report<H, N>,
+    report: &mut Report,
 )
     requires desk { desk_of seat.old ≡ desk_id desk.now }
     ensures { desk_of seat.new ≡ desk_id desk.now }
 {
     if let Some(&Stop { ticket, .. }) = report.stops.last() {
         let answer = desk.wait(rt, seat, ticket);
-        report.note_wait(ticket, answer);
+        report.note_wait(rt, ticket, answer);
     }
 }
 
-/// Begins a handle and stops it, or drops it; says whether one was begun. Where the journal is full, or
-/// where there is no memory, it waits for a tenth of a millisecond.
-fn once<R: Wait + Clock, D: Disk, H: Origin, N: Ledger>(
+/// Stops a handle, and waits for some.
+fn stop_noted<R: Abort + Wait, D: Disk, H: Origin, N: Ledger>(
+    rt: &R,
+    desk: &Still<D, H, N>,
+    handle: Handle<Seat<H, N>>,
+    key: u64,
+    report: &mut Report,
+) -> Seat<H, N>
+    requires any { (words : WordMap) → H.begun.stops words }
+    requires desk { desk_of (holder handle) ≡ desk_id desk.now }
+    ensures { desk_of result ≡ desk_id desk.now }
+{
+    let touched = handle.touched();
+    let (mut seat, answer) = stop_again(rt, desk, handle);
+    report.note_stop(rt, key, touched, answer);
+    if key % 8 == 1 {
+        wait_for_last(rt, desk, &mut seat, report);
+    }
+    seat
+}
+
+/// Makes the changes of this key in a handle, and stops it or drops it.
+fn run<R: Abort + Wait, D: Disk, H: Origin, N: Ledger>(
+    rt: &R,
+    desk: &Still<D, H, N>,
+    handle: Handle<Seat<H, N>>,
+    key: u64,
+    report: &mut Report,
+) -> Seat<H, N>
+    requires any { (words : WordMap) → H.begun.stops words }
+    requires desk { desk_of (holder handle) ≡ desk_id desk.now }
+    ensures { desk_of result ≡ desk_id desk.now }
+{
+    let handle = change_all(rt, handle, key);
+    if key % 32 == 0 {
+        desk.abandon(rt, handle)
+    } else {
+        stop_noted(rt, desk, handle, key, report)
+    }
+}
+
+/// Begins a handle and stops it, or drops it; says whether one was begun.
+fn once<R: Abort + Wait + Clock, D: Disk, H: Origin, N: Ledger>(
     rt: &R,
     desk: &Still<D, H, N>,
     seat: Seat<H, N>,
     key: u64,
-    report: &mut Report<H, N>,
+    report: &mut Report,
 ) -> (Seat<H, N>, bool)
     requires any { (words : WordMap) → H.begun.stops words }
     requires desk { desk_of seat ≡ desk_id desk.now }
     ensures { desk_of result.0 ≡ desk_id desk.now }
 {
     match desk.begin(rt, seat, CHANGES as u32) {
-        Ok(handle) => {
-            let handle = change_all(handle, key, report);
-            if key % 32 == 0 {
-                return (desk.abandon(rt, handle), true);
-            }
-            let touched = handle.touched();
-            let (mut seat, answer) = stop_again(rt, desk, handle);
-            report.note_stop(key, touched, answer);
-            if key % 8 == 1 {
-                wait_for_last(rt, desk, &mut seat, report);
-            }
-            (seat, true)
-        }
-        Err((seat, BeginFault::Full(_) | BeginFault::Memory)) => {
-            thread::sleep(rt, Duration::from_micros(100));
-            (seat, false)
-        }
-        Err((seat, BeginFault::Aborted)) => {
-            report.is_aborted = true;
-            (seat, false)
-        }
-        Err((seat, _)) => {
-            report.is_wrong = true;
+        Ok(handle) => (run(rt, desk, handle, key, report), true),
+        Err((seat, fault)) => {
+            report.note_refusal(rt, fault);
             (seat, false)
         }
     }
 }
 
+/// What a thread has done, and what its seat left.
+#[derive(Drop)]
+pub struct Worked<H: Origin, N: Ledger> {
+    pub left: Left<H, N>,
+    pub report: Report,
+}
+
 /// Takes a seat, begins so many handles, and leaves after the last one is settled.
-fn work<R: Wait + Clock, D: Disk, H: Origin, N: Ledger>(
+fn work<R: Abort + Wait + Clock, D: Disk, H: Origin, N: Ledger>(
     rt: &R,
     alloc: Global,
     desk: &Still<D, H, N>,
     draws: Draws,
     handles: u32,
-) -> Report<H, N>
+) -> Worked<H, N>
     requires any { (words : WordMap) → H.begun.stops words }
 {
     let mut report = Report::new(alloc);
-    let Ok(seat) = desk.seat(rt) else {
-        report.is_wrong = true;
-        return report;
-    };
     let mut draws = draws;
-    let mut seat = seat;
+    let mut seat = seated(rt, desk);
     let mut begun: u32 = 0;
     for _turn in 0..TURNS {
-        if begun >= handles || report.is_aborted || report.is_wrong {
+        if begun >= handles || report.is_aborted {
             break;
         }
         let (back, has_begun) = once(rt, desk, seat, draws.key(), &mut report);
@@ -219,32 +200,32 @@ fn work<R: Wait + Clock, D: Disk, H: Origin, N: Ledger>(
         begun = begun.saturating_add(u32::from(has_begun));
     }
     wait_for_last(rt, desk, &mut seat, &mut report);
-    report.is_wrong |= begun < handles && !report.is_aborted;
-    report.left = Some(desk.leave(rt, seat));
-    report
+    let is_done = begun >= handles || report.is_aborted;
+    check(rt, is_done, "a thread has not begun all of its handles");
+    Worked {
+        left: desk.leave(rt, seat),
+        report,
+    }
 }
 
 /// Commits until the desk is shut; where a round is out of memory, the next one takes its batch up. Gives what its seat
 /// left, and how it ended.
-fn commit<R: Wait, D: Disk, H: Origin, N: Ledger>(
+fn commit<R: Abort + Wait, D: Disk, H: Origin, N: Ledger>(
     rt: &R,
     desk: &Still<D, H, N>,
-) -> Option<(Left<H, N>, Ended)> {
-    let Ok(seat) = desk.seat(rt) else {
-        return None;
-    };
-    let (mut committer, mut ended) = desk.run_committer(rt, desk.committer(seat));
+) -> (Left<H, N>, Ended) {
+    let (mut committer, mut ended) = desk.run_committer(rt, desk.committer(seated(rt, desk)));
     if ended == Ended::Memory {
         (committer, ended) = desk.run_committer(rt, committer);
     }
     let (seat, _) = retired(rt, desk, committer);
-    Some((desk.leave(rt, seat), ended))
+    (desk.leave(rt, seat), ended)
 }
 
-/// What all threads report, where each has run.
+/// What all threads report.
 #[derive(Drop)]
 pub struct Reports<H: Origin, N: Ledger> {
-    pub of_threads: Vec<Report<H, N>>,
+    pub of_threads: Vec<Worked<H, N>>,
     /// what the committer's seat left
     pub left: Left<H, N>,
     /// how the committer and the checkpointer ended
@@ -253,24 +234,18 @@ pub struct Reports<H: Origin, N: Ledger> {
 
 /// Eight threads begin so many handles each; then the desk is shut.
 fn work_eight<
-    R: Threads + Wait + Clock + Sync,
+    R: Abort + Threads + Wait + Clock + Sync,
     D: Disk + Send,
     H: Origin + Send + Sync,
     N: Ledger + Send + Sync,
->(
-    rt: &R,
-    alloc: Global,
-    desk: &Still<D, H, N>,
-    seed: u64,
-    handles: u32,
-) -> Result<Vec<Report<H, N>>, Memory>
+>(rt: &R, alloc: Global, desk: &Still<D, H, N>, seed: u64, handles: u32) -> Vec<Worked<H, N>>
     requires { (words : WordMap) → H.begun.stops words }
 {
     let reports = thread::map_indices(
         rt,
         alloc,
         8,
-        &|k: usize| -> Report<H, N>
+        &|k: usize| -> Worked<H, N>
             requires { (words : WordMap) → H.begun.stops words }
         {
             work(
@@ -283,29 +258,28 @@ fn work_eight<
         },
     );
     desk.shut(rt);
-    reports
+    reports.expect(rt, "memory")
 }
 
 /// Eight threads begin so many handles each, while one commits and one brings groups home.
 pub fn work_all<
-    R: Threads + Wait + Clock + Sync,
+    R: Abort + Threads + Wait + Clock + Sync,
     D: Disk + Send,
     H: Origin + Send + Sync,
     N: Ledger + Send + Sync,
->(rt: &R, alloc: Global, desk: &Still<D, H, N>, seed: u64, handles: u32) -> Option<Reports<H, N>>
+>(rt: &R, alloc: Global, desk: &Still<D, H, N>, seed: u64, handles: u32) -> Reports<H, N>
     requires any { (words : WordMap) → H.begun.stops words }
 {
-    let (reports, (committed, checkpointed)) = thread::join(
+    let (of_threads, ((left, ended), checkpointed)) = thread::join(
         rt,
-        || -> Result<Vec<Report<H, N>>, Memory>
+        || -> Vec<Worked<H, N>>
             requires { (words : WordMap) → H.begun.stops words }
         { work_eight(rt, alloc, desk, seed, handles) },
         || thread::join(rt, || commit(rt, desk), || desk.run_checkpointer(rt)),
     );
-    let (left, ended) = committed?;
-    Some(Reports {
-        of_threads: reports.ok()?,
+    Reports {
+        of_threads,
         left,
         ended: (ended, checkpointed),
-    })
+    }
 }

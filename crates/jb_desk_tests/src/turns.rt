@@ -2,15 +2,15 @@
 ghost use Rattle.std.specs.Prelude.{◌≡◌, ◌+◌, ◌^◌};
 ghost use Rattle.jb_desk.specs.History.{history_in};
 
-use crate::blind::start;
-use crate::journal::{CLOCK, PARTS, Still, formatted, opened};
+use crate::blind::{small, stops};
+use crate::checks::check_at;
+use crate::journal::{PARTS, Small, seated};
 use jb_desk::{Origin, Stops};
-use jb_disk::{FixedClock, MemoryDisk};
 use std::alloc::Global;
 use std::marker::Brand;
+use std::process::Abort;
 use std::sync::ledger::{Blank, Ledger};
 use std::sync::{Mutex, Wait};
-use std::test::Fail;
 use std::thread;
 use std::thread::Threads;
 use std::time::{Clock, Duration};
@@ -22,70 +22,68 @@ const THREADS: usize = 12;
 const APART: u64 = 50;
 
 /// Begins a handle of six credits, notes that it is begun, and drops it once all threads have come.
-fn come<R: Wait + Clock, H: Origin, N: Ledger>(
+fn come<R: Abort + Wait + Clock, H: Origin, N: Ledger>(
     rt: &R,
-    desk: &Still<MemoryDisk, H, N>,
+    desk: &Small<H, N>,
     k: usize,
     begun: &Mutex<Vec<usize>>,
 ) {
     thread::sleep(rt, Duration::from_millis(APART.saturating_mul(k as u64)));
-    let Ok(seat) = desk.seat(rt) else {
-        return;
-    };
-    let seat = match desk.begin_waiting(rt, seat, 6) {
+    match desk.begin_waiting(rt, seated(rt, desk), 6) {
         Ok(handle) => {
-            let _noted = begun.lock(rt).push(k);
+            begun.lock(rt).push(k).expect(rt, "memory");
             thread::sleep(
                 rt,
                 Duration::from_millis(APART.saturating_mul(THREADS as u64)),
             );
-            desk.abandon(rt, handle)
+            let seat = desk.abandon(rt, handle);
+            let _left = desk.leave(rt, seat);
         }
-        Err((seat, _)) => seat,
-    };
-    let _left = desk.leave(rt, seat);
+        Err((_seat, fault)) => panic!(rt; "the handle of thread {k} is not begun: {fault}"),
+    }
 }
 
 /// The order in which the threads begin their handles.
-fn order<R: Threads + Wait + Clock + Sync, H: Origin + Send + Sync, N: Ledger + Send + Sync>(
-    rt: &R,
-    alloc: Global,
-    handles: Stops,
-    changes: Blank,
-) -> Result<Vec<usize>, Fail>
+fn order<
+    R: Abort + Threads + Wait + Clock + Sync,
+    H: Origin + Send + Sync,
+    N: Ledger + Send + Sync,
+>(rt: &R, alloc: Global, handles: Stops, changes: Blank) -> Vec<usize>
     requires blind { H.begun.honest → ⊥ }
     requires handles { (handles.tickets.name ≡ H.name) × (handles.tickets.parts ≡ H.parts) × (H.parts ≡ 2 ^ 61 + 1) }
     requires history { history_in handles ≡ H.history }
     requires changes { (changes.name ≡ N.name) × (changes.parts ≡ N.parts) × (N.parts ≡ 2 ^ 61 + 1) }
 {
-    let Some(disk) = formatted(alloc)? else {
-        return Err("it is not made".into());
-    };
-    let Some(deck) = opened(alloc, disk) else {
-        return Err("it is not opened".into());
-    };
-    let Ok(desk) = start::<MemoryDisk, FixedClock, H, N>(alloc, handles, changes, deck, CLOCK)
-    else {
-        return Err("it is not started".into());
-    };
+    let desk: Small<H, N> = small(rt, alloc, handles, changes);
     let begun = Mutex::new(Vec::new(alloc));
-    thread::map_indices(rt, alloc, THREADS, &|k| come(rt, &desk, k, &begun))?;
-    Ok(begun.into_inner())
+    thread::map_indices(rt, alloc, THREADS, &|k| come(rt, &desk, k, &begun)).expect(rt, "memory");
+    begun.into_inner()
+}
+
+/// The order in which the threads come.
+static ORDER: [usize; THREADS] = [0, 1, 2, 3, 4, 5, 6, 7, 8, 9, 10, 11];
+
+/// Checks that the handles are begun in the order in which the threads come.
+fn check_order(rt: &impl Abort, begun: &[usize]) {
+    check_at(
+        rt,
+        begun.len() == THREADS,
+        "handles that are begun:",
+        begun.len() as u64,
+    );
+    for (place, wanted) in ORDER.iter().enumerate() {
+        let is_so = begun.get(place) == Some(wanted);
+        check_at(rt, is_so, "the handle that is begun in place", place as u64);
+    }
 }
 
 #[test]
-fn handles_that_wait_for_room_are_begun_in_the_order_of_arrival(
-    rt: HostRuntime,
-) -> Result<(), Fail> {
+fn handles_that_wait_for_room_are_begun_in_the_order_of_arrival(rt: HostRuntime) {
     let begun = order::<HostRuntime, Brand, Brand>(
         &rt,
         rt.alloc(),
-        Stops::new(rt.alloc(), PARTS)?,
+        stops(&rt, rt.alloc()),
         Blank::new(PARTS),
-    )?;
-    assert_eq!(rt;
-        begun.as_slice(),
-        [0, 1, 2, 3, 4, 5, 6, 7, 8, 9, 10, 11].as_slice()
     );
-    Ok(())
+    check_order(&rt, &begun);
 }

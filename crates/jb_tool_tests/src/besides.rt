@@ -1,10 +1,9 @@
 //! What a second line says beside the words of its row.
 
-use crate::runs::image;
+use crate::checks::check_at;
+use crate::files::{image, remove, write};
+use crate::runs::{Host, ran};
 use jb_advice::Beside;
-use jb_tool::run;
-use std::fs;
-use std::test::Fail;
 
 /// The words of a run, and what a second line says beside.
 type Row = (&'static [&'static str], Beside);
@@ -18,7 +17,7 @@ const NO_FOLDER: Beside = Beside::System(20);
 
 const FOLDER: Beside = Beside::System(21);
 
-const ROWS: &[Row] = &[
+static ROWS: [Row; 15] = [
     (
         &["load", "side.img", "side.txt", "--threads", "0"],
         Beside::BadOption("--threads"),
@@ -39,9 +38,11 @@ const ROWS: &[Row] = &[
     (&["--version"], Beside::Nothing),
 ];
 
+const DIGITS: &str = "000102030405060708090a0b0c0d0e0f";
+
 /// The numbers of `--bs`, `--journal`, `--homes` and `--max`, the digits of `--uuid`, and what a second line says
 /// beside.
-const FORMATS: &[([&str; 5], Beside)] = &[
+static FORMATS: [([&str; 5], Beside); 7] = [
     (
         ["512", "4294967296", "0", "4294967296", ""],
         Beside::BadOption("--bs"),
@@ -66,49 +67,63 @@ const FORMATS: &[([&str; 5], Beside)] = &[
     (["1024", "33", "16", "0", DIGITS], THERE),
 ];
 
-const DIGITS: &str = "000102030405060708090a0b0c0d0e0f";
+/// Checks what a second line says beside after a run with these words.
+fn check_beside(rt: &impl Host, words: &[&str], beside: Beside, what: &'static str, row: usize) {
+    check_at(rt, ran(rt, words, b"").ended.beside == beside, what, row)
+}
+
+/// The same after a format with these numbers and digits.
+fn check_format(rt: &impl Host, values: &[&str; 5], beside: Beside, row: usize) {
+    let [bs, journal, homes, max, uuid] = *values;
+    let words = [
+        "format",
+        "side.img",
+        "--bs",
+        bs,
+        "--journal",
+        journal,
+        "--homes",
+        homes,
+        "--max",
+        max,
+        "--uuid",
+        uuid,
+    ];
+    check_beside(rt, &words, beside, "what is said beside a format, row", row)
+}
+
+/// Writes an image whose copy is of a home that it does not have, one that is clean, and a queue text.
+fn write_all(rt: &impl Host) {
+    write(rt, "side.img", &image(rt, [2, 1], 1, 20, 16, &[]));
+    write(rt, "clean.img", &image(rt, [2, 0], 1, 20, 16, &[]));
+    write(rt, "side.txt", b"bs 1024\nlimit 8\nh w16\n")
+}
+
+/// Checks each row of the first table.
+fn check_rows(rt: &impl Host) {
+    for (row, (words, beside)) in ROWS.iter().enumerate() {
+        check_beside(rt, words, *beside, "what is said beside, row", row);
+    }
+}
+
+/// Checks each row of the second table.
+fn check_formats(rt: &impl Host) {
+    for (row, (values, beside)) in FORMATS.iter().enumerate() {
+        check_format(rt, values, *beside, row);
+    }
+}
+
+/// Checks each row of both tables, on the files that they name.
+fn check_all(rt: &impl Host) {
+    write_all(rt);
+    check_rows(rt);
+    check_formats(rt);
+    remove(rt, "side.img");
+    remove(rt, "clean.img");
+    remove(rt, "side.txt")
+}
 
 #[test]
-fn a_fault_keeps_what_its_line_has_not(rt: HostRuntime) -> Result<(), Fail> {
-    let far = image(rt.alloc(), [2, 1], 1, 20, 16, &[])?;
-    fs::write(&rt, "side.img", far.as_slice())?;
-    let clean = image(rt.alloc(), [2, 0], 1, 20, 16, &[])?;
-    fs::write(&rt, "clean.img", clean.as_slice())?;
-    fs::write(&rt, "side.txt", "bs 1024\nlimit 8\nh w16\n")?;
-    for (words, beside) in ROWS {
-        let (mut input, mut out, mut err) = (
-            b"".as_slice(),
-            Vec::new(rt.alloc()),
-            Vec::new(rt.alloc()),
-        );
-        let ended = run(&rt, words, &mut input, &mut out, &mut err);
-        assert_eq!(rt; ended.beside, *beside);
-    }
-    for ([bs, journal, homes, max, uuid], beside) in FORMATS {
-        let words = [
-            "format",
-            "side.img",
-            "--bs",
-            bs,
-            "--journal",
-            journal,
-            "--homes",
-            homes,
-            "--max",
-            max,
-            "--uuid",
-            uuid,
-        ];
-        let (mut input, mut out, mut err) = (
-            b"".as_slice(),
-            Vec::new(rt.alloc()),
-            Vec::new(rt.alloc()),
-        );
-        let ended = run(&rt, &words, &mut input, &mut out, &mut err);
-        assert_eq!(rt; ended.beside, *beside);
-    }
-    fs::remove_file(&rt, "side.img")?;
-    fs::remove_file(&rt, "clean.img")?;
-    fs::remove_file(&rt, "side.txt")?;
-    Ok(())
+fn a_fault_keeps_what_its_line_has_not(rt: HostRuntime) {
+    check_all(&rt)
 }

@@ -1,111 +1,156 @@
 //! Home blocks that are shown, and journals in a file of their own.
-ghost use Rattle.std.specs.Prelude.{◌≤◌};
 
-use crate::runs::{Host, MAGIC, add_block, image, ran, runs};
-use std::alloc::{AllocError, Global};
-use std::fs;
-use std::test::Fail;
+use crate::checks::{check_at, check_number, check_text};
+use crate::files::{
+    COPY, Front, JOURNAL, WHOLE, add_block, check_file, check_front, pad, remove, write,
+    write_front,
+};
+use crate::runs::{End, Host, check_run, check_status, joined, ran};
 
-/// Words after the image, the status, how what is written begins, how many bytes it has, and the line of a refusal.
-type Cat = (
-    &'static [&'static str],
-    u8,
-    &'static [u8],
-    usize,
-    &'static str,
-);
+/// A run of `jb cat`.
+struct Cat {
+    /// The words after the image.
+    words: &'static [&'static str],
+    status: u8,
+    /// How what is written begins, and how many bytes it has.
+    front: &'static [u8],
+    len: usize,
+    /// The line of a refusal.
+    err: &'static str,
+}
 
 /// How home block 5 begins after a recovery.
 const FIVE: &[u8] = &[0xC0, 0x3B, 0x39, 0x98, 1, 2, 3, 4, 0];
 
 const LINE: &[u8] = b"00000000: c03b 3998 0102 0304 0000 0000 0000 0000  .;9.............\n";
 
-const CATS: &[Cat] = &[
-    (&["5"], 0, FIVE, 1024, ""),
-    (&["6"], 0, &[0; 9], 1024, ""),
-    (&["5", "-n", "2"], 0, FIVE, 2048, ""),
-    (&["5", "-n", "0"], 0, b"", 0, ""),
-    (&["5", "--hex"], 0, LINE, 4352, ""),
-    (&["--hex", "-n2", "5"], 0, LINE, 8704, ""),
-    (&["16"], 1, b"", 0, "jb: NoHome 16\n"),
-    (&["15", "-n", "3"], 1, &[0; 9], 1024, "jb: NoHome 16\n"),
-    (
-        &["18446744073709551615", "-n", "2"],
-        1,
-        b"",
-        0,
-        "jb: NoHome 18446744073709551615\n",
-    ),
+static CATS: [Cat; 9] = [
+    Cat {
+        words: &["5"],
+        status: 0,
+        front: FIVE,
+        len: 1024,
+        err: "",
+    },
+    Cat {
+        words: &["6"],
+        status: 0,
+        front: &[0; 9],
+        len: 1024,
+        err: "",
+    },
+    Cat {
+        words: &["5", "-n", "2"],
+        status: 0,
+        front: FIVE,
+        len: 2048,
+        err: "",
+    },
+    Cat {
+        words: &["5", "-n", "0"],
+        status: 0,
+        front: b"",
+        len: 0,
+        err: "",
+    },
+    Cat {
+        words: &["5", "--hex"],
+        status: 0,
+        front: LINE,
+        len: 4352,
+        err: "",
+    },
+    Cat {
+        words: &["--hex", "-n2", "5"],
+        status: 0,
+        front: LINE,
+        len: 8704,
+        err: "",
+    },
+    Cat {
+        words: &["16"],
+        status: 1,
+        front: b"",
+        len: 0,
+        err: "jb: NoHome 16\n",
+    },
+    Cat {
+        words: &["15", "-n", "3"],
+        status: 1,
+        front: &[0; 9],
+        len: 1024,
+        err: "jb: NoHome 16\n",
+    },
+    Cat {
+        words: &["18446744073709551615", "-n", "2"],
+        status: 1,
+        front: b"",
+        len: 0,
+        err: "jb: NoHome 18446744073709551615\n",
+    },
 ];
 
-/// Whether `jb cat` of a file with these words answers its row.
-fn shows<R: Host>(rt: &R, image: &[&str], row: &Cat) -> Result<bool, AllocError> {
-    let (more, status, begin, len, err) = row;
-    let mut words = Vec::new(rt.alloc());
-    words.push("cat")?;
-    words.extend_from_slice(image)?;
-    words.extend_from_slice(more)?;
-    let (ended, told, refused) = ran(rt, words.as_slice(), b"");
-    let told = told.as_slice();
-    Ok(
-        ended == *status
-            && told.len() == *len
-            && told.starts_with(begin)
-            && refused.as_slice() == err.as_bytes(),
-    )
-}
-
-/// The journal of an image with one transaction, of so many blocks.
-fn journal(alloc: Global, blocks: usize) -> Result<Vec<u8>, AllocError>
-    requires { blocks ≤ 64 }
-{
-    let mut journal = image(alloc, [2, 1], 1, 20, 5, &[])?;
-    journal.resize(blocks * 1024, 0)?;
-    Ok(journal)
+/// Checks `jb cat` with these words, and then those of its row.
+fn check_cat(rt: &impl Host, image: &[&str], cat: &Cat, what: &'static str, row: usize) {
+    let words = joined(rt, image, cat.words);
+    let ran = ran(rt, &words, b"");
+    check_text(rt, &ran.err, cat.err, what, row);
+    check_status(rt, ran.ended, cat.status, what, row);
+    check_number(rt, ran.out.len() as u64, cat.len as u64, what, row);
+    check_at(rt, ran.out.starts_with(cat.front), what, row)
 }
 
 /// Sixteen home blocks, of which number 5 begins with these words.
-fn homes(alloc: Global, words: &[u32]) -> Result<Vec<u8>, AllocError> {
-    let mut homes = Vec::new(alloc);
-    homes.resize(5 * 1024, 0)?;
-    add_block(&mut homes, 1024, words)?;
-    homes.resize(16 * 1024, 0)?;
-    Ok(homes)
+fn homes(rt: &impl Host, words: &[u32]) -> Vec<u8> {
+    let mut homes = Vec::new(rt.alloc());
+    pad(rt, &mut homes, 5 * 1024);
+    add_block(rt, &mut homes, 1024, words);
+    pad(rt, &mut homes, 16 * 1024);
+    homes
+}
+
+/// The image of one transaction, of which a file has so many bytes.
+fn used(len: usize) -> Front {
+    ([2, 1], 1, len)
+}
+
+/// Checks `jb cat` of an image, and of home blocks and a journal in files of their own.
+fn check_cats(rt: &impl Host) {
+    for (row, cat) in CATS.iter().enumerate() {
+        check_cat(rt, &["cat", "cat.img"], cat, "cat of one file", row);
+        let two = ["cat", "cat_homes.img", "--journal", "cat.bin"];
+        check_cat(rt, &two, cat, "cat of two files", row);
+    }
+}
+
+/// Checks each row of the table, and that the images stay.
+fn check_shown(rt: &impl Host) {
+    write_front(rt, "cat.img", used(WHOLE));
+    write_front(rt, "cat.bin", used(JOURNAL));
+    write(rt, "cat_homes.img", &homes(rt, &[]));
+    check_cats(rt);
+    check_front(rt, "cat.img", used(WHOLE), "cat", 0);
+    check_front(rt, "cat.bin", used(JOURNAL), "cat", 0);
+    check_file(rt, "cat_homes.img", &homes(rt, &[]), "cat", 0);
+    remove(rt, "cat.img");
+    remove(rt, "cat.bin");
+    remove(rt, "cat_homes.img")
 }
 
 #[test]
-fn home_blocks_are_shown_and_nothing_is_written(rt: HostRuntime) -> Result<(), Fail> {
-    let made = image(rt.alloc(), [2, 1], 1, 20, 5, &[])?;
-    fs::write(&rt, "cat.img", made.as_slice())?;
-    fs::write(&rt, "cat.bin", journal(rt.alloc(), 33)?.as_slice())?;
-    let homes = homes(rt.alloc(), &[])?;
-    fs::write(&rt, "cat_homes.img", homes.as_slice())?;
-    for row in CATS {
-        assert!(rt; shows(&rt, &["cat.img"], row)?, "{}", row.4);
-        let two = ["cat_homes.img", "--journal", "cat.bin"];
-        assert!(rt; shows(&rt, &two, row)?, "{}", row.4);
-    }
-    assert!(rt; fs::read(&rt, "cat.img")?.as_slice() == made.as_slice());
-    assert!(rt; fs::read(&rt, "cat_homes.img")?.as_slice() == homes.as_slice());
-    for name in ["cat.img", "cat.bin", "cat_homes.img"] {
-        fs::remove_file(&rt, name)?;
-    }
-    Ok(())
+fn home_blocks_are_shown_and_nothing_is_written(rt: HostRuntime) {
+    check_shown(&rt)
 }
 
-#[test]
-fn a_journal_in_its_own_file_is_recovered_and_loaded(rt: HostRuntime) -> Result<(), Fail> {
-    fs::write(&rt, "own.bin", journal(rt.alloc(), 33)?.as_slice())?;
-    fs::write(&rt, "own.img", homes(rt.alloc(), &[])?.as_slice())?;
-    fs::write(&rt, "own.txt", b"bs 1024\nlimit 8\nh w3\n".as_slice())?;
-    let recover = ["recover", "own.img", "--journal", "own.bin"];
-    let out = "transactions 1 copies 1 revoked 0 next 4\n";
-    assert!(rt; runs(&rt, &recover, b"", 0, out, ""));
-    let want = homes(rt.alloc(), &[MAGIC, 0x0102_0304])?;
-    assert!(rt; fs::read(&rt, "own.img")?.as_slice() == want.as_slice());
-    let out = "transactions 0 copies 0 revoked 0 next 4\n";
-    assert!(rt; runs(&rt, &recover, b"", 0, out, ""));
-    let load = [
+/// Checks a recovery of home blocks whose journal has a file of its own.
+fn check_own(rt: &impl Host, out: &'static str, at: usize) {
+    let words = ["recover", "own.img", "--journal", "own.bin"];
+    check_run(rt, &words, (0, out, ""), "recovery", at)
+}
+
+/// Checks a load into the same files.
+fn check_own_load(rt: &impl Host) {
+    let words = [
         "load",
         "own.img",
         "own.txt",
@@ -114,57 +159,90 @@ fn a_journal_in_its_own_file_is_recovered_and_loaded(rt: HostRuntime) -> Result<
         "--hold",
     ];
     let out = "handles 1 changes 1 settled 1 groups 1 blocks 3\n";
-    assert!(rt; runs(&rt, &load, b"", 0, out, ""));
-    let out = "transactions 1 copies 1 revoked 0 next 6\n";
-    assert!(rt; runs(&rt, &recover, b"", 0, out, ""));
-    for name in ["own.bin", "own.img", "own.txt"] {
-        fs::remove_file(&rt, name)?;
-    }
-    Ok(())
+    check_run(rt, &words, (0, out, ""), "load", 1)
 }
 
-/// How many blocks the file of the journal has, the words, the status, and the line of the refusal.
-const REFUSED: &[(usize, &[&str], u8, &str)] = &[
-    (32, &["recover", "bad.img"], 1, "jb: Super Geometry\n"),
-    (34, &["recover", "bad.img"], 1, "jb: Super Geometry\n"),
-    (34, &["cat", "bad.img", "5"], 1, "jb: Super Geometry\n"),
-    (33, &["recover", "bad.bin"], 2, "jb: same file bad.bin\n"),
+/// Checks two recoveries, a load, and a recovery after it, over home blocks and a journal in files of their own.
+fn check_two_files(rt: &impl Host) {
+    write_front(rt, "own.bin", used(JOURNAL));
+    write(rt, "own.img", &homes(rt, &[]));
+    write(rt, "own.txt", b"bs 1024\nlimit 8\nh w3\n");
+    check_own(rt, "transactions 1 copies 1 revoked 0 next 4\n", 1);
+    check_file(rt, "own.img", &homes(rt, &COPY), "recovery", 1);
+    check_own(rt, "transactions 0 copies 0 revoked 0 next 4\n", 2);
+    check_own_load(rt);
+    check_own(rt, "transactions 1 copies 1 revoked 0 next 6\n", 3);
+    remove(rt, "own.bin");
+    remove(rt, "own.img");
+    remove(rt, "own.txt")
+}
+
+#[test]
+fn a_journal_in_its_own_file_is_recovered_and_loaded(rt: HostRuntime) {
+    check_two_files(&rt)
+}
+
+/// How many blocks the file of the journal has, the words before its option, and how the run ends.
+static REFUSED: [(usize, &[&str], End); 7] = [
+    (32, &["recover", "bad.img"], (1, "", "jb: Super Geometry\n")),
+    (34, &["recover", "bad.img"], (1, "", "jb: Super Geometry\n")),
+    (
+        34,
+        &["cat", "bad.img", "5"],
+        (1, "", "jb: Super Geometry\n"),
+    ),
+    (
+        33,
+        &["recover", "bad.bin"],
+        (2, "", "jb: same file bad.bin\n"),
+    ),
     (
         33,
         &["cat", "./bad.bin", "5"],
-        2,
-        "jb: same file ./bad.bin\n",
+        (2, "", "jb: same file ./bad.bin\n"),
     ),
-    (33, &["recover", "no.img"], 2, "jb: cannot read no.img\n"),
+    (
+        33,
+        &["recover", "no.img"],
+        (2, "", "jb: cannot read no.img\n"),
+    ),
     (
         33,
         &["load", "bad.img", "bad.txt"],
-        2,
-        "jb: cannot read bad.txt\n",
+        (2, "", "jb: cannot read bad.txt\n"),
     ),
 ];
 
-#[test]
-fn journals_of_their_own_are_refused_by_name(rt: HostRuntime) -> Result<(), Fail> {
-    let homes = homes(rt.alloc(), &[])?;
-    fs::write(&rt, "bad.img", homes.as_slice())?;
-    for (blocks, words, status, err) in REFUSED {
-        if *blocks > 64 {
-            continue;
-        }
-        let journal = journal(rt.alloc(), *blocks)?;
-        fs::write(&rt, "bad.bin", journal.as_slice())?;
-        let mut all = Vec::new(rt.alloc());
-        all.extend_from_slice(words)?;
-        all.extend_from_slice(&["--journal", "bad.bin"])?;
-        assert!(rt; runs(&rt, all.as_slice(), b"", *status, "", err), "{err}");
-        assert!(rt; fs::read(&rt, "bad.bin")?.as_slice() == journal.as_slice());
-        assert!(rt; fs::read(&rt, "bad.img")?.as_slice() == homes.as_slice());
+/// Checks that a run with these words is refused, where the file of the journal has so many bytes, and that both files
+/// stay.
+fn check_refused(rt: &impl Host, len: usize, words: &[&str], end: End, homes: &[u8], row: usize) {
+    write_front(rt, "bad.bin", used(len));
+    let all = joined(rt, words, &["--journal", "bad.bin"]);
+    check_run(rt, &all, end, "refusal", row);
+    check_front(rt, "bad.bin", used(len), "refusal", row);
+    check_file(rt, "bad.img", homes, "refusal", row)
+}
+
+/// Checks each row of the table over these homes.
+fn check_refusals(rt: &impl Host, homes: &[u8]) {
+    for (row, (blocks, words, end)) in REFUSED.iter().enumerate() {
+        check_refused(rt, blocks.saturating_mul(1024), words, *end, homes, row);
     }
+}
+
+/// Checks each row of the table, and a journal that there is not.
+fn check_names(rt: &impl Host) {
+    let homes = homes(rt, &[]);
+    write(rt, "bad.img", &homes);
+    check_refusals(rt, &homes);
     let words = ["recover", "bad.img", "--journal", "no.bin"];
-    assert!(rt; runs(&rt, &words, b"", 2, "", "jb: cannot read no.bin\n"));
-    for name in ["bad.bin", "bad.img"] {
-        fs::remove_file(&rt, name)?;
-    }
-    Ok(())
+    let end = (2, "", "jb: cannot read no.bin\n");
+    check_run(rt, &words, end, "recovery without a journal", 0);
+    remove(rt, "bad.bin");
+    remove(rt, "bad.img")
+}
+
+#[test]
+fn journals_of_their_own_are_refused_by_name(rt: HostRuntime) {
+    check_names(&rt)
 }

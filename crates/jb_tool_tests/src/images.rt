@@ -1,283 +1,259 @@
-//! New images, and images that are recovered.
+//! New images.
 
-use crate::runs::{Host, MAGIC, UUID, WHOLE, add_block, image, runs};
+use crate::checks::{check, check_at, check_number};
+use crate::files::{
+    Front, MAGIC, UUID, WHOLE, add_block, check_file, check_front, is_missing, pad, read, remove,
+    write_front,
+};
+use crate::runs::{End, Host, check_ran, check_run, ran};
 use std::fs;
 use std::fs::File;
-use std::test::Fail;
 
-/// The sizes of a new image, another option with its value, the status, and what is written.
-type Format = (
-    [&'static str; 3],
-    [&'static str; 2],
-    u8,
-    &'static str,
-    &'static str,
-);
+/// The sizes of a new image, another option with its value, and how the run ends.
+type Format = ([&'static str; 3], [&'static str; 2], End);
 
 const SMALL: [&str; 3] = ["1024", "33", "16"];
 
 const NO_MAX: [&str; 2] = ["--max", "0"];
 
-const BAD_OPTION: &str = "jb: bad option\n";
+const BAD_OPTION: End = (2, "", "jb: bad option\n");
 
-const FORMATS: &[Format] = &[
-    (SMALL, NO_MAX, 0, "formatted limit 8\n", ""),
-    (SMALL, ["--max", "6"], 0, "formatted limit 6\n", ""),
-    (SMALL, ["--max=6", "--wide"], 0, "formatted limit 6\n", ""),
-    (SMALL, ["--max", "1"], 0, "formatted limit 3\n", ""),
+static FORMATS: [Format; 18] = [
+    (SMALL, NO_MAX, (0, "formatted limit 8\n", "")),
+    (SMALL, ["--max", "6"], (0, "formatted limit 6\n", "")),
+    (SMALL, ["--max=6", "--wide"], (0, "formatted limit 6\n", "")),
+    (SMALL, ["--max", "1"], (0, "formatted limit 3\n", "")),
     (
         SMALL,
         ["--max", "4294967295"],
-        0,
-        "formatted limit 32\n",
-        "",
+        (0, "formatted limit 32\n", ""),
     ),
-    (["1024", "8", "16"], NO_MAX, 1, "", "jb: Geometry\n"),
-    (["1024", "0", "16"], NO_MAX, 1, "", "jb: Geometry\n"),
-    (["512", "33", "16"], NO_MAX, 2, "", BAD_OPTION),
-    (["1025", "33", "16"], NO_MAX, 2, "", BAD_OPTION),
-    (["8192", "33", "16"], NO_MAX, 2, "", BAD_OPTION),
-    (["1024", "4294967296", "16"], NO_MAX, 2, "", BAD_OPTION),
-    (SMALL, ["--max", "4294967296"], 2, "", BAD_OPTION),
-    (["1024", "0", "9007199254740992"], NO_MAX, 2, "", BAD_OPTION),
+    (["1024", "8", "16"], NO_MAX, (1, "", "jb: Geometry\n")),
+    (["1024", "0", "16"], NO_MAX, (1, "", "jb: Geometry\n")),
+    (["512", "33", "16"], NO_MAX, BAD_OPTION),
+    (["1025", "33", "16"], NO_MAX, BAD_OPTION),
+    (["8192", "33", "16"], NO_MAX, BAD_OPTION),
+    (["1024", "4294967296", "16"], NO_MAX, BAD_OPTION),
+    (SMALL, ["--max", "4294967296"], BAD_OPTION),
+    (["1024", "0", "9007199254740992"], NO_MAX, BAD_OPTION),
     (
         ["4096", "4294967295", "18446744073709551615"],
         NO_MAX,
-        2,
-        "",
         BAD_OPTION,
     ),
-    (SMALL, ["--uuid", ""], 2, "", BAD_OPTION),
+    (SMALL, ["--uuid", ""], BAD_OPTION),
     (
         SMALL,
         ["--uuid", "000102030405060708090a0b0c0d0e0g"],
-        2,
-        "",
         BAD_OPTION,
     ),
     (
         SMALL,
         ["--uuid", "000102030405060708090a0b0c0d0e"],
-        2,
-        "",
         BAD_OPTION,
     ),
     (
         SMALL,
         ["--uuid", "000102030405060708090a0b0c0d0e0f10"],
-        2,
-        "",
         BAD_OPTION,
     ),
 ];
 
-/// Whether `jb format` with these sizes, in a file of this name, ends with this status and writes just these two texts.
-fn formatted<R: Host>(
-    rt: &R,
-    image: &str,
-    sizes: [&str; 3],
-    more: [&str; 2],
-    status: u8,
-    out: &str,
-    err: &str,
-) -> bool {
+/// Checks `jb format` with these sizes, in a file of this name.
+fn check_format(
+    rt: &impl Host,
+    name: &'static str,
+    sizes: [&'static str; 3],
+    more: [&'static str; 2],
+    end: End,
+    at: usize,
+) {
+    let [bs, journal, homes] = sizes;
+    let [option, value] = more;
     let words = [
         "format",
-        image,
+        name,
         "--bs",
-        sizes[0],
+        bs,
         "--journal",
-        sizes[1],
+        journal,
         "--homes",
-        sizes[2],
-        more[0],
-        more[1],
+        homes,
+        option,
+        value,
     ];
-    runs(rt, &words, b"", status, out, err)
+    check_run(rt, &words, end, name, at)
 }
 
-/// Whether `jb recover` of a file ends with this status and writes just these two texts.
-fn recovered<R: Host>(rt: &R, image: &str, status: u8, out: &str, err: &str) -> bool {
-    runs(rt, &["recover", image], b"", status, out, err)
+/// Checks that there is a new image, with the features that are asked for, and removes it.
+fn check_new(rt: &impl Host, is_wide: bool, row: usize) {
+    let made = read(rt, "new.img");
+    check_at(rt, made.len() == WHOLE, "how long the image is, row", row);
+    // the last byte of s_feature_incompat
+    let features = if is_wide { 3 } else { 1 };
+    let has_them = made.get(0x2B) == Some(&features);
+    check_at(rt, has_them, "the features of the image, row", row);
+    remove(rt, "new.img")
 }
 
-#[test]
-fn each_format_answers_its_row(rt: HostRuntime) -> Result<(), Fail> {
-    for (sizes, more, status, out, err) in FORMATS {
-        assert!(rt;
-            formatted(&rt, "new.img", *sizes, *more, *status, out, err),
-            "{out}{err}"
-        );
-        if *status != 0 {
-            assert!(rt; !fs::exists(&rt, "new.img").unwrap_or(true));
-            continue;
-        }
-        let made = fs::read(&rt, "new.img")?;
-        assert_eq!(rt; made.len(), WHOLE);
-        // the last byte of s_feature_incompat
-        let features = if more[1] == "--wide" { 3 } else { 1 };
-        assert_eq!(rt; made.get(0x2B), Some(&features));
-        fs::remove_file(&rt, "new.img")?;
+/// Checks a format, and that it leaves an image exactly where it is not refused.
+fn check_row(rt: &impl Host, of: &Format, row: usize) {
+    let (sizes, more, end) = *of;
+    check_format(rt, "new.img", sizes, more, end, row);
+    if end.0 == 0 {
+        check_new(rt, more[1] == "--wide", row)
+    } else {
+        let has_none = is_missing(rt, "new.img");
+        check_at(rt, has_none, "a refused image is made, row", row)
     }
-    Ok(())
 }
 
 #[test]
-fn a_new_image_is_its_superblock_and_zeros_and_is_made_once(rt: HostRuntime) -> Result<(), Fail> {
-    let sizes = ["2048", "40", "1"];
-    let more = ["--uuid", "000102030405060708090A0b0c0d0e0f"];
-    assert!(rt; formatted(&rt, "front.img", sizes, more, 0, "formatted limit 9\n", ""));
-    let mut want = Vec::new(rt.alloc());
+fn each_format_answers_its_row(rt: HostRuntime) {
+    for (row, of) in FORMATS.iter().enumerate() {
+        check_row(&rt, of, row);
+    }
+}
+
+/// Names of files that are not made, and the lines that say so; the first is there already.
+static NAMES: [(&str, &str); 4] = [
+    ("front.img", "jb: cannot make front.img\n"),
+    (".", "jb: cannot make .\n"),
+    ("", "jb: cannot make \n"),
+    (
+        "no-such-folder/a.img",
+        "jb: cannot make no-such-folder/a.img\n",
+    ),
+];
+
+/// Checks that a file of each of the names is not made.
+fn check_names(rt: &impl Host) {
+    for (row, (name, err)) in NAMES.iter().enumerate() {
+        check_format(rt, name, SMALL, NO_MAX, (2, "", err), row);
+    }
+}
+
+/// A superblock of 40 blocks of 2 KiB, and zeros.
+fn new_image(rt: &impl Host) -> Vec<u8> {
+    let mut image = Vec::new(rt.alloc());
     let words = [
         MAGIC, 4, 0, 2048, 40, 1, 1, 0, 0, 0, 1, 0, UUID[0], UUID[1], UUID[2], UUID[3], 1, 0, 0, 0,
     ];
-    add_block(&mut want, 2048, &words)?;
-    want.resize(41 * 2048, 0)?;
-    assert!(rt; fs::read(&rt, "front.img")?.as_slice() == want.as_slice());
+    add_block(rt, &mut image, 2048, &words);
+    pad(rt, &mut image, 41 * 2048);
+    image
+}
+
+/// Checks the format of the new image, and that it has nothing to recover.
+fn check_made(rt: &impl Host, wanted: &[u8]) {
+    let more = ["--uuid", "000102030405060708090A0b0c0d0e0f"];
+    let end = (0, "formatted limit 9\n", "");
+    check_format(rt, "front.img", ["2048", "40", "1"], more, end, 1);
+    check_file(rt, "front.img", wanted, "format", 1);
     let out = "transactions 0 copies 0 revoked 0 next 2\n";
-    assert!(rt; recovered(&rt, "front.img", 0, out, ""));
-    for (name, err) in [
-        ("front.img", "jb: cannot make front.img\n"),
-        (".", "jb: cannot make .\n"),
-        ("", "jb: cannot make \n"),
-        (
-            "no-such-folder/a.img",
-            "jb: cannot make no-such-folder/a.img\n",
-        ),
-    ] {
-        assert!(rt; formatted(&rt, name, SMALL, NO_MAX, 2, "", err), "{name}");
-    }
+    check_run(rt, &["recover", "front.img"], (0, out, ""), "recovery", 1)
+}
+
+/// Checks that a new image is made, and that it stays where formats of other files, and of its own, are refused.
+fn check_once(rt: &impl Host) {
+    check_made(rt, &new_image(rt));
+    check_names(rt);
     // the geometry is judged before the file
     let few = ["1024", "8", "16"];
-    assert!(rt; formatted(&rt, "front.img", few, NO_MAX, 1, "", "jb: Geometry\n"));
-    assert!(rt; fs::read(&rt, "front.img")?.as_slice() == want.as_slice());
-    fs::remove_file(&rt, "front.img")?;
-    Ok(())
+    let end = (1, "", "jb: Geometry\n");
+    check_format(rt, "front.img", few, NO_MAX, end, 2);
+    check_file(rt, "front.img", &new_image(rt), "format", 2);
+    remove(rt, "front.img")
 }
 
 #[test]
-fn a_file_is_made_whole_or_not_at_all(rt: HostRuntime) -> Result<(), Fail> {
-    // 2^63 - 1024 bytes, which many file systems refuse and some take
-    let words = [
-        "format",
-        "long.img",
-        "--bs",
-        "1024",
-        "--journal",
-        "33",
-        "--homes",
-        "9007199254740958",
-    ];
-    if runs(&rt, &words, b"", 2, "", "jb: cannot make long.img\n") {
-        assert!(rt; !fs::exists(&rt, "long.img").unwrap_or(true));
-    } else {
-        assert_eq!(rt;
-            fs::metadata(&rt, "long.img")?.len(),
-            9_223_372_036_854_774_784
-        );
-        fs::remove_file(&rt, "long.img")?;
-    }
-    assert!(rt; formatted(&rt, "long.img", SMALL, NO_MAX, 0, "formatted limit 8\n", ""));
-    fs::remove_file(&rt, "long.img")?;
-    Ok(())
+fn a_new_image_is_its_superblock_and_zeros_and_is_made_once(rt: HostRuntime) {
+    check_once(&rt)
 }
 
-#[test]
-fn a_locked_image_is_not_touched(rt: HostRuntime) -> Result<(), Fail> {
-    let bytes = image(rt.alloc(), [2, 1], 1, 20, 5, &[])?;
-    fs::write(&rt, "locked.img", bytes.as_slice())?;
-    let other = File::open(&rt, "locked.img")?;
-    assert!(rt; other.try_lock().is_ok());
-    for words in [
-        ["recover", "locked.img"].as_slice(),
-        ["renumber", "locked.img"].as_slice(),
-        ["widen", "locked.img"].as_slice(),
-        ["load", "locked.img", "no-such-queue.txt"].as_slice(),
-    ] {
-        assert!(rt; runs(&rt, words, b"", 2, "", "jb: in use locked.img\n"));
-    }
-    assert!(rt; fs::read(&rt, "locked.img")?.as_slice() == bytes.as_slice());
-    drop(other);
-    let out = "transactions 1 copies 1 revoked 0 next 4\n";
-    assert!(rt; recovered(&rt, "locked.img", 0, out, ""));
-    fs::remove_file(&rt, "locked.img")?;
-    Ok(())
-}
-
-/// The incompatible features of an image, the count of its revoke block, the home of its copy, how many of its bytes
-/// the file has, and what a recovery answers.
-type Recovery = (u32, u32, u32, usize, Result<&'static str, &'static str>);
-
-const RECOVERIES: &[Recovery] = &[
-    (
-        1,
-        20,
-        5,
-        WHOLE,
-        Ok("transactions 1 copies 1 revoked 0 next 4\n"),
-    ),
-    (
-        1,
-        20,
-        7,
-        WHOLE,
-        Ok("transactions 1 copies 0 revoked 1 next 4\n"),
-    ),
-    (16, 20, 5, WHOLE, Err("jb: Super Feature 2 16\n")),
-    (0x13, 20, 5, WHOLE, Err("jb: Super Feature 2 16\n")),
-    // of a wide tag the first word of the UUID is the high half of the home
-    (
-        3,
-        20,
-        5,
-        WHOLE,
-        Err("jb: HomeOutOfRange 283686884868101 2\n"),
-    ),
-    (1, 1025, 5, WHOLE, Err("jb: BadRevoke 1\n")),
-    (1, 20, 16, WHOLE, Err("jb: HomeOutOfRange 16 2\n")),
-    (1, 20, 5, 20 * 1024, Err("jb: Super Geometry\n")),
-    (1, 20, 5, 33 * 1024 - 1, Err("jb: Super Geometry\n")),
-    (1, 20, 5, 33 * 1024, Err("jb: HomeOutOfRange 5 2\n")),
-    (1, 20, 5, 1023, Err("jb: Super ShortBlock\n")),
-    (1, 20, 5, 0, Err("jb: Super ShortBlock\n")),
+/// 2^63 - 1024 bytes, which many file systems refuse and some take.
+static LONG: [&str; 8] = [
+    "format",
+    "long.img",
+    "--bs",
+    "1024",
+    "--journal",
+    "33",
+    "--homes",
+    "9007199254740958",
 ];
 
-#[test]
-fn each_recovery_answers_its_row_and_a_refused_image_stays(rt: HostRuntime) -> Result<(), Fail> {
-    for (incompat, count, home, len, answer) in RECOVERIES {
-        let bytes = image(rt.alloc(), [2, 1], *incompat, *count, *home, &[])?;
-        let cut = bytes.as_slice().get(..*len).unwrap_or(&[]);
-        fs::write(&rt, "log.img", cut)?;
-        match answer {
-            Ok(out) => {
-                // clean with number 3, and the copy in home 5 unless it is revoked
-                let words = [MAGIC, 0x0102_0304];
-                let words = if *home == 5 { &words[..] } else { &[] };
-                let want = image(rt.alloc(), [3, 0], *incompat, *count, *home, words)?;
-                assert!(rt; recovered(&rt, "log.img", 0, out, ""), "{out}");
-                assert!(rt;
-                    fs::read(&rt, "log.img")?.as_slice() == want.as_slice(),
-                    "{out}"
-                );
-                let out = "transactions 0 copies 0 revoked 0 next 4\n";
-                assert!(rt; recovered(&rt, "log.img", 0, out, ""));
-                assert!(rt; fs::read(&rt, "log.img")?.as_slice() == want.as_slice());
-            }
-            Err(err) => {
-                assert!(rt; recovered(&rt, "log.img", 1, "", err), "{err}");
-                assert!(rt; fs::read(&rt, "log.img")?.as_slice() == cut, "{err}");
-            }
-        }
+const MADE: End = (0, "formatted limit 8\n", "");
+
+const NOT_MADE: End = (2, "", "jb: cannot make long.img\n");
+
+/// Checks how many bytes the image has, and removes it.
+fn check_len(rt: &impl Host, wanted: u64) {
+    let len = fs::metadata(rt, "long.img").expect(rt, "long.img").len();
+    check_number(rt, len, wanted, "bytes of format", 1);
+    remove(rt, "long.img")
+}
+
+/// Checks that the long image is made whole, and removes it, or that it is refused, and then there is none.
+fn check_long(rt: &impl Host) {
+    let ran = ran(rt, &LONG, b"");
+    if is_missing(rt, "long.img") {
+        check_ran(rt, &ran, NOT_MADE, "format", 1)
+    } else {
+        check_ran(rt, &ran, MADE, "format", 1);
+        check_len(rt, 9_223_372_036_854_774_784)
     }
-    let mut short = Vec::new(rt.alloc());
-    add_block(
-        &mut short,
-        1024,
-        &[MAGIC, 4, 0, 4096, 33, 1, 2, 0, 0, 0, 1, 0],
-    )?;
-    fs::write(&rt, "log.img", short.as_slice())?;
-    assert!(rt; recovered(&rt, "log.img", 1, "", "jb: Super ShortBlock\n"));
-    assert!(rt; fs::read(&rt, "log.img")?.as_slice() == short.as_slice());
-    fs::remove_file(&rt, "log.img")?;
-    Ok(())
+}
+
+/// Checks a long image, and that a small one of the same name is made after it.
+fn check_whole(rt: &impl Host) {
+    check_long(rt);
+    check_format(rt, "long.img", SMALL, NO_MAX, MADE, 2);
+    remove(rt, "long.img")
+}
+
+#[test]
+fn a_file_is_made_whole_or_not_at_all(rt: HostRuntime) {
+    check_whole(&rt)
+}
+
+/// The image of one transaction.
+const USED: Front = ([2, 1], 1, WHOLE);
+
+/// Runs that would change the image or lock it.
+static LOCKED: [&[&str]; 4] = [
+    &["recover", "locked.img"],
+    &["renumber", "locked.img"],
+    &["widen", "locked.img"],
+    &["load", "locked.img", "no-such-queue.txt"],
+];
+
+/// Checks that each of the runs is refused by the name of the image.
+fn check_locked(rt: &impl Host) {
+    for (row, words) in LOCKED.iter().enumerate() {
+        let end = (2, "", "jb: in use locked.img\n");
+        check_run(rt, words, end, "run on a locked image", row);
+    }
+}
+
+/// Checks that each of the runs is refused while another has the image locked, and that it stays.
+fn check_lock(rt: &impl Host) {
+    let other = File::open(rt, "locked.img").expect(rt, "locked.img");
+    check(rt, other.try_lock().is_ok(), "it is not locked");
+    check_locked(rt);
+    check_front(rt, "locked.img", USED, "run on a locked image", 0)
+}
+
+/// Checks the runs on a locked image, and that it is recovered when it is locked no more.
+fn check_unlocked(rt: &impl Host) {
+    write_front(rt, "locked.img", USED);
+    check_lock(rt);
+    let out = "transactions 1 copies 1 revoked 0 next 4\n";
+    check_run(rt, &["recover", "locked.img"], (0, out, ""), "recovery", 0);
+    remove(rt, "locked.img")
+}
+
+#[test]
+fn a_locked_image_is_not_touched(rt: HostRuntime) {
+    check_unlocked(&rt)
 }

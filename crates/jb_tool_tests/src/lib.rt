@@ -8,6 +8,10 @@ mod certificates;
 #[cfg(test)]
 mod changes;
 #[cfg(test)]
+mod checks;
+#[cfg(test)]
+mod files;
+#[cfg(test)]
 mod homes;
 #[cfg(test)]
 mod images;
@@ -15,6 +19,8 @@ mod images;
 mod journals;
 #[cfg(test)]
 mod loads;
+#[cfg(test)]
+mod recoveries;
 #[cfg(test)]
 mod refused_loads;
 #[cfg(test)]

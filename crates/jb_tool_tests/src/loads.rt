@@ -1,12 +1,9 @@
 //! Loads of queue texts into images, in files.
 
-use crate::runs::{Host, ran, runs};
-use std::alloc::{AllocError, Global};
+use crate::checks::check_at;
+use crate::files::{JOURNAL, read, write};
+use crate::runs::{End, Host, check_run, check_status, joined, ran};
 use std::fs;
-use std::test::Fail;
-
-/// Where home block 0 begins: after 33 blocks of journal.
-const HOMES: usize = 33 * 1024;
 
 /// A load into a new image, the recovery after it, and home blocks after that.
 struct Load {
@@ -15,9 +12,8 @@ struct Load {
     /// Further words of `jb load`.
     options: &'static [&'static str],
     text: &'static str,
-    status: u8,
-    out: &'static str,
-    err: &'static str,
+    end: End,
+    /// What the recovery writes.
     recovered: &'static str,
     /// Home blocks, and how they begin.
     homes: &'static [(usize, [u8; 8])],
@@ -33,14 +29,12 @@ const FIVE: &[(usize, [u8; 8])] = &[(5, [0xC0, 0x3B, 0x39, 0x98, 1, 2, 3, 4]), (
 /// Handles that touch the same two blocks, with contents of their own.
 const SAME: &str = "bs 1024\nlimit 3\nh w1=01 w2=01\nh w1=02 w2=02\nh w1=03 w2=03\nh w1=04 w2=04\n";
 
-const LOADS: &[Load] = &[
+static LOADS: [Load; 14] = [
     Load {
         format: &[],
         options: &["--hold"],
         text: TEN,
-        status: 0,
-        out: TEN_LOADED,
-        err: "",
+        end: (0, TEN_LOADED, ""),
         recovered: "transactions 1 copies 1 revoked 0 next 4\n",
         homes: FIVE,
     },
@@ -48,9 +42,7 @@ const LOADS: &[Load] = &[
         format: &[],
         options: &[],
         text: TEN,
-        status: 0,
-        out: TEN_LOADED,
-        err: "",
+        end: (0, TEN_LOADED, ""),
         recovered: "transactions 1 copies 1 revoked 0 next 4\n",
         homes: FIVE,
     },
@@ -58,9 +50,7 @@ const LOADS: &[Load] = &[
         format: &["--wide"],
         options: &["--threads", "64"],
         text: TEN,
-        status: 0,
-        out: TEN_LOADED,
-        err: "",
+        end: (0, TEN_LOADED, ""),
         recovered: "transactions 1 copies 1 revoked 0 next 4\n",
         homes: FIVE,
     },
@@ -69,9 +59,7 @@ const LOADS: &[Load] = &[
         format: &[],
         options: &["--checkpoint"],
         text: TEN,
-        status: 0,
-        out: TEN_LOADED,
-        err: "",
+        end: (0, TEN_LOADED, ""),
         recovered: "transactions 0 copies 0 revoked 0 next 3\n",
         homes: FIVE,
     },
@@ -79,9 +67,7 @@ const LOADS: &[Load] = &[
         format: &["--max", "6"],
         options: &["--hold"],
         text: "bs 1024\nlimit 6\nh w1 w2\nh w3 w4\nh w3 w4\nh w3 w4 w5\n",
-        status: 0,
-        out: "handles 4 changes 9 settled 4 groups 2 blocks 9\n",
-        err: "",
+        end: (0, "handles 4 changes 9 settled 4 groups 2 blocks 9\n", ""),
         recovered: "transactions 2 copies 5 revoked 0 next 5\n",
         homes: &[],
     },
@@ -89,9 +75,7 @@ const LOADS: &[Load] = &[
         format: &[],
         options: &["--hold"],
         text: SAME,
-        status: 0,
-        out: "handles 4 changes 8 settled 4 groups 1 blocks 4\n",
-        err: "",
+        end: (0, "handles 4 changes 8 settled 4 groups 1 blocks 4\n", ""),
         recovered: "transactions 1 copies 2 revoked 0 next 4\n",
         homes: &[(1, [4, 0, 0, 0, 0, 0, 0, 0]), (2, [4, 0, 0, 0, 0, 0, 0, 0])],
     },
@@ -99,9 +83,7 @@ const LOADS: &[Load] = &[
         format: &[],
         options: &["--hold", "--threads", "2"],
         text: SAME,
-        status: 0,
-        out: "handles 4 changes 8 settled 4 groups 1 blocks 4\n",
-        err: "",
+        end: (0, "handles 4 changes 8 settled 4 groups 1 blocks 4\n", ""),
         recovered: "transactions 1 copies 2 revoked 0 next 4\n",
         homes: &[],
     },
@@ -109,9 +91,7 @@ const LOADS: &[Load] = &[
         format: &[],
         options: &["--hold", "--threads", "64", "--checkpoint"],
         text: SAME,
-        status: 0,
-        out: "handles 4 changes 8 settled 4 groups 1 blocks 4\n",
-        err: "",
+        end: (0, "handles 4 changes 8 settled 4 groups 1 blocks 4\n", ""),
         recovered: "transactions 0 copies 0 revoked 0 next 3\n",
         homes: &[],
     },
@@ -119,9 +99,7 @@ const LOADS: &[Load] = &[
         format: &[],
         options: &["--hold"],
         text: "bs 1024\nlimit 3\nh\nh\n",
-        status: 0,
-        out: "handles 2 changes 0 settled 2 groups 1 blocks 1\n",
-        err: "",
+        end: (0, "handles 2 changes 0 settled 2 groups 1 blocks 1\n", ""),
         recovered: "transactions 1 copies 0 revoked 0 next 4\n",
         homes: &[],
     },
@@ -129,9 +107,7 @@ const LOADS: &[Load] = &[
         format: &[],
         options: &["--hold"],
         text: "bs 1024\nlimit 3\n",
-        status: 0,
-        out: "handles 0 changes 0 settled 0 groups 0 blocks 0\n",
-        err: "",
+        end: (0, "handles 0 changes 0 settled 0 groups 0 blocks 0\n", ""),
         recovered: "transactions 0 copies 0 revoked 0 next 2\n",
         homes: &[],
     },
@@ -140,9 +116,7 @@ const LOADS: &[Load] = &[
         format: &[],
         options: &["--hold"],
         text: "bs 1024\nlimit 3\nh w0=01 w1 w2 w3 w4 w5\nh w6 w7 w8 w9 w10 w11\nh w0=02 w1 w2 w3 w4 w5\nh w6 w7 w8 w9 w10 w11\nh w0=03 w1 w2 w3 w4 w5\n",
-        status: 0,
-        out: "handles 5 changes 30 settled 5 groups 5 blocks 40\n",
-        err: "",
+        end: (0, "handles 5 changes 30 settled 5 groups 5 blocks 40\n", ""),
         recovered: "transactions 4 copies 24 revoked 0 next 8\n",
         homes: &[(0, [3, 0, 0, 0, 0, 0, 0, 0])],
     },
@@ -150,9 +124,11 @@ const LOADS: &[Load] = &[
         format: &[],
         options: &["--hold"],
         text: "bs 1024\nlimit 3\nh w1=01\nh w16 w17\nh w1=02\n",
-        status: 1,
-        out: "handles 1 changes 1 settled 1 groups 1 blocks 3\n",
-        err: "jb: handle 1: OutOfRange 16\n",
+        end: (
+            1,
+            "handles 1 changes 1 settled 1 groups 1 blocks 3\n",
+            "jb: handle 1: OutOfRange 16\n",
+        ),
         recovered: "transactions 1 copies 1 revoked 0 next 4\n",
         homes: &[(1, [1, 0, 0, 0, 0, 0, 0, 0])],
     },
@@ -161,9 +137,11 @@ const LOADS: &[Load] = &[
         format: &[],
         options: &["--hold", "--threads", "2"],
         text: "bs 1024\nlimit 3\nh r18446744073709551615\nh w1=01\nh w1=02\nh w17\n",
-        status: 1,
-        out: "handles 1 changes 1 settled 1 groups 1 blocks 3\n",
-        err: "jb: handle 0: OutOfRange 18446744073709551615\n",
+        end: (
+            1,
+            "handles 1 changes 1 settled 1 groups 1 blocks 3\n",
+            "jb: handle 0: OutOfRange 18446744073709551615\n",
+        ),
         recovered: "transactions 1 copies 1 revoked 0 next 4\n",
         homes: &[(1, [1, 0, 0, 0, 0, 0, 0, 0])],
     },
@@ -171,77 +149,83 @@ const LOADS: &[Load] = &[
         format: &[],
         options: &[],
         text: "bs 1024\nlimit 3\nh w0 w1 w2 w3 w4 w5 w6\n",
-        status: 1,
-        out: "handles 0 changes 0 settled 0 groups 0 blocks 0\n",
-        err: "jb: handle 0: TooManyCredits 6\n",
+        end: (
+            1,
+            "handles 0 changes 0 settled 0 groups 0 blocks 0\n",
+            "jb: handle 0: TooManyCredits 6\n",
+        ),
         recovered: "transactions 0 copies 0 revoked 0 next 2\n",
         homes: &[],
     },
 ];
 
+/// The words of `jb format`: 33 blocks of journal and 16 home blocks.
+static FORMAT: [&str; 10] = [
+    "format",
+    "loaded.img",
+    "--bs",
+    "1024",
+    "--journal",
+    "33",
+    "--homes",
+    "16",
+    "--uuid",
+    "000102030405060708090a0b0c0d0e0f",
+];
+
 /// Writes an image with a new journal of 33 blocks and 16 home blocks, and a queue text.
-fn made<R: Host>(rt: &R, format: &[&str], text: &str) -> Result<bool, Fail> {
+fn make(rt: &impl Host, format: &[&str], text: &str, row: usize) {
     let _none = fs::remove_file(rt, "loaded.img");
-    fs::write(rt, "queue.txt", text)?;
-    let mut words = Vec::new(rt.alloc());
-    words.extend_from_slice(&["format", "loaded.img", "--bs", "1024"])?;
-    words.extend_from_slice(&["--journal", "33", "--homes", "16"])?;
-    words.extend_from_slice(&["--uuid", "000102030405060708090a0b0c0d0e0f"])?;
-    words.extend_from_slice(format)?;
-    let limit = match format {
+    write(rt, "queue.txt", text.as_bytes());
+    let out = match format {
         ["--max", "6"] => "formatted limit 6\n",
         _ => "formatted limit 8\n",
     };
-    Ok(runs(rt, words.as_slice(), b"", 0, limit, ""))
+    let words = joined(rt, &FORMAT, format);
+    check_run(rt, &words, (0, out, ""), "format", row)
 }
 
 /// The words of a load of the queue text into the image.
-pub fn words_of<'a>(alloc: Global, options: &[&'a str]) -> Result<Vec<&'a str>, AllocError> {
-    let mut words = Vec::new(alloc);
-    words.extend_from_slice(&["load", "loaded.img", "queue.txt"])?;
-    words.extend_from_slice(options)?;
-    Ok(words)
+fn words_of<'a>(rt: &impl Host, options: &[&'a str]) -> Vec<&'a str> {
+    joined(rt, &["load", "loaded.img", "queue.txt"], options)
 }
 
-/// Whether the home blocks of an image begin so.
-fn begins(image: &[u8], homes: &[(usize, [u8; 8])]) -> bool {
+/// Checks a load of the queue text into the image, with these further words.
+pub fn check_words(rt: &impl Host, options: &[&str], end: End, row: usize) {
+    check_run(rt, &words_of(rt, options), end, "load", row)
+}
+
+/// Checks how the home blocks of the image begin.
+fn check_homes(rt: &impl Host, homes: &[(usize, [u8; 8])], row: usize) {
+    let image = read(rt, "loaded.img");
     for (home, front) in homes {
-        let at = HOMES + home.min(&16) * 1024;
-        if image.get(at..at + 8) != Some(front.as_slice()) {
-            return false;
-        }
+        let at = JOURNAL + home.min(&16) * 1024;
+        let is_so = image.get(at..at + 8) == Some(front.as_slice());
+        check_at(rt, is_so, "home blocks of row", row);
     }
-    true
+}
+
+/// Checks a load into a new image, its recovery, and the home blocks after that.
+fn check_load(rt: &impl Host, load: &Load, row: usize) {
+    make(rt, load.format, load.text, row);
+    check_words(rt, load.options, load.end, row);
+    let end = (0, load.recovered, "");
+    check_run(rt, &["recover", "loaded.img"], end, "recovery", row);
+    check_homes(rt, load.homes, row)
 }
 
 #[test]
-fn each_load_answers_its_row_and_is_recovered(rt: HostRuntime) -> Result<(), Fail> {
-    for load in LOADS {
-        assert!(rt; made(&rt, load.format, load.text)?);
-        let words = words_of(rt.alloc(), load.options)?;
-        assert!(rt;
-            runs(&rt, words.as_slice(), b"", load.status, load.out, load.err),
-            "{}{}",
-            load.text,
-            load.out
-        );
-        assert!(rt;
-            runs(&rt, &["recover", "loaded.img"], b"", 0, load.recovered, ""),
-            "{}{}",
-            load.text,
-            load.recovered
-        );
-        let image = fs::read(&rt, "loaded.img")?;
-        assert!(rt; begins(image.as_slice(), load.homes), "{}", load.text);
+fn each_load_answers_its_row_and_is_recovered(rt: HostRuntime) {
+    for (row, load) in LOADS.iter().enumerate() {
+        check_load(&rt, load, row);
     }
-    Ok(())
 }
 
-#[test]
-fn the_stamp_of_a_load_is_dumped(rt: HostRuntime) -> Result<(), Fail> {
-    assert!(rt; made(&rt, &[], TEN)?);
-    let words = words_of(rt.alloc(), &["--stamp", "18446744073709551615"])?;
-    assert!(rt; runs(&rt, words.as_slice(), b"", 0, TEN_LOADED, ""));
+/// Checks a load with a stamp, and the dump of what it leaves.
+fn check_stamp(rt: &impl Host) {
+    make(rt, &[], TEN, 0);
+    let options = ["--stamp", "18446744073709551615"];
+    check_words(rt, &options, (0, TEN_LOADED, ""), 0);
     let text =
         "super bs=1024 maxlen=33 first=1 sequence=2 start=1 errno=0 compat=00000000 incompat=00000001 rocompat=00000000 max=0 limit=8
 uuid 000102030405060708090a0b0c0d0e0f
@@ -251,13 +235,17 @@ uuid 000102030405060708090a0b0c0d0e0f
 4 commit number=2 sec=18446744073709551615 nsec=0
 end transactions=1 expected=3
 ";
-    assert!(rt; runs(&rt, &["dump", "loaded.img"], b"", 0, text, ""));
-    Ok(())
+    check_run(rt, &["dump", "loaded.img"], (0, text, ""), "dump", 0)
+}
+
+#[test]
+fn the_stamp_of_a_load_is_dumped(rt: HostRuntime) {
+    check_stamp(&rt)
 }
 
 /// Loads whose handles are committed while others run, so that their groups are not known, and which of the handles is
 /// the last one, where there is one thread.
-const TOGETHER: &[(&[&str], Option<u8>)] = &[
+static TOGETHER: [(&[&str], Option<u8>); 5] = [
     (&[], Some(4)),
     (&["--checkpoint"], Some(4)),
     (&["--threads", "2"], None),
@@ -265,21 +253,47 @@ const TOGETHER: &[(&[&str], Option<u8>)] = &[
     (&["--threads", "64"], None),
 ];
 
-#[test]
-fn handles_that_run_together_are_all_committed(rt: HostRuntime) -> Result<(), Fail> {
-    for (options, last) in TOGETHER {
-        assert!(rt; made(&rt, &[], SAME)?);
-        let words = words_of(rt.alloc(), options)?;
-        let (status, out, err) = ran(&rt, words.as_slice(), b"");
-        assert_eq!(rt; (status, err.len()), (0, 0));
-        assert!(rt; out.starts_with(b"handles 4 changes 8 settled 4 groups "));
-        let (status, _, _) = ran(&rt, &["recover", "loaded.img"], b"");
-        assert_eq!(rt; status, 0);
-        let image = fs::read(&rt, "loaded.img")?;
-        let (first, second) = (image.get(HOMES + 1024), image.get(HOMES + 2048));
-        assert_eq!(rt; first, second);
-        assert!(rt; first.is_some_and(|value| (1..=4).contains(value)));
-        assert!(rt; last.is_none() || last.as_ref() == first);
+/// Checks a load of the handles that touch the same two blocks.
+fn check_same(rt: &impl Host, options: &[&str], row: usize) {
+    make(rt, &[], SAME, row);
+    let ran = ran(rt, &words_of(rt, options), b"");
+    check_status(rt, ran.ended, 0, "load", row);
+    let has_none = ran.err.is_empty();
+    check_at(rt, has_none, "standard error of load", row);
+    let is_told = ran
+        .out
+        .starts_with(b"handles 4 changes 8 settled 4 groups ");
+    check_at(rt, is_told, "standard output of load", row)
+}
+
+/// Checks that a recovery succeeds.
+fn check_recovery(rt: &impl Host, row: usize) {
+    let ended = ran(rt, &["recover", "loaded.img"], b"").ended;
+    check_status(rt, ended, 0, "recovery", row)
+}
+
+/// Checks that both blocks are of one handle, and of the last one where that is known.
+fn check_blocks(rt: &impl Host, last: Option<u8>, row: usize) {
+    let image = read(rt, "loaded.img");
+    let first = image.get(JOURNAL + 1024).copied();
+    let second = image.get(JOURNAL + 2048).copied();
+    check_at(rt, first == second, "blocks of two handles, row", row);
+    let is_one = matches!(first, Some(1..=4));
+    check_at(rt, is_one, "blocks of no handle, row", row);
+    let is_last = last.is_none() || last == first;
+    check_at(rt, is_last, "blocks of another handle, row", row)
+}
+
+/// Checks each row of the table.
+fn check_together(rt: &impl Host) {
+    for (row, (options, last)) in TOGETHER.iter().enumerate() {
+        check_same(rt, options, row);
+        check_recovery(rt, row);
+        check_blocks(rt, *last, row);
     }
-    Ok(())
+}
+
+#[test]
+fn handles_that_run_together_are_all_committed(rt: HostRuntime) {
+    check_together(&rt)
 }

@@ -1,18 +1,20 @@
 //! Loads that are refused: the image stays as it was.
 
-use crate::loads::{TEN, words_of};
-use crate::runs::{Host, WHOLE, image, runs};
+use crate::checks::check_at;
+use crate::files::{Front, WHOLE, check_front, is_missing, write, write_front};
+use crate::loads::{TEN, check_words};
+use crate::runs::{End, Host, check_over};
 use std::fs;
-use std::test::Fail;
 
-/// Which files there are to be loaded.
-enum Files {
-    /// An image with this number and start and these features, of which the file has so many bytes; and the queue text.
-    Both([u32; 2], u32, usize, &'static str),
-    /// The same image, and no queue text.
-    Image([u32; 2], u32, usize),
-    /// A queue text, and no image.
-    Text(&'static str),
+/// A load that is refused.
+struct Refusal {
+    /// The image, if there is one.
+    image: Option<Front>,
+    /// The queue text, if there is one.
+    text: Option<&'static str>,
+    /// Further words of `jb load`.
+    options: &'static [&'static str],
+    end: End,
 }
 
 const CLEAN: [u32; 2] = [2, 0];
@@ -23,163 +25,168 @@ const TWO_GROUPS: &str = "bs 1024\nlimit 3\nh w0 w1 w2 w3 w4 w5\nh w6 w7 w8 w9 w
 
 const NO_TEXT: &str = "bs 1024\nlimit 2\n";
 
-const BAD_OPTION: &str = "jb: bad option\n";
+const BAD_OPTION: End = (2, "", "jb: bad option\n");
 
-/// The files, further words, the status and the two outputs.
-const REFUSED: &[(Files, &[&str], u8, &str, &str)] = &[
+static REFUSALS: [Refusal; 19] = [
     // an option comes before any file
-    (Files::Text(""), &["--threads", "0"], 2, "", BAD_OPTION),
-    (Files::Text(""), &["--threads", "65"], 2, "", BAD_OPTION),
-    (
-        Files::Text(""),
-        &["--threads", "4294967297"],
-        2,
-        "",
-        BAD_OPTION,
-    ),
+    Refusal {
+        image: None,
+        text: Some(""),
+        options: &["--threads", "0"],
+        end: BAD_OPTION,
+    },
+    Refusal {
+        image: None,
+        text: Some(""),
+        options: &["--threads", "65"],
+        end: BAD_OPTION,
+    },
+    Refusal {
+        image: None,
+        text: Some(""),
+        options: &["--threads", "4294967297"],
+        end: BAD_OPTION,
+    },
     // the image comes before the text
-    (
-        Files::Text(NO_TEXT),
-        &[],
-        2,
-        "",
-        "jb: cannot read loaded.img\n",
-    ),
-    (
-        Files::Image(CLEAN, 16, WHOLE),
-        &[],
-        1,
-        "",
-        "jb: Super Feature 2 16\n",
-    ),
-    (
-        Files::Both(CLEAN, 16, WHOLE, NO_TEXT),
-        &[],
-        1,
-        "",
-        "jb: Super Feature 2 16\n",
-    ),
-    (
-        Files::Both(CLEAN, 1, 1023, NO_TEXT),
-        &[],
-        1,
-        "",
-        "jb: Super ShortBlock\n",
-    ),
+    Refusal {
+        image: None,
+        text: Some(NO_TEXT),
+        options: &[],
+        end: (2, "", "jb: cannot read loaded.img\n"),
+    },
+    Refusal {
+        image: Some((CLEAN, 16, WHOLE)),
+        text: None,
+        options: &[],
+        end: (1, "", "jb: Super Feature 2 16\n"),
+    },
+    Refusal {
+        image: Some((CLEAN, 16, WHOLE)),
+        text: Some(NO_TEXT),
+        options: &[],
+        end: (1, "", "jb: Super Feature 2 16\n"),
+    },
+    Refusal {
+        image: Some((CLEAN, 1, 1023)),
+        text: Some(NO_TEXT),
+        options: &[],
+        end: (1, "", "jb: Super ShortBlock\n"),
+    },
     // the text comes before the block size
-    (
-        Files::Image([2, 1], 1, WHOLE),
-        &[],
-        2,
-        "",
-        "jb: cannot read queue.txt\n",
-    ),
-    (
-        Files::Both([2, 1], 1, WHOLE, ""),
-        &[],
-        2,
-        "",
-        "jb: queue line 1: BlockSizeLine\n",
-    ),
-    (
-        Files::Both([2, 1], 1, WHOLE, NO_TEXT),
-        &[],
-        2,
-        "",
-        "jb: queue line 2: LimitLine\n",
-    ),
-    (
-        Files::Both([2, 1], 1, WHOLE, "bs 2048\nlimit 7\nh w1 w\n"),
-        &[],
-        2,
-        "",
-        "jb: queue line 3: OpWord\n",
-    ),
+    Refusal {
+        image: Some(([2, 1], 1, WHOLE)),
+        text: None,
+        options: &[],
+        end: (2, "", "jb: cannot read queue.txt\n"),
+    },
+    Refusal {
+        image: Some(([2, 1], 1, WHOLE)),
+        text: Some(""),
+        options: &[],
+        end: (2, "", "jb: queue line 1: BlockSizeLine\n"),
+    },
+    Refusal {
+        image: Some(([2, 1], 1, WHOLE)),
+        text: Some(NO_TEXT),
+        options: &[],
+        end: (2, "", "jb: queue line 2: LimitLine\n"),
+    },
+    Refusal {
+        image: Some(([2, 1], 1, WHOLE)),
+        text: Some("bs 2048\nlimit 7\nh w1 w\n"),
+        options: &[],
+        end: (2, "", "jb: queue line 3: OpWord\n"),
+    },
     // the block size comes before the journal
-    (
-        Files::Both([2, 1], 1, WHOLE, OTHER_SIZE),
-        &[],
-        1,
-        "",
-        "jb: BlockSize\n",
-    ),
-    (
-        Files::Both(CLEAN, 1, 20 * 1024, OTHER_SIZE),
-        &[],
-        1,
-        "",
-        "jb: BlockSize\n",
-    ),
-    (
-        Files::Both([2, 1], 1, WHOLE, TEN),
-        &[],
-        1,
-        "",
-        "jb: NeedsRecovery\n",
-    ),
-    (
-        Files::Both([0xFFFF_FFFF, 1], 1, WHOLE, TEN),
-        &["--hold"],
-        1,
-        "",
-        "jb: NeedsRecovery\n",
-    ),
-    (
-        Files::Both([0xFFFF_FFFF, 0], 1, WHOLE, TEN),
-        &["--threads", "64"],
-        1,
-        "",
-        "jb: NumbersSpent\n",
-    ),
-    (
-        Files::Both(CLEAN, 1, 20 * 1024, TEN),
-        &[],
-        1,
-        "",
-        "jb: Super Geometry\n",
-    ),
-    (
-        Files::Both(CLEAN, 1, 1024, TEN),
-        &[],
-        1,
-        "",
-        "jb: Super Geometry\n",
-    ),
+    Refusal {
+        image: Some(([2, 1], 1, WHOLE)),
+        text: Some(OTHER_SIZE),
+        options: &[],
+        end: (1, "", "jb: BlockSize\n"),
+    },
+    Refusal {
+        image: Some((CLEAN, 1, 20 * 1024)),
+        text: Some(OTHER_SIZE),
+        options: &[],
+        end: (1, "", "jb: BlockSize\n"),
+    },
+    Refusal {
+        image: Some(([2, 1], 1, WHOLE)),
+        text: Some(TEN),
+        options: &[],
+        end: (1, "", "jb: NeedsRecovery\n"),
+    },
+    Refusal {
+        image: Some(([0xFFFF_FFFF, 1], 1, WHOLE)),
+        text: Some(TEN),
+        options: &["--hold"],
+        end: (1, "", "jb: NeedsRecovery\n"),
+    },
+    Refusal {
+        image: Some(([0xFFFF_FFFF, 0], 1, WHOLE)),
+        text: Some(TEN),
+        options: &["--threads", "64"],
+        end: (1, "", "jb: NumbersSpent\n"),
+    },
+    Refusal {
+        image: Some((CLEAN, 1, 20 * 1024)),
+        text: Some(TEN),
+        options: &[],
+        end: (1, "", "jb: Super Geometry\n"),
+    },
+    Refusal {
+        image: Some((CLEAN, 1, 1024)),
+        text: Some(TEN),
+        options: &[],
+        end: (1, "", "jb: Super Geometry\n"),
+    },
     // two groups, and a number for one of them
-    (
-        Files::Both([0xFFFF_FFFE, 0], 1, WHOLE, TWO_GROUPS),
-        &["--hold"],
-        1,
-        "handles 2 changes 12 settled 0 groups 0 blocks 0\n",
-        "jb: commit Refused\n",
-    ),
+    Refusal {
+        image: Some(([0xFFFF_FFFE, 0], 1, WHOLE)),
+        text: Some(TWO_GROUPS),
+        options: &["--hold"],
+        end: (
+            1,
+            "handles 2 changes 12 settled 0 groups 0 blocks 0\n",
+            "jb: commit Refused\n",
+        ),
+    },
 ];
 
-/// Writes these files, and gives the bytes of the image.
-fn written<R: Host>(rt: &R, files: &Files) -> Result<Vec<u8>, Fail> {
-    let _none = (
-        fs::remove_file(rt, "loaded.img"),
-        fs::remove_file(rt, "queue.txt"),
-    );
-    let (log, incompat, len) = match files {
-        Files::Both(log, incompat, len, _) | Files::Image(log, incompat, len) => {
-            (*log, *incompat, *len)
-        }
-        Files::Text(_) => (CLEAN, 1, 0),
-    };
-    let mut bytes = image(rt.alloc(), log, incompat, 20, 5, &[])?;
-    bytes.truncate(len);
-    if let Files::Both(..) | Files::Image(..) = files {
-        fs::write(rt, "loaded.img", bytes.as_slice())?;
+/// Writes a queue text, or sees to it that there is none.
+fn put_text(rt: &impl Host, text: Option<&str>) {
+    let _none = fs::remove_file(rt, "queue.txt");
+    if let Some(text) = text {
+        write(rt, "queue.txt", text.as_bytes());
     }
-    if let Files::Both(_, _, _, text) | Files::Text(text) = files {
-        fs::write(rt, "queue.txt", *text)?;
+}
+
+/// Checks a load into an image, which stays.
+fn check_kept(rt: &impl Host, image: Front, of: &Refusal, row: usize) {
+    write_front(rt, "loaded.img", image);
+    check_words(rt, of.options, of.end, row);
+    check_front(rt, "loaded.img", image, "load", row)
+}
+
+/// Checks a load into no image, of which none is made.
+fn check_none(rt: &impl Host, of: &Refusal, row: usize) {
+    let _none = fs::remove_file(rt, "loaded.img");
+    check_words(rt, of.options, of.end, row);
+    let has_none = is_missing(rt, "loaded.img");
+    check_at(rt, has_none, "an image is made by load", row)
+}
+
+/// Checks the load of a row.
+fn check_refusal(rt: &impl Host, of: &Refusal, row: usize) {
+    put_text(rt, of.text);
+    match of.image {
+        Some(image) => check_kept(rt, image, of, row),
+        None => check_none(rt, of, row),
     }
-    Ok(bytes)
 }
 
 /// Loads of an image and a text that could be loaded, but for one of the names.
-const NAMES: &[([&str; 3], &str)] = &[
+static NAMES: [([&str; 3], &str); 5] = [
     (["load", "-", "queue.txt"], "jb: cannot read -\n"),
     (["load", "loaded.img", "-"], "jb: cannot read -\n"),
     (["load", ".", "queue.txt"], "jb: cannot read .\n"),
@@ -190,23 +197,29 @@ const NAMES: &[([&str; 3], &str)] = &[
     ),
 ];
 
+/// An image that could be loaded into.
+const READY: Front = (CLEAN, 1, WHOLE);
+
+/// Checks each of the loads, with a text on standard input.
+fn check_names(rt: &impl Host) {
+    write_front(rt, "loaded.img", READY);
+    for (row, (words, err)) in NAMES.iter().enumerate() {
+        let text = TEN.as_bytes();
+        check_over(rt, words, text, (2, "", err), "load of the names", row);
+        check_front(rt, "loaded.img", READY, "load of the names", row);
+    }
+}
+
+/// Checks each row of the table, and the names.
+fn check_refusals(rt: &impl Host) {
+    for (row, of) in REFUSALS.iter().enumerate() {
+        check_refusal(rt, of, row);
+    }
+    put_text(rt, Some(TEN));
+    check_names(rt)
+}
+
 #[test]
-fn each_refused_load_answers_its_row_and_leaves_the_image(rt: HostRuntime) -> Result<(), Fail> {
-    for (files, options, status, out, err) in REFUSED {
-        let bytes = written(&rt, files)?;
-        let words = words_of(rt.alloc(), options)?;
-        assert!(rt;
-            runs(&rt, words.as_slice(), b"", *status, out, err),
-            "{out}{err}"
-        );
-        let left = fs::read(&rt, "loaded.img").unwrap_or(Vec::new(rt.alloc()));
-        assert!(rt; left.as_slice() == bytes.as_slice(), "{err}");
-    }
-    let bytes = written(&rt, &Files::Both(CLEAN, 1, WHOLE, TEN))?;
-    for (words, err) in NAMES {
-        assert!(rt; runs(&rt, words, TEN.as_bytes(), 2, "", err), "{err}");
-        let left = fs::read(&rt, "loaded.img")?;
-        assert!(rt; left.as_slice() == bytes.as_slice(), "{err}");
-    }
-    Ok(())
+fn each_refused_load_answers_its_row_and_leaves_the_image(rt: HostRuntime) {
+    check_refusals(&rt)
 }

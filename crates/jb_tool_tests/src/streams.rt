@@ -1,10 +1,10 @@
 //! Inputs and outputs that fail.
 
-use crate::runs::image;
+use crate::checks::{check_at, check_text};
+use crate::files::{WHOLE, remove, write, write_front};
+use crate::runs::{Host, check_status};
 use jb_tool::run;
-use std::fs;
 use std::io::{self, Error, ErrorKind, Read, Write};
-use std::test::Fail;
 
 const QUEUE: &[u8] = b"bs 1024\nlimit 7\nh w1\n";
 
@@ -63,7 +63,7 @@ impl Write for Counting {
 }
 
 /// Runs that write a line, in their order on one image, how many writes each takes on each output, and how many bytes.
-const LINES: &[(&[&str], [usize; 2], [usize; 2])] = &[
+static LINES: [(&[&str], [usize; 2], [usize; 2]); 7] = [
     (&["recover", "line.img"], [1, 0], [41, 0]),
     (&["renumber", "line.img"], [1, 0], [27, 0]),
     (&["widen", "line.img"], [1, 0], [16, 0]),
@@ -73,76 +73,135 @@ const LINES: &[(&[&str], [usize; 2], [usize; 2])] = &[
     (&["widen", "line.img"], [0, 1], [0, 18]),
 ];
 
-#[test]
-fn each_line_is_one_write(rt: HostRuntime) -> Result<(), Fail> {
-    let bytes = image(rt.alloc(), [2, 1], 1, 20, 5, &[])?;
-    fs::write(&rt, "line.img", bytes.as_slice())?;
-    fs::write(&rt, "line.txt", "bs 1024\nlimit 8\nh w1\nh w16\n")?;
-    for (words, writes, sizes) in LINES {
-        let mut input = b"".as_slice();
-        let mut out = Counting {
-            writes: 0,
-            bytes: 0,
-        };
-        let mut err = Counting {
-            writes: 0,
-            bytes: 0,
-        };
-        run(&rt, words, &mut input, &mut out, &mut err);
-        assert_eq!(rt; [out.writes, err.writes], *writes);
-        assert_eq!(rt; [out.bytes, err.bytes], *sizes);
+/// Checks how many writes a run takes on each output, and how many bytes.
+fn check_line(rt: &impl Host, words: &[&str], writes: [usize; 2], sizes: [usize; 2], row: usize) {
+    let mut input = b"".as_slice();
+    let mut out = Counting {
+        writes: 0,
+        bytes: 0,
+    };
+    let mut err = Counting {
+        writes: 0,
+        bytes: 0,
+    };
+    run(rt, words, &mut input, &mut out, &mut err);
+    let is_so = [out.writes, err.writes] == writes;
+    check_at(rt, is_so, "how many writes a line takes, row", row);
+    let is_so = [out.bytes, err.bytes] == sizes;
+    check_at(rt, is_so, "how many bytes a line has, row", row)
+}
+
+/// Checks each row of the table, on one image.
+fn check_lines(rt: &impl Host) {
+    write_front(rt, "line.img", ([2, 1], 1, WHOLE));
+    write(rt, "line.txt", b"bs 1024\nlimit 8\nh w1\nh w16\n");
+    for (row, (words, writes, sizes)) in LINES.iter().enumerate() {
+        check_line(rt, words, *writes, *sizes, row);
     }
-    fs::remove_file(&rt, "line.img")?;
-    Ok(())
+    remove(rt, "line.img")
+}
+
+#[test]
+fn each_line_is_one_write(rt: HostRuntime) {
+    check_lines(&rt)
 }
 
 /// An output that takes nothing, one that takes three bytes, and one that takes all and loses it when it is flushed.
-const TORN: [(usize, bool); 3] = [(0, false), (3, false), (1000, true)];
+static TORN: [(usize, bool); 3] = [(0, false), (3, false), (1000, true)];
+
+/// Checks that a run reports a standard output that fails. `at` is which of the torn outputs it is.
+fn check_torn_output(
+    rt: &impl Host,
+    words: &[&str],
+    torn: (usize, bool),
+    what: &'static str,
+    at: usize,
+) {
+    let (left, stuck) = torn;
+    let mut rest = QUEUE;
+    let mut out = Torn { left, stuck };
+    let mut err = Vec::new(rt.alloc());
+    let ended = run(rt, words, &mut rest, &mut out, &mut err);
+    check_status(rt, ended, 1, what, at);
+    check_text(rt, &err, "jb: WriteFault\n", what, at)
+}
+
+/// Checks the same of each of the torn outputs.
+fn check_torn_outputs(rt: &impl Host, words: &[&str], what: &'static str) {
+    for (at, torn) in TORN.iter().enumerate() {
+        check_torn_output(rt, words, *torn, what, at);
+    }
+}
+
+/// Checks a command, help and the version, whose standard output fails.
+fn check_outputs(rt: &impl Host) {
+    check_torn_outputs(rt, &["cost", "-"], "cost to output");
+    check_torn_outputs(rt, &["--help"], "help to output");
+    check_torn_outputs(rt, &["--version"], "version to output")
+}
 
 #[test]
 fn an_output_that_fails_is_reported(rt: HostRuntime) {
-    for words in [
-        ["cost", "-"].as_slice(),
-        ["--help"].as_slice(),
-        ["--version"].as_slice(),
-    ] {
-        for (left, stuck) in TORN {
-            let (mut rest, mut err) = (QUEUE, Vec::new(rt.alloc()));
-            let mut out = Torn { left, stuck };
-            assert!(rt; run(&rt, words, &mut rest, &mut out, &mut err).status == 1);
-            assert!(rt; err.as_slice() == "jb: WriteFault\n".as_bytes());
-        }
+    check_outputs(&rt)
+}
+
+/// The words and the input of a run, and its status and what it writes to standard output.
+type Quiet = (&'static [&'static str], &'static [u8], (u8, &'static str));
+
+static QUIETS: [Quiet; 3] = [
+    (&["cost", "-"], QUEUE, (0, "cost 3 limit 7 fits\n")),
+    (&["cost", "-"], b"", (2, "")),
+    (&["coast"], QUEUE, (2, "")),
+];
+
+/// Checks that a run ends as its row says where standard error fails.
+fn check_torn_error(rt: &impl Host, of: &Quiet, torn: (usize, bool), row: usize) {
+    let (words, input, (status, out)) = *of;
+    let (left, stuck) = torn;
+    let mut rest = input;
+    let mut told = Vec::new(rt.alloc());
+    let mut err = Torn { left, stuck };
+    let ended = run(rt, words, &mut rest, &mut told, &mut err);
+    check_status(rt, ended, status, "run", row);
+    check_text(rt, &told, out, "run", row)
+}
+
+/// Checks the same of each of the torn outputs.
+fn check_torn_errors(rt: &impl Host, of: &Quiet, row: usize) {
+    for torn in &TORN {
+        check_torn_error(rt, of, *torn, row);
     }
 }
 
 #[test]
 fn a_failing_standard_error_changes_no_status(rt: HostRuntime) {
-    for (words, input, status, out) in [
-        (["cost", "-"].as_slice(), QUEUE, 0, "cost 3 limit 7 fits\n"),
-        (["cost", "-"].as_slice(), b"".as_slice(), 2, ""),
-        (["coast"].as_slice(), QUEUE, 2, ""),
-    ] {
-        for (left, stuck) in TORN {
-            let (mut rest, mut told) = (input, Vec::new(rt.alloc()));
-            let mut err = Torn { left, stuck };
-            assert!(rt; run(&rt, words, &mut rest, &mut told, &mut err).status == status);
-            assert!(rt; told.as_slice() == out.as_bytes());
-        }
+    for (row, of) in QUIETS.iter().enumerate() {
+        check_torn_errors(&rt, of, row);
     }
+}
+
+/// Checks that a run over this input writes this line, and does not flush an output to which it writes nothing.
+fn check_unwritten<I: Read>(rt: &impl Host, input: &mut I, line: &str, at: usize) {
+    let mut out = Torn {
+        left: 0,
+        stuck: true,
+    };
+    let mut err = Vec::new(rt.alloc());
+    let ended = run(rt, &["cost", "-"], input, &mut out, &mut err);
+    check_status(rt, ended, 2, "cost", at);
+    check_text(rt, &err, line, "cost", at)
+}
+
+/// Checks an input that fails, and one that has nothing.
+fn check_inputs(rt: &impl Host) {
+    check_unwritten(rt, &mut Closed, "jb: cannot read -\n", 0);
+    let mut rest = b"".as_slice();
+    check_unwritten(rt, &mut rest, "jb: queue line 1: BlockSizeLine\n", 1)
 }
 
 #[test]
 fn an_input_that_fails_is_reported_and_an_output_that_is_not_written_is_not_flushed(
     rt: HostRuntime,
 ) {
-    let mut out = Torn {
-        left: 0,
-        stuck: true,
-    };
-    let mut err = Vec::new(rt.alloc());
-    assert!(rt; run(&rt, &["cost", "-"], &mut Closed, &mut out, &mut err).status == 2);
-    assert!(rt; err.as_slice() == "jb: cannot read -\n".as_bytes());
-    let (mut rest, mut err) = (b"".as_slice(), Vec::new(rt.alloc()));
-    assert!(rt; run(&rt, &["cost", "-"], &mut rest, &mut out, &mut err).status == 2);
-    assert!(rt; err.as_slice() == "jb: queue line 1: BlockSizeLine\n".as_bytes());
+    check_inputs(&rt)
 }

@@ -1,0 +1,93 @@
+//! Desks that are over, and what is counted once they are closed.
+ghost use Rattle.std.specs.Prelude.{◌≡◌, ◌+◌, ◌^◌};
+
+use crate::checks::check_of;
+use crate::journal::Still;
+use jb_desk::{CloseFault, Closed, Ended, Left, Origin, Seat, SeatFault};
+use jb_disk::{Disk, FixedClock};
+use std::alloc::Global;
+use std::process::Abort;
+use std::sync::Wait;
+use std::sync::ledger::Ledger;
+
+/// Whether a desk gives no seat for being shut.
+pub fn is_closed<R: Wait, D: Disk, H: Origin, N: Ledger>(rt: &R, desk: &Still<D, H, N>) -> bool {
+    match desk.seat(rt) {
+        Ok(seat) => {
+            let _left = desk.leave(rt, seat);
+            false
+        }
+        Err(fault) => fault == SeatFault::Closed,
+    }
+}
+
+/// How many handles were settled when the desk was over, where a thread ended for that.
+pub fn over_at(ended: Ended) -> Option<u64> {
+    match ended {
+        Ended::Shut(over) => Some(over.settled()),
+        _ => None,
+    }
+}
+
+/// What is left by the only seat of a desk.
+pub fn left<R: Abort + Wait, D: Disk, H: Origin, N: Ledger>(
+    rt: &R,
+    alloc: Global,
+    desk: &Still<D, H, N>,
+    seat: Seat<H, N>,
+) -> Vec<Left<H, N>> {
+    let mut lefts = Vec::new(alloc);
+    lefts.push(desk.leave(rt, seat)).expect(rt, "memory");
+    lefts
+}
+
+/// Closes a desk of which all seats have left.
+pub fn closed<D: Disk + Drop, H: Origin, N: Ledger>(
+    rt: &impl Abort,
+    desk: Still<D, H, N>,
+    lefts: Vec<Left<H, N>>,
+) -> Closed<D, FixedClock>
+    requires parts { (H.parts ≡ 2 ^ 61 + 1) × (N.parts ≡ 2 ^ 61 + 1) }
+{
+    desk.close(lefts).ok().expect(rt, "the desk is not closed")
+}
+
+/// Closes a desk of which all seats have left, and checks how many handles and changes it has counted, and how many
+/// groups its trail has. Where that is wrong, it gives the desk this name.
+pub fn check_close<D: Disk + Drop, H: Origin, N: Ledger>(
+    rt: &impl Abort,
+    name: &'static str,
+    desk: Still<D, H, N>,
+    lefts: Vec<Left<H, N>>,
+    counts: (u64, u64, usize),
+)
+    requires parts { (H.parts ≡ 2 ^ 61 + 1) × (N.parts ≡ 2 ^ 61 + 1) }
+{
+    let closed = closed(rt, desk, lefts);
+    let handles = closed.handles;
+    let changes = closed.changes;
+    let groups = closed.trail.len();
+    check_of(rt, handles == counts.0, name, "handles:", handles);
+    check_of(rt, changes == counts.1, name, "changes:", changes);
+    check_of(rt, groups == counts.2, name, "groups:", groups as u64);
+}
+
+/// Checks that closing a desk is refused while a seat is out, and what is counted once the last one has left.
+pub fn check_close_twice<D: Disk + Drop, H: Origin, N: Ledger>(
+    rt: &impl Abort,
+    name: &'static str,
+    desk: Still<D, H, N>,
+    lefts: Vec<Left<H, N>>,
+    last: Left<H, N>,
+    counts: (u64, u64, usize),
+)
+    requires parts { (H.parts ≡ 2 ^ 61 + 1) × (N.parts ≡ 2 ^ 61 + 1) }
+{
+    match desk.close(lefts) {
+        Err(CloseFault::SeatsOut(desk, mut lefts)) => {
+            lefts.push(last).expect(rt, "memory");
+            check_close(rt, name, desk, lefts, counts)
+        }
+        _ => panic!(rt; "{name}: closing is not refused while a seat is out"),
+    }
+}

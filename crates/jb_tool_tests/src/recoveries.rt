@@ -1,0 +1,159 @@
+//! Images that are recovered.
+
+use crate::files::{COPY, MAGIC, WHOLE, add_block, check_file, image, remove, write};
+use crate::runs::{Host, check_run};
+
+/// An image of which a file has so many bytes, and what its recovery answers.
+struct Recovery {
+    incompat: u32,
+    /// What its revoke block says of its length.
+    count: u32,
+    /// The home of its copy.
+    home: u32,
+    len: usize,
+    answer: Result<&'static str, &'static str>,
+}
+
+static RECOVERIES: [Recovery; 12] = [
+    Recovery {
+        incompat: 1,
+        count: 20,
+        home: 5,
+        len: WHOLE,
+        answer: Ok("transactions 1 copies 1 revoked 0 next 4\n"),
+    },
+    Recovery {
+        incompat: 1,
+        count: 20,
+        home: 7,
+        len: WHOLE,
+        answer: Ok("transactions 1 copies 0 revoked 1 next 4\n"),
+    },
+    Recovery {
+        incompat: 16,
+        count: 20,
+        home: 5,
+        len: WHOLE,
+        answer: Err("jb: Super Feature 2 16\n"),
+    },
+    Recovery {
+        incompat: 0x13,
+        count: 20,
+        home: 5,
+        len: WHOLE,
+        answer: Err("jb: Super Feature 2 16\n"),
+    },
+    // of a wide tag the first word of the UUID is the high half of the home
+    Recovery {
+        incompat: 3,
+        count: 20,
+        home: 5,
+        len: WHOLE,
+        answer: Err("jb: HomeOutOfRange 283686884868101 2\n"),
+    },
+    Recovery {
+        incompat: 1,
+        count: 1025,
+        home: 5,
+        len: WHOLE,
+        answer: Err("jb: BadRevoke 1\n"),
+    },
+    Recovery {
+        incompat: 1,
+        count: 20,
+        home: 16,
+        len: WHOLE,
+        answer: Err("jb: HomeOutOfRange 16 2\n"),
+    },
+    Recovery {
+        incompat: 1,
+        count: 20,
+        home: 5,
+        len: 20 * 1024,
+        answer: Err("jb: Super Geometry\n"),
+    },
+    Recovery {
+        incompat: 1,
+        count: 20,
+        home: 5,
+        len: 33 * 1024 - 1,
+        answer: Err("jb: Super Geometry\n"),
+    },
+    Recovery {
+        incompat: 1,
+        count: 20,
+        home: 5,
+        len: 33 * 1024,
+        answer: Err("jb: HomeOutOfRange 5 2\n"),
+    },
+    Recovery {
+        incompat: 1,
+        count: 20,
+        home: 5,
+        len: 1023,
+        answer: Err("jb: Super ShortBlock\n"),
+    },
+    Recovery {
+        incompat: 1,
+        count: 20,
+        home: 5,
+        len: 0,
+        answer: Err("jb: Super ShortBlock\n"),
+    },
+];
+
+/// Checks that the recovery of the image writes this line, and leaves this file.
+fn check_line(rt: &impl Host, line: &'static str, wanted: &[u8], what: &'static str, row: usize) {
+    check_run(rt, &["recover", "log.img"], (0, line, ""), what, row);
+    check_file(rt, "log.img", wanted, what, row)
+}
+
+/// Checks a recovery, and that one more finds nothing to recover.
+fn check_recovered(rt: &impl Host, of: &Recovery, line: &'static str, row: usize) {
+    // clean with number 3, and the copy in home 5 unless it is revoked
+    let words = if of.home == 5 { COPY } else { [0, 0] };
+    let wanted = image(rt, [3, 0], of.incompat, of.count, of.home, &words);
+    check_line(rt, line, &wanted, "recovery", row);
+    let line = "transactions 0 copies 0 revoked 0 next 4\n";
+    check_line(rt, line, &wanted, "one more recovery", row)
+}
+
+/// Checks that the recovery of an image is refused, and that it stays.
+fn check_refused(rt: &impl Host, bytes: &[u8], line: &'static str, row: usize) {
+    check_run(rt, &["recover", "log.img"], (1, "", line), "refusal", row);
+    check_file(rt, "log.img", bytes, "refusal", row)
+}
+
+/// Checks the recovery of a row.
+fn check_recovery(rt: &impl Host, of: &Recovery, row: usize) {
+    let mut bytes = image(rt, [2, 1], of.incompat, of.count, of.home, &[]);
+    bytes.truncate(of.len);
+    write(rt, "log.img", &bytes);
+    match of.answer {
+        Ok(line) => check_recovered(rt, of, line, row),
+        Err(line) => check_refused(rt, &bytes, line, row),
+    }
+}
+
+/// Checks an image that is shorter than the blocks of its journal.
+fn check_short(rt: &impl Host) {
+    let mut short = Vec::new(rt.alloc());
+    let words = [MAGIC, 4, 0, 4096, 33, 1, 2, 0, 0, 0, 1, 0];
+    add_block(rt, &mut short, 1024, &words);
+    write(rt, "log.img", &short);
+    check_refused(rt, &short, "jb: Super ShortBlock\n", RECOVERIES.len())
+}
+
+/// Checks each row of the table, and an image that is too short.
+fn check_recoveries(rt: &impl Host) {
+    for (row, of) in RECOVERIES.iter().enumerate() {
+        check_recovery(rt, of, row);
+    }
+    check_short(rt);
+    remove(rt, "log.img")
+}
+
+#[test]
+fn each_recovery_answers_its_row_and_a_refused_image_stays(rt: HostRuntime) {
+    check_recoveries(&rt)
+}
