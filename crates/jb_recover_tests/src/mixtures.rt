@@ -30,8 +30,8 @@ fn seeded(seed: u32) -> [u32; SECTORS] {
     choice
 }
 
-/// Of too many mixtures the one of this number: all old, all new, old and new in turn and the other way, one sector new,
-/// or one of a hundred by a generator.
+/// Of too many mixtures the one of this number: all old, all new, old and new in turn and the other way, one sector
+/// new, or one of a hundred by a generator.
 pub fn some_choice(number: u32) -> [u32; SECTORS] {
     match number {
         0 => digits(0, 2),
