@@ -116,7 +116,8 @@ class FileSystem:
         return sorted(picked)
 
     def put(self, journal):
-        """This journal in place of its own, and the flag needs_recovery."""
+        """This journal, with the file system's UUID, in place of its own, and the flag needs_recovery."""
+        journal = journal[:0x30] + read_at("fs", 1024 + 0x68, 16) + journal[0x40:]
         with open("fs", "r+b") as file:
             for i, place in enumerate(self.places):
                 file.seek(place * self.size)

@@ -46,7 +46,7 @@ ROWS = [
     ("load, two threads and checkpoints", "load a q --threads 2 --checkpoint", {"a": CLEAN, "q": LOADED}, b""),
 ]
 # what a load says where memory ran out in its threads
-RAN_OUT = re.compile(rb"(jb: handle \d+: (Memory|Aborted)\n)?(jb: commit (Memory|Aborted)\n)?(jb: checkpoint (Memory|Aborted)\n)?")
+RAN_OUT = re.compile(rb"(jb: handle \d+: (Memory|Aborted)\n)?(jb: commit (Memory|Aborted)\n)?(jb: checkpoint (Memory|Aborted|Stopped)\n)?")
 COUNTS = re.compile(rb"handles \d+ changes \d+ settled \d+ groups \d+ blocks \d+\n")
 GROUPS = re.compile(rb"groups \d+ blocks \d+")
 # what the first handle writes to a home block that a later one writes, too

@@ -153,6 +153,32 @@ def device():
             subprocess.run(["losetup", "--detach", name])
         expect("the bytes of the block device", open("backing", "rb").read() == open("file", "rb").read())
     print("block device: compared with a file")
+    mounted(loaded)
+
+
+def mounted(loaded):
+    """A device that is mounted is read, and not changed."""
+    fresh({"backing": bytes(4 << 20), "journal": loaded[: 33 * 1024]})
+    name = subprocess.run(["losetup", "--find", "--show", "backing"], stdout=subprocess.PIPE).stdout.decode().strip()
+    try:
+        with tempfile.TemporaryDirectory() as room:
+            made = subprocess.run(["mke2fs", "-q", "-F", "-b", "1024", name], stderr=subprocess.DEVNULL).returncode
+            if made != 0 or subprocess.run(["mount", name, room], stderr=subprocess.DEVNULL).returncode != 0:
+                print("a mounted device: not tried, as none can be mounted here")
+                return
+            try:
+                before = open(name, "rb").read()
+                for words in [["recover", name], ["recover", name, "--journal", "journal"], ["renumber", name], ["widen", name]]:
+                    got = run(words)
+                    expect("mounted: %s" % words, got == (2, b"", b"jb: in use %s\n" % name.encode()), got)
+                got = run(["cat", name, "1", "--journal", "journal"])
+                expect("mounted: cat", got[0] == 0 and len(got[1]) == 1024, got)
+                expect("a mounted device is as it was", open(name, "rb").read() == before)
+            finally:
+                subprocess.run(["umount", room])
+    finally:
+        subprocess.run(["losetup", "--detach", name])
+    print("a mounted device: 5 runs")
 
 
 def making():
@@ -190,7 +216,9 @@ def making():
     # the system ends the program at its limit of the file size, unless its signal is ignored
     got = run(["format", "new", *SIZES], before=small_files(False))
     expect("format past the limit", got == (-signal.SIGXFSZ, b"", b""), got)
-    expect("what it leaves is empty", os.path.getsize("new") == 0)
+    expect("what it leaves is empty", not os.path.exists("new") and os.path.getsize("new.jb-unfinished") == 0)
+    got = run(["format", "new", *SIZES])
+    expect("format after that", got == good and os.listdir(".") == ["new"], got, os.listdir("."))
     print("format: new files tried")
 
 

@@ -1,8 +1,9 @@
 """The table: what is run, and what it must say and leave. The texts are those of docs/TEXTS.md."""
 import re
+import struct
 
 from images import BS, COMMIT, ESCAPE, LAST_TAG, MAGIC, SAME_UUID, SUPER1
-from images import be32, commit, data, descriptor, image, padded, revoke, superblock
+from images import UUID, be32, commit, data, descriptor, image, padded, revoke, superblock
 
 ROWS = []
 
@@ -10,7 +11,7 @@ ROWS = []
 def row(words, status, out="", err="", files=(), stdin=b"", after=(), how="", to="pipe", terminal="", locked="", beside=""):
     """One run of the program in an empty folder.
 
-    words     its words, as one text; a word with a space or a NUL is never needed
+    words     its words, as one text; in a word `~` stands for a space, and a NUL is never needed
     files     the files that are there before, by their names; None makes a folder, a number a file of so many zeros, a text that kind
               of file
     after     the files that differ afterwards, or are new; all others must be as they were, and there may be no other
@@ -176,6 +177,7 @@ BASIC = "format a --bs 1024 --journal 33 --homes 16"
 row(BASIC, 0, "formatted limit 8\n", after={"a": MADE})
 row("format a --bs 1024 --journal 33 --homes 16 --uuid 000102030405060708090A0b0c0d0e0f", 0, "formatted limit 8\n", after={"a": image(SMALL)})
 row(BASIC + " --wide --max 5", 0, "formatted limit 5\n", after={"a": image(superblock(incompat=3, most=5, uuid=bytes(16)))})
+row("format a --bs 1024 --journal 33 --homes 4294967297", 2, err="jb: bad option\n", beside="--homes")
 row("format a --bs 4096 --journal 9 --homes 0", 0, "formatted limit 3\n",
     after={"a": image(superblock(maxlen=9, said=4096, size=4096, uuid=bytes(16)), homes=0, maxlen=9, size=4096)})
 row(BASIC, 2, err="jb: cannot make a\n", files={"a": FULL}, beside=THERE)
@@ -272,6 +274,87 @@ row("recover a --journal j", 1, err="jb: WriteFault\n", files=parted(FULL), to="
 row("recover a --journal j", 1, err="jb: Super NoMagic\n", files={"a": FULL, "j": bytes(33 * BS)})
 # home block 5 is past what the shell lets a file grow to, so its write fails and the journal is not emptied
 row("recover a --journal j", 1, err="jb: DeviceFault\n", files=parted(FULL), how="trap '' XFSZ; ulimit -f 4")
+# ---- a journal within its file system, and file systems -----------------------------------------------------------------------
+
+
+def within(content, parts, blocks=60):
+    """An image whose journal stands in these stretches of its home blocks, each the first of them and how many."""
+    whole = bytearray(content[33 * BS:].ljust(blocks * BS, b"\0"))
+    at = 0
+    for first, count in parts:
+        whole[first * BS:(first + count) * BS] = content[at * BS:(at + count) * BS]
+        at += count
+    return {"a": bytes(whole)}
+
+
+def system(log=0, uuid=UUID, incompat=4, magic=0xEF53):
+    """Home block 1, as the superblock of a file system."""
+    raw = bytearray(BS)
+    struct.pack_into("<I", raw, 0x18, log)
+    struct.pack_into("<H", raw, 0x38, magic)
+    struct.pack_into("<I", raw, 0x60, incompat)
+    raw[0x68:0x78] = uuid
+    return bytes(raw)
+
+
+def over(content, home):
+    """The image with this home block 1."""
+    return content[:34 * BS] + home + content[35 * BS:]
+
+
+LINE = "transactions 1 copies 1 revoked 0 next 4\n"
+for parts, said in (([(20, 33)], "(0-32):20-52"), ([(40, 10), (16, 23)], "(0-9):40-49,~(10-32):16-38"),
+                    ([(59, 1), (30, 12), (20, 10), (45, 10)], "(0):59,~(IND):50,~(1-12):30-41,~(ETB0):43,~(13-22):20-29,~(23-32):45-54"),
+                    ([(40, 10), (16, 23)], "40-49,~16-38"), ([(20, 33)], "20-59")):
+    row("recover a --extents " + said + " --dry-run", 0, LINE, files=within(FULL, parts))
+    row("recover a --extents " + said + " --dry-run --list", 0, LINE + "home 5\n", files=within(FULL, parts))
+    row("recover a --extents " + said, 0, LINE, files=within(FULL, parts), after=within(RECOVERED, parts))
+    row("recover a --extents " + said, 0, "transactions 0 copies 0 revoked 0 next 4\n", files=within(RECOVERED, parts))
+    row("cat a 9 --extents " + said, 0, NINE, files=within(FULL, parts))
+HERE = within(FULL, [(20, 33)])
+row("recover a --extents (0-9):20-29,~(10-32):29-51", 1, err="jb: Extents Overlap 29\n", files=HERE)
+row("recover a --extents (0-39):20-59,~(40):60", 1, err="jb: Extents PastEnd 60\n", files=HERE)
+row("recover a --extents (0-31):20-51", 1, err="jb: Extents Short 32\n", files=HERE)
+row("recover a --extents (0-32):21-53", 1, err="jb: Super NotVersion2 5\n", files=HERE)
+row("recover a --extents (0-32):90-122", 1, err="jb: Extents NoJournal\n", files=HERE)
+row("cat a 9 --extents (0-31):20-51", 1, err="jb: Extents Short 32\n", files=HERE)
+row("recover a --extents (0-32):16-48", 1, err="jb: Extents Home 16\n", files=within(image(superblock(2, 1), OUT_OF_RANGE), [(16, 33)]))
+row("recover a --extents (0-32):16-48 --dry-run", 1, err="jb: Extents Home 16\n", files=within(image(superblock(2, 1), OUT_OF_RANGE), [(16, 33)]))
+row("recover a --extents (0-32):20-52", 1, err="jb: BadRevoke 1\n", files=within(image(superblock(2, 1), [revoke(2, [], 1025), commit(2)]), [(20, 33)]))
+row("recover a --extents (0-32):20-52", 1, err="jb: Super Feature 2 16\n", files=within(image(superblock(incompat=16)), [(20, 33)]))
+for said in ("x", "(0-32):20-51", "(1-32):20-51", "(0-9):20-29,~(11-32):30-51", "(0-32)20-52", "(0-32):52-20", "(0-32):20-9223372036854775808", "20-52;"):
+    row("recover a --extents " + said, 2, err="jb: bad option\n", files=HERE, beside="--extents")
+for words in ("recover a", "cat a 9"):
+    row(words + " --extents 20-52 --journal j", 2, err="jb: bad option\n", files={**HERE, **parted(FULL)}, beside="--extents")
+    row(words + " --extents 20-52", 2, err="jb: in use a\n", files=HERE, locked="a")
+    row(words + " --extents 20-52", 2, err="jb: cannot read a\n", beside=MISSING)
+row("recover a --list", 2, err="jb: bad option\n", files={"a": FULL}, beside="--list")
+row("recover a --dry-run", 0, LINE, files={"a": FULL})
+row("recover a --dry-run --list", 0, LINE + "home 5\n", files={"a": FULL})
+row("recover a --dry-run --list", 1, err="jb: WriteFault\n", files={"a": FULL}, to="full")
+row("recover a --dry-run", 2, err="jb: in use a\n", files={"a": FULL}, locked="a")
+row("recover a --dry-run", 1, err="jb: HomeOutOfRange 16 2\n", files={"a": image(superblock(2, 1), OUT_OF_RANGE)}, beside="16")
+row("recover a --journal j --dry-run --list", 0, LINE + "home 5\n", files=parted(FULL))
+# the file system's superblock is home block 1
+for home, err in ((system(), ""), (system(log=2), "BlockSize 4096"), (system(log=9), "BlockSize 0"), (system(uuid=bytes(16)), "Uuid"), (system(incompat=2), "Clean"),
+                  (system(uuid=bytes(16), incompat=0), "Uuid"), (system(magic=0xEF52, log=2), "")):
+    before, after = over(FULL, home), over(RECOVERED, home)
+    for words, lay in (("recover a --journal j", parted), ("recover a --extents 20-52", lambda content: within(content, [(20, 33)]))):
+        if err:
+            row(words, 1, err="jb: FileSystem %s\n" % err, files=lay(before))
+            row(words + " --dry-run", 1, err="jb: FileSystem %s\n" % err, files=lay(before))
+        else:
+            row(words, 0, LINE, files=lay(before), after=lay(after))
+        if "BlockSize" in err:
+            row(words + " --force", 1, err="jb: FileSystem %s\n" % err, files=lay(before))
+        else:
+            row(words + " --force", 0, LINE, files=lay(before), after=lay(after))
+            row(words, 0, "transactions 0 copies 0 revoked 0 next 4\n", files=lay(after))
+# a journal without a UUID may be any file system's
+NAMELESS = over(image(superblock(2, 1, uuid=bytes(16)), ONE), system())
+row("recover a --journal j", 0, LINE, files=parted(NAMELESS), after=parted(over(image(superblock(3, uuid=bytes(16)), ONE, written={5: BLOCK_5}), system())))
+# at the front of its image a journal is beside no file system, whatever its home blocks hold
+row("recover a", 0, LINE, files={"a": over(FULL, system(log=2))}, after={"a": over(RECOVERED, system(log=2))})
 row("renumber j", 0, "renumbered blocks 2 next 1\n", files={"j": image(CLEAN, OLD, homes=0)}, after={"j": image(superblock(0), CLEARED, homes=0)})
 row("widen j", 0, "widened limit 8\n", files={"j": image(SMALL, OLD, homes=0)}, after={"j": image(superblock(incompat=3), OLD, homes=0)})
 for words, more in (("recover a", {}), ("cat a 9", {}), ("load a q", {"q": queue(HANDLE)})):

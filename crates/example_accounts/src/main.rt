@@ -8,20 +8,17 @@
 //! `IMAGE` is made where there is no such file. Without it the disk is in memory.
 #![tactic(auto)]
 
-ghost use Rattle.std.specs.Prelude.{◌≡◌};
-
 mod accounts;
-mod failed;
-mod image;
 mod moving;
 mod opening;
 
-use crate::accounts::{Balances, SIZE, total};
-use crate::failed::Failed;
-use crate::image::open_image;
+use crate::accounts::{ACCOUNTS, Balances, OPENING, SIZE, total};
 use crate::moving::Moving;
-use crate::opening::Opening;
-use jb_journal::{Disk, FixedClock, MemoryDisk, Options, Ran, Stamp, Width, format, recover, run};
+use crate::opening::{Opening, read_all};
+use jb_journal::{
+    Disk, Geometry, JournalFault, MemoryDisk, Options, SystemClock, Width, format, open_or_create,
+    run,
+};
 use std::env;
 use std::fs::File;
 use std::io::Write;
@@ -31,60 +28,44 @@ use std::sync::{Mutex, Wait};
 use std::thread::Threads;
 use std::time::Clock;
 
-/// How many blocks the journal has, and how many home blocks there are after it.
+/// How many blocks the journal has.
 const JOURNAL: u32 = 1024;
 
-const BLOCKS: u64 = 1024 + 100;
-
-/// Recovers the journal, moves money, recovers it again, and gives what the accounts hold then.
+/// Moves money, and gives what the accounts hold then.
 fn run_accounts<D: Disk + Drop + Send, R: AllocGlobal + Threads + Wait + Clock + Sync>(
     rt: &R,
     disk: D,
     moves: u64,
-) -> Result<u64, Failed> {
+) -> Result<u64, JournalFault> {
     let (balances, disk) = opened(rt, disk)?;
     let moving = Moving {
         moves,
         balances: Mutex::new(balances),
     };
-    let Ran { disk, answers, .. } = run(rt, disk, clock(), threads(4), &moving)?;
+    let ran = run(rt, disk, SystemClock::new(rt), Options::new(4), &moving)?;
+    let (mut disk, answers) = ran.durable()?;
     for answer in answers {
         answer?;
     }
-    let (balances, _disk) = opened(rt, disk)?;
-    Ok(total(&balances))
+    Ok(total(&read_all(&mut disk)?))
 }
 
-/// Recovers the journal, and reads what the accounts hold.
+/// Reads what the accounts hold; in a new journal opens them first.
 fn opened<D: Disk + Drop + Send, R: AllocGlobal + Threads + Wait + Clock + Sync>(
     rt: &R,
     disk: D,
-) -> Result<(Balances, D), Failed> {
+) -> Result<(Balances, D), JournalFault> {
     let mut disk = disk;
-    recover(rt.alloc(), &mut disk)?;
-    let Ran { disk, answers, .. } = run(rt, disk, clock(), threads(1), &Opening)?;
+    let balances = read_all(&mut disk)?;
+    if total(&balances) != 0 {
+        return Ok((balances, disk));
+    }
+    let ran = run(rt, disk, SystemClock::new(rt), Options::new(1), &Opening)?;
+    let (disk, answers) = ran.durable()?;
     for answer in answers {
-        return Ok((answer?, disk));
+        answer?;
     }
-    Err(Failed::Memory)
-}
-
-/// How the journal is run by so many threads.
-fn threads(workers: usize) -> Options
-    ensures { result.workers ≡ workers }
-{
-    Options {
-        workers,
-        checkpoint: true,
-        level: 0,
-    }
-}
-
-/// The clock whose stamp is written into each commit block.
-fn clock() -> FixedClock {
-    FixedClock {
-        stamp: Stamp { sec: 0, nsec: 0 },
-    }
+    Ok(([OPENING; ACCOUNTS], disk))
 }
 
 /// Runs in memory, or in the file that is named, with as many moves by each thread as the second word says.
@@ -92,10 +73,12 @@ fn run_words<R: Files<File = File> + AllocGlobal + Threads + Wait + Clock + Sync
     rt: &R,
     image: Option<String>,
     moves: Option<String>,
-) -> Result<u64, Failed> {
+) -> Result<u64, JournalFault> {
     match (image, moves) {
         (Some(image), Some(moves)) => {
-            run_accounts(rt, open_image(rt, &image)?, moves.parse().unwrap_or(0))
+            let geometry = Geometry::new(SIZE, JOURNAL, ACCOUNTS as u64);
+            let disk = open_or_create(rt, &image, geometry)?;
+            run_accounts(rt, disk, moves.parse().unwrap_or(0))
         }
         _ => run_in_memory(rt, 250),
     }
@@ -105,10 +88,9 @@ fn run_words<R: Files<File = File> + AllocGlobal + Threads + Wait + Clock + Sync
 fn run_in_memory<R: AllocGlobal + Threads + Wait + Clock + Sync>(
     rt: &R,
     moves: u64,
-) -> Result<u64, Failed> {
-    let Ok(mut disk) = MemoryDisk::new(rt.alloc(), SIZE, BLOCKS) else {
-        return Err(Failed::Memory);
-    };
+) -> Result<u64, JournalFault> {
+    let blocks = u64::from(JOURNAL) + ACCOUNTS as u64;
+    let mut disk = MemoryDisk::new(rt.alloc(), SIZE, blocks)?;
     format(&mut disk, JOURNAL, 0, [0; 16], Width::Narrow)?;
     run_accounts(rt, disk, moves)
 }
@@ -120,8 +102,8 @@ fn main(rt: HostRuntime) -> ExitCode {
     let (image, moves) = (words.nth(1), words.next());
     let told = match run_words(&rt, image, moves) {
         Ok(sum) => writeln!(rt.stdout(), "the accounts hold {sum}"),
-        Err(failed) => {
-            let _told = writeln!(rt.stderr(), "{failed}");
+        Err(fault) => {
+            let _told = writeln!(rt.stderr(), "{fault}");
             return ExitCode::from(1);
         }
     };

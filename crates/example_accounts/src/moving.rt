@@ -2,8 +2,7 @@
 ghost use Rattle.std.specs.Prelude.{◌<◌};
 
 use crate::accounts::{Balances, put};
-use crate::failed::Failed;
-use jb_journal::{Client, Clock, Disk, Handle, Origin, TouchFault, Worker};
+use jb_journal::{Client, Clock, Disk, Handle, JournalFault, Origin, TouchFault, Worker};
 use std::sync::ledger::Ledger;
 use std::sync::{Mutex, Wait};
 use std::time;
@@ -15,7 +14,7 @@ pub struct Moving {
     pub balances: Mutex<Balances>,
 }
 
-impl Worker<Result<(), Failed>> for Moving {
+impl Worker<Result<(), JournalFault>> for Moving {
     ghost use Rattle.jb_journal.specs.Client.{IsClient};
 
     ghost answers = { λ moving workers at stopped answer. Unit {0} };
@@ -25,7 +24,7 @@ impl Worker<Result<(), Failed>> for Moving {
         client: &mut Client<'a, D, C, R, H, N>,
         _workers: usize,
         at: usize,
-    ) -> Result<(), Failed>
+    ) -> Result<(), JournalFault>
         requires client { IsClient H.begun client.old }
     {
         let mut draw = at as u64;
@@ -53,7 +52,7 @@ impl Moving {
         &self,
         client: &mut Client<'a, D, C, R, H, N>,
         draw: u64,
-    ) -> Result<Option<u64>, Failed>
+    ) -> Result<Option<u64>, JournalFault>
         requires { IsClient H.begun client.old }
         ensures { IsClient H.begun client.new }
     {

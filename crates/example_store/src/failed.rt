@@ -1,7 +1,5 @@
 //! What may go wrong here.
-use jb_journal::{
-    Fault, FormatFault, HandleFault, ReadHomeFault, RecoverFault, RunFault, TouchFault, WaitFault,
-};
+use jb_journal::JournalFault;
 use std::alloc::AllocError;
 use std::io;
 use thiserror::Error;
@@ -15,30 +13,12 @@ pub enum Failed {
     /// The home block of the key has no room for one more.
     #[error("there are {0} keys in the home block already")]
     NoRoom(usize),
-    /// The image cannot be opened, made or read, or nothing can be written to standard output.
+    /// Nothing can be read from standard input or written to standard output.
     #[error("{0}")]
     Io(#[from] io::Error),
-    /// The image has no length.
+    /// A call of the journal did not do what it was called for.
     #[error("{0}")]
-    Disk(#[from] Fault),
-    /// No journal was made.
-    #[error("{0}")]
-    Format(#[from] FormatFault),
-    /// The journal was not recovered.
-    #[error("{0}")]
-    Recover(#[from] RecoverFault),
-    /// The journal was not run.
-    #[error("{0}")]
-    Run(#[from] RunFault),
-    /// A handle did not stop.
-    #[error("{0}")]
-    Change(#[from] HandleFault<TouchFault>),
-    /// A handle was not committed.
-    #[error("{0}")]
-    Wait(#[from] WaitFault),
-    /// A home block was not read.
-    #[error("{0}")]
-    Read(#[from] ReadHomeFault),
+    Journal(#[from] JournalFault),
     /// There was no memory.
     #[error("out of memory")]
     Memory(#[from(alloc)] AllocError),

@@ -10,70 +10,66 @@
 
 mod command;
 mod failed;
-mod image;
 mod serving;
 mod store;
 mod table;
 
 use crate::command::{Command, parse};
 use crate::failed::Failed;
-use crate::image::open_image;
 use crate::serving::Serving;
 use jb_journal::{
-    BlockSize, Disk, FixedClock, MemoryDisk, Options, Ran, Stamp, Width, format, recover, run,
+    BlockSize, Disk, Geometry, JournalFault, MemoryDisk, Options, SystemClock, Width, format,
+    open_or_create, run,
 };
+use std::alloc::Global;
 use std::env;
 use std::fs::File;
 use std::io::{Input, Write};
 use std::process::ExitCode;
 use std::rt::Files;
-use std::sync::Wait;
+use std::sync::{Mutex, Wait};
 use std::thread::Threads;
 use std::time::Clock;
 
 /// The size of a block.
 const SIZE: BlockSize = BlockSize::OneKib;
 
-/// How many blocks the journal has, and how many there are with the home blocks after it.
+/// How many blocks the journal has.
 const JOURNAL: u32 = 256;
 
-const BLOCKS: u64 = 256 + store::HOMES;
-
-/// Recovers the journal, and obeys the commands.
+/// Runs the worker on a journal, and gives what it answered once all that it changed stands.
 fn serve<D: Disk + Drop + Send, R: AllocGlobal + Threads + Wait + Clock + Sync>(
     rt: &R,
     disk: D,
-    serving: Serving,
+    serving: &Serving,
+) -> Result<Vec<Result<(), Failed>>, JournalFault> {
+    let ran = run(rt, disk, SystemClock::new(rt), Options::new(1), serving)?;
+    let (_disk, answers) = ran.durable()?;
+    Ok(answers)
+}
+
+/// Obeys the commands in the image of this name, which is made where there is none, or in memory.
+fn serve_on<R: Files<File = File> + AllocGlobal + Threads + Wait + Clock + Sync>(
+    rt: &R,
+    image: Option<String>,
+    serving: &Serving,
 ) -> Result<(), Failed> {
-    let mut disk = disk;
-    recover(rt.alloc(), &mut disk)?;
-    let options = Options {
-        workers: 1,
-        checkpoint: true,
-        level: 0,
+    let geometry = Geometry::new(SIZE, JOURNAL, store::HOMES);
+    let answers = match image {
+        Some(image) => serve(rt, open_or_create(rt, &image, geometry)?, serving)?,
+        None => serve(rt, in_memory(rt.alloc())?, serving)?,
     };
-    let clock = FixedClock {
-        stamp: Stamp { sec: 0, nsec: 0 },
-    };
-    let Ran { answers, .. } = run(rt, disk, clock, options, &serving)?;
     for answer in answers {
         answer?;
     }
     Ok(())
 }
 
-/// Obeys the commands in memory, or in the image of this name.
-fn serve_on<R: Files<File = File> + AllocGlobal + Threads + Wait + Clock + Sync>(
-    rt: &R,
-    image: Option<String>,
-    serving: Serving,
-) -> Result<(), Failed> {
-    if let Some(image) = image {
-        return serve(rt, open_image(rt, &image)?, serving);
-    }
-    let mut disk = MemoryDisk::new(rt.alloc(), SIZE, BLOCKS)?;
+/// A disk in memory with a new journal.
+fn in_memory(alloc: Global) -> Result<MemoryDisk, JournalFault> {
+    let mut disk = MemoryDisk::new(alloc, SIZE, u64::from(JOURNAL) + store::HOMES)?;
     format(&mut disk, JOURNAL, 0, [0; 16], Width::Narrow)?;
-    serve(rt, disk, serving)
+    Ok(disk)
 }
 
 /// The commands of standard input.
@@ -92,7 +88,11 @@ fn main(rt: HostRuntime) -> ExitCode {
     let served = match commands(&rt) {
         Ok(commands) => {
             let out = rt.stdout();
-            serve_on(&rt, words.nth(1), Serving { commands, out })
+            let serving = Serving {
+                commands,
+                out: Mutex::new(out),
+            };
+            serve_on(&rt, words.nth(1), &serving)
         }
         Err(failed) => Err(failed),
     };

@@ -1,7 +1,7 @@
 //! The store: each key is in one home block, and each change of it is a handle.
 use crate::failed::Failed;
 use crate::table::{BYTES, Block, Table};
-use jb_journal::{Client, Clock, Disk, Handle, Origin, TouchFault};
+use jb_journal::{Client, Clock, Disk, Handle, JournalFault, Origin, TouchFault};
 use std::sync::Wait;
 use std::sync::ledger::Ledger;
 use std::time;
@@ -25,7 +25,8 @@ pub fn put<'a, D: Disk, C: Clock, R: Wait + time::Clock, H: Origin, N: Ledger>(
 {
     let mut table = table_of(client, key)?;
     table.put(key, value)?;
-    write(client, key, &table)
+    write(client, key, &table)?;
+    Ok(())
 }
 
 /// The value at a key.
@@ -35,7 +36,7 @@ pub fn put<'a, D: Disk, C: Clock, R: Wait + time::Clock, H: Origin, N: Ledger>(
 pub fn get<'a, D: Disk, C: Clock, R: Wait + time::Clock, H: Origin, N: Ledger>(
     client: &Client<'a, D, C, R, H, N>,
     key: u64,
-) -> Result<Option<u64>, Failed> {
+) -> Result<Option<u64>, JournalFault> {
     let table = table_of(client, key)?;
     Ok(table.get(key))
 }
@@ -47,7 +48,7 @@ pub fn get<'a, D: Disk, C: Clock, R: Wait + time::Clock, H: Origin, N: Ledger>(
 pub fn delete<'a, D: Disk, C: Clock, R: Wait + time::Clock, H: Origin, N: Ledger>(
     client: &mut Client<'a, D, C, R, H, N>,
     key: u64,
-) -> Result<(), Failed>
+) -> Result<(), JournalFault>
     requires { IsClient H.begun client.old }
     ensures { IsClient H.begun client.new }
 {
@@ -60,7 +61,7 @@ pub fn delete<'a, D: Disk, C: Clock, R: Wait + time::Clock, H: Origin, N: Ledger
 fn table_of<'a, D: Disk, C: Clock, R: Wait + time::Clock, H: Origin, N: Ledger>(
     client: &Client<'a, D, C, R, H, N>,
     key: u64,
-) -> Result<Table, Failed> {
+) -> Result<Table, JournalFault> {
     let mut block: Block = [0; BYTES];
     client.read(key % HOMES, &mut block)?;
     Ok(Table::of_block(&block))
@@ -71,7 +72,7 @@ fn write<'a, D: Disk, C: Clock, R: Wait + time::Clock, H: Origin, N: Ledger>(
     client: &mut Client<'a, D, C, R, H, N>,
     key: u64,
     table: &Table,
-) -> Result<(), Failed>
+) -> Result<(), JournalFault>
     requires { IsClient H.begun client.old }
     ensures { IsClient H.begun client.new }
 {

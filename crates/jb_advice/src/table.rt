@@ -21,15 +21,23 @@ macro_rules! diagnostics {
                 "too long ", "NAME", "a queue text has at most 16777216 bytes, and a certificate 150994944";
                 "ReadFault", "", "the file cannot be read to the end of its journal: it is a folder, or its device fails";
                 "Super ShortBlock", "", "a journal begins with a superblock of 1024 bytes, and the file is shorter";
-                "Super NoMagic", "", "the file does not begin with a journal; debugfs takes the journal of a file system out of it";
+                "Super NoMagic", "", "the file does not begin with a journal; that of a file system is copied out by debugfs -R 'dump <8> FILE' DEVICE";
                 "Super NotVersion2 ", "#", "jb takes superblocks of version 2 alone";
                 "Super BlockSize ", "#", "a block has 1024, 2048 or 4096 bytes";
-                "Super Geometry", "", "the file has not all blocks of its journal, or the superblock's numbers make none";
-                "Super Feature ", "# #", "the journal has features that jb has not, as checksums (2 16) or fast commits (2 32); it is as it was";
+                "Super Geometry", "", "the file has not all blocks of its journal, or that of --journal has more, or the superblock's numbers make none";
+                "Super Feature ", "# #", "the journal has features that jb has not, as checksums (2 16, from the first mount on since 2016) or fast commits (2 32): run e2fsck, or mount the file system; it is as it was";
+                "FileSystem BlockSize ", "#", "the file system has blocks of so many bytes, and the journal others: it is not its own; it is as it was";
+                "FileSystem Uuid", "", "the journal is that of another file system, or tune2fs -U has changed the UUID since: --force writes to it then; it is as it was";
+                "FileSystem Clean", "", "the file system needs no recovery (needs_recovery is clear), so the journal is an old copy; it is as it was; --force writes to it all the same";
+                "Extents Overlap ", "#", "this block is in two of the extents: give the list as debugfs -R 'stat <8>' prints it";
+                "Extents PastEnd ", "#", "this block of the extents is not in the image: give the list of this image";
+                "Extents Short ", "#", "the extents have so many blocks, and the journal more: give all of them";
+                "Extents NoJournal", "", "no journal begins at the first of the extents: give the list as debugfs -R 'stat <8>' prints it";
+                "Extents Home ", "#", "a copy is for this home block, which holds the journal itself: the extents are not the journal's, or it is damaged; the image is as it was";
                 "Geometry", "", "--journal is 9 at least and 2147483647 at most";
                 "BadRevoke ", "#", "this block of the journal is damaged; the image is as it was";
-                "HomeOutOfRange ", "# #", "the image is as it was; it is to be made whole, and now has so many home blocks": "#";
-                "NoHome ", "#", "home blocks are numbered from 0, and the image has so many": "#";
+                "HomeOutOfRange ", "# #", "the image is as it was; it is to be made whole, or its journal given by --journal, and now has so many home blocks": "#";
+                "NoHome ", "#", "home blocks are numbered from 0; jb widen gives numbers past 4294967295; the image has so many": "#";
                 "NeedsRecovery", "", "run jb recover on the image first";
                 "NumbersSpent", "", "run jb renumber on the image first";
                 "BlockSize", "", "the first line of the queue text is to have the image's block size";
@@ -42,6 +50,7 @@ macro_rules! diagnostics {
                 "commit Memory", "", "out of memory: run jb recover on the image, and see what it holds";
                 "commit Aborted", "", "a read, write or sync of the image failed: run jb recover on it, and see what it holds";
                 "checkpoint Memory", "", "out of memory: run jb recover on the image, which writes home what is committed";
+                "checkpoint Stopped", "", "the commits ended early, as the line before says: run jb recover on the image, which writes home what is committed";
                 "checkpoint Aborted", "", "a read, write or sync of the image failed: run jb recover on it, and see what it holds";
                 "Accounts", "", "this cannot happen: the program is wrong";
                 "DeviceFault", "", "a read, write or sync of the image failed: run the command again once its device is well";
@@ -53,7 +62,9 @@ macro_rules! diagnostics {
                 "--journal", "4294967295 at most";
                 "--max", "4294967295 at most";
                 "--uuid", "32 hexadecimal digits";
-                "--homes", "a number with which the image has less than 2^63 bytes";
+                "--homes", "a number with which the image has less than 2^63 bytes; without --wide 4294967296 at most";
+                "--extents", "a list as debugfs prints it, as (0-1023):8193-9216, (1024):9300; not with --journal";
+                "--list", "for --dry-run alone";
                 "--threads", "1 to 64";
             }
         }

@@ -10,10 +10,10 @@ use Rattle.jb_cost.specs.Pieces.{pieces, pieces_from}
 use Rattle.jb_cost.proofs.Cuts.{rises-le}
 use Rattle.jb_batch.specs.Batch.{gathered}
 use Rattle.jb_deck.specs.declared.done.Entry.{Entry}
-use Rattle.jb_desk.specs.declared.fault.BeginFault.{BeginFault}
-use Rattle.jb_desk.specs.Account.{Account, failed_of}
-use Rattle.jb_desk.specs.Calls.{Call, Opened, Enqueued, Took, Settled, Failed, Called, IsCutOf, handles_in, stops_of}
-use Rattle.jb_desk.specs.Tied.{EveryRun}
+use Rattle.jb_book.specs.declared.fault.BeginFault.{BeginFault}
+use Rattle.jb_book.specs.Account.{Account, failed_of}
+use Rattle.jb_book.specs.Calls.{Call, Opened, Enqueued, Took, Settled, Failed, Called, IsCutOf, handles_in, stops_of}
+use Rattle.jb_book.specs.Tied.{EveryRun}
 use Rattle.jb_book_client.specs.Client.{Have, Settles, Stand, two_stops}
 
 -- ---- the groups of a cut of two

@@ -1,22 +1,14 @@
--- A call of a book adds to a list of calls.
-use Rattle.std.proofs.Common.{◌≡◌, ℕ, List, ◌++◌, None, Result, Ok, Err, OnOk, OnErr, IfErr, refl, ap, subst, ◌∙◌}
+-- What a commit settles adds to a list of calls.
+use Rattle.std.proofs.Common.{◌≡◌, ℕ, List, ◌++◌, refl, ap, subst, ◌∙◌}
 use Rattle.jb_cost.specs.Pieces.{pieces}
 use Rattle.jb_batch.specs.Batch.{Gathered, gathered}
 use Rattle.jb_batch.specs.Prepared.{Planned}
 use Rattle.jb_deck.specs.Done.{entries_of}
 use Rattle.jb_deck.specs.declared.done.Done.{Done}
 use Rattle.jb_deck.specs.declared.done.Entry.{Entry}
-use Rattle.jb_desk.specs.declared.fault.BeginFault.{BeginFault}
-use Rattle.jb_desk.specs.Account.{Account, CanTake, RefusesBegin, Settles as SettlesTo, granted_to, refusal, settled_to, taken_all}
-use Rattle.jb_desk.specs.Calls.{Call, Opened, AreOfFirst, Does, IsCutOf}
+use Rattle.jb_book.specs.Account.{Account, CanTake, Settles as SettlesTo, settled_to, taken_all}
+use Rattle.jb_book.specs.Calls.{AreOfFirst, IsCutOf}
 use Rattle.jb_book_client.specs.Client.{IsPlanOf, Settles, Tells}
-
--- an open that is granted or refused
-pub opened : (seat credits : ℕ) (calls : List Call) (old new : Account) (r : Result (Unit {0}) BeginFault)
-    → OnOk r (new ≡ granted_to seat credits old) → OnOk r (refusal old seat credits ≡ None) → OnErr r (new ≡ old) → IfErr r (RefusesBegin old seat credits)
-    → Does (Opened seat credits r) calls old new
-opened seat credits calls old new (Ok unit) ok granted err refused = (granted, ok)
-opened seat credits calls old new (Err fault) ok granted err refused = (refused, err)
 
 -- the batch of a book
 abbrev pub batch_of : Account → Gathered

@@ -9,8 +9,8 @@ use Rattle.jb_batch.specs.Prepared.{Planned, IsPlanned}
 use Rattle.jb_deck.specs.Done.{entries_of}
 use Rattle.jb_deck.specs.declared.done.Done.{Done}
 use Rattle.jb_deck.specs.declared.done.Entry.{Entry}
-use Rattle.jb_desk.specs.Account.{Account, CanTake}
-use Rattle.jb_desk.specs.Calls.{Call, Took, Settled, Called, AreOfFirst, IsCutOf, handles_in}
+use Rattle.jb_book.specs.Account.{Account, CanTake}
+use Rattle.jb_book.specs.Calls.{Call, Took, Settled, Called, AreOfFirst, IsCutOf, handles_in}
 
 -- where some calls of a new book led to the account before, these calls and this one lead to the account after
 abbrev pub Goes : Call → Account → Account → Type 0

@@ -3,25 +3,18 @@ ghost use Rattle.std.specs.Prelude.{◌≡◌, ◌++◌, Ok, None, IfSome};
 ghost use Rattle.jb_handle.specs.Handle.{changes_of};
 ghost use Rattle.jb_batch.specs.Prepared.{IsPlanned};
 ghost use Rattle.jb_deck.specs.Done.{entries_of};
-ghost use Rattle.jb_desk.specs.Calls.{Opened, Enqueued};
+ghost use Rattle.jb_book.specs.Calls.{Enqueued};
 ghost use Rattle.jb_book_client.specs.Client.{Goes, Settles, Tells, IsPlanOf};
 
 use jb_batch::{Batch, Prepared, prepare};
 use jb_block::Stamp;
+use jb_book::Book;
+use jb_book::laws::commit_tells;
 use jb_deck::{BatchFault, Deck, Done};
-use jb_desk::laws::commit_tells;
-use jb_desk::{BeginFault, Book};
 use jb_disk::Disk;
 use jb_handle::Handle;
 use std::alloc::Global;
 use std::marker::Brand;
-
-/// A seat begins a handle of so many credits.
-pub fn begin(book: &mut Book<Brand>, seat: u64, credits: u32) -> Result<(), BeginFault>
-    ensures { Goes (Opened seat credits result) book.old book.new }
-{
-    book.open(seat, credits)
-}
 
 /// The handle of a seat stops. `None` where the book refuses it.
 pub fn stop(book: &mut Book<Brand>, seat: u64, handle: Handle<()>) -> Option<u64>

@@ -3,11 +3,11 @@ ghost use Rattle.std.specs.Prelude.{◌≡◌, ◌++◌, IfSome};
 ghost use Rattle.jb_handle.specs.Handle.{changes_of};
 ghost use Rattle.jb_book_client.specs.Client.{Stand};
 
-use crate::calls::{begin, settle, stop};
+use crate::calls::{settle, stop};
 use jb_block::Stamp;
+use jb_book::Book;
+use jb_book::laws::every_run;
 use jb_deck::{Deck, Entry};
-use jb_desk::Book;
-use jb_desk::laws::every_run;
 use jb_disk::Disk;
 use jb_handle::Handle;
 use std::alloc::Global;
@@ -31,8 +31,8 @@ pub fn two_handles<D: Disk>(
 {
     every_run();
     let mut book = Book::new(alloc, deck.shape(), u64::from(deck.usable()));
-    let _first = begin(&mut book, 1, first.credits());
-    let _second = begin(&mut book, 2, second.credits());
+    let _first = book.open(1, first.credits());
+    let _second = book.open(2, second.credits());
     let one = stop(&mut book, 1, first);
     let two = stop(&mut book, 2, second);
     let _one = one?;

@@ -1,6 +1,11 @@
 //! A batch is committed, and the journal is closed.
-ghost use Rattle.std.specs.Prelude.{IfOk};
+ghost use Rattle.std.specs.Prelude.{◌∷◌, ◌⊎◌, [], IfOk};
 ghost use Rattle.jb_client.specs.Client.{LeavesAll};
+ghost use Rattle.jb_client.specs.Programs.{all_changes, commits, disk_either, HasChanges, LeftByProgram};
+ghost use Rattle.jb_disk.specs.Kept.{Kept};
+ghost use Rattle.jb_disk.specs.Time.{LeavesOnly};
+ghost use Rattle.jb_ring.specs.Leaving.{AllHave};
+ghost use Rattle.jb_deck.specs.Gathering.{groups_in};
 
 use crate::commit::{commit, give_up};
 use jb_batch::Prepared;
@@ -15,7 +20,8 @@ use std::alloc::Global;
 /// # Errors
 ///
 /// The disk, where the batch is not committed: the journal was not opened, the batch was refused, or a call of the disk
-/// failed.
+/// failed. Whatever a crash leaves of it could have been left before, or is the same journal, recovered to the homes as
+/// they stood at first with the handles of the first groups of the batch.
 pub fn commit_and_close<D: Disk>(
     alloc: Global,
     disk: D,
@@ -23,10 +29,17 @@ pub fn commit_and_close<D: Disk>(
     stamp: Stamp,
 ) -> Result<D, D>
     ensures all { D.honest disk → IfOk result (λ closed. LeavesAll D.may_leave (D.size disk) (D.count disk)
-        (D.newest disk) batch.batch.handles closed) }
+        (D.newest disk) batch.batch.handles (groups_in batch.groups) closed) }
+    ensures leaves { D.honest disk → LeavesOnly D.moment D.left_since disk (disk_either result)
+        (λ c. D.may_leave disk c ⊎ LeftByProgram (D.size disk) (D.count disk) (D.newest disk) (commits batch ∷ []) c) }
+    ensures ends { D.honest disk → IfOk result (λ closed. AllHave D.may_leave closed
+        (HasChanges (D.size disk) (D.count disk) (D.newest disk) (all_changes (commits batch ∷ []))
+        (groups_in batch.groups))) }
+    ensures kept { Kept D.size D.count D.honest disk (disk_either result) }
 {
-    jb_since::since::<D>();
-    jb_deck::laws::stood();
+    jb_deck::laws::since::<D>();
+    jb_deck::laws::holds::<D>();
+    jb_deck::laws::opening();
     let mut deck = match Deck::open(alloc, disk) {
         Ok(deck) => deck,
         Err((disk, _)) => {

@@ -1,5 +1,5 @@
 //! One call of a client: a batch is committed, and what a refused one hands back is given up.
-ghost use Rattle.std.specs.Prelude.{◌≡◌, false, OnOk};
+ghost use Rattle.std.specs.Prelude.{◌≡◌, ◌+◌, false, map, OnOk};
 ghost use Rattle.jb_disk.specs.Kept.{Kept};
 ghost use Rattle.jb_disk.specs.Time.{LeavesOnly};
 ghost use Rattle.jb_batch.specs.Prepared.{IsPlanned};
@@ -7,7 +7,8 @@ ghost use Rattle.jb_deck.specs.Gathering.{groups_in};
 ghost use Rattle.jb_ring.specs.Leaving.{AllHave};
 ghost use Rattle.jb_ring.specs.Log.{standing};
 ghost use Rattle.jb_deck.specs.Trailing.{FollowsSome};
-ghost use Rattle.jb_since.specs.Since.{IsEnded};
+ghost use Rattle.jb_deck.specs.Changes.{settles};
+ghost use Rattle.jb_deck.specs.Since.{IsEnded, LeftInCommit};
 
 use jb_batch::Prepared;
 use jb_block::Stamp;
@@ -47,15 +48,15 @@ pub(crate) fn commit<D: Disk>(
     ensures planned { IsPlanned batch }
     ensures kept { Kept D.size D.count D.honest deck.old.disk deck.new.disk }
     ensures up { OnOk result ((deck.old.aborted ≡ false) × (deck.new.aborted ≡ false)) }
-    ensures ended { D.honest deck.old.disk → OnOk result (IsEnded D.newest deck.old batch.batch.handles deck.new) }
-    ensures leaves { deck.old.aborted ≡ false → D.honest deck.old.disk
+    ensures numbers { OnOk result (deck.new.log.next ≡ deck.old.log.next + groups_in batch.groups) }
+    ensures ended { D.honest deck.old.disk → OnOk result (IsEnded D.newest deck.old
+        (map settles batch.batch.handles) deck.new) }
+    ensures left { deck.old.aborted ≡ false → D.honest deck.old.disk
         → LeavesOnly D.moment D.left_since deck.old.disk deck.new.disk
-        (FollowsSome deck.old.log.sb (D.size deck.old.disk) (D.count deck.old.disk)
-        (standing deck.old.log deck.old.groups (D.newest deck.old.disk)) batch.batch.handles batch.groups 0
-        (groups_in batch.groups)) }
+        (LeftInCommit D.newest (D.size deck.old.disk) (D.count deck.old.disk) deck.old batch) }
     ensures now { deck.old.aborted ≡ false → D.honest deck.old.disk
         → OnOk result (AllHave D.may_leave deck.new.disk
-        (FollowsSome deck.old.log.sb (D.size deck.old.disk) (D.count deck.old.disk)
+        (FollowsSome deck.old.log.sb deck.old.log.next (D.size deck.old.disk) (D.count deck.old.disk)
         (standing deck.old.log deck.old.groups (D.newest deck.old.disk)) batch.batch.handles batch.groups
         (groups_in batch.groups) (groups_in batch.groups))) }
 {

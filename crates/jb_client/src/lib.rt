@@ -5,7 +5,9 @@ mod closed;
 mod commit;
 mod lives;
 mod prefix;
+mod reuse;
 
 pub use closed::commit_and_close;
-pub use lives::{Life, two_lives};
+pub use lives::{Failure, Life, Lived, two_lives};
 pub use prefix::commit_three;
+pub use reuse::reuse_home;

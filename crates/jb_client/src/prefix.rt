@@ -1,6 +1,9 @@
 //! Three batches, with a checkpoint before the last one.
-ghost use Rattle.std.specs.Prelude.{IfOk, ◌++◌};
+ghost use Rattle.std.specs.Prelude.{IfOk, ◌+◌, ◌∷◌, ◌⊎◌, ◌++◌, []};
+ghost use Rattle.jb_disk.specs.Time.{LeavesOnly};
+ghost use Rattle.jb_deck.specs.Gathering.{groups_in};
 ghost use Rattle.jb_client.specs.Client.{LeavesPrefix};
+ghost use Rattle.jb_client.specs.Programs.{commits, disk_after, LeftByProgram};
 
 use crate::commit::{commit, give_up};
 use jb_batch::Prepared;
@@ -17,7 +20,8 @@ use std::alloc::Global;
 /// # Errors
 ///
 /// The disk, where the third batch is not committed: the journal was not opened, a batch was refused, there was nothing
-/// to checkpoint, or a call of the disk failed.
+/// to checkpoint, or a call of the disk failed. Whatever a crash leaves of it could have been left before, or is the
+/// same journal, recovered to some whole batches, in order, and the first groups of the next one.
 pub fn commit_three<D: Disk + Drop>(
     alloc: Global,
     disk: D,
@@ -27,9 +31,15 @@ pub fn commit_three<D: Disk + Drop>(
     stamp: Stamp,
 ) -> Result<Deck<D>, D>
     ensures prefix { D.honest disk → IfOk result (λ deck. LeavesPrefix D.may_leave D.moment D.left_since (D.size disk)
-        (D.count disk) (D.newest disk) (first.batch.handles ++ second.batch.handles) third deck.disk) }
+        (D.count disk) (D.newest disk) (first.batch.handles ++ second.batch.handles)
+        (groups_in first.groups + groups_in second.groups) third deck.disk) }
+    ensures leaves { D.honest disk → LeavesOnly D.moment D.left_since disk (disk_after result)
+        (λ c. D.may_leave disk c ⊎ LeftByProgram (D.size disk) (D.count disk) (D.newest disk)
+        (commits first ∷ commits second ∷ commits third ∷ []) c) }
 {
-    jb_since::since::<D>();
+    jb_deck::laws::since::<D>();
+    jb_deck::laws::holds::<D>();
+    jb_deck::laws::opening();
     let mut deck = match Deck::open(alloc, disk) {
         Ok(deck) => deck,
         Err((disk, _)) => {

@@ -1,7 +1,7 @@
 //! Each client is run, and the homes of its disk are compared after a recovery.
 
 use jb_block::{BlockSize, Stamp, Width};
-use jb_client::{Life, commit_and_close, commit_three, two_lives};
+use jb_client::{Failure, Life, Lived, commit_and_close, commit_three, reuse_home, two_lives};
 use jb_deck::{Batch, Prepared, is_batch, prepare};
 use jb_disk::{Disk, MemoryDisk};
 use jb_front::format;
@@ -159,34 +159,49 @@ fn three_batches_and_one_that_is_closed(rt: HostRuntime) -> Result<(), Fail> {
     Ok(())
 }
 
-/// How many calls of the disk each of two lives has, and the first bytes of the homes after both.
-const LIVES: [(u64, u64, [u8; 4]); 5] = [
-    (1000, 1000, [0x11, 0x22, 0x23, 0]),
-    (1000, 0, [0x11, 0x12, 0, 0]),
-    // the power fails while the second batch is committed
-    (1000, 38, [0x11, 0x12, 0, 0]),
-    (0, 1000, [0, 0x22, 0x23, 0]),
-    (0, 0, [0, 0, 0, 0]),
+/// How many calls of the disk each of two lives and the first recovery after it has; whether each batch is reported as
+/// committed; and the first bytes of the homes after both.
+type LivesRow = ((u64, u64), u64, (bool, bool), [u8; 4]);
+
+static LIVES: [LivesRow; 7] = [
+    ((1000, 1000), 1000, (true, true), [0x11, 0x22, 0x23, 0]),
+    // the power fails in the recovery too: before anything is written, and after a home is
+    ((1000, 1000), 0, (true, true), [0x11, 0x22, 0x23, 0]),
+    ((1000, 1000), 9, (true, true), [0x11, 0x22, 0x23, 0]),
+    ((1000, 0), 1000, (true, false), [0x11, 0x12, 0, 0]),
+    // while the second batch is committed
+    ((1000, 38), 1000, (true, false), [0x11, 0x12, 0, 0]),
+    ((0, 1000), 1000, (false, true), [0, 0x22, 0x23, 0]),
+    ((0, 0), 0, (false, false), [0, 0, 0, 0]),
 ];
 
-/// The disk after two lives of so many calls, after which all that was not synced is lost.
+/// A power failure after so many calls, after which all that was not synced is lost.
+fn failure(alloc: Global, calls: u64) -> Failure {
+    Failure {
+        calls,
+        choice: Vec::new(alloc),
+    }
+}
+
+/// The journal after two lives.
 fn after_lives(
     alloc: Global,
     disk: MemoryDisk,
     calls: (u64, u64),
-) -> Result<Option<MemoryDisk>, Fail> {
+    again: u64,
+) -> Result<Option<Lived>, Fail> {
     let (first, second) = pair(alloc, (0, "h w0=11 w1=12\n"), (0, "h w1=22\nh w2=23\n"))?;
     let first = Life {
         batch: first,
         stamp: STAMP,
-        calls: calls.0,
-        choice: Vec::new(alloc),
+        end: failure(alloc, calls.0),
+        again: failure(alloc, again),
     };
     let second = Life {
         batch: second,
         stamp: STAMP,
-        calls: calls.1,
-        choice: Vec::new(alloc),
+        end: failure(alloc, calls.1),
+        again: failure(alloc, again),
     };
     Ok(two_lives(alloc, disk, first, second).ok())
 }
@@ -194,11 +209,36 @@ fn after_lives(
 #[test]
 fn two_lives_that_end_with_a_crash(rt: HostRuntime) -> Result<(), Fail> {
     let alloc = rt.alloc();
-    for (one, two, wanted) in LIVES {
-        let Some(mut disk) = after_lives(alloc, new_disk(alloc)?, (one, two))? else {
+    for (calls, again, committed, wanted) in &LIVES {
+        let Some(mut lived) = after_lives(alloc, new_disk(alloc)?, *calls, *again)? else {
             return Err("a recovery fails".into());
         };
-        assert_eq!(rt; homes(alloc, &mut disk)?, wanted, "{one} {two}");
+        let found = homes(alloc, &mut lived.disk)?;
+        assert!(rt; found == *wanted && (lived.first, lived.second) == *committed);
     }
+    Ok(())
+}
+
+#[test]
+fn a_freed_home_is_written_in_its_place(rt: HostRuntime) -> Result<(), Fail> {
+    let alloc = rt.alloc();
+    let disk = new_disk(alloc)?;
+    let (first, second) = pair(alloc, (0, "h w0=41 w1=42\nh w1=43 r2\n"), (2, "h w3=34\n"))?;
+    let mut found = [0; 1024];
+    let Ok(mut closed) = reuse_home(
+        alloc,
+        disk,
+        first,
+        2,
+        &[0x77; 1024],
+        &mut found,
+        second,
+        STAMP,
+    ) else {
+        return Err("a call is refused".into());
+    };
+    assert!(rt; found == [0x77; 1024]);
+    assert_eq!(rt; recover(alloc, &mut closed), Ok(recovered(2, 3, 0, 5)));
+    assert_eq!(rt; homes(alloc, &mut closed)?, [0x41, 0x43, 0x77, 0x34]);
     Ok(())
 }

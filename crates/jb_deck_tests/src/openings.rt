@@ -138,19 +138,19 @@ static REFUSED: [Refused; 14] = [
         "fast commits",
         BLOCKS,
         &[(0, 0x20, [0, 0, 0x10, 0])],
-        OpenFault::Super(SuperFault::Feature { word: 2, bits: 16 }),
+        OpenFault::Super(SuperFault::Feature(2, 16)),
     ),
     (
         "checksums",
         BLOCKS,
         &[(0, 0x20, [0, 1, 1, 0])],
-        OpenFault::Super(SuperFault::Feature { word: 1, bits: 1 }),
+        OpenFault::Super(SuperFault::Feature(1, 1)),
     ),
     (
         "read-only compatible",
         BLOCKS,
         &[(0, 0x20, [0, 0, 1, 4])],
-        OpenFault::Super(SuperFault::Feature { word: 3, bits: 4 }),
+        OpenFault::Super(SuperFault::Feature(3, 4)),
     ),
     (
         "a log that begins",
@@ -174,7 +174,7 @@ static REFUSED: [Refused; 14] = [
         "a feature that is refused, and no number left",
         BLOCKS,
         &[(0, 0x10, [33, 1, 4294967295, 0]), (0, 0x20, [0, 0, 8, 0])],
-        OpenFault::Super(SuperFault::Feature { word: 2, bits: 8 }),
+        OpenFault::Super(SuperFault::Feature(2, 8)),
     ),
 ];
 

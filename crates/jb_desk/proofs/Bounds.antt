@@ -41,6 +41,16 @@ pub cut-high : (n : ℕ) (bounds : List ℕ) (k : ℕ) → IsCut n bounds → k 
 cut-high n [] k cut within = absurd cut
 cut-high n (a ∷ bs) k cut within = bound-high n a bs k cut.1 within
 
+bound-many : (n a : ℕ) (bs : List ℕ) (k : ℕ) → RisesTo n a bs → k ≤ length bs → a + k ≤ slice_index (a ∷ bs) k
+bound-many n a bs zero rises within = omega arith
+bound-many n a [] (suc k) rises within = absurd (let h : ⊥ = omega (arith, within) in h)
+bound-many n a (b ∷ bs) (suc k) rises within = let rest = bound-many n b bs k rises.1 (omega (arith, within)) in let less = rises.0 in omega (arith, rest, less)
+
+-- each group has a handle at least
+pub cut-many : (n : ℕ) (bounds : List ℕ) (k : ℕ) → IsCut n bounds → k ≤ groups_in bounds → k ≤ slice_index bounds k
+cut-many n [] k cut within = absurd cut
+cut-many n (a ∷ bs) k cut within = let more = bound-many n a bs k cut.1 within in omega (arith, more)
+
 -- all groups of a cut end with the last handle
 pub cut-last : (n : ℕ) (bounds : List ℕ) → IsCut n bounds → slice_index bounds (groups_in bounds) ≡ n
 cut-last n [] cut = absurd cut

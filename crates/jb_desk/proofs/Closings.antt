@@ -8,7 +8,7 @@ use Rattle.jb_desk.specs.declared.desk.Desk.{Desk}
 use Rattle.jb_desk.specs.declared.desk.closing.CloseFault.{CloseFault}
 use Rattle.jb_desk.specs.declared.desk.closing.CloseFault.TheVariants.{SeatsOut, TrailsDiffer}
 use Rattle.jb_desk.specs.declared.desk.closing.Closed.{Closed}
-use Rattle.jb_desk.specs.declared.origin.Origin.{Ghosts}
+use Rattle.jb_book.specs.declared.origin.Origin.{Ghosts}
 use Rattle.jb_history.specs.declared.place.Place.{Ghosts as Places}
 use Rattle.jb_desk.specs.declared.seat.Left.{Left}
 

@@ -12,10 +12,12 @@ use Rattle.std.specs.List.{sum_by}
 use Rattle.jb_history.specs.Rule.{StandsIn, with_last, with_places}
 use Rattle.jb_history.proofs.Placed.{get_last, placed_on}
 use Rattle.std.proofs.lemmas.List.{length-append}
-use Rattle.jb_desk.specs.Account.{Account, queued}
-use Rattle.jb_desk.specs.History.{AreAllStops, IsInHistory, IsStop}
-use Rattle.jb_desk.specs.Origin.{Begun}
-use Rattle.jb_desk.specs.Since.{AreStops, IsSince, IsSinceOf}
+use Rattle.jb_book.specs.Account.{Account, queued}
+use Rattle.jb_book.specs.Led.{IsInHistory}
+use Rattle.jb_desk.specs.History.{AreAllStops, IsStop}
+use Rattle.jb_book.specs.Origin.{Begun}
+use Rattle.jb_book.specs.Origin.{AreStops}
+use Rattle.jb_desk.specs.Since.{IsSince, IsSinceOf}
 
 -- what stands in a first part of the history stands in the whole
 pub stop-on : (b : Begun) (xs ys : List WordMap) → IsPrefix xs ys → (h : Stopped) → IsStop b xs h → IsStop b ys h
@@ -23,15 +25,6 @@ stop-on b xs ys p h s = (s.0, placed_on xs ys p (h.ticket, h.words) s.1)
 
 pub all-stops : (b : Begun) (xs ys : List WordMap) → IsPrefix xs ys → (hs : List Stopped) → AreStops b hs → All (IsInHistory xs) hs → All (IsStop b ys) hs
 all-stops b xs ys p hs stops stand k d lt = let h = get_or hs k d in (stops k d lt, placed_on xs ys p (h.ticket, h.words) (stand k d lt))
-
--- one more handle stops, at the end of the history
-pub recorded-more : (log : List WordMap) (queue : List Stopped) (ticket : ℕ) (words : WordMap) → All (IsInHistory log) queue → length log ≡ ticket
-    → All (IsInHistory (log ++ words ∷ [])) (queue ++ record { ticket = ticket; words = words } ∷ [])
-recorded-more log queue ticket words stand at =
-    let more = log ++ words ∷ [] in
-    All-push (IsInHistory more) queue (record { ticket = ticket; words = words })
-    (All-weaker (IsInHistory log) (IsInHistory more) (λ h is. placed_on log more (words ∷ [], refl) (h.ticket, h.words) is) queue stand)
-    (subst (λ k. IsInHistory more (record { ticket = k; words = words })) at (get_last log words))
 
 -- a journal that has committed nothing was given no handle, so anything is known of each
 pub none-given : {D : Type 0} (size count faults : D → ℕ) (honest : D → Type 0) (newest : D → Image) (may_leave : D → Image → Type 0) (moment : D → ℕ) (left_since : D → ℕ → Image → Type 0) (b : Begun) (known : Stopped → Type 0) (d : OpenDeck D) → d.trail ≡ [] → d.aborted ≡ false → IsSince size count faults honest newest may_leave moment left_since b d → IsSinceOf size count faults honest newest may_leave moment left_since b known d
@@ -45,6 +38,9 @@ none-given size count faults honest newest may_leave moment left_since b known d
         settled = is.has.settled;
         all = is.has.all;
         costs = is.has.costs;
+        first = is.has.first;
+        numbers = is.has.numbers;
+        next = is.has.next;
       };
       since = is.since;
     }
@@ -61,21 +57,3 @@ all-stopped old new made stops handles kept are number stand once = (
   ap length kept ∙ number,
   subst (λ (x : List WordMap × List (ℕ × WordMap)). AreAllStops x.0 x.1) (λ i. (sym kept i, are i)) record { stand = stand; once = once },
 )
-
--- a stop is recorded: as many entries as tickets
-pub recorded-number : (log more : List WordMap) (old new : Account) (seat : ℕ) (words : WordMap) → new ≡ queued seat words old
-    → (new.shadow.queue ≡ old.shadow.queue ++ record { ticket = old.shadow.next; words = words } ∷ [] → more ≡ with_last log words) → length log ≡ old.shadow.next → length more ≡ new.shadow.next
-recorded-number log more old new seat words is adds number =
-    let longer = ap length (adds (ap (λ (a : Account). a.shadow.queue) is)) in
-    let one = length-append log (words ∷ []) in
-    let next = ap (λ (a : Account). a.shadow.next) is in
-    let goal : length more ≡ new.shadow.next = omega (arith, longer, one, next, number) in
-    goal
-
--- and the queue stands in the history
-pub recorded-queue : (log more : List WordMap) (old new : Account) (seat : ℕ) (words : WordMap) → new ≡ queued seat words old
-    → (new.shadow.queue ≡ old.shadow.queue ++ record { ticket = old.shadow.next; words = words } ∷ [] → more ≡ with_last log words) → length log ≡ old.shadow.next
-    → All (IsInHistory log) old.shadow.queue → All (IsInHistory more) new.shadow.queue
-recorded-queue log more old new seat words is adds number stand =
-    let queue = ap (λ (a : Account). a.shadow.queue) is in
-    subst (λ (x : List WordMap × List Stopped). All (IsInHistory x.0) x.1) (λ i. (sym (adds queue) i, sym queue i)) (recorded-more log old.shadow.queue old.shadow.next words stand number)

@@ -11,11 +11,11 @@ use Rattle.jb_deck.specs.Done.{past_after}
 use Rattle.jb_ring.specs.Follows.{FollowsNone}
 use Rattle.jb_ring.specs.Log.{standing}
 use Rattle.jb_deck.specs.Reading.{AnswersRead, IsAsBefore}
-use Rattle.jb_since.specs.Since.{LiveOf, deck_homes}
+use Rattle.jb_deck.specs.Since.{LiveOf, deck_homes}
 use Rattle.jb_deck.specs.declared.read.ReadHomeFault.{ReadHomeFault}
 use Rattle.jb_deck.specs.declared.read.ReadHomeFault.TheVariants.{Aborted, OutOfRange, Length, DeviceFault}
 use Rattle.jb_desk.specs.Journal.{ReadsHome}
-use Rattle.jb_desk.specs.Origin.{Begun}
+use Rattle.jb_book.specs.Origin.{Begun}
 use Rattle.jb_desk.specs.Since.{IsSinceOf, Since, WasGiven}
 use Rattle.jb_desk.proofs.Sincing.{given-none, none-since, plain-is}
 
@@ -28,7 +28,7 @@ module _ {D : Type 0} (size count faults : D → ℕ) (honest : D → Type 0) (n
 
   -- what a crash leaves of a read
   abbrev As : Image → Type 0
-  As c = IsAsBefore old.log.sb (size old.disk) (count old.disk) (deck_homes newest old) (newest old.disk) c
+  As c = IsAsBefore old.log.sb old.log.next (size old.disk) (count old.disk) (deck_homes newest old) (newest old.disk) c
 
   abbrev LeavesAs : Type 0
   LeavesAs = old.aborted ≡ false → honest old.disk → LeavesOnly moment left_since old.disk new.disk As
@@ -40,9 +40,10 @@ module _ {D : Type 0} (size count faults : D → ℕ) (honest : D → Type 0) (n
   stands : new ≡ on_disk old new.disk → faults old.disk ≤ faults new.disk → newest new.disk ≡ newest old.disk → (given : List Stopped) → past_after 0 old.trail ≤ length given → (s : Stands given old) → old.aborted ≡ false → LeavesOnly moment left_since old.disk new.disk As → Stands given new
   stands same more content given settled s up leaves =
       none-since size count faults honest newest may_leave moment left_since counts_now b known plain old new kept given settled s up
-      (weaken moment left_since old.disk new.disk As (FollowsNone old.log.sb (size old.disk) (count old.disk) (deck_homes newest old)) (λ c was. was.follows) leaves)
+      (weaken moment left_since old.disk new.disk As (FollowsNone old.log.sb old.log.next (size old.disk) (count old.disk) (deck_homes newest old)) (λ c was. was.follows) leaves)
       (ap (λ (d : OpenDeck D). d.trail) same)
       (subst (λ (d : OpenDeck D). SameJournal old.log.sb d.log.sb) (sym same) refl)
+      (ap (λ (d : OpenDeck D). d.log.next) same)
       more
       (λ few none. ap (λ (d : OpenDeck D). d.aborted) same ∙ up)
       (λ still. (
@@ -53,7 +54,7 @@ module _ {D : Type 0} (size count faults : D → ℕ) (honest : D → Type 0) (n
   -- nothing is given
   given : (is : Is old) → new ≡ on_disk old new.disk → old.aborted ≡ false → WasGiven known is.given new
   given is same up =
-      given-none size count faults honest newest may_leave moment left_since counts_now b known plain old new kept is.given is.has up (ap (λ (d : OpenDeck D). d.trail) same) (ap (λ (d : OpenDeck D). d.shape) same)
+      given-none size count faults honest newest may_leave moment left_since counts_now b known plain old new kept is.given is.has up (ap (λ (d : OpenDeck D). d.trail) same) (ap (λ (d : OpenDeck D). d.shape) same) (ap (λ (d : OpenDeck D). d.log.next) same)
 
   pub read-since : (home bytes : ℕ) (r : Result (Unit {0}) ReadHomeFault) → AnswersRead (size old.disk) (faults old.disk) (faults new.disk) old new home bytes r → Content → LeavesAs → Is old → Is new
   read-since home bytes (Ok done) answers content leaves is = record {

@@ -1,5 +1,5 @@
 -- What a commit tells of its batch, whatever deck it was.
-use Rattle.std.proofs.Common.{◌≡◌, ℕ, zero, suc, ◌+◌, ◌<◌, ◌≤◌, List, [], ◌∷◌, length, take, Some, Result, Ok, Err, refl, sym, ap, subst, ◌∙◌, arith}
+use Rattle.std.proofs.Common.{◌≡◌, ℕ, zero, suc, ◌+◌, ◌-◌, ◌<◌, ◌≤◌, List, [], ◌∷◌, length, take, Some, Result, Ok, Err, refl, sym, ap, subst, ◌∙◌, arith}
 use Rattle.jb_block.specs.declared.stamp.Stamp.{Stamp}
 use Rattle.jb_cost.specs.Cut.{RisesTo, IsCut}
 use Rattle.jb_deck.specs.Committing.{AnswersBatch}
@@ -12,8 +12,11 @@ use Rattle.jb_deck.specs.declared.batched.BatchFault.{BatchFault}
 use Rattle.jb_deck.specs.declared.batched.BatchFault.TheVariants.{Aborted, WrongTicket, OtherShape, NumbersSpent, Memory, DeviceFault}
 use Rattle.jb_deck.specs.declared.done.Done.{Done}
 use Rattle.jb_deck.specs.declared.done.Entry.{Entry}
+use Rattle.jb_handle.specs.declared.shape.Shape.{Shape}
+use Rattle.jb_book.specs.Account.{Account}
+use Rattle.jb_book.specs.Led.{FailsAfter, SettlesOrFails}
 use Rattle.jb_desk.specs.Rounds.{CommitsAs, IsOfHeld, end_of}
-use Rattle.jb_desk.proofs.Follows.{follow-length}
+use Rattle.jb_book.proofs.Follows.{follow-length, follow-past}
 
 -- ---- the entries of a cut
 
@@ -31,10 +34,6 @@ for-follow c n ticket number (a ∷ bs) is =
 follow-lower : (first least low past : ℕ) (es : List Entry) → low ≤ least → Follow first least past es → Follow first low past es
 follow-lower first least low past [] less is = is
 follow-lower first least low past (e ∷ es) less is = let up = is.2 in (is.0, is.1, omega arith, is.3)
-
-pub follow-past : (first least past : ℕ) (es : List Entry) → Follow first least past es → past_after first es ≡ past
-follow-past first least past [] is = is
-follow-past first least past (e ∷ es) is = follow-past e.past (e.number + 1) past es is.3
 
 -- the first of them, and not all, end where the first one begins or later, and before the last one does
 from-some : (c : ℕ → ℕ → ℕ) (n a ticket number k : ℕ) (bs : List ℕ) → RisesTo n a bs → k < length bs → (ticket + a ≤ past_after (ticket + a) (take k (entries_from c ticket number a bs))) × (past_after (ticket + a) (take k (entries_from c ticket number a bs)) < ticket + n)
@@ -74,6 +73,28 @@ commits-as before after p stamp old new (Err (DeviceFault settled)) planned is =
     let ends = subst (λ es. (p.batch.first ≤ past_after p.batch.first es) × (past_after p.batch.first es < end_of p.batch)) (sym some.entries)
     (for-some (cost_in p.batch.shape p.batch.handles) (length p.batch.handles) p.batch.first old.log.next some.groups p.groups planned.least.fitting.cut some.some) in
     (some.first, ends.0, ends.1)
+
+-- ---- what is settled then
+
+module _ (end : ℕ) (shape : Shape) (done : Done) (old new : Account) where
+  -- of a batch that is settled, up to its end
+  pub settled-seen : SettlesOrFails end shape done old (Ok tt) new → past_after (first_of done) (entries_of done) ≤ new.shadow.settled
+  settled-seen (out, settles, is) =
+      let upto : past_after (first_of done) (entries_of done) ≡ end = ap (λ n. past_after n (entries_of done)) out.first_is ∙ follow-past old.shadow.settled _ end (entries_of done) settles.follow in
+      let long = follow-length old.shadow.settled _ end (entries_of done) settles.follow in
+      let now : new.shadow.settled ≡ old.shadow.settled + (end - old.shadow.settled) = ap (λ (a : Account). a.shadow.settled) is in
+      omega (arith, upto, long, now)
+
+  -- and of groups that were committed before a failure
+  pub failed-seen : FailsAfter end shape done old (Ok tt) new → past_after (first_of done) (entries_of done) ≤ new.shadow.settled
+  failed-seen (out, some) =
+      let past = some.0 in
+      let settles = some.1 in
+      let is = some.2 in
+      let upto : past_after (first_of done) (entries_of done) ≡ past = ap (λ n. past_after n (entries_of done)) out.first_is ∙ follow-past old.shadow.settled _ past (entries_of done) settles.follow in
+      let long = follow-length old.shadow.settled _ past (entries_of done) settles.follow in
+      let now : new.shadow.settled ≡ old.shadow.settled + (past - old.shadow.settled) = ap (λ (a : Account). a.shadow.settled) is in
+      omega (arith, upto, long, now)
 
 -- a batch that is settled whole ends where its entries end
 pub whole-past : (p : Planned) (done : Done) → CommitsAs p (Ok done) → past_after (first_of done) (entries_of done) ≡ end_of p.batch

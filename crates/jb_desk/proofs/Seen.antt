@@ -8,19 +8,19 @@ use Rattle.jb_board.specs.Steps.{raised_settled}
 use Rattle.jb_board.specs.declared.front.Front.{Front}
 use Rattle.jb_disk.specs.Image.{Image}
 use Rattle.jb_handle.specs.Held.{first_of}
-use Rattle.jb_desk.specs.Account.{Account, IsSound, CanTake, is_full, RefusesBegin}
+use Rattle.jb_book.specs.Account.{Account, IsSound, CanTake, is_full, RefusesBegin}
 use Rattle.jb_desk.specs.Journal.{CommitsRound}
-use Rattle.jb_desk.specs.Origin.{Begun}
+use Rattle.jb_book.specs.Origin.{Begun}
 use Rattle.jb_desk.specs.Refusals.{IsTooMany}
 use Rattle.jb_desk.specs.Rounds.{AnswersRound, GivesBatch, end_of}
-use Rattle.jb_desk.specs.Shadow.{credits_at, reserved}
+use Rattle.jb_book.specs.Shadow.{credits_at, reserved}
 use Rattle.jb_desk.specs.Views.{SeesCommit, SeesRound, TakesUp, with_taken}
 use Rattle.jb_desk.specs.declared.committer.Round.{Round}
 use Rattle.jb_desk.specs.declared.committer.Round.TheVariants.{Idle, Committed}
 use Rattle.jb_desk.specs.declared.committer.RoundFault.{RoundFault}
 use Rattle.jb_desk.specs.declared.committer.RoundFault.TheVariants as round
-use Rattle.jb_desk.specs.declared.fault.BeginFault.{BeginFault}
-use Rattle.jb_desk.specs.declared.fault.BeginFault.TheVariants.{Aborted, Closed, Busy, TooManyCredits, Full, Memory}
+use Rattle.jb_book.specs.declared.fault.BeginFault.{BeginFault}
+use Rattle.jb_book.specs.declared.fault.BeginFault.TheVariants.{Aborted, Closed, Busy, TooManyCredits, Full, Memory}
 
 -- ---- the counts
 
@@ -34,8 +34,7 @@ within-commit : (b : Gathered) (v w : Front) (r : Result Round RoundFault) → S
 within-commit b v w (Ok (Idle seen)) is = absurd is
 within-commit b v w (Ok (Committed done)) is = within-raised v w (end_of b) is
 within-commit b v w (Err round.Aborted) is = within-same v w is
-within-commit b v w (Err round.DeviceFault) (inl is) = within-same v w is
-within-commit b v w (Err round.DeviceFault) (inr (lost, more, less, is)) = within-raised v w lost is
+within-commit b v w (Err round.DeviceFault) (lost, more, less, is) = within-raised v w lost is
 within-commit b v w (Err round.Memory) is = within-same v w is
 within-commit b v w (Err round.Refused) is = within-same v w is
 
@@ -87,19 +86,20 @@ answers-up None after b n (Err round.Memory) up is = ap is_some is
 answers-up None after b n (Err round.Refused) up is = ap is_some is
 
 -- a batch that is held on is no commit
-pub round-held : {D : Type 0} (size count faults : D → ℕ) (honest : D → Type 0) (newest : D → Image) (may_leave : D → Image → Type 0) (moment : D → ℕ) (left_since : D → ℕ → Image → Type 0) (begun : Begun) (held : Option Gathered) (fault : RoundFault) → (fault ≡ round.Memory) ⊎ (fault ≡ round.Refused) → CommitsRound size count faults honest newest may_leave moment left_since begun held (Err fault)
-round-held size count faults honest newest may_leave moment left_since begun held fault (inl is) = subst (λ f. CommitsRound size count faults honest newest may_leave moment left_since begun held (Err f)) (sym is) tt
-round-held size count faults honest newest may_leave moment left_since begun held fault (inr is) = subst (λ f. CommitsRound size count faults honest newest may_leave moment left_since begun held (Err f)) (sym is) tt
+pub round-held : {D : Type 0} (size count faults : D → ℕ) (honest : D → Type 0) (newest : D → Image) (may_leave : D → Image → Type 0) (moment : D → ℕ) (left_since : D → ℕ → Image → Type 0) (begun : Begun) (held : Option Gathered) (reached : ℕ) (fault : RoundFault)
+    → (fault ≡ round.Memory) ⊎ (fault ≡ round.Refused) → CommitsRound size count faults honest newest may_leave moment left_since begun held reached (Err fault)
+round-held size count faults honest newest may_leave moment left_since begun held reached fault (inl is) = subst (λ f. CommitsRound size count faults honest newest may_leave moment left_since begun held reached (Err f)) (sym is) tt
+round-held size count faults honest newest may_leave moment left_since begun held reached fault (inr is) = subst (λ f. CommitsRound size count faults honest newest may_leave moment left_since begun held reached (Err f)) (sym is) tt
 
 -- what is done with the batch that is taken up is done in the round
-pub round-up : {D : Type 0} (size count faults : D → ℕ) (honest : D → Type 0) (newest : D → Image) (may_leave : D → Image → Type 0) (moment : D → ℕ) (left_since : D → ℕ → Image → Type 0) (begun : Begun) (held : Option Gathered) (b : Gathered) (r : Result Round RoundFault)
-    → TakesUp held b → CommitsRound size count faults honest newest may_leave moment left_since begun (Some b) r → CommitsRound size count faults honest newest may_leave moment left_since begun held r
-round-up size count faults honest newest may_leave moment left_since begun held b (Ok (Idle seen)) up is = tt
-round-up size count faults honest newest may_leave moment left_since begun held b (Ok (Committed done)) up is = (is.0, subst (TakesUp held) (sym is.1) up, is.2)
-round-up size count faults honest newest may_leave moment left_since begun held b (Err round.Aborted) up is = tt
-round-up size count faults honest newest may_leave moment left_since begun held b (Err round.DeviceFault) up is = is
-round-up size count faults honest newest may_leave moment left_since begun held b (Err round.Memory) up is = tt
-round-up size count faults honest newest may_leave moment left_since begun held b (Err round.Refused) up is = tt
+pub round-up : {D : Type 0} (size count faults : D → ℕ) (honest : D → Type 0) (newest : D → Image) (may_leave : D → Image → Type 0) (moment : D → ℕ) (left_since : D → ℕ → Image → Type 0) (begun : Begun) (held : Option Gathered) (b : Gathered) (reached : ℕ) (r : Result Round RoundFault)
+    → TakesUp held b → CommitsRound size count faults honest newest may_leave moment left_since begun (Some b) reached r → CommitsRound size count faults honest newest may_leave moment left_since begun held reached r
+round-up size count faults honest newest may_leave moment left_since begun held b reached (Ok (Idle seen)) up is = tt
+round-up size count faults honest newest may_leave moment left_since begun held b reached (Ok (Committed done)) up is = (is.0, subst (TakesUp held) (sym is.1) up, is.2)
+round-up size count faults honest newest may_leave moment left_since begun held b reached (Err round.Aborted) up is = tt
+round-up size count faults honest newest may_leave moment left_since begun held b reached (Err round.DeviceFault) up is = (is.0, is.1, subst (TakesUp held) (sym is.2) up, is.3, is.4)
+round-up size count faults honest newest may_leave moment left_since begun held b reached (Err round.Memory) up is = tt
+round-up size count faults honest newest may_leave moment left_since begun held b reached (Err round.Refused) up is = tt
 
 -- ---- the credits
 

@@ -21,7 +21,7 @@ use Rattle.jb_super.specs.Journal.{SameJournal}
 use Rattle.jb_deck.specs.Checkpoints.{AnswersCheckpoint, Checkpoints, TakesOldest}
 use Rattle.jb_deck.specs.Committing.{AnswersBatch, CommitsBatch, CommitsOnDisk, FindsLive, LeavesGroups, SettlesSome, TakesBatch}
 use Rattle.jb_deck.specs.Deck.{OpenDeck}
-use Rattle.jb_deck.specs.Done.{entries_of, past_after}
+use Rattle.jb_deck.specs.Done.{entries_of, past_after, start_of}
 use Rattle.jb_ring.specs.Follows.{FollowsNone, StandsBy}
 use Rattle.jb_deck.specs.Gathering.{groups_in, entries_for}
 use Rattle.jb_ring.specs.Log.{transactions}
@@ -34,18 +34,20 @@ use Rattle.jb_deck.specs.declared.checked.CheckpointFault.TheVariants as checkpo
 use Rattle.jb_deck.specs.declared.done.Done.{Done}
 use Rattle.jb_deck.specs.declared.done.Entry.{Entry}
 use Rattle.jb_ring.proofs.Owning.{same-then}
-use Rattle.jb_since.specs.Since.{LiveOf, checkpointed, committed, deck_homes}
-use Rattle.jb_since.proofs.Sinces.{ended-is-call}
-use Rattle.jb_since.proofs.Stood.{call-stood}
+use Rattle.jb_deck.specs.Since.{LiveOf, checkpointed, committed, deck_homes}
+use Rattle.jb_deck.proofs.Sinces.{ended-is-call}
+use Rattle.jb_deck.proofs.Stood.{call-stood}
 use Rattle.jb_desk.specs.Journal.{blocks_in_use, ChecksAt, ChecksRound, FailsAs, IsRound, TakesHomeAt}
 use Rattle.jb_desk.specs.declared.checkpoint.CheckpointRound.{CheckpointRound}
 use Rattle.jb_desk.specs.declared.checkpoint.CheckpointRound.TheVariants.{Home}
-use Rattle.jb_desk.specs.Origin.{Begun}
-use Rattle.jb_desk.specs.Since.{HasFirst, IsCosted, IsSince, IsSinceOf, Since, WasGiven, may_stop}
-use Rattle.jb_desk.proofs.Bounds.{cut-high, cut-last, for-length, for-past, past-append}
+use Rattle.jb_book.specs.Origin.{Begun}
+use Rattle.jb_desk.specs.Since.{NumberedFrom, HasFirst, IsCosted, IsSince, IsSinceOf, Since, WasGiven, may_stop}
+use Rattle.jb_desk.proofs.Bounds.{cut-high, cut-last, for-length, for-past, past-append, cut-many}
 use Rattle.jb_desk.proofs.Costed.{costed-all, costed-more}
 use Rattle.jb_desk.proofs.Firsts.{first-longer, first-none, first-some}
-use Rattle.jb_desk.proofs.Rounds.{follow-past, for-follow}
+use Rattle.jb_desk.proofs.Numbered.{numbered-first, numbered-for, numbered-on, start-more}
+use Rattle.jb_desk.proofs.Rounds.{for-follow}
+use Rattle.jb_book.proofs.Follows.{follow-past}
 
 -- what a round answers of what the journal answers
 abbrev pub round_of : Result Checked CheckpointFault → Result CheckpointRound CheckpointFault
@@ -70,6 +72,9 @@ is-weaker size count faults honest newest may_leave moment left_since b known le
     settled = is.has.settled;
     all = is.has.all;
     costs = is.has.costs;
+    first = is.has.first;
+    numbers = is.has.numbers;
+    next = is.has.next;
   };
   since = is.since;
 }
@@ -99,7 +104,7 @@ module _ {D : Type 0} (size count faults : D → ℕ) (honest : D → Type 0) (n
     cut = planned.least.fitting.cut
 
     abbrev Left : ℕ → ℕ → Image → Type 0
-    Left least most c = FollowsSome old.log.sb (size old.disk) (count old.disk) (deck_homes newest old) hs p.groups least most c
+    Left least most c = FollowsSome old.log.sb old.log.next (size old.disk) (count old.disk) (deck_homes newest old) hs p.groups least most c
 
     -- what the groups of the batch cost
     abbrev c : ℕ → ℕ → ℕ
@@ -136,6 +141,23 @@ module _ {D : Type 0} (size count faults : D → ℕ) (honest : D → Type 0) (n
       costed-old : All (IsCosted p.batch.shape given) old.trail
       costed-old = subst (λ (x : Shape). All (IsCosted x given) old.trail) (sym takes.shape) has.costs
 
+      -- the trail goes on by these
+      numbered-all : (es : List Entry) → new.trail ≡ old.trail ++ es → NumberedFrom old.log.next es → NumberedFrom has.first new.trail
+      numbered-all es trail on = subst (NumberedFrom has.first) (sym trail) (numbered-on has.first old.trail es has.numbers (subst (λ n. NumberedFrom n es) (sym has.next) on))
+
+      long-all : (es : List Entry) (k : ℕ) → new.trail ≡ old.trail ++ es → length es ≡ k → new.log.next ≡ old.log.next + k → has.first + length new.trail ≡ new.log.next
+      long-all es k trail long step =
+          let all = length-append old.trail es in
+          let more : length new.trail ≡ length (old.trail ++ es) = ap length trail in
+          let before = has.next in
+          omega (arith, all, more, before, long, step)
+
+      told-some : (settled : Done) → (some : SettlesSome p stamp old new settled) → length (entries_of settled) ≡ some.groups
+      told-some settled some =
+          let few = some.some in
+          let number = for-length c p.batch.first old.log.next p.groups in
+          ap length some.entries ∙ length-take-le some.groups (entries_for c p.batch.first old.log.next p.groups) (omega (arith, few, number))
+
       -- all of the batch was given
       pub given-ok : (done : Done) → CommitsBatch p stamp old new done → WasGiven known (given ++ hs) new
       given-ok done commits =
@@ -150,6 +172,9 @@ module _ {D : Type 0} (size count faults : D → ℕ) (honest : D → Type 0) (n
             costs = all-costed (entries_of done) commits.trail commits.shape
                 (subst (λ es. All (IsCosted p.batch.shape (given ++ hs)) (old.trail ++ es)) (ap (λ n. entries_for c n old.log.next p.groups) at ∙ sym commits.entries)
                 (costed-all p.batch.shape given hs old.log.next p.groups old.trail cut costed-old));
+            first = has.first;
+            numbers = numbered-all (entries_of done) commits.trail (subst (NumberedFrom old.log.next) (sym commits.entries) (numbered-for c p.batch.first old.log.next p.groups));
+            next = long-all (entries_of done) (groups_in p.groups) commits.trail (ap length commits.entries ∙ for-length c p.batch.first old.log.next p.groups) commits.next;
           }
 
       pub given-some : (settled : Done) → SettlesSome p stamp old new settled → WasGiven known (given ++ hs) new
@@ -168,11 +193,23 @@ module _ {D : Type 0} (size count faults : D → ℕ) (honest : D → Type 0) (n
             costs = all-costed (entries_of settled) some.trail some.shape
                 (subst (λ es. All (IsCosted p.batch.shape (given ++ hs)) (old.trail ++ es)) (ap (λ n. take some.groups (entries_for c n old.log.next p.groups)) at ∙ sym some.entries)
                 (costed-more p.batch.shape given hs old.log.next some.groups p.groups old.trail cut costed-old));
+            first = has.first;
+            numbers = numbered-all (entries_of settled) some.trail
+                (subst (NumberedFrom old.log.next) (sym some.entries) (numbered-first old.log.next some.groups (entries_for c p.batch.first old.log.next p.groups) (numbered-for c p.batch.first old.log.next p.groups)));
+            next = long-all (entries_of settled) some.groups some.trail (told-some settled some) some.next;
           }
 
       module _ (s : Stands given old) (leaves : LeavesOnly moment left_since old.disk new.disk (Left 0 (groups_in p.groups))) where
         has-some : (least most low : ℕ) (x : Image) → most ≤ groups_in p.groups → low ≤ length given + slice_index p.groups least → Left least most x → HasFirst b (given ++ hs) low x
-        has-some least most low x = first-some b old.log.sb s.same (size old.disk) (count old.disk) s.same_size s.same_count given (deck_homes newest old) (s.stood takes.up) hs p.groups least most low x cut
+        has-some least most low x = first-some b old.log.sb s.same (size old.disk) (count old.disk) s.same_size s.same_count given (deck_homes newest old) (s.stood takes.up) hs p.groups least most low old.log.next x s.number cut
+
+        -- a trail that begins at the ticket 0 is whole
+        began-more : (es : List Entry) (k : ℕ) → new.trail ≡ old.trail ++ es → length es ≡ k → new.log.next ≡ old.log.next + k → start_of new.trail ≡ 0 → new.log.next ≡ b.own.sequence + 1 + length new.trail
+        began-more es k trail long step starts =
+            let all = length-append old.trail es in
+            let more : length new.trail ≡ length (old.trail ++ es) = ap length trail in
+            let before : old.log.next ≡ b.own.sequence + 1 + length old.trail = start-more old.trail es (λ n. old.log.next ≡ b.own.sequence + 1 + n) (λ none. s.began (ap start_of none) ∙ ap (λ es. b.own.sequence + 1 + length es) none) s.began (ap start_of (sym trail) ∙ starts) in
+            omega (arith, all, more, before, long, step)
 
         ever-some : (x : Image) → left_since new.disk b.since x → b.left x ⊎ HasFirst b (given ++ hs) 0 x
         ever-some x left =
@@ -195,6 +232,8 @@ module _ {D : Type 0} (size count faults : D → ℕ) (honest : D → Type 0) (n
               no_fewer = let before = s.no_fewer in omega (arith, before, counted);
               up = λ few none. commits.up;
               same = same-then b.own old.log.sb new.log.sb s.same commits.moved;
+              number = let before = s.number in let step = commits.next in let all = length-append given hs in let many = cut-many (length hs) p.groups (groups_in p.groups) cut (omega arith) in omega (arith, before, step, all, many, last);
+              began = began-more (entries_of done) (groups_in p.groups) commits.trail (ap length commits.entries ∙ for-length c p.batch.first old.log.next p.groups) commits.next;
               stood = λ up. call-stood given hs b.homes (deck_homes newest old) (deck_homes newest new) (s.stood takes.up) called.0;
               live = λ up. called.1;
               now = λ x may. has-some (groups_in p.groups) (groups_in p.groups) (past_after 0 new.trail) x (omega arith) low (now x may);
@@ -207,8 +246,7 @@ module _ {D : Type 0} (size count faults : D → ℕ) (honest : D → Type 0) (n
             let few = some.some in
             let within : some.groups ≤ groups_in p.groups = omega (arith, few) in
             let past = past-some some.groups (entries_of settled) within takes.ticket some.trail some.entries in
-            let number = for-length c p.batch.first old.log.next p.groups in
-            let told : length (entries_of settled) ≡ some.groups = ap length some.entries ∙ length-take-le some.groups (entries_for c p.batch.first old.log.next p.groups) (omega (arith, within, number)) in
+            let told = told-some settled some in
             let at = given-all in
             let low : past_after 0 new.trail ≤ length given + slice_index p.groups some.groups = omega (arith, past, at) in
             record {
@@ -218,6 +256,8 @@ module _ {D : Type 0} (size count faults : D → ℕ) (honest : D → Type 0) (n
               no_fewer = let before = s.no_fewer in let rise = more.no_fewer in omega (arith, before, rise);
               up = λ few none. absurd (more-counted b.faults (faults old.disk) (faults new.disk) s.no_fewer more few none);
               same = same-then b.own old.log.sb new.log.sb s.same some.moved;
+              number = let before = s.number in let step = some.next in let all = length-append given hs in let many = cut-many (length hs) p.groups some.groups cut within in let high = cut-high (length hs) p.groups some.groups cut within in omega (arith, before, step, all, many, high);
+              began = began-more (entries_of settled) some.groups some.trail told some.next;
               stood = λ up. absurd (not-both new.aborted some.aborted up);
               live = λ up. absurd (not-both new.aborted some.aborted up);
               now = λ x may. has-some some.groups (some.groups + 1) (past_after 0 new.trail) x (omega arith) low (subst (λ n. Left n (n + 1) x) told (now x may));
@@ -229,7 +269,7 @@ module _ {D : Type 0} (size count faults : D → ℕ) (honest : D → Type 0) (n
     Leaves = old.aborted ≡ false → honest old.disk → LeavesOnly moment left_since old.disk new.disk (Left 0 (groups_in p.groups))
 
     abbrev Now : Result Done BatchFault → Type 0
-    Now r = old.aborted ≡ false → honest old.disk → (c : Image) → may_leave new.disk c → LeavesGroups old.log.sb (size old.disk) (count old.disk) (deck_homes newest old) p r c
+    Now r = old.aborted ≡ false → honest old.disk → (c : Image) → may_leave new.disk c → LeavesGroups old.log.sb old.log.next (size old.disk) (count old.disk) (deck_homes newest old) p r c
 
     pub commit-since : (r : Result Done BatchFault) → AnswersBatch (faults old.disk) (faults new.disk) p stamp old new r → (honest old.disk → OnOk r (CommitsOnDisk newest p stamp old new)) → Leaves → Now r → Is old → Is new
     commit-since (Ok done) answers on_disk leaves now is = record {
@@ -266,34 +306,49 @@ module _ {D : Type 0} (size count faults : D → ℕ) (honest : D → Type 0) (n
     }
     commit-round (Err fault) answers on_disk finds leaves now is = tt
 
-    pub commit-fails : (r : Result Done BatchFault) → AnswersBatch (faults old.disk) (faults new.disk) p stamp old new r → Is new → FailsAs size count faults honest newest may_leave moment left_since b r
-    commit-fails (Ok done) answers is = tt
-    commit-fails (Err (batch.Aborted back)) answers is = record { deck = new; since = plain-is new is; failed = ap (λ (d : OpenDeck D). d.aborted) answers.2 ∙ answers.0 }
-    commit-fails (Err (batch.WrongTicket back expected)) answers is = tt
-    commit-fails (Err (batch.OtherShape back)) answers is = tt
-    commit-fails (Err (batch.NumbersSpent back)) answers is = tt
-    commit-fails (Err (batch.Memory back)) answers is = tt
-    commit-fails (Err (batch.DeviceFault settled)) answers is = record { deck = new; since = plain-is new is; failed = answers.2.aborted }
+    pub commit-fails : (r : Result Done BatchFault) → AnswersBatch (faults old.disk) (faults new.disk) p stamp old new r → (honest old.disk → OnOk r (CommitsOnDisk newest p stamp old new)) → Leaves → Now r → Is old → FailsAs size count faults honest newest may_leave moment left_since b p r
+    unfolding commit-since plain-is is-weaker
+    commit-fails (Ok done) answers on_disk leaves now is = tt
+    commit-fails (Err (batch.Aborted back)) answers on_disk leaves now is = record { deck = old; since = plain-is old is; failed = answers.0 }
+    commit-fails (Err (batch.WrongTicket back expected)) answers on_disk leaves now is = tt
+    commit-fails (Err (batch.OtherShape back)) answers on_disk leaves now is = tt
+    commit-fails (Err (batch.NumbersSpent back)) answers on_disk leaves now is = tt
+    commit-fails (Err (batch.Memory back)) answers on_disk leaves now is = tt
+    commit-fails (Err (batch.DeviceFault settled)) answers on_disk leaves now is = record {
+      planned = planned;
+      stamp = stamp;
+      old = old;
+      new = new;
+      same_disk = kept;
+      takes = answers.0;
+      settles = answers.2;
+      before = plain-is old is;
+      after = plain-is new (commit-since (Err (batch.DeviceFault settled)) answers on_disk leaves now is);
+      adds = refl;
+    }
 
   -- ---- the oldest group
 
   module _ (old new : OpenDeck D) (kept : Kept size count honest old.disk new.disk) where
     abbrev None : Image → Type 0
-    None c = FollowsNone old.log.sb (size old.disk) (count old.disk) (deck_homes newest old) c
+    None c = FollowsNone old.log.sb old.log.next (size old.disk) (count old.disk) (deck_homes newest old) c
 
     -- nothing is given
-    pub given-none : (given : List Stopped) → WasGiven known given old → old.aborted ≡ false → new.trail ≡ old.trail → new.shape ≡ old.shape → WasGiven known given new
-    given-none given has up trail shape = record {
+    pub given-none : (given : List Stopped) → WasGiven known given old → old.aborted ≡ false → new.trail ≡ old.trail → new.shape ≡ old.shape → new.log.next ≡ old.log.next → WasGiven known given new
+    given-none given has up trail shape numbered = record {
       stopped = has.stopped;
       tickets = has.tickets;
       settled = subst (λ es. past_after 0 es ≤ length given) (sym trail) has.settled;
       all = λ still. has.all up ∙ ap (past_after 0) (sym trail);
       costs = subst (λ (x : Shape × List Entry). All (IsCosted x.0 given) x.1) (λ i. (sym shape i, sym trail i)) has.costs;
+      first = has.first;
+      numbers = subst (NumberedFrom has.first) (sym trail) has.numbers;
+      next = ap (λ es. has.first + length es) trail ∙ has.next ∙ sym numbered;
     }
 
     module _ (given : List Stopped) (settled : past_after 0 old.trail ≤ length given) (s : Stands given old) (up : old.aborted ≡ false) (leaves : LeavesOnly moment left_since old.disk new.disk None) (trail : new.trail ≡ old.trail) where
       has-none : (c : Image) → None c → HasFirst b given (past_after 0 old.trail) c
-      has-none c = first-none b old.log.sb s.same (size old.disk) (count old.disk) s.same_size s.same_count given (deck_homes newest old) (s.stood up) (past_after 0 old.trail) c settled
+      has-none c = first-none b old.log.sb s.same (size old.disk) (count old.disk) s.same_size s.same_count given (deck_homes newest old) (s.stood up) (past_after 0 old.trail) old.log.next c settled s.number
 
       now-none : (c : Image) → may_leave new.disk c → HasFirst b given (past_after 0 new.trail) c
       now-none c may =
@@ -303,18 +358,20 @@ module _ {D : Type 0} (size count faults : D → ℕ) (honest : D → Type 0) (n
       ever-none : (c : Image) → left_since new.disk b.since c → b.left c ⊎ HasFirst b given 0 c
       ever-none c left =
           ⊎_elim (s.ever c)
-          (λ (f : None c). let first = has-none c f in inr (record { many = first.many; from = omega arith; to = first.to; recovered = first.recovered }))
+          (λ (f : None c). let first = has-none c f in inr (record { many = first.many; from = omega arith; to = first.to; next = first.next; number = first.number; recovered = first.recovered }))
           (leaves.before b.since c s.later left)
 
       -- the homes stand as they did
-      pub none-since : SameJournal old.log.sb new.log.sb → faults old.disk ≤ faults new.disk → (b.faults < 18446744073709551615 → faults new.disk ≡ b.faults → new.aborted ≡ false) → (new.aborted ≡ false → ((home : ℕ) → deck_homes newest new home ≡ deck_homes newest old home) × LiveOf given new.groups) → Stands given new
-      none-since same more fails same_homes = record {
+      pub none-since : SameJournal old.log.sb new.log.sb → new.log.next ≡ old.log.next → faults old.disk ≤ faults new.disk → (b.faults < 18446744073709551615 → faults new.disk ≡ b.faults → new.aborted ≡ false) → (new.aborted ≡ false → ((home : ℕ) → deck_homes newest new home ≡ deck_homes newest old home) × LiveOf given new.groups) → Stands given new
+      none-since same numbered more fails same_homes = record {
         same_size = kept.same_size ∙ s.same_size;
         same_count = kept.same_count ∙ s.same_count;
         stays_honest = kept.stays_honest s.stays_honest;
         no_fewer = let before = s.no_fewer in omega (arith, before, more);
         up = fails;
         same = same-then b.own old.log.sb new.log.sb s.same same;
+        number = let before = s.number in omega (arith, before, numbered);
+        began = λ starts. numbered ∙ s.began (ap start_of (sym trail) ∙ starts) ∙ ap (λ es. b.own.sequence + 1 + length es) (sym trail);
         stood = λ still home. subst (StandsBy (word given home) (b.homes home)) (sym ((same_homes still).0 home)) (s.stood up home);
         live = λ still. (same_homes still).1;
         now = now-none;
@@ -328,13 +385,13 @@ module _ {D : Type 0} (size count faults : D → ℕ) (honest : D → Type 0) (n
     home-since : (checked : Checked) → faults new.disk ≡ faults old.disk → TakesOldest old new checked → Checkpoints newest old new → (given : List Stopped) → past_after 0 old.trail ≤ length given → (s : Stands given old) → old.aborted ≡ false → LeavesOnly moment left_since old.disk new.disk None → Stands given new
     home-since checked counted takes goes given settled s up leaves =
         let called = ended-is-call newest given old [] new (s.live up) (checkpointed checked new takes goes) in
-        none-since given settled s up leaves takes.trail (subst (λ l. SameJournal old.log.sb l.sb) (sym takes.log) refl) (omega (arith, counted)) (λ few none. takes.live)
+        none-since given settled s up leaves takes.trail (subst (λ l. SameJournal old.log.sb l.sb) (sym takes.log) refl) (ap (λ l. l.next) takes.log) (omega (arith, counted)) (λ few none. takes.live)
         (λ still. (goes.standing, subst (λ hs. LiveOf hs new.groups) (append-nil given) called.1))
 
     pub checkpoint-since : (r : Result Checked CheckpointFault) → AnswersCheckpoint (faults old.disk) (faults new.disk) old new r → (honest old.disk → OnOk r (Checkpoints newest old new)) → LeavesNone → Is old → Is new
     checkpoint-since (Ok checked) answers checkpoints leaves is = record {
       given = is.given;
-      has = given-none is.given is.has answers.0 answers.2.trail answers.2.shape;
+      has = given-none is.given is.has answers.0 answers.2.trail answers.2.shape (ap (λ l. l.next) answers.2.log);
       since = λ h. let s = is.since h in home-since checked answers.1 answers.2 (checkpoints s.stays_honest) is.given is.has.settled s answers.0 (leaves answers.0 s.stays_honest);
     }
     checkpoint-since (Err checkpoint.Aborted) answers checkpoints leaves is = subst (λ (d : OpenDeck D). Is d) (sym answers.1) is
@@ -343,11 +400,12 @@ module _ {D : Type 0} (size count faults : D → ℕ) (honest : D → Type 0) (n
         let failed : new.aborted ≡ true = ap (λ (d : OpenDeck D). d.aborted) answers.3 in
         record {
           given = is.given;
-          has = given-none is.given is.has answers.0 (ap (λ (d : OpenDeck D). d.trail) answers.3) (ap (λ (d : OpenDeck D). d.shape) answers.3);
+          has = given-none is.given is.has answers.0 (ap (λ (d : OpenDeck D). d.trail) answers.3) (ap (λ (d : OpenDeck D). d.shape) answers.3) (ap (λ (d : OpenDeck D). d.log.next) answers.3);
           since = λ h.
               let s = is.since h in
               none-since is.given is.has.settled s answers.0 (leaves answers.0 s.stays_honest) (ap (λ (d : OpenDeck D). d.trail) answers.3)
               (subst (λ (d : OpenDeck D). SameJournal old.log.sb d.log.sb) (sym answers.3) refl)
+              (ap (λ (d : OpenDeck D). d.log.next) answers.3)
               answers.2.no_fewer (λ few none. absurd (more-counted b.faults (faults old.disk) (faults new.disk) s.no_fewer answers.2 few none))
               (λ still. absurd (not-both new.aborted failed still));
         }

@@ -5,7 +5,7 @@ use Rattle.jb_desk.specs.Desks.{desk_id, shape_in}
 use Rattle.jb_desk.specs.declared.seat.Left.{Left}
 use Rattle.jb_desk.specs.declared.counter.Counter.{Counter}
 use Rattle.jb_desk.specs.Works.{Worked}
-use Rattle.jb_desk.specs.declared.origin.Origin.{Ghosts}
+use Rattle.jb_book.specs.declared.origin.Origin.{Ghosts}
 use Rattle.jb_history.specs.declared.place.Place.{Ghosts as Places}
 use Rattle.jb_desk.specs.declared.desk.Desk.{Desk}
 use Rattle.jb_desk.specs.declared.desk.closing.CloseFault.{CloseFault}
@@ -19,4 +19,4 @@ IsNotClosed desk lefts (TrailsDiffer deck clock book) = deck.trail ≢ book.item
 -- the journal and the book of what the locks guarded, which have settled different groups
 abbrev pub DiffersAs : {D C H N : Type 0} {O : Ghosts H} {P : Places H} → Counter H N O P → Worked D C → CloseFault D C H N O P → Type 0
 DiffersAs counter works (SeatsOut back kept) = ⊥
-DiffersAs counter works (TrailsDiffer deck clock book) = (deck ≡ works.deck) × (clock ≡ works.clock) × (book.items ≡ counter.book.trail) × (deck.trail ≢ book.items)
+DiffersAs counter works (TrailsDiffer deck clock book) = (deck ≡ works.deck) × (clock ≡ works.clock) × (book.items ≡ counter.register.book.trail) × (deck.trail ≢ book.items)

@@ -3,7 +3,7 @@ use Rattle.std.specs.Prelude.{◌≡◌, ℕ, Bool, true, false, Option, None, i
 use Rattle.jb_batch.specs.Batch.{Gathered}
 use Rattle.jb_disk.specs.Image.{Image}
 use Rattle.jb_desk.specs.Journal.{HasNone}
-use Rattle.jb_desk.specs.Origin.{Begun}
+use Rattle.jb_book.specs.Origin.{Begun}
 use Rattle.jb_desk.specs.declared.ended.Ended.{Ended}
 use Rattle.jb_desk.specs.declared.ended.Ended.TheVariants.{Shut, Aborted, Memory, Refused}
 

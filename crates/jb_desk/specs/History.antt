@@ -8,19 +8,16 @@ use Rattle.jb_handle.specs.Word.{WordMap}
 use Rattle.jb_handle.specs.declared.shape.Shape.{Shape}
 use Rattle.jb_handle.specs.declared.stopped.Stopped.{Stopped}
 use Rattle.jb_history.specs.Rule.{StandsIn, with_places}
+use Rattle.jb_book.specs.Led.{IsInHistory, IsOfBegun, IsMachineRun}
 use Rattle.jb_deck.specs.Deck.{OpenDeck}
 use Rattle.jb_history.specs.History.{HistoryId, history_id}
 use Rattle.jb_desk.specs.declared.stops.Stops.{Stops}
-use Rattle.jb_desk.specs.Origin.{Begun}
+use Rattle.jb_book.specs.Origin.{Begun}
 use Rattle.jb_desk.specs.Since.{IsSinceOf}
 
 -- the identity of the history that a desk is started with
 abbrev pub history_in : Stops → HistoryId
 history_in s = history_id s.history
-
--- the handle is the one of the history that has its ticket
-abbrev pub IsInHistory : List WordMap → Stopped → Type 0
-IsInHistory log h = StandsIn log (h.ticket, h.words)
 
 -- the same, and a handle may stop with its words
 abbrev pub IsStop : Begun → List WordMap → Stopped → Type 0
@@ -32,8 +29,9 @@ pub record AreAllStops (log : List WordMap) (stops : List (ℕ × WordMap)) : Ty
   pub stand : All (StandsIn log) stops
   pub once : (weight : ℕ × WordMap → ℕ) → sum_by weight stops ≡ sum_by weight (with_places 0 log)
 
--- How a desk ends whose seats have stopped these handles: there is one history of so many stops, which has them all and no others, and the
--- journal on the disk was given the first handles of this history
+-- How a desk ends whose seats have stopped these handles: there is one history of so many stops, which has them all and no others; the
+-- journal on the disk was given the first handles of this history; and there is a list of events that the machine of handles accepts, in which
+-- these handles stopped in this order, and whose settled groups are those of the trail
 pub record EndsWith {D : Type 0} (size count faults : D → ℕ) (honest : D → Type 0) (newest : D → Image) (may_leave : D → Image → Type 0) (moment : D → ℕ) (left_since : D → ℕ → Image → Type 0) (b : Begun) (stops : List (List (ℕ × WordMap))) (handles : ℕ) (shape : Shape) (disk : D) (trail : List Entry) : Type 0 where
   pub log : List WordMap
   pub number : length log ≡ handles
@@ -43,3 +41,8 @@ pub record EndsWith {D : Type 0} (size count faults : D → ℕ) (honest : D →
   pub same_shape : deck.shape ≡ shape
   pub same_trail : deck.trail ≡ trail
   pub since : IsSinceOf size count faults honest newest may_leave moment left_since b (IsStop b log) deck
+  -- on an honest disk the shape is that of the journal of the start, for the run and for what its groups cost
+  pub run_shape : Shape
+  pub run : IsMachineRun run_shape log trail
+  pub runs_as : b.honest → run_shape ≡ shape
+  pub journal : IsOfBegun b shape

@@ -9,9 +9,9 @@ use Rattle.jb_disk.specs.Image.{Image}
 use Rattle.jb_disk.specs.Kept.{Kept}
 use Rattle.jb_log.specs.Found.{log_blocks}
 use Rattle.jb_deck.specs.Checkpoints.{AnswersCheckpoint, Checkpoints, TakesOldest}
-use Rattle.jb_deck.specs.Committing.{CommitsBatch, CommitsOnDisk, FindsLive, TakesBatch}
+use Rattle.jb_deck.specs.Committing.{CommitsBatch, CommitsOnDisk, FindsLive, SettlesSome, TakesBatch}
 use Rattle.jb_deck.specs.Deck.{OpenDeck}
-use Rattle.jb_deck.specs.Done.{Follow, past_after, start_of}
+use Rattle.jb_deck.specs.Done.{Follow, entries_of, first_of, past_after, start_of}
 use Rattle.jb_ring.specs.Log.{standing, transactions}
 use Rattle.jb_deck.specs.Reading.{AnswersRead}
 use Rattle.jb_deck.specs.Taking.{CanTake, TakesTrail, oldest_number}
@@ -23,7 +23,7 @@ use Rattle.jb_deck.specs.declared.checked.CheckpointFault.TheVariants as checkpo
 use Rattle.jb_deck.specs.declared.done.Done.{Done}
 use Rattle.jb_deck.specs.declared.done.Entry.{Entry}
 use Rattle.jb_deck.specs.declared.read.ReadHomeFault.{ReadHomeFault}
-use Rattle.jb_desk.specs.Origin.{Begun}
+use Rattle.jb_book.specs.Origin.{Begun}
 use Rattle.jb_desk.specs.Since.{IsSince}
 use Rattle.jb_desk.specs.Views.{TakesUp}
 use Rattle.jb_desk.specs.declared.checkpoint.CheckpointRound.{CheckpointRound}
@@ -57,6 +57,19 @@ module _ {D : Type 0} (size count faults : D → ℕ) (honest : D → Type 0) (n
     pub commits : CommitsBatch p stamp old new done
     pub on_disk : b.honest → CommitsOnDisk newest p stamp old new
     pub finds : b.honest → FindsLive (size old.disk) (count old.disk) new.log new.groups (newest new.disk)
+    pub before : IsSince size count faults honest newest may_leave moment left_since b old
+    pub after : IsSince size count faults honest newest may_leave moment left_since b new
+    pub adds : after.given ≡ before.given ++ p.batch.handles
+
+  -- the desk's journal before and after a commit of a prepared batch in which a call of its disk failed: these groups, first ones of the batch, are settled in it
+  pub record FailsRound (p : Planned) (settled : Done) : Type 0 where
+    pub planned : IsPlanned p
+    pub stamp : Stamp
+    pub old : OpenDeck D
+    pub new : OpenDeck D
+    pub same_disk : Kept size count honest old.disk new.disk
+    pub takes : TakesBatch old p
+    pub settles : SettlesSome p stamp old new settled
     pub before : IsSince size count faults honest newest may_leave moment left_since b old
     pub after : IsSince size count faults honest newest may_leave moment left_since b new
     pub adds : after.given ≡ before.given ++ p.batch.handles
@@ -121,24 +134,25 @@ module _ {D : Type 0} (size count faults : D → ℕ) (honest : D → Type 0) (n
     pub before : IsSince size count faults honest newest may_leave moment left_since b old
     pub after : IsSince size count faults honest newest may_leave moment left_since b new
 
-  -- what a round of a committer that held such a batch has done: a batch is committed, or the journal has failed
-  abbrev pub CommitsRound : Option Gathered → Result Round RoundFault → Type 0
-  CommitsRound held (Ok (Idle seen)) = Unit {0}
-  CommitsRound held (Ok (Committed done)) = (p : Planned) × TakesUp held p.batch × IsRound p done
-  CommitsRound held (Err Aborted) = Unit {0}
-  CommitsRound held (Err DeviceFault) = HasFailed
-  CommitsRound held (Err Memory) = Unit {0}
-  CommitsRound held (Err Refused) = Unit {0}
+  -- what a round of a committer that held such a batch, and whose seat is then sure of so many settled tickets, has done: a batch is committed; or the journal
+  -- has failed, and the seat is sure of what is settled in it
+  abbrev pub CommitsRound : Option Gathered → ℕ → Result Round RoundFault → Type 0
+  CommitsRound held reached (Ok (Idle seen)) = Unit {0}
+  CommitsRound held reached (Ok (Committed done)) = (p : Planned) × TakesUp held p.batch × IsRound p done
+  CommitsRound held reached (Err Aborted) = Unit {0}
+  CommitsRound held reached (Err DeviceFault) = (p : Planned) × (settled : Done) × TakesUp held p.batch × FailsRound p settled × (past_after (first_of settled) (entries_of settled) ≤ reached)
+  CommitsRound held reached (Err Memory) = Unit {0}
+  CommitsRound held reached (Err Refused) = Unit {0}
 
-  -- a commit after which the journal has failed
-  abbrev pub FailsAs : Result Done BatchFault → Type 0
-  FailsAs (Ok done) = Unit {0}
-  FailsAs (Err (batch.Aborted back)) = HasFailed
-  FailsAs (Err (batch.WrongTicket back expected)) = Unit {0}
-  FailsAs (Err (batch.OtherShape back)) = Unit {0}
-  FailsAs (Err (batch.NumbersSpent back)) = Unit {0}
-  FailsAs (Err (batch.Memory back)) = Unit {0}
-  FailsAs (Err (batch.DeviceFault settled)) = HasFailed
+  -- a commit of this batch after which the journal has failed
+  abbrev pub FailsAs : Planned → Result Done BatchFault → Type 0
+  FailsAs p (Ok done) = Unit {0}
+  FailsAs p (Err (batch.Aborted back)) = HasFailed
+  FailsAs p (Err (batch.WrongTicket back expected)) = Unit {0}
+  FailsAs p (Err (batch.OtherShape back)) = Unit {0}
+  FailsAs p (Err (batch.NumbersSpent back)) = Unit {0}
+  FailsAs p (Err (batch.Memory back)) = Unit {0}
+  FailsAs p (Err (batch.DeviceFault settled)) = FailsRound p settled
 
   -- what a round of a checkpointer has done: the oldest group is home, none was live, or the journal has failed
   abbrev pub ChecksRound : Result Checked CheckpointFault → Type 0

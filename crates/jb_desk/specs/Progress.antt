@@ -1,6 +1,6 @@
 -- How far a book has come.
 use Rattle.std.specs.Prelude.{◌≡◌, false, IfSome, IfNone}
-use Rattle.jb_desk.specs.Account.{Account, IsOver}
+use Rattle.jb_book.specs.Account.{Account, IsOver}
 use Rattle.jb_desk.specs.declared.counter.progress.Progress.{Progress}
 
 -- what is settled, that nothing more can happen where that is so, and whether the journal has failed

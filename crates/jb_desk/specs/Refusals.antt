@@ -1,12 +1,15 @@
 -- What a desk says and hands back with a refusal.
-use Rattle.std.specs.Prelude.{◌≡◌, ℕ, ◌<◌}
+use Rattle.std.specs.Prelude.{◌≡◌, ℕ, ◌<◌, if◌then◌else◌}
 use Rattle.jb_handle.specs.Handle.{holder}
 use Rattle.jb_handle.specs.declared.handle.Handle.{Handle}
-use Rattle.jb_desk.specs.declared.origin.Origin.{Ghosts}
+use Rattle.jb_book.specs.declared.origin.Origin.{Ghosts}
 use Rattle.jb_history.specs.declared.place.Place.{Ghosts as Places}
 use Rattle.jb_desk.specs.declared.seat.Seat.{Seat}
-use Rattle.jb_desk.specs.declared.fault.BeginFault.{BeginFault}
-use Rattle.jb_desk.specs.declared.fault.BeginFault.TheVariants as begin
+use Rattle.jb_book.specs.declared.fault.BeginFault.{BeginFault}
+use Rattle.jb_book.specs.declared.fault.BeginFault.TheVariants as begin
+use Rattle.jb_book.specs.Account.{Account}
+use Rattle.jb_desk.specs.declared.fault.WaitFault.{WaitFault}
+use Rattle.jb_desk.specs.declared.fault.WaitFault.TheVariants as wait
 use Rattle.jb_desk.specs.declared.fault.StopFault.{StopFault}
 use Rattle.jb_desk.specs.declared.fault.StopFault.TheVariants.{Aborted, NotOpen, Memory}
 
@@ -25,3 +28,7 @@ IsTooMany credits begin.Busy = Unit {0}
 IsTooMany credits (begin.TooManyCredits most) = most < credits
 IsTooMany credits (begin.Full reserved) = Unit {0}
 IsTooMany credits begin.Memory = Unit {0}
+
+-- what is answered of a ticket that is not settled and that nobody waits for any more
+abbrev pub fault_of : Account → WaitFault
+fault_of a = if a.aborted then wait.Aborted else wait.Unknown

@@ -7,14 +7,13 @@ use Rattle.jb_batch.specs.Prepared.{Planned}
 use Rattle.jb_deck.specs.declared.batched.BatchFault.{BatchFault}
 use Rattle.jb_deck.specs.declared.batched.BatchFault.TheVariants as batch
 use Rattle.jb_deck.specs.declared.done.Done.{Done}
-use Rattle.jb_desk.specs.Account.{Account, taken_all, settled_to, failed_of, CanTake, Settles, IsOver}
+use Rattle.jb_book.specs.Account.{Account, taken_all, failed_of, CanTake, IsOver}
 use Rattle.jb_desk.specs.declared.committer.Committer.{Committer}
 use Rattle.jb_desk.specs.declared.committer.Round.{Round}
 use Rattle.jb_desk.specs.declared.committer.Round.TheVariants.{Idle, Committed}
 use Rattle.jb_desk.specs.declared.committer.RoundFault.{RoundFault}
 use Rattle.jb_desk.specs.declared.committer.RoundFault.TheVariants.{Aborted, Memory, DeviceFault, Refused}
-use Rattle.jb_desk.specs.declared.fault.WrongBatch.{WrongBatch}
-use Rattle.jb_desk.specs.declared.origin.Origin.{Ghosts}
+use Rattle.jb_book.specs.declared.origin.Origin.{Ghosts}
 use Rattle.jb_history.specs.declared.place.Place.{Ghosts as Places}
 use Rattle.jb_desk.specs.declared.seat.Seat.{Seat}
 
@@ -36,16 +35,6 @@ GivesBatch (Err fault) held old new = (fault ≡ Aborted) × (old.aborted ≡ tr
 GivesBatch (Ok given) (Some b) old new = (old.aborted ≡ false) × (given ≡ Some b) × (new ≡ old)
 GivesBatch (Ok (Some b)) None old new = CanTake old × (b ≡ gathered old.shadow.taken old.shadow.queue old.shape) × HasCut old.shape old.shadow.queue × (new ≡ taken_all old)
 GivesBatch (Ok None) None old new = (old.aborted ≡ false) × (CanTake old → ⊥) × (new ≡ old)
-
--- the groups are settled; where they are not those that go on, the book has failed
-abbrev pub SettlesOrFails : Done → Account → Result (Unit {0}) WrongBatch → Account → Type 0
-SettlesOrFails done old (Ok unit) new = (past : ℕ) × Settles old past (entries_of done) × (new ≡ settled_to past (entries_of done) old)
-SettlesOrFails done old (Err wrong) new = ((past : ℕ) → Settles old past (entries_of done) → ⊥) × (new ≡ failed_of old)
-
--- the groups are settled where they are those that go on, and then the book has failed
-abbrev pub FailsAfter : Done → Account → Result (Unit {0}) WrongBatch → Account → Type 0
-FailsAfter done old (Ok unit) new = (past : ℕ) × Settles old past (entries_of done) × (new ≡ failed_of (settled_to past (entries_of done) old))
-FailsAfter done old (Err wrong) new = ((past : ℕ) → Settles old past (entries_of done) → ⊥) × (new ≡ failed_of old)
 
 -- a batch that is held is lost, and the book has failed; where none is, nothing has changed
 abbrev pub GivesUp : Option Gathered → Account → Account → Type 0

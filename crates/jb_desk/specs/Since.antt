@@ -1,5 +1,5 @@
 -- How a journal stands since its desk was started: which handles it was given, what its homes hold, and what a crash leaves.
-use Rattle.std.specs.Prelude.{◌≡◌, ◌⊎◌, ℕ, ◌-◌, ◌<◌, ◌≤◌, ◌^◌, false, List, All, length, take}
+use Rattle.std.specs.Prelude.{◌≡◌, ◌⊎◌, ℕ, ◌+◌, ◌-◌, ◌<◌, ◌≤◌, ◌^◌, false, List, [], ◌∷◌, All, length, take}
 use Rattle.jb_disk.specs.Image.{Image}
 use Rattle.jb_batch.specs.Costs.{cost_in}
 use Rattle.jb_handle.specs.Tickets.{TicketsFrom}
@@ -8,25 +8,23 @@ use Rattle.jb_handle.specs.declared.shape.Shape.{Shape}
 use Rattle.jb_handle.specs.declared.stopped.Stopped.{Stopped}
 use Rattle.jb_super.specs.Journal.{SameJournal}
 use Rattle.jb_deck.specs.Deck.{OpenDeck}
-use Rattle.jb_deck.specs.Done.{past_after}
+use Rattle.jb_deck.specs.Done.{past_after, start_of}
 use Rattle.jb_ring.specs.Follows.{StandsBy}
 use Rattle.jb_deck.specs.Opening.{recovered_home, FollowsEntry}
-use Rattle.jb_since.specs.Calls.{IsRecoveredTo}
-use Rattle.jb_since.specs.Since.{LiveOf, deck_homes}
+use Rattle.jb_deck.specs.Calls.{IsRecoveredTo}
+use Rattle.jb_deck.specs.Since.{LiveOf, deck_homes}
 use Rattle.jb_deck.specs.declared.done.Entry.{Entry}
-use Rattle.jb_desk.specs.Origin.{Begun, own_on}
+use Rattle.jb_book.specs.Origin.{Begun, own_on}
 
 -- an image of the journal of the start that recovery takes, and that is recovered to the homes of the start with a first part of
--- these handles, so many at least
+-- these handles, so many at least; of the numbers after that of the start no more are taken than it has handles
 pub record HasFirst (b : Begun) (given : List Stopped) (least : ℕ) (c : Image) : Type 0 where
   pub many : ℕ
   pub from : least ≤ many
   pub to : many ≤ length given
-  pub recovered : IsRecoveredTo b.own b.size b.count b.homes (take many given) c
-
--- each of the handles stopped with words that a handle may stop with
-abbrev pub AreStops : Begun → List Stopped → Type 0
-AreStops b hs = All (λ h. b.stops h.words) hs
+  pub next : ℕ
+  pub number : next ≤ b.own.sequence + 1 + many
+  pub recovered : IsRecoveredTo b.own next b.size b.count b.homes (take many given) c
 
 -- the handle stopped with words that a handle may stop with
 abbrev pub may_stop : Begun → Stopped → Type 0
@@ -38,14 +36,23 @@ pub record IsCosted (shape : Shape) (given : List Stopped) (e : Entry) : Type 0 
   pub within : e.past ≤ length given
   pub blocks : e.blocks ≡ cost_in shape given e.first e.past
 
+-- the entries have the numbers from this one on
+abbrev pub NumberedFrom : ℕ → List Entry → Type 0
+NumberedFrom number [] = Unit {0}
+NumberedFrom number (e ∷ es) = (e.number ≡ number) × NumberedFrom (number + 1) es
+
 -- The handles that a journal was given, in the order of their tickets, of each of which this is known: those that its trail has settled, each group
--- with what its handles cost, and on a journal that has failed the batch in hand after them
+-- with what its handles cost, and on a journal that has failed the batch in hand after them. The numbers of the trail rise by one, up to the journal's
+-- next one
 pub record WasGiven {D : Type 0} (is : Stopped → Type 0) (given : List Stopped) (d : OpenDeck D) : Type 0 where
   pub stopped : All is given
   pub tickets : TicketsFrom 0 given
   pub settled : past_after 0 d.trail ≤ length given
   pub all : d.aborted ≡ false → length given ≡ past_after 0 d.trail
   pub costs : All (IsCosted d.shape given) d.trail
+  pub first : ℕ
+  pub numbers : NumberedFrom first d.trail
+  pub next : first + length d.trail ≡ d.log.next
 
 -- The journal of the start, on its disk, since then, when it was given these handles. While it has not failed its homes stand as they say, those
 -- that are free aside.
@@ -57,6 +64,10 @@ pub record Since {D : Type 0} (size count faults : D → ℕ) (honest : D → Ty
   pub no_fewer : b.faults ≤ faults d.disk
   pub up : b.faults < 2 ^ 64 - 1 → faults d.disk ≡ b.faults → d.aborted ≡ false
   pub same : SameJournal b.own d.log.sb
+  -- no more numbers are taken than there are handles
+  pub number : d.log.next ≤ b.own.sequence + 1 + length given
+  -- the first group has the number after that of the start; a trail from whose front entries were taken begins at a later ticket
+  pub began : start_of d.trail ≡ 0 → d.log.next ≡ b.own.sequence + 1 + length d.trail
   pub stood : d.aborted ≡ false → (home : ℕ) → StandsBy (word given home) (b.homes home) (deck_homes newest d home)
   pub live : d.aborted ≡ false → LiveOf given d.groups
   -- what a crash may leave now has the settled ones at least

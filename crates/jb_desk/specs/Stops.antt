@@ -3,10 +3,10 @@ use Rattle.std.specs.Prelude.{◌≡◌, ℕ, ◌+◌, ◌^◌, ◌≤◌, true,
 use Rattle.jb_handle.specs.Handle.{holder, changes_of}
 use Rattle.jb_handle.specs.Held.{touched}
 use Rattle.jb_handle.specs.declared.handle.Handle.{Handle}
-use Rattle.jb_desk.specs.Account.{Account, queued, dropped_of, CanStop, RefusesStop}
+use Rattle.jb_book.specs.Account.{Account, queued, dropped_of, CanStop, RefusesStop}
 use Rattle.jb_desk.specs.Seats.{stops, changes, made_by}
-use Rattle.jb_desk.specs.declared.fault.EnqueueFault.TheVariants as book
-use Rattle.jb_desk.specs.declared.origin.Origin.{Ghosts}
+use Rattle.jb_book.specs.declared.fault.EnqueueFault.TheVariants as book
+use Rattle.jb_book.specs.declared.origin.Origin.{Ghosts}
 use Rattle.jb_history.specs.declared.place.Place.{Ghosts as Places}
 use Rattle.jb_desk.specs.declared.seat.Seat.{Seat}
 use Rattle.jb_desk.specs.declared.fault.StopFault.{StopFault}

@@ -12,7 +12,7 @@ use Rattle.jb_desk.specs.declared.committer.RoundFault.{RoundFault}
 use Rattle.jb_desk.specs.declared.committer.RoundFault.TheVariants.{Aborted, Memory, DeviceFault, Refused}
 use Rattle.jb_desk.specs.declared.fault.WaitFault.{WaitFault}
 use Rattle.jb_desk.specs.declared.fault.WaitFault.TheVariants as wait
-use Rattle.jb_desk.specs.declared.origin.Origin.{Ghosts}
+use Rattle.jb_book.specs.declared.origin.Origin.{Ghosts}
 use Rattle.jb_desk.specs.declared.seat.Seat.{Seat}
 use Rattle.jb_history.specs.declared.place.Place.{Ghosts as Places}
 
@@ -37,7 +37,7 @@ abbrev pub SeesCommit : Gathered → Front → Front → Result Round RoundFault
 SeesCommit b old new (Ok (Idle seen)) = ⊥
 SeesCommit b old new (Ok (Committed done)) = new ≡ raised_settled old (end_of b)
 SeesCommit b old new (Err Aborted) = new ≡ old
-SeesCommit b old new (Err DeviceFault) = (new ≡ old) ⊎ ((lost : ℕ) × (b.first ≤ lost) × (lost < end_of b) × (new ≡ raised_settled old lost))
+SeesCommit b old new (Err DeviceFault) = (lost : ℕ) × (b.first ≤ lost) × (lost < end_of b) × (new ≡ raised_settled old lost)
 SeesCommit b old new (Err Memory) = new ≡ old
 SeesCommit b old new (Err Refused) = new ≡ old
 

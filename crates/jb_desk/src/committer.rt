@@ -3,8 +3,8 @@ ghost use Rattle.std.specs.Prelude.{◌≡◌, None, Some};
 
 use crate::counter::NoBatch;
 use crate::held::Held;
-use crate::origin::Origin;
 use crate::seat::Seat;
+use jb_book::Origin;
 use jb_deck::Done;
 use std::mem;
 use std::sync::ledger::Ledger;

@@ -1,27 +1,27 @@
 ghost use Rattle.std.specs.Prelude.{◌≡◌, ◌+◌, ◌<◌, ◌≤◌, ◌^◌, ◌⊎◌, true, None, IsTrue, ◌↔◌};
-ghost use Rattle.std.specs.Prelude.{OnOk, OnErr, IfOk, IfErr, IfSome, IfNone, [], All, length};
+ghost use Rattle.std.specs.Prelude.{OnOk, OnErr, IfOk, IfErr, IfSome, IfNone, []};
 ghost use Rattle.std.specs.FinMap as map;
 ghost use Rattle.jb_handle.specs.Handle.{holder, changes_of};
 ghost use Rattle.jb_handle.specs.Held.{held, touched};
-ghost use Rattle.jb_desk.specs.History.{IsInHistory};
 
 mod idle;
 mod lefts;
 mod over;
 mod progress;
 mod rounds;
+mod seen;
 mod taking;
 
-use crate::book::Book;
-use crate::fault::{BeginFault, EnqueueFault, StopFault, WaitFault};
-use crate::origin::Origin;
+use crate::fault::{StopFault, WaitFault};
 use crate::seat::{Left, Seat};
 pub use idle::NoBatch;
 use jb_board::{BoardSeat, Tickets};
+use jb_book::{BeginFault, Book, EnqueueFault, Origin, Register};
 use jb_handle::{Handle, Shape, Words};
-use jb_history::{History, Made, Scribe};
+use jb_history::{History, Made};
 pub use over::Over;
 pub(crate) use progress::Progress;
+pub(crate) use seen::Seen;
 use std::alloc::Global;
 use std::sync::ledger;
 use std::sync::ledger::{Blank, Ledger, Share};
@@ -29,23 +29,19 @@ use std::sync::ledger::{Blank, Ledger, Share};
 /// The most seats of a desk.
 const MOST: u64 = 1 << 61;
 
-/// What the first lock of a desk guards: the book, and the ledgers in which the handles that stopped
-/// and the blocks that they touched are counted, and the right to add to the history of stops. Of each
-/// ledger the parts that no seat has are spare.
+/// What the first lock of a desk guards: the book with the history of its stops, and the ledgers in which the handles
+/// that stopped and the blocks that they touched are counted. Of each ledger the parts that no seat has are spare.
 #[derive(Drop)]
 pub(crate) struct Counter<H: Origin, N: Ledger> {
-    book: Book<H>,
+    register: Register<H>,
     handles: ledger::Book<H>,
     changes: ledger::Book<N>,
     spare_handles: Share<H>,
     spare_changes: Share<N>,
-    scribe: Scribe<Words, H>,
     /// how many seats were given
     given: u64,
-    ghost handles_counted: { handles.total ≡ book.shadow.next },
-    ghost changes_counted: { changes.total ≡ book.changes },
-    ghost all_recorded: { length scribe ≡ book.shadow.next },
-    ghost queue_recorded: { All (IsInHistory scribe) book.shadow.queue },
+    ghost handles_counted: { handles.total ≡ register.book.shadow.next },
+    ghost changes_counted: { changes.total ≡ register.book.changes },
     ghost handles_left: { spare_handles.parts + given ≡ 2305843009213693953 },
     ghost changes_left: { spare_changes.parts + given ≡ 2305843009213693953 },
     ghost no_handles: { spare_handles.amount ≡ 0 },
@@ -54,34 +50,28 @@ pub(crate) struct Counter<H: Origin, N: Ledger> {
 }
 
 impl<H: Origin, N: Ledger> Counter<H, N> {
-    ghost use Rattle.jb_desk.specs.Account.{granted_to, dropped_of, refusal, RefusesBegin};
-    ghost use Rattle.jb_desk.specs.Account.{AnswersNumber, IsAwaited, fault_of};
+    ghost use Rattle.jb_book.specs.Account.{granted_to, dropped_of, refusal, RefusesBegin};
+    ghost use Rattle.jb_desk.specs.Refusals.{fault_of};
+    ghost use Rattle.jb_book.specs.Account.{AnswersNumber, IsAwaited};
     ghost use Rattle.jb_desk.specs.Seats.{stops, changes, made_by, stops_left, changes_left, made_left};
     ghost use Rattle.jb_desk.specs.Stops.{IsStopped, RefusesStopOf};
     ghost use Rattle.jb_board.specs.Seats.{given_by};
 
-    /// A book that nobody has asked anything, two ledgers in which nothing is counted, and a history without an
-    /// entry.
-    pub fn new(
-        book: Book<H>,
-        handles: Blank,
-        changes: Blank,
-        scribe: Scribe<Words, H>,
-    ) -> Counter<H, N>
+    /// A book of which nobody has asked anything, with its history, and two ledgers in which nothing is counted.
+    pub fn new(register: Register<H>, handles: Blank, changes: Blank) -> Counter<H, N>
         requires handles { (handles.name ≡ H.name) × (handles.parts ≡ H.parts) × (H.parts ≡ 2305843009213693953) }
         requires changes { (changes.name ≡ N.name) × (changes.parts ≡ N.parts) × (N.parts ≡ 2305843009213693953) }
-        requires fresh { (book.shadow.next ≡ 0) × (book.changes ≡ 0) × (book.shadow.queue ≡ []) × (scribe ≡ []) }
-        ensures { result.book ≡ book }
+        requires fresh { (register.book.shadow.next ≡ 0) × (register.book.changes ≡ 0) }
+        ensures { result.register ≡ register }
     {
         let (handles, spare_handles) = handles.open::<H>();
         let (changes, spare_changes) = changes.open::<N>();
         Counter {
-            book,
+            register,
             handles,
             changes,
             spare_handles,
             spare_changes,
-            scribe,
             given: 0,
         }
     }
@@ -94,11 +84,11 @@ impl<H: Origin, N: Ledger> Counter<H, N> {
             × (made_by seat ≡ [])) }
         ensures number { IfSome result (λ seat. (seat.number ≡ self.old.given)
             × (self.new.given ≡ self.old.given + 1)) }
-        ensures none { IfNone result ((self.old.book.shut ≡ true) ⊎ (2 ^ 61 ≤ self.old.given)) }
+        ensures none { IfNone result ((self.old.register.book.shut ≡ true) ⊎ (2 ^ 61 ≤ self.old.given)) }
         ensures kept { IfNone result (self.new.given ≡ self.old.given) }
-        ensures book { self.new.book ≡ self.old.book }
+        ensures book { self.new.register.book ≡ self.old.register.book }
     {
-        if self.book.is_shut() || self.given >= MOST {
+        if self.register.book().is_shut() || self.given >= MOST {
             return None;
         }
         let number = self.given;
@@ -124,7 +114,7 @@ impl<H: Origin, N: Ledger> Counter<H, N> {
     pub fn leave(&mut self, seat: Seat<H, N>) -> Left<H, N>
         ensures left { (stops_left result ≡ stops seat) × (changes_left result ≡ changes seat)
             × (made_left result ≡ made_by seat) }
-        ensures book { self.new.book ≡ dropped_of seat.number self.old.book }
+        ensures book { self.new.register.book ≡ dropped_of seat.number self.old.register.book }
     {
         let Seat {
             number,
@@ -133,7 +123,7 @@ impl<H: Origin, N: Ledger> Counter<H, N> {
             changes,
             made,
         } = seat;
-        self.book.drop_open(number);
+        self.register.drop_open(number);
         Left {
             handles,
             changes,
@@ -155,13 +145,13 @@ impl<H: Origin, N: Ledger> Counter<H, N> {
     ) -> Result<Handle<Seat<H, N>>, (Seat<H, N>, BeginFault)>
         ensures ok { IfOk result (λ handle. (holder handle ≡ seat)
             × (changes_of handle ≡ held credits shape map.empty)) }
-        ensures book { OnOk result (self.new.book ≡ granted_to seat.number credits self.old.book) }
-        ensures granted { OnOk result (refusal self.old.book seat.number credits ≡ None) }
+        ensures book { OnOk result (self.new.register.book ≡ granted_to seat.number credits self.old.register.book) }
+        ensures granted { OnOk result (refusal self.old.register.book seat.number credits ≡ None) }
         ensures back { IfErr result (λ back. back.0 ≡ seat) }
-        ensures refused { IfErr result (λ back. RefusesBegin self.old.book seat.number credits back.1) }
-        ensures err { OnErr result (self.new.book ≡ self.old.book) }
+        ensures refused { IfErr result (λ back. RefusesBegin self.old.register.book seat.number credits back.1) }
+        ensures err { OnErr result (self.new.register.book ≡ self.old.register.book) }
     {
-        match self.book.open(seat.number, credits) {
+        match self.register.open(seat.number, credits) {
             Ok(()) => Ok(Handle::new(alloc, seat, credits, shape)),
             Err(fault) => Err((seat, fault)),
         }
@@ -180,57 +170,66 @@ impl<H: Origin, N: Ledger> Counter<H, N> {
         handle: Handle<Seat<H, N>>,
     ) -> Result<(Seat<H, N>, u64), StopFault<H, N>>
         requires { H.begun.stops (changes_of handle).words }
-        ensures ok { IfOk result (λ given. IsStopped handle self.old.book given.0 given.1 self.new.book) }
-        ensures refused { IfErr result (λ fault. RefusesStopOf handle self.old.book fault self.new.book) }
+        ensures ok { IfOk result (λ given. IsStopped handle self.old.register.book given.0 given.1
+            self.new.register.book) }
+        ensures refused { IfErr result (λ fault. RefusesStopOf handle self.old.register.book fault
+            self.new.register.book) }
     {
-        let number = handle.seat().number;
+        let (mut seat, handle) = handle.with_seat(());
+        let number = seat.number;
         let touched = handle.touched();
         let Counter {
-            book,
+            register,
             handles,
             changes,
-            scribe,
             ..
         } = self;
-        match book.enqueue(number, handle) {
-            Ok((mut seat, ticket)) => {
+        match register.stop(history, &mut seat.made, number, handle) {
+            Ok((_, ticket)) => {
                 handles.add(&mut seat.handles, 1);
                 changes.add(&mut seat.changes, u64::from(touched));
-                book.record_last(history, scribe, &mut seat.made);
                 Ok((seat, ticket))
             }
             Err((handle, EnqueueFault::Aborted)) => {
-                let (seat, _) = handle.end();
-                book.drop_open(number);
+                let (_, _) = handle.end();
+                register.drop_open(number);
                 Err(StopFault::Aborted(seat))
             }
-            Err((handle, EnqueueFault::NotOpen)) => Err(StopFault::NotOpen(handle)),
-            Err((handle, EnqueueFault::Memory)) => Err(StopFault::Memory(handle)),
+            Err((handle, EnqueueFault::NotOpen)) => {
+                let (_, handle) = handle.with_seat(seat);
+                Err(StopFault::NotOpen(handle))
+            }
+            Err((handle, EnqueueFault::Memory)) => {
+                let (_, handle) = handle.with_seat(seat);
+                Err(StopFault::Memory(handle))
+            }
         }
     }
 
     /// A handle is dropped with all of its changes.
     pub fn abandon(&mut self, handle: Handle<Seat<H, N>>) -> Seat<H, N>
         ensures seat { result ≡ holder handle }
-        ensures book { self.new.book ≡ dropped_of result.number self.old.book }
+        ensures book { self.new.register.book ≡ dropped_of result.number self.old.register.book }
     {
         let (seat, _) = handle.end();
-        self.book.drop_open(seat.number);
+        self.register.drop_open(seat.number);
         seat
     }
 
     /// From now on no seat is given and no handle is begun.
     pub fn shut(&mut self)
-        ensures { self.new.book ≡ record self.old.book { shut = true } }
+        ensures { self.new.register.book ≡ record self.old.register.book { shut = true } }
     {
-        self.book.shut();
+        self.register.shut();
     }
 
     /// Whether a ticket that some handle has may yet be settled.
     pub fn is_awaited(&self, ticket: u64) -> bool
-        ensures { IsTrue result ↔ IsAwaited self.now.book ticket }
+        ensures { IsTrue result ↔ IsAwaited self.now.register.book ticket }
     {
-        !self.book.is_aborted() && self.book.settled() <= ticket && ticket < self.book.next()
+        !self.register.book().is_aborted()
+            && self.register.book().settled() <= ticket
+            && ticket < self.register.book().next()
     }
 
     /// The number of the transaction that settled a ticket; `None` where its entry was taken.
@@ -239,30 +238,31 @@ impl<H: Origin, N: Ledger> Counter<H, N> {
     ///
     /// Where it is not settled: `Aborted` if the journal has failed, and otherwise `Unknown`.
     pub fn number_of(&self, ticket: u64) -> Result<Option<u32>, WaitFault>
-        ensures ok { IfOk result (AnswersNumber self.now.book ticket) }
+        ensures ok { IfOk result (AnswersNumber self.now.register.book ticket) }
         ensures few { OnOk result (ticket < 2 ^ 61) }
-        ensures given { OnOk result (ticket < self.now.book.shadow.next) }
-        ensures err { IfErr result (λ fault. (self.now.book.shadow.settled ≤ ticket)
-            × (fault ≡ fault_of self.now.book)) }
+        ensures settled { OnOk result (ticket < self.now.register.book.shadow.settled) }
+        ensures given { OnOk result (ticket < self.now.register.book.shadow.next) }
+        ensures err { IfErr result (λ fault. (self.now.register.book.shadow.settled ≤ ticket)
+            × (fault ≡ fault_of self.now.register.book)) }
     {
-        if ticket < self.book.start() {
+        if ticket < self.register.book().start() {
             return Ok(None);
         }
-        match self.book.number_of(ticket) {
+        match self.register.book().number_of(ticket) {
             Some(number) => Ok(Some(number)),
-            None if self.book.is_aborted() => Err(WaitFault::Aborted),
+            None if self.register.book().is_aborted() => Err(WaitFault::Aborted),
             None => Err(WaitFault::Unknown),
         }
     }
 
     /// That the book's tickets were given: those that wait, and all before them.
     pub fn tickets(&self) -> Tickets<H>
-        ensures given { given_by result ≡ self.now.book.shadow.next }
-        ensures taken { self.now.book.shadow.taken ≤ given_by result }
+        ensures given { given_by result ≡ self.now.register.book.shadow.next }
+        ensures taken { self.now.register.book.shadow.taken ≤ given_by result }
     {
         // that the book is sound is known by looking at it
-        let _reserved = self.book.reserved();
-        Tickets::of(&self.handles, self.book.next())
+        let _reserved = self.register.book().reserved();
+        Tickets::of(&self.handles, self.register.book().next())
     }
 
     /// How many seats were given.
@@ -274,8 +274,8 @@ impl<H: Origin, N: Ledger> Counter<H, N> {
 
     /// The book.
     pub fn book(&self) -> &Book<H>
-        ensures { result.now ≡ self.now.book }
+        ensures { result.now ≡ self.now.register.book }
     {
-        &self.book
+        self.register.book()
     }
 }

@@ -14,16 +14,16 @@ mod rounds;
 mod taking;
 mod waiting;
 
-use crate::book::Book;
 use crate::counter::Counter;
-use crate::fault::{BeginFault, SeatFault, StopFault, WaitFault};
-use crate::origin::Origin;
+use crate::fault::{SeatFault, StopFault, WaitFault};
 use crate::seat::{Left, Seat};
+use crate::shown::Shown;
 use crate::stops::Stops;
 use crate::turns::Turns;
 use crate::works::Works;
 pub use closing::{CloseFault, Closed};
 use jb_board::{Board, Front};
+use jb_book::{BeginFault, Origin, Register};
 use jb_deck::Deck;
 use jb_disk::{Clock, Disk};
 use jb_handle::{Handle, Shape, Words};
@@ -43,7 +43,7 @@ pub struct Desk<D: Disk, C: Clock, H: Origin, N: Ledger> {
     /// the book has changed
     moved: Condvar,
     turns: Turns,
-    board: Board<H>,
+    board: Shown<H>,
     history: History<Words, H>,
     shape: Shape,
     alloc: Global,
@@ -88,16 +88,16 @@ impl<D: Disk, C: Clock, H: Origin, N: Ledger> Desk<D, C, H, N> {
             return Err((handles, changes, deck, clock));
         };
         let shape = deck.shape();
-        let book = Book::new(alloc, shape, u64::from(deck.usable()));
         let Stops { tickets, history } = handles;
         let (history, mut scribe) = history.named::<H>();
         let sight = history.show(&mut scribe);
+        let register = Register::new(alloc, shape, u64::from(deck.usable()), scribe);
         Ok(Desk {
-            counter: Mutex::new(Counter::new(book, tickets, changes, scribe)),
+            counter: Mutex::new(Counter::new(register, tickets, changes)),
             works: Mutex::new(Works::new(deck, clock, sight)),
             moved: Condvar::new(),
             turns: Turns::new(),
-            board,
+            board: Shown::new(board),
             history,
             shape,
             alloc,
@@ -240,12 +240,12 @@ impl<D: Disk, C: Clock, H: Origin, N: Ledger> Desk<D, C, H, N> {
             |counter| counter.is_awaited(ticket),
         );
         let number = counter.number_of(ticket)?;
-        let tickets = counter.tickets();
+        let (tickets, seen) = (counter.tickets(), counter.seen());
         drop(counter);
         let count = ticket + 1;
         self.board.raise_stopped(&mut seat.board, count, &tickets);
-        self.board.raise_taken(&mut seat.board, count);
-        self.board.raise_settled(&mut seat.board, count);
+        self.board.raise_taken(&mut seat.board, count, &seen);
+        self.board.raise_settled(&mut seat.board, count, &seen);
         number.ok_or(WaitFault::Taken)
     }
 }

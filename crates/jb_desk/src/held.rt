@@ -1,21 +1,23 @@
 //! A batch that a committer holds.
 ghost use Rattle.std.specs.Prelude.{◌≡◌, ◌+◌, ◌≤◌, length, All};
 
-use crate::origin::Origin;
+use crate::counter::Seen;
 use jb_board::Tickets;
+use jb_book::Origin;
 use jb_deck::Batch;
 use jb_handle::Words;
 use jb_history::Sight;
 use std::marker::Model;
 
 /// A batch whose handles stopped with words that a handle may stop with (`S.begun`), and that its tickets
-/// were given; and a first part of the history of stops that has its handles. It must be used up, as the
-/// batch in it.
+/// were given and taken; and a first part of the history of stops that has its handles. It must be used up, as
+/// the batch in it.
 #[must_use]
 pub struct Held<S: Origin> {
     batch: Batch,
     tickets: Tickets<S>,
     sight: Sight<Words, S>,
+    seen: Seen,
 }
 
 impl<S: Origin> Model for Held<S> {
@@ -24,8 +26,8 @@ impl<S: Origin> Model for Held<S> {
     ghost use Rattle.jb_board.specs.Seats.{given_by};
     ghost use Rattle.jb_handle.specs.Word.{words_code};
     ghost use Rattle.jb_batch.specs.Batch.{Gathered};
-    ghost use Rattle.jb_desk.specs.History.{IsInHistory};
-    ghost use Rattle.jb_desk.specs.Since.{AreStops};
+    ghost use Rattle.jb_book.specs.Led.{IsInHistory};
+    ghost use Rattle.jb_book.specs.Origin.{AreStops};
 
     ghost Value = { Gathered };
 
@@ -35,18 +37,25 @@ impl<S: Origin> Model for Held<S> {
 
     ghost invariant = { λ h. AreStops S.begun h.batch.handles
         × (h.batch.first + length h.batch.handles ≤ given_by h.tickets)
+        × (h.batch.first + length h.batch.handles ≤ h.seen.taken)
         × All (IsInHistory h.sight) h.batch.handles };
 }
 
 impl<S: Origin> Held<S> {
     ghost use Rattle.jb_board.specs.Seats.{given_by};
-    ghost use Rattle.jb_desk.specs.History.{IsInHistory};
-    ghost use Rattle.jb_desk.specs.Since.{AreStops};
+    ghost use Rattle.jb_book.specs.Led.{IsInHistory};
+    ghost use Rattle.jb_book.specs.Origin.{AreStops};
 
     /// A batch to be held.
-    pub(crate) fn of(batch: Batch, tickets: Tickets<S>, sight: Sight<Words, S>) -> Held<S>
+    pub(crate) fn of(
+        batch: Batch,
+        tickets: Tickets<S>,
+        sight: Sight<Words, S>,
+        seen: Seen,
+    ) -> Held<S>
         requires stops { AreStops S.begun batch.handles }
         requires given { batch.first + length batch.handles ≤ given_by tickets }
+        requires taken { batch.first + length batch.handles ≤ seen.taken }
         requires history { All (IsInHistory sight) batch.handles }
         ensures { result ≡ batch }
     {
@@ -54,27 +63,30 @@ impl<S: Origin> Held<S> {
             batch,
             tickets,
             sight,
+            seen,
         }
     }
 
-    /// The batch again, that its tickets were given, and what has its handles.
-    pub(crate) fn end(self) -> (Batch, Tickets<S>, Sight<Words, S>)
+    /// The batch again, that its tickets were given, what has its handles, and that it was taken.
+    pub(crate) fn end(self) -> (Batch, Tickets<S>, Sight<Words, S>, Seen)
         ensures batch { result.0 ≡ self }
         ensures stops { AreStops S.begun result.0.handles }
         ensures given { result.0.first + length result.0.handles ≤ given_by result.1 }
+        ensures taken { result.0.first + length result.0.handles ≤ result.3.taken }
         ensures history { All (IsInHistory result.2) result.0.handles }
     {
         let Held {
             batch,
             tickets,
             sight,
+            seen,
         } = self;
-        (batch, tickets, sight)
+        (batch, tickets, sight, seen)
     }
 
     /// The batch is lost.
     pub(crate) fn lose(self) {
-        let (batch, _, _) = self.end();
+        let (batch, _, _, _) = self.end();
         let _lost = batch.end();
     }
 }

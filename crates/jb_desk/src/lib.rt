@@ -1,7 +1,6 @@
 //! The desk over a journal: the book of open, stopped and settled handles that its lock guards.
 #![tactic(auto)]
 
-mod book;
 mod checkpoint;
 mod committer;
 mod counter;
@@ -10,23 +9,21 @@ mod ended;
 mod fault;
 mod follow;
 mod held;
-pub mod laws;
 mod opening;
-mod origin;
-mod room;
 mod seat;
+mod shown;
 mod stops;
 mod turns;
 mod works;
 
-pub use book::Book;
 pub use checkpoint::CheckpointRound;
 pub use committer::{Committer, Round, RoundFault};
 pub use counter::{NoBatch, Over};
 pub use desk::{CloseFault, Closed, Desk};
 pub use ended::Ended;
-pub use fault::{BeginFault, EnqueueFault, SeatFault, StopFault, WaitFault, WrongBatch};
+pub use fault::{SeatFault, StopFault, WaitFault};
+pub use jb_book::{BeginFault, Book, EnqueueFault, Origin, WrongBatch, laws};
+pub use jb_handle::Ticket;
 pub use opening::open;
-pub use origin::Origin;
 pub use seat::{Left, Seat};
 pub use stops::Stops;

@@ -5,7 +5,7 @@ ghost use Rattle.jb_handle.specs.declared.shape.Shape.{Shape as ShapeValue};
 ghost use Rattle.jb_desk.specs.Opened.{NotOpened, WasOpened};
 ghost use Rattle.jb_desk.specs.Since.{IsBegunOn, IsSince};
 
-use crate::origin::Origin;
+use jb_book::Origin;
 use jb_deck::{Deck, OpenFault};
 use jb_disk::Disk;
 use std::alloc::Global;

@@ -1,8 +1,8 @@
 //! What a thread has of a desk, and what it leaves there.
 ghost use Rattle.std.specs.Prelude.{◌≡◌, length};
 
-use crate::origin::Origin;
 use jb_board::BoardSeat;
+use jb_book::Origin;
 use jb_handle::Words;
 use jb_history::Made;
 use std::sync::ledger::{Ledger, Share};

@@ -1,8 +1,8 @@
 ghost use Rattle.std.specs.Prelude.{◌≡◌, [], false, length, All, IfOk, OnErr};
 
 use crate::checkpoint::CheckpointRound;
-use crate::origin::Origin;
 use jb_block::Memory;
+use jb_book::Origin;
 use jb_deck::{BatchFault, Checked, CheckpointFault, Deck, Done, Entry, Prepared, ReadHomeFault};
 use jb_disk::{Clock, Disk};
 use jb_handle::Words;
@@ -45,8 +45,12 @@ impl<D: Disk, C: Clock, S: Origin> Works<D, C, S> {
     ghost use Rattle.jb_deck.specs.Taking.{CanTake, TakesTrail, oldest_number};
     ghost use Rattle.jb_desk.specs.Journal.{AnswersAt, ChecksAt, ChecksRound, FailsAs, GivesTrail, IsRound, ReadsHome};
     ghost use Rattle.jb_desk.specs.Rounds.{CommitsAs};
-    ghost use Rattle.jb_desk.specs.History.{IsInHistory, IsStop};
-    ghost use Rattle.jb_desk.specs.Since.{AreStops, IsSince, IsSinceOf};
+    ghost use Rattle.jb_book.specs.Tied.{TellsFirst};
+    ghost use Rattle.jb_handle.specs.Tickets.{TicketsFrom};
+    ghost use Rattle.jb_book.specs.Led.{IsInHistory};
+    ghost use Rattle.jb_desk.specs.History.{IsStop};
+    ghost use Rattle.jb_book.specs.Origin.{AreStops};
+    ghost use Rattle.jb_desk.specs.Since.{IsSince, IsSinceOf};
     ghost use Rattle.jb_desk.specs.Works.{worked};
 
     /// A journal that stands as it must since the start and has committed nothing, a clock, and what was seen
@@ -84,10 +88,12 @@ impl<D: Disk, C: Clock, S: Origin> Works<D, C, S> {
             × AnswersBatch (D.faults self.old.deck.disk) (D.faults self.new.deck.disk) prepared stamp self.old.deck
             self.new.deck result }
         ensures told { CommitsAs prepared result }
+        ensures tells { TellsFirst prepared result }
+        ensures tickets { TicketsFrom prepared.batch.first prepared.batch.handles }
         ensures round { IfOk result (IsRound D.size D.count D.faults D.honest D.newest D.may_leave D.moment
             D.left_since S.begun prepared) }
         ensures failed { FailsAs D.size D.count D.faults D.honest D.newest D.may_leave D.moment D.left_since S.begun
-            result }
+            prepared result }
         ensures clock { self.new.clock ≡ self.old.clock }
         ensures kept { seen.new ≡ seen.old }
     {

@@ -21,6 +21,6 @@ pub use op::Op;
 pub use payload::Payload;
 pub use shape::Shape;
 pub use size::is_within_size;
-pub use stopped::Stopped;
+pub use stopped::{Stopped, Ticket};
 pub use word::Word;
 pub use words::Words;

@@ -6,9 +6,9 @@ use Rattle.jb_handle.specs.Word.{WordMap}
 use Rattle.jb_handle.specs.declared.shape.Shape.{Shape}
 use Rattle.jb_deck.specs.Done.{Follow, past_after, start_of}
 use Rattle.jb_deck.specs.declared.done.Entry.{Entry}
-use Rattle.jb_desk.proofs.Rounds.{follow-past}
+use Rattle.jb_book.proofs.Follows.{follow-past}
 use Rattle.jb_desk.specs.History.{AreAllStops, EndsWith}
-use Rattle.jb_desk.specs.Origin.{Begun}
+use Rattle.jb_book.specs.Origin.{Begun}
 
 -- where a trail ends
 ends-at : (past : ℕ) (trail : List Entry) → Follow (start_of trail) 0 past trail → past_after 0 trail ≡ past
@@ -34,4 +34,8 @@ ends-without size count faults honest newest may_leave moment left_since b all s
   same_shape = ends.same_shape;
   same_trail = ends.same_trail;
   since = ends.since;
+  run_shape = ends.run_shape;
+  run = ends.run;
+  runs_as = ends.runs_as;
+  journal = ends.journal;
 }

@@ -4,12 +4,12 @@ use Rattle.jb_board.specs.Front.{front}
 use Rattle.jb_board.specs.Seats.{BoardId}
 use Rattle.jb_board.specs.declared.front.Front.{Front}
 use Rattle.jb_desk.specs.Desks.{desk_id, shape_in}
-use Rattle.jb_desk.specs.Origin.{Begun}
+use Rattle.jb_book.specs.Origin.{Begun}
 use Rattle.jb_desk.specs.Seats.{made_by, desk_of, view_of}
 use Rattle.jb_desk.specs.declared.seat.Seat.{Seat}
 use Rattle.jb_handle.specs.Word.{WordMap}
 use Rattle.jb_handle.specs.declared.shape.Shape.{Shape}
-use Rattle.jb_desk.specs.declared.origin.Origin.{Ghosts as OriginGhosts}
+use Rattle.jb_book.specs.declared.origin.Origin.{Ghosts as OriginGhosts}
 use Rattle.jb_history.specs.declared.place.Place.{Ghosts as Places}
 use Rattle.jb_journal.specs.declared.client.Client.{Client}
 
@@ -29,9 +29,10 @@ made_from None = []
 made_from (Some seat) = made_by seat
 
 module _ {D C R H N : Type 0} {O : OriginGhosts H} {P : Places H} where
-  -- a client with a seat at its desk, where handles may stop with any words
+  -- a client with a seat at its desk and the shape of its journal, where handles may stop with any words
   pub record IsClient (b : Begun) (client : Client D C R H N O P) : Type 0 where
     pub seated : SeatedAt (desk_id client.desk.now) client.seat
+    pub shaped : client.shape ≡ shape_in client.desk.now
     pub any : (words : WordMap) → b.stops words
 
   -- the counts that the client is sure of

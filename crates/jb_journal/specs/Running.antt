@@ -9,9 +9,9 @@ use Rattle.jb_desk.specs.Ends.{is_shut}
 use Rattle.jb_desk.specs.declared.ended.Ended.{Ended}
 use Rattle.jb_desk.specs.declared.ended.Ended.TheVariants as ended
 use Rattle.jb_desk.specs.History.{EndsWith}
-use Rattle.jb_desk.specs.Origin.{Begun}
+use Rattle.jb_book.specs.Origin.{Begun}
 use Rattle.jb_desk.specs.Seats.{made_by, made_left}
-use Rattle.jb_desk.specs.declared.origin.Origin.{Ghosts}
+use Rattle.jb_book.specs.declared.origin.Origin.{Ghosts}
 use Rattle.jb_desk.specs.declared.seat.Left.{Left}
 use Rattle.jb_desk.specs.declared.seat.Seat.{Seat}
 use Rattle.jb_history.specs.declared.place.Place.{Ghosts as Places}
@@ -73,8 +73,13 @@ pub record EndsRun {T D : Type 0} (checkpoint : Bool) (ran : Ran T D) : Type 0 w
   pub all : OnTrue (is_shut ran.commit) (ran.settled ≡ ran.handles)
   pub checked : EndsChecked checkpoint ran.checkpoint
 
+-- all handles that stopped are settled
+abbrev pub AllSettled : {T D : Type 0} → Ran T D → Type 0
+AllSettled ran = ran.settled ≡ ran.handles
+
 -- What was run: there are the handles that each worker's client has stopped, with which it answered what it may. They are all of one history, of as
--- many as are told, and each is there once; the journal that the disk is left with was given the first of this history
+-- many as are told, and each is there once; the journal that the disk is left with was given the first of this history; and the machine of handles accepts
+-- a list of events in which they stopped in this order, and whose settled groups are those of the trail
 pub record RanAll {T D : Type 0} (size count faults : D → ℕ) (honest : D → Type 0) (newest : D → Image) (may_leave : D → Image → Type 0) (moment : D → ℕ) (left_since : D → ℕ → Image → Type 0) (b : Begun) (may : ℕ → ℕ → List (ℕ × WordMap) → T → Type 0) (workers : ℕ) (ran : Ran T D) : Type 0 where
   pub stopped : List (List (ℕ × WordMap))
   pub answers : AreAnswers may workers stopped ran.answers.items

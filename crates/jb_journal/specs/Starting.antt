@@ -1,7 +1,7 @@
 -- The start that a journal's run is judged by.
 use Rattle.std.specs.Prelude.{ℕ, ◌⊎◌}
 use Rattle.jb_deck.specs.Opening.{recovered_home, FollowsEntry}
-use Rattle.jb_desk.specs.Origin.{Begun, own_on}
+use Rattle.jb_book.specs.Origin.{Begun, own_on}
 use Rattle.jb_disk.specs.Image.{Image}
 
 -- the disk as it was given: its homes as recovery leaves them, with any words that a handle may stop with; of what a crash left before it was given nothing is said

@@ -11,11 +11,12 @@ ghost use Rattle.jb_handle.specs.Word.{WordMap};
 ghost use Rattle.jb_journal.specs.Changing.{AnswersChange, Stops};
 
 use crate::fault::HandleFault;
-use jb_block::Memory;
+use jb_block::{BlockSize, Memory};
+use jb_cost::{Geometry, most_credits};
 use jb_deck::{Entry, ReadHomeFault};
 use jb_desk::{Desk, Origin, Seat, StopFault, WaitFault};
 use jb_disk::{Clock, Disk};
-use jb_handle::Handle;
+use jb_handle::{Handle, Shape};
 use std::sync::Wait;
 use std::sync::ledger::Ledger;
 use std::{mem, time};
@@ -25,20 +26,25 @@ use std::{mem, time};
 pub struct Client<'a, D: Disk, C: Clock, R, H: Origin, N: Ledger> {
     rt: &'a R,
     desk: &'a Desk<D, C, H, N>,
+    shape: Shape,
     seat: Option<Seat<H, N>>,
 }
 
 impl<'a, D: Disk, C: Clock, R: Wait + time::Clock, H: Origin, N: Ledger> Client<'a, D, C, R, H, N> {
     ghost use Rattle.jb_desk.specs.Journal.{GivesTrail, ReadsHome};
+    ghost use Rattle.jb_batch.specs.Costs.{geometry_of};
+    ghost use Rattle.jb_cost.specs.Credits.{IsMost};
     ghost use Rattle.jb_journal.specs.Client.{IsClient, made_from, seen_by, shape_of, client_stops};
 
     /// A client at a desk, where handles may stop with any words.
     pub(crate) fn new(
         rt: &'a R,
         desk: &'a Desk<D, C, H, N>,
+        shape: Shape,
         seat: Seat<H, N>,
     ) -> Client<'a, D, C, R, H, N>
         requires desk { desk_of seat ≡ desk_id desk.now }
+        requires shape { shape ≡ shape_in desk.now }
         requires any { (words : WordMap) → H.begun.stops words }
         ensures client { IsClient H.begun result }
         ensures stopped { client_stops result ≡ made_by seat }
@@ -46,6 +52,7 @@ impl<'a, D: Disk, C: Clock, R: Wait + time::Clock, H: Origin, N: Ledger> Client<
         Client {
             rt,
             desk,
+            shape,
             seat: Some(seat),
         }
     }
@@ -55,6 +62,36 @@ impl<'a, D: Disk, C: Clock, R: Wait + time::Clock, H: Origin, N: Ledger> Client<
         self.rt
     }
 
+    /// The size of a block.
+    pub fn block_size(&self) -> BlockSize
+        requires client { IsClient H.begun self.now }
+        ensures { result ≡ (shape_of self.now).bs }
+    {
+        self.shape.bs
+    }
+
+    /// How many home blocks there are; they are numbered from 0.
+    pub fn homes(&self) -> u64
+        requires client { IsClient H.begun self.now }
+        ensures { result ≡ (shape_of self.now).homes }
+    {
+        self.shape.homes
+    }
+
+    /// The most credits of a handle: with so many changes it fits in a transaction.
+    pub fn most_credits(&self) -> u32
+        requires client { IsClient H.begun self.now }
+        ensures { IsMost (geometry_of (shape_of self.now)) (shape_of self.now).limit result }
+    {
+        let Shape {
+            bs,
+            limit,
+            width,
+            ..
+        } = self.shape;
+        most_credits(Geometry::of(bs, width), limit)
+    }
+
     /// The seat, once the worker has ended.
     pub(crate) fn into_seat(self) -> Option<Seat<H, N>>
         ensures { made_from result ≡ client_stops self.entry }
@@ -62,6 +99,7 @@ impl<'a, D: Disk, C: Clock, R: Wait + time::Clock, H: Origin, N: Ledger> Client<
         let Client {
             rt: _rt,
             desk: _desk,
+            shape: _shape,
             seat,
         } = self;
         seat
@@ -131,6 +169,7 @@ impl<'a, D: Disk, C: Clock, R: Wait + time::Clock, H: Origin, N: Ledger> Client<
         requires { self.old.seat ≡ None }
         ensures seat { self.new.seat ≡ Some seat }
         ensures desk { self.new.desk ≡ self.old.desk }
+        ensures shape { self.new.shape ≡ self.old.shape }
     {
         match mem::replace(&mut self.seat, Some(seat)) {
             None => {}

@@ -4,6 +4,7 @@ ghost use Rattle.jb_desk.specs.Desks.{desk_id};
 ghost use Rattle.jb_desk.specs.Seats.{made_by, made_left, desk_of};
 ghost use Rattle.jb_journal.specs.Running.{HasLeft};
 
+use crate::gate::Gate;
 use jb_desk::{Desk, Ended, Left, Origin, Seat};
 use jb_disk::{Clock, Disk};
 use std::sync::Wait;
@@ -27,16 +28,19 @@ fn commit_all<D: Disk, C: Clock, R: Wait, H: Origin, N: Ledger>(
     (desk.leave(rt, seat), ended)
 }
 
-/// The same with a seat that was taken before, as a desk that is shut gives none; `None` where there is none.
+/// The same with a seat that was taken before, as a desk that is shut gives none; `None` where there is none. Comes to
+/// the gate first.
 pub(crate) fn commit_from<D: Disk, C: Clock, R: Wait, H: Origin, N: Ledger>(
     rt: &R,
     desk: &Desk<D, C, H, N>,
+    gate: &Gate,
     place: &mut Option<Seat<H, N>>,
 ) -> Option<(Left<H, N>, Ended)>
     requires { IfSome place.old (λ seat. desk_of seat ≡ desk_id desk.now) }
     ensures taken { place.new ≡ None }
     ensures left { HasLeft place.old result }
 {
+    gate.pass(rt);
     match place.take() {
         Some(seat) => Some(commit_all(rt, desk, seat)),
         None => None,

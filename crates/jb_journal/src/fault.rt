@@ -1,7 +1,8 @@
-//! Why a handle is not stopped, and why a journal is not run.
+//! Why a handle is not stopped, a home not read, and a journal not run.
 use jb_block::Memory;
 use jb_deck::OpenFault;
 use jb_desk::BeginFault;
+use jb_recover::PeekFault;
 use std::fmt;
 use thiserror::Error;
 
@@ -36,6 +37,9 @@ pub enum RunFault {
     /// then, and the journal is to be recovered.
     #[error("out of memory; recover the journal and run it again")]
     Memory,
+    /// The system makes no thread more, so that each worker had one of its own: no worker was called.
+    #[error("the system makes no thread more; run with fewer workers")]
+    NoThread,
     /// The desk's sums do not agree, which cannot happen.
     #[error("the journal's accounts do not agree")]
     Accounts,
@@ -50,4 +54,25 @@ impl From<Memory> for RunFault {
     fn from(_: Memory) -> RunFault {
         RunFault::Memory
     }
+}
+
+/// Handles that stopped were not all settled: the others may be lost, and the journal is to be recovered.
+#[derive(Clone, Copy, Debug, PartialEq, Eq, Error)]
+#[error("{settled} of {handles} handles are settled, the others may be lost; recover the journal and run it again")]
+pub struct NotSettled {
+    /// How many handles stopped.
+    pub handles: u64,
+    /// How many of them, the first by their tickets, are settled.
+    pub settled: u64,
+}
+
+/// Why a home block was not read from a journal that is not open.
+#[derive(Clone, Copy, Debug, PartialEq, Eq, Error)]
+pub enum HomeFault {
+    /// The buffer has not the length of one block.
+    #[error("the buffer has not the length of one block")]
+    Length,
+    /// It was not read, for this.
+    #[error("{0}")]
+    Peek(PeekFault),
 }

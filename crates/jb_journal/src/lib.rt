@@ -3,9 +3,13 @@
 #![tactic(auto)]
 
 mod client;
+mod clock;
 mod committing;
 mod fault;
+mod gate;
 mod gather;
+mod image;
+mod journal_fault;
 mod options;
 mod ran;
 mod running;
@@ -13,14 +17,18 @@ mod threads;
 mod worker;
 
 pub use client::Client;
-pub use fault::{HandleFault, RunFault};
+pub use clock::SystemClock;
+pub use fault::{HandleFault, HomeFault, NotSettled, RunFault};
+pub use image::{open, open_or_create, read_home};
 pub use jb_block::{BlockSize, Memory, Stamp, Width};
 pub use jb_deck::{Entry, OpenFault, ReadHomeFault};
 pub use jb_desk::{BeginFault, Ended, Origin, WaitFault};
 pub use jb_disk::{Clock, Disk, Fault, FileDisk, FixedClock, MemoryDisk};
 pub use jb_front::{FormatFault, format};
 pub use jb_handle::{Handle, Payload, Shape, TouchFault, Word, Words};
-pub use jb_recover::{RecoverFault, Recovered, recover};
+pub use jb_image::{Geometry, ImageFault, MakeFault, SystemFault};
+pub use jb_recover::{PeekFault, RecoverFault, Recovered, recover};
+pub use journal_fault::JournalFault;
 pub use options::Options;
 pub use ran::Ran;
 pub use running::{run, run_on};

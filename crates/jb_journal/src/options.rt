@@ -1,3 +1,6 @@
+//! How a journal is run.
+ghost use Rattle.std.specs.Prelude.{◌≡◌, true};
+
 /// How a journal is run.
 #[derive(Clone, Copy, Debug, PartialEq, Eq)]
 pub struct Options {
@@ -11,4 +14,17 @@ pub struct Options {
     /// transactions of the most blocks lets a home that changes often be written less often, and a commit still finds
     /// room. At the end all are written home. Without `checkpoint` it means nothing.
     pub level: u32,
+}
+
+impl Options {
+    /// So many workers, and each committed transaction is written home at once.
+    pub fn new(workers: usize) -> Options
+        ensures { (result.workers ≡ workers) × (result.checkpoint ≡ true) × (result.level ≡ 0) }
+    {
+        Options {
+            workers,
+            checkpoint: true,
+            level: 0,
+        }
+    }
 }

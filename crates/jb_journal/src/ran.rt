@@ -1,3 +1,7 @@
+//! What a run leaves.
+ghost use Rattle.std.specs.Prelude.{◌≡◌, ◌↔◌, IfErr, IfOk, IsOk};
+
+use crate::fault::NotSettled;
 use jb_deck::Entry;
 use jb_desk::Ended;
 
@@ -22,4 +26,31 @@ pub struct Ran<T, D> {
     pub commit: Ended,
     /// How the checkpointer ended; `None` where there was none.
     pub checkpoint: Option<Ended>,
+}
+
+impl<T: Drop, D: Drop> Ran<T, D> {
+    ghost use Rattle.jb_journal.specs.Running.{AllSettled};
+
+    /// The disk, and what each worker answered, where all that stopped is settled: it stands after a crash.
+    ///
+    /// # Errors
+    /// `NotSettled` where the journal has failed, memory ran out or no transaction number was left before that: the
+    /// last handles may be lost, also where their workers answered that all was well.
+    pub fn durable(self) -> Result<(D, Vec<T>), NotSettled>
+        ensures settled { IsOk result ↔ AllSettled self }
+        ensures given { IfOk result (λ given. (given.0 ≡ self.disk) × (given.1 ≡ self.answers)) }
+        ensures lost { IfErr result (λ fault. (fault.handles ≡ self.handles) × (fault.settled ≡ self.settled)) }
+    {
+        let Ran {
+            disk,
+            answers,
+            handles,
+            settled,
+            ..
+        } = self;
+        if settled != handles {
+            return Err(NotSettled { handles, settled });
+        }
+        Ok((disk, answers))
+    }
 }

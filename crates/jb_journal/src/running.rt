@@ -8,7 +8,7 @@ ghost use Rattle.jb_handle.specs.Word.{WordMap};
 ghost use Rattle.jb_journal.specs.Refusing.{RefusesRun};
 ghost use Rattle.jb_journal.specs.Running.{EndsRun, RanAll};
 ghost use Rattle.jb_journal.specs.Starting.{started_on};
-ghost use Rattle.jb_journal.specs.declared.fault.RunFault.TheVariants.{Accounts, Memory as OutOfMemory};
+ghost use Rattle.jb_journal.specs.declared.fault.RunFault.TheVariants.{Accounts, NoThread, Memory as OutOfMemory};
 
 use crate::fault::RunFault;
 use crate::gather::Gathered;
@@ -19,6 +19,7 @@ use crate::worker::Worker;
 use jb_deck::{Deck, Entry};
 use jb_desk::{Closed, Desk, Origin, Stops};
 use jb_disk::{Clock, Disk};
+use jb_handle::Shape;
 use std::alloc::Global;
 use std::marker::Brand;
 use std::sync::Wait;
@@ -38,6 +39,8 @@ const PARTS: u64 = (1 << 61) + 1;
 /// - `Open` where the journal was not opened, and nothing ran.
 /// - `Memory` where there was none for the desk, a thread's answer or what the threads leave; handles may have been
 ///   committed then.
+/// - `NoThread` where the system makes no thread for each worker, for what commits and for what writes home within ten
+///   seconds: no worker was called.
 /// - `Accounts` where the desk's sums do not agree, which cannot happen.
 pub fn run<
     T: Drop + Send,
@@ -133,12 +136,13 @@ fn run_open<
     ensures ends { IfOk result (EndsRun options.checkpoint) }
     ensures since { IfOk result (λ ran. EndsSince D.size D.count D.faults D.honest D.newest D.may_leave D.moment
         D.left_since H.begun ran.disk ran.trail.items) }
-    ensures faults { IfErr result (λ fault. (fault ≡ OutOfMemory) ⊎ (fault ≡ Accounts)) }
+    ensures faults { IfErr result (λ fault. (fault ≡ OutOfMemory) ⊎ ((fault ≡ Accounts) ⊎ (fault ≡ NoThread))) }
 {
+    let shape = deck.shape();
     let Ok(desk) = Desk::<D, C, H, N>::start(alloc, handles, changes, deck, clock) else {
         return Err(RunFault::Memory);
     };
-    run_at(rt, alloc, desk, options, worker)
+    run_at(rt, alloc, desk, shape, options, worker)
 }
 
 /// Runs the workers at a new desk, and closes it.
@@ -154,19 +158,21 @@ fn run_at<
     rt: &R,
     alloc: Global,
     desk: Desk<D, C, H, N>,
+    shape: Shape,
     options: Options,
     worker: &W,
 ) -> Result<Ran<T, D>, RunFault>
     requires parts { (H.parts ≡ 2 ^ 61 + 1) × (N.parts ≡ 2 ^ 61 + 1) }
+    requires shape { shape ≡ shape_in desk }
     requires any { (words : WordMap) → H.begun.stops words }
     ensures ran { IfOk result (RanAll D.size D.count D.faults D.honest D.newest D.may_leave D.moment D.left_since
         H.begun (W.answers worker.now) options.workers) }
     ensures ends { IfOk result (EndsRun options.checkpoint) }
     ensures since { IfOk result (λ ran. EndsSince D.size D.count D.faults D.honest D.newest D.may_leave D.moment
         D.left_since H.begun ran.disk ran.trail.items) }
-    ensures faults { IfErr result (λ fault. (fault ≡ OutOfMemory) ⊎ (fault ≡ Accounts)) }
+    ensures faults { IfErr result (λ fault. (fault ≡ OutOfMemory) ⊎ ((fault ≡ Accounts) ⊎ (fault ≡ NoThread))) }
 {
-    let (ran, checkpoint) = run_all(rt, alloc, &desk, options, worker);
+    let (ran, checkpoint) = run_all(rt, alloc, &desk, shape, options, worker);
     let Threaded {
         workers,
         committer,

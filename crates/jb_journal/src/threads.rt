@@ -1,17 +1,20 @@
 //! The threads of a journal: its workers, its committer and its checkpointer.
-ghost use Rattle.std.specs.Prelude.{◌≡◌, ◌<◌, ◌≤◌, ◌⊎◌, IfErr, IfOk, IfSome};
+ghost use Rattle.std.specs.Prelude.{◌≡◌, ◌<◌, ◌≤◌, ◌⊎◌, true, IfErr, IfOk, IfSome, Some};
 ghost use Rattle.jb_handle.specs.Word.{WordMap};
-ghost use Rattle.jb_journal.specs.declared.fault.RunFault.TheVariants.{Accounts, Memory as OutOfMemory};
+ghost use Rattle.jb_journal.specs.declared.fault.RunFault.TheVariants.{Accounts, NoThread, Memory as OutOfMemory};
+ghost use Rattle.jb_desk.specs.Desks.{shape_in};
 ghost use Rattle.jb_journal.specs.Running.{HasThreaded, HaveWorked, EndsChecked, stops_of_worked};
 
 use crate::client::Client;
 use crate::committing::commit_from;
 use crate::fault::RunFault;
+use crate::gate::Gate;
 use crate::options::Options;
 use crate::worker::Worker;
 use jb_block::Memory;
 use jb_desk::{Desk, Ended, Left, Origin};
 use jb_disk::{Clock, Disk};
+use jb_handle::Shape;
 use std::alloc::Global;
 use std::sync::Wait;
 use std::sync::ledger::Ledger;
@@ -39,7 +42,7 @@ pub(crate) struct Threaded<T, H: Origin, N: Ledger> {
 }
 
 /// Runs the workers and commits what they stopped, and writes committed transactions home where that is asked for; says
-/// how that ended, too.
+/// how that ended, too. No worker is called unless each of these has a thread.
 pub(crate) fn run_all<
     T: Drop + Send,
     W: Worker<T> + Sync,
@@ -52,26 +55,49 @@ pub(crate) fn run_all<
     rt: &R,
     alloc: Global,
     desk: &Desk<D, C, H, N>,
+    shape: Shape,
     options: Options,
     worker: &W,
 ) -> (Result<Threaded<T, H, N>, RunFault>, Option<Ended>)
+    requires shape { shape ≡ shape_in desk.now }
     requires any { (words : WordMap) → H.begun.stops words }
     ensures ran { IfOk result.0 (HasThreaded (W.answers worker.now) options.workers) }
-    ensures faults { IfErr result.0 (λ fault. (fault ≡ OutOfMemory) ⊎ (fault ≡ Accounts)) }
+    ensures faults { IfErr result.0 (λ fault. (fault ≡ OutOfMemory) ⊎ ((fault ≡ Accounts) ⊎ (fault ≡ NoThread))) }
     ensures ended { EndsChecked options.checkpoint result.1 }
 {
+    let gate = Gate::new(threads_of(options));
     if !options.checkpoint {
-        return (run_workers(rt, alloc, desk, options.workers, worker), None);
+        let ran = run_workers(rt, alloc, desk, shape, &gate, options.workers, worker);
+        return (ran, None);
     }
     // the checkpointer is first, since the first closure runs last where no thread can be made
     let (checkpoint, ran) = thread::join(
         rt,
-        || desk.run_checkpointer_at(rt, options.level),
+        || check_home(rt, desk, &gate, options.level),
         || -> Result<Threaded<T, H, N>, RunFault>
-            requires { (words : WordMap) → H.begun.stops words }
-        { run_workers(rt, alloc, desk, options.workers, worker) },
+            requires { (shape ≡ shape_in desk.now) × ((words : WordMap) → H.begun.stops words) }
+        { run_workers(rt, alloc, desk, shape, &gate, options.workers, worker) },
     );
     (ran, Some(checkpoint))
+}
+
+/// How many threads a run has: its workers, its committer, and its checkpointer where there is one.
+fn threads_of(options: Options) -> usize {
+    let threads = options.workers.saturating_add(1);
+    threads.saturating_add(usize::from(options.checkpoint))
+}
+
+/// Comes to the gate, and writes committed transactions home until the desk is over.
+fn check_home<D: Disk, C: Clock, R: Wait, H: Origin, N: Ledger>(
+    rt: &R,
+    desk: &Desk<D, C, H, N>,
+    gate: &Gate,
+    level: u32,
+) -> Ended
+    ensures { EndsChecked true (Some result) }
+{
+    gate.pass(rt);
+    desk.run_checkpointer_at(rt, level)
 }
 
 /// Runs the workers and commits what they stopped, at the same time. The desk is shut then.
@@ -87,12 +113,15 @@ fn run_workers<
     rt: &R,
     alloc: Global,
     desk: &Desk<D, C, H, N>,
+    shape: Shape,
+    gate: &Gate,
     workers: usize,
     worker: &W,
 ) -> Result<Threaded<T, H, N>, RunFault>
+    requires shape { shape ≡ shape_in desk.now }
     requires any { (words : WordMap) → H.begun.stops words }
     ensures ran { IfOk result (HasThreaded (W.answers worker.now) workers) }
-    ensures faults { IfErr result (λ fault. (fault ≡ OutOfMemory) ⊎ (fault ≡ Accounts)) }
+    ensures faults { IfErr result (λ fault. (fault ≡ OutOfMemory) ⊎ ((fault ≡ Accounts) ⊎ (fault ≡ NoThread))) }
 {
     let Ok(seat) = desk.seat(rt) else {
         desk.shut(rt);
@@ -101,10 +130,10 @@ fn run_workers<
     let mut place = Some(seat);
     let (committed, ran) = thread::join(
         rt,
-        || commit_from(rt, desk, &mut place),
+        || commit_from(rt, desk, gate, &mut place),
         || -> Result<Vec<Worked<T, H, N>>, Memory>
-            requires { (words : WordMap) → H.begun.stops words }
-        { work(rt, alloc, desk, workers, worker) },
+            requires { (shape ≡ shape_in desk.now) × ((words : WordMap) → H.begun.stops words) }
+        { work(rt, alloc, desk, shape, gate, workers, worker) },
     );
     if let Some(seat) = place {
         let _left = desk.leave(rt, seat);
@@ -113,6 +142,9 @@ fn run_workers<
     let Some((committer, commit)) = committed else {
         return Err(RunFault::Accounts);
     };
+    if gate.is_given_up(rt) {
+        return Err(RunFault::NoThread);
+    }
     Ok(Threaded {
         workers: ran?,
         committer,
@@ -133,9 +165,12 @@ fn work<
     rt: &R,
     alloc: Global,
     desk: &Desk<D, C, H, N>,
+    shape: Shape,
+    gate: &Gate,
     workers: usize,
     worker: &W,
 ) -> Result<Vec<Worked<T, H, N>>, Memory>
+    requires shape { shape ≡ shape_in desk.now }
     requires any { (words : WordMap) → H.begun.stops words }
     ensures { IfOk result (λ ran. HaveWorked (W.answers worker.now) workers ran.items) }
 {
@@ -144,32 +179,41 @@ fn work<
         alloc,
         workers,
         &|at: usize| -> Worked<T, H, N>
-            requires { (words : WordMap) → H.begun.stops words }
+            requires { (shape ≡ shape_in desk.now) × ((words : WordMap) → H.begun.stops words) }
             ensures { IfSome result.answer (W.answers worker.entry.now workers at (stops_of_worked result)) }
-        { work_at(rt, desk, workers, worker, at) },
+        { work_at(rt, desk, shape, gate, workers, worker, at) },
     );
     desk.shut(rt);
     ran
 }
 
-/// Runs the worker at this place.
+/// Runs the worker at this place, once each thread of the run is there.
 fn work_at<T, W: Worker<T>, D: Disk, C: Clock, R: Wait + time::Clock, H: Origin, N: Ledger>(
     rt: &R,
     desk: &Desk<D, C, H, N>,
+    shape: Shape,
+    gate: &Gate,
     workers: usize,
     worker: &W,
     at: usize,
 ) -> Worked<T, H, N>
+    requires shape { shape ≡ shape_in desk.now }
     requires any { (words : WordMap) → H.begun.stops words }
     ensures { IfSome result.answer (W.answers worker.now workers at (stops_of_worked result)) }
 {
+    if !gate.wait(rt) {
+        return Worked {
+            left: None,
+            answer: None,
+        };
+    }
     let Ok(seat) = desk.seat(rt) else {
         return Worked {
             left: None,
             answer: None,
         };
     };
-    let mut client = Client::new(rt, desk, seat);
+    let mut client = Client::new(rt, desk, shape, seat);
     let answer = worker.work(&mut client, workers, at);
     let left = match client.into_seat() {
         Some(seat) => Some(desk.leave(rt, seat)),

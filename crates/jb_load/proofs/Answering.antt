@@ -5,7 +5,7 @@ use Rattle.jb_block.specs.declared.size.BlockSize.{BlockSize}
 use Rattle.jb_disk.specs.Image.{Image}
 use Rattle.jb_handle.specs.declared.shape.Shape.{Shape}
 use Rattle.jb_handle.specs.declared.stopped.Stopped.{Stopped}
-use Rattle.jb_desk.specs.Origin.{Begun}
+use Rattle.jb_book.specs.Origin.{Begun}
 use Rattle.jb_load.specs.Loads.{AnswersLoad, EndsCheckpoint, IsOpened}
 use Rattle.jb_load.specs.Settled.{LoadedSince, LoadsSince}
 use Rattle.jb_load.specs.declared.fault.LoadFault.{LoadFault}

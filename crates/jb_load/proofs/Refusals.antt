@@ -13,8 +13,8 @@ use Rattle.jb_handle.specs.declared.shape.Shape.{Shape}
 use Rattle.jb_handle.specs.declared.word.Word.{Word}
 use Rattle.jb_handle.specs.declared.word.Word.TheVariants.{Copy, Free}
 use Rattle.jb_desk.specs.Refusals.{IsTooMany}
-use Rattle.jb_desk.specs.declared.fault.BeginFault.{BeginFault}
-use Rattle.jb_desk.specs.declared.fault.BeginFault.TheVariants as begin
+use Rattle.jb_book.specs.declared.fault.BeginFault.{BeginFault}
+use Rattle.jb_book.specs.declared.fault.BeginFault.TheVariants as begin
 use Rattle.jb_load.specs.Faults.{not_begun, not_touched}
 use Rattle.jb_load.specs.Refusing.{IsMisfit, IsRefusedFor}
 

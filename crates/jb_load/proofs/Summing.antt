@@ -11,7 +11,7 @@ use Rattle.std.proofs.lemmas.List.Sums.{sum_by-append, sum_by-cons}
 use Rattle.jb_cost.specs.Pieces.{joined}
 use Rattle.jb_cost.proofs.Joined.{joined-append}
 use Rattle.jb_desk.specs.Seats.{made_left}
-use Rattle.jb_desk.specs.declared.origin.Origin.{Ghosts}
+use Rattle.jb_book.specs.declared.origin.Origin.{Ghosts}
 use Rattle.jb_desk.specs.declared.seat.Left.{Left}
 use Rattle.jb_history.specs.declared.place.Place.{Ghosts as Places}
 use Rattle.jb_handle.specs.declared.shape.Shape.{Shape}

@@ -5,7 +5,7 @@ use Rattle.std.proofs.lemmas.List.{get_or_default, take_more}
 use Rattle.std.proofs.lemmas.List.Sums.{sum_by_push}
 use Rattle.jb_deck.specs.Done.{Follow}
 use Rattle.jb_deck.specs.declared.done.Entry.{Entry}
-use Rattle.jb_desk.proofs.Follows.{at-entry}
+use Rattle.jb_book.proofs.Follows.{at-entry}
 
 -- a value for a place that is not there
 abbrev pub no_entry : Entry

@@ -1,8 +1,8 @@
 -- The faults of a desk and of a handle, as a load reports them.
 use Rattle.jb_handle.specs.declared.changes.TouchFault.{TouchFault}
 use Rattle.jb_handle.specs.declared.changes.TouchFault.TheVariants as touch
-use Rattle.jb_desk.specs.declared.fault.BeginFault.{BeginFault}
-use Rattle.jb_desk.specs.declared.fault.BeginFault.TheVariants as begin
+use Rattle.jb_book.specs.declared.fault.BeginFault.{BeginFault}
+use Rattle.jb_book.specs.declared.fault.BeginFault.TheVariants as begin
 use Rattle.jb_load.specs.declared.fault.HandleFault.{HandleFault}
 use Rattle.jb_load.specs.declared.fault.HandleFault.TheVariants.{Aborted, Closed, Busy, TooManyCredits, Full, NoCredit, OutOfRange, Length, Memory}
 

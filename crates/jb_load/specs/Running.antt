@@ -7,7 +7,7 @@ use Rattle.jb_deck.specs.Done.{Follow}
 use Rattle.jb_deck.specs.declared.done.Entry.{Entry}
 use Rattle.jb_desk.specs.Seats.{KeepsStops, stops, changes, made_by, stops_left, changes_left, made_left}
 use Rattle.jb_desk.specs.declared.ended.Ended.{Ended}
-use Rattle.jb_desk.specs.declared.origin.Origin.{Ghosts}
+use Rattle.jb_book.specs.declared.origin.Origin.{Ghosts}
 use Rattle.jb_history.specs.declared.place.Place.{Ghosts as Places}
 use Rattle.jb_desk.specs.declared.seat.Left.{Left}
 use Rattle.jb_desk.specs.declared.seat.Seat.{Seat}

@@ -4,7 +4,8 @@ use Rattle.jb_disk.specs.Image.{Image}
 use Rattle.jb_handle.specs.Word.{WordMap}
 use Rattle.jb_handle.specs.declared.shape.Shape.{Shape}
 use Rattle.jb_handle.specs.declared.stopped.Stopped.{Stopped}
-use Rattle.jb_desk.specs.Origin.{Begun}
+use Rattle.jb_book.specs.Led.{IsMachineRun}
+use Rattle.jb_book.specs.Origin.{Begun}
 use Rattle.jb_desk.specs.History.{IsStop}
 use Rattle.jb_desk.specs.Since.{IsSinceOf}
 use Rattle.jb_deck.specs.Deck.{OpenDeck}
@@ -31,10 +32,14 @@ module _ {D : Type 0} (size count faults : D → ℕ) (honest : D → Type 0) (n
     pub since : IsSinceOf size count faults honest newest may_leave moment left_since b (IsStop b words) deck
 
   -- The groups that the load counts are those of a journal that stands as it must since the start, and that has the disk. It was given
-  -- the first of the handles of the queue that stopped, in the order of their tickets: the settled ones, and after a fault of the disk perhaps more
+  -- the first of the handles of the queue that stopped, in the order of their tickets: the settled ones, and after a fault of the disk perhaps more.
+  -- The handles stopped in this order, and these groups were settled, in a list of events that the machine of handles accepts
   pub record LoadedSince (shape : Shape) (queue : List Stopped) (threads : ℕ) (loaded : Loaded) (disk : D) : Type 0 where
     pub loads : Loads shape queue threads loaded
     pub since : EndsGiven loads.counts.log disk loads.trail
+    pub run_shape : Shape
+    pub run : IsMachineRun run_shape loads.counts.log loads.trail
+    pub runs_as : b.honest → run_shape ≡ shape
 
   -- the journal on the disk of before was opened, and the handles had to fit its shape
   abbrev pub LoadsSince : D → List Stopped → ℕ → Loaded → D → Type 0

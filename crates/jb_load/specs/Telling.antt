@@ -53,13 +53,20 @@ refused_parts place name (Some n) = spelled (codes "jb: handle " ∷ place ∷ c
 abbrev pub refused_line : Refused → List ℕ
 refused_line r = refused_parts (decimal r.handle) (name_of r.fault) (number_in r.fault)
 
--- the line of a thread that did not end Shut
-abbrev pub end_line : List ℕ → Option Ended → List ℕ
-end_line thread None = []
-end_line thread (Some (ended.Shut over)) = []
-end_line thread (Some ended.Aborted) = spelled (thread ∷ codes "Aborted\n" ∷ [])
-end_line thread (Some ended.Memory) = spelled (thread ∷ codes "Memory\n" ∷ [])
-end_line thread (Some ended.Refused) = spelled (thread ∷ codes "Refused\n" ∷ [])
+-- the word of a checkpointer that ended Aborted, by how the committer did: it stopped where that one gave up
+abbrev pub aborted_word : Ended → List ℕ
+aborted_word (ended.Shut over) = codes "Aborted\n"
+aborted_word ended.Aborted = codes "Aborted\n"
+aborted_word ended.Memory = codes "Stopped\n"
+aborted_word ended.Refused = codes "Stopped\n"
+
+-- the line of a thread that did not end Shut, with this word where it ended Aborted
+abbrev pub end_line : List ℕ → List ℕ → Option Ended → List ℕ
+end_line thread aborted None = []
+end_line thread aborted (Some (ended.Shut over)) = []
+end_line thread aborted (Some ended.Aborted) = spelled (thread ∷ aborted ∷ [])
+end_line thread aborted (Some ended.Memory) = spelled (thread ∷ codes "Memory\n" ∷ [])
+end_line thread aborted (Some ended.Refused) = spelled (thread ∷ codes "Refused\n" ∷ [])
 
 -- its line, where one was refused
 abbrev pub refused_text : Option Refused → List ℕ
@@ -68,7 +75,7 @@ refused_text (Some r) = refused_line r
 
 -- the lines of the threads that did not end Shut
 unfoldable pub ends_text : Loaded → List ℕ
-ends_text l = end_line (codes "jb: commit ") (Some l.commit) ++ end_line (codes "jb: checkpoint ") l.checkpoint
+ends_text l = end_line (codes "jb: commit ") (codes "Aborted\n") (Some l.commit) ++ end_line (codes "jb: checkpoint ") (aborted_word l.commit) l.checkpoint
 
 -- the lines of what did not end well
 unfoldable pub faults_text : Loaded → List ℕ

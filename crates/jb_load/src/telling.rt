@@ -1,5 +1,7 @@
 ghost use Rattle.jb_io.specs.Puts.{Puts};
-ghost use Rattle.jb_load.specs.Telling.{TellsLoad, counts_line, end_line, ends_text, faults_text, refused_text};
+ghost use Rattle.std.specs.Prelude.{◌≡◌};
+ghost use Rattle.jb_load.specs.Telling.{TellsLoad, aborted_word as aborted_said, counts_line, end_line};
+ghost use Rattle.jb_load.specs.Telling.{ends_text, faults_text, refused_text};
 
 use crate::loaded::{Loaded, Refused};
 use itoa::Buffer;
@@ -81,19 +83,40 @@ fn put_refused<E: Write>(refused: Option<Refused>, err: &mut E) -> Result<(), Wr
 fn put_ends<E: Write>(loaded: &Loaded, err: &mut E) -> Result<(), WriteFault>
     ensures { Puts (E.contents err.old) (E.contents err.new) (ends_text loaded.now) result }
 {
-    match put_end("jb: commit ", Some(loaded.commit), err) {
-        Ok(()) => put_end("jb: checkpoint ", loaded.checkpoint, err),
+    match put_end("jb: commit ", "Aborted\n", Some(loaded.commit), err) {
+        Ok(()) => put_end(
+            "jb: checkpoint ",
+            aborted_word(loaded.commit),
+            loaded.checkpoint,
+            err,
+        ),
         Err(fault) => Err(fault),
     }
 }
 
-/// Writes how a thread ended, where it did not end `Shut`.
-fn put_end<E: Write>(thread: &str, ended: Option<Ended>, err: &mut E) -> Result<(), WriteFault>
-    ensures { Puts (E.contents err.old) (E.contents err.new) (end_line thread.now ended) result }
+/// The word of a checkpointer that ended `Aborted`, by how the committer did: where that one gave up a batch, the
+/// journal has not failed, and the checkpointer stopped with it.
+fn aborted_word(commit: Ended) -> &'static str
+    ensures { result.now ≡ aborted_said commit }
+{
+    match commit {
+        Ended::Shut(_) | Ended::Aborted => "Aborted\n",
+        Ended::Memory | Ended::Refused => "Stopped\n",
+    }
+}
+
+/// Writes how a thread ended, where it did not end `Shut`, with this word where it ended `Aborted`.
+fn put_end<E: Write>(
+    thread: &str,
+    aborted: &str,
+    ended: Option<Ended>,
+    err: &mut E,
+) -> Result<(), WriteFault>
+    ensures { Puts (E.contents err.old) (E.contents err.new) (end_line thread.now aborted.now ended) result }
 {
     match ended {
         None | Some(Ended::Shut(_)) => Ok(()),
-        Some(Ended::Aborted) => put_parts(err, &[thread, "Aborted\n"]),
+        Some(Ended::Aborted) => put_parts(err, &[thread, aborted]),
         Some(Ended::Memory) => put_parts(err, &[thread, "Memory\n"]),
         Some(Ended::Refused) => put_parts(err, &[thread, "Refused\n"]),
     }

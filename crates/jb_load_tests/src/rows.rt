@@ -163,7 +163,7 @@ const ROWS: [Row; 12] = [
         text: FOUR,
         options: CHECKPOINTED,
         out: "handles 4 changes 9 settled 0 groups 0 blocks 0\n",
-        err: "jb: commit Refused\njb: checkpoint Aborted\n",
+        err: "jb: commit Refused\njb: checkpoint Stopped\n",
         found: (0, 0),
         homes: [0; HOMES],
     },

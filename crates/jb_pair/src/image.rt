@@ -3,14 +3,40 @@ ghost use Rattle.std.specs.Prelude.{◌≡◌, []};
 use crate::pair::PairDisk;
 use jb_block::BlockSize;
 use jb_disk::{Disk, Fault, FileDisk};
+use jb_extents::ExtentsDisk;
 
-/// The disk that an image in files is: one file with the journal and the home blocks, or a file with each.
+/// The disk that an image in files is: one file with the journal and the home blocks, or a file with each; or one whose
+/// home blocks are all of its blocks, some of which hold the journal.
 #[derive(Drop)]
 pub enum ImageDisk {
     /// The journal at the front of a file, and the home blocks after it.
     One(FileDisk),
     /// The journal in a file of its own, and the home blocks in another.
     Two(PairDisk<FileDisk, FileDisk>),
+    /// The journal in extents of the file that has the home blocks.
+    Within(ExtentsDisk<FileDisk>),
+}
+
+impl ImageDisk {
+    ghost use Rattle.std.specs.Prelude.{◌≡◌};
+    ghost use Rattle.jb_pair.specs.Images.{is_within, own_home};
+
+    /// Whether the journal stands within the home blocks.
+    pub fn is_within(&self) -> bool
+        ensures { result ≡ is_within self.now }
+    {
+        matches!(self, ImageDisk::Within(_))
+    }
+
+    /// The first of these home blocks that is one of the journal's own.
+    pub fn first_own(&self, homes: &[u64]) -> Option<u64>
+        ensures { result ≡ own_home self.now homes.now }
+    {
+        match self {
+            ImageDisk::One(_) | ImageDisk::Two(_) => None,
+            ImageDisk::Within(disk) => disk.first_own(homes),
+        }
+    }
 }
 
 /// No contract says what a file holds: of the contents nothing is promised, as of a `FileDisk`.
@@ -51,6 +77,7 @@ impl Disk for ImageDisk {
         match self {
             ImageDisk::One(file) => file.block_size(),
             ImageDisk::Two(pair) => pair.block_size(),
+            ImageDisk::Within(disk) => disk.block_size(),
         }
     }
 
@@ -58,6 +85,7 @@ impl Disk for ImageDisk {
         match self {
             ImageDisk::One(file) => file.blocks(),
             ImageDisk::Two(pair) => pair.blocks(),
+            ImageDisk::Within(disk) => disk.blocks(),
         }
     }
 
@@ -65,6 +93,7 @@ impl Disk for ImageDisk {
         match self {
             ImageDisk::One(file) => file.read(place, buf),
             ImageDisk::Two(pair) => pair.read(place, buf),
+            ImageDisk::Within(disk) => disk.read(place, buf),
         }
     }
 
@@ -72,6 +101,7 @@ impl Disk for ImageDisk {
         match self {
             ImageDisk::One(file) => file.read_run(place, blocks, buf),
             ImageDisk::Two(pair) => pair.read_run(place, blocks, buf),
+            ImageDisk::Within(disk) => disk.read_run(place, blocks, buf),
         }
     }
 
@@ -79,6 +109,7 @@ impl Disk for ImageDisk {
         match self {
             ImageDisk::One(file) => file.write(place, bytes),
             ImageDisk::Two(pair) => pair.write(place, bytes),
+            ImageDisk::Within(disk) => disk.write(place, bytes),
         }
     }
 
@@ -86,6 +117,7 @@ impl Disk for ImageDisk {
         match self {
             ImageDisk::One(file) => file.write_run(place, blocks, bytes),
             ImageDisk::Two(pair) => pair.write_run(place, blocks, bytes),
+            ImageDisk::Within(disk) => disk.write_run(place, blocks, bytes),
         }
     }
 
@@ -93,6 +125,7 @@ impl Disk for ImageDisk {
         match self {
             ImageDisk::One(file) => file.sync(),
             ImageDisk::Two(pair) => pair.sync(),
+            ImageDisk::Within(disk) => disk.sync(),
         }
     }
 }

@@ -1,1 +1,4 @@
 pub mod Cats
+pub mod Judgement
+pub mod Owning
+pub mod Written

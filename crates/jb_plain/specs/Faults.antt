@@ -5,6 +5,10 @@ use Rattle.jb_advice.specs.declared.beside.Beside.TheVariants.{Nothing, BadOptio
 use Rattle.jb_io.specs.Parts.{spelled}
 use Rattle.jb_dump.specs.declared.fault.DumpFault.{DumpFault}
 use Rattle.jb_dump.specs.declared.fault.DumpFault.TheVariants as dumping
+use Rattle.jb_extents.specs.declared.fault.ExtentsFault.{ExtentsFault}
+use Rattle.jb_extents.specs.declared.fault.ExtentsFault.TheVariants as extents
+use Rattle.jb_filesystem.specs.declared.judging.FileSystemFault.{FileSystemFault}
+use Rattle.jb_filesystem.specs.declared.judging.FileSystemFault.TheVariants as system
 use Rattle.jb_front.specs.declared.change.ChangeFault.{ChangeFault}
 use Rattle.jb_front.specs.declared.change.ChangeFault.TheVariants as changing
 use Rattle.jb_front.specs.declared.fault.FormatFault.{FormatFault}
@@ -16,7 +20,7 @@ use Rattle.jb_recover.specs.declared.fault.RecoverFault.TheVariants as recoverin
 use Rattle.jb_super.specs.declared.fault.SuperFault.{SuperFault}
 use Rattle.jb_super.specs.declared.fault.SuperFault.TheVariants as super
 use Rattle.jb_plain.specs.declared.fault.CommandFault.{CommandFault}
-use Rattle.jb_plain.specs.declared.fault.CommandFault.TheVariants.{CannotRead, InUse, SameFile, CannotMake, BadOption, TooLong, ReadFault, Super, BadRevoke, HomeOutOfRange, NoHome, NeedsRecovery, NumbersSpent, BlockSize, Accounts, Geometry, DeviceFault, Memory, WriteFault}
+use Rattle.jb_plain.specs.declared.fault.CommandFault.TheVariants.{CannotRead, InUse, SameFile, CannotMake, BadOption, TooLong, ReadFault, Super, FileSystem, Extents, BadRevoke, HomeOutOfRange, NoHome, NeedsRecovery, NumbersSpent, BlockSize, Accounts, Geometry, DeviceFault, Memory, WriteFault}
 
 -- the exit status
 abbrev pub status_of : CommandFault → ℕ
@@ -28,6 +32,8 @@ status_of (BadOption name) = 2
 status_of (TooLong name) = 2
 status_of ReadFault = 1
 status_of (Super fault) = 1
+status_of (FileSystem fault) = 1
+status_of (Extents fault) = 1
 status_of (BadRevoke place) = 1
 status_of (HomeOutOfRange home number homes) = 1
 status_of (NoHome home homes) = 1
@@ -51,6 +57,20 @@ super_line super.Geometry = spelled (codes "jb: Super Geometry\n" ∷ [])
 super_line (super.Feature word bits) =
     spelled (codes "jb: Super Feature " ∷ decimal word ∷ codes " " ∷ decimal bits ∷ codes "\n" ∷ [])
 
+-- the line of a journal that is not recovered into a file system: the fault's name, and the bytes of the file system's blocks
+abbrev pub system_line : FileSystemFault → List ℕ
+system_line (system.BlockSize size) = spelled (codes "jb: FileSystem BlockSize " ∷ decimal size ∷ codes "\n" ∷ [])
+system_line system.Uuid = spelled (codes "jb: FileSystem Uuid\n" ∷ [])
+system_line system.Clean = spelled (codes "jb: FileSystem Clean\n" ∷ [])
+
+-- the line of extents that do not hold the journal: the fault's name, and a block or how many they have
+abbrev pub extents_line : ExtentsFault → List ℕ
+extents_line (extents.Overlap block) = spelled (codes "jb: Extents Overlap " ∷ decimal block ∷ codes "\n" ∷ [])
+extents_line (extents.PastEnd block) = spelled (codes "jb: Extents PastEnd " ∷ decimal block ∷ codes "\n" ∷ [])
+extents_line (extents.Short blocks) = spelled (codes "jb: Extents Short " ∷ decimal blocks ∷ codes "\n" ∷ [])
+extents_line extents.NoJournal = spelled (codes "jb: Extents NoJournal\n" ∷ [])
+extents_line (extents.Home home) = spelled (codes "jb: Extents Home " ∷ decimal home ∷ codes "\n" ∷ [])
+
 -- the line on standard error
 abbrev pub line_of : CommandFault → List ℕ
 line_of (CannotRead name code) = spelled (codes "jb: cannot read " ∷ name.now ∷ codes "\n" ∷ [])
@@ -61,6 +81,8 @@ line_of (BadOption name) = spelled (codes "jb: bad option\n" ∷ [])
 line_of (TooLong name) = spelled (codes "jb: too long " ∷ name.now ∷ codes "\n" ∷ [])
 line_of ReadFault = spelled (codes "jb: ReadFault\n" ∷ [])
 line_of (Super fault) = super_line fault
+line_of (FileSystem fault) = system_line fault
+line_of (Extents fault) = extents_line fault
 line_of (BadRevoke place) = spelled (codes "jb: BadRevoke " ∷ decimal place ∷ codes "\n" ∷ [])
 line_of (HomeOutOfRange home number homes) =
     spelled (codes "jb: HomeOutOfRange " ∷ decimal home ∷ codes " " ∷ decimal number ∷ codes "\n" ∷ [])

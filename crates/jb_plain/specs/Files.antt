@@ -6,32 +6,42 @@ use Rattle.jb_disk.specs.File.{count_of, faults_of, size_of}
 use Rattle.jb_disk.specs.declared.file.FileDisk.{FileDisk}
 use Rattle.jb_disk.specs.Image.{Image}
 use Rattle.jb_front.specs.declared.change.ChangeFault.{ChangeFault}
+use Rattle.jb_front.specs.declared.fault.FormatFault.{FormatFault}
+use Rattle.jb_front.specs.declared.fault.FormatFault.TheVariants.{Geometry as NoRoom}
+use Rattle.jb_image.specs.Making.{IsFormatted}
+use Rattle.jb_image.specs.declared.geometry.Geometry.{Geometry}
+use Rattle.jb_front.specs.Front.{homes_in}
 use Rattle.jb_front.specs.Renumbering.{IsRenumbering, Renumbers, RenumbersAs}
 use Rattle.jb_front.specs.Widening.{IsWidened, Widens, WidensAs}
 use Rattle.jb_super.specs.Faults.{super_in}
 use Rattle.jb_super.specs.Superblock.{Superblock}
 use Rattle.jb_super.specs.declared.fault.SuperFault.TheVariants.{Geometry as NoGeometry}
-use Rattle.jb_words.specs.Named.{CatWords, Options}
+use Rattle.jb_words.specs.Named.{Options}
 use Rattle.jb_pair.specs.Images.{image_count, image_faults, image_size}
 use Rattle.jb_pair.specs.Pair.{back_disk, front_disk}
 use Rattle.jb_pair.specs.declared.image.ImageDisk.{ImageDisk}
-use Rattle.jb_pair.specs.declared.image.ImageDisk.TheVariants.{One, Two}
-use Rattle.jb_plain.specs.Cat.{CatsOn}
+use Rattle.jb_pair.specs.declared.image.ImageDisk.TheVariants.{One, Two, Within}
 use Rattle.jb_plain.specs.Change.{ChangesOn, renumbered_line, widened_line}
 use Rattle.jb_plain.specs.Format.{FormatsOn}
 use Rattle.jb_plain.specs.Options.{AreGood, IsFirstBad, IsJournalLength}
-use Rattle.jb_plain.specs.Recover.{RecoversOn}
 use Rattle.jb_plain.specs.declared.fault.CommandFault.{CommandFault}
-use Rattle.jb_plain.specs.declared.fault.CommandFault.TheVariants.{BadOption, CannotMake, CannotRead, Geometry, InUse, Memory, SameFile, Super}
+use Rattle.jb_plain.specs.declared.fault.CommandFault.TheVariants.{BadOption, CannotMake, CannotRead, Geometry as BadGeometry, InUse, Memory, SameFile, Super}
 
 -- the file of this name was not made: an option is bad; or none is, and a journal may not have so many blocks; or it may, and the
 -- system refuses the file
 abbrev pub IsUnmade : List ℕ → Options → CommandFault → Type 0
 IsUnmade name o (BadOption told) = IsFirstBad o told.now
-IsUnmade name o Geometry = AreGood o × (IsJournalLength o.journal → ⊥)
+IsUnmade name o BadGeometry = AreGood o × (IsJournalLength o.journal → ⊥)
 IsUnmade name o (CannotMake told code) = AreGood o × IsJournalLength o.journal × (told.now ≡ name)
 IsUnmade name o Memory = AreGood o × IsJournalLength o.journal
 IsUnmade name o _ = ⊥
+
+-- a journal was formatted on a file of the blocks that were asked for, with this answer: it was made, or a call of the file failed
+pub record HasFormatted (g : Geometry) (answer : Result Unit FormatFault) : Type 0 where
+  pub old : FileDisk
+  pub new : FileDisk
+  pub formatted : IsFormatted g old new answer
+  pub room : answer ≢ Err NoRoom
 
 -- the journal that the options ask for was made at the front of a file with their block size. No clause says what a file
 -- holds: of its content nothing follows
@@ -67,9 +77,9 @@ abbrev pub IsShut : List ℕ → Option (List ℕ) → CommandFault → Type 0
 IsShut name None fault = IsUnread name fault
 IsShut name (Some journal) fault = IsUnread name fault ⊎ (IsUnread journal fault ⊎ IsOtherLength fault)
 
--- some first bytes are a superblock, which says this block size and so many blocks of the journal
-abbrev pub SaysShape : ℕ → ℕ → Type 0
-SaysShape size maxlen = (front : List ℕ) × (sb : Superblock) × (super_in front ≡ Ok sb) × (size ≡ sb.block_size) × (maxlen ≡ sb.maxlen)
+-- some first bytes are this superblock
+abbrev pub SaysSuper : Superblock → Type 0
+SaysSuper sb = (front : List ℕ) × (super_in front ≡ Ok sb)
 
 -- some first bytes are a superblock, which says this block size
 abbrev pub SaysSize : ℕ → Type 0
@@ -79,41 +89,16 @@ SaysSize size = (front : List ℕ) × (sb : Superblock) × (super_in front ≡ O
 abbrev pub IsHeldBy : Option (List ℕ) → ImageDisk → Superblock → Type 0
 IsHeldBy None (One file) sb = ⊤
 IsHeldBy None (Two pair) sb = ⊥
+IsHeldBy None (Within disk) sb = ⊥
 IsHeldBy (Some journal) (One file) sb = ⊥
+IsHeldBy (Some journal) (Within disk) sb = ⊥
 IsHeldBy (Some journal) (Two pair) sb = (count_of (front_disk pair) ≡ sb.maxlen) × (size_of (back_disk pair) ≡ size_of (front_disk pair))
 
--- some first bytes are a superblock, which says the image's block size; so many home blocks are after the journal that it says
+-- some first bytes are a superblock, which says the image's block size; so many home blocks are after the journal that it says, and
+-- can be named in it
 abbrev pub IsOpened : Option (List ℕ) → ImageDisk → ℕ → Type 0
 IsOpened journal disk homes =
-    (front : List ℕ) × (sb : Superblock) × (super_in front ≡ Ok sb) × (image_size disk ≡ sb.block_size) × (homes ≡ image_count disk - sb.maxlen) × IsHeldBy journal disk sb
-
--- an image was recovered, in blocks of the size that its first bytes say; a fault is reported with the number of home blocks after
--- the journal that they say. No clause says what a file holds: of its content nothing follows
-pub record RecoversFile (journal : Option (List ℕ)) (out_old out_new : Option (List ℕ)) (end : Result ℕ CommandFault) : Type 0 where
-  pub old : ImageDisk
-  pub new : ImageDisk
-  pub homes : ℕ
-  pub opened : IsOpened journal old homes
-  pub recovers : RecoversOn image_size image_count image_faults (λ _. ⊥) (λ _. []) (λ _ _. ⊥) (λ _. 0) (λ _ _ _. ⊥) (Some homes) old new out_old out_new end
-
--- the image was not read, and nothing was done; or it was recovered, and the answer is reported
-abbrev pub EndsOfRecover : List ℕ → Option (List ℕ) → Option (List ℕ) → Option (List ℕ) → Result ℕ CommandFault → Type 0
-EndsOfRecover name journal out_old out_new end =
-    ((fault : CommandFault) × (end ≡ Err fault) × IsShut name journal fault × (out_new ≡ out_old)) ⊎ RecoversFile journal out_old out_new end
-
--- home blocks of an image were written as their peeks gave them, in blocks of the size that its first bytes say, as many as asked for from one on.
--- No clause says what a file holds: of its content nothing follows
-pub record CatsFile (words : CatWords) (out_old out_new : Option (List ℕ)) (end : Result ℕ CommandFault) : Type 0 where
-  pub old : ImageDisk
-  pub new : ImageDisk
-  pub homes : ℕ
-  pub opened : IsOpened words.journal old homes
-  pub cats : CatsOn image_size image_count (λ _. ⊥) (λ _. []) (Some homes) words.home words.count words.hex old new out_old out_new end
-
--- the image was not opened, and nothing was done; or its home blocks were written, and the answer is reported
-abbrev pub EndsOfCat : List ℕ → CatWords → Option (List ℕ) → Option (List ℕ) → Result ℕ CommandFault → Type 0
-EndsOfCat name words out_old out_new end =
-    ((fault : CommandFault) × (end ≡ Err fault) × IsShut name words.journal fault × (out_new ≡ out_old)) ⊎ CatsFile words out_old out_new end
+    (front : List ℕ) × (sb : Superblock) × (super_in front ≡ Ok sb) × (image_size disk ≡ sb.block_size) × (homes ≡ homes_in sb (image_count disk)) × IsHeldBy journal disk sb
 
 -- the clean journal in a file was changed, in blocks of the size that its first bytes say. No clause says what a file holds: of
 -- its content nothing follows

@@ -2,8 +2,11 @@ pub mod Cat
 pub mod Change
 pub mod Dump
 pub mod Ends
+pub mod Foresee
 pub mod Format
 pub mod Files
+pub mod Judge
+pub mod Placed
 pub mod Options
 pub mod Recover
 pub mod Runs

@@ -1,15 +1,19 @@
 -- When the options of `jb format` are good, and which image they ask for.
-use Rattle.std.specs.Prelude.{◌≡◌, ◌+◌, ◌*◌, ◌^◌, ◌<◌, ◌≤◌, ◌⊎◌, ℕ, List, codes, length, Ok}
+use Rattle.std.specs.Prelude.{false, ◌≡◌, ◌+◌, ◌*◌, ◌^◌, ◌<◌, ◌≤◌, ◌⊎◌, ℕ, List, codes, length, Ok}
 use Rattle.std.specs.List.{AllPass}
 use Rattle.hex.specs.Hex.{decode_of, is_hex_digit}
 use Rattle.jb_block.specs.Size.{bytes_of, IsBlockSize}
 use Rattle.jb_block.specs.Width.{is_wide}
 use Rattle.jb_words.specs.Named.{Options}
-use Rattle.jb_plain.specs.declared.options.NewFile.{NewFile}
+use Rattle.jb_image.specs.declared.geometry.Geometry.{Geometry}
 
 -- as many blocks as a journal may have
 abbrev pub IsJournalLength : ℕ → Type 0
 IsJournalLength blocks = (9 ≤ blocks) × (blocks < 2 ^ 31)
+
+-- a length that a file may have, with home blocks that numbers of the width name: of 32 bits, or with `--wide` of 64
+abbrev pub IsFileLength : Options → Type 0
+IsFileLength o = ((o.journal + o.homes) * o.bs < 2 ^ 63) × (o.wide ≡ false → o.homes ≤ 2 ^ 32)
 
 -- one of the three block sizes, numbers that fit their fields, a UUID of 32 hexadecimal digits, and a length that a file
 -- may have
@@ -18,7 +22,7 @@ pub record AreGood (o : Options) : Type 0 where
   pub journal : o.journal < 2 ^ 32
   pub max : o.max < 2 ^ 32
   pub uuid : (length o.uuid ≡ 32) × AllPass is_hex_digit o.uuid
-  pub len : (o.journal + o.homes) * o.bs < 2 ^ 63
+  pub len : IsFileLength o
 
 -- this option is bad and has this name, or it is good and this holds
 abbrev pub IsFirst : List ℕ → List ℕ → Type 0 → Type 0 → Type 0
@@ -31,13 +35,13 @@ IsFirstBad o name =
     (IsFirst name (codes "--journal") (o.journal < 2 ^ 32)
     (IsFirst name (codes "--max") (o.max < 2 ^ 32)
     (IsFirst name (codes "--uuid") ((length o.uuid ≡ 32) × AllPass is_hex_digit o.uuid)
-    (IsFirst name (codes "--homes") ((o.journal + o.homes) * o.bs < 2 ^ 63) ⊥))))
+    (IsFirst name (codes "--homes") (IsFileLength o) ⊥))))
 
 -- the image that the options ask for
-pub record IsAskedBy (o : Options) (file : NewFile) : Type 0 where
-  pub size : bytes_of file.size ≡ o.bs
-  pub journal : file.journal ≡ o.journal
-  pub max : file.max ≡ o.max
-  pub uuid : decode_of o.uuid ≡ Ok file.uuid
-  pub width : is_wide file.width ≡ o.wide
-  pub len : file.len ≡ (o.journal + o.homes) * o.bs
+pub record IsAskedBy (o : Options) (g : Geometry) : Type 0 where
+  pub size : bytes_of g.block_size ≡ o.bs
+  pub journal : g.journal ≡ o.journal
+  pub homes : g.homes ≡ o.homes
+  pub max : g.max_transaction ≡ o.max
+  pub uuid : decode_of o.uuid ≡ Ok g.uuid
+  pub width : is_wide g.width ≡ o.wide

@@ -8,7 +8,8 @@ use Rattle.jb_answers.specs.Check.{CheckSays}
 use Rattle.jb_answers.specs.Cost.{cost_said}
 use Rattle.jb_answers.specs.Limits.{cert_limit}
 use Rattle.jb_plain.specs.Dump.{EndsOfDump, choice_of}
-use Rattle.jb_plain.specs.Files.{EndsOfCat, EndsOfFormat, EndsOfRecover, EndsOfRenumber, EndsOfWiden}
+use Rattle.jb_plain.specs.Files.{EndsOfFormat, EndsOfRenumber, EndsOfWiden}
+use Rattle.jb_plain.specs.Placed.{EndsOfCat, EndsOfRecover}
 use Rattle.jb_answers.specs.Plan.{PlanSays}
 use Rattle.jb_answers.specs.Said.{Said}
 use Rattle.jb_plain.specs.Said.{Outputs, Tells}
@@ -56,7 +57,7 @@ EndsAsked (AsksCheck file cert) = λ _. EndsOfTwo CheckSays file cert
 EndsAsked (AsksDump file options) = λ input. OutAlone (EndsOfDump (choice_of options) file input)
 EndsAsked (AsksFormat image options) = λ _. OutAlone (EndsOfFormat image options)
 EndsAsked (AsksCat image words) = λ _. OutAlone (EndsOfCat image words)
-EndsAsked (AsksRecover image journal) = λ _. OutAlone (EndsOfRecover image journal)
+EndsAsked (AsksRecover image words) = λ _. OutAlone (EndsOfRecover image words)
 EndsAsked (AsksRenumber image) = λ _. OutAlone (EndsOfRenumber image)
 EndsAsked (AsksWiden image) = λ _. OutAlone (EndsOfWiden image)
 

@@ -2,6 +2,8 @@ ghost use Rattle.std.specs.Prelude.{◌≡◌};
 
 use jb_advice::Beside;
 use jb_dump::DumpFault;
+use jb_extents::ExtentsFault;
+use jb_filesystem::FileSystemFault;
 use jb_front::{ChangeFault, FormatFault};
 use jb_io::WriteFault;
 use jb_recover::{PeekFault, RecoverFault};
@@ -29,6 +31,10 @@ pub enum CommandFault<'a> {
     ReadFault,
     /// Journal block 0 is refused for this; `Geometry` also where there are fewer blocks than `s_maxlen`.
     Super(SuperFault),
+    /// The journal is not recovered into this file system.
+    FileSystem(FileSystemFault),
+    /// The extents do not hold the journal.
+    Extents(ExtentsFault),
     /// The block at this place of the journal, of a committed transaction, is a revoke block whose `r_count` is above
     /// the block size.
     BadRevoke(u64),
@@ -140,6 +146,7 @@ impl<'a> CommandFault<'a> {
             | CommandFault::NoHome(_, _)
             | CommandFault::NeedsRecovery
             | CommandFault::NumbersSpent => 1,
+            CommandFault::FileSystem(_) | CommandFault::Extents(_) => 1,
             CommandFault::BlockSize | CommandFault::Accounts | CommandFault::Geometry => 1,
             CommandFault::DeviceFault | CommandFault::Memory | CommandFault::WriteFault => 1,
         }

@@ -5,12 +5,15 @@ mod homes;
 mod journals;
 mod making;
 mod opening;
+mod placed;
+mod recovered;
 mod texts;
 
-pub(crate) use changes::{recover_file, renumber_file, widen_file};
+pub(crate) use changes::{renumber_file, widen_file};
 pub(crate) use homes::cat_file;
 pub(crate) use journals::{choice_of, dump_named};
 pub(crate) use making::format_file;
 pub use opening::{Opening, open_counted};
+pub(crate) use recovered::recover_file;
 pub use texts::read_file;
 pub(crate) use texts::{read_file_within, read_text};

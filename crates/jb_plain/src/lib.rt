@@ -14,6 +14,6 @@ pub use files::{Opening, open_counted, read_file};
 pub use jb_words::Plain;
 pub use running::{close, perform, run_plain};
 pub use streams::{
-    CERT_LIMIT, TEXT_LIMIT, cat_on, dump_from, format_on, recover_on, refuse_words, renumber_on,
-    tell, widen_on,
+    CERT_LIMIT, TEXT_LIMIT, cat_on, dump_from, foresee_on, format_on, judge_on, recover_on,
+    refuse_words, renumber_on, tell, widen_on,
 };

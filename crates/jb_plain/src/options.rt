@@ -1,4 +1,4 @@
-ghost use Rattle.std.specs.Prelude.{◌≡◌, ◌↔◌, ◌+◌, ◌*◌, ◌^◌, ◌<◌, length, IsSome, IfErr, IfOk, IfSome, Ok};
+ghost use Rattle.std.specs.Prelude.{◌≡◌, ◌↔◌, ◌+◌, ◌*◌, ◌^◌, ◌<◌, length, IsSome, IfErr, IfOk, IfSome, IsTrue, Ok};
 ghost use Rattle.std.specs.List.{AllPass};
 ghost use Rattle.hex.specs.Hex.{decode_of, is_hex_digit};
 ghost use Rattle.jb_block.specs.Size.{bytes_of, IsBlockSize};
@@ -8,31 +8,16 @@ ghost use Rattle.jb_plain.specs.Options.{AreGood, IsAskedBy, IsFirstBad};
 
 use hex::FromHex;
 use jb_block::{BlockSize, Width};
+use jb_image::Geometry;
 use jb_words::FormatOptions;
-
-/// What the options of `jb format` ask for.
-#[derive(Clone, Copy)]
-pub(crate) struct NewFile {
-    /// The size of its blocks.
-    pub(crate) size: BlockSize,
-    /// How many blocks its journal has, the superblock's counted.
-    pub(crate) journal: u32,
-    /// The most log blocks of a transaction, 0 for a quarter of the log.
-    pub(crate) max: u32,
-    /// The journal's UUID.
-    pub(crate) uuid: [u8; 16],
-    /// The width of its block numbers.
-    pub(crate) width: Width,
-    /// How many bytes the file has.
-    pub(crate) len: u64,
-}
 
 /// The image that the options ask for.
 ///
 /// # Errors
 /// The name of the first option that is bad, in this order: `--bs` is not 1024, 2048 or 4096; `--journal` or `--max` is
-/// above 2^32 - 1; `--uuid` is not 32 hexadecimal digits; or with `--homes` the file has 2^63 bytes or more.
-pub(crate) fn new_file(options: FormatOptions<'_>) -> Result<NewFile, &'static str>
+/// above 2^32 - 1; `--uuid` is not 32 hexadecimal digits; or with `--homes` the file has 2^63 bytes or more, or
+/// without `--wide` more home blocks than 32 bits number.
+pub(crate) fn new_file(options: FormatOptions<'_>) -> Result<Geometry, &'static str>
     ensures good { IfOk result (λ _. AreGood (options_said options.entry)) }
     ensures asked { IfOk result (IsAskedBy (options_said options.entry)) }
     ensures bad { IfErr result (λ name. IsFirstBad (options_said options.entry) name.now) }
@@ -49,16 +34,19 @@ pub(crate) fn new_file(options: FormatOptions<'_>) -> Result<NewFile, &'static s
     let Some(uuid) = uuid_of(options.uuid) else {
         return Err("--uuid");
     };
-    let Some(len) = len_of(options.journal, options.homes, options.bs) else {
+    if !is_file_len(options.journal, options.homes, options.bs) {
         return Err("--homes");
-    };
-    Ok(NewFile {
-        size,
+    }
+    if !options.wide && options.homes > 1 << 32 {
+        return Err("--homes");
+    }
+    Ok(Geometry {
+        block_size: size,
         journal,
-        max,
+        homes: options.homes,
+        max_transaction: max,
         uuid,
         width: width_of(options.wide),
-        len,
     })
 }
 
@@ -98,15 +86,10 @@ fn width_of(wide: bool) -> Width
     if wide { Width::Wide } else { Width::Narrow }
 }
 
-/// How many bytes so many blocks of journal and homes have.
-fn len_of(journal: u64, homes: u64, bs: u64) -> Option<u64>
-    ensures good { IsSome result ↔ ((journal + homes) * bs < 2 ^ 63) }
-    ensures value { IfSome result (λ len. len ≡ (journal + homes) * bs) }
+/// Whether a file may have as many bytes as so many blocks of journal and homes.
+fn is_file_len(journal: u64, homes: u64, bs: u64) -> bool
+    ensures { IsTrue result ↔ ((journal + homes) * bs < 2 ^ 63) }
 {
-    let len = (u128::from(journal) + u128::from(homes)).checked_mul(u128::from(bs))?;
-    if len < 1 << 63 {
-        Some(len as u64)
-    } else {
-        None
-    }
+    let len = (u128::from(journal) + u128::from(homes)).checked_mul(u128::from(bs));
+    matches!(len, Some(len) if len < 1 << 63)
 }

@@ -48,7 +48,7 @@ pub fn perform<'a, R: Files<File = File> + AllocGlobal, I: Read, O: Write, E: Wr
         Plain::Dump { file, options } => dump_named(rt, file, choice_of(options), input, out),
         Plain::Format { image, options } => format_file(rt, image, options, out),
         Plain::Cat { image, options } => cat_file(rt, image, options, out),
-        Plain::Recover { image, journal } => recover_file(rt, image, journal, out),
+        Plain::Recover { image, options } => recover_file(rt, image, options, out),
         Plain::Renumber { image } => renumber_file(rt, image, out),
         Plain::Widen { image } => widen_file(rt, image, out),
     }

@@ -96,7 +96,7 @@ static CASES: [Case; 5] = [
         name: "feature",
         rows: &[(0, 1, [33, 1, 2, 0]), (0, 2, [0, 1, 1, 0])],
         after: &[],
-        answer: Err(ChangeFault::Super(SuperFault::Feature { word: 1, bits: 1 })),
+        answer: Err(ChangeFault::Super(SuperFault::Feature(1, 1))),
     },
 ];
 

@@ -87,7 +87,7 @@ static CASES: [Case; 6] = [
         name: "feature",
         rows: &[(0, 1, [33, 1, 2, 0]), (0, 2, [0, 0, 17, 0])],
         after: &[],
-        answer: Err(ChangeFault::Super(SuperFault::Feature { word: 2, bits: 16 })),
+        answer: Err(ChangeFault::Super(SuperFault::Feature(2, 16))),
     },
 ];
 

@@ -18,7 +18,7 @@ const NO_MAX: [&str; 2] = ["--max", "0"];
 
 const BAD_OPTION: End = (2, "", "jb: bad option\n");
 
-static FORMATS: [Format; 18] = [
+static FORMATS: [Format; 19] = [
     (SMALL, NO_MAX, (0, "formatted limit 8\n", "")),
     (SMALL, ["--max", "6"], (0, "formatted limit 6\n", "")),
     (SMALL, ["--max=6", "--wide"], (0, "formatted limit 6\n", "")),
@@ -36,6 +36,7 @@ static FORMATS: [Format; 18] = [
     (["1024", "4294967296", "16"], NO_MAX, BAD_OPTION),
     (SMALL, ["--max", "4294967296"], BAD_OPTION),
     (["1024", "0", "9007199254740992"], NO_MAX, BAD_OPTION),
+    (["1024", "33", "4294967297"], NO_MAX, BAD_OPTION),
     (
         ["4096", "4294967295", "18446744073709551615"],
         NO_MAX,
@@ -172,7 +173,7 @@ fn a_new_image_is_its_superblock_and_zeros_and_is_made_once(rt: HostRuntime) {
 }
 
 /// 2^63 - 1024 bytes, which many file systems refuse and some take.
-static LONG: [&str; 8] = [
+static LONG: [&str; 9] = [
     "format",
     "long.img",
     "--bs",
@@ -181,6 +182,7 @@ static LONG: [&str; 8] = [
     "33",
     "--homes",
     "9007199254740958",
+    "--wide",
 ];
 
 const MADE: End = (0, "formatted limit 8\n", "");

@@ -102,6 +102,28 @@ static RECOVERIES: [Recovery; 12] = [
     },
 ];
 
+/// What `--list` adds to a line of one copy.
+const LISTED: &str = "transactions 1 copies 1 revoked 0 next 4\nhome 5\n";
+
+/// Checks that a dry run of the recovery ends so, and leaves the file as it is.
+fn check_dry(rt: &impl Host, end: (u8, &'static str, &'static str), bytes: &[u8], row: usize) {
+    check_run(
+        rt,
+        &["recover", "log.img", "--dry-run"],
+        end,
+        "dry run",
+        row,
+    );
+    check_file(rt, "log.img", bytes, "dry run", row)
+}
+
+/// Checks that a dry run with a list writes the line, and the home of the copy unless it is revoked.
+fn check_listed(rt: &impl Host, line: &'static str, home: u32, row: usize) {
+    let listed = if home == 5 { LISTED } else { line };
+    let words = ["recover", "log.img", "--list", "--dry-run"];
+    check_run(rt, &words, (0, listed, ""), "list", row)
+}
+
 /// Checks that the recovery of the image writes this line, and leaves this file.
 fn check_line(rt: &impl Host, line: &'static str, wanted: &[u8], what: &'static str, row: usize) {
     check_run(rt, &["recover", "log.img"], (0, line, ""), what, row);
@@ -130,8 +152,15 @@ fn check_recovery(rt: &impl Host, of: &Recovery, row: usize) {
     bytes.truncate(of.len);
     write(rt, "log.img", &bytes);
     match of.answer {
-        Ok(line) => check_recovered(rt, of, line, row),
-        Err(line) => check_refused(rt, &bytes, line, row),
+        Ok(line) => {
+            check_dry(rt, (0, line, ""), &bytes, row);
+            check_listed(rt, line, of.home, row);
+            check_recovered(rt, of, line, row)
+        }
+        Err(line) => {
+            check_dry(rt, (1, "", line), &bytes, row);
+            check_refused(rt, &bytes, line, row)
+        }
     }
 }
 

@@ -49,6 +49,10 @@ count_option = record (new_rule (codes "n")) {
 abbrev pub journal_option : Rule
 journal_option = record (new_rule (codes "journal")) { long = Some (codes "journal"); value_names = 1 }
 
+-- `--extents LIST`
+abbrev pub extents_option : Rule
+extents_option = record (new_rule (codes "extents")) { long = Some (codes "extents"); value_names = 1 }
+
 -- `--uuid HEX`, 32 zeros where it is left out
 abbrev pub uuid_option : Rule
 uuid_option = record (new_rule (codes "uuid")) {
@@ -79,15 +83,17 @@ dump_app =
     let numbered = with_rule (with_rule (file_app (codes "dump")) (number_option (codes "home"))) (number_option (codes "last")) in
     with_rule numbered (flag (codes "super"))
 
--- `cat IMAGE HOME [-n N] [--hex] [--journal FILE]`
+-- `cat IMAGE HOME [-n N] [--hex] [--journal FILE] [--extents LIST]`
 abbrev pub cat_app : App
 cat_app =
     let numbered = with_rule (with_rule (image_app (codes "cat")) (number_word (codes "HOME"))) count_option in
-    with_rule (with_rule numbered (flag (codes "hex"))) journal_option
+    with_rule (with_rule (with_rule numbered (flag (codes "hex"))) journal_option) extents_option
 
--- `recover IMAGE [--journal FILE]`
+-- `recover IMAGE [--extents LIST] [--journal FILE] [--force] [--dry-run] [--list]`
 abbrev pub recover_app : App
-recover_app = with_rule (image_app (codes "recover")) journal_option
+recover_app =
+    let found = with_rule (with_rule (image_app (codes "recover")) extents_option) journal_option in
+    with_rule (with_rule (with_rule found (flag (codes "force"))) (flag (codes "dry-run"))) (flag (codes "list"))
 
 -- `load IMAGE FILE [--journal FILE] [--threads N] [--hold] [--stamp SEC] [--checkpoint]`
 abbrev pub load_app : App

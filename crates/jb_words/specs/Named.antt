@@ -8,6 +8,7 @@ use Rattle.clap.specs.Words.{Row, Text, first_of, one_of}
 use Rattle.jb_words.specs.declared.plain.CatOptions.{CatOptions}
 use Rattle.jb_words.specs.declared.plain.DumpOptions.{DumpOptions}
 use Rattle.jb_words.specs.declared.plain.FormatOptions.{FormatOptions}
+use Rattle.jb_words.specs.declared.plain.RecoverOptions.{RecoverOptions}
 use Rattle.jb_words.specs.declared.plain.Plain.{Plain}
 use Rattle.jb_words.specs.declared.plain.Plain.TheVariants.{Cat, Check, Cost, Dump, Format, Plan, Recover, Renumber, Widen}
 
@@ -26,6 +27,15 @@ pub record CatWords : Type 0 where
   pub count : ℕ
   pub hex : Bool
   pub journal : Option Text
+  pub extents : Option Text
+
+-- the options of `recover` as they were given
+pub record RecoverWords : Type 0 where
+  pub journal : Option Text
+  pub extents : Option Text
+  pub force : Bool
+  pub dry_run : Bool
+  pub list : Bool
 
 -- a command with its words
 pub data Asked : Type 0 where
@@ -35,7 +45,7 @@ pub data Asked : Type 0 where
   AsksDump : Text → DumpOptions → Asked
   AsksCat : Text → CatWords → Asked
   AsksFormat : Text → Options → Asked
-  AsksRecover : Text → Option Text → Asked
+  AsksRecover : Text → RecoverWords → Asked
   AsksRenumber : Text → Asked
   AsksWiden : Text → Asked
 
@@ -45,7 +55,13 @@ options_said o = record { bs = o.bs; journal = o.journal; homes = o.homes; max =
 
 -- the same of `cat`
 abbrev pub cat_said : CatOptions → CatWords
-cat_said o = record { home = o.home; count = o.count; hex = o.hex; journal = option_map (λ word. word.now) o.journal }
+cat_said o =
+    record { home = o.home; count = o.count; hex = o.hex; journal = option_map (λ word. word.now) o.journal; extents = option_map (λ word. word.now) o.extents }
+
+-- the same of `recover`
+abbrev pub recover_said : RecoverOptions → RecoverWords
+recover_said o =
+    record { journal = option_map (λ word. word.now) o.journal; extents = option_map (λ word. word.now) o.extents; force = o.force; dry_run = o.dry_run; list = o.list }
 
 -- what a value of the program's own type asks for
 abbrev pub asks : Plain → Asked
@@ -55,7 +71,7 @@ asks (Check file cert) = AsksCheck file.now cert.now
 asks (Dump file options) = AsksDump file.now options
 asks (Format image options) = AsksFormat image.now (options_said options)
 asks (Cat image options) = AsksCat image.now (cat_said options)
-asks (Recover image journal) = AsksRecover image.now (option_map (λ word. word.now) journal)
+asks (Recover image options) = AsksRecover image.now (recover_said options)
 asks (Renumber image) = AsksRenumber image.now
 asks (Widen image) = AsksWiden image.now
 
@@ -110,11 +126,22 @@ format_in rows =
 abbrev pub journal_asked : List Row → Option Text
 journal_asked rows = first_of (codes "journal") rows
 
+-- the extents of the journal, where they were given
+abbrev pub extents_asked : List Row → Option Text
+extents_asked rows = first_of (codes "extents") rows
+
+-- `recover IMAGE ..`
+abbrev pub recover_in : List Row → Option Asked
+recover_in rows =
+    option_and_then (λ image. option_and_then (λ force. option_and_then (λ dry.
+    option_map (λ list. AsksRecover image (record { journal = journal_asked rows; extents = extents_asked rows; force = force; dry_run = dry; list = list }))
+    (flag_in (codes "list") rows)) (flag_in (codes "dry-run") rows)) (flag_in (codes "force") rows)) (image_in rows)
+
 -- `cat IMAGE HOME ..`
 abbrev pub cat_in : List Row → Option Asked
 cat_in rows =
     option_and_then (λ image. option_and_then (λ home. option_and_then (λ count.
-    option_map (λ hex. AsksCat image (record { home = home; count = count; hex = hex; journal = journal_asked rows }))
+    option_map (λ hex. AsksCat image (record { home = home; count = count; hex = hex; journal = journal_asked rows; extents = extents_asked rows }))
     (flag_in (codes "hex") rows)) (number_in (codes "n") rows)) (number_in (codes "HOME") rows)) (image_in rows)
 
 -- the command of this name, with the words that stand under the names of its arguments
@@ -126,7 +153,7 @@ asked name rows =
     else if bytes_eq name (codes "dump") then dump_in rows
     else if bytes_eq name (codes "cat") then cat_in rows
     else if bytes_eq name (codes "format") then format_in rows
-    else if bytes_eq name (codes "recover") then option_map (λ image. AsksRecover image (journal_asked rows)) (image_in rows)
+    else if bytes_eq name (codes "recover") then recover_in rows
     else if bytes_eq name (codes "renumber") then option_map (λ image. AsksRenumber image) (image_in rows)
     else if bytes_eq name (codes "widen") then option_map (λ image. AsksWiden image) (image_in rows)
     else None

@@ -9,8 +9,8 @@ mod texts;
 
 use clap::{Arg, Command};
 use options::{
-    count_option, flag, journal_option, number_option, number_or, number_word, required_number,
-    uuid_option,
+    count_option, extents_option, flag, journal_option, number_option, number_or, number_word,
+    required_number, uuid_option,
 };
 use std::alloc::{AllocError, Global};
 
@@ -114,7 +114,8 @@ fn cat<'a>(alloc: Global) -> Result<Command<'a>, AllocError>
     let command = with(command, count_option(alloc, "How many home blocks"))?;
     let help = "Writes lines of hexadecimal digits, as xxd does";
     let command = with(command, flag(alloc, "hex", help))?;
-    with(command, journal_option(alloc))
+    let command = with(command, journal_option(alloc))?;
+    with(command, extents_option(alloc))
 }
 
 /// `jb recover`.
@@ -123,7 +124,15 @@ fn recover<'a>(alloc: Global) -> Result<Command<'a>, AllocError>
     ensures own { IfOk result (λ c. (fields_of c).has_globals ≡ false) }
 {
     let about = "Writes home what an image's journal has committed, and empties its log";
-    with(over_image(alloc, "recover", about)?, journal_option(alloc))
+    let command = over_image(alloc, "recover", about)?;
+    let command = with(command, extents_option(alloc))?;
+    let command = with(command, journal_option(alloc))?;
+    let help = "Recovers though the journal seems not to be the file system's own";
+    let command = with(command, flag(alloc, "force", help))?;
+    let help = "Says what would be done, and writes nothing";
+    let command = with(command, flag(alloc, "dry-run", help))?;
+    let help = "With --dry-run: lists the home blocks that would be written";
+    with(command, flag(alloc, "list", help))
 }
 
 /// `jb format`.

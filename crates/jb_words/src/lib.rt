@@ -9,5 +9,5 @@ mod words;
 pub use clap::Error;
 pub use clap::error::ErrorKind;
 pub use command::{LoadWords, Words};
-pub use plain::{CatOptions, DumpOptions, FormatOptions, Plain};
+pub use plain::{CatOptions, DumpOptions, FormatOptions, Plain, RecoverOptions};
 pub use words::{parse, show_help};

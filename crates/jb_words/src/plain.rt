@@ -39,12 +39,12 @@ pub enum Plain<'a> {
         /// What it is to be.
         options: FormatOptions<'a>,
     },
-    /// `jb recover IMAGE`: the home blocks of an image as the committed transactions of its journal leave them.
+    /// `jb recover IMAGE ..`: the home blocks of an image as the committed transactions of its journal leave them.
     Recover {
         /// The file with the journal and the home blocks, or the home blocks alone.
         image: &'a str,
-        /// `--journal`: the file with the journal, where the image has the home blocks alone.
-        journal: Option<&'a str>,
+        /// Where the journal is, and what is to be done.
+        options: RecoverOptions<'a>,
     },
     /// `jb renumber IMAGE`: the journal of an image, clean, with its first number again.
     Renumber {
@@ -80,6 +80,23 @@ pub struct CatOptions<'a> {
     pub hex: bool,
     /// `--journal`: the file with the journal, where the image has the home blocks alone.
     pub journal: Option<&'a str>,
+    /// `--extents`: where the journal stands within the image.
+    pub extents: Option<&'a str>,
+}
+
+/// The options of `jb recover` as they were given, not checked yet.
+#[derive(Clone, Copy)]
+pub struct RecoverOptions<'a> {
+    /// `--journal`: the file with the journal, where the image has the home blocks alone.
+    pub journal: Option<&'a str>,
+    /// `--extents`: where the journal stands within the image.
+    pub extents: Option<&'a str>,
+    /// `--force`: whether a journal that seems not to be the file system's own is recovered.
+    pub force: bool,
+    /// `--dry-run`: whether nothing is written, and only said what would be done.
+    pub dry_run: bool,
+    /// `--list`: whether the home blocks that would be written are listed.
+    pub list: bool,
 }
 
 /// The options of `jb format` as they were given, not checked yet.

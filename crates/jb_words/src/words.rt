@@ -4,12 +4,12 @@ ghost use Rattle.clap.specs.Words.{app_of, first_of, found_of, rows_of, subcomma
 ghost use Rattle.jb_words.specs.App.{jb_app};
 ghost use Rattle.jb_words.specs.Faults.{HasKind, faults_in};
 ghost use Rattle.jb_words.specs.Named.{asked, asks, cat_in, check_in, dump_in};
-ghost use Rattle.jb_words.specs.Named.{flag_in, format_in, number_in, options_in, options_said};
+ghost use Rattle.jb_words.specs.Named.{flag_in, format_in, number_in, options_in, options_said, recover_in};
 ghost use Rattle.jb_words.specs.Wanted.{load_in, load_said, wanted_in, wanted_of, wants};
 
 use crate::command::{LoadWords, Words};
 use crate::commands::jb_command;
-use crate::plain::{CatOptions, DumpOptions, FormatOptions, Plain};
+use crate::plain::{CatOptions, DumpOptions, FormatOptions, Plain, RecoverOptions};
 use clap::error::ErrorKind;
 use clap::{ArgMatches, Command, Error};
 use std::alloc::{AllocError, Global};
@@ -108,10 +108,7 @@ fn plain_of<'a>(name: &str, found: &ArgMatches<'a>) -> Option<Plain<'a>>
         "dump" => dump_of(found),
         "cat" => cat_of(found),
         "format" => format_of(found),
-        "recover" => Some(Plain::Recover {
-            image: word_of(found, "IMAGE")?,
-            journal: word_of(found, "journal"),
-        }),
+        "recover" => recover_of(found),
         "renumber" => Some(Plain::Renumber {
             image: word_of(found, "IMAGE")?,
         }),
@@ -157,6 +154,23 @@ fn cat_of<'a>(found: &ArgMatches<'a>) -> Option<Plain<'a>>
             count: number_of(found, "n")?,
             hex: flag_of(found, "hex")?,
             journal: word_of(found, "journal"),
+            extents: word_of(found, "extents"),
+        },
+    })
+}
+
+/// The words of `jb recover`.
+fn recover_of<'a>(found: &ArgMatches<'a>) -> Option<Plain<'a>>
+    ensures { option_map asks result ≡ recover_in (rows_of (found_of found.now)) }
+{
+    Some(Plain::Recover {
+        image: word_of(found, "IMAGE")?,
+        options: RecoverOptions {
+            journal: word_of(found, "journal"),
+            extents: word_of(found, "extents"),
+            force: flag_of(found, "force")?,
+            dry_run: flag_of(found, "dry-run")?,
+            list: flag_of(found, "list")?,
         },
     })
 }

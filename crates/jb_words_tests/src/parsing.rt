@@ -1,4 +1,6 @@
-use jb_words::{CatOptions, DumpOptions, FormatOptions, LoadWords, Plain, Words, parse};
+use jb_words::{
+    CatOptions, DumpOptions, FormatOptions, LoadWords, Plain, RecoverOptions, Words, parse,
+};
 use std::alloc::Global;
 
 /// The command that the words ask for: its name, and its words in the order of `Plain` and `LoadWords`.
@@ -12,8 +14,8 @@ fn asked<'a>(alloc: Global, words: &'a [&'a str]) -> Option<(&'a str, &'a str, &
         Words::Plain(Plain::Cat { image, options }) => {
             Some(("cat", image, options.journal.unwrap_or("")))
         }
-        Words::Plain(Plain::Recover { image, journal }) => {
-            Some(("recover", image, journal.unwrap_or("")))
+        Words::Plain(Plain::Recover { image, options }) => {
+            Some(("recover", image, options.journal.unwrap_or("")))
         }
         Words::Plain(Plain::Renumber { image }) => Some(("renumber", image, "")),
         Words::Plain(Plain::Widen { image }) => Some(("widen", image, "")),
@@ -86,6 +88,23 @@ fn chosen(alloc: Global, words: &[&str]) -> Option<([Option<u64>; 2], bool)> {
     }
 }
 
+/// The options of a recovery: --extents, and whether --force, --dry-run and --list stand there.
+fn recovering<'a>(alloc: Global, words: &'a [&'a str]) -> Option<(&'a str, [bool; 3])> {
+    match parse(alloc, words).ok()? {
+        Words::Plain(Plain::Recover { options, .. }) => {
+            let RecoverOptions {
+                extents,
+                force,
+                dry_run,
+                list,
+                ..
+            } = options;
+            Some((extents.unwrap_or(""), [force, dry_run, list]))
+        }
+        _ => None,
+    }
+}
+
 /// Dumps, and their options: --home and --last, and whether --super stands there.
 const DUMPS: &[(&[&str], Option<u64>, Option<u64>, bool)] = &[
     (&["dump", "a"], None, None, false),
@@ -117,6 +136,26 @@ const CATS: &[(&[&str], ([u64; 2], bool), &str)] = &[
         &["cat", "a.img", "--journal", "j", "0", "-n0"],
         ([0, 0], false),
         "j",
+    ),
+];
+
+/// Recoveries, the list of their extents, and whether --force, --dry-run and --list stand there.
+const RECOVERIES: &[(&[&str], &str, [bool; 3])] = &[
+    (&["recover", "a.img"], "", [false, false, false]),
+    (
+        &["recover", "--extents", "(0-1):5-6, (2):9", "a.img"],
+        "(0-1):5-6, (2):9",
+        [false, false, false],
+    ),
+    (
+        &["recover", "--force", "a.img", "--extents=", "--dry-run"],
+        "",
+        [true, true, false],
+    ),
+    (
+        &["recover", "a.img", "--list", "--dry-run"],
+        "",
+        [false, true, true],
     ),
 ];
 
@@ -210,6 +249,10 @@ fn commands_with_their_words_are_taken(rt: HostRuntime) {
     for (words, wanted, journal) in CATS {
         assert_eq!(rt; asked(rt.alloc(), words), Some(("cat", "a.img", *journal)));
         assert_eq!(rt; shown(rt.alloc(), words), Some(*wanted));
+    }
+    for (words, extents, flags) in RECOVERIES {
+        assert_eq!(rt; asked(rt.alloc(), words), Some(("recover", "a.img", "")));
+        assert_eq!(rt; recovering(rt.alloc(), words), Some((*extents, *flags)));
     }
     for (words, wanted) in LOADS {
         assert_eq!(rt;

@@ -95,7 +95,7 @@ const ANSWERED_BY_CLAP: &[(&[&str], bool, &str)] = &[
     (
         &["cat", "-h"],
         false,
-        "Writes home blocks of an image as recovery would leave them\n\nUsage: jb cat [OPTIONS] <IMAGE> <HOME>\n\nArguments:\n  <IMAGE>  A file or block device with a journal at its front, and the home blocks after it\n  <HOME>   The number of the first home block\n\nOptions:\n  -n <N>                How many home blocks [default: 1]\n      --hex             Writes lines of hexadecimal digits, as xxd does\n      --journal <FILE>  The file with the journal; IMAGE has the home blocks alone then\n  -h, --help            Print help (see more with '--help')\n",
+        "Writes home blocks of an image as recovery would leave them\n\nUsage: jb cat [OPTIONS] <IMAGE> <HOME>\n\nArguments:\n  <IMAGE>  A file or block device with a journal at its front, and the home blocks after it\n  <HOME>   The number of the first home block\n\nOptions:\n  -n <N>                How many home blocks [default: 1]\n      --hex             Writes lines of hexadecimal digits, as xxd does\n      --journal <FILE>  The file with the journal; IMAGE has the home blocks alone then\n      --extents <LIST>  Where the journal stands within IMAGE, as debugfs lists its blocks\n  -h, --help            Print help (see more with '--help')\n",
     ),
     (
         &["format", "-h"],
@@ -110,7 +110,7 @@ const ANSWERED_BY_CLAP: &[(&[&str], bool, &str)] = &[
     (
         &["recover", "-h"],
         false,
-        "Writes home what an image's journal has committed, and empties its log\n\nUsage: jb recover [OPTIONS] <IMAGE>\n\nArguments:\n  <IMAGE>  A file or block device with a journal at its front, and the home blocks after it\n\nOptions:\n      --journal <FILE>  The file with the journal; IMAGE has the home blocks alone then\n  -h, --help            Print help (see more with '--help')\n",
+        "Writes home what an image's journal has committed, and empties its log\n\nUsage: jb recover [OPTIONS] <IMAGE>\n\nArguments:\n  <IMAGE>  A file or block device with a journal at its front, and the home blocks after it\n\nOptions:\n      --extents <LIST>  Where the journal stands within IMAGE, as debugfs lists its blocks\n      --journal <FILE>  The file with the journal; IMAGE has the home blocks alone then\n      --force           Recovers though the journal seems not to be the file system's own\n      --dry-run         Says what would be done, and writes nothing\n      --list            With --dry-run: lists the home blocks that would be written\n  -h, --help            Print help (see more with '--help')\n",
     ),
     (
         &["help", "renumber"],

@@ -2,8 +2,8 @@
 ghost use Rattle.std.specs.Prelude.{◌≡◌, false};
 
 use crate::counter::Counter;
-use crate::origin::Origin;
 use jb_board::Front;
+use jb_book::Origin;
 use std::sync::ledger::Ledger;
 
 /// There was nothing to take: the journal had not failed, and no handle waited or a batch was out. Only a look at a
@@ -26,22 +26,22 @@ impl NoBatch {
 
 impl<H: Origin, N: Ledger> Counter<H, N> {
     ghost use Rattle.jb_board.specs.Front.{front};
-    ghost use Rattle.jb_desk.specs.Account.{CanTake};
+    ghost use Rattle.jb_book.specs.Account.{CanTake};
 
     /// That there is nothing to take.
     pub fn no_batch(&self) -> NoBatch
-        requires running { self.now.book.aborted ≡ false }
-        requires none { CanTake self.now.book → ⊥ }
-        ensures { result.seen ≡ front self.now.book.shadow.settled self.now.book.shadow.taken
-            self.now.book.shadow.next }
+        requires running { self.now.register.book.aborted ≡ false }
+        requires none { CanTake self.now.register.book → ⊥ }
+        ensures { result.seen ≡ front self.now.register.book.shadow.settled self.now.register.book.shadow.taken
+            self.now.register.book.shadow.next }
     {
         // that the book is sound is known by looking at it
-        let _reserved = self.book.reserved();
+        let _reserved = self.register.book().reserved();
         NoBatch {
             seen: Front {
-                settled: self.book.settled(),
-                taken: self.book.taken(),
-                stopped: self.book.next(),
+                settled: self.register.book().settled(),
+                taken: self.register.book().taken(),
+                stopped: self.register.book().next(),
             },
         }
     }

@@ -1,13 +1,14 @@
 //! What seats have left is put together.
-ghost use Rattle.std.specs.Prelude.{◌≡◌, ◌+◌, ◌≤◌, ◌^◌, length, map, vec_len};
+ghost use Rattle.std.specs.Prelude.{◌≡◌, ℕ, ◌+◌, ◌≤◌, ◌^◌, length, map, vec_len};
 ghost use Rattle.std.specs.List.{sum_by};
 ghost use Rattle.jb_cost.specs.Pieces.{joined};
+ghost use Rattle.jb_deck.specs.Done.{Follow, start_of};
 ghost use Rattle.jb_desk.specs.Seats.{stops_left, changes_left, made_left};
 
-use crate::book::Book;
 use crate::counter::Counter;
-use crate::origin::Origin;
 use crate::seat::Left;
+use jb_book::Origin;
+use jb_deck::Entry;
 use jb_handle::Words;
 use jb_history::{History, Made, Scribe};
 use std::sync::ledger::{Ledger, Share};
@@ -42,31 +43,35 @@ fn merged<H: Origin, N: Ledger>(
 }
 
 impl<H: Origin, N: Ledger> Counter<H, N> {
+    ghost use Rattle.jb_book.specs.Led.{IsOfBegun, IsMachineRun};
     ghost use Rattle.jb_desk.specs.History.{AreAllStops};
 
-    /// Takes it apart where every seat that was given has left: into the book, how many handles
+    /// Takes it apart where every seat that was given has left: into the book's trail, how many handles
     /// stopped and how many blocks they had touched, which are the sums over what the seats left, and the
-    /// history, which has all stops of the seats and no others.
+    /// history, which has all stops of the seats and no others. The history and the trail are those of events that the
+    /// machine of handles accepts.
     pub fn totals(
         self,
         history: &History<Words, H>,
         lefts: Vec<Left<H, N>>,
-    ) -> (Book<H>, u64, u64, Scribe<Words, H>)
+    ) -> (Vec<Entry>, u64, u64, Scribe<Words, H>)
         requires parts { (H.parts ≡ 2305843009213693953) × (N.parts ≡ 2305843009213693953) }
         requires all { vec_len lefts ≡ self.given }
-        ensures book { result.0 ≡ self.book }
-        ensures handles { (result.1 ≡ self.book.shadow.next) × (result.1 ≡ sum_by stops_left lefts.items) }
-        ensures changes { (result.2 ≡ self.book.changes) × (result.2 ≡ sum_by changes_left lefts.items) }
+        ensures trail { result.0.items ≡ self.register.book.trail }
+        ensures tiles { (past : ℕ) × Follow (start_of result.0.items) 0 past result.0.items × (past ≤ result.1) }
+        ensures handles { (result.1 ≡ self.register.book.shadow.next) × (result.1 ≡ sum_by stops_left lefts.items) }
+        ensures changes { (result.2 ≡ self.register.book.changes) × (result.2 ≡ sum_by changes_left lefts.items) }
         ensures few { (result.1 ≤ 2 ^ 61) × (result.2 ≤ 2 ^ 61) }
         ensures history { (length result.3 ≡ result.1) × AreAllStops result.3 (joined (map made_left lefts.items)) }
+        ensures run { IsMachineRun self.register.book.shape result.3 result.0.items }
+        ensures journal { IsOfBegun H.begun self.register.book.shape }
     {
         let Counter {
-            book,
+            register,
             mut handles,
             mut changes,
             spare_handles,
             spare_changes,
-            mut scribe,
             given: _,
         } = self;
         let (mut spare_handles, mut spare_changes, all) = merged(
@@ -77,9 +82,10 @@ impl<H: Origin, N: Ledger> Counter<H, N> {
         );
         handles.audit(&mut spare_handles);
         changes.audit(&mut spare_changes);
+        let stops = register.book().next();
+        let touched = register.book().changes();
+        let (trail, mut scribe) = register.end();
         history.audit(&mut scribe, all);
-        let stops = book.next();
-        let touched = book.changes();
-        (book, stops, touched, scribe)
+        (trail, stops, touched, scribe)
     }
 }

@@ -2,7 +2,7 @@
 ghost use Rattle.std.specs.Prelude.{◌≡◌, false, IfSome, IfNone};
 
 use crate::counter::Counter;
-use crate::origin::Origin;
+use jb_book::Origin;
 use std::sync::ledger::Ledger;
 
 /// A desk is over: it is shut, no handle is open, queued or taken, and the journal has not failed. Only a look
@@ -22,19 +22,19 @@ impl Over {
 }
 
 impl<H: Origin, N: Ledger> Counter<H, N> {
-    ghost use Rattle.jb_desk.specs.Account.{IsOver};
+    ghost use Rattle.jb_book.specs.Account.{IsOver};
 
     /// That the desk is over, where it is.
     pub fn over(&self) -> Option<Over>
-        ensures some { IfSome result (λ over. IsOver self.now.book × (self.now.book.aborted ≡ false)
-            × (over.settled ≡ self.now.book.shadow.settled)) }
-        ensures none { IfNone result (IsOver self.now.book → self.now.book.aborted ≡ false → ⊥) }
+        ensures some { IfSome result (λ over. IsOver self.now.register.book × (self.now.register.book.aborted ≡ false)
+            × (over.settled ≡ self.now.register.book.shadow.settled)) }
+        ensures none { IfNone result (IsOver self.now.register.book → self.now.register.book.aborted ≡ false → ⊥) }
     {
-        if self.book.is_aborted() || !self.book.is_over() {
+        if self.register.book().is_aborted() || !self.register.book().is_over() {
             return None;
         }
         Some(Over {
-            settled: self.book.settled(),
+            settled: self.register.book().settled(),
         })
     }
 }

@@ -1,6 +1,6 @@
 //! How far the book of a desk has come.
 use crate::counter::{Counter, Over};
-use crate::origin::Origin;
+use jb_book::Origin;
 use std::sync::ledger::Ledger;
 
 /// How far a book has come, as the thread that brings groups home sees it.
@@ -19,12 +19,12 @@ impl<H: Origin, N: Ledger> Counter<H, N> {
 
     /// How far the book has come.
     pub fn progress(&self) -> Progress
-        ensures { HasCome self.now.book result }
+        ensures { HasCome self.now.register.book result }
     {
         Progress {
-            settled: self.book.settled(),
+            settled: self.register.book().settled(),
             over: self.over(),
-            is_aborted: self.book.is_aborted(),
+            is_aborted: self.register.book().is_aborted(),
         }
     }
 }

@@ -3,17 +3,17 @@ ghost use Rattle.std.specs.Prelude.{◌≡◌, ◌↔◌, IsTrue, true, false, O
 
 use crate::committer::RoundFault;
 use crate::counter::Counter;
-use crate::fault::WrongBatch;
 use crate::held::Held;
-use crate::origin::Origin;
+use jb_book::{Origin, WrongBatch};
 use jb_deck::Done;
-use jb_handle::Words;
-use jb_history::History;
+use jb_handle::{Shape, Words};
+use jb_history::{History, Sight};
 use std::sync::ledger::Ledger;
 
 impl<H: Origin, N: Ledger> Counter<H, N> {
-    ghost use Rattle.jb_desk.specs.Account.{failed_of, CanTake};
-    ghost use Rattle.jb_desk.specs.Rounds.{GivesBatch, GivesUp, SettlesOrFails, FailsAfter, Rests};
+    ghost use Rattle.jb_book.specs.Account.{failed_of, CanTake};
+    ghost use Rattle.jb_desk.specs.Rounds.{GivesBatch, GivesUp, Rests};
+    ghost use Rattle.jb_book.specs.Led.{FailsAfter, IsSettling, SettlesOrFails};
 
     /// The batch of a round: the one that the committer holds, or else the whole queue. `None` where there is
     /// nothing to take.
@@ -26,62 +26,71 @@ impl<H: Origin, N: Ledger> Counter<H, N> {
         history: &History<Words, H>,
         held: Option<Held<H>>,
     ) -> Result<Option<Held<H>>, RoundFault>
-        ensures batch { GivesBatch result held self.old.book self.new.book }
+        ensures batch { GivesBatch result held self.old.register.book self.new.register.book }
         ensures none { IfOk result (λ given. IfNone given
-            ((self.new.book.aborted ≡ false) × (CanTake self.new.book → ⊥))) }
+            ((self.new.register.book.aborted ≡ false) × (CanTake self.new.register.book → ⊥))) }
     {
         match held {
-            Some(batch) if self.book.is_aborted() => {
+            Some(batch) if self.register.book().is_aborted() => {
                 batch.lose();
                 Err(RoundFault::Aborted)
             }
-            None if self.book.is_aborted() => Err(RoundFault::Aborted),
+            None if self.register.book().is_aborted() => Err(RoundFault::Aborted),
             Some(batch) => Ok(Some(batch)),
-            None => {
-                let sight = history.show(&mut self.scribe);
-                match self.book.take() {
-                    Some(batch) => Ok(Some(Held::of(batch, self.tickets(), sight))),
-                    None => Ok(None),
+            None => match self.register.take(history) {
+                Some((batch, sight)) => {
+                    let (tickets, seen) = (self.tickets(), self.seen());
+                    Ok(Some(Held::of(batch, tickets, sight, seen)))
                 }
-            }
+                None => Ok(None),
+            },
         }
     }
 
-    /// Settles the groups of a batch that is committed.
+    /// Settles a batch that is committed whole: one of this shape that ends at this ticket, whose handles the sight
+    /// has.
     ///
     /// # Errors
     ///
-    /// `WrongBatch` where they do not go on where the settled ones end: the book has failed then.
-    pub fn settle(&mut self, done: &Done) -> Result<(), WrongBatch>
-        ensures { SettlesOrFails done.now self.old.book result self.new.book }
+    /// `WrongBatch` where it is not the batch that is out: the book has failed then.
+    pub fn settle(
+        &mut self,
+        history: &History<Words, H>,
+        sight: &mut Sight<Words, H>,
+        done: &Done,
+        end: u64,
+        shape: Shape,
+    ) -> Result<(), WrongBatch>
+        requires { IsSettling sight.old end shape done.now }
+        ensures { SettlesOrFails end shape done.now self.old.register.book result self.new.register.book }
     {
-        match self.book.settle(done) {
-            Ok(()) => Ok(()),
-            Err(wrong) => {
-                self.book.fail();
-                Err(wrong)
-            }
-        }
+        self.register.settle(history, sight, done, end, shape)
     }
 
     /// Settles the groups that were committed before the journal failed, and fails with it.
     ///
     /// # Errors
     ///
-    /// `WrongBatch` where they do not go on where the settled ones end.
-    pub fn settle_last(&mut self, done: &Done) -> Result<(), WrongBatch>
-        ensures { FailsAfter done.now self.old.book result self.new.book }
+    /// `WrongBatch` where they are not of the batch that is out: the book has failed without them then.
+    pub fn settle_last(
+        &mut self,
+        history: &History<Words, H>,
+        sight: &mut Sight<Words, H>,
+        done: &Done,
+        end: u64,
+        shape: Shape,
+    ) -> Result<(), WrongBatch>
+        requires { IsSettling sight.old end shape done.now }
+        ensures { FailsAfter end shape done.now self.old.register.book result self.new.register.book }
     {
-        let settled = self.book.settle(done);
-        self.book.fail();
-        settled
+        self.register.settle_last(history, sight, done, end, shape)
     }
 
     /// The journal has failed: what is queued or taken is lost.
     pub fn fail(&mut self)
-        ensures { self.new.book ≡ failed_of self.old.book }
+        ensures { self.new.register.book ≡ failed_of self.old.register.book }
     {
-        self.book.fail();
+        self.register.fail();
     }
 
     /// Lets a batch that is held go where the journal has failed.
@@ -90,10 +99,10 @@ impl<H: Origin, N: Ledger> Counter<H, N> {
     ///
     /// The batch, where it has not.
     pub fn release(&self, batch: Held<H>) -> Result<(), Held<H>>
-        ensures lost { OnOk result (self.now.book.aborted ≡ true) }
-        ensures back { IfErr result (λ back. (self.now.book.aborted ≡ false) × (back ≡ batch)) }
+        ensures lost { OnOk result (self.now.register.book.aborted ≡ true) }
+        ensures back { IfErr result (λ back. (self.now.register.book.aborted ≡ false) × (back ≡ batch)) }
     {
-        if !self.book.is_aborted() {
+        if !self.register.book().is_aborted() {
             return Err(batch);
         }
         batch.lose();
@@ -103,7 +112,7 @@ impl<H: Origin, N: Ledger> Counter<H, N> {
     /// A committer gives up. A batch that it holds is lost, and the book has failed then: nobody could settle the
     /// batch's tickets any more.
     pub fn give_up(&mut self, held: Option<Held<H>>)
-        ensures { GivesUp held self.old.book self.new.book }
+        ensures { GivesUp held self.old.register.book self.new.register.book }
     {
         let Some(batch) = held else {
             return;
@@ -114,8 +123,10 @@ impl<H: Origin, N: Ledger> Counter<H, N> {
 
     /// Whether a committer has nothing to do yet.
     pub fn rests(&self) -> bool
-        ensures { IsTrue result ↔ Rests self.now.book }
+        ensures { IsTrue result ↔ Rests self.now.register.book }
     {
-        !self.book.is_aborted() && !self.book.can_take() && !self.book.is_over()
+        !self.register.book().is_aborted()
+            && !self.register.book().can_take()
+            && !self.register.book().is_over()
     }
 }

@@ -3,7 +3,7 @@ use crate::checkpoint::CheckpointRound;
 use crate::counter::Progress;
 use crate::desk::Desk;
 use crate::ended::Ended;
-use crate::origin::Origin;
+use jb_book::Origin;
 use jb_deck::{Checked, CheckpointFault};
 use jb_disk::{Clock, Disk};
 use std::sync::Wait;

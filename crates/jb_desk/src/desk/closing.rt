@@ -10,9 +10,9 @@ ghost use Rattle.jb_desk.specs.Since.{EndsSince};
 use crate::counter::Counter;
 use crate::desk::Desk;
 use crate::follow::are_same;
-use crate::origin::Origin;
 use crate::seat::Left;
 use crate::works::Works;
+use jb_book::Origin;
 use jb_deck::{Deck, Entry};
 use jb_disk::{Clock, Disk};
 use jb_handle::{Shape, Words};
@@ -136,9 +136,9 @@ fn close_parts<D: Disk, C: Clock, H: Origin, N: Ledger>(
     requires parts { (H.parts ≡ 2305843009213693953) × (N.parts ≡ 2305843009213693953) }
     requires all { vec_len lefts ≡ counter.given }
     ensures handles { IfOk result (λ closed. (closed.handles ≡ sum_by stops_left lefts.items)
-        × (closed.handles ≡ counter.book.shadow.next)) }
+        × (closed.handles ≡ counter.register.book.shadow.next)) }
     ensures changes { IfOk result (λ closed. (closed.changes ≡ sum_by changes_left lefts.items)
-        × (closed.changes ≡ counter.book.changes)) }
+        × (closed.changes ≡ counter.register.book.changes)) }
     ensures few { IfOk result (λ closed. (closed.handles ≤ 2 ^ 61) × (closed.changes ≤ 2 ^ 61)) }
     ensures tiles { IfOk result (λ closed. (past : ℕ) × Follow (start_of closed.trail.items) 0 past closed.trail.items
         × (past ≤ closed.handles)) }
@@ -147,15 +147,18 @@ fn close_parts<D: Disk, C: Clock, H: Origin, N: Ledger>(
     ensures stops { IfOk result (λ closed. EndsWith D.size D.count D.faults D.honest D.newest D.may_leave D.moment
         D.left_since H.begun (map made_left lefts.items) closed.handles closed.shape closed.disk closed.trail.items) }
     ensures given { IfOk result (λ closed. (closed.disk ≡ works.deck.disk) × (closed.clock ≡ works.clock)
-        × (closed.trail.items ≡ counter.book.trail) × (closed.trail.items ≡ works.deck.trail)) }
+        × (closed.trail.items ≡ counter.register.book.trail) × (closed.trail.items ≡ works.deck.trail)) }
     ensures refused { IfErr result (DiffersAs counter works) }
 {
-    let (book, handles, changes, mut scribe) = counter.totals(history, lefts);
+    let (trail, handles, changes, mut scribe) = counter.totals(history, lefts);
     let (deck, clock, sight) = works.end();
     history.check(&mut scribe, sight);
-    if !are_same(book.trail(), deck.trail()) {
-        let book = book.into_trail();
-        return Err(CloseFault::TrailsDiffer { deck, clock, book });
+    if !are_same(&trail, deck.trail()) {
+        return Err(CloseFault::TrailsDiffer {
+            deck,
+            clock,
+            book: trail,
+        });
     }
     let shape = deck.shape();
     Ok(Closed {
@@ -164,6 +167,6 @@ fn close_parts<D: Disk, C: Clock, H: Origin, N: Ledger>(
         handles,
         changes,
         shape,
-        trail: book.into_trail(),
+        trail,
     })
 }

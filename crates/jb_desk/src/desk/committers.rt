@@ -3,8 +3,8 @@ ghost use Rattle.std.specs.Prelude.{◌≡◌, None, is_some, true, IfOk, IfErr}
 
 use crate::committer::Committer;
 use crate::desk::Desk;
-use crate::origin::Origin;
 use crate::seat::Seat;
+use jb_book::Origin;
 use jb_disk::{Clock, Disk};
 use std::sync::Wait;
 use std::sync::ledger::Ledger;

@@ -5,7 +5,7 @@ use crate::committer::{Committer, Round, RoundFault};
 use crate::counter::Over;
 use crate::desk::Desk;
 use crate::ended::Ended;
-use crate::origin::Origin;
+use jb_book::Origin;
 use jb_disk::{Clock, Disk};
 use std::sync::Wait;
 use std::sync::ledger::Ledger;

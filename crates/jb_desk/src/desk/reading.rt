@@ -2,7 +2,7 @@
 ghost use Rattle.std.specs.Prelude.{length};
 
 use crate::desk::Desk;
-use crate::origin::Origin;
+use jb_book::Origin;
 use jb_deck::ReadHomeFault;
 use jb_disk::{Clock, Disk};
 use std::sync::Wait;

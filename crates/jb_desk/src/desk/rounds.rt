@@ -1,19 +1,19 @@
 //! Batches are committed, one in each round of a committer.
-ghost use Rattle.std.specs.Prelude.{◌≡◌, ◌⊎◌, ◌+◌, ◌≤◌, length, None, Some, All, IfErr, OnOk};
+ghost use Rattle.std.specs.Prelude.{◌≡◌, ◌+◌, ◌≤◌, length, None, Some, All, IfErr, OnOk};
 ghost use Rattle.jb_deck.specs.Done.{first_of, entries_of, past_after};
 ghost use Rattle.jb_batch.specs.Prepared.{IsPlanned};
 ghost use Rattle.jb_desk.specs.Seats.{view_of};
 
 use crate::committer::{Committer, Round, RoundFault};
+use crate::counter::Seen;
 use crate::desk::Desk;
-use crate::follow::end_of;
 use crate::held::Held;
-use crate::origin::Origin;
 use crate::seat::Seat;
 use jb_board::Tickets;
+use jb_book::{Origin, end_of};
 use jb_deck::{Batch, BatchFault, Done, PrepareFault, Prepared, prepare};
 use jb_disk::{Clock, Disk};
-use jb_handle::Words;
+use jb_handle::{Shape, Words};
 use jb_history::Sight;
 use std::sync::Wait;
 use std::sync::ledger::Ledger;
@@ -23,8 +23,8 @@ impl<D: Disk, C: Clock, H: Origin, N: Ledger> Desk<D, C, H, N> {
     ghost use Rattle.jb_desk.specs.Journal.{CommitsRound};
     ghost use Rattle.jb_desk.specs.Rounds.{seat_of, held_by, AnswersRound, IdleKeeps, end_of as end_in};
     ghost use Rattle.jb_desk.specs.Seats.{KeepsStops, seat_number, desk_of};
-    ghost use Rattle.jb_desk.specs.History.{IsInHistory};
-    ghost use Rattle.jb_desk.specs.Since.{AreStops};
+    ghost use Rattle.jb_book.specs.Led.{IsInHistory, IsSettling};
+    ghost use Rattle.jb_book.specs.Origin.{AreStops};
     ghost use Rattle.jb_desk.specs.Views.{SeesCommit, SeesRound};
     ghost use Rattle.jb_board.specs.Seats.{given_by};
     ghost use Rattle.jb_board.specs.Steps.{raised_settled};
@@ -54,7 +54,7 @@ impl<D: Disk, C: Clock, H: Origin, N: Ledger> Desk<D, C, H, N> {
             (view_of (seat_of committer.new)) result }
         ensures counted { KeepsStops (seat_of committer.old) (seat_of committer.new) }
         ensures round { CommitsRound D.size D.count D.faults D.honest D.newest D.may_leave D.moment D.left_since
-            H.begun (held_by committer.old) result }
+            H.begun (held_by committer.old) (view_of (seat_of committer.new)).settled result }
     {
         let held = committer.batch.take();
         let mut counter = self.counter.lock(rt);
@@ -62,15 +62,16 @@ impl<D: Disk, C: Clock, H: Origin, N: Ledger> Desk<D, C, H, N> {
             return Ok(Round::Idle(counter.no_batch()));
         };
         drop(counter);
-        let (batch, tickets, sight) = held.end();
+        let (batch, tickets, sight, seen) = held.end();
         let end = past(&batch);
         self.board
             .raise_stopped(&mut committer.seat.board, end, &tickets);
-        self.board.raise_taken(&mut committer.seat.board, end);
+        self.board
+            .raise_taken(&mut committer.seat.board, end, &seen);
         match prepare(self.alloc, batch) {
-            Ok(prepared) => self.commit(rt, committer, prepared, tickets, sight),
+            Ok(prepared) => self.commit(rt, committer, prepared, (tickets, sight, seen)),
             Err((batch, fault)) => {
-                committer.hold(Held::of(batch, tickets, sight));
+                committer.hold(Held::of(batch, tickets, sight, seen));
                 Err(match fault {
                     PrepareFault::Memory => RoundFault::Memory,
                     PrepareFault::NoCut(_) => RoundFault::Refused,
@@ -85,16 +86,16 @@ impl<D: Disk, C: Clock, H: Origin, N: Ledger> Desk<D, C, H, N> {
         rt: &R,
         committer: &mut Committer<H, N>,
         prepared: Prepared,
-        tickets: Tickets<H>,
-        sight: Sight<Words, H>,
+        held: (Tickets<H>, Sight<Words, H>, Seen),
     ) -> Result<Round, RoundFault>
         requires desk { desk_of (seat_of committer.old) ≡ desk_id self.now }
         requires free { held_by committer.old ≡ None }
         requires planned { IsPlanned prepared }
         requires stops { AreStops H.begun prepared.batch.handles }
         requires taken { end_in prepared.batch ≤ (view_of (seat_of committer.old)).taken }
-        requires given { end_in prepared.batch ≤ given_by tickets }
-        requires history { All (IsInHistory sight) prepared.batch.handles }
+        requires given { end_in prepared.batch ≤ given_by held.0 }
+        requires was_taken { end_in prepared.batch ≤ held.2.taken }
+        requires history { All (IsInHistory held.1) prepared.batch.handles }
         ensures desk { (desk_of (seat_of committer.new) ≡ desk_of (seat_of committer.old))
             × (seat_number (seat_of committer.new) ≡ seat_number (seat_of committer.old)) }
         ensures answers { AnswersRound (Some prepared.batch) (held_by committer.new)
@@ -103,21 +104,23 @@ impl<D: Disk, C: Clock, H: Origin, N: Ledger> Desk<D, C, H, N> {
             result }
         ensures counted { KeepsStops (seat_of committer.old) (seat_of committer.new) }
         ensures round { CommitsRound D.size D.count D.faults D.honest D.newest D.may_leave D.moment D.left_since
-            H.begun (Some prepared.batch) result }
+            H.begun (Some prepared.batch) (view_of (seat_of committer.new)).settled result }
     {
+        let (tickets, mut sight, seen) = held;
+        let end = past(prepared.batch());
+        let shape = prepared.batch().shape();
         // bound first, so that the lock is free again before the book's is taken
-        let mut sight = sight;
         let result = self
             .works
             .lock(rt)
             .commit(prepared, &self.history, &mut sight);
         match result {
             Ok(done) => {
-                self.settle(rt, &mut committer.seat, &done)?;
+                self.settle(rt, &mut committer.seat, &mut sight, &done, end, shape)?;
                 Ok(Round::Committed(done))
             }
             Err(BatchFault::DeviceFault { settled }) => {
-                self.settle_last(rt, &mut committer.seat, &settled);
+                self.settle_last(rt, &mut committer.seat, &mut sight, &settled, end, shape)?;
                 Err(RoundFault::DeviceFault)
             }
             Err(BatchFault::Aborted(prepared)) => {
@@ -126,7 +129,7 @@ impl<D: Disk, C: Clock, H: Origin, N: Ledger> Desk<D, C, H, N> {
                 Err(RoundFault::Aborted)
             }
             Err(BatchFault::Memory(prepared)) => {
-                committer.hold(Held::of(prepared.back(), tickets, sight));
+                committer.hold(Held::of(prepared.back(), tickets, sight, seen));
                 Err(RoundFault::Memory)
             }
             Err(
@@ -134,15 +137,24 @@ impl<D: Disk, C: Clock, H: Origin, N: Ledger> Desk<D, C, H, N> {
                 | BatchFault::OtherShape(prepared)
                 | BatchFault::NumbersSpent(prepared),
             ) => {
-                committer.hold(Held::of(prepared.back(), tickets, sight));
+                committer.hold(Held::of(prepared.back(), tickets, sight, seen));
                 Err(RoundFault::Refused)
             }
         }
     }
 
-    /// Settles a batch that is committed.
-    fn settle<R: Wait>(&self, rt: &R, seat: &mut Seat<H, N>, done: &Done) -> Result<(), RoundFault>
+    /// Settles a batch that is committed: one of this shape that ends at this ticket, whose handles the sight has.
+    fn settle<R: Wait>(
+        &self,
+        rt: &R,
+        seat: &mut Seat<H, N>,
+        sight: &mut Sight<Words, H>,
+        done: &Done,
+        end: u64,
+        shape: Shape,
+    ) -> Result<(), RoundFault>
         requires desk { desk_of seat.old ≡ desk_id self.now }
+        requires settling { IsSettling sight.old end shape done.now }
         requires taken { past_after (first_of done.now) (entries_of done.now) ≤ (view_of seat.old).taken }
         ensures desk { (desk_of seat.new ≡ desk_of seat.old) × (seat_number seat.new ≡ seat_number seat.old) }
         ensures settled { OnOk result (past_after (first_of done.now)
@@ -152,29 +164,51 @@ impl<D: Disk, C: Clock, H: Origin, N: Ledger> Desk<D, C, H, N> {
         ensures failed { IfErr result (λ fault. (fault ≡ Aborted) × (seat.new ≡ seat.old)) }
         ensures counted { KeepsStops seat.old seat.new }
     {
-        let settled = self.counter.lock(rt).settle(done);
+        let mut counter = self.counter.lock(rt);
+        let settled = counter.settle(&self.history, sight, done, end, shape);
+        let seen = counter.seen();
+        drop(counter);
         self.moved.notify_all();
-        if settled.is_err() {
+        let Ok(()) = settled else {
             return Err(RoundFault::Aborted);
-        }
-        self.board.raise_settled(&mut seat.board, end_of(done));
+        };
+        self.board
+            .raise_settled(&mut seat.board, end_of(done), &seen);
         Ok(())
     }
 
     /// Settles what was committed of a batch before the journal failed.
-    fn settle_last<R: Wait>(&self, rt: &R, seat: &mut Seat<H, N>, done: &Done)
+    fn settle_last<R: Wait>(
+        &self,
+        rt: &R,
+        seat: &mut Seat<H, N>,
+        sight: &mut Sight<Words, H>,
+        done: &Done,
+        end: u64,
+        shape: Shape,
+    ) -> Result<(), RoundFault>
         requires desk { desk_of seat.old ≡ desk_id self.now }
+        requires settling { IsSettling sight.old end shape done.now }
         requires taken { past_after (first_of done.now) (entries_of done.now) ≤ (view_of seat.old).taken }
         ensures desk { (desk_of seat.new ≡ desk_of seat.old) × (seat_number seat.new ≡ seat_number seat.old) }
-        ensures view { (seat.new ≡ seat.old) ⊎ (view_of seat.new ≡ raised_settled (view_of seat.old)
+        ensures settled { OnOk result (past_after (first_of done.now)
+            (entries_of done.now) ≤ (view_of seat.new).settled) }
+        ensures view { OnOk result (view_of seat.new ≡ raised_settled (view_of seat.old)
             (past_after (first_of done.now) (entries_of done.now))) }
+        ensures failed { IfErr result (λ fault. (fault ≡ Aborted) × (seat.new ≡ seat.old)) }
         ensures counted { KeepsStops seat.old seat.new }
     {
-        let settled = self.counter.lock(rt).settle_last(done);
+        let mut counter = self.counter.lock(rt);
+        let settled = counter.settle_last(&self.history, sight, done, end, shape);
+        let seen = counter.seen();
+        drop(counter);
         self.moved.notify_all();
-        if settled.is_ok() {
-            self.board.raise_settled(&mut seat.board, end_of(done));
-        }
+        let Ok(()) = settled else {
+            return Err(RoundFault::Aborted);
+        };
+        self.board
+            .raise_settled(&mut seat.board, end_of(done), &seen);
+        Ok(())
     }
 }
 

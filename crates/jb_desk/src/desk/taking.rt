@@ -1,7 +1,7 @@
 //! Entries are taken from the front of the trail.
 use crate::desk::Desk;
-use crate::origin::Origin;
 use jb_block::Memory;
+use jb_book::Origin;
 use jb_deck::Entry;
 use jb_disk::{Clock, Disk};
 use std::sync::Wait;

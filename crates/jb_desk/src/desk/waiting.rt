@@ -5,9 +5,8 @@ ghost use Rattle.jb_handle.specs.Handle.{holder, changes_of};
 ghost use Rattle.jb_handle.specs.Held.{held};
 
 use crate::desk::Desk;
-use crate::fault::BeginFault;
-use crate::origin::Origin;
 use crate::seat::Seat;
+use jb_book::{BeginFault, Origin};
 use jb_disk::{Clock, Disk};
 use jb_handle::Handle;
 use std::sync::ledger::Ledger;

@@ -1,34 +1,13 @@
 //! Images that are changed. Each is closed before the line of its command is written.
-ghost use Rattle.std.specs.Prelude.{option_map};
-ghost use Rattle.jb_plain.specs.Files.{EndsOfRecover, EndsOfRenumber, EndsOfWiden};
+ghost use Rattle.jb_plain.specs.Files.{EndsOfRenumber, EndsOfWiden};
 
 use crate::fault::CommandFault;
-use crate::files::opening::{Opening, open_counted, open_disk};
-use crate::streams::{tell_recovery, tell_renumbering, tell_widening};
+use crate::files::opening::open_disk;
+use crate::streams::{tell_renumbering, tell_widening};
 use jb_front::{renumber, widen};
-use jb_recover::recover;
 use std::fs::File;
 use std::io::Write;
 use std::rt::Files;
-
-/// Recovers the journal at the front of the file of this name, or in a file of its own, and tells what came of it.
-///
-/// # Errors
-/// Those of `open_counted`, and those of `recover_on`.
-pub(crate) fn recover_file<'a, R: Files<File = File> + AllocGlobal, O: Write>(
-    rt: &R,
-    image: &'a str,
-    journal: Option<&'a str>,
-    out: &mut O,
-) -> Result<u8, CommandFault<'a>>
-    ensures ends { EndsOfRecover image.entry.now (option_map (λ word. word.now) journal.entry) (O.contents out.old)
-        (O.contents out.new) result }
-{
-    let (mut disk, homes) = open_counted(rt, image, journal, Opening::Change)?;
-    let answer = recover(rt.alloc(), &mut disk);
-    drop(disk);
-    tell_recovery(answer, Some(homes), out)
-}
 
 /// Gives the clean journal at the front of the file of this name its first number again, and tells what came of it.
 ///

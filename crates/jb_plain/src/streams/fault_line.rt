@@ -1,10 +1,14 @@
 //! The line of each `CommandFault`.
+ghost use Rattle.std.specs.Prelude.{[], ◌∷◌, codes, decimal};
+ghost use Rattle.jb_io.specs.Parts.{spelled};
 ghost use Rattle.jb_io.specs.Puts.{PutsPart};
-ghost use Rattle.jb_plain.specs.Faults.{super_line};
+ghost use Rattle.jb_plain.specs.Faults.{extents_line, super_line, system_line};
 
 use crate::fault::CommandFault;
 use crate::streams::putting::put_line;
 use itoa::Buffer;
+use jb_extents::ExtentsFault;
+use jb_filesystem::FileSystemFault;
 use jb_super::SuperFault;
 use std::io::Write;
 
@@ -26,6 +30,8 @@ impl<'a> CommandFault<'a> {
             CommandFault::BadOption(_) => put_line(err, &["jb: bad option\n"]),
             CommandFault::ReadFault => put_line(err, &["jb: ReadFault\n"]),
             CommandFault::Super(fault) => put_super_line(err, fault),
+            CommandFault::FileSystem(fault) => put_system_line(err, fault),
+            CommandFault::Extents(fault) => put_extents_line(err, fault),
             CommandFault::BadRevoke(place) => {
                 put_line(err, &["jb: BadRevoke ", first.format(place), "\n"]);
             }
@@ -66,9 +72,46 @@ fn put_super_line<W: Write>(writer: &mut W, fault: SuperFault)
             put_line(writer, &["jb: Super BlockSize ", first.format(size), "\n"]);
         }
         SuperFault::Geometry => put_line(writer, &["jb: Super Geometry\n"]),
-        SuperFault::Feature { word, bits } => {
+        SuperFault::Feature(word, bits) => {
             let (word, bits) = (first.format(word), second.format(bits));
             put_line(writer, &["jb: Super Feature ", word, " ", bits, "\n"]);
         }
     }
+}
+
+/// Writes the line of a journal that is not recovered into a file system.
+fn put_system_line<W: Write>(writer: &mut W, fault: FileSystemFault)
+    ensures puts { PutsPart (W.contents writer.old) (W.contents writer.new) (system_line fault) }
+{
+    let mut digits = Buffer::new();
+    match fault {
+        FileSystemFault::BlockSize(size) => {
+            let size = digits.format(size);
+            put_line(writer, &["jb: FileSystem BlockSize ", size, "\n"]);
+        }
+        FileSystemFault::Uuid => put_line(writer, &["jb: FileSystem Uuid\n"]),
+        FileSystemFault::Clean => put_line(writer, &["jb: FileSystem Clean\n"]),
+    }
+}
+
+/// Writes the line of extents that do not hold the journal.
+fn put_extents_line<W: Write>(writer: &mut W, fault: ExtentsFault)
+    ensures puts { PutsPart (W.contents writer.old) (W.contents writer.new) (extents_line fault) }
+{
+    match fault {
+        ExtentsFault::Overlap(block) => put_numbered(writer, "jb: Extents Overlap ", block),
+        ExtentsFault::PastEnd(block) => put_numbered(writer, "jb: Extents PastEnd ", block),
+        ExtentsFault::Short(blocks) => put_numbered(writer, "jb: Extents Short ", blocks),
+        ExtentsFault::NoJournal => put_line(writer, &["jb: Extents NoJournal\n"]),
+        ExtentsFault::Home(home) => put_numbered(writer, "jb: Extents Home ", home),
+    }
+}
+
+/// Writes a line that ends with a number.
+fn put_numbered<W: Write>(writer: &mut W, begin: &str, number: u64)
+    ensures puts { PutsPart (W.contents writer.old) (W.contents writer.new)
+        (spelled (begin.now ∷ decimal number ∷ codes "\n" ∷ [])) }
+{
+    let mut digits = Buffer::new();
+    put_line(writer, &[begin, digits.format(number), "\n"]);
 }

@@ -52,7 +52,10 @@ pub(crate) fn tell_recovery<'a, O: Write>(
 }
 
 /// Writes the line of a recovery.
-fn tell_recovered<'a, O: Write>(done: Recovered, out: &mut O) -> Result<u8, CommandFault<'a>>
+pub(crate) fn tell_recovered<'a, O: Write>(
+    done: Recovered,
+    out: &mut O,
+) -> Result<u8, CommandFault<'a>>
     ensures { TellsLine (recovered_line done) (O.contents out.old) (O.contents out.new) result }
 {
     let (mut transactions, mut copies) = (Buffer::new(), Buffer::new());

@@ -2,7 +2,8 @@
 ghost use Rattle.std.specs.Prelude.{◌≡◌, false};
 ghost use Rattle.clap.specs.Words.{rule_of};
 ghost use Rattle.jb_words.specs.App.{count_option as count_rule, flag as flag_rule};
-ghost use Rattle.jb_words.specs.App.{journal_option as journal_rule, number_word as number_word_rule};
+ghost use Rattle.jb_words.specs.App.{extents_option as extents_rule, journal_option as journal_rule};
+ghost use Rattle.jb_words.specs.App.{number_word as number_word_rule};
 ghost use Rattle.jb_words.specs.App.{number_option as number_rule, number_or as number_or_rule};
 ghost use Rattle.jb_words.specs.App.{required_number as required_rule, uuid_option as uuid_rule};
 
@@ -84,6 +85,17 @@ pub(crate) fn journal_option<'a>(alloc: Global) -> Arg<'a>
         .long("journal")
         .value_name("FILE")
         .help("The file with the journal; IMAGE has the home blocks alone then")
+}
+
+/// The option for where the journal stands within the image.
+pub(crate) fn extents_option<'a>(alloc: Global) -> Arg<'a>
+    ensures rule { rule_of result ≡ extents_rule }
+    ensures own { result.global ≡ false }
+{
+    Arg::new(alloc, "extents")
+        .long("extents")
+        .value_name("LIST")
+        .help("Where the journal stands within IMAGE, as debugfs lists its blocks")
 }
 
 /// The option for the UUID of a journal.

@@ -14,9 +14,10 @@ A queue text, the FILE of cost, plan, check and load, has a line for each handle
 An image has the journal first, its superblock at the front, and the home blocks after it: home block N
 is the block at s_maxlen + N. It is a regular file or a block device. The FILE of dump is a journal,
 whatever comes after it; it may be a pipe.
-With --journal FILE the journal is the whole of another file, with exactly s_maxlen blocks, and home block
-N is block N of the image: a file system, with its journal copied out. renumber and widen take a journal
-alone as their image.
+With --extents LIST the image is a file system with its journal in it, in the blocks that LIST says as
+debugfs prints them, and home block N is block N of the image. With --journal FILE the journal is the whole
+of another file, with exactly s_maxlen blocks, and home block N is block N of the image: a file system,
+with its journal copied out. renumber and widen take a journal alone as their image.
 
 Locks: load, recover, renumber and widen lock their files while they use them (flock), and format the one
 that it makes. cat shares its lock with others that only read. A file that another program has locked is
@@ -93,7 +94,7 @@ Examples:
 
 const CAT: &str =
     "The image is opened for reading, and nothing is written to it. Each block is what the last copy of it that
-is not revoked makes of it, or the block as it stands; the log is read twice for each. A copy for another
+is not revoked makes of it, or the block as it stands; the log is read once for each. A copy for another
 home block that the image does not have is not looked at, though recover refuses it.
 
 With --hex a block is lines as xxd prints them, with offsets from 0 on over all the blocks, of 32 bits.
@@ -117,6 +118,10 @@ and log blocks of these. Thread K of T runs handles K, K+T, K+2T and so on, up t
 refused; the text's limit is not used, the image's is. Without --checkpoint what is committed waits in the
 log for jb recover.
 
+A journal that is put back into its file system with a log is thrown away at the next mount, and e2fsck -p
+stops at it, where the flag needs_recovery is clear: set it by debugfs -w -R 'feature needs_recovery' fs.img
+before, and run e2fsck or mount. OCFS2 has the flag dirty of the journal's inode in its place.
+
 Status: 0 where all handles are committed, 1 where one is refused, or the commits or the checkpoints ended
 early, or the image is refused, by the name of its fault, 2 where a file or the text cannot be taken.
 
@@ -124,11 +129,30 @@ Example:
   jb load a.img queue.txt --hold     # handles 3 changes 8 settled 3 groups 1 blocks 7";
 
 const RECOVER: &str =
-    "Status: 0 where the image is recovered, 1 where it is refused, by the name of its fault, and stays as it
+    "The journal of an ext3 or ext4 file system that is not mounted is recovered where it stands:
+  debugfs -R 'stat <8>' fs.img      # lists its blocks after EXTENTS: or BLOCKS:
+  jb recover fs.img --extents '(0-1023):8193-9216, (1024-4095):16385-19456'
+Its log is empty then, and a later e2fsck has nothing to replay. Words as (IND):8192 are passed over. A
+stretch without a place, as 8193-9216, has the next blocks of the journal: so those of OCFS2 are given,
+whose debugfs.ocfs2 -R 'stat //journal:0000' prints the first block of each extent, and its clusters.
+
+With --journal FILE the journal is a copy, and the one inside the file system stays full: run e2fsck at
+once, and write nothing before, or it replays the log once more over what was written since.
+
+Where IMAGE has the superblock of ext2, ext3 or ext4 and the journal is not at its front, the journal has
+to be the file system's own: its block size has to be the same, and unless --force is given its UUID
+(where the journal has one; tune2fs -U changes the file system's alone) and the flag needs_recovery, which
+e2fsck and a mount take away.
+
+With --dry-run nothing is written, the image is opened for reading, and the line is that of the recovery;
+with --list the home block of each copy that would be written follows, as home N, in the log's order.
+
+Status: 0 where the image is recovered, 1 where it is refused, by the name of its fault, and stays as it
 is, 2 where the file cannot be opened or read. After jb: DeviceFault, status 1, it is to be called again.
 
 Examples:
   jb recover a.img     # transactions 1 copies 5 revoked 0 next 4
+  jb recover fs.img --extents '(0-4095):32801-36896' --dry-run --list
   jb recover fs.img --journal journal.bin";
 
 const RENUMBER: &str =

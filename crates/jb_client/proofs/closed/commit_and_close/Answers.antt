@@ -1,50 +1,104 @@
-use Rattle.std.proofs.Common.{◌≡◌, [], ◌∙◌, sym, ap, subst}
+use Rattle.std.proofs.Common.{◌≡◌, ℕ, ◌+◌, List, [], ◌∷◌, ◌++◌, map, sym, subst, ◌∙◌, ap, arith}
 use mathlib.Core.List.{append-nil}
 use Rattle.jb_ready.specs.Ready.{revoking}
-use Rattle.jb_ring.specs.Follows.{FollowsNone}
-use Rattle.jb_ring.specs.Log.{standing}
+use Rattle.jb_deck.specs.Calls.{IsRecoveredTo}
+use Rattle.jb_deck.specs.Changes.{Change, settled_in, settles}
+use Rattle.jb_deck.specs.Gathering.{groups_in}
 use Rattle.jb_deck.specs.Opening.{recovered_home}
-use Rattle.jb_since.specs.Calls.{IsRecoveredTo, at_first, one_more}
-use Rattle.jb_since.specs.Since.{deck_homes, in_checkpoint}
-use Rattle.jb_client.proofs.Journal.{opened-recovered}
+use Rattle.jb_deck.proofs.Changed.{settled-map}
+use Rattle.jb_client.specs.Programs.{HasChanges, Part, commits}
+use Rattle.jb_client.proofs.Programs.{IsOpened, Runs, begun, closed-left, commit-on, commit-runs, left-has, left-to, opening-runs}
 use Rattle.jb_client.proofs.closed.commit_and_close.Goals as goal
 
-pub returns-in-Ok-commit : goal.returns-in-Ok-commit
-returns-in-Ok-commit g c = record {
-  all = λ honest.
-      let disk = c.args.disk in
-      let size = g.D.Disk.size disk in
-      let count = g.D.Disk.count disk in
-      let base = g.D.Disk.newest disk in
-      let opened = c.in-Ok.deck in
-      let opens = c.in-Ok.ensures.opens honest in
-      let d1 = c.commit.new.deck in
-      let closed = c.close.result in
-      let k0 = c.in-Ok.ensures.kept in
-      let k1 = c.commit.ensures.kept in
-      let h0 = k0.stays_honest honest in
-      let h1 = subst g.D.Disk.honest (sym c.close.ensures.value) (k1.stays_honest h0) in
-      let same_size : g.D.Disk.size closed ≡ size = ap g.D.Disk.size c.close.ensures.value ∙ k1.same_size ∙ k0.same_size in
-      let same_count : g.D.Disk.count closed ≡ count = ap g.D.Disk.count c.close.ensures.value ∙ k1.same_count ∙ k0.same_count in
-      let before = recovered_home size count base in
-      let hs = c.args.batch.batch.handles in
-      let new = g.D.Disk.newest closed in
-      let quiet = c.close.ensures.quiet c.in-Ok-commit.ensures.up.1 h1 in
-      let shape = g.met.D.Disk.has_shape closed new h1 (g.met.D.Disk.newest_may_stay closed h1) in
-      let stood = c.stood.ensures (g.D.Disk.size closed) (g.D.Disk.count closed) d1.log d1.groups (standing d1.log d1.groups new) new c.close.ensures.on_disk shape.blocks quiet.stands in
-      let none : FollowsNone d1.log.sb (g.D.Disk.size closed) (g.D.Disk.count closed) (deck_homes g.D.Disk.newest d1) new =
-      subst (λ (d : g.row.D.Denot). FollowsNone d1.log.sb (g.D.Disk.size closed) (g.D.Disk.count closed) (standing d1.log d1.groups (g.D.Disk.newest d)) new) c.close.ensures.value (record { follows = stood.0; headers = stood.1 }) in
-      record {
-        own = opens.sb;
-        was = opens.taken;
-        each = λ image left.
-            let is = c.since.ensures (g.D.Disk.size closed) (g.D.Disk.count closed) before opened d1 hs [] new
-            c.in-Ok.ensures.new (c.in-Ok.ensures.stands honest)
-            (one_more [] opened hs d1 at_first (c.in-Ok-commit.ensures.ended h0))
-            (in_checkpoint new none) in
-            let all = subst (λ xs. IsRecoveredTo opened.log.sb (g.D.Disk.size closed) (g.D.Disk.count closed) before xs new) (append-nil hs) is in
-            subst (IsRecoveredTo (revoking opens.sb) size count before hs) (sym (quiet.only image left))
-            (opened-recovered opened.log opens.sb opens.log size count before hs new
-            (subst (λ n. IsRecoveredTo opened.log.sb size n before hs new) same_count (subst (λ n. IsRecoveredTo opened.log.sb n (g.D.Disk.count closed) before hs new) same_size all)));
-      };
-}
+pub returns-in-Err-clause-leaves : goal.returns-in-Err-clause-leaves
+returns-in-Err-clause-leaves g c = λ honest.
+    let G = g.D.Disk in
+    let entry = c.args.disk in
+    let batch = c.args.batch in
+    let parts : List Part = commits batch ∷ [] in
+    opening-runs G entry parts c.opening.ensures c.in-Err.disk (c.in-Err.ensures.leaves honest)
+
+pub returns-in-Err-commit-clause-leaves : goal.returns-in-Err-commit-clause-leaves
+returns-in-Err-commit-clause-leaves g c = λ honest.
+    let G = g.D.Disk in
+    let entry = c.args.disk in
+    let batch = c.args.batch in
+    let parts : List Part = commits batch ∷ [] in
+    let opened = c.in-Ok.deck in
+    let opens = c.in-Ok.ensures.opens honest in
+    let is : IsOpened G entry parts opened = record { new = c.in-Ok.ensures.new; sb = opens.sb; was = opens.taken; log = opens.log; stands = c.in-Ok.ensures.stands honest } in
+    let so0 = begun G entry parts c.opening.ensures opened is c.in-Ok.ensures.kept honest (c.in-Ok.ensures.leaves honest) in
+    let left1 = c.commit.ensures.left so0.up so0.honest in
+    subst (Runs G entry parts) (sym c.close-in-Err-commit.ensures.value) (commit-runs G entry parts c.since.ensures c.holds.ensures opened is batch [] [] 0 opened so0 c.commit.new.deck.disk left1)
+
+pub returns-in-Ok-commit-clause-leaves : goal.returns-in-Ok-commit-clause-leaves
+returns-in-Ok-commit-clause-leaves g c = λ honest.
+    let G = g.D.Disk in
+    let entry = c.args.disk in
+    let batch = c.args.batch in
+    let parts : List Part = commits batch ∷ [] in
+    let opened = c.in-Ok.deck in
+    let opens = c.in-Ok.ensures.opens honest in
+    let is : IsOpened G entry parts opened = record { new = c.in-Ok.ensures.new; sb = opens.sb; was = opens.taken; log = opens.log; stands = c.in-Ok.ensures.stands honest } in
+    let so0 = begun G entry parts c.opening.ensures opened is c.in-Ok.ensures.kept honest (c.in-Ok.ensures.leaves honest) in
+    let left1 = c.commit.ensures.left so0.up so0.honest in
+    subst (Runs G entry parts) (sym c.close.ensures.value) (commit-runs G entry parts c.since.ensures c.holds.ensures opened is batch [] [] 0 opened so0 c.commit.new.deck.disk left1)
+
+pub returns-in-Ok-commit-clause-all : goal.returns-in-Ok-commit-clause-all
+returns-in-Ok-commit-clause-all g c = λ honest.
+    let G = g.D.Disk in
+    let entry = c.args.disk in
+    let batch = c.args.batch in
+    let parts : List Part = commits batch ∷ [] in
+    let opened = c.in-Ok.deck in
+    let opens = c.in-Ok.ensures.opens honest in
+    let is : IsOpened G entry parts opened = record { new = c.in-Ok.ensures.new; sb = opens.sb; was = opens.taken; log = opens.log; stands = c.in-Ok.ensures.stands honest } in
+    let so0 = begun G entry parts c.opening.ensures opened is c.in-Ok.ensures.kept honest (c.in-Ok.ensures.leaves honest) in
+    let left1 = c.commit.ensures.left so0.up so0.honest in
+    let d1 = c.commit.new.deck in
+    let hs = batch.batch.handles in
+    let cs : List Change = [] ++ map settles hs in
+    let n : ℕ = 0 + groups_in batch.groups in
+    let so1 = commit-on G entry parts c.since.ensures c.holds.ensures opened is batch [] [] 0 opened so0 d1 (c.in-Ok-commit.ensures.ended so0.honest) c.in-Ok-commit.ensures.numbers c.in-Ok-commit.ensures.up.1 c.commit.ensures.kept left1 in
+    let closed = c.close.result in
+    let value = c.close.ensures.value in
+    let left = c.close.ensures.left so1.up (subst G.honest (sym value) so1.honest) in
+    let before : ℕ → List ℕ = recovered_home (G.size entry) (G.count entry) (G.newest entry) in
+    let all : settled_in (cs ++ []) ≡ hs = ap settled_in (append-nil cs) ∙ settled-map hs in
+    let many : opens.sb.sequence + 1 + (n + 0) ≡ opens.sb.sequence + 1 + groups_in batch.groups = omega arith in
+    record {
+      own = opens.sb;
+      was = opens.taken;
+      each = λ image may.
+          subst (λ k. IsRecoveredTo (revoking opens.sb) k (G.size entry) (G.count entry) before hs image) many
+          (subst (λ xs. IsRecoveredTo (revoking opens.sb) (opens.sb.sequence + 1 + (n + 0)) (G.size entry) (G.count entry) before xs image) all
+          (left-to G entry parts c.since.ensures c.holds.ensures opened is [] cs n d1 so1 [] 0 image
+          (closed-left G entry parts c.since.ensures c.holds.ensures opened is [] cs n d1 so1 closed value left image may)));
+    }
+
+pub returns-in-Ok-commit-clause-ends : goal.returns-in-Ok-commit-clause-ends
+returns-in-Ok-commit-clause-ends g c = λ honest.
+    let G = g.D.Disk in
+    let entry = c.args.disk in
+    let batch = c.args.batch in
+    let parts : List Part = commits batch ∷ [] in
+    let opened = c.in-Ok.deck in
+    let opens = c.in-Ok.ensures.opens honest in
+    let is : IsOpened G entry parts opened = record { new = c.in-Ok.ensures.new; sb = opens.sb; was = opens.taken; log = opens.log; stands = c.in-Ok.ensures.stands honest } in
+    let so0 = begun G entry parts c.opening.ensures opened is c.in-Ok.ensures.kept honest (c.in-Ok.ensures.leaves honest) in
+    let left1 = c.commit.ensures.left so0.up so0.honest in
+    let d1 = c.commit.new.deck in
+    let hs = batch.batch.handles in
+    let cs : List Change = [] ++ map settles hs in
+    let n : ℕ = 0 + groups_in batch.groups in
+    let so1 = commit-on G entry parts c.since.ensures c.holds.ensures opened is batch [] [] 0 opened so0 d1 (c.in-Ok-commit.ensures.ended so0.honest) c.in-Ok-commit.ensures.numbers c.in-Ok-commit.ensures.up.1 c.commit.ensures.kept left1 in
+    let closed = c.close.result in
+    let value = c.close.ensures.value in
+    let left = c.close.ensures.left so1.up (subst G.honest (sym value) so1.honest) in
+    let many : n + 0 ≡ groups_in batch.groups = omega arith in
+    record {
+      each = λ image may.
+          subst (λ k. HasChanges (G.size entry) (G.count entry) (G.newest entry) (map settles hs ++ []) k image) many
+          (left-has G entry parts c.since.ensures c.holds.ensures opened is [] cs n d1 so1 [] 0 image
+          (closed-left G entry parts c.since.ensures c.holds.ensures opened is [] cs n d1 so1 closed value left image may));
+    }

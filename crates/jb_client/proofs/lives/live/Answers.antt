@@ -1,22 +1,14 @@
-use Rattle.std.proofs.Common.{◌≡◌, ◌⊎◌, length, ap, sym, subst, ◌∙◌, inl, inr, ⊎_elim}
+use Rattle.std.proofs.Common.{◌≡◌, ◌⊎◌, ◌∷◌, [], length, ap, sym, subst, ◌∙◌, inl, inr, ⊎_elim}
 use Rattle.jb_block.specs.Size.{bytes_of}
-use Rattle.jb_disk.specs.History.{History, MayLeave, newest_of, replay}
+use Rattle.jb_disk.specs.History.{History, IsSound, MayLeave, newest_of, replay}
+use Rattle.jb_disk.specs.Image.{Only}
 use Rattle.jb_disk.specs.Lives.{left_since_now}
 use Rattle.jb_front.proofs.Entering.{entry-as}
-use Rattle.jb_recover.specs.Outcomes.{KeepsJournal, recovered}
-use Rattle.jb_client.specs.Lives.{HoldsHandles, HoldsMore, IsAtRest, LeftByLife}
-use Rattle.jb_client.proofs.Living.{life-more}
+use Rattle.jb_recover.specs.Outcomes.{RecoversAs, recovered}
+use Rattle.jb_client.specs.Lives.{HoldsChanges, HoldsLife, IsAtRest}
+use Rattle.jb_client.specs.Programs.{LeftByProgram, commits}
+use Rattle.jb_client.proofs.Living.{fresh-only, life-more}
 use Rattle.jb_client.proofs.lives.live.Goals as goal
-
-pub returns-clause-same : goal.returns-clause-same
-returns-clause-same c =
-    let crashed = c.in_ok-disk.disk in
-    let kept = c.run-last.ensures.kept in
-    let again = c.recover.ensures.kept in
-    let is = c.of.ensures.disk in (
-      again.same_size ∙ ap bytes_of (c.in_ok-disk.ensures.size ∙ ap (λ (h : History). h.size) c.into_inner.ensures) ∙ kept.same_size ∙ ap (λ (h : History). bytes_of h.size) is,
-      again.same_count ∙ c.in_ok-disk.ensures.count ∙ ap (λ (h : History). h.count) c.into_inner.ensures ∙ kept.same_count ∙ ap (λ (h : History). h.count) is,
-    )
 
 pub returns-clause-rest : goal.returns-clause-rest
 returns-clause-rest c = λ rest.
@@ -34,11 +26,13 @@ returns-clause-rest c = λ rest.
     }
 
 pub returns-clause-lives : goal.returns-clause-lives
-returns-clause-lives c = λ rest own before hs entry.
+returns-clause-lives c = λ rest own last_number before done entry.
     let is = c.of.ensures.disk in
     let first = c.of.result.disk in
-    let last = c.run-last.result.disk in
-    let crashed = c.in_ok-disk.disk in
+    let last = c.run-last.result.0.disk in
+    let settled = c.run-last.result.1 in
+    let crashed = c.in_ok-crashed.crashed in
+    let again = c.in_ok-disk.disk in
     let new = newest_of c.recover.new.disk in
     let batch = c.args.life.batch in
     let size = bytes_of first.size in
@@ -46,15 +40,30 @@ returns-clause-lives c = λ rest own before hs entry.
     let base = newest_of first in
     let kept = c.run-last.ensures.kept in
     let at_rest : IsAtRest first = subst IsAtRest (sym is) rest in
-    let holds : HoldsHandles own size count before hs base = subst (λ (h : History). HoldsHandles own (bytes_of h.size) h.count before hs (newest_of h)) (sym is) entry in
+    let holds : HoldsChanges own last_number size count before done base = subst (λ (h : History). HoldsChanges own last_number (bytes_of h.size) h.count before done (newest_of h)) (sym is) entry in
     let leaves = c.run-last.ensures.leaves at_rest.sound in
-    let allowed : MayLeave last.first last.steps crashed.first = subst (λ (h : History). MayLeave h.first h.steps crashed.first) c.into_inner.ensures c.in_ok-disk.ensures.allowed in
-    let left : (crashed.first ≡ base) ⊎ LeftByLife size count base batch crashed.first = ⊎_elim (λ stays. inl (at_rest.only crashed.first stays)) inr (leaves.each crashed.first (left_since_now last.first last.steps (length first.steps) crashed.first leaves.later allowed)) in
+    let allowed : MayLeave last.first last.steps crashed.first = subst (λ (h : History). MayLeave h.first h.steps crashed.first) c.into_inner.ensures c.in_ok-crashed.ensures.allowed in
+    let left : (crashed.first ≡ base) ⊎ LeftByProgram size count base (commits batch ∷ []) crashed.first = ⊎_elim (λ stays. inl (at_rest.only crashed.first stays)) inr (leaves.each crashed.first (left_since_now last.first last.steps (length first.steps) crashed.first leaves.later allowed)) in
+    let same_size : bytes_of crashed.size ≡ size = ap bytes_of (c.in_ok-crashed.ensures.size ∙ ap (λ (h : History). h.size) c.into_inner.ensures) ∙ kept.same_size in
+    let same_count : crashed.count ≡ count = c.in_ok-crashed.ensures.count ∙ ap (λ (h : History). h.count) c.into_inner.ensures ∙ kept.same_count in
+    let image : newest_of crashed ≡ crashed.first = ap (replay crashed.first) c.in_ok-crashed.ensures.fresh.0 in
+    let is_cut = c.of-2.ensures.disk in
+    let cut = c.of-2.result.disk in
+    let part = c.recover_in_part-cut.result.disk in
+    let kept_cut = c.recover_in_part-cut.ensures.kept in
+    let sound_cut : IsSound cut = subst IsSound (sym is_cut) c.in_ok-crashed.ensures.sound in
+    let only_cut : Only (newest_of cut) (MayLeave cut.first cut.steps) = subst (λ (h : History). Only (newest_of h) (MayLeave h.first h.steps)) (sym is_cut) (fresh-only crashed c.in_ok-crashed.ensures.fresh.0) in
+    let leaves_cut = c.recover_in_part-cut.ensures.leaves sound_cut only_cut in
+    let allowed_cut : MayLeave part.first part.steps again.first = subst (λ (h : History). MayLeave h.first h.steps again.first) c.into_inner-2.ensures c.in_ok-disk.ensures.allowed in
+    let recovers = leaves_cut.each again.first (left_since_now part.first part.steps (length cut.steps) again.first leaves_cut.later allowed_cut) in
+    let cut_size : bytes_of cut.size ≡ size = ap (λ (h : History). bytes_of h.size) is_cut ∙ same_size in
+    let cut_count : cut.count ≡ count = ap (λ (h : History). h.count) is_cut ∙ same_count in
+    let cut_image : newest_of cut ≡ crashed.first = ap newest_of is_cut ∙ image in
+    let as_before : RecoversAs size count crashed.first again.first = entry-as (λ s n b. RecoversAs s n b again.first) size count (bytes_of cut.size) cut.count crashed.first (newest_of cut) cut_size cut_count cut_image recovers in
     let sound = c.in_ok-disk.ensures.sound in
-    let same_size : bytes_of crashed.size ≡ size = ap bytes_of (c.in_ok-disk.ensures.size ∙ ap (λ (h : History). h.size) c.into_inner.ensures) ∙ kept.same_size in
-    let same_count : crashed.count ≡ count = c.in_ok-disk.ensures.count ∙ ap (λ (h : History). h.count) c.into_inner.ensures ∙ kept.same_count in
-    let image : newest_of crashed ≡ crashed.first = ap (replay crashed.first) c.in_ok-disk.ensures.fresh.0 in
-    let ended : new ≡ recovered size count crashed.first = entry-as (λ s n b. new ≡ recovered s n b) size count (bytes_of crashed.size) crashed.count crashed.first (newest_of crashed) same_size same_count image ((c.in_ok-recover.ensures.recovers sound).3) in
-    let keeps : KeepsJournal size count crashed.first new = entry-as (λ s n b. KeepsJournal s n b new) size count (bytes_of crashed.size) crashed.count crashed.first (newest_of crashed) same_size same_count image (c.in_ok-recover.ensures.journal sound) in
-    let more = life-more size count own before hs base batch c.chained.ensures (length batch.batch.handles) c.run-last.ensures.planned.least.fitting.cut at_rest.still holds crashed.first new left ended keeps in
-    subst (λ (h : History). HoldsMore own (bytes_of h.size) h.count before hs batch new) is more
+    let again_size : bytes_of again.size ≡ size = ap bytes_of (c.in_ok-disk.ensures.size ∙ ap (λ (h : History). h.size) c.into_inner-2.ensures) ∙ kept_cut.same_size ∙ cut_size in
+    let again_count : again.count ≡ count = c.in_ok-disk.ensures.count ∙ ap (λ (h : History). h.count) c.into_inner-2.ensures ∙ kept_cut.same_count ∙ cut_count in
+    let again_image : newest_of again ≡ again.first = ap (replay again.first) c.in_ok-disk.ensures.fresh.0 in
+    let ended : new ≡ recovered size count crashed.first = entry-as (λ s n b. new ≡ recovered s n b) size count (bytes_of again.size) again.count again.first (newest_of again) again_size again_count again_image ((c.in_ok-recover.ensures.recovers sound).3) ∙ as_before.image in
+    let more = life-more c.holds_on.ensures size count own last_number before done base holds at_rest.still batch settled crashed.first new left (λ yes. (c.run-last.ensures.ends at_rest.sound yes).each crashed.first allowed) ended in
+    subst (λ (h : History). HoldsLife own last_number (bytes_of h.size) h.count before done batch settled new) is more

@@ -1,67 +1,215 @@
-use Rattle.std.proofs.Common.{◌≡◌, ℕ, [], ◌++◌, ◌∙◌, subst}
-use mathlib.Core.List.{append-nil}
+use Rattle.std.proofs.Common.{◌≡◌, ℕ, ◌+◌, ◌≤◌, List, [], ◌∷◌, ◌++◌, map, sym, subst, ◌∙◌, ap, arith}
 use Rattle.jb_disk.specs.Image.{Image}
 use Rattle.jb_ready.specs.Ready.{revoking}
+use Rattle.jb_ring.specs.declared.log.Log.{Log}
+use Rattle.jb_deck.specs.Calls.{IsRecoveredTo}
+use Rattle.jb_deck.specs.Changes.{Change, settled_in, settles}
 use Rattle.jb_deck.specs.Gathering.{groups_in}
 use Rattle.jb_deck.specs.Opening.{recovered_home}
-use Rattle.jb_deck.specs.Trailing.{FollowsSome, handles_to}
-use Rattle.jb_since.specs.Calls.{IsRecoveredTo, at_first, one_more}
-use Rattle.jb_since.specs.Since.{checkpointed, deck_homes, in_commit}
+use Rattle.jb_deck.specs.Since.{IsLeft, in_commit}
+use Rattle.jb_deck.specs.Trailing.{handles_to}
+use Rattle.jb_deck.proofs.Changed.{settled-append, settled-map}
 use Rattle.jb_client.specs.Client.{HasPrefix}
-use Rattle.jb_client.proofs.Journal.{opened-recovered}
+use Rattle.jb_client.specs.Programs.{Part, commits}
+use Rattle.jb_client.proofs.Programs.{IsOpened, Runs, begun, commit-on, commit-runs, idle-on, idle-runs, left-to, opening-runs}
 use Rattle.jb_client.proofs.prefix.commit_three.Goals as goal
 
-pub returns-in-Ok-commit-3 : goal.returns-in-Ok-commit-3
-returns-in-Ok-commit-3 g c = record {
-  prefix = λ honest.
-      let disk = c.args.disk in
-      let size = g.D.Disk.size disk in
-      let count = g.D.Disk.count disk in
-      let base = g.D.Disk.newest disk in
-      let opened = c.in-Ok.deck in
-      let opens = c.in-Ok.ensures.opens honest in
-      let d1 = c.commit.new.deck in
-      let d2 = c.commit-2.new.deck in
-      let d3 = c.checkpoint_one.new.self in
-      let first = c.args.first in
-      let second = c.args.second in
-      let third = c.args.third in
-      let k0 = c.in-Ok.ensures.kept in
-      let k1 = c.commit.ensures.kept in
-      let k2 = c.commit-2.ensures.kept in
-      let k3 = c.checkpoint_one.ensures.kept in
-      let h0 = k0.stays_honest honest in
-      let h1 = k1.stays_honest h0 in
-      let h2 = k2.stays_honest h1 in
-      let h3 = k3.stays_honest h2 in
-      let same_size : g.D.Disk.size d3.disk ≡ size = k3.same_size ∙ k2.same_size ∙ k1.same_size ∙ k0.same_size in
-      let same_count : g.D.Disk.count d3.disk ≡ count = k3.same_count ∙ k2.same_count ∙ k1.same_count ∙ k0.same_count in
-      let before = recovered_home size count base in
-      let settled = first.batch.handles ++ second.batch.handles in
-      let up = c.in-Ok-checkpoint_one.ensures.answers.2.live in
-      let leaves = c.commit-3.ensures.leaves up h3 in
-      let taken : (least : ℕ) (image : Image) → FollowsSome d3.log.sb (g.D.Disk.size d3.disk) (g.D.Disk.count d3.disk) (deck_homes g.D.Disk.newest d3) third.batch.handles third.groups least (groups_in third.groups) image → HasPrefix (revoking opens.sb) size count before settled third least image = λ least image f.
-      let more = handles_to third.groups f.groups third.batch.handles in
-      let calls = one_more settled d2 [] d3
-      (one_more first.batch.handles d1 second.batch.handles d2 (one_more [] opened first.batch.handles d1 at_first (c.in-Ok-commit.ensures.ended h0)) (c.in-Ok-commit-2.ensures.ended h1))
-      (checkpointed c.in-Ok-checkpoint_one.field-0 d3 c.in-Ok-checkpoint_one.ensures.answers.2 (c.in-Ok-checkpoint_one.ensures.checkpoints h2)) in
-      let is = c.since.ensures (g.D.Disk.size d3.disk) (g.D.Disk.count d3.disk) before opened d3 (settled ++ []) more image
-      c.in-Ok.ensures.new (c.in-Ok.ensures.stands honest) calls
-      (in_commit third least (groups_in third.groups) image f) in
-      let all = subst (λ hs. IsRecoveredTo opened.log.sb (g.D.Disk.size d3.disk) (g.D.Disk.count d3.disk) before (hs ++ more) image) (append-nil settled) is in
-      record {
-        groups = f.groups;
-        from = f.from;
-        within = f.to;
-        recovered = opened-recovered opened.log opens.sb opens.log size count before (settled ++ more) image
-            (subst (λ n. IsRecoveredTo opened.log.sb size n before (settled ++ more) image) same_count (subst (λ n. IsRecoveredTo opened.log.sb n (g.D.Disk.count d3.disk) before (settled ++ more) image) same_size all));
-      } in
-      record {
-        own = opens.sb;
-        was = opens.taken;
-        since = g.D.Disk.moment d3.disk;
-        past = leaves.later;
-        each = λ image left. taken 0 image (leaves.each image left);
-        ends = λ image left. taken (groups_in third.groups) image ((c.in-Ok-commit-3.ensures.now up h3).each image left);
-      };
-}
+pub returns-in-Err-clause-leaves : goal.returns-in-Err-clause-leaves
+returns-in-Err-clause-leaves g c = λ honest.
+    let G = g.D.Disk in
+    let entry = c.args.disk in
+    let first = c.args.first in
+    let second = c.args.second in
+    let third = c.args.third in
+    let rest1 : List Part = commits second ∷ commits third ∷ [] in
+    let parts : List Part = commits first ∷ rest1 in
+    opening-runs G entry parts c.opening.ensures c.in-Err.disk (c.in-Err.ensures.leaves honest)
+
+pub returns-in_default-clause-leaves : goal.returns-in_default-clause-leaves
+returns-in_default-clause-leaves g c = λ honest.
+    let G = g.D.Disk in
+    let entry = c.args.disk in
+    let first = c.args.first in
+    let second = c.args.second in
+    let third = c.args.third in
+    let rest1 : List Part = commits second ∷ commits third ∷ [] in
+    let parts : List Part = commits first ∷ rest1 in
+    let opened = c.in-Ok.deck in
+    let opens = c.in-Ok.ensures.opens honest in
+    let is : IsOpened G entry parts opened = record { new = c.in-Ok.ensures.new; sb = opens.sb; was = opens.taken; log = opens.log; stands = c.in-Ok.ensures.stands honest } in
+    let so0 = begun G entry parts c.opening.ensures opened is c.in-Ok.ensures.kept honest (c.in-Ok.ensures.leaves honest) in
+    let left1 = c.commit.ensures.left so0.up so0.honest in
+    subst (Runs G entry parts) (sym c.close.ensures.value) (commit-runs G entry parts c.since.ensures c.holds.ensures opened is first rest1 [] 0 opened so0 c.commit.new.deck.disk left1)
+
+pub returns-in_default-commit-clause-leaves : goal.returns-in_default-commit-clause-leaves
+returns-in_default-commit-clause-leaves g c = λ honest.
+    let G = g.D.Disk in
+    let entry = c.args.disk in
+    let first = c.args.first in
+    let second = c.args.second in
+    let third = c.args.third in
+    let rest1 : List Part = commits second ∷ commits third ∷ [] in
+    let parts : List Part = commits first ∷ rest1 in
+    let opened = c.in-Ok.deck in
+    let opens = c.in-Ok.ensures.opens honest in
+    let is : IsOpened G entry parts opened = record { new = c.in-Ok.ensures.new; sb = opens.sb; was = opens.taken; log = opens.log; stands = c.in-Ok.ensures.stands honest } in
+    let so0 = begun G entry parts c.opening.ensures opened is c.in-Ok.ensures.kept honest (c.in-Ok.ensures.leaves honest) in
+    let left1 = c.commit.ensures.left so0.up so0.honest in
+    let d1 = c.commit.new.deck in
+    let cs1 : List Change = [] ++ map settles first.batch.handles in
+    let n1 : ℕ = 0 + groups_in first.groups in
+    let so1 = commit-on G entry parts c.since.ensures c.holds.ensures opened is first rest1 [] 0 opened so0 d1 (c.in-Ok-commit.ensures.ended so0.honest) c.in-Ok-commit.ensures.numbers c.in-Ok-commit.ensures.up.1 c.commit.ensures.kept left1 in
+    let left2 = c.commit-2.ensures.left so1.up so1.honest in
+    let rest2 : List Part = commits third ∷ [] in
+    let d2 = c.commit-2.new.deck in
+    subst (Runs G entry parts) (sym c.close-in_default-commit.ensures.value) (commit-runs G entry parts c.since.ensures c.holds.ensures opened is second rest2 cs1 n1 d1 so1 d2.disk left2)
+
+pub returns-in_default-checkpoint_one-clause-leaves : goal.returns-in_default-checkpoint_one-clause-leaves
+returns-in_default-checkpoint_one-clause-leaves g c = λ honest.
+    let G = g.D.Disk in
+    let entry = c.args.disk in
+    let first = c.args.first in
+    let second = c.args.second in
+    let third = c.args.third in
+    let rest1 : List Part = commits second ∷ commits third ∷ [] in
+    let parts : List Part = commits first ∷ rest1 in
+    let opened = c.in-Ok.deck in
+    let opens = c.in-Ok.ensures.opens honest in
+    let is : IsOpened G entry parts opened = record { new = c.in-Ok.ensures.new; sb = opens.sb; was = opens.taken; log = opens.log; stands = c.in-Ok.ensures.stands honest } in
+    let so0 = begun G entry parts c.opening.ensures opened is c.in-Ok.ensures.kept honest (c.in-Ok.ensures.leaves honest) in
+    let left1 = c.commit.ensures.left so0.up so0.honest in
+    let d1 = c.commit.new.deck in
+    let cs1 : List Change = [] ++ map settles first.batch.handles in
+    let n1 : ℕ = 0 + groups_in first.groups in
+    let so1 = commit-on G entry parts c.since.ensures c.holds.ensures opened is first rest1 [] 0 opened so0 d1 (c.in-Ok-commit.ensures.ended so0.honest) c.in-Ok-commit.ensures.numbers c.in-Ok-commit.ensures.up.1 c.commit.ensures.kept left1 in
+    let left2 = c.commit-2.ensures.left so1.up so1.honest in
+    let rest2 : List Part = commits third ∷ [] in
+    let d2 = c.commit-2.new.deck in
+    let cs2 : List Change = cs1 ++ map settles second.batch.handles in
+    let n2 : ℕ = n1 + groups_in second.groups in
+    let so2 = commit-on G entry parts c.since.ensures c.holds.ensures opened is second rest2 cs1 n1 d1 so1 d2 (c.in-Ok-commit-2.ensures.ended so1.honest) c.in-Ok-commit-2.ensures.numbers c.in-Ok-commit-2.ensures.up.1 c.commit-2.ensures.kept left2 in
+    let d3 = c.checkpoint_one.new.self in
+    let run3 = idle-runs G entry parts c.since.ensures c.holds.ensures opened is rest2 cs2 n2 d2 so2 d3.disk (c.checkpoint_one.ensures.left so2.up so2.honest) in
+    subst (Runs G entry parts) (sym c.close-in_default-checkpoint_one.ensures.value) (run3)
+
+pub returns-in-Err-commit-clause-leaves : goal.returns-in-Err-commit-clause-leaves
+returns-in-Err-commit-clause-leaves g c = λ honest.
+    let G = g.D.Disk in
+    let entry = c.args.disk in
+    let first = c.args.first in
+    let second = c.args.second in
+    let third = c.args.third in
+    let rest1 : List Part = commits second ∷ commits third ∷ [] in
+    let parts : List Part = commits first ∷ rest1 in
+    let opened = c.in-Ok.deck in
+    let opens = c.in-Ok.ensures.opens honest in
+    let is : IsOpened G entry parts opened = record { new = c.in-Ok.ensures.new; sb = opens.sb; was = opens.taken; log = opens.log; stands = c.in-Ok.ensures.stands honest } in
+    let so0 = begun G entry parts c.opening.ensures opened is c.in-Ok.ensures.kept honest (c.in-Ok.ensures.leaves honest) in
+    let left1 = c.commit.ensures.left so0.up so0.honest in
+    let d1 = c.commit.new.deck in
+    let cs1 : List Change = [] ++ map settles first.batch.handles in
+    let n1 : ℕ = 0 + groups_in first.groups in
+    let so1 = commit-on G entry parts c.since.ensures c.holds.ensures opened is first rest1 [] 0 opened so0 d1 (c.in-Ok-commit.ensures.ended so0.honest) c.in-Ok-commit.ensures.numbers c.in-Ok-commit.ensures.up.1 c.commit.ensures.kept left1 in
+    let left2 = c.commit-2.ensures.left so1.up so1.honest in
+    let rest2 : List Part = commits third ∷ [] in
+    let d2 = c.commit-2.new.deck in
+    let cs2 : List Change = cs1 ++ map settles second.batch.handles in
+    let n2 : ℕ = n1 + groups_in second.groups in
+    let so2 = commit-on G entry parts c.since.ensures c.holds.ensures opened is second rest2 cs1 n1 d1 so1 d2 (c.in-Ok-commit-2.ensures.ended so1.honest) c.in-Ok-commit-2.ensures.numbers c.in-Ok-commit-2.ensures.up.1 c.commit-2.ensures.kept left2 in
+    let d3 = c.checkpoint_one.new.self in
+    let run3 = idle-runs G entry parts c.since.ensures c.holds.ensures opened is rest2 cs2 n2 d2 so2 d3.disk (c.checkpoint_one.ensures.left so2.up so2.honest) in
+    let answers = c.in-Ok-checkpoint_one.ensures.answers.2 in
+    let so3 = idle-on G entry parts c.since.ensures c.holds.ensures opened is rest2 cs2 n2 d2 so2 d3 (c.in-Ok-checkpoint_one.ensures.ended so2.honest answers.live) (ap (λ (l : Log). l.next) answers.log) answers.live c.checkpoint_one.ensures.kept run3 in
+    let left4 = c.commit-3.ensures.left so3.up so3.honest in
+    let run4 = commit-runs G entry parts c.since.ensures c.holds.ensures opened is third [] cs2 n2 d3 so3 c.commit-3.new.deck.disk left4 in
+    subst (Runs G entry parts) (sym c.close-in-Err-commit.ensures.value) (run4)
+
+pub returns-in-Ok-commit-3-clause-leaves : goal.returns-in-Ok-commit-3-clause-leaves
+returns-in-Ok-commit-3-clause-leaves g c = λ honest.
+    let G = g.D.Disk in
+    let entry = c.args.disk in
+    let first = c.args.first in
+    let second = c.args.second in
+    let third = c.args.third in
+    let rest1 : List Part = commits second ∷ commits third ∷ [] in
+    let parts : List Part = commits first ∷ rest1 in
+    let opened = c.in-Ok.deck in
+    let opens = c.in-Ok.ensures.opens honest in
+    let is : IsOpened G entry parts opened = record { new = c.in-Ok.ensures.new; sb = opens.sb; was = opens.taken; log = opens.log; stands = c.in-Ok.ensures.stands honest } in
+    let so0 = begun G entry parts c.opening.ensures opened is c.in-Ok.ensures.kept honest (c.in-Ok.ensures.leaves honest) in
+    let left1 = c.commit.ensures.left so0.up so0.honest in
+    let d1 = c.commit.new.deck in
+    let cs1 : List Change = [] ++ map settles first.batch.handles in
+    let n1 : ℕ = 0 + groups_in first.groups in
+    let so1 = commit-on G entry parts c.since.ensures c.holds.ensures opened is first rest1 [] 0 opened so0 d1 (c.in-Ok-commit.ensures.ended so0.honest) c.in-Ok-commit.ensures.numbers c.in-Ok-commit.ensures.up.1 c.commit.ensures.kept left1 in
+    let left2 = c.commit-2.ensures.left so1.up so1.honest in
+    let rest2 : List Part = commits third ∷ [] in
+    let d2 = c.commit-2.new.deck in
+    let cs2 : List Change = cs1 ++ map settles second.batch.handles in
+    let n2 : ℕ = n1 + groups_in second.groups in
+    let so2 = commit-on G entry parts c.since.ensures c.holds.ensures opened is second rest2 cs1 n1 d1 so1 d2 (c.in-Ok-commit-2.ensures.ended so1.honest) c.in-Ok-commit-2.ensures.numbers c.in-Ok-commit-2.ensures.up.1 c.commit-2.ensures.kept left2 in
+    let d3 = c.checkpoint_one.new.self in
+    let run3 = idle-runs G entry parts c.since.ensures c.holds.ensures opened is rest2 cs2 n2 d2 so2 d3.disk (c.checkpoint_one.ensures.left so2.up so2.honest) in
+    let answers = c.in-Ok-checkpoint_one.ensures.answers.2 in
+    let so3 = idle-on G entry parts c.since.ensures c.holds.ensures opened is rest2 cs2 n2 d2 so2 d3 (c.in-Ok-checkpoint_one.ensures.ended so2.honest answers.live) (ap (λ (l : Log). l.next) answers.log) answers.live c.checkpoint_one.ensures.kept run3 in
+    let left4 = c.commit-3.ensures.left so3.up so3.honest in
+    let run4 = commit-runs G entry parts c.since.ensures c.holds.ensures opened is third [] cs2 n2 d3 so3 c.commit-3.new.deck.disk left4 in
+    run4
+
+pub returns-in-Ok-commit-3-clause-prefix : goal.returns-in-Ok-commit-3-clause-prefix
+returns-in-Ok-commit-3-clause-prefix g c = λ honest.
+    let G = g.D.Disk in
+    let entry = c.args.disk in
+    let first = c.args.first in
+    let second = c.args.second in
+    let third = c.args.third in
+    let rest1 : List Part = commits second ∷ commits third ∷ [] in
+    let parts : List Part = commits first ∷ rest1 in
+    let opened = c.in-Ok.deck in
+    let opens = c.in-Ok.ensures.opens honest in
+    let is : IsOpened G entry parts opened = record { new = c.in-Ok.ensures.new; sb = opens.sb; was = opens.taken; log = opens.log; stands = c.in-Ok.ensures.stands honest } in
+    let so0 = begun G entry parts c.opening.ensures opened is c.in-Ok.ensures.kept honest (c.in-Ok.ensures.leaves honest) in
+    let left1 = c.commit.ensures.left so0.up so0.honest in
+    let d1 = c.commit.new.deck in
+    let cs1 : List Change = [] ++ map settles first.batch.handles in
+    let n1 : ℕ = 0 + groups_in first.groups in
+    let so1 = commit-on G entry parts c.since.ensures c.holds.ensures opened is first rest1 [] 0 opened so0 d1 (c.in-Ok-commit.ensures.ended so0.honest) c.in-Ok-commit.ensures.numbers c.in-Ok-commit.ensures.up.1 c.commit.ensures.kept left1 in
+    let left2 = c.commit-2.ensures.left so1.up so1.honest in
+    let rest2 : List Part = commits third ∷ [] in
+    let d2 = c.commit-2.new.deck in
+    let cs2 : List Change = cs1 ++ map settles second.batch.handles in
+    let n2 : ℕ = n1 + groups_in second.groups in
+    let so2 = commit-on G entry parts c.since.ensures c.holds.ensures opened is second rest2 cs1 n1 d1 so1 d2 (c.in-Ok-commit-2.ensures.ended so1.honest) c.in-Ok-commit-2.ensures.numbers c.in-Ok-commit-2.ensures.up.1 c.commit-2.ensures.kept left2 in
+    let d3 = c.checkpoint_one.new.self in
+    let run3 = idle-runs G entry parts c.since.ensures c.holds.ensures opened is rest2 cs2 n2 d2 so2 d3.disk (c.checkpoint_one.ensures.left so2.up so2.honest) in
+    let answers = c.in-Ok-checkpoint_one.ensures.answers.2 in
+    let so3 = idle-on G entry parts c.since.ensures c.holds.ensures opened is rest2 cs2 n2 d2 so2 d3 (c.in-Ok-checkpoint_one.ensures.ended so2.honest answers.live) (ap (λ (l : Log). l.next) answers.log) answers.live c.checkpoint_one.ensures.kept run3 in
+    let left4 = c.commit-3.ensures.left so3.up so3.honest in
+    let run4 = commit-runs G entry parts c.since.ensures c.holds.ensures opened is third [] cs2 n2 d3 so3 c.commit-3.new.deck.disk left4 in
+    let size = G.size entry in
+    let count = G.count entry in
+    let before : ℕ → List ℕ = recovered_home size count (G.newest entry) in
+    let numbers = groups_in first.groups + groups_in second.groups in
+    let settled = first.batch.handles ++ second.batch.handles in
+    let made : settled_in cs2 ≡ settled = settled-append cs1 (map settles second.batch.handles) ∙ ap (λ hs. hs ++ settled_in (map settles second.batch.handles)) (settled-map first.batch.handles) ∙ ap (λ hs. first.batch.handles ++ hs) (settled-map second.batch.handles) in
+    let taken : (least groups : ℕ) (image : Image) → least ≤ groups → groups ≤ groups_in third.groups → IsLeft G.newest (G.size d3.disk) (G.count d3.disk) d3 (map settles (handles_to third.groups groups third.batch.handles)) (d3.log.next + groups) image → HasPrefix (revoking opens.sb) (opens.sb.sequence + 1 + numbers) size count before settled third least image = λ least groups image from to left.
+    let more = handles_to third.groups groups third.batch.handles in
+    let cs : List Change = map settles more in
+    let all : settled_in (cs2 ++ cs) ≡ settled ++ more = settled-append cs2 cs ∙ ap (λ hs. hs ++ settled_in cs) made ∙ ap (λ hs. settled ++ hs) (settled-map more) in
+    let many : opens.sb.sequence + 1 + (n2 + groups) ≡ opens.sb.sequence + 1 + numbers + groups = omega arith in
+    record {
+      groups = groups;
+      from = from;
+      within = to;
+      recovered = subst (λ k. IsRecoveredTo (revoking opens.sb) k size count before (settled ++ more) image) many
+          (subst (λ hs. IsRecoveredTo (revoking opens.sb) (opens.sb.sequence + 1 + (n2 + groups)) size count before hs image) all
+          (left-to G entry parts c.since.ensures c.holds.ensures opened is rest2 cs2 n2 d3 so3 cs groups image left));
+    } in
+    record {
+      own = opens.sb;
+      was = opens.taken;
+      since = G.moment d3.disk;
+      past = left4.later;
+      each = λ image left. let l = left4.each image left in taken 0 l.groups image (omega arith) l.within l.left;
+      ends = λ image left. let f = (c.in-Ok-commit-3.ensures.now so3.up so3.honest).each image left in taken (groups_in third.groups) f.groups image f.from f.to (in_commit third (groups_in third.groups) (groups_in third.groups) image f);
+    }

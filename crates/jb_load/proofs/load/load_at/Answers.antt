@@ -5,12 +5,13 @@ use Rattle.jb_deck.specs.declared.done.Entry.{Entry}
 use Rattle.jb_deck.specs.Done.{Follow, start_of}
 use Rattle.jb_deck.proofs.Shapes.{shape-same}
 use Rattle.jb_desk.specs.Desks.{shape_in}
-use Rattle.jb_desk.specs.History.{AreAllStops, IsInHistory, IsStop}
+use Rattle.jb_book.specs.Led.{IsInHistory}
+use Rattle.jb_desk.specs.History.{AreAllStops, IsStop}
 use Rattle.jb_desk.specs.Since.{IsCosted}
 use Rattle.jb_queue.specs.QueueLines.{handles_of}
 use Rattle.jb_load.specs.Loads.{AreRuns}
 use Rattle.jb_load.specs.Running.{HasRun}
-use Rattle.jb_desk.proofs.Rounds.{follow-past}
+use Rattle.jb_book.proofs.Follows.{follow-past}
 use Rattle.jb_load.proofs.Costing.{blocks-are}
 use Rattle.jb_load.proofs.load.load_at.Goals as goal
 
@@ -49,4 +50,7 @@ returns-clause-since g c =
         refused = c.count_up-loaded.ensures.outcome.0 ∙ gathered.refused;
       };
       since = record { deck = ends.deck; same_disk = ends.same_disk; same_trail = ends.same_trail; since = ends.since };
+      run_shape = ends.run_shape;
+      run = ends.run;
+      runs_as = λ honest. ends.runs_as honest ∙ shape-same c.in-Ok.closed.shape c.args.shape c.if-ne.ensures;
     }

@@ -1,8 +1,8 @@
-use Rattle.std.proofs.Common.{◌≡◌, [], All, sym, ap, subst, arith}
+use Rattle.std.proofs.Common.{◌≡◌, [], length, All, sym, ap, subst, arith}
 use Rattle.std.proofs.lemmas.List.Elements.{All-nil}
 use Rattle.jb_handle.specs.declared.stopped.Stopped.{Stopped}
 use Rattle.jb_deck.specs.Done.{past_after}
-use Rattle.jb_desk.specs.Since.{IsCosted}
+use Rattle.jb_desk.specs.Since.{IsCosted, NumberedFrom}
 use Rattle.jb_memory_desk.proofs.desks.start.Goals as goal
 
 -- no handle was given to a journal that has settled none
@@ -17,6 +17,9 @@ start-requires-clause-begun g c =
         settled = omega (arith, past);
         all = λ up. sym past;
         costs = subst (All (IsCosted c.args.deck.shape [])) (sym c.requires.fresh) (All-nil (IsCosted c.args.deck.shape []));
+        first = c.args.deck.log.next;
+        numbers = subst (NumberedFrom c.args.deck.log.next) (sym c.requires.fresh) tt;
+        next = (let none : length c.args.deck.trail ≡ 0 = ap length c.requires.fresh in omega (arith, none));
       };
       since = λ honest. absurd (c.requires.blind honest);
     }

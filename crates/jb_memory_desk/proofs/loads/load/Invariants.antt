@@ -1,5 +1,5 @@
 use Rattle.jb_deck.specs.Opening.{recovered_home}
-use Rattle.jb_desk.specs.Origin.{own_on}
+use Rattle.jb_book.specs.Origin.{own_on}
 use Rattle.jb_load.specs.Settled.{IsOfQueue}
 use Rattle.jb_queue.specs.QueueLines.{handles_of}
 use Rattle.jb_memory_desk.proofs.loads.load.Given as goal

@@ -1,6 +1,6 @@
-use Rattle.std.proofs.Common.{rules}
+use Rattle.std.proofs.Common.{rules, refl, ◌≡◌, ◌∙◌}
 use Rattle.jb_handle.specs.Handle.{changes_of}
-use Rattle.jb_desk.proofs.Histories.{recorded-queue, recorded-number}
+use Rattle.jb_desk.proofs.Stopping.{same-handle, same-seat}
 use Rattle.jb_desk.proofs.counter.Counter.stop.Goals as goal
 
 pub returns-in-Ok-clause-ok : goal.returns-in-Ok-clause-ok
@@ -16,12 +16,27 @@ returns-in-Ok-clause-ok g c = record {
   touching = search rules;
 }
 
-pub invariant_of-self-clause-all_recorded : goal.invariant_of-self-clause-all_recorded
-invariant_of-self-clause-all_recorded g c =
-    recorded-number c.args.self.now.scribe c.record_last.new.scribe c.args.self.now.book c.enqueue.new.self c.seat.result.now.number (changes_of c.args.handle).words
-    c.in-Ok.ensures.ok (λ same. (c.record_last.ensures _ _ same).0) c.args.self.now.all_recorded
+pub returns-in-Err-default-Aborted-clause-refused : goal.returns-in-Err-default-Aborted-clause-refused
+returns-in-Err-default-Aborted-clause-refused g c = (
+  search rules,
+  same-seat c.with_seat-seat.result.0 _ refl refl refl refl c.in-Err-default-Aborted.ensures.err.1 ∙ c.with_seat-seat.ensures.old,
+  search rules,
+)
 
-pub invariant_of-self-clause-queue_recorded : goal.invariant_of-self-clause-queue_recorded
-invariant_of-self-clause-queue_recorded g c =
-    recorded-queue c.args.self.now.scribe c.record_last.new.scribe c.args.self.now.book c.enqueue.new.self c.seat.result.now.number (changes_of c.args.handle).words
-    c.in-Ok.ensures.ok (λ same. (c.record_last.ensures _ _ same).0) c.args.self.now.all_recorded c.args.self.now.queue_recorded
+pub returns-in-Err-default-NotOpen-clause-refused : goal.returns-in-Err-default-NotOpen-clause-refused
+returns-in-Err-default-NotOpen-clause-refused g c =
+    let changes : changes_of c.with_seat-handle.result.1 ≡ changes_of c.args.handle = search rules in (
+      search rules,
+      same-handle c.with_seat-handle.result.1 c.args.handle
+          (c.with_seat-handle.ensures.seat ∙ same-seat c.with_seat-seat.result.0 _ refl refl refl refl c.in-Err-default-NotOpen.ensures.err.1 ∙ c.with_seat-seat.ensures.old) changes,
+      search rules,
+    )
+
+pub returns-in-Err-default-Memory-clause-refused : goal.returns-in-Err-default-Memory-clause-refused
+returns-in-Err-default-Memory-clause-refused g c =
+    let changes : changes_of c.with_seat-handle-in-Err-default-Memory.result.1 ≡ changes_of c.args.handle = search rules in (
+      search rules,
+      same-handle c.with_seat-handle-in-Err-default-Memory.result.1 c.args.handle
+          (c.with_seat-handle-in-Err-default-Memory.ensures.seat ∙ same-seat c.with_seat-seat.result.0 _ refl refl refl refl c.in-Err-default-Memory.ensures.err.1 ∙ c.with_seat-seat.ensures.old) changes,
+      search rules,
+    )

@@ -1,5 +1,6 @@
-use Rattle.std.proofs.Common.{◌≡◌, sym, ◌∙◌, length, map, arith}
+use Rattle.std.proofs.Common.{◌≡◌, ap, sym, ◌∙◌, length, map, arith}
 use Rattle.jb_cost.specs.Pieces.{joined}
+use Rattle.jb_book.specs.Account.{Account}
 use Rattle.jb_desk.specs.Seats.{made_left}
 use Rattle.jb_desk.proofs.Histories.{all-stopped}
 use Rattle.jb_desk.proofs.counter.Counter.totals.Goals as goal
@@ -15,7 +16,8 @@ returns-clause-history g c =
     let many = c.merged-spare_handles.ensures.many in
     let none = self.no_handles in
     let counted = self.handles_counted in
-    let recorded = self.all_recorded in
-    let number : length c.merged-spare_handles.result.2 ≡ length self.scribe = omega (arith, next, many, none, counted, recorded) in
-    all-stopped self.scribe c.audit-3.new.scribe c.merged-spare_handles.result.2 (joined (map made_left c.args.lefts.items)) c.next-stops.result c.audit-3.ensures.kept c.merged-spare_handles.ensures.made
-    (self.all_recorded ∙ sym c.next-stops.ensures.value) c.audit-3.ensures.stands (c.audit-3.ensures.whole number)
+    let scribe = c.end-trail.result.1 in
+    let recorded = c.end-trail.ensures.counted in
+    let number : length c.merged-spare_handles.result.2 ≡ length scribe = omega (arith, next, many, none, counted, recorded) in
+    all-stopped scribe c.audit-3.new.scribe c.merged-spare_handles.result.2 (joined (map made_left c.args.lefts.items)) c.next-stops.result c.audit-3.ensures.kept c.merged-spare_handles.ensures.made
+    (recorded ∙ sym (c.next-stops.ensures.value ∙ ap (λ (a : Account). a.shadow.next) c.book.ensures.value)) c.audit-3.ensures.stands (c.audit-3.ensures.whole number)

@@ -1,5 +1,0 @@
-//! Tests of batches and their plans.
-#![tactic(auto)]
-
-#[cfg(test)]
-mod batches;

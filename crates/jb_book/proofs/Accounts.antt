@@ -1,0 +1,285 @@
+-- Each call leaves the account sound.
+use Rattle.std.proofs.Common.{◌≡◌, ℕ, ◌+◌, ◌-◌, ◌^◌, ◌<◌, ◌≤◌, ◌||◌, Bool, true, false, nat_lt, nat_le, List, [], ◌∷◌, ◌++◌, length, drop, sum, None, is_some, sym, refl, ap, subst, ◌∙◌, IfSome, arith}
+use Rattle.std.proofs.lemmas.Bool.{or_parts}
+use Rattle.std.proofs.lemmas.Bool.Decides.{nat_tests}
+use Rattle.std.proofs.lemmas.List.{length-append, length-drop, drop-append-le, drop-drop}
+use Rattle.std.proofs.lemmas.List.Elements.{All-nil, All-push, All-drop}
+use Rattle.std.proofs.lemmas.List.Sums.{sum_by-append, sum_by-take-drop}
+use Rattle.std.proofs.lemmas.Map.Views.{All-values-insert_entry, All-map-remove_entry, IfSome-lookup_from_All}
+use Rattle.std.proofs.Math.ListN.{drop_of_length-le}
+use Rattle.std.proofs.Math.Seq.{drop-nil}
+use Rattle.std.specs.List.{sum_by}
+use Rattle.std.specs.Option.{unwrap_or}
+use Rattle.std.specs.Ordering.{nat_cmp}
+use Rattle.std.specs.BTreeMap.{is_at}
+use Rattle.std.specs.FinMap as map
+use Rattle.jb_handle.specs.declared.stopped.Stopped.{Stopped}
+use Rattle.jb_handle.specs.Held.{Fits}
+use Rattle.jb_handle.specs.Size.{IsWithinSize}
+use Rattle.jb_handle.specs.Word.{WordMap}
+use Rattle.jb_handle.proofs.Tickets.{tickets-append}
+use Rattle.jb_cost.specs.Credits.{Covers}
+use Rattle.jb_cost.proofs.Granted.{covers-append, covers-weight}
+use Rattle.jb_core.proofs.Accepted.{found-none, first-false, still-up}
+use Rattle.jb_core.proofs.Entries.{sum-insert, length-insert_entry, length-remove_entry}
+use Rattle.jb_deck.specs.declared.done.Entry.{Entry}
+use Rattle.jb_deck.specs.Done.{Follow, start_of}
+use Rattle.jb_book.specs.declared.fault.BeginFault.TheVariants.{Aborted, Closed, Busy, TooManyCredits, Full}
+use Rattle.jb_book.specs.Account.{Account, IsSound, granted_to, dropped_of, queued, taken_all, settled_to, failed_of, is_full, refusal, IsOpenFor, CanTake, Settles}
+use Rattle.jb_book.specs.Shadow.{credits_at, reserved}
+use Rattle.jb_book.proofs.Follows.{follow-length, follow-on}
+use Rattle.jb_book.proofs.SeatCredits.{length-less, sum-gone, sum-less}
+
+-- ---- the calls
+
+-- what the five tests of a new handle let pass
+pub passed : (a : Account) (seat credits : ℕ) → refusal a seat credits ≡ None
+    → (a.aborted ≡ false) × (a.shut ≡ false) × (credits_at a.shadow seat ≡ None) × (credits ≤ a.most) × (reserved a.shadow + credits ≤ a.usable) × (a.shadow.next + length a.shadow.seats < 2 ^ 61) × (a.granted + credits ≤ 2 ^ 61)
+passed a seat credits none =
+    let one = first-false a.aborted Aborted _ none in
+    let two = first-false a.shut Closed _ one.1 in
+    let three = first-false (is_some (credits_at a.shadow seat)) Busy _ two.1 in
+    let four = first-false (nat_lt a.most credits) (TooManyCredits a.most) _ three.1 in
+    let five = first-false (is_full a credits) (Full (reserved a.shadow)) [] four.1 in
+    let full = or_parts (nat_lt a.usable (reserved a.shadow + credits) || nat_le (2 ^ 61) (a.shadow.next + length a.shadow.seats)) (nat_lt (2 ^ 61) (a.granted + credits)) five.0 in
+    let both = or_parts (nat_lt a.usable (reserved a.shadow + credits)) (nat_le (2 ^ 61) (a.shadow.next + length a.shadow.seats)) full.0 in
+    let few : nat_lt a.most credits ≡ false = four.0 in
+    let room : nat_lt a.usable (reserved a.shadow + credits) ≡ false = both.0 in
+    let left : nat_le (2 ^ 61) (a.shadow.next + length a.shadow.seats) ≡ false = both.1 in
+    let grants : nat_lt (2 ^ 61) (a.granted + credits) ≡ false = full.1 in
+    (one.0, two.0, found-none (credits_at a.shadow seat) three.0, grind (arith, nat_tests), grind (arith, nat_tests), grind (arith, nat_tests), grind (arith, nat_tests))
+
+module _ (a : Account) (sound : IsSound a) where
+  pub begun-sound : (seat credits : ℕ) → refusal a seat credits ≡ None → IsSound (granted_to seat credits a)
+  begun-sound seat credits none =
+      let (running, open_yet, free, few, room, left, grants) = passed a seat credits none in
+      let more = sum-insert (λ (x : ℕ). x) a.shadow.seats seat credits free in
+      let longer = length-insert_entry a.shadow.seats seat credits in
+      let changed = sound.changed in
+      record {
+        most = sound.most;
+        order = sound.order;
+        within = sound.within;
+        running = λ is. let line = sound.running is in record { tickets = line.tickets; queued = line.queued; paired = line.paired; covered = line.covered };
+        failed = λ is. let over = sound.failed is in record { queue = over.queue; credits = over.credits; taken = over.taken };
+        seats_few = All-values-insert_entry nat_cmp seat credits (λ c. c ≤ a.most) a.shadow.seats sound.seats_few few;
+        few = sound.few;
+        fits = sound.fits;
+        room = omega (arith, more, room);
+        small = sound.small;
+        tickets = omega (arith, longer, left);
+        changed = omega (arith, more, changed);
+        granted = grants;
+        counted = sound.counted;
+        trail = sound.trail;
+      }
+
+  pub dropped-sound : (seat : ℕ) → IsSound (dropped_of seat a)
+  dropped-sound seat =
+      let less = sum-less a.shadow.seats seat in
+      let shorter = length-less (is_at (nat_cmp seat)) a.shadow.seats in
+      let room = sound.room in
+      let tickets = sound.tickets in
+      let changed = sound.changed in
+      record {
+        most = sound.most;
+        order = sound.order;
+        within = sound.within;
+        running = λ is. let line = sound.running is in record { tickets = line.tickets; queued = line.queued; paired = line.paired; covered = line.covered };
+        failed = λ is. let over = sound.failed is in record { queue = over.queue; credits = over.credits; taken = over.taken };
+        seats_few = All-map-remove_entry (is_at (nat_cmp seat)) (λ (e : ℕ × ℕ). e.1) (λ c. c ≤ a.most) a.shadow.seats sound.seats_few;
+        few = sound.few;
+        fits = sound.fits;
+        room = omega arith;
+        small = sound.small;
+        tickets = omega arith;
+        changed = omega arith;
+        granted = sound.granted;
+        counted = sound.counted;
+        trail = sound.trail;
+      }
+
+  pub queued-sound : (seat credits : ℕ) (words : WordMap) → a.aborted ≡ false → IsOpenFor a seat words credits → IsSound (queued seat words a)
+  queued-sound seat credits words running is =
+      let s = a.shadow in
+      let stop : Stopped = record { ticket = a.shadow.next; words = words } in
+      let line = sound.running running in
+      let gone = sum-gone a.shadow.seats seat credits is.listed in
+      let shorter = length-remove_entry (is_at (nat_cmp seat)) a.shadow.seats credits is.listed in
+      let granted : unwrap_or (credits_at a.shadow seat) 0 ≡ credits = ap (λ found. unwrap_or found 0) is.listed in
+      let few : credits ≤ a.most = subst (λ found. IfSome found (λ c. c ≤ a.most)) is.listed (IfSome-lookup_from_All (λ c. c ≤ a.most) (is_at (nat_cmp seat)) a.shadow.seats sound.seats_few) in
+      let queue = length-append a.shadow.queue (stop ∷ []) in
+      let all = length-append a.shadow.credits (unwrap_or (credits_at a.shadow seat) 0 ∷ []) in
+      let sums = sum_by-append (λ (x : ℕ). x) a.shadow.credits (unwrap_or (credits_at a.shadow seat) 0 ∷ []) in
+      let one : sum (unwrap_or (credits_at a.shadow seat) 0 ∷ []) ≡ unwrap_or (credits_at a.shadow seat) 0 = omega arith in
+      let touches = sum_by-append (λ (h : Stopped). map.len h.words) a.shadow.queue (stop ∷ []) in
+      let single : sum_by (λ (h : Stopped). map.len h.words) (stop ∷ []) ≡ map.len words = omega arith in
+      let queued_up = line.queued in
+      let paired = line.paired in
+      let order = sound.order in
+      let within = sound.within in
+      let room = sound.room in
+      let tickets = sound.tickets in
+      let changed = sound.changed in
+      let touched = is.within in
+      let counted = sound.counted in
+      record {
+        most = sound.most;
+        order = sound.order;
+        within = omega arith;
+        running = λ _. record {
+          tickets = tickets-append a.shadow.taken a.shadow.queue (stop ∷ []) line.tickets (sym line.queued, tt);
+          queued = omega arith;
+          paired = omega arith;
+          covered = subst (λ cs. Covers cs (a.shadow.queue ++ stop ∷ [])) (sym (drop-append-le (a.shadow.taken - a.shadow.settled) a.shadow.credits (unwrap_or (credits_at a.shadow seat) 0 ∷ []) (omega arith)))
+              (covers-append (drop (a.shadow.taken - a.shadow.settled) a.shadow.credits) (unwrap_or (credits_at a.shadow seat) 0 ∷ []) a.shadow.queue (stop ∷ []) line.covered (omega (arith, granted, touched), tt));
+        };
+        failed = still-up-not a.aborted running;
+        seats_few = All-map-remove_entry (is_at (nat_cmp seat)) (λ (e : ℕ × ℕ). e.1) (λ c. c ≤ a.most) a.shadow.seats sound.seats_few;
+        few = All-push (λ c. c ≤ a.most) a.shadow.credits (unwrap_or (credits_at a.shadow seat) 0) sound.few (omega (arith, granted, few));
+        fits = All-push (λ h. Fits a.shape h.words) a.shadow.queue stop sound.fits is.fits;
+        room = omega (arith, gone, sums, one, granted, room);
+        small = sound.small;
+        tickets = omega (arith, shorter, tickets);
+        changed = omega (arith, gone, touched, changed);
+        granted = sound.granted;
+        counted = omega (arith, touches, single, counted);
+        trail = sound.trail;
+      }
+    where
+      still-up-not : {A : Type 0} (b : Bool) → b ≡ false → b ≡ true → A
+      still-up-not b lacks held = still-up b held lacks
+
+  pub taken-sound : CanTake a → IsSound (taken_all a)
+  taken-sound can =
+      let line = sound.running can.running in
+      let queued_up = line.queued in
+      let paired = line.paired in
+      let free = can.free in
+      let order = sound.order in
+      let none : drop (a.shadow.taken + length a.shadow.queue - a.shadow.settled) a.shadow.credits ≡ [] = drop_of_length-le a.shadow.credits (omega arith) in
+      record {
+        most = sound.most;
+        order = omega arith;
+        within = omega arith;
+        running = λ _. record { tickets = tt; queued = omega arith; paired = line.paired; covered = subst (λ cs. Covers cs []) (sym none) tt };
+        failed = λ is. still-up a.aborted is can.running;
+        seats_few = sound.seats_few;
+        few = sound.few;
+        fits = All-nil (λ h. Fits a.shape h.words);
+        room = sound.room;
+        small = sound.small;
+        tickets = sound.tickets;
+        changed = sound.changed;
+        granted = sound.granted;
+        counted = omega arith;
+        trail = sound.trail;
+      }
+
+  pub settled-sound : (past : ℕ) (entries : List Entry) → Settles a past entries → IsSound (settled_to past entries a)
+  settled-sound past entries is =
+      let up = follow-length a.shadow.settled _ past entries is.follow in
+      let inside = is.within in
+      let order = sound.order in
+      let within = sound.within in
+      let n = past - a.shadow.settled in
+      let there : past ≡ a.shadow.settled + (past - a.shadow.settled) = omega arith in
+      let room = sound.room in
+      let parts = sum_by-take-drop (λ (x : ℕ). x) a.shadow.credits (past - a.shadow.settled) in
+      record {
+        most = sound.most;
+        order = omega arith;
+        within = sound.within;
+        running = λ run.
+            let line = sound.running run in
+            let paired = line.paired in
+            let fewer = length-drop (past - a.shadow.settled) a.shadow.credits in
+            let queued_up = line.queued in
+            record {
+              tickets = line.tickets;
+              queued = line.queued;
+              paired = omega arith;
+              covered = subst (λ cs. Covers cs a.shadow.queue) (ap (λ k. drop k a.shadow.credits) (let same : a.shadow.taken - a.shadow.settled ≡ (past - a.shadow.settled) + (a.shadow.taken - (a.shadow.settled + (past - a.shadow.settled))) = omega arith in same)
+                  ∙ sym (drop-drop (a.shadow.taken - (a.shadow.settled + (past - a.shadow.settled))) (past - a.shadow.settled) a.shadow.credits)) line.covered;
+            };
+        failed = λ fell.
+            let over = sound.failed fell in
+            let same = over.taken in
+            record {
+              queue = over.queue;
+              credits = ap (drop (past - a.shadow.settled)) over.credits ∙ drop-nil (past - a.shadow.settled);
+              taken = omega arith;
+            };
+        seats_few = sound.seats_few;
+        few = All-drop (λ c. c ≤ a.most) (past - a.shadow.settled) a.shadow.credits sound.few;
+        fits = sound.fits;
+        room = omega arith;
+        small = sound.small;
+        tickets = sound.tickets;
+        changed = sound.changed;
+        granted = sound.granted;
+        counted = sound.counted;
+        trail = subst (λ p. Follow (start_of (a.trail ++ entries)) 0 p (a.trail ++ entries)) there (follow-on a.shadow.settled past a.trail entries sound.trail is.follow);
+      }
+
+  -- the account with what is settled so
+  pub settled-is : (past : ℕ) (entries : List Entry) (credits : List ℕ) (trail : List Entry) → a.shadow.settled ≤ past → credits ≡ drop (past - a.shadow.settled) a.shadow.credits → trail ≡ a.trail ++ entries
+      → record a { shadow = record a.shadow { settled = past; credits = credits }; trail = trail } ≡ settled_to past entries a
+  settled-is past entries credits trail up left more =
+      let upto : past ≡ a.shadow.settled + (past - a.shadow.settled) = omega arith in
+      λ i. record a { shadow = record a.shadow { settled = upto i; credits = left i }; trail = more i }
+
+  pub failed-sound : IsSound (failed_of a)
+  failed-sound =
+      let order = sound.order in
+      let within = sound.within in
+      let room = sound.room in
+      record {
+        most = sound.most;
+        order = omega arith;
+        within = omega arith;
+        running = λ is. still-up true refl is;
+        failed = λ _. record { queue = refl; credits = refl; taken = refl };
+        seats_few = sound.seats_few;
+        few = All-nil (λ c. c ≤ a.most);
+        fits = All-nil (λ h. Fits a.shape h.words);
+        room = omega arith;
+        small = sound.small;
+        tickets = sound.tickets;
+        changed = sound.changed;
+        granted = sound.granted;
+        counted = omega arith;
+        trail = sound.trail;
+      }
+
+  pub shut-sound : IsSound (record a { shut = true })
+  shut-sound = record {
+    most = sound.most;
+    order = sound.order;
+    within = sound.within;
+    running = sound.running;
+    failed = sound.failed;
+    seats_few = sound.seats_few;
+    few = sound.few;
+    fits = sound.fits;
+    room = sound.room;
+    small = sound.small;
+    tickets = sound.tickets;
+    changed = sound.changed;
+    granted = sound.granted;
+    counted = sound.counted;
+    trail = sound.trail;
+  }
+
+  -- the planner takes any queue of a book
+  pub queue-size : a.aborted ≡ false → IsWithinSize a.shadow.queue
+  queue-size running =
+      let line = sound.running running in
+      let k = a.shadow.taken - a.shadow.settled in
+      let all = covers-weight (drop (a.shadow.taken - a.shadow.settled) a.shadow.credits) a.shadow.queue line.covered in
+      let parts = sum_by-take-drop (λ (x : ℕ). x) a.shadow.credits (a.shadow.taken - a.shadow.settled) in
+      let queued_up = line.queued in
+      let room = sound.room in
+      let small = sound.small in
+      let tickets = sound.tickets in
+      omega arith

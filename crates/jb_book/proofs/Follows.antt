@@ -1,0 +1,109 @@
+-- Entries one after the other.
+use Rattle.std.proofs.Common.{◌≡◌, ℕ, zero, suc, ◌+◌, ◌<◌, ◌≤◌, ◌==◌, ◌&&◌, List, [], ◌∷◌, ◌++◌, length, drop, get_or, subst, sym, ap, refl, inl, inr, ◌∙◌, arith}
+use Rattle.std.proofs.Math.ListN.{drop_of_length-le}
+use Rattle.std.proofs.Math.Seq.{drop-cons}
+use Rattle.std.proofs.lemmas.Bool.Decides.{Decides-and, Decides-eqb}
+use Rattle.std.specs.Bool.{Decides}
+use Rattle.std.specs.List.Sorted.{IsNonDecreasingBy}
+use Rattle.jb_deck.specs.declared.done.Entry.{Entry}
+use Rattle.jb_deck.specs.Done.{Follow, least_after, past_after, start_of}
+use Rattle.jb_book.specs.Account.{IsSettledBy}
+
+pub follow-append : (first least mid past : ℕ) (es fs : List Entry) → Follow first least mid es → Follow mid (least_after least es) past fs → Follow first least past (es ++ fs)
+follow-append first least mid past [] fs one two = subst (λ f. Follow f least past fs) (sym one) two
+follow-append first least mid past (e ∷ es) fs one two = (one.0, one.1, one.2, follow-append e.past (e.number + 1) mid past es fs one.3 two)
+
+-- further entries of a trail go on where it ends; where it is empty, it ends at 0
+pub follow-on : (mid past : ℕ) (es fs : List Entry) → Follow (start_of es) 0 mid es → Follow mid (least_after 0 es) past fs → Follow (start_of (es ++ fs)) 0 past (es ++ fs)
+follow-on mid past [] [] one two = one ∙ two
+follow-on mid past [] (f ∷ fs) one two = subst (λ n. Follow n 0 past (f ∷ fs)) (sym two.0) two
+follow-on mid past (e ∷ es) fs one two = follow-append e.first 0 mid past (e ∷ es) fs one two
+
+-- the tickets go up, at least one for each entry
+pub follow-length : (first least past : ℕ) (es : List Entry) → Follow first least past es → first + length es ≤ past
+follow-length first least past [] is = omega (arith, is)
+follow-length first least past (e ∷ es) is = let rest = follow-length e.past (e.number + 1) past es is.3 in let more = is.1 in omega arith
+
+pub follow-past : (first least past : ℕ) (es : List Entry) → Follow first least past es → past_after first es ≡ past
+follow-past first least past [] is = is
+follow-past first least past (e ∷ es) is = follow-past e.past (e.number + 1) past es is.3
+
+pub least-append : (least : ℕ) (es fs : List Entry) → least_after least (es ++ fs) ≡ least_after (least_after least es) fs
+least-append least [] fs = λ i. least_after least fs
+least-append least (e ∷ es) fs = least-append (e.number + 1) es fs
+
+-- ---- the entry at a place
+
+module _ (es : List Entry) (i : ℕ) (e : Entry) (there : i < length es) (is : e ≡ get_or es i e) where
+  rest-is : drop i es ≡ e ∷ drop (i + 1) es
+  rest-is = drop-cons es i e there ∙ ap (λ x. x ∷ drop (suc i) es) (sym is) ∙ ap (λ k. e ∷ drop k es) (let same : suc i ≡ i + 1 = omega arith in same)
+
+  pub at-entry : (first least past : ℕ) → Follow first least past (drop i es) → (e.first ≡ first) × (first < e.past) × (least ≤ e.number) × Follow e.past (e.number + 1) past (drop (i + 1) es)
+  at-entry first least past on = subst (Follow first least past) rest-is on
+
+  pub from-entry : (first least past : ℕ) → e.first ≡ first → first < e.past → least ≤ e.number → Follow e.past (e.number + 1) past (drop (i + 1) es) → Follow first least past (drop i es)
+  from-entry first least past begins more low on = subst (Follow first least past) (sym rest-is) (begins, more, low, on)
+
+  pub least-entry : (least : ℕ) → least_after least (drop i es) ≡ least_after (e.number + 1) (drop (i + 1) es)
+  least-entry least = ap (least_after least) rest-is
+
+pub at-end : (first least past : ℕ) (es : List Entry) (i : ℕ) → length es ≤ i → Follow first least past (drop i es) → first ≡ past
+at-end first least past es i over on = subst (Follow first least past) (drop_of_length-le es over) on
+
+pub from-end : (first least : ℕ) (es : List Entry) (i : ℕ) → length es ≤ i → Follow first least first (drop i es)
+from-end first least es i over = subst (Follow first least first) (sym (drop_of_length-le es over)) refl
+
+pub least-end : (least : ℕ) (es : List Entry) (i : ℕ) → length es ≤ i → least_after least (drop i es) ≡ least
+least-end least es i over = ap (least_after least) (drop_of_length-le es over)
+
+-- ---- the group of a ticket
+
+-- a ticket of the first entry or of a later one ends no later than its own entry does
+later-past : (first least past : ℕ) (es : List Entry) (j : ℕ) (d : Entry) → Follow first least past es → j < length es → first ≤ (get_or es j d).past
+later-past first least past [] j d is there = absurd (omega (arith, there))
+later-past first least past (e ∷ es) zero d is there = let more = is.1 in omega (arith, more)
+later-past first least past (e ∷ es) (suc j) d is there =
+    let more = is.1 in
+    let rest = later-past e.past (e.number + 1) past es j d is.3 (omega (arith, there)) in
+    omega (arith, more, rest)
+
+-- the ends of entries that tile the tickets go up
+pub pasts-rise : (first least past : ℕ) (es : List Entry) → Follow first least past es → IsNonDecreasingBy (λ (e : Entry). e.past) es
+pasts-rise first least past [] is i j d order there = absurd (omega (arith, there))
+pasts-rise first least past (e ∷ es) is zero zero d order there = omega arith
+pasts-rise first least past (e ∷ es) is zero (suc j) d order there = later-past e.past (e.number + 1) past es j d is.3 (omega (arith, there))
+pasts-rise first least past (e ∷ es) is (suc i) zero d order there = absurd (omega (arith, order))
+pasts-rise first least past (e ∷ es) is (suc i) (suc j) d order there = pasts-rise e.past (e.number + 1) past es is.3 i j d (omega (arith, order)) (omega (arith, there))
+
+-- the first entry that ends after a ticket has it
+pub settled-at : (first least past ticket : ℕ) (es : List Entry) (i : ℕ) (d : Entry)
+    → Follow first least past es → first ≤ ticket → i < length es
+    → ((k : ℕ) → k < i → (get_or es k d).past ≤ ticket) → ticket < (get_or es i d).past
+    → IsSettledBy es ticket (get_or es i d).number × (ticket < past)
+settled-at first least past ticket [] i d is low there before here = absurd (omega (arith, there))
+settled-at first least past ticket (e ∷ es) zero d is low there before here =
+    let rest = follow-length e.past (e.number + 1) past es is.3 in
+    let begins = is.0 in
+    (inl (omega (arith, begins, low), here, refl), omega (arith, rest, here))
+settled-at first least past ticket (e ∷ es) (suc i) d is low there before here =
+    let later = settled-at e.past (e.number + 1) past ticket es i d is.3 (before 0 (omega arith)) (omega (arith, there)) (λ k h. before (suc k) (omega (arith, h))) here in
+    (inr later.0, later.1)
+
+-- where no entry ends after a ticket, it is not settled
+pub none-at : (first least past ticket : ℕ) (es : List Entry) (d : Entry) → Follow first least past es → first ≤ ticket → ((k : ℕ) → k < length es → (get_or es k d).past ≤ ticket) → past ≤ ticket
+none-at first least past ticket [] d is low all = omega (arith, is, low)
+none-at first least past ticket (e ∷ es) d is low all = none-at e.past (e.number + 1) past ticket es d is.3 (all 0 (omega arith)) (λ k h. all (suc k) (omega (arith, h)))
+
+-- ---- two entries
+
+entry-of : (a b : Entry) → (a.first ≡ b.first) × ((a.past ≡ b.past) × ((a.number ≡ b.number) × (a.blocks ≡ b.blocks))) → a ≡ b
+entry-of a b is = λ i. record { first = is.0 i; past = is.1.0 i; number = is.1.1.0 i; blocks = is.1.1.1 i }
+
+parts-of : (a b : Entry) → a ≡ b → (a.first ≡ b.first) × ((a.past ≡ b.past) × ((a.number ≡ b.number) × (a.blocks ≡ b.blocks)))
+parts-of a b is = (ap (λ (e : Entry). e.first) is, (ap (λ (e : Entry). e.past) is, (ap (λ (e : Entry). e.number) is, ap (λ (e : Entry). e.blocks) is)))
+
+pub entry-Decides : (a b : Entry) → Decides ((a.first == b.first) && ((a.past == b.past) && ((a.number == b.number) && (a.blocks == b.blocks)))) (a ≡ b)
+entry-Decides a b =
+    let last = Decides-and (a.number == b.number) (a.blocks == b.blocks) (Decides-eqb a.number b.number) (Decides-eqb a.blocks b.blocks) in
+    let all = Decides-and (a.first == b.first) ((a.past == b.past) && ((a.number == b.number) && (a.blocks == b.blocks))) (Decides-eqb a.first b.first) (Decides-and (a.past == b.past) ((a.number == b.number) && (a.blocks == b.blocks)) (Decides-eqb a.past b.past) last) in
+    (λ test. entry-of a b (all.0 test), λ is. all.1 (parts-of a b is))

@@ -1,0 +1,360 @@
+-- Each call of a book keeps that there are calls which led to it.
+use Rattle.std.proofs.Common.{◌≡◌, ℕ, zero, suc, ◌+◌, ◌-◌, ◌<◌, ◌≤◌, Bool, true, false, List, [], ◌∷◌, ◌++◌, All, map, length, take, drop, Some, None, Ok, Err, slice_get, get_or, Option, IfSome, IfNone, Result, OnOk, OnErr, sym, refl, ap, ◌∙◌, subst, arith, append_assoc, append-nil, nat_le, cond}
+use Rattle.std.proofs.lemmas.List.{length-append, map-append}
+use Rattle.std.proofs.lemmas.List.Elements.{All-cons, All-nil, All-drop, All-push, All-weaker}
+use Rattle.jb_batch.specs.Batch.{Gathered, gathered}
+use Rattle.jb_batch.specs.Costs.{cost_in, HasCut}
+use Rattle.jb_cost.specs.Cut.{RisesTo, IsCut, FitsCut, IsLeastCut, total}
+use Rattle.jb_cost.specs.Pieces.{joined, pieces}
+use Rattle.jb_core.specs.Line.{count}
+use Rattle.jb_core.proofs.Accepted.{none-left, still-up}
+use Rattle.jb_deck.specs.declared.done.Entry.{Entry}
+use Rattle.jb_deck.specs.Done.{Follow, least_after, past_after, first_of, entries_of}
+use Rattle.jb_deck.specs.declared.done.Done.{Done}
+use Rattle.jb_history.specs.Rule.{IsFirstPart}
+use Rattle.jb_handle.specs.declared.shape.Shape.{Shape}
+use Rattle.jb_handle.specs.declared.stopped.Stopped.{Stopped}
+use Rattle.jb_handle.specs.Tickets.{TicketsFrom}
+use Rattle.jb_handle.specs.Word.{WordMap}
+use Rattle.jb_cost.specs.Credits.{IsMost}
+use Rattle.jb_batch.specs.Costs.{geometry_of}
+use Rattle.jb_history.proofs.Placed.{get_last, placed_on}
+use Rattle.jb_book.specs.Account.{Account, IsStart, IsSound, IsOpenFor, granted_to, dropped_of, queued, taken_all, settled_to, failed_of, shortened, trail_from, refusal, CanStop, CanTake, Settles}
+use Rattle.jb_book.specs.Calls.{Call, Opened, Enqueued, Dropped, Took, TookNone, Settled, Failed, Shut, stops_of, out_of, AreOfFirst, IsCutOf, Called}
+use Rattle.jb_book.specs.declared.fault.BeginFault.{BeginFault}
+use Rattle.jb_book.specs.declared.fault.WrongBatch.{WrongBatch}
+use Rattle.jb_book.specs.Led.{IsInHistory, AreOut, IsRestOf, with_trail, words_stopped, Led, AreCut, HasOut, IsLed}
+use Rattle.jb_cost.proofs.Joined.{cut-joined}
+use Rattle.jb_book.specs.Tied.{HasHandle}
+use Rattle.jb_book.proofs.Shadows.{count-parts}
+use Rattle.jb_book.proofs.Least.{has_least}
+use Rattle.jb_book.proofs.Limits.{first-few, none-filled, filled-pieces}
+use Rattle.jb_book.proofs.Follows.{follow-length, follow-past}
+
+-- ---- handles of one history
+
+-- one more handle stops, at the end of the history
+pub recorded-more : (log : List WordMap) (queue : List Stopped) (ticket : ℕ) (words : WordMap) → All (IsInHistory log) queue → length log ≡ ticket
+    → All (IsInHistory (log ++ words ∷ [])) (queue ++ record { ticket = ticket; words = words } ∷ [])
+recorded-more log queue ticket words stand at =
+    let more = log ++ words ∷ [] in
+    All-push (IsInHistory more) queue (record { ticket = ticket; words = words })
+    (All-weaker (IsInHistory log) (IsInHistory more) (λ h is. placed_on log more (words ∷ [], refl) (h.ticket, h.words) is) queue stand)
+    (subst (λ k. IsInHistory more (record { ticket = k; words = words })) at (get_last log words))
+
+get-back : {E : Type 0} (xs ys : List E) (k : ℕ) (e : E) → k < length xs → slice_get (xs ++ ys) k ≡ Some e → slice_get xs k ≡ Some e
+get-back [] ys k e lt at = absurd (let h : ⊥ = omega (arith, lt) in h)
+get-back (x ∷ xs) ys zero e lt at = at
+get-back (x ∷ xs) ys (suc k) e lt at = get-back xs ys k e (omega (arith, lt)) at
+
+first-of-all : (P : Stopped → Type 0) (h : Stopped) (hs : List Stopped) → All P (h ∷ hs) → P h
+first-of-all P h hs each = each 0 h (omega arith)
+
+rest-of-all : (P : Stopped → Type 0) (h : Stopped) (hs : List Stopped) → All P (h ∷ hs) → All P hs
+rest-of-all P h hs each = λ k d lt. each (suc k) d (omega (arith, lt))
+
+-- handles whose tickets are below the history's end stand in it before the next one stops
+recorded-back : (log more : List WordMap) (n : ℕ) (hs : List Stopped) → TicketsFrom n hs → n + length hs ≤ length log → All (IsInHistory (log ++ more)) hs → All (IsInHistory log) hs
+recorded-back log more n [] tickets few each = All-nil (IsInHistory log)
+recorded-back log more n (h ∷ hs) tickets few each =
+    let at = tickets.0 in
+    All-cons (IsInHistory log) h hs (get-back log more h.ticket h.words (omega (arith, at, few)) (first-of-all (IsInHistory (log ++ more)) h hs each))
+    (recorded-back log more (n + 1) hs tickets.1 (omega (arith, few)) (rest-of-all (IsInHistory (log ++ more)) h hs each))
+
+-- as many handles of one history from one ticket on are the same
+same-out : (log : List WordMap) (n : ℕ) (xs ys : List Stopped) → TicketsFrom n xs → TicketsFrom n ys → All (IsInHistory log) xs → All (IsInHistory log) ys → length xs ≡ length ys → xs ≡ ys
+same-out log n [] [] tx ty ax ay long = refl
+same-out log n [] (y ∷ ys) tx ty ax ay long = absurd (let h : ⊥ = omega (arith, long) in h)
+same-out log n (x ∷ xs) [] tx ty ax ay long = absurd (let h : ⊥ = omega (arith, long) in h)
+same-out log n (x ∷ xs) (y ∷ ys) tx ty ax ay long =
+    let at : x.ticket ≡ y.ticket = tx.0 ∙ sym ty.0 in
+    let both : Some x.words ≡ Some y.words = sym (first-of-all (IsInHistory log) x xs ax) ∙ ap (slice_get log) at ∙ first-of-all (IsInHistory log) y ys ay in
+    let words : x.words ≡ y.words = cc in
+    let heads : x ≡ y = (λ i. record { ticket = at i; words = words i }) in
+    let tails = same-out log (n + 1) xs ys tx.1 ty.1 (rest-of-all (IsInHistory log) x xs ax) (rest-of-all (IsInHistory log) y ys ay) (omega (arith, long)) in
+    (λ i. heads i ∷ tails i)
+
+-- ---- cuts of nothing
+
+none-rise : (bs : List ℕ) → RisesTo 0 0 bs → bs ≡ []
+none-rise [] is = refl
+none-rise (b ∷ bs) is = absurd (none b bs is.0 is.1)
+  where
+    none : (b : ℕ) (bs : List ℕ) → 0 < b → RisesTo 0 b bs → ⊥
+    none b [] more is = omega (arith, more, is)
+    none b (c ∷ bs) more is = let up = is.0 in none c bs (omega (arith, more, up)) is.1
+
+none-pieces : (hs : List Stopped) (cut : List ℕ) → length hs ≡ 0 → IsCut (length hs) cut → pieces cut hs ≡ []
+none-pieces (h ∷ hs) cut none is = absurd (let h : ⊥ = omega (arith, none) in h)
+none-pieces [] [] none is = absurd is
+none-pieces [] (a ∷ bs) none is = ap (λ cs. pieces (a ∷ cs) []) (none-rise bs (subst (λ k. RisesTo 0 k bs) is.0 is.1))
+
+no-cut : (shape : Shape) (settled : ℕ) → IsCutOf (gathered settled [] shape) (0 ∷ [])
+no-cut shape settled = record {
+  fitting = record { cut = (refl, refl); fits = tt };
+  least = λ other fits. omega arith;
+}
+
+none-are : (log : List WordMap) (a : Account) → a.shadow.settled ≡ a.shadow.taken → AreCut log a [] (0 ∷ [])
+none-are log a free = (record { tickets = tt; recorded = All-nil (IsInHistory log); number = (let h : a.shadow.settled + 0 ≡ a.shadow.taken = omega (arith, free) in h) }, no-cut a.shape a.shadow.settled)
+
+none-out : (log : List WordMap) (a : Account) → a.shadow.settled ≡ a.shadow.taken → HasOut log a
+none-out log a free = record { handles = []; cut = 0 ∷ []; are = none-are log a free }
+
+-- ---- trails
+
+least-rest : (least : ℕ) (front : List Entry) (e : Entry) (left : List Entry) → least_after least (front ++ e ∷ left) ≡ least_after 0 (e ∷ left)
+least-rest least [] e left = refl
+least-rest least (f ∷ front) e left = least-rest (f.number + 1) front e left
+
+least-same : (left full : List Entry) → IsRestOf left full → least_after 0 left ≡ least_after 0 full
+least-same [] full rest = ap (least_after 0) (sym (rest.last refl))
+least-same (e ∷ left) full rest = sym (least-rest 0 rest.front e left) ∙ ap (least_after 0) rest.is
+
+both-none : (xs ys : List Entry) → xs ++ ys ≡ [] → (xs ≡ []) × (ys ≡ [])
+both-none [] ys none = (refl, none)
+both-none (x ∷ xs) ys none = absurd (let h : ⊥ = cc in h)
+
+rest-more : (left full es : List Entry) → IsRestOf left full → IsRestOf (left ++ es) (full ++ es)
+rest-more left full es rest = record {
+  front = rest.front;
+  is = sym (append_assoc rest.front left es) ∙ ap (λ l. l ++ es) rest.is;
+  last = λ none. let both = both-none left es none in ap (λ l. l ++ es) (rest.last both.0) ∙ both.1;
+}
+
+rest-from : (past : ℕ) (left : List Entry) → IsRestOf (trail_from past left) left
+rest-from past [] = record { front = []; is = refl; last = λ none. refl }
+rest-from past (e ∷ []) = record { front = []; is = refl; last = λ none. none }
+rest-from past (e ∷ f ∷ es) = at (nat_le e.past past) (rest-from past (f ∷ es))
+  where
+    at : (b : Bool) → IsRestOf (trail_from past (f ∷ es)) (f ∷ es) → IsRestOf (cond b (trail_from past (f ∷ es)) (e ∷ f ∷ es)) (e ∷ f ∷ es)
+    at true rest = record { front = e ∷ rest.front; is = ap (λ l. e ∷ l) rest.is; last = λ none. absurd (let is = rest.last none in let h : ⊥ = cc in h) }
+    at false rest = record { front = []; is = refl; last = λ none. none }
+
+rest-of-rest : (less left full : List Entry) → IsRestOf less left → IsRestOf left full → IsRestOf less full
+rest-of-rest less left full one two = record {
+  front = two.front ++ one.front;
+  is = append_assoc two.front one.front less ∙ ap (λ l. two.front ++ l) one.is ∙ two.is;
+  last = λ none. two.last (one.last none);
+}
+
+-- ---- the start
+
+pub led_start : (shape : Shape) (usable : ℕ) (a : Account) → IsStart shape usable a → IsLed [] a
+led_start shape usable a start =
+    let settled : a.shadow.settled ≡ 0 = ap (λ s. s.settled) start.shadow in
+    let taken : a.shadow.taken ≡ 0 = ap (λ s. s.taken) start.shadow in
+    record {
+      some = λ up. none-out [] a (settled ∙ sym taken);
+      led = λ hs cut p. (
+          let are = p start.aborted in
+          let number = are.0.number in
+          record {
+            calls = [];
+            full = a.trail;
+            left = record { front = []; is = refl; last = λ none. none };
+            called = record {
+              shadow = start.shadow;
+              same_shape = refl;
+              same_usable = refl;
+              most = subst (λ (s : Shape). IsMost (geometry_of s) s.limit a.most) (sym start.same_shape) start.most;
+              granted = start.granted;
+              changes = start.changes;
+              trail = start.trail;
+              shut = start.shut;
+              aborted = start.aborted;
+            };
+            stops = refl;
+            out = λ up. sym (none-pieces hs cut (omega (arith, number, settled, taken)) are.1.fitting.cut);
+          });
+    }
+
+-- ---- the calls
+
+module _ (log : List WordMap) (a : Account) (is : IsLed log a) where
+  pub led-opened : (seat credits : ℕ) → refusal a seat credits ≡ None → IsLed log (granted_to seat credits a)
+  led-opened seat credits none = record {
+    some = λ up. let s = is.some up in record { handles = s.handles; cut = s.cut; are = s.are };
+    led = λ hs cut p. (let l = is.led hs cut p in record {
+      calls = Opened seat credits (Ok tt) ∷ l.calls;
+      full = l.full;
+      left = l.left;
+      called = (with_trail l.full a, l.called, (none, refl));
+      stops = l.stops;
+      out = l.out;
+    });
+  }
+
+  pub led-dropped : (seat : ℕ) → IsLed log (dropped_of seat a)
+  led-dropped seat = record {
+    some = λ up. let s = is.some up in record { handles = s.handles; cut = s.cut; are = s.are };
+    led = λ hs cut p. (let l = is.led hs cut p in record {
+      calls = Dropped seat ∷ l.calls;
+      full = l.full;
+      left = l.left;
+      called = (with_trail l.full a, l.called, refl);
+      stops = l.stops;
+      out = l.out;
+    });
+  }
+
+  pub led-shut : IsLed log (record a { shut = true })
+  led-shut = record {
+    some = λ up. let s = is.some up in record { handles = s.handles; cut = s.cut; are = s.are };
+    led = λ hs cut p. (let l = is.led hs cut p in record {
+      calls = Shut ∷ l.calls;
+      full = l.full;
+      left = l.left;
+      called = (with_trail l.full a, l.called, refl);
+      stops = l.stops;
+      out = l.out;
+    });
+  }
+
+  -- entries are taken from the front of the trail
+  pub led-shortened : (past : ℕ) → IsLed log (shortened past a)
+  led-shortened past = record {
+    some = λ up. let s = is.some up in record { handles = s.handles; cut = s.cut; are = s.are };
+    led = λ hs cut p. (let l = is.led hs cut p in record {
+      calls = l.calls;
+      full = l.full;
+      left = rest-of-rest (trail_from past a.trail) a.trail l.full (rest-from past a.trail) l.left;
+      called = l.called;
+      stops = l.stops;
+      out = l.out;
+    });
+  }
+
+  -- some calls led here, whatever is out
+  pub any-led : (b : Bool) → a.aborted ≡ b → (hs : List Stopped) × (cut : List ℕ) × Led log a hs cut
+  any-led true fell = ([], 0 ∷ [], is.led [] (0 ∷ []) (λ up. still-up a.aborted fell up))
+  any-led false up = let s = is.some up in (s.handles, s.cut, is.led s.handles s.cut (λ _. s.are))
+
+  pub led-failed : IsLed log (failed_of a)
+  led-failed = record {
+    some = λ up. still-up true refl up;
+    led = λ hs cut p. (let any = any-led a.aborted refl in let l = any.2 in record {
+      calls = Failed ∷ l.calls;
+      full = l.full;
+      left = l.left;
+      called = (with_trail l.full a, l.called, refl);
+      stops = l.stops;
+      out = λ up. still-up true refl up;
+    });
+  }
+
+  pub led-stopped : IsSound a → (seat : ℕ) (ws : WordMap) → CanStop a seat ws → length log ≡ a.shadow.next → IsLed (log ++ ws ∷ []) (queued seat ws a)
+  led-stopped sound seat ws can long =
+      let within = sound.within in
+      record {
+        some = λ up. (let s = is.some up in record {
+          handles = s.handles;
+          cut = s.cut;
+          are = (
+            record {
+              tickets = s.are.0.tickets;
+              recorded = All-weaker (IsInHistory log) (IsInHistory (log ++ ws ∷ [])) (λ h at. placed_on log (log ++ ws ∷ []) (ws ∷ [], refl) (h.ticket, h.words) at) s.handles s.are.0.recorded;
+              number = s.are.0.number;
+            },
+            s.are.1,
+          );
+        });
+        led = λ hs cut p. (
+            let before : a.aborted ≡ false → AreCut log a hs cut = λ up. (
+            let are = p up in
+            let number = are.0.number in (
+              record { tickets = are.0.tickets; recorded = recorded-back log (ws ∷ []) a.shadow.settled hs are.0.tickets (omega (arith, number, within, long)) are.0.recorded; number = number },
+              are.1,
+            )) in
+            let l = is.led hs cut before in
+            record {
+              calls = Enqueued seat ws (Ok a.shadow.next) ∷ l.calls;
+              full = l.full;
+              left = l.left;
+              called = (with_trail l.full a, l.called, ((can.0, (can.1.0, record { listed = can.1.1.listed; within = can.1.1.within; fits = can.1.1.fits })), refl, refl));
+              stops = map-append (λ (h : Stopped). h.words) (stops_of l.calls) (record { ticket = a.shadow.next; words = ws } ∷ []) ∙ ap (λ xs. xs ++ ws ∷ []) l.stops;
+              out = l.out;
+            });
+      }
+
+  pub led-taken : IsSound a → CanTake a → All (IsInHistory log) a.shadow.queue → HasCut a.shape a.shadow.queue → IsLed log (taken_all a)
+  led-taken sound can recorded cuts =
+      let free = can.free in
+      let tickets : TicketsFrom a.shadow.settled a.shadow.queue = subst (λ n. TicketsFrom n a.shadow.queue) free (sound.running can.running).tickets in
+      let least = has_least (gathered a.shadow.settled a.shadow.queue a.shape) cuts in
+      record {
+        some = λ up. record {
+          handles = a.shadow.queue;
+          cut = least.0;
+          are = (record { tickets = tickets; recorded = recorded; number = (let h : a.shadow.settled + length a.shadow.queue ≡ a.shadow.taken + length a.shadow.queue = omega (arith, free) in h) }, least.1);
+        };
+        led = λ hs cut p. (
+            let are = p can.running in
+            let number = are.0.number in
+            let same : hs ≡ a.shadow.queue = same-out log a.shadow.settled hs a.shadow.queue are.0.tickets tickets are.0.recorded recorded (omega (arith, number, free)) in
+            let l = is.led [] (0 ∷ []) (λ _. none-are log a (sym free)) in
+            record {
+              calls = Took (gathered a.shadow.taken a.shadow.queue a.shape) cut ∷ l.calls;
+              full = l.full;
+              left = l.left;
+              called = (with_trail l.full a, l.called, (record { running = can.running; free = can.free; some = can.some }, refl, subst (λ q. IsCutOf (gathered a.shadow.taken q a.shape) cut) same are.1, refl));
+              stops = l.stops;
+              out = λ up. ap (pieces cut) (sym same);
+            });
+      }
+
+  -- what a batch has become, for a book that runs: groups of the batch that is out
+  module _ (hs : List Stopped) (cut : List ℕ) (past : ℕ) (entries : List Entry) (settles : Settles a past entries) (are : AreCut log a hs cut) (first : AreOfFirst (pieces cut hs) entries) where
+    settles-whole : (l : Led log a hs cut) → Settles (with_trail l.full a) past entries
+    settles-whole l = record { follow = subst (λ n. Follow a.shadow.settled n past entries) (least-same a.trail l.full l.left) settles.follow; within = settles.within }
+
+    of-out : IsSound a → (b : Bool) → a.aborted ≡ b → (l : Led log a hs cut) → AreOfFirst (out_of l.calls) entries
+    of-out sound false up l = subst (λ gs. AreOfFirst gs entries) (sym (l.out up)) first
+    of-out sound true fell l =
+        let gone = (sound.failed fell).taken in
+        let long = follow-length a.shadow.settled _ past entries settles.follow in
+        let within = settles.within in
+        subst (λ es. AreOfFirst (out_of l.calls) es) (sym (none-left entries (omega (arith, gone, long, within)))) tt
+
+    -- no handle is out once all of them are settled
+    none-rest : past ≡ a.shadow.taken → (hs' : List Stopped) (cut' : List ℕ) → AreCut log (settled_to past entries a) hs' cut' → drop (length entries) (pieces cut hs) ≡ pieces cut' hs'
+    none-rest whole hs' cut' are' =
+        let both = first-few a.shadow.settled _ past (pieces cut hs) entries settles.follow first in
+        let upto = both.1 in
+        let long = follow-length a.shadow.settled _ past entries settles.follow in
+        let number = are.0.number in
+        let number' = are'.0.number in
+        let none : length hs' ≡ 0 = omega (arith, number', whole, long) in
+        let filled = All-drop HasHandle (length entries) (pieces cut hs) (filled-pieces hs cut are.1.fitting.cut) in
+        let all = count-parts (length entries) (pieces cut hs) in
+        let total : length (joined (pieces cut hs)) ≡ length hs = ap length (cut-joined cut hs are.1.fitting.cut) in
+        none-filled (drop (length entries) (pieces cut hs)) filled (omega (arith, all, total, upto, number, whole)) ∙ sym (none-pieces hs' cut' none are'.1.fitting.cut)
+
+    pub led-settled : IsSound a → past ≡ a.shadow.taken → IsLed log (settled_to past entries a)
+    led-settled sound whole =
+        let long = follow-length a.shadow.settled _ past entries settles.follow in
+        record {
+          some = λ _. none-out log (settled_to past entries a) (let h : a.shadow.settled + (past - a.shadow.settled) ≡ a.shadow.taken = omega (arith, long, whole) in h);
+          led = λ hs' cut' p. (let l = is.led hs cut (λ _. are) in record {
+            calls = Settled entries (Ok tt) ∷ l.calls;
+            full = l.full ++ entries;
+            left = rest-more a.trail l.full entries l.left;
+            called = (with_trail l.full a, l.called, ((past, settles-whole l, refl), of-out sound a.aborted refl l));
+            stops = l.stops;
+            out = λ run. ap (drop (length entries)) (l.out run) ∙ none-rest whole hs' cut' (p run);
+          });
+        }
+
+    -- settled in part, and failed under the same lock
+    pub led-settled-last : IsSound a → IsLed log (failed_of (settled_to past entries a))
+    led-settled-last sound = record {
+      some = λ up. still-up true refl up;
+      led = λ hs' cut' p. (let l = is.led hs cut (λ _. are) in record {
+        calls = Failed ∷ Settled entries (Ok tt) ∷ l.calls;
+        full = l.full ++ entries;
+        left = rest-more a.trail l.full entries l.left;
+        called = (with_trail (l.full ++ entries) (settled_to past entries a), (with_trail l.full a, l.called, ((past, settles-whole l, refl), of-out sound a.aborted refl l)), refl);
+        stops = l.stops;
+        out = λ up. still-up true refl up;
+      });
+    }

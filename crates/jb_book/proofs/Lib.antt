@@ -1,0 +1,16 @@
+pub mod Accounts
+pub mod Callings
+pub mod Cuts
+pub mod Follows
+pub mod Fronts
+pub mod Grouped
+pub mod Keeping
+pub mod Least
+pub mod Leds
+pub mod Limits
+pub mod Registers
+pub mod SeatCredits
+pub mod Shadows
+pub mod Telling
+pub mod Ties
+pub mod Touching

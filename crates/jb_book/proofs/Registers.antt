@@ -1,0 +1,181 @@
+-- A book beside the history of its stops: each call keeps what is known of the two.
+use Rattle.std.proofs.Common.{◌≡◌, ◌↔◌, IsTrue, ℕ, ◌+◌, List, [], ◌∷◌, ◌++◌, All, map, length, Some, None, Ok, Err, IfSome, IfNone, Option, Result, OnOk, OnErr, sym, refl, ap, ◌∙◌, subst, arith, true, false, Bool, cond}
+use Rattle.std.proofs.lemmas.List.{length-append}
+use Rattle.std.proofs.lemmas.List.Elements.{All-nil, All-weaker}
+use Rattle.std.specs.Global.{Vec}
+use Rattle.jb_batch.specs.Batch.{Gathered}
+use Rattle.jb_batch.specs.Costs.{cost_in, HasCut}
+use Rattle.jb_cost.specs.Cut.{IsLeastCut}
+use Rattle.jb_core.proofs.Accepted.{still-up}
+use Rattle.jb_core.specs.Lives.{handles_of, stop_order}
+use Rattle.jb_deck.specs.declared.done.Done.{Done}
+use Rattle.jb_deck.specs.declared.done.Entry.{Entry}
+use Rattle.jb_deck.specs.Done.{Follow, past_after, first_of, entries_of}
+use Rattle.jb_handle.specs.declared.shape.Shape.{Shape}
+use Rattle.jb_handle.specs.declared.stopped.Stopped.{Stopped}
+use Rattle.jb_handle.specs.Tickets.{TicketsFrom}
+use Rattle.jb_handle.specs.Word.{WordMap}
+use Rattle.jb_history.proofs.Placed.{placed_on}
+use Rattle.jb_history.specs.Rule.{IsFirstPart}
+use Rattle.jb_book.specs.Account.{Account, IsStart, IsSound, granted_to, dropped_of, queued, taken_all, settled_to, failed_of, shortened, refusal, CanStop, CanTake, Settles}
+use Rattle.jb_book.specs.Calls.{handles_in}
+use Rattle.jb_book.specs.declared.fault.BeginFault.{BeginFault}
+use Rattle.jb_book.specs.declared.fault.WrongBatch.{WrongBatch}
+use Rattle.jb_book.specs.Led.{AreCut, FailsAfter, IsInHistory, IsLed, IsOfBegun, IsOutAs, IsRegistered, IsMachineRun, IsSettling, SettlesOrFails, words_stopped, with_trail}
+use Rattle.jb_book.specs.Origin.{Begun}
+use Rattle.jb_book.specs.Tied.{EveryRun}
+use Rattle.jb_book.proofs.Callings.{every_run}
+use Rattle.jb_book.proofs.Follows.{follow-past}
+use Rattle.jb_book.proofs.Leds.{any-led, led-dropped, led-failed, led-opened, led-settled, led-settled-last, led-shortened, led-shut, led-stopped, led-taken, led_start, recorded-more}
+
+-- ---- which groups are settled
+
+-- entries from the first ticket that is not settled end where the last of them does
+pub ends-at : (first settled least past end : ℕ) (es : List Entry) → Follow settled least past es → first ≡ settled → past_after first es ≡ end → past ≡ end
+ends-at first settled least past end es is at last = sym (follow-past settled least past es is) ∙ ap (λ n. past_after n es) (sym at) ∙ last
+
+module _ (a b : Account) (end : ℕ) (shape : Shape) (done : Done) where
+  pub settles-out : IsOutAs a (first_of done) end shape → past_after (first_of done) (entries_of done) ≡ end → (past : ℕ) × Settles a past (entries_of done) × (b ≡ settled_to past (entries_of done) a) → SettlesOrFails end shape done a (Ok tt) b
+  settles-out out last (past, settles, is) =
+      let whole = ends-at (first_of done) a.shadow.settled _ past end (entries_of done) settles.follow out.first_is last in
+      (out, subst (λ n. Settles a n (entries_of done)) whole settles, is ∙ ap (λ n. settled_to n (entries_of done) a) whole)
+
+  -- groups that settle all of the batch end where it does
+  pub ends-whole : IsOutAs a (first_of done) end shape → Settles a end (entries_of done) → past_after (first_of done) (entries_of done) ≡ end
+  ends-whole out settles = ap (λ n. past_after n (entries_of done)) out.first_is ∙ follow-past a.shadow.settled _ end (entries_of done) settles.follow
+
+  -- where it is not this one, or not whole, the book fails
+  pub none-whole : (wrong : WrongBatch) (whole : Bool) → (IsTrue whole ↔ (IsOutAs a (first_of done) end shape × (past_after (first_of done) (entries_of done) ≡ end))) → whole ≡ false → b ≡ failed_of a → SettlesOrFails end shape done a (Err wrong) b
+  none-whole wrong true is not fell = absurd (let h : ⊥ = cc in h)
+  none-whole wrong false is not fell = (λ out settles. (let no : IsTrue false = is.1 (out, ends-whole out settles) in let h : ⊥ = cc in h), fell)
+
+module _ (a middle b : Account) (end : ℕ) (shape : Shape) (done : Done) (out : IsOutAs a (first_of done) end shape) where
+  pub fails-after : (r : Result (Unit {0}) WrongBatch) → OnOk r ((past : ℕ) × Settles a past (entries_of done) × (middle ≡ settled_to past (entries_of done) a)) → OnErr r ((past : ℕ) → Settles a past (entries_of done) → ⊥) → OnErr r (middle ≡ a) → b ≡ failed_of middle → FailsAfter end shape done a r b
+  fails-after (Ok unit) ok wrong err fell = (out, (ok.0, ok.1, fell ∙ ap failed_of ok.2))
+  fails-after (Err fault) ok wrong err fell = (λ _. wrong, fell ∙ ap failed_of err)
+
+-- ---- what is known of a book that ends
+
+-- the calls that led to a book are a run of the machine (the Vec is any: an event has its bounds in one)
+pub ends-run : Vec Entry → (a : Account) (log : List WordMap) → IsSound a → IsLed log a → IsMachineRun a.shape log a.trail
+ends-run any a log sound is =
+    let some = any-led log a is a.aborted refl in
+    let l = some.2 in
+    let all = every_run any a.shape a.usable l.calls (with_trail l.full a) sound.small l.called in
+    let run = all.1.2 in
+    record {
+      events = all.1.0;
+      machine = all.1.1;
+      ran = run.tied.ran;
+      accepted = run.tied.accepted;
+      one_life = run.tied.one_life;
+      stops = ap words_stopped run.stops ∙ l.stops;
+      full = l.full;
+      left = l.left;
+      settled = run.settled ∙ all.0.trail ∙ ap (λ hs. map (handles_in hs) l.full) (sym run.stops);
+    }
+
+-- ---- what is known of the two
+
+module _ (s : Begun) where
+  abbrev Kept : Account × List WordMap → Type 0
+  Kept x = IsRegistered s x.0 x.1
+
+  pub kept-new : (shape : Shape) (usable : ℕ) (a : Account) (log : List WordMap) → IsOfBegun s shape → IsStart shape usable a → log ≡ [] → IsRegistered s a log
+  kept-new shape usable a log journal start none = subst (IsRegistered s a) (sym none) (record {
+    journal = subst (IsOfBegun s) (sym start.same_shape) journal;
+    counted = sym (ap (λ x. x.next) start.shadow);
+    queued = subst (All (IsInHistory [])) (sym (ap (λ x. x.queue) start.shadow)) (All-nil (IsInHistory []));
+    led = led_start shape usable a start;
+  })
+
+  pub kept-stopped : (a b : Account) (log more : List WordMap) (seat : ℕ) (ws : WordMap) → IsSound a → IsRegistered s a log → CanStop a seat ws → b ≡ queued seat ws a
+      → (b.shadow.queue ≡ a.shadow.queue ++ record { ticket = a.shadow.next; words = ws } ∷ [] → more ≡ log ++ ws ∷ []) → IsRegistered s b more
+  kept-stopped a b log more seat ws sound kept can is adds =
+      let same : more ≡ log ++ ws ∷ [] = adds (ap (λ (c : Account). c.shadow.queue) is) in
+      let long = length-append log (ws ∷ []) in
+      let counted = kept.counted in
+      subst Kept (λ i. (sym is i, sym same i)) (record {
+        journal = kept.journal;
+        counted = (let h : length (log ++ ws ∷ []) ≡ a.shadow.next + 1 = omega (arith, long, counted) in h);
+        queued = recorded-more log a.shadow.queue a.shadow.next ws kept.queued counted;
+        led = led-stopped log a kept.led sound seat ws can counted;
+      })
+
+  kept-taken : (a b : Account) (log more : List WordMap) → IsSound a → IsRegistered s a log → CanTake a → HasCut a.shape a.shadow.queue → b ≡ taken_all a → more ≡ log → IsRegistered s b more
+  kept-taken a b log more sound kept can cuts is same =
+      subst Kept (λ i. (sym is i, sym same i)) (record {
+        journal = kept.journal;
+        counted = kept.counted;
+        queued = All-nil (IsInHistory log);
+        led = led-taken log a kept.led sound can kept.queued cuts;
+      })
+
+  kept-led : (a b : Account) (log : List WordMap) → IsRegistered s a log → b.shape ≡ a.shape → b.shadow.next ≡ a.shadow.next → b.shadow.queue ≡ a.shadow.queue → IsLed log b → IsRegistered s b log
+  kept-led a b log kept shape next queue led = record {
+    journal = subst (IsOfBegun s) (sym shape) kept.journal;
+    counted = kept.counted ∙ sym next;
+    queued = subst (All (IsInHistory log)) (sym queue) kept.queued;
+    led = led;
+  }
+
+  kept-failed : (a : Account) (log : List WordMap) → IsRegistered s a log → IsRegistered s (failed_of a) log
+  kept-failed a log kept = record { journal = kept.journal; counted = kept.counted; queued = All-nil (IsInHistory log); led = led-failed log a kept.led }
+
+  pub failed-same : (a b : Account) (log more : List WordMap) → IsRegistered s a log → b ≡ failed_of a → more ≡ log → IsRegistered s b more
+  failed-same a b log more kept is same = subst Kept (λ i. (sym is i, sym same i)) (kept-failed a log kept)
+
+  pub kept-take : (r : Option Gathered) (a b : Account) (log more : List WordMap) → IsSound a → IsRegistered s a log → IfSome r (λ _. HasCut a.shape a.shadow.queue) → IfSome r (λ _. CanTake a × (b ≡ taken_all a)) → IfNone r ((CanTake a → ⊥) × (b ≡ a)) → more ≡ log
+      → IsRegistered s b more
+  kept-take (Some batch) a b log more sound kept cuts taken none same = kept-taken a b log more sound kept taken.0 cuts taken.1 same
+  kept-take None a b log more sound kept cuts taken none same = subst Kept (λ i. (sym none.1 i, sym same i)) kept
+
+  module _ (a : Account) (log sight : List WordMap) (end : ℕ) (shape : Shape) (done : Done) (is : IsSettling sight end shape done) (seen : IsFirstPart sight log) (out : IsOutAs a (first_of done) end shape) where
+    abbrev settling-cut : AreCut log a is.planned.batch.handles is.planned.groups
+    settling-cut =
+        let at : is.planned.batch.first ≡ a.shadow.settled = sym is.first ∙ out.first_is in
+        let last = is.past in
+        let whole = out.end_is in (
+          record {
+            tickets = subst (λ n. TicketsFrom n is.planned.batch.handles) at is.tickets;
+            recorded = All-weaker (IsInHistory sight) (IsInHistory log) (λ h there. placed_on sight log seen (h.ticket, h.words) there) is.planned.batch.handles is.recorded;
+            number = omega (arith, at, last, whole);
+          },
+          subst (λ (sh : Shape). IsLeastCut (cost_in sh is.planned.batch.handles) sh.limit (length is.planned.batch.handles) is.planned.groups) (is.shape_is ∙ sym out.shape_is) is.is.least,
+        )
+
+    pub kept-settled : IsSound a → IsRegistered s a log → (past : ℕ) → Settles a past (entries_of done) → past_after (first_of done) (entries_of done) ≡ end → (b : Account) (more : List WordMap) → b ≡ settled_to past (entries_of done) a → more ≡ log → IsRegistered s b more
+    kept-settled sound kept past settles last b more after grows =
+        let now = settled_to past (entries_of done) a in
+        let whole = ends-at (first_of done) a.shadow.settled _ past end (entries_of done) settles.follow out.first_is last in
+        subst Kept (λ i. (sym after i, sym grows i))
+        (kept-led a now log kept refl refl refl (led-settled log a kept.led is.planned.batch.handles is.planned.groups past (entries_of done) settles settling-cut is.tells sound (whole ∙ out.end_is)))
+
+    kept-settled-last : IsSound a → IsRegistered s a log → (past : ℕ) → Settles a past (entries_of done) → (b : Account) (more : List WordMap) → b ≡ failed_of (settled_to past (entries_of done) a) → more ≡ log → IsRegistered s b more
+    kept-settled-last sound kept past settles b more after grows =
+        subst Kept (λ i. (sym after i, sym grows i)) (record {
+          journal = kept.journal;
+          counted = kept.counted;
+          queued = All-nil (IsInHistory log);
+          led = led-settled-last log a kept.led is.planned.batch.handles is.planned.groups past (entries_of done) settles settling-cut is.tells sound;
+        })
+
+    pub kept-last : (middle b : Account) (more : List WordMap) (r : Result (Unit {0}) WrongBatch) → IsSound a → IsRegistered s a log → OnOk r ((past : ℕ) × Settles a past (entries_of done) × (middle ≡ settled_to past (entries_of done) a)) → OnErr r (middle ≡ a) → b ≡ failed_of middle → more ≡ log → IsRegistered s b more
+    kept-last middle b more (Ok unit) sound kept ok err fell grows = kept-settled-last sound kept ok.0 ok.1 b more (fell ∙ ap failed_of ok.2) grows
+    kept-last middle b more (Err wrong) sound kept ok err fell grows = failed-same a b log more kept (fell ∙ ap failed_of err) grows
+
+  -- ---- the other calls
+
+  module _ (a b : Account) (log : List WordMap) (kept : IsRegistered s a log) where
+    pub kept-open : (r : Result (Unit {0}) BeginFault) (seat credits : ℕ) → OnOk r (b ≡ granted_to seat credits a) → OnOk r (refusal a seat credits ≡ None) → OnErr r (b ≡ a) → IsRegistered s b log
+    kept-open (Ok unit) seat credits is none same = subst (λ (x : Account). IsRegistered s x log) (sym is) (kept-led a (granted_to seat credits a) log kept refl refl refl (led-opened log a kept.led seat credits none))
+    kept-open (Err fault) seat credits is none same = subst (λ (x : Account). IsRegistered s x log) (sym same) kept
+
+    pub kept-dropped : (seat : ℕ) → b ≡ dropped_of seat a → IsRegistered s b log
+    kept-dropped seat is = subst (λ (x : Account). IsRegistered s x log) (sym is) (kept-led a (dropped_of seat a) log kept refl refl refl (led-dropped log a kept.led seat))
+
+    pub kept-shut : b ≡ record a { shut = true } → IsRegistered s b log
+    kept-shut is = subst (λ (x : Account). IsRegistered s x log) (sym is) (kept-led a (record a { shut = true }) log kept refl refl refl (led-shut log a kept.led))
+
+    pub kept-short : (past : ℕ) → b ≡ shortened past a → IsRegistered s b log
+    kept-short past is = subst (λ (x : Account). IsRegistered s x log) (sym is) (kept-led a (shortened past a) log kept refl refl refl (led-shortened log a kept.led past))

@@ -1,0 +1,5 @@
+use Rattle.jb_book.proofs.Callings.{every_run}
+use Rattle.jb_book.proofs.laws.every_run.Goals as goal
+
+pub returns : goal.returns
+returns c = every_run

@@ -1,0 +1,5 @@
+use Rattle.jb_book.proofs.Registers.{kept-dropped}
+use Rattle.jb_book.proofs.register.Register.drop_open.Goals as goal
+
+pub invariant_of-self : goal.invariant_of-self
+invariant_of-self g c = kept-dropped g.S.Origin.begun c.self.inside.book c.drop_open.new.self c.self.inside.scribe c.self.invariant c.args.seat c.drop_open.ensures.value

@@ -1,0 +1,5 @@
+use Rattle.jb_book.proofs.Registers.{kept-short}
+use Rattle.jb_book.proofs.register.Register.drop_to.Goals as goal
+
+pub invariant_of-self : goal.invariant_of-self
+invariant_of-self g c = kept-short g.S.Origin.begun c.self.inside.book c.drop_to.new.self c.self.inside.scribe c.self.invariant c.args.past c.drop_to.ensures

@@ -1,0 +1,6 @@
+use Rattle.std.proofs.Common.{refl}
+use Rattle.jb_book.proofs.Registers.{failed-same}
+use Rattle.jb_book.proofs.register.Register.fail.Goals as goal
+
+pub invariant_of-self : goal.invariant_of-self
+invariant_of-self g c = failed-same g.S.Origin.begun c.self.inside.book c.fail.new.self c.self.inside.scribe c.self.inside.scribe c.self.invariant c.fail.ensures.value refl

@@ -1,0 +1,5 @@
+use Rattle.jb_book.proofs.Registers.{kept-new}
+use Rattle.jb_book.proofs.register.Register.new.Goals as goal
+
+pub invariant_of-result : goal.invariant_of-result
+invariant_of-result g c = kept-new g.S.Origin.begun c.args.shape c.args.usable c.new-book.result c.args.scribe c.requires.journal c.new-book.ensures c.requires.fresh

@@ -1,0 +1,5 @@
+use Rattle.jb_book.proofs.Registers.{kept-open}
+use Rattle.jb_book.proofs.register.Register.open.Goals as goal
+
+pub invariant_of-self : goal.invariant_of-self
+invariant_of-self g c = kept-open g.S.Origin.begun c.self.inside.book c.open.new.self c.self.inside.scribe c.self.invariant c.open.result c.args.seat c.args.credits c.open.ensures.ok c.open.ensures.granted c.open.ensures.err

@@ -1,0 +1,31 @@
+use Rattle.std.proofs.Common.{rules, ap, subst, ◌∙◌, ◌≡◌, false, Err, Ok}
+use Rattle.jb_book.specs.Account.{failed_of}
+use Rattle.jb_book.specs.Led.{Registered, SettlesOrFails}
+use Rattle.jb_book.proofs.Registers.{failed-same, kept-settled, none-whole, settles-out}
+use Rattle.jb_book.proofs.register.Register.settle.Goals as goal
+
+pub returns-then-not-is_whole-clause-settles : goal.returns-then-not-is_whole-clause-settles
+returns-then-not-is_whole-clause-settles g c =
+    let whole : c.is_whole.result ≡ false = search rules in
+    none-whole c.args.self.now.book _ c.args.end c.args.shape c.args.done.now _ c.is_whole.result (search rules) whole (search rules)
+
+pub returns-in-Ok-clause-settles : goal.returns-in-Ok-clause-settles
+returns-in-Ok-clause-settles g c =
+    let both = c.is_whole.ensures.0 (search rules) in
+    subst (λ (r : Registered). SettlesOrFails c.args.end c.args.shape c.args.done.now r.book (Ok tt) c.settle.new.self) c.self.view_is
+    (settles-out c.self.inside.book c.settle.new.self c.args.end c.args.shape c.args.done.now both.0 both.1 c.in-Ok.ensures.ok)
+
+pub invariant_of-self-then-not-is_whole : goal.invariant_of-self-then-not-is_whole
+invariant_of-self-then-not-is_whole g c =
+    failed-same g.S.Origin.begun c.self.inside.book c.fail.new.self c.self.inside.scribe c.look.new.scribe c.self.invariant c.fail.ensures.value c.look.ensures.kept.0
+
+pub invariant_of-self-in-Err : goal.invariant_of-self-in-Err
+invariant_of-self-in-Err g c =
+    failed-same g.S.Origin.begun c.self.inside.book c.fail-in-Err.new.self c.self.inside.scribe c.look.new.scribe c.self.invariant (c.fail-in-Err.ensures.value ∙ ap failed_of c.in-Err.ensures.err) c.look.ensures.kept.0
+
+pub invariant_of-self-in-Ok : goal.invariant_of-self-in-Ok
+invariant_of-self-in-Ok g c =
+    let (past, settles, after) = c.in-Ok.ensures.ok in
+    let both = c.is_whole.ensures.0 (search rules) in
+    kept-settled g.S.Origin.begun c.self.inside.book c.self.inside.scribe c.args.sight.now c.args.end c.args.shape c.args.done.now c.requires c.look.ensures.seen both.0
+    c.reserved-reserved.ensures.sound c.self.invariant past settles both.1 c.settle.new.self c.look.new.scribe after c.look.ensures.kept.0

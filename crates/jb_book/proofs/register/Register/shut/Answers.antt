@@ -1,0 +1,5 @@
+use Rattle.jb_book.proofs.Registers.{kept-shut}
+use Rattle.jb_book.proofs.register.Register.shut.Goals as goal
+
+pub invariant_of-self : goal.invariant_of-self
+invariant_of-self g c = kept-shut g.S.Origin.begun c.self.inside.book c.shut.new.self c.self.inside.scribe c.self.invariant c.shut.ensures.value

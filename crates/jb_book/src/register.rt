@@ -1,0 +1,281 @@
+//! The book beside the history of its stops.
+ghost use Rattle.std.specs.Prelude.{◌≡◌, ℕ, ◌^◌, ◌≤◌, ◌↔◌, All, [], ◌++◌, ◌∷◌, length, IsTrue, None, true};
+ghost use Rattle.std.specs.Prelude.{OnOk, OnErr, IfOk, IfErr, IfSome, IfNone};
+ghost use Rattle.jb_handle.specs.Handle.{holder, changes_of};
+ghost use Rattle.jb_batch.specs.Batch.{gathered};
+ghost use Rattle.jb_batch.specs.Costs.{HasCut};
+ghost use Rattle.jb_deck.specs.Done.{Follow, entries_of, first_of, past_after, start_of};
+ghost use Rattle.jb_history.specs.Rule.{IsFirstPart};
+
+use crate::book::Book;
+use crate::fault::{BeginFault, EnqueueFault, WrongBatch};
+use crate::follow::end_of;
+use crate::origin::Origin;
+use jb_deck::{Batch, Done, Entry};
+use jb_handle::{Handle, Shape, Words};
+use jb_history::{History, Made, Scribe, Sight};
+use std::alloc::Global;
+use std::marker::Model;
+
+/// The book, and the right to add to the history of stops. By whichever least cut the batch that is out will be
+/// committed, some calls of a new book led to it, and what stopped by these is the history.
+#[derive(Drop)]
+pub struct Register<S: Origin> {
+    book: Book<S>,
+    scribe: Scribe<Words, S>,
+}
+
+impl<S: Origin> Model for Register<S> {
+    ghost use Rattle.std.specs.Coded.{codes};
+    ghost use Rattle.jb_handle.specs.Word.{words_code};
+    ghost use Rattle.jb_book.specs.Led.{Registered, registered, IsRegistered};
+
+    ghost Value = { Registered };
+
+    ghost coded = { Prim.hlevel (codes, words_code) };
+
+    ghost view = { λ r. registered r.book r.scribe };
+
+    ghost invariant = { λ r. IsRegistered S.begun r.book r.scribe };
+}
+
+impl<S: Origin> Register<S> {
+    ghost use Rattle.jb_book.specs.Account.{IsStart, granted_to, dropped_of, queued, taken_all, shortened};
+    ghost use Rattle.jb_book.specs.Account.{failed_of, refusal, RefusesBegin, CanStop, RefusesStop, CanTake};
+    ghost use Rattle.jb_book.specs.Led.{IsInHistory, IsLed, IsSettling, IsOutAs, SettlesOrFails};
+    ghost use Rattle.jb_book.specs.Led.{FailsAfter, IsOfBegun, IsMachineRun};
+    ghost use Rattle.jb_book.specs.Origin.{AreStops};
+
+    /// A book in which nothing has happened yet, for a journal of this shape with so many usable log blocks, and a
+    /// history without an entry. Takes no memory.
+    pub fn new(alloc: Global, shape: Shape, usable: u64, scribe: Scribe<Words, S>) -> Register<S>
+        requires few { usable ≤ 2147483646 }
+        requires journal { IsOfBegun S.begun shape }
+        requires fresh { scribe ≡ [] }
+        ensures book { IsStart shape usable result.book }
+        ensures log { result.log ≡ [] }
+    {
+        let book = Book::new(alloc, shape, usable);
+        Register { book, scribe }
+    }
+
+    /// A seat begins a handle of so many credits.
+    ///
+    /// # Errors
+    ///
+    /// Those of [`Book::open`], and nothing has changed.
+    pub fn open(&mut self, seat: u64, credits: u32) -> Result<(), BeginFault>
+        ensures ok { OnOk result (self.new.book ≡ granted_to seat credits self.old.book) }
+        ensures granted { OnOk result (refusal self.old.book seat credits ≡ None) }
+        ensures err { OnErr result (self.new ≡ self.old) }
+        ensures refused { IfErr result (RefusesBegin self.old.book seat credits) }
+        ensures log { self.new.log ≡ self.old.log }
+    {
+        self.book.open(seat, credits)
+    }
+
+    /// A seat's open handle joins the queue, and its words the history, as made for this token. Gives the handle's seat
+    /// back, and the ticket.
+    ///
+    /// # Errors
+    ///
+    /// Those of [`Book::enqueue`], with the handle, and nothing has changed.
+    pub fn stop<T>(
+        &mut self,
+        history: &History<Words, S>,
+        made: &mut Made<Words, S>,
+        seat: u64,
+        handle: Handle<T>,
+    ) -> Result<(T, u64), (Handle<T>, EnqueueFault)>
+        requires { S.begun.stops (changes_of handle).words }
+        ensures ok { OnOk result (self.new.book ≡ queued seat (changes_of handle).words self.old.book) }
+        ensures open { OnOk result (CanStop self.old.book seat (changes_of handle).words) }
+        ensures given { IfOk result (λ given. (given.0 ≡ holder handle) × (given.1 ≡ self.old.book.shadow.next)) }
+        ensures few { IfOk result (λ given. given.1 ≤ 2 ^ 61) }
+        ensures log { OnOk result (self.new.log ≡ self.old.log ++ (changes_of handle).words ∷ []) }
+        ensures made { IfOk result (λ given. made.new ≡ made.old ++ (given.1, (changes_of handle).words) ∷ []) }
+        ensures err { OnErr result ((self.new ≡ self.old) × (made.new ≡ made.old)) }
+        ensures back { IfErr result (λ back. back.0 ≡ handle) }
+        ensures refused { IfErr result (λ back. RefusesStop self.old.book seat (changes_of handle).words back.1) }
+    {
+        // that the book is sound is known by looking at it
+        let _reserved = self.book.reserved();
+        match self.book.enqueue(seat, handle) {
+            Ok(given) => {
+                self.book.record_last(history, &mut self.scribe, made);
+                Ok(given)
+            }
+            Err(back) => Err(back),
+        }
+    }
+
+    /// Drops a seat's open handle with all of its changes. Does nothing where the seat has none.
+    pub fn drop_open(&mut self, seat: u64)
+        ensures book { self.new.book ≡ dropped_of seat self.old.book }
+        ensures log { self.new.log ≡ self.old.log }
+    {
+        self.book.drop_open(seat);
+    }
+
+    /// Takes the whole queue as a batch, with a sight that has its handles. `None` where nothing is queued, where a
+    /// batch is out, or where the book has failed.
+    pub fn take(&mut self, history: &History<Words, S>) -> Option<(Batch, Sight<Words, S>)>
+        ensures batch { IfSome result (λ taken. taken.0 ≡ gathered self.old.book.shadow.taken
+            self.old.book.shadow.queue self.old.book.shape) }
+        ensures cut { IfSome result (λ _. HasCut self.old.book.shape self.old.book.shadow.queue) }
+        ensures stops { IfSome result (λ taken. AreStops S.begun taken.0.handles) }
+        ensures taken { IfSome result (λ _. CanTake self.old.book × (self.new.book ≡ taken_all self.old.book)) }
+        ensures recorded { IfSome result (λ taken. All (IsInHistory taken.1) taken.0.handles) }
+        ensures none { IfNone result ((CanTake self.old.book → ⊥) × (self.new ≡ self.old)) }
+        ensures log { self.new.log ≡ self.old.log }
+    {
+        // that the book is sound is known by looking at it
+        let _reserved = self.book.reserved();
+        let sight = history.show(&mut self.scribe);
+        match self.book.take() {
+            Some(batch) => Some((batch, sight)),
+            None => None,
+        }
+    }
+
+    /// Settles the batch that is out, whole: a batch of this shape that ends at this ticket, and whose handles the
+    /// sight has. Of any other batch the book fails.
+    ///
+    /// # Errors
+    ///
+    /// `WrongBatch` where it is not the batch that is out, or not all of it is committed. The book has failed then.
+    pub fn settle(
+        &mut self,
+        history: &History<Words, S>,
+        sight: &mut Sight<Words, S>,
+        done: &Done,
+        end: u64,
+        shape: Shape,
+    ) -> Result<(), WrongBatch>
+        requires { IsSettling sight.old end shape done.now }
+        ensures settles { SettlesOrFails end shape done.now self.old.book result self.new.book }
+        ensures log { (self.new.log ≡ self.old.log) × (sight.new ≡ sight.old) }
+    {
+        // that the book is sound is known by looking at it
+        let _reserved = self.book.reserved();
+        look(history, &mut self.scribe, sight);
+        if !self.is_whole(done, end, shape) {
+            self.book.fail();
+            return Err(WrongBatch);
+        }
+        match self.book.settle(done) {
+            Ok(()) => Ok(()),
+            Err(wrong) => {
+                self.book.fail();
+                Err(wrong)
+            }
+        }
+    }
+
+    /// Settles what was committed of the batch that is out before the journal failed, and fails with it.
+    ///
+    /// # Errors
+    ///
+    /// `WrongBatch` where it is not the batch that is out. The book has failed without it then.
+    pub fn settle_last(
+        &mut self,
+        history: &History<Words, S>,
+        sight: &mut Sight<Words, S>,
+        done: &Done,
+        end: u64,
+        shape: Shape,
+    ) -> Result<(), WrongBatch>
+        requires { IsSettling sight.old end shape done.now }
+        ensures fails { FailsAfter end shape done.now self.old.book result self.new.book }
+        ensures log { (self.new.log ≡ self.old.log) × (sight.new ≡ sight.old) }
+    {
+        // that the book is sound is known by looking at it
+        let _reserved = self.book.reserved();
+        look(history, &mut self.scribe, sight);
+        if !self.is_out(done.first(), end, shape) {
+            self.book.fail();
+            return Err(WrongBatch);
+        }
+        let settled = self.book.settle(done);
+        self.book.fail();
+        settled
+    }
+
+    /// Whether the batch that is out has these tickets and this shape.
+    fn is_out(&self, first: u64, end: u64, shape: Shape) -> bool
+        ensures { IsTrue result ↔ IsOutAs self.now.book first end shape }
+    {
+        first == self.book.settled() && end == self.book.taken() && self.book.shape() == shape
+    }
+
+    /// Whether these are groups of the batch that is out, up to its end.
+    fn is_whole(&self, done: &Done, end: u64, shape: Shape) -> bool
+        ensures { IsTrue result ↔ (IsOutAs self.now.book (first_of done.now) end shape
+            × (past_after (first_of done.now) (entries_of done.now) ≡ end)) }
+    {
+        self.is_out(done.first(), end, shape) && end_of(done) == end
+    }
+
+    /// The journal has failed: the queue and the batch that is out are lost.
+    pub fn fail(&mut self)
+        ensures book { self.new.book ≡ failed_of self.old.book }
+        ensures log { self.new.log ≡ self.old.log }
+    {
+        self.book.fail();
+    }
+
+    /// From now on no handle is begun. Open handles may still stop.
+    pub fn shut(&mut self)
+        ensures book { self.new.book ≡ record self.old.book { shut = true } }
+        ensures log { self.new.log ≡ self.old.log }
+    {
+        self.book.shut();
+    }
+
+    /// Drops the entries at the front of the trail that end at this ticket or before it; the last entry stays.
+    pub fn drop_to(&mut self, past: u64)
+        ensures book { self.new.book ≡ shortened past self.old.book }
+        ensures log { self.new.log ≡ self.old.log }
+    {
+        self.book.drop_to(past);
+    }
+
+    /// The book.
+    pub fn book(&self) -> &Book<S>
+        ensures value { result.now ≡ self.now.book }
+        ensures led { IsLed self.now.log self.now.book }
+        ensures counted { length self.now.log ≡ self.now.book.shadow.next }
+    {
+        &self.book
+    }
+
+    /// Takes it apart, into the book's trail and the right to add to the history. The stops in the history and the
+    /// groups of the trail are those of events that the machine of handles accepts.
+    pub fn end(self) -> (Vec<Entry>, Scribe<Words, S>)
+        ensures parts { (result.0.items ≡ self.book.trail) × (result.1 ≡ self.log) }
+        ensures counted { length result.1 ≡ self.book.shadow.next }
+        ensures tiles { (past : ℕ) × Follow (start_of result.0.items) 0 past result.0.items
+            × (past ≤ self.book.shadow.next) }
+        ensures run { IsMachineRun self.book.shape self.log result.0.items }
+        ensures journal { IsOfBegun S.begun self.book.shape }
+    {
+        // that the book is sound is known by looking at it
+        let _reserved = self.book.reserved();
+        let Register { book, scribe } = self;
+        (book.into_trail(), scribe)
+    }
+}
+
+/// Looks at the history, which has all that a sight of it has.
+fn look<S: Origin>(
+    history: &History<Words, S>,
+    scribe: &mut Scribe<Words, S>,
+    sight: &mut Sight<Words, S>,
+)
+    ensures seen { IsFirstPart sight.old scribe.old }
+    ensures kept { (scribe.new ≡ scribe.old) × (sight.new ≡ sight.old) }
+{
+    let mut seen = history.show(scribe);
+    history.learn(&mut seen, sight);
+    history.check(scribe, seen);
+}

@@ -1,5 +1,0 @@
-//! Tests of the machine.
-#![tactic(auto)]
-
-#[cfg(test)]
-mod runs;

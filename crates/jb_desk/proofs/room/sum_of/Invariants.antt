@@ -1,5 +1,0 @@
-use Rattle.std.proofs.Common.{◌≡◌, take, sum}
-use Rattle.jb_desk.proofs.room.sum_of.Given as goal
-
-abbrev pub invariant-loop-number : goal.invariant-loop-number
-invariant-loop-number l = l.total ≡ sum (take l.number-index l.numbers)

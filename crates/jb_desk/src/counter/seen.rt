@@ -1,0 +1,29 @@
+//! What a look at a book has seen.
+ghost use Rattle.std.specs.Prelude.{◌≡◌, ◌≤◌};
+
+use crate::counter::Counter;
+use jb_book::Origin;
+use std::sync::ledger::Ledger;
+
+/// How many tickets of a book were taken, and how many settled. Only a look at the book under its lock gives one.
+#[derive(Clone, Copy)]
+pub(crate) struct Seen {
+    taken: u64,
+    settled: u64,
+}
+
+impl<H: Origin, N: Ledger> Counter<H, N> {
+    /// How far the book has come.
+    pub fn seen(&self) -> Seen
+        ensures counts { (result.taken ≡ self.now.register.book.shadow.taken)
+            × (result.settled ≡ self.now.register.book.shadow.settled) }
+        ensures ordered { result.settled ≤ result.taken }
+    {
+        // that the book is sound is known by looking at it
+        let _reserved = self.register.book().reserved();
+        Seen {
+            taken: self.register.book().taken(),
+            settled: self.register.book().settled(),
+        }
+    }
+}

@@ -1,5 +1,0 @@
-//! Tests of the disks.
-#![tactic(auto)]
-
-#[cfg(test)]
-mod disks;

@@ -1,0 +1,4 @@
+pub mod Blocks
+pub mod Words
+pub mod Lists
+pub mod Disks

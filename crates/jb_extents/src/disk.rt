@@ -1,0 +1,144 @@
+ghost use Rattle.std.specs.Prelude.{◌≡◌, ◌<◌, [], IfSome, IsErr, is_ok};
+ghost use Rattle.jb_disk.specs.Faults.{CountsFault, CountsOne, counted};
+ghost use Rattle.jb_extents.specs.Disks.{ExtentsCalled, at_block, spread_count};
+
+use crate::extents::Extents;
+use jb_block::BlockSize;
+use jb_disk::{Disk, Fault};
+
+/// A journal and the file system that it stands in, as one disk: first the blocks of the journal, where the extents
+/// have them, and after them all blocks of the image by their own numbers.
+///
+/// A home block that is one of the journal's own is neither read nor written: such a call is a fault. So no block of
+/// the image is two blocks of this disk.
+#[derive(Drop)]
+pub struct ExtentsDisk<D: Disk> {
+    disk: D,
+    extents: Extents,
+    journal: u64,
+    failed: u64,
+}
+
+impl<D: Disk> ExtentsDisk<D> {
+    ghost use Rattle.jb_extents.specs.Disks.{extents_of, refused_calls, journal_blocks, own_in, whole_disk};
+    ghost use Rattle.std.specs.Prelude.{◌≡◌};
+
+    /// The disk that an image is, with a journal of so many blocks in these extents.
+    pub fn of(disk: D, extents: Extents, journal: u64) -> ExtentsDisk<D>
+        ensures disk { whole_disk result ≡ disk }
+        ensures extents { extents_of result ≡ extents }
+        ensures journal { journal_blocks result ≡ journal }
+        ensures fresh { refused_calls result ≡ 0 }
+    {
+        ExtentsDisk {
+            disk,
+            extents,
+            journal,
+            failed: 0,
+        }
+    }
+
+    /// The image.
+    pub fn into_inner(self) -> D
+        ensures { result ≡ whole_disk self }
+    {
+        self.disk
+    }
+
+    /// The first of these home blocks that is one of the journal's own.
+    pub fn first_own(&self, homes: &[u64]) -> Option<u64>
+        ensures { result ≡ own_in (extents_of self.now) homes.now }
+    {
+        for home in homes {
+            if self.extents.holds(*home) {
+                return Some(*home);
+            }
+        }
+        None
+    }
+}
+
+/// What each read or write of a block and each sync does to the image is said by `own`.
+impl<D: Disk> Disk for ExtentsDisk<D> {
+    ghost size = { λ d. D.size d.disk };
+
+    ghost count = { λ d. spread_count d.journal (D.count d.disk) };
+
+    ghost faults = { λ d. counted (D.faults d.disk) d.failed };
+
+    ghost honest = { λ _. ⊥ };
+
+    ghost newest = { λ _. [] };
+
+    ghost may_leave = { λ _ _. ⊥ };
+
+    ghost moment = { λ _. 0 };
+
+    ghost left_since = { λ _ _ _. ⊥ };
+
+    ghost own = { λ call old new ok. ExtentsCalled D.count D.faults D.own call old new ok };
+
+    ghost has_size = { λ d. D.has_size d.disk };
+
+    ghost newest_may_stay = { λ _ honest. absurd honest };
+
+    ghost has_shape = { λ _ _ honest _. absurd honest };
+
+    ghost has_shape_since = { λ _ _ _ honest _. absurd honest };
+
+    ghost counts_now = { λ _ _ _ honest _ _. absurd honest };
+
+    ghost only_now = { λ _ _ honest _. absurd honest };
+
+    fn block_size(&self) -> BlockSize {
+        self.disk.block_size()
+    }
+
+    fn blocks(&self) -> u64 {
+        self.journal.saturating_add(self.disk.blocks())
+    }
+
+    fn read(&mut self, place: u64, buf: &mut [u8]) -> Result<(), Fault> {
+        match at(&self.extents, self.journal, self.disk.blocks(), place) {
+            Some(block) => self.disk.read(block, buf),
+            None => fail(&mut self.failed),
+        }
+    }
+
+    fn write(&mut self, place: u64, bytes: &[u8]) -> Result<(), Fault> {
+        match at(&self.extents, self.journal, self.disk.blocks(), place) {
+            Some(block) => self.disk.write(block, bytes),
+            None => fail(&mut self.failed),
+        }
+    }
+
+    fn sync(&mut self) -> Result<(), Fault> {
+        self.disk.sync()
+    }
+}
+
+/// The block of an image of so many that a place of the disk is; none where the extents or the image have it not, or
+/// a home block is one of the journal's own.
+fn at(extents: &Extents, journal: u64, blocks: u64, place: u64) -> Option<u64>
+    ensures value { result ≡ at_block extents.now journal blocks place }
+    ensures within { IfSome result (λ block. block < blocks) }
+{
+    let block = if place < journal {
+        extents.place(place)?
+    } else if extents.holds(place - journal) {
+        return None;
+    } else {
+        place - journal
+    };
+    if block < blocks { Some(block) } else { None }
+}
+
+/// Counts a call that fails.
+fn fail(failed: &mut u64) -> Result<(), Fault>
+    ensures fails { IsErr result }
+    ensures faults { CountsFault result failed.old failed.new }
+    ensures one { CountsOne (is_ok result) failed.old failed.new }
+{
+    *failed = failed.saturating_add(1);
+    Err(Fault)
+}

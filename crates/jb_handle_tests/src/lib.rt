@@ -1,5 +1,0 @@
-//! Tests of handles and their words.
-#![tactic(auto)]
-
-#[cfg(test)]
-mod handles;

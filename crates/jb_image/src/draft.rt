@@ -1,0 +1,194 @@
+//! Files that are made under another name, and get their own when they are whole.
+//!
+//! Whoever has the lock of the file that has the other name may remove it, give it the image's name, or leave it; so of
+//! several that make one image at a time one goes on.
+use crate::fault::{ImageFault, MakeFault, SystemFault};
+use crate::opening::{Opening, lock};
+use std::fs::{File, Metadata, OpenOptions};
+use std::io::ErrorKind;
+use std::os::unix::fs::MetadataExt;
+use std::rt::Files;
+use std::{fs, io};
+
+/// What the other name has after the image's own.
+const SUFFIX: &str = ".jb-unfinished";
+
+/// How often a file that a killed process has left is removed, before another one is taken to be at work.
+const TRIES: usize = 8;
+
+/// A file that is made, and locked.
+#[derive(Drop)]
+pub(crate) struct Draft<'a> {
+    /// The name that it is to get.
+    name: &'a str,
+    /// The name that it has.
+    draft: String,
+    /// The folder of both.
+    folder: File,
+    /// The file, which is locked for as long as this is there.
+    file: File,
+}
+
+impl<'a> Draft<'a> {
+    ghost use Rattle.std.specs.Prelude.{◌≡◌, IfErr};
+    ghost use Rattle.jb_image.specs.declared.fault.MakeFault.TheVariants.{DeviceFault, Geometry as NoGeometry};
+
+    /// A new file that is to get this name, with its first handle. It is empty.
+    ///
+    /// # Errors
+    /// `Exists` where there is a file of the name; `Image` with `InUse` where another process makes one, and with
+    /// `System` or `Memory` where the system refuses a call or memory ran out.
+    pub fn begin<R: Files<File = File> + AllocGlobal>(
+        rt: &R,
+        name: &'a str,
+    ) -> Result<Draft<'a>, MakeFault>
+        ensures only { IfErr result (λ fault. (fault ≡ NoGeometry → ⊥) × (fault ≡ DeviceFault → ⊥)) }
+    {
+        if is_there(rt, name)? {
+            return Err(MakeFault::Exists);
+        }
+        let folder = match File::open(rt, folder_of(name)) {
+            Ok(folder) => folder,
+            Err(error) => return Err(MakeFault::Image(error.into())),
+        };
+        let draft = draft_name(rt, name)?;
+        let file = make_draft(rt, &draft)?;
+        Ok(Draft {
+            name,
+            draft,
+            folder,
+            file,
+        })
+    }
+
+    /// A second handle of the file, which shares its lock.
+    ///
+    /// # Errors
+    /// `System` where the system gives none.
+    pub fn handle(&self) -> Result<File, ImageFault> {
+        Ok(self.file.try_clone()?)
+    }
+
+    /// Gives the file the name that it was made for, which stands after a crash then. A file that has come by this name
+    /// meanwhile stays as it is; where the file system has no links, only one that another program makes in the same
+    /// moment is replaced.
+    ///
+    /// # Errors
+    /// `Exists` where there is a file of the name; `Image` with `System` where the system refuses a call. The name is
+    /// not given then.
+    pub fn publish<R: Files>(&self, rt: &R) -> Result<(), MakeFault>
+        ensures only { IfErr result (λ fault. (fault ≡ NoGeometry → ⊥) × (fault ≡ DeviceFault → ⊥)) }
+    {
+        match fs::hard_link(rt, self.draft.as_str(), self.name) {
+            Ok(()) => {}
+            Err(error) if error.kind() == ErrorKind::AlreadyExists => {
+                return Err(MakeFault::Exists);
+            }
+            Err(_) => self.rename(rt)?,
+        }
+        match self.folder.sync_all() {
+            Ok(()) => {
+                remove(rt, &self.draft, &self.file.metadata());
+                Ok(())
+            }
+            Err(error) => {
+                remove(rt, self.name, &self.file.metadata());
+                Err(MakeFault::Image(error.into()))
+            }
+        }
+    }
+
+    /// Renames the file, where none has the name.
+    fn rename<R: Files>(&self, rt: &R) -> Result<(), MakeFault>
+        ensures only { IfErr result (λ fault. (fault ≡ NoGeometry → ⊥) × (fault ≡ DeviceFault → ⊥)) }
+    {
+        if is_there(rt, self.name)? {
+            return Err(MakeFault::Exists);
+        }
+        match fs::rename(rt, self.draft.as_str(), self.name) {
+            Ok(()) => Ok(()),
+            Err(error) => Err(MakeFault::Image(error.into())),
+        }
+    }
+
+    /// Removes the file.
+    pub fn discard<R: Files>(&self, rt: &R) {
+        remove(rt, &self.draft, &self.file.metadata());
+    }
+}
+
+/// Whether there is a file of this name; a link that leads nowhere is one.
+fn is_there<R: Files>(rt: &R, name: &str) -> Result<bool, ImageFault> {
+    match fs::symlink_metadata(rt, name) {
+        Ok(_) => Ok(true),
+        Err(error) if error.kind() == ErrorKind::NotFound => Ok(false),
+        Err(error) => Err(error.into()),
+    }
+}
+
+/// The folder of the file of this name.
+fn folder_of(name: &str) -> &str {
+    match name.rsplit_once('/') {
+        None => ".",
+        Some(("", _)) => "/",
+        Some((folder, _)) => folder,
+    }
+}
+
+/// The name under which a file is made.
+fn draft_name<R: AllocGlobal>(rt: &R, name: &str) -> Result<String, ImageFault> {
+    let mut draft = String::from_str(rt.alloc(), name)?;
+    draft.push_str(SUFFIX)?;
+    Ok(draft)
+}
+
+/// A new file of this name, locked. One that a killed process has left is removed first.
+fn make_draft<R: Files<File = File>>(rt: &R, draft: &str) -> Result<File, ImageFault> {
+    for _ in 0..TRIES {
+        match File::create_new(rt, draft) {
+            Ok(file) if is_locked_as(rt, &file, draft) => return Ok(file),
+            Ok(_) => return Err(ImageFault::InUse),
+            Err(error) if error.kind() == ErrorKind::AlreadyExists => remove_left(rt, draft)?,
+            Err(error) => return Err(error.into()),
+        }
+    }
+    Err(ImageFault::InUse)
+}
+
+/// Removes what a killed process has left.
+///
+/// # Errors
+/// `InUse` where a process has locked it: it is at work.
+fn remove_left<R: Files<File = File>>(rt: &R, draft: &str) -> Result<(), ImageFault> {
+    let file = match OpenOptions::new().read(true).write(true).open(rt, draft) {
+        Ok(file) => file,
+        // its maker has given it its name
+        Err(error) if error.kind() == ErrorKind::NotFound => return Ok(()),
+        Err(error) => return Err(error.into()),
+    };
+    if !lock(&file, Opening::Change) {
+        return Err(ImageFault::InUse);
+    }
+    remove(rt, draft, &file.metadata());
+    Ok(())
+}
+
+/// Locks a file, and says whether it is locked and has this name still.
+fn is_locked_as<R: Files>(rt: &R, file: &File, name: &str) -> bool {
+    lock(file, Opening::Change) && is_named(rt, name, &file.metadata())
+}
+
+/// Removes the file of this name, where it is still this one.
+fn remove<R: Files>(rt: &R, name: &str, made: &io::Result<Metadata>) {
+    if is_named(rt, name, made) {
+        let _ignored = fs::remove_file(rt, name);
+    }
+}
+
+/// Whether a file has this name.
+fn is_named<R: Files>(rt: &R, name: &str, made: &io::Result<Metadata>) -> bool {
+    let (Ok(made), Ok(named)) = (made, fs::symlink_metadata(rt, name)) else {
+        return false;
+    };
+    made.dev() == named.dev() && made.ino() == named.ino()
+}

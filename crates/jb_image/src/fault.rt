@@ -1,0 +1,96 @@
+//! Why an image is not opened, or not made.
+use std::alloc::AllocError;
+use std::io::ErrorKind;
+use std::{fmt, io};
+use thiserror::Error;
+
+/// What the system said of a call that it refused.
+#[derive(Clone, Copy, Debug, PartialEq, Eq)]
+pub struct SystemFault {
+    /// The number of its error, where it has one.
+    pub code: Option<i32>,
+}
+
+impl SystemFault {
+    /// Whether there is no file of the name.
+    pub fn is_not_found(&self) -> bool {
+        match self.code {
+            Some(code) => io::Error::from_raw_os_error(code).kind() == ErrorKind::NotFound,
+            None => false,
+        }
+    }
+}
+
+impl fmt::Display for SystemFault {
+    fn fmt<W: fmt::Write>(&self, f: &mut fmt::Formatter<W>) -> fmt::Result {
+        match self.code {
+            Some(code) => write!(f, "{}", io::Error::from_raw_os_error(code)),
+            None => write!(f, "the system gives no reason"),
+        }
+    }
+}
+
+/// Why an image was not opened.
+#[derive(Clone, Copy, Debug, PartialEq, Eq, Error)]
+pub enum ImageFault {
+    /// Another process has locked it, or makes it at this moment.
+    #[error("another process has the image open")]
+    InUse,
+    /// It is a block device that is mounted.
+    #[error("the device is mounted")]
+    Mounted,
+    /// It is neither a regular file nor a block device.
+    #[error("the image is neither a regular file nor a block device")]
+    OtherKind,
+    /// The system refused a call.
+    #[error("the image cannot be opened: {0}")]
+    System(SystemFault),
+    /// There was no memory.
+    #[error("out of memory")]
+    Memory,
+}
+
+impl From<io::Error> for ImageFault {
+    fn from(error: io::Error) -> ImageFault {
+        if error.kind() == ErrorKind::OutOfMemory {
+            return ImageFault::Memory;
+        }
+        ImageFault::System(SystemFault {
+            code: error.raw_os_error(),
+        })
+    }
+}
+
+impl From<AllocError> for ImageFault {
+    fn from(_: AllocError) -> ImageFault {
+        ImageFault::Memory
+    }
+}
+
+/// Why an image was not made.
+#[derive(Clone, Copy, Debug, PartialEq, Eq, Error)]
+pub enum MakeFault {
+    /// A journal may not have so many blocks, or a file so many bytes.
+    #[error("the numbers make no journal, or more bytes than a file may have")]
+    Geometry,
+    /// There is a file of this name.
+    #[error("there is a file of this name already")]
+    Exists,
+    /// A file was not opened, made or named.
+    #[error("{0}")]
+    Image(ImageFault),
+    /// A call of the disk failed.
+    #[error("the disk failed; make the image again")]
+    DeviceFault,
+}
+
+impl From<ImageFault> for MakeFault {
+    ghost use Rattle.std.specs.Prelude.{◌≡◌};
+    ghost use Rattle.jb_image.specs.declared.fault.MakeFault.TheVariants.{Image};
+
+    ghost from_gives = { λ found fault. fault ≡ Image found };
+
+    fn from(found: ImageFault) -> MakeFault {
+        MakeFault::Image(found)
+    }
+}

@@ -1,0 +1,131 @@
+//! Images that are made.
+ghost use Rattle.std.specs.Prelude.{◌≡◌, ◌↔◌, ◌+◌, ◌*◌, IfOk, IsTrue, Err, Ok};
+ghost use Rattle.jb_block.specs.Size.{bytes_of};
+ghost use Rattle.jb_disk.specs.File.{count_of, size_of};
+ghost use Rattle.jb_disk.specs.declared.file.FileDisk.{FileDisk as Files};
+ghost use Rattle.jb_front.specs.declared.fault.FormatFault.TheVariants.{DeviceFault as NotFormatted};
+ghost use Rattle.jb_image.specs.Making.{IsFormatted, MakesImage};
+ghost use Rattle.jb_image.specs.declared.fault.MakeFault.TheVariants.{DeviceFault, Geometry as NoGeometry};
+
+use crate::draft::Draft;
+use crate::fault::{ImageFault, MakeFault, SystemFault};
+use crate::geometry::Geometry;
+use jb_block::BlockSize;
+use jb_disk::{Disk, FileDisk};
+use jb_front::{FormatFault, format};
+use std::fs::File;
+use std::rt::Files;
+
+/// Makes an image with a new journal and home blocks of zeros, whole or not at all: under another name in the same
+/// folder (`.jb-unfinished` after its own), formatted and synced, and then by its own name, which stands after a crash.
+/// What a killed process has left of one is removed. The disk is locked as one that is [opened](crate::open_image) for
+/// change.
+///
+/// # Errors
+/// In this order: `Geometry` where a journal may not have so many blocks, or a file so many bytes, before any file is
+/// looked at; `Exists` where there is a file of this name; `Image` with `InUse` where another process makes one, and
+/// with `System` or `Memory` where the system refuses a call or memory ran out; `DeviceFault` where the journal was not
+/// written. There is no new file of this name then.
+pub fn create_image<R: Files<File = File> + AllocGlobal>(
+    rt: &R,
+    name: &str,
+    geometry: Geometry,
+) -> Result<FileDisk, MakeFault>
+    ensures geometry { (result ≡ Err NoGeometry) ↔ (MakesImage geometry → ⊥) }
+    ensures made { IfOk result (λ disk. (old : Files) × IsFormatted geometry old disk (Ok tt)) }
+    ensures failed { result ≡ Err DeviceFault
+        → (old : Files) × (new : Files) × IsFormatted geometry old new (Err NotFormatted) }
+{
+    let Some(len) = geometry.len() else {
+        return Err(MakeFault::Geometry);
+    };
+    make(rt, name, len, geometry)
+}
+
+/// The same, of numbers that make an image of this length.
+fn make<R: Files<File = File> + AllocGlobal>(
+    rt: &R,
+    name: &str,
+    len: u64,
+    geometry: Geometry,
+) -> Result<FileDisk, MakeFault>
+    requires geometry { MakesImage geometry }
+    requires len { len ≡ (geometry.journal + geometry.homes) * bytes_of geometry.block_size }
+    ensures never { result ≡ Err NoGeometry → ⊥ }
+    ensures made { IfOk result (λ disk. (old : Files) × IsFormatted geometry old disk (Ok tt)) }
+    ensures failed { result ≡ Err DeviceFault
+        → (old : Files) × (new : Files) × IsFormatted geometry old new (Err NotFormatted) }
+{
+    let draft = match Draft::begin(rt, name) {
+        Ok(draft) => draft,
+        Err(fault) => return Err(fault),
+    };
+    let disk = match fill(&draft, len, geometry) {
+        Ok(disk) => disk,
+        Err(fault) => {
+            draft.discard(rt);
+            return Err(fault);
+        }
+    };
+    match draft.publish(rt) {
+        Ok(()) => Ok(disk),
+        Err(fault) => {
+            draft.discard(rt);
+            Err(fault)
+        }
+    }
+}
+
+/// Gives the file of a draft its length, and formats a journal at its front.
+///
+/// # Errors
+/// `Image` with `System` where the system refuses a call; `DeviceFault` where the journal was not written.
+fn fill(draft: &Draft<'_>, len: u64, geometry: Geometry) -> Result<FileDisk, MakeFault>
+    requires geometry { MakesImage geometry }
+    requires len { len ≡ (geometry.journal + geometry.homes) * bytes_of geometry.block_size }
+    ensures never { result ≡ Err NoGeometry → ⊥ }
+    ensures made { IfOk result (λ disk. (old : Files) × IsFormatted geometry old disk (Ok tt)) }
+    ensures failed { result ≡ Err DeviceFault
+        → (old : Files) × (new : Files) × IsFormatted geometry old new (Err NotFormatted) }
+{
+    let mut disk = disk_of(draft.handle()?, len, geometry)?;
+    let Geometry {
+        journal,
+        max_transaction,
+        uuid,
+        width,
+        ..
+    } = geometry;
+    match format(&mut disk, journal, max_transaction, uuid, width) {
+        Ok(()) => Ok(disk),
+        Err(FormatFault::DeviceFault) => Err(MakeFault::DeviceFault),
+        Err(FormatFault::Geometry) => Err(MakeFault::Geometry),
+    }
+}
+
+/// A file of this length as a disk, with its length synced: a sync of its data may leave that out.
+///
+/// # Errors
+/// `System` where the system refuses a call, or another length is found.
+fn disk_of(file: File, len: u64, geometry: Geometry) -> Result<FileDisk, ImageFault>
+    requires { len ≡ (geometry.journal + geometry.homes) * bytes_of geometry.block_size }
+    ensures size { IfOk result (λ disk. size_of disk ≡ geometry.block_size) }
+    ensures count { IfOk result (λ disk. count_of disk ≡ geometry.journal + geometry.homes) }
+{
+    file.set_len(len)?;
+    file.sync_all()?;
+    let Ok(disk) = FileDisk::of(file, geometry.block_size) else {
+        return Err(ImageFault::System(SystemFault { code: None }));
+    };
+    if !has_len(&disk, len, geometry.block_size) {
+        return Err(ImageFault::System(SystemFault { code: None }));
+    }
+    Ok(disk)
+}
+
+/// Whether the blocks of a disk have so many bytes.
+fn has_len(disk: &FileDisk, len: u64, size: BlockSize) -> bool
+    ensures { IsTrue result → count_of disk.now * bytes_of size ≡ len }
+{
+    u128::from(disk.blocks()) * u128::from(size.bytes()) == u128::from(len)
+}

@@ -1,0 +1,87 @@
+//! Images that are there: opened, and locked for as long as they are open.
+ghost use Rattle.std.specs.Prelude.{◌≡◌, IfOk};
+ghost use Rattle.jb_disk.specs.File.{faults_of, size_of};
+
+use crate::fault::{ImageFault, SystemFault};
+use crate::mounted::is_mounted;
+use jb_block::BlockSize;
+use jb_disk::FileDisk;
+use std::fs::{File, Metadata, OpenOptions, TryLockError};
+use std::os::unix::fs::FileTypeExt;
+use std::rt::Files;
+use std::{fs, io};
+
+/// What an image is opened for.
+#[derive(Clone, Copy, PartialEq, Eq)]
+pub enum Opening {
+    /// It is read: other programs that only read it may have it open too.
+    Read,
+    /// It is changed: no other program may have it open.
+    Change,
+}
+
+/// The image of this name as a disk in blocks of this size, locked for as long as the disk is there.
+///
+/// # Errors
+/// Those of [`open_file`]; `System` also where the system does not give the file's end.
+pub fn open_image<R: Files<File = File> + AllocGlobal>(
+    rt: &R,
+    name: &str,
+    size: BlockSize,
+    opening: Opening,
+) -> Result<FileDisk, ImageFault>
+    ensures size { IfOk result (λ disk. size_of disk ≡ size) }
+    ensures fresh { IfOk result (λ disk. faults_of disk ≡ 0) }
+{
+    let file = open_file(rt, name, opening)?;
+    match FileDisk::of(file, size) {
+        Ok(disk) => Ok(disk),
+        Err(_) => Err(ImageFault::System(SystemFault { code: None })),
+    }
+}
+
+/// The regular file or block device of this name, opened for reading, or for writing too, and locked for as long as it
+/// is open: for who changes it alone, or shared by all that read it. A file that the system cannot lock is used without
+/// a lock. The lock is one of `flock`: a program that takes none is not kept out.
+///
+/// # Errors
+/// In this order: `OtherKind` where it is of another kind; `System` where the system does not open it; `Mounted` where
+/// it is a block device that is mounted, and is opened for change; `InUse` where another process has locked it.
+/// `Memory` where memory ran out.
+pub fn open_file<R: Files<File = File> + AllocGlobal>(
+    rt: &R,
+    name: &str,
+    opening: Opening,
+) -> Result<File, ImageFault> {
+    // a file of another kind is not even opened: that may wait, or wake another program
+    may_be_image(fs::metadata(rt, name))?;
+    let writes = opening == Opening::Change;
+    let file = OpenOptions::new().read(true).write(writes).open(rt, name)?;
+    // the name may be that of another file by now
+    let metadata = may_be_image(file.metadata())?;
+    if writes && is_mounted(rt, &metadata)? {
+        return Err(ImageFault::Mounted);
+    }
+    if !lock(&file, opening) {
+        return Err(ImageFault::InUse);
+    }
+    Ok(file)
+}
+
+/// What the system says of a file that is a regular one or a block device.
+fn may_be_image(metadata: io::Result<Metadata>) -> Result<Metadata, ImageFault> {
+    let metadata = metadata?;
+    if metadata.is_file() || metadata.file_type().is_block_device() {
+        return Ok(metadata);
+    }
+    Err(ImageFault::OtherKind)
+}
+
+/// Locks a file for as long as it is open, and answers false where another process has locked it.
+pub(crate) fn lock(file: &File, opening: Opening) -> bool {
+    let locked = match opening {
+        Opening::Change => file.try_lock(),
+        Opening::Read => file.try_lock_shared(),
+    };
+    !matches!(locked, Err(TryLockError::WouldBlock))
+}

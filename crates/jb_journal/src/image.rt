@@ -1,0 +1,115 @@
+//! Images that are opened for a program, and homes that are read without a run.
+ghost use Rattle.std.specs.Prelude.{◌≡◌, ◌↔◌, IfOk, OnOk, Err, length};
+ghost use Rattle.jb_block.specs.Size.{bytes_of};
+ghost use Rattle.jb_disk.specs.File.{size_of};
+ghost use Rattle.jb_disk.specs.Image.{Same};
+ghost use Rattle.jb_disk.specs.Kept.{Kept};
+ghost use Rattle.jb_disk.specs.Time.{Goes};
+ghost use Rattle.jb_recover.specs.Peeks.{IsRecoveredHome};
+ghost use Rattle.jb_journal.specs.Homes.{HomeFaults, ReadsWhole};
+ghost use Rattle.jb_journal.specs.declared.fault.HomeFault.TheVariants.{Length};
+
+use crate::fault::HomeFault;
+use crate::journal_fault::JournalFault;
+use jb_block::{BlockSize, MOST_BYTES};
+use jb_disk::{Disk, FileDisk};
+use jb_image::{Geometry, ImageFault, MakeFault, Opening, create_image, open_image};
+use jb_recover::{PeekFault, peek, recover};
+use std::fs::File;
+use std::rt::Files;
+
+/// Opens the image of this name for change, and recovers its journal: the disk is ready for [`run`](crate::run) and for
+/// [`read_home`]. No other process can open the image so for as long as the disk is there, nor read it by `jb`.
+///
+/// # Errors
+/// `Image` where there is no such image, another process has it open (`InUse`), it is neither a regular file nor a
+/// block device, or the system refuses a call; `Recover` where the journal was not recovered: it has blocks of another
+/// size (`Super`), for one.
+pub fn open<R: Files<File = File> + AllocGlobal>(
+    rt: &R,
+    name: &str,
+    size: BlockSize,
+) -> Result<FileDisk, JournalFault>
+    ensures { IfOk result (λ disk. bytes_of (size_of disk) ≡ bytes_of size) }
+{
+    let mut disk = open_image(rt, name, size, Opening::Change)?;
+    recover(rt.alloc(), &mut disk)?;
+    Ok(disk)
+}
+
+/// The same, where there is an image of this name; otherwise makes it, whole or not at all: under another name
+/// (`.jb-unfinished` after its own), which becomes its own when all is synced. What a process that was killed has left
+/// of one is removed. Of an image that is there the geometry counts as far as the size of its blocks and as a least
+/// number of its homes.
+///
+/// # Errors
+/// Those of [`open`], but that there is no such image; `FewerHomes` where the image that is there has fewer homes;
+/// `Make` where it was not made, with `InUse` where another process makes it.
+pub fn open_or_create<R: Files<File = File> + AllocGlobal>(
+    rt: &R,
+    name: &str,
+    geometry: Geometry,
+) -> Result<FileDisk, JournalFault>
+    ensures { IfOk result (λ disk. bytes_of (size_of disk) ≡ bytes_of geometry.block_size) }
+{
+    match open_whole(rt, name, geometry) {
+        Err(JournalFault::Image(ImageFault::System(fault))) if fault.is_not_found() => {}
+        opened => return opened,
+    }
+    match create_image(rt, name, geometry) {
+        Ok(disk) => Ok(disk),
+        // another process has made it meanwhile
+        Err(MakeFault::Exists) => open_whole(rt, name, geometry),
+        Err(fault) => Err(JournalFault::Make(fault)),
+    }
+}
+
+/// Opens an image that has to have so many homes.
+fn open_whole<R: Files<File = File> + AllocGlobal>(
+    rt: &R,
+    name: &str,
+    geometry: Geometry,
+) -> Result<FileDisk, JournalFault>
+    ensures { IfOk result (λ disk. bytes_of (size_of disk) ≡ bytes_of geometry.block_size) }
+{
+    let mut disk = open(rt, name, geometry.block_size)?;
+    let Some(last) = geometry.homes.checked_sub(1) else {
+        return Ok(disk);
+    };
+    let mut block = [0; MOST_BYTES];
+    let size = geometry.block_size.bytes() as usize;
+    match read_home(&mut disk, last, &mut block[..size]) {
+        Ok(()) => Ok(disk),
+        Err(HomeFault::Peek(PeekFault::HomeOutOfRange(_))) => Err(JournalFault::FewerHomes),
+        Err(fault) => Err(JournalFault::ReadHome(fault)),
+    }
+}
+
+/// Reads a home block of a journal that is not open, as recovery leaves it. Nothing is written, and no memory is taken.
+/// A journal that is not recovered yet has its log read for each call.
+///
+/// # Errors
+/// `Length` where `buf` has not the length of one block, before any call of the disk; `Peek` with `HomeOutOfRange`
+/// where there is no such home, with `DeviceFault` where a call of the disk failed, and with `Super` or `BadRevoke`
+/// where the disk holds no journal that can be read. But for `DeviceFault` the buffer is as it was then.
+pub fn read_home<D: Disk>(disk: &mut D, home: u64, buf: &mut [u8]) -> Result<(), HomeFault>
+    ensures kept { Kept D.size D.count D.honest disk.old disk.new }
+    ensures length { (result ≡ Err Length) ↔ (length buf.old ≡ D.size disk.old → ⊥) }
+    ensures untouched { result ≡ Err Length → disk.new ≡ disk.old }
+    ensures buffer { result ≡ Err Length → buf.new ≡ buf.old }
+    ensures faults { HomeFaults result (D.faults disk.old) (D.faults disk.new) }
+    ensures newest { D.honest disk.old → D.newest disk.new ≡ D.newest disk.old }
+    ensures idle { D.honest disk.old → Goes D.may_leave D.moment D.left_since Same disk.old disk.new }
+    ensures reads { D.honest disk.old → ReadsWhole (D.size disk.old) (D.count disk.old) (D.newest disk.old) home buf.old
+        buf.new result }
+    ensures ends { D.honest disk.old → OnOk result (IsRecoveredHome (D.size disk.old) (D.count disk.old)
+        (D.newest disk.old) home buf.new) }
+{
+    if buf.len() != disk.block_size().bytes() as usize {
+        return Err(HomeFault::Length);
+    }
+    match peek(disk, home, buf) {
+        Ok(()) => Ok(()),
+        Err(fault) => Err(HomeFault::Peek(fault)),
+    }
+}

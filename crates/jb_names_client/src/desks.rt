@@ -1,0 +1,295 @@
+//! jb_desk: handles of one thread, committed at a desk.
+ghost use Rattle.std.specs.Prelude.{◌≡◌, ◌+◌, ◌^◌, [], false, IfSome};
+ghost use Rattle.jb_desk.specs.Desks.{desk_id};
+ghost use Rattle.jb_desk.specs.History.{history_in};
+ghost use Rattle.jb_desk.specs.Rounds.{seat_of};
+ghost use Rattle.jb_desk.specs.Seats.{desk_of};
+ghost use Rattle.jb_handle.specs.Handle.{holder};
+ghost use Rattle.jb_handle.specs.Word.{WordMap};
+
+use crate::checks::check;
+use crate::recoveries::formatted;
+use jb_board::Front;
+use jb_deck::{Checked, Deck};
+use jb_desk::{
+    BeginFault, CloseFault, Closed, Committer, Desk, Ended, Left, Origin, Round, Seat, SeatFault,
+    StopFault, Stops, Ticket, WaitFault,
+};
+use jb_disk::{Disk, FixedClock, MemoryDisk};
+use jb_handle::Handle;
+use std::alloc::Global;
+use std::process::Abort;
+use std::sync::Wait;
+use std::sync::ledger::{Blank, Ledger};
+
+/// The parts of each ledger of a desk.
+pub const PARTS: u64 = (1 << 61) + 1;
+
+/// The clock of the desk.
+const CLOCK: FixedClock = FixedClock {
+    stamp: crate::groups::STAMP,
+};
+
+/// A desk over the small journal.
+type Small<H, N> = Desk<MemoryDisk, FixedClock, H, N>;
+
+/// A new ledger for the handles that will stop, and a new history of them.
+pub fn stops(rt: &impl Abort, alloc: Global) -> Stops
+    ensures { result.tickets.parts ≡ 2 ^ 61 + 1 }
+{
+    Stops::new(alloc, PARTS).expect(rt, "memory")
+}
+
+/// The journal on a disk.
+fn opened(alloc: Global, disk: MemoryDisk) -> Option<Deck<MemoryDisk>>
+    ensures { IfSome result (λ deck. (deck.trail ≡ []) × (deck.aborted ≡ false)) }
+{
+    Deck::open(alloc, disk).ok()
+}
+
+/// A desk over a new journal.
+fn started<H: Origin, N: Ledger>(
+    rt: &impl Abort,
+    alloc: Global,
+    handles: Stops,
+    changes: Blank,
+) -> Small<H, N>
+    requires blind { H.begun.honest → ⊥ }
+    requires handles { (handles.tickets.name ≡ H.name) × (handles.tickets.parts ≡ H.parts) × (H.parts ≡ 2 ^ 61 + 1) }
+    requires history { history_in handles ≡ H.history }
+    requires changes { (changes.name ≡ N.name) × (changes.parts ≡ N.parts) × (N.parts ≡ 2 ^ 61 + 1) }
+{
+    let deck = opened(alloc, formatted(rt, alloc)).expect(rt, "open");
+    start(rt, alloc, handles, changes, deck)
+}
+
+/// A desk over a journal that has settled nothing.
+fn start<H: Origin, N: Ledger>(
+    rt: &impl Abort,
+    alloc: Global,
+    handles: Stops,
+    changes: Blank,
+    deck: Deck<MemoryDisk>,
+) -> Small<H, N>
+    requires blind { H.begun.honest → ⊥ }
+    requires handles { (handles.tickets.name ≡ H.name) × (handles.tickets.parts ≡ H.parts) × (H.parts ≡ 2 ^ 61 + 1) }
+    requires history { history_in handles ≡ H.history }
+    requires changes { (changes.name ≡ N.name) × (changes.parts ≡ N.parts) × (N.parts ≡ 2 ^ 61 + 1) }
+    requires fresh { deck.trail ≡ [] }
+    requires running { deck.aborted ≡ false }
+{
+    Desk::start(alloc, handles, changes, deck, CLOCK)
+        .ok()
+        .expect(rt, "start")
+}
+
+/// A handle of seven credits is refused, and one of six is abandoned.
+fn check_begin<R: Abort + Wait, H: Origin, N: Ledger>(
+    rt: &R,
+    desk: &Small<H, N>,
+    seat: Seat<H, N>,
+) -> Seat<H, N>
+    ensures { result ≡ seat }
+{
+    match desk.begin(rt, seat, 7) {
+        Ok(handle) => desk.abandon(rt, handle),
+        Err((seat, fault)) => {
+            check(rt, fault == BeginFault::TooManyCredits(6), "TooManyCredits");
+            match desk.begin(rt, seat, 6) {
+                Ok(handle) => desk.abandon(rt, handle),
+                Err((seat, _)) => seat,
+            }
+        }
+    }
+}
+
+/// A handle that writes a home block stops with a ticket.
+fn stopped<R: Abort + Wait, H: Origin, N: Ledger>(
+    rt: &R,
+    desk: &Small<H, N>,
+    seat: Seat<H, N>,
+) -> (Seat<H, N>, Option<Ticket>)
+    requires any { (words : WordMap) → H.begun.stops words }
+    requires desk { desk_of seat ≡ desk_id desk.now }
+    ensures { desk_of result.0 ≡ desk_id desk.now }
+{
+    match desk.begin(rt, seat, 1) {
+        Ok(mut handle) => {
+            handle.write(5, &[5; 1024]).expect(rt, "write");
+            stop(rt, desk, handle)
+        }
+        Err((seat, _)) => (seat, None),
+    }
+}
+
+/// A handle is stopped, or abandoned.
+fn stop<R: Wait, H: Origin, N: Ledger>(
+    rt: &R,
+    desk: &Small<H, N>,
+    handle: Handle<Seat<H, N>>,
+) -> (Seat<H, N>, Option<Ticket>)
+    requires any { (words : WordMap) → H.begun.stops words }
+    requires desk { desk_of (holder handle) ≡ desk_id desk.now }
+    ensures { desk_of result.0 ≡ desk_id desk.now }
+{
+    match desk.stop(rt, handle) {
+        Ok((seat, ticket)) => (seat, Some(ticket)),
+        Err(StopFault::Aborted(seat)) => (seat, None),
+        Err(StopFault::NotOpen(handle) | StopFault::Memory(handle)) => {
+            (desk.abandon(rt, handle), None)
+        }
+    }
+}
+
+/// A round commits one group, and the next one finds nothing.
+fn check_rounds<R: Abort + Wait, H: Origin, N: Ledger>(
+    rt: &R,
+    desk: &Small<H, N>,
+    committer: &mut Committer<H, N>,
+)
+    requires desk { desk_of (seat_of committer.old) ≡ desk_id desk.now }
+    ensures desk { desk_of (seat_of committer.new) ≡ desk_of (seat_of committer.old) }
+{
+    match desk.commit_round(rt, committer) {
+        Ok(Round::Committed(done)) => check(rt, done.entries().len() == 1, "Committed"),
+        _ => check(rt, false, "commit_round"),
+    }
+    let idle = desk.commit_round(rt, committer);
+    check(rt, matches!(idle, Ok(Round::Idle(_))), "Idle");
+}
+
+/// A committer makes two rounds and retires.
+fn committed<R: Abort + Wait, H: Origin, N: Ledger>(
+    rt: &R,
+    desk: &Small<H, N>,
+    seat: Seat<H, N>,
+) -> Seat<H, N>
+    requires desk { desk_of seat ≡ desk_id desk.now }
+    ensures { desk_of result ≡ desk_id desk.now }
+{
+    let mut committer = desk.committer(seat);
+    check_rounds(rt, desk, &mut committer);
+    match desk.retire(rt, committer) {
+        Ok(seat) => seat,
+        Err(committer) => desk.give_up(rt, committer),
+    }
+}
+
+/// What a seat sees of its handle once that is committed, and that its group goes home.
+fn check_seen<R: Abort + Wait, H: Origin, N: Ledger>(
+    rt: &R,
+    desk: &Small<H, N>,
+    seat: &mut Seat<H, N>,
+)
+    requires { desk_of seat.old ≡ desk_id desk.now }
+    ensures { desk_of seat.new ≡ desk_of seat.old }
+{
+    let front = desk.front(seat);
+    let all = Front {
+        settled: 1,
+        taken: 1,
+        stopped: 1,
+    };
+    check(rt, front == all, "front");
+    check(rt, desk.wait(rt, seat, 0) == Ok(2), "wait");
+    check(
+        rt,
+        desk.wait(rt, seat, 1) == Err(WaitFault::Unknown),
+        "Unknown",
+    );
+    let home = Checked {
+        number: 2,
+        blocks: 1,
+    };
+    check(
+        rt,
+        desk.checkpoint_round(rt) == Ok(home),
+        "checkpoint_round",
+    );
+}
+
+/// The threads of a desk that is shut end.
+fn ended<R: Abort + Wait, H: Origin, N: Ledger>(
+    rt: &R,
+    desk: &Small<H, N>,
+    seat: Seat<H, N>,
+) -> Left<H, N>
+    requires desk { desk_of seat ≡ desk_id desk.now }
+{
+    desk.shut(rt);
+    let (committer, ended) = desk.run_committer(rt, desk.committer(seat));
+    check(rt, matches!(ended, Ended::Shut(_)), "run_committer");
+    let checked = desk.run_checkpointer(rt);
+    check(rt, matches!(checked, Ended::Shut(_)), "run_checkpointer");
+    desk.leave(rt, desk.give_up(rt, committer))
+}
+
+/// Whether a desk gives no seat.
+fn is_shut<R: Wait, H: Origin, N: Ledger>(rt: &R, desk: &Small<H, N>) -> bool {
+    match desk.seat(rt) {
+        Ok(seat) => {
+            let _left = desk.leave(rt, seat);
+            false
+        }
+        Err(fault) => fault == SeatFault::Closed,
+    }
+}
+
+/// A desk is closed, at first without what its seat left.
+fn check_closed<H: Origin, N: Ledger>(
+    rt: &impl Abort,
+    alloc: Global,
+    desk: Small<H, N>,
+    left: Left<H, N>,
+)
+    requires parts { (H.parts ≡ 2 ^ 61 + 1) × (N.parts ≡ 2 ^ 61 + 1) }
+{
+    match desk.close(Vec::new(alloc)) {
+        Err(CloseFault::SeatsOut(desk, mut lefts)) => {
+            lefts.push(left).expect(rt, "memory");
+            let closed = desk.close(lefts).ok().expect(rt, "close");
+            check_counts(rt, &closed)
+        }
+        _ => check(rt, false, "SeatsOut"),
+    }
+}
+
+/// What is left of a desk.
+fn check_counts(rt: &impl Abort, closed: &Closed<MemoryDisk, FixedClock>) {
+    check(
+        rt,
+        (closed.handles, closed.changes) == (1, 1),
+        "handles and changes",
+    );
+    check(
+        rt,
+        closed.trail.len() == 1 && closed.disk.blocks() == 49,
+        "trail and disk",
+    );
+    check(rt, closed.clock.stamp == crate::groups::STAMP, "clock");
+}
+
+/// One handle at a desk, from its start to its close.
+pub fn check_desks<R: Abort + Wait, H: Origin, N: Ledger>(
+    rt: &R,
+    alloc: Global,
+    handles: Stops,
+    changes: Blank,
+)
+    requires blind { H.begun.honest → ⊥ }
+    requires any { (words : WordMap) → H.begun.stops words }
+    requires handles { (handles.tickets.name ≡ H.name) × (handles.tickets.parts ≡ H.parts) × (H.parts ≡ 2 ^ 61 + 1) }
+    requires history { history_in handles ≡ H.history }
+    requires changes { (changes.name ≡ N.name) × (changes.parts ≡ N.parts) × (N.parts ≡ 2 ^ 61 + 1) }
+{
+    let desk: Small<H, N> = started(rt, alloc, handles, changes);
+    let seat = desk.seat(rt).expect(rt, "seat");
+    let seat = check_begin(rt, &desk, seat);
+    let (seat, ticket) = stopped(rt, &desk, seat);
+    check(rt, ticket == Some(0), "stop");
+    let mut seat = committed(rt, &desk, seat);
+    check_seen(rt, &desk, &mut seat);
+    let left = ended(rt, &desk, seat);
+    check(rt, is_shut(rt, &desk), "Closed");
+    check_closed(rt, alloc, desk, left)
+}

@@ -1,7 +1,0 @@
-//! Tests of queue texts.
-#![tactic(auto)]
-
-#[cfg(test)]
-mod prefixes;
-#[cfg(test)]
-mod queues;

@@ -1,2 +1,0 @@
-pub mod Sinces
-pub mod Stood

@@ -1,0 +1,180 @@
+//! The texts of journals made by hand.
+
+use crate::checks::By;
+use jb_dump::{DumpFault, dump};
+use jb_super::SuperFault;
+use std::alloc::Global;
+use tests_support::{Must, Row, Test, check_at, put_rows};
+
+const MAGIC: u32 = 0xC03B_3998;
+
+/// Blocks of 1,024 bytes in the journals made by hand.
+pub const BLOCKS: usize = 33;
+
+const LEN: usize = 1024 * BLOCKS;
+
+const UUID: [u32; 4] = [0x0001_0203, 0x0405_0607, 0x0809_0A0B, 0x0C0D_0E0F];
+
+/// A journal of 33 blocks that begins with number 2 at place 1.
+static SUPER: [Row; 5] = [
+    (0x00, [MAGIC, 4, 0, 0x400]),
+    (0x10, [33, 1, 2, 1]),
+    (0x20, [0, 0, 1, 0]),
+    (0x30, UUID),
+    (0x40, [1, 0, 0, 0]),
+];
+
+/// A revoke of home 7, and home 5 with an escaped copy.
+static REVOKE_AND_COPY: [Row; 7] = [
+    (0x400, [MAGIC, 5, 2, 20]),
+    (0x410, [7, 0, 0, 0]),
+    (0x800, [MAGIC, 1, 2, 5]),
+    (0x810, [9, 0x0001_0203, 0x0405_0607, 0x0809_0A0B]),
+    (0x820, [0x0C0D_0E0F, 0, 0, 0]),
+    (0xC00, [0, 0x0102_0304, 0, 0]),
+    (0x1000, [MAGIC, 2, 2, 0]),
+];
+
+/// The text of the journal that is made by hand.
+pub const REVOKE_AND_COPY_TEXT: &str =
+    "super bs=1024 maxlen=33 first=1 sequence=2 start=1 errno=0 compat=00000000 incompat=00000001 rocompat=00000000 max=0 limit=8
+uuid 000102030405060708090a0b0c0d0e0f
+1 revoke number=2 count=20 homes=7
+2 descriptor number=2 tags=1
+3 copy home=5 flags=9 head=0000000001020304
+4 commit number=2 sec=0 nsec=0
+end transactions=1 expected=3
+";
+
+/// A journal of so many bytes, four MiB at most: zeros with these rows.
+pub fn journal_of(test: &impl Test, alloc: Global, len: usize, rows: &[Row]) -> Vec<u8> {
+    let mut journal = vec![in alloc; 0; len.min(0x40_0000)].must(test, "memory");
+    put_rows(&mut journal, rows);
+    journal
+}
+
+/// The journal made by hand, with these rows too.
+pub fn by_hand(test: &impl Test, alloc: Global, rows: &[Row]) -> Vec<u8> {
+    let mut journal = journal_of(test, alloc, LEN, &SUPER);
+    put_rows(&mut journal, &REVOKE_AND_COPY);
+    put_rows(&mut journal, rows);
+    journal
+}
+
+/// The first bytes, so many.
+pub fn front(journal: &[u8], len: usize) -> &[u8] {
+    &journal[..len.min(journal.len())]
+}
+
+/// What a dump of these bytes answers, and what it writes.
+pub fn told(alloc: Global, journal: &[u8]) -> (Result<(), DumpFault>, Vec<u8>) {
+    let (mut rest, mut text) = (journal, Vec::new(alloc));
+    let answer = dump(alloc, &mut rest, &mut text);
+    (answer, text)
+}
+
+/// The text of a journal, or why it has none.
+pub type Dumped = Result<&'static str, DumpFault>;
+
+/// The rows that are put into the journal made by hand, and what its dump answers.
+static CASES: [(&[Row], Dumped); 7] = [
+    (&[], Ok(REVOKE_AND_COPY_TEXT)),
+    (
+        &[
+            (0x10, [33, 1, 2, 30]),
+            (0x7800, [MAGIC, 1, 2, 5]),
+            (0x7820, [0, 6, 2, 7]),
+            (0x7830, [2, 8, 10, 0]),
+            (0x7C00, [1, 2, 0, 0]),
+            (0x8000, [3, 4, 0, 0]),
+            (0x400, [5, 6, 0, 0]),
+            (0x410, [0, 0, 0, 0]),
+            (0x800, [7, 8, 0, 0]),
+            (0x810, [0, 0, 0, 0]),
+            (0x820, [0, 0, 0, 0]),
+            (0xC00, [MAGIC, 2, 2, 0]),
+            (0x1000, [0, 0, 0, 0]),
+        ],
+        Ok(WRAPPED_TEXT),
+    ),
+    (&[(0x10, [33, 1, 2, 0])], Ok(CLEAN_TEXT)),
+    (
+        &[
+            (0x20, [0, 0, 3, 0]),
+            (0x400, [MAGIC, 5, 2, 36]),
+            (0x410, [0, 7, 1, 7]),
+            (0x420, [1, 8, 0, 0]),
+            (0x810, [1, 1, UUID[0], UUID[1]]),
+            (0x820, [UUID[2], UUID[3], 6, 10]),
+            (0x830, [0xFFFF_FFFF, 0, 0, 0]),
+            (0x1000, [8, 9, 0, 0]),
+            (0x1400, [MAGIC, 2, 2, 0]),
+        ],
+        Ok(WIDE_TEXT),
+    ),
+    (
+        &[(0x20, [0, 0, 0x12, 0])],
+        Err(DumpFault::Super(SuperFault::Feature(2, 16))),
+    ),
+    (
+        &[(0x10, [0x7FFF_FFFF, 1, 2, 1])],
+        Err(DumpFault::Super(SuperFault::Geometry)),
+    ),
+    (
+        &[(0x400, [MAGIC, 5, 2, 1025])],
+        Err(DumpFault::BadRevoke(1)),
+    ),
+];
+
+const WRAPPED_TEXT: &str =
+    "super bs=1024 maxlen=33 first=1 sequence=2 start=30 errno=0 compat=00000000 incompat=00000001 rocompat=00000000 max=0 limit=8
+uuid 000102030405060708090a0b0c0d0e0f
+30 descriptor number=2 tags=4
+31 copy home=5 flags=0 head=0000000100000002
+32 copy home=6 flags=2 head=0000000300000004
+1 copy home=7 flags=2 head=0000000500000006
+2 copy home=8 flags=10 head=0000000700000008
+3 commit number=2 sec=0 nsec=0
+end transactions=1 expected=3
+";
+
+const WIDE_TEXT: &str =
+    "super bs=1024 maxlen=33 first=1 sequence=2 start=1 errno=0 compat=00000000 incompat=00000003 rocompat=00000000 max=0 limit=8
+uuid 000102030405060708090a0b0c0d0e0f
+1 revoke number=2 count=36 homes=7,4294967303
+2 descriptor number=2 tags=2
+3 copy home=4294967301 flags=1 head=0000000001020304
+4 copy home=18446744069414584326 flags=10 head=0000000800000009
+5 commit number=2 sec=0 nsec=0
+end transactions=1 expected=3
+";
+
+/// The text of that journal where its log is clean.
+pub const CLEAN_TEXT: &str =
+    "super bs=1024 maxlen=33 first=1 sequence=2 start=0 errno=0 compat=00000000 incompat=00000001 rocompat=00000000 max=0 limit=8
+uuid 000102030405060708090a0b0c0d0e0f
+clean next=3
+";
+
+/// Checks what a dump of these bytes answers and writes.
+pub fn check_dump(test: &impl Test, alloc: Global, journal: &[u8], wanted: Dumped, row: u64) {
+    let (answer, text) = told(alloc, journal);
+    let (result, written) = match wanted {
+        Ok(text) => (Ok(()), text),
+        Err(fault) => (Err(fault), ""),
+    };
+    check_at(test, answer == result, "what a dump answers in row", row);
+    let is_text = text.as_slice() == written.as_bytes();
+    check_at(test, is_text, "what a dump writes in row", row)
+}
+
+fn check_cases(test: &impl Test, alloc: Global) {
+    for (row, (rows, wanted)) in (0..).zip(&CASES) {
+        check_dump(test, alloc, &by_hand(test, alloc, rows), *wanted, row)
+    }
+}
+
+#[test]
+fn each_journal_is_dumped_as_its_case_says(rt: HostRuntime) {
+    check_cases(&By(&rt), rt.alloc())
+}

@@ -1,0 +1,32 @@
+//! Tests of the blocks of a journal: fields, superblocks, descriptor and revoke blocks, groups, logs, and the text of
+//! a journal.
+#![tactic(auto)]
+
+#[cfg(test)]
+mod blocks;
+#[cfg(test)]
+mod checks;
+#[cfg(test)]
+mod choices;
+#[cfg(test)]
+mod dumped;
+#[cfg(test)]
+mod fields;
+#[cfg(test)]
+mod groups;
+#[cfg(test)]
+mod journals;
+#[cfg(test)]
+mod logs;
+#[cfg(test)]
+mod readers;
+#[cfg(test)]
+mod revokes;
+#[cfg(test)]
+mod superblocks;
+#[cfg(test)]
+mod supers;
+#[cfg(test)]
+mod tags;
+#[cfg(test)]
+mod writers;

@@ -1,0 +1,98 @@
+//! Revoke blocks.
+
+use crate::blocks::{REVOKE, WIDE_REVOKE};
+use crate::checks::By;
+use jb_block::Width;
+use jb_revoke::*;
+use std::alloc::Global;
+use tests_support::{Test, block_of, check, check_at};
+
+/// Home 2^32 + 5 as a wide entry.
+const ONE_WIDE: [u8; 24] = [
+    0xc0, 0x3b, 0x39, 0x98, 0, 0, 0, 5, 0, 0, 0, 2, 0, 0, 0, 0x18, 0, 0, 0, 1, 0, 0, 0, 5,
+];
+
+/// As WIDE_REVOKE, with 32-bit block numbers.
+const NARROW_OF_E2FSPROGS: [u8; 28] = [
+    0xc0, 0x3b, 0x39, 0x98, 0, 0, 0, 5, 0, 0, 0, 2, 0, 0, 0, 0x1c, 0, 0, 1, 0x4d, 0, 0, 1, 0x54, 0,
+    0, 1, 0x55,
+];
+
+/// The entry 7, of which 15 bytes are used, 22, and one more than the block has.
+const USED_15: [u8; 20] = [
+    0xc0, 0x3b, 0x39, 0x98, 0, 0, 0, 5, 0, 0, 0, 2, 0, 0, 0, 15, 0, 0, 0, 7,
+];
+
+const USED_22: [u8; 20] = [
+    0xc0, 0x3b, 0x39, 0x98, 0, 0, 0, 5, 0, 0, 0, 2, 0, 0, 0, 22, 0, 0, 0, 7,
+];
+
+const USED_1025: [u8; 20] = [
+    0xc0, 0x3b, 0x39, 0x98, 0, 0, 0, 5, 0, 0, 0, 2, 0, 0, 4, 1, 0, 0, 0, 7,
+];
+
+const HOMES: [u64; 3] = [333, 340, 341];
+
+/// A block, the width of its block numbers, and its homes.
+static READ: [(&[u8], Width, Result<&[u64], RevokeFault>); 8] = [
+    (&REVOKE, Width::Narrow, Ok(&[7])),
+    (&ONE_WIDE, Width::Wide, Ok(&[4_294_967_301])),
+    (&NARROW_OF_E2FSPROGS, Width::Narrow, Ok(&HOMES)),
+    (&WIDE_REVOKE, Width::Wide, Ok(&HOMES)),
+    (&USED_15, Width::Narrow, Ok(&[])),
+    (&USED_22, Width::Narrow, Ok(&[7])),
+    (&USED_22, Width::Wide, Ok(&[])),
+    (&USED_1025, Width::Narrow, Err(RevokeFault::BadCount(1025))),
+];
+
+/// Whether just these homes are read of a block, or just this is answered.
+fn reads(
+    alloc: Global,
+    block: &[u8; 1024],
+    width: Width,
+    wanted: Result<&[u64], RevokeFault>,
+) -> bool {
+    match (read_revokes(alloc, block, width), wanted) {
+        (Ok(found), Ok(homes)) => found.as_slice() == homes,
+        (Err(found), Err(fault)) => found == fault,
+        _ => false,
+    }
+}
+
+/// Checks what revoke blocks are written of homes.
+fn check_written(test: &impl Test) {
+    let mut block = [255; 1024];
+    put_revokes(&[7], 2, &mut block, Width::Narrow);
+    check(test, block == block_of(&REVOKE), "a home");
+    put_revokes(&[4_294_967_301], 2, &mut block, Width::Wide);
+    check(test, block == block_of(&ONE_WIDE), "a wide home")
+}
+
+/// Checks the homes of each row.
+fn check_read(test: &impl Test, alloc: Global) {
+    for (row, (block, width, wanted)) in (0..).zip(&READ) {
+        let is_read = reads(alloc, &block_of(block), *width, *wanted);
+        check_at(test, is_read, "the homes of row", row)
+    }
+}
+
+/// Checks which homes are named.
+fn check_named(test: &impl Test) {
+    for (home, named) in [(333, true), (341, true), (334, false), (0, false)] {
+        let is_narrow = names_home(&NARROW_OF_E2FSPROGS, Width::Narrow, home) == named;
+        check_at(test, is_narrow, "whether 32 bits name home", home);
+        let is_wide = names_home(&WIDE_REVOKE, Width::Wide, home) == named;
+        check_at(test, is_wide, "whether 64 bits name home", home)
+    }
+}
+
+fn check_each(test: &impl Test, alloc: Global) {
+    check_written(test);
+    check_read(test, alloc);
+    check_named(test)
+}
+
+#[test]
+fn revokes_are_written_and_read(rt: HostRuntime) {
+    check_each(&By(&rt), rt.alloc())
+}

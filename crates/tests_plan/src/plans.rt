@@ -1,0 +1,220 @@
+//! Queues and their plans, which are those worked by hand, by each call that plans.
+ghost use Rattle.std.specs.Prelude.{◌≡◌, ◌+◌, length};
+ghost use Rattle.jb_handle.specs.Size.{IsWithinSize};
+
+use crate::checks::By;
+use crate::costs::one_handle;
+use crate::texts::{ALONE, FREEING, GROWING, bytes_of, check_said, check_told, queue_of};
+use jb_answers::plan_answer;
+use jb_batch::{Batch, PrepareFault, Prepared, is_batch, prepare};
+use jb_cost::Geometry;
+use jb_handle::Shape;
+use jb_plan::{Answer, Planned, plan};
+use jb_price::{Cert, CertAnswer, Verdict, check as judge, print_cert, read_cert};
+use jb_queue::QueueText;
+use std::alloc::{AllocError, Global};
+use tests_support::{Must, Test, check, check_at};
+
+/// The text of a queue, and the certificate that its plan is to print: its prices, and the bounds and the total of its
+/// cut, if one fits.
+static PLANS: [(&str, &str); 10] = [
+    ("bs 1024\nlimit 8\n", "prices 0\ncut 0\ntotal 0\n"),
+    ("bs 1024\nlimit 8\nh\n", "prices 0 1\ncut 0 1\ntotal 1\n"),
+    (
+        "bs 1024\nlimit 7\nh w1 w2 w3\nh w3 w4 w5\nh w1 w2\n",
+        "prices 0 5 7 7\ncut 0 3\ntotal 7\n",
+    ),
+    (
+        "bs 1024\nlimit 6\nh w1 w2 w3\nh w3 w4 w5\nh w1 w2\n",
+        "prices 0 5 10 14\ncut 0 1 2 3\ntotal 14\n",
+    ),
+    (GROWING, "prices 0 4 6 6 9\ncut 0 1 4\ntotal 9\n"),
+    (
+        "bs 1024\nlimit 6\nh w3 w4 w5\nh w3 w4\nh w3 w4\nh w1 w2\n",
+        "prices 0 5 5 5 9\ncut 0 3 4\ntotal 9\n",
+    ),
+    (FREEING, "prices 0 none 2\ncut 0 2\ntotal 2\n"),
+    (ALONE, "prices 0 none\ncut none\n"),
+    (
+        "bs 1024\nlimit 6\nh w1 w2\nh w3 w4\nh w5 w6\n",
+        "prices 0 4 6 10\ncut 0 1 3\ntotal 10\n",
+    ),
+    (
+        "bs 1024\nlimit 8\nh w0 w1 w2 w3 w4 w5\nh w6 w7 w8 w9 w10 w11\n",
+        "prices 0 8 16\ncut 0 1 2\ntotal 16\n",
+    ),
+];
+
+/// The certificate of a text, with a price for each first part of the handles.
+pub fn cert_of(test: &impl Test, alloc: Global, text: &str, handles: usize) -> Cert
+    ensures { length result.prices.items ≡ handles + 1 }
+{
+    let cert = read_cert(alloc, text.as_bytes(), handles).must(test, "a certificate is refused");
+    let is_long = cert.prices.len().checked_sub(1) == Some(handles);
+    check(test, is_long, "how many prices there are");
+    cert
+}
+
+/// Whether a plan has the prices and the cut of a certificate.
+fn is_planned(planned: &Planned, cert: &Cert) -> bool {
+    let is_cut = match (&planned.answer, &cert.answer) {
+        (
+            Answer::Cut { bounds, total },
+            CertAnswer::Cut {
+                bounds: wanted,
+                total: sum,
+            },
+        ) => bounds == wanted && total == sum,
+        (Answer::NoCut, CertAnswer::NoCut) => true,
+        _ => false,
+    };
+    is_cut && planned.prices == cert.prices
+}
+
+/// Checks the plan of a queue, and that its certificate is accepted and printed.
+fn check_queue(test: &impl Test, alloc: Global, queue: &QueueText, text: &str, row: u64)
+    requires { IsWithinSize queue.now.handles.items }
+{
+    let cert = cert_of(test, alloc, text, queue.handles.len());
+    let geometry = Geometry::of(queue.bs, queue.width);
+    let planned = plan(alloc, &queue.handles, geometry, queue.limit).must(test, "memory");
+    check_at(test, is_planned(&planned, &cert), "the plan of row", row);
+    let verdict = judge(alloc, &queue.handles, geometry, queue.limit, &cert).must(test, "memory");
+    check_at(test, verdict == Verdict::Accepted, "the verdict on", row);
+    let printed = print_cert(alloc, &cert).must(test, "memory");
+    check_at(test, printed.as_str() == text, "what is printed of", row);
+    check_said(test, alloc, queue, text, (0, "accepted\n", ""), row)
+}
+
+/// Whether a prepared batch has the prices and the cut of a certificate, and so many handles.
+fn is_prepared(prepared: &Prepared, cert: &Cert, count: usize) -> bool {
+    let is_cut = match &cert.answer {
+        CertAnswer::Cut { bounds, total } => {
+            prepared.groups() == bounds.as_slice() && prepared.total() == *total
+        }
+        CertAnswer::NoCut => false,
+    };
+    is_cut && prepared.prices() == cert.prices.as_slice() && prepared.batch().len() == count
+}
+
+/// Whether a batch was refused for want of a cut, with the prices of a certificate.
+fn is_refused(fault: &PrepareFault, cert: &Cert) -> bool {
+    match fault {
+        PrepareFault::NoCut(prices) => *prices == cert.prices && cert.answer == CertAnswer::NoCut,
+        PrepareFault::Memory => false,
+    }
+}
+
+/// Checks that a batch is prepared as a certificate says, and gives its handles back.
+fn check_prepared(test: &impl Test, alloc: Global, batch: Batch, cert: &Cert, row: u64) {
+    let count = batch.len();
+    let back = match prepare(alloc, batch) {
+        Ok(prepared) => {
+            let is_so = is_prepared(&prepared, cert, count);
+            check_at(test, is_so, "the groups of row", row);
+            prepared.back()
+        }
+        Err((batch, fault)) => {
+            check_at(test, is_refused(&fault, cert), "the refusal of row", row);
+            batch
+        }
+    };
+    check_at(test, back.end().len() == count, "what comes back of", row)
+}
+
+/// Checks the batch of a queue.
+fn check_batch(test: &impl Test, alloc: Global, queue: QueueText, text: &str, row: u64)
+    requires { IsWithinSize queue.handles.items }
+{
+    check(test, 3 <= queue.limit && queue.limit <= 2147483646, "limit");
+    let shape = Shape {
+        bs: queue.bs,
+        homes: 128,
+        limit: queue.limit,
+        width: queue.width,
+    };
+    let handles = queue.handles;
+    let count = handles.len();
+    let cert = cert_of(test, alloc, text, count);
+    check_at(test, is_batch(0, &handles, shape), "the batch of row", row);
+    let batch = Batch::of(0, handles, shape);
+    let is_first = batch.first() == 0 && batch.shape() == shape;
+    check_at(test, is_first, "what the batch is made of in row", row);
+    let is_whole = batch.len() == count && batch.handles().len() == count;
+    check_at(test, is_whole, "how many handles has row", row);
+    let is_so = batch.is_empty() == (count == 0);
+    check_at(test, is_so, "whether a batch is empty in row", row);
+    check_prepared(test, alloc, batch, &cert, row)
+}
+
+/// Checks that a queue has this plan, by each call that plans, and what `jb plan` says of it.
+fn check_plan(test: &impl Test, alloc: Global, queue: &str, cert: &str, row: u64) {
+    let planned = queue_of(test, alloc, queue.as_bytes());
+    check_queue(test, alloc, &planned, cert, row);
+    check_batch(test, alloc, planned, cert, row);
+    let answer = plan_answer(alloc, bytes_of(test, queue.as_bytes())).must(test, "memory");
+    let status = u8::from(cert.ends_with("none\n"));
+    let told = (status, cert, "");
+    check_told(test, &answer, told, "what is said of row", row)
+}
+
+/// Two thousand handles, each of a copy of one of seven home blocks in turn.
+fn seven_in_turn(alloc: Global, limit: u32) -> Result<String, AllocError> {
+    let mut text = format!(in alloc; "bs 1024\nlimit {limit}\n")?;
+    for handle in 0..2000 {
+        write!(text, "h w{}\n", handle % 7)?;
+    }
+    Ok(text)
+}
+
+/// Their certificate where they fit together: a price of 9 from the seventh on, and one group.
+fn one_group(alloc: Global) -> Result<String, AllocError> {
+    let mut text = String::from_str(alloc, "prices 0 3 4 5 6 7 8")?;
+    for _handle in 7..=2000 {
+        text.push_str(" 9")?;
+    }
+    text.push_str("\ncut 0 2000\ntotal 9\n")?;
+    Ok(text)
+}
+
+/// Their certificate where no two of them fit: 3 blocks for each, and as many groups.
+fn groups_of_one(alloc: Global) -> Result<String, AllocError> {
+    let (mut text, mut cut) = (String::from_str(alloc, "prices 0")?, String::new(alloc));
+    for handle in 0u32..2000 {
+        write!(text, " {}", handle * 3 + 3)?;
+        write!(cut, " {handle}")?;
+    }
+    write!(text, "\ncut{} 2000\ntotal 6000\n", cut.as_str())?;
+    Ok(text)
+}
+
+/// Checks the plans of two thousand handles.
+fn check_turns(test: &impl Test, alloc: Global) {
+    let queue = seven_in_turn(alloc, 9).must(test, "memory");
+    let cert = one_group(alloc).must(test, "memory");
+    check_plan(test, alloc, &queue, &cert, 12);
+    let queue = seven_in_turn(alloc, 3).must(test, "memory");
+    let cert = groups_of_one(alloc).must(test, "memory");
+    check_plan(test, alloc, &queue, &cert, 13)
+}
+
+/// Checks the plan of one handle of 84 copies, by its size and its price.
+fn check_copies(test: &impl Test, alloc: Global, size: &str, price: u32, row: u64) {
+    let queue = one_handle(test, alloc, size, 87, "w", 84);
+    let cert = format!(in alloc; "prices 0 {price}\ncut 0 1\ntotal {price}\n").must(test, "memory");
+    check_plan(test, alloc, &queue, &cert, row)
+}
+
+fn check_plans(test: &impl Test, alloc: Global) {
+    for (row, (queue, cert)) in (0..).zip(&PLANS) {
+        check_plan(test, alloc, queue, cert, row)
+    }
+    check_copies(test, alloc, "1024", 86, 10);
+    check_copies(test, alloc, "1024 wide", 87, 11);
+    check_turns(test, alloc)
+}
+
+#[test]
+fn plans_are_those_worked_by_hand(rt: HostRuntime) {
+    check_plans(&By(&rt), rt.alloc())
+}

@@ -1,0 +1,305 @@
+//! Texts of queues, what they are read as, and their first fault.
+
+use crate::checks::By;
+use crate::texts::{bytes_of, check_told};
+use jb_answers::cost_answer;
+use jb_block::Width;
+use jb_handle::{Word, Words};
+use jb_queue::{Cause, QueueFault, QueueText, read_lines, read_queue};
+use std::alloc::Global;
+use tests_support::{Must, Test, check, check_at, fail};
+
+const TEXT: &str = "bs 1024\nlimit 7\nh w1 w2 w3\nh w3 w4 w5\nh w1 w2\n";
+
+/// What each prefix of it is, by its length from 0 on: without a first line, without a second one, a queue of so many
+/// handles, or one whose last line ends in a word that is none.
+const PREFIXES: &[u8] = b"bbbbbbbllllllll001ww1ww1ww112ww2ww2ww223ww3ww33";
+
+/// Whether a prefix was read as it should be.
+fn is_read(read: Result<usize, QueueFault>, wanted: u8, line: u64) -> bool {
+    let fault = |line, cause| Err(QueueFault { line, cause });
+    match wanted {
+        b'b' => read == fault(1, Cause::BlockSizeLine),
+        b'l' => read == fault(2, Cause::LimitLine),
+        b'w' => read == fault(line, Cause::OpWord),
+        digit => read == Ok(usize::from(digit.saturating_sub(b'0'))),
+    }
+}
+
+/// Checks each prefix of a text.
+fn check_prefixes(test: &impl Test, alloc: Global) {
+    let text = TEXT.as_bytes();
+    check(test, PREFIXES.len() == text.len() + 1, "how many");
+    let mut line = 1u64;
+    for (end, wanted) in PREFIXES.iter().enumerate() {
+        let Some((front, rest)) = text.split_at_checked(end) else {
+            return fail(test, "a short text");
+        };
+        let read = read_queue(alloc, front).map(|queue| queue.handles.len());
+        let is_read = is_read(read, *wanted, line);
+        check_at(test, is_read, "what is read of length", end as u64);
+        if rest.first() == Some(&b'\n') {
+            line = line.saturating_add(1);
+        }
+    }
+}
+
+/// The first bytes of a copy of zeros.
+const ZEROS: Option<[u8; 4]> = Some([0, 0, 0, 0]);
+
+/// A queue text; its block size and width; its limit; how many blocks each handle touches; and words of it: a handle, a
+/// home block, and the first four bytes of its copy, or that it is free.
+type Queue = (
+    &'static str,
+    (usize, Width),
+    u32,
+    &'static [usize],
+    [(usize, u64, Option<[u8; 4]>); 4],
+);
+
+static QUEUES: [Queue; 4] = [
+    (
+        TEXT,
+        (1024, Width::Narrow),
+        7,
+        &[3, 3, 2],
+        [(0, 1, ZEROS), (0, 3, ZEROS), (1, 5, ZEROS), (2, 2, ZEROS)],
+    ),
+    (
+        "bs 1024\nlimit 7\nh w5=C03b r7 r5 w7=01 w4294967295=ff w5=00ff\nh\nh r9",
+        (1024, Width::Narrow),
+        7,
+        &[3, 0, 1],
+        [
+            (0, 5, Some([0, 255, 0, 0])),
+            (0, 7, Some([1, 0, 0, 0])),
+            (0, 4294967295, Some([255, 0, 0, 0])),
+            (2, 9, None),
+        ],
+    ),
+    (
+        "bs 4096 wide\nlimit 7\nh w4294967301=05 w5 r18446744073709551615\nh r4294967296\n",
+        (4096, Width::Wide),
+        7,
+        &[3, 1],
+        [
+            (0, 4294967301, Some([5, 0, 0, 0])),
+            (0, 5, ZEROS),
+            (0, 18446744073709551615, None),
+            (1, 4294967296, None),
+        ],
+    ),
+    (
+        "bs 1024\nlimit 7\nh w4294967301 w4294967301=05\nh w5 r4294967296",
+        (1024, Width::Narrow),
+        7,
+        &[1, 2],
+        [
+            (0, 4294967301, Some([5, 0, 0, 0])),
+            (1, 5, ZEROS),
+            (1, 4294967296, None),
+            (1, 4294967296, None),
+        ],
+    ),
+];
+
+/// Whether a word is a copy of so many bytes that begins with these, or, without any, that it is free.
+fn is_word(word: Option<&Word>, size: usize, bytes: Option<[u8; 4]>) -> bool {
+    match (word, bytes) {
+        (Some(Word::Copy(payload)), Some(bytes)) if payload.len() == size && size > 3 => {
+            payload.front() == bytes
+        }
+        (Some(Word::Free), None) => true,
+        _ => false,
+    }
+}
+
+/// Checks what a queue was read as.
+fn check_queue(test: &impl Test, queue: &QueueText, wanted: &Queue, row: u64) {
+    let (_, (size, width), limit, counts, words) = wanted;
+    let is_format = queue.limit == *limit && queue.width == *width;
+    check_at(test, is_format, "the first lines of row", row);
+    let count = queue.handles.len();
+    check_at(test, count == counts.len(), "how many handles has row", row);
+    for (ticket, (handle, count)) in (0..).zip(queue.handles.iter().zip(*counts)) {
+        check_at(test, handle.ticket == ticket, "a ticket of row", row);
+        check_at(test, handle.words.len() == *count, "a handle of row", row)
+    }
+    for (at, home, bytes) in words {
+        let handle = queue.handles.get(*at).must(test, "a handle");
+        let is_word = is_word(handle.words.get(*home), *size, *bytes);
+        check_at(test, is_word, "home block", *home)
+    }
+}
+
+/// Whether two words are free, or copies with the same first bytes.
+fn is_alike(one: &Word, other: &Word) -> bool {
+    match (one, other) {
+        (Word::Copy(one), Word::Copy(other)) if one.len() > 3 && other.len() > 3 => {
+            one.front() == other.front()
+        }
+        (Word::Free, Word::Free) => true,
+        _ => false,
+    }
+}
+
+/// Whether two handles leave like words at the same home blocks.
+fn are_alike(one: &Words, other: &Words) -> bool {
+    let mut pairs = one.entries().iter().zip(other.entries());
+    one.len() == other.len()
+        && pairs.all(|(one, other)| one.0 == other.0 && is_alike(&one.1, &other.1))
+}
+
+/// Checks that the handles of a text that are read from its lines, all of them or each second one, are those of its
+/// queue.
+fn check_lines(test: &impl Test, alloc: Global, text: &str, queue: &QueueText, row: u64) {
+    let bytes = text.as_bytes().to_vec(alloc).must(test, "memory");
+    let lines = read_lines(alloc, bytes).must(test, "a text is refused");
+    let is_long = lines.len() == queue.handles.len();
+    check_at(test, is_long, "how many lines has row", row);
+    let is_format = lines.bs == queue.bs
+        && lines.limit == queue.limit
+        && lines.width == queue.width;
+    check_at(test, is_format, "the lines before the handles of row", row);
+    for step in [1, 2] {
+        let mut reader = lines.reader();
+        let mut passed = 0;
+        for handle in queue.handles.iter().step_by(step) {
+            let words = reader
+                .read(alloc, passed)
+                .must(test, "memory")
+                .must(test, "a handle");
+            check_at(test, are_alike(&words, &handle.words), "a line of row", row);
+            passed = step.saturating_sub(1);
+        }
+        let rest = reader.read(alloc, passed).must(test, "memory");
+        check_at(test, rest.is_none(), "the end of row", row)
+    }
+}
+
+fn check_queues(test: &impl Test, alloc: Global) {
+    for (row, wanted) in (0..).zip(&QUEUES) {
+        let queue = read_queue(alloc, wanted.0.as_bytes()).must(test, "a text is refused");
+        check_queue(test, &queue, wanted, row);
+        check_lines(test, alloc, wanted.0, &queue, row)
+    }
+}
+
+/// Texts, the line of the first fault, and its cause.
+static FAULTY: [(&[u8], u64, Cause); 51] = [
+    (b"", 1, Cause::BlockSizeLine),
+    (b"bs 512\nlimit 2\n", 1, Cause::BlockSizeLine),
+    (b"bs 01024\n", 1, Cause::BlockSizeLine),
+    (b"bs 1024\r\nlimit 7\n", 1, Cause::BlockSizeLine),
+    (b"bs 1024\r\nlimit 7\r\nh\r\n", 1, Cause::BlockSizeLine),
+    (b"bs 1024 \nlimit 7\n", 1, Cause::BlockSizeLine),
+    (b"bs 1024 wide \nlimit 7\n", 1, Cause::BlockSizeLine),
+    (b"bs 1024  wide\nlimit 7\n", 1, Cause::BlockSizeLine),
+    (b"bs 1024 Wide\nlimit 7\n", 1, Cause::BlockSizeLine),
+    (b"bs 1024 Wide\nlimit 7\nh\n", 1, Cause::BlockSizeLine),
+    (b"bs 1024 narrow\nlimit 7\n", 1, Cause::BlockSizeLine),
+    (b"bs 512 wide\nlimit 7\n", 1, Cause::BlockSizeLine),
+    (b"bs 1024 wide", 2, Cause::LimitLine),
+    (b"bs 1024", 2, Cause::LimitLine),
+    (b"bs 1024\n", 2, Cause::LimitLine),
+    (b"bs 1024\nlimit 2", 2, Cause::LimitLine),
+    (b"bs 1024\nlimit 2\n", 2, Cause::LimitLine),
+    (b"bs 2048\nlimit 2147483647\n", 2, Cause::LimitLine),
+    (b"bs 4096\nlimit 7 \n", 2, Cause::LimitLine),
+    (b"bs 1024\nlimit 7\nx\n", 3, Cause::HandleLine),
+    (b"bs 1024\nlimit 7\n\n", 3, Cause::HandleLine),
+    (b"bs 1024\nlimit 7\n\nh w01\n", 3, Cause::HandleLine),
+    (b"bs 1024\nlimit 7\nh\th w1\n", 3, Cause::HandleLine),
+    (b"bs 1024\nlimit 7\nh\tw1\n", 3, Cause::HandleLine),
+    (b"bs 1024\nlimit 7\nhw1\n", 3, Cause::HandleLine),
+    (b"bs 1024\nlimit 7\nh\0\n", 3, Cause::HandleLine),
+    (b"bs 1024\nlimit 7\nh \n", 3, Cause::OpWord),
+    (b"bs 1024\nlimit 7\nh w1\0\n", 3, Cause::OpWord),
+    (b"bs 1024\nlimit 7\nh \xff\xfe\n", 3, Cause::OpWord),
+    (b"bs 1024\nlimit 7\nh w01\n", 3, Cause::OpWord),
+    (b"bs 1024\nlimit 7\nh x2\n", 3, Cause::OpWord),
+    (b"bs 1024\nlimit 7\nh w1\r\n", 3, Cause::OpWord),
+    (b"bs 1024\nlimit 7\nh  w1\n", 3, Cause::OpWord),
+    (b"bs 1024\nlimit 7\nh w1  w2\n", 3, Cause::OpWord),
+    (b"bs 1024\nlimit 7\nh w1 \n", 3, Cause::OpWord),
+    (b"bs 1024\nlimit 7\nh w\n", 3, Cause::OpWord),
+    (b"bs 1024\nlimit 7\nh w1 w", 3, Cause::OpWord),
+    (b"bs 1024\nlimit 7\nh w1 r", 3, Cause::OpWord),
+    (b"bs 1024\nlimit 7\nh r1=00\n", 3, Cause::OpWord),
+    (
+        b"bs 1024\nlimit 7\nh w18446744073709551616\n",
+        3,
+        Cause::OpWord,
+    ),
+    (
+        b"bs 1024\nlimit 7\nh w18446744073709551617\n",
+        3,
+        Cause::OpWord,
+    ),
+    (
+        b"bs 1024 wide\nlimit 7\nh r18446744073709551616\n",
+        3,
+        Cause::OpWord,
+    ),
+    (b"bs 1024\nlimit 7\nh w\xc3\xa9\n", 3, Cause::OpWord),
+    (b"bs 1024\nlimit 7\nh w1=c\n", 3, Cause::DataWord),
+    (b"bs 1024\nlimit 7\nh w1=\n", 3, Cause::DataWord),
+    (b"bs 1024\nlimit 7\nh w1=0g\n", 3, Cause::DataWord),
+    (b"bs 1024\nlimit 7\nh w1=00=00\n", 3, Cause::DataWord),
+    (b"bs 1024\nlimit 7\nh w1=c x\n", 3, Cause::DataWord),
+    (b"bs 1024\nlimit 7\nh w1 w2=0", 3, Cause::DataWord),
+    (b"bs 1024\nlimit 7\nh w1\nh w1=\nx\n", 4, Cause::DataWord),
+    (b"bs 1024\nlimit 7\nh\nh x w1=c\ny\n", 4, Cause::OpWord),
+];
+
+/// What is said of a fault in a line.
+fn said(test: &impl Test, alloc: Global, line: u64, cause: Cause) -> String {
+    let name = match cause {
+        Cause::BlockSizeLine => "BlockSizeLine",
+        Cause::LimitLine => "LimitLine",
+        Cause::HandleLine => "HandleLine",
+        Cause::OpWord => "OpWord",
+        Cause::DataWord => "DataWord",
+        Cause::Memory => "Memory",
+    };
+    format!(in alloc; "jb: queue line {line}: {name}\n").must(test, "memory")
+}
+
+/// Checks the first fault of a text, and what `jb cost` says of it.
+fn check_fault(test: &impl Test, alloc: Global, text: &[u8], fault: QueueFault, row: u64) {
+    let found = read_queue(alloc, text).err();
+    check_at(test, found == Some(fault), "the fault of row", row);
+    let bytes = text.to_vec(alloc).must(test, "memory");
+    let found = read_lines(alloc, bytes).err();
+    check_at(test, found == Some(fault), "the lines' fault of row", row);
+    let err = said(test, alloc, fault.line, fault.cause);
+    let answer = cost_answer(alloc, bytes_of(test, text)).must(test, "memory");
+    let told = (2, "", err.as_str());
+    check_told(test, &answer, told, "what is said of row", row)
+}
+
+/// Checks texts with their first fault, and two queues without a handle.
+fn check_faults(test: &impl Test, alloc: Global) {
+    for text in ["bs 2048\nlimit 3", "bs 4096\nlimit 2147483646\n"] {
+        let queue = read_queue(alloc, text.as_bytes()).must(test, "a limit is refused");
+        check(test, queue.handles.is_empty(), "a handle of none")
+    }
+    for (row, (text, line, cause)) in (0..).zip(&FAULTY) {
+        let fault = QueueFault {
+            line: *line,
+            cause: *cause,
+        };
+        check_fault(test, alloc, text, fault, row)
+    }
+}
+
+fn check_texts(test: &impl Test, alloc: Global) {
+    check_prefixes(test, alloc);
+    check_queues(test, alloc);
+    check_faults(test, alloc)
+}
+
+#[test]
+fn texts_are_queues_or_have_their_first_fault(rt: HostRuntime) {
+    check_texts(&By(&rt), rt.alloc())
+}

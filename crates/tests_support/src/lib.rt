@@ -1,0 +1,15 @@
+//! What the crates of tests share: what ends a test that fails, blocks made of rows of words, and blocks of a disk.
+//!
+//! A library has no function that may end the program. So each crate of tests says how its runtime ends a test (a
+//! [`Test`]), and what is here checks by that.
+#![tactic(auto)]
+
+mod blocks;
+mod checks;
+mod disks;
+mod seeds;
+
+pub use blocks::{Row, block_of, block_with, put_rows, put_words};
+pub use checks::{Ended, Must, Test, Wrong, check, check_at, check_in, fail};
+pub use disks::{read_at, read_block, write_at, write_block, zeros};
+pub use seeds::Seed;
