@@ -2,7 +2,10 @@
 use Rattle.std.specs.Prelude.{IfOk}
 use Rattle.std.proofs.Common.{◌≡◌, ℕ, ◌+◌, ◌%◌, ◌^◌, ◌⊎◌, Bool, true, false, nat_eq, List, [], ◌∷◌, ◌++◌, Result, Ok, Err, inl, inr, ⊎_elim, refl, ap, sym, subst, ◌∙◌, arith}
 use Rattle.jb_disk.specs.History.{History, MayLeave, newest_of, replay}
+use Rattle.jb_disk.specs.declared.disk.Disk.{Ghosts}
 use Rattle.jb_disk.specs.Image.{Image, Only, block}
+use Rattle.jb_disk.specs.Time.{LeavesOnly}
+use Rattle.jb_disk.proofs.Moments.{weaken}
 use Rattle.jb_super.specs.Journal.{SameJournal}
 use Rattle.jb_super.specs.Superblock.{Superblock}
 use Rattle.jb_batch.specs.Prepared.{IsPlanned, Planned}
@@ -23,6 +26,7 @@ use Rattle.jb_deck.specs.Since.{HoldsOn}
 use Rattle.jb_deck.proofs.Lives.{one-super, revoking-twice, same-revoking}
 use Rattle.jb_deck.proofs.Opened.{revoking-same}
 use Rattle.jb_client.specs.Lives.{AreLives, HasLives, HoldsChanges, HoldsLife, IsBatchOf, IsPartOfLife, IsWholeLife, LeftByLife, no_life, nothing, of_batch, one_life}
+use Rattle.jb_client.proofs.Programs.{Left, Runs}
 use Rattle.jb_client.specs.Programs.{HasChanges, IsPartOf, LeftByProgram, after_batch, all_changes, commits, no_more}
 
 -- what holds of the value that was given holds in another form too
@@ -53,10 +57,15 @@ pub left-none : (size count : ℕ) (base : Image) (handles : List Stopped) (c : 
 left-none size count base handles c l = record { changes = l.changes; groups = l.groups; has = l.has; part = none-part l.has.own count handles l.changes l.groups l.part; all = λ yes. absurd (false-true yes) }
 
 -- the batch is one of the life's handles, planned for the journal that was opened
-pub batch-of : (own : Superblock) (l : Log) → l ≡ opened_log own → (count : ℕ) (handles : List Stopped) (batch : Planned) → IsPlanned batch → batch.batch.handles ≡ handles → IsShapeOf l.sb count batch.batch.shape → IsBatchOf own count handles batch
+batch-of : (own : Superblock) (l : Log) → l ≡ opened_log own → (count : ℕ) (handles : List Stopped) (batch : Planned) → IsPlanned batch → batch.batch.handles ≡ handles → IsShapeOf l.sb count batch.batch.shape → IsBatchOf own count handles batch
 batch-of own l is count handles batch planned same shaped =
     let at = subst (λ (m : Log). IsShapeOf m.sb count batch.batch.shape) is shaped in
     record { planned = planned; same = same; shape = record { size = at.size; homes = at.homes; limit = at.limit; width = at.width } }
+
+-- the same by the superblock that an image had
+pub batch-opened : (size count : ℕ) (base : Image) (sb : Superblock) (l : Log) → super_on size count base ≡ Ok sb → l ≡ opened_log sb → (handles : List Stopped) (batch : Planned) → IsPlanned batch → batch.batch.handles ≡ handles → IsShapeOf l.sb count batch.batch.shape
+    → (own : Superblock) → super_on size count base ≡ Ok own → IsBatchOf own count handles batch
+batch-opened size count base sb l taken is handles batch planned same shaped own was = batch-of own l (is ∙ ap opened_log (one-super size count base sb own taken was)) count handles batch planned same shaped
 
 module _ (size count : ℕ) (base : Image) (handles : List Stopped) (batch : Planned) (c : Image) where
   -- of which superblock the batch is one
@@ -78,6 +87,24 @@ module _ (size count : ℕ) (base : Image) (handles : List Stopped) (batch : Pla
         part = of_batch batch (all_changes (commits batch ∷ [])) (groups_in batch.groups) is (whole-part batch);
         all = λ yes. record { batch = batch; is = is; all = refl; every = refl };
       }
+
+module _ {D : Type 0} (G : Ghosts D) (entry : D) (handles : List Stopped) where
+  -- what a crash leaves from the entry on
+  abbrev pub LifeLeft : Image → Type 0
+  LifeLeft c = G.may_leave entry c ⊎ LeftByLife (G.size entry) (G.count entry) (G.newest entry) handles false c
+
+  pub none-runs : (now : D) → Runs G entry [] now → LeavesOnly G.moment G.left_since entry now LifeLeft
+  none-runs now run =
+      weaken G.moment G.left_since entry now (Left G entry []) LifeLeft
+      (λ c. ⊎_elim inl (λ (l : LeftByProgram (G.size entry) (G.count entry) (G.newest entry) [] c). inr (left-none (G.size entry) (G.count entry) (G.newest entry) handles c l)))
+      run
+
+  pub batch-runs : (batch : Planned) → ((own : Superblock) → super_on (G.size entry) (G.count entry) (G.newest entry) ≡ Ok own → IsBatchOf own (G.count entry) handles batch)
+      → (now : D) → Runs G entry (commits batch ∷ []) now → LeavesOnly G.moment G.left_since entry now LifeLeft
+  batch-runs batch of now run =
+      weaken G.moment G.left_since entry now (Left G entry (commits batch ∷ [])) LifeLeft
+      (λ c. ⊎_elim inl (λ (l : LeftByProgram (G.size entry) (G.count entry) (G.newest entry) (commits batch ∷ []) c). inr (left-batch (G.size entry) (G.count entry) (G.newest entry) handles batch c of l)))
+      run
 
 -- ---- to the recovery after it
 

@@ -58,11 +58,7 @@ pub struct Lived {
 ///
 /// The fault of a recovery that was not cut short, or `Memory` where there is none for the disk after a crash or for the
 /// report.
-pub fn run_lives(
-    alloc: Global,
-    disk: MemoryDisk,
-    lives: Vec<Life>,
-) -> Result<Lived, RecoverFault>
+pub fn run_lives(alloc: Global, disk: MemoryDisk, lives: Vec<Life>) -> Result<Lived, RecoverFault>
     ensures lives { IsSound disk → IfOk result (λ lived. HasLives (bytes_of disk.size) disk.count
         (map (λ life. life.handles.items) lives.items) lived.committed.items (newest_of disk) (newest_of lived.disk)) }
 {
@@ -71,9 +67,9 @@ pub fn run_lives(
     recover(alloc, &mut disk)?;
     let mut committed = Vec::new(alloc);
     for life in lives {
-        let (next, is) = live(alloc, disk, life)?;
+        let (next, reported) = live(alloc, disk, life)?;
         disk = next;
-        let Ok(()) = committed.push(is) else {
+        let Ok(()) = committed.push(reported) else {
             return Err(RecoverFault::Memory);
         };
     }
@@ -101,7 +97,13 @@ fn live(alloc: Global, disk: MemoryDisk, life: Life) -> Result<(MemoryDisk, bool
         end,
         again,
     } = life;
-    let (last, committed) = run(alloc, FuseDisk::of(disk, end.calls), handles, stamp, checkpoint);
+    let (last, committed) = run(
+        alloc,
+        FuseDisk::of(disk, end.calls),
+        handles,
+        stamp,
+        checkpoint,
+    );
     let crashed = last.into_inner().crash(&end.choice)?;
     let cut = recover_in_part(alloc, FuseDisk::of(crashed, again.calls));
     let mut disk = cut.into_inner().crash(&again.choice)?;

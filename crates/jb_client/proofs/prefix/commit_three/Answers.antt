@@ -211,5 +211,6 @@ returns-in-Ok-commit-3-clause-prefix g c = λ honest.
       since = G.moment d3.disk;
       past = left4.later;
       each = λ image left. let l = left4.each image left in taken 0 l.groups image (omega arith) l.within l.left;
-      ends = λ image left. let f = (c.in-Ok-commit-3.ensures.now so3.up so3.honest).each image left in taken (groups_in third.groups) f.groups image f.from f.to (in_commit third (groups_in third.groups) (groups_in third.groups) image f);
+      ends = λ image left. let f = (c.in-Ok-commit-3.ensures.now so3.up so3.honest).each image left in taken (groups_in third.groups) f.groups image f.from f.to (in_commit third (groups_in third.groups) (groups_in third.groups) image f
+          (left4.each image (g.met.D.Disk.counts_now c.commit-3.new.deck.disk (G.moment d3.disk) image (c.commit-3.ensures.kept.stays_honest so3.honest) left4.later left)).frame);
     }
