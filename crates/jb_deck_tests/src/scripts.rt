@@ -207,14 +207,48 @@ fn writes<D: Disk>(
     deck.write_free(home, &bytes) == answer
 }
 
-/// Whether a batch is refused so, and handed back as it was where it is not lost.
-fn is_refused<D: Disk>(deck: &mut Deck<D>, batch: Prepared, why: Refusal) -> bool {
+/// Whether a refusal says so in words.
+fn says(alloc: Global, fault: &BatchFault, why: Refusal) -> bool {
+    let Ok(said) = format!(in alloc; "{fault}") else {
+        return false
+    };
+    let wanted = match why {
+        Refusal::Aborted => "the journal has failed; recover it and open it again",
+        Refusal::WrongTicket(_) => "the batch does not begin at ticket ",
+        Refusal::OtherShape => {
+            "the batch is for a journal of another shape; prepare it for this one"
+        }
+        Refusal::NumbersSpent => {
+            "no transaction number is left; close the journal and renumber it"
+        }
+        Refusal::Memory => "out of memory; commit the batch again",
+        Refusal::DeviceFault(_) => "the disk failed; recover the journal and open it again",
+    };
+    match why {
+        Refusal::WrongTicket(ticket) => {
+            let Ok(whole) = format!(in alloc; "{wanted}{ticket}; commit the one before it") else {
+                return false
+            };
+            said == whole
+        }
+        _ => said.as_str() == wanted,
+    }
+}
+
+/// Whether a batch is refused so, in words too, and handed back as it was where it is not lost.
+fn is_refused<D: Disk>(
+    alloc: Global,
+    deck: &mut Deck<D>,
+    batch: Prepared,
+    why: Refusal,
+) -> bool {
     let was = kept_as(batch.batch(), batch.groups().len(), batch.total());
     match deck.commit_batch(batch, STAMP) {
         Ok(_) => false,
         Err(fault) => {
+            let told = says(alloc, &fault, why);
             let lost = matches!(why, Refusal::DeviceFault(_));
-            refused(fault) == (why, if lost { None } else { Some(was) })
+            told & (refused(fault) == (why, if lost { None } else { Some(was) }))
         }
     }
 }
@@ -240,7 +274,7 @@ pub fn refuses<D: Disk>(
         width,
     };
     match prepared(alloc, first, handles_of(rt, alloc, lines, first), shape) {
-        Some(batch) => is_refused(deck, batch, why),
+        Some(batch) => is_refused(alloc, deck, batch, why),
         None => false,
     }
 }
