@@ -11,11 +11,12 @@ use Rattle.jb_super.specs.Superblock.{Superblock}
 use Rattle.jb_batch.specs.Prepared.{IsPlanned, Planned}
 use Rattle.jb_handle.specs.declared.shape.Shape.{Shape}
 use Rattle.jb_handle.specs.declared.stopped.Stopped.{Stopped}
-use Rattle.jb_front.specs.Front.{super_on}
+use Rattle.jb_front.specs.Front.{homes_in, super_on}
 use Rattle.jb_ready.specs.Ready.{revoking}
 use Rattle.jb_recover.specs.Outcomes.{KeepsJournal, recovered}
 use Rattle.jb_recover.proofs.Outcomes.{own-clean_refusal}
 use Rattle.jb_ring.specs.declared.log.Log.{Log}
+use Rattle.jb_ring.proofs.Framed.{frame-start}
 use Rattle.jb_ring.proofs.Owning.{same-then}
 use Rattle.jb_deck.specs.Calls.{IsCleanAt, IsRecoveredTo}
 use Rattle.jb_deck.specs.Changes.{Change, HoldsAfter, settled_in}
@@ -205,6 +206,7 @@ module _ (on : HoldsOn) (size count : ℕ) (own : Superblock) (last : ℕ) (befo
           each = stands;
         });
         holds = stands;
+        keeps = frame-start entry.sb.first (entry.sb.maxlen + homes_in entry.sb count) base;
       }
 
   -- what a crash left, of the life or of before it, recovered

@@ -51,6 +51,7 @@ pub(crate) fn run<D: Disk>(
 {
     jb_deck::laws::since::<D>();
     jb_deck::laws::holds::<D>();
+    jb_deck::laws::keeps::<D>();
     jb_deck::laws::opening();
     let mut deck = match Deck::open(alloc, disk) {
         Ok(deck) => deck,

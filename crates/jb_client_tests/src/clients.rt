@@ -256,7 +256,7 @@ fn lives_that_end_with_a_crash(rt: HostRuntime) -> Result<(), Fail> {
             return Err("a recovery fails".into());
         };
         let found = homes(alloc, &mut lived.disk)?;
-        assert!(rt; found == *wanted && lived.committed[..] == **committed);
+        assert!(rt; found == *wanted && &lived.committed[..] == *committed);
     }
     Ok(())
 }
