@@ -1,5 +1,5 @@
--- Lives of a journal: each opens it, commits a batch, perhaps checkpoints a transaction, closes it, and ends with a crash
--- and a recovery.
+-- Lives of a journal: each opens it, commits a batch, perhaps checkpoints a transaction, closes it, and ends with a
+-- crash and a recovery.
 use Rattle.std.specs.Prelude.{◌≡◌, ◌⊎◌, ℕ, ◌+◌, ◌%◌, ◌^◌, Bool, true, List, [], ◌∷◌, ◌++◌, Ok}
 use Rattle.jb_block.specs.Size.{bytes_of}
 use Rattle.jb_disk.specs.History.{History, IsSound, MayLeave, newest_of}
@@ -19,15 +19,15 @@ use Rattle.jb_client.specs.Programs.{HasChanges, IsPartOf, all_changes, commits}
 
 -- ---- what a life changes
 
--- a batch of these handles, with a plan for the journal that has this superblock and the feature for revoke blocks, on a
--- disk of so many blocks
+-- a batch of these handles, with a plan for the journal that has this superblock and the feature for revoke blocks, on
+-- a disk of so many blocks
 pub record IsBatchOf (own : Superblock) (count : ℕ) (handles : List Stopped) (batch : Planned) : Type 0 where
   pub planned : IsPlanned batch
   pub same : batch.batch.handles ≡ handles
   pub shape : IsShapeOf (revoking own) count batch.batch.shape
 
--- a part of what a life changes that commits these handles, with so many groups: nothing, or the first groups of a batch
--- of them
+-- a part of what a life changes that commits these handles, with so many groups: nothing, or the first groups of a
+-- batch of them
 pub data IsPartOfLife (own : Superblock) (count : ℕ) (handles : List Stopped) : List Change → ℕ → Type 0 where
   nothing : IsPartOfLife own count handles [] 0
   of_batch : (batch : Planned) (changes : List Change) (groups : ℕ) → IsBatchOf own count handles batch
@@ -73,9 +73,10 @@ pub record HoldsChanges (own : Superblock) (last size count : ℕ) (before : ℕ
   pub number : sb.sequence ≡ last
   pub homes : (home : ℕ) → HoldsAfter changes home (λ bytes. bytes ≡ before home) (block c (own.maxlen + home))
 
--- A crash left the image in a life that found the journal so and was to commit these handles: it has a part of that, and
--- all of it once it is reported.
-pub record LeftByLife (size count : ℕ) (base : Image) (handles : List Stopped) (committed : Bool) (c : Image) : Type 0 where
+-- A crash left the image in a life that found the journal so and was to commit these handles: it has a part of that,
+-- and all of it once it is reported.
+pub record LeftByLife (size count : ℕ) (base : Image) (handles : List Stopped) (committed : Bool) (c : Image)
+    : Type 0 where
   pub changes : List Change
   pub groups : ℕ
   pub has : HasChanges size count base changes groups c
@@ -97,7 +98,8 @@ pub record HoldsLife (own : Superblock) (last size count : ℕ) (before : ℕ �
 -- The journal of the old image was recovered, and then had lives one after another, in each of which it was to commit
 -- such handles; these were reported as committed or not. The new image, which the last recovery made, holds what they
 -- changed, counted from the homes as the first recovery left them, at the number that follows.
-pub record HasLives (size count : ℕ) (lives : List (List Stopped)) (reported : List Bool) (old new : Image) : Type 0 where
+pub record HasLives (size count : ℕ) (lives : List (List Stopped)) (reported : List Bool) (old new : Image)
+    : Type 0 where
   pub own : Superblock
   pub was : super_on size count old ≡ Ok own
   pub last : ℕ

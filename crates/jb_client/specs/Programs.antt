@@ -49,8 +49,8 @@ all_groups (writes home bytes ∷ parts) = all_groups parts
 
 -- The image is of the journal that this one has, with these changes since and so many groups: it is recovered to the
 -- handles that were settled, at the number that follows, and each home then holds what the changes say. Its superblock
--- is the one that stood, with the feature for revoke blocks or without it; and nothing has changed but that, the log and
--- the homes.
+-- is the one that stood, with the feature for revoke blocks or without it; and nothing has changed but that, the log
+-- and the homes.
 pub record HasChanges (size count : ℕ) (base : Image) (changes : List Change) (groups : ℕ) (c : Image) : Type 0 where
   pub own : Superblock
   pub was : super_on size count base ≡ Ok own

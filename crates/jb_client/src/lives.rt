@@ -49,15 +49,15 @@ pub struct Lived {
 /// committed, and perhaps a transaction is checkpointed; the power fails at any call of the disk, and again at any call
 /// of the recovery of what the crash left; and what that left is recovered. The disk that is given back holds the homes
 /// as they stood after the first recovery, with what the lives changed, in order: of each life its handles, or those of
-/// the first groups of them, or none; all of those that were reported as committed. Its superblock is the journal's own,
-/// and its numbers count the groups.
+/// the first groups of them, or none; all of those that were reported as committed. Its superblock is the journal's
+/// own, and its numbers count the groups.
 ///
 /// Handles that are no batch for this journal, with tickets from 0 on, are reported as not committed.
 ///
 /// # Errors
 ///
-/// The fault of a recovery that was not cut short, or `Memory` where there is none for the disk after a crash or for the
-/// report.
+/// The fault of a recovery that was not cut short, or `Memory` where there is none for the disk after a crash or for
+/// the report.
 pub fn run_lives(alloc: Global, disk: MemoryDisk, lives: Vec<Life>) -> Result<Lived, RecoverFault>
     ensures lives { IsSound disk → IfOk result (λ lived. HasLives (bytes_of disk.size) disk.count
         (map (λ life. life.handles.items) lives.items) lived.committed.items (newest_of disk) (newest_of lived.disk)) }

@@ -47,3 +47,5 @@ mod stops;
 mod taking;
 #[cfg(test)]
 mod worked;
+#[cfg(test)]
+mod words;

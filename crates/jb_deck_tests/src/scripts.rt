@@ -2,6 +2,7 @@
 
 use crate::groups::STAMP;
 use crate::images::{check_in, put_words};
+use crate::words::says;
 use jb_block::{BlockSize, Width};
 use jb_deck::{
     Batch, BatchFault, Checked, CheckpointFault, Deck, Done, Entry, FreeFault, Prepared, is_batch,
@@ -205,34 +206,6 @@ fn writes<D: Disk>(
         &[0x7777_7777, 0x7777_7777, 0x7777_7777, 0x7777_7777],
     );
     deck.write_free(home, &bytes) == answer
-}
-
-/// Whether a refusal says so in words.
-fn says(alloc: Global, fault: &BatchFault, why: Refusal) -> bool {
-    let Ok(said) = format!(in alloc; "{fault}") else {
-        return false
-    };
-    let wanted = match why {
-        Refusal::Aborted => "the journal has failed; recover it and open it again",
-        Refusal::WrongTicket(_) => "the batch does not begin at ticket ",
-        Refusal::OtherShape => {
-            "the batch is for a journal of another shape; prepare it for this one"
-        }
-        Refusal::NumbersSpent => {
-            "no transaction number is left; close the journal and renumber it"
-        }
-        Refusal::Memory => "out of memory; commit the batch again",
-        Refusal::DeviceFault(_) => "the disk failed; recover the journal and open it again",
-    };
-    match why {
-        Refusal::WrongTicket(ticket) => {
-            let Ok(whole) = format!(in alloc; "{wanted}{ticket}; commit the one before it") else {
-                return false
-            };
-            said == whole
-        }
-        _ => said.as_str() == wanted,
-    }
 }
 
 /// Whether a batch is refused so, in words too, and handed back as it was where it is not lost.
