@@ -205,7 +205,11 @@ static LIVES: [LivesRow; 11] = [
         &[true, false],
         [0x11, 0x12, 0, 0],
     ),
-    (&[(0, 0, false), (0, 0, false)], &[false, false], [0, 0, 0, 0]),
+    (
+        &[(0, 0, false), (0, 0, false)],
+        &[false, false],
+        [0, 0, 0, 0],
+    ),
     // a life that ends at once between two others, the last of which frees a home that the first has written
     (
         &[(1000, 1000, true), (0, 1000, false), (1000, 1000, false)],
@@ -230,11 +234,7 @@ fn failure(alloc: Global, calls: u64) -> Failure {
 }
 
 /// The journal after these lives.
-fn after_lives(
-    alloc: Global,
-    disk: MemoryDisk,
-    rows: &[LifeRow],
-) -> Result<Option<Lived>, Fail> {
+fn after_lives(alloc: Global, disk: MemoryDisk, rows: &[LifeRow]) -> Result<Option<Lived>, Fail> {
     let mut lives = Vec::new(alloc);
     for ((end, again, checkpoint), lines) in rows.iter().zip(&HANDLES) {
         lives.push(Life {

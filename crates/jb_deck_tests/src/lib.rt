@@ -46,6 +46,6 @@ mod stops;
 #[cfg(test)]
 mod taking;
 #[cfg(test)]
-mod worked;
-#[cfg(test)]
 mod words;
+#[cfg(test)]
+mod worked;

@@ -209,12 +209,7 @@ fn writes<D: Disk>(
 }
 
 /// Whether a batch is refused so, in words too, and handed back as it was where it is not lost.
-fn is_refused<D: Disk>(
-    alloc: Global,
-    deck: &mut Deck<D>,
-    batch: Prepared,
-    why: Refusal,
-) -> bool {
+fn is_refused<D: Disk>(alloc: Global, deck: &mut Deck<D>, batch: Prepared, why: Refusal) -> bool {
     let was = kept_as(batch.batch(), batch.groups().len(), batch.total());
     match deck.commit_batch(batch, STAMP) {
         Ok(_) => false,
