@@ -6,6 +6,7 @@ use Rattle.jb_batch.specs.Prepared.{Planned}
 use Rattle.jb_disk.specs.declared.disk.Disk.{Ghosts}
 use Rattle.jb_disk.specs.Image.{Image, block}
 use Rattle.jb_disk.specs.Kept.{Kept}
+use Rattle.jb_handle.specs.declared.shape.Shape.{Shape}
 use Rattle.jb_disk.specs.Time.{LeavesOnly}
 use Rattle.jb_disk.proofs.Moments.{after, weaken}
 use Rattle.jb_super.specs.Superblock.{Superblock}
@@ -14,9 +15,10 @@ use Rattle.jb_ready.specs.Ready.{revoking}
 use Rattle.jb_recover.specs.Outcomes.{recovered}
 use Rattle.jb_deck.specs.Calls.{IsRecoveredTo, OpeningIsRecovered, Reaches, at_first, one_more}
 use Rattle.jb_deck.specs.Changes.{Change, HoldsAfter, HoldsAfterFill, fills, settled_in, settles, torn_by}
-use Rattle.jb_deck.specs.Deck.{OpenDeck}
+use Rattle.jb_deck.specs.Deck.{IsShapeOf, OpenDeck}
 use Rattle.jb_deck.specs.Gathering.{groups_in}
-use Rattle.jb_deck.specs.Opening.{FollowsEntry, IsNew, opened_log, recovered_home}
+use Rattle.jb_deck.specs.Keeping.{CrashKeeps}
+use Rattle.jb_deck.specs.Opening.{FollowsEntry, IsNew, Opens, recovered_home}
 use Rattle.jb_deck.specs.Since.{CrashHolds, IsEnded, IsLeft, LeftInCommit, SinceIsRecovered, deck_homes}
 use Rattle.jb_deck.specs.Trailing.{handles_to}
 use Rattle.jb_deck.specs.declared.freed.FreeFault.{FreeFault}
@@ -26,7 +28,7 @@ use Rattle.jb_ring.specs.Leaving.{AllHave}
 use Rattle.jb_deck.proofs.Changed.{holds-append}
 use Rattle.jb_deck.proofs.Opened.{revoking-same}
 use Rattle.jb_client.specs.Programs.{HasChanges, IsPartOf, LeftByProgram, Part, after_batch, after_write, commits, in_batch, in_write, no_more, writes}
-use Rattle.jb_client.proofs.Journal.{opened-recovered}
+use Rattle.jb_client.proofs.Journal.{keeps-own, opened-recovered}
 
 -- the opening alone
 entry-has : OpeningIsRecovered → (size count : ℕ) (base c : Image) → FollowsEntry size count base c → HasChanges size count base [] 0 c
@@ -44,6 +46,7 @@ entry-has opening size count base c f =
           (λ (early : IsRecoveredTo f.sb (f.sb.sequence + 1) size count before [] c). ap (λ m. block (recovered size count c) (m + home)) (sym (ap (λ (x : Superblock). x.maxlen) early.same)) ∙ early.each home)
           (λ (late : IsRecoveredTo (revoking f.sb) (f.sb.sequence + 1) size count before [] c). ap (λ m. block (recovered size count c) (m + home)) (sym (ap (λ (x : Superblock). x.maxlen) late.same ∙ (revoking-same f.sb).maxlen)) ∙ late.each home)
           is;
+      keeps = f.frame;
     }
 
 -- a home that was written last holds these bytes
@@ -91,10 +94,19 @@ module _ {D : Type 0} (G : Ghosts D) (entry : D) (parts : List Part) where
   -- the journal was opened
   pub record IsOpened (deck : OpenDeck D) : Type 0 where
     pub new : IsNew deck
-    pub sb : Superblock
-    pub was : super_on size count base ≡ Ok sb
-    pub log : deck.log ≡ opened_log sb
+    pub opens : Opens size count base (G.newest deck.disk) deck.log
+    pub shaped : IsShapeOf deck.log.sb count deck.shape
     pub stands : (home : ℕ) → deck_homes G.newest deck home ≡ before home
+
+  -- so say the clauses of opening it, and of its shape
+  pub opened-as : (deck : OpenDeck D) → IsNew deck → Opens size count base (G.newest deck.disk) deck.log → ((home : ℕ) → deck_homes G.newest deck home ≡ before home) → Kept G.size G.count G.honest entry deck.disk
+      → (shape : Shape) → shape ≡ deck.shape → IsShapeOf deck.log.sb (G.count deck.disk) shape → IsOpened deck
+  opened-as deck new opens stands kept shape is shaped = record {
+    new = new;
+    opens = opens;
+    shaped = subst (λ n. IsShapeOf deck.log.sb n deck.shape) kept.same_count (subst (IsShapeOf deck.log.sb (G.count deck.disk)) is shaped);
+    stands = stands;
+  }
 
   -- these changes were made, and these parts are to come
   pub record SoFar (opened : OpenDeck D) (rest : List Part) (done : List Change) (groups : ℕ) (now : OpenDeck D) : Type 0 where
@@ -120,32 +132,35 @@ module _ {D : Type 0} (G : Ghosts D) (entry : D) (parts : List Part) where
     part = λ changes more is_part. subst (IsPartOf parts changes) (let n : more ≡ 0 + more = omega arith in n) is_part;
   }
 
-  module _ (since : SinceIsRecovered G.newest) (holds : CrashHolds G.newest) (opened : OpenDeck D) (is : IsOpened opened) where
+  module _ (since : SinceIsRecovered G.newest) (holds : CrashHolds G.newest) (keeps : CrashKeeps G.newest) (opened : OpenDeck D) (is : IsOpened opened) where
     -- what a crash left in the next call
     module _ (rest : List Part) (done : List Change) (groups : ℕ) (now : OpenDeck D) (so : SoFar opened rest done groups now) where
       here : (changes : List Change) (more : ℕ) (c : Image) → IsLeft G.newest (G.size now.disk) (G.count now.disk) now changes (now.log.next + more) c → IsLeft G.newest size count now changes (now.log.next + more) c
       here changes more c left = subst (λ n. IsLeft G.newest size n now changes (now.log.next + more) c) so.same_count (subst (λ s. IsLeft G.newest s (G.count now.disk) now changes (now.log.next + more) c) so.same_size left)
 
       pub left-to : (changes : List Change) (more : ℕ) (c : Image) → IsLeft G.newest (G.size now.disk) (G.count now.disk) now changes (now.log.next + more) c
-          → IsRecoveredTo (revoking is.sb) (is.sb.sequence + 1 + (groups + more)) size count before (settled_in (done ++ changes)) c
+          → IsRecoveredTo (revoking is.opens.sb) (is.opens.sb.sequence + 1 + (groups + more)) size count before (settled_in (done ++ changes)) c
       left-to changes more c left =
           let hs = settled_in (done ++ changes) in
           let to = since size count before opened now done changes (now.log.next + more) c is.new is.stands so.calls (here changes more c left) in
-          let start : opened.log.next ≡ is.sb.sequence + 1 = ap (λ (x : Log). x.next) is.log in
+          let start : opened.log.next ≡ is.opens.sb.sequence + 1 = ap (λ (x : Log). x.next) is.opens.log in
           let next = so.next in
-          let number : now.log.next + more ≡ is.sb.sequence + 1 + (groups + more) = omega (arith, start, next) in
-          subst (λ n. IsRecoveredTo (revoking is.sb) n size count before hs c) number (opened-recovered opened.log is.sb is.log (now.log.next + more) size count before hs c to)
+          let number : now.log.next + more ≡ is.opens.sb.sequence + 1 + (groups + more) = omega (arith, start, next) in
+          subst (λ n. IsRecoveredTo (revoking is.opens.sb) n size count before hs c) number (opened-recovered opened.log is.opens.sb is.opens.log (now.log.next + more) size count before hs c to)
 
       pub left-has : (changes : List Change) (more : ℕ) (c : Image) → IsLeft G.newest (G.size now.disk) (G.count now.disk) now changes (now.log.next + more) c → HasChanges size count base (done ++ changes) (groups + more) c
       left-has changes more c left =
-          let maxlen : opened.log.sb.maxlen ≡ is.sb.maxlen = ap (λ (x : Log). x.sb.maxlen) is.log ∙ (revoking-same is.sb).maxlen in
+          let maxlen : opened.log.sb.maxlen ≡ is.opens.sb.maxlen = ap (λ (x : Log). x.sb.maxlen) is.opens.log ∙ (revoking-same is.opens.sb).maxlen in
           record {
-            own = is.sb;
-            was = is.was;
+            own = is.opens.sb;
+            was = is.opens.taken;
             recovered_to = inr (left-to changes more c left);
             holds = λ home.
                 subst (λ m. HoldsAfter (done ++ changes) home (λ bytes. bytes ≡ before home) (block (recovered size count c) (m + home))) maxlen
                 (holds size count before opened now done changes (now.log.next + more) c is.new is.stands so.calls (here changes more c left) home);
+            keeps =
+                keeps-own opened.log is.opens.sb opened.shape count base c is.opens.log is.shaped
+                (keeps size count base opened now done changes (now.log.next + more) c is.opens is.shaped so.calls (here changes more c left)).0;
           }
 
       -- once the journal is closed

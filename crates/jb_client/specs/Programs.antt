@@ -6,6 +6,7 @@ use Rattle.jb_batch.specs.Prepared.{Planned}
 use Rattle.jb_front.specs.Front.{super_on}
 use Rattle.jb_ready.specs.Ready.{revoking}
 use Rattle.jb_recover.specs.Outcomes.{recovered}
+use Rattle.jb_ring.specs.Frame.{KeepsFrame}
 use Rattle.jb_deck.specs.Calls.{IsRecoveredTo}
 use Rattle.jb_deck.specs.Changes.{Change, HoldsAfter, fills, settled_in, settles, tears}
 use Rattle.jb_deck.specs.Deck.{OpenDeck}
@@ -48,7 +49,8 @@ all_groups (writes home bytes ∷ parts) = all_groups parts
 
 -- The image is of the journal that this one has, with these changes since and so many groups: it is recovered to the
 -- handles that were settled, at the number that follows, and each home then holds what the changes say. Its superblock
--- is the one that stood, with the feature for revoke blocks or without it.
+-- is the one that stood, with the feature for revoke blocks or without it; and nothing has changed but that, the log
+-- and the homes.
 pub record HasChanges (size count : ℕ) (base : Image) (changes : List Change) (groups : ℕ) (c : Image) : Type 0 where
   pub own : Superblock
   pub was : super_on size count base ≡ Ok own
@@ -58,6 +60,7 @@ pub record HasChanges (size count : ℕ) (base : Image) (changes : List Change) 
       (settled_in changes) c
   pub holds : (home : ℕ) → HoldsAfter changes home (λ bytes. bytes ≡ recovered_home size count base home)
       (block (recovered size count c) (own.maxlen + home))
+  pub keeps : KeepsFrame own count base c
 
 -- a crash left the image in a program, which found the journal so: it has a first part of what the program changes
 pub record LeftByProgram (size count : ℕ) (base : Image) (parts : List Part) (c : Image) : Type 0 where

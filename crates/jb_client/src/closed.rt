@@ -39,6 +39,7 @@ pub fn commit_and_close<D: Disk>(
 {
     jb_deck::laws::since::<D>();
     jb_deck::laws::holds::<D>();
+    jb_deck::laws::keeps::<D>();
     jb_deck::laws::opening();
     let mut deck = match Deck::open(alloc, disk) {
         Ok(deck) => deck,
@@ -47,6 +48,7 @@ pub fn commit_and_close<D: Disk>(
             return Err(disk);
         }
     };
+    let _shape = deck.shape(); // it is that of the journal
     match commit(&mut deck, batch, stamp) {
         Ok(()) => Ok(deck.close()),
         Err(_) => Err(deck.close()),

@@ -3,11 +3,12 @@
 
 mod closed;
 mod commit;
+mod life;
 mod lives;
 mod prefix;
 mod reuse;
 
 pub use closed::commit_and_close;
-pub use lives::{Failure, Life, Lived, two_lives};
+pub use lives::{Failure, Life, Lived, run_lives};
 pub use prefix::commit_three;
 pub use reuse::reuse_home;

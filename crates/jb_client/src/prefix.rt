@@ -39,6 +39,7 @@ pub fn commit_three<D: Disk + Drop>(
 {
     jb_deck::laws::since::<D>();
     jb_deck::laws::holds::<D>();
+    jb_deck::laws::keeps::<D>();
     jb_deck::laws::opening();
     let mut deck = match Deck::open(alloc, disk) {
         Ok(deck) => deck,
@@ -49,6 +50,7 @@ pub fn commit_three<D: Disk + Drop>(
             return Err(disk);
         }
     };
+    let _shape = deck.shape(); // it is that of the journal
     let Ok(()) = commit(&mut deck, first, stamp) else {
         give_up(second);
         give_up(third);

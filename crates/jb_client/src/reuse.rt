@@ -41,6 +41,7 @@ pub fn reuse_home<D: Disk>(
 {
     jb_deck::laws::since::<D>();
     jb_deck::laws::holds::<D>();
+    jb_deck::laws::keeps::<D>();
     jb_deck::laws::reads::<D>();
     jb_deck::laws::opening();
     let mut deck = match Deck::open(alloc, disk) {
@@ -51,6 +52,7 @@ pub fn reuse_home<D: Disk>(
             return Err(disk);
         }
     };
+    let _shape = deck.shape(); // it is that of the journal
     let Ok(()) = commit(&mut deck, first, stamp) else {
         give_up(second);
         return Err(deck.close());

@@ -1,7 +1,7 @@
 //! Each client is run, and the homes of its disk are compared after a recovery.
 
 use jb_block::{BlockSize, Stamp, Width};
-use jb_client::{Failure, Life, Lived, commit_and_close, commit_three, reuse_home, two_lives};
+use jb_client::{Failure, Life, Lived, commit_and_close, commit_three, reuse_home, run_lives};
 use jb_deck::{Batch, Prepared, is_batch, prepare};
 use jb_disk::{Disk, MemoryDisk};
 use jb_front::format;
@@ -34,8 +34,8 @@ fn new_disk(alloc: Global) -> Result<MemoryDisk, Fail> {
     }
 }
 
-/// The handles of these lines as a batch with its plan, with tickets from `first` on.
-fn batch(alloc: Global, first: u64, lines: &str) -> Result<Prepared, Fail> {
+/// The handles of these lines, with tickets from `first` on.
+fn handles(alloc: Global, first: u64, lines: &str) -> Result<Vec<Stopped>, Fail> {
     let mut text = b"bs 1024\nlimit 8\n".to_vec(alloc)?;
     for byte in lines.as_bytes() {
         text.push(*byte)?;
@@ -44,7 +44,12 @@ fn batch(alloc: Global, first: u64, lines: &str) -> Result<Prepared, Fail> {
     for handle in &mut handles {
         handle.ticket = handle.ticket.saturating_add(first);
     }
-    planned(alloc, first, handles, SHAPE)
+    Ok(handles)
+}
+
+/// These handles as a batch with its plan.
+fn batch(alloc: Global, first: u64, lines: &str) -> Result<Prepared, Fail> {
+    planned(alloc, first, handles(alloc, first, lines)?, SHAPE)
 }
 
 /// These handles as a batch with its plan.
@@ -159,20 +164,65 @@ fn three_batches_and_one_that_is_closed(rt: HostRuntime) -> Result<(), Fail> {
     Ok(())
 }
 
-/// How many calls of the disk each of two lives and the first recovery after it has; whether each batch is reported as
-/// committed; and the first bytes of the homes after both.
-type LivesRow = ((u64, u64), u64, (bool, bool), [u8; 4]);
+/// What the lives of a journal commit, one after the other.
+static HANDLES: [&str; 3] = ["h w0=11 w1=12\n", "h w1=22\nh w2=23\n", "h w3=34 r0\n"];
 
-static LIVES: [LivesRow; 7] = [
-    ((1000, 1000), 1000, (true, true), [0x11, 0x22, 0x23, 0]),
+/// A life: after how many calls of its disk it ends, after how many the recovery after it is cut short, and whether it
+/// checkpoints a transaction.
+type LifeRow = (u64, u64, bool);
+
+/// Lives one after the other, of each whether its handles are reported as committed, and the first bytes of the homes
+/// after all of them.
+type LivesRow = (&'static [LifeRow], &'static [bool], [u8; 4]);
+
+static LIVES: [LivesRow; 11] = [
+    (&[], &[], [0, 0, 0, 0]),
+    (&[(1000, 1000, false)], &[true], [0x11, 0x12, 0, 0]),
+    (
+        &[(1000, 1000, false), (1000, 1000, false)],
+        &[true, true],
+        [0x11, 0x22, 0x23, 0],
+    ),
     // the power fails in the recovery too: before anything is written, and after a home is
-    ((1000, 1000), 0, (true, true), [0x11, 0x22, 0x23, 0]),
-    ((1000, 1000), 9, (true, true), [0x11, 0x22, 0x23, 0]),
-    ((1000, 0), 1000, (true, false), [0x11, 0x12, 0, 0]),
+    (
+        &[(1000, 0, false), (1000, 0, false)],
+        &[true, true],
+        [0x11, 0x22, 0x23, 0],
+    ),
+    (
+        &[(1000, 9, false), (1000, 9, false)],
+        &[true, true],
+        [0x11, 0x22, 0x23, 0],
+    ),
+    (
+        &[(1000, 1000, false), (0, 1000, false)],
+        &[true, false],
+        [0x11, 0x12, 0, 0],
+    ),
     // while the second batch is committed
-    ((1000, 38), 1000, (true, false), [0x11, 0x12, 0, 0]),
-    ((0, 1000), 1000, (false, true), [0, 0x22, 0x23, 0]),
-    ((0, 0), 0, (false, false), [0, 0, 0, 0]),
+    (
+        &[(1000, 1000, false), (38, 1000, false)],
+        &[true, false],
+        [0x11, 0x12, 0, 0],
+    ),
+    (
+        &[(0, 0, false), (0, 0, false)],
+        &[false, false],
+        [0, 0, 0, 0],
+    ),
+    // a life that ends at once between two others, the last of which frees a home that the first has written
+    (
+        &[(1000, 1000, true), (0, 1000, false), (1000, 1000, false)],
+        &[true, false, true],
+        [0x11, 0x12, 0, 0x34],
+    ),
+    (
+        &[(1000, 9, true), (1000, 0, true), (1000, 9, true)],
+        &[true, true, true],
+        [0x11, 0x22, 0x23, 0x34],
+    ),
+    // while the only transaction is checkpointed
+    (&[(46, 1000, true)], &[true], [0x11, 0x12, 0, 0]),
 ];
 
 /// A power failure after so many calls, after which all that was not synced is lost.
@@ -183,38 +233,30 @@ fn failure(alloc: Global, calls: u64) -> Failure {
     }
 }
 
-/// The journal after two lives.
-fn after_lives(
-    alloc: Global,
-    disk: MemoryDisk,
-    calls: (u64, u64),
-    again: u64,
-) -> Result<Option<Lived>, Fail> {
-    let (first, second) = pair(alloc, (0, "h w0=11 w1=12\n"), (0, "h w1=22\nh w2=23\n"))?;
-    let first = Life {
-        batch: first,
-        stamp: STAMP,
-        end: failure(alloc, calls.0),
-        again: failure(alloc, again),
-    };
-    let second = Life {
-        batch: second,
-        stamp: STAMP,
-        end: failure(alloc, calls.1),
-        again: failure(alloc, again),
-    };
-    Ok(two_lives(alloc, disk, first, second).ok())
+/// The journal after these lives.
+fn after_lives(alloc: Global, disk: MemoryDisk, rows: &[LifeRow]) -> Result<Option<Lived>, Fail> {
+    let mut lives = Vec::new(alloc);
+    for ((end, again, checkpoint), lines) in rows.iter().zip(&HANDLES) {
+        lives.push(Life {
+            handles: handles(alloc, 0, lines)?,
+            stamp: STAMP,
+            checkpoint: *checkpoint,
+            end: failure(alloc, *end),
+            again: failure(alloc, *again),
+        })?;
+    }
+    Ok(run_lives(alloc, disk, lives).ok())
 }
 
 #[test]
-fn two_lives_that_end_with_a_crash(rt: HostRuntime) -> Result<(), Fail> {
+fn lives_that_end_with_a_crash(rt: HostRuntime) -> Result<(), Fail> {
     let alloc = rt.alloc();
-    for (calls, again, committed, wanted) in &LIVES {
-        let Some(mut lived) = after_lives(alloc, new_disk(alloc)?, *calls, *again)? else {
+    for (rows, committed, wanted) in &LIVES {
+        let Some(mut lived) = after_lives(alloc, new_disk(alloc)?, rows)? else {
             return Err("a recovery fails".into());
         };
         let found = homes(alloc, &mut lived.disk)?;
-        assert!(rt; found == *wanted && (lived.first, lived.second) == *committed);
+        assert!(rt; found == *wanted && &lived.committed[..] == *committed);
     }
     Ok(())
 }

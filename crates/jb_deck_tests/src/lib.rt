@@ -46,4 +46,6 @@ mod stops;
 #[cfg(test)]
 mod taking;
 #[cfg(test)]
+mod words;
+#[cfg(test)]
 mod worked;

@@ -2,6 +2,7 @@
 
 use crate::groups::STAMP;
 use crate::images::{check_in, put_words};
+use crate::words::says;
 use jb_block::{BlockSize, Width};
 use jb_deck::{
     Batch, BatchFault, Checked, CheckpointFault, Deck, Done, Entry, FreeFault, Prepared, is_batch,
@@ -207,14 +208,15 @@ fn writes<D: Disk>(
     deck.write_free(home, &bytes) == answer
 }
 
-/// Whether a batch is refused so, and handed back as it was where it is not lost.
-fn is_refused<D: Disk>(deck: &mut Deck<D>, batch: Prepared, why: Refusal) -> bool {
+/// Whether a batch is refused so, in words too, and handed back as it was where it is not lost.
+fn is_refused<D: Disk>(alloc: Global, deck: &mut Deck<D>, batch: Prepared, why: Refusal) -> bool {
     let was = kept_as(batch.batch(), batch.groups().len(), batch.total());
     match deck.commit_batch(batch, STAMP) {
         Ok(_) => false,
         Err(fault) => {
+            let told = says(alloc, &fault, why);
             let lost = matches!(why, Refusal::DeviceFault(_));
-            refused(fault) == (why, if lost { None } else { Some(was) })
+            told & (refused(fault) == (why, if lost { None } else { Some(was) }))
         }
     }
 }
@@ -240,7 +242,7 @@ pub fn refuses<D: Disk>(
         width,
     };
     match prepared(alloc, first, handles_of(rt, alloc, lines, first), shape) {
-        Some(batch) => is_refused(deck, batch, why),
+        Some(batch) => is_refused(alloc, deck, batch, why),
         None => false,
     }
 }

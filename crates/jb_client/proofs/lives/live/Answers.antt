@@ -1,12 +1,11 @@
-use Rattle.std.proofs.Common.{◌≡◌, ◌⊎◌, ◌∷◌, [], length, ap, sym, subst, ◌∙◌, inl, inr, ⊎_elim}
+use Rattle.std.proofs.Common.{◌≡◌, ◌⊎◌, false, length, ap, sym, subst, ◌∙◌, inl, inr, ⊎_elim}
 use Rattle.jb_block.specs.Size.{bytes_of}
 use Rattle.jb_disk.specs.History.{History, IsSound, MayLeave, newest_of, replay}
 use Rattle.jb_disk.specs.Image.{Only}
 use Rattle.jb_disk.specs.Lives.{left_since_now}
 use Rattle.jb_front.proofs.Entering.{entry-as}
 use Rattle.jb_recover.specs.Outcomes.{RecoversAs, recovered}
-use Rattle.jb_client.specs.Lives.{HoldsChanges, HoldsLife, IsAtRest}
-use Rattle.jb_client.specs.Programs.{LeftByProgram, commits}
+use Rattle.jb_client.specs.Lives.{HoldsChanges, HoldsLife, IsAtRest, LeftByLife}
 use Rattle.jb_client.proofs.Living.{fresh-only, life-more}
 use Rattle.jb_client.proofs.lives.live.Goals as goal
 
@@ -30,11 +29,11 @@ returns-clause-lives c = λ rest own last_number before done entry.
     let is = c.of.ensures.disk in
     let first = c.of.result.disk in
     let last = c.run-last.result.0.disk in
-    let settled = c.run-last.result.1 in
+    let committed = c.run-last.result.1 in
     let crashed = c.in_ok-crashed.crashed in
     let again = c.in_ok-disk.disk in
     let new = newest_of c.recover.new.disk in
-    let batch = c.args.life.batch in
+    let handles = c.args.life.handles.items in
     let size = bytes_of first.size in
     let count = first.count in
     let base = newest_of first in
@@ -43,7 +42,7 @@ returns-clause-lives c = λ rest own last_number before done entry.
     let holds : HoldsChanges own last_number size count before done base = subst (λ (h : History). HoldsChanges own last_number (bytes_of h.size) h.count before done (newest_of h)) (sym is) entry in
     let leaves = c.run-last.ensures.leaves at_rest.sound in
     let allowed : MayLeave last.first last.steps crashed.first = subst (λ (h : History). MayLeave h.first h.steps crashed.first) c.into_inner.ensures c.in_ok-crashed.ensures.allowed in
-    let left : (crashed.first ≡ base) ⊎ LeftByProgram size count base (commits batch ∷ []) crashed.first = ⊎_elim (λ stays. inl (at_rest.only crashed.first stays)) inr (leaves.each crashed.first (left_since_now last.first last.steps (length first.steps) crashed.first leaves.later allowed)) in
+    let left : (crashed.first ≡ base) ⊎ LeftByLife size count base handles false crashed.first = ⊎_elim (λ stays. inl (at_rest.only crashed.first stays)) inr (leaves.each crashed.first (left_since_now last.first last.steps (length first.steps) crashed.first leaves.later allowed)) in
     let same_size : bytes_of crashed.size ≡ size = ap bytes_of (c.in_ok-crashed.ensures.size ∙ ap (λ (h : History). h.size) c.into_inner.ensures) ∙ kept.same_size in
     let same_count : crashed.count ≡ count = c.in_ok-crashed.ensures.count ∙ ap (λ (h : History). h.count) c.into_inner.ensures ∙ kept.same_count in
     let image : newest_of crashed ≡ crashed.first = ap (replay crashed.first) c.in_ok-crashed.ensures.fresh.0 in
@@ -65,5 +64,5 @@ returns-clause-lives c = λ rest own last_number before done entry.
     let again_count : again.count ≡ count = c.in_ok-disk.ensures.count ∙ ap (λ (h : History). h.count) c.into_inner-2.ensures ∙ kept_cut.same_count ∙ cut_count in
     let again_image : newest_of again ≡ again.first = ap (replay again.first) c.in_ok-disk.ensures.fresh.0 in
     let ended : new ≡ recovered size count crashed.first = entry-as (λ s n b. new ≡ recovered s n b) size count (bytes_of again.size) again.count again.first (newest_of again) again_size again_count again_image ((c.in_ok-recover.ensures.recovers sound).3) ∙ as_before.image in
-    let more = life-more c.holds_on.ensures size count own last_number before done base holds at_rest.still batch settled crashed.first new left (λ yes. (c.run-last.ensures.ends at_rest.sound yes).each crashed.first allowed) ended in
-    subst (λ (h : History). HoldsLife own last_number (bytes_of h.size) h.count before done batch settled new) is more
+    let more = life-more c.holds_on.ensures size count own last_number before done base holds at_rest.still handles committed crashed.first new left (λ yes. (c.run-last.ensures.ends at_rest.sound yes).each crashed.first allowed) ended in
+    subst (λ (h : History). HoldsLife own last_number (bytes_of h.size) h.count before done handles committed new) is more

@@ -11,7 +11,7 @@ use Rattle.jb_deck.specs.Trailing.{handles_to}
 use Rattle.jb_deck.proofs.Changed.{settled-append, settled-map}
 use Rattle.jb_client.specs.Client.{HasPrefix}
 use Rattle.jb_client.specs.Programs.{Part, commits}
-use Rattle.jb_client.proofs.Programs.{IsOpened, Runs, begun, commit-on, commit-runs, idle-on, idle-runs, left-to, opening-runs}
+use Rattle.jb_client.proofs.Programs.{IsOpened, Runs, begun, commit-on, commit-runs, idle-on, idle-runs, left-to, opened-as, opening-runs}
 use Rattle.jb_client.proofs.prefix.commit_three.Goals as goal
 
 pub returns-in-Err-clause-leaves : goal.returns-in-Err-clause-leaves
@@ -36,10 +36,10 @@ returns-in_default-clause-leaves g c = λ honest.
     let parts : List Part = commits first ∷ rest1 in
     let opened = c.in-Ok.deck in
     let opens = c.in-Ok.ensures.opens honest in
-    let is : IsOpened G entry parts opened = record { new = c.in-Ok.ensures.new; sb = opens.sb; was = opens.taken; log = opens.log; stands = c.in-Ok.ensures.stands honest } in
+    let is : IsOpened G entry parts opened = opened-as G entry parts opened c.in-Ok.ensures.new opens (c.in-Ok.ensures.stands honest) c.in-Ok.ensures.kept c.shape-shape.result c.shape-shape.ensures.value c.shape-shape.ensures.journal in
     let so0 = begun G entry parts c.opening.ensures opened is c.in-Ok.ensures.kept honest (c.in-Ok.ensures.leaves honest) in
     let left1 = c.commit.ensures.left so0.up so0.honest in
-    subst (Runs G entry parts) (sym c.close.ensures.value) (commit-runs G entry parts c.since.ensures c.holds.ensures opened is first rest1 [] 0 opened so0 c.commit.new.deck.disk left1)
+    subst (Runs G entry parts) (sym c.close.ensures.value) (commit-runs G entry parts c.since.ensures c.holds.ensures c.keeps.ensures opened is first rest1 [] 0 opened so0 c.commit.new.deck.disk left1)
 
 pub returns-in_default-commit-clause-leaves : goal.returns-in_default-commit-clause-leaves
 returns-in_default-commit-clause-leaves g c = λ honest.
@@ -52,17 +52,17 @@ returns-in_default-commit-clause-leaves g c = λ honest.
     let parts : List Part = commits first ∷ rest1 in
     let opened = c.in-Ok.deck in
     let opens = c.in-Ok.ensures.opens honest in
-    let is : IsOpened G entry parts opened = record { new = c.in-Ok.ensures.new; sb = opens.sb; was = opens.taken; log = opens.log; stands = c.in-Ok.ensures.stands honest } in
+    let is : IsOpened G entry parts opened = opened-as G entry parts opened c.in-Ok.ensures.new opens (c.in-Ok.ensures.stands honest) c.in-Ok.ensures.kept c.shape-shape.result c.shape-shape.ensures.value c.shape-shape.ensures.journal in
     let so0 = begun G entry parts c.opening.ensures opened is c.in-Ok.ensures.kept honest (c.in-Ok.ensures.leaves honest) in
     let left1 = c.commit.ensures.left so0.up so0.honest in
     let d1 = c.commit.new.deck in
     let cs1 : List Change = [] ++ map settles first.batch.handles in
     let n1 : ℕ = 0 + groups_in first.groups in
-    let so1 = commit-on G entry parts c.since.ensures c.holds.ensures opened is first rest1 [] 0 opened so0 d1 (c.in-Ok-commit.ensures.ended so0.honest) c.in-Ok-commit.ensures.numbers c.in-Ok-commit.ensures.up.1 c.commit.ensures.kept left1 in
+    let so1 = commit-on G entry parts c.since.ensures c.holds.ensures c.keeps.ensures opened is first rest1 [] 0 opened so0 d1 (c.in-Ok-commit.ensures.ended so0.honest) c.in-Ok-commit.ensures.numbers c.in-Ok-commit.ensures.up.1 c.commit.ensures.kept left1 in
     let left2 = c.commit-2.ensures.left so1.up so1.honest in
     let rest2 : List Part = commits third ∷ [] in
     let d2 = c.commit-2.new.deck in
-    subst (Runs G entry parts) (sym c.close-in_default-commit.ensures.value) (commit-runs G entry parts c.since.ensures c.holds.ensures opened is second rest2 cs1 n1 d1 so1 d2.disk left2)
+    subst (Runs G entry parts) (sym c.close-in_default-commit.ensures.value) (commit-runs G entry parts c.since.ensures c.holds.ensures c.keeps.ensures opened is second rest2 cs1 n1 d1 so1 d2.disk left2)
 
 pub returns-in_default-checkpoint_one-clause-leaves : goal.returns-in_default-checkpoint_one-clause-leaves
 returns-in_default-checkpoint_one-clause-leaves g c = λ honest.
@@ -75,21 +75,21 @@ returns-in_default-checkpoint_one-clause-leaves g c = λ honest.
     let parts : List Part = commits first ∷ rest1 in
     let opened = c.in-Ok.deck in
     let opens = c.in-Ok.ensures.opens honest in
-    let is : IsOpened G entry parts opened = record { new = c.in-Ok.ensures.new; sb = opens.sb; was = opens.taken; log = opens.log; stands = c.in-Ok.ensures.stands honest } in
+    let is : IsOpened G entry parts opened = opened-as G entry parts opened c.in-Ok.ensures.new opens (c.in-Ok.ensures.stands honest) c.in-Ok.ensures.kept c.shape-shape.result c.shape-shape.ensures.value c.shape-shape.ensures.journal in
     let so0 = begun G entry parts c.opening.ensures opened is c.in-Ok.ensures.kept honest (c.in-Ok.ensures.leaves honest) in
     let left1 = c.commit.ensures.left so0.up so0.honest in
     let d1 = c.commit.new.deck in
     let cs1 : List Change = [] ++ map settles first.batch.handles in
     let n1 : ℕ = 0 + groups_in first.groups in
-    let so1 = commit-on G entry parts c.since.ensures c.holds.ensures opened is first rest1 [] 0 opened so0 d1 (c.in-Ok-commit.ensures.ended so0.honest) c.in-Ok-commit.ensures.numbers c.in-Ok-commit.ensures.up.1 c.commit.ensures.kept left1 in
+    let so1 = commit-on G entry parts c.since.ensures c.holds.ensures c.keeps.ensures opened is first rest1 [] 0 opened so0 d1 (c.in-Ok-commit.ensures.ended so0.honest) c.in-Ok-commit.ensures.numbers c.in-Ok-commit.ensures.up.1 c.commit.ensures.kept left1 in
     let left2 = c.commit-2.ensures.left so1.up so1.honest in
     let rest2 : List Part = commits third ∷ [] in
     let d2 = c.commit-2.new.deck in
     let cs2 : List Change = cs1 ++ map settles second.batch.handles in
     let n2 : ℕ = n1 + groups_in second.groups in
-    let so2 = commit-on G entry parts c.since.ensures c.holds.ensures opened is second rest2 cs1 n1 d1 so1 d2 (c.in-Ok-commit-2.ensures.ended so1.honest) c.in-Ok-commit-2.ensures.numbers c.in-Ok-commit-2.ensures.up.1 c.commit-2.ensures.kept left2 in
+    let so2 = commit-on G entry parts c.since.ensures c.holds.ensures c.keeps.ensures opened is second rest2 cs1 n1 d1 so1 d2 (c.in-Ok-commit-2.ensures.ended so1.honest) c.in-Ok-commit-2.ensures.numbers c.in-Ok-commit-2.ensures.up.1 c.commit-2.ensures.kept left2 in
     let d3 = c.checkpoint_one.new.self in
-    let run3 = idle-runs G entry parts c.since.ensures c.holds.ensures opened is rest2 cs2 n2 d2 so2 d3.disk (c.checkpoint_one.ensures.left so2.up so2.honest) in
+    let run3 = idle-runs G entry parts c.since.ensures c.holds.ensures c.keeps.ensures opened is rest2 cs2 n2 d2 so2 d3.disk (c.checkpoint_one.ensures.left so2.up so2.honest) in
     subst (Runs G entry parts) (sym c.close-in_default-checkpoint_one.ensures.value) (run3)
 
 pub returns-in-Err-commit-clause-leaves : goal.returns-in-Err-commit-clause-leaves
@@ -103,25 +103,25 @@ returns-in-Err-commit-clause-leaves g c = λ honest.
     let parts : List Part = commits first ∷ rest1 in
     let opened = c.in-Ok.deck in
     let opens = c.in-Ok.ensures.opens honest in
-    let is : IsOpened G entry parts opened = record { new = c.in-Ok.ensures.new; sb = opens.sb; was = opens.taken; log = opens.log; stands = c.in-Ok.ensures.stands honest } in
+    let is : IsOpened G entry parts opened = opened-as G entry parts opened c.in-Ok.ensures.new opens (c.in-Ok.ensures.stands honest) c.in-Ok.ensures.kept c.shape-shape.result c.shape-shape.ensures.value c.shape-shape.ensures.journal in
     let so0 = begun G entry parts c.opening.ensures opened is c.in-Ok.ensures.kept honest (c.in-Ok.ensures.leaves honest) in
     let left1 = c.commit.ensures.left so0.up so0.honest in
     let d1 = c.commit.new.deck in
     let cs1 : List Change = [] ++ map settles first.batch.handles in
     let n1 : ℕ = 0 + groups_in first.groups in
-    let so1 = commit-on G entry parts c.since.ensures c.holds.ensures opened is first rest1 [] 0 opened so0 d1 (c.in-Ok-commit.ensures.ended so0.honest) c.in-Ok-commit.ensures.numbers c.in-Ok-commit.ensures.up.1 c.commit.ensures.kept left1 in
+    let so1 = commit-on G entry parts c.since.ensures c.holds.ensures c.keeps.ensures opened is first rest1 [] 0 opened so0 d1 (c.in-Ok-commit.ensures.ended so0.honest) c.in-Ok-commit.ensures.numbers c.in-Ok-commit.ensures.up.1 c.commit.ensures.kept left1 in
     let left2 = c.commit-2.ensures.left so1.up so1.honest in
     let rest2 : List Part = commits third ∷ [] in
     let d2 = c.commit-2.new.deck in
     let cs2 : List Change = cs1 ++ map settles second.batch.handles in
     let n2 : ℕ = n1 + groups_in second.groups in
-    let so2 = commit-on G entry parts c.since.ensures c.holds.ensures opened is second rest2 cs1 n1 d1 so1 d2 (c.in-Ok-commit-2.ensures.ended so1.honest) c.in-Ok-commit-2.ensures.numbers c.in-Ok-commit-2.ensures.up.1 c.commit-2.ensures.kept left2 in
+    let so2 = commit-on G entry parts c.since.ensures c.holds.ensures c.keeps.ensures opened is second rest2 cs1 n1 d1 so1 d2 (c.in-Ok-commit-2.ensures.ended so1.honest) c.in-Ok-commit-2.ensures.numbers c.in-Ok-commit-2.ensures.up.1 c.commit-2.ensures.kept left2 in
     let d3 = c.checkpoint_one.new.self in
-    let run3 = idle-runs G entry parts c.since.ensures c.holds.ensures opened is rest2 cs2 n2 d2 so2 d3.disk (c.checkpoint_one.ensures.left so2.up so2.honest) in
+    let run3 = idle-runs G entry parts c.since.ensures c.holds.ensures c.keeps.ensures opened is rest2 cs2 n2 d2 so2 d3.disk (c.checkpoint_one.ensures.left so2.up so2.honest) in
     let answers = c.in-Ok-checkpoint_one.ensures.answers.2 in
-    let so3 = idle-on G entry parts c.since.ensures c.holds.ensures opened is rest2 cs2 n2 d2 so2 d3 (c.in-Ok-checkpoint_one.ensures.ended so2.honest answers.live) (ap (λ (l : Log). l.next) answers.log) answers.live c.checkpoint_one.ensures.kept run3 in
+    let so3 = idle-on G entry parts c.since.ensures c.holds.ensures c.keeps.ensures opened is rest2 cs2 n2 d2 so2 d3 (c.in-Ok-checkpoint_one.ensures.ended so2.honest answers.live) (ap (λ (l : Log). l.next) answers.log) answers.live c.checkpoint_one.ensures.kept run3 in
     let left4 = c.commit-3.ensures.left so3.up so3.honest in
-    let run4 = commit-runs G entry parts c.since.ensures c.holds.ensures opened is third [] cs2 n2 d3 so3 c.commit-3.new.deck.disk left4 in
+    let run4 = commit-runs G entry parts c.since.ensures c.holds.ensures c.keeps.ensures opened is third [] cs2 n2 d3 so3 c.commit-3.new.deck.disk left4 in
     subst (Runs G entry parts) (sym c.close-in-Err-commit.ensures.value) (run4)
 
 pub returns-in-Ok-commit-3-clause-leaves : goal.returns-in-Ok-commit-3-clause-leaves
@@ -135,25 +135,25 @@ returns-in-Ok-commit-3-clause-leaves g c = λ honest.
     let parts : List Part = commits first ∷ rest1 in
     let opened = c.in-Ok.deck in
     let opens = c.in-Ok.ensures.opens honest in
-    let is : IsOpened G entry parts opened = record { new = c.in-Ok.ensures.new; sb = opens.sb; was = opens.taken; log = opens.log; stands = c.in-Ok.ensures.stands honest } in
+    let is : IsOpened G entry parts opened = opened-as G entry parts opened c.in-Ok.ensures.new opens (c.in-Ok.ensures.stands honest) c.in-Ok.ensures.kept c.shape-shape.result c.shape-shape.ensures.value c.shape-shape.ensures.journal in
     let so0 = begun G entry parts c.opening.ensures opened is c.in-Ok.ensures.kept honest (c.in-Ok.ensures.leaves honest) in
     let left1 = c.commit.ensures.left so0.up so0.honest in
     let d1 = c.commit.new.deck in
     let cs1 : List Change = [] ++ map settles first.batch.handles in
     let n1 : ℕ = 0 + groups_in first.groups in
-    let so1 = commit-on G entry parts c.since.ensures c.holds.ensures opened is first rest1 [] 0 opened so0 d1 (c.in-Ok-commit.ensures.ended so0.honest) c.in-Ok-commit.ensures.numbers c.in-Ok-commit.ensures.up.1 c.commit.ensures.kept left1 in
+    let so1 = commit-on G entry parts c.since.ensures c.holds.ensures c.keeps.ensures opened is first rest1 [] 0 opened so0 d1 (c.in-Ok-commit.ensures.ended so0.honest) c.in-Ok-commit.ensures.numbers c.in-Ok-commit.ensures.up.1 c.commit.ensures.kept left1 in
     let left2 = c.commit-2.ensures.left so1.up so1.honest in
     let rest2 : List Part = commits third ∷ [] in
     let d2 = c.commit-2.new.deck in
     let cs2 : List Change = cs1 ++ map settles second.batch.handles in
     let n2 : ℕ = n1 + groups_in second.groups in
-    let so2 = commit-on G entry parts c.since.ensures c.holds.ensures opened is second rest2 cs1 n1 d1 so1 d2 (c.in-Ok-commit-2.ensures.ended so1.honest) c.in-Ok-commit-2.ensures.numbers c.in-Ok-commit-2.ensures.up.1 c.commit-2.ensures.kept left2 in
+    let so2 = commit-on G entry parts c.since.ensures c.holds.ensures c.keeps.ensures opened is second rest2 cs1 n1 d1 so1 d2 (c.in-Ok-commit-2.ensures.ended so1.honest) c.in-Ok-commit-2.ensures.numbers c.in-Ok-commit-2.ensures.up.1 c.commit-2.ensures.kept left2 in
     let d3 = c.checkpoint_one.new.self in
-    let run3 = idle-runs G entry parts c.since.ensures c.holds.ensures opened is rest2 cs2 n2 d2 so2 d3.disk (c.checkpoint_one.ensures.left so2.up so2.honest) in
+    let run3 = idle-runs G entry parts c.since.ensures c.holds.ensures c.keeps.ensures opened is rest2 cs2 n2 d2 so2 d3.disk (c.checkpoint_one.ensures.left so2.up so2.honest) in
     let answers = c.in-Ok-checkpoint_one.ensures.answers.2 in
-    let so3 = idle-on G entry parts c.since.ensures c.holds.ensures opened is rest2 cs2 n2 d2 so2 d3 (c.in-Ok-checkpoint_one.ensures.ended so2.honest answers.live) (ap (λ (l : Log). l.next) answers.log) answers.live c.checkpoint_one.ensures.kept run3 in
+    let so3 = idle-on G entry parts c.since.ensures c.holds.ensures c.keeps.ensures opened is rest2 cs2 n2 d2 so2 d3 (c.in-Ok-checkpoint_one.ensures.ended so2.honest answers.live) (ap (λ (l : Log). l.next) answers.log) answers.live c.checkpoint_one.ensures.kept run3 in
     let left4 = c.commit-3.ensures.left so3.up so3.honest in
-    let run4 = commit-runs G entry parts c.since.ensures c.holds.ensures opened is third [] cs2 n2 d3 so3 c.commit-3.new.deck.disk left4 in
+    let run4 = commit-runs G entry parts c.since.ensures c.holds.ensures c.keeps.ensures opened is third [] cs2 n2 d3 so3 c.commit-3.new.deck.disk left4 in
     run4
 
 pub returns-in-Ok-commit-3-clause-prefix : goal.returns-in-Ok-commit-3-clause-prefix
@@ -167,49 +167,50 @@ returns-in-Ok-commit-3-clause-prefix g c = λ honest.
     let parts : List Part = commits first ∷ rest1 in
     let opened = c.in-Ok.deck in
     let opens = c.in-Ok.ensures.opens honest in
-    let is : IsOpened G entry parts opened = record { new = c.in-Ok.ensures.new; sb = opens.sb; was = opens.taken; log = opens.log; stands = c.in-Ok.ensures.stands honest } in
+    let is : IsOpened G entry parts opened = opened-as G entry parts opened c.in-Ok.ensures.new opens (c.in-Ok.ensures.stands honest) c.in-Ok.ensures.kept c.shape-shape.result c.shape-shape.ensures.value c.shape-shape.ensures.journal in
     let so0 = begun G entry parts c.opening.ensures opened is c.in-Ok.ensures.kept honest (c.in-Ok.ensures.leaves honest) in
     let left1 = c.commit.ensures.left so0.up so0.honest in
     let d1 = c.commit.new.deck in
     let cs1 : List Change = [] ++ map settles first.batch.handles in
     let n1 : ℕ = 0 + groups_in first.groups in
-    let so1 = commit-on G entry parts c.since.ensures c.holds.ensures opened is first rest1 [] 0 opened so0 d1 (c.in-Ok-commit.ensures.ended so0.honest) c.in-Ok-commit.ensures.numbers c.in-Ok-commit.ensures.up.1 c.commit.ensures.kept left1 in
+    let so1 = commit-on G entry parts c.since.ensures c.holds.ensures c.keeps.ensures opened is first rest1 [] 0 opened so0 d1 (c.in-Ok-commit.ensures.ended so0.honest) c.in-Ok-commit.ensures.numbers c.in-Ok-commit.ensures.up.1 c.commit.ensures.kept left1 in
     let left2 = c.commit-2.ensures.left so1.up so1.honest in
     let rest2 : List Part = commits third ∷ [] in
     let d2 = c.commit-2.new.deck in
     let cs2 : List Change = cs1 ++ map settles second.batch.handles in
     let n2 : ℕ = n1 + groups_in second.groups in
-    let so2 = commit-on G entry parts c.since.ensures c.holds.ensures opened is second rest2 cs1 n1 d1 so1 d2 (c.in-Ok-commit-2.ensures.ended so1.honest) c.in-Ok-commit-2.ensures.numbers c.in-Ok-commit-2.ensures.up.1 c.commit-2.ensures.kept left2 in
+    let so2 = commit-on G entry parts c.since.ensures c.holds.ensures c.keeps.ensures opened is second rest2 cs1 n1 d1 so1 d2 (c.in-Ok-commit-2.ensures.ended so1.honest) c.in-Ok-commit-2.ensures.numbers c.in-Ok-commit-2.ensures.up.1 c.commit-2.ensures.kept left2 in
     let d3 = c.checkpoint_one.new.self in
-    let run3 = idle-runs G entry parts c.since.ensures c.holds.ensures opened is rest2 cs2 n2 d2 so2 d3.disk (c.checkpoint_one.ensures.left so2.up so2.honest) in
+    let run3 = idle-runs G entry parts c.since.ensures c.holds.ensures c.keeps.ensures opened is rest2 cs2 n2 d2 so2 d3.disk (c.checkpoint_one.ensures.left so2.up so2.honest) in
     let answers = c.in-Ok-checkpoint_one.ensures.answers.2 in
-    let so3 = idle-on G entry parts c.since.ensures c.holds.ensures opened is rest2 cs2 n2 d2 so2 d3 (c.in-Ok-checkpoint_one.ensures.ended so2.honest answers.live) (ap (λ (l : Log). l.next) answers.log) answers.live c.checkpoint_one.ensures.kept run3 in
+    let so3 = idle-on G entry parts c.since.ensures c.holds.ensures c.keeps.ensures opened is rest2 cs2 n2 d2 so2 d3 (c.in-Ok-checkpoint_one.ensures.ended so2.honest answers.live) (ap (λ (l : Log). l.next) answers.log) answers.live c.checkpoint_one.ensures.kept run3 in
     let left4 = c.commit-3.ensures.left so3.up so3.honest in
-    let run4 = commit-runs G entry parts c.since.ensures c.holds.ensures opened is third [] cs2 n2 d3 so3 c.commit-3.new.deck.disk left4 in
+    let run4 = commit-runs G entry parts c.since.ensures c.holds.ensures c.keeps.ensures opened is third [] cs2 n2 d3 so3 c.commit-3.new.deck.disk left4 in
     let size = G.size entry in
     let count = G.count entry in
     let before : ℕ → List ℕ = recovered_home size count (G.newest entry) in
     let numbers = groups_in first.groups + groups_in second.groups in
     let settled = first.batch.handles ++ second.batch.handles in
     let made : settled_in cs2 ≡ settled = settled-append cs1 (map settles second.batch.handles) ∙ ap (λ hs. hs ++ settled_in (map settles second.batch.handles)) (settled-map first.batch.handles) ∙ ap (λ hs. first.batch.handles ++ hs) (settled-map second.batch.handles) in
-    let taken : (least groups : ℕ) (image : Image) → least ≤ groups → groups ≤ groups_in third.groups → IsLeft G.newest (G.size d3.disk) (G.count d3.disk) d3 (map settles (handles_to third.groups groups third.batch.handles)) (d3.log.next + groups) image → HasPrefix (revoking opens.sb) (opens.sb.sequence + 1 + numbers) size count before settled third least image = λ least groups image from to left.
+    let taken : (least groups : ℕ) (image : Image) → least ≤ groups → groups ≤ groups_in third.groups → IsLeft G.newest (G.size d3.disk) (G.count d3.disk) d3 (map settles (handles_to third.groups groups third.batch.handles)) (d3.log.next + groups) image → HasPrefix (revoking is.opens.sb) (is.opens.sb.sequence + 1 + numbers) size count before settled third least image = λ least groups image from to left.
     let more = handles_to third.groups groups third.batch.handles in
     let cs : List Change = map settles more in
     let all : settled_in (cs2 ++ cs) ≡ settled ++ more = settled-append cs2 cs ∙ ap (λ hs. hs ++ settled_in cs) made ∙ ap (λ hs. settled ++ hs) (settled-map more) in
-    let many : opens.sb.sequence + 1 + (n2 + groups) ≡ opens.sb.sequence + 1 + numbers + groups = omega arith in
+    let many : is.opens.sb.sequence + 1 + (n2 + groups) ≡ is.opens.sb.sequence + 1 + numbers + groups = omega arith in
     record {
       groups = groups;
       from = from;
       within = to;
-      recovered = subst (λ k. IsRecoveredTo (revoking opens.sb) k size count before (settled ++ more) image) many
-          (subst (λ hs. IsRecoveredTo (revoking opens.sb) (opens.sb.sequence + 1 + (n2 + groups)) size count before hs image) all
-          (left-to G entry parts c.since.ensures c.holds.ensures opened is rest2 cs2 n2 d3 so3 cs groups image left));
+      recovered = subst (λ k. IsRecoveredTo (revoking is.opens.sb) k size count before (settled ++ more) image) many
+          (subst (λ hs. IsRecoveredTo (revoking is.opens.sb) (is.opens.sb.sequence + 1 + (n2 + groups)) size count before hs image) all
+          (left-to G entry parts c.since.ensures c.holds.ensures c.keeps.ensures opened is rest2 cs2 n2 d3 so3 cs groups image left));
     } in
     record {
-      own = opens.sb;
-      was = opens.taken;
+      own = is.opens.sb;
+      was = is.opens.taken;
       since = G.moment d3.disk;
       past = left4.later;
       each = λ image left. let l = left4.each image left in taken 0 l.groups image (omega arith) l.within l.left;
-      ends = λ image left. let f = (c.in-Ok-commit-3.ensures.now so3.up so3.honest).each image left in taken (groups_in third.groups) f.groups image f.from f.to (in_commit third (groups_in third.groups) (groups_in third.groups) image f);
+      ends = λ image left. let f = (c.in-Ok-commit-3.ensures.now so3.up so3.honest).each image left in taken (groups_in third.groups) f.groups image f.from f.to (in_commit third (groups_in third.groups) (groups_in third.groups) image f
+          (left4.each image (g.met.D.Disk.counts_now c.commit-3.new.deck.disk (G.moment d3.disk) image (c.commit-3.ensures.kept.stays_honest so3.honest) left4.later left)).frame);
     }

@@ -6,7 +6,7 @@ use Rattle.jb_deck.specs.Deck.{OpenDeck}
 use Rattle.jb_deck.specs.Gathering.{groups_in}
 use Rattle.jb_deck.specs.Opening.{recovered_home}
 use Rattle.jb_client.specs.Programs.{HasChanges, Part, commits, writes}
-use Rattle.jb_client.proofs.Programs.{IsOpened, Runs, begun, closed-left, commit-on, commit-runs, filled, idle-on, idle-runs, left-has, opening-runs, write-on, write-runs}
+use Rattle.jb_client.proofs.Programs.{IsOpened, Runs, begun, closed-left, commit-on, commit-runs, filled, idle-on, idle-runs, left-has, opened-as, opening-runs, write-on, write-runs}
 use Rattle.jb_client.proofs.reuse.reuse_home.Goals as goal
 
 pub returns-in-Err-clause-leaves : goal.returns-in-Err-clause-leaves
@@ -31,10 +31,10 @@ returns-in_default-clause-leaves g c = λ honest.
     let parts : List Part = commits first ∷ rest1 in
     let opened = c.in-Ok.deck in
     let opens = c.in-Ok.ensures.opens honest in
-    let is : IsOpened G entry parts opened = record { new = c.in-Ok.ensures.new; sb = opens.sb; was = opens.taken; log = opens.log; stands = c.in-Ok.ensures.stands honest } in
+    let is : IsOpened G entry parts opened = opened-as G entry parts opened c.in-Ok.ensures.new opens (c.in-Ok.ensures.stands honest) c.in-Ok.ensures.kept c.shape-shape.result c.shape-shape.ensures.value c.shape-shape.ensures.journal in
     let so0 = begun G entry parts c.opening.ensures opened is c.in-Ok.ensures.kept honest (c.in-Ok.ensures.leaves honest) in
     let left1 = c.commit.ensures.left so0.up so0.honest in
-    subst (Runs G entry parts) (sym c.close.ensures.value) (commit-runs G entry parts c.since.ensures c.holds.ensures opened is first rest1 [] 0 opened so0 c.commit.new.deck.disk left1)
+    subst (Runs G entry parts) (sym c.close.ensures.value) (commit-runs G entry parts c.since.ensures c.holds.ensures c.keeps.ensures opened is first rest1 [] 0 opened so0 c.commit.new.deck.disk left1)
 
 pub returns-in_default-write_free-clause-leaves : goal.returns-in_default-write_free-clause-leaves
 returns-in_default-write_free-clause-leaves g c = λ honest.
@@ -47,15 +47,15 @@ returns-in_default-write_free-clause-leaves g c = λ honest.
     let parts : List Part = commits first ∷ rest1 in
     let opened = c.in-Ok.deck in
     let opens = c.in-Ok.ensures.opens honest in
-    let is : IsOpened G entry parts opened = record { new = c.in-Ok.ensures.new; sb = opens.sb; was = opens.taken; log = opens.log; stands = c.in-Ok.ensures.stands honest } in
+    let is : IsOpened G entry parts opened = opened-as G entry parts opened c.in-Ok.ensures.new opens (c.in-Ok.ensures.stands honest) c.in-Ok.ensures.kept c.shape-shape.result c.shape-shape.ensures.value c.shape-shape.ensures.journal in
     let so0 = begun G entry parts c.opening.ensures opened is c.in-Ok.ensures.kept honest (c.in-Ok.ensures.leaves honest) in
     let left1 = c.commit.ensures.left so0.up so0.honest in
     let d1 = c.commit.new.deck in
     let cs1 : List Change = [] ++ map settles first.batch.handles in
     let n1 : ℕ = 0 + groups_in first.groups in
-    let so1 = commit-on G entry parts c.since.ensures c.holds.ensures opened is first rest1 [] 0 opened so0 d1 (c.in-Ok-commit.ensures.ended so0.honest) c.in-Ok-commit.ensures.numbers c.in-Ok-commit.ensures.up.1 c.commit.ensures.kept left1 in
+    let so1 = commit-on G entry parts c.since.ensures c.holds.ensures c.keeps.ensures opened is first rest1 [] 0 opened so0 d1 (c.in-Ok-commit.ensures.ended so0.honest) c.in-Ok-commit.ensures.numbers c.in-Ok-commit.ensures.up.1 c.commit.ensures.kept left1 in
     let left2 = c.write_free.ensures.left so1.up so1.honest in
-    subst (Runs G entry parts) (sym c.close-in_default-write_free.ensures.value) (write-runs G entry parts c.since.ensures c.holds.ensures opened is home bytes (commits c.args.second ∷ []) cs1 n1 d1 so1 c.write_free.result c.write_free.new.self.disk left2)
+    subst (Runs G entry parts) (sym c.close-in_default-write_free.ensures.value) (write-runs G entry parts c.since.ensures c.holds.ensures c.keeps.ensures opened is home bytes (commits c.args.second ∷ []) cs1 n1 d1 so1 c.write_free.result c.write_free.new.self.disk left2)
 
 pub returns-in_default-read_home-clause-leaves : goal.returns-in_default-read_home-clause-leaves
 returns-in_default-read_home-clause-leaves g c = λ honest.
@@ -68,22 +68,22 @@ returns-in_default-read_home-clause-leaves g c = λ honest.
     let parts : List Part = commits first ∷ rest1 in
     let opened = c.in-Ok.deck in
     let opens = c.in-Ok.ensures.opens honest in
-    let is : IsOpened G entry parts opened = record { new = c.in-Ok.ensures.new; sb = opens.sb; was = opens.taken; log = opens.log; stands = c.in-Ok.ensures.stands honest } in
+    let is : IsOpened G entry parts opened = opened-as G entry parts opened c.in-Ok.ensures.new opens (c.in-Ok.ensures.stands honest) c.in-Ok.ensures.kept c.shape-shape.result c.shape-shape.ensures.value c.shape-shape.ensures.journal in
     let so0 = begun G entry parts c.opening.ensures opened is c.in-Ok.ensures.kept honest (c.in-Ok.ensures.leaves honest) in
     let left1 = c.commit.ensures.left so0.up so0.honest in
     let d1 = c.commit.new.deck in
     let cs1 : List Change = [] ++ map settles first.batch.handles in
     let n1 : ℕ = 0 + groups_in first.groups in
-    let so1 = commit-on G entry parts c.since.ensures c.holds.ensures opened is first rest1 [] 0 opened so0 d1 (c.in-Ok-commit.ensures.ended so0.honest) c.in-Ok-commit.ensures.numbers c.in-Ok-commit.ensures.up.1 c.commit.ensures.kept left1 in
+    let so1 = commit-on G entry parts c.since.ensures c.holds.ensures c.keeps.ensures opened is first rest1 [] 0 opened so0 d1 (c.in-Ok-commit.ensures.ended so0.honest) c.in-Ok-commit.ensures.numbers c.in-Ok-commit.ensures.up.1 c.commit.ensures.kept left1 in
     let left2 = c.write_free.ensures.left so1.up so1.honest in
     let d2 = c.write_free.new.self in
     let rest2 : List Part = commits c.args.second ∷ [] in
     let cs2 : List Change = cs1 ++ fills home bytes ∷ [] in
     let same2 = c.in-Ok-write_free.ensures.answers.4 in
     let up2 : d2.aborted ≡ false = ap (λ (d : OpenDeck g.row.D.Denot). d.aborted) same2 ∙ so1.up in
-    let run2 = write-runs G entry parts c.since.ensures c.holds.ensures opened is home bytes rest2 cs1 n1 d1 so1 c.write_free.result d2.disk left2 in
-    let so2 = write-on G entry parts c.since.ensures c.holds.ensures opened is home bytes rest2 cs1 n1 d1 so1 d2 (c.in-Ok-write_free.ensures.ended so1.honest up2) (ap (λ (d : OpenDeck g.row.D.Denot). d.log.next) same2) up2 c.write_free.ensures.kept run2 in
-    let run3 = idle-runs G entry parts c.since.ensures c.holds.ensures opened is rest2 cs2 n1 d2 so2 c.read_home.new.self.disk (c.read_home.ensures.left so2.up so2.honest) in
+    let run2 = write-runs G entry parts c.since.ensures c.holds.ensures c.keeps.ensures opened is home bytes rest2 cs1 n1 d1 so1 c.write_free.result d2.disk left2 in
+    let so2 = write-on G entry parts c.since.ensures c.holds.ensures c.keeps.ensures opened is home bytes rest2 cs1 n1 d1 so1 d2 (c.in-Ok-write_free.ensures.ended so1.honest up2) (ap (λ (d : OpenDeck g.row.D.Denot). d.log.next) same2) up2 c.write_free.ensures.kept run2 in
+    let run3 = idle-runs G entry parts c.since.ensures c.holds.ensures c.keeps.ensures opened is rest2 cs2 n1 d2 so2 c.read_home.new.self.disk (c.read_home.ensures.left so2.up so2.honest) in
     subst (Runs G entry parts) (sym c.close-in_default-read_home.ensures.value) (run3)
 
 pub returns-in_default-take_trail-clause-leaves : goal.returns-in_default-take_trail-clause-leaves
@@ -97,22 +97,22 @@ returns-in_default-take_trail-clause-leaves g c = λ honest.
     let parts : List Part = commits first ∷ rest1 in
     let opened = c.in-Ok.deck in
     let opens = c.in-Ok.ensures.opens honest in
-    let is : IsOpened G entry parts opened = record { new = c.in-Ok.ensures.new; sb = opens.sb; was = opens.taken; log = opens.log; stands = c.in-Ok.ensures.stands honest } in
+    let is : IsOpened G entry parts opened = opened-as G entry parts opened c.in-Ok.ensures.new opens (c.in-Ok.ensures.stands honest) c.in-Ok.ensures.kept c.shape-shape.result c.shape-shape.ensures.value c.shape-shape.ensures.journal in
     let so0 = begun G entry parts c.opening.ensures opened is c.in-Ok.ensures.kept honest (c.in-Ok.ensures.leaves honest) in
     let left1 = c.commit.ensures.left so0.up so0.honest in
     let d1 = c.commit.new.deck in
     let cs1 : List Change = [] ++ map settles first.batch.handles in
     let n1 : ℕ = 0 + groups_in first.groups in
-    let so1 = commit-on G entry parts c.since.ensures c.holds.ensures opened is first rest1 [] 0 opened so0 d1 (c.in-Ok-commit.ensures.ended so0.honest) c.in-Ok-commit.ensures.numbers c.in-Ok-commit.ensures.up.1 c.commit.ensures.kept left1 in
+    let so1 = commit-on G entry parts c.since.ensures c.holds.ensures c.keeps.ensures opened is first rest1 [] 0 opened so0 d1 (c.in-Ok-commit.ensures.ended so0.honest) c.in-Ok-commit.ensures.numbers c.in-Ok-commit.ensures.up.1 c.commit.ensures.kept left1 in
     let left2 = c.write_free.ensures.left so1.up so1.honest in
     let d2 = c.write_free.new.self in
     let rest2 : List Part = commits c.args.second ∷ [] in
     let cs2 : List Change = cs1 ++ fills home bytes ∷ [] in
     let same2 = c.in-Ok-write_free.ensures.answers.4 in
     let up2 : d2.aborted ≡ false = ap (λ (d : OpenDeck g.row.D.Denot). d.aborted) same2 ∙ so1.up in
-    let run2 = write-runs G entry parts c.since.ensures c.holds.ensures opened is home bytes rest2 cs1 n1 d1 so1 c.write_free.result d2.disk left2 in
-    let so2 = write-on G entry parts c.since.ensures c.holds.ensures opened is home bytes rest2 cs1 n1 d1 so1 d2 (c.in-Ok-write_free.ensures.ended so1.honest up2) (ap (λ (d : OpenDeck g.row.D.Denot). d.log.next) same2) up2 c.write_free.ensures.kept run2 in
-    let run3 = idle-runs G entry parts c.since.ensures c.holds.ensures opened is rest2 cs2 n1 d2 so2 c.read_home.new.self.disk (c.read_home.ensures.left so2.up so2.honest) in
+    let run2 = write-runs G entry parts c.since.ensures c.holds.ensures c.keeps.ensures opened is home bytes rest2 cs1 n1 d1 so1 c.write_free.result d2.disk left2 in
+    let so2 = write-on G entry parts c.since.ensures c.holds.ensures c.keeps.ensures opened is home bytes rest2 cs1 n1 d1 so1 d2 (c.in-Ok-write_free.ensures.ended so1.honest up2) (ap (λ (d : OpenDeck g.row.D.Denot). d.log.next) same2) up2 c.write_free.ensures.kept run2 in
+    let run3 = idle-runs G entry parts c.since.ensures c.holds.ensures c.keeps.ensures opened is rest2 cs2 n1 d2 so2 c.read_home.new.self.disk (c.read_home.ensures.left so2.up so2.honest) in
     let disk4 = ap (λ (d : OpenDeck g.row.D.Denot). d.disk) c.in_default-take_trail.ensures.refused.0 in
     subst (Runs G entry parts) (sym c.close-in_default-take_trail.ensures.value) (subst (Runs G entry parts) (sym disk4) run3)
 
@@ -127,22 +127,22 @@ returns-in-Ok-commit-2-clause-read g c = λ honest.
     let parts : List Part = commits first ∷ rest1 in
     let opened = c.in-Ok.deck in
     let opens = c.in-Ok.ensures.opens honest in
-    let is : IsOpened G entry parts opened = record { new = c.in-Ok.ensures.new; sb = opens.sb; was = opens.taken; log = opens.log; stands = c.in-Ok.ensures.stands honest } in
+    let is : IsOpened G entry parts opened = opened-as G entry parts opened c.in-Ok.ensures.new opens (c.in-Ok.ensures.stands honest) c.in-Ok.ensures.kept c.shape-shape.result c.shape-shape.ensures.value c.shape-shape.ensures.journal in
     let so0 = begun G entry parts c.opening.ensures opened is c.in-Ok.ensures.kept honest (c.in-Ok.ensures.leaves honest) in
     let left1 = c.commit.ensures.left so0.up so0.honest in
     let d1 = c.commit.new.deck in
     let cs1 : List Change = [] ++ map settles first.batch.handles in
     let n1 : ℕ = 0 + groups_in first.groups in
-    let so1 = commit-on G entry parts c.since.ensures c.holds.ensures opened is first rest1 [] 0 opened so0 d1 (c.in-Ok-commit.ensures.ended so0.honest) c.in-Ok-commit.ensures.numbers c.in-Ok-commit.ensures.up.1 c.commit.ensures.kept left1 in
+    let so1 = commit-on G entry parts c.since.ensures c.holds.ensures c.keeps.ensures opened is first rest1 [] 0 opened so0 d1 (c.in-Ok-commit.ensures.ended so0.honest) c.in-Ok-commit.ensures.numbers c.in-Ok-commit.ensures.up.1 c.commit.ensures.kept left1 in
     let left2 = c.write_free.ensures.left so1.up so1.honest in
     let d2 = c.write_free.new.self in
     let rest2 : List Part = commits c.args.second ∷ [] in
     let cs2 : List Change = cs1 ++ fills home bytes ∷ [] in
     let same2 = c.in-Ok-write_free.ensures.answers.4 in
     let up2 : d2.aborted ≡ false = ap (λ (d : OpenDeck g.row.D.Denot). d.aborted) same2 ∙ so1.up in
-    let run2 = write-runs G entry parts c.since.ensures c.holds.ensures opened is home bytes rest2 cs1 n1 d1 so1 c.write_free.result d2.disk left2 in
-    let so2 = write-on G entry parts c.since.ensures c.holds.ensures opened is home bytes rest2 cs1 n1 d1 so1 d2 (c.in-Ok-write_free.ensures.ended so1.honest up2) (ap (λ (d : OpenDeck g.row.D.Denot). d.log.next) same2) up2 c.write_free.ensures.kept run2 in
-    let run3 = idle-runs G entry parts c.since.ensures c.holds.ensures opened is rest2 cs2 n1 d2 so2 c.read_home.new.self.disk (c.read_home.ensures.left so2.up so2.honest) in
+    let run2 = write-runs G entry parts c.since.ensures c.holds.ensures c.keeps.ensures opened is home bytes rest2 cs1 n1 d1 so1 c.write_free.result d2.disk left2 in
+    let so2 = write-on G entry parts c.since.ensures c.holds.ensures c.keeps.ensures opened is home bytes rest2 cs1 n1 d1 so1 d2 (c.in-Ok-write_free.ensures.ended so1.honest up2) (ap (λ (d : OpenDeck g.row.D.Denot). d.log.next) same2) up2 c.write_free.ensures.kept run2 in
+    let run3 = idle-runs G entry parts c.since.ensures c.holds.ensures c.keeps.ensures opened is rest2 cs2 n1 d2 so2 c.read_home.new.self.disk (c.read_home.ensures.left so2.up so2.honest) in
     let before : ℕ → List ℕ = recovered_home (G.size entry) (G.count entry) (G.newest entry) in
     let found = c.in-Ok-read_home.ensures.found so2.honest in
     found ∙ filled cs1 home bytes (λ b. b ≡ before home) _ (c.reads.ensures before opened d2 cs2 is.new is.stands so2.calls home)
@@ -158,32 +158,32 @@ returns-in-Ok-commit-2-clause-leaves g c = λ honest.
     let parts : List Part = commits first ∷ rest1 in
     let opened = c.in-Ok.deck in
     let opens = c.in-Ok.ensures.opens honest in
-    let is : IsOpened G entry parts opened = record { new = c.in-Ok.ensures.new; sb = opens.sb; was = opens.taken; log = opens.log; stands = c.in-Ok.ensures.stands honest } in
+    let is : IsOpened G entry parts opened = opened-as G entry parts opened c.in-Ok.ensures.new opens (c.in-Ok.ensures.stands honest) c.in-Ok.ensures.kept c.shape-shape.result c.shape-shape.ensures.value c.shape-shape.ensures.journal in
     let so0 = begun G entry parts c.opening.ensures opened is c.in-Ok.ensures.kept honest (c.in-Ok.ensures.leaves honest) in
     let left1 = c.commit.ensures.left so0.up so0.honest in
     let d1 = c.commit.new.deck in
     let cs1 : List Change = [] ++ map settles first.batch.handles in
     let n1 : ℕ = 0 + groups_in first.groups in
-    let so1 = commit-on G entry parts c.since.ensures c.holds.ensures opened is first rest1 [] 0 opened so0 d1 (c.in-Ok-commit.ensures.ended so0.honest) c.in-Ok-commit.ensures.numbers c.in-Ok-commit.ensures.up.1 c.commit.ensures.kept left1 in
+    let so1 = commit-on G entry parts c.since.ensures c.holds.ensures c.keeps.ensures opened is first rest1 [] 0 opened so0 d1 (c.in-Ok-commit.ensures.ended so0.honest) c.in-Ok-commit.ensures.numbers c.in-Ok-commit.ensures.up.1 c.commit.ensures.kept left1 in
     let left2 = c.write_free.ensures.left so1.up so1.honest in
     let d2 = c.write_free.new.self in
     let rest2 : List Part = commits c.args.second ∷ [] in
     let cs2 : List Change = cs1 ++ fills home bytes ∷ [] in
     let same2 = c.in-Ok-write_free.ensures.answers.4 in
     let up2 : d2.aborted ≡ false = ap (λ (d : OpenDeck g.row.D.Denot). d.aborted) same2 ∙ so1.up in
-    let run2 = write-runs G entry parts c.since.ensures c.holds.ensures opened is home bytes rest2 cs1 n1 d1 so1 c.write_free.result d2.disk left2 in
-    let so2 = write-on G entry parts c.since.ensures c.holds.ensures opened is home bytes rest2 cs1 n1 d1 so1 d2 (c.in-Ok-write_free.ensures.ended so1.honest up2) (ap (λ (d : OpenDeck g.row.D.Denot). d.log.next) same2) up2 c.write_free.ensures.kept run2 in
-    let run3 = idle-runs G entry parts c.since.ensures c.holds.ensures opened is rest2 cs2 n1 d2 so2 c.read_home.new.self.disk (c.read_home.ensures.left so2.up so2.honest) in
+    let run2 = write-runs G entry parts c.since.ensures c.holds.ensures c.keeps.ensures opened is home bytes rest2 cs1 n1 d1 so1 c.write_free.result d2.disk left2 in
+    let so2 = write-on G entry parts c.since.ensures c.holds.ensures c.keeps.ensures opened is home bytes rest2 cs1 n1 d1 so1 d2 (c.in-Ok-write_free.ensures.ended so1.honest up2) (ap (λ (d : OpenDeck g.row.D.Denot). d.log.next) same2) up2 c.write_free.ensures.kept run2 in
+    let run3 = idle-runs G entry parts c.since.ensures c.holds.ensures c.keeps.ensures opened is rest2 cs2 n1 d2 so2 c.read_home.new.self.disk (c.read_home.ensures.left so2.up so2.honest) in
     let d3 = c.read_home.new.self in
     let same3 = c.in-Ok-read_home.ensures.answers.4 in
-    let so3 = idle-on G entry parts c.since.ensures c.holds.ensures opened is rest2 cs2 n1 d2 so2 d3 (c.read_home.ensures.ended so2.honest) (ap (λ (d : OpenDeck g.row.D.Denot). d.log.next) same3) (ap (λ (d : OpenDeck g.row.D.Denot). d.aborted) same3 ∙ so2.up) c.read_home.ensures.kept run3 in
+    let so3 = idle-on G entry parts c.since.ensures c.holds.ensures c.keeps.ensures opened is rest2 cs2 n1 d2 so2 d3 (c.read_home.ensures.ended so2.honest) (ap (λ (d : OpenDeck g.row.D.Denot). d.log.next) same3) (ap (λ (d : OpenDeck g.row.D.Denot). d.aborted) same3 ∙ so2.up) c.read_home.ensures.kept run3 in
     let d4 = c.take_trail.new.self in
     let same4 = c.in-Ok-take_trail.ensures.taken.same in
     let disk4 : d4.disk ≡ d3.disk = ap (λ (d : OpenDeck g.row.D.Denot). d.disk) same4 in
-    let so4 = idle-on G entry parts c.since.ensures c.holds.ensures opened is rest2 cs2 n1 d3 so3 d4 c.take_trail.ensures.ended (ap (λ (d : OpenDeck g.row.D.Denot). d.log.next) same4) (ap (λ (d : OpenDeck g.row.D.Denot). d.aborted) same4 ∙ so3.up)
+    let so4 = idle-on G entry parts c.since.ensures c.holds.ensures c.keeps.ensures opened is rest2 cs2 n1 d3 so3 d4 c.take_trail.ensures.ended (ap (λ (d : OpenDeck g.row.D.Denot). d.log.next) same4) (ap (λ (d : OpenDeck g.row.D.Denot). d.aborted) same4 ∙ so3.up)
     (subst (Kept G.size G.count G.honest d3.disk) (sym disk4) (kept_same G.size G.count G.honest d3.disk)) (subst (Runs G entry parts) (sym disk4) run3) in
     let left5 = c.commit-2.ensures.left so4.up so4.honest in
-    let run5 = commit-runs G entry parts c.since.ensures c.holds.ensures opened is c.args.second [] cs2 n1 d4 so4 c.commit-2.new.deck.disk left5 in
+    let run5 = commit-runs G entry parts c.since.ensures c.holds.ensures c.keeps.ensures opened is c.args.second [] cs2 n1 d4 so4 c.commit-2.new.deck.disk left5 in
     subst (Runs G entry parts) (sym c.close-in-Ok-commit-2.ensures.value) (run5)
 
 pub returns-in-Ok-commit-2-clause-ends : goal.returns-in-Ok-commit-2-clause-ends
@@ -197,36 +197,36 @@ returns-in-Ok-commit-2-clause-ends g c = λ honest.
     let parts : List Part = commits first ∷ rest1 in
     let opened = c.in-Ok.deck in
     let opens = c.in-Ok.ensures.opens honest in
-    let is : IsOpened G entry parts opened = record { new = c.in-Ok.ensures.new; sb = opens.sb; was = opens.taken; log = opens.log; stands = c.in-Ok.ensures.stands honest } in
+    let is : IsOpened G entry parts opened = opened-as G entry parts opened c.in-Ok.ensures.new opens (c.in-Ok.ensures.stands honest) c.in-Ok.ensures.kept c.shape-shape.result c.shape-shape.ensures.value c.shape-shape.ensures.journal in
     let so0 = begun G entry parts c.opening.ensures opened is c.in-Ok.ensures.kept honest (c.in-Ok.ensures.leaves honest) in
     let left1 = c.commit.ensures.left so0.up so0.honest in
     let d1 = c.commit.new.deck in
     let cs1 : List Change = [] ++ map settles first.batch.handles in
     let n1 : ℕ = 0 + groups_in first.groups in
-    let so1 = commit-on G entry parts c.since.ensures c.holds.ensures opened is first rest1 [] 0 opened so0 d1 (c.in-Ok-commit.ensures.ended so0.honest) c.in-Ok-commit.ensures.numbers c.in-Ok-commit.ensures.up.1 c.commit.ensures.kept left1 in
+    let so1 = commit-on G entry parts c.since.ensures c.holds.ensures c.keeps.ensures opened is first rest1 [] 0 opened so0 d1 (c.in-Ok-commit.ensures.ended so0.honest) c.in-Ok-commit.ensures.numbers c.in-Ok-commit.ensures.up.1 c.commit.ensures.kept left1 in
     let left2 = c.write_free.ensures.left so1.up so1.honest in
     let d2 = c.write_free.new.self in
     let rest2 : List Part = commits c.args.second ∷ [] in
     let cs2 : List Change = cs1 ++ fills home bytes ∷ [] in
     let same2 = c.in-Ok-write_free.ensures.answers.4 in
     let up2 : d2.aborted ≡ false = ap (λ (d : OpenDeck g.row.D.Denot). d.aborted) same2 ∙ so1.up in
-    let run2 = write-runs G entry parts c.since.ensures c.holds.ensures opened is home bytes rest2 cs1 n1 d1 so1 c.write_free.result d2.disk left2 in
-    let so2 = write-on G entry parts c.since.ensures c.holds.ensures opened is home bytes rest2 cs1 n1 d1 so1 d2 (c.in-Ok-write_free.ensures.ended so1.honest up2) (ap (λ (d : OpenDeck g.row.D.Denot). d.log.next) same2) up2 c.write_free.ensures.kept run2 in
-    let run3 = idle-runs G entry parts c.since.ensures c.holds.ensures opened is rest2 cs2 n1 d2 so2 c.read_home.new.self.disk (c.read_home.ensures.left so2.up so2.honest) in
+    let run2 = write-runs G entry parts c.since.ensures c.holds.ensures c.keeps.ensures opened is home bytes rest2 cs1 n1 d1 so1 c.write_free.result d2.disk left2 in
+    let so2 = write-on G entry parts c.since.ensures c.holds.ensures c.keeps.ensures opened is home bytes rest2 cs1 n1 d1 so1 d2 (c.in-Ok-write_free.ensures.ended so1.honest up2) (ap (λ (d : OpenDeck g.row.D.Denot). d.log.next) same2) up2 c.write_free.ensures.kept run2 in
+    let run3 = idle-runs G entry parts c.since.ensures c.holds.ensures c.keeps.ensures opened is rest2 cs2 n1 d2 so2 c.read_home.new.self.disk (c.read_home.ensures.left so2.up so2.honest) in
     let d3 = c.read_home.new.self in
     let same3 = c.in-Ok-read_home.ensures.answers.4 in
-    let so3 = idle-on G entry parts c.since.ensures c.holds.ensures opened is rest2 cs2 n1 d2 so2 d3 (c.read_home.ensures.ended so2.honest) (ap (λ (d : OpenDeck g.row.D.Denot). d.log.next) same3) (ap (λ (d : OpenDeck g.row.D.Denot). d.aborted) same3 ∙ so2.up) c.read_home.ensures.kept run3 in
+    let so3 = idle-on G entry parts c.since.ensures c.holds.ensures c.keeps.ensures opened is rest2 cs2 n1 d2 so2 d3 (c.read_home.ensures.ended so2.honest) (ap (λ (d : OpenDeck g.row.D.Denot). d.log.next) same3) (ap (λ (d : OpenDeck g.row.D.Denot). d.aborted) same3 ∙ so2.up) c.read_home.ensures.kept run3 in
     let d4 = c.take_trail.new.self in
     let same4 = c.in-Ok-take_trail.ensures.taken.same in
     let disk4 : d4.disk ≡ d3.disk = ap (λ (d : OpenDeck g.row.D.Denot). d.disk) same4 in
-    let so4 = idle-on G entry parts c.since.ensures c.holds.ensures opened is rest2 cs2 n1 d3 so3 d4 c.take_trail.ensures.ended (ap (λ (d : OpenDeck g.row.D.Denot). d.log.next) same4) (ap (λ (d : OpenDeck g.row.D.Denot). d.aborted) same4 ∙ so3.up)
+    let so4 = idle-on G entry parts c.since.ensures c.holds.ensures c.keeps.ensures opened is rest2 cs2 n1 d3 so3 d4 c.take_trail.ensures.ended (ap (λ (d : OpenDeck g.row.D.Denot). d.log.next) same4) (ap (λ (d : OpenDeck g.row.D.Denot). d.aborted) same4 ∙ so3.up)
     (subst (Kept G.size G.count G.honest d3.disk) (sym disk4) (kept_same G.size G.count G.honest d3.disk)) (subst (Runs G entry parts) (sym disk4) run3) in
     let left5 = c.commit-2.ensures.left so4.up so4.honest in
-    let run5 = commit-runs G entry parts c.since.ensures c.holds.ensures opened is c.args.second [] cs2 n1 d4 so4 c.commit-2.new.deck.disk left5 in
+    let run5 = commit-runs G entry parts c.since.ensures c.holds.ensures c.keeps.ensures opened is c.args.second [] cs2 n1 d4 so4 c.commit-2.new.deck.disk left5 in
     let d5 = c.commit-2.new.deck in
     let cs3 : List Change = cs2 ++ map settles c.args.second.batch.handles in
     let n3 : ℕ = n1 + groups_in c.args.second.groups in
-    let so5 = commit-on G entry parts c.since.ensures c.holds.ensures opened is c.args.second [] cs2 n1 d4 so4 d5 (c.in-Ok-commit-2.ensures.ended so4.honest) c.in-Ok-commit-2.ensures.numbers c.in-Ok-commit-2.ensures.up.1 c.commit-2.ensures.kept left5 in
+    let so5 = commit-on G entry parts c.since.ensures c.holds.ensures c.keeps.ensures opened is c.args.second [] cs2 n1 d4 so4 d5 (c.in-Ok-commit-2.ensures.ended so4.honest) c.in-Ok-commit-2.ensures.numbers c.in-Ok-commit-2.ensures.up.1 c.commit-2.ensures.kept left5 in
     let closed = c.close-in-Ok-commit-2.result in
     let value = c.close-in-Ok-commit-2.ensures.value in
     let honest5 = subst G.honest (sym value) so5.honest in
@@ -238,8 +238,8 @@ returns-in-Ok-commit-2-clause-ends g c = λ honest.
       each = λ image may.
           subst (λ n. HasChanges (G.size entry) (G.count entry) (G.newest entry) (map settles first.batch.handles ++ fills home bytes ∷ (last ++ [])) n image) many
           (subst (λ cs. HasChanges (G.size entry) (G.count entry) (G.newest entry) cs (n3 + 0) image) all
-          (left-has G entry parts c.since.ensures c.holds.ensures opened is [] cs3 n3 d5 so5 [] 0 image
-          (closed-left G entry parts c.since.ensures c.holds.ensures opened is [] cs3 n3 d5 so5 closed value left image may)));
+          (left-has G entry parts c.since.ensures c.holds.ensures c.keeps.ensures opened is [] cs3 n3 d5 so5 [] 0 image
+          (closed-left G entry parts c.since.ensures c.holds.ensures c.keeps.ensures opened is [] cs3 n3 d5 so5 closed value left image may)));
     }
 
 pub returns-in-Err-commit-clause-leaves : goal.returns-in-Err-commit-clause-leaves
@@ -253,30 +253,30 @@ returns-in-Err-commit-clause-leaves g c = λ honest.
     let parts : List Part = commits first ∷ rest1 in
     let opened = c.in-Ok.deck in
     let opens = c.in-Ok.ensures.opens honest in
-    let is : IsOpened G entry parts opened = record { new = c.in-Ok.ensures.new; sb = opens.sb; was = opens.taken; log = opens.log; stands = c.in-Ok.ensures.stands honest } in
+    let is : IsOpened G entry parts opened = opened-as G entry parts opened c.in-Ok.ensures.new opens (c.in-Ok.ensures.stands honest) c.in-Ok.ensures.kept c.shape-shape.result c.shape-shape.ensures.value c.shape-shape.ensures.journal in
     let so0 = begun G entry parts c.opening.ensures opened is c.in-Ok.ensures.kept honest (c.in-Ok.ensures.leaves honest) in
     let left1 = c.commit.ensures.left so0.up so0.honest in
     let d1 = c.commit.new.deck in
     let cs1 : List Change = [] ++ map settles first.batch.handles in
     let n1 : ℕ = 0 + groups_in first.groups in
-    let so1 = commit-on G entry parts c.since.ensures c.holds.ensures opened is first rest1 [] 0 opened so0 d1 (c.in-Ok-commit.ensures.ended so0.honest) c.in-Ok-commit.ensures.numbers c.in-Ok-commit.ensures.up.1 c.commit.ensures.kept left1 in
+    let so1 = commit-on G entry parts c.since.ensures c.holds.ensures c.keeps.ensures opened is first rest1 [] 0 opened so0 d1 (c.in-Ok-commit.ensures.ended so0.honest) c.in-Ok-commit.ensures.numbers c.in-Ok-commit.ensures.up.1 c.commit.ensures.kept left1 in
     let left2 = c.write_free.ensures.left so1.up so1.honest in
     let d2 = c.write_free.new.self in
     let rest2 : List Part = commits c.args.second ∷ [] in
     let cs2 : List Change = cs1 ++ fills home bytes ∷ [] in
     let same2 = c.in-Ok-write_free.ensures.answers.4 in
     let up2 : d2.aborted ≡ false = ap (λ (d : OpenDeck g.row.D.Denot). d.aborted) same2 ∙ so1.up in
-    let run2 = write-runs G entry parts c.since.ensures c.holds.ensures opened is home bytes rest2 cs1 n1 d1 so1 c.write_free.result d2.disk left2 in
-    let so2 = write-on G entry parts c.since.ensures c.holds.ensures opened is home bytes rest2 cs1 n1 d1 so1 d2 (c.in-Ok-write_free.ensures.ended so1.honest up2) (ap (λ (d : OpenDeck g.row.D.Denot). d.log.next) same2) up2 c.write_free.ensures.kept run2 in
-    let run3 = idle-runs G entry parts c.since.ensures c.holds.ensures opened is rest2 cs2 n1 d2 so2 c.read_home.new.self.disk (c.read_home.ensures.left so2.up so2.honest) in
+    let run2 = write-runs G entry parts c.since.ensures c.holds.ensures c.keeps.ensures opened is home bytes rest2 cs1 n1 d1 so1 c.write_free.result d2.disk left2 in
+    let so2 = write-on G entry parts c.since.ensures c.holds.ensures c.keeps.ensures opened is home bytes rest2 cs1 n1 d1 so1 d2 (c.in-Ok-write_free.ensures.ended so1.honest up2) (ap (λ (d : OpenDeck g.row.D.Denot). d.log.next) same2) up2 c.write_free.ensures.kept run2 in
+    let run3 = idle-runs G entry parts c.since.ensures c.holds.ensures c.keeps.ensures opened is rest2 cs2 n1 d2 so2 c.read_home.new.self.disk (c.read_home.ensures.left so2.up so2.honest) in
     let d3 = c.read_home.new.self in
     let same3 = c.in-Ok-read_home.ensures.answers.4 in
-    let so3 = idle-on G entry parts c.since.ensures c.holds.ensures opened is rest2 cs2 n1 d2 so2 d3 (c.read_home.ensures.ended so2.honest) (ap (λ (d : OpenDeck g.row.D.Denot). d.log.next) same3) (ap (λ (d : OpenDeck g.row.D.Denot). d.aborted) same3 ∙ so2.up) c.read_home.ensures.kept run3 in
+    let so3 = idle-on G entry parts c.since.ensures c.holds.ensures c.keeps.ensures opened is rest2 cs2 n1 d2 so2 d3 (c.read_home.ensures.ended so2.honest) (ap (λ (d : OpenDeck g.row.D.Denot). d.log.next) same3) (ap (λ (d : OpenDeck g.row.D.Denot). d.aborted) same3 ∙ so2.up) c.read_home.ensures.kept run3 in
     let d4 = c.take_trail.new.self in
     let same4 = c.in-Ok-take_trail.ensures.taken.same in
     let disk4 : d4.disk ≡ d3.disk = ap (λ (d : OpenDeck g.row.D.Denot). d.disk) same4 in
-    let so4 = idle-on G entry parts c.since.ensures c.holds.ensures opened is rest2 cs2 n1 d3 so3 d4 c.take_trail.ensures.ended (ap (λ (d : OpenDeck g.row.D.Denot). d.log.next) same4) (ap (λ (d : OpenDeck g.row.D.Denot). d.aborted) same4 ∙ so3.up)
+    let so4 = idle-on G entry parts c.since.ensures c.holds.ensures c.keeps.ensures opened is rest2 cs2 n1 d3 so3 d4 c.take_trail.ensures.ended (ap (λ (d : OpenDeck g.row.D.Denot). d.log.next) same4) (ap (λ (d : OpenDeck g.row.D.Denot). d.aborted) same4 ∙ so3.up)
     (subst (Kept G.size G.count G.honest d3.disk) (sym disk4) (kept_same G.size G.count G.honest d3.disk)) (subst (Runs G entry parts) (sym disk4) run3) in
     let left5 = c.commit-2.ensures.left so4.up so4.honest in
-    let run5 = commit-runs G entry parts c.since.ensures c.holds.ensures opened is c.args.second [] cs2 n1 d4 so4 c.commit-2.new.deck.disk left5 in
+    let run5 = commit-runs G entry parts c.since.ensures c.holds.ensures c.keeps.ensures opened is c.args.second [] cs2 n1 d4 so4 c.commit-2.new.deck.disk left5 in
     subst (Runs G entry parts) (sym c.close-in-Err-commit.ensures.value) (run5)
