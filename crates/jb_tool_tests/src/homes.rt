@@ -184,12 +184,20 @@ fn a_journal_in_its_own_file_is_recovered_and_loaded(rt: HostRuntime) {
 
 /// How many blocks the file of the journal has, the words before its option, and how the run ends.
 static REFUSED: [(usize, &[&str], End); 7] = [
-    (32, &["recover", "bad.img"], (1, "", "jb: Super Geometry\n")),
-    (34, &["recover", "bad.img"], (1, "", "jb: Super Geometry\n")),
+    (
+        32,
+        &["recover", "bad.img"],
+        (1, "", "jb: JournalLength 32 33 bad.bin\n"),
+    ),
+    (
+        34,
+        &["load", "bad.img", "bad.txt"],
+        (1, "", "jb: JournalLength 34 33 bad.bin\n"),
+    ),
     (
         34,
         &["cat", "bad.img", "5"],
-        (1, "", "jb: Super Geometry\n"),
+        (1, "", "jb: JournalLength 34 33 bad.bin\n"),
     ),
     (
         33,
