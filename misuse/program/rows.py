@@ -277,7 +277,7 @@ row("recover a --journal j", 1, err="jb: BadRevoke 1 j\n", files=parted(image(su
 row("load a q --journal j", 1, err="jb: NeedsRecovery j\n", files={**parted(FULL), "q": queue(HANDLE)})
 row("load a q --journal j", 1, err="jb: NumbersSpent j\n", files={**parted(image(CLEAN)), "q": queue(HANDLE)})
 # names of control characters, and a name that is longer than what is written at once
-for name, shown in (("two^lines", "two\\x0alines"), ("\x1b[2J\x7f", "\\x1b[2J\\x7f"), ("a\u009b\u00e9\u00a0", "a\\xc2\\x9b\u00e9\u00a0"), ("back\\x0a", "back\\x0a")):
+for name, shown in (("two^lines", "two\\x0alines"), ("\x1b[2J\x7f", "\\x1b[2J\\x7f"), ("a\u009b\u00e9", "a\\xc2\\x9b\u00e9"), ("back\\x0a", "back\\x0a")):
     row("cost " + name, 2, err="jb: cannot read %s\n" % shown, beside=MISSING)
     row("recover a --journal " + name, 1, err="jb: Super NoMagic %s\n" % shown, files={"a": FULL, name.replace("^", "\n"): bytes(33 * BS)})
 row("cost " + "\x01" * 2000, 2, err="jb: cannot read %s\n" % ("\\x01" * 2000), beside="File name too long (os error 36)")
