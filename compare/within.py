@@ -11,8 +11,8 @@ makes the journal), and each gets a dirty journal twice, as in in_place.py. The 
     system is then that of a run that was not killed.
 Refused, and nothing is changed: a journal that was copied out before e2fsck repaired the file system; one of another block size; one of
 another file system; a file system that is mounted on a loop device, where there are any.
-OCFS2 volumes are treated likewise, where mkfs.ocfs2 and debugfs.ocfs2 are installed: what JB leaves is compared with what jbref_read.py
-makes of the journal.
+OCFS2 volumes, with journals in one, two and three stretches, are treated likewise, where mkfs.ocfs2 and debugfs.ocfs2 are installed: what
+JB leaves is compared with what jbref_read.py makes of the journal.
 Needs e2fsprogs, and strace for the kills; what is not installed is passed over, with a line that says so. Prints a line for each."""
 import os
 import random
@@ -31,7 +31,8 @@ from jbref_write import random_journal
 # what makes the file system, bytes of a block, MiB, and how many blocks are taken within the journal's place
 KINDS = [("ext4", "^64bit", 1024, 64, 0), ("ext4", "64bit", 1024, 64, 1), ("ext4", "64bit", 2048, 96, 2), ("ext4", "64bit", 4096, 160, 0),
          ("ext4", "^64bit", 4096, 160, 1), ("ext3", "^64bit", 1024, 64, 0), ("ext3", "^64bit", 1024, 64, 2)]
-CLUSTERS = [(4096, 4096), (1024, 4096), (2048, 65536)]
+# OCFS2: bytes of a block and of a cluster, and the size of the journal, which lies in one, two, three and one stretches
+VOLUMES = [(4096, 4096, "8M"), (1024, 4096, "32M"), (1024, 4096, "64M"), (2048, 65536, "8M")]
 
 
 def need(*names):
@@ -89,7 +90,7 @@ class Trial(in_place.Trial):
         copy("jb.img", "jb.whole")
         run(*self.e2fsck, most=1)
         copy("e2fsck.img", "e2fsck.whole")
-        again = run(*self.jb)
+        again = run(self.within[0], "recover", "--extents", self.fs.listed.replace(", ", ","), "jb.img")
         self.expect("JB says: " + line, line == replay(whole("journal"))[2])
         self.expect("--dry-run says: " + said, said == line == listed[0])
         homes = {int(text.split()[1]) for text in listed[1:]}
@@ -168,15 +169,15 @@ def refusals(jb, chance):
     copy("fs", "small")
     listed = fs.listed
     run("e2fsck", "-fy", "fs", most=1)
-    wrong = refused("a stale copy", "jb: FileSystem Clean", [jb, "recover", "--journal", "stale", "fs"], "fs")
+    wrong = refused("a stale copy", "jb: FileSystem Clean fs", [jb, "recover", "--journal", "stale", "fs"], "fs")
     big = Spread("ext4", "64bit", 4096, 160, 0)
     big.put_debugfs(chance)
-    wrong += refused("another block size", "jb: FileSystem BlockSize 4096", [jb, "recover", "--journal", "stale", "fs"], "fs")
-    wrong += refused("another block size, --force", "jb: FileSystem BlockSize 4096", [jb, "recover", "--force", "--journal", "stale", "fs"], "fs")
+    wrong += refused("another block size", "jb: FileSystem BlockSize 4096 fs", [jb, "recover", "--journal", "stale", "fs"], "fs")
+    wrong += refused("another block size, --force", "jb: FileSystem BlockSize 4096 fs", [jb, "recover", "--force", "--journal", "stale", "fs"], "fs")
     wrong += refused("extents of another file system", "jb: Extents NoJournal", [jb, "recover", "--extents", listed, "fs"], "fs")
     other = Spread("ext4", "64bit", 1024, 64, 0)
     other.put_debugfs(chance)
-    wrong += refused("another file system", "jb: FileSystem Uuid", [jb, "recover", "--journal", "stale", "fs"], "fs")
+    wrong += refused("another file system", "jb: FileSystem Uuid fs", [jb, "recover", "--journal", "stale", "fs"], "fs")
     # the journal keeps the UUID that the file system had before tune2fs -U
     run("e2fsck", "-fy", "fs", most=1)
     run("tune2fs", "-U", "random", "fs", text="y\n")
@@ -211,36 +212,61 @@ def mounted(jb, chance):
         run("losetup", "--detach", device)
 
 
-def ocfs2(jb, size, cluster, chance, kills):
-    """An OCFS2 volume whose first journal is dirty."""
-    with open("fs", "wb") as file:
-        file.truncate(400 << 20)
-    run("mkfs.ocfs2", "-q", "--fs-features=local", "-b", str(size), "-C", str(cluster), "-J", "size=8M", "fs", text="y\n")
-    rows = re.findall(r"^\t\d+\s+(\d+)\s+(\d+)\s+(\d+)\s+0x", run("debugfs.ocfs2", "-R", "stat //journal:0000", "fs"), re.M)
-    parts = [(int(first), int(clusters) * cluster // size) for _, clusters, first in rows]
-    listed = ", ".join("%d-%d" % (first, first + count - 1) for first, count in parts)
-    places = [first + i for first, count in parts for i in range(count)]
-    end = (400 << 20) // size
-    pool = [block for block in range(end - 4000, end) if block not in set(places)]
-    journal = random_journal(chance.randrange(1 << 30), size, len(places), pool)
-    with open("fs", "r+b") as file:
-        for i, place in enumerate(places):
-            file.seek(place * size)
-            file.write(journal[i * size:(i + 1) * size])
-    copy("fs", "jb.img")
-    line = run(jb, "recover", "--extents", listed, "jb.img")
-    _, homes, wanted, expected = replay(journal)
-    changed, faults = differing("fs", "jb.img", size), []
-    faults += [] if line == wanted else ["JB says: " + line]
-    faults += [] if set(changed) <= set(homes) | {places[0]} else ["blocks that no copy is of"]
-    faults += ["home %d" % home for home, content in homes.items() if read_at("jb.img", home * size, size) != content]
-    first = read_at("jb.img", places[0] * size, 1024)
-    faults += [] if struct.unpack_from(">II", first, 0x18) == (expected % 2**32, 0) else ["the journal is not clean"]
-    again = run(jb, "recover", "--extents", listed, "jb.img")
-    faults += [] if again.startswith("transactions 0 ") else ["a second run says: " + again]
-    print("OCFS2, -b %d -C %d, %d stretches: %s; %d blocks changed: %s" % (
-        size, cluster, len(parts), line, len(changed), "WRONG: " + "; ".join(faults) if faults else "as jbref_read.py has it"), flush=True)
-    return bool(faults)
+class Volume(in_place.Trial):
+    """An OCFS2 volume whose first journal is dirty, recovered where that stands."""
+
+    def __init__(self, jb, size, cluster, length, chance, kills):
+        self.size, self.chance, self.kills, self.faults = size, chance, kills, []
+        self.name = "OCFS2, -b %d -C %d -J size=%s" % (size, cluster, length)
+        with open("fs", "wb") as file:
+            file.truncate(400 << 20)
+        run("mkfs.ocfs2", "-q", "--fs-features=local", "-b", str(size), "-C", str(cluster), "-J", "size=" + length, "fs", text="y\n")
+        rows = re.findall(r"^\t\d+\s+(\d+)\s+(\d+)\s+(\d+)\s+0x", run("debugfs.ocfs2", "-R", "stat //journal:0000", "fs"), re.M)
+        self.parts = [(int(first), int(clusters) * cluster // size) for _, clusters, first in rows]
+        self.places = [first + i for first, count in self.parts for i in range(count)]
+        self.words = [jb, "recover", "--extents", ", ".join("%d-%d" % (first, first + count - 1) for first, count in self.parts), "jb.img"]
+        self.put_random()
+
+    def put_random(self):
+        """A journal of many transactions in the place of the volume's own."""
+        end = (400 << 20) // self.size
+        pool = [block for block in range(end - 4000, end) if block not in set(self.places)]
+        self.journal = random_journal(self.chance.randrange(1 << 30), self.size, len(self.places), pool)
+        with open("fs", "r+b") as file:
+            for i, place in enumerate(self.places):
+                file.seek(place * self.size)
+                file.write(self.journal[i * self.size:(i + 1) * self.size])
+
+    def new_jb(self):
+        copy("fs", "jb.img")
+
+    def check_jb(self, what):
+        self.expect(what, whole("jb.img") == whole("jb.whole"))
+
+    def judged(self, line):
+        """Compares the volume with what the journal says; how many blocks have changed."""
+        _, homes, wanted, expected = replay(self.journal)
+        changed = differing("fs", "jb.img", self.size)
+        self.expect("JB says: " + line, line == wanted)
+        self.expect("blocks that no copy is of", set(changed) <= set(homes) | {self.places[0]})
+        for home, content in homes.items():
+            self.expect("home %d" % home, read_at("jb.img", home * self.size, self.size) == content)
+        first = read_at("jb.img", self.places[0] * self.size, 1024)
+        self.expect("the journal is not clean", struct.unpack_from(">II", first, 0x18) == (expected % 2**32, 0))
+        return len(changed)
+
+    def all(self, what):
+        self.new_jb()
+        line = run(*self.words)
+        changed = self.judged(line)
+        copy("jb.img", "jb.whole")
+        again = run(*self.words)
+        self.expect("a second run says: " + again, again.startswith("transactions 0 "))
+        calls = self.killed(self.new_jb, self.words, self.check_jb) if shutil.which("strace") else 0
+        print("%s, %d stretches, %s: %s; %d blocks changed; killed at %d of %d calls: %s" % (
+            self.name, len(self.parts), what, line, changed, min(self.kills, calls), calls,
+            "WRONG: " + "; ".join(self.faults) if self.faults else "as jbref_read.py has it"), flush=True)
+        return bool(self.faults)
 
 
 def main():
@@ -260,8 +286,8 @@ def main():
             wrong += refusals(jb, chance)
             wrong += mounted(jb, chance)
         if need("mkfs.ocfs2", "debugfs.ocfs2"):
-            for size, cluster in CLUSTERS:
-                wrong += ocfs2(jb, size, cluster, chance, kills)
+            for size, cluster, length in VOLUMES:
+                wrong += Volume(jb, size, cluster, length, chance, kills).all("random")
         os.chdir("/")
     print("%d wrong" % wrong)
     return 1 if wrong else 0

@@ -11,7 +11,7 @@ ROWS = []
 def row(words, status, out="", err="", files=(), stdin=b"", after=(), how="", to="pipe", terminal="", locked="", beside=""):
     """One run of the program in an empty folder.
 
-    words     its words, as one text; in a word `~` stands for a space, and a NUL is never needed
+    words     its words, as one text; in a word `~` stands for a space and `^` for an LF, and a NUL is never needed
     files     the files that are there before, by their names; None makes a folder, a number a file of so many zeros, a text that kind
               of file
     after     the files that differ afterwards, or are new; all others must be as they were, and there may be no other
@@ -254,8 +254,9 @@ for words, files in (("cat a", {"a": FULL}), ("cat --journal j a", parted(FULL))
     row(words + " 9 -n 0", 0, files=files)
     row(words + " 5 --hex", 0, xxd(BLOCK_5), files=files)
     row(words + " 5 --hex -n 5", 0, xxd(BLOCK_5 + bytes(3 * BS) + data(b"nine")), files=files)
-    row(words + " 16", 1, err="jb: NoHome 16\n", files=files, beside="16")
-    row(words + " 15 -n 2", 1, ZEROS, "jb: NoHome 16\n", files=files, beside="16")
+    of = " a" * ("j" in files)
+    row(words + " 16", 1, err="jb: NoHome 16%s\n" % of, files=files, beside="16")
+    row(words + " 15 -n 2", 1, ZEROS, "jb: NoHome 16%s\n" % of, files=files, beside="16")
     row(words + " 9", 1, err="jb: WriteFault\n", files=files, to="full")
     row(words + " 9", 1, err="jb: WriteFault\n", files=files, to="gone")
     row(words + " 9", 2, err="jb: in use a\n", files=files, locked="a")
@@ -269,9 +270,17 @@ row("cat a 0", 1, err="jb: NoHome 0\n", files={"a": image(SMALL, homes=0)}, besi
 SPLIT = {"j": RECOVERED[:33 * BS], "a": RECOVERED[33 * BS:]}
 row("recover a --journal j", 0, "transactions 1 copies 1 revoked 0 next 4\n", files=parted(FULL), after=SPLIT)
 row("recover a --journal j", 0, "transactions 0 copies 0 revoked 0 next 4\n", files=SPLIT)
-row("recover a --journal j", 1, err="jb: HomeOutOfRange 16 2\n", files=parted(image(superblock(2, 1), OUT_OF_RANGE)), beside="16")
+row("recover a --journal j", 1, err="jb: HomeOutOfRange 16 2 a\n", files=parted(image(superblock(2, 1), OUT_OF_RANGE)), beside="16")
 row("recover a --journal j", 1, err="jb: WriteFault\n", files=parted(FULL), to="full", after=SPLIT)
-row("recover a --journal j", 1, err="jb: Super NoMagic\n", files={"a": FULL, "j": bytes(33 * BS)})
+row("recover a --journal j", 1, err="jb: Super NoMagic j\n", files={"a": FULL, "j": bytes(33 * BS)})
+row("recover a --journal j", 1, err="jb: BadRevoke 1 j\n", files=parted(image(superblock(2, 1), [revoke(2, [], 1025), commit(2)])))
+row("load a q --journal j", 1, err="jb: NeedsRecovery j\n", files={**parted(FULL), "q": queue(HANDLE)})
+row("load a q --journal j", 1, err="jb: NumbersSpent j\n", files={**parted(image(CLEAN)), "q": queue(HANDLE)})
+# names of control characters, and a name that is longer than what is written at once
+for name, shown in (("two^lines", "two\\x0alines"), ("\x1b[2J\x7f", "\\x1b[2J\\x7f"), ("a\u009b\u00e9", "a\\xc2\\x9b\u00e9"), ("back\\x0a", "back\\x0a")):
+    row("cost " + name, 2, err="jb: cannot read %s\n" % shown, beside=MISSING)
+    row("recover a --journal " + name, 1, err="jb: Super NoMagic %s\n" % shown, files={"a": FULL, name.replace("^", "\n"): bytes(33 * BS)})
+row("cost " + "\x01" * 2000, 2, err="jb: cannot read %s\n" % ("\\x01" * 2000), beside="File name too long (os error 36)")
 # home block 5 is past what the shell lets a file grow to, so its write fails and the journal is not emptied
 row("recover a --journal j", 1, err="jb: DeviceFault\n", files=parted(FULL), how="trap '' XFSZ; ulimit -f 4")
 # ---- a journal within its file system, and file systems -----------------------------------------------------------------------
@@ -340,13 +349,14 @@ for home, err in ((system(), ""), (system(log=2), "BlockSize 4096"), (system(log
                   (system(uuid=bytes(16), incompat=0), "Uuid"), (system(magic=0xEF52, log=2), "")):
     before, after = over(FULL, home), over(RECOVERED, home)
     for words, lay in (("recover a --journal j", parted), ("recover a --extents 20-52", lambda content: within(content, [(20, 33)]))):
+        of = " a" * (lay == parted)
         if err:
-            row(words, 1, err="jb: FileSystem %s\n" % err, files=lay(before))
-            row(words + " --dry-run", 1, err="jb: FileSystem %s\n" % err, files=lay(before))
+            row(words, 1, err="jb: FileSystem %s%s\n" % (err, of), files=lay(before))
+            row(words + " --dry-run", 1, err="jb: FileSystem %s%s\n" % (err, of), files=lay(before))
         else:
             row(words, 0, LINE, files=lay(before), after=lay(after))
         if "BlockSize" in err:
-            row(words + " --force", 1, err="jb: FileSystem %s\n" % err, files=lay(before))
+            row(words + " --force", 1, err="jb: FileSystem %s%s\n" % (err, of), files=lay(before))
         else:
             row(words + " --force", 0, LINE, files=lay(before), after=lay(after))
             row(words, 0, "transactions 0 copies 0 revoked 0 next 4\n", files=lay(after))
@@ -365,7 +375,7 @@ for words, more in (("recover a", {}), ("cat a 9", {}), ("load a q", {"q": queue
     row(words + " --journal a", 2, err="jb: same file a\n", files={"a": FULL, **more})
     row(words + " --journal ./a", 2, err="jb: same file a\n", files={"a": FULL, **more})
     for blocks in (32, 34):
-        row(words + " --journal j", 1, err="jb: Super Geometry\n", files={**parted(FULL + bytes(BS), blocks), **more})
+        row(words + " --journal j", 1, err="jb: JournalLength %d 33 j\n" % blocks, files={**parted(FULL + bytes(BS), blocks), **more})
 
 # ---- load --------------------------------------------------------------------------------------------------------------------
 
@@ -438,6 +448,9 @@ row("", 2, err=begins("A block journal in jbd2's format\n\nUsage: jb <COMMAND>\n
 row("", 0, "cost 7 limit 7 fits\n", stdin=queue(THREE, 7), terminal="err")
 row("cost", 2, err=begins("error: "), terminal="err")
 row("recover a", 0, "transactions 1 copies 1 revoked 0 next 4\n", files={"a": FULL}, after={"a": RECOVERED}, terminal="err")
+# where nobody reads standard output any more, nothing is said on a terminal
+for words, files, after in (("dump a", {"a": FULL}, {}), ("cat a 5", {"a": FULL}, {}), ("recover a", {"a": FULL}, {"a": RECOVERED}), ("--help", {}, {})):
+    row(words, 1, files=files, after=after, to="gone", terminal="err")
 # each kind of line on standard error once more, on a terminal, with each thing that is said beside it
 told = set()
 for some in [some for some in ROWS if isinstance(some["err"], str) and some["err"].startswith("jb: ")]:

@@ -1,12 +1,15 @@
 //! `jb`: a block journal in jbd2's format, from the command line.
 #![tactic(auto)]
 
+mod pipes;
 mod streams;
 
+use crate::pipes::{Heard, Heeding};
 use crate::streams::fill_closed;
 use jb_advice::Noted;
 use jb_tool::{CommandFault, Ended};
 use std::alloc::AllocError;
+use std::cell::Cell;
 use std::io::{ErrorKind, IsTerminal, Write};
 use std::process::ExitCode;
 use std::{env, io};
@@ -25,10 +28,12 @@ fn helped<E: Write>(shown: Result<(), AllocError>, err: &mut E) -> u8 {
 }
 
 fn main(rt: HostRuntime) -> ExitCode {
-    let (mut input, mut out, mut err) = (rt.stdin(), rt.stdout(), Noted::new(rt.stderr()));
+    let (gone, on_terminal) = (Cell::new(false), rt.stderr().is_terminal());
+    let (mut input, mut out) = (rt.stdin(), Heard::new(rt.stdout(), &gone));
+    let mut err = Noted::new(Heeding::new(rt.stderr(), &gone, on_terminal));
     let Ok(_files) = fill_closed(&rt) else {
         let fault = CommandFault::CannotRead("/dev/null", None);
-        fault.tell(&mut err);
+        fault.tell(None, &mut err);
         return ExitCode::from(fault.status());
     };
     let ended = match words(&rt) {
@@ -38,7 +43,7 @@ fn main(rt: HostRuntime) -> ExitCode {
         Ok(words) => jb_tool::run(&rt, words.as_slice(), &mut input, &mut out, &mut err),
         Err(error) => Ended::with_status(jb_tool::refuse_words(error.kind(), &mut err)),
     };
-    if rt.stderr().is_terminal() {
+    if on_terminal {
         let _ignored = err.advise(ended.beside);
     }
     ExitCode::from(ended.status)

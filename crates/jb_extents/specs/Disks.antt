@@ -1,5 +1,5 @@
 -- A journal and the file system that it stands in, as one disk.
-use Rattle.std.specs.Prelude.{◌≡◌, ℕ, ◌+◌, ◌-◌, ◌^◌, Bool, true, false, if◌then◌else◌, List, [], ◌∷◌, min, nat_lt, Option, Some, None, option_and_then}
+use Rattle.std.specs.Prelude.{◌≡◌, ℕ, ◌+◌, ◌-◌, ◌^◌, Bool, false, if◌then◌else◌, List, [], ◌∷◌, min, nat_lt, Option, Some, None, option_and_then}
 use Rattle.jb_disk.specs.Called.{Called, Reads, Writes, Syncs}
 use Rattle.jb_disk.specs.Faults.{CountsCall, CountsOne}
 use Rattle.jb_extents.specs.Lists.{holds_in, list_of, place_within}

@@ -1,6 +1,6 @@
 -- A list of extents: what a text lists, and which blocks it has.
 use Rattle.std.specs.Prelude.{◌≡◌, ℕ, ◌+◌, ◌-◌, ◌^◌, ◌==◌, ◌&&◌, ◌||◌, not, Bool, true, false, if◌then◌else◌, List, [], ◌∷◌, ◌++◌, min, max, nat_lt, Option, Some, None, option_and_then, Result, Ok, Err}
-use Rattle.jb_text.specs.Parts.{words}
+use Rattle.jb_text.specs.Parts.{grow}
 use Rattle.jb_extents.specs.Blocks.{extent_count, has_block}
 use Rattle.jb_extents.specs.Words.{named_in}
 use Rattle.jb_extents.specs.declared.extent.Extent.{Extent}
@@ -9,6 +9,24 @@ use Rattle.jb_extents.specs.declared.fault.ListFault.{ListFault}
 use Rattle.jb_extents.specs.declared.fault.ListFault.TheVariants.{Syntax, Memory}
 use Rattle.jb_extents.specs.declared.word.Named.{Named}
 use Rattle.jb_extents.specs.declared.word.Named.TheVariants.{Nothing, Blocks}
+
+-- ---- the words of a text
+
+-- a byte is between two words: a space or a comma
+abbrev pub is_between : ℕ → Bool
+is_between b = b == 32 || b == 44
+
+-- the words of a text; two such bytes in a row have an empty word between them
+unfoldable pub listed : List ℕ → List (List ℕ)
+listed [] = [] ∷ []
+listed (b ∷ bs) = if is_between b then [] ∷ listed bs else grow b (listed bs)
+
+-- the words of what follows such a byte, if there is one
+abbrev pub listed_in : Option (List ℕ) → List (List ℕ)
+listed_in None = []
+listed_in (Some text) = listed text
+
+-- ---- the extents
 
 -- the extents, in the journal's order
 abbrev pub list_of : Extents → List Extent
@@ -75,7 +93,7 @@ with_words es (word ∷ more) = option_and_then (λ now. with_words now more) (w
 
 -- the extents that a text lists; none where it is no such list
 abbrev pub extents_in : List ℕ → Option (List Extent)
-extents_in text = with_words [] (words text)
+extents_in text = with_words [] (listed text)
 
 -- a word was taken up: the extents are those with it; or they cannot be
 abbrev pub TakesWord : List ℕ → List Extent → List Extent → Result Unit ListFault → Type 0

@@ -1,5 +1,5 @@
 -- One stretch of a list of extents.
-use Rattle.std.specs.Prelude.{◌≡◌, ℕ, ◌+◌, ◌-◌, ◌^◌, ◌==◌, ◌&&◌, ◌||◌, not, Bool, if◌then◌else◌, List, length, take, drop, slice_index, nat_lt, Option, Some, None, option_and_then}
+use Rattle.std.specs.Prelude.{ℕ, ◌^◌, ◌==◌, ◌&&◌, ◌||◌, not, Bool, if◌then◌else◌, List, length, drop, slice_index, nat_lt, Option, Some, None, option_and_then}
 use Rattle.jb_text.specs.Parts.{before, onward, number_of}
 use Rattle.jb_extents.specs.Blocks.{extent_count}
 use Rattle.jb_extents.specs.declared.extent.Extent.{Extent}
@@ -41,17 +41,9 @@ placed_word inner blocks =
 abbrev pub place_in : List ℕ → List ℕ → Option Named
 place_in inner rest = if is_ended rest then option_and_then (placed_word inner) (range_in (drop 2 rest)) else None
 
--- a word without a comma at its end
-abbrev pub without_comma : List ℕ → List ℕ
-without_comma word = if length (onward 44 word) == 1 then before 44 word else word
-
--- what a word without a comma says
-abbrev pub plain_in : List ℕ → Option Named
-plain_in word =
+-- what a word says
+abbrev pub named_in : List ℕ → Option Named
+named_in word =
     if length word == 0 then Some Nothing
     else if slice_index word 0 == 40 then place_in (before 41 (drop 1 word)) (onward 41 (drop 1 word))
     else option_and_then (λ blocks. Some (Blocks None blocks)) (range_in word)
-
--- what a word says
-abbrev pub named_in : List ℕ → Option Named
-named_in word = plain_in (without_comma word)

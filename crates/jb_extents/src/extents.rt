@@ -1,12 +1,13 @@
-ghost use Rattle.std.specs.Prelude.{◌≡◌, ◌++◌, ◌∷◌, [], OnOk};
-ghost use Rattle.jb_extents.specs.Lists.{extents_count, follows_at, meets_in};
+ghost use Rattle.std.specs.Prelude.{◌≡◌, ◌++◌, ◌∷◌, ◌<◌, [], IfSome, OnOk, length};
+ghost use Rattle.std.specs.Option.{option_copied};
+ghost use Rattle.jb_extents.specs.Lists.{extents_count, follows_at, is_between as stands_between, listed, listed_in};
+ghost use Rattle.jb_extents.specs.Lists.{meets_in};
 ghost use Rattle.jb_extents.specs.Lists.{TakesWord};
 
 use crate::extent::Extent;
 use crate::fault::ListFault;
 use crate::word::{Named, read_word};
 use jb_block::Memory;
-use jb_text::next_word;
 use std::alloc::Global;
 
 /// Where the blocks of a journal stand in an image: in stretches, one after the other.
@@ -20,8 +21,8 @@ impl Extents {
     ghost use Rattle.jb_extents.specs.Lists.{ReadsList, extents_count, holds_in, list_of, past_in, place_within, shared_in};
 
     /// The extents that a text lists, as `stat` of debugfs does: `(0-1023):8193-9216, (1024):9300, (IND):8192`. Words
-    /// are separated by a space, and a comma may end each. A stretch without a place, as `8193-9216`, has the next
-    /// blocks of the journal.
+    /// are separated by spaces, commas or both. A stretch without a place, as `8193-9216`, has the next blocks of the
+    /// journal.
     ///
     /// # Errors
     /// `ListFault::Syntax` where a word is of another form, or the stretches are not in the journal's order;
@@ -32,7 +33,7 @@ impl Extents {
         let mut list = Vec::new(alloc);
         let mut left = Some(text);
         while let Some(words) = left {
-            let (word, rest) = next_word(words);
+            let (word, rest) = next_listed(words);
             take_word(&mut list, word)?;
             left = rest;
         }
@@ -120,6 +121,26 @@ fn total(list: &[Extent]) -> u64
         sum = sum.saturating_add(extent.blocks());
     }
     sum
+}
+
+/// The first word of a text, and what is after the space or comma that follows it, where there is one.
+fn next_listed(text: &[u8]) -> (&[u8], Option<&[u8]>)
+    ensures words { listed text.now ≡ result.0.now ∷ listed_in (option_copied result.1) }
+    ensures shorter { IfSome result.1 (λ rest. length rest.now < length text.now) }
+{
+    for at in 0..text.len() {
+        if is_between(text[at]) {
+            return (text.split_at(at).0, Some(text.split_at(at + 1).1));
+        }
+    }
+    (text, None)
+}
+
+/// Whether a byte is between two words.
+fn is_between(byte: u8) -> bool
+    ensures { result ≡ stands_between byte }
+{
+    matches!(byte, b' ' | b',')
 }
 
 /// Puts the blocks that a word says after those that are listed.

@@ -1,7 +1,7 @@
 //! One stretch of a list of extents.
 ghost use Rattle.std.specs.Prelude.{◌≡◌};
 ghost use Rattle.jb_extents.specs.Words.{counted_in, is_ended, is_name as is_named, named_in, place_in};
-ghost use Rattle.jb_extents.specs.Words.{range_in, stretch_in, without_comma};
+ghost use Rattle.jb_extents.specs.Words.{range_in, stretch_in};
 
 use crate::extent::Extent;
 use jb_text::{number, part};
@@ -16,11 +16,10 @@ pub(crate) enum Named {
 }
 
 /// What a word says: `(A-B):C-D` or `(A):C`, as debugfs lists the extents of a file; `(NAME):C`, the blocks of the
-/// map; or `C-D` or `C` alone, the next blocks. A comma may follow.
+/// map; or `C-D` or `C` alone, the next blocks.
 pub(crate) fn read_word(word: &[u8]) -> Option<Named>
     ensures { result ≡ named_in word.now }
 {
-    let word = trimmed(word);
     if word.is_empty() {
         return Some(Named::Nothing);
     }
@@ -67,14 +66,6 @@ fn is_name(inner: &[u8]) -> bool
     ensures { result ≡ is_named inner.now }
 {
     !inner.is_empty() && inner[0].is_ascii_uppercase()
-}
-
-/// A word without a comma at its end.
-fn trimmed(word: &[u8]) -> &[u8]
-    ensures { result.now ≡ without_comma word.now }
-{
-    let (front, rest) = part(word, b',');
-    if rest.len() == 1 { front } else { word }
 }
 
 /// The numbers that `C-D` or `C` says.

@@ -10,7 +10,7 @@ use std::process::Abort;
 type Said = Option<(&'static [(u64, Option<u64>)], u64)>;
 
 /// Lists, as debugfs prints them and otherwise.
-static LISTS: [(&str, Said); 12] = [
+static LISTS: [(&str, Said); 13] = [
     ("", Some((&[(0, None)], 0))),
     (
         "(0-32):20-52",
@@ -28,6 +28,10 @@ static LISTS: [(&str, Said); 12] = [
         Some((&[(0, Some(7)), (1, Some(3)), (2, Some(4))], 3)),
     ),
     ("(0-1):5-6,  (2):0 ,", Some((&[(2, Some(0))], 3))),
+    (
+        "(0-1):5-6,(IND):7,3-4,9",
+        Some((&[(1, Some(6)), (3, Some(4)), (4, Some(9))], 5)),
+    ),
     ("(1):5", None),
     ("(0-1):5-7", None),
     ("(0-1):6-5", None),

@@ -1,5 +1,5 @@
 -- Home blocks that are peeked at and written, one after the other, for any disk.
-use Rattle.std.proofs.Common.{◌≡◌, suc, ◌+◌, ◌%◌, ◌^◌, ◌<◌, ◌≤◌, ℕ, Bool, List, [], ◌∷◌, ◌++◌, length, get_or, Option, Some, None, Result, Ok, Err, refl, ap, sym, ◌∙◌, subst, inl, inr, ⊎_elim, arith, length-append, append_assoc, append-nil}
+use Rattle.std.proofs.Common.{◌≡◌, suc, ◌+◌, ◌<◌, ℕ, Bool, List, [], ◌∷◌, ◌++◌, length, get_or, Option, Some, None, Result, Ok, Err, refl, ap, sym, ◌∙◌, subst, inl, inr, arith, length-append, append_assoc, append-nil}
 use Rattle.std.proofs.Math.Decide.{ℕ_discrete}
 use Rattle.std.proofs.Math.Seq.{get_or-append_seam}
 use Rattle.std.proofs.lemmas.List.{get_or_append_left}
@@ -13,7 +13,8 @@ use Rattle.jb_io.proofs.PartByPart.{part_after}
 use Rattle.jb_recover.specs.Peeks.{IsPeeked, Peeks, peek_refusal}
 use Rattle.jb_recover.specs.declared.fault.PeekFault.{PeekFault}
 use Rattle.jb_recover.specs.declared.fault.PeekFault.TheVariants as peeking
-use Rattle.jb_plain.specs.Cat.{ArePeeked, block_text, blocks_text, CatsOn, home_at, IsUnpeeked, offset_after, offset_behind, PutsText, upto}
+use Rattle.jb_plain.specs.Cat.{ArePeeked, block_text, blocks_text, CatsOn, home_at, IsUnpeeked, offset_after, offset_behind, PutsText}
+use Rattle.jb_plain.specs.Lines.{upto}
 use Rattle.jb_plain.specs.Faults.{peek_fault}
 use Rattle.jb_plain.specs.declared.fault.CommandFault.{CommandFault}
 use Rattle.jb_plain.specs.declared.fault.CommandFault.TheVariants.{Memory, WriteFault}

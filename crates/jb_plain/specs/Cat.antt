@@ -1,5 +1,5 @@
 -- How `jb cat` ends on a disk.
-use Rattle.std.specs.Prelude.{◌≡◌, ◌+◌, ◌*◌, ◌-◌, ◌/◌, ◌%◌, ◌^◌, ◌<◌, ◌⊎◌, ◌&&◌, ℕ, zero, suc, ⊤, Bool, true, false, if◌then◌else◌, min, nat_lt, List, [], ◌∷◌, ◌++◌, length, map, take, drop, get_or, Option, Some, None, Result, Ok, Err, codes}
+use Rattle.std.specs.Prelude.{◌≡◌, ◌+◌, ◌*◌, ◌-◌, ◌/◌, ◌%◌, ◌^◌, ◌<◌, ◌⊎◌, ◌&&◌, ℕ, ⊤, Bool, true, false, if◌then◌else◌, min, nat_lt, List, [], ◌∷◌, ◌++◌, length, map, take, drop, get_or, Option, Some, None, Result, Ok, Err, codes}
 use Rattle.std.specs.Int.{w32, to_be_bytes}
 use Rattle.std.specs.Io.KnownBytes.{Appends}
 use Rattle.hex.specs.Hex.{encode_lower}
@@ -10,15 +10,11 @@ use Rattle.jb_recover.specs.Peeks.{IsPeeked, peek_refusal}
 use Rattle.jb_recover.specs.declared.fault.PeekFault.{PeekFault}
 use Rattle.jb_recover.specs.declared.fault.PeekFault.TheVariants as peeking
 use Rattle.jb_plain.specs.Faults.{peek_fault}
+use Rattle.jb_plain.specs.Lines.{upto}
 use Rattle.jb_plain.specs.declared.fault.CommandFault.{CommandFault}
 use Rattle.jb_plain.specs.declared.fault.CommandFault.TheVariants.{Memory, WriteFault}
 
 -- ---- the text of a block
-
--- the texts of the first numbers, one after the other
-abbrev pub upto : (ℕ → List ℕ) → ℕ → List ℕ
-upto text zero = []
-upto text (suc n) = upto text n ++ text n
 
 -- two bytes of a row in hexadecimal digits, and a space
 abbrev pub pair_text : List ℕ → ℕ → List ℕ

@@ -2,7 +2,6 @@
 use Rattle.std.specs.Prelude.{ℕ, ℤ, List, [], ◌∷◌, Option, None, Some, codes, decimal}
 use Rattle.jb_advice.specs.declared.beside.Beside.{Beside}
 use Rattle.jb_advice.specs.declared.beside.Beside.TheVariants.{Nothing, BadOption as FirstBad, System, Homes}
-use Rattle.jb_io.specs.Parts.{spelled}
 use Rattle.jb_dump.specs.declared.fault.DumpFault.{DumpFault}
 use Rattle.jb_dump.specs.declared.fault.DumpFault.TheVariants as dumping
 use Rattle.jb_extents.specs.declared.fault.ExtentsFault.{ExtentsFault}
@@ -19,8 +18,9 @@ use Rattle.jb_recover.specs.declared.fault.RecoverFault.{RecoverFault}
 use Rattle.jb_recover.specs.declared.fault.RecoverFault.TheVariants as recovering
 use Rattle.jb_super.specs.declared.fault.SuperFault.{SuperFault}
 use Rattle.jb_super.specs.declared.fault.SuperFault.TheVariants as super
+use Rattle.jb_plain.specs.Lines.{Names, image_named, journal_named, line_naming}
 use Rattle.jb_plain.specs.declared.fault.CommandFault.{CommandFault}
-use Rattle.jb_plain.specs.declared.fault.CommandFault.TheVariants.{CannotRead, InUse, SameFile, CannotMake, BadOption, TooLong, ReadFault, Super, FileSystem, Extents, BadRevoke, HomeOutOfRange, NoHome, NeedsRecovery, NumbersSpent, BlockSize, Accounts, Geometry, DeviceFault, Memory, WriteFault}
+use Rattle.jb_plain.specs.declared.fault.CommandFault.TheVariants.{CannotRead, InUse, SameFile, CannotMake, BadOption, TooLong, ReadFault, Super, JournalLength, FileSystem, Extents, BadRevoke, HomeOutOfRange, NoHome, NeedsRecovery, NumbersSpent, BlockSize, Accounts, Geometry, DeviceFault, Memory, WriteFault}
 
 -- the exit status
 abbrev pub status_of : CommandFault → ℕ
@@ -32,6 +32,7 @@ status_of (BadOption name) = 2
 status_of (TooLong name) = 2
 status_of ReadFault = 1
 status_of (Super fault) = 1
+status_of (JournalLength blocks maxlen) = 1
 status_of (FileSystem fault) = 1
 status_of (Extents fault) = 1
 status_of (BadRevoke place) = 1
@@ -46,55 +47,56 @@ status_of DeviceFault = 1
 status_of Memory = 1
 status_of WriteFault = 1
 
--- the line of a superblock that is refused: the fault's name and its numbers; of a feature word, 1, 2 or 3, those of its
--- bits that are not taken
-abbrev pub super_line : SuperFault → List ℕ
-super_line super.ShortBlock = spelled (codes "jb: Super ShortBlock\n" ∷ [])
-super_line super.NoMagic = spelled (codes "jb: Super NoMagic\n" ∷ [])
-super_line (super.NotVersion2 kind) = spelled (codes "jb: Super NotVersion2 " ∷ decimal kind ∷ codes "\n" ∷ [])
-super_line (super.BlockSize size) = spelled (codes "jb: Super BlockSize " ∷ decimal size ∷ codes "\n" ∷ [])
-super_line super.Geometry = spelled (codes "jb: Super Geometry\n" ∷ [])
-super_line (super.Feature word bits) =
-    spelled (codes "jb: Super Feature " ∷ decimal word ∷ codes " " ∷ decimal bits ∷ codes "\n" ∷ [])
+-- the line of a superblock that is refused, after the name of a file: the fault's name and its numbers; of a feature word, 1, 2 or 3,
+-- those of its bits that are not taken
+abbrev pub super_line : Option (List ℕ) → SuperFault → List ℕ
+super_line name super.ShortBlock = line_naming (codes "jb: Super ShortBlock" ∷ []) name
+super_line name super.NoMagic = line_naming (codes "jb: Super NoMagic" ∷ []) name
+super_line name (super.NotVersion2 kind) = line_naming (codes "jb: Super NotVersion2 " ∷ decimal kind ∷ []) name
+super_line name (super.BlockSize size) = line_naming (codes "jb: Super BlockSize " ∷ decimal size ∷ []) name
+super_line name super.Geometry = line_naming (codes "jb: Super Geometry" ∷ []) name
+super_line name (super.Feature word bits) = line_naming (codes "jb: Super Feature " ∷ decimal word ∷ codes " " ∷ decimal bits ∷ []) name
 
 -- the line of a journal that is not recovered into a file system: the fault's name, and the bytes of the file system's blocks
-abbrev pub system_line : FileSystemFault → List ℕ
-system_line (system.BlockSize size) = spelled (codes "jb: FileSystem BlockSize " ∷ decimal size ∷ codes "\n" ∷ [])
-system_line system.Uuid = spelled (codes "jb: FileSystem Uuid\n" ∷ [])
-system_line system.Clean = spelled (codes "jb: FileSystem Clean\n" ∷ [])
+abbrev pub system_line : Option (List ℕ) → FileSystemFault → List ℕ
+system_line name (system.BlockSize size) = line_naming (codes "jb: FileSystem BlockSize " ∷ decimal size ∷ []) name
+system_line name system.Uuid = line_naming (codes "jb: FileSystem Uuid" ∷ []) name
+system_line name system.Clean = line_naming (codes "jb: FileSystem Clean" ∷ []) name
 
 -- the line of extents that do not hold the journal: the fault's name, and a block or how many they have
 abbrev pub extents_line : ExtentsFault → List ℕ
-extents_line (extents.Overlap block) = spelled (codes "jb: Extents Overlap " ∷ decimal block ∷ codes "\n" ∷ [])
-extents_line (extents.PastEnd block) = spelled (codes "jb: Extents PastEnd " ∷ decimal block ∷ codes "\n" ∷ [])
-extents_line (extents.Short blocks) = spelled (codes "jb: Extents Short " ∷ decimal blocks ∷ codes "\n" ∷ [])
-extents_line extents.NoJournal = spelled (codes "jb: Extents NoJournal\n" ∷ [])
-extents_line (extents.Home home) = spelled (codes "jb: Extents Home " ∷ decimal home ∷ codes "\n" ∷ [])
+extents_line (extents.Overlap block) = line_naming (codes "jb: Extents Overlap " ∷ decimal block ∷ []) None
+extents_line (extents.PastEnd block) = line_naming (codes "jb: Extents PastEnd " ∷ decimal block ∷ []) None
+extents_line (extents.Short blocks) = line_naming (codes "jb: Extents Short " ∷ decimal blocks ∷ []) None
+extents_line extents.NoJournal = line_naming (codes "jb: Extents NoJournal" ∷ []) None
+extents_line (extents.Home home) = line_naming (codes "jb: Extents Home " ∷ decimal home ∷ []) None
 
--- the line on standard error
-abbrev pub line_of : CommandFault → List ℕ
-line_of (CannotRead name code) = spelled (codes "jb: cannot read " ∷ name.now ∷ codes "\n" ∷ [])
-line_of (InUse name) = spelled (codes "jb: in use " ∷ name.now ∷ codes "\n" ∷ [])
-line_of (SameFile name) = spelled (codes "jb: same file " ∷ name.now ∷ codes "\n" ∷ [])
-line_of (CannotMake name code) = spelled (codes "jb: cannot make " ∷ name.now ∷ codes "\n" ∷ [])
-line_of (BadOption name) = spelled (codes "jb: bad option\n" ∷ [])
-line_of (TooLong name) = spelled (codes "jb: too long " ∷ name.now ∷ codes "\n" ∷ [])
-line_of ReadFault = spelled (codes "jb: ReadFault\n" ∷ [])
-line_of (Super fault) = super_line fault
-line_of (FileSystem fault) = system_line fault
-line_of (Extents fault) = extents_line fault
-line_of (BadRevoke place) = spelled (codes "jb: BadRevoke " ∷ decimal place ∷ codes "\n" ∷ [])
-line_of (HomeOutOfRange home number homes) =
-    spelled (codes "jb: HomeOutOfRange " ∷ decimal home ∷ codes " " ∷ decimal number ∷ codes "\n" ∷ [])
-line_of (NoHome home homes) = spelled (codes "jb: NoHome " ∷ decimal home ∷ codes "\n" ∷ [])
-line_of NeedsRecovery = spelled (codes "jb: NeedsRecovery\n" ∷ [])
-line_of NumbersSpent = spelled (codes "jb: NumbersSpent\n" ∷ [])
-line_of BlockSize = spelled (codes "jb: BlockSize\n" ∷ [])
-line_of Accounts = spelled (codes "jb: Accounts\n" ∷ [])
-line_of Geometry = spelled (codes "jb: Geometry\n" ∷ [])
-line_of DeviceFault = spelled (codes "jb: DeviceFault\n" ∷ [])
-line_of Memory = spelled (codes "jb: Memory\n" ∷ [])
-line_of WriteFault = spelled (codes "jb: WriteFault\n" ∷ [])
+-- the line on standard error. Of a command over two files it ends with the name of the one that it is about, where that is known
+abbrev pub line_of : Option Names → CommandFault → List ℕ
+line_of names (CannotRead name code) = line_naming (codes "jb: cannot read" ∷ []) (Some name.now)
+line_of names (InUse name) = line_naming (codes "jb: in use" ∷ []) (Some name.now)
+line_of names (SameFile name) = line_naming (codes "jb: same file" ∷ []) (Some name.now)
+line_of names (CannotMake name code) = line_naming (codes "jb: cannot make" ∷ []) (Some name.now)
+line_of names (BadOption name) = line_naming (codes "jb: bad option" ∷ []) None
+line_of names (TooLong name) = line_naming (codes "jb: too long" ∷ []) (Some name.now)
+line_of names ReadFault = line_naming (codes "jb: ReadFault" ∷ []) None
+line_of names (Super fault) = super_line (journal_named names) fault
+line_of names (JournalLength blocks maxlen) =
+    line_naming (codes "jb: JournalLength " ∷ decimal blocks ∷ codes " " ∷ decimal maxlen ∷ []) (journal_named names)
+line_of names (FileSystem fault) = system_line (image_named names) fault
+line_of names (Extents fault) = extents_line fault
+line_of names (BadRevoke place) = line_naming (codes "jb: BadRevoke " ∷ decimal place ∷ []) (journal_named names)
+line_of names (HomeOutOfRange home number homes) =
+    line_naming (codes "jb: HomeOutOfRange " ∷ decimal home ∷ codes " " ∷ decimal number ∷ []) (image_named names)
+line_of names (NoHome home homes) = line_naming (codes "jb: NoHome " ∷ decimal home ∷ []) (image_named names)
+line_of names NeedsRecovery = line_naming (codes "jb: NeedsRecovery" ∷ []) (journal_named names)
+line_of names NumbersSpent = line_naming (codes "jb: NumbersSpent" ∷ []) (journal_named names)
+line_of names BlockSize = line_naming (codes "jb: BlockSize" ∷ []) None
+line_of names Accounts = line_naming (codes "jb: Accounts" ∷ []) None
+line_of names Geometry = line_naming (codes "jb: Geometry" ∷ []) None
+line_of names DeviceFault = line_naming (codes "jb: DeviceFault" ∷ []) None
+line_of names Memory = line_naming (codes "jb: Memory" ∷ []) None
+line_of names WriteFault = line_naming (codes "jb: WriteFault" ∷ []) None
 
 -- what a second line says of a number of the system's, or of home blocks, where there is one
 abbrev pub of_code : Option ℤ → Beside
@@ -117,7 +119,7 @@ beside_of _ = Nothing
 
 -- the line for a word of the command line that is not UTF-8
 abbrev pub not_utf8 : List ℕ
-not_utf8 = spelled (codes "error: invalid UTF-8 was detected in one or more arguments\n" ∷ [])
+not_utf8 = line_naming (codes "error: invalid UTF-8 was detected in one or more arguments" ∷ []) None
 
 -- what a fault of a dump is reported as
 abbrev pub dump_fault : DumpFault → CommandFault

@@ -1,5 +1,5 @@
 -- How the commands over images end over a file.
-use Rattle.std.specs.Prelude.{◌≡◌, ◌≢◌, ◌⊎◌, ◌-◌, ℕ, ⊤, List, [], Option, Some, None, Result, Ok, Err}
+use Rattle.std.specs.Prelude.{◌≡◌, ◌≢◌, ◌⊎◌, ℕ, ⊤, List, [], Option, Some, None, Result, Ok, Err}
 use Rattle.hex.specs.Hex.{decode_of}
 use Rattle.jb_block.specs.Size.{bytes_of}
 use Rattle.jb_disk.specs.File.{count_of, faults_of, size_of}
@@ -15,7 +15,6 @@ use Rattle.jb_front.specs.Renumbering.{IsRenumbering, Renumbers, RenumbersAs}
 use Rattle.jb_front.specs.Widening.{IsWidened, Widens, WidensAs}
 use Rattle.jb_super.specs.Faults.{super_in}
 use Rattle.jb_super.specs.Superblock.{Superblock}
-use Rattle.jb_super.specs.declared.fault.SuperFault.TheVariants.{Geometry as NoGeometry}
 use Rattle.jb_words.specs.Named.{Options}
 use Rattle.jb_pair.specs.Images.{image_count, image_faults, image_size}
 use Rattle.jb_pair.specs.Pair.{back_disk, front_disk}
@@ -25,7 +24,7 @@ use Rattle.jb_plain.specs.Change.{ChangesOn, renumbered_line, widened_line}
 use Rattle.jb_plain.specs.Format.{FormatsOn}
 use Rattle.jb_plain.specs.Options.{AreGood, IsFirstBad, IsJournalLength}
 use Rattle.jb_plain.specs.declared.fault.CommandFault.{CommandFault}
-use Rattle.jb_plain.specs.declared.fault.CommandFault.TheVariants.{BadOption, CannotMake, CannotRead, Geometry as BadGeometry, InUse, Memory, SameFile, Super}
+use Rattle.jb_plain.specs.declared.fault.CommandFault.TheVariants.{BadOption, CannotMake, CannotRead, Geometry as BadGeometry, InUse, JournalLength, Memory, SameFile, Super}
 
 -- the file of this name was not made: an option is bad; or none is, and a journal may not have so many blocks; or it may, and the
 -- system refuses the file
@@ -68,18 +67,19 @@ IsUnread name (Super fault) = (front : List ℕ) × (super_in front ≡ Err faul
 IsUnread name Memory = Unit {0}
 IsUnread name _ = ⊥
 
+-- some first bytes are this superblock
+abbrev pub SaysSuper : Superblock → Type 0
+SaysSuper sb = (front : List ℕ) × (super_in front ≡ Ok sb)
+
 -- a journal's first bytes are a superblock, and its file has fewer blocks than that says, or more
 abbrev pub IsOtherLength : CommandFault → Type 0
-IsOtherLength fault = (fault ≡ Super NoGeometry) × ((front : List ℕ) × (sb : Superblock) × (blocks : ℕ) × (super_in front ≡ Ok sb) × (blocks ≢ sb.maxlen))
+IsOtherLength (JournalLength blocks maxlen) = (blocks ≢ maxlen) × ((sb : Superblock) × SaysSuper sb × (maxlen ≡ sb.maxlen))
+IsOtherLength _ = ⊥
 
 -- the image of this name, with the journal in a file of its own where one is named, was not opened
 abbrev pub IsShut : List ℕ → Option (List ℕ) → CommandFault → Type 0
 IsShut name None fault = IsUnread name fault
 IsShut name (Some journal) fault = IsUnread name fault ⊎ (IsUnread journal fault ⊎ IsOtherLength fault)
-
--- some first bytes are this superblock
-abbrev pub SaysSuper : Superblock → Type 0
-SaysSuper sb = (front : List ℕ) × (super_in front ≡ Ok sb)
 
 -- some first bytes are a superblock, which says this block size
 abbrev pub SaysSize : ℕ → Type 0

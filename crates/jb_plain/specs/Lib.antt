@@ -6,6 +6,7 @@ pub mod Foresee
 pub mod Format
 pub mod Files
 pub mod Judge
+pub mod Lines
 pub mod Placed
 pub mod Options
 pub mod Recover

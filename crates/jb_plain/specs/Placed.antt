@@ -1,5 +1,5 @@
 -- An image with its journal at its front, in a file of its own or within it: how it is opened, read and recovered.
-use Rattle.std.specs.Prelude.{◌≡◌, ◌⊎◌, ◌<◌, ◌≤◌, ℕ, Bool, true, false, ⊤, List, [], Option, Some, None, Result, Ok, Err, codes}
+use Rattle.std.specs.Prelude.{◌≡◌, ◌⊎◌, ◌<◌, ◌≤◌, ℕ, Bool, true, false, ⊤, List, [], Option, Some, None, Result, Err, codes}
 use Rattle.jb_block.specs.Size.{bytes_of}
 use Rattle.jb_block.specs.declared.size.BlockSize.{BlockSize}
 use Rattle.jb_disk.specs.File.{count_of}
@@ -10,7 +10,6 @@ use Rattle.jb_extents.specs.declared.extent.Extent.{Extent}
 use Rattle.jb_extents.specs.declared.fault.ExtentsFault.{ExtentsFault}
 use Rattle.jb_extents.specs.declared.fault.ExtentsFault.TheVariants.{Home, NoJournal, Overlap, PastEnd, Short}
 use Rattle.jb_front.specs.Front.{homes_in}
-use Rattle.jb_super.specs.Faults.{super_in}
 use Rattle.jb_super.specs.Superblock.{Superblock}
 use Rattle.jb_words.specs.Named.{CatWords, RecoverWords}
 use Rattle.jb_pair.specs.Images.{image_count, image_faults, image_size, own_home}

@@ -15,6 +15,7 @@ use Rattle.jb_answers.specs.Said.{Said}
 use Rattle.jb_plain.specs.Said.{Outputs, Tells}
 use Rattle.jb_plain.specs.Ends.{alone}
 use Rattle.jb_plain.specs.Faults.{beside_of, line_of, status_of}
+use Rattle.jb_plain.specs.Lines.{Names, names_of}
 use Rattle.jb_plain.specs.Texts.{HasNoText, HasNoTextWithin, IsText, IsTextWithin, known_behind}
 use Rattle.jb_plain.specs.declared.ended.Ended.{Ended}
 use Rattle.jb_plain.specs.declared.fault.CommandFault.{CommandFault}
@@ -36,11 +37,11 @@ EndsOfTwo Says name other old new end =
 abbrev pub OutAlone : (Option (List ℕ) → Option (List ℕ) → Result ℕ CommandFault → Type 0) → Outputs → Outputs → Result ℕ CommandFault → Type 0
 OutAlone Ends old new end = Ends old.out new.out end × (new.err ≡ old.err)
 
--- the program's end, and the line of a command that ended without an answer
-abbrev pub Closes : Result Ended CommandFault → Outputs → Outputs → Ended → Type 0
-Closes (Ok told) old new ended = (ended ≡ told) × (new ≡ old)
-Closes (Err fault) old new ended =
-    (ended ≡ record { status = status_of fault; beside = beside_of fault }) × (new.out ≡ old.out) × PutsPart old.err new.err (line_of fault)
+-- the program's end, and the line of a command that ended without an answer, over the files of these names where they are two
+abbrev pub Closes : Option Names → Result Ended CommandFault → Outputs → Outputs → Ended → Type 0
+Closes names (Ok told) old new ended = (ended ≡ told) × (new ≡ old)
+Closes names (Err fault) old new ended =
+    (ended ≡ record { status = status_of fault; beside = beside_of fault }) × (new.out ≡ old.out) × PutsPart old.err new.err (line_of names fault)
 
 -- whether a command reads standard input: as the text or journal after `-`, and for nothing else
 abbrev pub reads_input : Asked → Bool
@@ -64,4 +65,4 @@ EndsAsked (AsksWiden image) = λ _. OutAlone (EndsOfWiden image)
 -- the whole run of the command that the words ask for
 abbrev pub Runs : Asked → Option (List ℕ) → Outputs → Outputs → Ended → Type 0
 Runs asked input old new ended =
-    (end : Result ℕ CommandFault) × (told : Outputs) × EndsAsked asked input old told end × Closes (alone end) told new ended
+    (end : Result ℕ CommandFault) × (told : Outputs) × EndsAsked asked input old told end × Closes (names_of asked) (alone end) told new ended

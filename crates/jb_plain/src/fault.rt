@@ -31,6 +31,8 @@ pub enum CommandFault<'a> {
     ReadFault,
     /// Journal block 0 is refused for this; `Geometry` also where there are fewer blocks than `s_maxlen`.
     Super(SuperFault),
+    /// The journal's own file has so many blocks, and its superblock says so many (`s_maxlen`).
+    JournalLength(u64, u32),
     /// The journal is not recovered into this file system.
     FileSystem(FileSystemFault),
     /// The extents do not hold the journal.
@@ -146,6 +148,7 @@ impl<'a> CommandFault<'a> {
             | CommandFault::NoHome(_, _)
             | CommandFault::NeedsRecovery
             | CommandFault::NumbersSpent => 1,
+            CommandFault::JournalLength(_, _) => 1,
             CommandFault::FileSystem(_) | CommandFault::Extents(_) => 1,
             CommandFault::BlockSize | CommandFault::Accounts | CommandFault::Geometry => 1,
             CommandFault::DeviceFault | CommandFault::Memory | CommandFault::WriteFault => 1,

@@ -1,6 +1,7 @@
 ghost use Rattle.std.specs.Prelude.{◌≡◌, ℕ, List, Option, false};
 ghost use Rattle.jb_words.specs.Named.{asks};
 ghost use Rattle.jb_answers.specs.Check.{CheckSays};
+ghost use Rattle.jb_plain.specs.Lines.{names_said};
 ghost use Rattle.jb_plain.specs.Runs.{Closes, EndsAsked, EndsOfTwo, Runs, reads_input};
 
 use crate::ended::{Ended, alone};
@@ -9,6 +10,7 @@ use crate::files::{
     cat_file, choice_of, dump_named, format_file, read_file, read_file_within, read_text,
     recover_file, renumber_file, widen_file,
 };
+use crate::names::{TwoFiles, files_of};
 use crate::streams::{CERT_LIMIT, tell};
 use jb_answers::{check_answer, cost_answer, fault_answer, plan_answer};
 use jb_queue::read_queue;
@@ -94,18 +96,24 @@ pub fn run_plain<R: Files<File = File> + AllocGlobal, I: Read, O: Write, E: Writ
     ensures unread { reads_input (asks plain.entry) ≡ false → input.new ≡ input.old }
 {
     let end = perform(rt, plain, input, out, err);
-    close(alone(end), err)
+    close(alone(end), files_of(plain), err)
 }
 
-/// The program's end at the end of a command; of one that ended without an answer the line is written to `err`.
-pub fn close<E: Write>(end: Result<Ended, CommandFault<'_>>, err: &mut E) -> Ended
-    ensures { (out_old : Option (List ℕ)) → Closes end.entry (record { out = out_old; err = E.contents err.old })
+/// The program's end at the end of a command, over these files where they are two; of one that ended without an answer
+/// the line is written to `err`.
+pub fn close<E: Write>(
+    end: Result<Ended, CommandFault<'_>>,
+    files: Option<TwoFiles<'_>>,
+    err: &mut E,
+) -> Ended
+    ensures { (out_old : Option (List ℕ)) → Closes (names_said files.entry) end.entry
+        (record { out = out_old; err = E.contents err.old })
         (record { out = out_old; err = E.contents err.new }) result }
 {
     match end {
         Ok(ended) => ended,
         Err(fault) => {
-            fault.tell(err);
+            fault.tell(files, err);
             Ended {
                 status: fault.status(),
                 beside: fault.beside(),

@@ -23,6 +23,7 @@ use Rattle.jb_queue.specs.declared.fault.QueueFault.{QueueFault}
 use Rattle.jb_words.specs.Wanted.{Loading}
 use Rattle.jb_plain.specs.Ends.{alone}
 use Rattle.jb_plain.specs.Files.{IsOpened, IsShut}
+use Rattle.jb_plain.specs.Lines.{names_with}
 use Rattle.jb_plain.specs.Runs.{Closes}
 use Rattle.jb_plain.specs.Said.{Outputs, Tells}
 use Rattle.jb_plain.specs.Texts.{HasNoText, IsText}
@@ -110,4 +111,4 @@ EndsOfLoad load old new end =
 -- the whole run of a load
 abbrev pub RunsLoad : Loading → Outputs → Outputs → Ended → Type 0
 RunsLoad load old new ended =
-    (end : Result Ended CommandFault) × (told : Outputs) × EndsOfLoad load old told end × Closes end told new ended
+    (end : Result Ended CommandFault) × (told : Outputs) × EndsOfLoad load old told end × Closes (names_with load.image load.journal) end told new ended

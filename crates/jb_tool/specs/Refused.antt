@@ -16,9 +16,9 @@ use Rattle.jb_plain.specs.declared.fault.CommandFault.TheVariants.{Memory, Write
 -- how a run ends whose words clap refuses for this reason: help and the version are for standard output, and all else of
 -- clap's texts for standard error
 pub record EndsRefused (kind : ErrorKind) (old new : Outputs) (ended : Ended) : Type 0 where
-  pub memory : kind ≡ OutOfMemory → Closes (Err Memory) old new ended
+  pub memory : kind ≡ OutOfMemory → Closes None (Err Memory) old new ended
   pub shown : (kind ≡ DisplayHelp) ⊎ (kind ≡ DisplayVersion)
-      → ((ended ≡ with_status 0) × (new.err ≡ old.err)) ⊎ ((ended ≡ with_status 1) × PutsPart old.err new.err (line_of WriteFault))
+      → ((ended ≡ with_status 0) × (new.err ≡ old.err)) ⊎ ((ended ≡ with_status 1) × PutsPart old.err new.err (line_of None WriteFault))
   pub mistake : kind ≢ OutOfMemory → kind ≢ DisplayHelp → kind ≢ DisplayVersion → (ended ≡ with_status 2) × (new.out ≡ old.out)
 
 -- the words were refused by one of the kinds of their first fault, or where memory ran out, or as they ask for no command

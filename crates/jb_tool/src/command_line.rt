@@ -38,7 +38,7 @@ pub fn run<
         → IfSome (wanted_in (map S.text words.now)) (λ wanted. RunsWanted wanted (I.remaining input.old)
         (record { out = O.contents out.old; err = E.contents err.old })
         (record { out = O.contents out.new; err = E.contents err.new }) result
-        ⊎ Closes (Err CommandMemory) (record { out = O.contents out.old; err = E.contents err.old })
+        ⊎ Closes None (Err CommandMemory) (record { out = O.contents out.old; err = E.contents err.old })
         (record { out = O.contents out.new; err = E.contents err.new }) result) }
     ensures refused { words.now ≢ [] → (faults_in (map S.text words.now) ≢ [])
         ⊎ (wanted_in (map S.text words.now) ≡ None)
@@ -60,18 +60,18 @@ pub fn run<
 
 /// Writes what clap says of the words, and gives the end of the program.
 fn tell_refusal<O: Write, E: Write>(error: &Error, out: &mut O, err: &mut E) -> Ended
-    ensures memory { kind_of error.now ≡ ErrorKind.OutOfMemory → Closes (Err CommandMemory)
+    ensures memory { kind_of error.now ≡ ErrorKind.OutOfMemory → Closes None (Err CommandMemory)
         (record { out = O.contents out.old; err = E.contents err.old })
         (record { out = O.contents out.new; err = E.contents err.new }) result }
     ensures shown { (kind_of error.now ≡ ErrorKind.DisplayHelp) ⊎ (kind_of error.now ≡ ErrorKind.DisplayVersion)
         → ((result ≡ with_status 0) × (E.contents err.new ≡ E.contents err.old))
-        ⊎ ((result ≡ with_status 1) × PutsPart (E.contents err.old) (E.contents err.new) (line_of WriteFault)) }
+        ⊎ ((result ≡ with_status 1) × PutsPart (E.contents err.old) (E.contents err.new) (line_of None WriteFault)) }
     ensures mistake { kind_of error.now ≢ ErrorKind.OutOfMemory → kind_of error.now ≢ ErrorKind.DisplayHelp
         → kind_of error.now ≢ ErrorKind.DisplayVersion
         → (result ≡ with_status 2) × (O.contents out.new ≡ O.contents out.old) }
 {
     if error.kind() == ErrorKind::OutOfMemory {
-        CommandFault::Memory.tell(err);
+        CommandFault::Memory.tell(None, err);
         return Ended::with_status(CommandFault::Memory.status());
     }
     if error.use_stderr() {
@@ -79,7 +79,7 @@ fn tell_refusal<O: Write, E: Write>(error: &Error, out: &mut O, err: &mut E) -> 
         return Ended::with_status(2);
     }
     if write!(out, "{error}").is_err() || out.flush().is_err() {
-        CommandFault::WriteFault.tell(err);
+        CommandFault::WriteFault.tell(None, err);
         return Ended::with_status(CommandFault::WriteFault.status());
     }
     Ended::with_status(0)

@@ -7,6 +7,6 @@ mod load;
 
 pub use command_line::run;
 pub use jb_plain::{
-    CommandFault, Ended, Plain, TEXT_LIMIT, dump_from, format_on, perform, recover_on,
+    CommandFault, Ended, Plain, TEXT_LIMIT, TwoFiles, dump_from, format_on, perform, recover_on,
     refuse_words, renumber_on, run_plain, widen_on,
 };

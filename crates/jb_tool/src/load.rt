@@ -12,7 +12,7 @@ use jb_deck::OpenFault;
 use jb_disk::FixedClock;
 use jb_load::{HandleFault, LoadFault, LoadOptions, Loaded, Refused, load_on, tell_loaded};
 use jb_pair::ImageDisk;
-use jb_plain::{CommandFault, Ended, Opening, close, open_counted, read_file, tell};
+use jb_plain::{CommandFault, Ended, Opening, TwoFiles, close, open_counted, read_file, tell};
 use jb_queue::{QueueLines, read_lines};
 use jb_words::LoadWords;
 use std::fs::File;
@@ -36,7 +36,7 @@ pub(crate) fn run_load<
         (record { out = O.contents out.new; err = E.contents err.new }) result }
 {
     let end = load_files(rt, load, out, err);
-    close(end, err)
+    close(end, TwoFiles::of(load.image, load.journal), err)
 }
 
 /// Loads the queue text of one file into the image that another one is, and tells what came of it.

@@ -15,8 +15,8 @@ struct Cat {
     /// How what is written begins, and how many bytes it has.
     front: &'static [u8],
     len: usize,
-    /// The line of a refusal.
-    err: &'static str,
+    /// The line of a refusal, of an image and of two files.
+    errs: [&'static str; 2],
 }
 
 /// How home block 5 begins after a recovery.
@@ -30,71 +30,74 @@ static CATS: [Cat; 9] = [
         status: 0,
         front: FIVE,
         len: 1024,
-        err: "",
+        errs: ["", ""],
     },
     Cat {
         words: &["6"],
         status: 0,
         front: &[0; 9],
         len: 1024,
-        err: "",
+        errs: ["", ""],
     },
     Cat {
         words: &["5", "-n", "2"],
         status: 0,
         front: FIVE,
         len: 2048,
-        err: "",
+        errs: ["", ""],
     },
     Cat {
         words: &["5", "-n", "0"],
         status: 0,
         front: b"",
         len: 0,
-        err: "",
+        errs: ["", ""],
     },
     Cat {
         words: &["5", "--hex"],
         status: 0,
         front: LINE,
         len: 4352,
-        err: "",
+        errs: ["", ""],
     },
     Cat {
         words: &["--hex", "-n2", "5"],
         status: 0,
         front: LINE,
         len: 8704,
-        err: "",
+        errs: ["", ""],
     },
     Cat {
         words: &["16"],
         status: 1,
         front: b"",
         len: 0,
-        err: "jb: NoHome 16\n",
+        errs: ["jb: NoHome 16\n", "jb: NoHome 16 cat_homes.img\n"],
     },
     Cat {
         words: &["15", "-n", "3"],
         status: 1,
         front: &[0; 9],
         len: 1024,
-        err: "jb: NoHome 16\n",
+        errs: ["jb: NoHome 16\n", "jb: NoHome 16 cat_homes.img\n"],
     },
     Cat {
         words: &["18446744073709551615", "-n", "2"],
         status: 1,
         front: b"",
         len: 0,
-        err: "jb: NoHome 18446744073709551615\n",
+        errs: [
+            "jb: NoHome 18446744073709551615\n",
+            "jb: NoHome 18446744073709551615 cat_homes.img\n",
+        ],
     },
 ];
 
-/// Checks `jb cat` with these words, and then those of its row.
-fn check_cat(rt: &impl Host, image: &[&str], cat: &Cat, what: &'static str, row: usize) {
+/// Checks `jb cat` with these words, and then those of its row; it may end with this line.
+fn check_cat(rt: &impl Host, image: &[&str], cat: &Cat, err: &'static str, row: usize) {
     let words = joined(rt, image, cat.words);
-    let ran = ran(rt, &words, b"");
-    check_text(rt, &ran.err, cat.err, what, row);
+    let (ran, what) = (ran(rt, &words, b""), "cat");
+    check_text(rt, &ran.err, err, what, row);
     check_status(rt, ran.ended, cat.status, what, row);
     check_number(rt, ran.out.len() as u64, cat.len as u64, what, row);
     check_at(rt, ran.out.starts_with(cat.front), what, row)
@@ -117,9 +120,10 @@ fn used(len: usize) -> Front {
 /// Checks `jb cat` of an image, and of home blocks and a journal in files of their own.
 fn check_cats(rt: &impl Host) {
     for (row, cat) in CATS.iter().enumerate() {
-        check_cat(rt, &["cat", "cat.img"], cat, "cat of one file", row);
+        let [of_one, of_two] = cat.errs;
+        check_cat(rt, &["cat", "cat.img"], cat, of_one, row);
         let two = ["cat", "cat_homes.img", "--journal", "cat.bin"];
-        check_cat(rt, &two, cat, "cat of two files", row);
+        check_cat(rt, &two, cat, of_two, row);
     }
 }
 
@@ -184,12 +188,20 @@ fn a_journal_in_its_own_file_is_recovered_and_loaded(rt: HostRuntime) {
 
 /// How many blocks the file of the journal has, the words before its option, and how the run ends.
 static REFUSED: [(usize, &[&str], End); 7] = [
-    (32, &["recover", "bad.img"], (1, "", "jb: Super Geometry\n")),
-    (34, &["recover", "bad.img"], (1, "", "jb: Super Geometry\n")),
+    (
+        32,
+        &["recover", "bad.img"],
+        (1, "", "jb: JournalLength 32 33 bad.bin\n"),
+    ),
+    (
+        34,
+        &["load", "bad.img", "bad.txt"],
+        (1, "", "jb: JournalLength 34 33 bad.bin\n"),
+    ),
     (
         34,
         &["cat", "bad.img", "5"],
-        (1, "", "jb: Super Geometry\n"),
+        (1, "", "jb: JournalLength 34 33 bad.bin\n"),
     ),
     (
         33,

@@ -1,6 +1,7 @@
 ghost use Rattle.std.specs.Prelude.{◌≡◌, ◌≤◌, ◌++◌, true, length, map, IfOk, OnOk};
 ghost use Rattle.hex.specs.Hex.{encode_lower};
-ghost use Rattle.jb_plain.specs.Cat.{block_text, CatsOn, pair_text, PutsText, row_text, shown_as, upto};
+ghost use Rattle.jb_plain.specs.Cat.{block_text, CatsOn, pair_text, PutsText, row_text, shown_as};
+ghost use Rattle.jb_plain.specs.Lines.{upto};
 
 use crate::fault::CommandFault;
 use jb_block::{MOST_BYTES, Memory};

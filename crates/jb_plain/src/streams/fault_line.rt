@@ -1,10 +1,11 @@
 //! The line of each `CommandFault`.
-ghost use Rattle.std.specs.Prelude.{[], ◌∷◌, codes, decimal};
-ghost use Rattle.jb_io.specs.Parts.{spelled};
+ghost use Rattle.std.specs.Prelude.{[], ◌∷◌, None, decimal, option_map};
 ghost use Rattle.jb_io.specs.Puts.{PutsPart};
 ghost use Rattle.jb_plain.specs.Faults.{extents_line, super_line, system_line};
+ghost use Rattle.jb_plain.specs.Lines.{line_naming};
 
 use crate::fault::CommandFault;
+use crate::names::{TwoFiles, image_of, journal_of};
 use crate::streams::putting::put_line;
 use itoa::Buffer;
 use jb_extents::ExtentsFault;
@@ -15,82 +16,93 @@ use std::io::Write;
 impl<'a> CommandFault<'a> {
     ghost use Rattle.jb_io.specs.Puts.{PutsPart};
     ghost use Rattle.jb_plain.specs.Faults.{line_of};
+    ghost use Rattle.jb_plain.specs.Lines.{names_said};
 
-    /// Writes the line that says why, without taking memory; a fault of the writer is ignored.
-    pub fn tell<E: Write>(self, err: &mut E)
-        ensures { PutsPart (E.contents err.old) (E.contents err.new) (line_of self.entry) }
+    /// Writes the line that says why, without taking memory; a fault of the writer is ignored. Of a command over two
+    /// files it ends with the name of the one that it is about, where that is known. A control character of a name is
+    /// written as `\x` and two hexadecimal digits for each of its bytes.
+    pub fn tell<E: Write>(self, files: Option<TwoFiles<'_>>, err: &mut E)
+        ensures { PutsPart (E.contents err.old) (E.contents err.new) (line_of (names_said files.entry) self.entry) }
     {
         let (mut first, mut second) = (Buffer::new(), Buffer::new());
+        let image = image_of(files);
+        let journal = journal_of(files);
         match self {
-            CommandFault::CannotRead(name, _) => put_line(err, &["jb: cannot read ", name, "\n"]),
-            CommandFault::TooLong(name) => put_line(err, &["jb: too long ", name, "\n"]),
-            CommandFault::InUse(name) => put_line(err, &["jb: in use ", name, "\n"]),
-            CommandFault::SameFile(name) => put_line(err, &["jb: same file ", name, "\n"]),
-            CommandFault::CannotMake(name, _) => put_line(err, &["jb: cannot make ", name, "\n"]),
-            CommandFault::BadOption(_) => put_line(err, &["jb: bad option\n"]),
-            CommandFault::ReadFault => put_line(err, &["jb: ReadFault\n"]),
-            CommandFault::Super(fault) => put_super_line(err, fault),
-            CommandFault::FileSystem(fault) => put_system_line(err, fault),
+            CommandFault::CannotRead(name, _) => put_line(err, &["jb: cannot read"], Some(name)),
+            CommandFault::TooLong(name) => put_line(err, &["jb: too long"], Some(name)),
+            CommandFault::InUse(name) => put_line(err, &["jb: in use"], Some(name)),
+            CommandFault::SameFile(name) => put_line(err, &["jb: same file"], Some(name)),
+            CommandFault::CannotMake(name, _) => put_line(err, &["jb: cannot make"], Some(name)),
+            CommandFault::BadOption(_) => put_line(err, &["jb: bad option"], None),
+            CommandFault::ReadFault => put_line(err, &["jb: ReadFault"], None),
+            CommandFault::Super(fault) => put_super_line(err, fault, journal),
+            CommandFault::JournalLength(blocks, maxlen) => {
+                let (blocks, maxlen) = (first.format(blocks), second.format(maxlen));
+                put_line(err, &["jb: JournalLength ", blocks, " ", maxlen], journal);
+            }
+            CommandFault::FileSystem(fault) => put_system_line(err, fault, image),
             CommandFault::Extents(fault) => put_extents_line(err, fault),
             CommandFault::BadRevoke(place) => {
-                put_line(err, &["jb: BadRevoke ", first.format(place), "\n"]);
+                put_numbered(err, "jb: BadRevoke ", place, journal);
             }
             CommandFault::HomeOutOfRange(home, number, _) => {
                 let (home, number) = (first.format(home), second.format(number));
-                put_line(err, &["jb: HomeOutOfRange ", home, " ", number, "\n"]);
+                put_line(err, &["jb: HomeOutOfRange ", home, " ", number], image);
             }
-            CommandFault::NoHome(home, _) => {
-                put_line(err, &["jb: NoHome ", first.format(home), "\n"]);
-            }
-            CommandFault::NeedsRecovery => put_line(err, &["jb: NeedsRecovery\n"]),
-            CommandFault::NumbersSpent => put_line(err, &["jb: NumbersSpent\n"]),
-            CommandFault::BlockSize => put_line(err, &["jb: BlockSize\n"]),
-            CommandFault::Accounts => put_line(err, &["jb: Accounts\n"]),
-            CommandFault::Geometry => put_line(err, &["jb: Geometry\n"]),
-            CommandFault::DeviceFault => put_line(err, &["jb: DeviceFault\n"]),
-            CommandFault::Memory => put_line(err, &["jb: Memory\n"]),
-            CommandFault::WriteFault => put_line(err, &["jb: WriteFault\n"]),
+            CommandFault::NoHome(home, _) => put_numbered(err, "jb: NoHome ", home, image),
+            CommandFault::NeedsRecovery => put_line(err, &["jb: NeedsRecovery"], journal),
+            CommandFault::NumbersSpent => put_line(err, &["jb: NumbersSpent"], journal),
+            CommandFault::BlockSize => put_line(err, &["jb: BlockSize"], None),
+            CommandFault::Accounts => put_line(err, &["jb: Accounts"], None),
+            CommandFault::Geometry => put_line(err, &["jb: Geometry"], None),
+            CommandFault::DeviceFault => put_line(err, &["jb: DeviceFault"], None),
+            CommandFault::Memory => put_line(err, &["jb: Memory"], None),
+            CommandFault::WriteFault => put_line(err, &["jb: WriteFault"], None),
         }
     }
 }
 
-/// Writes the line of a superblock that is refused.
-fn put_super_line<W: Write>(writer: &mut W, fault: SuperFault)
-    ensures puts { PutsPart (W.contents writer.old) (W.contents writer.new) (super_line fault) }
+/// Writes the line of a superblock that is refused, with the name of its file where there is one to say.
+fn put_super_line<W: Write>(writer: &mut W, fault: SuperFault, name: Option<&str>)
+    ensures puts { PutsPart (W.contents writer.old) (W.contents writer.new)
+        (super_line (option_map (λ name. name.now) name.entry) fault) }
 {
     let (mut first, mut second) = (Buffer::new(), Buffer::new());
     match fault {
-        SuperFault::ShortBlock => put_line(writer, &["jb: Super ShortBlock\n"]),
-        SuperFault::NoMagic => put_line(writer, &["jb: Super NoMagic\n"]),
+        SuperFault::ShortBlock => put_line(writer, &["jb: Super ShortBlock"], name),
+        SuperFault::NoMagic => put_line(writer, &["jb: Super NoMagic"], name),
         SuperFault::NotVersion2(kind) => {
             put_line(
                 writer,
-                &["jb: Super NotVersion2 ", first.format(kind), "\n"],
+                &["jb: Super NotVersion2 ", first.format(kind)],
+                name,
             );
         }
         SuperFault::BlockSize(size) => {
-            put_line(writer, &["jb: Super BlockSize ", first.format(size), "\n"]);
+            put_line(writer, &["jb: Super BlockSize ", first.format(size)], name);
         }
-        SuperFault::Geometry => put_line(writer, &["jb: Super Geometry\n"]),
+        SuperFault::Geometry => put_line(writer, &["jb: Super Geometry"], name),
         SuperFault::Feature(word, bits) => {
             let (word, bits) = (first.format(word), second.format(bits));
-            put_line(writer, &["jb: Super Feature ", word, " ", bits, "\n"]);
+            put_line(writer, &["jb: Super Feature ", word, " ", bits], name);
         }
     }
 }
 
-/// Writes the line of a journal that is not recovered into a file system.
-fn put_system_line<W: Write>(writer: &mut W, fault: FileSystemFault)
-    ensures puts { PutsPart (W.contents writer.old) (W.contents writer.new) (system_line fault) }
+/// Writes the line of a journal that is not recovered into a file system, with that one's name where there is one to
+/// say.
+fn put_system_line<W: Write>(writer: &mut W, fault: FileSystemFault, name: Option<&str>)
+    ensures puts { PutsPart (W.contents writer.old) (W.contents writer.new)
+        (system_line (option_map (λ name. name.now) name.entry) fault) }
 {
     let mut digits = Buffer::new();
     match fault {
         FileSystemFault::BlockSize(size) => {
             let size = digits.format(size);
-            put_line(writer, &["jb: FileSystem BlockSize ", size, "\n"]);
+            put_line(writer, &["jb: FileSystem BlockSize ", size], name);
         }
-        FileSystemFault::Uuid => put_line(writer, &["jb: FileSystem Uuid\n"]),
-        FileSystemFault::Clean => put_line(writer, &["jb: FileSystem Clean\n"]),
+        FileSystemFault::Uuid => put_line(writer, &["jb: FileSystem Uuid"], name),
+        FileSystemFault::Clean => put_line(writer, &["jb: FileSystem Clean"], name),
     }
 }
 
@@ -99,19 +111,19 @@ fn put_extents_line<W: Write>(writer: &mut W, fault: ExtentsFault)
     ensures puts { PutsPart (W.contents writer.old) (W.contents writer.new) (extents_line fault) }
 {
     match fault {
-        ExtentsFault::Overlap(block) => put_numbered(writer, "jb: Extents Overlap ", block),
-        ExtentsFault::PastEnd(block) => put_numbered(writer, "jb: Extents PastEnd ", block),
-        ExtentsFault::Short(blocks) => put_numbered(writer, "jb: Extents Short ", blocks),
-        ExtentsFault::NoJournal => put_line(writer, &["jb: Extents NoJournal\n"]),
-        ExtentsFault::Home(home) => put_numbered(writer, "jb: Extents Home ", home),
+        ExtentsFault::Overlap(block) => put_numbered(writer, "jb: Extents Overlap ", block, None),
+        ExtentsFault::PastEnd(block) => put_numbered(writer, "jb: Extents PastEnd ", block, None),
+        ExtentsFault::Short(blocks) => put_numbered(writer, "jb: Extents Short ", blocks, None),
+        ExtentsFault::NoJournal => put_line(writer, &["jb: Extents NoJournal"], None),
+        ExtentsFault::Home(home) => put_numbered(writer, "jb: Extents Home ", home, None),
     }
 }
 
-/// Writes a line that ends with a number.
-fn put_numbered<W: Write>(writer: &mut W, begin: &str, number: u64)
+/// Writes a line of a word and a number, with the name of a file after them where there is one.
+fn put_numbered<W: Write>(writer: &mut W, begin: &str, number: u64, name: Option<&str>)
     ensures puts { PutsPart (W.contents writer.old) (W.contents writer.new)
-        (spelled (begin.now ∷ decimal number ∷ codes "\n" ∷ [])) }
+        (line_naming (begin.now ∷ decimal number ∷ []) (option_map (λ name. name.now) name.entry)) }
 {
     let mut digits = Buffer::new();
-    put_line(writer, &[begin, digits.format(number), "\n"]);
+    put_line(writer, &[begin, digits.format(number)], name);
 }

@@ -1,4 +1,4 @@
-ghost use Rattle.std.specs.Prelude.{◌≡◌, ◌≢◌};
+ghost use Rattle.std.specs.Prelude.{◌≡◌, ◌≢◌, None};
 ghost use Rattle.jb_io.specs.Puts.{PutsPart};
 ghost use Rattle.jb_plain.specs.Faults.{line_of, not_utf8};
 ghost use Rattle.jb_plain.specs.declared.fault.CommandFault.TheVariants.{Memory};
@@ -13,15 +13,16 @@ pub fn refuse_words<E: Write>(kind: ErrorKind, err: &mut E) -> u8
     ensures text { kind ≡ ErrorKind.InvalidData → (result ≡ 2)
         × PutsPart (E.contents err.old) (E.contents err.new) not_utf8 }
     ensures memory { kind ≢ ErrorKind.InvalidData → (result ≡ 1)
-        × PutsPart (E.contents err.old) (E.contents err.new) (line_of Memory) }
+        × PutsPart (E.contents err.old) (E.contents err.new) (line_of None Memory) }
 {
     if kind == ErrorKind::InvalidData {
         put_line(
             err,
-            &["error: invalid UTF-8 was detected in one or more arguments\n"],
+            &["error: invalid UTF-8 was detected in one or more arguments"],
+            None,
         );
         return 2;
     }
-    CommandFault::Memory.tell(err);
+    CommandFault::Memory.tell(None, err);
     CommandFault::Memory.status()
 }

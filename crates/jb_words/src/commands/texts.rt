@@ -31,8 +31,10 @@ write past the limit of the file size (ulimit -f) ends jb by the signal SIGXFSZ:
 file then, and an image is to be recovered, as after a crash.
 
 Diagnostics: what went wrong is one line on standard error. Where that is a terminal, what to do follows
-on a second line. # is a number, and REASON the system's own text, where it has one; the options that may
-be bad stand last.",
+on a second line; nothing is said there where nobody reads standard output any more, as after jb dump
+journal.bin | head -1. With --journal the line ends with the name of the file that it is about, but for
+DeviceFault, which is of either. A control character of a name is \\x and two digits for each of its bytes.
+# is a number, and REASON the system's own text, where it has one; the options that may be bad stand last.",
             $("\n  jb: ", $begins, $rest, "\n          ", $advice $(, ": ", $beside)?),*,
             $("\n  ", $option, "\n          is ", $values),*
         )
@@ -94,8 +96,9 @@ Examples:
 
 const CAT: &str =
     "The image is opened for reading, and nothing is written to it. Each block is what the last copy of it that
-is not revoked makes of it, or the block as it stands; the log is read once for each. A copy for another
-home block that the image does not have is not looked at, though recover refuses it.
+is not revoked makes of it, or the block as it stands. For each block the log is read once, so many blocks
+of an image with a long log are read faster after jb recover. A copy for another home block that the image
+does not have is not looked at, though recover refuses it.
 
 With --hex a block is lines as xxd prints them, with offsets from 0 on over all the blocks, of 32 bits.
 
@@ -129,12 +132,17 @@ Example:
   jb load a.img queue.txt --hold     # handles 3 changes 8 settled 3 groups 1 blocks 7";
 
 const RECOVER: &str =
-    "The journal of an ext3 or ext4 file system that is not mounted is recovered where it stands:
+    "IMAGE is not to be mounted. A block device that is mounted, as far as /proc/self/mountinfo says so, is
+refused (jb: in use NAME); a mount that this process does not see, or of a device that stands on it, is not
+found, and jb cannot keep a device from being mounted while it writes. So unmount it first.
+
+The journal of an ext3 or ext4 file system that is not mounted is recovered where it stands:
   debugfs -R 'stat <8>' fs.img      # lists its blocks after EXTENTS: or BLOCKS:
   jb recover fs.img --extents '(0-1023):8193-9216, (1024-4095):16385-19456'
-Its log is empty then, and a later e2fsck has nothing to replay. Words as (IND):8192 are passed over. A
-stretch without a place, as 8193-9216, has the next blocks of the journal: so those of OCFS2 are given,
-whose debugfs.ocfs2 -R 'stat //journal:0000' prints the first block of each extent, and its clusters.
+Its log is empty then, and a later e2fsck has nothing to replay. Spaces, commas or both are between the
+words of the list, and words as (IND):8192 are passed over. A stretch without a place, as 8193-9216, has the
+next blocks of the journal: so those of OCFS2 are given, whose debugfs.ocfs2 -R 'stat //journal:0000' prints
+the first block of each extent, and its clusters.
 
 With --journal FILE the journal is a copy, and the one inside the file system stays full: run e2fsck at
 once, and write nothing before, or it replays the log once more over what was written since.

@@ -1,12 +1,11 @@
-use Rattle.std.proofs.Common.{◌≡◌, ◌+◌, ℕ, List, length, Option, Some, None}
+use Rattle.std.proofs.Common.{◌≡◌}
 use Rattle.std.specs.Option.{option_copied}
-use Rattle.jb_text.specs.Parts.{words_in}
-use Rattle.jb_extents.specs.Lists.{extents_in, with_words}
+use Rattle.jb_extents.specs.Lists.{extents_in, listed_in, with_words}
 use Rattle.jb_extents.proofs.Taken.{left_len}
 use Rattle.jb_extents.proofs.extents.Extents.read.Given as goal
 
 abbrev pub invariant-loop-left : goal.invariant-loop-left
-invariant-loop-left l = with_words l.list.items (words_in (option_copied l.left)) ≡ extents_in l.text
+invariant-loop-left l = with_words l.list.items (listed_in (option_copied l.left)) ≡ extents_in l.text
 
 abbrev pub decreases-loop-left : goal.decreases-loop-left
 decreases-loop-left l = left_len (option_copied l.left)

@@ -1,6 +1,5 @@
 use Rattle.std.proofs.Common.{rules, ◌≡◌, ◌+◌, ◌%◌, ◌^◌, length, None, Err, refl, subst}
 use Rattle.jb_recover.specs.Peeks.{IsPeeked, peek_refusal}
-use Rattle.jb_plain.specs.Cat.{home_at}
 use Rattle.jb_plain.proofs.Cats.{catting-start, catting-more, cats-stopped}
 use Rattle.jb_plain.proofs.streams.catting.cat_on.Goals as goal
 

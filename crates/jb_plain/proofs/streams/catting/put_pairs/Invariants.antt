@@ -1,5 +1,6 @@
 use Rattle.std.proofs.Common.{◌≡◌, ◌++◌}
-use Rattle.jb_plain.specs.Cat.{pair_text, upto}
+use Rattle.jb_plain.specs.Cat.{pair_text}
+use Rattle.jb_plain.specs.Lines.{upto}
 use Rattle.jb_plain.proofs.streams.catting.put_pairs.Given as goal
 
 abbrev pub invariant-loop-k : goal.invariant-loop-k

@@ -1,6 +1,7 @@
 use Rattle.std.specs.Prelude.{codes, map}
 use Rattle.hex.specs.Hex.{encode_lower}
-use Rattle.jb_plain.specs.Cat.{pair_text, shown_as, upto}
+use Rattle.jb_plain.specs.Cat.{pair_text, shown_as}
+use Rattle.jb_plain.specs.Lines.{upto}
 use Rattle.jb_plain.proofs.Cats.{six_texts}
 use Rattle.jb_plain.proofs.streams.catting.put_row.Goals as goal
 

@@ -1,4 +1,4 @@
-use Rattle.std.proofs.Common.{◌≡◌, ℕ, List, map, drop, Option, Result}
+use Rattle.std.proofs.Common.{ℕ, List, map, drop, Option, Result}
 use Rattle.jb_io.specs.Parts.{spelled}
 use Rattle.jb_plain.specs.Foresee.{home_line, homes_lines}
 use Rattle.jb_plain.specs.Said.{TellsLine}
