@@ -374,8 +374,8 @@ for words, more in (("recover a", {}), ("cat a 9", {}), ("load a q", {"q": queue
     row(words + " --journal j", 2, err="jb: in use a\n", files={**parted(FULL), **more}, locked="a")
     row(words + " --journal a", 2, err="jb: same file a\n", files={"a": FULL, **more})
     row(words + " --journal ./a", 2, err="jb: same file a\n", files={"a": FULL, **more})
-    for blocks in (32, 34):
-        row(words + " --journal j", 1, err="jb: JournalLength %d 33 j\n" % blocks, files={**parted(FULL + bytes(BS), blocks), **more})
+    for blocks, err in (32, "Super Geometry"), (34, "JournalLength 34 33"):
+        row(words + " --journal j", 1, err="jb: %s j\n" % err, files={**parted(FULL + bytes(BS), blocks), **more})
 
 # ---- load --------------------------------------------------------------------------------------------------------------------
 

@@ -25,7 +25,7 @@ macro_rules! diagnostics {
                 "Super NotVersion2 ", "#", "jb takes superblocks of version 2 alone";
                 "Super BlockSize ", "#", "a block has 1024, 2048 or 4096 bytes";
                 "Super Geometry", "", "the file has not all blocks of its journal, or the superblock's numbers make none";
-                "JournalLength ", "# #", "the file of --journal has the first number of blocks, and its superblock says the second: copy it out again as it is, by debugfs -R 'dump <8> FILE' DEVICE; the image is as it was";
+                "JournalLength ", "# #", "the file of --journal has more blocks, the first number, than its superblock says, the second: copy it out again as it is, by debugfs -R 'dump <8> FILE' DEVICE; the image is as it was";
                 "Super Feature ", "# #", "the journal has features that jb has not, as checksums (2 16, from the first mount on since 2016) or fast commits (2 32): run e2fsck, or mount the file system; it is as it was";
                 "FileSystem BlockSize ", "#", "the file system has blocks of so many bytes, and the journal others: it is not its own; it is as it was";
                 "FileSystem Uuid", "", "the journal is that of another file system, or tune2fs -U has changed the UUID since: --force writes to it then; it is as it was";

@@ -1,5 +1,5 @@
 -- How the commands over images end over a file.
-use Rattle.std.specs.Prelude.{◌≡◌, ◌≢◌, ◌⊎◌, ℕ, ⊤, List, [], Option, Some, None, Result, Ok, Err}
+use Rattle.std.specs.Prelude.{◌≡◌, ◌≢◌, ◌⊎◌, ◌<◌, ℕ, ⊤, List, [], Option, Some, None, Result, Ok, Err}
 use Rattle.hex.specs.Hex.{decode_of}
 use Rattle.jb_block.specs.Size.{bytes_of}
 use Rattle.jb_disk.specs.File.{count_of, faults_of, size_of}
@@ -24,6 +24,7 @@ use Rattle.jb_plain.specs.Change.{ChangesOn, renumbered_line, widened_line}
 use Rattle.jb_plain.specs.Format.{FormatsOn}
 use Rattle.jb_plain.specs.Options.{AreGood, IsFirstBad, IsJournalLength}
 use Rattle.jb_plain.specs.declared.fault.CommandFault.{CommandFault}
+use Rattle.jb_super.specs.declared.fault.SuperFault.TheVariants.{Geometry as NoGeometry}
 use Rattle.jb_plain.specs.declared.fault.CommandFault.TheVariants.{BadOption, CannotMake, CannotRead, Geometry as BadGeometry, InUse, JournalLength, Memory, SameFile, Super}
 
 -- the file of this name was not made: an option is bad; or none is, and a journal may not have so many blocks; or it may, and the
@@ -71,15 +72,19 @@ IsUnread name _ = ⊥
 abbrev pub SaysSuper : Superblock → Type 0
 SaysSuper sb = (front : List ℕ) × (super_in front ≡ Ok sb)
 
--- a journal's first bytes are a superblock, and its file has fewer blocks than that says, or more
-abbrev pub IsOtherLength : CommandFault → Type 0
-IsOtherLength (JournalLength blocks maxlen) = (blocks ≢ maxlen) × ((sb : Superblock) × SaysSuper sb × (maxlen ≡ sb.maxlen))
-IsOtherLength _ = ⊥
+-- a journal's first bytes are a superblock, and its file has fewer blocks than that says
+abbrev pub IsShort : CommandFault → Type 0
+IsShort fault = (fault ≡ Super NoGeometry) × ((sb : Superblock) × (blocks : ℕ) × SaysSuper sb × (blocks < sb.maxlen))
+
+-- the same where its file has more blocks: so many, where the superblock says so many
+abbrev pub IsLong : CommandFault → Type 0
+IsLong (JournalLength blocks maxlen) = (maxlen < blocks) × ((sb : Superblock) × SaysSuper sb × (maxlen ≡ sb.maxlen))
+IsLong _ = ⊥
 
 -- the image of this name, with the journal in a file of its own where one is named, was not opened
 abbrev pub IsShut : List ℕ → Option (List ℕ) → CommandFault → Type 0
 IsShut name None fault = IsUnread name fault
-IsShut name (Some journal) fault = IsUnread name fault ⊎ (IsUnread journal fault ⊎ IsOtherLength fault)
+IsShut name (Some journal) fault = IsUnread name fault ⊎ (IsUnread journal fault ⊎ (IsShort fault ⊎ IsLong fault))
 
 -- some first bytes are a superblock, which says this block size
 abbrev pub SaysSize : ℕ → Type 0

@@ -191,7 +191,7 @@ static REFUSED: [(usize, &[&str], End); 7] = [
     (
         32,
         &["recover", "bad.img"],
-        (1, "", "jb: JournalLength 32 33 bad.bin\n"),
+        (1, "", "jb: Super Geometry bad.bin\n"),
     ),
     (
         34,

@@ -13,7 +13,7 @@ pub use jb_image::Opening;
 use jb_image::{ImageFault, open_file};
 use jb_io::{ReadFault, read_front};
 use jb_pair::{ImageDisk, PairDisk};
-use jb_super::Super;
+use jb_super::{Super, SuperFault};
 use std::alloc::Global;
 use std::fs::{File, Metadata};
 use std::io::Read;
@@ -45,8 +45,8 @@ pub(crate) fn open_disk<'a, R: Files<File = File> + AllocGlobal>(
 /// that file, or a file of its own.
 ///
 /// # Errors
-/// Those of `open_disk` for each file; `CommandFault::SameFile` where the two are one file; `CommandFault::JournalLength`
-/// where the journal's own file has not exactly its blocks.
+/// Those of `open_disk` for each file; `CommandFault::SameFile` where the two are one file; where the journal's own file has
+/// fewer blocks than the journal, `CommandFault::Super` with `Geometry`, and where it has more, `CommandFault::JournalLength`.
 pub fn open_counted<'a, R: Files<File = File> + AllocGlobal>(
     rt: &R,
     name: &'a str,
@@ -107,7 +107,10 @@ fn open_two<'a, R: Files<File = File> + AllocGlobal>(
     };
     let log = disk_of(file, sb.block_size(), journal)?;
     let (blocks, maxlen) = (log.blocks(), sb.maxlen());
-    if blocks != u64::from(maxlen) {
+    if blocks < u64::from(maxlen) {
+        return Err(CommandFault::Super(SuperFault::Geometry));
+    }
+    if blocks > u64::from(maxlen) {
         return Err(CommandFault::JournalLength(blocks, maxlen));
     }
     let rest = open_image(rt, name, opening)?;
