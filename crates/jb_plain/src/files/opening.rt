@@ -45,8 +45,8 @@ pub(crate) fn open_disk<'a, R: Files<File = File> + AllocGlobal>(
 /// that file, or a file of its own.
 ///
 /// # Errors
-/// Those of `open_disk` for each file; `CommandFault::SameFile` where the two are one file; `CommandFault::JournalLength`
-/// where the journal's own file has not exactly its blocks.
+/// Those of `open_disk` for each file; `CommandFault::SameFile` where the two are one file;
+/// `CommandFault::JournalLength` where the journal's own file has not exactly its blocks.
 pub fn open_counted<'a, R: Files<File = File> + AllocGlobal>(
     rt: &R,
     name: &'a str,
