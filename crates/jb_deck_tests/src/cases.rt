@@ -2,18 +2,16 @@
 //! recovery makes of these.
 
 use crate::groups::{Laid, lay_group};
-use crate::images::{BLOCKS, Row, check_in, check_none, crashed, difference, put_rows, small};
+use crate::images::{BLOCKS, Label, Row, put_rows, small};
 use crate::scripts::{Step, check_steps, opening};
 use jb_disk::{Disk, MemoryDisk, OneFaultDisk};
 use jb_recover::{Recovered, recover};
-use std::alloc::Global;
-use std::process::Abort;
+use tests_support::{Bench, Test, check_in, check_none, check_row, crashed, difference};
 
 /// A journal that is recovered and opened, the calls, the blocks of the disk after them, and what recovery then
 /// reports (transactions, copies, revoked copies and the next number) and changes.
 pub struct Case {
     pub name: &'static str,
-    pub blocks: u64,
     pub image: &'static [Row],
     pub steps: &'static [Step],
     pub groups: &'static [Laid],
@@ -23,68 +21,52 @@ pub struct Case {
 }
 
 /// The disk of the journal of a row after these calls.
-pub fn called<D: Disk + Drop>(
-    rt: &impl Abort,
-    alloc: Global,
-    row: &'static str,
-    disk: D,
-    steps: &[Step],
-) -> D {
-    let mut deck = opening(rt, alloc, disk);
-    check_steps(rt, alloc, row, &mut deck, steps);
+pub fn called<D: Disk + Drop>(test: &impl Bench, row: Label, disk: D, steps: &[Step]) -> D {
+    let mut deck = opening(test, disk);
+    check_steps(test, row, &mut deck, steps);
     deck.close()
 }
 
 /// The small image after these calls of its journal, on a disk of which the call of this number fails.
-pub fn called_with_fault(
-    rt: &impl Abort,
-    alloc: Global,
-    row: &'static str,
-    call: u64,
-    steps: &[Step],
-) -> MemoryDisk {
-    let disk = OneFaultDisk::of(small(rt, alloc, BLOCKS, &[], &[]), call);
-    called(rt, alloc, row, disk, steps).into_inner()
+pub fn called_with_fault(test: &impl Bench, row: Label, call: u64, steps: &[Step]) -> MemoryDisk {
+    let disk = OneFaultDisk::of(small(test, BLOCKS, &[], &[]), call);
+    called(test, row, disk, steps).into_inner()
 }
 
-/// The image of a case once it is recovered.
-fn recovered(rt: &impl Abort, alloc: Global, case: &Case) -> MemoryDisk {
-    let mut disk = small(rt, alloc, case.blocks, case.image, &[]);
-    let is_recovered = recover(alloc, &mut disk).is_ok();
-    check_in(
-        rt,
-        is_recovered,
-        case.name,
-        "it is not recovered; blocks",
-        case.blocks,
-    );
+/// The image of a case, of so many blocks, once it is recovered.
+fn recovered(test: &impl Bench, blocks: u64, case: &Case) -> MemoryDisk {
+    let mut disk = small(test, blocks, case.image, &[]);
+    let is_recovered = recover(test.alloc(), &mut disk).is_ok();
+    check_row(test, is_recovered, case.name, "it is not recovered");
     disk
 }
 
 /// Checks the calls of a case and what they leave.
-fn check_case(rt: &impl Abort, alloc: Global, case: &Case) {
-    let mut disk = called(rt, alloc, case.name, recovered(rt, alloc, case), case.steps);
-    check_left(rt, alloc, case, &mut disk)
+fn check_case(test: &impl Bench, blocks: u64, case: &Case) {
+    let disk = recovered(test, blocks, case);
+    let mut disk = called(test, case.name, disk, case.steps);
+    check_left(test, case, &mut disk)
 }
 
 /// Lays what a case's calls are to leave over its image.
-fn lay(rt: &impl Abort, case: &Case, disk: &mut MemoryDisk) {
+fn lay(test: &impl Test, case: &Case, disk: &mut MemoryDisk) {
     for group in case.groups {
-        lay_group(rt, disk, group);
+        lay_group(test, disk, group);
     }
-    put_rows(rt, disk, case.rows)
+    put_rows(test, disk, case.rows)
 }
 
 /// Checks the disk that the calls of a case left, and what a crash leaves of it: all that stands on the disk, since
 /// every call that changes it ends with a sync. Then it is recovered.
-fn check_left(rt: &impl Abort, alloc: Global, case: &Case, disk: &mut MemoryDisk) {
-    let mut wanted = small(rt, alloc, case.blocks, case.image, &[]);
-    lay(rt, case, &mut wanted);
-    check_none(rt, case.name, "block", difference(rt, disk, &mut wanted, 0));
-    let mut left = crashed(rt, disk, &[]);
-    let place = difference(rt, &mut left, &mut wanted, 0);
-    check_none(rt, case.name, "block that a crash leaves", place);
-    check_home(rt, alloc, case, &mut left, &mut wanted)
+fn check_left(test: &impl Bench, case: &Case, disk: &mut MemoryDisk) {
+    let mut wanted = small(test, disk.blocks(), case.image, &[]);
+    lay(test, case, &mut wanted);
+    let place = difference(test, disk, &mut wanted, 0);
+    check_none(test, case.name, "block", place);
+    let mut left = crashed(test, disk, &[]);
+    let place = difference(test, &mut left, &mut wanted, 0);
+    check_none(test, case.name, "block that a crash leaves", place);
+    check_home(test, case, &mut left, &mut wanted)
 }
 
 /// What recovery reports: transactions, copies, revoked copies and the next number.
@@ -99,34 +81,18 @@ pub fn report(told: (u32, u32, u32, u64)) -> Recovered {
 }
 
 /// Checks what a crash left of a case once it is recovered.
-fn check_home(
-    rt: &impl Abort,
-    alloc: Global,
-    case: &Case,
-    left: &mut MemoryDisk,
-    wanted: &mut MemoryDisk,
-) {
-    let is_told = recover(alloc, left) == Ok(report(case.recovered));
+fn check_home(test: &impl Bench, case: &Case, left: &mut MemoryDisk, wanted: &mut MemoryDisk) {
+    let is_told = recover(test.alloc(), left) == Ok(report(case.recovered));
     let next = case.recovered.3;
-    check_in(
-        rt,
-        is_told,
-        case.name,
-        "what recovery reports, with the next number",
-        next,
-    );
-    put_rows(rt, wanted, case.after);
-    check_none(
-        rt,
-        case.name,
-        "block after recovery",
-        difference(rt, left, wanted, 0),
-    );
+    check_in(test, is_told, case.name, "what is recovered, at", next);
+    put_rows(test, wanted, case.after);
+    let place = difference(test, left, wanted, 0);
+    check_none(test, case.name, "block after recovery", place)
 }
 
-/// Checks each of these cases.
-pub fn check_cases(rt: &impl Abort, alloc: Global, cases: &[Case]) {
+/// Checks each of these cases, on disks of so many blocks.
+pub fn check_cases(test: &impl Bench, blocks: u64, cases: &[Case]) {
     for case in cases {
-        check_case(rt, alloc, case);
+        check_case(test, blocks, case);
     }
 }

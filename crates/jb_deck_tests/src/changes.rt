@@ -1,7 +1,8 @@
 //! Journals that are changed in their place, opened, and called; some of them were used before.
 
 use crate::cases::{called, report};
-use crate::images::{BLOCKS, MAGIC, Row, check, check_in, check_none, difference, read_at, small};
+use crate::checks::By;
+use crate::images::{BLOCKS, Label, MAGIC, Row, small};
 use crate::openings::{Told, closed, refused};
 use crate::rounds::SIX;
 use crate::scripts::Step;
@@ -10,8 +11,7 @@ use jb_deck::OpenFault;
 use jb_disk::MemoryDisk;
 use jb_front::{renumber, widen};
 use jb_recover::recover;
-use std::alloc::Global;
-use std::process::Abort;
+use tests_support::{Bench, Test, check, check_in, check_none, difference, read_at};
 
 /// A name, whether the journal is widened before it is opened, or renumbered; the rows of the small image that differ
 /// before, what it says of itself after, and the calls then.
@@ -108,26 +108,26 @@ static USED: [Used; 2] = [
 ];
 
 /// Widens or renumbers a journal in its place.
-fn change(rt: &impl Abort, disk: &mut MemoryDisk, widens: bool) {
+fn change(test: &impl Test, disk: &mut MemoryDisk, widens: bool) {
     let is_changed = if widens {
         widen(disk).is_ok()
     } else {
         renumber(disk).is_ok()
     };
-    check(rt, is_changed, "it is not changed")
+    check(test, is_changed, "it is not changed")
 }
 
 /// The small image with these rows, its journal changed in its place.
-fn changed(rt: &impl Abort, alloc: Global, widens: bool, rows: &[Row]) -> MemoryDisk {
-    let mut disk = small(rt, alloc, BLOCKS, rows, &[]);
-    change(rt, &mut disk, widens);
+fn changed(test: &impl Bench, widens: bool, rows: &[Row]) -> MemoryDisk {
+    let mut disk = small(test, BLOCKS, rows, &[]);
+    change(test, &mut disk, widens);
     disk
 }
 
 /// How wide the tags of a log's first descriptor are, by the place of the second one.
-fn tag_width(rt: &impl Abort, disk: &mut MemoryDisk) -> Width {
+fn tag_width(test: &impl Test, disk: &mut MemoryDisk) -> Width {
     let mut block = [0; 1024];
-    read_at(rt, disk, 1, &mut block);
+    read_at(test, disk, 1, &mut block);
     if get32(&block, 40) == 1 {
         Width::Wide
     } else {
@@ -137,67 +137,56 @@ fn tag_width(rt: &impl Abort, disk: &mut MemoryDisk) -> Width {
 
 /// Checks what a journal that says this of itself commits by these steps, which is six copies as one group: how wide
 /// the tags of its log are, and what recovery reports.
-fn check_committed(
-    rt: &impl Abort,
-    alloc: Global,
-    row: &'static str,
-    told: Told,
-    steps: &[Step],
-    disk: MemoryDisk,
-) {
+fn check_committed(test: &impl Bench, row: Label, told: Told, steps: &[Step], disk: MemoryDisk) {
     let (number, _, width) = told;
-    let mut disk = called(rt, alloc, row, disk, steps);
-    let fits = tag_width(rt, &mut disk) == width;
-    check_in(rt, fits, row, "the width of its tags at number", number);
-    let is_told = recover(alloc, &mut disk) == Ok(report((1, 6, 0, number.saturating_add(2))));
-    check_in(rt, is_told, row, "what recovery reports of number", number)
+    let mut disk = called(test, row, disk, steps);
+    let fits = tag_width(test, &mut disk) == width;
+    check_in(test, fits, row, "the width of its tags at number", number);
+    let is_told = recover(test.alloc(), &mut disk)
+        == Ok(report((1, 6, 0, number.saturating_add(2))));
+    check_in(test, is_told, row, "what is recovered at number", number)
 }
 
 /// Checks that opening a journal that is changed in its place keeps its disk, and then what it commits.
-fn check_changed(rt: &impl Abort, alloc: Global, of: &Changed) {
+fn check_changed(test: &impl Bench, of: &Changed) {
     let (row, widens, rows, told, steps) = *of;
-    let mut wanted = changed(rt, alloc, widens, rows);
-    let mut disk = closed(rt, alloc, row, changed(rt, alloc, widens, rows), told);
-    check_none(rt, row, "block", difference(rt, &mut disk, &mut wanted, 0));
-    check_committed(rt, alloc, row, told, steps, disk)
+    let mut wanted = changed(test, widens, rows);
+    let mut disk = closed(test, row, changed(test, widens, rows), told);
+    let place = difference(test, &mut disk, &mut wanted, 0);
+    check_none(test, row, "block", place);
+    check_committed(test, row, told, steps, disk)
 }
 
 #[test]
 fn journals_that_were_changed_in_their_place_are_opened(rt: HostRuntime) {
     for row in &CHANGED {
-        check_changed(&rt, rt.alloc(), row);
+        check_changed(&By(&rt, rt.alloc()), row);
     }
 }
 
 /// The disk of a journal that is to be widened, once it is recovered; or of one that is to be renumbered, since it is
 /// refused: its numbers are spent.
-fn readied(
-    rt: &impl Abort,
-    alloc: Global,
-    row: &'static str,
-    widens: bool,
-    mut disk: MemoryDisk,
-) -> MemoryDisk {
+fn readied(test: &impl Bench, row: Label, widens: bool, mut disk: MemoryDisk) -> MemoryDisk {
     if !widens {
-        return refused(rt, alloc, row, disk, OpenFault::NumbersSpent);
+        return refused(test, row, disk, OpenFault::NumbersSpent);
     }
-    let is_told = recover(alloc, &mut disk) == Ok(report((1, 1, 0, 4)));
-    check_in(rt, is_told, row, "it is not recovered", 0);
+    let is_told = recover(test.alloc(), &mut disk) == Ok(report((1, 1, 0, 4)));
+    check_in(test, is_told, row, "it is not recovered", 0);
     disk
 }
 
 /// Checks what a journal commits that was used before, and then changed in its place.
-fn check_used(rt: &impl Abort, alloc: Global, of: &Used) {
+fn check_used(test: &impl Bench, of: &Used) {
     let (row, rows, before, widens, told, steps) = *of;
-    let disk = called(rt, alloc, row, small(rt, alloc, BLOCKS, rows, &[]), before);
-    let mut disk = readied(rt, alloc, row, widens, disk);
-    change(rt, &mut disk, widens);
-    check_committed(rt, alloc, row, told, steps, disk)
+    let disk = called(test, row, small(test, BLOCKS, rows, &[]), before);
+    let mut disk = readied(test, row, widens, disk);
+    change(test, &mut disk, widens);
+    check_committed(test, row, told, steps, disk)
 }
 
 #[test]
 fn journals_that_were_used_are_changed_and_used_again(rt: HostRuntime) {
     for row in &USED {
-        check_used(&rt, rt.alloc(), row);
+        check_used(&By(&rt, rt.alloc()), row);
     }
 }

@@ -1,8 +1,9 @@
 //! Batches that are committed while the log has room, and that are refused.
 
 use crate::cases::{Case, check_cases};
+use crate::checks::By;
 use crate::images::{BLOCKS, HOMES, MAGIC, Row};
-use crate::rounds::{SIX, SIX_COPIES};
+use crate::rounds::{SIX, SIX_HOMES, SIX_WORDS};
 use crate::scripts::{Refusal, Step};
 use jb_block::Width;
 use jb_deck::FreeFault;
@@ -23,7 +24,6 @@ const TWELVE: &str = "h w0 w1 w2 w3 w4 w5\nh w6 w7 w8 w9 w10 w11\n";
 static BY_BLOCKS: [Case; 4] = [
     Case {
         name: "nothing is committed",
-        blocks: BLOCKS,
         image: &[],
         steps: &[
             Step::Refuses(1, (16, 8, NARROW), "h w1\n", Refusal::WrongTicket(0)),
@@ -45,7 +45,6 @@ static BY_BLOCKS: [Case; 4] = [
     },
     Case {
         name: "an escaped copy and a freed home",
-        blocks: BLOCKS,
         image: &[NAMED],
         steps: &[
             Step::Commits("h w5=c03b399801020304 r7\n", &[(0, 1, 2, 4)]),
@@ -79,7 +78,6 @@ static BY_BLOCKS: [Case; 4] = [
     },
     Case {
         name: "the same with block numbers of 64 bits",
-        blocks: BLOCKS,
         image: &[NAMED, (0, 0x20, [0, 0, 2, 0])],
         steps: &[Step::Commits("h w5=c03b399801020304 r7\n", &[(0, 1, 2, 4)])],
         groups: &[],
@@ -103,7 +101,6 @@ static BY_BLOCKS: [Case; 4] = [
     },
     Case {
         name: "two copies",
-        blocks: BLOCKS,
         image: &[NAMED],
         steps: &[Step::Commits("h w5=0d w6=0e\n", &[(0, 1, 2, 4)])],
         groups: &[],
@@ -130,7 +127,6 @@ static BY_BLOCKS: [Case; 4] = [
 static BY_GROUPS: [Case; 3] = [
     Case {
         name: "two groups of three handles, and the last word of each home",
-        blocks: BLOCKS,
         image: &[],
         steps: &[
             Step::Commits(
@@ -141,17 +137,18 @@ static BY_GROUPS: [Case; 3] = [
             Step::Word(9, Some(true)),
         ],
         groups: &[
-            (1, 2, &[2, 9], &[(1, 0x0100_0000), (3, 0x1300_0000)]),
+            (1, 2, &[2, 9], &[1, 3], &[0x0100_0000, 0x1300_0000]),
             (
                 6,
                 3,
                 &[],
+                &[4, 6, 7, 8, 9],
                 &[
-                    (4, 0x0400_0000),
-                    (6, 0x0600_0000),
-                    (7, 0x0700_0000),
-                    (8, 0x0800_0000),
-                    (9, 0x0900_0000),
+                    0x0400_0000,
+                    0x0600_0000,
+                    0x0700_0000,
+                    0x0800_0000,
+                    0x0900_0000,
                 ],
             ),
         ],
@@ -170,7 +167,6 @@ static BY_GROUPS: [Case; 3] = [
     },
     Case {
         name: "the last number",
-        blocks: BLOCKS,
         image: &[(0, 0x10, [33, 1, 4294967294, 0])],
         steps: &[
             Step::Refuses(1, (16, 7, NARROW), TWO, Refusal::WrongTicket(0)),
@@ -184,7 +180,7 @@ static BY_GROUPS: [Case; 3] = [
             Step::Idle,
             Step::Refuses(1, (16, 8, NARROW), SIX, Refusal::NumbersSpent),
         ],
-        groups: &[(1, 4294967295, &[], &SIX_COPIES)],
+        groups: &[(1, 4294967295, &[], SIX_HOMES, SIX_WORDS)],
         rows: &[
             (0, 0x10, [33, 1, 4294967295, 0]),
             (HOMES, 0, [0x0A00_0000, 0, 0, 0]),
@@ -199,14 +195,13 @@ static BY_GROUPS: [Case; 3] = [
     },
     Case {
         name: "handles without changes",
-        blocks: BLOCKS,
         image: &[],
         steps: &[
             Step::Commits("h\nh\n", &[(0, 2, 2, 1)]),
             Step::Commits("h\n", &[(2, 3, 3, 1)]),
             Step::Checkpoints(2, 0),
         ],
-        groups: &[(1, 2, &[], &[]), (2, 3, &[], &[])],
+        groups: &[(1, 2, &[], &[], &[]), (2, 3, &[], &[], &[])],
         rows: &[(0, 0x10, [33, 1, 3, 2])],
         recovered: (1, 0, 0, 5),
         after: &[(0, 0x10, [33, 1, 4, 0])],
@@ -215,10 +210,10 @@ static BY_GROUPS: [Case; 3] = [
 
 #[test]
 fn blocks_are_written_as_worked_by_hand(rt: HostRuntime) {
-    check_cases(&rt, rt.alloc(), &BY_BLOCKS)
+    check_cases(&By(&rt, rt.alloc()), BLOCKS, &BY_BLOCKS)
 }
 
 #[test]
 fn batches_are_committed_as_worked_by_hand(rt: HostRuntime) {
-    check_cases(&rt, rt.alloc(), &BY_GROUPS)
+    check_cases(&By(&rt, rt.alloc()), BLOCKS, &BY_GROUPS)
 }

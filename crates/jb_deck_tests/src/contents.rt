@@ -1,9 +1,9 @@
 //! Home blocks whose contents are known by a number, and what a crash may leave of them.
 
-use crate::images::{MAGIC, put_words, read_at};
+use crate::images::MAGIC;
 use crate::model::Homes;
 use jb_disk::Disk;
-use std::process::Abort;
+use tests_support::{Test, put_words, read_at};
 
 /// What a crash may leave: all homes as they were or all as they become, and of one home each sector as
 /// it is or as these contents have it.
@@ -47,7 +47,7 @@ pub fn fill(block: &mut [u8], number: u32) {
 
 /// Whether the disk has these homes, from a place on; sectors of one home may be of other contents.
 pub fn holds<D: Disk>(
-    rt: &impl Abort,
+    test: &impl Test,
     disk: &mut D,
     first: u64,
     homes: &Homes,
@@ -57,7 +57,7 @@ pub fn holds<D: Disk>(
     let mut wanted = [0; 1024];
     let mut other = [0; 1024];
     for (home, number) in homes.iter().enumerate() {
-        read_at(rt, disk, first.saturating_add(home as u64), &mut block);
+        read_at(test, disk, first.saturating_add(home as u64), &mut block);
         fill(&mut wanted, *number);
         let contents = match torn {
             Some((at, contents)) if at == home => contents,
@@ -83,9 +83,9 @@ fn is_either(bytes: &[u8], one: &[u8], other: &[u8]) -> bool {
 }
 
 /// Whether the homes of a disk, from a place on, are among what a crash may leave.
-pub fn is_left<D: Disk>(rt: &impl Abort, disk: &mut D, first: u64, left: &Left) -> bool {
-    if holds(rt, disk, first, &left.was, left.torn) {
+pub fn is_left<D: Disk>(test: &impl Test, disk: &mut D, first: u64, left: &Left) -> bool {
+    if holds(test, disk, first, &left.was, left.torn) {
         return true;
     }
-    holds(rt, disk, first, &left.becomes, left.torn)
+    holds(test, disk, first, &left.becomes, left.torn)
 }

@@ -1,13 +1,14 @@
 //! A journal that is opened on a disk of which a call fails, or every call from one on; and what a crash then
 //! leaves of it.
 
+use crate::checks::By;
 use crate::frames::Frame;
-use crate::images::{BLOCKS, HOMES, MAGIC, Row, check_in, crashed, difference, small};
+use crate::images::{BLOCKS, HOMES, MAGIC, Row, small};
 use jb_deck::{Deck, OpenFault};
 use jb_disk::{Disk, FuseDisk, MemoryDisk, OneFaultDisk};
 use jb_recover::recover;
 use std::alloc::Global;
-use std::process::Abort;
+use tests_support::{Bench, check_in, crashed, difference};
 
 /// What a crash leaves of the sectors that are pending, one digit for each: all are old, all new, old and new in
 /// turn, the first is new, or the last one of one block, of two or of three.
@@ -73,12 +74,12 @@ struct Wanted {
 }
 
 /// What a crash may leave of a case.
-fn make_wanted(rt: &impl Abort, alloc: Global, of: &Case) -> Wanted {
+fn make_wanted(test: &impl Bench, of: &Case) -> Wanted {
     let (_, rows, after, first, _) = *of;
-    let mut before = small(rt, alloc, BLOCKS, rows, &[]);
-    let mut whole = small(rt, alloc, BLOCKS, rows, after);
-    let was = Frame::of(rt, alloc, &mut before, first);
-    let becomes = Frame::of(rt, alloc, &mut whole, first);
+    let mut before = small(test, BLOCKS, rows, &[]);
+    let mut whole = small(test, BLOCKS, rows, after);
+    let was = Frame::of(test, &mut before, first);
+    let becomes = Frame::of(test, &mut whole, first);
     Wanted {
         whole,
         was,
@@ -87,18 +88,12 @@ fn make_wanted(rt: &impl Abort, alloc: Global, of: &Case) -> Wanted {
 }
 
 /// Whether what a crash left has the blocks before the log, recovers, and then is as wanted from a place on.
-fn mends(
-    rt: &impl Abort,
-    alloc: Global,
-    left: &mut MemoryDisk,
-    wanted: &mut Wanted,
-    from: u64,
-) -> bool {
-    let is_kept = wanted.was.is_kept(rt, alloc, left) || wanted.becomes.is_kept(rt, alloc, left);
-    if !is_kept || recover(alloc, left).is_err() {
+fn mends(test: &impl Bench, left: &mut MemoryDisk, wanted: &mut Wanted, from: u64) -> bool {
+    let is_kept = wanted.was.is_kept(test, left) || wanted.becomes.is_kept(test, left);
+    if !is_kept || recover(test.alloc(), left).is_err() {
         return false;
     }
-    difference(rt, left, &mut wanted.whole, from).is_none()
+    difference(test, left, &mut wanted.whole, from).is_none()
 }
 
 /// The disk of a journal that was opened, or was not for this fault.
@@ -125,8 +120,7 @@ fn left_on<D: Disk + Drop>(alloc: Global, disk: D) -> Tried<D> {
 /// Checks what each choice leaves of a case of which the call of this number failed: the homes, and where the journal
 /// was opened before, the whole image.
 fn check_left(
-    rt: &impl Abort,
-    alloc: Global,
+    test: &impl Bench,
     of: &Case,
     wanted: &mut Wanted,
     call: u64,
@@ -139,66 +133,44 @@ fn check_left(
     } else {
         (None, 0)
     };
-    check_in(rt, met == fault, row, "how opening it ends at call", call);
+    check_in(test, met == fault, row, "how opening it ends at call", call);
     for choice in &CHOICES {
-        let is_mended = mends(rt, alloc, &mut crashed(rt, disk, choice), wanted, from);
-        check_in(
-            rt,
-            is_mended,
-            row,
-            "what a crash leaves does not mend at call",
-            call,
-        );
+        let is_mended = mends(test, &mut crashed(test, disk, choice), wanted, from);
+        check_in(test, is_mended, row, "a crash does not mend at", call);
     }
 }
 
 /// Checks what is left of a case where the call of this number and all after it fail.
-fn check_rest(rt: &impl Abort, alloc: Global, of: &Case, wanted: &mut Wanted, call: u64) {
-    let before = small(rt, alloc, BLOCKS, of.1, &[]);
-    let left = left_on(alloc, FuseDisk::of(before, call));
-    check_left(
-        rt,
-        alloc,
-        of,
-        wanted,
-        call,
-        &left.disk.into_inner(),
-        left.fault,
-    )
+fn check_rest(test: &impl Bench, of: &Case, wanted: &mut Wanted, call: u64) {
+    let before = small(test, BLOCKS, of.1, &[]);
+    let left = left_on(test.alloc(), FuseDisk::of(before, call));
+    check_left(test, of, wanted, call, &left.disk.into_inner(), left.fault)
 }
 
 /// Checks what is left of a case where the call of this number alone fails.
-fn check_alone(rt: &impl Abort, alloc: Global, of: &Case, wanted: &mut Wanted, call: u64) {
-    let before = small(rt, alloc, BLOCKS, of.1, &[]);
-    let left = left_on(alloc, OneFaultDisk::of(before, call));
-    check_left(
-        rt,
-        alloc,
-        of,
-        wanted,
-        call,
-        &left.disk.into_inner(),
-        left.fault,
-    )
+fn check_alone(test: &impl Bench, of: &Case, wanted: &mut Wanted, call: u64) {
+    let before = small(test, BLOCKS, of.1, &[]);
+    let left = left_on(test.alloc(), OneFaultDisk::of(before, call));
+    check_left(test, of, wanted, call, &left.disk.into_inner(), left.fault)
 }
 
 /// Checks what is left of a case for the number of each call, and for the one after them.
-fn check_calls(rt: &impl Abort, alloc: Global, of: &Case, wanted: &mut Wanted) {
+fn check_calls(test: &impl Bench, of: &Case, wanted: &mut Wanted) {
     for call in 0..=of.4 {
-        check_rest(rt, alloc, of, wanted, call);
-        check_alone(rt, alloc, of, wanted, call);
+        check_rest(test, of, wanted, call);
+        check_alone(test, of, wanted, call);
     }
 }
 
 /// Checks a case.
-fn check_case(rt: &impl Abort, alloc: Global, of: &Case) {
-    let mut wanted = make_wanted(rt, alloc, of);
-    check_calls(rt, alloc, of, &mut wanted)
+fn check_case(test: &impl Bench, of: &Case) {
+    let mut wanted = make_wanted(test, of);
+    check_calls(test, of, &mut wanted)
 }
 
 #[test]
 fn every_call_may_fail_or_be_the_last(rt: HostRuntime) {
     for case in &CASES {
-        check_case(&rt, rt.alloc(), case);
+        check_case(&By(&rt, rt.alloc()), case);
     }
 }

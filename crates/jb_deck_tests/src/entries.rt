@@ -1,15 +1,14 @@
 //! How many log blocks an entry has, by the number of copies and of freed homes.
 
-use crate::images::{check, zeros};
+use crate::checks::By;
 use crate::lives::{push_handle, put_word};
 use crate::scripts::{opening, settles};
-use jb_block::Width;
+use jb_block::{BlockSize, Width};
 use jb_deck::Deck;
 use jb_disk::MemoryDisk;
 use jb_front::format;
 use jb_handle::{Stopped, Words};
-use std::alloc::Global;
-use std::process::Abort;
+use tests_support::{Bench, check, zeros};
 
 /// How many homes one handle writes, how many it frees, and how many log blocks its group takes.
 const ROWS: [(u64, u64, u32); 5] = [
@@ -21,37 +20,37 @@ const ROWS: [(u64, u64, u32); 5] = [
 ];
 
 /// The one handle of a batch, which writes so many homes and frees so many after them.
-fn one(rt: &impl Abort, alloc: Global, copies: u64, frees: u64) -> Vec<Stopped> {
+fn one(test: &impl Bench, copies: u64, frees: u64) -> Vec<Stopped> {
     let block = [1; 1024];
-    let mut words = Words::new(alloc);
+    let mut words = Words::new(test.alloc());
     for home in 0..copies.saturating_add(frees) {
         let copied = (home < copies).then_some(block.as_slice());
-        put_word(rt, alloc, &mut words, home, copied);
+        put_word(test, &mut words, home, copied);
     }
-    let mut handles = Vec::new(alloc);
-    push_handle(rt, &mut handles, 0, words);
+    let mut handles = Vec::new(test.alloc());
+    push_handle(test, &mut handles, 0, words);
     handles
 }
 
 /// A journal of 599 usable log blocks and 400 homes.
-fn begun(rt: &impl Abort, alloc: Global) -> Deck<MemoryDisk> {
-    let mut disk = zeros(rt, alloc, 1000);
+fn begun(test: &impl Bench) -> Deck<MemoryDisk> {
+    let mut disk = zeros(test, test.alloc(), BlockSize::OneKib, 1000);
     let is_made = format(&mut disk, 600, 0, [0; 16], Width::Narrow).is_ok();
-    check(rt, is_made, "it is not made");
-    opening(rt, alloc, disk)
+    check(test, is_made, "it is not made");
+    opening(test, disk)
 }
 
 /// Whether the entry of such a handle, in such a journal, has so many blocks.
-fn has_blocks(rt: &impl Abort, alloc: Global, copies: u64, frees: u64, blocks: u32) -> bool {
-    let mut deck = begun(rt, alloc);
-    let handles = one(rt, alloc, copies, frees);
-    settles(alloc, &mut deck, handles, &[(0, 1, 2, blocks)])
+fn has_blocks(test: &impl Bench, copies: u64, frees: u64, blocks: u32) -> bool {
+    let mut deck = begun(test);
+    let handles = one(test, copies, frees);
+    settles(test.alloc(), &mut deck, handles, &[(0, 1, 2, blocks)])
 }
 
 #[test]
 fn an_entry_has_the_blocks_of_its_group(rt: HostRuntime) {
     for (copies, frees, blocks) in ROWS {
-        let is = has_blocks(&rt, rt.alloc(), copies, frees, blocks);
+        let is = has_blocks(&By(&rt, rt.alloc()), copies, frees, blocks);
         assert!(rt;
             is,
             "{copies} copies and {frees} freed homes: not {blocks} blocks"

@@ -1,14 +1,14 @@
 //! A commit of which one sync fails, and what a crash leaves of it then.
 
 use crate::cases::{called_with_fault, report};
+use crate::checks::By;
 use crate::frames::Frame;
-use crate::images::{BLOCKS, HOMES, MAGIC, Row, check_in, check_none, crashed, difference, small};
+use crate::images::{BLOCKS, HOMES, MAGIC, Row, small};
 use crate::scripts::{Refusal, Step, opening};
 use jb_block::Width;
 use jb_disk::MemoryDisk;
 use jb_recover::recover;
-use std::alloc::Global;
-use std::process::Abort;
+use tests_support::{Bench, check_in, check_none, crashed, difference};
 
 /// The sync that fails, by its number among the calls of the disk: opening the small image makes 34; then the
 /// superblock is read and written, and a revoke block, a descriptor and a copy are written.
@@ -92,57 +92,40 @@ static COMMIT: [Step; 1] = [Step::Refuses(
 )];
 
 /// Checks a row.
-fn check_row(rt: &impl Abort, alloc: Global, of: &Given) {
-    let disk = called_with_fault(rt, alloc, of.name, of.call, &COMMIT);
-    let mut left = crashed(rt, &disk, of.choice);
-    check_recovered(rt, alloc, of, &mut left);
-    check_opened(rt, alloc, of, left)
+fn check_row(test: &impl Bench, of: &Given) {
+    let disk = called_with_fault(test, of.name, of.call, &COMMIT);
+    let mut left = crashed(test, &disk, of.choice);
+    check_recovered(test, of, &mut left);
+    check_opened(test, of, left)
 }
 
 /// Checks what recovery reports of what is left of a row, and that what stands before the log is kept, before and
 /// after.
-fn check_recovered(rt: &impl Abort, alloc: Global, of: &Given, left: &mut MemoryDisk) {
+fn check_recovered(test: &impl Bench, of: &Given, left: &mut MemoryDisk) {
     let (row, call) = (of.name, of.call);
-    let front = Frame::of(rt, alloc, &mut small(rt, alloc, BLOCKS, &[], &[]), 1);
-    let was_kept = front.is_kept(rt, alloc, left);
-    check_in(
-        rt,
-        was_kept,
-        row,
-        "what stands before the log has changed at call",
-        call,
-    );
-    let is_told = recover(alloc, left) == Ok(report(of.recovered));
-    check_in(rt, is_told, row, "what recovery reports after call", call);
-    let is_kept = front.is_kept(rt, alloc, left);
-    check_in(
-        rt,
-        is_kept,
-        row,
-        "recovery has changed what stands before the log after call",
-        call,
-    )
+    let front = Frame::of(test, &mut small(test, BLOCKS, &[], &[]), 1);
+    let was_kept = front.is_kept(test, left);
+    check_in(test, was_kept, row, "changed before the log at", call);
+    let is_told = recover(test.alloc(), left) == Ok(report(of.recovered));
+    check_in(test, is_told, row, "what recovery reports after call", call);
+    let is_kept = front.is_kept(test, left);
+    check_in(test, is_kept, row, "recovery changed it after call", call)
 }
 
 /// Checks what is left of a row once it is opened again.
-fn check_opened(rt: &impl Abort, alloc: Global, of: &Given, left: MemoryDisk) {
-    let deck = opening(rt, alloc, left);
+fn check_opened(test: &impl Bench, of: &Given, left: MemoryDisk) {
+    let deck = opening(test, left);
     let number = deck.next_number();
-    check_in(
-        rt,
-        number == of.recovered.3,
-        of.name,
-        "the next number",
-        number,
-    );
-    let mut wanted = small(rt, alloc, BLOCKS, of.rows, &[]);
-    let place = difference(rt, &mut deck.close(), &mut wanted, of.from);
-    check_none(rt, of.name, "block", place)
+    let is_next = number == of.recovered.3;
+    check_in(test, is_next, of.name, "the next number", number);
+    let mut wanted = small(test, BLOCKS, of.rows, &[]);
+    let place = difference(test, &mut deck.close(), &mut wanted, of.from);
+    check_none(test, of.name, "block", place)
 }
 
 #[test]
 fn syncs_that_fail_leave_what_is_worked_out_by_hand(rt: HostRuntime) {
     for row in &ROWS {
-        check_row(&rt, rt.alloc(), row);
+        check_row(&By(&rt, rt.alloc()), row);
     }
 }

@@ -2,12 +2,10 @@
 //! there, and the blocks before the log. All blocks after the journal are homes on a disk as small as these.
 
 use crate::contents::{Left, is_left};
-use crate::images::{check_at, read_at};
 use jb_block::put64;
 use jb_disk::{Disk, MemoryDisk};
 use jb_recover::recover;
-use std::alloc::Global;
-use std::process::Abort;
+use tests_support::{Bench, Must, check_at, read_at};
 
 /// Where a superblock has the number of the first transaction and the place at which the log begins
 /// (`s_sequence`, `s_start`), four bytes each.
@@ -22,60 +20,44 @@ pub struct Frame {
 
 impl Frame {
     /// That of a disk whose log begins at this place (`s_first`).
-    pub fn of<D: Disk>(rt: &impl Abort, alloc: Global, disk: &mut D, first: u64) -> Frame {
-        let mut bytes = Vec::new(alloc);
+    pub fn of<D: Disk>(test: &impl Bench, disk: &mut D, first: u64) -> Frame {
+        let mut bytes = Vec::new(test.alloc());
         let mut block = [0; 1024];
         for place in 0..first {
-            read_at(rt, disk, place, &mut block);
+            read_at(test, disk, place, &mut block);
             if place == 0 {
                 put64(&mut block, MOVES, 0);
             }
-            bytes.extend_from_slice(&block).expect(rt, "memory");
+            bytes.extend_from_slice(&block).must(test, "memory");
         }
         Frame { first, bytes }
     }
 
     /// Whether a disk has it still.
-    pub fn is_kept<D: Disk>(&self, rt: &impl Abort, alloc: Global, disk: &mut D) -> bool {
-        Frame::of(rt, alloc, disk, self.first).bytes == self.bytes
+    pub fn is_kept<D: Disk>(&self, test: &impl Bench, disk: &mut D) -> bool {
+        Frame::of(test, disk, self.first).bytes == self.bytes
     }
 }
 
-/// What a crash may leave: of the homes, and before the log.
+/// What a crash may leave: of the homes, before the log, and the place of home block 0.
 #[derive(Drop)]
 pub struct Wanted {
     pub left: Left,
     pub frame: Frame,
+    pub homes: u64,
 }
 
 impl Wanted {
-    /// Recovers what a crash left, whose homes begin at this place: what stands before the log is kept, then too, and
-    /// the homes may be left. `at` is which of the test's images it is.
-    pub fn mend(
-        &self,
-        rt: &impl Abort,
-        alloc: Global,
-        image: &mut MemoryDisk,
-        homes: u64,
-        at: u64,
-    ) {
-        let was_kept = self.frame.is_kept(rt, alloc, image);
-        check_at(
-            rt,
-            was_kept,
-            "what stands before the log has changed in",
-            at,
-        );
-        let is_recovered = recover(alloc, image).is_ok();
-        check_at(rt, is_recovered, "it is not recovered in", at);
-        let is_kept = self.frame.is_kept(rt, alloc, image);
-        check_at(
-            rt,
-            is_kept,
-            "recovery has changed what stands before the log in",
-            at,
-        );
-        let is_left = is_left(rt, image, homes, &self.left);
-        check_at(rt, is_left, "the homes are none that may be left in", at)
+    /// Recovers what a crash left: what stands before the log is kept, then too, and the homes may be left.
+    /// `at` is which of the test's images it is.
+    pub fn mend(&self, test: &impl Bench, image: &mut MemoryDisk, at: u64) {
+        let was_kept = self.frame.is_kept(test, image);
+        check_at(test, was_kept, "changed before the log in", at);
+        let is_recovered = recover(test.alloc(), image).is_ok();
+        check_at(test, is_recovered, "it is not recovered in", at);
+        let is_kept = self.frame.is_kept(test, image);
+        check_at(test, is_kept, "recovery changed it in", at);
+        let is_left = is_left(test, image, self.homes, &self.left);
+        check_at(test, is_left, "the homes are none that may be left in", at)
     }
 }

@@ -1,6 +1,7 @@
 //! Journals whose transactions go home, or are recovered, between two batches; and homes that are freed.
 
 use crate::cases::{Case, check_cases};
+use crate::checks::By;
 use crate::images::{BLOCKS, HOMES, MAGIC};
 use crate::scripts::Step;
 use jb_deck::FreeFault;
@@ -18,7 +19,6 @@ const FREED: [Step; 3] = [
 static COPIES: [Case; 2] = [
     Case {
         name: "the escaped copy goes home",
-        blocks: BLOCKS,
         image: &[],
         steps: &[
             Step::Commits("h w5=c03b3998 r7\n", &[(0, 1, 2, 4)]),
@@ -30,7 +30,7 @@ static COPIES: [Case; 2] = [
             Step::Word(5, None),
             Step::Ends(&[(0, 1, 2, 4)], 3),
         ],
-        groups: &[(1, 2, &[7], &[(5, MAGIC)])],
+        groups: &[(1, 2, &[7], &[5], &[MAGIC])],
         rows: &[
             (0, 0x10, [33, 1, 2, 0]),
             (HOMES + 5, 0, [MAGIC, 0, 0, 0]),
@@ -41,7 +41,6 @@ static COPIES: [Case; 2] = [
     },
     Case {
         name: "a group after an emptied log",
-        blocks: BLOCKS,
         image: &[],
         steps: &[
             Step::Commits("h w5=c03b3998 r7\n", &[(0, 1, 2, 4)]),
@@ -50,8 +49,8 @@ static COPIES: [Case; 2] = [
             Step::Ends(&[(0, 1, 2, 4), (1, 2, 3, 3)], 4),
         ],
         groups: &[
-            (1, 2, &[7], &[(5, MAGIC)]),
-            (5, 3, &[], &[(1, 0x0B00_0000)]),
+            (1, 2, &[7], &[5], &[MAGIC]),
+            (5, 3, &[], &[1], &[0x0B00_0000]),
         ],
         rows: &[(0, 0x10, [33, 1, 3, 5]), (HOMES + 5, 0, [MAGIC, 0, 0, 0])],
         recovered: (1, 1, 0, 5),
@@ -66,17 +65,15 @@ static COPIES: [Case; 2] = [
 static FREES: [Case; 3] = [
     Case {
         name: "a freed home that is written",
-        blocks: BLOCKS,
         image: &[],
         steps: &FREED,
-        groups: &[(1, 2, &[], &[(5, 0xAA00_0000)]), (4, 3, &[5], &[])],
+        groups: &[(1, 2, &[], &[5], &[0xAA00_0000]), (4, 3, &[5], &[], &[])],
         rows: &[(0, 0x10, [33, 1, 2, 1]), (HOMES + 5, 0, SEVENS)],
         recovered: (2, 0, 1, 5),
         after: &[(0, 0x10, [33, 1, 4, 0])],
     },
     Case {
         name: "an older copy does not go home over what was freed, and a later one does",
-        blocks: BLOCKS,
         image: &[],
         steps: &[
             Step::Commits("h w5=aa\nh w6=ab\n", &[(0, 2, 2, 4)]),
@@ -89,9 +86,9 @@ static FREES: [Case; 3] = [
             Step::Word(6, None),
         ],
         groups: &[
-            (1, 2, &[], &[(5, 0xAA00_0000), (6, 0xAB00_0000)]),
-            (5, 3, &[5], &[]),
-            (7, 4, &[], &[(5, 0xAC00_0000)]),
+            (1, 2, &[], &[5, 6], &[0xAA00_0000, 0xAB00_0000]),
+            (5, 3, &[5], &[], &[]),
+            (7, 4, &[], &[5], &[0xAC00_0000]),
         ],
         rows: &[
             (0, 0x10, [33, 1, 3, 5]),
@@ -106,7 +103,6 @@ static FREES: [Case; 3] = [
     },
     Case {
         name: "a group whose commit block is missing",
-        blocks: BLOCKS,
         image: &[
             (0, 0x10, [33, 1, 2, 1]),
             (1, 0, [MAGIC, 5, 2, 20]),
@@ -116,7 +112,7 @@ static FREES: [Case; 3] = [
             (3, 0, [0, 0x0102_0304, 0, 0]),
         ],
         steps: &[Step::Commits("h w5=c03b3998 r7\n", &[(0, 1, 3, 4)])],
-        groups: &[(1, 3, &[7], &[(5, MAGIC)])],
+        groups: &[(1, 3, &[7], &[5], &[MAGIC])],
         rows: &[(0, 0x10, [33, 1, 3, 1])],
         recovered: (1, 1, 0, 5),
         after: &[(0, 0x10, [33, 1, 4, 0]), (HOMES + 5, 0, [MAGIC, 0, 0, 0])],
@@ -125,10 +121,10 @@ static FREES: [Case; 3] = [
 
 #[test]
 fn copies_go_home_as_worked_by_hand(rt: HostRuntime) {
-    check_cases(&rt, rt.alloc(), &COPIES)
+    check_cases(&By(&rt, rt.alloc()), BLOCKS, &COPIES)
 }
 
 #[test]
 fn homes_are_freed_as_worked_by_hand(rt: HostRuntime) {
-    check_cases(&rt, rt.alloc(), &FREES)
+    check_cases(&By(&rt, rt.alloc()), BLOCKS, &FREES)
 }

@@ -6,6 +6,8 @@ mod cases;
 #[cfg(test)]
 mod changes;
 #[cfg(test)]
+mod checks;
+#[cfg(test)]
 mod commits;
 #[cfg(test)]
 mod contents;

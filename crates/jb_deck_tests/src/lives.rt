@@ -2,122 +2,131 @@
 
 use crate::contents::{Left, fill, only};
 use crate::groups::STAMP;
-use crate::images::{check, fail};
 use crate::model::{Model, Touch};
 use crate::scripts::{next_ticket, prepared, refused};
 use jb_deck::{BatchFault, CheckpointFault, Deck, FreeFault, Prepared};
 use jb_disk::Disk;
 use jb_handle::{Payload, Shape, Stopped, Word, Words};
-use std::alloc::Global;
-use std::process::Abort;
+use tests_support::{Bench, Must, Test, check, fail};
+
+/// The homes to which a handle copies contents, each of this number and the home's own, and those that it frees.
+pub type Does = (&'static [u32], u32, &'static [u32]);
 
 /// A call.
 #[derive(Clone, Copy)]
 pub enum Call<'a> {
     /// So many handles, and what they do, are committed as one batch, or left out where none fits.
     Commit(usize, &'a [Touch]),
+    /// The same, by what each of the handles does.
+    Handles(&'a [Does]),
     /// The oldest transaction is checkpointed, if there is one.
     Checkpoint,
     /// These contents are written to a home, if it is free.
     Write(usize, u32),
 }
 
+/// How many handles a batch has, and what they do.
+type Made<'a> = (usize, &'a [Touch]);
+
 /// A further word of a handle: a copy of this block, or that the home is free.
-pub fn put_word(
-    rt: &impl Abort,
-    alloc: Global,
-    words: &mut Words,
-    home: u64,
-    block: Option<&[u8]>,
-) {
+pub fn put_word(test: &impl Bench, words: &mut Words, home: u64, block: Option<&[u8]>) {
     let word = match block {
-        Some(block) => Word::Copy(Payload::of(alloc, block).expect(rt, "memory")),
+        Some(block) => Word::Copy(Payload::of(test.alloc(), block).must(test, "memory")),
         None => Word::Free,
     };
-    words.put(home, word).expect(rt, "a word");
+    words.put(home, word).must(test, "a word");
 }
 
 /// A further handle of a batch.
-pub fn push_handle(rt: &impl Abort, handles: &mut Vec<Stopped>, ticket: u64, words: Words) {
-    handles.push(Stopped { ticket, words }).expect(rt, "memory");
+pub fn push_handle(test: &impl Test, handles: &mut Vec<Stopped>, ticket: u64, words: Words) {
+    handles.push(Stopped { ticket, words }).must(test, "memory");
+}
+
+/// What a handle does to these homes: it copies contents to each from this number on, or frees it.
+fn push_touches(
+    test: &impl Test,
+    touches: &mut Vec<Touch>,
+    handle: usize,
+    homes: &[u32],
+    from: Option<u32>,
+) {
+    for home in homes {
+        let copy = from.map(|from| from.saturating_add(*home));
+        touches
+            .push((handle, *home as usize, copy))
+            .must(test, "memory");
+    }
+}
+
+/// What the handles of a script do to homes.
+fn touches_of(test: &impl Bench, handles: &[Does]) -> Vec<Touch> {
+    let mut touches = Vec::new(test.alloc());
+    for (handle, (copies, from, frees)) in handles.iter().enumerate() {
+        push_touches(test, &mut touches, handle, copies, Some(*from));
+        push_touches(test, &mut touches, handle, frees, None);
+    }
+    touches
 }
 
 /// The words of one handle of a batch.
-fn words_of(rt: &impl Abort, alloc: Global, touches: &[Touch], handle: usize) -> Words {
-    let mut words = Words::new(alloc);
+fn words_of(test: &impl Bench, touches: &[Touch], handle: usize) -> Words {
+    let mut words = Words::new(test.alloc());
     let mut block = [0; 1024];
     for (of, home, copy) in touches {
         if *of == handle {
             fill(&mut block, copy.unwrap_or(0));
             let copied = copy.is_some().then_some(block.as_slice());
-            put_word(rt, alloc, &mut words, *home as u64, copied);
+            put_word(test, &mut words, *home as u64, copied);
         }
     }
     words
 }
 
 /// The handles of a batch, with tickets from `first` on.
-fn stopped(rt: &impl Abort, alloc: Global, first: u64, call: (usize, &[Touch])) -> Vec<Stopped> {
+fn stopped(test: &impl Bench, first: u64, call: Made<'_>) -> Vec<Stopped> {
     let (count, touches) = call;
-    let mut handles = Vec::new(alloc);
+    let mut handles = Vec::new(test.alloc());
     let mut ticket = first;
     for handle in 0..count {
-        push_handle(
-            rt,
-            &mut handles,
-            ticket,
-            words_of(rt, alloc, touches, handle),
-        );
+        push_handle(test, &mut handles, ticket, words_of(test, touches, handle));
         ticket = ticket.saturating_add(1);
     }
     handles
 }
 
 /// The bounds of a batch's groups, or none where no cut fits.
-fn bounds(
-    rt: &impl Abort,
-    alloc: Global,
-    first: u64,
-    call: (usize, &[Touch]),
-    shape: Shape,
-) -> Option<Vec<usize>> {
-    let Some(batch) = prepared(alloc, first, stopped(rt, alloc, first, call), shape) else {
+fn bounds(test: &impl Bench, first: u64, call: Made<'_>, shape: Shape) -> Option<Vec<usize>> {
+    let Some(batch) = prepared(test.alloc(), first, stopped(test, first, call), shape) else {
         return None;
     };
-    let bounds = batch.groups().to_vec(alloc);
+    let bounds = batch.groups().to_vec(test.alloc());
     let _handles = batch.back().end();
-    Some(bounds.expect(rt, "memory"))
+    Some(bounds.must(test, "memory"))
 }
 
 /// A batch with its plan, which was made before.
-fn planned(
-    rt: &impl Abort,
-    alloc: Global,
-    first: u64,
-    call: (usize, &[Touch]),
-    shape: Shape,
-) -> Prepared {
-    prepared(alloc, first, stopped(rt, alloc, first, call), shape).expect(
-        rt,
+fn planned(test: &impl Bench, first: u64, call: Made<'_>, shape: Shape) -> Prepared {
+    prepared(test.alloc(), first, stopped(test, first, call), shape).must(
+        test,
         "it was planned before",
     )
 }
 
 /// Commits a batch: how many groups are settled, and whether it met a fault.
-fn settled_by<D: Disk>(rt: &impl Abort, deck: &mut Deck<D>, batch: Prepared) -> (usize, bool) {
+fn settled_by<D: Disk>(test: &impl Test, deck: &mut Deck<D>, batch: Prepared) -> (usize, bool) {
     match deck.commit_batch(batch, STAMP) {
         Ok(done) => (done.entries().len(), false),
         Err(BatchFault::DeviceFault { settled }) => (settled.entries().len(), true),
         Err(fault) => {
             let _told = refused(fault);
-            fail(rt, "the batch is refused")
+            fail(test, "the batch is refused")
         }
     }
 }
 
 /// Puts the groups of a batch into the model: what a crash may leave where so many of them are settled.
 fn put_groups(
-    rt: &impl Abort,
+    test: &impl Test,
     model: &mut Model,
     bounds: &[usize],
     touches: &[Touch],
@@ -126,7 +135,7 @@ fn put_groups(
     let mut left = only(model.standing());
     let mut low = 0;
     for (i, high) in bounds.iter().skip(1).enumerate() {
-        model.commit(rt, touches, low, *high);
+        model.commit(test, touches, low, *high);
         if i < settled {
             left = only(model.standing());
         } else if i == settled {
@@ -139,36 +148,30 @@ fn put_groups(
 
 /// Commits a batch whose groups have these bounds; after a fault, what a crash may leave.
 fn commit_groups<D: Disk>(
-    rt: &impl Abort,
-    alloc: Global,
+    test: &impl Bench,
     deck: &mut Deck<D>,
     model: &mut Model,
-    call: (usize, &[Touch]),
+    call: Made<'_>,
     bounds: &[usize],
 ) -> Option<Left> {
-    let batch = planned(rt, alloc, next_ticket(deck), call, deck.shape());
+    let batch = planned(test, next_ticket(deck), call, deck.shape());
     let groups = bounds.len().saturating_sub(1);
-    let (settled, met) = settled_by(rt, deck, batch);
+    let (settled, met) = settled_by(test, deck, batch);
     let fits = settled == groups || (met && settled < groups);
-    check(
-        rt,
-        fits,
-        "a group is missing, or too many groups are settled",
-    );
-    let left = put_groups(rt, model, bounds, call.1, settled);
+    check(test, fits, "too few or too many groups are settled");
+    let left = put_groups(test, model, bounds, call.1, settled);
     met.then_some(left)
 }
 
 /// Commits a batch, or leaves it out where none fits; after a fault, what a crash may leave.
 fn commit<D: Disk>(
-    rt: &impl Abort,
-    alloc: Global,
+    test: &impl Bench,
     deck: &mut Deck<D>,
     model: &mut Model,
-    call: (usize, &[Touch]),
+    call: Made<'_>,
 ) -> Option<Left> {
-    match bounds(rt, alloc, next_ticket(deck), call, deck.shape()) {
-        Some(bounds) => commit_groups(rt, alloc, deck, model, call, &bounds),
+    match bounds(test, next_ticket(deck), call, deck.shape()) {
+        Some(bounds) => commit_groups(test, deck, model, call, &bounds),
         None => None,
     }
 }
@@ -176,34 +179,37 @@ fn commit<D: Disk>(
 /// Calls a journal and its model; after a fault, what a crash may leave. An answer that the model does not have
 /// fails.
 pub fn make_call<D: Disk>(
-    rt: &impl Abort,
-    alloc: Global,
+    test: &impl Bench,
     deck: &mut Deck<D>,
     model: &mut Model,
     call: Call<'_>,
 ) -> Option<Left> {
     match call {
-        Call::Commit(count, touches) => commit(rt, alloc, deck, model, (count, touches)),
-        Call::Checkpoint => checkpoint(rt, deck, model),
-        Call::Write(home, contents) => write(rt, deck, model, home, contents),
+        Call::Commit(count, touches) => commit(test, deck, model, (count, touches)),
+        Call::Handles(handles) => {
+            let touches = touches_of(test, handles);
+            commit(test, deck, model, (handles.len(), &touches))
+        }
+        Call::Checkpoint => checkpoint(test, deck, model),
+        Call::Write(home, contents) => write(test, deck, model, home, contents),
     }
 }
 
 /// Checkpoints the oldest transaction; after a fault, what a crash may leave.
-fn checkpoint<D: Disk>(rt: &impl Abort, deck: &mut Deck<D>, model: &mut Model) -> Option<Left> {
+fn checkpoint<D: Disk>(test: &impl Test, deck: &mut Deck<D>, model: &mut Model) -> Option<Left> {
     let stood = model.standing();
     let is = model.checkpoint();
     match deck.checkpoint_one() {
         Ok(_) if is => None,
         Err(CheckpointFault::Nothing) if !is => None,
         Err(CheckpointFault::DeviceFault) if is => Some(only(stood)),
-        _ => fail(rt, "the checkpoint"),
+        _ => fail(test, "the checkpoint"),
     }
 }
 
 /// Writes these contents to a home; after a fault, what a crash may leave.
 fn write<D: Disk>(
-    rt: &impl Abort,
+    test: &impl Test,
     deck: &mut Deck<D>,
     model: &mut Model,
     home: usize,
@@ -223,6 +229,6 @@ fn write<D: Disk>(
             left.torn = Some((home, number));
             Some(left)
         }
-        _ => fail(rt, "the written home"),
+        _ => fail(test, "the written home"),
     }
 }

@@ -1,13 +1,14 @@
 //! Journals that are opened, and that are refused.
 
-use crate::images::{BLOCKS, MAGIC, Row, check_in, check_none, difference, small};
+use crate::checks::By;
+use crate::images::{BLOCKS, Label, MAGIC, Row, small};
 use crate::scripts::opened;
 use jb_block::{BlockSize, Width};
 use jb_deck::{CheckpointFault, Deck, FreeFault, OpenFault};
 use jb_disk::{Disk, MemoryDisk};
 use jb_super::SuperFault;
 use std::alloc::Global;
-use std::process::Abort;
+use tests_support::{Bench, Must, check_in, check_none, check_row, difference};
 
 const ZEROS: [u32; 4] = [0, 0, 0, 0];
 
@@ -93,86 +94,51 @@ static OPENED: [Opened; 11] = [
     ),
 ];
 
-/// A name, how many blocks the disk has, the rows of the small image that differ, and the fault.
-type Refused = (&'static str, u64, &'static [Row], OpenFault);
+/// A name, the rows of the small image that differ, and the fault.
+type Refused = (Label, &'static [Row], OpenFault);
 
-static REFUSED: [Refused; 14] = [
-    ("no block", 0, &[], OpenFault::Super(SuperFault::ShortBlock)),
-    (
-        "a disk that is cut",
-        20,
-        &[(9, 0, [MAGIC, 2, 7, 0])],
-        OpenFault::Super(SuperFault::Geometry),
-    ),
-    (
-        "zeros",
-        BLOCKS,
-        &[(0, 0, ZEROS)],
-        OpenFault::Super(SuperFault::NoMagic),
-    ),
-    (
-        "version 1",
-        BLOCKS,
-        &[(0, 0, [MAGIC, 3, 0, 1024])],
-        OpenFault::Super(SuperFault::NotVersion2(3)),
-    ),
-    (
-        "a block size that none has",
-        BLOCKS,
-        &[(0, 0, [MAGIC, 4, 0, 512])],
-        OpenFault::Super(SuperFault::BlockSize(512)),
-    ),
-    (
-        "another block size than the disk's",
-        BLOCKS,
-        &[(0, 0, [MAGIC, 4, 0, 2048])],
-        OpenFault::Super(SuperFault::BlockSize(2048)),
-    ),
-    (
-        "a log of seven blocks",
-        BLOCKS,
-        &[(0, 0x10, [8, 1, 1, 0])],
-        OpenFault::Super(SuperFault::Geometry),
-    ),
-    (
-        "fast commits",
-        BLOCKS,
-        &[(0, 0x20, [0, 0, 0x10, 0])],
-        OpenFault::Super(SuperFault::Feature(2, 16)),
-    ),
-    (
-        "checksums",
-        BLOCKS,
-        &[(0, 0x20, [0, 1, 1, 0])],
-        OpenFault::Super(SuperFault::Feature(1, 1)),
-    ),
-    (
-        "read-only compatible",
-        BLOCKS,
-        &[(0, 0x20, [0, 0, 1, 4])],
-        OpenFault::Super(SuperFault::Feature(3, 4)),
-    ),
+const NO_MAGIC: OpenFault = OpenFault::Super(SuperFault::NoMagic);
+
+const VERSION_3: OpenFault = OpenFault::Super(SuperFault::NotVersion2(3));
+
+const SIZE_512: OpenFault = OpenFault::Super(SuperFault::BlockSize(512));
+
+const SIZE_2048: OpenFault = OpenFault::Super(SuperFault::BlockSize(2048));
+
+const GEOMETRY: OpenFault = OpenFault::Super(SuperFault::Geometry);
+
+const FEATURE_2_16: OpenFault = OpenFault::Super(SuperFault::Feature(2, 16));
+
+const FEATURE_1_1: OpenFault = OpenFault::Super(SuperFault::Feature(1, 1));
+
+const FEATURE_3_4: OpenFault = OpenFault::Super(SuperFault::Feature(3, 4));
+
+static REFUSED: [Refused; 12] = [
+    ("zeros", &[(0, 0, ZEROS)], NO_MAGIC),
+    ("version 1", &[(0, 0, [MAGIC, 3, 0, 1024])], VERSION_3),
+    ("no block size", &[(0, 0, [MAGIC, 4, 0, 512])], SIZE_512),
+    ("another size", &[(0, 0, [MAGIC, 4, 0, 2048])], SIZE_2048),
+    ("seven blocks", &[(0, 0x10, [8, 1, 1, 0])], GEOMETRY),
+    ("fast commits", &[(0, 0x20, [0, 0, 0x10, 0])], FEATURE_2_16),
+    ("checksums", &[(0, 0x20, [0, 1, 1, 0])], FEATURE_1_1),
+    ("read-only", &[(0, 0x20, [0, 0, 1, 4])], FEATURE_3_4),
     (
         "a log that begins",
-        BLOCKS,
         &[(0, 0x10, [33, 1, 1, 1]), (9, 0, [MAGIC, 2, 7, 0])],
         OpenFault::NeedsRecovery,
     ),
     (
         "a log that begins, with the last number",
-        BLOCKS,
         &[(0, 0x10, [33, 1, 4294967295, 32])],
         OpenFault::NeedsRecovery,
     ),
     (
         "no number left",
-        BLOCKS,
         &[(0, 0x10, [33, 1, 4294967295, 0]), (9, 0, [MAGIC, 2, 0, 0])],
         OpenFault::NumbersSpent,
     ),
     (
         "a feature that is refused, and no number left",
-        BLOCKS,
         &[(0, 0x10, [33, 1, 4294967295, 0]), (0, 0x20, [0, 0, 8, 0])],
         OpenFault::Super(SuperFault::Feature(2, 8)),
     ),
@@ -198,48 +164,30 @@ fn is_idle(deck: &mut Deck<MemoryDisk>) -> bool {
 }
 
 /// The disk of a journal that is opened, says this of itself, and is closed.
-pub fn closed(
-    rt: &impl Abort,
-    alloc: Global,
-    row: &'static str,
-    disk: MemoryDisk,
-    told: Told,
-) -> MemoryDisk {
-    let mut deck = opened(alloc, disk).expect(rt, row);
-    check_in(
-        rt,
-        is_new(&mut deck, told),
-        row,
-        "what it says of itself",
-        0,
-    );
+pub fn closed(test: &impl Bench, row: Label, disk: MemoryDisk, told: Told) -> MemoryDisk {
+    let mut deck = opened(test.alloc(), disk).must(test, row);
+    let is_so = is_new(&mut deck, told);
+    check_row(test, is_so, row, "what it says of itself");
     deck.close()
 }
 
 /// Checks that the disk of a row is the small image with these rows and then those.
-fn check_blocks(
-    rt: &impl Abort,
-    alloc: Global,
-    row: &'static str,
-    disk: &mut MemoryDisk,
-    rows: &[Row],
-    after: &[Row],
-) {
-    let mut wanted = small(rt, alloc, disk.blocks(), rows, after);
-    check_none(rt, row, "block", difference(rt, disk, &mut wanted, 0))
+fn check_blocks(test: &impl Bench, row: Label, disk: &mut MemoryDisk, rows: &[Row], after: &[Row]) {
+    let mut wanted = small(test, disk.blocks(), rows, after);
+    check_none(test, row, "block", difference(test, disk, &mut wanted, 0))
 }
 
 /// Checks the journal of an image, and what opening it changes.
-fn check_opened(rt: &impl Abort, alloc: Global, of: &Opened) {
+fn check_opened(test: &impl Bench, of: &Opened) {
     let (row, rows, told, after) = *of;
-    let mut disk = closed(rt, alloc, row, small(rt, alloc, BLOCKS, rows, &[]), told);
-    check_blocks(rt, alloc, row, &mut disk, rows, after)
+    let mut disk = closed(test, row, small(test, BLOCKS, rows, &[]), told);
+    check_blocks(test, row, &mut disk, rows, after)
 }
 
 #[test]
 fn journals_are_opened_as_worked_by_hand(rt: HostRuntime) {
     for row in &OPENED {
-        check_opened(&rt, rt.alloc(), row);
+        check_opened(&By(&rt, rt.alloc()), row);
     }
 }
 
@@ -249,28 +197,33 @@ fn refusal(alloc: Global, disk: MemoryDisk) -> Option<(MemoryDisk, OpenFault)> {
 }
 
 /// The disk of a journal that is refused for this fault.
-pub fn refused(
-    rt: &impl Abort,
-    alloc: Global,
-    row: &'static str,
-    disk: MemoryDisk,
-    fault: OpenFault,
-) -> MemoryDisk {
-    let (disk, told) = refusal(alloc, disk).expect(rt, row);
-    check_in(rt, told == fault, row, "the refusal", 0);
+pub fn refused(test: &impl Bench, row: Label, disk: MemoryDisk, fault: OpenFault) -> MemoryDisk {
+    let (disk, told) = refusal(test.alloc(), disk).must(test, row);
+    check_in(test, told == fault, row, "the refusal", 0);
     disk
 }
 
-/// Checks that a journal is refused, and stays as it was.
-fn check_refused(rt: &impl Abort, alloc: Global, of: &Refused) {
-    let (row, blocks, rows, fault) = *of;
-    let mut disk = refused(rt, alloc, row, small(rt, alloc, blocks, rows, &[]), fault);
-    check_blocks(rt, alloc, row, &mut disk, rows, &[])
+/// Checks that a journal on a disk of so many blocks is refused, and stays as it was.
+fn check_refused(test: &impl Bench, blocks: u64, of: &Refused) {
+    let (row, rows, fault) = *of;
+    let mut disk = refused(test, row, small(test, blocks, rows, &[]), fault);
+    check_blocks(test, row, &mut disk, rows, &[])
 }
+
+/// Checks each refusal, and those of disks without a block and with too few.
+fn check_refusals(test: &impl Bench) {
+    for of in &REFUSED {
+        check_refused(test, BLOCKS, of);
+    }
+    let short = OpenFault::Super(SuperFault::ShortBlock);
+    check_refused(test, 0, &("no block", &[], short));
+    check_refused(test, 20, &("a disk that is cut", &LATER, GEOMETRY))
+}
+
+/// A block of a later number.
+static LATER: [Row; 1] = [(9, 0, [MAGIC, 2, 7, 0])];
 
 #[test]
 fn journals_are_refused_and_stay(rt: HostRuntime) {
-    for row in &REFUSED {
-        check_refused(&rt, rt.alloc(), row);
-    }
+    check_refusals(&By(&rt, rt.alloc()))
 }

@@ -1,8 +1,9 @@
 //! Home blocks are read as they stand, beside the plain model of them.
 
+use crate::checks::By;
 use crate::contents::fill;
 use crate::draws::{Odds, Seed, call_at_random, image_at_random};
-use crate::images::{BLOCKS, HOMES, Row, check, check_at, small};
+use crate::images::{BLOCKS, HOMES, Row, small};
 use crate::lives::make_call;
 use crate::model::{Homes, Model};
 use crate::scripts::{Refusal, Step, check_steps, opening};
@@ -10,8 +11,7 @@ use crate::stops::{SCRIPT, before};
 use jb_block::Width;
 use jb_deck::{Deck, ReadHomeFault};
 use jb_disk::{Disk, FuseDisk, OneFaultDisk};
-use std::alloc::Global;
-use std::process::Abort;
+use tests_support::{Bench, Must, Test, check, check_at};
 
 /// How many journals are called at random, and how often each.
 const JOURNALS: u32 = 40;
@@ -40,51 +40,43 @@ fn reads_as<D: Disk>(deck: &mut Deck<D>, homes: &Homes) -> bool {
 }
 
 /// All homes of a journal at random are read as the model has them after each of these calls at random.
-fn read_one(rt: &impl Abort, alloc: Global, seed: &mut Seed, next: &mut u32, journal: u32) {
-    let image = image_at_random(rt, alloc, seed);
-    let mut deck = opening(rt, alloc, image.disk);
-    let mut model = Model::new(alloc, [0; 16], u64::from(deck.usable()));
+fn read_one(test: &impl Bench, seed: &mut Seed, journal: u32) {
+    let image = image_at_random(test, seed);
+    let mut deck = opening(test, image.disk);
+    let mut model = Model::new(test.alloc(), [0; 16], u64::from(deck.usable()));
     for _ in 0..CALLS {
-        let met = call_at_random(rt, alloc, seed, next, &mut deck, &mut model, ODDS);
+        let met = call_at_random(test, seed, &mut deck, &mut model, ODDS);
         let is_read = met.is_none() && reads_as(&mut deck, &model.standing());
-        check_at(
-            rt,
-            is_read,
-            "a home after a call at random of journal",
-            u64::from(journal),
-        );
+        check_at(test, is_read, "a home of journal", u64::from(journal));
     }
 }
 
 /// So are those of each journal at random.
-fn read_each(rt: &impl Abort, alloc: Global) {
-    let (mut seed, mut next) = (Seed { state: 5 }, 1);
+fn read_each(test: &impl Bench) {
+    let mut seed = Seed::of(5);
     for journal in 0..JOURNALS {
-        read_one(rt, alloc, &mut seed, &mut next, journal);
+        read_one(test, &mut seed, journal);
     }
 }
 
 /// The script is called on the image before it; all homes are read as the model has them before it, and after each of
 /// its calls.
-fn read_script(rt: &impl Abort, alloc: Global) {
-    let mut deck = opening(rt, alloc, before(rt, alloc));
-    let mut model = Model::new(alloc, [0; 16], u64::from(deck.usable()));
-    check(
-        rt,
-        reads_as(&mut deck, &model.standing()),
-        "a home before the script",
-    );
+fn read_script(test: &impl Bench) {
+    let mut deck = opening(test, before(test));
+    let mut model = Model::new(test.alloc(), [0; 16], u64::from(deck.usable()));
+    let is_read = reads_as(&mut deck, &model.standing());
+    check(test, is_read, "a home before the script");
     for (i, call) in SCRIPT.iter().enumerate() {
-        let met = make_call(rt, alloc, &mut deck, &mut model, *call);
+        let met = make_call(test, &mut deck, &mut model, *call);
         let is_read = met.is_none() && reads_as(&mut deck, &model.standing());
-        check_at(rt, is_read, "a home after the script's call", i as u64);
+        check_at(test, is_read, "a home after the script's call", i as u64);
     }
 }
 
 #[test]
 fn every_home_is_read_as_it_stands_after_every_call(rt: HostRuntime) {
-    read_script(&rt, rt.alloc());
-    read_each(&rt, rt.alloc())
+    read_script(&By(&rt, rt.alloc()));
+    read_each(&By(&rt, rt.alloc()))
 }
 
 /// A name, a home, how long the buffer is, and the answer, on the small image with sixteen homes.
@@ -119,45 +111,41 @@ static FIVE: [Row; 1] = [(HOMES + 5, 0, [5, 5, 5, 5])];
 
 /// How a read of so many bytes ends.
 fn read_into<D: Disk>(
-    rt: &impl Abort,
-    alloc: Global,
+    test: &impl Bench,
     deck: &mut Deck<D>,
     home: u64,
     len: usize,
 ) -> Result<(), ReadHomeFault> {
-    let mut bytes = vec![in alloc; 3; len].expect(rt, "memory");
+    let mut bytes = vec![in test.alloc(); 3; len].must(test, "memory");
     deck.read_home(home, &mut bytes)
 }
 
 /// Two reads of home 5, of which the first meets a fault: the journal has not failed, and the second one has its bytes.
-fn read_twice<D: Disk>(rt: &impl Abort, deck: &mut Deck<D>) {
+fn read_twice<D: Disk>(test: &impl Test, deck: &mut Deck<D>) {
     let mut block = [0; 1024];
     let first = deck.read_home(5, &mut block);
-    check(
-        rt,
-        first == Err(ReadHomeFault::DeviceFault),
-        "the read that meets a fault",
-    );
-    check(rt, !deck.aborted(), "the journal fails by a read");
+    let is_fault = first == Err(ReadHomeFault::DeviceFault);
+    check(test, is_fault, "the read that meets a fault");
+    check(test, !deck.aborted(), "the journal fails by a read");
     let second = deck.read_home(5, &mut block);
     let has_bytes = block.starts_with(&[0, 0, 0, 5, 0, 0, 0, 5]);
-    check(rt, second == Ok(()) && has_bytes, "the read after a fault")
+    check(test, second == Ok(()) && has_bytes, "the read after it")
 }
 
 /// Each of these reads of a journal on this disk is refused so; then home 5 is read twice.
-fn refuse_on<D: Disk + Drop>(rt: &impl Abort, alloc: Global, disk: D) {
-    let mut deck = opening(rt, alloc, disk);
+fn refuse_on<D: Disk + Drop>(test: &impl Bench, disk: D) {
+    let mut deck = opening(test, disk);
     for (row, home, len, fault) in &REFUSALS {
-        let told = read_into(rt, alloc, &mut deck, *home, *len);
-        check(rt, told == Err(*fault), row);
+        let told = read_into(test, &mut deck, *home, *len);
+        check(test, told == Err(*fault), row);
     }
-    read_twice(rt, &mut deck)
+    read_twice(test, &mut deck)
 }
 
 #[test]
 fn a_read_is_refused_in_order_and_a_fault_of_it_is_not_the_journals(rt: HostRuntime) {
-    let disk = small(&rt, rt.alloc(), BLOCKS, &FIVE, &[]);
-    refuse_on(&rt, rt.alloc(), OneFaultDisk::of(disk, OPENED))
+    let disk = small(&By(&rt, rt.alloc()), BLOCKS, &FIVE, &[]);
+    refuse_on(&By(&rt, rt.alloc()), OneFaultDisk::of(disk, OPENED))
 }
 
 /// A commit that fails. A checkpoint with nothing live makes no call of the disk, a commit does.
@@ -169,19 +157,16 @@ static FAILS: [Step; 1] = [Step::Refuses(
 )];
 
 /// A commit of a journal on this disk fails, and then a read.
-fn fail_on<D: Disk + Drop>(rt: &impl Abort, alloc: Global, disk: D) {
-    let mut deck = opening(rt, alloc, disk);
-    check_steps(rt, alloc, "a journal that fails", &mut deck, &FAILS);
+fn fail_on<D: Disk + Drop>(test: &impl Bench, disk: D) {
+    let mut deck = opening(test, disk);
+    check_steps(test, "a journal that fails", &mut deck, &FAILS);
     let told = deck.read_home(16, &mut [0; 1024]);
-    check(
-        rt,
-        told == Err(ReadHomeFault::Aborted),
-        "the read of a journal that failed",
-    )
+    let is_refused = told == Err(ReadHomeFault::Aborted);
+    check(test, is_refused, "the read of a journal that failed")
 }
 
 #[test]
 fn a_journal_that_failed_refuses_each_read(rt: HostRuntime) {
-    let disk = small(&rt, rt.alloc(), BLOCKS, &FIVE, &[]);
-    fail_on(&rt, rt.alloc(), FuseDisk::of(disk, OPENED))
+    let disk = small(&By(&rt, rt.alloc()), BLOCKS, &FIVE, &[]);
+    fail_on(&By(&rt, rt.alloc()), FuseDisk::of(disk, OPENED))
 }

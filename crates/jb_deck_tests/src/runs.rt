@@ -2,15 +2,14 @@
 
 use crate::contents::{Left, only};
 use crate::frames::{Frame, Wanted};
-use crate::images::{check, fail};
+use crate::images::HOMES;
 use crate::lives::{Call, make_call};
 use crate::model::Model;
 use crate::scripts::{Refusal, Step, check_steps};
 use jb_block::Width;
 use jb_deck::{CheckpointFault, Deck, FreeFault, OpenFault};
 use jb_disk::{Disk, FuseDisk, MemoryDisk, OneFaultDisk};
-use std::alloc::Global;
-use std::process::Abort;
+use tests_support::{Bench, check, fail};
 
 /// A disk, and whether what was run on it ended before the disk failed.
 #[derive(Drop)]
@@ -27,46 +26,39 @@ static ABORTED: [Step; 3] = [
 ];
 
 /// A journal that is aborted refuses each call.
-fn refuse_each<D: Disk>(rt: &impl Abort, alloc: Global, deck: &mut Deck<D>) {
+fn refuse_each<D: Disk>(test: &impl Bench, deck: &mut Deck<D>) {
     let is_aborted = deck.aborted() && deck.checkpoint_one() == Err(CheckpointFault::Aborted);
-    check(rt, is_aborted, "it is not aborted");
-    check_steps(rt, alloc, "a journal that is aborted", deck, &ABORTED)
+    check(test, is_aborted, "it is not aborted");
+    check_steps(test, "a journal that is aborted", deck, &ABORTED)
 }
 
 /// Runs a script on a disk up to its first fault. `left` is what a crash may leave, before and after.
-fn run<D: Disk + Drop>(
-    rt: &impl Abort,
-    alloc: Global,
-    disk: D,
-    script: &[Call<'_>],
-    left: &mut Left,
-) -> Ran<D> {
-    let mut deck = match Deck::open(alloc, disk) {
+fn run<D: Disk + Drop>(test: &impl Bench, disk: D, script: &[Call<'_>], left: &mut Left) -> Ran<D> {
+    let mut deck = match Deck::open(test.alloc(), disk) {
         Ok(deck) => deck,
         Err((disk, OpenFault::DeviceFault)) => {
             return Ran { disk, ended: false };
         }
-        Err(_) => return fail(rt, "it is not opened"),
+        Err(_) => return fail(test, "it is not opened"),
     };
-    let mut model = Model::new(alloc, left.was, u64::from(deck.usable()));
-    let ended = run_with(rt, alloc, &mut deck, &mut model, script, left);
+    let mut model = Model::new(test.alloc(), left.was, u64::from(deck.usable()));
+    let ended = run_with(test, &mut deck, &mut model, script, left);
     let disk = deck.close();
     Ran { disk, ended }
 }
 
 /// Calls a journal by a script up to its first fault, after which it refuses each call; whether it met none.
 fn run_with<D: Disk>(
-    rt: &impl Abort,
-    alloc: Global,
+    test: &impl Bench,
     deck: &mut Deck<D>,
     model: &mut Model,
     script: &[Call<'_>],
     left: &mut Left,
 ) -> bool {
     for next in script {
-        if let Some(met) = make_call(rt, alloc, deck, model, *next) {
+        if let Some(met) = make_call(test, deck, model, *next) {
             *left = met;
-            refuse_each(rt, alloc, deck);
+            refuse_each(test, deck);
             return false;
         }
     }
@@ -83,24 +75,13 @@ pub struct Stop {
 }
 
 /// Runs a script on a disk whose log begins at block 1, whose homes are zeros, and which makes so many calls.
-pub fn run_to(
-    rt: &impl Abort,
-    alloc: Global,
-    before: MemoryDisk,
-    calls: u64,
-    script: &[Call<'_>],
-) -> Stop {
+pub fn run_to(test: &impl Bench, before: MemoryDisk, calls: u64, script: &[Call<'_>]) -> Stop {
     let mut disk = before;
-    let frame = Frame::of(rt, alloc, &mut disk, 1);
+    let frame = Frame::of(test, &mut disk, 1);
     let left = only([0; 16]);
-    let mut wanted = Wanted { left, frame };
-    let ran = run(
-        rt,
-        alloc,
-        FuseDisk::of(disk, calls),
-        script,
-        &mut wanted.left,
-    );
+    let homes = HOMES;
+    let mut wanted = Wanted { left, frame, homes };
+    let ran = run(test, FuseDisk::of(disk, calls), script, &mut wanted.left);
     Stop {
         disk: ran.disk.into_inner(),
         wanted,
@@ -110,14 +91,13 @@ pub fn run_to(
 
 /// Runs a script on a disk that fails one call: the disk, and whether it met none.
 pub fn run_over(
-    rt: &impl Abort,
-    alloc: Global,
+    test: &impl Bench,
     before: MemoryDisk,
     call: u64,
     script: &[Call<'_>],
 ) -> Ran<MemoryDisk> {
     let mut left = only([0; 16]);
-    let ran = run(rt, alloc, OneFaultDisk::of(before, call), script, &mut left);
+    let ran = run(test, OneFaultDisk::of(before, call), script, &mut left);
     Ran {
         disk: ran.disk.into_inner(),
         ended: ran.ended,

@@ -1,7 +1,7 @@
 //! Calls of a journal, with the answers that are worked out by hand.
 
 use crate::groups::STAMP;
-use crate::images::{check_in, put_words};
+use crate::images::Label;
 use crate::words::says;
 use jb_block::{BlockSize, Width};
 use jb_deck::{
@@ -12,7 +12,7 @@ use jb_disk::Disk;
 use jb_handle::{Shape, Stopped, Word};
 use jb_queue::read_queue;
 use std::alloc::Global;
-use std::process::Abort;
+use tests_support::{Bench, Must, check_in, put_words};
 
 /// A shape that a batch is made for: how many homes, which limit, and how wide block numbers are.
 pub type Made = (u64, u32, Width);
@@ -60,11 +60,15 @@ pub enum Refusal {
 pub type Kept = (u64, Shape, usize, usize, u64);
 
 /// The handles of these lines, with tickets from `first` on.
-pub fn handles_of(rt: &impl Abort, alloc: Global, lines: &str, first: u64) -> Vec<Stopped> {
-    let mut text = b"bs 1024\nlimit 8\n".to_vec(alloc).expect(rt, "memory");
+pub fn handles_of(test: &impl Bench, lines: &str, first: u64) -> Vec<Stopped> {
+    let mut text = b"bs 1024\nlimit 8\n"
+        .to_vec(test.alloc())
+        .must(test, "memory");
     text.extend_from_slice(lines.as_bytes())
-        .expect(rt, "memory");
-    let mut handles = read_queue(alloc, &text).expect(rt, "a queue").handles;
+        .must(test, "memory");
+    let mut handles = read_queue(test.alloc(), &text)
+        .must(test, "a queue")
+        .handles;
     for handle in &mut handles {
         handle.ticket = handle.ticket.saturating_add(first);
     }
@@ -128,8 +132,8 @@ pub fn opened<D: Disk + Drop>(alloc: Global, disk: D) -> Option<Deck<D>> {
 }
 
 /// The journal on a disk.
-pub fn opening<D: Disk + Drop>(rt: &impl Abort, alloc: Global, disk: D) -> Deck<D> {
-    opened(alloc, disk).expect(rt, "it is not opened")
+pub fn opening<D: Disk + Drop>(test: &impl Bench, disk: D) -> Deck<D> {
+    opened(test.alloc(), disk).must(test, "it is not opened")
 }
 
 /// The ticket of the next handle.
@@ -179,32 +183,21 @@ pub fn settles<D: Disk>(
 }
 
 /// Whether the groups of the handles of these lines are these.
-fn commits<D: Disk>(
-    rt: &impl Abort,
-    alloc: Global,
-    deck: &mut Deck<D>,
-    lines: &str,
-    entries: &[Told],
-) -> bool {
-    let handles = handles_of(rt, alloc, lines, next_ticket(deck));
-    settles(alloc, deck, handles, entries)
+fn commits<D: Disk>(test: &impl Bench, deck: &mut Deck<D>, lines: &str, entries: &[Told]) -> bool {
+    let handles = handles_of(test, lines, next_ticket(deck));
+    settles(test.alloc(), deck, handles, entries)
 }
 
 /// Whether so many bytes that are written to a home are answered so.
 fn writes<D: Disk>(
-    rt: &impl Abort,
-    alloc: Global,
+    test: &impl Bench,
     deck: &mut Deck<D>,
     home: u64,
     len: usize,
     answer: Result<(), FreeFault>,
 ) -> bool {
-    let mut bytes = vec![in alloc; 0; len].expect(rt, "memory");
-    put_words(
-        &mut bytes,
-        0,
-        &[0x7777_7777, 0x7777_7777, 0x7777_7777, 0x7777_7777],
-    );
+    let mut bytes = vec![in test.alloc(); 0; len].must(test, "memory");
+    put_words(&mut bytes, 0, &[0x7777_7777; 4]);
     deck.write_free(home, &bytes) == answer
 }
 
@@ -223,8 +216,7 @@ fn is_refused<D: Disk>(alloc: Global, deck: &mut Deck<D>, batch: Prepared, why: 
 
 /// Whether a batch for this shape is refused so, and handed back as it was where it is not lost.
 pub fn refuses<D: Disk>(
-    rt: &impl Abort,
-    alloc: Global,
+    test: &impl Bench,
     deck: &mut Deck<D>,
     first: u64,
     made: Made,
@@ -241,8 +233,8 @@ pub fn refuses<D: Disk>(
         limit,
         width,
     };
-    match prepared(alloc, first, handles_of(rt, alloc, lines, first), shape) {
-        Some(batch) => is_refused(alloc, deck, batch, why),
+    match prepared(test.alloc(), first, handles_of(test, lines, first), shape) {
+        Some(batch) => is_refused(test.alloc(), deck, batch, why),
         None => false,
     }
 }
@@ -266,13 +258,13 @@ fn takes<D: Disk>(deck: &mut Deck<D>, past: u64, entries: &[Told]) -> bool {
 }
 
 /// Whether a call answers so.
-fn answers<D: Disk>(rt: &impl Abort, alloc: Global, deck: &mut Deck<D>, step: &Step) -> bool {
+fn answers<D: Disk>(test: &impl Bench, deck: &mut Deck<D>, step: &Step) -> bool {
     match *step {
-        Step::Commits(lines, entries) => commits(rt, alloc, deck, lines, entries),
-        Step::Refuses(first, made, lines, why) => refuses(rt, alloc, deck, first, made, lines, why),
+        Step::Commits(lines, entries) => commits(test, deck, lines, entries),
+        Step::Refuses(first, made, lines, why) => refuses(test, deck, first, made, lines, why),
         Step::Checkpoints(number, blocks) => { checkpoints(deck, Ok(Checked { number, blocks })) }
         Step::Idle => checkpoints(deck, Err(CheckpointFault::Nothing)),
-        Step::Writes(home, len, answer) => writes(rt, alloc, deck, home, len, answer),
+        Step::Writes(home, len, answer) => writes(test, deck, home, len, answer),
         Step::Word(home, copy) => has_word(deck, home, copy),
         Step::Takes(past, entries) => takes(deck, past, entries),
         Step::Ends(trail, next) => are(deck.trail(), trail) && deck.next_number() == next,
@@ -281,14 +273,8 @@ fn answers<D: Disk>(rt: &impl Abort, alloc: Global, deck: &mut Deck<D>, step: &S
 }
 
 /// Makes these calls of the journal of a row, each of which answers so.
-pub fn check_steps<D: Disk>(
-    rt: &impl Abort,
-    alloc: Global,
-    row: &'static str,
-    deck: &mut Deck<D>,
-    steps: &[Step],
-) {
+pub fn check_steps<D: Disk>(test: &impl Bench, row: Label, deck: &mut Deck<D>, steps: &[Step]) {
     for (i, step) in steps.iter().enumerate() {
-        check_in(rt, answers(rt, alloc, deck, step), row, "step", i as u64);
+        check_in(test, answers(test, deck, step), row, "step", i as u64);
     }
 }

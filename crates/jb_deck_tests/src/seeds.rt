@@ -1,16 +1,15 @@
 //! Journals of any size that are called at random and lose their power at random, again and again: each image that a
 //! crash leaves recovers to homes that the plain model has, also where recovery loses its power.
 
+use crate::checks::By;
 use crate::contents::{Left, holds, only};
 use crate::draws::{Image, Odds, Seed, call_at_random, image_at_random};
 use crate::frames::{Frame, Wanted};
-use crate::images::{check, crashed, fail};
 use crate::model::{Homes, Model};
 use crate::stops;
 use jb_deck::{Deck, OpenFault};
 use jb_disk::{Disk, FuseDisk, MemoryDisk};
-use std::alloc::Global;
-use std::process::Abort;
+use tests_support::{Bench, Test, check, crashed, fail};
 
 /// How many images that a crash left are recovered. By hand it takes a million too.
 const CRASHES: u64 = 10_000;
@@ -32,15 +31,13 @@ const IMAGES: u32 = 3;
 
 /// Calls a journal at random; after a fault, what a crash may leave.
 fn live<D: Disk>(
-    rt: &impl Abort,
-    alloc: Global,
+    test: &impl Bench,
     seed: &mut Seed,
-    next: &mut u32,
     deck: &mut Deck<D>,
     model: &mut Model,
 ) -> Left {
     for _ in 0..CALLS {
-        if let Some(left) = call_at_random(rt, alloc, seed, next, deck, model, ODDS) {
+        if let Some(left) = call_at_random(test, seed, deck, model, ODDS) {
             return left;
         }
     }
@@ -64,82 +61,64 @@ fn choice(seed: &mut Seed) -> [u32; 128] {
 }
 
 /// What one more crash leaves of a disk whose recovery loses its power.
-fn stopped(rt: &impl Abort, alloc: Global, seed: &mut Seed, disk: &MemoryDisk) -> MemoryDisk {
-    let once = stops::stopped(rt, alloc, disk, u64::from(seed.below(160)));
-    crashed(rt, &once.disk, &choice(seed))
+fn stopped(test: &impl Bench, seed: &mut Seed, disk: &MemoryDisk) -> MemoryDisk {
+    let once = stops::stopped(test, disk, u64::from(seed.below(160)));
+    crashed(test, &once.disk, &choice(seed))
 }
 
 /// What a crash leaves of a disk, recovered; one recovery in two loses its power first. It is as wanted.
-fn recovered(
-    rt: &impl Abort,
-    alloc: Global,
-    seed: &mut Seed,
-    disk: &MemoryDisk,
-    homes: u64,
-    wanted: &Wanted,
-) -> MemoryDisk {
-    let mut image = crashed(rt, disk, &choice(seed));
-    let is_kept = wanted.frame.is_kept(rt, alloc, &mut image);
-    check(rt, is_kept, "what stands before the log has changed");
+fn recovered(test: &impl Bench, seed: &mut Seed, disk: &MemoryDisk, wanted: &Wanted) -> MemoryDisk {
+    let mut image = crashed(test, disk, &choice(seed));
+    let is_kept = wanted.frame.is_kept(test, &mut image);
+    check(test, is_kept, "what stands before the log has changed");
     if seed.below(2) == 0 {
-        image = stopped(rt, alloc, seed, &image);
+        image = stopped(test, seed, &image);
     }
-    wanted.mend(rt, alloc, &mut image, homes, homes);
+    wanted.mend(test, &mut image, wanted.homes);
     image
 }
 
 /// One life of a journal on a disk, until its power goes: the disk. `left` is what a crash may leave, before and after.
-fn live_on<D: Disk + Drop>(
-    rt: &impl Abort,
-    alloc: Global,
-    seed: &mut Seed,
-    next: &mut u32,
-    disk: D,
-    left: &mut Left,
-) -> D {
-    match Deck::open(alloc, disk) {
-        Ok(deck) => live_with(rt, alloc, seed, next, deck, left),
+fn live_on<D: Disk + Drop>(test: &impl Bench, seed: &mut Seed, disk: D, left: &mut Left) -> D {
+    match Deck::open(test.alloc(), disk) {
+        Ok(deck) => live_with(test, seed, deck, left),
         Err((disk, OpenFault::DeviceFault)) => disk,
-        Err(_) => fail(rt, "it is not opened"),
+        Err(_) => fail(test, "it is not opened"),
     }
 }
 
 /// The life of a journal that is opened, on homes of which only one state may be left.
 fn live_with<D: Disk + Drop>(
-    rt: &impl Abort,
-    alloc: Global,
+    test: &impl Bench,
     seed: &mut Seed,
-    next: &mut u32,
     opened: Deck<D>,
     left: &mut Left,
 ) -> D {
     let mut deck = opened;
-    let mut model = Model::new(alloc, left.was, u64::from(deck.usable()));
-    *left = live(rt, alloc, seed, next, &mut deck, &mut model);
+    let mut model = Model::new(test.alloc(), left.was, u64::from(deck.usable()));
+    *left = live(test, seed, &mut deck, &mut model);
     deck.close()
 }
 
 /// Recovers each of the images that a crash leaves; the last one of them.
 fn last_recovered(
-    rt: &impl Abort,
-    alloc: Global,
+    test: &impl Bench,
     seed: &mut Seed,
     disk: &MemoryDisk,
-    homes: u64,
     wanted: &Wanted,
 ) -> MemoryDisk {
     for _ in 1..IMAGES {
-        let _found = recovered(rt, alloc, seed, disk, homes, wanted);
+        let _found = recovered(test, seed, disk, wanted);
     }
-    recovered(rt, alloc, seed, disk, homes, wanted)
+    recovered(test, seed, disk, wanted)
 }
 
 /// What the homes of a recovered disk hold, or none where the sectors of one are of two contents.
-fn known(rt: &impl Abort, disk: &mut MemoryDisk, homes: u64, left: &Left) -> Option<Homes> {
-    if holds(rt, disk, homes, &left.was, None) {
+fn known(test: &impl Test, disk: &mut MemoryDisk, homes: u64, left: &Left) -> Option<Homes> {
+    if holds(test, disk, homes, &left.was, None) {
         return Some(left.was);
     }
-    if holds(rt, disk, homes, &left.becomes, None) {
+    if holds(test, disk, homes, &left.becomes, None) {
         return Some(left.becomes);
     }
     None
@@ -148,35 +127,24 @@ fn known(rt: &impl Abort, disk: &mut MemoryDisk, homes: u64, left: &Left) -> Opt
 /// One life of a journal on a disk that has the wanted homes, until its power goes; what is wanted then, and the last
 /// of the images that are recovered.
 fn last_of_life(
-    rt: &impl Abort,
-    alloc: Global,
+    test: &impl Bench,
     seed: &mut Seed,
-    next: &mut u32,
     disk: MemoryDisk,
-    homes: u64,
     wanted: &mut Wanted,
 ) -> MemoryDisk {
     let fuse = FuseDisk::of(disk, u64::from(seed.below(200)));
-    let fuse = live_on(rt, alloc, seed, next, fuse, &mut wanted.left);
-    last_recovered(rt, alloc, seed, &fuse.into_inner(), homes, wanted)
+    let fuse = live_on(test, seed, fuse, &mut wanted.left);
+    last_recovered(test, seed, &fuse.into_inner(), wanted)
 }
 
 /// Lives of a journal on one disk, until the homes of one are known no more; how many images were recovered.
-fn lives_on(
-    rt: &impl Abort,
-    alloc: Global,
-    seed: &mut Seed,
-    next: &mut u32,
-    disk: MemoryDisk,
-    homes: u64,
-    wanted: &mut Wanted,
-) -> u64 {
+fn lives_on(test: &impl Bench, seed: &mut Seed, disk: MemoryDisk, wanted: &mut Wanted) -> u64 {
     let mut last = disk;
     let mut crashes: u64 = 0;
     for _ in 0..LIVES {
-        last = last_of_life(rt, alloc, seed, next, last, homes, wanted);
+        last = last_of_life(test, seed, last, wanted);
         crashes = crashes.saturating_add(u64::from(IMAGES));
-        match known(rt, &mut last, homes, &wanted.left) {
+        match known(test, &mut last, wanted.homes, &wanted.left) {
             Some(held) => wanted.left = only(held),
             None => return crashes,
         }
@@ -185,34 +153,25 @@ fn lives_on(
 }
 
 /// Lives of a journal on one image, until the homes of one are known no more; how many images were recovered.
-fn lives(rt: &impl Abort, alloc: Global, seed: &mut Seed, next: &mut u32) -> u64 {
+fn lives(test: &impl Bench, seed: &mut Seed) -> u64 {
     let Image {
         mut disk,
         gap,
         homes,
-    } = image_at_random(rt, alloc, seed);
-    let frame = Frame::of(rt, alloc, &mut disk, u64::from(gap).saturating_add(1));
+    } = image_at_random(test, seed);
+    let frame = Frame::of(test, &mut disk, u64::from(gap).saturating_add(1));
     let left = only([0; 16]);
-    lives_on(
-        rt,
-        alloc,
-        seed,
-        next,
-        disk,
-        homes,
-        &mut Wanted { left, frame },
-    )
+    lives_on(test, seed, disk, &mut Wanted { left, frame, homes })
 }
 
 #[test]
 fn journals_survive_crashes_at_random(rt: HostRuntime) {
-    let mut seed = Seed { state: 1 };
-    let mut next = 1;
+    let mut seed = Seed::of(1);
     let mut crashes: u64 = 0;
     for _ in 0..CRASHES {
         if crashes >= CRASHES {
             return;
         }
-        crashes = crashes.saturating_add(lives(&rt, rt.alloc(), &mut seed, &mut next));
+        crashes = crashes.saturating_add(lives(&By(&rt, rt.alloc()), &mut seed));
     }
 }

@@ -1,14 +1,14 @@
 //! A script of a journal's calls of which a call of the disk fails, or every one from one on; what a crash then
 //! leaves is recovered, and recovery is broken off by a crash too.
 
+use crate::checks::By;
 use crate::frames::Wanted;
-use crate::images::{BLOCKS, HOMES, Row, check_at, crashed, difference, fail, small};
+use crate::images::{BLOCKS, HOMES, Row, small};
 use crate::lives::Call;
 use crate::runs::{Ran, Stop, run_over, run_to};
 use jb_disk::{FuseDisk, MemoryDisk};
 use jb_recover::recover;
-use std::alloc::Global;
-use std::process::Abort;
+use tests_support::{Bench, check_at, crashed, difference, fail};
 
 /// More calls of the disk than the script makes, and than a recovery makes.
 const MOST: u32 = 400;
@@ -31,46 +31,14 @@ const SOME: u32 = 6;
 /// A group with an escaped copy and a freed home, which is written; home 3, which is copied, freed, written and free
 /// to the end; groups that fill the log, and some that make room and go round its end; and all are checkpointed.
 pub static SCRIPT: [Call<'static>; 15] = [
-    Call::Commit(0, &[]),
-    Call::Commit(1, &[(0, 5, Some(7)), (0, 7, None)]),
+    Call::Handles(&[]),
+    Call::Handles(&[(&[5], 2, &[7])]),
     Call::Write(7, 8),
-    Call::Commit(
-        1,
-        &[
-            (0, 0, Some(20)),
-            (0, 1, Some(21)),
-            (0, 2, Some(22)),
-            (0, 3, Some(23)),
-            (0, 4, Some(24)),
-            (0, 5, Some(25)),
-        ],
-    ),
-    Call::Commit(
-        2,
-        &[
-            (0, 0, Some(30)),
-            (0, 1, Some(31)),
-            (0, 2, Some(32)),
-            (0, 3, None),
-            (1, 4, Some(34)),
-            (1, 5, Some(35)),
-            (1, 6, Some(36)),
-            (1, 8, Some(38)),
-        ],
-    ),
+    Call::Handles(&[(&[0, 1, 2, 3, 4, 5], 20, &[])]),
+    Call::Handles(&[(&[0, 1, 2], 30, &[3]), (&[4, 5, 6, 8], 30, &[])]),
     Call::Write(3, 39),
-    Call::Commit(
-        1,
-        &[
-            (0, 0, Some(40)),
-            (0, 1, Some(41)),
-            (0, 2, Some(42)),
-            (0, 4, Some(44)),
-            (0, 5, Some(45)),
-            (0, 9, Some(49)),
-        ],
-    ),
-    Call::Commit(1, &[(0, 0, Some(50)), (0, 1, Some(51)), (0, 2, Some(52))]),
+    Call::Handles(&[(&[0, 1, 2, 4, 5, 9], 40, &[])]),
+    Call::Handles(&[(&[0, 1, 2], 50, &[])]),
     Call::Commit(
         1,
         &[
@@ -98,8 +66,8 @@ static ROWS: [Row; 5] = [
 ];
 
 /// The small image with these rows.
-pub fn before(rt: &impl Abort, alloc: Global) -> MemoryDisk {
-    small(rt, alloc, BLOCKS, &ROWS, &[])
+pub fn before(test: &impl Bench) -> MemoryDisk {
+    small(test, BLOCKS, &ROWS, &[])
 }
 
 /// The choice of this number.
@@ -122,36 +90,22 @@ fn choice(number: u32) -> [u32; SECTORS] {
 }
 
 /// Recovers what this choice leaves of a disk of this script, which is stopped after so many calls.
-pub fn mend(
-    rt: &impl Abort,
-    alloc: Global,
-    calls: u64,
-    disk: &MemoryDisk,
-    choice: &[u32],
-    wanted: &Wanted,
-) {
-    let mut image = crashed(rt, disk, choice);
-    wanted.mend(rt, alloc, &mut image, HOMES, calls)
+pub fn mend(test: &impl Bench, calls: u64, disk: &MemoryDisk, choice: &[u32], wanted: &Wanted) {
+    let mut image = crashed(test, disk, choice);
+    wanted.mend(test, &mut image, calls)
 }
 
 /// Recovers what each of the first choices leaves.
-fn mend_all(
-    rt: &impl Abort,
-    alloc: Global,
-    calls: u64,
-    disk: &MemoryDisk,
-    choices: u32,
-    wanted: &Wanted,
-) {
+fn mend_all(test: &impl Bench, calls: u64, disk: &MemoryDisk, choices: u32, wanted: &Wanted) {
     for number in 0..choices {
-        mend(rt, alloc, calls, disk, &choice(number), wanted);
+        mend(test, calls, disk, &choice(number), wanted);
     }
 }
 
 /// A recovery of what a crash left, that is stopped after so many calls.
-pub fn stopped(rt: &impl Abort, alloc: Global, disk: &MemoryDisk, calls: u64) -> Ran<MemoryDisk> {
-    let mut fuse = FuseDisk::of(crashed(rt, disk, &[]), calls);
-    let ended = recover(alloc, &mut fuse).is_ok();
+pub fn stopped(test: &impl Bench, disk: &MemoryDisk, calls: u64) -> Ran<MemoryDisk> {
+    let mut fuse = FuseDisk::of(crashed(test, disk, &[]), calls);
+    let ended = recover(test.alloc(), &mut fuse).is_ok();
     Ran {
         disk: fuse.into_inner(),
         ended,
@@ -159,11 +113,11 @@ pub fn stopped(rt: &impl Abort, alloc: Global, disk: &MemoryDisk, calls: u64) ->
 }
 
 /// How many calls the recovery of what a crash left makes.
-fn calls_of(rt: &impl Abort, alloc: Global, disk: &MemoryDisk) -> u64 {
+fn calls_of(test: &impl Bench, disk: &MemoryDisk) -> u64 {
     let mut calls: u64 = 0;
     for step in [256, 128, 64, 32, 16, 8, 4, 2, 1] {
         let further = calls.saturating_add(step);
-        if !stopped(rt, alloc, disk, further).ended {
+        if !stopped(test, disk, further).ended {
             calls = further;
         }
     }
@@ -172,65 +126,46 @@ fn calls_of(rt: &impl Abort, alloc: Global, disk: &MemoryDisk) -> u64 {
 
 /// Recovers what this choice leaves where recovery is stopped too, after any of its last calls: the ones before them
 /// only read.
-fn mend_stopped(
-    rt: &impl Abort,
-    alloc: Global,
-    calls: u64,
-    disk: &MemoryDisk,
-    choice: &[u32],
-    wanted: &Wanted,
-) {
-    let image = crashed(rt, disk, choice);
-    let all = calls_of(rt, alloc, &image);
+fn mend_stopped(test: &impl Bench, calls: u64, disk: &MemoryDisk, choice: &[u32], wanted: &Wanted) {
+    let image = crashed(test, disk, choice);
+    let all = calls_of(test, &image);
     for own in all.saturating_sub(LAST)..all {
-        let once = stopped(rt, alloc, &image, own);
-        mend_all(rt, alloc, calls, &once.disk, SOME, wanted);
+        let once = stopped(test, &image, own);
+        mend_all(test, calls, &once.disk, SOME, wanted);
     }
 }
 
 /// The script of which one call fails ends as one that is stopped there, and leaves the same disk; whether it ended.
-fn fail_alike(rt: &impl Abort, alloc: Global, call: u64, stop: &mut Stop) -> bool {
-    let mut other = run_over(rt, alloc, before(rt, alloc), call, &SCRIPT);
-    let differs = difference(rt, &mut other.disk, &mut stop.disk, 0);
+fn fail_alike(test: &impl Bench, call: u64, stop: &mut Stop) -> bool {
+    let mut other = run_over(test, before(test), call, &SCRIPT);
+    let differs = difference(test, &mut other.disk, &mut stop.disk, 0);
     let is_alike = other.ended == stop.ended && differs.is_none();
-    check_at(
-        rt,
-        is_alike,
-        "the script leaves something else where one call fails:",
-        call,
-    );
+    check_at(test, is_alike, "something else where one call fails:", call);
     stop.ended
 }
 
 /// Stops the script after so many calls; whether it ended before. What it left mends, where recovery is stopped too,
 /// and is what it leaves where that call alone fails.
-fn stop_at(rt: &impl Abort, alloc: Global, number: u32) -> bool {
+fn stop_at(test: &impl Bench, number: u32) -> bool {
     let calls = u64::from(number);
-    let mut stop = run_to(rt, alloc, before(rt, alloc), calls, &SCRIPT);
-    mend_all(rt, alloc, calls, &stop.disk, ALL, &stop.wanted);
-    mend_stopped(
-        rt,
-        alloc,
-        calls,
-        &stop.disk,
-        &choice(number % 10),
-        &stop.wanted,
-    );
-    fail_alike(rt, alloc, calls, &mut stop)
+    let mut stop = run_to(test, before(test), calls, &SCRIPT);
+    mend_all(test, calls, &stop.disk, ALL, &stop.wanted);
+    mend_stopped(test, calls, &stop.disk, &choice(number % 10), &stop.wanted);
+    fail_alike(test, calls, &mut stop)
 }
 
 /// Stops the script after every number of calls.
-fn stop_each(rt: &impl Abort, alloc: Global) {
+fn stop_each(test: &impl Bench) {
     for number in 0..MOST {
-        if stop_at(rt, alloc, number) {
+        if stop_at(test, number) {
             let calls = u64::from(number);
-            return check_at(rt, calls == 151, "calls of the whole script:", calls);
+            return check_at(test, calls == 151, "calls of the whole script:", calls);
         }
     }
-    fail(rt, "it never ends")
+    fail(test, "it never ends")
 }
 
 #[test]
 fn every_call_of_a_script_may_fail_or_be_the_last(rt: HostRuntime) {
-    stop_each(&rt, rt.alloc())
+    stop_each(&By(&rt, rt.alloc()))
 }

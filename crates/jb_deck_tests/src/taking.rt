@@ -1,15 +1,15 @@
 //! Trails that are taken from the front.
 
 use crate::cases::{Case, called_with_fault, check_cases};
+use crate::checks::By;
 use crate::images::{BLOCKS, HOMES};
-use crate::rounds::{SIX, SIX_COPIES};
+use crate::rounds::{SIX, SIX_HOMES, SIX_WORDS};
 use crate::scripts::{Refusal, Step};
 use jb_block::Width;
 
 /// Entries are taken where their groups are home and their tickets are below the one that is given; the last stays.
 static TAKINGS: [Case; 1] = [Case {
     name: "a trail that is taken",
-    blocks: BLOCKS,
     image: &[],
     steps: &[
         Step::Takes(9, &[]),
@@ -33,11 +33,11 @@ static TAKINGS: [Case; 1] = [Case {
         Step::Ends(&[(4, 5, 5, 1), (5, 6, 6, 1)], 7),
     ],
     groups: &[
-        (1, 2, &[], &SIX_COPIES),
-        (9, 3, &[], &[]),
-        (10, 4, &[], &SIX_COPIES),
-        (18, 5, &[], &[]),
-        (19, 6, &[], &[]),
+        (1, 2, &[], SIX_HOMES, SIX_WORDS),
+        (9, 3, &[], &[], &[]),
+        (10, 4, &[], SIX_HOMES, SIX_WORDS),
+        (18, 5, &[], &[], &[]),
+        (19, 6, &[], &[], &[]),
     ],
     rows: &[
         (0, 0x10, [33, 1, 5, 18]),
@@ -72,11 +72,11 @@ static FAILED: [Step; 9] = [
 
 #[test]
 fn trails_are_taken_as_worked_by_hand(rt: HostRuntime) {
-    check_cases(&rt, rt.alloc(), &TAKINGS)
+    check_cases(&By(&rt, rt.alloc()), BLOCKS, &TAKINGS)
 }
 
 #[test]
 fn a_journal_that_failed_gives_its_entries(rt: HostRuntime) {
     let row = "a journal that failed";
-    let _disk = called_with_fault(&rt, rt.alloc(), row, THIRD_COMMIT, &FAILED);
+    let _disk = called_with_fault(&By(&rt, rt.alloc()), row, THIRD_COMMIT, &FAILED);
 }

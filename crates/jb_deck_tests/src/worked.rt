@@ -1,18 +1,17 @@
 //! A script whose homes are worked out by hand, on a new journal: it is stopped after every number of calls of the disk
 //! and crashed in five ways, and the recovery of each image is stopped and crashed in the same ways.
 
+use crate::checks::By;
 use crate::contents::{EIGHT, Left};
 use crate::draws::formatted;
 use crate::frames::Wanted;
-use crate::images::{check_at, crashed, difference, fail};
 use crate::lives::Call;
 use crate::model::Homes;
 use crate::runs::run_to;
 use crate::stops::{NEW, SECTORS, mend, stopped};
 use jb_block::Width;
 use jb_disk::MemoryDisk;
-use std::alloc::Global;
-use std::process::Abort;
+use tests_support::{Bench, Test, check_at, crashed, difference, fail};
 
 /// More calls of the disk than the script makes, and than a recovery makes.
 const MOST: u64 = 400;
@@ -28,49 +27,11 @@ const UUID: [u8; 16] = [0, 1, 2, 3, 4, 5, 6, 7, 8, 9, 10, 11, 12, 13, 14, 15];
 static SCRIPT: [Call<'static>; 12] = [
     Call::Commit(1, &[(0, 5, Some(EIGHT)), (0, 7, None)]),
     Call::Write(7, 17),
-    Call::Commit(
-        1,
-        &[
-            (0, 0, Some(20)),
-            (0, 1, Some(21)),
-            (0, 2, Some(22)),
-            (0, 3, Some(23)),
-            (0, 4, Some(24)),
-            (0, 5, Some(25)),
-        ],
-    ),
-    Call::Commit(
-        1,
-        &[
-            (0, 0, Some(30)),
-            (0, 1, Some(31)),
-            (0, 2, Some(32)),
-            (0, 3, Some(33)),
-            (0, 4, Some(34)),
-            (0, 5, Some(35)),
-        ],
-    ),
-    Call::Commit(
-        1,
-        &[
-            (0, 0, Some(40)),
-            (0, 1, Some(41)),
-            (0, 2, Some(42)),
-            (0, 3, Some(43)),
-            (0, 4, Some(44)),
-            (0, 5, Some(45)),
-        ],
-    ),
-    Call::Commit(1, &[(0, 0, Some(50)), (0, 1, Some(51)), (0, 2, Some(52))]),
-    Call::Commit(
-        1,
-        &[
-            (0, 0, Some(60)),
-            (0, 1, Some(61)),
-            (0, 2, Some(62)),
-            (0, 3, Some(63)),
-        ],
-    ),
+    Call::Handles(&[(&[0, 1, 2, 3, 4, 5], 20, &[])]),
+    Call::Handles(&[(&[0, 1, 2, 3, 4, 5], 30, &[])]),
+    Call::Handles(&[(&[0, 1, 2, 3, 4, 5], 40, &[])]),
+    Call::Handles(&[(&[0, 1, 2], 50, &[])]),
+    Call::Handles(&[(&[0, 1, 2, 3], 60, &[])]),
     Call::Checkpoint,
     Call::Checkpoint,
     Call::Checkpoint,
@@ -89,13 +50,16 @@ static SETTLED: [Homes; 7] = [
     [60, 61, 62, 63, 44, 45, 0, 17, 0, 0, 0, 0, 0, 0, 0, 0],
 ];
 
+/// A version for each sector.
+type Choice = [u32; SECTORS];
+
 /// A new journal of 33 blocks with 16 homes of zeros.
-fn before(rt: &impl Abort, alloc: Global) -> MemoryDisk {
-    formatted(rt, alloc, 33, 0, UUID, Width::Narrow)
+fn before(test: &impl Bench) -> MemoryDisk {
+    formatted(test, 33, 0, UUID, Width::Narrow)
 }
 
 /// The versions of the sectors from one place on: the newest ones.
-fn newest_from(place: usize) -> [u32; SECTORS] {
+fn newest_from(place: usize) -> Choice {
     let mut choice = [0; SECTORS];
     for (i, version) in choice.iter_mut().enumerate() {
         if i >= place {
@@ -106,22 +70,17 @@ fn newest_from(place: usize) -> [u32; SECTORS] {
 }
 
 /// Whether what a crash leaves of a disk by this choice has other contents than an image.
-fn differs(
-    rt: &impl Abort,
-    disk: &MemoryDisk,
-    choice: &[u32; SECTORS],
-    image: &mut MemoryDisk,
-) -> bool {
-    difference(rt, image, &mut crashed(rt, disk, choice), 0).is_some()
+fn differs(test: &impl Test, disk: &MemoryDisk, choice: &Choice, image: &mut MemoryDisk) -> bool {
+    difference(test, image, &mut crashed(test, disk, choice), 0).is_some()
 }
 
 /// The last of the pending sectors whose newest content is another one than its old content.
-fn last_sector(rt: &impl Abort, disk: &MemoryDisk) -> usize {
-    let mut old = crashed(rt, disk, &[]);
+fn last_sector(test: &impl Test, disk: &MemoryDisk) -> usize {
+    let mut old = crashed(test, disk, &[]);
     let mut last: usize = 0;
     for step in [16, 8, 4, 2, 1] {
         let further = last.saturating_add(step);
-        if differs(rt, disk, &newest_from(further), &mut old) {
+        if differs(test, disk, &newest_from(further), &mut old) {
             last = further;
         }
     }
@@ -129,7 +88,7 @@ fn last_sector(rt: &impl Abort, disk: &MemoryDisk) -> usize {
 }
 
 /// The choice of this number, where this sector is the last one.
-fn choice(number: u32, last: usize) -> [u32; SECTORS] {
+fn choice(number: u32, last: usize) -> Choice {
     let mut choice = [0; SECTORS];
     for (i, version) in choice.iter_mut().enumerate() {
         let is_newest = match number {
@@ -147,31 +106,30 @@ fn choice(number: u32, last: usize) -> [u32; SECTORS] {
 }
 
 /// Recovers what each choice leaves of a disk of the script, which is stopped after so many calls.
-fn mend_each(rt: &impl Abort, alloc: Global, calls: u64, disk: &MemoryDisk, wanted: &Wanted) {
-    let last = last_sector(rt, disk);
+fn mend_each(test: &impl Bench, calls: u64, disk: &MemoryDisk, wanted: &Wanted) {
+    let last = last_sector(test, disk);
     for number in 0..CHOICES {
-        mend(rt, alloc, calls, disk, &choice(number, last), wanted);
+        mend(test, calls, disk, &choice(number, last), wanted);
     }
 }
 
 /// Whether a disk has other contents than an image that a crash left, or may have them after one more crash.
-fn is_changed(rt: &impl Abort, disk: &MemoryDisk, image: &mut MemoryDisk) -> bool {
-    differs(rt, disk, &[0; SECTORS], image) || differs(rt, disk, &newest_from(0), image)
+fn is_changed(test: &impl Test, disk: &MemoryDisk, image: &mut MemoryDisk) -> bool {
+    differs(test, disk, &[0; SECTORS], image) || differs(test, disk, &newest_from(0), image)
 }
 
 /// Stops the recovery of an image after so many calls of its own and crashes it by each choice; whether it ended
 /// before. Where nothing was written yet, that leaves the image itself, which is recovered once.
 fn mend_once(
-    rt: &impl Abort,
-    alloc: Global,
+    test: &impl Bench,
     calls: u64,
     image: &mut MemoryDisk,
     own: u64,
     wanted: &Wanted,
 ) -> bool {
-    let once = stopped(rt, alloc, image, own);
-    if own == 0 || is_changed(rt, &once.disk, image) {
-        mend_each(rt, alloc, calls, &once.disk, wanted);
+    let once = stopped(test, image, own);
+    if own == 0 || is_changed(test, &once.disk, image) {
+        mend_each(test, calls, &once.disk, wanted);
     }
     once.ended
 }
@@ -179,32 +137,31 @@ fn mend_once(
 /// Stops the recovery of what this choice leaves of a disk after every number of calls and crashes it by each choice;
 /// how many images that are.
 fn mend_left(
-    rt: &impl Abort,
-    alloc: Global,
+    test: &impl Bench,
     calls: u64,
     disk: &MemoryDisk,
-    choice: &[u32; SECTORS],
+    choice: &Choice,
     wanted: &Wanted,
 ) -> u64 {
-    let mut image = crashed(rt, disk, choice);
+    let mut image = crashed(test, disk, choice);
     let mut images: u64 = 0;
     for own in 0..MOST {
-        let ended = mend_once(rt, alloc, calls, &mut image, own, wanted);
+        let ended = mend_once(test, calls, &mut image, own, wanted);
         images = images.saturating_add(u64::from(CHOICES));
         if ended {
             return images;
         }
     }
-    fail(rt, "a recovery never ends")
+    fail(test, "a recovery never ends")
 }
 
 /// Crashes a disk of the script, which is stopped after so many calls, by each choice and stops the recovery of each
 /// image; how many images that are.
-fn mend_all(rt: &impl Abort, alloc: Global, calls: u64, disk: &MemoryDisk, wanted: &Wanted) -> u64 {
-    let last = last_sector(rt, disk);
+fn mend_all(test: &impl Bench, calls: u64, disk: &MemoryDisk, wanted: &Wanted) -> u64 {
+    let last = last_sector(test, disk);
     let mut images: u64 = 0;
     for number in 0..CHOICES {
-        let further = mend_left(rt, alloc, calls, disk, &choice(number, last), wanted);
+        let further = mend_left(test, calls, disk, &choice(number, last), wanted);
         images = images.saturating_add(further);
     }
     images
@@ -219,45 +176,36 @@ fn is_worked(homes: &Homes) -> bool {
 
 /// The script that is stopped after so many calls: what a crash may leave, how many images are recovered, and whether
 /// it ended.
-fn images_at(rt: &impl Abort, alloc: Global, calls: u64) -> (Left, u64, bool) {
-    let stop = run_to(rt, alloc, before(rt, alloc), calls, &SCRIPT);
-    let images = mend_all(rt, alloc, calls, &stop.disk, &stop.wanted);
+fn images_at(test: &impl Bench, calls: u64) -> (Left, u64, bool) {
+    let stop = run_to(test, before(test), calls, &SCRIPT);
+    let images = mend_all(test, calls, &stop.disk, &stop.wanted);
     (stop.wanted.left, images, stop.ended)
 }
 
 /// Stops the script after every number of calls.
-fn stop_each(rt: &impl Abort, alloc: Global) {
+fn stop_each(test: &impl Bench) {
     let mut images: u64 = 0;
     for calls in 0..MOST {
-        let (left, further, ended) = images_at(rt, alloc, calls);
+        let (left, further, ended) = images_at(test, calls);
         let is_known = is_worked(&left.was) && is_worked(&left.becomes);
-        check_at(
-            rt,
-            is_known,
-            "homes of the script that is stopped after calls",
-            calls,
-        );
+        check_at(test, is_known, "homes after calls", calls);
         images = images.saturating_add(further);
         if ended {
-            return end(rt, calls, images, &left.was);
+            return end(test, calls, images, &left.was);
         }
     }
-    fail(rt, "it never ends")
+    fail(test, "it never ends")
 }
 
 /// The whole script makes so many calls, is crashed to so many images and leaves these homes.
-fn end(rt: &impl Abort, calls: u64, images: u64, homes: &Homes) {
-    check_at(rt, calls == 139, "calls of the whole script:", calls);
-    check_at(rt, images == 109515, "images of the whole script:", images);
-    check_at(
-        rt,
-        *homes == SETTLED[6],
-        "homes of the whole script, after calls",
-        calls,
-    )
+fn end(test: &impl Test, calls: u64, images: u64, homes: &Homes) {
+    check_at(test, calls == 139, "calls of the whole script:", calls);
+    check_at(test, images == 109515, "images of the script:", images);
+    let is_settled = *homes == SETTLED[6];
+    check_at(test, is_settled, "homes of the script, after calls", calls)
 }
 
 #[test]
 fn a_script_may_be_stopped_and_crashed_at_every_call(rt: HostRuntime) {
-    stop_each(&rt, rt.alloc())
+    stop_each(&By(&rt, rt.alloc()))
 }

@@ -1,10 +1,11 @@
 //! Lists of extents, and a journal that stands within its home blocks.
 
+use crate::calls::look;
+use crate::checks::By;
 use jb_block::BlockSize;
-use jb_disk::{Disk, Fault, MemoryDisk};
+use jb_disk::{Disk, Fault};
 use jb_extents::{Extents, ExtentsDisk, ListFault};
-use std::alloc::Global;
-use std::process::Abort;
+use tests_support::{Bench, Must, Test, check, check_at, check_in, check_row, write_block, zeros};
 
 /// What a list says: where these blocks of the journal stand, and how many blocks it has; or none.
 type Said = Option<(&'static [(u64, Option<u64>)], u64)>;
@@ -41,87 +42,109 @@ static LISTS: [(&str, Said); 13] = [
     ("5;", None),
 ];
 
+/// The blocks of a list, where it is one.
+fn blocks_of(extents: &Result<Extents, ListFault>) -> Option<u64> {
+    match extents {
+        Ok(extents) => Some(extents.blocks()),
+        Err(_) => None,
+    }
+}
+
 /// Checks what a list says.
-fn check_list(rt: &impl Abort, alloc: Global, text: &str, said: Said) {
-    match (Extents::read(alloc, text.as_bytes()), said) {
-        (Ok(extents), Some((places, blocks))) => {
-            assert!(rt; extents.blocks() == blocks, "{text}");
-            for (i, place) in places {
-                assert!(rt; extents.place(*i) == *place, "{text}: block {i}");
-            }
+fn check_list(test: &impl Bench, text: &'static str, said: Said) {
+    let read = Extents::read(test.alloc(), text.as_bytes());
+    let blocks = said.map(|(_, blocks)| blocks);
+    check_row(test, blocks_of(&read) == blocks, text, "the list");
+    match (read, said) {
+        (Ok(extents), Some((places, _))) => check_places(test, text, &extents, places),
+        (read, _) => {
+            let fault = read.err();
+            check_row(test, fault == Some(ListFault::Syntax), text, "its fault")
         }
-        (Err(fault), None) => assert!(rt; fault == ListFault::Syntax, "{text}"),
-        (Ok(_), None) | (Err(_), Some(_)) => assert!(rt; false, "{text}"),
+    }
+}
+
+/// Checks where blocks of the journal stand.
+fn check_places(
+    test: &impl Test,
+    text: &'static str,
+    extents: &Extents,
+    places: &[(u64, Option<u64>)],
+) {
+    for (i, place) in places {
+        check_in(test, extents.place(*i) == *place, text, "block", *i)
+    }
+}
+
+fn check_lists(test: &impl Bench) {
+    for (text, said) in &LISTS {
+        check_list(test, text, *said)
     }
 }
 
 #[test]
 fn lists_are_read(rt: HostRuntime) {
-    for (text, said) in LISTS {
-        check_list(&rt, rt.alloc(), text, said);
-    }
+    check_lists(&By(&rt, rt.alloc()))
 }
 
 /// The extents of a list that is one.
-fn listed(rt: &impl Abort, alloc: Global, text: &str) -> Extents {
-    Extents::read(alloc, text.as_bytes())
-        .ok()
-        .expect(rt, "a list")
+fn listed(test: &impl Bench, text: &str) -> Extents {
+    Extents::read(test.alloc(), text.as_bytes()).must(test, "a list")
+}
+
+/// Checks which blocks extents share, and which are past an image's end.
+fn check_shared(test: &impl Bench) {
+    let apart = listed(test, "4-6, 0-1, 9");
+    check(test, apart.shared().is_none(), "none is shared");
+    check(test, apart.past(10).is_none(), "none is past 10 blocks");
+    let past = (apart.past(9), apart.past(6));
+    check(test, past == (Some(9), Some(6)), "past 9 blocks and 6");
+    check(test, apart.holds(6) && apart.holds(0), "6 and 0 are held");
+    check(test, !apart.holds(7) && !apart.holds(2), "7 and 2 are not");
+    let shared = listed(test, "4-6, 0-1, 6-9").shared();
+    check(test, shared == Some(6), "6 is shared");
+    let shared = listed(test, "4-6, 0-4").shared();
+    check(test, shared == Some(4), "4 is shared")
 }
 
 #[test]
 fn blocks_are_shared_or_past_the_end(rt: HostRuntime) {
-    let (rt, alloc) = (&rt, rt.alloc());
-    let apart = listed(rt, alloc, "4-6, 0-1, 9");
-    assert!(rt; apart.shared().is_none());
-    assert!(rt; apart.past(10).is_none());
-    assert!(rt; apart.past(9) == Some(9) && apart.past(6) == Some(6));
-    assert!(rt; apart.holds(6) && apart.holds(0) && !apart.holds(7) && !apart.holds(2));
-    assert!(rt; listed(rt, alloc, "4-6, 0-1, 6-9").shared() == Some(6));
-    assert!(rt; listed(rt, alloc, "4-6, 0-4").shared() == Some(4))
-}
-
-/// The first byte of a block of a disk.
-fn look<D: Disk>(disk: &mut D, place: u64) -> Result<u8, Fault> {
-    let mut block = [0; 1024];
-    if place >= disk.blocks() || disk.block_size() != BlockSize::OneKib {
-        return Err(Fault);
-    }
-    disk.read(place, &mut block)?;
-    Ok(block[0])
+    check_shared(&By(&rt, rt.alloc()))
 }
 
 /// Writes a block of this byte.
 fn put<D: Disk>(disk: &mut D, place: u64, byte: u8) -> Result<(), Fault> {
-    if place >= disk.blocks() || disk.block_size() != BlockSize::OneKib {
-        return Err(Fault);
+    write_block(disk, place, &[byte; 1024])
+}
+
+/// Checks the blocks that a disk of extents has: the journal's blocks 0 to 2, and home blocks 0 and 11. Home blocks 3,
+/// 8 and 9 are the journal's own.
+fn check_blocks<D: Disk>(test: &impl Test, disk: &mut D) {
+    check(test, disk.blocks() == 15, "how many blocks");
+    for (place, byte) in [(0, 1), (1, 2), (2, 3), (3, 4), (14, 5)] {
+        check_at(test, put(disk, place, byte).is_ok(), "written at", place);
+        check_at(test, look(disk, place) == Ok(byte), "read at", place)
     }
-    disk.write(place, &[byte; 1024])
+    for place in [6, 11, 12] {
+        check_at(test, put(disk, place, 9).is_err(), "not written at", place);
+        check_at(test, look(disk, place).is_err(), "not read at", place)
+    }
+    check(test, disk.sync().is_ok(), "a sync")
+}
+
+fn check_calls(test: &impl Bench) {
+    let image = zeros(test, test.alloc(), BlockSize::OneKib, 12);
+    let mut disk = ExtentsDisk::of(image, listed(test, "(0-1):8-9, (2):3"), 3);
+    check_blocks(test, &mut disk);
+    let own = (disk.first_own(&[2, 4, 8, 3]), disk.first_own(&[2, 4]));
+    check(test, own == (Some(8), None), "the first of its own");
+    let mut image = disk.into_inner();
+    for (block, byte) in [(8, 1), (9, 2), (3, 3), (0, 4), (11, 5), (1, 0)] {
+        check_at(test, look(&mut image, block) == Ok(byte), "block", block)
+    }
 }
 
 #[test]
 fn each_call_reaches_its_block(rt: HostRuntime) {
-    let (rt, alloc) = (&rt, rt.alloc());
-    let image = MemoryDisk::new(alloc, BlockSize::OneKib, 12)
-        .ok()
-        .expect(rt, "memory");
-    let extents = listed(rt, alloc, "(0-1):8-9, (2):3");
-    let mut disk = ExtentsDisk::of(image, extents, 3);
-    assert!(rt; disk.blocks() == 15);
-    // the journal's blocks 0 to 2, and home blocks 0 and 11
-    for (place, byte) in [(0, 1), (1, 2), (2, 3), (3, 4), (14, 5)] {
-        assert!(rt; put(&mut disk, place, byte).is_ok(), "{place}");
-        assert!(rt; look(&mut disk, place) == Ok(byte), "{place}");
-    }
-    // home blocks 3, 8 and 9 are the journal's own
-    for place in [6, 11, 12] {
-        assert!(rt; put(&mut disk, place, 9).is_err(), "{place}");
-        assert!(rt; look(&mut disk, place).is_err(), "{place}");
-    }
-    assert!(rt; disk.first_own(&[2, 4, 8, 3]) == Some(8) && disk.first_own(&[2, 4]).is_none());
-    assert!(rt; disk.sync().is_ok());
-    let mut image = disk.into_inner();
-    for (block, byte) in [(8, 1), (9, 2), (3, 3), (0, 4), (11, 5), (1, 0)] {
-        assert!(rt; look(&mut image, block) == Ok(byte), "{block}");
-    }
+    check_calls(&By(&rt, rt.alloc()))
 }

@@ -2,10 +2,9 @@
 //! begins and the number there, and the blocks before the log. All blocks after the journal are homes on a disk as
 //! small as these.
 
-use crate::images::{difference_below, read_at};
 use jb_block::{get32, put64};
 use jb_disk::Disk;
-use std::process::Abort;
+use tests_support::{Test, difference_below, read_at};
 
 /// Where a superblock has the place of the log's first block (`s_first`).
 const FIRST: usize = 0x14;
@@ -15,19 +14,19 @@ const FIRST: usize = 0x14;
 const MOVES: usize = 0x18;
 
 /// Block 0, of 1 KiB, with zeros where it may change.
-fn front<D: Disk>(rt: &impl Abort, disk: &mut D) -> [u8; 1024] {
+fn front<D: Disk>(test: &impl Test, disk: &mut D) -> [u8; 1024] {
     let mut block = [0; 1024];
-    read_at(rt, disk, 0, &mut block);
+    read_at(test, disk, 0, &mut block);
     put64(&mut block, MOVES, 0);
     block
 }
 
 /// Whether a disk has the same as a wanted one in the blocks before the wanted one's log.
-pub fn same_frame<A: Disk, B: Disk>(rt: &impl Abort, disk: &mut A, wanted: &mut B) -> bool {
-    let front_block = front(rt, wanted);
-    if front(rt, disk) != front_block {
+pub fn same_frame<A: Disk, B: Disk>(test: &impl Test, disk: &mut A, wanted: &mut B) -> bool {
+    let front_block = front(test, wanted);
+    if front(test, disk) != front_block {
         return false;
     }
     let first = u64::from(get32(&front_block, FIRST));
-    difference_below(rt, disk, wanted, 1, first).is_none()
+    difference_below(test, disk, wanted, 1, first).is_none()
 }

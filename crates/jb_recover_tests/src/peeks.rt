@@ -1,107 +1,48 @@
 //! A home block peeked at where recovery refuses the image, where the journal is clean, and where a call fails.
 
-use crate::images::{Row, check, check_at, check_none, check_row, difference, zeros};
+use crate::checks::By;
+use crate::images::Row;
 use crate::logs::{BAD_BEHIND, ESCAPED, OUTSIDE_SECOND, cut_off};
 use crate::small::{clean, peeked, small};
 use jb_block::BlockSize;
 use jb_disk::{Disk, FuseDisk, MemoryDisk, OneFaultDisk};
 use jb_recover::PeekFault;
 use jb_super::SuperFault;
-use std::alloc::Global;
-use std::process::Abort;
+use tests_support::{Bench, check, check_at, check_none, check_row, difference, zeros};
 
-/// A small image with these rows but for so many of the last ones, a home block, what a peek answers, and the first
-/// word of the bytes afterwards.
-struct Case {
-    name: &'static str,
-    rows: &'static [Row],
-    cut: usize,
-    home: u64,
-    answer: Result<(), PeekFault>,
-    word: [u8; 4],
-}
+/// A name, a small image with these rows but for so many of the last ones, a home block, what a peek answers, and the
+/// first word of the bytes afterwards.
+type Case = (
+    &'static str,
+    &'static [Row],
+    usize,
+    u64,
+    Result<(), PeekFault>,
+    [u8; 4],
+);
+
+/// There is no home block 16.
+const NO_16: Result<(), PeekFault> = Err(PeekFault::HomeOutOfRange(16));
+
+/// A revoke block has a bad count.
+const BAD: Result<(), PeekFault> = Err(PeekFault::BadRevoke(4));
+
+const NONE: [u8; 4] = [0, 0, 0, 0];
+
+/// The rows of a clean journal.
+const CLEAN: &[Row] = &[(0, 1, [33, 1, 2, 0])];
 
 static CASES: [Case; 10] = [
-    Case {
-        name: "escaped",
-        rows: &ESCAPED,
-        cut: 0,
-        home: 5,
-        answer: Ok(()),
-        word: [0xC0, 0x3B, 0x39, 0x98],
-    },
-    Case {
-        name: "no copy",
-        rows: &ESCAPED,
-        cut: 0,
-        home: 7,
-        answer: Ok(()),
-        word: [0, 0, 0, 0],
-    },
-    Case {
-        name: "not there",
-        rows: &ESCAPED,
-        cut: 0,
-        home: 16,
-        answer: Err(PeekFault::HomeOutOfRange(16)),
-        word: [0, 0, 0, 0],
-    },
-    Case {
-        name: "another is out of range",
-        rows: &OUTSIDE_SECOND,
-        cut: 0,
-        home: 5,
-        answer: Ok(()),
-        word: [0, 0, 0, 1],
-    },
-    Case {
-        name: "out of range itself",
-        rows: &OUTSIDE_SECOND,
-        cut: 0,
-        home: 16,
-        answer: Err(PeekFault::HomeOutOfRange(16)),
-        word: [0, 0, 0, 0],
-    },
-    Case {
-        name: "bad count",
-        rows: &BAD_BEHIND,
-        cut: 0,
-        home: 5,
-        answer: Err(PeekFault::BadRevoke(4)),
-        word: [0, 0, 0, 0],
-    },
-    Case {
-        name: "bad count first",
-        rows: &BAD_BEHIND,
-        cut: 0,
-        home: 16,
-        answer: Err(PeekFault::BadRevoke(4)),
-        word: [0, 0, 0, 0],
-    },
-    Case {
-        name: "not committed",
-        rows: &BAD_BEHIND,
-        cut: 1,
-        home: 5,
-        answer: Ok(()),
-        word: [0, 0, 0, 5],
-    },
-    Case {
-        name: "clean",
-        rows: &[(0, 1, [33, 1, 2, 0])],
-        cut: 0,
-        home: 5,
-        answer: Ok(()),
-        word: [0, 0, 0, 5],
-    },
-    Case {
-        name: "clean, not there",
-        rows: &[(0, 1, [33, 1, 2, 0])],
-        cut: 0,
-        home: 16,
-        answer: Err(PeekFault::HomeOutOfRange(16)),
-        word: [0, 0, 0, 0],
-    },
+    ("escaped", &ESCAPED, 0, 5, Ok(()), [0xC0, 0x3B, 0x39, 0x98]),
+    ("no copy", &ESCAPED, 0, 7, Ok(()), NONE),
+    ("not there", &ESCAPED, 0, 16, NO_16, NONE),
+    ("another not", &OUTSIDE_SECOND, 0, 5, Ok(()), [0, 0, 0, 1]),
+    ("out of range itself", &OUTSIDE_SECOND, 0, 16, NO_16, NONE),
+    ("bad count", &BAD_BEHIND, 0, 5, BAD, NONE),
+    ("bad count first", &BAD_BEHIND, 0, 16, BAD, NONE),
+    ("not committed", &BAD_BEHIND, 1, 5, Ok(()), [0, 0, 0, 5]),
+    ("clean", CLEAN, 0, 5, Ok(()), [0, 0, 0, 5]),
+    ("clean, not there", CLEAN, 0, 16, NO_16, NONE),
 ];
 
 /// What a peek at a home answers, and the first word of the bytes, which were zeros.
@@ -111,85 +52,63 @@ fn word_peeked<D: Disk>(disk: &mut D, home: u64) -> (Result<(), PeekFault>, [u8;
 }
 
 /// Checks a peek, and that it changes no block.
-fn check_case(rt: &impl Abort, alloc: Global, case: &Case) {
-    let rows = cut_off(case.rows, case.cut);
-    let mut disk = small(rt, alloc, rows, &[]);
-    let (answer, word) = word_peeked(&mut disk, case.home);
-    check_row(rt, answer == case.answer, case.name, "what a peek answers");
-    check_row(
-        rt,
-        word == case.word,
-        case.name,
-        "the first word of the bytes",
-    );
-    let mut before = small(rt, alloc, rows, &[]);
-    let place = difference(rt, &mut disk, &mut before, 0);
-    check_none(rt, case.name, "block", place)
+fn check_case(test: &impl Bench, case: &Case) {
+    let (row, rows, cut, home, wanted, first) = *case;
+    let rows = cut_off(rows, cut);
+    let mut disk = small(test, rows, &[]);
+    let (answer, word) = word_peeked(&mut disk, home);
+    check_row(test, answer == wanted, row, "what a peek answers");
+    check_row(test, word == first, row, "the first word of the bytes");
+    let mut before = small(test, rows, &[]);
+    let place = difference(test, &mut disk, &mut before, 0);
+    check_none(test, row, "block", place)
 }
 
 /// Checks that a disk of zeros is refused.
-fn check_zeros(rt: &impl Abort, alloc: Global) {
-    let mut disk = zeros(rt, alloc, BlockSize::OneKib, 1);
+fn check_zeros(test: &impl Bench) {
+    let mut disk = zeros(test, test.alloc(), BlockSize::OneKib, 1);
     let (answer, _) = peeked(&mut disk, 0);
     let is_refused = answer == Err(PeekFault::Super(SuperFault::NoMagic));
-    check(rt, is_refused, "what a peek at zeros answers")
+    check(test, is_refused, "what a peek at zeros answers")
 }
 
 #[test]
 fn homes_are_peeked_at(rt: HostRuntime) {
     for case in &CASES {
-        check_case(&rt, rt.alloc(), case);
+        check_case(&By(&rt, rt.alloc()), case);
     }
-    check_zeros(&rt, rt.alloc())
+    check_zeros(&By(&rt, rt.alloc()))
 }
 
 /// The image with an escaped copy, and these rows.
-fn escaped(rt: &impl Abort, alloc: Global, after: &[Row]) -> MemoryDisk {
-    small(rt, alloc, &ESCAPED, after)
+fn escaped(test: &impl Bench, after: &[Row]) -> MemoryDisk {
+    small(test, &ESCAPED, after)
 }
 
 /// Checks a peek at a home of a clean journal whose log holds a copy of it: it makes two calls.
-fn check_stale(rt: &impl Abort, alloc: Global) {
-    let mut fuse = FuseDisk::of(escaped(rt, alloc, &[clean(2)]), 2);
+fn check_stale(test: &impl Bench) {
+    let mut fuse = FuseDisk::of(escaped(test, &[clean(2)]), 2);
     let (answer, word) = word_peeked(&mut fuse, 5);
-    check(
-        rt,
-        answer == Ok(()),
-        "what a peek over a stale copy answers",
-    );
-    check(
-        rt,
-        word == [0, 0, 0, 5],
-        "the first word of a home with a stale copy",
-    )
+    check(test, answer == Ok(()), "a peek over a stale copy");
+    check(test, word == [0, 0, 0, 5], "a home with a stale copy")
 }
 
 /// Checks a peek of which this call fails, and the next one.
-fn check_call(rt: &impl Abort, alloc: Global, call: u64) {
-    let mut faulty = OneFaultDisk::of(escaped(rt, alloc, &[]), call);
+fn check_call(test: &impl Bench, call: u64) {
+    let mut faulty = OneFaultDisk::of(escaped(test, &[]), call);
     let (answer, _) = peeked(&mut faulty, 5);
     let is_fault = answer == Err(PeekFault::DeviceFault);
-    check_at(
-        rt,
-        is_fault,
-        "what a peek answers where a call fails:",
-        call,
-    );
+    check_at(test, is_fault, "a peek where a call fails:", call);
     let (again, _) = peeked(&mut faulty, 5);
-    check_at(
-        rt,
-        again == Ok(()),
-        "what the next peek answers after call",
-        call,
-    )
+    check_at(test, again == Ok(()), "the next peek after call", call)
 }
 
 /// A clean journal's home whose log holds a copy of it, and a peek of which each call fails in turn: it reads and
 /// does not sync, so six calls are enough.
 #[test]
 fn calls_of_a_peek_fail(rt: HostRuntime) {
-    check_stale(&rt, rt.alloc());
+    check_stale(&By(&rt, rt.alloc()));
     for call in 0..6 {
-        check_call(&rt, rt.alloc(), call);
+        check_call(&By(&rt, rt.alloc()), call);
     }
 }

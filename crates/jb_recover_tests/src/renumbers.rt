@@ -1,16 +1,16 @@
 //! A clean journal is given its first number again: what is left, on a whole run and where one is broken off.
 
+use crate::checks::By;
 use crate::frames::same_frame;
-use crate::images::{
-    Row, check, check_at, check_none, check_none_at, check_row, crashed, difference, fail, headed,
-};
+use crate::images::{Row, headed};
 use crate::small::{HOMES, MAGIC, clean, journal, small};
 use jb_disk::{FuseDisk, MemoryDisk, OneFaultDisk};
 use jb_front::{ChangeFault, Renumbered, renumber};
 use jb_recover::recover;
 use jb_super::SuperFault;
-use std::alloc::Global;
-use std::process::Abort;
+use tests_support::{
+    Bench, Must, Test, check, check_at, check_none, check_row, crashed, difference, fail,
+};
 
 /// More calls than a renumbering of the small image makes.
 const MOST: u64 = 120;
@@ -101,33 +101,37 @@ static CASES: [Case; 5] = [
 ];
 
 /// Checks what a renumbering answers and leaves, and that nothing is pending then.
-fn check_case(rt: &impl Abort, alloc: Global, case: &Case) {
-    let mut disk = small(rt, alloc, case.rows, &[]);
+fn check_case(test: &impl Bench, case: &Case) {
+    let mut disk = small(test, case.rows, &[]);
     let is_told = renumber(&mut disk) == case.answer;
-    check_row(rt, is_told, case.name, "what a renumbering answers");
-    let mut wanted = small(rt, alloc, case.rows, case.after);
-    let place = difference(rt, &mut disk, &mut wanted, 0);
-    check_none(rt, case.name, "block", place);
-    let mut left = crashed(rt, &disk, &[]);
-    let place = difference(rt, &mut left, &mut wanted, 0);
-    check_none(rt, case.name, "block that a crash leaves", place)
+    check_row(test, is_told, case.name, "what a renumbering answers");
+    let mut wanted = small(test, case.rows, case.after);
+    let place = difference(test, &mut disk, &mut wanted, 0);
+    check_none(test, case.name, "block", place);
+    let mut left = crashed(test, &disk, &[]);
+    let place = difference(test, &mut left, &mut wanted, 0);
+    check_none(test, case.name, "block that a crash leaves", place)
 }
 
 /// Checks that a journal is refused on a disk with too few blocks for it.
-fn check_short(rt: &impl Abort, alloc: Global) {
-    let mut short = journal(rt, alloc, 20, &[clean(2)]);
+fn check_short(test: &impl Bench) {
+    let mut short = journal(test, 20, &[clean(2)]);
     let fault = Err(ChangeFault::Super(SuperFault::Geometry));
     let is_refused = renumber(&mut short) == fault;
-    check(rt, is_refused, "what a renumbering on 20 blocks answers")
+    check(test, is_refused, "what a renumbering on 20 blocks answers")
+}
+
+fn check_each(test: &impl Bench) {
+    check_case(test, &SPENT);
+    for case in &CASES {
+        check_case(test, case);
+    }
+    check_short(test)
 }
 
 #[test]
 fn what_is_left(rt: HostRuntime) {
-    check_case(&rt, rt.alloc(), &SPENT);
-    for case in &CASES {
-        check_case(&rt, rt.alloc(), case);
-    }
-    check_short(&rt, rt.alloc())
+    check_each(&By(&rt, rt.alloc()))
 }
 
 /// All old, all newest, old and newest in turn, and one sector newest.
@@ -145,38 +149,32 @@ fn versions(mixture: u32) -> [u32; SECTORS] {
 }
 
 /// Whether an image is the old one before the log, and has the old homes.
-fn is_kept(rt: &impl Abort, left: &mut MemoryDisk, old: &mut MemoryDisk) -> bool {
-    same_frame(rt, left, old) && difference(rt, left, old, HOMES).is_none()
+fn is_kept(test: &impl Test, left: &mut MemoryDisk, old: &mut MemoryDisk) -> bool {
+    same_frame(test, left, old) && difference(test, left, old, HOMES).is_none()
 }
 
 /// Whether an image that a crash leaves is the old one before the log, and keeps that and the homes in a recovery.
-fn recovers(rt: &impl Abort, alloc: Global, left: &mut MemoryDisk, old: &mut MemoryDisk) -> bool {
-    same_frame(rt, left, old) && recover(alloc, left).is_ok() && is_kept(rt, left, old)
+fn recovers(test: &impl Bench, left: &mut MemoryDisk, old: &mut MemoryDisk) -> bool {
+    same_frame(test, left, old) && recover(test.alloc(), left).is_ok() && is_kept(test, left, old)
 }
 
 /// Whether an image that a crash leaves keeps what is before the log and the homes where a renumbering is begun again,
 /// which then leaves no header.
-fn renumbers(rt: &impl Abort, left: &mut MemoryDisk, old: &mut MemoryDisk) -> bool {
-    renumber(left).is_ok() && is_kept(rt, left, old) && headed(rt, left, 1, HOMES).is_none()
+fn renumbers(test: &impl Test, left: &mut MemoryDisk, old: &mut MemoryDisk) -> bool {
+    renumber(left).is_ok() && is_kept(test, left, old) && headed(test, left, 1, HOMES).is_none()
 }
 
 /// Whether the image that a crash with this mixture leaves keeps the homes, both by a recovery and by a renumbering.
-fn keeps_homes(
-    rt: &impl Abort,
-    alloc: Global,
-    disk: &MemoryDisk,
-    mixture: u32,
-    old: &mut MemoryDisk,
-) -> bool {
+fn keeps_homes(test: &impl Bench, disk: &MemoryDisk, mixture: u32, old: &mut MemoryDisk) -> bool {
     let choice = versions(mixture);
-    recovers(rt, alloc, &mut crashed(rt, disk, &choice), old)
-        && renumbers(rt, &mut crashed(rt, disk, &choice), old)
+    recovers(test, &mut crashed(test, disk, &choice), old)
+        && renumbers(test, &mut crashed(test, disk, &choice), old)
 }
 
 /// The first mixture with which a crash leaves an image that does not keep the homes.
-fn losing(rt: &impl Abort, alloc: Global, disk: &MemoryDisk, old: &mut MemoryDisk) -> Option<u64> {
+fn losing(test: &impl Bench, disk: &MemoryDisk, old: &mut MemoryDisk) -> Option<u64> {
     for mixture in &MIXTURES {
-        if !keeps_homes(rt, alloc, disk, *mixture, old) {
+        if !keeps_homes(test, disk, *mixture, old) {
             return Some(u64::from(*mixture));
         }
     }
@@ -184,69 +182,58 @@ fn losing(rt: &impl Abort, alloc: Global, disk: &MemoryDisk, old: &mut MemoryDis
 }
 
 /// The image of the last number.
-fn spent(rt: &impl Abort, alloc: Global) -> MemoryDisk {
-    small(rt, alloc, SPENT.rows, &[])
+fn spent(test: &impl Bench) -> MemoryDisk {
+    small(test, SPENT.rows, &[])
 }
 
 /// The disk of a renumbering of which this call and all after it fail, which answers this; each image that a crash
 /// leaves keeps the homes.
-fn broken_off(
-    rt: &impl Abort,
-    alloc: Global,
-    call: u64,
-    answer: Result<Renumbered, ChangeFault>,
-) -> MemoryDisk {
-    let mut fuse = FuseDisk::of(spent(rt, alloc), call);
+fn broken_off(test: &impl Bench, call: u64, answer: Result<Renumbered, ChangeFault>) -> MemoryDisk {
+    let mut fuse = FuseDisk::of(spent(test), call);
     let is_alike = renumber(&mut fuse) == answer;
-    check_at(
-        rt,
-        is_alike,
-        "what it answers where all calls fail from call",
-        call,
-    );
+    check_at(test, is_alike, "all calls fail from call", call);
     let disk = fuse.into_inner();
-    let mixture = losing(rt, alloc, &disk, &mut spent(rt, alloc));
-    check_none_at(
-        rt,
-        "a crash loses homes after call, by mixture",
-        call,
-        mixture,
-    );
+    let mixture = losing(test, &disk, &mut spent(test));
+    check_at(test, mixture.is_none(), "homes lost after call", call);
     disk
 }
 
 /// Checks that a disk is as it is wanted after a renumbering of which this call failed.
-fn check_left(rt: &impl Abort, alloc: Global, call: u64, disk: &mut MemoryDisk) {
-    let mut wanted = small(rt, alloc, SPENT.rows, SPENT.after);
-    let place = difference(rt, disk, &mut wanted, 0);
-    check_none_at(rt, "a block differs after call", call, place)
+fn check_left(test: &impl Bench, call: u64, disk: &mut MemoryDisk) {
+    let mut wanted = small(test, SPENT.rows, SPENT.after);
+    let place = difference(test, disk, &mut wanted, 0);
+    check_at(test, place.is_none(), "a block differs after call", call)
 }
 
 /// Checks a renumbering of which this call fails, alone or with all after it, and the next one; whether no call failed.
-fn check_call(rt: &impl Abort, alloc: Global, call: u64) -> bool {
-    let mut faulty = OneFaultDisk::of(spent(rt, alloc), call);
+fn check_call(test: &impl Bench, call: u64) -> bool {
+    let mut faulty = OneFaultDisk::of(spent(test), call);
     let answer = renumber(&mut faulty);
-    let mut disk = broken_off(rt, alloc, call, answer);
+    let mut disk = broken_off(test, call, answer);
     if answer == SPENT.answer {
-        check_left(rt, alloc, call, &mut disk);
+        check_left(test, call, &mut disk);
         return true;
     }
     let is_fault = answer == Err(ChangeFault::DeviceFault);
-    check_at(rt, is_fault, "what it answers where a call fails:", call);
+    check_at(test, is_fault, "what it answers where a call fails:", call);
     let next = renumber(&mut faulty)
-        .expect(rt, "the next renumbering")
+        .must(test, "the next renumbering")
         .next;
-    check_at(rt, next == 1, "the next number after call", call);
-    check_left(rt, alloc, call, &mut faulty.into_inner());
+    check_at(test, next == 1, "the next number after call", call);
+    check_left(test, call, &mut faulty.into_inner());
     false
+}
+
+fn check_calls(test: &impl Bench) {
+    for call in 0..MOST {
+        if check_call(test, call) {
+            return;
+        }
+    }
+    fail(test, "no renumbering without a fault")
 }
 
 #[test]
 fn every_call_may_fail_or_be_the_last(rt: HostRuntime) {
-    for call in 0..MOST {
-        if check_call(&rt, rt.alloc(), call) {
-            return;
-        }
-    }
-    fail(&rt, "no renumbering without a fault")
+    check_calls(&By(&rt, rt.alloc()))
 }

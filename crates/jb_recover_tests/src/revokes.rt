@@ -1,6 +1,7 @@
 //! Small images with revoke blocks, what their recovery reports, and what it leaves.
 
 use crate::cases::{Case, check_cases};
+use crate::checks::By;
 use crate::logs::{COUNT_ABOVE, REVOKED_LATER};
 use crate::small::{Counts, HOMES, MAGIC};
 
@@ -164,5 +165,5 @@ static CASES: [Case; 11] = [
 
 #[test]
 fn small_images_with_revokes(rt: HostRuntime) {
-    check_cases(&rt, rt.alloc(), &CASES)
+    check_cases(&By(&rt, rt.alloc()), &CASES)
 }

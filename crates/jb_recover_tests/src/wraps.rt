@@ -1,12 +1,11 @@
 //! A log that wraps, before and after its recovery.
 
-use crate::images::{Row, put_rows, zeros};
+use crate::images::{Row, put_rows};
 use crate::small::MAGIC;
 use jb_block::BlockSize;
 use jb_disk::MemoryDisk;
 use jb_recover::Recovered;
-use std::alloc::Global;
-use std::process::Abort;
+use tests_support::{Bench, zeros};
 
 /// Blocks in the journal, and before the first home block.
 const MAXLEN: u64 = 33;
@@ -68,17 +67,17 @@ pub static COUNTS: Recovered = Recovered {
 };
 
 /// The image with the wrapped log, before its recovery.
-pub fn before(rt: &impl Abort, alloc: Global) -> MemoryDisk {
-    let mut disk = zeros(rt, alloc, BlockSize::OneKib, BLOCKS);
-    put_rows(rt, &mut disk, 0, &JOURNAL);
-    put_rows(rt, &mut disk, MAXLEN, &BEFORE);
+pub fn before(test: &impl Bench) -> MemoryDisk {
+    let mut disk = zeros(test, test.alloc(), BlockSize::OneKib, BLOCKS);
+    put_rows(test, &mut disk, 0, &JOURNAL);
+    put_rows(test, &mut disk, MAXLEN, &BEFORE);
     disk
 }
 
 /// The same image, recovered.
-pub fn after(rt: &impl Abort, alloc: Global) -> MemoryDisk {
-    let mut disk = before(rt, alloc);
-    put_rows(rt, &mut disk, 0, &CLEAN);
-    put_rows(rt, &mut disk, MAXLEN, &AFTER);
+pub fn after(test: &impl Bench) -> MemoryDisk {
+    let mut disk = before(test);
+    put_rows(test, &mut disk, 0, &CLEAN);
+    put_rows(test, &mut disk, MAXLEN, &AFTER);
     disk
 }

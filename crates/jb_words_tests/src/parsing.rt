@@ -1,7 +1,7 @@
-use jb_words::{
-    CatOptions, DumpOptions, FormatOptions, LoadWords, Plain, RecoverOptions, Words, parse,
-};
+use crate::checks::By;
+use jb_words::{Plain, Words, parse};
 use std::alloc::Global;
+use tests_support::{Bench, check, check_at};
 
 /// The command that the words ask for: its name, and its words in the order of `Plain` and `LoadWords`.
 fn asked<'a>(alloc: Global, words: &'a [&'a str]) -> Option<(&'a str, &'a str, &'a str)> {
@@ -26,16 +26,8 @@ fn asked<'a>(alloc: Global, words: &'a [&'a str]) -> Option<(&'a str, &'a str, &
 /// The four numbers of a command that formats, --bs, --journal, --homes and --max, and whether --wide stands there.
 fn numbers(alloc: Global, words: &[&str]) -> Option<([u64; 4], bool)> {
     match parse(alloc, words).ok()? {
-        Words::Plain(Plain::Format { options, .. }) => {
-            let FormatOptions {
-                bs,
-                journal,
-                homes,
-                max,
-                wide,
-                ..
-            } = options;
-            Some(([bs, journal, homes, max], wide))
+        Words::Plain(Plain::Format { options: of, .. }) => {
+            Some(([of.bs, of.journal, of.homes, of.max], of.wide))
         }
         _ => None,
     }
@@ -44,15 +36,7 @@ fn numbers(alloc: Global, words: &[&str]) -> Option<([u64; 4], bool)> {
 /// The options of a load: --threads and --stamp, and whether --hold and --checkpoint stand there.
 fn loading(alloc: Global, words: &[&str]) -> Option<([u64; 2], [bool; 2])> {
     match parse(alloc, words).ok()? {
-        Words::Load(
-            LoadWords {
-                threads,
-                hold,
-                stamp,
-                checkpoint,
-                ..
-            },
-        ) => Some(([threads, stamp], [hold, checkpoint])),
+        Words::Load(load) => Some(([load.threads, load.stamp], [load.hold, load.checkpoint])),
         Words::Plain(_) => None,
     }
 }
@@ -60,15 +44,7 @@ fn loading(alloc: Global, words: &[&str]) -> Option<([u64; 2], [bool; 2])> {
 /// The options of a command that shows home blocks: HOME and -n, and whether --hex stands there.
 fn shown(alloc: Global, words: &[&str]) -> Option<([u64; 2], bool)> {
     match parse(alloc, words).ok()? {
-        Words::Plain(Plain::Cat { options, .. }) => {
-            let CatOptions {
-                home,
-                count,
-                hex,
-                ..
-            } = options;
-            Some(([home, count], hex))
-        }
+        Words::Plain(Plain::Cat { options: of, .. }) => Some(([of.home, of.count], of.hex)),
         _ => None,
     }
 }
@@ -76,14 +52,7 @@ fn shown(alloc: Global, words: &[&str]) -> Option<([u64; 2], bool)> {
 /// The options of a dump: --home and --last, and whether --super stands there.
 fn chosen(alloc: Global, words: &[&str]) -> Option<([Option<u64>; 2], bool)> {
     match parse(alloc, words).ok()? {
-        Words::Plain(Plain::Dump { options, .. }) => {
-            let DumpOptions {
-                home,
-                last,
-                superblock,
-            } = options;
-            Some(([home, last], superblock))
-        }
+        Words::Plain(Plain::Dump { options: of, .. }) => Some(([of.home, of.last], of.superblock)),
         _ => None,
     }
 }
@@ -91,22 +60,15 @@ fn chosen(alloc: Global, words: &[&str]) -> Option<([Option<u64>; 2], bool)> {
 /// The options of a recovery: --extents, and whether --force, --dry-run and --list stand there.
 fn recovering<'a>(alloc: Global, words: &'a [&'a str]) -> Option<(&'a str, [bool; 3])> {
     match parse(alloc, words).ok()? {
-        Words::Plain(Plain::Recover { options, .. }) => {
-            let RecoverOptions {
-                extents,
-                force,
-                dry_run,
-                list,
-                ..
-            } = options;
-            Some((extents.unwrap_or(""), [force, dry_run, list]))
+        Words::Plain(Plain::Recover { options: of, .. }) => {
+            Some((of.extents.unwrap_or(""), [of.force, of.dry_run, of.list]))
         }
         _ => None,
     }
 }
 
 /// Dumps, and their options: --home and --last, and whether --super stands there.
-const DUMPS: &[(&[&str], Option<u64>, Option<u64>, bool)] = &[
+static DUMPS: [(&[&str], Option<u64>, Option<u64>, bool); 5] = [
     (&["dump", "a"], None, None, false),
     (&["dump", "--home", "5", "a"], Some(5), None, false),
     (
@@ -125,7 +87,7 @@ const DUMPS: &[(&[&str], Option<u64>, Option<u64>, bool)] = &[
 ];
 
 /// Commands that show home blocks, their options, and the file of their journal.
-const CATS: &[(&[&str], ([u64; 2], bool), &str)] = &[
+static CATS: [(&[&str], ([u64; 2], bool), &str); 3] = [
     (&["cat", "a.img", "5"], ([5, 1], false), ""),
     (
         &["cat", "--hex", "a.img", "-n", "3", "18446744073709551615"],
@@ -140,7 +102,7 @@ const CATS: &[(&[&str], ([u64; 2], bool), &str)] = &[
 ];
 
 /// Recoveries, the list of their extents, and whether --force, --dry-run and --list stand there.
-const RECOVERIES: &[(&[&str], &str, [bool; 3])] = &[
+static RECOVERIES: [(&[&str], &str, [bool; 3]); 4] = [
     (&["recover", "a.img"], "", [false, false, false]),
     (
         &["recover", "--extents", "(0-1):5-6, (2):9", "a.img"],
@@ -159,7 +121,7 @@ const RECOVERIES: &[(&[&str], &str, [bool; 3])] = &[
     ),
 ];
 
-const ANY_ORDER: [&str; 12] = [
+const ANY_ORDER: &[&str] = &[
     "format",
     "--uuid",
     "000102030405060708090A0b0c0d0e0f",
@@ -174,7 +136,7 @@ const ANY_ORDER: [&str; 12] = [
     "1024",
 ];
 
-const LEFT_OUT: [&str; 8] = [
+const LEFT_OUT: &[&str] = &[
     "format",
     "a.img",
     "--bs",
@@ -186,7 +148,7 @@ const LEFT_OUT: [&str; 8] = [
 ];
 
 /// Loads, and their options.
-const LOADS: &[(&[&str], ([u64; 2], [bool; 2]))] = &[
+static LOADS: [(&[&str], ([u64; 2], [bool; 2])); 3] = [
     (&["load", "a.img", "queue.txt"], ([1, 0], [false, false])),
     (
         &["load", "--hold", "a.img", "--threads", "64", "queue.txt"],
@@ -205,60 +167,97 @@ const LOADS: &[(&[&str], ([u64; 2], [bool; 2]))] = &[
     ),
 ];
 
+const UUID: &str = "000102030405060708090A0b0c0d0e0f";
+
+const NO_UUID: &str = "00000000000000000000000000000000";
+
+/// Commands, and their names and words.
+static COMMANDS: [(&[&str], (&str, &str, &str)); 11] = [
+    (&["cost", "queue.txt"], ("cost", "queue.txt", "")),
+    (&["cost", "-"], ("cost", "-", "")),
+    (&["cost", "--", "-x"], ("cost", "-x", "")),
+    (&["plan", "-"], ("plan", "-", "")),
+    (&["check", "a", "b"], ("check", "a", "b")),
+    (&["recover", "a.img"], ("recover", "a.img", "")),
+    (
+        &["recover", "--journal=j", "a.img"],
+        ("recover", "a.img", "j"),
+    ),
+    (&["renumber", "a.img"], ("renumber", "a.img", "")),
+    (&["widen", "--", "-"], ("widen", "-", "")),
+    (ANY_ORDER, ("format", "a.img", UUID)),
+    (LEFT_OUT, ("format", "a.img", NO_UUID)),
+];
+
+/// Checks what is asked for by words.
+fn check_asked(
+    test: &impl Bench,
+    words: &[&str],
+    wanted: (&str, &str, &str),
+    of: &'static str,
+    row: u64,
+) {
+    let is_asked = asked(test.alloc(), words) == Some(wanted);
+    check_at(test, is_asked, of, row)
+}
+
+fn check_commands(test: &impl Bench) {
+    for (row, (words, wanted)) in (0..).zip(&COMMANDS) {
+        check_asked(test, words, *wanted, "the command of row", row)
+    }
+    let found = numbers(test.alloc(), ANY_ORDER);
+    let is_taken = found == Some(([1024, 33, 16, 6], true));
+    check(test, is_taken, "a format's options in any order");
+    let found = numbers(test.alloc(), LEFT_OUT);
+    let is_taken = found == Some(([1024, 33, 16, 0], false));
+    check(test, is_taken, "a format's options that are left out")
+}
+
+fn check_dumps(test: &impl Bench) {
+    for (row, (words, home, last, superblock)) in (0..).zip(&DUMPS) {
+        check_asked(test, words, ("dump", "a", ""), "a dump's row", row);
+        let found = chosen(test.alloc(), words);
+        let is_taken = found == Some(([*home, *last], *superblock));
+        check_at(test, is_taken, "the options of a dump's row", row)
+    }
+}
+
+fn check_cats(test: &impl Bench) {
+    for (row, (words, wanted, journal)) in (0..).zip(&CATS) {
+        let command = ("cat", "a.img", *journal);
+        check_asked(test, words, command, "a cat's row", row);
+        let is_taken = shown(test.alloc(), words) == Some(*wanted);
+        check_at(test, is_taken, "the options of a cat's row", row)
+    }
+}
+
+fn check_recoveries(test: &impl Bench) {
+    for (row, (words, extents, flags)) in (0..).zip(&RECOVERIES) {
+        let command = ("recover", "a.img", "");
+        check_asked(test, words, command, "a recovery's row", row);
+        let is_taken = recovering(test.alloc(), words) == Some((*extents, *flags));
+        check_at(test, is_taken, "the options of a recovery's row", row)
+    }
+}
+
+fn check_loads(test: &impl Bench) {
+    for (row, (words, wanted)) in (0..).zip(&LOADS) {
+        let command = ("load", "a.img", "queue.txt");
+        check_asked(test, words, command, "a load's row", row);
+        let is_taken = loading(test.alloc(), words) == Some(*wanted);
+        check_at(test, is_taken, "the options of a load's row", row)
+    }
+}
+
+fn check_words(test: &impl Bench) {
+    check_commands(test);
+    check_dumps(test);
+    check_cats(test);
+    check_recoveries(test);
+    check_loads(test)
+}
+
 #[test]
 fn commands_with_their_words_are_taken(rt: HostRuntime) {
-    for (words, wanted) in [
-        (["cost", "queue.txt"].as_slice(), ("cost", "queue.txt", "")),
-        (["cost", "-"].as_slice(), ("cost", "-", "")),
-        (["cost", "--", "-x"].as_slice(), ("cost", "-x", "")),
-        (["plan", "-"].as_slice(), ("plan", "-", "")),
-        (["check", "a", "b"].as_slice(), ("check", "a", "b")),
-        (["recover", "a.img"].as_slice(), ("recover", "a.img", "")),
-        (
-            ["recover", "--journal=j", "a.img"].as_slice(),
-            ("recover", "a.img", "j"),
-        ),
-        (["renumber", "a.img"].as_slice(), ("renumber", "a.img", "")),
-        (["widen", "--", "-"].as_slice(), ("widen", "-", "")),
-        (
-            ANY_ORDER.as_slice(),
-            ("format", "a.img", "000102030405060708090A0b0c0d0e0f"),
-        ),
-        (
-            LEFT_OUT.as_slice(),
-            ("format", "a.img", "00000000000000000000000000000000"),
-        ),
-    ] {
-        assert_eq!(rt; asked(rt.alloc(), words), Some(wanted));
-    }
-    assert_eq!(rt;
-        numbers(rt.alloc(), &ANY_ORDER),
-        Some(([1024, 33, 16, 6], true))
-    );
-    assert_eq!(rt;
-        numbers(rt.alloc(), &LEFT_OUT),
-        Some(([1024, 33, 16, 0], false))
-    );
-    for (words, home, last, superblock) in DUMPS {
-        assert_eq!(rt; asked(rt.alloc(), words), Some(("dump", "a", "")));
-        assert_eq!(rt;
-            chosen(rt.alloc(), words),
-            Some(([*home, *last], *superblock))
-        );
-    }
-    for (words, wanted, journal) in CATS {
-        assert_eq!(rt; asked(rt.alloc(), words), Some(("cat", "a.img", *journal)));
-        assert_eq!(rt; shown(rt.alloc(), words), Some(*wanted));
-    }
-    for (words, extents, flags) in RECOVERIES {
-        assert_eq!(rt; asked(rt.alloc(), words), Some(("recover", "a.img", "")));
-        assert_eq!(rt; recovering(rt.alloc(), words), Some((*extents, *flags)));
-    }
-    for (words, wanted) in LOADS {
-        assert_eq!(rt;
-            asked(rt.alloc(), words),
-            Some(("load", "a.img", "queue.txt"))
-        );
-        assert_eq!(rt; loading(rt.alloc(), words), Some(*wanted));
-    }
+    check_words(&By(&rt, rt.alloc()))
 }

@@ -6,7 +6,7 @@ use crate::journals::{CLEAN_TEXT, by_hand, journal_of};
 use jb_dump::{Choice, DumpFault, dump_chosen};
 use jb_super::SuperFault;
 use std::alloc::Global;
-use tests_support::{Must, Row, Test, check_at, check_in};
+use tests_support::{Must, Test, check_at, check_in};
 
 /// The home block and the number of last transactions that are asked for, and whether the superblock alone; and the
 /// lines of a text that this takes.
@@ -44,16 +44,10 @@ static OF_CLEAN: [Taken; 3] = [
     (None, None, true, &[0, 1]),
 ];
 
-/// Rows that leave a journal without a text, and why.
-static REFUSED: [(&[Row], DumpFault); 2] = [
-    (
-        &[(0x400, [0xC03B_3998, 5, 2, 1025])],
-        DumpFault::BadRevoke(1),
-    ),
-    (
-        &[(0x10, [0x7FFF_FFFF, 1, 2, 1])],
-        DumpFault::Super(SuperFault::Geometry),
-    ),
+/// Words that leave a journal without a text, and why.
+static REFUSED: [(&str, DumpFault); 2] = [
+    ("400:c03b3998 5 2 401", DumpFault::BadRevoke(1)),
+    ("10:7fffffff 1 2 1", DumpFault::Super(SuperFault::Geometry)),
 ];
 
 const EVERY_LINE: [usize; 18] = [0, 1, 2, 3, 4, 5, 6, 7, 8, 9, 10, 11, 12, 13, 14, 15, 16, 17];
@@ -105,8 +99,8 @@ fn check_taken(
 }
 
 /// Checks that each choice answers the fault of a journal without a text, and writes nothing.
-fn check_refused(test: &impl Test, alloc: Global, rows: &[Row], fault: DumpFault) {
-    let journal = by_hand(test, alloc, rows);
+fn check_refused(test: &impl Test, alloc: Global, words: &str, fault: DumpFault) {
+    let journal = by_hand(test, alloc, words);
     for (row, taken) in (0..).zip(&OF_SESSION) {
         let (answer, written) = told(alloc, &journal, taken);
         check_at(test, answer == Err(fault), "the fault of row", row);
@@ -115,12 +109,12 @@ fn check_refused(test: &impl Test, alloc: Global, rows: &[Row], fault: DumpFault
 }
 
 fn check_choices(test: &impl Test, alloc: Global) {
-    let session = journal_of(test, alloc, 0x10_0000, &SESSION);
+    let session = journal_of(test, alloc, 0x10_0000, SESSION);
     check_taken(test, alloc, &session, SESSION_TEXT, &OF_SESSION, "session");
-    let clean = by_hand(test, alloc, &[(0x10, [33, 1, 2, 0])]);
+    let clean = by_hand(test, alloc, "10:21 1 2 0");
     check_taken(test, alloc, &clean, CLEAN_TEXT, &OF_CLEAN, "clean");
-    for (rows, fault) in &REFUSED {
-        check_refused(test, alloc, rows, *fault)
+    for (words, fault) in &REFUSED {
+        check_refused(test, alloc, words, *fault)
     }
 }
 

@@ -4,36 +4,21 @@ use crate::checks::By;
 use jb_dump::{DumpFault, dump};
 use jb_super::SuperFault;
 use std::alloc::Global;
-use tests_support::{Must, Row, Test, check_at, put_rows};
-
-const MAGIC: u32 = 0xC03B_3998;
+use tests_support::{Must, Test, check_at, put_text};
 
 /// Blocks of 1,024 bytes in the journals made by hand.
 pub const BLOCKS: usize = 33;
 
 const LEN: usize = 1024 * BLOCKS;
 
-const UUID: [u32; 4] = [0x0001_0203, 0x0405_0607, 0x0809_0A0B, 0x0C0D_0E0F];
-
 /// A journal of 33 blocks that begins with number 2 at place 1.
-static SUPER: [Row; 5] = [
-    (0x00, [MAGIC, 4, 0, 0x400]),
-    (0x10, [33, 1, 2, 1]),
-    (0x20, [0, 0, 1, 0]),
-    (0x30, UUID),
-    (0x40, [1, 0, 0, 0]),
-];
+const SUPER: &str = "0:c03b3998 4 0 400 21 1 2 1 0 0 1 0 10203 4050607 8090a0b c0d0e0f 1 0 0 0";
 
 /// A revoke of home 7, and home 5 with an escaped copy.
-static REVOKE_AND_COPY: [Row; 7] = [
-    (0x400, [MAGIC, 5, 2, 20]),
-    (0x410, [7, 0, 0, 0]),
-    (0x800, [MAGIC, 1, 2, 5]),
-    (0x810, [9, 0x0001_0203, 0x0405_0607, 0x0809_0A0B]),
-    (0x820, [0x0C0D_0E0F, 0, 0, 0]),
-    (0xC00, [0, 0x0102_0304, 0, 0]),
-    (0x1000, [MAGIC, 2, 2, 0]),
-];
+const REVOKE_AND_COPY: &str = "400:c03b3998 5 2 14 7 0 0 0
+800:c03b3998 1 2 5 9 10203 4050607 8090a0b c0d0e0f 0 0 0
+c00:0 1020304 0 0
+1000:c03b3998 2 2 0";
 
 /// The text of the journal that is made by hand.
 pub const REVOKE_AND_COPY_TEXT: &str =
@@ -46,18 +31,18 @@ uuid 000102030405060708090a0b0c0d0e0f
 end transactions=1 expected=3
 ";
 
-/// A journal of so many bytes, four MiB at most: zeros with these rows.
-pub fn journal_of(test: &impl Test, alloc: Global, len: usize, rows: &[Row]) -> Vec<u8> {
+/// A journal of so many bytes, four MiB at most: zeros with these words.
+pub fn journal_of(test: &impl Test, alloc: Global, len: usize, words: &str) -> Vec<u8> {
     let mut journal = vec![in alloc; 0; len.min(0x40_0000)].must(test, "memory");
-    put_rows(&mut journal, rows);
+    put_text(&mut journal, 0, words);
     journal
 }
 
-/// The journal made by hand, with these rows too.
-pub fn by_hand(test: &impl Test, alloc: Global, rows: &[Row]) -> Vec<u8> {
-    let mut journal = journal_of(test, alloc, LEN, &SUPER);
-    put_rows(&mut journal, &REVOKE_AND_COPY);
-    put_rows(&mut journal, rows);
+/// The journal made by hand, with these words too.
+pub fn by_hand(test: &impl Test, alloc: Global, words: &str) -> Vec<u8> {
+    let mut journal = journal_of(test, alloc, LEN, SUPER);
+    put_text(&mut journal, 0, REVOKE_AND_COPY);
+    put_text(&mut journal, 0, words);
     journal
 }
 
@@ -76,54 +61,38 @@ pub fn told(alloc: Global, journal: &[u8]) -> (Result<(), DumpFault>, Vec<u8>) {
 /// The text of a journal, or why it has none.
 pub type Dumped = Result<&'static str, DumpFault>;
 
-/// The rows that are put into the journal made by hand, and what its dump answers.
-static CASES: [(&[Row], Dumped); 7] = [
-    (&[], Ok(REVOKE_AND_COPY_TEXT)),
+/// The words that are put into the journal made by hand, and what its dump answers.
+static CASES: [(&str, Dumped); 7] = [
+    ("", Ok(REVOKE_AND_COPY_TEXT)),
     (
-        &[
-            (0x10, [33, 1, 2, 30]),
-            (0x7800, [MAGIC, 1, 2, 5]),
-            (0x7820, [0, 6, 2, 7]),
-            (0x7830, [2, 8, 10, 0]),
-            (0x7C00, [1, 2, 0, 0]),
-            (0x8000, [3, 4, 0, 0]),
-            (0x400, [5, 6, 0, 0]),
-            (0x410, [0, 0, 0, 0]),
-            (0x800, [7, 8, 0, 0]),
-            (0x810, [0, 0, 0, 0]),
-            (0x820, [0, 0, 0, 0]),
-            (0xC00, [MAGIC, 2, 2, 0]),
-            (0x1000, [0, 0, 0, 0]),
-        ],
+        "10:21 1 2 1e
+400:5 6 0 0 0 0 0 0
+800:7 8 0 0 0 0 0 0 0 0 0 0
+c00:c03b3998 2 2 0
+1000:0 0 0 0
+7800:c03b3998 1 2 5 7820:0 6 2 7 2 8 a 0
+7c00:1 2 0 0
+8000:3 4 0 0",
         Ok(WRAPPED_TEXT),
     ),
-    (&[(0x10, [33, 1, 2, 0])], Ok(CLEAN_TEXT)),
+    ("10:21 1 2 0", Ok(CLEAN_TEXT)),
     (
-        &[
-            (0x20, [0, 0, 3, 0]),
-            (0x400, [MAGIC, 5, 2, 36]),
-            (0x410, [0, 7, 1, 7]),
-            (0x420, [1, 8, 0, 0]),
-            (0x810, [1, 1, UUID[0], UUID[1]]),
-            (0x820, [UUID[2], UUID[3], 6, 10]),
-            (0x830, [0xFFFF_FFFF, 0, 0, 0]),
-            (0x1000, [8, 9, 0, 0]),
-            (0x1400, [MAGIC, 2, 2, 0]),
-        ],
+        "20:0 0 3 0
+400:c03b3998 5 2 24 0 7 1 7 1 8 0 0
+810:1 1 10203 4050607 8090a0b c0d0e0f 6 a ffffffff 0 0 0
+1000:8 9 0 0
+1400:c03b3998 2 2 0",
         Ok(WIDE_TEXT),
     ),
     (
-        &[(0x20, [0, 0, 0x12, 0])],
+        "20:0 0 12 0",
         Err(DumpFault::Super(SuperFault::Feature(2, 16))),
     ),
     (
-        &[(0x10, [0x7FFF_FFFF, 1, 2, 1])],
+        "10:7fffffff 1 2 1",
         Err(DumpFault::Super(SuperFault::Geometry)),
     ),
-    (
-        &[(0x400, [MAGIC, 5, 2, 1025])],
-        Err(DumpFault::BadRevoke(1)),
-    ),
+    ("400:c03b3998 5 2 401", Err(DumpFault::BadRevoke(1))),
 ];
 
 const WRAPPED_TEXT: &str =
@@ -169,8 +138,8 @@ pub fn check_dump(test: &impl Test, alloc: Global, journal: &[u8], wanted: Dumpe
 }
 
 fn check_cases(test: &impl Test, alloc: Global) {
-    for (row, (rows, wanted)) in (0..).zip(&CASES) {
-        check_dump(test, alloc, &by_hand(test, alloc, rows), *wanted, row)
+    for (row, (words, wanted)) in (0..).zip(&CASES) {
+        check_dump(test, alloc, &by_hand(test, alloc, words), *wanted, row)
     }
 }
 

@@ -10,7 +10,7 @@ use tests_support::{Must, Test, check_at};
 
 /// Checks journals that end after each of their blocks, and within the superblock.
 fn check_cut(test: &impl Test, alloc: Global) {
-    let journal = by_hand(test, alloc, &[]);
+    let journal = by_hand(test, alloc, "");
     for step in 0..BLOCKS + 1 {
         let len = if step < BLOCKS { step * 1024 } else { 1023 };
         let fault = if len < 1024 {
@@ -95,7 +95,7 @@ fn check_halting(
 /// and never fails, and ones that stop early.
 fn check_readers(test: &impl Test, alloc: Global) {
     check_cut(test, alloc);
-    let mut journal = by_hand(test, alloc, &[]);
+    let mut journal = by_hand(test, alloc, "");
     journal.push(77).must(test, "memory");
     for step in 0..CALLS + 2 {
         check_halting(test, alloc, &journal, 700, Some(step))

@@ -3,28 +3,21 @@
 use crate::checks::By;
 use jb_block::Width;
 use jb_super::Super;
-use tests_support::{Must, Row, Test, block_with, check_in};
+use tests_support::{Must, Test, check_in, put_text};
 
-const UUID: Row = (0x30, [0x6A0B_1C2D, 0x3E4F_4051, 0x8263_7485, 0x96A7_B8C9]);
-
-/// The same, in bytes.
+/// The UUID of each, in bytes.
 static UUID_BYTES: [u8; 16] = [
     0x6A, 0x0B, 0x1C, 0x2D, 0x3E, 0x4F, 0x40, 0x51, 0x82, 0x63, 0x74, 0x85, 0x96, 0xA7, 0xB8, 0xC9,
 ];
 
 /// debugfs, after it logged a block with checksums of transactions, and else as the last of the images.
-pub static SUMMED: [Row; 5] = [
-    (0x00, [0xC03B_3998, 4, 0, 0x400]),
-    (0x10, [0x1000, 1, 1, 1]),
-    (0x20, [0, 1, 2, 0]),
-    UUID,
-    (0x40, [1, 0, 0, 0]),
-];
+pub const SUMMED: &str =
+    "0:c03b3998 4 0 400 1000 1 1 1 0 1 2 0 6a0b1c2d 3e4f4051 82637485 96a7b8c9 1 0 0 0";
 
-/// A superblock: its rows, and what is read of it.
+/// A superblock: its words, and what is read of it.
 struct Image {
     name: &'static str,
-    rows: &'static [Row],
+    words: &'static str,
     width: Width,
     /// The header's number, the block size, `s_maxlen`, `s_first`, `s_sequence`, `s_start`, `s_errno`, the words of
     /// features, `s_nr_users`, `s_dynsuper`, `s_max_transaction`, `s_max_trans_data`; how many blocks the log has, and
@@ -35,35 +28,20 @@ struct Image {
 static IMAGES: [Image; 5] = [
     Image {
         name: "mke2fs, blocks of 1,024 bytes",
-        rows: &[
-            (0x00, [0xC03B_3998, 4, 0, 0x400]),
-            (0x10, [0x1000, 1, 1, 0]),
-            UUID,
-            (0x40, [1, 0, 0, 0]),
-        ],
+        words: "0:c03b3998 4 0 400 1000 1 1 30:6a0b1c2d 3e4f4051 82637485 96a7b8c9 1",
         width: Width::Narrow,
         fields: [0, 1024, 4096, 1, 1, 0, 0, 0, 0, 0, 1, 0, 0, 0, 4095, 1023],
     },
     // no feature of the journal names the fast commits yet, which it has room for
     Image {
         name: "mke2fs, blocks of 4,096 bytes and room for fast commits",
-        rows: &[
-            (0x00, [0xC03B_3998, 4, 0, 0x1000]),
-            (0x10, [0x410, 1, 1, 0]),
-            UUID,
-            (0x40, [1, 0, 0, 0]),
-            (0x50, [0, 0x10, 0, 0]),
-        ],
+        words: "0:c03b3998 4 0 1000 410 1 1 30:6a0b1c2d 3e4f4051 82637485 96a7b8c9 1 54:10",
         width: Width::Narrow,
         fields: [0, 4096, 1040, 1, 1, 0, 0, 0, 0, 0, 1, 0, 0, 0, 1039, 259],
     },
     Image {
         name: "mke2fs, a journal on a device of its own",
-        rows: &[
-            (0x00, [0xC03B_3998, 4, 0, 0x400]),
-            (0x10, [0x1_0000, 3, 1, 0]),
-            UUID,
-        ],
+        words: "0:c03b3998 4 0 400 10000 3 1 30:6a0b1c2d 3e4f4051 82637485 96a7b8c9",
         width: Width::Narrow,
         fields: [
             0, 1024, 65536, 3, 1, 0, 0, 0, 0, 0, 0, 0, 0, 0, 65533, 16383,
@@ -71,29 +49,24 @@ static IMAGES: [Image; 5] = [
     },
     Image {
         name: "debugfs, after it revoked a block",
-        rows: &[
-            (0x00, [0xC03B_3998, 4, 0, 0x400]),
-            (0x10, [0x1000, 1, 1, 1]),
-            (0x20, [0, 0, 1, 0]),
-            UUID,
-            (0x40, [1, 0, 0, 0]),
-        ],
+        words: "0:c03b3998 4 0 400 1000 1 1 1 0 0 1 0 6a0b1c2d 3e4f4051 82637485 96a7b8c9 1",
         width: Width::Narrow,
         fields: [0, 1024, 4096, 1, 1, 1, 0, 0, 1, 0, 1, 0, 0, 0, 4095, 1023],
     },
     Image {
         name: "debugfs, after it logged a block with 64-bit block numbers",
-        rows: &[
-            (0x00, [0xC03B_3998, 4, 0, 0x400]),
-            (0x10, [0x1000, 1, 1, 1]),
-            (0x20, [0, 0, 2, 0]),
-            UUID,
-            (0x40, [1, 0, 0, 0]),
-        ],
+        words: "0:c03b3998 4 0 400 1000 1 1 1 0 0 2 0 6a0b1c2d 3e4f4051 82637485 96a7b8c9 1",
         width: Width::Wide,
         fields: [0, 1024, 4096, 1, 1, 1, 0, 0, 2, 0, 1, 0, 0, 0, 4095, 1023],
     },
 ];
+
+/// A block of zeros with these words.
+pub fn block_of_words(words: &str) -> [u8; 1024] {
+    let mut block = [0; 1024];
+    put_text(&mut block, 0, words);
+    block
+}
 
 /// The fields of a superblock, in the order of an image's.
 fn fields_of(sb: &Super) -> [u32; 16] {
@@ -120,13 +93,13 @@ fn fields_of(sb: &Super) -> [u32; 16] {
 /// Checks what is read of an image, that it is written back as it is, and the feature of revokes.
 fn check_image(test: &impl Test, image: &Image, at: u64) {
     let name = image.name;
-    let mut block = block_with(image.rows);
+    let mut block = block_of_words(image.words);
     let sb = Super::read(&block).must(test, name);
     check_in(test, fields_of(&sb) == image.fields, name, "fields", at);
     check_in(test, sb.width() == image.width, name, "width", at);
     check_in(test, sb.uuid() == UUID_BYTES, name, "UUID", at);
     sb.write_into(&mut block);
-    let is_same = block == block_with(image.rows);
+    let is_same = block == block_of_words(image.words);
     check_in(test, is_same, name, "what is written", at);
     let revoking = sb.with_revoke();
     let is_revoking = revoking.incompat() == image.fields[8] | 1;

@@ -61,7 +61,7 @@ fn check_halting(
 
 /// Checks a writer that is full after 22 bytes.
 fn check_full(test: &impl Test, alloc: Global) {
-    let journal = by_hand(test, alloc, &[]);
+    let journal = by_hand(test, alloc, "");
     let mut held = [0; 22];
     let (mut rest, mut room) = (journal.as_slice(), held.as_mut_slice());
     let answer = dump(alloc, &mut rest, &mut room);
@@ -72,7 +72,7 @@ fn check_full(test: &impl Test, alloc: Global) {
 
 /// Checks writers that fail at each call, and one that is full.
 fn check_writers(test: &impl Test, alloc: Global) {
-    let journal = by_hand(test, alloc, &[]);
+    let journal = by_hand(test, alloc, "");
     for most in [1, 50, 1000] {
         let writes = REVOKE_AND_COPY_TEXT.len().div_ceil(most);
         for calls in 0..writes.saturating_add(2) {

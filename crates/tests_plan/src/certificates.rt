@@ -22,6 +22,14 @@ type Row = (
     Option<Reason>,
 );
 
+const OPENING: Option<Reason> = Some(Reason::OpeningPrice);
+
+const UNDERCUT: Option<Reason> = Some(Reason::Undercut(1, 4));
+
+const OVER: Option<Reason> = Some(Reason::OverLimit(0, 4));
+
+const TOTAL: Option<Reason> = Some(Reason::TotalDiffers);
+
 static VERDICTS: [Row; 17] = [
     ("bs 1024\nlimit 8\n", "0", "0", "0", None),
     (GROWING, "0 4 6 6 9", "0 1 4", "9", None),
@@ -29,52 +37,16 @@ static VERDICTS: [Row; 17] = [
     // a price that no sum may wrap
     (FREEING, "0 18446744073709551615 2", "0 2", "2", None),
     (ALONE, "0 none", "none", "", None),
-    (
-        GROWING,
-        "1 4 6 6 9",
-        "0 1 4",
-        "9",
-        Some(Reason::OpeningPrice),
-    ),
-    (
-        GROWING,
-        "none 4 6 6 9",
-        "0 1 4",
-        "9",
-        Some(Reason::OpeningPrice),
-    ),
-    (
-        GROWING,
-        "0 4 6 6 11",
-        "0 3 4",
-        "11",
-        Some(Reason::Undercut(1, 4)),
-    ),
+    (GROWING, "1 4 6 6 9", "0 1 4", "9", OPENING),
+    (GROWING, "none 4 6 6 9", "0 1 4", "9", OPENING),
+    (GROWING, "0 4 6 6 11", "0 3 4", "11", UNDERCUT),
     // of two undercuts that with the least first bound, not that with the least end
     (MIDDLE, "0 0 9 9", "0 3", "9", Some(Reason::Undercut(0, 3))),
-    (
-        GROWING,
-        "0 4 6 6 none",
-        "none",
-        "",
-        Some(Reason::Undercut(1, 4)),
-    ),
+    (GROWING, "0 4 6 6 none", "none", "", UNDERCUT),
     (GROWING, "0 4 6 6 9", "0 2 1 4", "9", Some(Reason::NotACut)),
     (GROWING, "0 4 6 6 9", "0 1 3", "9", Some(Reason::NotACut)),
-    (
-        GROWING,
-        "0 4 6 6 9",
-        "0 4",
-        "7",
-        Some(Reason::OverLimit(0, 4)),
-    ),
-    (
-        GROWING,
-        "0 4 6 6 9",
-        "0 1 4",
-        "10",
-        Some(Reason::TotalDiffers),
-    ),
+    (GROWING, "0 4 6 6 9", "0 4", "7", OVER),
+    (GROWING, "0 4 6 6 9", "0 1 4", "10", TOTAL),
     (GROWING, "0 4 6 6 8", "0 1 4", "9", Some(Reason::EndPrice)),
     (GROWING, "0 4 6 6 8", "none", "", Some(Reason::EndPrice)),
     (FREEING, "0 none 2", "none", "", Some(Reason::EndPrice)),
@@ -151,30 +123,26 @@ fn check_verdicts(test: &impl Test, alloc: Global) {
     check_no_bounds(test, alloc)
 }
 
+const SYNTAX_1: &str = "jb: certificate: Syntax 1\n";
+
+const SYNTAX_2: &str = "jb: certificate: Syntax 2\n";
+
+const SYNTAX_3: &str = "jb: certificate: Syntax 3\n";
+
+const SYNTAX_4: &str = "jb: certificate: Syntax 4\n";
+
 /// Certificates of GROWING that are none, and what is said of them.
 static UNREAD: [(&str, &str); 8] = [
-    ("", "jb: certificate: Syntax 1\n"),
-    (
-        "prices 0 04\ncut 0 1\ntotal 4\n",
-        "jb: certificate: Syntax 1\n",
-    ),
-    ("prices 0 4 6 6 9\n", "jb: certificate: Syntax 2\n"),
-    (
-        "prices 0 4 6 6 9\ncut 0 1  4\ntotal 9\n",
-        "jb: certificate: Syntax 2\n",
-    ),
-    (
-        "prices 0 4 6 6 9\ncut none\ntotal 9\n",
-        "jb: certificate: Syntax 3\n",
-    ),
+    ("", SYNTAX_1),
+    ("prices 0 04\ncut 0 1\ntotal 4\n", SYNTAX_1),
+    ("prices 0 4 6 6 9\n", SYNTAX_2),
+    ("prices 0 4 6 6 9\ncut 0 1  4\ntotal 9\n", SYNTAX_2),
+    ("prices 0 4 6 6 9\ncut none\ntotal 9\n", SYNTAX_3),
     (
         "prices 0 4 6 6 9\ncut 0 1 4\ntotal 18446744073709551616\n",
-        "jb: certificate: Syntax 3\n",
+        SYNTAX_3,
     ),
-    (
-        "prices 0 4 6 6 9\ncut 0 1 4\ntotal 9\n\n",
-        "jb: certificate: Syntax 4\n",
-    ),
+    ("prices 0 4 6 6 9\ncut 0 1 4\ntotal 9\n\n", SYNTAX_4),
     (
         "prices 0 4 6 6\ncut 0 1 4\ntotal 9\n",
         "jb: certificate: Length\n",

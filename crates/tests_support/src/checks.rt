@@ -1,6 +1,7 @@
 //! What ends a test that fails, and says what is wrong.
 ghost use Rattle.std.specs.Prelude.{◌≡◌, true, OnOk, OnSome};
 
+use std::alloc::Global;
 use std::fmt::{self, Display, Formatter, Write};
 
 /// What nothing returns: a test that has failed has ended.
@@ -44,6 +45,12 @@ pub trait Test {
     fn end(&self, wrong: Wrong) -> Ended;
 }
 
+/// A test that takes memory.
+pub trait Bench: Test {
+    /// The memory that it takes.
+    fn alloc(&self) -> Global;
+}
+
 /// Fails the test, and says why.
 pub fn fail<T>(test: &impl Test, what: &'static str) -> T {
     match test.end(Wrong::of(what)) {}
@@ -84,6 +91,25 @@ pub fn check_in(test: &impl Test, is_so: bool, row: &'static str, what: &'static
         };
         match test.end(wrong) {}
     }
+}
+
+/// The same, where the row says enough.
+pub fn check_row(test: &impl Test, is_so: bool, row: &'static str, what: &'static str)
+    ensures { is_so ≡ true }
+{
+    if !is_so {
+        let wrong = Wrong {
+            row: Some(row),
+            what,
+            at: None,
+        };
+        match test.end(wrong) {}
+    }
+}
+
+/// Fails the test where there is such a place, which is wrong in this row of a table.
+pub fn check_none(test: &impl Test, row: &'static str, what: &'static str, place: Option<u64>) {
+    check_in(test, place.is_none(), row, what, place.unwrap_or(0))
 }
 
 /// A value that a test has to get.

@@ -9,7 +9,11 @@ mod checks;
 mod disks;
 mod seeds;
 
-pub use blocks::{Row, block_of, block_with, put_rows, put_words};
-pub use checks::{Ended, Must, Test, Wrong, check, check_at, check_in, fail};
-pub use disks::{read_at, read_block, write_at, write_block, zeros};
+pub use blocks::{Row, block_of, block_with, put_rows, put_text, put_words};
+pub use checks::{
+    Bench, Ended, Must, Test, Wrong, check, check_at, check_in, check_none, check_row, fail,
+};
+pub use disks::{
+    crashed, difference, difference_below, read_at, read_block, write_at, write_block, zeros,
+};
 pub use seeds::Seed;
