@@ -20,6 +20,11 @@ def freed(handles):
     return lines
 
 
+def idle(handles, place):
+    """Each handle writes a home block of its own, but for one at this place of each eight, which does nothing."""
+    return ["" if i % 8 == place else f"w{i}" for i in range(handles)]
+
+
 LOADS = {
     # name: (limit, handles, the lines of so many handles)
     "seven": (MOST, 16000, lambda n: [f"w{i % 7}" for i in range(n)]),
@@ -31,6 +36,11 @@ LOADS = {
     "new": (MOST, 16000, lambda n: [f"w{i}" for i in range(n)]),
     "fresh": (2047, 60000, lambda n: [f"w{i}" for i in range(n)]),
     "halves": (2047, 60000, lambda n: [f"w{2 * i} r{2 * i + 1}" for i in range(n)]),
+    "eighth": (MOST, 16000, lambda n: idle(n, 7)),
+    "sparse": (MOST, 16000, lambda n: [f"w{i}" if i % 8 == 0 else "" for i in range(n)]),
+    "fresh_eighth": (2047, 60000, lambda n: idle(n, 7)),
+    "twos": (MOST, 16000, lambda n: [f"w{i // 2}" for i in range(n)]),
+    "shifted": (MOST, 16000, lambda n: [f"w{(i + 1) // 2}" for i in range(n)]),
 }
 
 
@@ -41,7 +51,7 @@ def main():
     print("bs 1024")
     print(f"limit {limit}")
     for line in lines(handles):
-        print("h", line)
+        print(f"h {line}".rstrip())
 
 
 main()

@@ -26,14 +26,14 @@ module _ (os : List Owned) (walk sum : Tally) (low : ℕ) (s : Span) (is : IsSpa
   entries : sum.frees.per ≡ walk.geometry.r
   entries = sum.entries ∙ ap (λ (g : Geometry). g.r) geometry
 
-  pub leap-best : (limit end : ℕ) → (sum.copies.blocks ≡ walk.copies.blocks) × (sum.frees.blocks ≡ walk.frees.blocks) → blocks_of sum.geometry sum.copies.entries sum.frees.entries ≤ limit → owned_from copies_of os 0 ≤ 2 ^ 62 → low ≤ end
-      → (ps : List (Option ℕ)) (best earlier : Option Found) → earlier ≡ dearer_by (blocks_of walk.geometry walk.copies.entries walk.frees.entries) s.least → IsBestOf ps os low s → BestStart (owned_cost walk.geometry os) limit ps low end best
+  pub leap-best : (limit met end : ℕ) → s.from ≤ met → met ≤ low → (sum.copies.blocks ≡ walk.copies.blocks) × (sum.frees.blocks ≡ walk.frees.blocks) → blocks_of sum.geometry sum.copies.entries sum.frees.entries ≤ limit → owned_from copies_of os 0 ≤ 2 ^ 62 → low ≤ end
+      → (ps : List (Option ℕ)) (best earlier : Option Found) → earlier ≡ dearer_by (blocks_of walk.geometry walk.copies.entries walk.frees.entries) s.least → IsBestOf ps os low s → BestStart (owned_cost walk.geometry os) limit ps met end best
       → BestStart (owned_cost walk.geometry os) limit ps s.from end (better_of best earlier)
-  leap-best limit end names fits few inside ps best earlier is-dearer of tried =
+  leap-best limit met end back overlap names fits few inside ps best earlier is-dearer of tried =
       let descriptors : div_ceil (owned_from copies_of os low) walk.geometry.t ≡ div_ceil (owned_from copies_of os s.from) walk.geometry.t =
       sym (walk.copies.enough ∙ (λ i. div_ceil (copies i) (walk.tags i))) ∙ sym names.0 ∙ sum.copies.enough ∙ (λ i. div_ceil (leap-copies i) (tags i)) in
       let revokes : div_ceil (owned_from frees_of os low) walk.geometry.r ≡ div_ceil (owned_from frees_of os s.from) walk.geometry.r =
       sym (walk.frees.enough ∙ (λ i. div_ceil (frees i) (walk.entries i))) ∙ sym names.1 ∙ sum.frees.enough ∙ (λ i. div_ceil (leap-frees i) (entries i)) in
       let cost : blocks_of sum.geometry sum.copies.entries sum.frees.entries ≡ owned_cost walk.geometry os s.from = λ i. blocks_of (geometry i) (leap-copies i) (leap-frees i) in
       subst (λ e. BestStart (owned_cost walk.geometry os) limit ps s.from end (better_of best e)) (sym is-dearer)
-      (span-best walk.geometry os low s is descriptors revokes limit (blocks_of walk.geometry walk.copies.entries walk.frees.entries) end (λ i. blocks_of walk.geometry (copies i) (frees i)) (omega (arith, fits, cost)) few inside ps best of tried)
+      (span-best walk.geometry os low s is descriptors revokes limit (blocks_of walk.geometry walk.copies.entries walk.frees.entries) met end back overlap (λ i. blocks_of walk.geometry (copies i) (frees i)) (omega (arith, fits, cost)) few inside ps best of tried)

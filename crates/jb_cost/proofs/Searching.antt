@@ -54,7 +54,7 @@ module _ (g : Geometry) (os : List Owned) (low copies frees : ℕ) (within : low
       stretch-best limit cost end is fits inside ps best least lowest tried =
           let back : low - 1 + 1 ≡ low = omega arith in
           let short : low - 1 ≤ length os = omega (arith, within) in
-          best-joined (owned_cost g os) limit ps from low end (omega (arith, before)) inside best (found_from least cost)
+          best-joined (owned_cost g os) limit ps from low low end (omega (arith, before)) (omega arith) inside best (found_from least cost)
           (best-alike (owned_cost g os) limit ps from low cost fits
           (λ i above below.
           let until : AreIdle os i (low - 1) = λ j late early. idle j (omega arith) early in

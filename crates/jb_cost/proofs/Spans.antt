@@ -78,7 +78,7 @@ module _ (os : List Owned) (end low copies frees : ℕ) (best : Option Found) (c
         let back : low - 1 + 1 ≡ low = omega arith in
         let short : low - 1 ≤ length os = omega (arith, counted.within) in
         let now = counted-more least in
-        best-joined (copies_until os end) (2 ^ 62) ps from low end (omega (arith, before)) counted.within best (found_from least copies_now)
+        best-joined (copies_until os end) (2 ^ 62) ps from low low end (omega (arith, before)) (omega arith) counted.within best (found_from least copies_now)
         (best-alike (copies_until os end) (2 ^ 62) ps from low copies_now (omega (arith, few, now.copies_are, owned-later copies_of os 0 from (omega arith)))
         (λ i above below.
         let until : AreIdle os i (low - 1) = λ j late early. idle j (omega arith) early in
@@ -137,11 +137,11 @@ module _ (g : Geometry) (os : List Owned) (low : ℕ) (s : Span) (is : IsSpan os
           ceil-mono (owned_from frees_of os i) (owned_from frees_of os s.from) g.r g.entries freed_most,
         )
 
-    -- so its best start is the best of them, where they are all within the limit
-    pub span-best : (limit cost end : ℕ) → cost ≡ owned_cost g os low → owned_cost g os s.from ≤ limit → owned_from copies_of os 0 ≤ 2 ^ 62 → low ≤ end → (ps : List (Option ℕ)) (best : Option Found) → IsBestOf ps os low s
-        → BestStart (owned_cost g os) limit ps low end best → BestStart (owned_cost g os) limit ps s.from end (better_of best (dearer_by cost s.least))
-    span-best limit cost end costs fits few inside ps best of tried =
-        best-joined (owned_cost g os) limit ps s.from low end (omega (arith, is.back)) inside best (dearer_by cost s.least)
+    -- so its best start is the best of them, where they are all within the limit; a search may have looked at the last ones of them
+    pub span-best : (limit cost met end : ℕ) → s.from ≤ met → met ≤ low → cost ≡ owned_cost g os low → owned_cost g os s.from ≤ limit → owned_from copies_of os 0 ≤ 2 ^ 62 → low ≤ end → (ps : List (Option ℕ)) (best : Option Found) → IsBestOf ps os low s
+        → BestStart (owned_cost g os) limit ps met end best → BestStart (owned_cost g os) limit ps s.from end (better_of best (dearer_by cost s.least))
+    span-best limit cost met end back overlap costs fits few inside ps best of tried =
+        best-joined (owned_cost g os) limit ps s.from met low end back overlap inside best (dearer_by cost s.least)
         (best-dearer (owned_cost g os) limit ps (copies_until os low) (2 ^ 62) cost s.from low
         (λ i above below. omega (arith, span-cost i above below, costs))
         (λ i above below. omega (arith, fits, owned-dearer g os s.from i above))

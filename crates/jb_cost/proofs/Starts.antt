@@ -67,18 +67,18 @@ module _ (c : ℕ → ℕ) (limit : ℕ) (ps : List (Option ℕ)) where
   pub best-none : (end : ℕ) → BestStart c limit ps end end None
   best-none end i p above below fits is = omega arith
 
-  -- the starts from an earlier one up to low, and those from low on
-  module _ (from low end : ℕ) (back : from ≤ low) (within : low ≤ end) where
-    pub best-joined : (best earlier : Option Found) → BestStart c limit ps from low earlier → BestStart c limit ps low end best → BestStart c limit ps from end (better_of best earlier)
-    best-joined None None none tried = λ i p above below fit is. elim (cases_lt i low) [ inl less ↦ none i p above less fit is | inr more ↦ tried i p more below fit is ]
+  -- the starts from an earlier one up to mid, and those from low on: where the two overlap, they speak of the same starts
+  module _ (from low mid end : ℕ) (back : from ≤ low) (overlap : low ≤ mid) (within : mid ≤ end) where
+    pub best-joined : (best earlier : Option Found) → BestStart c limit ps from mid earlier → BestStart c limit ps low end best → BestStart c limit ps from end (better_of best earlier)
+    best-joined None None none tried = λ i p above below fit is. elim (cases_lt i mid) [ inl less ↦ none i p above less fit is | inr more ↦ tried i p (omega (arith, more)) below fit is ]
     best-joined (Some b) None none tried = record {
       above = omega (arith, tried.above);
       before = tried.before;
       fits = tried.fits;
       is = tried.is;
       costs = tried.costs;
-      least = λ i p above below fit is. elim (cases_lt i low) [ inl less ↦ absurd (none i p above less fit is) | inr more ↦ tried.least i p more below fit is ];
-      first = λ i p above before fit is. elim (cases_lt i low) [ inl less ↦ absurd (none i p above less fit is) | inr more ↦ tried.first i p more before fit is ];
+      least = λ i p above below fit is. elim (cases_lt i mid) [ inl less ↦ absurd (none i p above less fit is) | inr more ↦ tried.least i p (omega (arith, more)) below fit is ];
+      first = λ i p above before fit is. elim (cases_lt i mid) [ inl less ↦ absurd (none i p above less fit is) | inr more ↦ tried.first i p (omega (arith, more)) before fit is ];
     }
     best-joined None (Some s) one tried = record {
       above = one.above;
@@ -86,7 +86,7 @@ module _ (c : ℕ → ℕ) (limit : ℕ) (ps : List (Option ℕ)) where
       fits = one.fits;
       is = one.is;
       costs = one.costs;
-      least = λ i p above below fit is. elim (cases_lt i low) [ inl less ↦ one.least i p above less fit is | inr more ↦ absurd (tried i p more below fit is) ];
+      least = λ i p above below fit is. elim (cases_lt i mid) [ inl less ↦ one.least i p above less fit is | inr more ↦ absurd (tried i p (omega (arith, more)) below fit is) ];
       first = one.first;
     }
     best-joined (Some b) (Some s) one tried = pick (nat_lt (b.price + b.cost) (s.price + s.cost)) refl
@@ -100,8 +100,8 @@ module _ (c : ℕ → ℕ) (limit : ℕ) (ps : List (Option ℕ)) where
               fits = tried.fits;
               is = tried.is;
               costs = tried.costs;
-              least = λ i p above below fit is. elim (cases_lt i low) [ inl sooner ↦ (let most = one.least i p above sooner fit is in omega arith) | inr more ↦ tried.least i p more below fit is ];
-              first = λ i p above before fit is. elim (cases_lt i low) [ inl sooner ↦ (let most = one.least i p above sooner fit is in omega arith) | inr more ↦ tried.first i p more before fit is ];
+              least = λ i p above below fit is. elim (cases_lt i mid) [ inl sooner ↦ (let most = one.least i p above sooner fit is in omega arith) | inr more ↦ tried.least i p (omega (arith, more)) below fit is ];
+              first = λ i p above before fit is. elim (cases_lt i mid) [ inl sooner ↦ (let most = one.least i p above sooner fit is in omega arith) | inr more ↦ tried.first i p (omega (arith, more)) before fit is ];
             }
         pick false e =
             let most : s.price + s.cost ≤ b.price + b.cost = ltb-false (b.price + b.cost) (s.price + s.cost) e in
@@ -111,7 +111,7 @@ module _ (c : ℕ → ℕ) (limit : ℕ) (ps : List (Option ℕ)) where
               fits = one.fits;
               is = one.is;
               costs = one.costs;
-              least = λ i p above below fit is. elim (cases_lt i low) [ inl sooner ↦ one.least i p above sooner fit is | inr more ↦ (let lowest = tried.least i p more below fit is in omega arith) ];
+              least = λ i p above below fit is. elim (cases_lt i mid) [ inl sooner ↦ one.least i p above sooner fit is | inr more ↦ (let lowest = tried.least i p (omega (arith, more)) below fit is in omega arith) ];
               first = one.first;
             }
 

@@ -8,6 +8,7 @@ use crate::found::Found;
 use crate::geometry::Geometry;
 use crate::owned::Owned;
 use crate::shortcuts::Shortcuts;
+use crate::span::span_end;
 use crate::tally::Tally;
 
 /// A search as far as it has come: what the handles from `low` on take as one group, and the best of
@@ -68,8 +69,9 @@ fn further(walk: Walk, owned: &[Owned], shortcuts: &mut Shortcuts, limit: u32) -
     over_stretch(walk, owned, shortcuts, limit)
 }
 
-/// The search beyond the span before it, where the groups from all of its starts are within the limit
-/// and have as many descriptors and revoke blocks as the group so far.
+/// The search beyond the span of the handle before it, where those of the span that it has looked at are
+/// idle, the groups from all of its starts are within the limit, and each of these has as many descriptors
+/// and revoke blocks as the group so far.
 fn over_span(walk: Walk, owned: &[Owned], shortcuts: &mut Shortcuts, limit: u32) -> Option<Walk>
     requires few { owned_from copies_of owned.now 0 + owned_from frees_of owned.now 0 ≤ 2 ^ 62 }
     requires fit { FitOwned owned.now shortcuts.old }
@@ -81,9 +83,10 @@ fn over_span(walk: Walk, owned: &[Owned], shortcuts: &mut Shortcuts, limit: u32)
         × (BestSoFar walk.tally.geometry owned.now limit ps walk →
         IfSome result (BestSoFar walk.tally.geometry owned.now limit ps)) }
 {
-    let Some(span) = shortcuts.span(owned, walk.low) else {
+    let Some(end) = span_end(owned, walk.low) else {
         return None
     };
+    let span = shortcuts.span(owned, end);
     let tally = walk.tally.plus(span.owned());
     if tally.cost() > u64::from(limit) {
         return None;

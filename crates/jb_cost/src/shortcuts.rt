@@ -17,8 +17,8 @@ pub(crate) struct Shortcuts {
 }
 
 impl Shortcuts {
-    ghost use Rattle.std.specs.Prelude.{◌≡◌, ℕ, [], ◌∷◌, ◌++◌, ◌+◌, ◌*◌, ◌/◌, ◌^◌};
-    ghost use Rattle.std.specs.Prelude.{◌<◌, ◌≤◌, List, Option, Some, length, IfSome, OnOk};
+    ghost use Rattle.std.specs.Prelude.{◌≡◌, ℕ, [], ◌∷◌, ◌++◌, ◌+◌, ◌*◌, ◌/◌, ◌%◌, ◌^◌};
+    ghost use Rattle.std.specs.Prelude.{◌<◌, ◌≤◌, List, Option, Some, length, OnOk};
     ghost use Rattle.jb_cost.specs.declared.span.Span.{Span as SpanValue};
     ghost use Rattle.jb_cost.specs.Owned.{owned_from, copies_of, frees_of};
     ghost use Rattle.jb_cost.specs.Starts.{LeastPrice, BestStart, AreIdle, GoBack, AreLeast, stretch_at};
@@ -67,26 +67,24 @@ impl Shortcuts {
         stretch
     }
 
-    /// The span before a handle, if one ends there.
-    pub(crate) fn span(&mut self, owned: &[Owned], end: usize) -> Option<Span>
+    /// The span before a handle, where one ends.
+    pub(crate) fn span(&mut self, owned: &[Owned], end: usize) -> Span
         requires few { owned_from copies_of owned.now 0 + owned_from frees_of owned.now 0 ≤ 2 ^ 62 }
         requires inside { (0 < end) × (end ≤ length owned.now) }
+        requires whole { end % 8 ≡ 0 }
         requires fit { FitOwned owned.now self.old }
         ensures fit { FitOwned owned.now self.new }
-        ensures span { IfSome result (λ s. IsSpan owned.now end s) }
+        ensures span { IsSpan owned.now end result }
         ensures best { (ps : List (Option ℕ)) → FitPrices ps owned.now self.old →
-            FitPrices ps owned.now self.new × IfSome result (λ s. IsBestOf ps owned.now end s) }
+            FitPrices ps owned.now self.new × IsBestOf ps owned.now end result }
     {
-        if end % SPAN != 0 {
-            return None;
-        }
         let place = end / SPAN - 1;
         if let Some(span) = self.spans[place] {
-            return Some(span);
+            return span;
         }
         let span = self.counted(owned, end);
         self.spans[place] = Some(span);
-        Some(span)
+        span
     }
 
     /// The span before a handle, by a walk over its stretches.

@@ -7,18 +7,18 @@ use Rattle.jb_cost.proofs.shortcuts.Shortcuts.span.Goals as goal
 pub returns-in-Some-clause-span : goal.returns-in-Some-clause-span
 returns-in-Some-clause-span c =
     let os = c.args.owned.now in
-    let at : 8 * (c.args.end / 8 - 1) + 8 ≡ c.args.end = place-ends c.args.end c.requires.inside.0 c.if-end-ne0.false in
+    let at : 8 * (c.args.end / 8 - 1) + 8 ≡ c.args.end = place-ends c.args.end c.requires.inside.0 c.requires.whole in
     subst (λ n. IsSpan os n c.in-Some.span) at (c.requires.fit.spans _ _ (sym (get_or_read c.args.self.now.spans.items (c.args.end / 8 - 1) c.index.result.now (omega (arith, c.requires.fit.places, c.requires.inside.1, at)) c.index.ensures _) ∙ c.in-Some.is))
 
 pub returns-in-Some-clause-best : goal.returns-in-Some-clause-best
 returns-in-Some-clause-best c ps fit =
     let os = c.args.owned.now in
-    let at : 8 * (c.args.end / 8 - 1) + 8 ≡ c.args.end = place-ends c.args.end c.requires.inside.0 c.if-end-ne0.false in
+    let at : 8 * (c.args.end / 8 - 1) + 8 ≡ c.args.end = place-ends c.args.end c.requires.inside.0 c.requires.whole in
     (fit, subst (λ n. IsBestOf ps os n c.in-Some.span) at (fit.bests _ _ (sym (get_or_read c.args.self.now.spans.items (c.args.end / 8 - 1) c.index.result.now (omega (arith, c.requires.fit.places, c.requires.inside.1, at)) c.index.ensures _) ∙ c.in-Some.is)))
 
 pub returns-clause-fit : goal.returns-clause-fit
 returns-clause-fit c =
-    let at : 8 * (c.args.end / 8 - 1) + 8 ≡ c.args.end = place-ends c.args.end c.requires.inside.0 c.if-end-ne0.false in
+    let at : 8 * (c.args.end / 8 - 1) + 8 ≡ c.args.end = place-ends c.args.end c.requires.inside.0 c.requires.whole in
     let fit = c.counted-span.ensures.fit in
     record {
       number = fit.number;
@@ -29,7 +29,7 @@ returns-clause-fit c =
 
 pub returns-clause-best : goal.returns-clause-best
 returns-clause-best c ps fit =
-    let at : 8 * (c.args.end / 8 - 1) + 8 ≡ c.args.end = place-ends c.args.end c.requires.inside.0 c.if-end-ne0.false in
+    let at : 8 * (c.args.end / 8 - 1) + 8 ≡ c.args.end = place-ends c.args.end c.requires.inside.0 c.requires.whole in
     let both = c.counted-span.ensures.best ps fit in (
       record {
         leasts = both.0.leasts;
