@@ -17,15 +17,15 @@ returns-in-Ok-clause-settles g c =
 
 pub invariant_of-self-then-not-is_whole : goal.invariant_of-self-then-not-is_whole
 invariant_of-self-then-not-is_whole g c =
-    failed-same g.S.Origin.begun c.self.inside.book c.fail.new.self c.self.inside.scribe c.look.new.scribe c.self.invariant c.fail.ensures.value c.look.ensures.kept.0
+    failed-same g.S.Origin.begun c.self.inside.book c.fail.new.self c.self.inside.scribe c.look.new.scribe c.self.invariant.0 c.fail.ensures.value c.look.ensures.kept.0
 
 pub invariant_of-self-in-Err : goal.invariant_of-self-in-Err
 invariant_of-self-in-Err g c =
-    failed-same g.S.Origin.begun c.self.inside.book c.fail-in-Err.new.self c.self.inside.scribe c.look.new.scribe c.self.invariant (c.fail-in-Err.ensures.value ∙ ap failed_of c.in-Err.ensures.err) c.look.ensures.kept.0
+    failed-same g.S.Origin.begun c.self.inside.book c.fail-in-Err.new.self c.self.inside.scribe c.look.new.scribe c.self.invariant.0 (c.fail-in-Err.ensures.value ∙ ap failed_of c.in-Err.ensures.err) c.look.ensures.kept.0
 
 pub invariant_of-self-in-Ok : goal.invariant_of-self-in-Ok
 invariant_of-self-in-Ok g c =
     let (past, settles, after) = c.in-Ok.ensures.ok in
     let both = c.is_whole.ensures.0 (search rules) in
-    kept-settled g.S.Origin.begun c.self.inside.book c.self.inside.scribe c.args.sight.now c.args.end c.args.shape c.args.done.now c.requires c.look.ensures.seen both.0
-    c.reserved-reserved.ensures.sound c.self.invariant past settles both.1 c.settle.new.self c.look.new.scribe after c.look.ensures.kept.0
+    kept-settled g.S.Origin.begun c.self.inside.book c.self.inside.scribe c.args.seen.now.stops c.args.end c.args.shape c.args.done.now c.requires c.look.ensures.seen both.0
+    c.reserved-reserved.ensures.sound c.self.invariant.0 past settles both.1 c.settle.new.self c.look.new.scribe after c.look.ensures.kept.0

@@ -13,10 +13,10 @@ returns-clause-fails g c =
 
 pub invariant_of-self-then-not-is_out : goal.invariant_of-self-then-not-is_out
 invariant_of-self-then-not-is_out g c =
-    failed-same g.S.Origin.begun c.self.inside.book c.fail.new.self c.self.inside.scribe c.look.new.scribe c.self.invariant c.fail.ensures.value c.look.ensures.kept.0
+    failed-same g.S.Origin.begun c.self.inside.book c.fail.new.self c.self.inside.scribe c.look.new.scribe c.self.invariant.0 c.fail.ensures.value c.look.ensures.kept.0
 
 pub invariant_of-self-2 : goal.invariant_of-self-2
 invariant_of-self-2 g c =
     let out : IsOutAs c.self.inside.book (first_of c.args.done.now) c.args.end c.args.shape = subst (λ n. IsOutAs c.self.inside.book n c.args.end c.args.shape) c.first.ensures (c.is_out.ensures.0 (search rules)) in
-    kept-last g.S.Origin.begun c.self.inside.book c.self.inside.scribe c.args.sight.now c.args.end c.args.shape c.args.done.now c.requires c.look.ensures.seen out
-    c.settle-settled.new.self c.fail-2.new.self c.look.new.scribe c.settle-settled.result c.reserved-reserved.ensures.sound c.self.invariant c.settle-settled.ensures.ok c.settle-settled.ensures.err c.fail-2.ensures.value c.look.ensures.kept.0
+    kept-last g.S.Origin.begun c.self.inside.book c.self.inside.scribe c.args.seen.now.stops c.args.end c.args.shape c.args.done.now c.requires c.look.ensures.seen out
+    c.settle-settled.new.self c.fail-2.new.self c.look.new.scribe c.settle-settled.result c.reserved-reserved.ensures.sound c.self.invariant.0 c.settle-settled.ensures.ok c.settle-settled.ensures.err c.fail-2.ensures.value c.look.ensures.kept.0
