@@ -159,8 +159,8 @@ fn close_parts<D: Disk + Drop, C: Clock, H: Origin, N: Ledger>(
     let (trail, handles, changes, mut scribe) = counter.totals(&histories.stops, lefts);
     let Sights { stops, marks } = seen;
     let (deck, clock, sight) = works.end(histories, marks);
-    histories.stops.check(&mut scribe, stops);
     histories.stops.check(&mut scribe, sight);
+    histories.stops.check(&mut scribe, stops);
     if !are_same(&trail, deck.trail()) {
         return Err(CloseFault::TrailsDiffer {
             deck,
