@@ -234,11 +234,11 @@ module _ {D : Type 0} (size count faults : D → ℕ) (honest : D → Type 0) (n
         let same : past_after 0 new.trail ≡ past_after 0 old.trail = ap (past_after 0) trail in
         kept-all given given old new (omega (arith, same)) (λ h. (leaves up (stands h).stays_honest).later) (λ least c f. f)
         (λ h t c earlier left. (
-          let s = stands h in
-          ⊎_elim
-          (λ (was : left_since old.disk t c). inl was)
-          (λ (f : P c). inr (first-none b old.log.sb s.same (size old.disk) (count old.disk) s.same_size s.same_count given (deck_homes newest old) (s.stood up) (past_after 0 old.trail) old.log.next c has.settled s.number (gives c f)))
-          ((leaves up s.stays_honest).before t c earlier left)))
+        let s = stands h in
+        ⊎_elim
+        (λ (was : left_since old.disk t c). inl was)
+        (λ (f : P c). inr (first-none b old.log.sb s.same (size old.disk) (count old.disk) s.same_size s.same_count given (deck_homes newest old) (s.stood up) (past_after 0 old.trail) old.log.next c has.settled s.number (gives c f)))
+        ((leaves up s.stays_honest).before t c earlier left)))
         ms each
 
     pub checkpoint-marked : (ms : List (OpenDeck D)) (r : Result Checked CheckpointFault) → AnswersCheckpoint (faults old.disk) (faults new.disk) old new r → (honest old.disk → OnOk r (Checkpoints newest old new)) → (old.aborted ≡ false → honest old.disk → LeavesOnly moment left_since old.disk new.disk Unmoved) → Is ms old → Is ms new

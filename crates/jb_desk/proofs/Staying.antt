@@ -62,9 +62,9 @@ stays size count faults honest newest may_leave moment left_since b stops handle
       first = ends.ends.since.has.stopped;
       tickets = ends.ends.since.has.tickets;
       leaves = λ c left. (
-        let f = last.leaves h c (subst (λ x. left_since x (moment m.disk) c) (sym ends.ends.same_disk) left) in
-        let from = f.from in
-        record { many = f.many; from = omega (arith, late, from); to = f.to; next = f.next; number = f.number; recovered = f.recovered });
+          let f = last.leaves h c (subst (λ x. left_since x (moment m.disk) c) (sym ends.ends.same_disk) left) in
+          let from = f.from in
+          record { many = f.many; from = omega (arith, late, from); to = f.to; next = f.next; number = f.number; recovered = f.recovered });
     }
 
 -- ---- a read

@@ -67,7 +67,7 @@ pub record EndsMarked {D : Type 0} (size count faults : D → ℕ) (honest : D �
 
 -- The handle with the ticket stays: there is one mark among these, and a crash at any moment since it leaves the handles of the one history that the seats
 -- made up to this one, at least
-pub record Stays {D : Type 0} (moment : D → ℕ) (left_since : D → ℕ → Image → Type 0) (b : Begun) (stops : List (List (ℕ × WordMap))) (disk : D) (marks : List (OpenDeck D)) (ticket : ℕ) : Type 0 where
+pub record TicketStays {D : Type 0} (moment : D → ℕ) (left_since : D → ℕ → Image → Type 0) (b : Begun) (stops : List (List (ℕ × WordMap))) (disk : D) (marks : List (OpenDeck D)) (ticket : ℕ) : Type 0 where
   pub at : ℕ
   pub mark : OpenDeck D
   pub stands : StandsIn marks (at, mark)
@@ -88,7 +88,7 @@ abbrev pub ShownStays : {D : Type 0} → (size count faults : D → ℕ) → (ho
 ShownStays {D = D} size count faults honest newest may_leave moment left_since b =
     (stops : List (List (ℕ × WordMap))) (handles : ℕ) (shape : Shape) (disk : D) (trail : List Entry) (known : List WordMap) (before marks : List (OpenDeck D)) (ticket : ℕ)
     → EndsMarked size count faults honest newest may_leave moment left_since b stops handles shape disk trail known marks → IsFirstPart before marks → IsShown before ticket → b.honest
-    → Stays moment left_since b stops disk before ticket
+    → TicketStays moment left_since b stops disk before ticket
 
 -- the handle with this ticket, which stopped with these words, is among those that were given, and settled
 pub record IsGiven {D : Type 0} (given : List Stopped) (d : OpenDeck D) (ticket : ℕ) (words : WordMap) : Type 0 where

@@ -35,7 +35,7 @@ invariant_of-self-in-Ok g c =
     let (past, settles, after) = c.in-Ok.ensures.ok in
     let both = c.is_whole.ensures.0 (search rules) in (
       kept-settled g.S.Origin.begun c.self.inside.book c.self.inside.scribe c.args.seen.now.stops c.args.end c.args.shape c.args.done.now c.requires.settling c.look.ensures.seen both.0
-      c.reserved-reserved.ensures.sound c.self.invariant.0 past settles both.1 c.settle.new.self c.look.new.scribe after c.look.ensures.kept.0,
+          c.reserved-reserved.ensures.sound c.self.invariant.0 past settles both.1 c.settle.new.self c.look.new.scribe after c.look.ensures.kept.0,
       marked-settled c.self.inside.seen c.args.seen.now.marks c.learn.new.sight c.self.inside.book c.settle.new.self (entries_of c.args.done.now) c.self.invariant.1 c.learn.ensures.own c.learn.ensures.other c.requires.marked past after,
     )
 

@@ -22,10 +22,10 @@ pub invariant_of-self-2 : goal.invariant_of-self-2
 invariant_of-self-2 g c =
     let out : IsOutAs c.self.inside.book (first_of c.args.done.now) c.args.end c.args.shape = subst (λ n. IsOutAs c.self.inside.book n c.args.end c.args.shape) c.first.ensures (c.is_out.ensures.0 (search rules)) in (
       kept-last g.S.Origin.begun c.self.inside.book c.self.inside.scribe c.args.seen.now.stops c.args.end c.args.shape c.args.done.now c.requires.settling c.look.ensures.seen out
-      c.settle-settled.new.self c.fail-2.new.self c.look.new.scribe c.settle-settled.result c.reserved-reserved.ensures.sound c.self.invariant.0 c.settle-settled.ensures.ok c.settle-settled.ensures.err c.fail-2.ensures.value c.look.ensures.kept.0,
+          c.settle-settled.new.self c.fail-2.new.self c.look.new.scribe c.settle-settled.result c.reserved-reserved.ensures.sound c.self.invariant.0 c.settle-settled.ensures.ok c.settle-settled.ensures.err c.fail-2.ensures.value c.look.ensures.kept.0,
       marked-failed c.learn.new.sight c.settle-settled.new.self c.fail-2.new.self
-      (marked-by c.self.inside.seen c.args.seen.now.marks c.learn.new.sight c.self.inside.book c.settle-settled.new.self (entries_of c.args.done.now) c.self.invariant.1 c.learn.ensures.own c.learn.ensures.other c.requires.marked c.settle-settled.result c.settle-settled.ensures.ok c.settle-settled.ensures.err)
-      c.fail-2.ensures.value,
+          (marked-by c.self.inside.seen c.args.seen.now.marks c.learn.new.sight c.self.inside.book c.settle-settled.new.self (entries_of c.args.done.now) c.self.invariant.1 c.learn.ensures.own c.learn.ensures.other c.requires.marked c.settle-settled.result c.settle-settled.ensures.ok c.settle-settled.ensures.err)
+          c.fail-2.ensures.value,
     )
 
 pub invariant_of-self : goal.invariant_of-self

@@ -34,3 +34,46 @@ settle-requires-clause-settling g c =
 
 pub settle-requires-clause-marked : goal.settle-requires-clause-marked
 settle-requires-clause-marked g c = subst (MarksSettled c.commit-result.result.1.marks) c.in-Ok.is c.commit-result.ensures.marked
+
+pub settle_last-requires-clause-settling : goal.settle_last-requires-clause-settling
+settle_last-requires-clause-settling g c =
+    let p = c.args.prepared in
+    let is : c.in-Err-DeviceFault.field-0 ≡ DeviceFault c.in-Err-DeviceFault.settled = search rules in
+    let told = subst (λ (f : BatchFault). CommitsAs p (Err f)) is (subst (CommitsAs p) c.in-Err-DeviceFault.is c.commit-result.ensures.tells.0) in
+    record {
+      planned = p;
+      is = c.requires.planned;
+      shape_is = search rules;
+      tickets = c.commit-result.ensures.tells.2;
+      recorded = search rules;
+      first = told.0;
+      past = search rules;
+      tells = subst (λ (f : BatchFault). TellsFirst p (Err f)) is (subst (TellsFirst p) c.in-Err-DeviceFault.is c.commit-result.ensures.tells.1);
+    }
+
+pub returns-in_ok-settle-in-Ok-clause-answers : goal.returns-in_ok-settle-in-Ok-clause-answers
+returns-in_ok-settle-in-Ok-clause-answers g c =
+    let told = subst (CommitsAs c.args.prepared) c.in-Ok.is c.commit-result.ensures.tells.0 in
+    (c.requires.free, settles-whole c.args.prepared c.in-Ok.done (view_of c.settle.new.seat).settled told c.in_ok-settle-in-Ok.ensures.settled)
+
+pub returns-in_ok-settle-in-Ok-clause-view : goal.returns-in_ok-settle-in-Ok-clause-view
+returns-in_ok-settle-in-Ok-clause-view g c =
+    let told = subst (CommitsAs c.args.prepared) c.in-Ok.is c.commit-result.ensures.tells.0 in
+    c.in_ok-settle-in-Ok.ensures.view ∙ ap (raised_settled (view_of (seat_of c.args.committer.now))) (whole-past c.args.prepared c.in-Ok.done told)
+
+pub returns-in_ok-settle-in-Ok-clause-round : goal.returns-in_ok-settle-in-Ok-clause-round
+returns-in_ok-settle-in-Ok-clause-round g c =
+    let p = c.args.prepared in
+    (p, refl, subst (λ (r : Result Done BatchFault). IfOk r (IsRound g.D.Disk.size g.D.Disk.count g.D.Disk.faults g.D.Disk.honest g.D.Disk.newest g.D.Disk.may_leave g.D.Disk.moment g.D.Disk.left_since g.H.Origin.begun p)) c.in-Ok.is c.commit-result.ensures.round)
+
+pub returns-in_ok-settle_last-in-Err-DeviceFault-clause-round : goal.returns-in_ok-settle_last-in-Err-DeviceFault-clause-round
+returns-in_ok-settle_last-in-Err-DeviceFault-clause-round g c =
+    let p = c.args.prepared in
+    let Fails = λ (r : Result Done BatchFault). FailsAs g.D.Disk.size g.D.Disk.count g.D.Disk.faults g.D.Disk.honest g.D.Disk.newest g.D.Disk.may_leave g.D.Disk.moment g.D.Disk.left_since g.H.Origin.begun p r in
+    let is : c.in-Err-DeviceFault.field-0 ≡ DeviceFault c.in-Err-DeviceFault.settled = search rules in (
+      p,
+      c.in-Err-DeviceFault.settled,
+      refl,
+      subst (λ (f : BatchFault). Fails (Err f)) is (subst Fails c.in-Err-DeviceFault.is c.commit-result.ensures.failed),
+      c.in_ok-settle_last-in-Err-DeviceFault.ensures.settled,
+    )
