@@ -8,6 +8,7 @@ pub mod Keeping
 pub mod Least
 pub mod Leds
 pub mod Limits
+pub mod Marked
 pub mod Registers
 pub mod SeatCredits
 pub mod Shadows

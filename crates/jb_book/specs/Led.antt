@@ -1,5 +1,5 @@
 -- The calls that led to a book, whose stops are the history.
-use Rattle.std.specs.Prelude.{◌≡◌, ℕ, ◌+◌, false, List, [], ◌++◌, map, length, All, Result, Ok, Err}
+use Rattle.std.specs.Prelude.{◌≡◌, ℕ, ◌+◌, ◌≤◌, ◌^◌, false, List, [], ◌∷◌, ◌++◌, map, length, All, Result, Ok, Err}
 use Rattle.jb_batch.specs.Batch.{gathered}
 use Rattle.jb_cost.specs.Pieces.{pieces}
 use Rattle.jb_deck.specs.declared.done.Entry.{Entry}
@@ -14,7 +14,7 @@ use Rattle.jb_core.specs.Lives.{Log, handles_of, stop_order}
 use Rattle.jb_core.specs.Machine.{Machine}
 use Rattle.jb_core.specs.Ran.{Ran}
 use Rattle.jb_deck.specs.Deck.{IsShapeOf}
-use Rattle.jb_book.specs.Account.{Account, Settles, failed_of, settled_to}
+use Rattle.jb_book.specs.Account.{Account, CanStop, Settles, failed_of, queued, settled_to}
 use Rattle.jb_book.specs.Calls.{Call, Called, AreOfFirst, IsCutOf, handles_in, out_of, stops_of}
 use Rattle.jb_book.specs.Origin.{Begun}
 use Rattle.jb_book.specs.Tied.{AreAccepted}
@@ -79,6 +79,17 @@ pub record Registered : Type 0 where
 -- this book and this history
 abbrev pub registered : Account → List WordMap → Registered
 registered a log = record { book = a; log = log }
+
+-- The open handle of the seat, which had this holder, joins the queue under the next ticket, and its words the history. One more is made for the token then, which
+-- had these entries
+pub record Queues {T : Type 0} (seat : ℕ) (holder : T) (words : WordMap) (old : Registered) (made : List (ℕ × WordMap)) (given : T × ℕ) (new : Registered) (more : List (ℕ × WordMap)) : Type 0 where
+  pub could : CanStop old.book seat words
+  pub queued_as : new.book ≡ queued seat words old.book
+  pub same_holder : given.0 ≡ holder
+  pub next : given.1 ≡ old.book.shadow.next
+  pub few : given.1 ≤ 2 ^ 61
+  pub log : new.log ≡ old.log ++ words ∷ []
+  pub made_one : more ≡ made ++ (given.1, words) ∷ []
 
 -- on an honest disk, the shape is that of the journal of the start
 abbrev pub IsOfBegun : Begun → Shape → Type 0

@@ -3,6 +3,7 @@ pub mod Book
 pub mod Calls
 pub mod Events
 pub mod Led
+pub mod Marks
 pub mod Origin
 pub mod Shadow
 pub mod Tied

@@ -8,9 +8,11 @@ pub mod laws;
 mod origin;
 mod register;
 mod room;
+mod sights;
 
 pub use book::Book;
 pub use fault::{BeginFault, EnqueueFault, WrongBatch};
 pub use follow::end_of;
-pub use origin::Origin;
+pub use origin::{Marks, Origin};
 pub use register::Register;
+pub use sights::{Histories, Sights};

@@ -1,20 +1,37 @@
 //! What a desk was started with, which its caller picks.
 use jb_history::Place;
-use std::marker::Brand;
+use std::marker::{Brand, PhantomData};
 use std::sync::ledger::Ledger;
 
-/// Marks a desk, its ledger of handles and the history of its stops. Besides their members it has what is
+/// Marks a desk, its ledger of handles and its two histories. Besides their members it has what is
 /// known of the disk at the start, which contracts compare the disk of later with. A caller picks it where it
 /// passes [`Brand`].
 pub trait Origin: Ledger + Place {
     ghost use Rattle.jb_book.specs.Origin.{Begun};
+    ghost use Rattle.jb_history.specs.History.{HistoryId};
 
     /// The disk at the start.
     ghost begun: { Begun };
+
+    /// The identity of the history of the journal's marks ([`Marks`]).
+    ghost marks: { HistoryId };
 }
 
 impl Origin for Brand {
     ghost use Rattle.jb_book.specs.Origin.{unknown};
+    ghost use Rattle.jb_history.specs.Place.{nowhere};
 
     ghost begun = { unknown };
+
+    ghost marks = { nowhere };
+}
+
+/// Names the history of a desk's marks: its journal, as it was after each round of a committer.
+#[derive(Drop)]
+pub struct Marks<S: Origin> {
+    of: PhantomData<S>,
+}
+
+impl<S: Origin> Place for Marks<S> {
+    ghost history = { S.marks };
 }

@@ -10,25 +10,31 @@ ghost use Rattle.jb_history.specs.Rule.{IsFirstPart};
 use crate::book::Book;
 use crate::fault::{BeginFault, EnqueueFault, WrongBatch};
 use crate::follow::end_of;
-use crate::origin::Origin;
-use jb_deck::{Batch, Done, Entry};
+use crate::origin::{Marks, Origin};
+use crate::sights::{Histories, Sights};
+use jb_deck::{Batch, Deck, Done, Entry};
+use jb_disk::Disk;
 use jb_handle::{Handle, Shape, Words};
 use jb_history::{History, Made, Scribe, Sight};
 use std::alloc::Global;
 use std::marker::Model;
 
-/// The book, and the right to add to the history of stops. By whichever least cut the batch that is out will be
-/// committed, some calls of a new book led to it, and what stopped by these is the history.
+/// The book, the right to add to the history of stops, and marks that show all that the book has settled. By whichever
+/// least cut the batch that is out will be committed, some calls of a new book led to it, and what stopped by these is
+/// the history.
 #[derive(Drop)]
-pub struct Register<S: Origin> {
+pub struct Register<D: Disk, S: Origin> {
     book: Book<S>,
     scribe: Scribe<Words, S>,
+    seen: Sight<Deck<D>, Marks<S>>,
 }
 
-impl<S: Origin> Model for Register<S> {
+impl<D: Disk, S: Origin> Model for Register<D, S> {
     ghost use Rattle.std.specs.Coded.{codes};
     ghost use Rattle.jb_handle.specs.Word.{words_code};
     ghost use Rattle.jb_book.specs.Led.{Registered, registered, IsRegistered};
+    ghost use Rattle.jb_book.specs.Marks.{IsMarked};
+    ghost use Rattle.std.specs.Prelude.{All};
 
     ghost Value = { Registered };
 
@@ -36,19 +42,26 @@ impl<S: Origin> Model for Register<S> {
 
     ghost view = { λ r. registered r.book r.scribe };
 
-    ghost invariant = { λ r. IsRegistered S.begun r.book r.scribe };
+    ghost invariant = { λ r. IsRegistered S.begun r.book r.scribe × All (IsMarked r.seen) r.book.trail };
 }
 
-impl<S: Origin> Register<S> {
-    ghost use Rattle.jb_book.specs.Account.{IsStart, granted_to, dropped_of, queued, taken_all, shortened};
-    ghost use Rattle.jb_book.specs.Account.{failed_of, refusal, RefusesBegin, CanStop, RefusesStop, CanTake};
+impl<D: Disk, S: Origin> Register<D, S> {
+    ghost use Rattle.jb_book.specs.Account.{IsStart, granted_to, dropped_of, taken_all, shortened};
+    ghost use Rattle.jb_book.specs.Account.{failed_of, refusal, RefusesBegin, RefusesStop, CanTake};
     ghost use Rattle.jb_book.specs.Led.{IsInHistory, IsLed, IsSettling, IsOutAs, SettlesOrFails};
-    ghost use Rattle.jb_book.specs.Led.{FailsAfter, IsOfBegun, IsMachineRun};
+    ghost use Rattle.jb_book.specs.Led.{FailsAfter, IsOfBegun, IsMachineRun, Queues};
+    ghost use Rattle.jb_book.specs.Marks.{HasFailedMark, IsMarked, SeesMore, SeesSame, SeesStop};
     ghost use Rattle.jb_book.specs.Origin.{AreStops};
 
     /// A book in which nothing has happened yet, for a journal of this shape with so many usable log blocks, and a
     /// history without an entry. Takes no memory.
-    pub fn new(alloc: Global, shape: Shape, usable: u64, scribe: Scribe<Words, S>) -> Register<S>
+    pub fn new(
+        alloc: Global,
+        shape: Shape,
+        usable: u64,
+        scribe: Scribe<Words, S>,
+        seen: Sight<Deck<D>, Marks<S>>,
+    ) -> Register<D, S>
         requires few { usable ≤ 2147483646 }
         requires journal { IsOfBegun S.begun shape }
         requires fresh { scribe ≡ [] }
@@ -56,7 +69,7 @@ impl<S: Origin> Register<S> {
         ensures log { result.log ≡ [] }
     {
         let book = Book::new(alloc, shape, usable);
-        Register { book, scribe }
+        Register { book, scribe, seen }
     }
 
     /// A seat begins a handle of so many credits.
@@ -75,7 +88,7 @@ impl<S: Origin> Register<S> {
     }
 
     /// A seat's open handle joins the queue, and its words the history, as made for this token. Gives the handle's seat
-    /// back, and the ticket.
+    /// back, and the ticket, which is higher than those of the handles that were seen; this one is seen then.
     ///
     /// # Errors
     ///
@@ -84,25 +97,26 @@ impl<S: Origin> Register<S> {
         &mut self,
         history: &History<Words, S>,
         made: &mut Made<Words, S>,
+        sight: &mut Sight<Words, S>,
         seat: u64,
         handle: Handle<T>,
     ) -> Result<(T, u64), (Handle<T>, EnqueueFault)>
         requires { S.begun.stops (changes_of handle).words }
-        ensures ok { OnOk result (self.new.book ≡ queued seat (changes_of handle).words self.old.book) }
-        ensures open { OnOk result (CanStop self.old.book seat (changes_of handle).words) }
-        ensures given { IfOk result (λ given. (given.0 ≡ holder handle) × (given.1 ≡ self.old.book.shadow.next)) }
-        ensures few { IfOk result (λ given. given.1 ≤ 2 ^ 61) }
-        ensures log { OnOk result (self.new.log ≡ self.old.log ++ (changes_of handle).words ∷ []) }
-        ensures made { IfOk result (λ given. made.new ≡ made.old ++ (given.1, (changes_of handle).words) ∷ []) }
-        ensures err { OnErr result ((self.new ≡ self.old) × (made.new ≡ made.old)) }
+        ensures ok { IfOk result (λ given. Queues seat (holder handle) (changes_of handle).words self.old made.old given
+            self.new made.new) }
+        ensures sees { IfOk result (λ given. SeesStop sight.old sight.new given.1 (changes_of handle).words) }
+        ensures err { OnErr result ((self.new ≡ self.old) × (made.new ≡ made.old) × (sight.new ≡ sight.old)) }
         ensures back { IfErr result (λ back. back.0 ≡ handle) }
         ensures refused { IfErr result (λ back. RefusesStop self.old.book seat (changes_of handle).words back.1) }
     {
         // that the book is sound is known by looking at it
         let _reserved = self.book.reserved();
+        look(history, &mut self.scribe, sight);
         match self.book.enqueue(seat, handle) {
             Ok(given) => {
                 self.book.record_last(history, &mut self.scribe, made);
+                let mut all = history.show(&mut self.scribe);
+                history.learn(sight, &mut all);
                 Ok(given)
             }
             Err(back) => Err(back),
@@ -138,27 +152,30 @@ impl<S: Origin> Register<S> {
         }
     }
 
-    /// Settles the batch that is out, whole: a batch of this shape that ends at this ticket, and whose handles the
-    /// sight has. Of any other batch the book fails.
+    /// Settles the batch that is out, whole: a batch of this shape that ends at this ticket, whose handles were seen, and
+    /// its groups at a mark. Of any other batch the book fails.
     ///
     /// # Errors
     ///
     /// `WrongBatch` where it is not the batch that is out, or not all of it is committed. The book has failed then.
     pub fn settle(
         &mut self,
-        history: &History<Words, S>,
-        sight: &mut Sight<Words, S>,
+        histories: &Histories<D, S>,
+        seen: &mut Sights<D, S>,
         done: &Done,
         end: u64,
         shape: Shape,
     ) -> Result<(), WrongBatch>
-        requires { IsSettling sight.old end shape done.now }
+        requires settling { IsSettling seen.old.stops end shape done.now }
+        requires marked { All (IsMarked seen.old.marks) (entries_of done.now) }
         ensures settles { SettlesOrFails end shape done.now self.old.book result self.new.book }
-        ensures log { (self.new.log ≡ self.old.log) × (sight.new ≡ sight.old) }
+        ensures log { self.new.log ≡ self.old.log }
+        ensures kept { SeesSame seen.old seen.new }
     {
         // that the book is sound is known by looking at it
         let _reserved = self.book.reserved();
-        look(history, &mut self.scribe, sight);
+        look(&histories.stops, &mut self.scribe, &mut seen.stops);
+        histories.marks.learn(&mut self.seen, &mut seen.marks);
         if !self.is_whole(done, end, shape) {
             self.book.fail();
             return Err(WrongBatch);
@@ -172,26 +189,31 @@ impl<S: Origin> Register<S> {
         }
     }
 
-    /// Settles what was committed of the batch that is out before the journal failed, and fails with it.
+    /// Settles what was committed of the batch that is out before the journal failed, as was seen at a mark, and fails
+    /// with it.
     ///
     /// # Errors
     ///
     /// `WrongBatch` where it is not the batch that is out. The book has failed without it then.
     pub fn settle_last(
         &mut self,
-        history: &History<Words, S>,
-        sight: &mut Sight<Words, S>,
+        histories: &Histories<D, S>,
+        seen: &mut Sights<D, S>,
         done: &Done,
         end: u64,
         shape: Shape,
     ) -> Result<(), WrongBatch>
-        requires { IsSettling sight.old end shape done.now }
+        requires settling { IsSettling seen.old.stops end shape done.now }
+        requires marked { All (IsMarked seen.old.marks) (entries_of done.now) }
+        requires failed { HasFailedMark seen.old.marks }
         ensures fails { FailsAfter end shape done.now self.old.book result self.new.book }
-        ensures log { (self.new.log ≡ self.old.log) × (sight.new ≡ sight.old) }
+        ensures log { self.new.log ≡ self.old.log }
+        ensures kept { SeesSame seen.old seen.new }
     {
         // that the book is sound is known by looking at it
         let _reserved = self.book.reserved();
-        look(history, &mut self.scribe, sight);
+        look(&histories.stops, &mut self.scribe, &mut seen.stops);
+        histories.marks.learn(&mut self.seen, &mut seen.marks);
         if !self.is_out(done.first(), end, shape) {
             self.book.fail();
             return Err(WrongBatch);
@@ -216,11 +238,26 @@ impl<S: Origin> Register<S> {
         self.is_out(done.first(), end, shape) && end_of(done) == end
     }
 
-    /// The journal has failed: the queue and the batch that is out are lost.
-    pub fn fail(&mut self)
+    /// The journal has failed, as was seen at a mark: the queue and the batch that is out are lost.
+    pub fn fail(&mut self, histories: &Histories<D, S>, seen: &mut Sights<D, S>)
+        requires { HasFailedMark seen.old.marks }
+        ensures book { self.new.book ≡ failed_of self.old.book }
+        ensures log { self.new.log ≡ self.old.log }
+        ensures kept { SeesSame seen.old seen.new }
+    {
+        histories.marks.learn(&mut self.seen, &mut seen.marks);
+        self.book.fail();
+    }
+
+    /// A batch whose handles stopped, as was seen, is lost, and the queue with it: nobody could settle its tickets any
+    /// more.
+    pub fn give_up(&mut self, history: &History<Words, S>, sight: Sight<Words, S>, batch: Batch)
+        requires { All (IsInHistory sight) batch.handles }
         ensures book { self.new.book ≡ failed_of self.old.book }
         ensures log { self.new.log ≡ self.old.log }
     {
+        history.check(&mut self.scribe, sight);
+        let _lost = batch.end();
         self.book.fail();
     }
 
@@ -238,6 +275,18 @@ impl<S: Origin> Register<S> {
         ensures log { self.new.log ≡ self.old.log }
     {
         self.book.drop_to(past);
+    }
+
+    /// What can be seen: all that stopped, and marks of all that is settled.
+    pub fn sights(&mut self, histories: &Histories<D, S>) -> Sights<D, S>
+        ensures stops { result.stops ≡ self.old.log }
+        ensures marks { All (IsMarked result.marks) self.old.book.trail }
+        ensures kept { self.new ≡ self.old }
+    {
+        Sights {
+            stops: histories.stops.show(&mut self.scribe),
+            marks: histories.marks.again(&mut self.seen),
+        }
     }
 
     /// The book.
@@ -261,7 +310,11 @@ impl<S: Origin> Register<S> {
     {
         // that the book is sound is known by looking at it
         let _reserved = self.book.reserved();
-        let Register { book, scribe } = self;
+        let Register {
+            book,
+            scribe,
+            seen: _,
+        } = self;
         (book.into_trail(), scribe)
     }
 }

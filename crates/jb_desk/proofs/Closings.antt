@@ -8,6 +8,8 @@ use Rattle.jb_desk.specs.declared.desk.Desk.{Desk}
 use Rattle.jb_desk.specs.declared.desk.closing.CloseFault.{CloseFault}
 use Rattle.jb_desk.specs.declared.desk.closing.CloseFault.TheVariants.{SeatsOut, TrailsDiffer}
 use Rattle.jb_desk.specs.declared.desk.closing.Closed.{Closed}
+use Rattle.jb_disk.specs.declared.disk.Disk.{Ghosts as Disks}
+use Rattle.jb_book.specs.declared.sights.Sights.{Sights}
 use Rattle.jb_book.specs.declared.origin.Origin.{Ghosts}
 use Rattle.jb_history.specs.declared.place.Place.{Ghosts as Places}
 use Rattle.jb_desk.specs.declared.seat.Left.{Left}
@@ -16,7 +18,7 @@ pub first-ok : {A B : Type 0} (P Q : A → Type 0) (r : Result A B) → IfOk r (
 first-ok P Q (Ok a) is = is.0
 first-ok P Q (Err e) is = tt
 
-pub not-closed : {D C H N : Type 0} {O : Ghosts H} {P : Places H} (counter : Counter H N O P) (works : Worked D C) (desk : Desk D C H N O P) (lefts : Vec (Left H N O P)) (r : Result (Closed D C) (CloseFault D C H N O P)) → IfErr r (DiffersAs counter works) → IfErr r (IsNotClosed desk lefts)
-not-closed counter works desk lefts (Ok closed) is = tt
-not-closed counter works desk lefts (Err (SeatsOut back kept)) is = absurd is
-not-closed counter works desk lefts (Err (TrailsDiffer deck clock book)) is = is.3
+pub not-closed : {D C H N : Type 0} {Q : Disks D} {O : Ghosts H} {P : Places H} (counter : Counter D H N Q O P) (works : Worked D C) (desk : Desk D C H N Q O P) (lefts : Vec (Left H N O P)) (seen : Sights D H) (r : Result (Closed D C) (CloseFault D C H N Q O P)) → IfErr r (DiffersAs counter works) → IfErr r (IsNotClosed desk lefts seen)
+not-closed counter works desk lefts seen (Ok closed) is = tt
+not-closed counter works desk lefts seen (Err (SeatsOut back kept sights)) is = absurd is
+not-closed counter works desk lefts seen (Err (TrailsDiffer deck clock book)) is = is.3

@@ -4,6 +4,8 @@ pub mod Closings
 pub mod Costed
 pub mod Firsts
 pub mod Histories
+pub mod Marked
+pub mod Staying
 pub mod Numbered
 pub mod Readings
 pub mod Rounds

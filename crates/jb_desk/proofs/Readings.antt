@@ -1,5 +1,5 @@
 -- A home that is read from a journal since its desk was started.
-use Rattle.std.proofs.Common.{◌≡◌, ℕ, false, ◌≤◌, List, length, Result, Ok, Err, OnOk, refl, ap, sym, subst, ◌∙◌, arith}
+use Rattle.std.proofs.Common.{◌≡◌, ℕ, false, ◌≤◌, List, All, length, Result, Ok, Err, OnOk, refl, ap, sym, subst, ◌∙◌, arith}
 use Rattle.jb_disk.specs.Image.{Image}
 use Rattle.jb_disk.specs.Kept.{Kept}
 use Rattle.jb_disk.specs.Time.{LeavesOnly}
@@ -17,7 +17,10 @@ use Rattle.jb_deck.specs.declared.read.ReadHomeFault.TheVariants.{Aborted, OutOf
 use Rattle.jb_desk.specs.Journal.{ReadsHome}
 use Rattle.jb_book.specs.Origin.{Begun}
 use Rattle.jb_desk.specs.Since.{IsSinceOf, Since, WasGiven}
-use Rattle.jb_desk.proofs.Sincing.{given-none, none-since, plain-is}
+use Rattle.jb_handle.specs.Word.{WordMap}
+use Rattle.jb_desk.specs.History.{IsStop}
+use Rattle.jb_desk.specs.Marks.{HasSettledOf}
+use Rattle.jb_desk.proofs.Sincing.{given-none, is-weaker, none-since}
 
 module _ {D : Type 0} (size count faults : D → ℕ) (honest : D → Type 0) (newest : D → Image) (may_leave : D → Image → Type 0) (moment : D → ℕ) (left_since : D → ℕ → Image → Type 0) (counts_now : (disk : D) (t : ℕ) (c : Image) → honest disk → t ≤ moment disk → may_leave disk c → left_since disk t c) (b : Begun) (known : Stopped → Type 0) (plain : (h : Stopped) → known h → b.stops h.words) (old new : OpenDeck D) (kept : Kept size count honest old.disk new.disk) where
   abbrev Is : OpenDeck D → Type 0
@@ -71,15 +74,27 @@ module _ {D : Type 0} (size count faults : D → ℕ) (honest : D → Type 0) (n
     since = λ h. let s = is.since h in stands answers.4 answers.3.no_fewer (content s.stays_honest) is.given is.has.settled s answers.0 (leaves answers.0 s.stays_honest);
   }
 
-  pub read-home : (home bytes : ℕ) (found : List ℕ) (r : Result (Unit {0}) ReadHomeFault) → AnswersRead (size old.disk) (faults old.disk) (faults new.disk) old new home bytes r
-      → (honest old.disk → OnOk r (found ≡ standing old.log old.groups (newest old.disk) home)) → Content → Is old → Is new → ReadsHome size count faults honest newest may_leave moment left_since b home bytes found r
-  read-home home bytes found r answers reads content is after = record {
+  -- the journal was given the same handles
+  module _ (home bytes : ℕ) (content : Content) (leaves : LeavesAs) (is : Is old) where
+    pub read-given : (done : Unit {0}) (answers : AnswersRead (size old.disk) (faults old.disk) (faults new.disk) old new home bytes (Ok done)) → (read-since home bytes (Ok done) answers content leaves is).given ≡ is.given
+    unfolding read-since
+    read-given done answers = refl
+
+    pub unread-given : (answers : AnswersRead (size old.disk) (faults old.disk) (faults new.disk) old new home bytes (Err DeviceFault)) → (read-since home bytes (Err DeviceFault) answers content leaves is).given ≡ is.given
+    unfolding read-since
+    unread-given answers = refl
+
+  pub read-home : (log : List WordMap) (marks : List (OpenDeck D)) (home bytes : ℕ) (found : List ℕ) (r : Result (Unit {0}) ReadHomeFault) → ((h : Stopped) → known h → IsStop b log h) → All (HasSettledOf old) marks
+      → AnswersRead (size old.disk) (faults old.disk) (faults new.disk) old new home bytes r
+      → (honest old.disk → OnOk r (found ≡ standing old.log old.groups (newest old.disk) home)) → Content → Is old → Is new → ReadsHome size count faults honest newest may_leave moment left_since b log marks home bytes found r
+  read-home log marks home bytes found r stop settled answers reads content is after = record {
     old = old;
     new = new;
     same_disk = kept;
     answers = answers;
     stands = λ h. reads (is.since h).stays_honest;
     content = λ h. content (is.since h).stays_honest;
-    before = plain-is size count faults honest newest may_leave moment left_since counts_now b known plain old is;
-    after = plain-is size count faults honest newest may_leave moment left_since counts_now b known plain new after;
+    before = is-weaker size count faults honest newest may_leave moment left_since b known (IsStop b log) stop old is;
+    after = is-weaker size count faults honest newest may_leave moment left_since b known (IsStop b log) stop new after;
+    settled = settled;
   }

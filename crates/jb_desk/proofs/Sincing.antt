@@ -111,13 +111,13 @@ module _ {D : Type 0} (size count faults : D → ℕ) (honest : D → Type 0) (n
     c = cost_in p.batch.shape hs
 
     -- where the trail ends after the entries of the first groups
-    past-some : (k : ℕ) (told : List Entry) → k ≤ groups_in p.groups → p.batch.first ≡ past_after 0 old.trail → new.trail ≡ old.trail ++ told → told ≡ take k (entries_for c p.batch.first old.log.next p.groups) → past_after 0 new.trail ≡ p.batch.first + slice_index p.groups k
+    pub past-some : (k : ℕ) (told : List Entry) → k ≤ groups_in p.groups → p.batch.first ≡ past_after 0 old.trail → new.trail ≡ old.trail ++ told → told ≡ take k (entries_for c p.batch.first old.log.next p.groups) → past_after 0 new.trail ≡ p.batch.first + slice_index p.groups k
     past-some k told within at trail are =
         ap (past_after 0) trail ∙ past-append 0 old.trail told ∙ ap (λ es. past_after (past_after 0 old.trail) es) are
         ∙ ap (λ f. past_after f (take k (entries_for c p.batch.first old.log.next p.groups))) (sym at)
         ∙ for-past c (length hs) p.batch.first old.log.next k p.groups cut within
 
-    past-all : (done : Done) → p.batch.first ≡ past_after 0 old.trail → CommitsBatch p stamp old new done → past_after 0 new.trail ≡ p.batch.first + length hs
+    pub past-all : (done : Done) → p.batch.first ≡ past_after 0 old.trail → CommitsBatch p stamp old new done → past_after 0 new.trail ≡ p.batch.first + length hs
     past-all done at commits =
         ap (past_after 0) commits.trail ∙ past-append 0 old.trail (entries_of done) ∙ ap (λ es. past_after (past_after 0 old.trail) es) commits.entries
         ∙ ap (λ f. past_after f (entries_for c p.batch.first old.log.next p.groups)) (sym at)
@@ -200,7 +200,7 @@ module _ {D : Type 0} (size count faults : D → ℕ) (honest : D → Type 0) (n
           }
 
       module _ (s : Stands given old) (leaves : LeavesOnly moment left_since old.disk new.disk (Left 0 (groups_in p.groups))) where
-        has-some : (least most low : ℕ) (x : Image) → most ≤ groups_in p.groups → low ≤ length given + slice_index p.groups least → Left least most x → HasFirst b (given ++ hs) low x
+        pub has-some : (least most low : ℕ) (x : Image) → most ≤ groups_in p.groups → low ≤ length given + slice_index p.groups least → Left least most x → HasFirst b (given ++ hs) low x
         has-some least most low x = first-some b old.log.sb s.same (size old.disk) (count old.disk) s.same_size s.same_count given (deck_homes newest old) (s.stood takes.up) hs p.groups least most low old.log.next x s.number cut
 
         -- a trail that begins at the ticket 0 is whole
@@ -287,6 +287,16 @@ module _ {D : Type 0} (size count faults : D → ℕ) (honest : D → Type 0) (n
       has = given-some is.given is.has answers.0 settled answers.2;
       since = λ h. let s = is.since h in commit-some is.given is.has answers.0 s (leaves answers.0.up s.stays_honest) settled answers.1 answers.2 (now answers.0.up s.stays_honest);
     }
+
+    -- the journal was given the batch, too
+    module _ (leaves : Leaves) (is : Is old) where
+      pub committed-given : (done : Done) (answers : AnswersBatch (faults old.disk) (faults new.disk) p stamp old new (Ok done)) (on_disk : honest old.disk → CommitsOnDisk newest p stamp old new) (now : Now (Ok done)) → (commit-since (Ok done) answers on_disk leaves now is).given ≡ is.given ++ hs
+      unfolding commit-since
+      committed-given done answers on_disk now = refl
+
+      pub faulted-given : (settled : Done) (answers : AnswersBatch (faults old.disk) (faults new.disk) p stamp old new (Err (batch.DeviceFault settled))) (on_disk : honest old.disk → Unit {0}) (now : Now (Err (batch.DeviceFault settled))) → (commit-since (Err (batch.DeviceFault settled)) answers on_disk leaves now is).given ≡ is.given ++ hs
+      unfolding commit-since
+      faulted-given settled answers on_disk now = refl
 
     pub commit-round : (r : Result Done BatchFault) → AnswersBatch (faults old.disk) (faults new.disk) p stamp old new r → (honest old.disk → OnOk r (CommitsOnDisk newest p stamp old new)) → (honest old.disk → OnOk r (FindsLive (size old.disk) (count old.disk) new.log new.groups (newest new.disk))) → Leaves → Now r → Is old → IfOk r (IsRound size count faults honest newest may_leave moment left_since b p)
     unfolding commit-since plain-is is-weaker
@@ -409,6 +419,16 @@ module _ {D : Type 0} (size count faults : D → ℕ) (honest : D → Type 0) (n
               answers.2.no_fewer (λ few none. absurd (more-counted b.faults (faults old.disk) (faults new.disk) s.no_fewer answers.2 few none))
               (λ still. absurd (not-both new.aborted failed still));
         }
+
+    -- the journal was given the same handles
+    module _ (leaves : LeavesNone) (is : Is old) where
+      pub checked-given : (checked : Checked) (answers : AnswersCheckpoint (faults old.disk) (faults new.disk) old new (Ok checked)) (checkpoints : honest old.disk → Checkpoints newest old new) → (checkpoint-since (Ok checked) answers checkpoints leaves is).given ≡ is.given
+      unfolding checkpoint-since
+      checked-given checked answers checkpoints = refl
+
+      pub unchecked-given : (answers : AnswersCheckpoint (faults old.disk) (faults new.disk) old new (Err checkpoint.DeviceFault)) (checkpoints : honest old.disk → Unit {0}) → (checkpoint-since (Err checkpoint.DeviceFault) answers checkpoints leaves is).given ≡ is.given
+      unfolding checkpoint-since
+      unchecked-given answers checkpoints = refl
 
     pub checkpoint-round : (r : Result Checked CheckpointFault) → AnswersCheckpoint (faults old.disk) (faults new.disk) old new r → (honest old.disk → OnOk r (Checkpoints newest old new)) → Is old → Is new → ChecksRound size count faults honest newest may_leave moment left_since b r
     checkpoint-round (Ok checked) answers checkpoints is after = record {

@@ -1,5 +1,5 @@
 -- Entries that are taken from the trail of a journal since its desk was started.
-use Rattle.std.proofs.Common.{◌≡◌, ℕ, ◌+◌, ◌≤◌, List, [], ◌∷◌, ◌++◌, arith, length, drop, All, Result, Ok, Err, IfOk, OnErr, ap, sym, subst, ◌∙◌}
+use Rattle.std.proofs.Common.{◌≡◌, ℕ, ◌+◌, ◌≤◌, List, [], ◌∷◌, ◌++◌, arith, length, drop, All, Result, Ok, Err, IfOk, OnErr, refl, ap, sym, subst, ◌∙◌}
 use Rattle.std.proofs.Math.Seq.{drop-append_seam}
 use Rattle.std.proofs.lemmas.List.{length-append}
 use Rattle.std.proofs.lemmas.List.Elements.{All-drop}
@@ -50,7 +50,7 @@ module _ {D : Type 0} (size count faults : D → ℕ) (honest : D → Type 0) (n
     left = record old { trail = new.trail }
 
     -- the last entry is the same
-    ends : past_after 0 old.trail ≡ past_after 0 new.trail
+    pub ends : past_after 0 old.trail ≡ past_after 0 new.trail
     ends = ap (past_after 0) takes.is ∙ (next-rest (oldest_number old) past taken new.trail takes.stops).0
 
     left-given : (given : List Stopped) → WasGiven known given old → WasGiven known given left
@@ -87,12 +87,17 @@ module _ {D : Type 0} (size count faults : D → ℕ) (honest : D → Type 0) (n
       ever = s.ever;
     }
 
-    taken-since : Tiles → Is old → Is new
+    pub taken-since : Tiles → Is old → Is new
     taken-since tiles is = record {
       given = is.given;
       has = subst (λ (d : OpenDeck D). WasGiven known is.given d) (sym takes.same) (left-given is.given is.has);
       since = λ h. subst (λ (d : OpenDeck D). Stands is.given d) (sym takes.same) (left-stands tiles is.given (is.since h));
     }
+
+    -- the journal was given the same handles
+    pub taken-given : (tiles : Tiles) (is : Is old) → (taken-since tiles is).given ≡ is.given
+    unfolding taken-since
+    taken-given tiles is = refl
 
   abbrev Takes : Result (Vec Entry) AllocError → Type 0
   Takes r = IfOk r (λ taken. TakesTrail past old new taken.items)

@@ -5,18 +5,21 @@ use Rattle.jb_desk.specs.Desks.{desk_id, shape_in}
 use Rattle.jb_desk.specs.declared.seat.Left.{Left}
 use Rattle.jb_desk.specs.declared.counter.Counter.{Counter}
 use Rattle.jb_desk.specs.Works.{Worked}
+use Rattle.jb_book.specs.Marks.{SeesSame}
+use Rattle.jb_book.specs.declared.sights.Sights.{Sights}
+use Rattle.jb_disk.specs.declared.disk.Disk.{Ghosts as Disks}
 use Rattle.jb_book.specs.declared.origin.Origin.{Ghosts}
 use Rattle.jb_history.specs.declared.place.Place.{Ghosts as Places}
 use Rattle.jb_desk.specs.declared.desk.Desk.{Desk}
 use Rattle.jb_desk.specs.declared.desk.closing.CloseFault.{CloseFault}
 use Rattle.jb_desk.specs.declared.desk.closing.CloseFault.TheVariants.{SeatsOut, TrailsDiffer}
 
--- the same desk and all that the seats left; or a journal and a book that have settled different groups
-abbrev pub IsNotClosed : {D C H N : Type 0} {O : Ghosts H} {P : Places H} → Desk D C H N O P → Vec (Left H N O P) → CloseFault D C H N O P → Type 0
-IsNotClosed desk lefts (SeatsOut back kept) = (desk_id back ≡ desk_id desk) × (shape_in back ≡ shape_in desk) × (kept ≡ lefts)
-IsNotClosed desk lefts (TrailsDiffer deck clock book) = deck.trail ≢ book.items
+-- the same desk, all that the seats left and what was seen; or a journal and a book that have settled different groups
+abbrev pub IsNotClosed : {D C H N : Type 0} {Q : Disks D} {O : Ghosts H} {P : Places H} → Desk D C H N Q O P → Vec (Left H N O P) → Sights D H → CloseFault D C H N Q O P → Type 0
+IsNotClosed desk lefts seen (SeatsOut back kept sights) = (desk_id back ≡ desk_id desk) × (shape_in back ≡ shape_in desk) × (kept ≡ lefts) × SeesSame seen sights
+IsNotClosed desk lefts seen (TrailsDiffer deck clock book) = deck.trail ≢ book.items
 
 -- the journal and the book of what the locks guarded, which have settled different groups
-abbrev pub DiffersAs : {D C H N : Type 0} {O : Ghosts H} {P : Places H} → Counter H N O P → Worked D C → CloseFault D C H N O P → Type 0
-DiffersAs counter works (SeatsOut back kept) = ⊥
+abbrev pub DiffersAs : {D C H N : Type 0} {Q : Disks D} {O : Ghosts H} {P : Places H} → Counter D H N Q O P → Worked D C → CloseFault D C H N Q O P → Type 0
+DiffersAs counter works (SeatsOut back kept sights) = ⊥
 DiffersAs counter works (TrailsDiffer deck clock book) = (deck ≡ works.deck) × (clock ≡ works.clock) × (book.items ≡ counter.register.book.trail) × (deck.trail ≢ book.items)

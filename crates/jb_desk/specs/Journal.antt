@@ -1,5 +1,5 @@
 -- What a round of a desk has done to its journal.
-use Rattle.std.specs.Prelude.{◌≡◌, ◌<◌, ◌≤◌, ◌⊎◌, ◌++◌, true, false, ℕ, List, [], Option, Result, Ok, Err, OnOk}
+use Rattle.std.specs.Prelude.{◌≡◌, ◌<◌, ◌≤◌, ◌⊎◌, ◌++◌, true, false, ℕ, List, [], All, Option, Result, Ok, Err, OnOk}
 use Rattle.std.specs.Global.{Vec}
 use Rattle.std.specs.declared.alloc.AllocError.{AllocError}
 use Rattle.jb_batch.specs.Batch.{Gathered}
@@ -24,7 +24,10 @@ use Rattle.jb_deck.specs.declared.done.Done.{Done}
 use Rattle.jb_deck.specs.declared.done.Entry.{Entry}
 use Rattle.jb_deck.specs.declared.read.ReadHomeFault.{ReadHomeFault}
 use Rattle.jb_book.specs.Origin.{Begun}
-use Rattle.jb_desk.specs.Since.{IsSince}
+use Rattle.jb_handle.specs.Word.{WordMap}
+use Rattle.jb_desk.specs.History.{IsStop}
+use Rattle.jb_desk.specs.Marks.{HasSettledOf}
+use Rattle.jb_desk.specs.Since.{IsSince, IsSinceOf}
 use Rattle.jb_desk.specs.Views.{TakesUp}
 use Rattle.jb_desk.specs.declared.checkpoint.CheckpointRound.{CheckpointRound}
 use Rattle.jb_desk.specs.declared.checkpoint.CheckpointRound.TheVariants.{Low, Home}
@@ -123,16 +126,18 @@ module _ {D : Type 0} (size count faults : D → ℕ) (honest : D → Type 0) (n
     pub none : deck.groups ≡ []
 
   -- The desk's journal before and after a home was read into so many bytes, which then are these: what is answered, in the words of the journal's own read.
-  -- Nothing that the journal knows has changed, nor has what the disk holds; where the read has ended well, the bytes are what stands in the home.
-  pub record ReadsHome (home bytes : ℕ) (found : List ℕ) (result : Result (Unit {0}) ReadHomeFault) : Type 0 where
+  -- Nothing that the journal knows has changed, nor has what the disk holds; where the read has ended well, the bytes are what stands in the home. The journal was
+  -- given the handles of this history, and has settled what it had settled at these marks.
+  pub record ReadsHome (known : List WordMap) (marks : List (OpenDeck D)) (home bytes : ℕ) (found : List ℕ) (result : Result (Unit {0}) ReadHomeFault) : Type 0 where
     pub old : OpenDeck D
     pub new : OpenDeck D
     pub same_disk : Kept size count honest old.disk new.disk
     pub answers : AnswersRead (size old.disk) (faults old.disk) (faults new.disk) old new home bytes result
     pub stands : b.honest → OnOk result (found ≡ standing old.log old.groups (newest old.disk) home)
     pub content : b.honest → newest new.disk ≡ newest old.disk
-    pub before : IsSince size count faults honest newest may_leave moment left_since b old
-    pub after : IsSince size count faults honest newest may_leave moment left_since b new
+    pub before : IsSinceOf size count faults honest newest may_leave moment left_since b (IsStop b known) old
+    pub after : IsSinceOf size count faults honest newest may_leave moment left_since b (IsStop b known) new
+    pub settled : All (HasSettledOf old) marks
 
   -- what a round of a committer that held such a batch, and whose seat is then sure of so many settled tickets, has done: a batch is committed; or the journal
   -- has failed, and the seat is sure of what is settled in it

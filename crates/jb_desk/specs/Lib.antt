@@ -3,6 +3,7 @@ pub mod Desks
 pub mod Ends
 pub mod History
 pub mod Journal
+pub mod Marks
 pub mod Opened
 pub mod Progress
 pub mod Refusals

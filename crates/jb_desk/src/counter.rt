@@ -16,9 +16,10 @@ use crate::fault::{StopFault, WaitFault};
 use crate::seat::{Left, Seat};
 pub use idle::NoBatch;
 use jb_board::{BoardSeat, Tickets};
-use jb_book::{BeginFault, Book, EnqueueFault, Origin, Register};
+use jb_book::{BeginFault, Book, EnqueueFault, Histories, Origin, Register, Sights};
+use jb_disk::Disk;
 use jb_handle::{Handle, Shape, Words};
-use jb_history::{History, Made};
+use jb_history::Made;
 pub use over::Over;
 pub(crate) use progress::Progress;
 pub(crate) use seen::Seen;
@@ -29,11 +30,12 @@ use std::sync::ledger::{Blank, Ledger, Share};
 /// The most seats of a desk.
 const MOST: u64 = 1 << 61;
 
-/// What the first lock of a desk guards: the book with the history of its stops, and the ledgers in which the handles
-/// that stopped and the blocks that they touched are counted. Of each ledger the parts that no seat has are spare.
+/// What the first lock of a desk guards: the book with the history of its stops and what was seen of the marks, and the
+/// ledgers in which the handles that stopped and the blocks that they touched are counted. Of each ledger the parts that
+/// no seat has are spare.
 #[derive(Drop)]
-pub(crate) struct Counter<H: Origin, N: Ledger> {
-    register: Register<H>,
+pub(crate) struct Counter<D: Disk, H: Origin, N: Ledger> {
+    register: Register<D, H>,
     handles: ledger::Book<H>,
     changes: ledger::Book<N>,
     spare_handles: Share<H>,
@@ -49,16 +51,17 @@ pub(crate) struct Counter<H: Origin, N: Ledger> {
     ghost few: { given ≤ 2305843009213693952 },
 }
 
-impl<H: Origin, N: Ledger> Counter<H, N> {
+impl<D: Disk, H: Origin, N: Ledger> Counter<D, H, N> {
     ghost use Rattle.jb_book.specs.Account.{granted_to, dropped_of, refusal, RefusesBegin};
     ghost use Rattle.jb_desk.specs.Refusals.{fault_of};
     ghost use Rattle.jb_book.specs.Account.{AnswersNumber, IsAwaited};
+    ghost use Rattle.jb_book.specs.Marks.{AreShown, SeesMore, SeesStop};
     ghost use Rattle.jb_desk.specs.Seats.{stops, changes, made_by, stops_left, changes_left, made_left};
     ghost use Rattle.jb_desk.specs.Stops.{IsStopped, RefusesStopOf};
     ghost use Rattle.jb_board.specs.Seats.{given_by};
 
     /// A book of which nobody has asked anything, with its history, and two ledgers in which nothing is counted.
-    pub fn new(register: Register<H>, handles: Blank, changes: Blank) -> Counter<H, N>
+    pub fn new(register: Register<D, H>, handles: Blank, changes: Blank) -> Counter<D, H, N>
         requires handles { (handles.name ≡ H.name) × (handles.parts ≡ H.parts) × (H.parts ≡ 2305843009213693953) }
         requires changes { (changes.name ≡ N.name) × (changes.parts ≡ N.parts) × (N.parts ≡ 2305843009213693953) }
         requires fresh { (register.book.shadow.next ≡ 0) × (register.book.changes ≡ 0) }
@@ -158,7 +161,7 @@ impl<H: Origin, N: Ledger> Counter<H, N> {
     }
 
     /// A handle stops: it joins the queue and gets the next ticket, and its seat's shares count it and
-    /// the blocks that it touched. It is added to the history, as one of the seat's.
+    /// the blocks that it touched. It is added to the history, as one of the seat's, and is seen there.
     ///
     /// # Errors
     ///
@@ -166,12 +169,17 @@ impl<H: Origin, N: Ledger> Counter<H, N> {
     /// nothing has changed.
     pub fn stop(
         &mut self,
-        history: &History<Words, H>,
+        histories: &Histories<D, H>,
+        seen: &mut Sights<D, H>,
         handle: Handle<Seat<H, N>>,
     ) -> Result<(Seat<H, N>, u64), StopFault<H, N>>
         requires { H.begun.stops (changes_of handle).words }
         ensures ok { IfOk result (λ given. IsStopped handle self.old.register.book given.0 given.1
             self.new.register.book) }
+        ensures sees { IfOk result (λ given. SeesStop seen.old.stops seen.new.stops given.1
+            (changes_of handle).words) }
+        ensures blind { OnErr result (seen.new.stops ≡ seen.old.stops) }
+        ensures marks { seen.new.marks ≡ seen.old.marks }
         ensures refused { IfErr result (λ fault. RefusesStopOf handle self.old.register.book fault
             self.new.register.book) }
     {
@@ -184,7 +192,13 @@ impl<H: Origin, N: Ledger> Counter<H, N> {
             changes,
             ..
         } = self;
-        match register.stop(history, &mut seat.made, number, handle) {
+        match register.stop(
+            &histories.stops,
+            &mut seat.made,
+            &mut seen.stops,
+            number,
+            handle,
+        ) {
             Ok((_, ticket)) => {
                 handles.add(&mut seat.handles, 1);
                 changes.add(&mut seat.changes, u64::from(touched));
@@ -232,19 +246,29 @@ impl<H: Origin, N: Ledger> Counter<H, N> {
             && ticket < self.register.book().next()
     }
 
-    /// The number of the transaction that settled a ticket; `None` where its entry was taken.
+    /// The number of the transaction that settled a ticket; `None` where its entry was taken. A mark at which it was
+    /// settled is seen then.
     ///
     /// # Errors
     ///
     /// Where it is not settled: `Aborted` if the journal has failed, and otherwise `Unknown`.
-    pub fn number_of(&self, ticket: u64) -> Result<Option<u32>, WaitFault>
-        ensures ok { IfOk result (AnswersNumber self.now.register.book ticket) }
-        ensures few { OnOk result (ticket < 2 ^ 61) }
-        ensures settled { OnOk result (ticket < self.now.register.book.shadow.settled) }
-        ensures given { OnOk result (ticket < self.now.register.book.shadow.next) }
-        ensures err { IfErr result (λ fault. (self.now.register.book.shadow.settled ≤ ticket)
-            × (fault ≡ fault_of self.now.register.book)) }
+    pub fn number_of(
+        &mut self,
+        histories: &Histories<D, H>,
+        seen: &mut Sights<D, H>,
+        ticket: u64,
+    ) -> Result<Option<u32>, WaitFault>
+        ensures ok { IfOk result (AnswersNumber self.old.register.book ticket) }
+        ensures shown { IfOk result (AreShown seen.new.marks ticket) }
+        ensures begins { SeesMore seen.old seen.new }
+        ensures settled { OnOk result ((ticket < 2 ^ 61) × (ticket < self.old.register.book.shadow.settled)
+            × (ticket < self.old.register.book.shadow.next)) }
+        ensures err { IfErr result (λ fault. (self.old.register.book.shadow.settled ≤ ticket)
+            × (fault ≡ fault_of self.old.register.book)) }
+        ensures book { self.new.register.book ≡ self.old.register.book }
     {
+        let mut all = self.register.sights(histories);
+        histories.learn(seen, &mut all);
         if ticket < self.register.book().start() {
             return Ok(None);
         }
@@ -263,6 +287,13 @@ impl<H: Origin, N: Ledger> Counter<H, N> {
         // that the book is sound is known by looking at it
         let _reserved = self.register.book().reserved();
         Tickets::of(&self.handles, self.register.book().next())
+    }
+
+    /// What can be seen: all that stopped, and marks of all that is settled.
+    pub fn sights(&mut self, histories: &Histories<D, H>) -> Sights<D, H>
+        ensures { self.new.register.book ≡ self.old.register.book }
+    {
+        self.register.sights(histories)
     }
 
     /// How many seats were given.

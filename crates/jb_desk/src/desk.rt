@@ -4,6 +4,7 @@ ghost use Rattle.jb_handle.specs.Handle.{holder, changes_of};
 ghost use Rattle.jb_handle.specs.Held.{held, touched};
 ghost use Rattle.jb_board.specs.Front.{front, InOrder, IsWithin};
 ghost use Rattle.jb_board.specs.Steps.{raised_stopped};
+ghost use Rattle.jb_history.specs.History.{history_id};
 
 mod checkpoints;
 mod closing;
@@ -23,11 +24,11 @@ use crate::turns::Turns;
 use crate::works::Works;
 pub use closing::{CloseFault, Closed};
 use jb_board::{Board, Front};
-use jb_book::{BeginFault, Origin, Register};
+use jb_book::{BeginFault, Histories, Marks, Origin, Register, Sights};
 use jb_deck::Deck;
 use jb_disk::{Clock, Disk};
-use jb_handle::{Handle, Shape, Words};
-use jb_history::History;
+use jb_handle::{Handle, Shape};
+use jb_history::Opened;
 use std::alloc::Global;
 use std::sync::ledger::{Blank, Ledger};
 use std::sync::{Condvar, Mutex, Wait};
@@ -38,13 +39,13 @@ use std::sync::{Condvar, Mutex, Wait};
 /// the disk is at work.
 #[derive(Drop)]
 pub struct Desk<D: Disk, C: Clock, H: Origin, N: Ledger> {
-    counter: Mutex<Counter<H, N>>,
+    counter: Mutex<Counter<D, H, N>>,
     works: Mutex<Works<D, C, H>>,
     /// the book has changed
     moved: Condvar,
     turns: Turns,
     board: Shown<H>,
-    history: History<Words, H>,
+    histories: Histories<D, H>,
     shape: Shape,
     alloc: Global,
 }
@@ -54,51 +55,56 @@ impl<D: Disk, C: Clock, H: Origin, N: Ledger> Desk<D, C, H, N> {
     ghost use Rattle.jb_desk.specs.Seats.{KeepsStops, stops, changes, made_by, seat_number};
     ghost use Rattle.jb_desk.specs.Seats.{desk_of, view_of, stops_left, changes_left, made_left};
     ghost use Rattle.jb_desk.specs.History.{history_in};
+    ghost use Rattle.jb_book.specs.Marks.{SeesMore, SeesSame, SeesStop, Shows};
+    ghost use Rattle.jb_desk.specs.Marks.{ShowsTaken};
     ghost use Rattle.jb_desk.specs.Refusals.{HandsBack, IsTooMany};
     ghost use Rattle.jb_desk.specs.Since.{IsSince};
     ghost use Rattle.jb_desk.specs.Views.{with_settled, RefusesWait};
 
     /// A desk over a journal that has committed nothing yet and has not failed. `handles` is a new ledger,
     /// in which the handles that stop are counted, with a new history of them, and `changes` a new ledger,
-    /// in which the blocks that they touched are. What is promised of the disk from now on is said of the
-    /// start that the caller picks (`H.begun`).
+    /// in which the blocks that they touched are; `marks` is a new history of the journal as it is after each round.
+    /// What is promised of the disk from now on is said of the start that the caller picks (`H.begun`).
     ///
     /// # Errors
     ///
-    /// All four parts, where there is no memory for the board.
+    /// All five parts, where there is no memory for the board.
     pub fn start(
         alloc: Global,
         handles: Stops,
         changes: Blank,
+        marks: Opened<Deck<D>>,
         deck: Deck<D>,
         clock: C,
-    ) -> Result<Desk<D, C, H, N>, (Stops, Blank, Deck<D>, C)>
+    ) -> Result<Desk<D, C, H, N>, (Stops, Blank, Opened<Deck<D>>, Deck<D>, C)>
         requires handles { (handles.tickets.name ≡ H.name) × (handles.tickets.parts ≡ H.parts)
             × (H.parts ≡ 2 ^ 61 + 1) }
-        requires history { history_in handles ≡ H.history }
+        requires histories { (history_in handles ≡ H.history) × (history_id marks ≡ H.marks) }
         requires changes { (changes.name ≡ N.name) × (changes.parts ≡ N.parts) × (N.parts ≡ 2 ^ 61 + 1) }
         requires fresh { deck.trail ≡ [] }
         requires running { deck.aborted ≡ false }
         requires begun { IsSince D.size D.count D.faults D.honest D.newest D.may_leave D.moment D.left_since H.begun
             deck }
         ensures shape { IfOk result (λ desk. shape_in desk ≡ deck.shape) }
-        ensures back { IfErr result (λ back. back ≡ (handles, changes, deck, clock)) }
+        ensures back { IfErr result (λ back. back ≡ (handles, changes, marks, deck, clock)) }
     {
         let Ok((board, _)) = Board::new(alloc) else {
-            return Err((handles, changes, deck, clock));
+            return Err((handles, changes, marks, deck, clock));
         };
         let shape = deck.shape();
         let Stops { tickets, history } = handles;
-        let (history, mut scribe) = history.named::<H>();
-        let sight = history.show(&mut scribe);
-        let register = Register::new(alloc, shape, u64::from(deck.usable()), scribe);
+        let (stops, mut scribe) = history.named::<H>();
+        let sight = stops.show(&mut scribe);
+        let (marks, mut marking) = marks.named::<Marks<H>>();
+        let seen = marks.show(&mut marking);
+        let register = Register::new(alloc, shape, u64::from(deck.usable()), scribe, seen);
         Ok(Desk {
             counter: Mutex::new(Counter::new(register, tickets, changes)),
-            works: Mutex::new(Works::new(deck, clock, sight)),
+            works: Mutex::new(Works::new(deck, clock, sight, marking)),
             moved: Condvar::new(),
             turns: Turns::new(),
             board: Shown::new(board),
-            history,
+            histories: Histories { stops, marks },
             shape,
             alloc,
         })
@@ -113,7 +119,7 @@ impl<D: Disk, C: Clock, H: Origin, N: Ledger> Desk<D, C, H, N> {
         ensures { IfOk result (λ seat. (desk_of seat ≡ desk_id self.now) × (stops seat ≡ 0) × (changes seat ≡ 0)
             × (made_by seat ≡ []) × (view_of seat ≡ front 0 0 0)) }
     {
-        let made = self.history.enter();
+        let made = self.histories.stops.enter();
         let seat = self.counter.lock(rt).seat(self.board.enter(), made);
         seat.ok_or(SeatFault::Closed)
     }
@@ -159,7 +165,8 @@ impl<D: Disk, C: Clock, H: Origin, N: Ledger> Desk<D, C, H, N> {
 
     /// A handle stops (`jbd2_journal_stop`): its changes wait to be committed, under the ticket that is
     /// given with its seat. The seat's shares count it, and the blocks that it touched. Its words are some
-    /// with which a handle may stop (`H.begun`).
+    /// with which a handle may stop (`H.begun`). The ticket is higher than those of all handles that were seen, and this one
+    /// is seen then.
     ///
     /// # Errors
     ///
@@ -168,23 +175,25 @@ impl<D: Disk, C: Clock, H: Origin, N: Ledger> Desk<D, C, H, N> {
     pub fn stop<R: Wait>(
         &self,
         rt: &R,
+        seen: &mut Sights<D, H>,
         handle: Handle<Seat<H, N>>,
     ) -> Result<(Seat<H, N>, u64), StopFault<H, N>>
         requires seat { desk_of (holder handle) ≡ desk_id self.now }
         requires words { H.begun.stops (changes_of handle).words }
         ensures seat { IfOk result (λ given. (desk_of given.0 ≡ desk_id self.now)
             × (seat_number given.0 ≡ seat_number (holder handle))) }
-        ensures handles { IfOk result (λ given. stops given.0 ≡ stops (holder handle) + 1) }
-        ensures changes { IfOk result (λ given. changes given.0 ≡ changes (holder handle) + touched
-            (changes_of handle)) }
+        ensures counted { IfOk result (λ given. (stops given.0 ≡ stops (holder handle) + 1)
+            × (changes given.0 ≡ changes (holder handle) + touched (changes_of handle))) }
         ensures made { IfOk result (λ given. made_by given.0 ≡ made_by (holder handle)
             ++ (given.1, (changes_of handle).words) ∷ []) }
+        ensures sees { IfOk result (λ given. SeesStop seen.old.stops seen.new.stops given.1 (changes_of handle).words) }
+        ensures marks { seen.new.marks ≡ seen.old.marks }
         ensures stopped { IfOk result (λ given. given.1 < (view_of given.0).stopped) }
         ensures view { IfOk result (λ given. view_of given.0 ≡ raised_stopped (view_of (holder handle)) (given.1 + 1)) }
-        ensures refused { IfErr result (HandsBack handle) }
+        ensures refused { IfErr result (λ fault. HandsBack handle fault × (seen.new.stops ≡ seen.old.stops)) }
     {
         let mut counter = self.counter.lock(rt);
-        let (mut seat, ticket) = counter.stop(&self.history, handle)?;
+        let (mut seat, ticket) = counter.stop(&self.histories, seen, handle)?;
         let tickets = counter.tickets();
         drop(counter);
         self.moved.notify_all();
@@ -214,39 +223,59 @@ impl<D: Disk, C: Clock, H: Origin, N: Ledger> Desk<D, C, H, N> {
         self.board.look(&mut seat.board)
     }
 
+    /// What can be seen now of the handles that stopped and of the journal's marks, with which a thread stops, waits and
+    /// reads.
+    pub fn sights<R: Wait>(&self, rt: &R) -> Sights<D, H> {
+        self.counter.lock(rt).sights(&self.histories)
+    }
+
+    /// Sees what another thread has seen, too: so what one has stopped or waited for, another may rely on.
+    pub fn inform(&self, seen: &mut Sights<D, H>, other: &mut Sights<D, H>)
+        ensures own { SeesMore seen.old seen.new }
+        ensures other { SeesMore other.old seen.new }
+        ensures kept { SeesSame other.old other.new }
+    {
+        self.histories.learn(seen, other);
+    }
+
     /// Waits until the handle with this ticket is committed, and gives the number of its transaction
-    /// (`jbd2_log_wait_commit`).
+    /// (`jbd2_log_wait_commit`). A mark is seen then at which it was: what a crash leaves from then on has the handle
+    /// ([`laws::stays`](crate::laws::stays)).
     ///
     /// # Errors
     ///
     /// `Aborted` where the journal has failed and the ticket is not settled; `Taken` where it is settled and the entry
     /// of its transaction was taken from the trail, so that its number is not known any more; `Unknown` where no handle
-    /// has the ticket. Only after `Taken` the seat is sure that the ticket is settled.
+    /// has the ticket. Only after `Taken` the seat is sure that the ticket is settled, and such a mark is seen.
     pub fn wait<R: Wait>(
         &self,
         rt: &R,
         seat: &mut Seat<H, N>,
+        seen: &mut Sights<D, H>,
         ticket: u64,
     ) -> Result<u32, WaitFault>
         requires { desk_of seat.old ≡ desk_id self.now }
         ensures desk { (desk_of seat.new ≡ desk_of seat.old) × (seat_number seat.new ≡ seat_number seat.old) }
         ensures settled { IfOk result (λ _. ticket < (view_of seat.new).settled) }
+        ensures shown { IfOk result (Shows seen.new.marks ticket) }
+        ensures taken { IfErr result (ShowsTaken seen.new.marks ticket) }
+        ensures begins { SeesMore seen.old seen.new }
         ensures view { OnOk result (view_of seat.new ≡ with_settled (ticket + 1) (view_of seat.old)) }
         ensures refused { IfErr result (RefusesWait ticket seat.old seat.new) }
         ensures counted { KeepsStops seat.old seat.new }
     {
-        let counter = self.moved.wait_while(
+        let mut counter = self.moved.wait_while(
             rt,
             self.counter.lock(rt),
             |counter| counter.is_awaited(ticket),
         );
-        let number = counter.number_of(ticket)?;
-        let (tickets, seen) = (counter.tickets(), counter.seen());
+        let number = counter.number_of(&self.histories, seen, ticket)?;
+        let (tickets, settled) = (counter.tickets(), counter.seen());
         drop(counter);
         let count = ticket + 1;
         self.board.raise_stopped(&mut seat.board, count, &tickets);
-        self.board.raise_taken(&mut seat.board, count, &seen);
-        self.board.raise_settled(&mut seat.board, count, &seen);
+        self.board.raise_taken(&mut seat.board, count, &settled);
+        self.board.raise_settled(&mut seat.board, count, &settled);
         number.ok_or(WaitFault::Taken)
     }
 }

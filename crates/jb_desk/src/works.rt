@@ -1,22 +1,25 @@
 ghost use Rattle.std.specs.Prelude.{◌≡◌, [], false, length, All, IfOk, OnErr};
+ghost use Rattle.jb_history.specs.Rule.{IsFirstPart};
 
 use crate::checkpoint::CheckpointRound;
 use jb_block::Memory;
-use jb_book::Origin;
+use jb_book::{Histories, Marks, Origin, Sights};
 use jb_deck::{BatchFault, Checked, CheckpointFault, Deck, Done, Entry, Prepared, ReadHomeFault};
 use jb_disk::{Clock, Disk};
 use jb_handle::Words;
-use jb_history::{History, Sight};
+use jb_history::{Scribe, Sight};
 use std::marker::{Model, PhantomData};
 
 /// What the second lock of a desk guards: the journal on its disk, and the clock that stamps its
-/// groups, with a first part of the history of stops. The journal stands as it must since the desk was
-/// started, and was given the first handles of this history.
+/// groups, with a first part of the history of stops, and the right to add marks. The journal stands as it must since
+/// the desk was started, and was given the first handles of this history. Its marks last: a crash at any moment since
+/// one leaves all that was settled then.
 #[derive(Drop)]
 pub(crate) struct Works<D: Disk, C: Clock, S: Origin> {
     deck: Deck<D>,
     clock: C,
     sight: Sight<Words, S>,
+    scribe: Scribe<Deck<D>, Marks<S>>,
     origin: PhantomData<S>,
 }
 
@@ -24,7 +27,7 @@ impl<D: Disk, C: Clock, S: Origin> Model for Works<D, C, S> {
     ghost use Rattle.std.specs.Coded.{codes};
     ghost use Rattle.jb_handle.specs.Word.{words_code};
     ghost use Rattle.jb_desk.specs.History.{IsStop};
-    ghost use Rattle.jb_desk.specs.Since.{IsSinceOf};
+    ghost use Rattle.jb_desk.specs.Marks.{IsMarkedOf};
     ghost use Rattle.jb_desk.specs.Works.{Worked, worked};
 
     ghost Value = { Worked D C };
@@ -33,8 +36,8 @@ impl<D: Disk, C: Clock, S: Origin> Model for Works<D, C, S> {
 
     ghost view = { λ w. worked w.deck w.clock };
 
-    ghost invariant = { λ w. IsSinceOf D.size D.count D.faults D.honest D.newest D.may_leave D.moment D.left_since
-        S.begun (IsStop S.begun w.sight) w.deck };
+    ghost invariant = { λ w. IsMarkedOf D.size D.count D.faults D.honest D.newest D.may_leave D.moment D.left_since
+        S.begun (IsStop S.begun w.sight) w.scribe w.deck };
 }
 
 impl<D: Disk, C: Clock, S: Origin> Works<D, C, S> {
@@ -50,12 +53,19 @@ impl<D: Disk, C: Clock, S: Origin> Works<D, C, S> {
     ghost use Rattle.jb_book.specs.Led.{IsInHistory};
     ghost use Rattle.jb_desk.specs.History.{IsStop};
     ghost use Rattle.jb_book.specs.Origin.{AreStops};
-    ghost use Rattle.jb_desk.specs.Since.{IsSince, IsSinceOf};
+    ghost use Rattle.jb_desk.specs.Marks.{IsMarkedOf, MarksSettled};
+    ghost use Rattle.jb_desk.specs.Since.{IsSince};
     ghost use Rattle.jb_desk.specs.Works.{worked};
 
-    /// A journal that stands as it must since the start and has committed nothing, a clock, and what was seen
-    /// of the history.
-    pub fn new(deck: Deck<D>, clock: C, sight: Sight<Words, S>) -> Works<D, C, S>
+    /// A journal that stands as it must since the start and has committed nothing, a clock, what was seen
+    /// of the history, and the right to add marks, of which there is none.
+    pub fn new(
+        deck: Deck<D>,
+        clock: C,
+        sight: Sight<Words, S>,
+        scribe: Scribe<Deck<D>, Marks<S>>,
+    ) -> Works<D, C, S>
+        requires unmarked { scribe ≡ [] }
         requires fresh { deck.trail ≡ [] }
         requires running { deck.aborted ≡ false }
         requires begun { IsSince D.size D.count D.faults D.honest D.newest D.may_leave D.moment D.left_since S.begun
@@ -66,11 +76,13 @@ impl<D: Disk, C: Clock, S: Origin> Works<D, C, S> {
             deck,
             clock,
             sight,
+            scribe,
             origin: PhantomData,
         }
     }
 
-    /// Commits a batch with the clock's stamp. Its handles are those of the history, as was seen.
+    /// Commits a batch with the clock's stamp. Its handles are those of the history, as was seen. Whatever came of it, the
+    /// journal is marked then, and the marks are seen.
     ///
     /// # Errors
     ///
@@ -78,30 +90,42 @@ impl<D: Disk, C: Clock, S: Origin> Works<D, C, S> {
     pub fn commit(
         &mut self,
         prepared: Prepared,
-        history: &History<Words, S>,
-        seen: &mut Sight<Words, S>,
-    ) -> Result<Done, BatchFault>
+        histories: &Histories<D, S>,
+        mut sight: Sight<Words, S>,
+    ) -> (Result<Done, BatchFault>, Sights<D, S>)
         requires planned { IsPlanned prepared }
         requires stops { AreStops S.begun prepared.batch.handles }
-        requires history { All (IsInHistory seen.old) prepared.batch.handles }
+        requires history { All (IsInHistory sight) prepared.batch.handles }
         ensures answers { (stamp : Stamp) × C.tells self.old.clock stamp
             × AnswersBatch (D.faults self.old.deck.disk) (D.faults self.new.deck.disk) prepared stamp self.old.deck
-            self.new.deck result }
-        ensures told { CommitsAs prepared result }
-        ensures tells { TellsFirst prepared result }
-        ensures tickets { TicketsFrom prepared.batch.first prepared.batch.handles }
-        ensures round { IfOk result (IsRound D.size D.count D.faults D.honest D.newest D.may_leave D.moment
+            self.new.deck result.0 }
+        ensures tells { CommitsAs prepared result.0 × TellsFirst prepared result.0
+            × TicketsFrom prepared.batch.first prepared.batch.handles }
+        ensures round { IfOk result.0 (IsRound D.size D.count D.faults D.honest D.newest D.may_leave D.moment
             D.left_since S.begun prepared) }
         ensures failed { FailsAs D.size D.count D.faults D.honest D.newest D.may_leave D.moment D.left_since S.begun
-            prepared result }
+            prepared result.0 }
         ensures clock { self.new.clock ≡ self.old.clock }
-        ensures kept { seen.new ≡ seen.old }
+        ensures stops { result.1.stops ≡ sight }
+        ensures marked { MarksSettled result.1.marks result.0 }
     {
-        history.learn(&mut self.sight, seen);
+        histories.stops.learn(&mut self.sight, &mut sight);
         // their tickets are known by looking at the handles
         let _handles = prepared.batch().handles();
         let stamp = self.clock.now();
-        self.deck.commit_batch(prepared, stamp)
+        let result = self.deck.commit_batch(prepared, stamp);
+        // that its entries leave no gap is known by looking at them
+        let _trail = self.deck.trail();
+        let mut made = histories.marks.enter();
+        histories.marks.add(&mut self.scribe, &mut made, &self.deck);
+        let marks = histories.marks.show(&mut self.scribe);
+        (
+            result,
+            Sights {
+                stops: sight,
+                marks,
+            },
+        )
     }
 
     /// Writes the oldest committed group home.
@@ -139,18 +163,29 @@ impl<D: Disk, C: Clock, S: Origin> Works<D, C, S> {
         }
     }
 
-    /// Reads a home block as it stands.
+    /// Reads a home block as it stands. All that the journal was given is seen then; what was settled at the marks that were
+    /// seen is settled in it.
     ///
     /// # Errors
     ///
     /// Those of the journal's own read.
-    pub fn read(&mut self, home: u64, buf: &mut [u8]) -> Result<(), ReadHomeFault>
+    pub fn read(
+        &mut self,
+        histories: &Histories<D, S>,
+        seen: &mut Sights<D, S>,
+        home: u64,
+        buf: &mut [u8],
+    ) -> Result<(), ReadHomeFault>
         ensures answers { AnswersRead (D.size self.old.deck.disk) (D.faults self.old.deck.disk)
             (D.faults self.new.deck.disk) self.old.deck self.new.deck home (length buf.old) result }
         ensures home { ReadsHome D.size D.count D.faults D.honest D.newest D.may_leave D.moment D.left_since S.begun
-            home (length buf.old) buf.new result }
+            seen.new.stops seen.old.marks home (length buf.old) buf.new result }
+        ensures sees { IsFirstPart seen.old.stops seen.new.stops × (seen.new.marks ≡ seen.old.marks) }
         ensures clock { self.new.clock ≡ self.old.clock }
     {
+        histories.stops.learn(&mut seen.stops, &mut self.sight);
+        let marks = histories.marks.again(&mut seen.marks);
+        histories.marks.check(&mut self.scribe, marks);
         self.deck.read_home(home, buf)
     }
 
@@ -173,18 +208,25 @@ impl<D: Disk, C: Clock, S: Origin> Works<D, C, S> {
         self.deck.take_trail(past)
     }
 
-    /// Takes it apart, into the journal, the clock, and what was seen of the history.
-    pub fn end(self) -> (Deck<D>, C, Sight<Words, S>)
+    /// Takes it apart, into the journal, the clock, and what was seen of the history of stops. The marks that were seen
+    /// last.
+    pub fn end(
+        self,
+        histories: &Histories<D, S>,
+        marks: Sight<Deck<D>, Marks<S>>,
+    ) -> (Deck<D>, C, Sight<Words, S>)
         ensures parts { (result.0 ≡ self.deck) × (result.1 ≡ self.clock) }
-        ensures since { IsSinceOf D.size D.count D.faults D.honest D.newest D.may_leave D.moment D.left_since S.begun
-            (IsStop S.begun result.2) result.0 }
+        ensures since { IsMarkedOf D.size D.count D.faults D.honest D.newest D.may_leave D.moment D.left_since S.begun
+            (IsStop S.begun result.2) marks result.0 }
     {
         let Works {
             deck,
             clock,
             sight,
+            mut scribe,
             ..
         } = self;
+        histories.marks.check(&mut scribe, marks);
         (deck, clock, sight)
     }
 }

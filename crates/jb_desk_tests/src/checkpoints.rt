@@ -1,19 +1,21 @@
 //! Groups that are brought home: a checkpoint that fails, and a checkpointer that ends.
 ghost use Rattle.std.specs.Prelude.{◌≡◌, ◌+◌, ◌^◌};
 ghost use Rattle.jb_desk.specs.History.{history_in};
+ghost use Rattle.jb_history.specs.History.{history_id};
 ghost use Rattle.jb_desk.specs.Desks.{desk_id};
 ghost use Rattle.jb_desk.specs.Seats.{desk_of};
 ghost use Rattle.jb_handle.specs.Word.{WordMap};
 
-use crate::blind::{small, start, stops};
+use crate::blind::{marks, small, start, stops};
 use crate::checks::{check, check_at, fail};
 use crate::closing::{closed, left};
 use crate::journal::{
     Came, PARTS, Small, Still, commit, formatted, is_one, opened, refused, round_of, seated, write,
 };
-use jb_deck::{Checked, CheckpointFault, ReadHomeFault};
+use jb_deck::{Checked, CheckpointFault, Deck, ReadHomeFault};
 use jb_desk::{BeginFault, Ended, Origin, RoundFault, Seat, Stops, WaitFault};
 use jb_disk::{Disk, MemoryDisk, OneFaultDisk};
+use jb_history::Opened;
 use std::alloc::Global;
 use std::marker::Brand;
 use std::process::Abort;
@@ -61,8 +63,8 @@ fn after<R: Wait, D: Disk, H: Origin, N: Ledger>(
     requires desk { desk_of seat ≡ desk_id desk.now }
 {
     let (mut seat, begun) = refused(rt, desk, seat, 1);
-    let settled = desk.wait(rt, &mut seat, 0);
-    let lost = desk.wait(rt, &mut seat, lost_ticket(begun));
+    let settled = desk.wait(rt, &mut seat, &mut desk.sights(rt), 0);
+    let lost = desk.wait(rt, &mut seat, &mut desk.sights(rt), lost_ticket(begun));
     let after = Answers {
         begun,
         settled,
@@ -83,7 +85,7 @@ fn after_checkpoint<R: Abort + Wait, D: Disk + Drop, H: Origin, N: Ledger>(
     let (seat, first) = commit(rt, &desk, seated(rt, &desk), 1);
     let (seat, _) = write(rt, &desk, seat, 1, &[2]);
     let checked = desk.checkpoint_round(rt);
-    let read = desk.read(rt, 16, &mut [0; 512]);
+    let read = desk.read(rt, &mut desk.sights(rt), 16, &mut [0; 512]);
     let (seat, second, _) = round_of(rt, &desk, seat);
     let (seat, after) = after(rt, &desk, seat);
     let lefts = left(rt, alloc, &desk, seat);
@@ -105,16 +107,17 @@ fn failing<R: Abort + Wait, H: Origin, N: Ledger>(
     call: u64,
     handles: Stops,
     changes: Blank,
+    marks: Opened<Deck<OneFaultDisk<MemoryDisk>>>,
 ) -> Option<Found>
     requires blind { H.begun.honest → ⊥ }
     requires any { (words : WordMap) → H.begun.stops words }
     requires handles { (handles.tickets.name ≡ H.name) × (handles.tickets.parts ≡ H.parts) × (H.parts ≡ 2 ^ 61 + 1) }
-    requires history { history_in handles ≡ H.history }
+    requires histories { (history_in handles ≡ H.history) × (history_id marks ≡ H.marks) }
     requires changes { (changes.name ≡ N.name) × (changes.parts ≡ N.parts) × (N.parts ≡ 2 ^ 61 + 1) }
 {
     match opened(alloc, OneFaultDisk::of(formatted(rt, alloc), call)) {
         Some(deck) => {
-            let desk: Failing<H, N> = start(rt, alloc, handles, changes, deck);
+            let desk: Failing<H, N> = start(rt, alloc, handles, changes, marks, deck);
             Some(after_checkpoint(rt, alloc, desk))
         }
         None => None,
@@ -160,6 +163,7 @@ fn the_round_after_a_failed_checkpoint_fails_the_book(rt: HostRuntime) {
             call,
             stops(&rt, rt.alloc()),
             Blank::new(PARTS),
+            marks(&rt, rt.alloc()),
         );
         if let Some(found) = found {
             if is_whole(&found) {
@@ -252,14 +256,14 @@ fn ends_with_no_group<
     R: Abort + Threads + Wait + Sync,
     H: Origin + Send + Sync,
     N: Ledger + Send + Sync,
->(rt: &R, alloc: Global, race: u64, handles: Stops, changes: Blank)
+>(rt: &R, alloc: Global, race: u64, handles: Stops, changes: Blank, marks: Opened<Deck<MemoryDisk>>)
     requires blind { H.begun.honest → ⊥ }
     requires any { (words : WordMap) → H.begun.stops words }
     requires handles { (handles.tickets.name ≡ H.name) × (handles.tickets.parts ≡ H.parts) × (H.parts ≡ 2 ^ 61 + 1) }
-    requires history { history_in handles ≡ H.history }
+    requires histories { (history_in handles ≡ H.history) × (history_id marks ≡ H.marks) }
     requires changes { (changes.name ≡ N.name) × (changes.parts ≡ N.parts) × (N.parts ≡ 2 ^ 61 + 1) }
 {
-    let desk: Small<H, N> = small(rt, alloc, handles, changes);
+    let desk: Small<H, N> = small(rt, alloc, handles, changes, marks);
     check_race(rt, race, desk)
 }
 
@@ -272,6 +276,7 @@ fn a_checkpointer_ends_with_no_group(rt: HostRuntime) {
             race,
             stops(&rt, rt.alloc()),
             Blank::new(PARTS),
+            marks(&rt, rt.alloc()),
         );
     }
 }

@@ -42,20 +42,23 @@ pub fn left<R: Abort + Wait, D: Disk, H: Origin, N: Ledger>(
 }
 
 /// Closes a desk of which all seats have left.
-pub fn closed<D: Disk + Drop, H: Origin, N: Ledger>(
-    rt: &impl Abort,
+pub fn closed<R: Abort + Wait, D: Disk + Drop, H: Origin, N: Ledger>(
+    rt: &R,
     desk: Still<D, H, N>,
     lefts: Vec<Left<H, N>>,
 ) -> Closed<D, FixedClock>
     requires parts { (H.parts ≡ 2 ^ 61 + 1) × (N.parts ≡ 2 ^ 61 + 1) }
 {
-    desk.close(lefts).ok().expect(rt, "the desk is not closed")
+    let seen = desk.sights(rt);
+    desk.close(lefts, seen)
+        .ok()
+        .expect(rt, "the desk is not closed")
 }
 
 /// Closes a desk of which all seats have left, and checks how many handles and changes it has counted, and how many
 /// groups its trail has. Where that is wrong, it gives the desk this name.
-pub fn check_close<D: Disk + Drop, H: Origin, N: Ledger>(
-    rt: &impl Abort,
+pub fn check_close<R: Abort + Wait, D: Disk + Drop, H: Origin, N: Ledger>(
+    rt: &R,
     name: &'static str,
     desk: Still<D, H, N>,
     lefts: Vec<Left<H, N>>,
@@ -73,8 +76,8 @@ pub fn check_close<D: Disk + Drop, H: Origin, N: Ledger>(
 }
 
 /// Checks that closing a desk is refused while a seat is out, and what is counted once the last one has left.
-pub fn check_close_twice<D: Disk + Drop, H: Origin, N: Ledger>(
-    rt: &impl Abort,
+pub fn check_close_twice<R: Abort + Wait, D: Disk + Drop, H: Origin, N: Ledger>(
+    rt: &R,
     name: &'static str,
     desk: Still<D, H, N>,
     lefts: Vec<Left<H, N>>,
@@ -83,8 +86,9 @@ pub fn check_close_twice<D: Disk + Drop, H: Origin, N: Ledger>(
 )
     requires parts { (H.parts ≡ 2 ^ 61 + 1) × (N.parts ≡ 2 ^ 61 + 1) }
 {
-    match desk.close(lefts) {
-        Err(CloseFault::SeatsOut(desk, mut lefts)) => {
+    let seen = desk.sights(rt);
+    match desk.close(lefts, seen) {
+        Err(CloseFault::SeatsOut(desk, mut lefts, _)) => {
             lefts.push(last).expect(rt, "memory");
             check_close(rt, name, desk, lefts, counts)
         }

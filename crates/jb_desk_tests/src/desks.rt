@@ -2,17 +2,20 @@
 ghost use Rattle.std.specs.Prelude.{◌≡◌, ◌+◌, ◌^◌};
 ghost use Rattle.jb_desk.specs.Desks.{desk_id};
 ghost use Rattle.jb_desk.specs.History.{history_in};
+ghost use Rattle.jb_history.specs.History.{history_id};
 ghost use Rattle.jb_desk.specs.Seats.{desk_of};
 ghost use Rattle.jb_handle.specs.Word.{WordMap};
 
-use crate::blind::{small, stops};
+use crate::blind::{marks, small, stops};
 use crate::checks::check;
 use crate::closing::{check_close, check_close_twice, is_closed, left, over_at};
 use crate::journal::{PARTS, SHAPE, Small, begun, refused, seated, stop};
 use jb_board::Front;
-use jb_deck::CheckpointFault;
+use jb_deck::{CheckpointFault, Deck};
 use jb_desk::{BeginFault, EnqueueFault, Left, Origin, Seat, Stops, WaitFault};
+use jb_disk::MemoryDisk;
 use jb_handle::Handle;
+use jb_history::Opened;
 use std::alloc::Global;
 use std::marker::Brand;
 use std::process::Abort;
@@ -59,7 +62,7 @@ fn check_stop<R: Abort + Wait, H: Origin, N: Ledger>(
     let _refused = handle.revoke(1);
     let (mut seat, ticket) = stop(rt, desk, handle);
     let front = desk.front(&mut seat);
-    let unknown = desk.wait(rt, &mut seat, 1);
+    let unknown = desk.wait(rt, &mut seat, &mut desk.sights(rt), 1);
     check(rt, ticket == Ok(0), "the ticket");
     check(rt, front == STOPPED, "the front");
     check(
@@ -197,14 +200,15 @@ fn rows<R: Abort + Wait, H: Origin, N: Ledger>(
     row: Row,
     handles: Stops,
     changes: Blank,
+    marks: Opened<Deck<MemoryDisk>>,
 )
     requires blind { H.begun.honest → ⊥ }
     requires any { (words : WordMap) → H.begun.stops words }
     requires handles { (handles.tickets.name ≡ H.name) × (handles.tickets.parts ≡ H.parts) × (H.parts ≡ 2 ^ 61 + 1) }
-    requires history { history_in handles ≡ H.history }
+    requires histories { (history_in handles ≡ H.history) × (history_id marks ≡ H.marks) }
     requires changes { (changes.name ≡ N.name) × (changes.parts ≡ N.parts) × (N.parts ≡ 2 ^ 61 + 1) }
 {
-    let desk: Small<H, N> = small(rt, alloc, handles, changes);
+    let desk: Small<H, N> = small(rt, alloc, handles, changes, marks);
     match row {
         Row::OneHandle => one_handle(rt, alloc, desk),
         Row::Beside => beside(rt, &desk, 5),
@@ -222,6 +226,7 @@ fn desks_answer_as_worked_by_hand(rt: HostRuntime) {
             row,
             stops(&rt, rt.alloc()),
             Blank::new(PARTS),
+            marks(&rt, rt.alloc()),
         );
     }
 }

@@ -2,16 +2,19 @@
 ghost use Rattle.std.specs.Prelude.{◌≡◌, ◌+◌, ◌^◌};
 ghost use Rattle.jb_desk.specs.Desks.{desk_id};
 ghost use Rattle.jb_desk.specs.History.{history_in};
+ghost use Rattle.jb_history.specs.History.{history_id};
 ghost use Rattle.jb_desk.specs.Seats.{desk_of};
 ghost use Rattle.jb_handle.specs.Word.{WordMap};
 
-use crate::blind::{small, stops};
+use crate::blind::{marks, small, stops};
 use crate::checks::check;
 use crate::closing::{check_close, is_closed, left, over_at};
 use crate::journal::{PARTS, Small, refused, retired, seated, write};
 use jb_board::Front;
-use jb_deck::CheckpointFault;
+use jb_deck::{CheckpointFault, Deck};
 use jb_desk::{Origin, Seat, Stops};
+use jb_disk::MemoryDisk;
+use jb_history::Opened;
 use std::alloc::Global;
 use std::marker::Brand;
 use std::process::Abort;
@@ -79,14 +82,15 @@ fn desk_ended<R: Abort + Wait, H: Origin, N: Ledger>(
     alloc: Global,
     handles: Stops,
     changes: Blank,
+    marks: Opened<Deck<MemoryDisk>>,
 )
     requires blind { H.begun.honest → ⊥ }
     requires any { (words : WordMap) → H.begun.stops words }
     requires handles { (handles.tickets.name ≡ H.name) × (handles.tickets.parts ≡ H.parts) × (H.parts ≡ 2 ^ 61 + 1) }
-    requires history { history_in handles ≡ H.history }
+    requires histories { (history_in handles ≡ H.history) × (history_id marks ≡ H.marks) }
     requires changes { (changes.name ≡ N.name) × (changes.parts ≡ N.parts) × (N.parts ≡ 2 ^ 61 + 1) }
 {
-    let desk: Small<H, N> = small(rt, alloc, handles, changes);
+    let desk: Small<H, N> = small(rt, alloc, handles, changes, marks);
     let seat = stop_two(rt, &desk, seated(rt, &desk));
     let seat = end(rt, &desk, seat);
     let lefts = left(rt, alloc, &desk, seat);
@@ -101,5 +105,6 @@ fn a_desk_that_is_shut_ends_with_all_done(rt: HostRuntime) {
         rt.alloc(),
         stops(&rt, rt.alloc()),
         Blank::new(PARTS),
+        marks(&rt, rt.alloc()),
     );
 }

@@ -1,17 +1,20 @@
 //! A round over a disk that fails once, at each of its calls.
 ghost use Rattle.std.specs.Prelude.{◌≡◌, ◌+◌, ◌^◌};
 ghost use Rattle.jb_desk.specs.History.{history_in};
+ghost use Rattle.jb_history.specs.History.{history_id};
 ghost use Rattle.jb_handle.specs.Word.{WordMap};
 
-use crate::blind::{start, stops};
+use crate::blind::{marks, start, stops};
 use crate::checks::{check, check_at, fail};
 use crate::closing::{closed, left};
 use crate::journal::{
     Came, PARTS, Still, begun, formatted, home, is_one, opened, refused, retired, round, seated,
     stop, write,
 };
+use jb_deck::Deck;
 use jb_desk::{BeginFault, EnqueueFault, Origin, RoundFault, Stops};
 use jb_disk::{Disk, MemoryDisk, OneFaultDisk};
+use jb_history::Opened;
 use jb_recover::recover;
 use std::alloc::Global;
 use std::marker::Brand;
@@ -110,16 +113,17 @@ fn failing<R: Abort + Wait, H: Origin, N: Ledger>(
     call: u64,
     handles: Stops,
     changes: Blank,
+    marks: Opened<Deck<OneFaultDisk<MemoryDisk>>>,
 ) -> Option<Found>
     requires blind { H.begun.honest → ⊥ }
     requires any { (words : WordMap) → H.begun.stops words }
     requires handles { (handles.tickets.name ≡ H.name) × (handles.tickets.parts ≡ H.parts) × (H.parts ≡ 2 ^ 61 + 1) }
-    requires history { history_in handles ≡ H.history }
+    requires histories { (history_in handles ≡ H.history) × (history_id marks ≡ H.marks) }
     requires changes { (changes.name ≡ N.name) × (changes.parts ≡ N.parts) × (N.parts ≡ 2 ^ 61 + 1) }
 {
     match opened(alloc, OneFaultDisk::of(formatted(rt, alloc), call)) {
         Some(deck) => {
-            let desk: Failing<H, N> = start(rt, alloc, handles, changes, deck);
+            let desk: Failing<H, N> = start(rt, alloc, handles, changes, marks, deck);
             let (found, disk) = after_round(rt, alloc, desk);
             check_whole(rt, alloc, call, disk.into_inner());
             Some(found)
@@ -168,6 +172,7 @@ fn close_adds_up_after_each_fault(rt: HostRuntime) {
             call,
             stops(&rt, rt.alloc()),
             Blank::new(PARTS),
+            marks(&rt, rt.alloc()),
         );
         if let Some(found) = found {
             if !check_found(&rt, call, &found) {

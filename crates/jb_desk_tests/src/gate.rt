@@ -1,18 +1,21 @@
 //! A handle stops while the disk is at work for another thread.
 ghost use Rattle.std.specs.Prelude.{◌≡◌, ◌+◌, ◌^◌};
 ghost use Rattle.jb_desk.specs.History.{history_in};
+ghost use Rattle.jb_history.specs.History.{history_id};
 ghost use Rattle.jb_disk.specs.Faults.{CountsFault, counted};
 ghost use Rattle.jb_handle.specs.Word.{WordMap};
 
-use crate::blind::{start, stops};
+use crate::blind::{marks, start, stops};
 use crate::checks::check;
 use crate::closing::check_close;
 use crate::journal::{
     PARTS, Still, begun, formatted, is_one, opened, retired, round, seated, stop, write,
 };
 use jb_block::BlockSize;
+use jb_deck::Deck;
 use jb_desk::{Left, Origin, Stops};
 use jb_disk::{Disk, Fault, MemoryDisk};
+use jb_history::Opened;
 use std::alloc::Global;
 use std::marker::Brand;
 use std::process::Abort;
@@ -177,12 +180,12 @@ fn first<K: Abort + Wait + Clock, D: Disk, H: Origin, N: Ledger>(
     check(rt, is_one(other, 1, 3), "the second round");
     check(
         rt,
-        desk.wait(rt, &mut seat, 0) == Ok(2),
+        desk.wait(rt, &mut seat, &mut desk.sights(rt), 0) == Ok(2),
         "the number of the first ticket",
     );
     check(
         rt,
-        desk.wait(rt, &mut seat, 1) == Ok(3),
+        desk.wait(rt, &mut seat, &mut desk.sights(rt), 1) == Ok(3),
         "the number of the second ticket",
     );
     desk.leave(rt, seat)
@@ -225,18 +228,26 @@ fn stop_both<
 
 /// Two threads stop a handle each at a new desk.
 fn gated<
+    'a,
     R: Abort + Threads + Wait + Clock + Sync,
     H: Origin + Send + Sync,
     N: Ledger + Send + Sync,
->(rt: &R, alloc: Global, gate: &Gate, handles: Stops, changes: Blank)
+>(
+    rt: &'a R,
+    alloc: Global,
+    gate: &'a Gate,
+    handles: Stops,
+    changes: Blank,
+    marks: Opened<Deck<GateDisk<'a, MemoryDisk, R>>>,
+)
     requires blind { H.begun.honest → ⊥ }
     requires any { (words : WordMap) → H.begun.stops words }
     requires handles { (handles.tickets.name ≡ H.name) × (handles.tickets.parts ≡ H.parts) × (H.parts ≡ 2 ^ 61 + 1) }
-    requires history { history_in handles ≡ H.history }
+    requires histories { (history_in handles ≡ H.history) × (history_id marks ≡ H.marks) }
     requires changes { (changes.name ≡ N.name) × (changes.parts ≡ N.parts) × (N.parts ≡ 2 ^ 61 + 1) }
 {
     let deck = opened(alloc, gated_disk(rt, alloc, gate)).expect(rt, "the journal is not opened");
-    let desk: Gated<'_, R, H, N> = start(rt, alloc, handles, changes, deck);
+    let desk: Gated<'_, R, H, N> = start(rt, alloc, handles, changes, marks, deck);
     stop_both(rt, alloc, gate, desk)
 }
 
@@ -249,5 +260,6 @@ fn gate_two_stops(rt: HostRuntime) {
         &gate,
         stops(&rt, rt.alloc()),
         Blank::new(PARTS),
+        marks(&rt, rt.alloc()),
     );
 }

@@ -125,7 +125,7 @@ pub fn stop<R: Wait, D: Disk, H: Origin, N: Ledger>(
     requires desk { desk_of (holder handle) ≡ desk_id desk.now }
     ensures { desk_of result.0 ≡ desk_id desk.now }
 {
-    match desk.stop(rt, handle) {
+    match desk.stop(rt, &mut desk.sights(rt), handle) {
         Ok((seat, ticket)) => (seat, Ok(ticket)),
         Err(StopFault::Aborted(seat)) => (seat, Err(EnqueueFault::Aborted)),
         Err(StopFault::NotOpen(handle)) => (desk.abandon(rt, handle), Err(EnqueueFault::NotOpen)),

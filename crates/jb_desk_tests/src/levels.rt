@@ -2,16 +2,18 @@
 ghost use Rattle.std.specs.Prelude.{◌≡◌, ◌+◌, ◌^◌};
 ghost use Rattle.jb_desk.specs.Desks.{desk_id};
 ghost use Rattle.jb_desk.specs.History.{history_in};
+ghost use Rattle.jb_history.specs.History.{history_id};
 ghost use Rattle.jb_desk.specs.Seats.{desk_of};
 ghost use Rattle.jb_handle.specs.Word.{WordMap};
 
-use crate::blind::{small, stops};
+use crate::blind::{marks, small, stops};
 use crate::checks::{check, check_at, check_in, fail};
 use crate::closing::{closed, left};
 use crate::journal::{PARTS, Small, Still, commit, home, seated};
-use jb_deck::{Checked, CheckpointFault};
+use jb_deck::{Checked, CheckpointFault, Deck};
 use jb_desk::{CheckpointRound, Origin, Seat, Stops};
-use jb_disk::Disk;
+use jb_disk::{Disk, MemoryDisk};
+use jb_history::Opened;
 use std::alloc::Global;
 use std::marker::Brand;
 use std::process::Abort;
@@ -91,14 +93,15 @@ fn level<R: Abort + Wait, H: Origin, N: Ledger>(
     row: &Row,
     handles: Stops,
     changes: Blank,
+    marks: Opened<Deck<MemoryDisk>>,
 )
     requires blind { H.begun.honest → ⊥ }
     requires any { (words : WordMap) → H.begun.stops words }
     requires handles { (handles.tickets.name ≡ H.name) × (handles.tickets.parts ≡ H.parts) × (H.parts ≡ 2 ^ 61 + 1) }
-    requires history { history_in handles ≡ H.history }
+    requires histories { (history_in handles ≡ H.history) × (history_id marks ≡ H.marks) }
     requires changes { (changes.name ≡ N.name) × (changes.parts ≡ N.parts) × (N.parts ≡ 2 ^ 61 + 1) }
 {
-    let desk: Small<H, N> = small(rt, alloc, handles, changes);
+    let desk: Small<H, N> = small(rt, alloc, handles, changes, marks);
     check_row(rt, alloc, number, row, desk)
 }
 
@@ -176,6 +179,7 @@ fn nothing_is_written_home_below_the_level(rt: HostRuntime) {
             row,
             stops(&rt, rt.alloc()),
             Blank::new(PARTS),
+            marks(&rt, rt.alloc()),
         );
     }
 }
@@ -243,14 +247,14 @@ fn beside<
     R: Abort + Threads + Wait + Clock + Sync,
     H: Origin + Send + Sync,
     N: Ledger + Send + Sync,
->(rt: &R, alloc: Global, handles: Stops, changes: Blank)
+>(rt: &R, alloc: Global, handles: Stops, changes: Blank, marks: Opened<Deck<MemoryDisk>>)
     requires blind { H.begun.honest → ⊥ }
     requires any { (words : WordMap) → H.begun.stops words }
     requires handles { (handles.tickets.name ≡ H.name) × (handles.tickets.parts ≡ H.parts) × (H.parts ≡ 2 ^ 61 + 1) }
-    requires history { history_in handles ≡ H.history }
+    requires histories { (history_in handles ≡ H.history) × (history_id marks ≡ H.marks) }
     requires changes { (changes.name ≡ N.name) × (changes.parts ≡ N.parts) × (N.parts ≡ 2 ^ 61 + 1) }
 {
-    let desk: Small<H, N> = small(rt, alloc, handles, changes);
+    let desk: Small<H, N> = small(rt, alloc, handles, changes, marks);
     let (ended, _) = thread::join(
         rt,
         || desk.run_checkpointer_at(rt, LEVEL),
@@ -271,5 +275,11 @@ fn beside<
 
 #[test]
 fn a_checkpointer_rests_below_its_level(rt: HostRuntime) {
-    beside::<HostRuntime, Brand, Brand>(&rt, rt.alloc(), stops(&rt, rt.alloc()), Blank::new(PARTS));
+    beside::<HostRuntime, Brand, Brand>(
+        &rt,
+        rt.alloc(),
+        stops(&rt, rt.alloc()),
+        Blank::new(PARTS),
+        marks(&rt, rt.alloc()),
+    );
 }

@@ -2,17 +2,19 @@
 ghost use Rattle.std.specs.Prelude.{◌≡◌, ◌+◌, ◌^◌};
 ghost use Rattle.jb_desk.specs.Desks.{desk_id};
 ghost use Rattle.jb_desk.specs.History.{history_in};
+ghost use Rattle.jb_history.specs.History.{history_id};
 ghost use Rattle.jb_desk.specs.Seats.{desk_of};
 ghost use Rattle.jb_handle.specs.Word.{WordMap};
 
-use crate::blind::{small, stops};
+use crate::blind::{marks, small, stops};
 use crate::checks::check_in;
 use crate::closing::{closed, left};
 use crate::journal::{PARTS, Small, Still, commit, seated};
 use jb_block::Memory;
-use jb_deck::Entry;
+use jb_deck::{Deck, Entry};
 use jb_desk::{Origin, Seat, Stops, WaitFault};
-use jb_disk::Disk;
+use jb_disk::{Disk, MemoryDisk};
+use jb_history::Opened;
 use std::alloc::Global;
 use std::marker::Brand;
 use std::process::Abort;
@@ -144,8 +146,8 @@ fn check_numbers<R: Abort + Wait, D: Disk, H: Origin, N: Ledger>(
 {
     let (life, lived) = row;
     let ticket = life.rounds.saturating_sub(1);
-    let is_first = desk.wait(rt, seat, 0) == lived.first;
-    let is_last = desk.wait(rt, seat, ticket) == lived.last;
+    let is_first = desk.wait(rt, seat, &mut desk.sights(rt), 0) == lived.first;
+    let is_last = desk.wait(rt, seat, &mut desk.sights(rt), ticket) == lived.last;
     check_in(rt, is_first, number, "the number of ticket", 0);
     check_in(rt, is_last, number, "the number of ticket", ticket);
 }
@@ -195,14 +197,15 @@ fn live<R: Abort + Wait, H: Origin, N: Ledger>(
     row: &(Life, Lived),
     handles: Stops,
     changes: Blank,
+    marks: Opened<Deck<MemoryDisk>>,
 )
     requires blind { H.begun.honest → ⊥ }
     requires any { (words : WordMap) → H.begun.stops words }
     requires handles { (handles.tickets.name ≡ H.name) × (handles.tickets.parts ≡ H.parts) × (H.parts ≡ 2 ^ 61 + 1) }
-    requires history { history_in handles ≡ H.history }
+    requires histories { (history_in handles ≡ H.history) × (history_id marks ≡ H.marks) }
     requires changes { (changes.name ≡ N.name) × (changes.parts ≡ N.parts) × (N.parts ≡ 2 ^ 61 + 1) }
 {
-    let desk: Small<H, N> = small(rt, alloc, handles, changes);
+    let desk: Small<H, N> = small(rt, alloc, handles, changes, marks);
     outcome(rt, alloc, number, row, desk)
 }
 
@@ -291,6 +294,7 @@ fn a_trail_that_is_taken_stays_short(rt: HostRuntime) {
             row,
             stops(&rt, rt.alloc()),
             Blank::new(PARTS),
+            marks(&rt, rt.alloc()),
         );
     }
 }

@@ -2,9 +2,10 @@
 //! call, and the image that a crash leaves is recovered.
 ghost use Rattle.std.specs.Prelude.{◌≡◌, ◌+◌, ◌^◌};
 ghost use Rattle.jb_desk.specs.History.{history_in};
+ghost use Rattle.jb_history.specs.History.{history_id};
 ghost use Rattle.jb_handle.specs.Word.{WordMap};
 
-use crate::blind::{start, stops};
+use crate::blind::{marks, start, stops};
 use crate::checks::check_at;
 use crate::closing::closed;
 use crate::homes::{Stop, contents_of, prefix_of};
@@ -13,10 +14,11 @@ use crate::keys::{Draws, HOMES};
 use crate::report::Report;
 use crate::threads::{Reports, Worked, work_all};
 use jb_block::{BlockSize, Width};
-use jb_deck::Entry;
+use jb_deck::{Deck, Entry};
 use jb_desk::{Left, Origin, Stops};
 use jb_disk::{FuseDisk, MemoryDisk};
 use jb_front::format;
+use jb_history::Opened;
 use jb_recover::recover;
 use std::alloc::Global;
 use std::marker::Brand;
@@ -149,16 +151,23 @@ fn outcome_of<
     R: Abort + Threads + Wait + Clock + Sync,
     H: Origin + Send + Sync,
     N: Ledger + Send + Sync,
->(rt: &R, alloc: Global, load: Load, handles: Stops, changes: Blank) -> Option<Outcome>
+>(
+    rt: &R,
+    alloc: Global,
+    load: Load,
+    handles: Stops,
+    changes: Blank,
+    marks: Opened<Deck<FuseDisk<MemoryDisk>>>,
+) -> Option<Outcome>
     requires blind { H.begun.honest → ⊥ }
     requires any { (words : WordMap) → H.begun.stops words }
     requires handles { (handles.tickets.name ≡ H.name) × (handles.tickets.parts ≡ H.parts) × (H.parts ≡ 2 ^ 61 + 1) }
-    requires history { history_in handles ≡ H.history }
+    requires histories { (history_in handles ≡ H.history) × (history_id marks ≡ H.marks) }
     requires changes { (changes.name ≡ N.name) × (changes.parts ≡ N.parts) × (N.parts ≡ 2 ^ 61 + 1) }
 {
     match opened(alloc, FuseDisk::of(journal(rt, alloc), load.calls)) {
         Some(deck) => {
-            let desk: Fused<H, N> = start(rt, alloc, handles, changes, deck);
+            let desk: Fused<H, N> = start(rt, alloc, handles, changes, marks, deck);
             Some(loaded(rt, alloc, load, desk))
         }
         None => None,
@@ -285,6 +294,7 @@ fn homes_are_those_of_the_tickets_in_order(rt: HostRuntime) {
             load,
             stops(&rt, rt.alloc()),
             Blank::new(PARTS),
+            marks(&rt, rt.alloc()),
         );
         check_load(&rt, rt.alloc(), &mut draws, load, outcome);
     }

@@ -1,15 +1,18 @@
 //! A home that is read while a round is at work for another thread.
 ghost use Rattle.std.specs.Prelude.{◌≡◌, ◌+◌, ◌^◌};
 ghost use Rattle.jb_desk.specs.History.{history_in};
+ghost use Rattle.jb_history.specs.History.{history_id};
 ghost use Rattle.jb_handle.specs.Word.{WordMap};
 
-use crate::blind::{start, stops};
+use crate::blind::{marks, start, stops};
 use crate::checks::check_at;
-use crate::gate::{Gate, Gated, await_flag, gated_disk};
+use crate::gate::{Gate, GateDisk, Gated, await_flag, gated_disk};
 use crate::journal::{PARTS, Still, opened, round_of, seated, write};
 use crate::reads::filled;
+use jb_deck::Deck;
 use jb_desk::{Origin, Stops};
-use jb_disk::Disk;
+use jb_disk::{Disk, MemoryDisk};
+use jb_history::Opened;
 use std::alloc::Global;
 use std::marker::Brand;
 use std::process::Abort;
@@ -76,18 +79,26 @@ fn commit_and_read<
 
 /// Commits and reads at a new desk.
 fn beside<
+    'a,
     R: Abort + Threads + Wait + Clock + Sync,
     H: Origin + Send + Sync,
     N: Ledger + Send + Sync,
->(rt: &R, alloc: Global, gate: &Gate, handles: Stops, changes: Blank)
+>(
+    rt: &'a R,
+    alloc: Global,
+    gate: &'a Gate,
+    handles: Stops,
+    changes: Blank,
+    marks: Opened<Deck<GateDisk<'a, MemoryDisk, R>>>,
+)
     requires blind { H.begun.honest → ⊥ }
     requires any { (words : WordMap) → H.begun.stops words }
     requires handles { (handles.tickets.name ≡ H.name) × (handles.tickets.parts ≡ H.parts) × (H.parts ≡ 2 ^ 61 + 1) }
-    requires history { history_in handles ≡ H.history }
+    requires histories { (history_in handles ≡ H.history) × (history_id marks ≡ H.marks) }
     requires changes { (changes.name ≡ N.name) × (changes.parts ≡ N.parts) × (N.parts ≡ 2 ^ 61 + 1) }
 {
     let deck = opened(alloc, gated_disk(rt, alloc, gate)).expect(rt, "the journal is not opened");
-    let desk: Gated<'_, R, H, N> = start(rt, alloc, handles, changes, deck);
+    let desk: Gated<'_, R, H, N> = start(rt, alloc, handles, changes, marks, deck);
     commit_and_read(rt, desk, gate)
 }
 
@@ -100,5 +111,6 @@ fn a_read_beside_a_round_waits_for_it(rt: HostRuntime) {
         &gate,
         stops(&rt, rt.alloc()),
         Blank::new(PARTS),
+        marks(&rt, rt.alloc()),
     );
 }

@@ -2,15 +2,17 @@
 ghost use Rattle.std.specs.Prelude.{◌≡◌, ◌+◌, ◌^◌};
 ghost use Rattle.jb_desk.specs.Desks.{desk_id};
 ghost use Rattle.jb_desk.specs.History.{history_in};
+ghost use Rattle.jb_history.specs.History.{history_id};
 ghost use Rattle.jb_desk.specs.Seats.{desk_of};
 ghost use Rattle.jb_handle.specs.Word.{WordMap};
 
-use crate::blind::{small, start, stops};
+use crate::blind::{marks, small, start, stops};
 use crate::checks::{check, check_at, check_in, fail};
 use crate::journal::{Came, PARTS, Small, Still, begun, formatted, opened, round_of, seated, stop};
-use jb_deck::ReadHomeFault;
+use jb_deck::{Deck, ReadHomeFault};
 use jb_desk::{Origin, Seat, Stops};
 use jb_disk::{Disk, MemoryDisk, OneFaultDisk};
+use jb_history::Opened;
 use std::alloc::Global;
 use std::marker::Brand;
 use std::process::Abort;
@@ -27,7 +29,7 @@ pub fn filled<R: Abort + Wait, D: Disk, H: Origin, N: Ledger>(
     home: u64,
 ) -> u8 {
     let mut block = [0; 1024];
-    let read = desk.read(rt, home, &mut block);
+    let read = desk.read(rt, &mut desk.sights(rt), home, &mut block);
     let byte = block[0];
     check_at(rt, read.is_ok(), "the read of home", home);
     check_at(rt, block == [byte; 1024], "several bytes in home", home);
@@ -174,17 +176,18 @@ fn stepped<R: Abort + Wait, H: Origin, N: Ledger>(
     alloc: Global,
     handles: Stops,
     changes: Blank,
+    marks: Opened<Deck<MemoryDisk>>,
 )
     requires blind { H.begun.honest → ⊥ }
     requires any { (words : WordMap) → H.begun.stops words }
     requires handles { (handles.tickets.name ≡ H.name) × (handles.tickets.parts ≡ H.parts) × (H.parts ≡ 2 ^ 61 + 1) }
-    requires history { history_in handles ≡ H.history }
+    requires histories { (history_in handles ≡ H.history) × (history_id marks ≡ H.marks) }
     requires changes { (changes.name ≡ N.name) × (changes.parts ≡ N.parts) × (N.parts ≡ 2 ^ 61 + 1) }
 {
-    let desk: Small<H, N> = small(rt, alloc, handles, changes);
+    let desk: Small<H, N> = small(rt, alloc, handles, changes, marks);
     check_steps(rt, &desk);
-    let none = desk.read(rt, 16, &mut [0; 512]);
-    let short = desk.read(rt, 15, &mut [0; 512]);
+    let none = desk.read(rt, &mut desk.sights(rt), 16, &mut [0; 512]);
+    let short = desk.read(rt, &mut desk.sights(rt), 15, &mut [0; 512]);
     check(
         rt,
         none == Err(ReadHomeFault::OutOfRange),
@@ -204,6 +207,7 @@ fn homes_are_read_as_they_are_committed(rt: HostRuntime) {
         rt.alloc(),
         stops(&rt, rt.alloc()),
         Blank::new(PARTS),
+        marks(&rt, rt.alloc()),
     );
 }
 
@@ -214,7 +218,7 @@ type Failing<H, N> = Still<OneFaultDisk<MemoryDisk>, H, N>;
 fn check_read<R: Abort + Wait, D: Disk + Drop, H: Origin, N: Ledger>(rt: &R, desk: Still<D, H, N>)
     requires any { (words : WordMap) → H.begun.stops words }
 {
-    let read = desk.read(rt, 2, &mut [0; 1024]);
+    let read = desk.read(rt, &mut desk.sights(rt), 2, &mut [0; 1024]);
     check(
         rt,
         read == Err(ReadHomeFault::DeviceFault),
@@ -232,16 +236,17 @@ fn failing<R: Abort + Wait, H: Origin, N: Ledger>(
     call: u64,
     handles: Stops,
     changes: Blank,
+    marks: Opened<Deck<OneFaultDisk<MemoryDisk>>>,
 ) -> bool
     requires blind { H.begun.honest → ⊥ }
     requires any { (words : WordMap) → H.begun.stops words }
     requires handles { (handles.tickets.name ≡ H.name) × (handles.tickets.parts ≡ H.parts) × (H.parts ≡ 2 ^ 61 + 1) }
-    requires history { history_in handles ≡ H.history }
+    requires histories { (history_in handles ≡ H.history) × (history_id marks ≡ H.marks) }
     requires changes { (changes.name ≡ N.name) × (changes.parts ≡ N.parts) × (N.parts ≡ 2 ^ 61 + 1) }
 {
     match opened(alloc, OneFaultDisk::of(formatted(rt, alloc), call)) {
         Some(deck) => {
-            let desk: Failing<H, N> = start(rt, alloc, handles, changes, deck);
+            let desk: Failing<H, N> = start(rt, alloc, handles, changes, marks, deck);
             check_read(rt, desk);
             true
         }
@@ -258,6 +263,7 @@ fn a_read_that_fails_fails_nothing_else(rt: HostRuntime) {
             call,
             stops(&rt, rt.alloc()),
             Blank::new(PARTS),
+            marks(&rt, rt.alloc()),
         );
         if is_opened {
             return;

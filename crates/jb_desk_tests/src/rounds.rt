@@ -2,10 +2,11 @@
 ghost use Rattle.std.specs.Prelude.{◌≡◌, ◌+◌, ◌^◌};
 ghost use Rattle.jb_desk.specs.Desks.{desk_id};
 ghost use Rattle.jb_desk.specs.History.{history_in};
+ghost use Rattle.jb_history.specs.History.{history_id};
 ghost use Rattle.jb_desk.specs.Seats.{desk_of};
 ghost use Rattle.jb_handle.specs.Word.{WordMap};
 
-use crate::blind::{start, stops};
+use crate::blind::{marks, start, stops};
 use crate::checks::check;
 use crate::closing::{check_close, check_close_twice, left, over_at};
 use crate::journal::{
@@ -13,8 +14,10 @@ use crate::journal::{
     write,
 };
 use jb_board::Front;
-use jb_deck::{Checked, CheckpointFault};
+use jb_deck::{Checked, CheckpointFault, Deck};
 use jb_desk::{BeginFault, Origin, RoundFault, Seat, Stops, WaitFault};
+use jb_disk::MemoryDisk;
+use jb_history::Opened;
 use std::alloc::Global;
 use std::marker::Brand;
 use std::process::Abort;
@@ -106,8 +109,8 @@ fn check_settled<R: Abort + Wait, H: Origin, N: Ledger>(
         second == Err(CheckpointFault::Nothing),
         "the second checkpoint",
     );
-    let settled = desk.wait(rt, seat, 0);
-    let unknown = desk.wait(rt, seat, 1);
+    let settled = desk.wait(rt, seat, &mut desk.sights(rt), 0);
+    let unknown = desk.wait(rt, seat, &mut desk.sights(rt), 1);
     check(rt, settled == Ok(2), "the number of the ticket");
     check(
         rt,
@@ -200,11 +203,12 @@ fn rows<R: Abort + Wait, H: Origin, N: Ledger>(
     is_last: bool,
     handles: Stops,
     changes: Blank,
+    marks: Opened<Deck<MemoryDisk>>,
 )
     requires blind { H.begun.honest → ⊥ }
     requires any { (words : WordMap) → H.begun.stops words }
     requires handles { (handles.tickets.name ≡ H.name) × (handles.tickets.parts ≡ H.parts) × (H.parts ≡ 2 ^ 61 + 1) }
-    requires history { history_in handles ≡ H.history }
+    requires histories { (history_in handles ≡ H.history) × (history_id marks ≡ H.marks) }
     requires changes { (changes.name ≡ N.name) × (changes.parts ≡ N.parts) × (N.parts ≡ 2 ^ 61 + 1) }
 {
     let disk = if is_last {
@@ -213,7 +217,7 @@ fn rows<R: Abort + Wait, H: Origin, N: Ledger>(
         formatted(rt, alloc)
     };
     let deck = opened(alloc, disk).expect(rt, "the journal is not opened");
-    let desk: Small<H, N> = start(rt, alloc, handles, changes, deck);
+    let desk: Small<H, N> = start(rt, alloc, handles, changes, marks, deck);
     if is_last {
         no_number(rt, alloc, desk)
     } else {
@@ -230,6 +234,7 @@ fn rounds_answer_as_worked_by_hand(rt: HostRuntime) {
             is_last,
             stops(&rt, rt.alloc()),
             Blank::new(PARTS),
+            marks(&rt, rt.alloc()),
         );
     }
 }

@@ -84,7 +84,7 @@ fn stop_again<R: Wait, D: Disk, H: Origin, N: Ledger>(
     requires desk { desk_of (holder handle) ≡ desk_id desk.now }
     ensures { desk_of result.0 ≡ desk_id desk.now }
 {
-    match desk.stop(rt, handle) {
+    match desk.stop(rt, &mut desk.sights(rt), handle) {
         Ok((seat, ticket)) => (seat, Ok(ticket)),
         Err(StopFault::Memory(handle)) => stop(rt, desk, handle),
         Err(StopFault::Aborted(seat)) => (seat, Err(EnqueueFault::Aborted)),
@@ -103,7 +103,7 @@ fn wait_for_last<R: Abort + Wait, D: Disk, H: Origin, N: Ledger>(
     ensures { desk_of seat.new ≡ desk_id desk.now }
 {
     if let Some(&Stop { ticket, .. }) = report.stops.last() {
-        let answer = desk.wait(rt, seat, ticket);
+        let answer = desk.wait(rt, seat, &mut desk.sights(rt), ticket);
         report.note_wait(rt, ticket, answer);
     }
 }

@@ -1,11 +1,15 @@
 //! Handles that wait for room are begun in the order in which they came.
 ghost use Rattle.std.specs.Prelude.{◌≡◌, ◌+◌, ◌^◌};
 ghost use Rattle.jb_desk.specs.History.{history_in};
+ghost use Rattle.jb_history.specs.History.{history_id};
 
-use crate::blind::{small, stops};
+use crate::blind::{marks, small, stops};
 use crate::checks::check_at;
 use crate::journal::{PARTS, Small, seated};
+use jb_deck::Deck;
 use jb_desk::{Origin, Stops};
+use jb_disk::MemoryDisk;
+use jb_history::Opened;
 use std::alloc::Global;
 use std::marker::Brand;
 use std::process::Abort;
@@ -48,13 +52,19 @@ fn order<
     R: Abort + Threads + Wait + Clock + Sync,
     H: Origin + Send + Sync,
     N: Ledger + Send + Sync,
->(rt: &R, alloc: Global, handles: Stops, changes: Blank) -> Vec<usize>
+>(
+    rt: &R,
+    alloc: Global,
+    handles: Stops,
+    changes: Blank,
+    marks: Opened<Deck<MemoryDisk>>,
+) -> Vec<usize>
     requires blind { H.begun.honest → ⊥ }
     requires handles { (handles.tickets.name ≡ H.name) × (handles.tickets.parts ≡ H.parts) × (H.parts ≡ 2 ^ 61 + 1) }
-    requires history { history_in handles ≡ H.history }
+    requires histories { (history_in handles ≡ H.history) × (history_id marks ≡ H.marks) }
     requires changes { (changes.name ≡ N.name) × (changes.parts ≡ N.parts) × (N.parts ≡ 2 ^ 61 + 1) }
 {
-    let desk: Small<H, N> = small(rt, alloc, handles, changes);
+    let desk: Small<H, N> = small(rt, alloc, handles, changes, marks);
     let begun = Mutex::new(Vec::new(alloc));
     thread::map_indices(rt, alloc, THREADS, &|k| come(rt, &desk, k, &begun)).expect(rt, "memory");
     begun.into_inner()
@@ -84,6 +94,7 @@ fn handles_that_wait_for_room_are_begun_in_the_order_of_arrival(rt: HostRuntime)
         rt.alloc(),
         stops(&rt, rt.alloc()),
         Blank::new(PARTS),
+        marks(&rt, rt.alloc()),
     );
     check_order(&rt, &begun);
 }

@@ -107,6 +107,18 @@ impl<E, L: Place> History<E, L> {
         }
     }
 
+    /// The same sight once more.
+    pub fn again(&self, sight: &mut Sight<E, L>) -> Sight<E, L>
+        ensures sight { result ≡ sight.old }
+        ensures kept { sight.new ≡ sight.old }
+    {
+        let seat = self.table.shared.split_seat::<Sights>(&mut sight.seat);
+        Sight {
+            seat,
+            place: PhantomData,
+        }
+    }
+
     /// Sees the history, which begins with what was seen and with what another has seen.
     pub fn learn(&self, sight: &mut Sight<E, L>, other: &mut Sight<E, L>)
         ensures own { IsFirstPart sight.old sight.new }

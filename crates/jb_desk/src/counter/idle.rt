@@ -4,6 +4,7 @@ ghost use Rattle.std.specs.Prelude.{◌≡◌, false};
 use crate::counter::Counter;
 use jb_board::Front;
 use jb_book::Origin;
+use jb_disk::Disk;
 use std::sync::ledger::Ledger;
 
 /// There was nothing to take: the journal had not failed, and no handle waited or a batch was out. Only a look at a
@@ -24,7 +25,7 @@ impl NoBatch {
     }
 }
 
-impl<H: Origin, N: Ledger> Counter<H, N> {
+impl<D: Disk, H: Origin, N: Ledger> Counter<D, H, N> {
     ghost use Rattle.jb_board.specs.Front.{front};
     ghost use Rattle.jb_book.specs.Account.{CanTake};
 

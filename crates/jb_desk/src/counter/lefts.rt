@@ -9,6 +9,7 @@ use crate::counter::Counter;
 use crate::seat::Left;
 use jb_book::Origin;
 use jb_deck::Entry;
+use jb_disk::Disk;
 use jb_handle::Words;
 use jb_history::{History, Made, Scribe};
 use std::sync::ledger::{Ledger, Share};
@@ -42,7 +43,7 @@ fn merged<H: Origin, N: Ledger>(
     (all_handles, all_changes, all)
 }
 
-impl<H: Origin, N: Ledger> Counter<H, N> {
+impl<D: Disk, H: Origin, N: Ledger> Counter<D, H, N> {
     ghost use Rattle.jb_book.specs.Led.{IsOfBegun, IsMachineRun};
     ghost use Rattle.jb_desk.specs.History.{AreAllStops};
 

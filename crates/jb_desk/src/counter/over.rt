@@ -3,6 +3,7 @@ ghost use Rattle.std.specs.Prelude.{◌≡◌, false, IfSome, IfNone};
 
 use crate::counter::Counter;
 use jb_book::Origin;
+use jb_disk::Disk;
 use std::sync::ledger::Ledger;
 
 /// A desk is over: it is shut, no handle is open, queued or taken, and the journal has not failed. Only a look
@@ -21,7 +22,7 @@ impl Over {
     }
 }
 
-impl<H: Origin, N: Ledger> Counter<H, N> {
+impl<D: Disk, H: Origin, N: Ledger> Counter<D, H, N> {
     ghost use Rattle.jb_book.specs.Account.{IsOver};
 
     /// That the desk is over, where it is.

@@ -1,6 +1,7 @@
 //! How far the book of a desk has come.
 use crate::counter::{Counter, Over};
 use jb_book::Origin;
+use jb_disk::Disk;
 use std::sync::ledger::Ledger;
 
 /// How far a book has come, as the thread that brings groups home sees it.
@@ -14,7 +15,7 @@ pub(crate) struct Progress {
     pub(crate) is_aborted: bool,
 }
 
-impl<H: Origin, N: Ledger> Counter<H, N> {
+impl<D: Disk, H: Origin, N: Ledger> Counter<D, H, N> {
     ghost use Rattle.jb_desk.specs.Progress.{HasCome};
 
     /// How far the book has come.

@@ -1,19 +1,22 @@
 //! The book's part in a round of a committer.
-ghost use Rattle.std.specs.Prelude.{◌≡◌, ◌↔◌, IsTrue, true, false, OnOk, IfErr, IfOk, IfNone};
+ghost use Rattle.std.specs.Prelude.{◌≡◌, ◌↔◌, IsTrue, true, false, All, OnOk, IfErr, IfOk, IfNone};
 
 use crate::committer::RoundFault;
 use crate::counter::Counter;
 use crate::held::Held;
-use jb_book::{Origin, WrongBatch};
+use jb_book::{Histories, Origin, Sights, WrongBatch};
 use jb_deck::Done;
+use jb_disk::Disk;
 use jb_handle::{Shape, Words};
-use jb_history::{History, Sight};
+use jb_history::History;
 use std::sync::ledger::Ledger;
 
-impl<H: Origin, N: Ledger> Counter<H, N> {
+impl<D: Disk, H: Origin, N: Ledger> Counter<D, H, N> {
     ghost use Rattle.jb_book.specs.Account.{failed_of, CanTake};
     ghost use Rattle.jb_desk.specs.Rounds.{GivesBatch, GivesUp, Rests};
     ghost use Rattle.jb_book.specs.Led.{FailsAfter, IsSettling, SettlesOrFails};
+    ghost use Rattle.jb_book.specs.Marks.{HasFailedMark, IsMarked, SeesSame};
+    ghost use Rattle.jb_deck.specs.Done.{entries_of};
 
     /// The batch of a round: the one that the committer holds, or else the whole queue. `None` where there is
     /// nothing to take.
@@ -47,50 +50,57 @@ impl<H: Origin, N: Ledger> Counter<H, N> {
         }
     }
 
-    /// Settles a batch that is committed whole: one of this shape that ends at this ticket, whose handles the sight
-    /// has.
+    /// Settles a batch that is committed whole: one of this shape that ends at this ticket, whose handles were seen, and
+    /// its groups at a mark.
     ///
     /// # Errors
     ///
     /// `WrongBatch` where it is not the batch that is out: the book has failed then.
     pub fn settle(
         &mut self,
-        history: &History<Words, H>,
-        sight: &mut Sight<Words, H>,
+        histories: &Histories<D, H>,
+        seen: &mut Sights<D, H>,
         done: &Done,
         end: u64,
         shape: Shape,
     ) -> Result<(), WrongBatch>
-        requires { IsSettling sight.old end shape done.now }
-        ensures { SettlesOrFails end shape done.now self.old.register.book result self.new.register.book }
+        requires settling { IsSettling seen.old.stops end shape done.now }
+        requires marked { All (IsMarked seen.old.marks) (entries_of done.now) }
+        ensures settles { SettlesOrFails end shape done.now self.old.register.book result self.new.register.book }
+        ensures kept { SeesSame seen.old seen.new }
     {
-        self.register.settle(history, sight, done, end, shape)
+        self.register.settle(histories, seen, done, end, shape)
     }
 
-    /// Settles the groups that were committed before the journal failed, and fails with it.
+    /// Settles the groups that were committed before the journal failed, as was seen at a mark, and fails with it.
     ///
     /// # Errors
     ///
     /// `WrongBatch` where they are not of the batch that is out: the book has failed without them then.
     pub fn settle_last(
         &mut self,
-        history: &History<Words, H>,
-        sight: &mut Sight<Words, H>,
+        histories: &Histories<D, H>,
+        seen: &mut Sights<D, H>,
         done: &Done,
         end: u64,
         shape: Shape,
     ) -> Result<(), WrongBatch>
-        requires { IsSettling sight.old end shape done.now }
-        ensures { FailsAfter end shape done.now self.old.register.book result self.new.register.book }
+        requires settling { IsSettling seen.old.stops end shape done.now }
+        requires marked { All (IsMarked seen.old.marks) (entries_of done.now) }
+        requires failed { HasFailedMark seen.old.marks }
+        ensures fails { FailsAfter end shape done.now self.old.register.book result self.new.register.book }
+        ensures kept { SeesSame seen.old seen.new }
     {
-        self.register.settle_last(history, sight, done, end, shape)
+        self.register.settle_last(histories, seen, done, end, shape)
     }
 
-    /// The journal has failed: what is queued or taken is lost.
-    pub fn fail(&mut self)
-        ensures { self.new.register.book ≡ failed_of self.old.register.book }
+    /// The journal has failed, as was seen at a mark: what is queued or taken is lost.
+    pub fn fail(&mut self, histories: &Histories<D, H>, seen: &mut Sights<D, H>)
+        requires { HasFailedMark seen.old.marks }
+        ensures book { self.new.register.book ≡ failed_of self.old.register.book }
+        ensures kept { SeesSame seen.old seen.new }
     {
-        self.register.fail();
+        self.register.fail(histories, seen);
     }
 
     /// Lets a batch that is held go where the journal has failed.
@@ -111,14 +121,14 @@ impl<H: Origin, N: Ledger> Counter<H, N> {
 
     /// A committer gives up. A batch that it holds is lost, and the book has failed then: nobody could settle the
     /// batch's tickets any more.
-    pub fn give_up(&mut self, held: Option<Held<H>>)
+    pub fn give_up(&mut self, history: &History<Words, H>, held: Option<Held<H>>)
         ensures { GivesUp held self.old.register.book self.new.register.book }
     {
-        let Some(batch) = held else {
+        let Some(held) = held else {
             return;
         };
-        batch.lose();
-        self.fail();
+        let (batch, _, sight, _) = held.end();
+        self.register.give_up(history, sight, batch);
     }
 
     /// Whether a committer has nothing to do yet.

@@ -3,6 +3,7 @@ ghost use Rattle.std.specs.Prelude.{◌≡◌, ◌≤◌};
 
 use crate::counter::Counter;
 use jb_book::Origin;
+use jb_disk::Disk;
 use std::sync::ledger::Ledger;
 
 /// How many tickets of a book were taken, and how many settled. Only a look at the book under its lock gives one.
@@ -12,7 +13,7 @@ pub(crate) struct Seen {
     settled: u64,
 }
 
-impl<H: Origin, N: Ledger> Counter<H, N> {
+impl<D: Disk, H: Origin, N: Ledger> Counter<D, H, N> {
     /// How far the book has come.
     pub fn seen(&self) -> Seen
         ensures counts { (result.taken ≡ self.now.register.book.shadow.taken)

@@ -1,9 +1,10 @@
 //! Entries are taken from the front of the book's trail.
 use crate::counter::Counter;
 use jb_book::Origin;
+use jb_disk::Disk;
 use std::sync::ledger::Ledger;
 
-impl<H: Origin, N: Ledger> Counter<H, N> {
+impl<D: Disk, H: Origin, N: Ledger> Counter<D, H, N> {
     ghost use Rattle.std.specs.Prelude.{◌≡◌};
     ghost use Rattle.jb_book.specs.Account.{last_start, shortened};
 

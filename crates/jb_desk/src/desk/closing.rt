@@ -3,7 +3,7 @@ ghost use Rattle.std.specs.Prelude.{◌≡◌, ℕ, ◌+◌, ◌≤◌, ◌^◌,
 ghost use Rattle.std.specs.List.{sum_by};
 ghost use Rattle.jb_deck.specs.Done.{Follow, start_of};
 ghost use Rattle.jb_desk.specs.Seats.{stops_left, changes_left, made_left};
-ghost use Rattle.jb_desk.specs.History.{EndsWith};
+ghost use Rattle.jb_desk.specs.Marks.{EndsMarked};
 ghost use Rattle.jb_desk.specs.Closing.{DiffersAs};
 ghost use Rattle.jb_desk.specs.Since.{EndsSince};
 
@@ -12,11 +12,10 @@ use crate::desk::Desk;
 use crate::follow::are_same;
 use crate::seat::Left;
 use crate::works::Works;
-use jb_book::Origin;
+use jb_book::{Histories, Origin, Sights};
 use jb_deck::{Deck, Entry};
 use jb_disk::{Clock, Disk};
-use jb_handle::{Shape, Words};
-use jb_history::History;
+use jb_handle::Shape;
 use std::fmt;
 use std::sync::Mutex;
 use std::sync::ledger::Ledger;
@@ -42,8 +41,8 @@ pub struct Closed<D, C> {
 /// Why a desk is not closed.
 #[derive(Drop)]
 pub enum CloseFault<D: Disk, C: Clock, H: Origin, N: Ledger> {
-    /// A seat that was given has not left. Here are the desk and what the other seats left.
-    SeatsOut(Desk<D, C, H, N>, Vec<Left<H, N>>),
+    /// A seat that was given has not left. Here are the desk, what the other seats left, and what was seen.
+    SeatsOut(Desk<D, C, H, N>, Vec<Left<H, N>>, Sights<D, H>),
     /// The groups that the journal has settled are not those of the book.
     TrailsDiffer {
         /// The journal.
@@ -72,19 +71,24 @@ impl<D: Disk, C: Clock, H: Origin, N: Ledger> fmt::Display for CloseFault<D, C, 
     }
 }
 
-impl<D: Disk, C: Clock, H: Origin, N: Ledger> Desk<D, C, H, N> {
+impl<D: Disk + Drop, C: Clock, H: Origin, N: Ledger> Desk<D, C, H, N> {
     ghost use Rattle.jb_desk.specs.Seats.{stops_left, changes_left, made_left};
-    ghost use Rattle.jb_desk.specs.History.{EndsWith};
+    ghost use Rattle.jb_desk.specs.Marks.{EndsMarked};
     ghost use Rattle.jb_desk.specs.Closing.{IsNotClosed};
     ghost use Rattle.jb_desk.specs.Since.{EndsSince};
 
-    /// Closes the desk, where every seat that it gave has left. It writes nothing.
+    /// Closes the desk, where every seat that it gave has left. It writes nothing. Of the marks that were seen it says that
+    /// each lasts: what a crash since then leaves has all that was settled at the mark.
     ///
     /// # Errors
     ///
-    /// `SeatsOut` where a seat's `Left` is missing, with the desk; `TrailsDiffer` where the journal has
+    /// `SeatsOut` where a seat's `Left` is missing, with all that was given; `TrailsDiffer` where the journal has
     /// settled other groups than the book.
-    pub fn close(self, lefts: Vec<Left<H, N>>) -> Result<Closed<D, C>, CloseFault<D, C, H, N>>
+    pub fn close(
+        self,
+        lefts: Vec<Left<H, N>>,
+        seen: Sights<D, H>,
+    ) -> Result<Closed<D, C>, CloseFault<D, C, H, N>>
         requires parts { (H.parts ≡ 2 ^ 61 + 1) × (N.parts ≡ 2 ^ 61 + 1) }
         ensures handles { IfOk result (λ closed. closed.handles ≡ sum_by stops_left lefts.items) }
         ensures changes { IfOk result (λ closed. closed.changes ≡ sum_by changes_left lefts.items) }
@@ -93,10 +97,10 @@ impl<D: Disk, C: Clock, H: Origin, N: Ledger> Desk<D, C, H, N> {
             closed.trail.items × (past ≤ closed.handles)) }
         ensures since { IfOk result (λ closed. EndsSince D.size D.count D.faults D.honest D.newest D.may_leave D.moment
             D.left_since H.begun closed.disk closed.trail.items) }
-        ensures stops { IfOk result (λ closed. EndsWith D.size D.count D.faults D.honest D.newest D.may_leave D.moment
+        ensures stops { IfOk result (λ closed. EndsMarked D.size D.count D.faults D.honest D.newest D.may_leave D.moment
             D.left_since H.begun (map made_left lefts.items) closed.handles closed.shape closed.disk
-            closed.trail.items) }
-        ensures refused { IfErr result (IsNotClosed self lefts) }
+            closed.trail.items seen.stops seen.marks) }
+        ensures refused { IfErr result (IsNotClosed self lefts seen) }
     {
         let Desk {
             counter,
@@ -104,7 +108,7 @@ impl<D: Disk, C: Clock, H: Origin, N: Ledger> Desk<D, C, H, N> {
             moved,
             turns,
             board,
-            history,
+            histories,
             shape,
             alloc,
         } = self;
@@ -116,22 +120,23 @@ impl<D: Disk, C: Clock, H: Origin, N: Ledger> Desk<D, C, H, N> {
                 moved,
                 turns,
                 board,
-                history,
+                histories,
                 shape,
                 alloc,
             };
-            return Err(CloseFault::SeatsOut(desk, lefts));
+            return Err(CloseFault::SeatsOut(desk, lefts, seen));
         }
-        close_parts(&history, counter, works.into_inner(), lefts)
+        close_parts(&histories, counter, works.into_inner(), lefts, seen)
     }
 }
 
 /// Closes what the two locks guarded, where every seat that was given has left.
-fn close_parts<D: Disk, C: Clock, H: Origin, N: Ledger>(
-    history: &History<Words, H>,
-    counter: Counter<H, N>,
+fn close_parts<D: Disk + Drop, C: Clock, H: Origin, N: Ledger>(
+    histories: &Histories<D, H>,
+    counter: Counter<D, H, N>,
     works: Works<D, C, H>,
     lefts: Vec<Left<H, N>>,
+    seen: Sights<D, H>,
 ) -> Result<Closed<D, C>, CloseFault<D, C, H, N>>
     requires parts { (H.parts ≡ 2305843009213693953) × (N.parts ≡ 2305843009213693953) }
     requires all { vec_len lefts ≡ counter.given }
@@ -144,15 +149,18 @@ fn close_parts<D: Disk, C: Clock, H: Origin, N: Ledger>(
         × (past ≤ closed.handles)) }
     ensures since { IfOk result (λ closed. EndsSince D.size D.count D.faults D.honest D.newest D.may_leave D.moment
         D.left_since H.begun closed.disk closed.trail.items) }
-    ensures stops { IfOk result (λ closed. EndsWith D.size D.count D.faults D.honest D.newest D.may_leave D.moment
-        D.left_since H.begun (map made_left lefts.items) closed.handles closed.shape closed.disk closed.trail.items) }
+    ensures stops { IfOk result (λ closed. EndsMarked D.size D.count D.faults D.honest D.newest D.may_leave D.moment
+        D.left_since H.begun (map made_left lefts.items) closed.handles closed.shape closed.disk closed.trail.items
+        seen.stops seen.marks) }
     ensures given { IfOk result (λ closed. (closed.disk ≡ works.deck.disk) × (closed.clock ≡ works.clock)
         × (closed.trail.items ≡ counter.register.book.trail) × (closed.trail.items ≡ works.deck.trail)) }
     ensures refused { IfErr result (DiffersAs counter works) }
 {
-    let (trail, handles, changes, mut scribe) = counter.totals(history, lefts);
-    let (deck, clock, sight) = works.end();
-    history.check(&mut scribe, sight);
+    let (trail, handles, changes, mut scribe) = counter.totals(&histories.stops, lefts);
+    let Sights { stops, marks } = seen;
+    let (deck, clock, sight) = works.end(histories, marks);
+    histories.stops.check(&mut scribe, sight);
+    histories.stops.check(&mut scribe, stops);
     if !are_same(&trail, deck.trail()) {
         return Err(CloseFault::TrailsDiffer {
             deck,

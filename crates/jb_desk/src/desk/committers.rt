@@ -4,12 +4,13 @@ ghost use Rattle.std.specs.Prelude.{◌≡◌, None, is_some, true, IfOk, IfErr}
 use crate::committer::Committer;
 use crate::desk::Desk;
 use crate::seat::Seat;
-use jb_book::Origin;
+use jb_book::{Origin, Sights};
 use jb_disk::{Clock, Disk};
 use std::sync::Wait;
 use std::sync::ledger::Ledger;
 
 impl<D: Disk, C: Clock, H: Origin, N: Ledger> Desk<D, C, H, N> {
+    ghost use Rattle.jb_book.specs.Marks.{HasFailedMark, SeesSame};
     ghost use Rattle.jb_desk.specs.Rounds.{seat_of, held_by};
 
     /// A seat becomes a committer, which holds no batch.
@@ -52,14 +53,17 @@ impl<D: Disk, C: Clock, H: Origin, N: Ledger> Desk<D, C, H, N> {
         ensures { result ≡ seat_of committer }
     {
         let Committer { seat, batch } = committer;
-        self.counter.lock(rt).give_up(batch);
+        self.counter.lock(rt).give_up(&self.histories.stops, batch);
         self.moved.notify_all();
         seat
     }
 
-    /// The journal has failed.
-    pub(crate) fn fail<R: Wait>(&self, rt: &R) {
-        self.counter.lock(rt).fail();
+    /// The journal has failed, as was seen at a mark.
+    pub(crate) fn fail<R: Wait>(&self, rt: &R, seen: &mut Sights<D, H>)
+        requires { HasFailedMark seen.old.marks }
+        ensures { SeesSame seen.old seen.new }
+    {
+        self.counter.lock(rt).fail(&self.histories, seen);
         self.moved.notify_all();
     }
 }

@@ -10,7 +10,7 @@ use crate::desk::Desk;
 use crate::held::Held;
 use crate::seat::Seat;
 use jb_board::Tickets;
-use jb_book::{Origin, end_of};
+use jb_book::{Origin, Sights, end_of};
 use jb_deck::{Batch, BatchFault, Done, PrepareFault, Prepared, prepare};
 use jb_disk::{Clock, Disk};
 use jb_handle::{Shape, Words};
@@ -24,6 +24,7 @@ impl<D: Disk, C: Clock, H: Origin, N: Ledger> Desk<D, C, H, N> {
     ghost use Rattle.jb_desk.specs.Rounds.{seat_of, held_by, AnswersRound, IdleKeeps, end_of as end_in};
     ghost use Rattle.jb_desk.specs.Seats.{KeepsStops, seat_number, desk_of};
     ghost use Rattle.jb_book.specs.Led.{IsInHistory, IsSettling};
+    ghost use Rattle.jb_book.specs.Marks.{HasFailedMark, IsMarked, SeesSame};
     ghost use Rattle.jb_book.specs.Origin.{AreStops};
     ghost use Rattle.jb_desk.specs.Views.{SeesCommit, SeesRound};
     ghost use Rattle.jb_board.specs.Seats.{given_by};
@@ -58,7 +59,7 @@ impl<D: Disk, C: Clock, H: Origin, N: Ledger> Desk<D, C, H, N> {
     {
         let held = committer.batch.take();
         let mut counter = self.counter.lock(rt);
-        let Some(held) = counter.next_batch(&self.history, held)? else {
+        let Some(held) = counter.next_batch(&self.histories.stops, held)? else {
             return Ok(Round::Idle(counter.no_batch()));
         };
         drop(counter);
@@ -106,30 +107,27 @@ impl<D: Disk, C: Clock, H: Origin, N: Ledger> Desk<D, C, H, N> {
         ensures round { CommitsRound D.size D.count D.faults D.honest D.newest D.may_leave D.moment D.left_since
             H.begun (Some prepared.batch) (view_of (seat_of committer.new)).settled result }
     {
-        let (tickets, mut sight, seen) = held;
+        let (tickets, sight, taken) = held;
         let end = past(prepared.batch());
         let shape = prepared.batch().shape();
         // bound first, so that the lock is free again before the book's is taken
-        let result = self
-            .works
-            .lock(rt)
-            .commit(prepared, &self.history, &mut sight);
+        let (result, mut seen) = self.works.lock(rt).commit(prepared, &self.histories, sight);
         match result {
             Ok(done) => {
-                self.settle(rt, &mut committer.seat, &mut sight, &done, end, shape)?;
+                self.settle(rt, &mut committer.seat, &mut seen, &done, end, shape)?;
                 Ok(Round::Committed(done))
             }
             Err(BatchFault::DeviceFault { settled }) => {
-                self.settle_last(rt, &mut committer.seat, &mut sight, &settled, end, shape)?;
+                self.settle_last(rt, &mut committer.seat, &mut seen, &settled, end, shape)?;
                 Err(RoundFault::DeviceFault)
             }
             Err(BatchFault::Aborted(prepared)) => {
                 let _lost = prepared.back().end();
-                self.fail(rt);
+                self.fail(rt, &mut seen);
                 Err(RoundFault::Aborted)
             }
             Err(BatchFault::Memory(prepared)) => {
-                committer.hold(Held::of(prepared.back(), tickets, sight, seen));
+                committer.hold(Held::of(prepared.back(), tickets, seen.stops, taken));
                 Err(RoundFault::Memory)
             }
             Err(
@@ -137,24 +135,26 @@ impl<D: Disk, C: Clock, H: Origin, N: Ledger> Desk<D, C, H, N> {
                 | BatchFault::OtherShape(prepared)
                 | BatchFault::NumbersSpent(prepared),
             ) => {
-                committer.hold(Held::of(prepared.back(), tickets, sight, seen));
+                committer.hold(Held::of(prepared.back(), tickets, seen.stops, taken));
                 Err(RoundFault::Refused)
             }
         }
     }
 
-    /// Settles a batch that is committed: one of this shape that ends at this ticket, whose handles the sight has.
+    /// Settles a batch that is committed: one of this shape that ends at this ticket, whose handles were seen, and its
+    /// groups at a mark.
     fn settle<R: Wait>(
         &self,
         rt: &R,
         seat: &mut Seat<H, N>,
-        sight: &mut Sight<Words, H>,
+        seen: &mut Sights<D, H>,
         done: &Done,
         end: u64,
         shape: Shape,
     ) -> Result<(), RoundFault>
         requires desk { desk_of seat.old ≡ desk_id self.now }
-        requires settling { IsSettling sight.old end shape done.now }
+        requires settling { IsSettling seen.old.stops end shape done.now }
+        requires marked { All (IsMarked seen.old.marks) (entries_of done.now) }
         requires taken { past_after (first_of done.now) (entries_of done.now) ≤ (view_of seat.old).taken }
         ensures desk { (desk_of seat.new ≡ desk_of seat.old) × (seat_number seat.new ≡ seat_number seat.old) }
         ensures settled { OnOk result (past_after (first_of done.now)
@@ -165,30 +165,32 @@ impl<D: Disk, C: Clock, H: Origin, N: Ledger> Desk<D, C, H, N> {
         ensures counted { KeepsStops seat.old seat.new }
     {
         let mut counter = self.counter.lock(rt);
-        let settled = counter.settle(&self.history, sight, done, end, shape);
-        let seen = counter.seen();
+        let settled = counter.settle(&self.histories, seen, done, end, shape);
+        let counts = counter.seen();
         drop(counter);
         self.moved.notify_all();
         let Ok(()) = settled else {
             return Err(RoundFault::Aborted);
         };
         self.board
-            .raise_settled(&mut seat.board, end_of(done), &seen);
+            .raise_settled(&mut seat.board, end_of(done), &counts);
         Ok(())
     }
 
-    /// Settles what was committed of a batch before the journal failed.
+    /// Settles what was committed of a batch before the journal failed, as was seen at a mark.
     fn settle_last<R: Wait>(
         &self,
         rt: &R,
         seat: &mut Seat<H, N>,
-        sight: &mut Sight<Words, H>,
+        seen: &mut Sights<D, H>,
         done: &Done,
         end: u64,
         shape: Shape,
     ) -> Result<(), RoundFault>
         requires desk { desk_of seat.old ≡ desk_id self.now }
-        requires settling { IsSettling sight.old end shape done.now }
+        requires settling { IsSettling seen.old.stops end shape done.now }
+        requires marked { All (IsMarked seen.old.marks) (entries_of done.now) }
+        requires failed { HasFailedMark seen.old.marks }
         requires taken { past_after (first_of done.now) (entries_of done.now) ≤ (view_of seat.old).taken }
         ensures desk { (desk_of seat.new ≡ desk_of seat.old) × (seat_number seat.new ≡ seat_number seat.old) }
         ensures settled { OnOk result (past_after (first_of done.now)
@@ -199,15 +201,15 @@ impl<D: Disk, C: Clock, H: Origin, N: Ledger> Desk<D, C, H, N> {
         ensures counted { KeepsStops seat.old seat.new }
     {
         let mut counter = self.counter.lock(rt);
-        let settled = counter.settle_last(&self.history, sight, done, end, shape);
-        let seen = counter.seen();
+        let settled = counter.settle_last(&self.histories, seen, done, end, shape);
+        let counts = counter.seen();
         drop(counter);
         self.moved.notify_all();
         let Ok(()) = settled else {
             return Err(RoundFault::Aborted);
         };
         self.board
-            .raise_settled(&mut seat.board, end_of(done), &seen);
+            .raise_settled(&mut seat.board, end_of(done), &counts);
         Ok(())
     }
 }

@@ -1,5 +1,9 @@
+use Rattle.jb_book.proofs.Marked.{none-marked}
 use Rattle.jb_book.proofs.Registers.{kept-new}
 use Rattle.jb_book.proofs.register.Register.new.Goals as goal
 
 pub invariant_of-result : goal.invariant_of-result
-invariant_of-result g c = kept-new g.S.Origin.begun c.args.shape c.args.usable c.new-book.result c.args.scribe c.requires.journal c.new-book.ensures c.requires.fresh
+invariant_of-result g c = (
+  kept-new g.S.Origin.begun c.args.shape c.args.usable c.new-book.result c.args.scribe c.requires.journal c.new-book.ensures c.requires.fresh,
+  none-marked c.args.seen c.new-book.result.trail c.new-book.ensures.trail,
+)

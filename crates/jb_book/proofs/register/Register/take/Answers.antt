@@ -1,7 +1,23 @@
+use Rattle.std.proofs.Common.{IfSome, List, Option, subst, sym}
+use Rattle.jb_batch.specs.Batch.{Gathered}
+use Rattle.jb_batch.specs.Costs.{HasCut}
+use Rattle.jb_handle.specs.Word.{WordMap}
+use Rattle.jb_book.specs.Led.{Registered}
+use Rattle.jb_book.proofs.Marked.{marked-taken}
 use Rattle.jb_book.proofs.Registers.{kept-take}
 use Rattle.jb_book.proofs.register.Register.take.Goals as goal
+use Rattle.jb_book.proofs.register.Register.take.Goals.{in-Some, in-None}
 
 pub invariant_of-self : goal.invariant_of-self
-invariant_of-self g c =
-    kept-take g.S.Origin.begun c.take.result c.self.inside.book c.take.new.self c.self.inside.scribe c.show-sight.new.scribe
-    c.reserved-reserved.ensures.sound c.self.invariant c.take.ensures.cut c.take.ensures.taken c.take.ensures.none c.show-sight.ensures.kept
+invariant_of-self g c = (
+  kept-take g.S.Origin.begun c.take.result c.self.inside.book c.take.new.self c.self.inside.scribe c.show-sight.new.scribe c.reserved-reserved.ensures.sound c.self.invariant.0 c.take.ensures.cut c.take.ensures.taken c.take.ensures.none c.show-sight.ensures.kept,
+  marked-taken c.self.inside.seen c.self.inside.book c.take.new.self c.self.invariant.1 c.take.result c.take.ensures.taken c.take.ensures.none,
+)
+
+pub returns-clause-cut : goal.returns-clause-cut
+returns-clause-cut g c =
+    let a = c.args.self.now.book in
+    elim c.match-take.branch [
+      | in-Some w ↦ subst (λ (x : Option (Gathered × List WordMap)). IfSome x (λ _. HasCut a.shape a.shadow.queue)) (sym w.result-is) (subst (λ (r : Registered). HasCut r.book.shape r.book.shadow.queue) c.self.view_is w.in-Some.ensures.cut)
+      | in-None w ↦ subst (λ (x : Option (Gathered × List WordMap)). IfSome x (λ _. HasCut a.shape a.shadow.queue)) (sym w.result-is) tt
+    ]

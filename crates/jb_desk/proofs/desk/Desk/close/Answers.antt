@@ -20,4 +20,4 @@ returns-clause-changes g c =
     c.close_parts.result c.close_parts.ensures.changes
 
 pub returns-clause-refused : goal.returns-clause-refused
-returns-clause-refused g c = not-closed c.into_inner-counter.result c.into_inner.result c.args.self c.args.lefts c.close_parts.result c.close_parts.ensures.refused
+returns-clause-refused g c = not-closed c.into_inner-counter.result c.into_inner.result c.args.self c.args.lefts c.args.seen c.close_parts.result c.close_parts.ensures.refused

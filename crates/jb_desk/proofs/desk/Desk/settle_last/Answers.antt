@@ -4,6 +4,6 @@ use Rattle.jb_desk.proofs.desk.Desk.settle_last.Goals as goal
 
 pub raise_settled-requires-clause-seen : goal.raise_settled-requires-clause-seen
 raise_settled-requires-clause-seen g c =
-    let upto = failed-seen c.args.end c.args.shape c.args.done.now _ c.settle_last-settled.new.self.register.book c.in-Ok.ensures in
+    let upto = failed-seen c.args.end c.args.shape c.args.done.now _ c.settle_last-settled.new.self.register.book c.in-Ok.ensures.fails in
     let same : c.deref.result.now.register.book.shadow.settled ≡ c.settle_last-settled.new.self.register.book.shadow.settled = search rules in
-    omega (arith, upto, same, c.end_of.ensures, c.seen-seen.ensures.counts.1)
+    omega (arith, upto, same, c.end_of.ensures, c.seen-counts.ensures.counts.1)

@@ -4,14 +4,15 @@ use Rattle.jb_desk.specs.History.{IsStop}
 use Rattle.jb_desk.specs.Journal.{blocks_in_use, ChecksAt}
 use Rattle.jb_desk.specs.Since.{may_stop}
 use Rattle.jb_desk.specs.declared.checkpoint.CheckpointRound.{CheckpointRound}
-use Rattle.jb_desk.proofs.Sincing.{checkpoint-since, is-weaker, round-at, round_of}
+use Rattle.jb_desk.proofs.Marked.{checkpoint-marked}
+use Rattle.jb_desk.proofs.Sincing.{is-weaker, round-at, round_of}
 use Rattle.jb_desk.proofs.works.Works.checkpoint_at.Goals as goal
 use Rattle.jb_desk.proofs.works.Works.checkpoint_at.Goals.{else-not-aborted-via-then-not-aborted+else-in_use-level, else-not-aborted-via-else-not-aborted, in-Ok, in-Err}
 
 pub returns-then-in_use-level-clause-round : goal.returns-then-in_use-level-clause-round
 returns-then-in_use-level-clause-round g c = record {
   deck = c.self.inside.deck;
-  since = is-weaker g.D.Disk.size g.D.Disk.count g.D.Disk.faults g.D.Disk.honest g.D.Disk.newest g.D.Disk.may_leave g.D.Disk.moment g.D.Disk.left_since g.S.Origin.begun (IsStop g.S.Origin.begun c.self.inside.sight) (may_stop g.S.Origin.begun) (λ h s. s.0) c.self.inside.deck c.self.invariant;
+  since = is-weaker g.D.Disk.size g.D.Disk.count g.D.Disk.faults g.D.Disk.honest g.D.Disk.newest g.D.Disk.may_leave g.D.Disk.moment g.D.Disk.left_since g.S.Origin.begun (IsStop g.S.Origin.begun c.self.inside.sight) (may_stop g.S.Origin.begun) (λ h s. s.0) c.self.inside.deck c.self.invariant.since;
   up = search rules;
   in_use = c.in_use-in_use.ensures.blocks;
   low = c.if-in_use-level.true;
@@ -19,8 +20,8 @@ returns-then-in_use-level-clause-round g c = record {
 
 pub invariant_of-self : goal.invariant_of-self
 invariant_of-self g c =
-    checkpoint-since g.D.Disk.size g.D.Disk.count g.D.Disk.faults g.D.Disk.honest g.D.Disk.newest g.D.Disk.may_leave g.D.Disk.moment g.D.Disk.left_since g.met.D.Disk.counts_now g.S.Origin.begun (IsStop g.S.Origin.begun c.self.inside.sight) (λ h s. s.0)
-    c.self.inside.deck c.checkpoint_one.new.self c.checkpoint_one.ensures.kept
+    checkpoint-marked g.D.Disk.size g.D.Disk.count g.D.Disk.faults g.D.Disk.honest g.D.Disk.newest g.D.Disk.may_leave g.D.Disk.moment g.D.Disk.left_since g.met.D.Disk.counts_now g.S.Origin.begun (IsStop g.S.Origin.begun c.self.inside.sight) (λ h s. s.0)
+    c.self.inside.deck c.checkpoint_one.new.self c.checkpoint_one.ensures.kept c.self.inside.scribe
     c.checkpoint_one.result c.checkpoint_one.ensures.answers c.checkpoint_one.ensures.checkpoints c.checkpoint_one.ensures.leaves c.self.invariant
 
 pub returns-clause-round : goal.returns-clause-round
@@ -37,4 +38,4 @@ returns-clause-round g c =
     ] in
     subst (λ (r : Result CheckpointRound CheckpointFault). ChecksAt g.D.Disk.size g.D.Disk.count g.D.Disk.faults g.D.Disk.honest g.D.Disk.newest g.D.Disk.may_leave g.D.Disk.moment g.D.Disk.left_since g.S.Origin.begun c.args.level r) is
     (round-at g.D.Disk.size g.D.Disk.count g.D.Disk.faults g.D.Disk.honest g.D.Disk.newest g.D.Disk.may_leave g.D.Disk.moment g.D.Disk.left_since g.met.D.Disk.counts_now g.S.Origin.begun (IsStop g.S.Origin.begun c.self.inside.sight) (λ h s. s.0) deck c.checkpoint_one.new.self c.checkpoint_one.ensures.kept c.args.level high
-    c.checkpoint_one.result c.checkpoint_one.ensures.answers c.checkpoint_one.ensures.checkpoints c.self.invariant (invariant_of-self g c))
+    c.checkpoint_one.result c.checkpoint_one.ensures.answers c.checkpoint_one.ensures.checkpoints c.self.invariant.since (invariant_of-self g c).since)

@@ -2,17 +2,18 @@ use Rattle.std.proofs.Common.{List, subst}
 use Rattle.jb_deck.specs.Done.{Follow, past_after, start_of}
 use Rattle.jb_deck.specs.declared.done.Entry.{Entry}
 use Rattle.jb_desk.specs.History.{IsStop}
-use Rattle.jb_desk.proofs.Takings.{gives-trail, take-since}
+use Rattle.jb_desk.proofs.Marked.{take-marked}
+use Rattle.jb_desk.proofs.Takings.{gives-trail}
 use Rattle.jb_desk.proofs.works.Works.take_trail.Goals as goal
 
 pub invariant_of-self : goal.invariant_of-self
 invariant_of-self g c =
     let tiles = subst (λ (es : List Entry). Follow (start_of es) 0 (past_after 0 es) es) c.trail-trail.ensures.value c.trail-trail.ensures.tiles in
-    take-since g.D.Disk.size g.D.Disk.count g.D.Disk.faults g.D.Disk.honest g.D.Disk.newest g.D.Disk.may_leave g.D.Disk.moment g.D.Disk.left_since g.S.Origin.begun (IsStop g.S.Origin.begun c.self.inside.sight) (λ h s. s.0)
-    c.args.past c.self.inside.deck c.take_trail.new.self c.take_trail.result tiles c.take_trail.ensures.taken c.take_trail.ensures.refused c.self.invariant
+    take-marked g.D.Disk.size g.D.Disk.count g.D.Disk.faults g.D.Disk.honest g.D.Disk.newest g.D.Disk.may_leave g.D.Disk.moment g.D.Disk.left_since g.S.Origin.begun (IsStop g.S.Origin.begun c.self.inside.sight) (IsStop g.S.Origin.begun c.self.inside.sight) (λ h s. s.0)
+    c.args.past c.self.inside.scribe c.self.inside.deck c.take_trail.new.self c.take_trail.result tiles c.take_trail.ensures.taken c.take_trail.ensures.refused c.self.invariant
 
 pub returns-clause-gives : goal.returns-clause-gives
 returns-clause-gives g c =
     let tiles = subst (λ (es : List Entry). Follow (start_of es) 0 (past_after 0 es) es) c.trail-trail.ensures.value c.trail-trail.ensures.tiles in
     gives-trail g.D.Disk.size g.D.Disk.count g.D.Disk.faults g.D.Disk.honest g.D.Disk.newest g.D.Disk.may_leave g.D.Disk.moment g.D.Disk.left_since g.S.Origin.begun (IsStop g.S.Origin.begun c.self.inside.sight) (λ h s. s.0)
-    c.args.past c.self.inside.deck c.take_trail.new.self c.take_trail.result tiles c.take_trail.ensures.taken c.take_trail.ensures.refused c.self.invariant
+    c.args.past c.self.inside.deck c.take_trail.new.self c.take_trail.result tiles c.take_trail.ensures.taken c.take_trail.ensures.refused c.self.invariant.since

@@ -1,0 +1,113 @@
+-- Marks that show all that a book has settled: each call keeps that.
+use Rattle.std.proofs.Common.{◌≡◌, ◌⊎◌, ℕ, suc, Bool, true, false, ◌+◌, ◌<◌, ◌≤◌, List, [], ◌∷◌, ◌++◌, length, All, Option, Some, None, get_or, slice_get, nat_le, if◌then◌else◌, Result, Ok, Err, IfNone, IfSome, OnOk, OnErr, inl, inr, ap, sym, subst, ◌∙◌, arith}
+use Rattle.std.proofs.lemmas.List.{length-append}
+use Rattle.std.proofs.lemmas.List.Elements.{All-append, All-weaker}
+use mathlib.Core.List.{IsPrefix}
+use Rattle.jb_deck.specs.Deck.{OpenDeck}
+use Rattle.jb_deck.specs.Done.{start_of}
+use Rattle.jb_deck.specs.declared.done.Entry.{Entry}
+use Rattle.jb_handle.specs.Word.{WordMap}
+use Rattle.jb_history.proofs.Placed.{get_last, placed_on}
+use Rattle.jb_history.specs.Rule.{StandsIn}
+use Rattle.jb_book.specs.Account.{Account, AnswersNumber, CanTake, IsSettledBy, Settles, dropped_of, failed_of, granted_to, queued, settled_to, shortened, taken_all, trail_from}
+use Rattle.jb_book.specs.Marks.{AreShown, IsMarked, SeesStop, Shows, ShowsAfter}
+use Rattle.jb_book.specs.declared.fault.WrongBatch.{WrongBatch}
+
+case-of : (P : Bool → Type 0) (x : Bool) → P true → P false → P x
+case-of P true one two = one
+case-of P false one two = two
+
+module _ {D : Type 0} where
+  -- what is marked stays so
+  pub marked-on : (ms ns : List (OpenDeck D)) → IsPrefix ms ns → (e : Entry) → IsMarked ms e → IsMarked ns e
+  marked-on ms ns p e is = record { at = is.at; mark = is.mark; stands = placed_on ms ns p (is.at, is.mark) is.stands; has = is.has }
+
+  pub all-marked-on : (ms ns : List (OpenDeck D)) → IsPrefix ms ns → (es : List Entry) → All (IsMarked ms) es → All (IsMarked ns) es
+  all-marked-on ms ns p es each = All-weaker (IsMarked ms) (IsMarked ns) (λ e is. marked-on ms ns p e is) es each
+
+  has-one : (ms : List (OpenDeck D)) (e : Entry) (es : List Entry) → All (IsMarked ms) (e ∷ es) → IsMarked ms e
+  has-one ms e es each = each 0 e (omega arith)
+
+  has-rest : (ms : List (OpenDeck D)) (e : Entry) (es : List Entry) → All (IsMarked ms) (e ∷ es) → All (IsMarked ms) es
+  has-rest ms e es each k d lt = each (suc k) d (omega (arith, lt))
+
+  -- nothing is settled
+  pub none-marked : (ms : List (OpenDeck D)) (es : List Entry) → es ≡ [] → All (IsMarked ms) es
+  none-marked ms es none = let no : length es ≡ 0 = ap length none in λ k e lt. absurd (omega (arith, lt, no))
+
+  -- ---- what each call of the book keeps
+
+  module _ (ms : List (OpenDeck D)) (old new : Account) (each : All (IsMarked ms) old.trail) where
+    pub same-trail : new.trail ≡ old.trail → All (IsMarked ms) new.trail
+    same-trail is = subst (All (IsMarked ms)) (sym is) each
+
+    pub marked-same : new ≡ old → All (IsMarked ms) new.trail
+    marked-same is = same-trail (ap (λ (a : Account). a.trail) is)
+
+    pub marked-failed : new ≡ failed_of old → All (IsMarked ms) new.trail
+    marked-failed is = same-trail (ap (λ (a : Account). a.trail) is)
+
+    pub marked-shut : new ≡ record old { shut = true } → All (IsMarked ms) new.trail
+    marked-shut is = same-trail (ap (λ (a : Account). a.trail) is)
+
+    pub marked-dropped : (seat : ℕ) → new ≡ dropped_of seat old → All (IsMarked ms) new.trail
+    marked-dropped seat is = same-trail (ap (λ (a : Account). a.trail) is)
+
+    pub marked-queued : (seat : ℕ) (words : WordMap) → new ≡ queued seat words old → All (IsMarked ms) new.trail
+    marked-queued seat words is = same-trail (ap (λ (a : Account). a.trail) is)
+
+    pub marked-open : {A B : Type 0} (r : Result A B) (seat credits : ℕ) → OnOk r (new ≡ granted_to seat credits old) → OnErr r (new ≡ old) → All (IsMarked ms) new.trail
+    marked-open (Ok a) seat credits ok err = same-trail (ap (λ (a : Account). a.trail) ok)
+    marked-open (Err b) seat credits ok err = same-trail (ap (λ (a : Account). a.trail) err)
+
+    pub marked-taken : {A : Type 0} (r : Option A) → IfSome r (λ _. CanTake old × (new ≡ taken_all old)) → IfNone r ((CanTake old → ⊥) × (new ≡ old)) → All (IsMarked ms) new.trail
+    marked-taken (Some b) some none = same-trail (ap (λ (a : Account). a.trail) some.1)
+    marked-taken None some none = same-trail (ap (λ (a : Account). a.trail) none.1)
+
+  left-marked : (ms : List (OpenDeck D)) (past : ℕ) (es : List Entry) → All (IsMarked ms) es → All (IsMarked ms) (trail_from past es)
+  left-marked ms past [] each = each
+  left-marked ms past (e ∷ []) each = each
+  left-marked ms past (e ∷ f ∷ es) each =
+      case-of (λ x. All (IsMarked ms) (if x then trail_from past (f ∷ es) else e ∷ f ∷ es)) (nat_le e.past past) (left-marked ms past (f ∷ es) (has-rest ms e (f ∷ es) each)) each
+
+  pub marked-short : (ms : List (OpenDeck D)) (old new : Account) → All (IsMarked ms) old.trail → (past : ℕ) → new ≡ shortened past old → All (IsMarked ms) new.trail
+  marked-short ms old new each past is = subst (λ (a : Account). All (IsMarked ms) a.trail) (sym is) (left-marked ms past old.trail each)
+
+  -- ---- groups are settled whose mark was seen
+
+  module _ (ms ds ns : List (OpenDeck D)) (old new : Account) (es : List Entry) (each : All (IsMarked ms) old.trail) (p : IsPrefix ms ns) (q : IsPrefix ds ns) (more : All (IsMarked ds) es) where
+    pub marked-settled : (past : ℕ) → new ≡ settled_to past es old → All (IsMarked ns) new.trail
+    marked-settled past is = subst (λ (a : Account). All (IsMarked ns) a.trail) (sym is) (All-append (IsMarked ns) old.trail es (all-marked-on ms ns p old.trail each) (all-marked-on ds ns q es more))
+
+    marked-still : new ≡ old → All (IsMarked ns) new.trail
+    marked-still is = subst (λ (a : Account). All (IsMarked ns) a.trail) (sym is) (all-marked-on ms ns p old.trail each)
+
+    pub marked-by : (r : Result (Unit {0}) WrongBatch) → OnOk r ((past : ℕ) × Settles old past es × (new ≡ settled_to past es old)) → OnErr r (new ≡ old) → All (IsMarked ns) new.trail
+    marked-by (Ok unit) ok err = marked-settled ok.0 ok.2
+    marked-by (Err wrong) ok err = marked-still err
+
+  -- ---- what the book answers is shown
+
+  by-some : (ms : List (OpenDeck D)) (es : List Entry) (ticket number : ℕ) → All (IsMarked ms) es → IsSettledBy es ticket number → Shows ms ticket number
+  by-some ms [] ticket number each is = absurd is
+  by-some ms (e ∷ es) ticket number each (inl is) = record { entry = e; marked = has-one ms e es each; from = is.0; to = is.1; is_number = sym is.2 }
+  by-some ms (e ∷ es) ticket number each (inr is) = by-some ms es ticket number (has-rest ms e es each) is
+
+  by-after : (ms : List (OpenDeck D)) (es : List Entry) (ticket : ℕ) → All (IsMarked ms) es → ticket < start_of es → ShowsAfter ms ticket
+  by-after ms [] ticket each before = absurd (omega (arith, before))
+  by-after ms (e ∷ es) ticket each before = record { entry = e; marked = has-one ms e es each; before = before }
+
+  -- of a book whose groups are marked, what it answers of a ticket is shown
+  pub shown-by : (ms ns : List (OpenDeck D)) (a : Account) (ticket : ℕ) (number : Option ℕ) → All (IsMarked ms) a.trail → IsPrefix ms ns → AnswersNumber a ticket number → AreShown ns ticket number
+  shown-by ms ns a ticket (Some number) each p is = by-some ns a.trail ticket number (all-marked-on ms ns p a.trail each) is
+  shown-by ms ns a ticket None each p is = by-after ns a.trail ticket (all-marked-on ms ns p a.trail each) is
+
+-- ---- a stop is seen
+
+-- the history that was seen is a first part of the one before the stop, and the one after it was seen then
+pub sees-stop : (old new log more : List WordMap) (words : WordMap) (ticket : ℕ) → IsPrefix old log → more ≡ log ++ words ∷ [] → IsPrefix more new → ticket ≡ length log → IsPrefix old new → SeesStop old new ticket words
+sees-stop old new log more words ticket first is seen next begins = record {
+  higher = (let many : length old + length first.0 ≡ length log = sym (length-append old first.0) ∙ ap length first.1 in omega (arith, many, next));
+  begins = begins;
+  stands = placed_on more new seen (ticket, words) (subst (λ (x : List WordMap × ℕ). StandsIn x.0 (x.1, words)) (λ i. (sym is i, sym next i)) (get_last log words));
+}

@@ -1,0 +1,41 @@
+//! What is seen of the two histories of a desk.
+ghost use Rattle.std.specs.Prelude.{◌≡◌};
+
+use crate::origin::{Marks, Origin};
+use jb_deck::Deck;
+use jb_disk::Disk;
+use jb_handle::Words;
+use jb_history::{History, Sight};
+
+/// The two histories of a desk: the words of each handle that stopped, at its ticket, and the journal as it was after
+/// each round of a committer, its marks. Neither has bytes for what is in it.
+#[derive(Drop)]
+pub struct Histories<D: Disk, S: Origin> {
+    /// The handles that stopped.
+    pub stops: History<Words, S>,
+    /// The marks.
+    pub marks: History<Deck<D>, Marks<S>>,
+}
+
+/// What was seen of them: a first part of each.
+#[derive(Drop)]
+pub struct Sights<D: Disk, S: Origin> {
+    /// Of the handles that stopped.
+    pub stops: Sight<Words, S>,
+    /// Of the marks.
+    pub marks: Sight<Deck<D>, Marks<S>>,
+}
+
+impl<D: Disk, S: Origin> Histories<D, S> {
+    ghost use Rattle.jb_book.specs.Marks.{SeesMore, SeesSame};
+
+    /// Sees what another has seen, too.
+    pub fn learn(&self, seen: &mut Sights<D, S>, other: &mut Sights<D, S>)
+        ensures own { SeesMore seen.old seen.new }
+        ensures other { SeesMore other.old seen.new }
+        ensures kept { SeesSame other.old other.new }
+    {
+        self.stops.learn(&mut seen.stops, &mut other.stops);
+        self.marks.learn(&mut seen.marks, &mut other.marks);
+    }
+}
