@@ -1,5 +1,6 @@
 -- What a run tells of its end.
-use Rattle.std.proofs.Common.{◌≡◌, ℕ, ◌≤◌, List, [], ◌∷◌, sym, ap, subst, ◌∙◌, arith}
+use Rattle.std.proofs.Common.{◌≡◌, ℕ, ◌≤◌, All, List, [], ◌∷◌, map, sym, ap, subst, ◌∙◌, arith}
+use Rattle.std.proofs.lemmas.List.Elements.{All-map, All-weaker}
 use Rattle.jb_cost.specs.Pieces.{joined}
 use Rattle.jb_disk.specs.Image.{Image}
 use Rattle.jb_handle.specs.Word.{WordMap}
@@ -8,7 +9,13 @@ use Rattle.jb_deck.specs.Done.{Follow, past_after, start_of}
 use Rattle.jb_deck.specs.declared.done.Entry.{Entry}
 use Rattle.jb_book.proofs.Follows.{follow-past}
 use Rattle.jb_desk.specs.History.{AreAllStops, EndsWith}
+use Rattle.jb_desk.specs.Marks.{EndsMarked}
 use Rattle.jb_book.specs.Origin.{Begun}
+use Rattle.jb_book.specs.Marks.{SeesMore}
+use Rattle.jb_book.specs.declared.sights.Sights.{Sights}
+use Rattle.jb_journal.specs.Client.{known_in}
+use Rattle.jb_journal.specs.Notes.{Known, KnownLasts}
+use Rattle.jb_journal.proofs.Noting.{first-trans, known-lasts}
 
 -- where a trail ends
 ends-at : (past : ℕ) (trail : List Entry) → Follow (start_of trail) 0 past trail → past_after 0 trail ≡ past
@@ -21,21 +28,36 @@ settled-as settled handles trail is (past, follows, within) =
     let same : past ≡ settled = sym (ends-at past trail follows) ∙ sym is in
     (subst (λ p. Follow (start_of trail) 0 p trail) same follows, omega (arith, same, within))
 
--- how a desk ends, without the seat that has stopped no handle
-pub ends-without : {D : Type 0} (size count faults : D → ℕ) (honest : D → Type 0) (newest : D → Image) (may_leave : D → Image → Type 0) (moment : D → ℕ) (left_since : D → ℕ → Image → Type 0) (b : Begun)
-    (all stopped : List (List (ℕ × WordMap))) (handles : ℕ) (shape : Shape) (disk : D) (trail : List Entry) → all ≡ [] ∷ stopped
-    → EndsWith size count faults honest newest may_leave moment left_since b all handles shape disk trail → EndsWith size count faults honest newest may_leave moment left_since b stopped handles shape disk trail
-ends-without size count faults honest newest may_leave moment left_since b all stopped handles shape disk trail is ends = record {
-  log = ends.log;
-  number = ends.number;
-  stopped = subst (λ (xs : List (ℕ × WordMap)). AreAllStops ends.log xs) (ap joined is) ends.stopped;
-  deck = ends.deck;
-  same_disk = ends.same_disk;
-  same_shape = ends.same_shape;
-  same_trail = ends.same_trail;
-  since = ends.since;
-  run_shape = ends.run_shape;
-  run = ends.run;
-  runs_as = ends.runs_as;
-  journal = ends.journal;
-}
+module _ {D : Type 0} (size count faults : D → ℕ) (honest : D → Type 0) (newest : D → Image) (may_leave : D → Image → Type 0) (moment : D → ℕ) (left_since : D → ℕ → Image → Type 0) (b : Begun)
+    (all stopped : List (List (ℕ × WordMap))) (handles : ℕ) (shape : Shape) (disk : D) (trail : List Entry) where
+  abbrev Ends : List (List (ℕ × WordMap)) → Type 0
+  Ends stops = EndsWith size count faults honest newest may_leave moment left_since b stops handles shape disk trail
+
+  -- how a desk ends, without the seat that has stopped no handle
+  abbrev ends-without : all ≡ [] ∷ stopped → Ends all → Ends stopped
+  ends-without is ends = record {
+    log = ends.log;
+    number = ends.number;
+    stopped = subst (λ (xs : List (ℕ × WordMap)). AreAllStops ends.log xs) (ap joined is) ends.stopped;
+    deck = ends.deck;
+    same_disk = ends.same_disk;
+    same_shape = ends.same_shape;
+    same_trail = ends.same_trail;
+    since = ends.since;
+    run_shape = ends.run_shape;
+    run = ends.run;
+    runs_as = ends.runs_as;
+    journal = ends.journal;
+  }
+
+  -- and what each worker knew lasts
+  pub ends-known : {H X : Type 0} (sights : X → Sights D H) (ws : List X) (seen : Sights D H) → all ≡ [] ∷ stopped
+      → EndsMarked size count faults honest newest may_leave moment left_since b all handles shape disk trail seen.stops seen.marks → All (λ w. SeesMore (sights w) seen) ws
+      → (ends : Ends stopped) × All (KnownLasts moment left_since b ends.log ends.since.given disk trail) (map (λ w. known_in moment (sights w)) ws)
+  ends-known sights ws seen is ends each = (
+    ends-without is ends.ends,
+    All-map (KnownLasts moment left_since b ends.ends.log ends.ends.since.given disk trail) (λ w. known_in moment (sights w)) ws
+        (All-weaker (λ w. SeesMore (sights w) seen) (λ w. KnownLasts moment left_since b ends.ends.log ends.ends.since.given disk trail (known_in moment (sights w)))
+        (λ w more. known-lasts moment left_since b ends.ends.since.given ends.ends.log (sights w).stops ends.ends.deck disk trail (sights w).marks seen.marks ends.ends.same_disk ends.ends.same_trail
+        (first-trans (sights w).stops seen.stops ends.ends.log more.0 ends.knows) more.1 ends.last) ws each),
+  )

@@ -1,4 +1,6 @@
 pub mod Answering
 pub mod Changing
 pub mod Ending
+pub mod Noting
 pub mod Refusing
+pub mod Staying

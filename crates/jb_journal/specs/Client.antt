@@ -1,17 +1,27 @@
 -- What contracts say of a worker's client.
-use Rattle.std.specs.Prelude.{◌≡◌, ℕ, List, [], Option, Some, None}
+use Rattle.std.specs.Prelude.{◌≡◌, ℕ, All, List, [], map as each, Option, Some, None}
+use Rattle.std.specs.FinMap as map
 use Rattle.jb_board.specs.Front.{front}
 use Rattle.jb_board.specs.Seats.{BoardId}
 use Rattle.jb_board.specs.declared.front.Front.{Front}
+use Rattle.jb_disk.specs.declared.disk.Disk.{Ghosts as Disks}
 use Rattle.jb_desk.specs.Desks.{desk_id, shape_in}
 use Rattle.jb_book.specs.Origin.{Begun}
 use Rattle.jb_desk.specs.Seats.{made_by, desk_of, view_of}
 use Rattle.jb_desk.specs.declared.seat.Seat.{Seat}
 use Rattle.jb_handle.specs.Word.{WordMap}
 use Rattle.jb_handle.specs.declared.shape.Shape.{Shape}
+use Rattle.jb_handle.specs.declared.word.Word.TheVariants.{Copy}
 use Rattle.jb_book.specs.declared.origin.Origin.{Ghosts as OriginGhosts}
 use Rattle.jb_history.specs.declared.place.Place.{Ghosts as Places}
+use Rattle.jb_book.specs.declared.sights.Sights.{Sights}
+use Rattle.jb_history.specs.Rule.{StandsIn}
+use Rattle.jb_journal.specs.Notes.{Known, Stop, note_of}
 use Rattle.jb_journal.specs.declared.client.Client.{Client}
+
+-- the words of a handle that has written these bytes to one home, and has touched no other
+abbrev pub one_block : ℕ → List ℕ → WordMap
+one_block home bytes = map.insert map.empty home (Copy bytes)
 
 -- there is a seat, of that board
 abbrev pub SeatedAt : {H N : Type 0} {O : OriginGhosts H} {P : Places H} → BoardId → Option (Seat H N O P) → Type 0
@@ -24,25 +34,38 @@ seen_from None = front 0 0 0
 seen_from (Some seat) = view_of seat
 
 -- the handles that stopped with a seat, each with its ticket and its words
-abbrev pub made_from : {H N : Type 0} {O : OriginGhosts H} {P : Places H} → Option (Seat H N O P) → List (ℕ × WordMap)
+abbrev pub made_from : {H N : Type 0} {O : OriginGhosts H} {P : Places H} → Option (Seat H N O P) → List Stop
 made_from None = []
 made_from (Some seat) = made_by seat
 
-module _ {D C R H N : Type 0} {O : OriginGhosts H} {P : Places H} where
-  -- a client with a seat at its desk and the shape of its journal, where handles may stop with any words
-  pub record IsClient (b : Begun) (client : Client D C R H N O P) : Type 0 where
+-- what is known by these sights
+abbrev pub known_in : {D H : Type 0} → (D → ℕ) → Sights D H → Known
+known_in moment seen = record { log = seen.stops; notes = each (note_of moment) seen.marks }
+
+module _ {D C R H N : Type 0} {Q : Disks D} {O : OriginGhosts H} {P : Places H} where
+  -- a client with a seat at its desk and the shape of its journal, where handles may stop with any words; it knows its own
+  pub record IsClient (b : Begun) (client : Client D C R H N Q O P) : Type 0 where
     pub seated : SeatedAt (desk_id client.desk.now) client.seat
     pub shaped : client.shape ≡ shape_in client.desk.now
     pub any : (words : WordMap) → b.stops words
+    pub own : All (StandsIn client.seen.stops) (made_from client.seat)
 
   -- the counts that the client is sure of
-  abbrev pub seen_by : Client D C R H N O P → Front
+  abbrev pub seen_by : Client D C R H N Q O P → Front
   seen_by client = seen_from client.seat
 
   -- the handles that the client has stopped, in their order, each with its ticket and its words
-  abbrev pub client_stops : Client D C R H N O P → List (ℕ × WordMap)
+  abbrev pub client_stops : Client D C R H N Q O P → List Stop
   client_stops client = made_from client.seat
 
+  -- what the client has seen of the handles that stopped and of the journal
+  abbrev pub sights_of : Client D C R H N Q O P → Sights D H
+  sights_of client = client.seen
+
+  -- what the client knows of the journal
+  abbrev pub client_known : Client D C R H N Q O P → Known
+  client_known client = known_in Q.moment client.seen
+
   -- what its handles have to fit
-  abbrev pub shape_of : Client D C R H N O P → Shape
+  abbrev pub shape_of : Client D C R H N Q O P → Shape
   shape_of client = shape_in client.desk.now

@@ -1,6 +1,9 @@
 pub mod Changing
 pub mod Client
 pub mod Homes
+pub mod Names
+pub mod Notes
 pub mod Refusing
 pub mod Running
 pub mod Starting
+pub mod Staying

@@ -1,5 +1,5 @@
 //! What a worker has of the journal.
-ghost use Rattle.std.specs.Prelude.{◌≡◌, ◌<◌, None, Some, IfErr, IfOk, length};
+ghost use Rattle.std.specs.Prelude.{◌≡◌, ◌<◌, ◌≤◌, [], None, Some, IfErr, IfOk, OnOk, length};
 ghost use Rattle.std.specs.FinMap as map;
 ghost use Rattle.std.specs.Fn.{FnOnceReturnsAtMut};
 ghost use Rattle.jb_handle.specs.Held.{held};
@@ -8,13 +8,13 @@ ghost use Rattle.jb_desk.specs.Seats.{made_by, desk_of, view_of};
 ghost use Rattle.jb_desk.specs.declared.fault.WaitFault.TheVariants.{Taken};
 ghost use Rattle.jb_handle.specs.Handle.{holder, changes_of};
 ghost use Rattle.jb_handle.specs.Word.{WordMap};
-ghost use Rattle.jb_journal.specs.Changing.{AnswersChange, Stops};
+ghost use Rattle.jb_journal.specs.Changing.{AnswersChange, SeesChange, Stops};
 
 use crate::fault::HandleFault;
 use jb_block::{BlockSize, Memory};
 use jb_cost::{Geometry, most_credits};
 use jb_deck::{Entry, ReadHomeFault};
-use jb_desk::{Desk, Origin, Seat, StopFault, WaitFault};
+use jb_desk::{Desk, Origin, Seat, Sights, StopFault, WaitFault};
 use jb_disk::{Clock, Disk};
 use jb_handle::{Handle, Shape};
 use std::sync::Wait;
@@ -28,13 +28,17 @@ pub struct Client<'a, D: Disk, C: Clock, R, H: Origin, N: Ledger> {
     desk: &'a Desk<D, C, H, N>,
     shape: Shape,
     seat: Option<Seat<H, N>>,
+    /// what it has seen of the handles that stopped and of the journal
+    seen: Sights<D, H>,
 }
 
 impl<'a, D: Disk, C: Clock, R: Wait + time::Clock, H: Origin, N: Ledger> Client<'a, D, C, R, H, N> {
     ghost use Rattle.jb_desk.specs.Journal.{GivesTrail, ReadsHome};
     ghost use Rattle.jb_batch.specs.Costs.{geometry_of};
     ghost use Rattle.jb_cost.specs.Credits.{IsMost};
-    ghost use Rattle.jb_journal.specs.Client.{IsClient, made_from, seen_by, shape_of, client_stops};
+    ghost use Rattle.jb_journal.specs.Client.{IsClient, client_known, client_stops, made_from};
+    ghost use Rattle.jb_journal.specs.Client.{seen_by, shape_of, sights_of};
+    ghost use Rattle.jb_journal.specs.Notes.{IsInNotes, KnowsMore, NotesTaken, ReadsAs};
 
     /// A client at a desk, where handles may stop with any words.
     pub(crate) fn new(
@@ -46,14 +50,16 @@ impl<'a, D: Disk, C: Clock, R: Wait + time::Clock, H: Origin, N: Ledger> Client<
         requires desk { desk_of seat ≡ desk_id desk.now }
         requires shape { shape ≡ shape_in desk.now }
         requires any { (words : WordMap) → H.begun.stops words }
+        requires fresh { made_by seat ≡ [] }
         ensures client { IsClient H.begun result }
-        ensures stopped { client_stops result ≡ made_by seat }
+        ensures stopped { client_stops result ≡ [] }
     {
         Client {
             rt,
             desk,
             shape,
             seat: Some(seat),
+            seen: desk.sights(rt),
         }
     }
 
@@ -92,17 +98,19 @@ impl<'a, D: Disk, C: Clock, R: Wait + time::Clock, H: Origin, N: Ledger> Client<
         most_credits(Geometry::of(bs, width), limit)
     }
 
-    /// The seat, once the worker has ended.
-    pub(crate) fn into_seat(self) -> Option<Seat<H, N>>
-        ensures { made_from result ≡ client_stops self.entry }
+    /// The seat, and what was seen, once the worker has ended.
+    pub(crate) fn into_seat(self) -> (Option<Seat<H, N>>, Sights<D, H>)
+        ensures seat { made_from result.0 ≡ client_stops self.entry }
+        ensures seen { result.1 ≡ sights_of self.entry }
     {
         let Client {
             rt: _rt,
             desk: _desk,
             shape: _shape,
             seat,
+            seen,
         } = self;
-        seat
+        (seat, seen)
     }
 
     /// Changes home blocks by one handle of so many credits (`jbd2_journal_start`, `jbd2_journal_stop`): waits until
@@ -125,29 +133,38 @@ impl<'a, D: Disk, C: Clock, R: Wait + time::Clock, H: Origin, N: Ledger> Client<
         ensures changed { AnswersChange F.FnOnce change (held credits (shape_of self.old) map.empty)
             (client_stops self.old) (client_stops self.new) result }
         ensures stopped { IfOk result (λ given. given.1 < (seen_by self.new).stopped) }
+        ensures later { IfOk result (λ given. length (client_known self.old).log ≤ given.1) }
+        ensures knows { KnowsMore (client_known self.old) (client_known self.new) }
         ensures shape { shape_of self.new ≡ shape_of self.old }
     {
         let (rt, desk) = (self.rt, self.desk);
         let Some(seat) = self.seat.take() else {
             unreachable!()
         };
-        let (seat, changed) = change_at(rt, desk, seat, credits, change);
+        let (seat, changed) = change_at(rt, desk, &mut self.seen, seat, credits, change);
         self.sit(seat);
         changed
     }
 
     /// Reads a home block as it is committed, whether it is in the log or in its place. What another handle has written
-    /// and is not committed yet is not in it. Waits while the disk is at work for another thread.
+    /// and is not committed yet is not in it; what was waited for with this client is. Waits while the disk is at work
+    /// for another thread.
     ///
     /// # Errors
     ///
     /// In this order: `Aborted` where the journal has failed, `OutOfRange` where there is no such home block, `Length`
     /// where `buf` has not the length of one block, and `DeviceFault` where the read fails; it can be tried again then.
-    pub fn read(&self, home: u64, buf: &mut [u8]) -> Result<(), ReadHomeFault>
-        ensures { ReadsHome D.size D.count D.faults D.honest D.newest D.may_leave D.moment D.left_since H.begun home
-            (length buf.old) buf.new result }
+    pub fn read(&mut self, home: u64, buf: &mut [u8]) -> Result<(), ReadHomeFault>
+        requires client { IsClient H.begun self.old }
+        ensures client { IsClient H.begun self.new }
+        ensures answers { ReadsHome D.size D.count D.faults D.honest D.newest D.may_leave D.moment D.left_since H.begun
+            (sights_of self.new).stops (sights_of self.old).marks home (length buf.old) buf.new result }
+        ensures reads { OnOk result (ReadsAs H.begun (client_known self.old) (client_known self.new) home buf.new) }
+        ensures knows { KnowsMore (client_known self.old) (client_known self.new) }
+        ensures shape { shape_of self.new ≡ shape_of self.old }
+        ensures kept { client_stops self.new ≡ client_stops self.old }
     {
-        self.desk.read(self.rt, home, buf)
+        self.desk.read(self.rt, &mut self.seen, home, buf)
     }
 
     /// Takes the entries of groups that are settled and home from the front of the trail; the last one stays. A journal
@@ -170,6 +187,7 @@ impl<'a, D: Disk, C: Clock, R: Wait + time::Clock, H: Origin, N: Ledger> Client<
         ensures seat { self.new.seat ≡ Some seat }
         ensures desk { self.new.desk ≡ self.old.desk }
         ensures shape { self.new.shape ≡ self.old.shape }
+        ensures seen { self.new.seen ≡ self.old.seen }
     {
         match mem::replace(&mut self.seat, Some(seat)) {
             None => {}
@@ -192,12 +210,16 @@ impl<'a, D: Disk, C: Clock, R: Wait + time::Clock, H: Origin, N: Ledger> Client<
         ensures client { IsClient H.begun self.new }
         ensures settled { IfOk result (λ _. ticket < (seen_by self.new).settled) }
         ensures taken { IfErr result (λ fault. fault ≡ Taken → ticket < (seen_by self.new).settled) }
+        ensures noted { IfOk result (IsInNotes (client_known self.new).notes ticket) }
+        ensures noted_taken { IfErr result (NotesTaken (client_known self.new).notes ticket) }
+        ensures knows { KnowsMore (client_known self.old) (client_known self.new) }
         ensures shape { shape_of self.new ≡ shape_of self.old }
         ensures kept { client_stops self.new ≡ client_stops self.old }
     {
         let (rt, desk) = (self.rt, self.desk);
-        match &mut self.seat {
-            Some(seat) => desk.wait(rt, seat, ticket),
+        let Client { seat, seen, .. } = self;
+        match seat {
+            Some(seat) => desk.wait(rt, seat, seen, ticket),
             None => unreachable!(),
         }
     }
@@ -216,6 +238,7 @@ fn change_at<
 >(
     rt: &R,
     desk: &Desk<D, C, H, N>,
+    seen: &mut Sights<D, H>,
     seat: Seat<H, N>,
     credits: u32,
     change: F,
@@ -227,6 +250,7 @@ fn change_at<
     ensures changed { AnswersChange F.FnOnce change (held credits (shape_in desk.now) map.empty) (made_by seat)
         (made_by result.0) result.1 }
     ensures stopped { IfOk result.1 (λ given. given.1 < (view_of result.0).stopped) }
+    ensures sees { SeesChange (made_by seat) (made_by result.0) seen.old seen.new result.1 }
 {
     let handle = match desk.begin_waiting(rt, seat, credits) {
         Ok(handle) => handle,
@@ -236,7 +260,7 @@ fn change_at<
     let answer = call(change, &mut handle);
     let (_, handle) = handle.with_seat(seat);
     match answer {
-        Ok(answer) => stop(rt, desk, handle, answer),
+        Ok(answer) => stop(rt, desk, seen, handle, answer),
         Err(fault) => (desk.abandon(rt, handle), Err(HandleFault::Refused(fault))),
     }
 }
@@ -256,6 +280,7 @@ fn call<T, E, F: FnOnce(&mut Handle<()>) -> Result<T, E>>(
 fn stop<D: Disk, C: Clock, R: Wait, H: Origin, N: Ledger, T: Drop, E>(
     rt: &R,
     desk: &Desk<D, C, H, N>,
+    seen: &mut Sights<D, H>,
     handle: Handle<Seat<H, N>>,
     answer: T,
 ) -> (Seat<H, N>, Result<(T, u64), HandleFault<E>>)
@@ -264,8 +289,9 @@ fn stop<D: Disk, C: Clock, R: Wait, H: Origin, N: Ledger, T: Drop, E>(
     ensures desk { desk_of result.0 ≡ desk_id desk.now }
     ensures answer { Stops answer (changes_of handle).words (made_by (holder handle)) (made_by result.0) result.1 }
     ensures stopped { IfOk result.1 (λ given. given.1 < (view_of result.0).stopped) }
+    ensures sees { SeesChange (made_by (holder handle)) (made_by result.0) seen.old seen.new result.1 }
 {
-    match desk.stop(rt, handle) {
+    match desk.stop(rt, seen, handle) {
         Ok((seat, ticket)) => (seat, Ok((answer, ticket))),
         Err(StopFault::Aborted(seat)) => (seat, Err(HandleFault::Aborted)),
         Err(StopFault::NotOpen(handle)) => (desk.abandon(rt, handle), Err(HandleFault::NotOpen)),

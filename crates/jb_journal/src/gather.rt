@@ -4,31 +4,36 @@ ghost use Rattle.std.specs.Prelude.{◌≡◌};
 use crate::fault::RunFault;
 use crate::threads::Worked;
 use jb_block::Memory;
-use jb_desk::{Left, Origin};
+use jb_desk::{Desk, Left, Origin, Sights};
+use jb_disk::{Clock, Disk};
 use std::alloc::Global;
 use std::sync::ledger::Ledger;
 
 /// What all threads leave.
 #[derive(Drop)]
-pub(crate) struct Gathered<T, H: Origin, N: Ledger> {
+pub(crate) struct Gathered<T, D: Disk, H: Origin, N: Ledger> {
     /// What their seats left.
     pub lefts: Vec<Left<H, N>>,
+    /// What they have seen of the handles that stopped and of the journal.
+    pub seen: Sights<D, H>,
     /// What the workers answered, in the order of their places.
     pub answers: Vec<T>,
 }
 
-impl<T: Drop, H: Origin, N: Ledger> Gathered<T, H, N> {
-    ghost use Rattle.std.specs.Prelude.{◌≡◌, ◌++◌, ◌∷◌, [], map, Some, IfOk, OnOk, IfErr, ◌⊎◌};
+impl<T: Drop, D: Disk, H: Origin, N: Ledger> Gathered<T, D, H, N> {
+    ghost use Rattle.std.specs.Prelude.{◌≡◌, ◌++◌, ◌∷◌, [], map, All, Some, IfOk, OnOk, IfErr, ◌⊎◌};
+    ghost use Rattle.jb_book.specs.Marks.{SeesMore};
     ghost use Rattle.jb_desk.specs.Seats.{made_left};
-    ghost use Rattle.jb_journal.specs.Running.{answer_of, stops_of_worked};
+    ghost use Rattle.jb_journal.specs.Running.{HasAllSeen, answer_of, stops_of_worked};
     ghost use Rattle.jb_journal.specs.declared.fault.RunFault.TheVariants.{Accounts, Memory as OutOfMemory};
 
-    /// Nothing. Takes no memory.
-    pub fn new(alloc: Global) -> Gathered<T, H, N>
+    /// Nothing but what is seen by now. Takes no memory.
+    pub fn new(alloc: Global, seen: Sights<D, H>) -> Gathered<T, D, H, N>
         ensures { (result.lefts.items ≡ []) × (result.answers.items ≡ []) }
     {
         Gathered {
             lefts: Vec::new(alloc),
+            seen,
             answers: Vec::new(alloc),
         }
     }
@@ -39,6 +44,7 @@ impl<T: Drop, H: Origin, N: Ledger> Gathered<T, H, N> {
     /// `Memory` where there is none for that.
     pub fn add_left(&mut self, left: Left<H, N>) -> Result<(), Memory>
         ensures answers { self.new.answers ≡ self.old.answers }
+        ensures seen { self.new.seen ≡ self.old.seen }
         ensures lefts { OnOk result (self.new.lefts.items ≡ self.old.lefts.items ++ left ∷ []) }
     {
         Ok(self.lefts.push(left)?)
@@ -51,6 +57,7 @@ impl<T: Drop, H: Origin, N: Ledger> Gathered<T, H, N> {
     fn add_answer(&mut self, answer: T) -> Result<(), Memory>
         ensures answers { OnOk result (self.new.answers.items ≡ self.old.answers.items ++ answer ∷ []) }
         ensures lefts { self.new.lefts ≡ self.old.lefts }
+        ensures seen { self.new.seen ≡ self.old.seen }
     {
         Ok(self.answers.push(answer)?)
     }
@@ -59,17 +66,27 @@ impl<T: Drop, H: Origin, N: Ledger> Gathered<T, H, N> {
     ///
     /// # Errors
     /// `Accounts` where it had no seat, `Memory` where there is none for that.
-    fn add(&mut self, worked: Worked<T, H, N>) -> Result<(), RunFault>
+    fn add<C: Clock>(
+        &mut self,
+        desk: &Desk<D, C, H, N>,
+        worked: Worked<T, D, H, N>,
+    ) -> Result<(), RunFault>
         ensures answers { OnOk result (map Some self.new.answers.items ≡ map Some self.old.answers.items
             ++ worked.answer ∷ []) }
         ensures stops { OnOk result (map made_left self.new.lefts.items ≡ map made_left self.old.lefts.items
             ++ stops_of_worked worked ∷ []) }
+        ensures seen { OnOk result (SeesMore self.old.seen self.new.seen × HasAllSeen self.new.seen worked) }
         ensures faults { IfErr result (λ fault. (fault ≡ OutOfMemory) ⊎ (fault ≡ Accounts)) }
     {
-        let Worked { left, answer } = worked;
+        let Worked {
+            left,
+            mut seen,
+            answer,
+        } = worked;
         let (Some(left), Some(answer)) = (left, answer) else {
             return Err(RunFault::Accounts);
         };
+        desk.inform(&mut self.seen, &mut seen);
         self.add_left(left)?;
         self.add_answer(answer)?;
         Ok(())
@@ -79,15 +96,20 @@ impl<T: Drop, H: Origin, N: Ledger> Gathered<T, H, N> {
     ///
     /// # Errors
     /// `Accounts` where one had no seat, `Memory` where there is none for that.
-    pub fn add_all(&mut self, workers: Vec<Worked<T, H, N>>) -> Result<(), RunFault>
+    pub fn add_all<C: Clock>(
+        &mut self,
+        desk: &Desk<D, C, H, N>,
+        workers: Vec<Worked<T, D, H, N>>,
+    ) -> Result<(), RunFault>
         requires { self.old.answers.items ≡ [] }
         ensures answers { OnOk result (map Some self.new.answers.items ≡ map answer_of workers.items) }
         ensures stops { OnOk result (map made_left self.new.lefts.items ≡ map made_left self.old.lefts.items ++ map
             stops_of_worked workers.items) }
+        ensures seen { OnOk result (All (HasAllSeen self.new.seen) workers.items) }
         ensures faults { IfErr result (λ fault. (fault ≡ OutOfMemory) ⊎ (fault ≡ Accounts)) }
     {
         for worked in workers {
-            self.add(worked)?;
+            self.add(desk, worked)?;
         }
         Ok(())
     }

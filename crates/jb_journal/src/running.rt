@@ -5,6 +5,7 @@ ghost use Rattle.jb_desk.specs.Desks.{shape_in};
 ghost use Rattle.jb_desk.specs.History.{history_in};
 ghost use Rattle.jb_desk.specs.Since.{EndsSince, IsBegunOn, IsSince};
 ghost use Rattle.jb_handle.specs.Word.{WordMap};
+ghost use Rattle.jb_history.specs.History.{history_id};
 ghost use Rattle.jb_journal.specs.Refusing.{RefusesRun};
 ghost use Rattle.jb_journal.specs.Running.{EndsRun, RanAll};
 ghost use Rattle.jb_journal.specs.Starting.{started_on};
@@ -20,6 +21,7 @@ use jb_deck::{Deck, Entry};
 use jb_desk::{Closed, Desk, Origin, Stops};
 use jb_disk::{Clock, Disk};
 use jb_handle::Shape;
+use jb_history::Opened;
 use std::alloc::Global;
 use std::marker::Brand;
 use std::sync::Wait;
@@ -51,8 +53,8 @@ pub fn run<
 >(rt: &R, disk: D, clock: C, options: Options, worker: &W) -> Result<Ran<T, D>, RunFault>
     requires workers { (1 ≤ options.workers) × (options.workers ≤ 64) }
     ensures ran { IfOk result (RanAll D.size D.count D.faults D.honest D.newest D.may_leave D.moment D.left_since
-        (started_on D.size D.count D.faults D.honest D.newest D.moment D.left_since disk) (W.answers worker.now)
-        options.workers) }
+        (started_on D.size D.count D.faults D.honest D.newest D.moment D.left_since disk) (W.answers worker.now
+        (started_on D.size D.count D.faults D.honest D.newest D.moment D.left_since disk)) options.workers) }
     ensures ends { IfOk result (EndsRun options.checkpoint) }
     ensures since { IfOk result (λ ran. EndsSince D.size D.count D.faults D.honest D.newest D.may_leave D.moment
         D.left_since (started_on D.size D.count D.faults D.honest D.newest D.moment D.left_since disk) ran.disk
@@ -85,7 +87,7 @@ pub fn run_on<
     requires begun { IsBegunOn D.size D.count D.faults D.honest D.newest D.moment D.left_since H.begun disk }
     requires any { (words : WordMap) → H.begun.stops words }
     ensures ran { IfOk result (RanAll D.size D.count D.faults D.honest D.newest D.may_leave D.moment D.left_since
-        H.begun (W.answers worker.now) options.workers) }
+        H.begun (W.answers worker.now H.begun) options.workers) }
     ensures ends { IfOk result (EndsRun options.checkpoint) }
     ensures since { IfOk result (λ ran. EndsSince D.size D.count D.faults D.honest D.newest D.may_leave D.moment
         D.left_since H.begun ran.disk ran.trail.items) }
@@ -100,13 +102,16 @@ pub fn run_on<
         return Err(RunFault::Memory);
     };
     let changes = Blank::new(PARTS);
+    let Ok(marks) = Opened::new(alloc) else {
+        return Err(RunFault::Memory);
+    };
     run_open::<T, W, D, C, R, Brand, Brand>(
-        rt, alloc, handles, changes, deck, clock, options, worker,
+        rt, alloc, handles, changes, marks, deck, clock, options, worker,
     )
 }
 
 /// Runs the workers at a desk over a journal that was just opened. The desk's ledgers are `handles`, with its history,
-/// and `changes`.
+/// and `changes`; `marks` is the history of its commits.
 fn run_open<
     T: Drop + Send,
     W: Worker<T> + Sync,
@@ -120,6 +125,7 @@ fn run_open<
     alloc: Global,
     handles: Stops,
     changes: Blank,
+    marks: Opened<Deck<D>>,
     deck: Deck<D>,
     clock: C,
     options: Options,
@@ -128,18 +134,19 @@ fn run_open<
     requires handles { (handles.tickets.name ≡ H.name) × (handles.tickets.parts ≡ H.parts) × (H.parts ≡ 2 ^ 61 + 1)
         × (history_in handles ≡ H.history) }
     requires changes { (changes.name ≡ N.name) × (changes.parts ≡ N.parts) × (N.parts ≡ 2 ^ 61 + 1) }
+    requires marks { history_id marks ≡ H.marks }
     requires deck { (deck.trail ≡ []) × (deck.aborted ≡ false)
         × IsSince D.size D.count D.faults D.honest D.newest D.may_leave D.moment D.left_since H.begun deck }
     requires any { (words : WordMap) → H.begun.stops words }
     ensures ran { IfOk result (RanAll D.size D.count D.faults D.honest D.newest D.may_leave D.moment D.left_since
-        H.begun (W.answers worker.now) options.workers) }
+        H.begun (W.answers worker.now H.begun) options.workers) }
     ensures ends { IfOk result (EndsRun options.checkpoint) }
     ensures since { IfOk result (λ ran. EndsSince D.size D.count D.faults D.honest D.newest D.may_leave D.moment
         D.left_since H.begun ran.disk ran.trail.items) }
     ensures faults { IfErr result (λ fault. (fault ≡ OutOfMemory) ⊎ ((fault ≡ Accounts) ⊎ (fault ≡ NoThread))) }
 {
     let shape = deck.shape();
-    let Ok(desk) = Desk::<D, C, H, N>::start(alloc, handles, changes, deck, clock) else {
+    let Ok(desk) = Desk::<D, C, H, N>::start(alloc, handles, changes, marks, deck, clock) else {
         return Err(RunFault::Memory);
     };
     run_at(rt, alloc, desk, shape, options, worker)
@@ -166,7 +173,7 @@ fn run_at<
     requires shape { shape ≡ shape_in desk }
     requires any { (words : WordMap) → H.begun.stops words }
     ensures ran { IfOk result (RanAll D.size D.count D.faults D.honest D.newest D.may_leave D.moment D.left_since
-        H.begun (W.answers worker.now) options.workers) }
+        H.begun (W.answers worker.now H.begun) options.workers) }
     ensures ends { IfOk result (EndsRun options.checkpoint) }
     ensures since { IfOk result (λ ran. EndsSince D.size D.count D.faults D.honest D.newest D.may_leave D.moment
         D.left_since H.begun ran.disk ran.trail.items) }
@@ -178,11 +185,15 @@ fn run_at<
         committer,
         commit,
     } = ran?;
-    let mut gathered = Gathered::new(alloc);
+    let mut gathered = Gathered::new(alloc, desk.sights(rt));
     gathered.add_left(committer)?;
-    gathered.add_all(workers)?;
-    let Gathered { lefts, answers } = gathered;
-    let Ok(closed) = desk.close(lefts) else {
+    gathered.add_all(&desk, workers)?;
+    let Gathered {
+        lefts,
+        seen,
+        answers,
+    } = gathered;
+    let Ok(closed) = desk.close(lefts, seen) else {
         return Err(RunFault::Accounts);
     };
     let Closed {

@@ -3,7 +3,8 @@ ghost use Rattle.std.specs.Prelude.{◌≡◌, ◌<◌, ◌≤◌, ◌⊎◌, tr
 ghost use Rattle.jb_handle.specs.Word.{WordMap};
 ghost use Rattle.jb_journal.specs.declared.fault.RunFault.TheVariants.{Accounts, NoThread, Memory as OutOfMemory};
 ghost use Rattle.jb_desk.specs.Desks.{shape_in};
-ghost use Rattle.jb_journal.specs.Running.{HasThreaded, HaveWorked, EndsChecked, stops_of_worked};
+ghost use Rattle.jb_journal.specs.Running.{HasThreaded, HaveWorked, EndsChecked};
+ghost use Rattle.jb_journal.specs.Running.{known_of_worked, stops_of_worked};
 
 use crate::client::Client;
 use crate::committing::commit_from;
@@ -12,7 +13,7 @@ use crate::gate::Gate;
 use crate::options::Options;
 use crate::worker::Worker;
 use jb_block::Memory;
-use jb_desk::{Desk, Ended, Left, Origin};
+use jb_desk::{Desk, Ended, Left, Origin, Sights};
 use jb_disk::{Clock, Disk};
 use jb_handle::Shape;
 use std::alloc::Global;
@@ -23,18 +24,20 @@ use std::{thread, time};
 
 /// What a worker leaves.
 #[derive(Drop)]
-pub(crate) struct Worked<T, H: Origin, N: Ledger> {
+pub(crate) struct Worked<T, D: Disk, H: Origin, N: Ledger> {
     /// What its seat left; `None` where it had none.
     pub left: Option<Left<H, N>>,
+    /// What its client had seen of the handles that stopped and of the journal.
+    pub seen: Sights<D, H>,
     /// What it answered.
     pub answer: Option<T>,
 }
 
 /// What the threads leave.
 #[derive(Drop)]
-pub(crate) struct Threaded<T, H: Origin, N: Ledger> {
+pub(crate) struct Threaded<T, D: Disk, H: Origin, N: Ledger> {
     /// What the workers leave.
-    pub workers: Vec<Worked<T, H, N>>,
+    pub workers: Vec<Worked<T, D, H, N>>,
     /// What the committer's seat left.
     pub committer: Left<H, N>,
     /// How the committer ended.
@@ -58,10 +61,10 @@ pub(crate) fn run_all<
     shape: Shape,
     options: Options,
     worker: &W,
-) -> (Result<Threaded<T, H, N>, RunFault>, Option<Ended>)
+) -> (Result<Threaded<T, D, H, N>, RunFault>, Option<Ended>)
     requires shape { shape ≡ shape_in desk.now }
     requires any { (words : WordMap) → H.begun.stops words }
-    ensures ran { IfOk result.0 (HasThreaded (W.answers worker.now) options.workers) }
+    ensures ran { IfOk result.0 (HasThreaded D.moment (W.answers worker.now H.begun) options.workers) }
     ensures faults { IfErr result.0 (λ fault. (fault ≡ OutOfMemory) ⊎ ((fault ≡ Accounts) ⊎ (fault ≡ NoThread))) }
     ensures ended { EndsChecked options.checkpoint result.1 }
 {
@@ -74,7 +77,7 @@ pub(crate) fn run_all<
     let (checkpoint, ran) = thread::join(
         rt,
         || check_home(rt, desk, &gate, options.level),
-        || -> Result<Threaded<T, H, N>, RunFault>
+        || -> Result<Threaded<T, D, H, N>, RunFault>
             requires { (shape ≡ shape_in desk.now) × ((words : WordMap) → H.begun.stops words) }
         { run_workers(rt, alloc, desk, shape, &gate, options.workers, worker) },
     );
@@ -117,10 +120,10 @@ fn run_workers<
     gate: &Gate,
     workers: usize,
     worker: &W,
-) -> Result<Threaded<T, H, N>, RunFault>
+) -> Result<Threaded<T, D, H, N>, RunFault>
     requires shape { shape ≡ shape_in desk.now }
     requires any { (words : WordMap) → H.begun.stops words }
-    ensures ran { IfOk result (HasThreaded (W.answers worker.now) workers) }
+    ensures ran { IfOk result (HasThreaded D.moment (W.answers worker.now H.begun) workers) }
     ensures faults { IfErr result (λ fault. (fault ≡ OutOfMemory) ⊎ ((fault ≡ Accounts) ⊎ (fault ≡ NoThread))) }
 {
     let Ok(seat) = desk.seat(rt) else {
@@ -131,7 +134,7 @@ fn run_workers<
     let (committed, ran) = thread::join(
         rt,
         || commit_from(rt, desk, gate, &mut place),
-        || -> Result<Vec<Worked<T, H, N>>, Memory>
+        || -> Result<Vec<Worked<T, D, H, N>>, Memory>
             requires { (shape ≡ shape_in desk.now) × ((words : WordMap) → H.begun.stops words) }
         { work(rt, alloc, desk, shape, gate, workers, worker) },
     );
@@ -169,18 +172,19 @@ fn work<
     gate: &Gate,
     workers: usize,
     worker: &W,
-) -> Result<Vec<Worked<T, H, N>>, Memory>
+) -> Result<Vec<Worked<T, D, H, N>>, Memory>
     requires shape { shape ≡ shape_in desk.now }
     requires any { (words : WordMap) → H.begun.stops words }
-    ensures { IfOk result (λ ran. HaveWorked (W.answers worker.now) workers ran.items) }
+    ensures { IfOk result (λ ran. HaveWorked D.moment (W.answers worker.now H.begun) workers ran.items) }
 {
     let ran = thread::map_indices(
         rt,
         alloc,
         workers,
-        &|at: usize| -> Worked<T, H, N>
+        &|at: usize| -> Worked<T, D, H, N>
             requires { (shape ≡ shape_in desk.now) × ((words : WordMap) → H.begun.stops words) }
-            ensures { IfSome result.answer (W.answers worker.entry.now workers at (stops_of_worked result)) }
+            ensures { IfSome result.answer (W.answers worker.entry.now H.begun workers at (stops_of_worked result)
+                (known_of_worked D.moment result)) }
         { work_at(rt, desk, shape, gate, workers, worker, at) },
     );
     desk.shut(rt);
@@ -196,31 +200,36 @@ fn work_at<T, W: Worker<T>, D: Disk, C: Clock, R: Wait + time::Clock, H: Origin,
     workers: usize,
     worker: &W,
     at: usize,
-) -> Worked<T, H, N>
+) -> Worked<T, D, H, N>
     requires shape { shape ≡ shape_in desk.now }
     requires any { (words : WordMap) → H.begun.stops words }
-    ensures { IfSome result.answer (W.answers worker.now workers at (stops_of_worked result)) }
+    ensures { IfSome result.answer (W.answers worker.now H.begun workers at (stops_of_worked result)
+        (known_of_worked D.moment result)) }
 {
     if !gate.wait(rt) {
         return Worked {
             left: None,
+            seen: desk.sights(rt),
             answer: None,
         };
     }
     let Ok(seat) = desk.seat(rt) else {
         return Worked {
             left: None,
+            seen: desk.sights(rt),
             answer: None,
         };
     };
     let mut client = Client::new(rt, desk, shape, seat);
     let answer = worker.work(&mut client, workers, at);
-    let left = match client.into_seat() {
+    let (seat, seen) = client.into_seat();
+    let left = match seat {
         Some(seat) => Some(desk.leave(rt, seat)),
         None => None,
     };
     Worked {
         left,
+        seen,
         answer: Some(answer),
     }
 }

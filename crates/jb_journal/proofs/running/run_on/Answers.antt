@@ -4,6 +4,9 @@ use Rattle.jb_journal.proofs.running.run_on.Goals as goal
 pub returns-in_default-clause-refused : goal.returns-in_default-clause-refused
 returns-in_default-clause-refused g c = (c.shape-shape.result, c.in-Ok.ensures.opened c.shape-shape.result c.shape-shape.ensures.journal)
 
+pub returns-in_default-new-clause-refused : goal.returns-in_default-new-clause-refused
+returns-in_default-new-clause-refused g c = (c.shape-shape.result, c.in-Ok.ensures.opened c.shape-shape.result c.shape-shape.ensures.journal)
+
 pub returns-clause-refused : goal.returns-clause-refused
 returns-clause-refused g c =
     refuses-as g.D.Disk.size g.D.Disk.count g.D.Disk.faults g.D.Disk.honest g.D.Disk.newest c.args.disk

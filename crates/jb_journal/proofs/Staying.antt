@@ -1,0 +1,84 @@
+-- A handle that its client knew to be committed stays.
+use Rattle.std.proofs.Common.{◌≡◌, ℕ, zero, suc, ◌+◌, ◌<◌, ◌≤◌, List, [], ◌∷◌, ◌++◌, All, Option, Some, None, slice_get, slice_index_or, get_or, length, refl, sym, ap, subst, ◌∙◌, arith}
+use Rattle.std.proofs.Math.Seq.{drop-append_seam}
+use Rattle.std.proofs.lemmas.List.Elements.{All-drop}
+use Rattle.std.proofs.lemmas.Option.{get_or_from_slice_get, slice_get-get_or, slice_get_within}
+use Rattle.jb_cost.specs.Pieces.{joined}
+use Rattle.jb_disk.specs.Image.{Image}
+use Rattle.jb_handle.specs.Tickets.{TicketsFrom}
+use Rattle.jb_handle.specs.Word.{WordMap}
+use Rattle.jb_handle.specs.declared.stopped.Stopped.{Stopped}
+use Rattle.jb_history.proofs.Placed.{get_before}
+use Rattle.jb_history.specs.Rule.{StandsIn}
+use Rattle.jb_deck.specs.Done.{past_after}
+use Rattle.jb_book.specs.Origin.{Begun}
+use Rattle.jb_desk.specs.History.{IsStop}
+use Rattle.jb_journal.specs.Notes.{AreInNotes, IsInNotes, Known, KnownLasts, NoteLasts, Stop}
+use Rattle.jb_journal.specs.Running.{RanAll}
+use Rattle.jb_journal.specs.Staying.{HandleStays}
+use Rattle.jb_journal.specs.declared.ran.Ran.{Ran}
+use Rattle.jb_journal.proofs.Noting.{All-first, noted-stays}
+
+abbrev value-of : {A : Type 0} → A → Option A → A
+value-of d None = d
+value-of d (Some x) = x
+
+-- what holds of all lists that are joined holds of each
+all-parts : {A : Type 0} (P : A → Type 0) (lists : List (List A)) → All P (joined lists) → (k : ℕ) (xs : List A) → slice_get lists k ≡ Some xs → All P xs
+all-parts P [] each k xs at = absurd (cc)
+all-parts P (ys ∷ lists) each zero xs at = subst (All P) (ap (value-of xs) at) (All-first P ys (ys ++ joined lists) (joined lists, refl) each)
+all-parts P (ys ∷ lists) each (suc k) xs at = all-parts P lists (subst (All P) (drop-append_seam ys (joined lists)) (All-drop P (length ys) (ys ++ joined lists) each)) k xs at
+
+ticket-at : (n : ℕ) (hs : List Stopped) → TicketsFrom n hs → (k : ℕ) (d : Stopped) → k < length hs → (get_or hs k d).ticket ≡ n + k
+ticket-at n [] tickets k d lt = absurd (omega (arith, lt))
+ticket-at n (h ∷ hs) tickets zero d lt = let first = tickets.0 in omega (arith, first)
+ticket-at n (h ∷ hs) tickets (suc k) d lt = let rest = ticket-at (n + 1) hs tickets.1 k d (omega (arith, lt)) in omega (arith, rest)
+
+-- of handles that stopped as the history says, the one with a ticket has its words
+given-at : (b : Begun) (log : List WordMap) (given : List Stopped) → TicketsFrom 0 given → All (IsStop b log) given → (stop : ℕ × WordMap) → StandsIn log stop → stop.0 < length given
+    → slice_get given stop.0 ≡ Some (record { ticket = stop.0; words = stop.1 })
+given-at b log given tickets stopped stop stands lt =
+    let none : Stopped = record { ticket = stop.0; words = stop.1 } in
+    let h : Stopped = get_or given stop.0 none in
+    let at = ticket-at 0 given tickets stop.0 none lt in
+    let ticket : h.ticket ≡ stop.0 = omega (arith, at) in
+    let words : Some stop.1 ≡ Some h.words = sym stands ∙ ap (slice_get log) (sym ticket) ∙ (stopped stop.0 none lt).1 in
+    slice_get-get_or given stop.0 none lt ∙ ap (λ (x : Stopped). Some x) (λ i. record { ticket = ticket i; words = ap (value-of stop.1) (sym words) i })
+
+module _ {T D : Type 0} (size count faults : D → ℕ) (honest : D → Type 0) (newest : D → Image) (may_leave : D → Image → Type 0) (moment : D → ℕ) (left_since : D → ℕ → Image → Type 0) (b : Begun) (may : ℕ → ℕ → List Stop → Known → T → Type 0) (workers : ℕ) (ran : Ran T D)
+    (all : RanAll size count faults honest newest may_leave moment left_since b may workers ran) where
+  -- what a client knew lasts
+  pub lasts-at : (by : ℕ) (known : Known) → slice_get all.known by ≡ Some known → KnownLasts moment left_since b all.ends.log all.ends.since.given ran.disk ran.trail.items known
+  lasts-at by known is =
+      subst (KnownLasts moment left_since b all.ends.log all.ends.since.given ran.disk ran.trail.items) (get_or_from_slice_get all.known by known known is) (all.last by known (slice_get_within all.known by known is))
+
+  -- the handle of one worker's client stays, where the client of one of them knew that it was committed
+  pub stays-noted : (at by : ℕ) (stops : List Stop) (known : Known) → slice_get all.stopped at ≡ Some stops → slice_get all.known by ≡ Some known → (k : ℕ) (stop : Stop) → slice_get stops k ≡ Some stop
+      → (number : ℕ) → IsInNotes known.notes stop.0 number → HandleStays size count faults honest newest may_leave moment left_since b may workers ran all known.notes stop
+  stays-noted at by stops known stopped is k stop placed number n =
+      let last = (lasts-at by known is).last in
+      let notes = known.notes in
+      let one : NoteLasts moment left_since b all.ends.since.given ran.disk ran.trail.items n.note =
+      subst (NoteLasts moment left_since b all.ends.since.given ran.disk ran.trail.items) (get_or_from_slice_get notes n.at n.note n.note n.stands) (last n.at n.note (slice_get_within notes n.at n.note n.stands)) in
+      let stand = all-parts (StandsIn all.ends.log) all.stopped all.ends.stopped.stand at stops stopped in
+      let stands : StandsIn all.ends.log stop = subst (StandsIn all.ends.log) (get_or_from_slice_get stops k stop stop placed) (stand k stop (slice_get_within stops k stop placed)) in
+      let within = (one.tiles n.entry n.has).1 in
+      let to = n.to in
+      let settled = one.settled in
+      let trail : past_after 0 all.ends.deck.trail ≡ past_after 0 ran.trail.items = ap (past_after 0) all.ends.same_trail in
+      let given = all.ends.since.has.settled in
+      record {
+        number = number;
+        noted = n;
+        given = given-at b all.ends.log all.ends.since.given all.ends.since.has.tickets all.ends.since.has.stopped stop stands (omega (arith, within, to, settled, trail, given));
+        stays = λ h by m. noted-stays moment left_since b all.ends.since.given ran.disk ran.trail.items notes stop.0 by m last h;
+      }
+
+  -- the first of a client's handles stay, where the client of one of them knew that they were committed
+  pub all-stay : (at by : ℕ) (stops : List Stop) (known : Known) → slice_get all.stopped at ≡ Some stops → slice_get all.known by ≡ Some known → (first last : List Stop) → stops ≡ first ++ last → AreInNotes known.notes first
+      → All (HandleStays size count faults honest newest may_leave moment left_since b may workers ran all known.notes) first
+  all-stay at by stops known stopped is first last are each k d lt =
+      let stop : Stop = get_or first k d in
+      let placed : slice_get stops k ≡ Some stop = subst (λ l. slice_get l k ≡ Some stop) (sym are) (get_before first last k stop (slice_get-get_or first k d lt)) in
+      let one = each k d lt in
+      stays-noted at by stops known stopped is k stop placed one.0 one.1

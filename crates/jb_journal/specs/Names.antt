@@ -1,0 +1,14 @@
+-- Words of the crates below that the contracts and proofs of a program name.
+pub use Rattle.jb_cost.specs.Pieces.{joined}
+pub use Rattle.jb_disk.specs.Image.{Image}
+pub use Rattle.jb_handle.specs.Tickets.{TicketsFrom}
+pub use Rattle.jb_handle.specs.Word.{WordMap}
+pub use Rattle.jb_handle.specs.Words.{word}
+pub use Rattle.jb_handle.specs.declared.stopped.Stopped.{Stopped}
+pub use Rattle.jb_handle.specs.declared.word.Word.{Word}
+pub use Rattle.jb_handle.specs.declared.word.Word.TheVariants.{Copy, Free}
+pub use Rattle.jb_history.specs.Rule.{IsFirstPart, StandsIn, with_places}
+pub use Rattle.jb_ring.specs.Follows.{StandsBy}
+pub use Rattle.jb_book.specs.Led.{IsInHistory}
+pub use Rattle.jb_book.specs.Origin.{Begun}
+pub use Rattle.jb_desk.specs.History.{AreAllStops}

@@ -1,0 +1,115 @@
+-- What one worker has written stays, and is what the other one has read.
+use Rattle.std.proofs.Common.{◌≡◌, ℕ, zero, suc, ◌+◌, ◌<◌, ◌≤◌, List, [], ◌∷◌, ◌++◌, All, Option, Some, None, slice_get, get_or, length, Result, Ok, Err, IfOk, refl, sym, ap, subst, ◌∙◌, arith}
+use Rattle.std.specs.FinMap as map
+use Rattle.std.specs.List.{sum_by}
+use Rattle.std.proofs.lemmas.List.Elements.{All-weaker}
+use Rattle.std.proofs.lemmas.Option.{get_or_from_slice_get, slice_get-get_or, slice_get_within}
+use Rattle.jb_journal.specs.Client.{one_block}
+use Rattle.jb_journal.specs.Names.{AreAllStops, Begun, Copy, Image, IsFirstPart, IsInHistory, StandsBy, StandsIn, Stopped, TicketsFrom, Word, WordMap, joined, with_places, word}
+use Rattle.jb_journal.specs.Notes.{IsInNotes, Known, Stop}
+use Rattle.jb_journal.specs.Running.{RanAll}
+use Rattle.jb_journal.specs.Starting.{started_on}
+use Rattle.jb_journal.specs.declared.ran.Ran.{Ran}
+use Rattle.jb_journal.proofs.Noting.{stands-on}
+use Rattle.jb_journal.proofs.Staying.{lasts-at, stays-noted}
+use Rattle.jb_journal_client.specs.Telling.{HasFound, HasReadThen, HasWritten, TwoHaveWorked, home}
+use Rattle.jb_journal_client.specs.declared.telling.Found.{Found}
+use Rattle.jb_journal_client.specs.declared.telling.Found.TheVariants.{Wrote, Read, Failed}
+
+-- ---- a history of one handle
+
+sum-ones : (n : ℕ) (log : List WordMap) → sum_by (λ (s : Stop). 1) (with_places n log) ≡ length log
+sum-ones n [] = refl
+sum-ones n (w ∷ log) = let last : 1 + length log ≡ suc (length log) = omega arith in ap (λ k. 1 + k) (sum-ones (suc n) log) ∙ last
+
+abbrev words-in : WordMap → Option WordMap → WordMap
+words-in d None = d
+words-in d (Some w) = w
+
+single : (log : List WordMap) (stop : Stop) → length log ≡ 1 → StandsIn log stop → (stop.0 ≡ 0) × (log ≡ stop.1 ∷ [])
+single log stop one at = single-of log stop.0 stop.1 one at
+  where
+    single-of : (log : List WordMap) (k : ℕ) (words : WordMap) → length log ≡ 1 → slice_get log k ≡ Some words → (k ≡ 0) × (log ≡ words ∷ [])
+    single-of [] k words one at = absurd (omega (arith, one))
+    single-of (w ∷ []) zero words one at = (refl, ap (λ (x : WordMap). x ∷ []) (ap (words-in w) at))
+    single-of (w ∷ []) (suc k) words one at = absurd (cc)
+    single-of (w ∷ v ∷ log) k words one at = absurd (omega (arith, one))
+
+-- the history of a run in which one handle stopped
+one-stop : (log : List WordMap) (stop : Stop) → AreAllStops log (stop ∷ []) → (stop.0 ≡ 0) × (log ≡ stop.1 ∷ [])
+one-stop log stop are = single log stop (sym (sum-ones 0 log) ∙ sym (are.once (λ (s : Stop). 1))) (are.stand 0 stop (omega arith))
+
+-- what handles of such a history leave in the home, where there are any
+one-given : (words : WordMap) (given : List Stopped) → TicketsFrom 0 given → All (IsInHistory (words ∷ [])) given → (told : ℕ) → told < length given → (told ≡ 0) × (word given home ≡ map.get words home)
+one-given words [] tickets are told lt = absurd (omega (arith, lt))
+one-given words (h ∷ []) tickets are told lt =
+    let first : h.ticket ≡ 0 = tickets.0 in
+    let at : slice_get (words ∷ []) 0 ≡ Some h.words = subst (λ n. slice_get (words ∷ []) n ≡ Some h.words) first (are 0 h (omega arith)) in
+    (omega (arith, lt), ap (λ w. map.get w home) (sym (ap (words-in words) at)))
+one-given words (h ∷ i ∷ given) tickets are told lt =
+    let second : i.ticket ≡ 1 = tickets.1.0 in
+    let at : slice_get (words ∷ []) 1 ≡ Some i.words = subst (λ n. slice_get (words ∷ []) n ≡ Some i.words) second (are 1 i (omega arith)) in
+    absurd (let never : ⊥ = cc in never)
+
+two-of : {A : Type 0} (xs : List A) → length xs ≡ 2 → (x : A) × (y : A) × (xs ≡ x ∷ y ∷ [])
+two-of [] is = absurd (omega (arith, is))
+two-of (x ∷ []) is = absurd (omega (arith, is))
+two-of (x ∷ y ∷ []) is = (x, y, refl)
+two-of (x ∷ y ∷ z ∷ xs) is = absurd (omega (arith, is))
+
+-- ---- the run
+
+module _ {D : Type 0} (size count faults : D → ℕ) (honest : D → Type 0) (newest : D → Image) (may_leave : D → Image → Type 0) (moment : D → ℕ) (left_since : D → ℕ → Image → Type 0) (bytes : List ℕ) (disk : D) (ran : Ran Found D) where
+  abbrev b : Begun
+  b = started_on size count faults honest newest moment left_since disk
+
+  abbrev may : ℕ → ℕ → List Stop → Known → Found → Type 0
+  may workers at stops known found = HasFound bytes b stops known found
+
+  abbrev All-of : Type 0
+  All-of = RanAll size count faults honest newest may_leave moment left_since b may 2 ran
+
+  module _ (all : All-of) where
+    -- what one of the workers has found, of its stops and of what it knew
+    found-at : (at : ℕ) → at < 2 → (found : Found) → slice_get ran.answers.items at ≡ Some found → (stops : List Stop) (known : Known) → slice_get all.stopped at ≡ Some stops → slice_get all.known at ≡ Some known → HasFound bytes b stops known found
+    found-at at lt found is stops known stopped knew =
+        let each : HasFound bytes b (get_or all.stopped at stops) (get_or all.known at known) (get_or ran.answers.items at found) = all.answers.each at stops known found lt in
+        subst (λ (x : (List Stop × Known) × Found). HasFound bytes b x.0.0 x.0.1 x.1)
+        (λ i. ((get_or_from_slice_get all.stopped at stops stops stopped i, get_or_from_slice_get all.known at known known knew i), get_or_from_slice_get ran.answers.items at found found is i)) each
+
+    pub told : TwoHaveWorked size count faults honest newest may_leave moment left_since bytes disk ran
+    told =
+        let stops = two-of all.stopped all.answers.same in
+        let knew = two-of all.known all.answers.knew in
+        let stops0 = stops.0 in
+        let stops1 = stops.1 in
+        let known0 = knew.0 in
+        let known1 = knew.1 in
+        let at0 : slice_get all.stopped 0 ≡ Some stops0 = ap (λ l. slice_get l 0) stops.2 in
+        let at1 : slice_get all.stopped 1 ≡ Some stops1 = ap (λ l. slice_get l 1) stops.2 in
+        let knew0 : slice_get all.known 0 ≡ Some known0 = ap (λ l. slice_get l 0) knew.2 in
+        let knew1 : slice_get all.known 1 ≡ Some known1 = ap (λ l. slice_get l 1) knew.2 in
+        record {
+          all = all;
+          wrote = λ ticket is. (
+              let w : HasWritten bytes stops0 known0 ticket = found-at 0 (omega arith) (Wrote ticket) is stops0 known0 at0 knew0 in
+              (known0, knew0, stays-noted size count faults honest newest may_leave moment left_since b may 2 ran all 0 0 stops0 known0 at0 knew0 0 (ticket, one_block home bytes) (ap (λ l. slice_get l 0) w.stopped) w.number w.noted));
+          read = λ ticket heard found is isnt h. (
+              let w : HasWritten bytes stops0 known0 ticket = found-at 0 (omega arith) (Wrote ticket) is stops0 known0 at0 knew0 in
+              let r : HasReadThen b stops1 known1 heard found = found-at 1 (omega arith) (Read heard found) isnt stops1 known1 at1 knew1 in
+              let whole : joined all.stopped ≡ (ticket, one_block home bytes) ∷ [] = ap joined stops.2 ∙ ap (λ (x : List Stop × List Stop). x.0 ++ (x.1 ++ [])) (λ i. (w.stopped i, r.stopped i)) in
+              let one = one-stop all.ends.log (ticket, one_block home bytes) (subst (AreAllStops all.ends.log) whole all.ends.stopped) in
+              let begins : IsFirstPart known1.log all.ends.log = (lasts-at size count faults honest newest may_leave moment left_since b may 2 ran all 1 known1 knew1).begins in
+              let are : All (IsInHistory (one_block home bytes ∷ [])) r.reads.given =
+              All-weaker (IsInHistory known1.log) (IsInHistory (one_block home bytes ∷ [])) (λ s at. subst (λ l. StandsIn l (s.ticket, s.words)) one.1 (stands-on known1.log all.ends.log begins (s.ticket, s.words) at)) r.reads.given r.reads.are in
+              let given = one-given (one_block home bytes) r.reads.given r.reads.tickets are heard (r.reads.sees heard r.number r.noted) in
+              (given.0 ∙ sym one.0, subst (λ o. StandsBy o (b.homes home) found) given.1 (r.reads.stands h)));
+        }
+
+-- whatever the run answers
+pub told-of : {D E : Type 0} (size count faults : D → ℕ) (honest : D → Type 0) (newest : D → Image) (may_leave : D → Image → Type 0) (moment : D → ℕ) (left_since : D → ℕ → Image → Type 0) (disk : D) (bytes written : List ℕ) → written ≡ bytes
+    → (r : Result (Ran Found D) E) → IfOk r (RanAll size count faults honest newest may_leave moment left_since (started_on size count faults honest newest moment left_since disk) (λ workers at stops known found. HasFound written (started_on size count faults honest newest moment left_since disk) stops known found) 2)
+    → IfOk r (TwoHaveWorked size count faults honest newest may_leave moment left_since bytes disk)
+told-of size count faults honest newest may_leave moment left_since disk bytes written same (Ok ran) all =
+    subst (λ text. TwoHaveWorked size count faults honest newest may_leave moment left_since text disk ran) same (told size count faults honest newest may_leave moment left_since written disk ran all)
+told-of size count faults honest newest may_leave moment left_since disk bytes written same (Err fault) all = tt
