@@ -17,8 +17,6 @@ pub struct Moving {
 impl Worker<Result<(), JournalFault>> for Moving {
     ghost use Rattle.jb_journal.specs.Client.{IsClient};
 
-    ghost answers = { λ moving workers at stopped answer. Unit {0} };
-
     fn work<'a, D: Disk, C: Clock, R: Wait + time::Clock, H: Origin, N: Ledger>(
         &self,
         client: &mut Client<'a, D, C, R, H, N>,

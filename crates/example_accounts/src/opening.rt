@@ -14,8 +14,6 @@ pub struct Opening;
 impl Worker<Result<(), JournalFault>> for Opening {
     ghost use Rattle.jb_journal.specs.Client.{IsClient};
 
-    ghost answers = { λ opening workers at stopped answer. Unit {0} };
-
     fn work<'a, D: Disk, C: Clock, R: Wait + time::Clock, H: Origin, N: Ledger>(
         &self,
         client: &mut Client<'a, D, C, R, H, N>,

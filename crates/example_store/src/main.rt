@@ -18,7 +18,7 @@ use crate::command::{Command, parse};
 use crate::failed::Failed;
 use crate::serving::Serving;
 use jb_journal::{
-    BlockSize, Disk, Geometry, JournalFault, MemoryDisk, Options, SystemClock, Width, format,
+    BlockSize, Disk, Geometry, JournalFault, MemoryDisk, Options, Ran, SystemClock, Width, format,
     open_or_create, run,
 };
 use std::alloc::Global;
@@ -37,15 +37,27 @@ const SIZE: BlockSize = BlockSize::OneKib;
 /// How many blocks the journal has.
 const JOURNAL: u32 = 256;
 
-/// Runs the worker on a journal, and gives what it answered once all that it changed stands.
+ghost use Rattle.std.specs.Prelude.{IfOk};
+ghost use Rattle.example_store.specs.Keeping.{Keeps};
+
+/// Runs the worker on a journal. What it has acknowledged stays, whenever a crash comes.
 fn serve<D: Disk + Drop + Send, R: AllocGlobal + Threads + Wait + Clock + Sync>(
     rt: &R,
     disk: D,
     serving: &Serving,
-) -> Result<Vec<Result<(), Failed>>, JournalFault> {
-    let ran = run(rt, disk, SystemClock::new(rt), Options::new(1), serving)?;
-    let (_disk, answers) = ran.durable()?;
-    Ok(answers)
+) -> Result<Ran<Result<(), Failed>, D>, JournalFault>
+    ensures { IfOk result (Keeps D.size D.count D.faults D.honest D.newest D.may_leave D.moment D.left_since disk) }
+{
+    Ok(run(rt, disk, SystemClock::new(rt), Options::new(1), serving)?)
+}
+
+/// What the worker answered, once all that it changed is committed.
+fn answered<D: Drop>(ran: Ran<Result<(), Failed>, D>) -> Result<(), Failed> {
+    let (_disk, answers) = ran.durable().map_err(JournalFault::from)?;
+    for answer in answers {
+        answer?;
+    }
+    Ok(())
 }
 
 /// Obeys the commands in the image of this name, which is made where there is none, or in memory.
@@ -55,14 +67,10 @@ fn serve_on<R: Files<File = File> + AllocGlobal + Threads + Wait + Clock + Sync>
     serving: &Serving,
 ) -> Result<(), Failed> {
     let geometry = Geometry::new(SIZE, JOURNAL, store::HOMES);
-    let answers = match image {
-        Some(image) => serve(rt, open_or_create(rt, &image, geometry)?, serving)?,
-        None => serve(rt, in_memory(rt.alloc())?, serving)?,
-    };
-    for answer in answers {
-        answer?;
+    match image {
+        Some(image) => answered(serve(rt, open_or_create(rt, &image, geometry)?, serving)?),
+        None => answered(serve(rt, in_memory(rt.alloc())?, serving)?),
     }
-    Ok(())
 }
 
 /// A disk in memory with a new journal.

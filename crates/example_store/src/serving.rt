@@ -19,9 +19,11 @@ pub struct Serving {
 }
 
 impl Worker<Result<(), Failed>> for Serving {
-    ghost use Rattle.jb_journal.specs.Client.{IsClient};
+    ghost use Rattle.std.specs.Prelude.{◌≡◌, []};
+    ghost use Rattle.jb_journal.specs.Client.{IsClient, client_known, client_stops};
+    ghost use Rattle.example_store.specs.Keeping.{Acknowledges};
 
-    ghost answers = { λ serving workers at stopped answer. Unit {0} };
+    ghost answers = { λ serving begun workers at stops known answer. Acknowledges stops known.notes answer };
 
     fn work<'a, D: Disk, C: Clock, R: Wait + time::Clock, H: Origin, N: Ledger>(
         &self,
@@ -30,6 +32,8 @@ impl Worker<Result<(), Failed>> for Serving {
         _at: usize,
     ) -> Result<(), Failed>
         requires client { IsClient H.begun client.old }
+        requires fresh { client_stops client.old ≡ [] }
+        ensures answers { Acknowledges (client_stops client.new) (client_known client.new).notes result }
     {
         for command in &self.commands {
             self.obey(client, *command)?;
@@ -39,16 +43,20 @@ impl Worker<Result<(), Failed>> for Serving {
 }
 
 impl Serving {
-    ghost use Rattle.jb_journal.specs.Client.{IsClient};
+    ghost use Rattle.jb_journal.specs.Client.{IsClient, client_known, client_stops};
+    ghost use Rattle.jb_journal.specs.Notes.{AreInNotes};
+    ghost use Rattle.example_store.specs.Keeping.{Acknowledges};
 
-    /// Obeys a command, and answers it by a line once what it did stands.
+    /// Obeys a command, and answers it by a line once what it did stays after a crash.
     fn obey<'a, D: Disk, C: Clock, R: Wait + time::Clock, H: Origin, N: Ledger>(
         &self,
         client: &mut Client<'a, D, C, R, H, N>,
         command: Command,
     ) -> Result<(), Failed>
-        requires { IsClient H.begun client.old }
-        ensures { IsClient H.begun client.new }
+        requires client { IsClient H.begun client.old }
+        requires noted { AreInNotes (client_known client.old).notes (client_stops client.old) }
+        ensures client { IsClient H.begun client.new }
+        ensures acknowledged { Acknowledges (client_stops client.new) (client_known client.new).notes result }
     {
         let rt = client.runtime();
         match command {

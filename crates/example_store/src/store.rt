@@ -9,9 +9,12 @@ use std::time;
 /// How many home blocks there are.
 pub const HOMES: u64 = 32;
 
-ghost use Rattle.jb_journal.specs.Client.{IsClient};
+ghost use Rattle.std.specs.Prelude.{◌≡◌, ◌%◌};
+ghost use Rattle.jb_journal.specs.Client.{IsClient, client_known, client_stops};
+ghost use Rattle.jb_journal.specs.Notes.{KnowsMore};
+ghost use Rattle.example_store.specs.Keeping.{PutsHome, PutsBlock};
 
-/// Puts a value at a key. It stands after a crash once this is done.
+/// PutsHome a value at a key. Once this is done a crash at any time leaves it.
 ///
 /// # Errors
 /// `NoRoom`, and those of the journal.
@@ -21,11 +24,14 @@ pub fn put<'a, D: Disk, C: Clock, R: Wait + time::Clock, H: Origin, N: Ledger>(
     value: u64,
 ) -> Result<(), Failed>
     requires { IsClient H.begun client.old }
-    ensures { IsClient H.begun client.new }
+    ensures client { IsClient H.begun client.new }
+    ensures begins { KnowsMore (client_known client.old) (client_known client.new) }
+    ensures puts { PutsHome (key % 32) (client_stops client.old) (client_stops client.new) (client_known client.new).notes
+        result }
 {
     let mut table = table_of(client, key)?;
     table.put(key, value)?;
-    write(client, key, &table)?;
+    write(client, key, &table.block())?;
     Ok(())
 }
 
@@ -34,14 +40,19 @@ pub fn put<'a, D: Disk, C: Clock, R: Wait + time::Clock, H: Origin, N: Ledger>(
 /// # Errors
 /// Those of the journal.
 pub fn get<'a, D: Disk, C: Clock, R: Wait + time::Clock, H: Origin, N: Ledger>(
-    client: &Client<'a, D, C, R, H, N>,
+    client: &mut Client<'a, D, C, R, H, N>,
     key: u64,
-) -> Result<Option<u64>, JournalFault> {
+) -> Result<Option<u64>, JournalFault>
+    requires { IsClient H.begun client.old }
+    ensures client { IsClient H.begun client.new }
+    ensures begins { KnowsMore (client_known client.old) (client_known client.new) }
+    ensures kept { client_stops client.new ≡ client_stops client.old }
+{
     let table = table_of(client, key)?;
     Ok(table.get(key))
 }
 
-/// Takes a key out. It is out after a crash once this is done.
+/// Takes a key out. Once this is done a crash at any time leaves it out.
 ///
 /// # Errors
 /// Those of the journal.
@@ -50,35 +61,45 @@ pub fn delete<'a, D: Disk, C: Clock, R: Wait + time::Clock, H: Origin, N: Ledger
     key: u64,
 ) -> Result<(), JournalFault>
     requires { IsClient H.begun client.old }
-    ensures { IsClient H.begun client.new }
+    ensures client { IsClient H.begun client.new }
+    ensures begins { KnowsMore (client_known client.old) (client_known client.new) }
+    ensures puts { PutsHome (key % 32) (client_stops client.old) (client_stops client.new) (client_known client.new).notes
+        result }
 {
     let mut table = table_of(client, key)?;
     table.delete(key);
-    write(client, key, &table)
+    write(client, key, &table.block())
 }
 
 /// The table that has the key, as it is committed. All that was put is committed, since each change waits.
 fn table_of<'a, D: Disk, C: Clock, R: Wait + time::Clock, H: Origin, N: Ledger>(
-    client: &Client<'a, D, C, R, H, N>,
+    client: &mut Client<'a, D, C, R, H, N>,
     key: u64,
-) -> Result<Table, JournalFault> {
+) -> Result<Table, JournalFault>
+    requires { IsClient H.begun client.old }
+    ensures client { IsClient H.begun client.new }
+    ensures begins { KnowsMore (client_known client.old) (client_known client.new) }
+    ensures kept { client_stops client.new ≡ client_stops client.old }
+{
     let mut block: Block = [0; BYTES];
     client.read(key % HOMES, &mut block)?;
     Ok(Table::of_block(&block))
 }
 
-/// Writes the table that has the key by a handle of one block, and waits until it is committed.
+/// Writes the home block of the key by a handle of one block, and waits until it is committed.
 fn write<'a, D: Disk, C: Clock, R: Wait + time::Clock, H: Origin, N: Ledger>(
     client: &mut Client<'a, D, C, R, H, N>,
     key: u64,
-    table: &Table,
+    block: &Block,
 ) -> Result<(), JournalFault>
     requires { IsClient H.begun client.old }
-    ensures { IsClient H.begun client.new }
+    ensures client { IsClient H.begun client.new }
+    ensures begins { KnowsMore (client_known client.old) (client_known client.new) }
+    ensures puts { PutsBlock (key % 32) block.now (client_stops client.old) (client_stops client.new)
+        (client_known client.new).notes result }
 {
-    let block = table.block();
     let (_, ticket) = client.change(1, |handle: &mut Handle<()>| -> Result<(), TouchFault> {
-        handle.write(key % HOMES, &block)
+        handle.write(key % HOMES, block)
     })?;
     client.wait(ticket)?;
     Ok(())

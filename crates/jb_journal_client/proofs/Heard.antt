@@ -2,7 +2,9 @@
 use Rattle.std.proofs.Common.{◌≡◌, ℕ, zero, suc, ◌+◌, ◌<◌, ◌≤◌, List, [], ◌∷◌, ◌++◌, All, Option, Some, None, slice_get, get_or, length, Result, Ok, Err, IfOk, refl, sym, ap, subst, ◌∙◌, arith}
 use Rattle.std.specs.FinMap as map
 use Rattle.std.specs.List.{sum_by}
+use Rattle.std.specs.Cmp.{nat_cmp_total}
 use Rattle.std.proofs.lemmas.List.Elements.{All-weaker}
+use Rattle.std.proofs.lemmas.List.Sums.{sum_by-cons}
 use Rattle.std.proofs.lemmas.Option.{get_or_from_slice_get, slice_get-get_or, slice_get_within}
 use Rattle.jb_journal.specs.Client.{one_block}
 use Rattle.jb_journal.specs.Names.{AreAllStops, Begun, Copy, Image, IsFirstPart, IsInHistory, StandsBy, StandsIn, Stopped, TicketsFrom, Word, WordMap, joined, with_places, word}
@@ -20,7 +22,7 @@ use Rattle.jb_journal_client.specs.declared.telling.Found.TheVariants.{Wrote, Re
 
 sum-ones : (n : ℕ) (log : List WordMap) → sum_by (λ (s : Stop). 1) (with_places n log) ≡ length log
 sum-ones n [] = refl
-sum-ones n (w ∷ log) = let last : 1 + length log ≡ suc (length log) = omega arith in ap (λ k. 1 + k) (sum-ones (suc n) log) ∙ last
+sum-ones n (w ∷ log) = let rest = sum-ones (suc n) log in let whole = sum_by-cons (λ (s : Stop). 1) (n, w) (with_places (suc n) log) in omega (arith, rest, whole)
 
 abbrev words-in : WordMap → Option WordMap → WordMap
 words-in d None = d
@@ -50,6 +52,10 @@ one-given words (h ∷ i ∷ given) tickets are told lt =
     let second : i.ticket ≡ 1 = tickets.1.0 in
     let at : slice_get (words ∷ []) 1 ≡ Some i.words = subst (λ n. slice_get (words ∷ []) n ≡ Some i.words) second (are 1 i (omega arith)) in
     absurd (let never : ⊥ = cc in never)
+
+-- the word of a handle that wrote these bytes to the home
+own-word : (bytes : List ℕ) → map.get (one_block home bytes) home ≡ Some (Copy bytes)
+own-word bytes = map.get-insert nat_cmp_total map.empty home (Copy bytes) home
 
 two-of : {A : Type 0} (xs : List A) → length xs ≡ 2 → (x : A) × (y : A) × (xs ≡ x ∷ y ∷ [])
 two-of [] is = absurd (omega (arith, is))
@@ -103,13 +109,15 @@ module _ {D : Type 0} (size count faults : D → ℕ) (honest : D → Type 0) (n
               let are : All (IsInHistory (one_block home bytes ∷ [])) r.reads.given =
               All-weaker (IsInHistory known1.log) (IsInHistory (one_block home bytes ∷ [])) (λ s at. subst (λ l. StandsIn l (s.ticket, s.words)) one.1 (stands-on known1.log all.ends.log begins (s.ticket, s.words) at)) r.reads.given r.reads.are in
               let given = one-given (one_block home bytes) r.reads.given r.reads.tickets are heard (r.reads.sees heard r.number r.noted) in
-              (given.0 ∙ sym one.0, subst (λ o. StandsBy o (b.homes home) found) given.1 (r.reads.stands h)));
+              (given.0 ∙ sym one.0, subst (λ o. StandsBy o (b.homes home) found) (given.1 ∙ own-word bytes) (r.reads.stands h)));
         }
 
--- whatever the run answers
-pub told-of : {D E : Type 0} (size count faults : D → ℕ) (honest : D → Type 0) (newest : D → Image) (may_leave : D → Image → Type 0) (moment : D → ℕ) (left_since : D → ℕ → Image → Type 0) (disk : D) (bytes written : List ℕ) → written ≡ bytes
-    → (r : Result (Ran Found D) E) → IfOk r (RanAll size count faults honest newest may_leave moment left_since (started_on size count faults honest newest moment left_since disk) (λ workers at stops known found. HasFound written (started_on size count faults honest newest moment left_since disk) stops known found) 2)
+-- whatever the run answers, of as many workers
+pub told-of : {D E : Type 0} (size count faults : D → ℕ) (honest : D → Type 0) (newest : D → Image) (may_leave : D → Image → Type 0) (moment : D → ℕ) (left_since : D → ℕ → Image → Type 0) (disk : D) (bytes written : List ℕ) (workers : ℕ) → written ≡ bytes → workers ≡ 2
+    → (r : Result (Ran Found D) E) → IfOk r (RanAll size count faults honest newest may_leave moment left_since (started_on size count faults honest newest moment left_since disk) (λ workers at stops known found. HasFound written (started_on size count faults honest newest moment left_since disk) stops known found) workers)
     → IfOk r (TwoHaveWorked size count faults honest newest may_leave moment left_since bytes disk)
-told-of size count faults honest newest may_leave moment left_since disk bytes written same (Ok ran) all =
-    subst (λ text. TwoHaveWorked size count faults honest newest may_leave moment left_since text disk ran) same (told size count faults honest newest may_leave moment left_since written disk ran all)
-told-of size count faults honest newest may_leave moment left_since disk bytes written same (Err fault) all = tt
+told-of size count faults honest newest may_leave moment left_since disk bytes written workers same two (Ok ran) all =
+    subst (λ text. TwoHaveWorked size count faults honest newest may_leave moment left_since text disk ran) same
+    (told size count faults honest newest may_leave moment left_since written disk ran
+    (subst (λ n. RanAll size count faults honest newest may_leave moment left_since (started_on size count faults honest newest moment left_since disk) (λ workers at stops known found. HasFound written (started_on size count faults honest newest moment left_since disk) stops known found) n ran) two all))
+told-of size count faults honest newest may_leave moment left_since disk bytes written workers same two (Err fault) all = tt

@@ -50,8 +50,6 @@ struct Asking;
 impl Worker<Sizes> for Asking {
     ghost use Rattle.jb_journal.specs.Client.{IsClient};
 
-    ghost answers = { λ asking workers at stopped answer. Unit {0} };
-
     fn work<'a, D: Disk, C: Clock, R: Wait + time::Clock, H: Origin, N: Ledger>(
         &self,
         client: &mut Client<'a, D, C, R, H, N>,

@@ -6,4 +6,6 @@ mod ends;
 #[cfg(test)]
 mod images;
 #[cfg(test)]
+mod telling;
+#[cfg(test)]
 mod workers;

@@ -17,7 +17,7 @@ use std::time;
 const JOURNAL: u32 = 33;
 
 /// A disk with a new journal.
-fn formatted(alloc: Global) -> Result<MemoryDisk, Fail> {
+pub(crate) fn formatted(alloc: Global) -> Result<MemoryDisk, Fail> {
     let mut disk = MemoryDisk::new(alloc, BlockSize::OneKib, 49)?;
     format(&mut disk, JOURNAL, 0, [0; 16], Width::Narrow)?;
     Ok(disk)
@@ -25,7 +25,7 @@ fn formatted(alloc: Global) -> Result<MemoryDisk, Fail> {
 
 /// The first byte of each of the first ten homes, once a crash has left the newest of all sectors and the journal is
 /// recovered.
-fn homes(alloc: Global, disk: &MemoryDisk) -> Result<[u8; 10], Fail> {
+pub(crate) fn homes(alloc: Global, disk: &MemoryDisk) -> Result<[u8; 10], Fail> {
     let mut disk = disk.crash(&[])?;
     recover(alloc, &mut disk)?;
     let mut found = [0; 10];
@@ -52,7 +52,8 @@ fn by(workers: usize) -> Options
     }
 }
 
-const CLOCK: FixedClock = FixedClock {
+/// The clock of all runs.
+pub(crate) const CLOCK: FixedClock = FixedClock {
     stamp: Stamp { sec: 0, nsec: 0 },
 };
 
@@ -72,8 +73,6 @@ struct Pairs {
 }
 
 impl Worker<Found> for Pairs {
-    ghost answers = { λ pairs workers at stopped answer. Unit {0} };
-
     fn work<'a, D: Disk, C: Clock, R: Wait + time::Clock, H: Origin, N: Ledger>(
         &self,
         client: &mut Client<'a, D, C, R, H, N>,
@@ -195,8 +194,6 @@ struct Long {
 }
 
 impl Worker<Taken> for Long {
-    ghost answers = { λ long workers at stopped answer. Unit {0} };
-
     fn work<'a, D: Disk, C: Clock, R: Wait + time::Clock, H: Origin, N: Ledger>(
         &self,
         client: &mut Client<'a, D, C, R, H, N>,

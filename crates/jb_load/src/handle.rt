@@ -11,7 +11,7 @@ ghost use Rattle.jb_load.specs.Running.{StopsOne};
 
 use crate::fault::HandleFault;
 use crate::words::put_words;
-use jb_desk::{Desk, Origin, Seat, StopFault};
+use jb_desk::{Desk, Origin, Seat, Sights, StopFault};
 use jb_disk::{Clock, Disk};
 use jb_handle::{Handle, Words};
 use std::sync::Wait;
@@ -22,6 +22,7 @@ use std::time;
 pub(crate) fn run_handle<D: Disk, C: Clock, R: Wait + time::Clock, H: Origin, N: Ledger>(
     rt: &R,
     desk: &Desk<D, C, H, N>,
+    seen: &mut Sights<D, H>,
     seat: Seat<H, N>,
     words: &Words,
 ) -> (Seat<H, N>, Result<u64, HandleFault>)
@@ -36,7 +37,7 @@ pub(crate) fn run_handle<D: Disk, C: Clock, R: Wait + time::Clock, H: Origin, N:
     // more than these are too many in any journal
     let credits = u32::try_from(words.len()).unwrap_or(u32::MAX);
     match desk.begin_waiting(rt, seat, credits) {
-        Ok(handle) => fill(rt, desk, handle, words),
+        Ok(handle) => fill(rt, desk, seen, handle, words),
         Err((seat, fault)) => (seat, Err(HandleFault::from(fault))),
     }
 }
@@ -45,6 +46,7 @@ pub(crate) fn run_handle<D: Disk, C: Clock, R: Wait + time::Clock, H: Origin, N:
 fn fill<D: Disk, C: Clock, R: Wait, H: Origin, N: Ledger>(
     rt: &R,
     desk: &Desk<D, C, H, N>,
+    seen: &mut Sights<D, H>,
     handle: Handle<Seat<H, N>>,
     words: &Words,
 ) -> (Seat<H, N>, Result<u64, HandleFault>)
@@ -60,7 +62,7 @@ fn fill<D: Disk, C: Clock, R: Wait, H: Origin, N: Ledger>(
 {
     let mut handle = handle;
     match put_words(&mut handle, words) {
-        Ok(()) => stop(rt, desk, handle),
+        Ok(()) => stop(rt, desk, seen, handle),
         Err(fault) => (desk.abandon(rt, handle), Err(HandleFault::from(fault))),
     }
 }
@@ -69,6 +71,7 @@ fn fill<D: Disk, C: Clock, R: Wait, H: Origin, N: Ledger>(
 fn stop<D: Disk, C: Clock, R: Wait, H: Origin, N: Ledger>(
     rt: &R,
     desk: &Desk<D, C, H, N>,
+    seen: &mut Sights<D, H>,
     handle: Handle<Seat<H, N>>,
 ) -> (Seat<H, N>, Result<u64, HandleFault>)
     requires desk { desk_of (holder handle) ≡ desk_id desk.now }
@@ -80,7 +83,7 @@ fn stop<D: Disk, C: Clock, R: Wait, H: Origin, N: Ledger>(
     ensures refused { OnErr result.1 (KeepsStops (holder handle) result.0) }
     ensures why { IfErr result.1 (λ fault. (shape : ShapeValue) (words : WordMap) → IsRefusedFor shape words fault) }
 {
-    match desk.stop(rt, handle) {
+    match desk.stop(rt, seen, handle) {
         Ok((seat, ticket)) => (seat, Ok(ticket)),
         Err(StopFault::Aborted(seat)) => (seat, Err(HandleFault::Aborted)),
         Err(StopFault::NotOpen(handle)) => (desk.abandon(rt, handle), Err(HandleFault::NotOpen)),

@@ -3,6 +3,7 @@ ghost use Rattle.jb_desk.specs.Desks.{shape_in};
 ghost use Rattle.jb_load.specs.Loads.{AnswersLoad, EndsCheckpoint, IsOpened, NotOpened};
 ghost use Rattle.jb_load.specs.Settled.{LoadedSince, LoadsSince, MayStop};
 ghost use Rattle.jb_desk.specs.History.{history_in};
+ghost use Rattle.jb_history.specs.History.{history_id};
 ghost use Rattle.jb_desk.specs.Since.{IsBegunOn, IsSince};
 ghost use Rattle.jb_deck.specs.Deck.{IsShapeOf};
 ghost use Rattle.jb_handle.specs.declared.shape.Shape.{Shape as ShapeValue};
@@ -20,6 +21,7 @@ use jb_deck::{Deck, OpenFault};
 use jb_desk::{Closed, Desk, Origin, Stops};
 use jb_disk::{Clock, Disk};
 use jb_handle::Shape;
+use jb_history::Opened;
 use jb_queue::QueueLines;
 use std::alloc::Global;
 use std::marker::Brand;
@@ -76,8 +78,11 @@ pub fn load_on<
         return Err(LoadFault::Memory);
     };
     let changes = Blank::new(PARTS);
+    let Ok(marks) = Opened::new(alloc) else {
+        return Err(LoadFault::Memory);
+    };
     load_open::<D, C, R, Brand, Brand>(
-        rt, alloc, handles, changes, deck, clock, shape, queue, options,
+        rt, alloc, handles, changes, marks, deck, clock, shape, queue, options,
     )
 }
 
@@ -98,7 +103,7 @@ fn open<D: Disk + Drop, H: Origin>(alloc: Global, disk: D) -> Result<Deck<D>, Op
 }
 
 /// Runs the handles of a queue at a desk over a journal that was just opened. The desk's ledgers are `handles`, with
-/// its history, and `changes`.
+/// its history, and `changes`; `marks` is the history of its commits.
 fn load_open<
     D: SharedDisk,
     C: SharedClock,
@@ -110,6 +115,7 @@ fn load_open<
     alloc: Global,
     handles: Stops,
     changes: Blank,
+    marks: Opened<Deck<D>>,
     deck: Deck<D>,
     clock: C,
     shape: Shape,
@@ -119,6 +125,7 @@ fn load_open<
     requires handles { (handles.tickets.name ≡ H.name) × (handles.tickets.parts ≡ H.parts) × (H.parts ≡ 2 ^ 61 + 1)
         × (history_in handles ≡ H.history) }
     requires changes { (changes.name ≡ N.name) × (changes.parts ≡ N.parts) × (N.parts ≡ 2 ^ 61 + 1) }
+    requires marks { history_id marks ≡ H.marks }
     requires deck { (deck.trail ≡ []) × (deck.aborted ≡ false) × (deck.shape ≡ shape) }
     requires begun { IsSince D.size D.count D.faults D.honest D.newest D.may_leave D.moment D.left_since H.begun deck }
     requires queue { (1 ≤ options.threads) × (options.threads ≤ 64) × MayStop H.begun (handles_of queue.now) }
@@ -127,7 +134,7 @@ fn load_open<
         D.left_since H.begun shape (handles_of queue.now) options.threads ended.0 ended.1) }
     ensures faults { IfErr result (λ fault. (fault ≡ OutOfMemory) ⊎ (fault ≡ Accounts)) }
 {
-    let Ok(desk) = Desk::<D, C, H, N>::start(alloc, handles, changes, deck, clock) else {
+    let Ok(desk) = Desk::<D, C, H, N>::start(alloc, handles, changes, marks, deck, clock) else {
         return Err(LoadFault::Memory);
     };
     load_at(rt, alloc, desk, shape, queue, options)
@@ -156,7 +163,8 @@ fn load_at<D: SharedDisk, C: SharedClock, R: Runtime, H: SharedOrigin, N: Shared
     let ran = ran?;
     let commit = ran.commit;
     let Gathered { lefts, refused } = room.gather(ran)?;
-    let Ok(closed) = desk.close(lefts) else {
+    let seen = desk.sights(rt);
+    let Ok(closed) = desk.close(lefts, seen) else {
         return Err(LoadFault::Accounts);
     };
     if closed.shape != shape {

@@ -11,7 +11,7 @@ ghost use Rattle.jb_queue.specs.QueueLines.{IsPlaced, handles_of};
 use crate::fault::HandleFault;
 use crate::handle::run_handle;
 use crate::loaded::Refused;
-use jb_desk::{Desk, Left, Origin, Seat};
+use jb_desk::{Desk, Left, Origin, Seat, Sights};
 use jb_disk::{Clock, Disk};
 use jb_queue::{HandleReader, QueueLines};
 use std::alloc::Global;
@@ -70,10 +70,11 @@ fn run_all<D: Disk, C: Clock, R: Wait + time::Clock, H: Origin, N: Ledger>(
     ensures counted { IsCounted result }
 {
     let (mut seat, mut refused) = (seat, None);
+    let mut seen = desk.sights(rt);
     let mut reader = queue.reader();
     let (mut next, mut passed) = (at, at);
     while next < queue.len() {
-        let (back, ran) = run_next(rt, alloc, desk, seat, &mut reader, passed);
+        let (back, ran) = run_next(rt, alloc, desk, &mut seen, seat, &mut reader, passed);
         seat = back;
         match ran {
             Ok(_ticket) => {
@@ -100,6 +101,7 @@ fn run_next<D: Disk, C: Clock, R: Wait + time::Clock, H: Origin, N: Ledger>(
     rt: &R,
     alloc: Global,
     desk: &Desk<D, C, H, N>,
+    seen: &mut Sights<D, H>,
     seat: Seat<H, N>,
     reader: &mut HandleReader<'_>,
     passed: usize,
@@ -113,7 +115,7 @@ fn run_next<D: Disk, C: Clock, R: Wait + time::Clock, H: Origin, N: Ledger>(
         → IsPlaced reader.new queue (at + passed + 1) }
 {
     match reader.read(alloc, passed) {
-        Ok(Some(words)) => run_handle(rt, desk, seat, &words),
+        Ok(Some(words)) => run_handle(rt, desk, seen, seat, &words),
         // a place that the queue has is never `None`
         Ok(None) | Err(_) => (seat, Err(HandleFault::Memory)),
     }

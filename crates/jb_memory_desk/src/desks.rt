@@ -1,6 +1,7 @@
 //! Desks over the small journal: how they start, give seats and are closed.
 ghost use Rattle.std.specs.Prelude.{◌≡◌, ◌+◌, ◌^◌, [], false, IfOk, IfErr};
 ghost use Rattle.jb_desk.specs.History.{history_in};
+ghost use Rattle.jb_history.specs.History.{history_id};
 
 use jb_block::{BlockSize, Stamp, Width, get32};
 use jb_deck::Deck;
@@ -8,6 +9,7 @@ use jb_desk::{Closed, Desk, Left, Origin, Seat, Stops};
 use jb_disk::{Disk, FixedClock, MemoryDisk};
 use jb_front::format;
 use jb_handle::Shape;
+use jb_history::Opened;
 use jb_recover::recover;
 use jb_refusing::{Met, Wrong, ample, must, refusing};
 use std::alloc::Global;
@@ -74,24 +76,31 @@ pub fn stops_row<R: Files<File = File> + AllocGlobal>(rt: &R) -> Result<Met, Wro
 }
 
 /// What a desk is started with, when it is handed back.
-type Parts = (Stops, Blank, Deck<MemoryDisk>, FixedClock);
+type Parts = (
+    Stops,
+    Blank,
+    Opened<Deck<MemoryDisk>>,
+    Deck<MemoryDisk>,
+    FixedClock,
+);
 
 /// Starts a desk over a journal, of which nothing is known at the start.
 fn start<H: Origin, N: Ledger>(
     alloc: Global,
     handles: Stops,
     changes: Blank,
+    marks: Opened<Deck<MemoryDisk>>,
     deck: Deck<MemoryDisk>,
 ) -> Result<Small<H, N>, Parts>
     requires blind { H.begun.honest → ⊥ }
     requires handles { (handles.tickets.name ≡ H.name) × (handles.tickets.parts ≡ H.parts) × (H.parts ≡ 2 ^ 61 + 1) }
-    requires history { history_in handles ≡ H.history }
+    requires histories { (history_in handles ≡ H.history) × (history_id marks ≡ H.marks) }
     requires changes { (changes.name ≡ N.name) × (changes.parts ≡ N.parts) × (N.parts ≡ 2 ^ 61 + 1) }
     requires fresh { deck.trail ≡ [] }
     requires running { deck.aborted ≡ false }
-    ensures back { IfErr result (λ back. (back.0 ≡ handles) × (back.1 ≡ changes) × (back.2 ≡ deck)) }
+    ensures back { IfErr result (λ back. (back.0 ≡ handles) × (back.1 ≡ changes) × (back.2 ≡ marks) × (back.3 ≡ deck)) }
 {
-    Desk::start(alloc, handles, changes, deck, CLOCK)
+    Desk::start(alloc, handles, changes, marks, deck, CLOCK)
 }
 
 /// A desk over a new journal.
@@ -99,13 +108,14 @@ pub fn started<H: Origin, N: Ledger>(
     alloc: Global,
     handles: Stops,
     changes: Blank,
+    marks: Opened<Deck<MemoryDisk>>,
 ) -> Result<Small<H, N>, Wrong>
     requires blind { H.begun.honest → ⊥ }
     requires handles { (handles.tickets.name ≡ H.name) × (handles.tickets.parts ≡ H.parts) × (H.parts ≡ 2 ^ 61 + 1) }
-    requires history { history_in handles ≡ H.history }
+    requires histories { (history_in handles ≡ H.history) × (history_id marks ≡ H.marks) }
     requires changes { (changes.name ≡ N.name) × (changes.parts ≡ N.parts) × (N.parts ≡ 2 ^ 61 + 1) }
 {
-    match start(alloc, handles, changes, opened(alloc)?) {
+    match start(alloc, handles, changes, marks, opened(alloc)?) {
         Ok(desk) => Ok(desk),
         Err(_) => Err(Wrong::Inputs),
     }
@@ -117,22 +127,25 @@ pub fn start_row<R: Files<File = File> + Wait, H: Origin, N: Ledger>(
     alloc: Global,
     handles: Stops,
     changes: Blank,
+    marks: Opened<Deck<MemoryDisk>>,
 ) -> Result<Met, Wrong>
     requires blind { H.begun.honest → ⊥ }
     requires handles { (handles.tickets.name ≡ H.name) × (handles.tickets.parts ≡ H.parts) × (H.parts ≡ 2 ^ 61 + 1) }
-    requires history { history_in handles ≡ H.history }
+    requires histories { (history_in handles ≡ H.history) × (history_id marks ≡ H.marks) }
     requires changes { (changes.name ≡ N.name) × (changes.parts ≡ N.parts) × (N.parts ≡ 2 ^ 61 + 1) }
 {
     let deck = opened(alloc)?;
     refusing(rt);
-    let first = start::<H, N>(alloc, handles, changes, deck);
+    let first = start::<H, N>(alloc, handles, changes, marks, deck);
     ample(rt);
     let (met, desk) = match first {
         Ok(desk) => (Met::Ample, desk),
-        Err((handles, changes, deck, _)) => match start::<H, N>(alloc, handles, changes, deck) {
-            Ok(desk) => (Met::Memory, desk),
-            Err(_) => return Err(Wrong::Answer),
-        },
+        Err((handles, changes, marks, deck, _)) => {
+            match start::<H, N>(alloc, handles, changes, marks, deck) {
+                Ok(desk) => (Met::Memory, desk),
+                Err(_) => return Err(Wrong::Answer),
+            }
+        }
     };
     let Ok(seat) = desk.seat(rt) else {
         return Err(Wrong::Answer);
@@ -174,8 +187,9 @@ pub fn close_row<R: Files<File = File> + Wait, H: Origin, N: Ledger>(
     let mut lefts = Vec::new(alloc);
     lefts.reserve(1)?;
     lefts.push_reserved(left);
+    let seen = desk.sights(rt);
     refusing(rt);
-    let first = desk.close(lefts);
+    let first = desk.close(lefts, seen);
     ample(rt);
     match first {
         Ok(closed) => {
@@ -197,11 +211,12 @@ pub fn sums<R: Wait, H: Origin, N: Ledger>(
 {
     let left = desk.leave(rt, seat);
     let lefts = Vec::new(alloc);
-    sums_with(alloc, desk, lefts, left)
+    sums_with(rt, alloc, desk, lefts, left)
 }
 
 /// Closes a desk with what its seats left.
-pub fn sums_with<H: Origin, N: Ledger>(
+pub fn sums_with<R: Wait, H: Origin, N: Ledger>(
+    rt: &R,
     alloc: Global,
     desk: Small<H, N>,
     lefts: Vec<Left<H, N>>,
@@ -212,7 +227,8 @@ pub fn sums_with<H: Origin, N: Ledger>(
     let mut lefts = lefts;
     lefts.reserve(1)?;
     lefts.push_reserved(last);
-    match desk.close(lefts) {
+    let seen = desk.sights(rt);
+    match desk.close(lefts, seen) {
         Ok(closed) => sums_of(alloc, closed),
         Err(_) => Err(Wrong::Stands),
     }

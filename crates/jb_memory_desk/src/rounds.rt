@@ -25,7 +25,7 @@ fn stopped<R: Wait, H: Origin, N: Ledger>(rt: &R, desk: &Small<H, N>) -> Option<
     let Some(handle) = written(rt, desk, 1) else {
         return None;
     };
-    match desk.stop(rt, handle) {
+    match desk.stop(rt, &mut desk.sights(rt), handle) {
         Ok((seat, _)) => Some(desk.committer(seat)),
         Err(StopFault::Aborted(seat)) => {
             let _left = desk.leave(rt, seat);
@@ -227,7 +227,7 @@ pub fn take_trail_row<R: Files<File = File> + Wait, H: Origin, N: Ledger>(
         [entry] => must(entry.past == 1 && entry.number == 2, Wrong::Answer)?,
         _ => return Err(Wrong::Answer),
     }
-    let found = sums_with(alloc, desk, lefts, last)?;
+    let found = sums_with(rt, alloc, desk, lefts, last)?;
     must(found == (2, 2, 1, WORD), Wrong::Stands)?;
     Ok(met)
 }

@@ -1,11 +1,15 @@
 //! The rows by their names.
 ghost use Rattle.std.specs.Prelude.{◌≡◌, ◌+◌, ◌^◌};
 ghost use Rattle.jb_desk.specs.History.{history_in};
+ghost use Rattle.jb_history.specs.History.{history_id};
 ghost use Rattle.jb_handle.specs.Word.{WordMap};
 
 use crate::desks::{PARTS, started};
 use crate::{books, desks, loads, rounds, stopping};
+use jb_deck::Deck;
 use jb_desk::{Origin, Stops};
+use jb_disk::MemoryDisk;
+use jb_history::Opened;
 use jb_refusing::{Met, Wrong};
 use std::alloc::Global;
 use std::fs::File;
@@ -74,7 +78,8 @@ fn board_row<R: Files<File = File> + AllocGlobal>(rt: &R) -> Result<Met, Wrong> 
 /// Starts a desk where memory may be refused.
 fn start_row<R: Files<File = File> + AllocGlobal + Wait>(rt: &R) -> Result<Met, Wrong> {
     let (handles, changes) = (Stops::new(rt.alloc(), PARTS)?, Blank::new(PARTS));
-    desks::start_row::<R, Brand, Brand>(rt, rt.alloc(), handles, changes)
+    let marks = Opened::new(rt.alloc())?;
+    desks::start_row::<R, Brand, Brand>(rt, rt.alloc(), handles, changes, marks)
 }
 
 /// Runs a row of a desk.
@@ -83,7 +88,8 @@ fn desk_row<R: Files<File = File> + AllocGlobal + Threads + Wait + Sync>(
     row: OfDesk,
 ) -> Result<Met, Wrong> {
     let (handles, changes) = (Stops::new(rt.alloc(), PARTS)?, Blank::new(PARTS));
-    run_row::<R, Brand, Brand>(rt, rt.alloc(), row, handles, changes)
+    let marks = Opened::new(rt.alloc())?;
+    run_row::<R, Brand, Brand>(rt, rt.alloc(), row, handles, changes, marks)
 }
 
 /// Starts a desk and runs a row of it.
@@ -91,14 +97,21 @@ fn run_row<
     R: Files<File = File> + Threads + Wait + Sync,
     H: Origin + Send + Sync,
     N: Ledger + Send + Sync,
->(rt: &R, alloc: Global, row: OfDesk, handles: Stops, changes: Blank) -> Result<Met, Wrong>
+>(
+    rt: &R,
+    alloc: Global,
+    row: OfDesk,
+    handles: Stops,
+    changes: Blank,
+    marks: Opened<Deck<MemoryDisk>>,
+) -> Result<Met, Wrong>
     requires blind { H.begun.honest → ⊥ }
     requires any { (words : WordMap) → H.begun.stops words }
     requires handles { (handles.tickets.name ≡ H.name) × (handles.tickets.parts ≡ H.parts) × (H.parts ≡ 2 ^ 61 + 1) }
-    requires history { history_in handles ≡ H.history }
+    requires histories { (history_in handles ≡ H.history) × (history_id marks ≡ H.marks) }
     requires changes { (changes.name ≡ N.name) × (changes.parts ≡ N.parts) × (N.parts ≡ 2 ^ 61 + 1) }
 {
-    let desk = started::<H, N>(alloc, handles, changes)?;
+    let desk = started::<H, N>(alloc, handles, changes, marks)?;
     match row {
         OfDesk::Seat => desks::seat_row(rt, alloc, desk),
         OfDesk::Close => desks::close_row(rt, alloc, desk),

@@ -96,7 +96,7 @@ fn stop_again<R: Wait, H: Origin, N: Ledger>(
     requires desk { desk_of (holder handle) ≡ desk_id desk.now }
     ensures { desk_of result.0 ≡ desk_id desk.now }
 {
-    let (seat, ticket) = match desk.stop(rt, handle) {
+    let (seat, ticket) = match desk.stop(rt, &mut desk.sights(rt), handle) {
         Ok((seat, ticket)) => (seat, Some(ticket)),
         Err(StopFault::Aborted(seat)) => (seat, None),
         Err(StopFault::NotOpen(handle)) => (desk.abandon(rt, handle), None),
@@ -117,8 +117,9 @@ pub fn stop_row<R: Files<File = File> + Wait, H: Origin, N: Ledger>(
     let Some(handle) = written(rt, &desk, 1) else {
         return Err(Wrong::Inputs);
     };
+    let mut seen = desk.sights(rt);
     refusing(rt);
-    let first = desk.stop(rt, handle);
+    let first = desk.stop(rt, &mut seen, handle);
     ample(rt);
     let (seat, stop) = match first {
         Ok((seat, ticket)) => (
@@ -162,7 +163,7 @@ fn stop_from<R: Wait, H: Origin, N: Ledger>(
     let Some(handle) = place.take() else {
         return None;
     };
-    let (seat, stop) = match desk.stop(rt, handle) {
+    let (seat, stop) = match desk.stop(rt, &mut desk.sights(rt), handle) {
         Ok((seat, ticket)) => (
             seat,
             Stop {
@@ -235,7 +236,7 @@ pub fn stop_beside_stop_row<
     let mut lefts = Vec::new(alloc);
     lefts.reserve(1)?;
     lefts.push_reserved(one);
-    let found = sums_with(alloc, desk, lefts, other)?;
+    let found = sums_with(rt, alloc, desk, lefts, other)?;
     let tickets = (first.ticket, second.ticket);
     must(
         tickets == (Some(0), Some(1)) || tickets == (Some(1), Some(0)),

@@ -2,6 +2,7 @@
 ghost use Rattle.std.specs.Prelude.{◌≡◌, ◌+◌, ◌^◌, [], false, IfSome};
 ghost use Rattle.jb_desk.specs.Desks.{desk_id};
 ghost use Rattle.jb_desk.specs.History.{history_in};
+ghost use Rattle.jb_history.specs.History.{history_id};
 ghost use Rattle.jb_desk.specs.Rounds.{seat_of};
 ghost use Rattle.jb_desk.specs.Seats.{desk_of};
 ghost use Rattle.jb_handle.specs.Handle.{holder};
@@ -17,6 +18,7 @@ use jb_desk::{
 };
 use jb_disk::{Disk, FixedClock, MemoryDisk};
 use jb_handle::Handle;
+use jb_history::Opened;
 use std::alloc::Global;
 use std::process::Abort;
 use std::sync::Wait;
@@ -40,6 +42,11 @@ pub fn stops(rt: &impl Abort, alloc: Global) -> Stops
     Stops::new(alloc, PARTS).expect(rt, "memory")
 }
 
+/// A new history of the journal of a desk.
+pub fn marks(rt: &impl Abort, alloc: Global) -> Opened<Deck<MemoryDisk>> {
+    Opened::new(alloc).expect(rt, "memory")
+}
+
 /// The journal on a disk.
 fn opened(alloc: Global, disk: MemoryDisk) -> Option<Deck<MemoryDisk>>
     ensures { IfSome result (λ deck. (deck.trail ≡ []) × (deck.aborted ≡ false)) }
@@ -53,14 +60,15 @@ fn started<H: Origin, N: Ledger>(
     alloc: Global,
     handles: Stops,
     changes: Blank,
+    marks: Opened<Deck<MemoryDisk>>,
 ) -> Small<H, N>
     requires blind { H.begun.honest → ⊥ }
     requires handles { (handles.tickets.name ≡ H.name) × (handles.tickets.parts ≡ H.parts) × (H.parts ≡ 2 ^ 61 + 1) }
-    requires history { history_in handles ≡ H.history }
+    requires histories { (history_in handles ≡ H.history) × (history_id marks ≡ H.marks) }
     requires changes { (changes.name ≡ N.name) × (changes.parts ≡ N.parts) × (N.parts ≡ 2 ^ 61 + 1) }
 {
     let deck = opened(alloc, formatted(rt, alloc)).expect(rt, "open");
-    start(rt, alloc, handles, changes, deck)
+    start(rt, alloc, handles, changes, marks, deck)
 }
 
 /// A desk over a journal that has settled nothing.
@@ -69,16 +77,17 @@ fn start<H: Origin, N: Ledger>(
     alloc: Global,
     handles: Stops,
     changes: Blank,
+    marks: Opened<Deck<MemoryDisk>>,
     deck: Deck<MemoryDisk>,
 ) -> Small<H, N>
     requires blind { H.begun.honest → ⊥ }
     requires handles { (handles.tickets.name ≡ H.name) × (handles.tickets.parts ≡ H.parts) × (H.parts ≡ 2 ^ 61 + 1) }
-    requires history { history_in handles ≡ H.history }
+    requires histories { (history_in handles ≡ H.history) × (history_id marks ≡ H.marks) }
     requires changes { (changes.name ≡ N.name) × (changes.parts ≡ N.parts) × (N.parts ≡ 2 ^ 61 + 1) }
     requires fresh { deck.trail ≡ [] }
     requires running { deck.aborted ≡ false }
 {
-    Desk::start(alloc, handles, changes, deck, CLOCK)
+    Desk::start(alloc, handles, changes, marks, deck, CLOCK)
         .ok()
         .expect(rt, "start")
 }
@@ -132,7 +141,7 @@ fn stop<R: Wait, H: Origin, N: Ledger>(
     requires desk { desk_of (holder handle) ≡ desk_id desk.now }
     ensures { desk_of result.0 ≡ desk_id desk.now }
 {
-    match desk.stop(rt, handle) {
+    match desk.stop(rt, &mut desk.sights(rt), handle) {
         Ok((seat, ticket)) => (seat, Some(ticket)),
         Err(StopFault::Aborted(seat)) => (seat, None),
         Err(StopFault::NotOpen(handle) | StopFault::Memory(handle)) => {
@@ -191,10 +200,11 @@ fn check_seen<R: Abort + Wait, H: Origin, N: Ledger>(
         stopped: 1,
     };
     check(rt, front == all, "front");
-    check(rt, desk.wait(rt, seat, 0) == Ok(2), "wait");
+    let mut seen = desk.sights(rt);
+    check(rt, desk.wait(rt, seat, &mut seen, 0) == Ok(2), "wait");
     check(
         rt,
-        desk.wait(rt, seat, 1) == Err(WaitFault::Unknown),
+        desk.wait(rt, seat, &mut seen, 1) == Err(WaitFault::Unknown),
         "Unknown",
     );
     let home = Checked {
@@ -236,18 +246,19 @@ fn is_shut<R: Wait, H: Origin, N: Ledger>(rt: &R, desk: &Small<H, N>) -> bool {
 }
 
 /// A desk is closed, at first without what its seat left.
-fn check_closed<H: Origin, N: Ledger>(
-    rt: &impl Abort,
+fn check_closed<R: Abort + Wait, H: Origin, N: Ledger>(
+    rt: &R,
     alloc: Global,
     desk: Small<H, N>,
     left: Left<H, N>,
 )
     requires parts { (H.parts ≡ 2 ^ 61 + 1) × (N.parts ≡ 2 ^ 61 + 1) }
 {
-    match desk.close(Vec::new(alloc)) {
-        Err(CloseFault::SeatsOut(desk, mut lefts)) => {
+    let seen = desk.sights(rt);
+    match desk.close(Vec::new(alloc), seen) {
+        Err(CloseFault::SeatsOut(desk, mut lefts, seen)) => {
             lefts.push(left).expect(rt, "memory");
-            let closed = desk.close(lefts).ok().expect(rt, "close");
+            let closed = desk.close(lefts, seen).ok().expect(rt, "close");
             check_counts(rt, &closed)
         }
         _ => check(rt, false, "SeatsOut"),
@@ -275,14 +286,15 @@ pub fn check_desks<R: Abort + Wait, H: Origin, N: Ledger>(
     alloc: Global,
     handles: Stops,
     changes: Blank,
+    marks: Opened<Deck<MemoryDisk>>,
 )
     requires blind { H.begun.honest → ⊥ }
     requires any { (words : WordMap) → H.begun.stops words }
     requires handles { (handles.tickets.name ≡ H.name) × (handles.tickets.parts ≡ H.parts) × (H.parts ≡ 2 ^ 61 + 1) }
-    requires history { history_in handles ≡ H.history }
+    requires histories { (history_in handles ≡ H.history) × (history_id marks ≡ H.marks) }
     requires changes { (changes.name ≡ N.name) × (changes.parts ≡ N.parts) × (N.parts ≡ 2 ^ 61 + 1) }
 {
-    let desk: Small<H, N> = started(rt, alloc, handles, changes);
+    let desk: Small<H, N> = started(rt, alloc, handles, changes, marks);
     let seat = desk.seat(rt).expect(rt, "seat");
     let seat = check_begin(rt, &desk, seat);
     let (seat, ticket) = stopped(rt, &desk, seat);

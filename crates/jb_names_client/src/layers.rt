@@ -65,7 +65,8 @@ fn boards_by_their_names(rt: HostRuntime) {
 fn desks_by_their_names(rt: HostRuntime) {
     let handles = desks::stops(&rt, rt.alloc());
     let changes = Blank::new(desks::PARTS);
-    check_desks::<HostRuntime, Brand, Brand>(&rt, rt.alloc(), handles, changes)
+    let marks = desks::marks(&rt, rt.alloc());
+    check_desks::<HostRuntime, Brand, Brand>(&rt, rt.alloc(), handles, changes, marks)
 }
 
 #[test]

@@ -23,7 +23,7 @@ returns-clause-since g c =
     let trail = c.in-Ok.closed.trail.items in
     let ran = subst (λ r. IfOk r (HasRun {H = g.row.H.Denot} {N = g.row.N.Denot} {O = g.H.Origin} {P = g.H.Place} (shape_in c.args.desk) queue threads)) c.in_ok-ran.was c.run-ran.ensures.ran in
     let gathered = c.in_ok-lefts.ensures.gathered (shape_in c.args.desk) queue threads ran in
-    let ends = c.in-Ok.ensures.stops in
+    let ends = c.in-Ok.ensures.stops.ends in
     let counts = c.count_up-loaded.ensures.counts in
     let tiles = c.in-Ok.ensures.trail in
     let begins : start_of trail ≡ 0 = search rules in

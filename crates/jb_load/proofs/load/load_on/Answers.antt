@@ -13,6 +13,15 @@ returns-in_default-clause-answers g c = (
   ),
 )
 
+pub returns-in_default-new-clause-answers : goal.returns-in_default-new-clause-answers
+returns-in_default-new-clause-answers g c = (
+  omega arith,
+  (
+    c.shape-shape.result,
+    c.in-Ok.ensures.opened c.shape-shape.result c.shape-shape.ensures.journal,
+  ),
+)
+
 pub returns-clause-answers : goal.returns-clause-answers
 returns-clause-answers g c =
     let same : bytes_of c.args.queue.now.bs ≡ g.D.Disk.size c.args.disk = omega arith in

@@ -1,0 +1,9 @@
+use Rattle.std.proofs.Common.{rules, inr, ◌∙◌}
+use Rattle.jb_journal.specs.Client.{client_stops}
+use Rattle.example_store.specs.Keeping.{MayHaveStopped}
+use Rattle.example_store.proofs.store.write.Goals as goal
+
+pub returns-in_err-wait-clause-puts : goal.returns-in_err-wait-clause-puts
+returns-in_err-wait-clause-puts g c =
+    let more : MayHaveStopped (client_stops c.args.client.now) (client_stops c.wait.new.self) = inr ((_, _), c.wait.ensures.kept ∙ c.in_ok-ticket.ensures.changed.stopped) in
+    search (rules, more)

@@ -1,0 +1,64 @@
+-- What the store keeps of what it has acknowledged.
+use Rattle.std.specs.Prelude.{◌≡◌, ◌⊎◌, ℕ, ◌≤◌, All, List, [], ◌∷◌, ◌++◌, length, Some, Result, Ok, Err, slice_get}
+use Rattle.jb_journal.specs.Client.{one_block}
+use Rattle.jb_journal.specs.Notes.{Note, AreInNotes, IsInNotes, Known, Stop}
+use Rattle.jb_journal.specs.Running.{RanAll}
+use Rattle.jb_journal.specs.Names.{Image}
+use Rattle.jb_journal.specs.Starting.{started_on}
+use Rattle.jb_journal.specs.Staying.{HandleStays}
+use Rattle.jb_journal.specs.declared.ran.Ran.{Ran}
+use Rattle.example_store.specs.declared.failed.Failed.{Failed}
+
+-- one handle more, which leaves these bytes in this home and touches no other, and is known to be committed
+pub record IsPut (home : ℕ) (bytes : List ℕ) (old new : List Stop) (notes : List Note) : Type 0 where
+  pub ticket : ℕ
+  pub number : ℕ
+  pub stopped : new ≡ old ++ (ticket, one_block home bytes) ∷ []
+  pub noted : IsInNotes notes ticket number
+
+-- a handle more may have stopped, of which it is not known whether it is committed
+abbrev pub MayHaveStopped : List Stop → List Stop → Type 0
+MayHaveStopped old new = (new ≡ old) ⊎ ((stop : Stop) × (new ≡ old ++ stop ∷ []))
+
+-- what the store answers to a block that is to be put into this home
+abbrev pub PutsBlock : {E : Type 0} → ℕ → List ℕ → List Stop → List Stop → List Note → Result Unit E → Type 0
+PutsBlock home bytes old new notes (Ok unit) = IsPut home bytes old new notes
+PutsBlock home bytes old new notes (Err fault) = MayHaveStopped old new
+
+-- the same of a block that the store makes
+abbrev pub PutsHome : {E : Type 0} → ℕ → List Stop → List Stop → List Note → Result Unit E → Type 0
+PutsHome home old new notes (Ok unit) = (bytes : List ℕ) × IsPut home bytes old new notes
+PutsHome home old new notes (Err fault) = MayHaveStopped old new
+
+-- these handles are known to be committed, but the last one at most
+pub record AreInNotesButOne (notes : List Note) (stops : List Stop) : Type 0 where
+  pub acknowledged : List Stop
+  pub last : List Stop
+  pub are : stops ≡ acknowledged ++ last
+  pub one : length last ≤ 1
+  pub noted : AreInNotes notes acknowledged
+
+-- what the store has acknowledged of the handles that it has stopped: each of them, or after a fault all but the last one at most
+abbrev pub Acknowledges : {E : Type 0} → List Stop → List Note → Result Unit E → Type 0
+Acknowledges stops notes (Ok unit) = AreInNotes notes stops
+Acknowledges stops notes (Err fault) = AreInNotesButOne notes stops
+
+-- what is left of the handles that were stopped and not acknowledged: none, or after a fault one at most
+abbrev pub IsLast : Result Unit Failed → List Stop → Type 0
+IsLast (Ok unit) last = last ≡ []
+IsLast (Err failed) last = length last ≤ 1
+
+-- What the store has acknowledged stays: of the one worker that was run, each handle that it has stopped and acknowledged
+pub record Keeps {D : Type 0} (size count faults : D → ℕ) (honest : D → Type 0) (newest : D → Image) (may_leave : D → Image → Type 0) (moment : D → ℕ) (left_since : D → ℕ → Image → Type 0) (disk : D) (ran : Ran (Result Unit Failed) D) : Type 0 where
+  pub all : RanAll size count faults honest newest may_leave moment left_since (started_on size count faults honest newest moment left_since disk) (λ workers at stops known answer. Acknowledges stops known.notes answer) 1 ran
+  pub answer : Result Unit Failed
+  pub answered : ran.answers.items ≡ answer ∷ []
+  pub stops : List Stop
+  pub stopped : all.stopped ≡ stops ∷ []
+  pub knew : Known
+  pub known : all.known ≡ knew ∷ []
+  pub acknowledged : List Stop
+  pub last : List Stop
+  pub are : stops ≡ acknowledged ++ last
+  pub few : IsLast answer last
+  pub stay : All (HandleStays size count faults honest newest may_leave moment left_since (started_on size count faults honest newest moment left_since disk) (λ workers at stops known answer. Acknowledges stops known.notes answer) 1 ran all knew.notes) acknowledged
