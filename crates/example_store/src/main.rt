@@ -99,6 +99,7 @@ fn main(rt: HostRuntime) -> ExitCode {
             let serving = Serving {
                 commands,
                 out: Mutex::new(out),
+                alloc: rt.alloc(),
             };
             serve_on(&rt, words.nth(1), &serving)
         }

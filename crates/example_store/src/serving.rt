@@ -3,6 +3,7 @@ use crate::command::Command;
 use crate::failed::Failed;
 use crate::store::{delete, get, put};
 use jb_journal::{Client, Clock, Disk, Origin, Worker};
+use std::alloc::{AllocError, Global};
 use std::io::Write;
 use std::rt::Stdout;
 use std::sync::ledger::Ledger;
@@ -16,6 +17,8 @@ pub struct Serving {
     pub commands: Vec<Command>,
     /// Under a lock of its own: that of standard output keeps no other thread out.
     pub out: Mutex<Stdout>,
+    /// What its lines are made with.
+    pub alloc: Global,
 }
 
 impl Worker<Result<(), Failed>> for Serving {
@@ -62,17 +65,24 @@ impl Serving {
         match command {
             Command::Put { key, value } => {
                 put(client, key, value)?;
-                writeln!(*self.out.lock(rt), "put {key}")?;
+                self.say(rt, format!(in self.alloc; "put {key}\n"))?;
             }
             Command::Get { key } => match get(client, key)? {
-                Some(value) => writeln!(*self.out.lock(rt), "{key} has {value}")?,
-                None => writeln!(*self.out.lock(rt), "{key} has nothing")?,
+                Some(value) => self.say(rt, format!(in self.alloc; "{key} has {value}\n"))?,
+                None => self.say(rt, format!(in self.alloc; "{key} has nothing\n"))?,
             },
             Command::Delete { key } => {
                 delete(client, key)?;
-                writeln!(*self.out.lock(rt), "deleted {key}")?;
+                self.say(rt, format!(in self.alloc; "deleted {key}\n"))?;
             }
         }
+        Ok(())
+    }
+
+    /// Writes a line by one call: a program that is killed leaves no part of a line.
+    fn say<R: Wait>(&self, rt: &R, line: Result<String, AllocError>) -> Result<(), Failed> {
+        let line = line?;
+        self.out.lock(rt).write_all(line.as_bytes())?;
         Ok(())
     }
 }

@@ -11,13 +11,13 @@ returns-in_err-put-in-Put-clause-acknowledged g c =
     but_one (client_known c.args.client.now) (client_known c.put.new.client) _ _ c.put.ensures.begins c.requires.noted c.in_err-put-in-Put.ensures.puts in
     search (rules, one)
 
-pub returns-in_err-writeln-in-Put-clause-acknowledged : goal.returns-in_err-writeln-in-Put-clause-acknowledged
-returns-in_err-writeln-in-Put-clause-acknowledged g c =
+pub returns-in_err-say-in-Put-clause-acknowledged : goal.returns-in_err-say-in-Put-clause-acknowledged
+returns-in_err-say-in-Put-clause-acknowledged g c =
     ack (client_known c.put.new.client) _ _
     (put_noted _ c.in_ok-put-in-Put.ensures.puts.0 (client_known c.args.client.now) (client_known c.put.new.client) _ _ c.put.ensures.begins c.requires.noted c.in_ok-put-in-Put.ensures.puts.1)
 
-pub returns-in_ok-writeln-in-Put-clause-acknowledged : goal.returns-in_ok-writeln-in-Put-clause-acknowledged
-returns-in_ok-writeln-in-Put-clause-acknowledged g c =
+pub returns-in_ok-say-in-Put-clause-acknowledged : goal.returns-in_ok-say-in-Put-clause-acknowledged
+returns-in_ok-say-in-Put-clause-acknowledged g c =
     put_noted _ c.in_ok-put-in-Put.ensures.puts.0 (client_known c.args.client.now) (client_known c.put.new.client) _ _ c.put.ensures.begins c.requires.noted c.in_ok-put-in-Put.ensures.puts.1
 
 pub returns-in_err-delete-in-Delete-clause-acknowledged : goal.returns-in_err-delete-in-Delete-clause-acknowledged
@@ -26,26 +26,26 @@ returns-in_err-delete-in-Delete-clause-acknowledged g c =
     but_one (client_known c.args.client.now) (client_known c.delete.new.client) _ _ c.delete.ensures.begins c.requires.noted c.in_err-delete-in-Delete.ensures.puts in
     search (rules, one)
 
-pub returns-in_err-writeln-in-Delete-clause-acknowledged : goal.returns-in_err-writeln-in-Delete-clause-acknowledged
-returns-in_err-writeln-in-Delete-clause-acknowledged g c =
+pub returns-in_err-say-in-Delete-clause-acknowledged : goal.returns-in_err-say-in-Delete-clause-acknowledged
+returns-in_err-say-in-Delete-clause-acknowledged g c =
     ack (client_known c.delete.new.client) _ _
     (put_noted _ c.in_ok-delete-in-Delete.ensures.puts.0 (client_known c.args.client.now) (client_known c.delete.new.client) _ _ c.delete.ensures.begins c.requires.noted c.in_ok-delete-in-Delete.ensures.puts.1)
 
-pub returns-in_ok-writeln-in-Delete-clause-acknowledged : goal.returns-in_ok-writeln-in-Delete-clause-acknowledged
-returns-in_ok-writeln-in-Delete-clause-acknowledged g c =
+pub returns-in_ok-say-in-Delete-clause-acknowledged : goal.returns-in_ok-say-in-Delete-clause-acknowledged
+returns-in_ok-say-in-Delete-clause-acknowledged g c =
     put_noted _ c.in_ok-delete-in-Delete.ensures.puts.0 (client_known c.args.client.now) (client_known c.delete.new.client) _ _ c.delete.ensures.begins c.requires.noted c.in_ok-delete-in-Delete.ensures.puts.1
 
 pub returns-in_err-value-in-Get-clause-acknowledged : goal.returns-in_err-value-in-Get-clause-acknowledged
 returns-in_err-value-in-Get-clause-acknowledged g c = ack (client_known c.get.new.client) _ _ (same_noted (client_known c.args.client.now) (client_known c.get.new.client) _ _ c.get.ensures.begins c.requires.noted c.get.ensures.kept)
 
-pub returns-in_err-writeln-in-Some-clause-acknowledged : goal.returns-in_err-writeln-in-Some-clause-acknowledged
-returns-in_err-writeln-in-Some-clause-acknowledged g c = ack (client_known c.get.new.client) _ _ (same_noted (client_known c.args.client.now) (client_known c.get.new.client) _ _ c.get.ensures.begins c.requires.noted c.get.ensures.kept)
+pub returns-in_err-say-in-Some-clause-acknowledged : goal.returns-in_err-say-in-Some-clause-acknowledged
+returns-in_err-say-in-Some-clause-acknowledged g c = ack (client_known c.get.new.client) _ _ (same_noted (client_known c.args.client.now) (client_known c.get.new.client) _ _ c.get.ensures.begins c.requires.noted c.get.ensures.kept)
 
-pub returns-in_err-writeln-in-None-clause-acknowledged : goal.returns-in_err-writeln-in-None-clause-acknowledged
-returns-in_err-writeln-in-None-clause-acknowledged g c = ack (client_known c.get.new.client) _ _ (same_noted (client_known c.args.client.now) (client_known c.get.new.client) _ _ c.get.ensures.begins c.requires.noted c.get.ensures.kept)
+pub returns-in_err-say-in-None-clause-acknowledged : goal.returns-in_err-say-in-None-clause-acknowledged
+returns-in_err-say-in-None-clause-acknowledged g c = ack (client_known c.get.new.client) _ _ (same_noted (client_known c.args.client.now) (client_known c.get.new.client) _ _ c.get.ensures.begins c.requires.noted c.get.ensures.kept)
 
-pub returns-in_ok-writeln-in-Some-clause-acknowledged : goal.returns-in_ok-writeln-in-Some-clause-acknowledged
-returns-in_ok-writeln-in-Some-clause-acknowledged g c = same_noted (client_known c.args.client.now) (client_known c.get.new.client) _ _ c.get.ensures.begins c.requires.noted c.get.ensures.kept
+pub returns-in_ok-say-in-Some-clause-acknowledged : goal.returns-in_ok-say-in-Some-clause-acknowledged
+returns-in_ok-say-in-Some-clause-acknowledged g c = same_noted (client_known c.args.client.now) (client_known c.get.new.client) _ _ c.get.ensures.begins c.requires.noted c.get.ensures.kept
 
-pub returns-in_ok-writeln-in-None-clause-acknowledged : goal.returns-in_ok-writeln-in-None-clause-acknowledged
-returns-in_ok-writeln-in-None-clause-acknowledged g c = same_noted (client_known c.args.client.now) (client_known c.get.new.client) _ _ c.get.ensures.begins c.requires.noted c.get.ensures.kept
+pub returns-in_ok-say-in-None-clause-acknowledged : goal.returns-in_ok-say-in-None-clause-acknowledged
+returns-in_ok-say-in-None-clause-acknowledged g c = same_noted (client_known c.args.client.now) (client_known c.get.new.client) _ _ c.get.ensures.begins c.requires.noted c.get.ensures.kept
