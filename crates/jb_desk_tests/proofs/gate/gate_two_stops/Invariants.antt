@@ -1,4 +1,6 @@
+use Rattle.jb_book.specs.Origin.{unknown}
 use Rattle.jb_desk.specs.History.{history_in}
+use Rattle.jb_history.specs.History.{history_id}
 use Rattle.jb_desk_tests.proofs.gate.gate_two_stops.Given as goal
 
 abbrev pub ghosts-gated-H-Ledger : goal.ghosts-gated-H-Ledger
@@ -9,3 +11,6 @@ ghosts-gated-H-Place g a = record { history = history_in a.handles }
 
 abbrev pub ghosts-gated-N-Ledger : goal.ghosts-gated-N-Ledger
 ghosts-gated-N-Ledger g a = record { name = a.changes.name; parts = a.changes.parts }
+
+abbrev pub ghosts-gated-H-Origin : goal.ghosts-gated-H-Origin
+ghosts-gated-H-Origin g a = record { marks = history_id a.marks; begun = unknown }

@@ -1,4 +1,6 @@
+use Rattle.jb_book.specs.Origin.{unknown}
 use Rattle.jb_desk.specs.History.{history_in}
+use Rattle.jb_history.specs.History.{history_id}
 use Rattle.jb_desk_tests.proofs.reads.a_read_that_fails_fails_nothing_else.Given as goal
 
 abbrev pub ghosts-failing-H-Ledger : goal.ghosts-failing-H-Ledger
@@ -9,3 +11,6 @@ ghosts-failing-H-Place g a = record { history = history_in a.handles }
 
 abbrev pub ghosts-failing-N-Ledger : goal.ghosts-failing-N-Ledger
 ghosts-failing-N-Ledger g a = record { name = a.changes.name; parts = a.changes.parts }
+
+abbrev pub ghosts-failing-H-Origin : goal.ghosts-failing-H-Origin
+ghosts-failing-H-Origin g a = record { marks = history_id a.marks; begun = unknown }

@@ -1,4 +1,6 @@
+use Rattle.jb_book.specs.Origin.{unknown}
 use Rattle.jb_desk.specs.History.{history_in}
+use Rattle.jb_history.specs.History.{history_id}
 use Rattle.jb_desk_tests.proofs.waiting.a_commit_ends_the_wait_for_its_ticket.Given as goal
 
 abbrev pub ghosts-waited-H-Ledger : goal.ghosts-waited-H-Ledger
@@ -9,3 +11,6 @@ ghosts-waited-H-Place g a = record { history = history_in a.handles }
 
 abbrev pub ghosts-waited-N-Ledger : goal.ghosts-waited-N-Ledger
 ghosts-waited-N-Ledger g a = record { name = a.changes.name; parts = a.changes.parts }
+
+abbrev pub ghosts-waited-H-Origin : goal.ghosts-waited-H-Origin
+ghosts-waited-H-Origin g a = record { marks = history_id a.marks; begun = unknown }
