@@ -1,5 +1,6 @@
 use Rattle.jb_deck.specs.Opening.{recovered_home}
 use Rattle.jb_book.specs.Origin.{own_on}
+use Rattle.jb_history.specs.Place.{nowhere}
 use Rattle.jb_load.specs.Settled.{IsOfQueue}
 use Rattle.jb_queue.specs.QueueLines.{handles_of}
 use Rattle.jb_load_tests.proofs.journal.load.Given as goal
@@ -17,4 +18,5 @@ ghosts-load_on-H-Origin g a = record {
     left = λ c. Unit {0};
     stops = IsOfQueue (handles_of a.queue.now);
   };
+  marks = nowhere;
 }

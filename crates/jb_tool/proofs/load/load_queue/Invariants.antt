@@ -1,6 +1,7 @@
 use Rattle.std.proofs.Common.{[]}
 use Rattle.jb_deck.specs.Opening.{recovered_home}
 use Rattle.jb_book.specs.Origin.{own_on}
+use Rattle.jb_history.specs.Place.{nowhere}
 use Rattle.jb_load.specs.Settled.{IsOfQueue}
 use Rattle.jb_queue.specs.QueueLines.{handles_of}
 use Rattle.jb_pair.specs.Images.{image_count, image_faults, image_size}
@@ -20,4 +21,5 @@ ghosts-load_on-H-Origin g a = record {
     left = λ c. Unit {0};
     stops = IsOfQueue (handles_of a.queue.now);
   };
+  marks = nowhere;
 }
