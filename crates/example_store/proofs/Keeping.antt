@@ -2,7 +2,7 @@
 use Rattle.std.proofs.Common.{◌≡◌, ◌⊎◌, ℕ, suc, ◌+◌, ◌≤◌, All, List, [], ◌∷◌, ◌++◌, length, Some, Result, Ok, Err, slice_get, get_or, inl, inr, refl, sym, ap, subst, ◌∙◌, arith, append-nil}
 use Rattle.std.proofs.lemmas.List.Elements.{All-push}
 use Rattle.jb_journal.specs.Client.{one_block}
-use Rattle.jb_journal.specs.Names.{Image}
+use Rattle.jb_journal.specs.Names.{Ghosts}
 use Rattle.jb_journal.specs.Notes.{Note, AreInNotes, IsInNotes, Known, KnowsMore, Stop}
 use Rattle.jb_journal.specs.Running.{RanAll}
 use Rattle.jb_journal.specs.Starting.{started_on}
@@ -52,12 +52,12 @@ only-one [] is = absurd (omega (arith, is))
 only-one (x ∷ []) is = (x, refl)
 only-one (x ∷ y ∷ xs) is = absurd (omega (arith, is))
 
-module _ {D : Type 0} (size count faults : D → ℕ) (honest : D → Type 0) (newest : D → Image) (may_leave : D → Image → Type 0) (moment : D → ℕ) (left_since : D → ℕ → Image → Type 0) (disk : D) (ran : Ran (Result (Unit {0}) Failed) D) where
+module _ {D : Type 0} (G : Ghosts D) (disk : D) (ran : Ran (Result (Unit {0}) Failed) D) where
   abbrev All-of : Type 0
-  All-of = RanAll size count faults honest newest may_leave moment left_since (started_on size count faults honest newest moment left_since disk) (λ workers at stops known answer. Acknowledges stops known.notes answer) 1 ran
+  All-of = RanAll G (started_on G disk) (λ sure workers at stops known answer. Acknowledges stops known.notes answer) 1 ran
 
   abbrev Kept : Type 0
-  Kept = Keeps size count faults honest newest may_leave moment left_since disk ran
+  Kept = Keeps G disk ran
 
   kept-as : (all : All-of) (answer : Result (Unit {0}) Failed) → ran.answers.items ≡ answer ∷ [] → (stops : List Stop) → all.stopped ≡ stops ∷ [] → (knew : Known) → all.known ≡ knew ∷ []
       → (first last : List Stop) → stops ≡ first ++ last → IsLast answer last → AreInNotes knew.notes first → Kept
@@ -73,7 +73,7 @@ module _ {D : Type 0} (size count faults : D → ℕ) (honest : D → Type 0) (n
     last = last;
     are = are;
     few = few;
-    stay = all-stay size count faults honest newest may_leave moment left_since _ _ 1 ran all 0 0 stops knew (ap (λ l. slice_get l 0) stopped) (ap (λ l. slice_get l 0) known) first last are noted;
+    stay = all-stay G _ _ 1 ran all 0 0 stops knew (ap (λ l. slice_get l 0) stopped) (ap (λ l. slice_get l 0) known) first last are noted;
   }
 
   kept-by : (all : All-of) (answer : Result (Unit {0}) Failed) → ran.answers.items ≡ answer ∷ [] → (stops : List Stop) → all.stopped ≡ stops ∷ [] → (knew : Known) → all.known ≡ knew ∷ []
@@ -86,11 +86,11 @@ module _ {D : Type 0} (size count faults : D → ℕ) (honest : D → Type 0) (n
       let answer = only-one ran.answers.items all.answers.number in
       let stops = only-one all.stopped all.answers.same in
       let knew = only-one all.known all.answers.knew in
-      let each : Acknowledges (get_or all.stopped 0 stops.0) (get_or all.known 0 knew.0).notes (get_or ran.answers.items 0 answer.0) = all.answers.each 0 stops.0 knew.0 answer.0 (omega arith) in
+      let each : Acknowledges (get_or all.stopped 0 stops.0) (get_or all.known 0 knew.0).notes (get_or ran.answers.items 0 answer.0) = all.answers.each 0 stops.0 knew.0 [] answer.0 (omega arith) in
       kept-by all answer.0 answer.1 stops.0 stops.1 knew.0 knew.1
       (subst (λ (x : (List (List Stop) × List Known) × List (Result (Unit {0}) Failed)). Acknowledges (get_or x.0.0 0 stops.0) (get_or x.0.1 0 knew.0).notes (get_or x.1 0 answer.0)) (λ i. ((stops.1 i, knew.1 i), answer.1 i)) each)
 
   -- the same of a run with as many workers
-  pub keeps-by : (workers : ℕ) → workers ≡ 1 → RanAll size count faults honest newest may_leave moment left_since (started_on size count faults honest newest moment left_since disk) (λ workers at stops known answer. Acknowledges stops known.notes answer) workers ran → Kept
+  pub keeps-by : (workers : ℕ) → workers ≡ 1 → RanAll G (started_on G disk) (λ sure workers at stops known answer. Acknowledges stops known.notes answer) workers ran → Kept
   keeps-by workers one all =
-      keeps (subst (λ n. RanAll size count faults honest newest may_leave moment left_since (started_on size count faults honest newest moment left_since disk) (λ workers at stops known answer. Acknowledges stops known.notes answer) n ran) one all)
+      keeps (subst (λ n. RanAll G (started_on G disk) (λ sure workers at stops known answer. Acknowledges stops known.notes answer) n ran) one all)

@@ -3,7 +3,7 @@ use Rattle.std.specs.Prelude.{◌≡◌, ◌⊎◌, ℕ, ◌≤◌, All, List, [
 use Rattle.jb_journal.specs.Client.{one_block}
 use Rattle.jb_journal.specs.Notes.{Note, AreInNotes, IsInNotes, Known, Stop}
 use Rattle.jb_journal.specs.Running.{RanAll}
-use Rattle.jb_journal.specs.Names.{Image}
+use Rattle.jb_journal.specs.Names.{Ghosts}
 use Rattle.jb_journal.specs.Starting.{started_on}
 use Rattle.jb_journal.specs.Staying.{HandleStays}
 use Rattle.jb_journal.specs.declared.ran.Ran.{Ran}
@@ -48,9 +48,9 @@ abbrev pub IsLast : Result Unit Failed → List Stop → Type 0
 IsLast (Ok unit) last = last ≡ []
 IsLast (Err failed) last = length last ≤ 1
 
--- What the store has acknowledged stays: of the one worker that was run, each handle that it has stopped and acknowledged
-pub record Keeps {D : Type 0} (size count faults : D → ℕ) (honest : D → Type 0) (newest : D → Image) (may_leave : D → Image → Type 0) (moment : D → ℕ) (left_since : D → ℕ → Image → Type 0) (disk : D) (ran : Ran (Result Unit Failed) D) : Type 0 where
-  pub all : RanAll size count faults honest newest may_leave moment left_since (started_on size count faults honest newest moment left_since disk) (λ workers at stops known answer. Acknowledges stops known.notes answer) 1 ran
+-- What the store has acknowledged stays, where the disk that is given back is honest: of the one worker that was run, each handle that it has stopped and acknowledged
+pub record Keeps {D : Type 0} (G : Ghosts D) (disk : D) (ran : Ran (Result Unit Failed) D) : Type 0 where
+  pub all : RanAll G (started_on G disk) (λ sure workers at stops known answer. Acknowledges stops known.notes answer) 1 ran
   pub answer : Result Unit Failed
   pub answered : ran.answers.items ≡ answer ∷ []
   pub stops : List Stop
@@ -61,4 +61,4 @@ pub record Keeps {D : Type 0} (size count faults : D → ℕ) (honest : D → Ty
   pub last : List Stop
   pub are : stops ≡ acknowledged ++ last
   pub few : IsLast answer last
-  pub stay : All (HandleStays size count faults honest newest may_leave moment left_since (started_on size count faults honest newest moment left_since disk) (λ workers at stops known answer. Acknowledges stops known.notes answer) 1 ran all knew.notes) acknowledged
+  pub stay : All (HandleStays G (started_on G disk) (λ sure workers at stops known answer. Acknowledges stops known.notes answer) 1 ran all knew.notes) acknowledged

@@ -40,13 +40,14 @@ const JOURNAL: u32 = 256;
 ghost use Rattle.std.specs.Prelude.{IfOk};
 ghost use Rattle.example_store.specs.Keeping.{Keeps};
 
-/// Runs the worker on a journal. What it has acknowledged stays, whenever a crash comes.
+/// Runs the worker on a journal. What it has acknowledged stays, whenever a crash comes, where the disk that is given back
+/// is honest.
 fn serve<D: Disk + Drop + Send, R: AllocGlobal + Threads + Wait + Clock + Sync>(
     rt: &R,
     disk: D,
     serving: &Serving,
 ) -> Result<Ran<Result<(), Failed>, D>, JournalFault>
-    ensures { IfOk result (Keeps D.size D.count D.faults D.honest D.newest D.may_leave D.moment D.left_since disk) }
+    ensures { IfOk result (Keeps D.Disk disk) }
 {
     Ok(run(rt, disk, SystemClock::new(rt), Options::new(1), serving)?)
 }

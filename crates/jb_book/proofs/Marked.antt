@@ -10,7 +10,8 @@ use Rattle.jb_handle.specs.Word.{WordMap}
 use Rattle.jb_history.proofs.Placed.{get_last, placed_on}
 use Rattle.jb_history.specs.Rule.{StandsIn}
 use Rattle.jb_book.specs.Account.{Account, AnswersNumber, CanTake, IsSettledBy, Settles, dropped_of, failed_of, granted_to, queued, settled_to, shortened, taken_all, trail_from}
-use Rattle.jb_book.specs.Marks.{AreShown, IsMarked, SeesStop, Shows, ShowsAfter}
+use Rattle.jb_handle.specs.declared.shape.Shape.{Shape}
+use Rattle.jb_book.specs.Marks.{AreOfBook, AreShown, HasShapeMark, IsMarked, SeesStop, Shows, ShowsAfter}
 use Rattle.jb_book.specs.declared.fault.WrongBatch.{WrongBatch}
 
 case-of : (P : Bool → Type 0) (x : Bool) → P true → P false → P x
@@ -25,44 +26,50 @@ module _ {D : Type 0} where
   pub all-marked-on : (ms ns : List (OpenDeck D)) → IsPrefix ms ns → (es : List Entry) → All (IsMarked ms) es → All (IsMarked ns) es
   all-marked-on ms ns p es each = All-weaker (IsMarked ms) (IsMarked ns) (λ e is. marked-on ms ns p e is) es each
 
+  pub shape-on : (ms ns : List (OpenDeck D)) → IsPrefix ms ns → (shape : Shape) → HasShapeMark ms shape → HasShapeMark ns shape
+  shape-on ms ns p shape is = record { at = is.at; mark = is.mark; stands = placed_on ms ns p (is.at, is.mark) is.stands; same = is.same }
+
+  pub book-on : (ms ns : List (OpenDeck D)) → IsPrefix ms ns → (a : Account) → AreOfBook ms a → AreOfBook ns a
+  book-on ms ns p a are = record { trail = all-marked-on ms ns p a.trail are.trail; shape = shape-on ms ns p a.shape are.shape }
+
   has-one : (ms : List (OpenDeck D)) (e : Entry) (es : List Entry) → All (IsMarked ms) (e ∷ es) → IsMarked ms e
   has-one ms e es each = each 0 e (omega arith)
 
   has-rest : (ms : List (OpenDeck D)) (e : Entry) (es : List Entry) → All (IsMarked ms) (e ∷ es) → All (IsMarked ms) es
   has-rest ms e es each k d lt = each (suc k) d (omega (arith, lt))
 
-  -- nothing is settled
-  pub none-marked : (ms : List (OpenDeck D)) (es : List Entry) → es ≡ [] → All (IsMarked ms) es
-  none-marked ms es none = let no : length es ≡ 0 = ap length none in λ k e lt. absurd (omega (arith, lt, no))
+  -- nothing is settled in a new book, for a journal of a marked shape
+  pub none-marked : (ms : List (OpenDeck D)) (a : Account) (shape : Shape) → a.trail ≡ [] → a.shape ≡ shape → HasShapeMark ms shape → AreOfBook ms a
+  none-marked ms a shape none same is = record {
+    trail = let no : length a.trail ≡ 0 = ap length none in λ k e lt. absurd (omega (arith, lt, no));
+    shape = subst (HasShapeMark ms) (sym same) is;
+  }
 
   -- ---- what each call of the book keeps
 
-  module _ (ms : List (OpenDeck D)) (old new : Account) (each : All (IsMarked ms) old.trail) where
-    pub same-trail : new.trail ≡ old.trail → All (IsMarked ms) new.trail
-    same-trail is = subst (All (IsMarked ms)) (sym is) each
+  module _ (ms : List (OpenDeck D)) (old new : Account) (are : AreOfBook ms old) where
+    same-trail : new.trail ≡ old.trail → new.shape ≡ old.shape → AreOfBook ms new
+    same-trail trail shape = record { trail = subst (All (IsMarked ms)) (sym trail) are.trail; shape = subst (HasShapeMark ms) (sym shape) are.shape }
 
-    pub marked-same : new ≡ old → All (IsMarked ms) new.trail
-    marked-same is = same-trail (ap (λ (a : Account). a.trail) is)
+    pub marked-failed : new ≡ failed_of old → AreOfBook ms new
+    marked-failed is = same-trail (ap (λ (a : Account). a.trail) is) (ap (λ (a : Account). a.shape) is)
 
-    pub marked-failed : new ≡ failed_of old → All (IsMarked ms) new.trail
-    marked-failed is = same-trail (ap (λ (a : Account). a.trail) is)
+    pub marked-shut : new ≡ record old { shut = true } → AreOfBook ms new
+    marked-shut is = same-trail (ap (λ (a : Account). a.trail) is) (ap (λ (a : Account). a.shape) is)
 
-    pub marked-shut : new ≡ record old { shut = true } → All (IsMarked ms) new.trail
-    marked-shut is = same-trail (ap (λ (a : Account). a.trail) is)
+    pub marked-dropped : (seat : ℕ) → new ≡ dropped_of seat old → AreOfBook ms new
+    marked-dropped seat is = same-trail (ap (λ (a : Account). a.trail) is) (ap (λ (a : Account). a.shape) is)
 
-    pub marked-dropped : (seat : ℕ) → new ≡ dropped_of seat old → All (IsMarked ms) new.trail
-    marked-dropped seat is = same-trail (ap (λ (a : Account). a.trail) is)
+    pub marked-queued : (seat : ℕ) (words : WordMap) → new ≡ queued seat words old → AreOfBook ms new
+    marked-queued seat words is = same-trail (ap (λ (a : Account). a.trail) is) (ap (λ (a : Account). a.shape) is)
 
-    pub marked-queued : (seat : ℕ) (words : WordMap) → new ≡ queued seat words old → All (IsMarked ms) new.trail
-    marked-queued seat words is = same-trail (ap (λ (a : Account). a.trail) is)
+    pub marked-open : {A B : Type 0} (r : Result A B) (seat credits : ℕ) → OnOk r (new ≡ granted_to seat credits old) → OnErr r (new ≡ old) → AreOfBook ms new
+    marked-open (Ok a) seat credits ok err = same-trail (ap (λ (a : Account). a.trail) ok) (ap (λ (a : Account). a.shape) ok)
+    marked-open (Err b) seat credits ok err = same-trail (ap (λ (a : Account). a.trail) err) (ap (λ (a : Account). a.shape) err)
 
-    pub marked-open : {A B : Type 0} (r : Result A B) (seat credits : ℕ) → OnOk r (new ≡ granted_to seat credits old) → OnErr r (new ≡ old) → All (IsMarked ms) new.trail
-    marked-open (Ok a) seat credits ok err = same-trail (ap (λ (a : Account). a.trail) ok)
-    marked-open (Err b) seat credits ok err = same-trail (ap (λ (a : Account). a.trail) err)
-
-    pub marked-taken : {A : Type 0} (r : Option A) → IfSome r (λ _. CanTake old × (new ≡ taken_all old)) → IfNone r ((CanTake old → ⊥) × (new ≡ old)) → All (IsMarked ms) new.trail
-    marked-taken (Some b) some none = same-trail (ap (λ (a : Account). a.trail) some.1)
-    marked-taken None some none = same-trail (ap (λ (a : Account). a.trail) none.1)
+    pub marked-taken : {A : Type 0} (r : Option A) → IfSome r (λ _. CanTake old × (new ≡ taken_all old)) → IfNone r ((CanTake old → ⊥) × (new ≡ old)) → AreOfBook ms new
+    marked-taken (Some b) some none = same-trail (ap (λ (a : Account). a.trail) some.1) (ap (λ (a : Account). a.shape) some.1)
+    marked-taken None some none = same-trail (ap (λ (a : Account). a.trail) none.1) (ap (λ (a : Account). a.shape) none.1)
 
   left-marked : (ms : List (OpenDeck D)) (past : ℕ) (es : List Entry) → All (IsMarked ms) es → All (IsMarked ms) (trail_from past es)
   left-marked ms past [] each = each
@@ -70,19 +77,22 @@ module _ {D : Type 0} where
   left-marked ms past (e ∷ f ∷ es) each =
       case-of (λ x. All (IsMarked ms) (if x then trail_from past (f ∷ es) else e ∷ f ∷ es)) (nat_le e.past past) (left-marked ms past (f ∷ es) (has-rest ms e (f ∷ es) each)) each
 
-  pub marked-short : (ms : List (OpenDeck D)) (old new : Account) → All (IsMarked ms) old.trail → (past : ℕ) → new ≡ shortened past old → All (IsMarked ms) new.trail
-  marked-short ms old new each past is = subst (λ (a : Account). All (IsMarked ms) a.trail) (sym is) (left-marked ms past old.trail each)
+  pub marked-short : (ms : List (OpenDeck D)) (old new : Account) → AreOfBook ms old → (past : ℕ) → new ≡ shortened past old → AreOfBook ms new
+  marked-short ms old new are past is = subst (AreOfBook ms) (sym is) (record { trail = left-marked ms past old.trail are.trail; shape = are.shape })
 
   -- ---- groups are settled whose mark was seen
 
-  module _ (ms ds ns : List (OpenDeck D)) (old new : Account) (es : List Entry) (each : All (IsMarked ms) old.trail) (p : IsPrefix ms ns) (q : IsPrefix ds ns) (more : All (IsMarked ds) es) where
-    pub marked-settled : (past : ℕ) → new ≡ settled_to past es old → All (IsMarked ns) new.trail
-    marked-settled past is = subst (λ (a : Account). All (IsMarked ns) a.trail) (sym is) (All-append (IsMarked ns) old.trail es (all-marked-on ms ns p old.trail each) (all-marked-on ds ns q es more))
+  module _ (ms ds ns : List (OpenDeck D)) (old new : Account) (es : List Entry) (are : AreOfBook ms old) (p : IsPrefix ms ns) (q : IsPrefix ds ns) (more : All (IsMarked ds) es) where
+    pub marked-settled : (past : ℕ) → new ≡ settled_to past es old → AreOfBook ns new
+    marked-settled past is = subst (AreOfBook ns) (sym is) (record {
+      trail = All-append (IsMarked ns) old.trail es (all-marked-on ms ns p old.trail are.trail) (all-marked-on ds ns q es more);
+      shape = shape-on ms ns p old.shape are.shape;
+    })
 
-    marked-still : new ≡ old → All (IsMarked ns) new.trail
-    marked-still is = subst (λ (a : Account). All (IsMarked ns) a.trail) (sym is) (all-marked-on ms ns p old.trail each)
+    marked-still : new ≡ old → AreOfBook ns new
+    marked-still is = subst (AreOfBook ns) (sym is) (book-on ms ns p old are)
 
-    pub marked-by : (r : Result (Unit {0}) WrongBatch) → OnOk r ((past : ℕ) × Settles old past es × (new ≡ settled_to past es old)) → OnErr r (new ≡ old) → All (IsMarked ns) new.trail
+    pub marked-by : (r : Result (Unit {0}) WrongBatch) → OnOk r ((past : ℕ) × Settles old past es × (new ≡ settled_to past es old)) → OnErr r (new ≡ old) → AreOfBook ns new
     marked-by (Ok unit) ok err = marked-settled ok.0 ok.2
     marked-by (Err wrong) ok err = marked-still err
 

@@ -21,8 +21,7 @@ use Rattle.jb_book.specs.Account.{Account, IsStart, IsSound, granted_to, dropped
 use Rattle.jb_book.specs.Calls.{handles_in}
 use Rattle.jb_book.specs.declared.fault.BeginFault.{BeginFault}
 use Rattle.jb_book.specs.declared.fault.WrongBatch.{WrongBatch}
-use Rattle.jb_book.specs.Led.{AreCut, FailsAfter, IsInHistory, IsLed, IsOfBegun, IsOutAs, IsRegistered, IsMachineRun, IsSettling, SettlesOrFails, words_stopped, with_trail}
-use Rattle.jb_book.specs.Origin.{Begun}
+use Rattle.jb_book.specs.Led.{AreCut, FailsAfter, IsInHistory, IsLed, IsOutAs, IsRegistered, IsMachineRun, IsSettling, SettlesOrFails, words_stopped, with_trail}
 use Rattle.jb_book.specs.Tied.{EveryRun}
 use Rattle.jb_book.proofs.Callings.{every_run}
 use Rattle.jb_book.proofs.Follows.{follow-past}
@@ -77,105 +76,99 @@ ends-run any a log sound is =
 
 -- ---- what is known of the two
 
-module _ (s : Begun) where
-  abbrev Kept : Account × List WordMap → Type 0
-  Kept x = IsRegistered s x.0 x.1
+abbrev Kept : Account × List WordMap → Type 0
+Kept x = IsRegistered x.0 x.1
 
-  pub kept-new : (shape : Shape) (usable : ℕ) (a : Account) (log : List WordMap) → IsOfBegun s shape → IsStart shape usable a → log ≡ [] → IsRegistered s a log
-  kept-new shape usable a log journal start none = subst (IsRegistered s a) (sym none) (record {
-    journal = subst (IsOfBegun s) (sym start.same_shape) journal;
-    counted = sym (ap (λ x. x.next) start.shadow);
-    queued = subst (All (IsInHistory [])) (sym (ap (λ x. x.queue) start.shadow)) (All-nil (IsInHistory []));
-    led = led_start shape usable a start;
-  })
+pub kept-new : (shape : Shape) (usable : ℕ) (a : Account) (log : List WordMap) → IsStart shape usable a → log ≡ [] → IsRegistered a log
+kept-new shape usable a log start none = subst (IsRegistered a) (sym none) (record {
+  counted = sym (ap (λ x. x.next) start.shadow);
+  queued = subst (All (IsInHistory [])) (sym (ap (λ x. x.queue) start.shadow)) (All-nil (IsInHistory []));
+  led = led_start shape usable a start;
+})
 
-  pub kept-stopped : (a b : Account) (log more : List WordMap) (seat : ℕ) (ws : WordMap) → IsSound a → IsRegistered s a log → CanStop a seat ws → b ≡ queued seat ws a
-      → (b.shadow.queue ≡ a.shadow.queue ++ record { ticket = a.shadow.next; words = ws } ∷ [] → more ≡ log ++ ws ∷ []) → IsRegistered s b more
-  kept-stopped a b log more seat ws sound kept can is adds =
-      let same : more ≡ log ++ ws ∷ [] = adds (ap (λ (c : Account). c.shadow.queue) is) in
-      let long = length-append log (ws ∷ []) in
-      let counted = kept.counted in
-      subst Kept (λ i. (sym is i, sym same i)) (record {
-        journal = kept.journal;
-        counted = (let h : length (log ++ ws ∷ []) ≡ a.shadow.next + 1 = omega (arith, long, counted) in h);
-        queued = recorded-more log a.shadow.queue a.shadow.next ws kept.queued counted;
-        led = led-stopped log a kept.led sound seat ws can counted;
-      })
+pub kept-stopped : (a b : Account) (log more : List WordMap) (seat : ℕ) (ws : WordMap) → IsSound a → IsRegistered a log → CanStop a seat ws → b ≡ queued seat ws a
+    → (b.shadow.queue ≡ a.shadow.queue ++ record { ticket = a.shadow.next; words = ws } ∷ [] → more ≡ log ++ ws ∷ []) → IsRegistered b more
+kept-stopped a b log more seat ws sound kept can is adds =
+    let same : more ≡ log ++ ws ∷ [] = adds (ap (λ (c : Account). c.shadow.queue) is) in
+    let long = length-append log (ws ∷ []) in
+    let counted = kept.counted in
+    subst Kept (λ i. (sym is i, sym same i)) (record {
+      counted = (let h : length (log ++ ws ∷ []) ≡ a.shadow.next + 1 = omega (arith, long, counted) in h);
+      queued = recorded-more log a.shadow.queue a.shadow.next ws kept.queued counted;
+      led = led-stopped log a kept.led sound seat ws can counted;
+    })
 
-  kept-taken : (a b : Account) (log more : List WordMap) → IsSound a → IsRegistered s a log → CanTake a → HasCut a.shape a.shadow.queue → b ≡ taken_all a → more ≡ log → IsRegistered s b more
-  kept-taken a b log more sound kept can cuts is same =
-      subst Kept (λ i. (sym is i, sym same i)) (record {
-        journal = kept.journal;
+kept-taken : (a b : Account) (log more : List WordMap) → IsSound a → IsRegistered a log → CanTake a → HasCut a.shape a.shadow.queue → b ≡ taken_all a → more ≡ log → IsRegistered b more
+kept-taken a b log more sound kept can cuts is same =
+    subst Kept (λ i. (sym is i, sym same i)) (record {
+      counted = kept.counted;
+      queued = All-nil (IsInHistory log);
+      led = led-taken log a kept.led sound can kept.queued cuts;
+    })
+
+kept-led : (a b : Account) (log : List WordMap) → IsRegistered a log → b.shadow.next ≡ a.shadow.next → b.shadow.queue ≡ a.shadow.queue → IsLed log b → IsRegistered b log
+kept-led a b log kept next queue led = record {
+  counted = kept.counted ∙ sym next;
+  queued = subst (All (IsInHistory log)) (sym queue) kept.queued;
+  led = led;
+}
+
+kept-failed : (a : Account) (log : List WordMap) → IsRegistered a log → IsRegistered (failed_of a) log
+kept-failed a log kept = record { counted = kept.counted; queued = All-nil (IsInHistory log); led = led-failed log a kept.led }
+
+pub failed-same : (a b : Account) (log more : List WordMap) → IsRegistered a log → b ≡ failed_of a → more ≡ log → IsRegistered b more
+failed-same a b log more kept is same = subst Kept (λ i. (sym is i, sym same i)) (kept-failed a log kept)
+
+pub kept-take : (r : Option Gathered) (a b : Account) (log more : List WordMap) → IsSound a → IsRegistered a log → IfSome r (λ _. HasCut a.shape a.shadow.queue) → IfSome r (λ _. CanTake a × (b ≡ taken_all a)) → IfNone r ((CanTake a → ⊥) × (b ≡ a)) → more ≡ log
+    → IsRegistered b more
+kept-take (Some batch) a b log more sound kept cuts taken none same = kept-taken a b log more sound kept taken.0 cuts taken.1 same
+kept-take None a b log more sound kept cuts taken none same = subst Kept (λ i. (sym none.1 i, sym same i)) kept
+
+module _ (a : Account) (log sight : List WordMap) (end : ℕ) (shape : Shape) (done : Done) (is : IsSettling sight end shape done) (seen : IsFirstPart sight log) (out : IsOutAs a (first_of done) end shape) where
+  abbrev settling-cut : AreCut log a is.planned.batch.handles is.planned.groups
+  settling-cut =
+      let at : is.planned.batch.first ≡ a.shadow.settled = sym is.first ∙ out.first_is in
+      let last = is.past in
+      let whole = out.end_is in (
+        record {
+          tickets = subst (λ n. TicketsFrom n is.planned.batch.handles) at is.tickets;
+          recorded = All-weaker (IsInHistory sight) (IsInHistory log) (λ h there. placed_on sight log seen (h.ticket, h.words) there) is.planned.batch.handles is.recorded;
+          number = omega (arith, at, last, whole);
+        },
+        subst (λ (sh : Shape). IsLeastCut (cost_in sh is.planned.batch.handles) sh.limit (length is.planned.batch.handles) is.planned.groups) (is.shape_is ∙ sym out.shape_is) is.is.least,
+      )
+
+  pub kept-settled : IsSound a → IsRegistered a log → (past : ℕ) → Settles a past (entries_of done) → past_after (first_of done) (entries_of done) ≡ end → (b : Account) (more : List WordMap) → b ≡ settled_to past (entries_of done) a → more ≡ log → IsRegistered b more
+  kept-settled sound kept past settles last b more after grows =
+      let now = settled_to past (entries_of done) a in
+      let whole = ends-at (first_of done) a.shadow.settled _ past end (entries_of done) settles.follow out.first_is last in
+      subst Kept (λ i. (sym after i, sym grows i))
+      (kept-led a now log kept refl refl (led-settled log a kept.led is.planned.batch.handles is.planned.groups past (entries_of done) settles settling-cut is.tells sound (whole ∙ out.end_is)))
+
+  kept-settled-last : IsSound a → IsRegistered a log → (past : ℕ) → Settles a past (entries_of done) → (b : Account) (more : List WordMap) → b ≡ failed_of (settled_to past (entries_of done) a) → more ≡ log → IsRegistered b more
+  kept-settled-last sound kept past settles b more after grows =
+      subst Kept (λ i. (sym after i, sym grows i)) (record {
         counted = kept.counted;
         queued = All-nil (IsInHistory log);
-        led = led-taken log a kept.led sound can kept.queued cuts;
+        led = led-settled-last log a kept.led is.planned.batch.handles is.planned.groups past (entries_of done) settles settling-cut is.tells sound;
       })
 
-  kept-led : (a b : Account) (log : List WordMap) → IsRegistered s a log → b.shape ≡ a.shape → b.shadow.next ≡ a.shadow.next → b.shadow.queue ≡ a.shadow.queue → IsLed log b → IsRegistered s b log
-  kept-led a b log kept shape next queue led = record {
-    journal = subst (IsOfBegun s) (sym shape) kept.journal;
-    counted = kept.counted ∙ sym next;
-    queued = subst (All (IsInHistory log)) (sym queue) kept.queued;
-    led = led;
-  }
+  pub kept-last : (middle b : Account) (more : List WordMap) (r : Result (Unit {0}) WrongBatch) → IsSound a → IsRegistered a log → OnOk r ((past : ℕ) × Settles a past (entries_of done) × (middle ≡ settled_to past (entries_of done) a)) → OnErr r (middle ≡ a) → b ≡ failed_of middle → more ≡ log → IsRegistered b more
+  kept-last middle b more (Ok unit) sound kept ok err fell grows = kept-settled-last sound kept ok.0 ok.1 b more (fell ∙ ap failed_of ok.2) grows
+  kept-last middle b more (Err wrong) sound kept ok err fell grows = failed-same a b log more kept (fell ∙ ap failed_of err) grows
 
-  kept-failed : (a : Account) (log : List WordMap) → IsRegistered s a log → IsRegistered s (failed_of a) log
-  kept-failed a log kept = record { journal = kept.journal; counted = kept.counted; queued = All-nil (IsInHistory log); led = led-failed log a kept.led }
+-- ---- the other calls
 
-  pub failed-same : (a b : Account) (log more : List WordMap) → IsRegistered s a log → b ≡ failed_of a → more ≡ log → IsRegistered s b more
-  failed-same a b log more kept is same = subst Kept (λ i. (sym is i, sym same i)) (kept-failed a log kept)
+module _ (a b : Account) (log : List WordMap) (kept : IsRegistered a log) where
+  pub kept-open : (r : Result (Unit {0}) BeginFault) (seat credits : ℕ) → OnOk r (b ≡ granted_to seat credits a) → OnOk r (refusal a seat credits ≡ None) → OnErr r (b ≡ a) → IsRegistered b log
+  kept-open (Ok unit) seat credits is none same = subst (λ (x : Account). IsRegistered x log) (sym is) (kept-led a (granted_to seat credits a) log kept refl refl (led-opened log a kept.led seat credits none))
+  kept-open (Err fault) seat credits is none same = subst (λ (x : Account). IsRegistered x log) (sym same) kept
 
-  pub kept-take : (r : Option Gathered) (a b : Account) (log more : List WordMap) → IsSound a → IsRegistered s a log → IfSome r (λ _. HasCut a.shape a.shadow.queue) → IfSome r (λ _. CanTake a × (b ≡ taken_all a)) → IfNone r ((CanTake a → ⊥) × (b ≡ a)) → more ≡ log
-      → IsRegistered s b more
-  kept-take (Some batch) a b log more sound kept cuts taken none same = kept-taken a b log more sound kept taken.0 cuts taken.1 same
-  kept-take None a b log more sound kept cuts taken none same = subst Kept (λ i. (sym none.1 i, sym same i)) kept
+  pub kept-dropped : (seat : ℕ) → b ≡ dropped_of seat a → IsRegistered b log
+  kept-dropped seat is = subst (λ (x : Account). IsRegistered x log) (sym is) (kept-led a (dropped_of seat a) log kept refl refl (led-dropped log a kept.led seat))
 
-  module _ (a : Account) (log sight : List WordMap) (end : ℕ) (shape : Shape) (done : Done) (is : IsSettling sight end shape done) (seen : IsFirstPart sight log) (out : IsOutAs a (first_of done) end shape) where
-    abbrev settling-cut : AreCut log a is.planned.batch.handles is.planned.groups
-    settling-cut =
-        let at : is.planned.batch.first ≡ a.shadow.settled = sym is.first ∙ out.first_is in
-        let last = is.past in
-        let whole = out.end_is in (
-          record {
-            tickets = subst (λ n. TicketsFrom n is.planned.batch.handles) at is.tickets;
-            recorded = All-weaker (IsInHistory sight) (IsInHistory log) (λ h there. placed_on sight log seen (h.ticket, h.words) there) is.planned.batch.handles is.recorded;
-            number = omega (arith, at, last, whole);
-          },
-          subst (λ (sh : Shape). IsLeastCut (cost_in sh is.planned.batch.handles) sh.limit (length is.planned.batch.handles) is.planned.groups) (is.shape_is ∙ sym out.shape_is) is.is.least,
-        )
+  pub kept-shut : b ≡ record a { shut = true } → IsRegistered b log
+  kept-shut is = subst (λ (x : Account). IsRegistered x log) (sym is) (kept-led a (record a { shut = true }) log kept refl refl (led-shut log a kept.led))
 
-    pub kept-settled : IsSound a → IsRegistered s a log → (past : ℕ) → Settles a past (entries_of done) → past_after (first_of done) (entries_of done) ≡ end → (b : Account) (more : List WordMap) → b ≡ settled_to past (entries_of done) a → more ≡ log → IsRegistered s b more
-    kept-settled sound kept past settles last b more after grows =
-        let now = settled_to past (entries_of done) a in
-        let whole = ends-at (first_of done) a.shadow.settled _ past end (entries_of done) settles.follow out.first_is last in
-        subst Kept (λ i. (sym after i, sym grows i))
-        (kept-led a now log kept refl refl refl (led-settled log a kept.led is.planned.batch.handles is.planned.groups past (entries_of done) settles settling-cut is.tells sound (whole ∙ out.end_is)))
-
-    kept-settled-last : IsSound a → IsRegistered s a log → (past : ℕ) → Settles a past (entries_of done) → (b : Account) (more : List WordMap) → b ≡ failed_of (settled_to past (entries_of done) a) → more ≡ log → IsRegistered s b more
-    kept-settled-last sound kept past settles b more after grows =
-        subst Kept (λ i. (sym after i, sym grows i)) (record {
-          journal = kept.journal;
-          counted = kept.counted;
-          queued = All-nil (IsInHistory log);
-          led = led-settled-last log a kept.led is.planned.batch.handles is.planned.groups past (entries_of done) settles settling-cut is.tells sound;
-        })
-
-    pub kept-last : (middle b : Account) (more : List WordMap) (r : Result (Unit {0}) WrongBatch) → IsSound a → IsRegistered s a log → OnOk r ((past : ℕ) × Settles a past (entries_of done) × (middle ≡ settled_to past (entries_of done) a)) → OnErr r (middle ≡ a) → b ≡ failed_of middle → more ≡ log → IsRegistered s b more
-    kept-last middle b more (Ok unit) sound kept ok err fell grows = kept-settled-last sound kept ok.0 ok.1 b more (fell ∙ ap failed_of ok.2) grows
-    kept-last middle b more (Err wrong) sound kept ok err fell grows = failed-same a b log more kept (fell ∙ ap failed_of err) grows
-
-  -- ---- the other calls
-
-  module _ (a b : Account) (log : List WordMap) (kept : IsRegistered s a log) where
-    pub kept-open : (r : Result (Unit {0}) BeginFault) (seat credits : ℕ) → OnOk r (b ≡ granted_to seat credits a) → OnOk r (refusal a seat credits ≡ None) → OnErr r (b ≡ a) → IsRegistered s b log
-    kept-open (Ok unit) seat credits is none same = subst (λ (x : Account). IsRegistered s x log) (sym is) (kept-led a (granted_to seat credits a) log kept refl refl refl (led-opened log a kept.led seat credits none))
-    kept-open (Err fault) seat credits is none same = subst (λ (x : Account). IsRegistered s x log) (sym same) kept
-
-    pub kept-dropped : (seat : ℕ) → b ≡ dropped_of seat a → IsRegistered s b log
-    kept-dropped seat is = subst (λ (x : Account). IsRegistered s x log) (sym is) (kept-led a (dropped_of seat a) log kept refl refl refl (led-dropped log a kept.led seat))
-
-    pub kept-shut : b ≡ record a { shut = true } → IsRegistered s b log
-    kept-shut is = subst (λ (x : Account). IsRegistered s x log) (sym is) (kept-led a (record a { shut = true }) log kept refl refl refl (led-shut log a kept.led))
-
-    pub kept-short : (past : ℕ) → b ≡ shortened past a → IsRegistered s b log
-    kept-short past is = subst (λ (x : Account). IsRegistered s x log) (sym is) (kept-led a (shortened past a) log kept refl refl refl (led-shortened log a kept.led past))
+  pub kept-short : (past : ℕ) → b ≡ shortened past a → IsRegistered b log
+  kept-short past is = subst (λ (x : Account). IsRegistered x log) (sym is) (kept-led a (shortened past a) log kept refl refl (led-shortened log a kept.led past))

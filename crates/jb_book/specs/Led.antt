@@ -13,10 +13,8 @@ use Rattle.jb_handle.specs.declared.shape.Shape.{Shape}
 use Rattle.jb_core.specs.Lives.{Log, handles_of, stop_order}
 use Rattle.jb_core.specs.Machine.{Machine}
 use Rattle.jb_core.specs.Ran.{Ran}
-use Rattle.jb_deck.specs.Deck.{IsShapeOf}
 use Rattle.jb_book.specs.Account.{Account, CanStop, Settles, failed_of, queued, settled_to}
 use Rattle.jb_book.specs.Calls.{Call, Called, AreOfFirst, IsCutOf, handles_in, out_of, stops_of}
-use Rattle.jb_book.specs.Origin.{Begun}
 use Rattle.jb_book.specs.Tied.{AreAccepted}
 use Rattle.jb_book.specs.declared.fault.WrongBatch.{WrongBatch}
 use Rattle.jb_history.specs.Rule.{StandsIn}
@@ -91,13 +89,8 @@ pub record Queues {T : Type 0} (seat : ℕ) (holder : T) (words : WordMap) (old 
   pub log : new.log ≡ old.log ++ words ∷ []
   pub made_one : more ≡ made ++ (given.1, words) ∷ []
 
--- on an honest disk, the shape is that of the journal of the start
-abbrev pub IsOfBegun : Begun → Shape → Type 0
-IsOfBegun b shape = b.honest → IsShapeOf b.own b.count shape
-
--- the history has the book's stops, calls led to the book, and it is for the journal of the start
-pub record IsRegistered (b : Begun) (a : Account) (log : List WordMap) : Type 0 where
-  pub journal : IsOfBegun b a.shape
+-- the history has the book's stops, and calls led to the book
+pub record IsRegistered (a : Account) (log : List WordMap) : Type 0 where
   pub counted : length log ≡ a.shadow.next
   pub queued : All (IsInHistory log) a.shadow.queue
   pub led : IsLed log a

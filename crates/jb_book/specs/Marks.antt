@@ -1,9 +1,11 @@
--- The marks of a desk, which are its journal as it was after each round of a committer, and what they show of a ticket.
-use Rattle.std.specs.Prelude.{◌≡◌, ℕ, ◌<◌, ◌≤◌, true, List, length, Option, Some, None, slice_get}
+-- The marks of a desk, which are its journal as it was when the desk was started, after each round of a committer and after each read, and what they show of a ticket.
+use Rattle.std.specs.Prelude.{◌≡◌, ℕ, ◌<◌, ◌≤◌, true, List, All, length, Option, Some, None, slice_get}
 use Rattle.jb_deck.specs.Deck.{OpenDeck}
 use Rattle.jb_deck.specs.declared.done.Entry.{Entry}
 use Rattle.jb_handle.specs.Word.{WordMap}
+use Rattle.jb_handle.specs.declared.shape.Shape.{Shape}
 use Rattle.jb_history.specs.Rule.{IsFirstPart, StandsIn}
+use Rattle.jb_book.specs.Account.{Account}
 use Rattle.jb_book.specs.declared.sights.Sights.{Sights}
 
 -- ---- what was seen
@@ -36,6 +38,18 @@ module _ {D : Type 0} (marks : List (OpenDeck D)) where
     pub mark : OpenDeck D
     pub stands : StandsIn marks (at, mark)
     pub has : HasEntry mark.trail e
+
+  -- at one of these marks the journal had this shape
+  pub record HasShapeMark (shape : Shape) : Type 0 where
+    pub at : ℕ
+    pub mark : OpenDeck D
+    pub stands : StandsIn marks (at, mark)
+    pub same : mark.shape ≡ shape
+
+  -- the groups that are settled in the book are marked, and it has the shape of a marked journal
+  pub record AreOfBook (a : Account) : Type 0 where
+    pub trail : All IsMarked a.trail
+    pub shape : HasShapeMark a.shape
 
   -- at one of these marks the journal had failed
   pub record HasFailedMark : Type 0 where

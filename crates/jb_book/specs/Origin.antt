@@ -10,10 +10,11 @@ use Rattle.jb_super.specs.declared.fault.SuperFault.{SuperFault}
 
 -- what is known of the disk when a desk begins, and of the words that its handles may stop with
 pub record Begun : Type 1 where
-  -- of the disk at the start: the size of a block, how many there are, whether it is honest, and how many calls have failed
+  -- whether anything is known of the start; where it is not, nothing is said of the disk
+  pub is_known : Type 0
+  -- of the disk at the start: the size of a block, how many there are, and how many calls have failed
   pub size : ℕ
   pub count : ℕ
-  pub honest : Type 0
   pub faults : ℕ
   -- the journal's superblock
   pub own : Superblock
@@ -36,7 +37,7 @@ own_on size count c = revoking_in (super_on size count c)
 
 -- nothing is known of the start, and handles stop with any words
 abbrev pub unknown : Begun
-unknown = record { size = 0; count = 0; honest = ⊥; faults = 0; own = superblock_in []; homes = λ home. []; since = 0; left = λ c. ⊥; stops = λ words. Unit {0} }
+unknown = record { is_known = ⊥; size = 0; count = 0; faults = 0; own = superblock_in []; homes = λ home. []; since = 0; left = λ c. ⊥; stops = λ words. Unit {0} }
 
 -- each of the handles stopped with words that a handle may stop with
 abbrev pub AreStops : Begun → List Stopped → Type 0

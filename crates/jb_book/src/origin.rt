@@ -26,7 +26,8 @@ impl Origin for Brand {
     ghost marks = { nowhere };
 }
 
-/// Names the history of a desk's marks: its journal, as it was after each round of a committer.
+/// Names the history of a desk's marks: its journal, as it was at the start, after each round of a committer and after
+/// each read.
 #[derive(Drop)]
 pub struct Marks<S: Origin> {
     of: PhantomData<S>,

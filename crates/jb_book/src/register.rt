@@ -19,9 +19,9 @@ use jb_history::{History, Made, Scribe, Sight};
 use std::alloc::Global;
 use std::marker::Model;
 
-/// The book, the right to add to the history of stops, and marks that show all that the book has settled. By whichever
-/// least cut the batch that is out will be committed, some calls of a new book led to it, and what stopped by these is
-/// the history.
+/// The book, the right to add to the history of stops, and marks that show all that the book has settled, and the shape
+/// of the journal that it is for. By whichever least cut the batch that is out will be committed, some calls of a new
+/// book led to it, and what stopped by these is the history.
 #[derive(Drop)]
 pub struct Register<D: Disk, S: Origin> {
     book: Book<S>,
@@ -33,8 +33,7 @@ impl<D: Disk, S: Origin> Model for Register<D, S> {
     ghost use Rattle.std.specs.Coded.{codes};
     ghost use Rattle.jb_handle.specs.Word.{words_code};
     ghost use Rattle.jb_book.specs.Led.{Registered, registered, IsRegistered};
-    ghost use Rattle.jb_book.specs.Marks.{IsMarked};
-    ghost use Rattle.std.specs.Prelude.{All};
+    ghost use Rattle.jb_book.specs.Marks.{AreOfBook};
 
     ghost Value = { Registered };
 
@@ -42,19 +41,19 @@ impl<D: Disk, S: Origin> Model for Register<D, S> {
 
     ghost view = { λ r. registered r.book r.scribe };
 
-    ghost invariant = { λ r. IsRegistered S.begun r.book r.scribe × All (IsMarked r.seen) r.book.trail };
+    ghost invariant = { λ r. IsRegistered r.book r.scribe × AreOfBook r.seen r.book };
 }
 
 impl<D: Disk, S: Origin> Register<D, S> {
     ghost use Rattle.jb_book.specs.Account.{IsStart, granted_to, dropped_of, taken_all, shortened};
     ghost use Rattle.jb_book.specs.Account.{failed_of, refusal, RefusesBegin, RefusesStop, CanTake};
     ghost use Rattle.jb_book.specs.Led.{IsInHistory, IsLed, IsSettling, IsOutAs, SettlesOrFails};
-    ghost use Rattle.jb_book.specs.Led.{FailsAfter, IsOfBegun, IsMachineRun, Queues};
-    ghost use Rattle.jb_book.specs.Marks.{HasFailedMark, IsMarked, SeesMore, SeesSame, SeesStop};
+    ghost use Rattle.jb_book.specs.Led.{FailsAfter, IsMachineRun, Queues};
+    ghost use Rattle.jb_book.specs.Marks.{HasFailedMark, HasShapeMark, IsMarked, SeesMore, SeesSame, SeesStop};
     ghost use Rattle.jb_book.specs.Origin.{AreStops};
 
-    /// A book in which nothing has happened yet, for a journal of this shape with so many usable log blocks, and a
-    /// history without an entry. Takes no memory.
+    /// A book in which nothing has happened yet, for a journal of this shape with so many usable log blocks, as was seen
+    /// at a mark, and a history without an entry. Takes no memory.
     pub fn new(
         alloc: Global,
         shape: Shape,
@@ -63,7 +62,7 @@ impl<D: Disk, S: Origin> Register<D, S> {
         seen: Sight<Deck<D>, Marks<S>>,
     ) -> Register<D, S>
         requires few { usable ≤ 2147483646 }
-        requires journal { IsOfBegun S.begun shape }
+        requires journal { HasShapeMark seen shape }
         requires fresh { scribe ≡ [] }
         ensures book { IsStart shape usable result.book }
         ensures log { result.log ≡ [] }
@@ -298,24 +297,21 @@ impl<D: Disk, S: Origin> Register<D, S> {
         &self.book
     }
 
-    /// Takes it apart, into the book's trail and the right to add to the history. The stops in the history and the
-    /// groups of the trail are those of events that the machine of handles accepts.
-    pub fn end(self) -> (Vec<Entry>, Scribe<Words, S>)
+    /// Takes it apart, into the book's trail, the right to add to the history, and the marks that were seen, at one of
+    /// which the journal had the book's shape. The stops in the history and the groups of the trail are those of events
+    /// that the machine of handles accepts.
+    pub fn end(self) -> (Vec<Entry>, Scribe<Words, S>, Sight<Deck<D>, Marks<S>>)
         ensures parts { (result.0.items ≡ self.book.trail) × (result.1 ≡ self.log) }
         ensures counted { length result.1 ≡ self.book.shadow.next }
         ensures tiles { (past : ℕ) × Follow (start_of result.0.items) 0 past result.0.items
             × (past ≤ self.book.shadow.next) }
         ensures run { IsMachineRun self.book.shape self.log result.0.items }
-        ensures journal { IsOfBegun S.begun self.book.shape }
+        ensures journal { HasShapeMark result.2 self.book.shape }
     {
         // that the book is sound is known by looking at it
         let _reserved = self.book.reserved();
-        let Register {
-            book,
-            scribe,
-            seen: _,
-        } = self;
-        (book.into_trail(), scribe)
+        let Register { book, scribe, seen } = self;
+        (book.into_trail(), scribe, seen)
     }
 }
 

@@ -1,14 +1,16 @@
 //! What is seen of the two histories of a desk.
 ghost use Rattle.std.specs.Prelude.{◌≡◌};
+ghost use Rattle.jb_history.specs.Rule.{with_last};
 
 use crate::origin::{Marks, Origin};
 use jb_deck::Deck;
 use jb_disk::Disk;
 use jb_handle::Words;
-use jb_history::{History, Sight};
+use jb_history::{History, Scribe, Sight};
 
-/// The two histories of a desk: the words of each handle that stopped, at its ticket, and the journal as it was after
-/// each round of a committer, its marks. Neither has bytes for what is in it.
+/// The two histories of a desk: the words of each handle that stopped, at its ticket, and its marks, which are the journal
+/// as it was when the desk was started, after each round of a committer and after each read. Neither has bytes for what
+/// is in it.
 #[derive(Drop)]
 pub struct Histories<D: Disk, S: Origin> {
     /// The handles that stopped.
@@ -28,6 +30,20 @@ pub struct Sights<D: Disk, S: Origin> {
 
 impl<D: Disk, S: Origin> Histories<D, S> {
     ghost use Rattle.jb_book.specs.Marks.{SeesMore, SeesSame};
+
+    /// Marks a journal as it is now, and sees all marks.
+    pub fn mark(
+        &self,
+        scribe: &mut Scribe<Deck<D>, Marks<S>>,
+        deck: &Deck<D>,
+    ) -> Sight<Deck<D>, Marks<S>>
+        ensures whole { scribe.new ≡ with_last scribe.old deck.now }
+        ensures sight { result ≡ scribe.new }
+    {
+        let mut made = self.marks.enter();
+        self.marks.add(scribe, &mut made, deck);
+        self.marks.show(scribe)
+    }
 
     /// Sees what another has seen, too.
     pub fn learn(&self, seen: &mut Sights<D, S>, other: &mut Sights<D, S>)

@@ -113,19 +113,17 @@ module _ {D : Type 0} (G : Ghosts D) (entry : D) (parts : List Part) where
     pub calls : Reaches (λ before. IsEnded G.newest) opened done now
     pub next : now.log.next ≡ opened.log.next + groups
     pub up : now.aborted ≡ false
-    pub honest : G.honest now.disk
     pub same_size : G.size now.disk ≡ size
     pub same_count : G.count now.disk ≡ count
     pub run : Runs now.disk
     pub part : (changes : List Change) (more : ℕ) → IsPartOf rest changes more → IsPartOf parts (done ++ changes) (groups + more)
 
-  pub begun : OpeningIsRecovered → (opened : OpenDeck D) → IsOpened opened → Kept G.size G.count G.honest entry opened.disk → G.honest entry
+  pub begun : OpeningIsRecovered → (opened : OpenDeck D) → IsOpened opened → Kept G.size G.count G.honest entry opened.disk
       → LeavesOnly G.moment G.left_since entry opened.disk (λ c. G.may_leave entry c ⊎ FollowsEntry size count base c) → SoFar opened parts [] 0 opened
-  begun opening opened is kept honest run = record {
+  begun opening opened is kept run = record {
     calls = at_first;
     next = omega arith;
     up = is.new.aborted;
-    honest = kept.stays_honest honest;
     same_size = kept.same_size;
     same_count = kept.same_count;
     run = opening-runs opening opened.disk run;
@@ -187,7 +185,6 @@ module _ {D : Type 0} (G : Ghosts D) (entry : D) (parts : List Part) where
             calls = one_more done now [] new so.calls ended;
             next = next ∙ so.next;
             up = up;
-            honest = kept.stays_honest so.honest;
             same_size = kept.same_size ∙ so.same_size;
             same_count = kept.same_count ∙ so.same_count;
             run = run;
@@ -211,7 +208,6 @@ module _ {D : Type 0} (G : Ghosts D) (entry : D) (parts : List Part) where
         calls = one_more done now hs new so.calls ended;
         next = (let was = so.next in let is_next : new.log.next ≡ opened.log.next + (groups + groups_in batch.groups) = omega (arith, next, was) in is_next);
         up = up;
-        honest = kept.stays_honest so.honest;
         same_size = kept.same_size ∙ so.same_size;
         same_count = kept.same_count ∙ so.same_count;
         run = commit-runs new.disk run;
@@ -237,7 +233,6 @@ module _ {D : Type 0} (G : Ghosts D) (entry : D) (parts : List Part) where
         calls = one_more done now (fills home bytes ∷ []) new so.calls ended;
         next = next ∙ so.next;
         up = up;
-        honest = kept.stays_honest so.honest;
         same_size = kept.same_size ∙ so.same_size;
         same_count = kept.same_count ∙ so.same_count;
         run = run;

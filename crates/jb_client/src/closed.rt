@@ -28,11 +28,11 @@ pub fn commit_and_close<D: Disk>(
     batch: Prepared,
     stamp: Stamp,
 ) -> Result<D, D>
-    ensures all { D.honest disk → IfOk result (λ closed. LeavesAll D.may_leave (D.size disk) (D.count disk)
-        (D.newest disk) batch.batch.handles (groups_in batch.groups) closed) }
-    ensures leaves { D.honest disk → LeavesOnly D.moment D.left_since disk (disk_either result)
+    ensures all { D.honest (disk_either result) → IfOk result (λ closed. LeavesAll D.may_leave (D.size disk)
+        (D.count disk) (D.newest disk) batch.batch.handles (groups_in batch.groups) closed) }
+    ensures leaves { D.honest (disk_either result) → LeavesOnly D.moment D.left_since disk (disk_either result)
         (λ c. D.may_leave disk c ⊎ LeftByProgram (D.size disk) (D.count disk) (D.newest disk) (commits batch ∷ []) c) }
-    ensures ends { D.honest disk → IfOk result (λ closed. AllHave D.may_leave closed
+    ensures ends { D.honest (disk_either result) → IfOk result (λ closed. AllHave D.may_leave closed
         (HasChanges (D.size disk) (D.count disk) (D.newest disk) (all_changes (commits batch ∷ []))
         (groups_in batch.groups))) }
     ensures kept { Kept D.size D.count D.honest disk (disk_either result) }

@@ -49,12 +49,12 @@ pub(crate) fn commit<D: Disk>(
     ensures kept { Kept D.size D.count D.honest deck.old.disk deck.new.disk }
     ensures up { OnOk result ((deck.old.aborted ≡ false) × (deck.new.aborted ≡ false)) }
     ensures numbers { OnOk result (deck.new.log.next ≡ deck.old.log.next + groups_in batch.groups) }
-    ensures ended { D.honest deck.old.disk → OnOk result (IsEnded D.newest deck.old
+    ensures ended { D.honest deck.new.disk → OnOk result (IsEnded D.newest deck.old
         (map settles batch.batch.handles) deck.new) }
-    ensures left { deck.old.aborted ≡ false → D.honest deck.old.disk
+    ensures left { deck.old.aborted ≡ false → D.honest deck.new.disk
         → LeavesOnly D.moment D.left_since deck.old.disk deck.new.disk
         (LeftInCommit D.newest (D.size deck.old.disk) (D.count deck.old.disk) deck.old batch) }
-    ensures now { deck.old.aborted ≡ false → D.honest deck.old.disk
+    ensures now { deck.old.aborted ≡ false → D.honest deck.new.disk
         → OnOk result (AllHave D.may_leave deck.new.disk
         (FollowsSome deck.old.log.sb deck.old.log.next (D.size deck.old.disk) (D.count deck.old.disk)
         (standing deck.old.log deck.old.groups (D.newest deck.old.disk)) batch.batch.handles batch.groups

@@ -43,10 +43,10 @@ pub(crate) fn run<D: Disk>(
     checkpoint: bool,
 ) -> (D, bool)
     ensures kept { Kept D.size D.count D.honest disk result.0 }
-    ensures leaves { D.honest disk → LeavesOnly D.moment D.left_since disk result.0
+    ensures leaves { D.honest result.0 → LeavesOnly D.moment D.left_since disk result.0
         (λ c. D.may_leave disk c
         ⊎ LeftByLife (D.size disk) (D.count disk) (D.newest disk) handles.items false c) }
-    ensures ends { D.honest disk → result.1 ≡ true → AllHave D.may_leave result.0
+    ensures ends { D.honest result.0 → result.1 ≡ true → AllHave D.may_leave result.0
         (LeftByLife (D.size disk) (D.count disk) (D.newest disk) handles.items true) }
 {
     jb_deck::laws::since::<D>();

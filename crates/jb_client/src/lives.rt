@@ -1,7 +1,7 @@
 //! Lives of a journal in memory, each of which ends with a crash, and with another one while that is recovered.
 ghost use Rattle.std.specs.Prelude.{◌≡◌, ◌⊎◌, ℕ, [], false, map, true, IfOk, List};
 ghost use Rattle.jb_block.specs.Size.{bytes_of};
-ghost use Rattle.jb_disk.specs.History.{newest_of, IsSound};
+ghost use Rattle.jb_disk.specs.History.{newest_of};
 ghost use Rattle.jb_disk.specs.Image.{Only};
 ghost use Rattle.jb_disk.specs.Kept.{Kept};
 ghost use Rattle.jb_disk.specs.Time.{LeavesOnly};
@@ -59,12 +59,13 @@ pub struct Lived {
 /// The fault of a recovery that was not cut short, or `Memory` where there is none for the disk after a crash or for
 /// the report.
 pub fn run_lives(alloc: Global, disk: MemoryDisk, lives: Vec<Life>) -> Result<Lived, RecoverFault>
-    ensures lives { IsSound disk → IfOk result (λ lived. HasLives (bytes_of disk.size) disk.count
+    ensures lives { IfOk result (λ lived. HasLives (bytes_of disk.size) disk.count
         (map (λ life. life.handles.items) lives.items) lived.committed.items (newest_of disk) (newest_of lived.disk)) }
 {
     jb_recover::laws::recovered();
     let mut disk = disk;
     recover(alloc, &mut disk)?;
+    disk.always_sound();
     let mut committed = Vec::new(alloc);
     for life in lives {
         let (next, reported) = live(alloc, disk, life)?;
@@ -104,17 +105,21 @@ fn live(alloc: Global, disk: MemoryDisk, life: Life) -> Result<(MemoryDisk, bool
         stamp,
         checkpoint,
     );
-    let crashed = last.into_inner().crash(&end.choice)?;
-    let cut = recover_in_part(alloc, FuseDisk::of(crashed, again.calls));
-    let mut disk = cut.into_inner().crash(&again.choice)?;
+    let last = last.into_inner();
+    last.always_sound();
+    let crashed = last.crash(&end.choice)?;
+    let cut = recover_in_part(alloc, FuseDisk::of(crashed, again.calls)).into_inner();
+    cut.always_sound();
+    let mut disk = cut.crash(&again.choice)?;
     recover(alloc, &mut disk)?;
+    disk.always_sound();
     Ok((disk, committed))
 }
 
 /// The disk after a recovery, whatever that answers.
 fn recover_in_part<D: Disk>(alloc: Global, disk: D) -> D
     ensures kept { Kept D.size D.count D.honest disk result }
-    ensures leaves { D.honest disk → Only (D.newest disk) (D.may_leave disk)
+    ensures leaves { D.honest result → Only (D.newest disk) (D.may_leave disk)
         → LeavesOnly D.moment D.left_since disk result
         (RecoversAs (D.size disk) (D.count disk) (D.newest disk)) }
 {

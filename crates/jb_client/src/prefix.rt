@@ -30,10 +30,10 @@ pub fn commit_three<D: Disk + Drop>(
     third: Prepared,
     stamp: Stamp,
 ) -> Result<Deck<D>, D>
-    ensures prefix { D.honest disk → IfOk result (λ deck. LeavesPrefix D.may_leave D.moment D.left_since (D.size disk)
-        (D.count disk) (D.newest disk) (first.batch.handles ++ second.batch.handles)
+    ensures prefix { D.honest (disk_after result) → IfOk result (λ deck. LeavesPrefix D.may_leave D.moment
+        D.left_since (D.size disk) (D.count disk) (D.newest disk) (first.batch.handles ++ second.batch.handles)
         (groups_in first.groups + groups_in second.groups) third deck.disk) }
-    ensures leaves { D.honest disk → LeavesOnly D.moment D.left_since disk (disk_after result)
+    ensures leaves { D.honest (disk_after result) → LeavesOnly D.moment D.left_since disk (disk_after result)
         (λ c. D.may_leave disk c ⊎ LeftByProgram (D.size disk) (D.count disk) (D.newest disk)
         (commits first ∷ commits second ∷ commits third ∷ []) c) }
 {

@@ -30,11 +30,11 @@ pub fn reuse_home<D: Disk>(
     second: Prepared,
     stamp: Stamp,
 ) -> Result<D, D>
-    ensures read { D.honest disk → OnOk result (buf.new ≡ bytes.now) }
-    ensures leaves { D.honest disk → LeavesOnly D.moment D.left_since disk (disk_either result)
+    ensures read { D.honest (disk_either result) → OnOk result (buf.new ≡ bytes.now) }
+    ensures leaves { D.honest (disk_either result) → LeavesOnly D.moment D.left_since disk (disk_either result)
         (λ c. D.may_leave disk c ⊎ LeftByProgram (D.size disk) (D.count disk) (D.newest disk)
         (commits first ∷ writes home bytes.now ∷ commits second ∷ []) c) }
-    ensures ends { D.honest disk → IfOk result (λ closed. AllHave D.may_leave closed
+    ensures ends { D.honest (disk_either result) → IfOk result (λ closed. AllHave D.may_leave closed
         (HasChanges (D.size disk) (D.count disk) (D.newest disk)
         (all_changes (commits first ∷ writes home bytes.now ∷ commits second ∷ []))
         (groups_in first.groups + groups_in second.groups))) }

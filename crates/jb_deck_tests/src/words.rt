@@ -10,7 +10,7 @@ pub fn says(alloc: Global, fault: &BatchFault, why: Refusal) -> bool {
         return false
     };
     let wanted = match why {
-        Refusal::Aborted => "the journal has failed; recover it and open it again",
+        Refusal::Aborted => "the journal has failed; start the program anew and recover it",
         Refusal::WrongTicket(_) => "the batch does not begin at ticket ",
         Refusal::OtherShape => {
             "the batch is for a journal of another shape; prepare it for this one"
@@ -19,7 +19,8 @@ pub fn says(alloc: Global, fault: &BatchFault, why: Refusal) -> bool {
             "no transaction number is left; close the journal and renumber it"
         }
         Refusal::Memory => "out of memory; commit the batch again",
-        Refusal::DeviceFault(_) => "the disk failed; recover the journal and open it again",
+        Refusal::DeviceFault(_) =>
+            "the disk failed; start the program anew and recover the journal",
     };
     match why {
         Refusal::WrongTicket(ticket) => {

@@ -2,7 +2,7 @@
 use Rattle.std.proofs.Common.{append_assoc, append-nil, map, ◌≡◌, ℕ, List, [], ◌∷◌, ◌++◌, length, All, get_or, false, sym, ap, subst, ◌∙◌, arith, refl}
 use Rattle.std.proofs.lemmas.List.Elements.{All-push, All-weaker}
 use mathlib.Core.List.{IsPrefix}
-use Rattle.jb_disk.specs.Image.{Image}
+use Rattle.jb_disk.specs.declared.disk.Disk.{Ghosts}
 use Rattle.jb_deck.specs.Deck.{OpenDeck}
 use Rattle.jb_deck.specs.Done.{past_after}
 use Rattle.jb_cost.specs.Pieces.{joined}
@@ -27,8 +27,8 @@ pub all-stops : (b : Begun) (xs ys : List WordMap) → IsPrefix xs ys → (hs : 
 all-stops b xs ys p hs stops stand k d lt = let h = get_or hs k d in (stops k d lt, placed_on xs ys p (h.ticket, h.words) (stand k d lt))
 
 -- a journal that has committed nothing was given no handle, so anything is known of each
-pub none-given : {D : Type 0} (size count faults : D → ℕ) (honest : D → Type 0) (newest : D → Image) (may_leave : D → Image → Type 0) (moment : D → ℕ) (left_since : D → ℕ → Image → Type 0) (b : Begun) (known : Stopped → Type 0) (d : OpenDeck D) → d.trail ≡ [] → d.aborted ≡ false → IsSince size count faults honest newest may_leave moment left_since b d → IsSinceOf size count faults honest newest may_leave moment left_since b known d
-none-given size count faults honest newest may_leave moment left_since b known d fresh up is =
+pub none-given : {D : Type 0} (G : Ghosts D) (b : Begun) (known : Stopped → Type 0) (d : OpenDeck D) → d.trail ≡ [] → d.aborted ≡ false → IsSince G b d → IsSinceOf G b known d
+none-given G b known d fresh up is =
     let none : length is.given ≡ 0 = is.has.all up ∙ ap (past_after 0) fresh in
     record {
       given = is.given;

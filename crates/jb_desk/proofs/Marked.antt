@@ -9,6 +9,7 @@ use Rattle.jb_batch.specs.Prepared.{Planned, IsPlanned}
 use Rattle.jb_block.specs.declared.stamp.Stamp.{Stamp}
 use Rattle.jb_disk.specs.Image.{Image}
 use Rattle.jb_disk.specs.Kept.{Kept}
+use Rattle.jb_disk.specs.declared.disk.Disk.{Ghosts}
 use Rattle.jb_disk.specs.Time.{LeavesOnly}
 use Rattle.jb_handle.specs.Tickets.{TicketsFrom}
 use Rattle.jb_handle.specs.declared.stopped.Stopped.{Stopped}
@@ -35,7 +36,7 @@ use Rattle.jb_ring.specs.Follows.{FollowsNone}
 use Rattle.jb_book.specs.Marks.{HasEntry, HasFailedMark, IsMarked}
 use Rattle.jb_book.specs.Origin.{Begun}
 use Rattle.jb_desk.specs.Marks.{HasSettledOf, IsMarkedOf, Lasts, MarksSettled, Within}
-use Rattle.jb_desk.specs.Since.{HasFirst, IsSince, IsSinceOf, Since, WasGiven}
+use Rattle.jb_desk.specs.Since.{HasFirst, IsSince, Since, WasGiven}
 use Rattle.jb_desk.proofs.Firsts.{first-longer, first-none}
 use Rattle.jb_desk.proofs.Histories.{none-given}
 use Rattle.jb_desk.proofs.Readings.{read-given, read-since, unread-given}
@@ -100,54 +101,58 @@ module _ {D : Type 0} where
 
 -- ---- since the start
 
-module _ {D : Type 0} (size count faults : D → ℕ) (honest : D → Type 0) (newest : D → Image) (may_leave : D → Image → Type 0) (moment : D → ℕ) (left_since : D → ℕ → Image → Type 0) (counts_now : (disk : D) (t : ℕ) (c : Image) → honest disk → t ≤ moment disk → may_leave disk c → left_since disk t c) (b : Begun) (known : Stopped → Type 0) (plain : (h : Stopped) → known h → b.stops h.words) where
+module _ {D : Type 0} (G : Ghosts D) (counts_now : (disk : D) (t : ℕ) (c : Image) → G.honest disk → t ≤ G.moment disk → G.may_leave disk c → G.left_since disk t c) (b : Begun) (known : Stopped → Type 0) (plain : (h : Stopped) → known h → b.stops h.words) where
   abbrev Is : List (OpenDeck D) → OpenDeck D → Type 0
-  Is ms d = IsMarkedOf size count faults honest newest may_leave moment left_since b known ms d
+  Is ms d = IsMarkedOf G b known ms d
 
   abbrev Stands : List Stopped → OpenDeck D → Type 0
-  Stands given d = Since size count faults honest newest may_leave moment left_since b given d
+  Stands given d = Since G b given d
 
   abbrev Last : List Stopped → OpenDeck D → OpenDeck D → Type 0
-  Last given d m = Lasts moment left_since b given d m
+  Last given d m = Lasts G b given d m
 
   lower : (given : List Stopped) (low least : ℕ) (c : Image) → low ≤ least → HasFirst b given least c → HasFirst b given low c
   lower given low least c less f = record { many = f.many; from = (let from = f.from in omega (arith, less, from)); to = f.to; next = f.next; number = f.number; recovered = f.recovered }
 
   -- a mark of now lasts
-  lasts-now : ((disk : D) (c : Image) → honest disk → left_since disk (moment disk) c → may_leave disk c) → (given : List Stopped) (d : OpenDeck D) → Within d.trail → (b.honest → Stands given d) → Last given d d
+  lasts-now : ((disk : D) (c : Image) → G.honest disk → G.left_since disk (G.moment disk) c → G.may_leave disk c) → (given : List Stopped) (d : OpenDeck D) → Within d.trail → (b.is_known → G.honest d.disk → Stands given d) → Last given d d
   lasts-now only_now given d tiles s = record {
     has = record { tiles = tiles; settled = omega arith };
-    earlier = λ h. omega arith;
-    leaves = λ h c left. (s h).now c (only_now d.disk c (s h).stays_honest left);
+    same_shape = refl;
+    was_honest = λ held. held;
+    earlier = λ known_start held. omega arith;
+    leaves = λ known_start held c left. (s known_start held).now c (only_now d.disk c held left);
   }
 
   -- a mark is added
-  pub marked-now : ((disk : D) (c : Image) → honest disk → left_since disk (moment disk) c → may_leave disk c) → (ms : List (OpenDeck D)) (d : OpenDeck D) → Follow (start_of d.trail) 0 (past_after 0 d.trail) d.trail → Is ms d → Is (ms ++ d ∷ []) d
+  pub marked-now : ((disk : D) (c : Image) → G.honest disk → G.left_since disk (G.moment disk) c → G.may_leave disk c) → (ms : List (OpenDeck D)) (d : OpenDeck D) → Follow (start_of d.trail) 0 (past_after 0 d.trail) d.trail → Is ms d → Is (ms ++ d ∷ []) d
   marked-now only_now ms d tiles is = record {
     since = is.since;
     marks_last = All-push (Last is.since.given d) ms d is.marks_last (lasts-now only_now is.since.given d (within-tiles d.trail tiles) is.since.since);
   }
 
   -- a call after which as many are settled, and since which a crash leaves what it could leave before, or all that were settled
-  kept-one : (given after : List Stopped) (old new : OpenDeck D) → past_after 0 old.trail ≤ past_after 0 new.trail → (b.honest → moment old.disk ≤ moment new.disk)
+  kept-one : (given after : List Stopped) (old new : OpenDeck D) → new.shape ≡ old.shape → (G.honest new.disk → G.honest old.disk) → past_after 0 old.trail ≤ past_after 0 new.trail → (b.is_known → G.honest new.disk → G.moment old.disk ≤ G.moment new.disk)
       → ((least : ℕ) (c : Image) → HasFirst b given least c → HasFirst b after least c)
-      → (b.honest → (t : ℕ) (c : Image) → t ≤ moment old.disk → left_since new.disk t c → left_since old.disk t c ⊎ HasFirst b after (past_after 0 old.trail) c)
+      → (b.is_known → G.honest new.disk → (t : ℕ) (c : Image) → t ≤ G.moment old.disk → G.left_since new.disk t c → G.left_since old.disk t c ⊎ HasFirst b after (past_after 0 old.trail) c)
       → (m : OpenDeck D) → Last given old m → Last after new m
-  kept-one given after old new up later longer before m l = record {
+  kept-one given after old new shape was_honest up later longer before m l = record {
     has = record { tiles = l.has.tiles; settled = let was = l.has.settled in omega (arith, was, up) };
-    earlier = λ h. (let was = l.earlier h in let on = later h in omega (arith, was, on));
-    leaves = λ h c left.
+    same_shape = shape ∙ l.same_shape;
+    was_honest = λ held. l.was_honest (was_honest held);
+    earlier = λ known_start held. (let was = l.earlier known_start (was_honest held) in let on = later known_start held in omega (arith, was, on));
+    leaves = λ known_start held c left.
         ⊎_elim
-        (λ (was : left_since old.disk (moment m.disk) c). longer (past_after 0 m.trail) c (l.leaves h c was))
+        (λ (was : G.left_since old.disk (G.moment m.disk) c). longer (past_after 0 m.trail) c (l.leaves known_start (was_honest held) c was))
         (λ (f : HasFirst b after (past_after 0 old.trail) c). lower after (past_after 0 m.trail) (past_after 0 old.trail) c l.has.settled f)
-        (before h (moment m.disk) c (l.earlier h) left);
+        (before known_start held (G.moment m.disk) c (l.earlier known_start (was_honest held)) left);
   }
 
-  kept-all : (given after : List Stopped) (old new : OpenDeck D) → past_after 0 old.trail ≤ past_after 0 new.trail → (b.honest → moment old.disk ≤ moment new.disk)
+  kept-all : (given after : List Stopped) (old new : OpenDeck D) → new.shape ≡ old.shape → (G.honest new.disk → G.honest old.disk) → past_after 0 old.trail ≤ past_after 0 new.trail → (b.is_known → G.honest new.disk → G.moment old.disk ≤ G.moment new.disk)
       → ((least : ℕ) (c : Image) → HasFirst b given least c → HasFirst b after least c)
-      → (b.honest → (t : ℕ) (c : Image) → t ≤ moment old.disk → left_since new.disk t c → left_since old.disk t c ⊎ HasFirst b after (past_after 0 old.trail) c)
+      → (b.is_known → G.honest new.disk → (t : ℕ) (c : Image) → t ≤ G.moment old.disk → G.left_since new.disk t c → G.left_since old.disk t c ⊎ HasFirst b after (past_after 0 old.trail) c)
       → (ms : List (OpenDeck D)) → All (Last given old) ms → All (Last after new) ms
-  kept-all given after old new up later longer before ms each = All-weaker (Last given old) (Last after new) (λ m l. kept-one given after old new up later longer before m l) ms each
+  kept-all given after old new shape was_honest up later longer before ms each = All-weaker (Last given old) (Last after new) (λ m l. kept-one given after old new shape was_honest up later longer before m l) ms each
 
   -- the handles are those that were given
   last-of : (given after : List Stopped) (d : OpenDeck D) (ms : List (OpenDeck D)) → given ≡ after → All (Last after d) ms → All (Last given d) ms
@@ -155,58 +160,58 @@ module _ {D : Type 0} (size count faults : D → ℕ) (honest : D → Type 0) (n
 
   -- ---- a batch
 
-  module _ (p : Planned) (stamp : Stamp) (old new : OpenDeck D) (planned : IsPlanned p) (tickets : TicketsFrom p.batch.first p.batch.handles) (stopped : All known p.batch.handles) (kept : Kept size count honest old.disk new.disk) where
+  module _ (p : Planned) (stamp : Stamp) (old new : OpenDeck D) (planned : IsPlanned p) (tickets : TicketsFrom p.batch.first p.batch.handles) (stopped : All known p.batch.handles) (kept : Kept G.size G.count G.honest old.disk new.disk) where
     abbrev hs : List Stopped
     hs = p.batch.handles
 
     abbrev Left : ℕ → ℕ → Image → Type 0
-    Left least most c = FollowsSome old.log.sb old.log.next (size old.disk) (count old.disk) (deck_homes newest old) hs p.groups least most c
+    Left least most c = FollowsSome old.log.sb old.log.next (G.size old.disk) (G.count old.disk) (deck_homes G.newest old) hs p.groups least most c
 
     abbrev Leaves : Type 0
-    Leaves = old.aborted ≡ false → honest old.disk → LeavesOnly moment left_since old.disk new.disk (Left 0 (groups_in p.groups))
+    Leaves = old.aborted ≡ false → G.honest new.disk → LeavesOnly G.moment G.left_since old.disk new.disk (Left 0 (groups_in p.groups))
 
     abbrev Now : Result Done BatchFault → Type 0
-    Now r = old.aborted ≡ false → honest old.disk → (c : Image) → may_leave new.disk c → LeavesGroups old.log.sb old.log.next (size old.disk) (count old.disk) (deck_homes newest old) p r c
+    Now r = old.aborted ≡ false → G.honest new.disk → (c : Image) → G.may_leave new.disk c → LeavesGroups old.log.sb old.log.next (G.size old.disk) (G.count old.disk) (deck_homes G.newest old) p r c
 
-    batch-before : (given : List Stopped) (has : WasGiven known given old) (takes : TakesBatch old p) → Leaves → (b.honest → Stands given old)
-        → b.honest → (t : ℕ) (c : Image) → t ≤ moment old.disk → left_since new.disk t c → left_since old.disk t c ⊎ HasFirst b (given ++ hs) (past_after 0 old.trail) c
-    batch-before given has takes leaves stands h t c earlier left =
-        let s = stands h in
-        let l = leaves takes.up s.stays_honest in
+    batch-before : (given : List Stopped) (has : WasGiven known given old) (takes : TakesBatch old p) → Leaves → (b.is_known → G.honest old.disk → Stands given old)
+        → b.is_known → G.honest new.disk → (t : ℕ) (c : Image) → t ≤ G.moment old.disk → G.left_since new.disk t c → G.left_since old.disk t c ⊎ HasFirst b (given ++ hs) (past_after 0 old.trail) c
+    batch-before given has takes leaves stands known_start held t c earlier left =
+        let s = stands known_start (kept.was_honest held) in
+        let l = leaves takes.up held in
         let settled = has.settled in
         let low : past_after 0 old.trail ≤ length given + slice_index p.groups 0 = omega (arith, settled) in
         ⊎_elim
-        (λ (was : left_since old.disk t c). inl was)
-        (λ (f : Left 0 (groups_in p.groups) c). inr (has-some size count faults honest newest may_leave moment left_since counts_now b known plain p stamp old new planned tickets stopped kept given has takes s l 0 (groups_in p.groups) (past_after 0 old.trail) c (omega arith) low f))
+        (λ (was : G.left_since old.disk t c). inl was)
+        (λ (f : Left 0 (groups_in p.groups) c). inr (has-some G counts_now b known plain p stamp old new planned tickets stopped kept given has takes s l 0 (groups_in p.groups) (past_after 0 old.trail) c (omega arith) low f))
         (l.before t c earlier left)
 
-    batch-kept : (given : List Stopped) (has : WasGiven known given old) (takes : TakesBatch old p) → Leaves → (b.honest → Stands given old) → past_after 0 old.trail ≤ past_after 0 new.trail
+    batch-kept : (given : List Stopped) (has : WasGiven known given old) (takes : TakesBatch old p) → Leaves → (b.is_known → G.honest old.disk → Stands given old) → new.shape ≡ old.shape → past_after 0 old.trail ≤ past_after 0 new.trail
         → (ms : List (OpenDeck D)) → All (Last given old) ms → All (Last (given ++ hs) new) ms
-    batch-kept given has takes leaves stands up ms each =
-        kept-all given (given ++ hs) old new up (λ h. (leaves takes.up (stands h).stays_honest).later) (λ least c f. first-longer b given hs least c f) (batch-before given has takes leaves stands) ms each
+    batch-kept given has takes leaves stands shape up ms each =
+        kept-all given (given ++ hs) old new shape kept.was_honest up (λ known_start held. (leaves takes.up held).later) (λ least c f. first-longer b given hs least c f) (batch-before given has takes leaves stands) ms each
 
     up-ok : (done : Done) → TakesBatch old p → CommitsBatch p stamp old new done → past_after 0 old.trail ≤ past_after 0 new.trail
     up-ok done takes commits =
-        let past = past-all size count faults honest newest may_leave moment left_since counts_now b known plain p stamp old new planned tickets stopped kept done takes.ticket commits in
+        let past = past-all G counts_now b known plain p stamp old new planned tickets stopped kept done takes.ticket commits in
         let at = takes.ticket in
         omega (arith, past, at)
 
     up-some : (settled : Done) → TakesBatch old p → SettlesSome p stamp old new settled → past_after 0 old.trail ≤ past_after 0 new.trail
     up-some settled takes some =
         let few = some.some in
-        let past = past-some size count faults honest newest may_leave moment left_since counts_now b known plain p stamp old new planned tickets stopped kept some.groups (entries_of settled) (omega (arith, few)) takes.ticket some.trail some.entries in
+        let past = past-some G counts_now b known plain p stamp old new planned tickets stopped kept some.groups (entries_of settled) (omega (arith, few)) takes.ticket some.trail some.entries in
         let at = takes.ticket in
         omega (arith, past, at)
 
     -- whatever it answered
-    pub commit-marked : (ms : List (OpenDeck D)) (r : Result Done BatchFault) → AnswersBatch (faults old.disk) (faults new.disk) p stamp old new r → (honest old.disk → OnOk r (CommitsOnDisk newest p stamp old new)) → Leaves → Now r → Is ms old → Is ms new
+    pub commit-marked : (ms : List (OpenDeck D)) (r : Result Done BatchFault) → AnswersBatch (G.faults old.disk) (G.faults new.disk) p stamp old new r → (G.honest new.disk → OnOk r (CommitsOnDisk G.newest p stamp old new)) → Leaves → Now r → Is ms old → Is ms new
     commit-marked ms (Ok done) answers on_disk leaves now is =
-        let since = commit-since size count faults honest newest may_leave moment left_since counts_now b known plain p stamp old new planned tickets stopped kept (Ok done) answers on_disk leaves now is.since in
+        let since = commit-since G counts_now b known plain p stamp old new planned tickets stopped kept (Ok done) answers on_disk leaves now is.since in
         record {
           since = since;
           marks_last = last-of since.given (is.since.given ++ hs) new ms
-              (committed-given size count faults honest newest may_leave moment left_since counts_now b known plain p stamp old new planned tickets stopped kept leaves is.since done answers on_disk now)
-              (batch-kept is.since.given is.since.has answers.0 leaves is.since.since (up-ok done answers.0 answers.2) ms is.marks_last);
+              (committed-given G counts_now b known plain p stamp old new planned tickets stopped kept leaves is.since done answers on_disk now)
+              (batch-kept is.since.given is.since.has answers.0 leaves is.since.since answers.2.shape (up-ok done answers.0 answers.2) ms is.marks_last);
         }
     commit-marked ms (Err (batch.Aborted back)) answers on_disk leaves now is = subst (λ (d : OpenDeck D). Is ms d) (sym answers.2) is
     commit-marked ms (Err (batch.WrongTicket back expected)) answers on_disk leaves now is = subst (λ (d : OpenDeck D). Is ms d) (sym answers.4) is
@@ -214,110 +219,112 @@ module _ {D : Type 0} (size count faults : D → ℕ) (honest : D → Type 0) (n
     commit-marked ms (Err (batch.NumbersSpent back)) answers on_disk leaves now is = subst (λ (d : OpenDeck D). Is ms d) (sym answers.5) is
     commit-marked ms (Err (batch.Memory back)) answers on_disk leaves now is = subst (λ (d : OpenDeck D). Is ms d) (sym answers.3) is
     commit-marked ms (Err (batch.DeviceFault settled)) answers on_disk leaves now is =
-        let since = commit-since size count faults honest newest may_leave moment left_since counts_now b known plain p stamp old new planned tickets stopped kept (Err (batch.DeviceFault settled)) answers on_disk leaves now is.since in
+        let since = commit-since G counts_now b known plain p stamp old new planned tickets stopped kept (Err (batch.DeviceFault settled)) answers on_disk leaves now is.since in
         record {
           since = since;
           marks_last = last-of since.given (is.since.given ++ hs) new ms
-              (faulted-given size count faults honest newest may_leave moment left_since counts_now b known plain p stamp old new planned tickets stopped kept leaves is.since settled answers on_disk now)
-              (batch-kept is.since.given is.since.has answers.0 leaves is.since.since (up-some settled answers.0 answers.2) ms is.marks_last);
+              (faulted-given G counts_now b known plain p stamp old new planned tickets stopped kept leaves is.since settled answers on_disk now)
+              (batch-kept is.since.given is.since.has answers.0 leaves is.since.since answers.2.shape (up-some settled answers.0 answers.2) ms is.marks_last);
         }
 
   -- ---- calls that give nothing
 
-  module _ (old new : OpenDeck D) (kept : Kept size count honest old.disk new.disk) where
+  module _ (old new : OpenDeck D) (kept : Kept G.size G.count G.honest old.disk new.disk) where
     abbrev Unmoved : Image → Type 0
-    Unmoved c = FollowsNone old.log.sb old.log.next (size old.disk) (count old.disk) (deck_homes newest old) c
+    Unmoved c = FollowsNone old.log.sb old.log.next (G.size old.disk) (G.count old.disk) (deck_homes G.newest old) c
 
-    none-kept : (given : List Stopped) (has : WasGiven known given old) → old.aborted ≡ false → new.trail ≡ old.trail → (P : Image → Type 0) → ((c : Image) → P c → Unmoved c) → (old.aborted ≡ false → honest old.disk → LeavesOnly moment left_since old.disk new.disk P) → (b.honest → Stands given old)
+    none-kept : (given : List Stopped) (has : WasGiven known given old) → old.aborted ≡ false → new.trail ≡ old.trail → new.shape ≡ old.shape → (P : Image → Type 0) → ((c : Image) → P c → Unmoved c) → (old.aborted ≡ false → G.honest new.disk → LeavesOnly G.moment G.left_since old.disk new.disk P) → (b.is_known → G.honest old.disk → Stands given old)
         → (ms : List (OpenDeck D)) → All (Last given old) ms → All (Last given new) ms
-    none-kept given has up trail P gives leaves stands ms each =
+    none-kept given has up trail shape P gives leaves stands ms each =
         let same : past_after 0 new.trail ≡ past_after 0 old.trail = ap (past_after 0) trail in
-        kept-all given given old new (omega (arith, same)) (λ h. (leaves up (stands h).stays_honest).later) (λ least c f. f)
-        (λ h t c earlier left. (
-        let s = stands h in
+        kept-all given given old new shape kept.was_honest (omega (arith, same)) (λ known_start held. (leaves up held).later) (λ least c f. f)
+        (λ known_start held t c earlier left. (
+        let s = stands known_start (kept.was_honest held) in
         ⊎_elim
-        (λ (was : left_since old.disk t c). inl was)
-        (λ (f : P c). inr (first-none b old.log.sb s.same (size old.disk) (count old.disk) s.same_size s.same_count given (deck_homes newest old) (s.stood up) (past_after 0 old.trail) old.log.next c has.settled s.number (gives c f)))
-        ((leaves up s.stays_honest).before t c earlier left)))
+        (λ (was : G.left_since old.disk t c). inl was)
+        (λ (f : P c). inr (first-none b old.log.sb s.same (G.size old.disk) (G.count old.disk) s.same_size s.same_count given (deck_homes G.newest old) (s.stood up) (past_after 0 old.trail) old.log.next c has.settled s.number (gives c f)))
+        ((leaves up held).before t c earlier left)))
         ms each
 
-    pub checkpoint-marked : (ms : List (OpenDeck D)) (r : Result Checked CheckpointFault) → AnswersCheckpoint (faults old.disk) (faults new.disk) old new r → (honest old.disk → OnOk r (Checkpoints newest old new)) → (old.aborted ≡ false → honest old.disk → LeavesOnly moment left_since old.disk new.disk Unmoved) → Is ms old → Is ms new
+    pub checkpoint-marked : (ms : List (OpenDeck D)) (r : Result Checked CheckpointFault) → AnswersCheckpoint (G.faults old.disk) (G.faults new.disk) old new r → (G.honest new.disk → OnOk r (Checkpoints G.newest old new)) → (old.aborted ≡ false → G.honest new.disk → LeavesOnly G.moment G.left_since old.disk new.disk Unmoved) → Is ms old → Is ms new
     checkpoint-marked ms (Ok checked) answers checkpoints leaves is =
-        let since = checkpoint-since size count faults honest newest may_leave moment left_since counts_now b known plain old new kept (Ok checked) answers checkpoints leaves is.since in
+        let since = checkpoint-since G counts_now b known plain old new kept (Ok checked) answers checkpoints leaves is.since in
         record {
           since = since;
-          marks_last = last-of since.given is.since.given new ms (checked-given size count faults honest newest may_leave moment left_since counts_now b known plain old new kept leaves is.since checked answers checkpoints)
-              (none-kept is.since.given is.since.has answers.0 answers.2.trail Unmoved (λ c f. f) leaves is.since.since ms is.marks_last);
+          marks_last = last-of since.given is.since.given new ms (checked-given G counts_now b known plain old new kept leaves is.since checked answers checkpoints)
+              (none-kept is.since.given is.since.has answers.0 answers.2.trail answers.2.shape Unmoved (λ c f. f) leaves is.since.since ms is.marks_last);
         }
     checkpoint-marked ms (Err checkpoint.Aborted) answers checkpoints leaves is = subst (λ (d : OpenDeck D). Is ms d) (sym answers.1) is
     checkpoint-marked ms (Err checkpoint.Nothing) answers checkpoints leaves is = subst (λ (d : OpenDeck D). Is ms d) (sym answers.2) is
     checkpoint-marked ms (Err checkpoint.DeviceFault) answers checkpoints leaves is =
-        let since = checkpoint-since size count faults honest newest may_leave moment left_since counts_now b known plain old new kept (Err checkpoint.DeviceFault) answers checkpoints leaves is.since in
+        let since = checkpoint-since G counts_now b known plain old new kept (Err checkpoint.DeviceFault) answers checkpoints leaves is.since in
         record {
           since = since;
-          marks_last = last-of since.given is.since.given new ms (unchecked-given size count faults honest newest may_leave moment left_since counts_now b known plain old new kept leaves is.since answers checkpoints)
-              (none-kept is.since.given is.since.has answers.0 (ap (λ (d : OpenDeck D). d.trail) answers.3) Unmoved (λ c f. f) leaves is.since.since ms is.marks_last);
+          marks_last = last-of since.given is.since.given new ms (unchecked-given G counts_now b known plain old new kept leaves is.since answers checkpoints)
+              (none-kept is.since.given is.since.has answers.0 (ap (λ (d : OpenDeck D). d.trail) answers.3) (ap (λ (d : OpenDeck D). d.shape) answers.3) Unmoved (λ c f. f) leaves is.since.since ms is.marks_last);
         }
 
     abbrev As : Image → Type 0
-    As c = IsAsBefore old.log.sb old.log.next (size old.disk) (count old.disk) (deck_homes newest old) (newest old.disk) c
+    As c = IsAsBefore old.log.sb old.log.next (G.size old.disk) (G.count old.disk) (deck_homes G.newest old) (G.newest old.disk) c
 
-    pub read-marked : (ms : List (OpenDeck D)) (home bytes : ℕ) (r : Result (Unit {0}) ReadHomeFault) → AnswersRead (size old.disk) (faults old.disk) (faults new.disk) old new home bytes r → (honest old.disk → newest new.disk ≡ newest old.disk) → (old.aborted ≡ false → honest old.disk → LeavesOnly moment left_since old.disk new.disk As) → Is ms old → Is ms new
+    pub read-marked : (ms : List (OpenDeck D)) (home bytes : ℕ) (r : Result (Unit {0}) ReadHomeFault) → AnswersRead (G.size old.disk) (G.faults old.disk) (G.faults new.disk) old new home bytes r → (G.honest new.disk → G.newest new.disk ≡ G.newest old.disk) → (old.aborted ≡ false → G.honest new.disk → LeavesOnly G.moment G.left_since old.disk new.disk As) → Is ms old → Is ms new
     read-marked ms home bytes (Ok done) answers content leaves is =
-        let since = read-since size count faults honest newest may_leave moment left_since counts_now b known plain old new kept home bytes (Ok done) answers content leaves is.since in
+        let since = read-since G counts_now b known plain old new kept home bytes (Ok done) answers content leaves is.since in
         record {
           since = since;
-          marks_last = last-of since.given is.since.given new ms (read-given size count faults honest newest may_leave moment left_since counts_now b known plain old new kept home bytes content leaves is.since done answers)
-              (none-kept is.since.given is.since.has answers.0 (ap (λ (d : OpenDeck D). d.trail) answers.4) As (λ c f. f.follows) leaves is.since.since ms is.marks_last);
+          marks_last = last-of since.given is.since.given new ms (read-given G counts_now b known plain old new kept home bytes content leaves is.since done answers)
+              (none-kept is.since.given is.since.has answers.0 (ap (λ (d : OpenDeck D). d.trail) answers.4) (ap (λ (d : OpenDeck D). d.shape) answers.4) As (λ c f. f.follows) leaves is.since.since ms is.marks_last);
         }
     read-marked ms home bytes (Err read.Aborted) answers content leaves is = subst (λ (d : OpenDeck D). Is ms d) (sym answers.1) is
     read-marked ms home bytes (Err read.OutOfRange) answers content leaves is = subst (λ (d : OpenDeck D). Is ms d) (sym answers.2) is
     read-marked ms home bytes (Err read.Length) answers content leaves is = subst (λ (d : OpenDeck D). Is ms d) (sym answers.3) is
     read-marked ms home bytes (Err read.DeviceFault) answers content leaves is =
-        let since = read-since size count faults honest newest may_leave moment left_since counts_now b known plain old new kept home bytes (Err read.DeviceFault) answers content leaves is.since in
+        let since = read-since G counts_now b known plain old new kept home bytes (Err read.DeviceFault) answers content leaves is.since in
         record {
           since = since;
-          marks_last = last-of since.given is.since.given new ms (unread-given size count faults honest newest may_leave moment left_since counts_now b known plain old new kept home bytes content leaves is.since answers)
-              (none-kept is.since.given is.since.has answers.0 (ap (λ (d : OpenDeck D). d.trail) answers.4) As (λ c f. f.follows) leaves is.since.since ms is.marks_last);
+          marks_last = last-of since.given is.since.given new ms (unread-given G counts_now b known plain old new kept home bytes content leaves is.since answers)
+              (none-kept is.since.given is.since.has answers.0 (ap (λ (d : OpenDeck D). d.trail) answers.4) (ap (λ (d : OpenDeck D). d.shape) answers.4) As (λ c f. f.follows) leaves is.since.since ms is.marks_last);
         }
 
 -- ---- entries are taken
 
-module _ {D : Type 0} (size count faults : D → ℕ) (honest : D → Type 0) (newest : D → Image) (may_leave : D → Image → Type 0) (moment : D → ℕ) (left_since : D → ℕ → Image → Type 0) (b : Begun) (known less : Stopped → Type 0) where
+module _ {D : Type 0} (G : Ghosts D) (b : Begun) (known less : Stopped → Type 0) where
   abbrev Are : (Stopped → Type 0) → List (OpenDeck D) → OpenDeck D → Type 0
-  Are is ms d = IsMarkedOf size count faults honest newest may_leave moment left_since b is ms d
+  Are is ms d = IsMarkedOf G b is ms d
 
   -- less is known of each handle
   pub marked-weaker : ((h : Stopped) → known h → less h) → (ms : List (OpenDeck D)) (d : OpenDeck D) → Are known ms d → Are less ms d
   marked-weaker weaker ms d is = record {
-    since = is-weaker size count faults honest newest may_leave moment left_since b known less weaker d is.since;
-    marks_last = subst (λ hs. All (Lasts moment left_since b hs d) ms) (sym (weaker-given size count faults honest newest may_leave moment left_since b known less weaker d is.since)) is.marks_last;
+    since = is-weaker G b known less weaker d is.since;
+    marks_last = subst (λ hs. All (Lasts G b hs d) ms) (sym (weaker-given G b known less weaker d is.since)) is.marks_last;
   }
 
-  taken-one : (given : List Stopped) (old new : OpenDeck D) → new.disk ≡ old.disk → past_after 0 old.trail ≡ past_after 0 new.trail → (m : OpenDeck D) → Lasts moment left_since b given old m → Lasts moment left_since b given new m
-  taken-one given old new disk past m l = record {
+  taken-one : (given : List Stopped) (old new : OpenDeck D) → new.shape ≡ old.shape → new.disk ≡ old.disk → past_after 0 old.trail ≡ past_after 0 new.trail → (m : OpenDeck D) → Lasts G b given old m → Lasts G b given new m
+  taken-one given old new shape disk past m l = record {
     has = record { tiles = l.has.tiles; settled = let was = l.has.settled in omega (arith, was, past) };
-    earlier = λ h. subst (λ x. moment m.disk ≤ moment x) (sym disk) (l.earlier h);
-    leaves = λ h c left. l.leaves h c (subst (λ x. left_since x (moment m.disk) c) disk left);
+    same_shape = shape ∙ l.same_shape;
+    was_honest = λ held. l.was_honest (subst G.honest disk held);
+    earlier = λ known_start held. subst (λ x. G.moment m.disk ≤ G.moment x) (sym disk) (l.earlier known_start (subst G.honest disk held));
+    leaves = λ known_start held c left. l.leaves known_start (subst G.honest disk held) c (subst (λ x. G.left_since x (G.moment m.disk) c) disk left);
   }
 
   pub take-marked : (plain : (h : Stopped) → known h → b.stops h.words) (past : ℕ) (ms : List (OpenDeck D)) (old new : OpenDeck D) (r : Result (Vec Entry) AllocError) → Follow (start_of old.trail) 0 (past_after 0 old.trail) old.trail → IfOk r (λ taken. TakesTrail past old new taken.items) → OnErr r ((new ≡ old) × CanTake (oldest_number old) past old.trail) → Are known ms old → Are known ms new
   take-marked plain past ms old new (Ok taken) tiles takes keeps is =
-      let since = taken-since size count faults honest newest may_leave moment left_since b known plain past old new taken.items takes tiles is.since in
+      let since = taken-since G b known plain past old new taken.items takes tiles is.since in
       record {
         since = since;
-        marks_last = subst (λ hs. All (Lasts moment left_since b hs new) ms) (sym (taken-given size count faults honest newest may_leave moment left_since b known plain past old new taken.items takes tiles is.since))
-            (All-weaker (Lasts moment left_since b is.since.given old) (Lasts moment left_since b is.since.given new)
-            (λ m l. taken-one is.since.given old new (ap (λ (d : OpenDeck D). d.disk) takes.same) (ends size count faults honest newest may_leave moment left_since b known plain past old new taken.items takes) m l) ms is.marks_last);
+        marks_last = subst (λ hs. All (Lasts G b hs new) ms) (sym (taken-given G b known plain past old new taken.items takes tiles is.since))
+            (All-weaker (Lasts G b is.since.given old) (Lasts G b is.since.given new)
+            (λ m l. taken-one is.since.given old new (ap (λ (d : OpenDeck D). d.shape) takes.same) (ap (λ (d : OpenDeck D). d.disk) takes.same) (ends G b known plain past old new taken.items takes) m l) ms is.marks_last);
       }
   take-marked plain past ms old new (Err memory) tiles takes keeps is = subst (λ (d : OpenDeck D). Are known ms d) (sym keeps.0) is
 
--- no mark was made
-pub unmarked : {D : Type 0} (size count faults : D → ℕ) (honest : D → Type 0) (newest : D → Image) (may_leave : D → Image → Type 0) (moment : D → ℕ) (left_since : D → ℕ → Image → Type 0) (b : Begun) (known : Stopped → Type 0) (ms : List (OpenDeck D)) (d : OpenDeck D) → ms ≡ [] → d.trail ≡ [] → d.aborted ≡ false → IsSince size count faults honest newest may_leave moment left_since b d → IsMarkedOf size count faults honest newest may_leave moment left_since b known ms d
-unmarked size count faults honest newest may_leave moment left_since b known ms d none fresh up is = record {
-  since = none-given size count faults honest newest may_leave moment left_since b known d fresh up is;
-  marks_last = let no : length ms ≡ 0 = ap length none in λ k m lt. absurd (omega (arith, lt, no));
-}
+-- the one mark of a journal that has committed nothing is that of now
+pub new-marked : {D : Type 0} (G : Ghosts D) (counts_now : (disk : D) (t : ℕ) (c : Image) → G.honest disk → t ≤ G.moment disk → G.may_leave disk c → G.left_since disk t c) → ((disk : D) (c : Image) → G.honest disk → G.left_since disk (G.moment disk) c → G.may_leave disk c)
+    → (b : Begun) (known : Stopped → Type 0) (plain : (h : Stopped) → known h → b.stops h.words) (ms : List (OpenDeck D)) (d : OpenDeck D) → ms ≡ d ∷ [] → d.trail ≡ [] → d.aborted ≡ false → IsSince G b d → IsMarkedOf G b known ms d
+new-marked G counts_now only_now b known plain ms d one fresh up is =
+    subst (λ x. IsMarkedOf G b known x d) (sym one) (marked-now G counts_now b known plain only_now [] d (subst (λ (es : List Entry). Follow (start_of es) 0 (past_after 0 es) es) (sym fresh) refl)
+    (record { since = none-given G b known d fresh up is; marks_last = λ k m lt. absurd (omega (arith, lt)) }))
 
 -- ---- the first marks
 
@@ -332,5 +339,5 @@ first-marks P ms all p each k d lt =
     subst P (get-first ms p.0 k d lt) ((subst (All P) (sym p.1) each) k d (omega (arith, lt, more)))
 
 -- what was settled at the marks that were seen is settled in the journal
-pub settled-of : {D : Type 0} (moment : D → ℕ) (left_since : D → ℕ → Image → Type 0) (b : Begun) (given : List Stopped) (d : OpenDeck D) (ms all : List (OpenDeck D)) → IsPrefix ms all → All (Lasts moment left_since b given d) all → All (HasSettledOf d) ms
-settled-of moment left_since b given d ms all p each = All-weaker (Lasts moment left_since b given d) (HasSettledOf d) (λ m l. l.has) ms (first-marks (Lasts moment left_since b given d) ms all p each)
+pub settled-of : {D : Type 0} (G : Ghosts D) (b : Begun) (given : List Stopped) (d : OpenDeck D) (ms all : List (OpenDeck D)) → IsPrefix ms all → All (Lasts G b given d) all → All (HasSettledOf d) ms
+settled-of G b given d ms all p each = All-weaker (Lasts G b given d) (HasSettledOf d) (λ m l. l.has) ms (first-marks (Lasts G b given d) ms all p each)

@@ -6,7 +6,7 @@ use Rattle.jb_batch.specs.Batch.{Gathered}
 use Rattle.jb_board.specs.Front.{IsWithin}
 use Rattle.jb_board.specs.Steps.{raised_settled}
 use Rattle.jb_board.specs.declared.front.Front.{Front}
-use Rattle.jb_disk.specs.Image.{Image}
+use Rattle.jb_disk.specs.declared.disk.Disk.{Ghosts}
 use Rattle.jb_handle.specs.Held.{first_of}
 use Rattle.jb_book.specs.Account.{Account, IsSound, CanTake, is_full, RefusesBegin}
 use Rattle.jb_desk.specs.Journal.{CommitsRound}
@@ -86,20 +86,20 @@ answers-up None after b n (Err round.Memory) up is = ap is_some is
 answers-up None after b n (Err round.Refused) up is = ap is_some is
 
 -- a batch that is held on is no commit
-pub round-held : {D : Type 0} (size count faults : D → ℕ) (honest : D → Type 0) (newest : D → Image) (may_leave : D → Image → Type 0) (moment : D → ℕ) (left_since : D → ℕ → Image → Type 0) (begun : Begun) (held : Option Gathered) (reached : ℕ) (fault : RoundFault)
-    → (fault ≡ round.Memory) ⊎ (fault ≡ round.Refused) → CommitsRound size count faults honest newest may_leave moment left_since begun held reached (Err fault)
-round-held size count faults honest newest may_leave moment left_since begun held reached fault (inl is) = subst (λ f. CommitsRound size count faults honest newest may_leave moment left_since begun held reached (Err f)) (sym is) tt
-round-held size count faults honest newest may_leave moment left_since begun held reached fault (inr is) = subst (λ f. CommitsRound size count faults honest newest may_leave moment left_since begun held reached (Err f)) (sym is) tt
+pub round-held : {D : Type 0} (G : Ghosts D) (begun : Begun) (held : Option Gathered) (reached : ℕ) (fault : RoundFault)
+    → (fault ≡ round.Memory) ⊎ (fault ≡ round.Refused) → CommitsRound G begun held reached (Err fault)
+round-held G begun held reached fault (inl is) = subst (λ f. CommitsRound G begun held reached (Err f)) (sym is) tt
+round-held G begun held reached fault (inr is) = subst (λ f. CommitsRound G begun held reached (Err f)) (sym is) tt
 
 -- what is done with the batch that is taken up is done in the round
-pub round-up : {D : Type 0} (size count faults : D → ℕ) (honest : D → Type 0) (newest : D → Image) (may_leave : D → Image → Type 0) (moment : D → ℕ) (left_since : D → ℕ → Image → Type 0) (begun : Begun) (held : Option Gathered) (b : Gathered) (reached : ℕ) (r : Result Round RoundFault)
-    → TakesUp held b → CommitsRound size count faults honest newest may_leave moment left_since begun (Some b) reached r → CommitsRound size count faults honest newest may_leave moment left_since begun held reached r
-round-up size count faults honest newest may_leave moment left_since begun held b reached (Ok (Idle seen)) up is = tt
-round-up size count faults honest newest may_leave moment left_since begun held b reached (Ok (Committed done)) up is = (is.0, subst (TakesUp held) (sym is.1) up, is.2)
-round-up size count faults honest newest may_leave moment left_since begun held b reached (Err round.Aborted) up is = tt
-round-up size count faults honest newest may_leave moment left_since begun held b reached (Err round.DeviceFault) up is = (is.0, is.1, subst (TakesUp held) (sym is.2) up, is.3, is.4)
-round-up size count faults honest newest may_leave moment left_since begun held b reached (Err round.Memory) up is = tt
-round-up size count faults honest newest may_leave moment left_since begun held b reached (Err round.Refused) up is = tt
+pub round-up : {D : Type 0} (G : Ghosts D) (begun : Begun) (held : Option Gathered) (b : Gathered) (reached : ℕ) (r : Result Round RoundFault)
+    → TakesUp held b → CommitsRound G begun (Some b) reached r → CommitsRound G begun held reached r
+round-up G begun held b reached (Ok (Idle seen)) up is = tt
+round-up G begun held b reached (Ok (Committed done)) up is = (is.0, subst (TakesUp held) (sym is.1) up, is.2)
+round-up G begun held b reached (Err round.Aborted) up is = tt
+round-up G begun held b reached (Err round.DeviceFault) up is = (is.0, is.1, subst (TakesUp held) (sym is.2) up, is.3, is.4)
+round-up G begun held b reached (Err round.Memory) up is = tt
+round-up G begun held b reached (Err round.Refused) up is = tt
 
 -- ---- the credits
 

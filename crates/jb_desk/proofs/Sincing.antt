@@ -10,6 +10,7 @@ use Rattle.jb_cost.specs.Cut.{IsCut}
 use Rattle.jb_disk.specs.Faults.{MoreFaults}
 use Rattle.jb_disk.specs.Image.{Image}
 use Rattle.jb_disk.specs.Kept.{Kept}
+use Rattle.jb_disk.specs.declared.disk.Disk.{Ghosts}
 use Rattle.jb_disk.specs.Time.{LeavesOnly}
 use Rattle.jb_handle.specs.Tickets.{TicketsFrom}
 use Rattle.jb_handle.specs.Words.{word}
@@ -63,8 +64,8 @@ pub more-counted : (start before after : ℕ) → start ≤ before → MoreFault
 more-counted start before after low more few same = let rises = more.rises in omega (arith, low, rises, few, same)
 
 -- the same journal, where less is known of each of the handles
-pub is-weaker : {D : Type 0} (size count faults : D → ℕ) (honest : D → Type 0) (newest : D → Image) (may_leave : D → Image → Type 0) (moment : D → ℕ) (left_since : D → ℕ → Image → Type 0) (b : Begun) (known less : Stopped → Type 0) → ((h : Stopped) → known h → less h) → (d : OpenDeck D) → IsSinceOf size count faults honest newest may_leave moment left_since b known d → IsSinceOf size count faults honest newest may_leave moment left_since b less d
-is-weaker size count faults honest newest may_leave moment left_since b known less weaker d is = record {
+pub is-weaker : {D : Type 0} (G : Ghosts D) (b : Begun) (known less : Stopped → Type 0) → ((h : Stopped) → known h → less h) → (d : OpenDeck D) → IsSinceOf G b known d → IsSinceOf G b less d
+is-weaker G b known less weaker d is = record {
   given = is.given;
   has = record {
     stopped = All-weaker known less weaker is.given is.has.stopped;
@@ -80,23 +81,23 @@ is-weaker size count faults honest newest may_leave moment left_since b known le
 }
 
 -- it was given the same handles
-pub weaker-given : {D : Type 0} (size count faults : D → ℕ) (honest : D → Type 0) (newest : D → Image) (may_leave : D → Image → Type 0) (moment : D → ℕ) (left_since : D → ℕ → Image → Type 0) (b : Begun) (known less : Stopped → Type 0) (weaker : (h : Stopped) → known h → less h) (d : OpenDeck D) (is : IsSinceOf size count faults honest newest may_leave moment left_since b known d) → (is-weaker size count faults honest newest may_leave moment left_since b known less weaker d is).given ≡ is.given
+pub weaker-given : {D : Type 0} (G : Ghosts D) (b : Begun) (known less : Stopped → Type 0) (weaker : (h : Stopped) → known h → less h) (d : OpenDeck D) (is : IsSinceOf G b known d) → (is-weaker G b known less weaker d is).given ≡ is.given
 unfolding is-weaker
-weaker-given size count faults honest newest may_leave moment left_since b known less weaker d is = refl
+weaker-given G b known less weaker d is = refl
 
-module _ {D : Type 0} (size count faults : D → ℕ) (honest : D → Type 0) (newest : D → Image) (may_leave : D → Image → Type 0) (moment : D → ℕ) (left_since : D → ℕ → Image → Type 0) (counts_now : (disk : D) (t : ℕ) (c : Image) → honest disk → t ≤ moment disk → may_leave disk c → left_since disk t c) (b : Begun) (known : Stopped → Type 0) (plain : (h : Stopped) → known h → b.stops h.words) where
+module _ {D : Type 0} (G : Ghosts D) (counts_now : (disk : D) (t : ℕ) (c : Image) → G.honest disk → t ≤ G.moment disk → G.may_leave disk c → G.left_since disk t c) (b : Begun) (known : Stopped → Type 0) (plain : (h : Stopped) → known h → b.stops h.words) where
   abbrev Is : OpenDeck D → Type 0
-  Is d = IsSinceOf size count faults honest newest may_leave moment left_since b known d
+  Is d = IsSinceOf G b known d
 
   abbrev Stands : List Stopped → OpenDeck D → Type 0
-  Stands given d = Since size count faults honest newest may_leave moment left_since b given d
+  Stands given d = Since G b given d
 
-  pub plain-is : (d : OpenDeck D) → Is d → IsSince size count faults honest newest may_leave moment left_since b d
-  plain-is d is = is-weaker size count faults honest newest may_leave moment left_since b known (may_stop b) plain d is
+  pub plain-is : (d : OpenDeck D) → Is d → IsSince G b d
+  plain-is d is = is-weaker G b known (may_stop b) plain d is
 
   -- ---- a batch
 
-  module _ (p : Planned) (stamp : Stamp) (old new : OpenDeck D) (planned : IsPlanned p) (tickets : TicketsFrom p.batch.first p.batch.handles) (stopped : All known p.batch.handles) (kept : Kept size count honest old.disk new.disk) where
+  module _ (p : Planned) (stamp : Stamp) (old new : OpenDeck D) (planned : IsPlanned p) (tickets : TicketsFrom p.batch.first p.batch.handles) (stopped : All known p.batch.handles) (kept : Kept G.size G.count G.honest old.disk new.disk) where
     abbrev hs : List Stopped
     hs = p.batch.handles
 
@@ -104,7 +105,7 @@ module _ {D : Type 0} (size count faults : D → ℕ) (honest : D → Type 0) (n
     cut = planned.least.fitting.cut
 
     abbrev Left : ℕ → ℕ → Image → Type 0
-    Left least most c = FollowsSome old.log.sb old.log.next (size old.disk) (count old.disk) (deck_homes newest old) hs p.groups least most c
+    Left least most c = FollowsSome old.log.sb old.log.next (G.size old.disk) (G.count old.disk) (deck_homes G.newest old) hs p.groups least most c
 
     -- what the groups of the batch cost
     abbrev c : ℕ → ℕ → ℕ
@@ -199,9 +200,9 @@ module _ {D : Type 0} (size count faults : D → ℕ) (honest : D → Type 0) (n
             next = long-all (entries_of settled) some.groups some.trail (told-some settled some) some.next;
           }
 
-      module _ (s : Stands given old) (leaves : LeavesOnly moment left_since old.disk new.disk (Left 0 (groups_in p.groups))) where
+      module _ (s : Stands given old) (leaves : LeavesOnly G.moment G.left_since old.disk new.disk (Left 0 (groups_in p.groups))) where
         pub has-some : (least most low : ℕ) (x : Image) → most ≤ groups_in p.groups → low ≤ length given + slice_index p.groups least → Left least most x → HasFirst b (given ++ hs) low x
-        has-some least most low x = first-some b old.log.sb s.same (size old.disk) (count old.disk) s.same_size s.same_count given (deck_homes newest old) (s.stood takes.up) hs p.groups least most low old.log.next x s.number cut
+        has-some least most low x = first-some b old.log.sb s.same (G.size old.disk) (G.count old.disk) s.same_size s.same_count given (deck_homes G.newest old) (s.stood takes.up) hs p.groups least most low old.log.next x s.number cut
 
         -- a trail that begins at the ticket 0 is whole
         began-more : (es : List Entry) (k : ℕ) → new.trail ≡ old.trail ++ es → length es ≡ k → new.log.next ≡ old.log.next + k → start_of new.trail ≡ 0 → new.log.next ≡ b.own.sequence + 1 + length new.trail
@@ -211,16 +212,16 @@ module _ {D : Type 0} (size count faults : D → ℕ) (honest : D → Type 0) (n
             let before : old.log.next ≡ b.own.sequence + 1 + length old.trail = start-more old.trail es (λ n. old.log.next ≡ b.own.sequence + 1 + n) (λ none. s.began (ap start_of none) ∙ ap (λ es. b.own.sequence + 1 + length es) none) s.began (ap start_of (sym trail) ∙ starts) in
             omega (arith, all, more, before, long, step)
 
-        ever-some : (x : Image) → left_since new.disk b.since x → b.left x ⊎ HasFirst b (given ++ hs) 0 x
+        ever-some : (x : Image) → G.left_since new.disk b.since x → b.left x ⊎ HasFirst b (given ++ hs) 0 x
         ever-some x left =
             ⊎_elim
-            (λ (was : left_since old.disk b.since x). ⊎_elim (λ (l : b.left x). inl l) (λ (f : HasFirst b given 0 x). inr (first-longer b given hs 0 x f)) (s.ever x was))
+            (λ (was : G.left_since old.disk b.since x). ⊎_elim (λ (l : b.left x). inl l) (λ (f : HasFirst b given 0 x). inr (first-longer b given hs 0 x f)) (s.ever x was))
             (λ (f : Left 0 (groups_in p.groups) x). inr (has-some 0 (groups_in p.groups) 0 x (omega arith) (omega arith) f))
             (leaves.before b.since x s.later left)
 
-        pub commit-ok : (done : Done) → faults new.disk ≡ faults old.disk → CommitsBatch p stamp old new done → CommitsOnDisk newest p stamp old new → ((x : Image) → may_leave new.disk x → Left (groups_in p.groups) (groups_in p.groups) x) → Stands (given ++ hs) new
+        pub commit-ok : (done : Done) → G.faults new.disk ≡ G.faults old.disk → CommitsBatch p stamp old new done → CommitsOnDisk G.newest p stamp old new → ((x : Image) → G.may_leave new.disk x → Left (groups_in p.groups) (groups_in p.groups) x) → Stands (given ++ hs) new
         commit-ok done counted commits on_disk now =
-            let called = ended-is-call newest given old hs new (s.live takes.up) (committed p stamp done new planned commits on_disk) in
+            let called = ended-is-call G.newest given old hs new (s.live takes.up) (committed p stamp done new planned commits on_disk) in
             let past = past-all done takes.ticket commits in
             let at = given-all in
             let last = cut-last (length hs) p.groups cut in
@@ -228,20 +229,19 @@ module _ {D : Type 0} (size count faults : D → ℕ) (honest : D → Type 0) (n
             record {
               same_size = kept.same_size ∙ s.same_size;
               same_count = kept.same_count ∙ s.same_count;
-              stays_honest = kept.stays_honest s.stays_honest;
               no_fewer = let before = s.no_fewer in omega (arith, before, counted);
               up = λ few none. commits.up;
               same = same-then b.own old.log.sb new.log.sb s.same commits.moved;
               number = let before = s.number in let step = commits.next in let all = length-append given hs in let many = cut-many (length hs) p.groups (groups_in p.groups) cut (omega arith) in omega (arith, before, step, all, many, last);
               began = began-more (entries_of done) (groups_in p.groups) commits.trail (ap length commits.entries ∙ for-length c p.batch.first old.log.next p.groups) commits.next;
-              stood = λ up. call-stood given hs b.homes (deck_homes newest old) (deck_homes newest new) (s.stood takes.up) called.0;
+              stood = λ up. call-stood given hs b.homes (deck_homes G.newest old) (deck_homes G.newest new) (s.stood takes.up) called.0;
               live = λ up. called.1;
               now = λ x may. has-some (groups_in p.groups) (groups_in p.groups) (past_after 0 new.trail) x (omega arith) low (now x may);
               later = let before = s.later in let on = leaves.later in omega (arith, before, on);
               ever = ever-some;
             }
 
-        pub commit-some : (settled : Done) → MoreFaults (faults old.disk) (faults new.disk) → SettlesSome p stamp old new settled → ((x : Image) → may_leave new.disk x → Left (length (entries_of settled)) (length (entries_of settled) + 1) x) → Stands (given ++ hs) new
+        pub commit-some : (settled : Done) → MoreFaults (G.faults old.disk) (G.faults new.disk) → SettlesSome p stamp old new settled → ((x : Image) → G.may_leave new.disk x → Left (length (entries_of settled)) (length (entries_of settled) + 1) x) → Stands (given ++ hs) new
         commit-some settled more some now =
             let few = some.some in
             let within : some.groups ≤ groups_in p.groups = omega (arith, few) in
@@ -252,9 +252,8 @@ module _ {D : Type 0} (size count faults : D → ℕ) (honest : D → Type 0) (n
             record {
               same_size = kept.same_size ∙ s.same_size;
               same_count = kept.same_count ∙ s.same_count;
-              stays_honest = kept.stays_honest s.stays_honest;
               no_fewer = let before = s.no_fewer in let rise = more.no_fewer in omega (arith, before, rise);
-              up = λ few none. absurd (more-counted b.faults (faults old.disk) (faults new.disk) s.no_fewer more few none);
+              up = λ few none. absurd (more-counted b.faults (G.faults old.disk) (G.faults new.disk) s.no_fewer more few none);
               same = same-then b.own old.log.sb new.log.sb s.same some.moved;
               number = let before = s.number in let step = some.next in let all = length-append given hs in let many = cut-many (length hs) p.groups some.groups cut within in let high = cut-high (length hs) p.groups some.groups cut within in omega (arith, before, step, all, many, high);
               began = began-more (entries_of settled) some.groups some.trail told some.next;
@@ -266,16 +265,16 @@ module _ {D : Type 0} (size count faults : D → ℕ) (honest : D → Type 0) (n
             }
 
     abbrev Leaves : Type 0
-    Leaves = old.aborted ≡ false → honest old.disk → LeavesOnly moment left_since old.disk new.disk (Left 0 (groups_in p.groups))
+    Leaves = old.aborted ≡ false → G.honest new.disk → LeavesOnly G.moment G.left_since old.disk new.disk (Left 0 (groups_in p.groups))
 
     abbrev Now : Result Done BatchFault → Type 0
-    Now r = old.aborted ≡ false → honest old.disk → (c : Image) → may_leave new.disk c → LeavesGroups old.log.sb old.log.next (size old.disk) (count old.disk) (deck_homes newest old) p r c
+    Now r = old.aborted ≡ false → G.honest new.disk → (c : Image) → G.may_leave new.disk c → LeavesGroups old.log.sb old.log.next (G.size old.disk) (G.count old.disk) (deck_homes G.newest old) p r c
 
-    pub commit-since : (r : Result Done BatchFault) → AnswersBatch (faults old.disk) (faults new.disk) p stamp old new r → (honest old.disk → OnOk r (CommitsOnDisk newest p stamp old new)) → Leaves → Now r → Is old → Is new
+    pub commit-since : (r : Result Done BatchFault) → AnswersBatch (G.faults old.disk) (G.faults new.disk) p stamp old new r → (G.honest new.disk → OnOk r (CommitsOnDisk G.newest p stamp old new)) → Leaves → Now r → Is old → Is new
     commit-since (Ok done) answers on_disk leaves now is = record {
       given = is.given ++ hs;
       has = given-ok is.given is.has answers.0 done answers.2;
-      since = λ h. let s = is.since h in commit-ok is.given is.has answers.0 s (leaves answers.0.up s.stays_honest) done answers.1 answers.2 (on_disk s.stays_honest) (now answers.0.up s.stays_honest);
+      since = λ known_start held. let s = is.since known_start (kept.was_honest held) in commit-ok is.given is.has answers.0 s (leaves answers.0.up held) done answers.1 answers.2 (on_disk held) (now answers.0.up held);
     }
     commit-since (Err (batch.Aborted back)) answers on_disk leaves now is = subst (λ (d : OpenDeck D). Is d) (sym answers.2) is
     commit-since (Err (batch.WrongTicket back expected)) answers on_disk leaves now is = subst (λ (d : OpenDeck D). Is d) (sym answers.4) is
@@ -285,20 +284,20 @@ module _ {D : Type 0} (size count faults : D → ℕ) (honest : D → Type 0) (n
     commit-since (Err (batch.DeviceFault settled)) answers on_disk leaves now is = record {
       given = is.given ++ hs;
       has = given-some is.given is.has answers.0 settled answers.2;
-      since = λ h. let s = is.since h in commit-some is.given is.has answers.0 s (leaves answers.0.up s.stays_honest) settled answers.1 answers.2 (now answers.0.up s.stays_honest);
+      since = λ known_start held. let s = is.since known_start (kept.was_honest held) in commit-some is.given is.has answers.0 s (leaves answers.0.up held) settled answers.1 answers.2 (now answers.0.up held);
     }
 
     -- the journal was given the batch, too
     module _ (leaves : Leaves) (is : Is old) where
-      pub committed-given : (done : Done) (answers : AnswersBatch (faults old.disk) (faults new.disk) p stamp old new (Ok done)) (on_disk : honest old.disk → CommitsOnDisk newest p stamp old new) (now : Now (Ok done)) → (commit-since (Ok done) answers on_disk leaves now is).given ≡ is.given ++ hs
+      pub committed-given : (done : Done) (answers : AnswersBatch (G.faults old.disk) (G.faults new.disk) p stamp old new (Ok done)) (on_disk : G.honest new.disk → CommitsOnDisk G.newest p stamp old new) (now : Now (Ok done)) → (commit-since (Ok done) answers on_disk leaves now is).given ≡ is.given ++ hs
       unfolding commit-since
       committed-given done answers on_disk now = refl
 
-      pub faulted-given : (settled : Done) (answers : AnswersBatch (faults old.disk) (faults new.disk) p stamp old new (Err (batch.DeviceFault settled))) (on_disk : honest old.disk → Unit {0}) (now : Now (Err (batch.DeviceFault settled))) → (commit-since (Err (batch.DeviceFault settled)) answers on_disk leaves now is).given ≡ is.given ++ hs
+      pub faulted-given : (settled : Done) (answers : AnswersBatch (G.faults old.disk) (G.faults new.disk) p stamp old new (Err (batch.DeviceFault settled))) (on_disk : G.honest new.disk → Unit {0}) (now : Now (Err (batch.DeviceFault settled))) → (commit-since (Err (batch.DeviceFault settled)) answers on_disk leaves now is).given ≡ is.given ++ hs
       unfolding commit-since
       faulted-given settled answers on_disk now = refl
 
-    pub commit-round : (r : Result Done BatchFault) → AnswersBatch (faults old.disk) (faults new.disk) p stamp old new r → (honest old.disk → OnOk r (CommitsOnDisk newest p stamp old new)) → (honest old.disk → OnOk r (FindsLive (size old.disk) (count old.disk) new.log new.groups (newest new.disk))) → Leaves → Now r → Is old → IfOk r (IsRound size count faults honest newest may_leave moment left_since b p)
+    pub commit-round : (r : Result Done BatchFault) → AnswersBatch (G.faults old.disk) (G.faults new.disk) p stamp old new r → (G.honest new.disk → OnOk r (CommitsOnDisk G.newest p stamp old new)) → (G.honest new.disk → OnOk r (FindsLive (G.size old.disk) (G.count old.disk) new.log new.groups (G.newest new.disk))) → Leaves → Now r → Is old → IfOk r (IsRound G b p)
     unfolding commit-since plain-is is-weaker
     commit-round (Ok done) answers on_disk finds leaves now is = record {
       planned = planned;
@@ -308,15 +307,15 @@ module _ {D : Type 0} (size count faults : D → ℕ) (honest : D → Type 0) (n
       same_disk = kept;
       takes = answers.0;
       commits = answers.2;
-      on_disk = λ h. on_disk (is.since h).stays_honest;
-      finds = λ h. finds (is.since h).stays_honest;
+      on_disk = λ known_start held. on_disk held;
+      finds = λ known_start held. finds held;
       before = plain-is old is;
       after = plain-is new (commit-since (Ok done) answers on_disk leaves now is);
       adds = refl;
     }
     commit-round (Err fault) answers on_disk finds leaves now is = tt
 
-    pub commit-fails : (r : Result Done BatchFault) → AnswersBatch (faults old.disk) (faults new.disk) p stamp old new r → (honest old.disk → OnOk r (CommitsOnDisk newest p stamp old new)) → Leaves → Now r → Is old → FailsAs size count faults honest newest may_leave moment left_since b p r
+    pub commit-fails : (r : Result Done BatchFault) → AnswersBatch (G.faults old.disk) (G.faults new.disk) p stamp old new r → (G.honest new.disk → OnOk r (CommitsOnDisk G.newest p stamp old new)) → Leaves → Now r → Is old → FailsAs G b p r
     unfolding commit-since plain-is is-weaker
     commit-fails (Ok done) answers on_disk leaves now is = tt
     commit-fails (Err (batch.Aborted back)) answers on_disk leaves now is = record { deck = old; since = plain-is old is; failed = answers.0 }
@@ -339,9 +338,9 @@ module _ {D : Type 0} (size count faults : D → ℕ) (honest : D → Type 0) (n
 
   -- ---- the oldest group
 
-  module _ (old new : OpenDeck D) (kept : Kept size count honest old.disk new.disk) where
+  module _ (old new : OpenDeck D) (kept : Kept G.size G.count G.honest old.disk new.disk) where
     abbrev None : Image → Type 0
-    None c = FollowsNone old.log.sb old.log.next (size old.disk) (count old.disk) (deck_homes newest old) c
+    None c = FollowsNone old.log.sb old.log.next (G.size old.disk) (G.count old.disk) (deck_homes G.newest old) c
 
     -- nothing is given
     pub given-none : (given : List Stopped) → WasGiven known given old → old.aborted ≡ false → new.trail ≡ old.trail → new.shape ≡ old.shape → new.log.next ≡ old.log.next → WasGiven known given new
@@ -356,27 +355,26 @@ module _ {D : Type 0} (size count faults : D → ℕ) (honest : D → Type 0) (n
       next = ap (λ es. has.first + length es) trail ∙ has.next ∙ sym numbered;
     }
 
-    module _ (given : List Stopped) (settled : past_after 0 old.trail ≤ length given) (s : Stands given old) (up : old.aborted ≡ false) (leaves : LeavesOnly moment left_since old.disk new.disk None) (trail : new.trail ≡ old.trail) where
+    module _ (given : List Stopped) (settled : past_after 0 old.trail ≤ length given) (s : Stands given old) (up : old.aborted ≡ false) (held : G.honest new.disk) (leaves : LeavesOnly G.moment G.left_since old.disk new.disk None) (trail : new.trail ≡ old.trail) where
       has-none : (c : Image) → None c → HasFirst b given (past_after 0 old.trail) c
-      has-none c = first-none b old.log.sb s.same (size old.disk) (count old.disk) s.same_size s.same_count given (deck_homes newest old) (s.stood up) (past_after 0 old.trail) old.log.next c settled s.number
+      has-none c = first-none b old.log.sb s.same (G.size old.disk) (G.count old.disk) s.same_size s.same_count given (deck_homes G.newest old) (s.stood up) (past_after 0 old.trail) old.log.next c settled s.number
 
-      now-none : (c : Image) → may_leave new.disk c → HasFirst b given (past_after 0 new.trail) c
+      now-none : (c : Image) → G.may_leave new.disk c → HasFirst b given (past_after 0 new.trail) c
       now-none c may =
           subst (λ es. HasFirst b given (past_after 0 es) c) (sym trail)
-          (has-none c (leaves.each c (counts_now new.disk (moment old.disk) c (kept.stays_honest s.stays_honest) leaves.later may)))
+          (has-none c (leaves.each c (counts_now new.disk (G.moment old.disk) c held leaves.later may)))
 
-      ever-none : (c : Image) → left_since new.disk b.since c → b.left c ⊎ HasFirst b given 0 c
+      ever-none : (c : Image) → G.left_since new.disk b.since c → b.left c ⊎ HasFirst b given 0 c
       ever-none c left =
           ⊎_elim (s.ever c)
           (λ (f : None c). let first = has-none c f in inr (record { many = first.many; from = omega arith; to = first.to; next = first.next; number = first.number; recovered = first.recovered }))
           (leaves.before b.since c s.later left)
 
       -- the homes stand as they did
-      pub none-since : SameJournal old.log.sb new.log.sb → new.log.next ≡ old.log.next → faults old.disk ≤ faults new.disk → (b.faults < 18446744073709551615 → faults new.disk ≡ b.faults → new.aborted ≡ false) → (new.aborted ≡ false → ((home : ℕ) → deck_homes newest new home ≡ deck_homes newest old home) × LiveOf given new.groups) → Stands given new
+      pub none-since : SameJournal old.log.sb new.log.sb → new.log.next ≡ old.log.next → G.faults old.disk ≤ G.faults new.disk → (b.faults < 18446744073709551615 → G.faults new.disk ≡ b.faults → new.aborted ≡ false) → (new.aborted ≡ false → ((home : ℕ) → deck_homes G.newest new home ≡ deck_homes G.newest old home) × LiveOf given new.groups) → Stands given new
       none-since same numbered more fails same_homes = record {
         same_size = kept.same_size ∙ s.same_size;
         same_count = kept.same_count ∙ s.same_count;
-        stays_honest = kept.stays_honest s.stays_honest;
         no_fewer = let before = s.no_fewer in omega (arith, before, more);
         up = fails;
         same = same-then b.own old.log.sb new.log.sb s.same same;
@@ -390,19 +388,19 @@ module _ {D : Type 0} (size count faults : D → ℕ) (honest : D → Type 0) (n
       }
 
     abbrev LeavesNone : Type 0
-    LeavesNone = old.aborted ≡ false → honest old.disk → LeavesOnly moment left_since old.disk new.disk None
+    LeavesNone = old.aborted ≡ false → G.honest new.disk → LeavesOnly G.moment G.left_since old.disk new.disk None
 
-    home-since : (checked : Checked) → faults new.disk ≡ faults old.disk → TakesOldest old new checked → Checkpoints newest old new → (given : List Stopped) → past_after 0 old.trail ≤ length given → (s : Stands given old) → old.aborted ≡ false → LeavesOnly moment left_since old.disk new.disk None → Stands given new
-    home-since checked counted takes goes given settled s up leaves =
-        let called = ended-is-call newest given old [] new (s.live up) (checkpointed checked new takes goes) in
-        none-since given settled s up leaves takes.trail (subst (λ l. SameJournal old.log.sb l.sb) (sym takes.log) refl) (ap (λ l. l.next) takes.log) (omega (arith, counted)) (λ few none. takes.live)
+    home-since : (checked : Checked) → G.faults new.disk ≡ G.faults old.disk → TakesOldest old new checked → Checkpoints G.newest old new → (given : List Stopped) → past_after 0 old.trail ≤ length given → (s : Stands given old) → old.aborted ≡ false → G.honest new.disk → LeavesOnly G.moment G.left_since old.disk new.disk None → Stands given new
+    home-since checked counted takes goes given settled s up held leaves =
+        let called = ended-is-call G.newest given old [] new (s.live up) (checkpointed checked new takes goes) in
+        none-since given settled s up held leaves takes.trail (subst (λ l. SameJournal old.log.sb l.sb) (sym takes.log) refl) (ap (λ l. l.next) takes.log) (omega (arith, counted)) (λ few none. takes.live)
         (λ still. (goes.standing, subst (λ hs. LiveOf hs new.groups) (append-nil given) called.1))
 
-    pub checkpoint-since : (r : Result Checked CheckpointFault) → AnswersCheckpoint (faults old.disk) (faults new.disk) old new r → (honest old.disk → OnOk r (Checkpoints newest old new)) → LeavesNone → Is old → Is new
+    pub checkpoint-since : (r : Result Checked CheckpointFault) → AnswersCheckpoint (G.faults old.disk) (G.faults new.disk) old new r → (G.honest new.disk → OnOk r (Checkpoints G.newest old new)) → LeavesNone → Is old → Is new
     checkpoint-since (Ok checked) answers checkpoints leaves is = record {
       given = is.given;
       has = given-none is.given is.has answers.0 answers.2.trail answers.2.shape (ap (λ l. l.next) answers.2.log);
-      since = λ h. let s = is.since h in home-since checked answers.1 answers.2 (checkpoints s.stays_honest) is.given is.has.settled s answers.0 (leaves answers.0 s.stays_honest);
+      since = λ known_start held. let s = is.since known_start (kept.was_honest held) in home-since checked answers.1 answers.2 (checkpoints held) is.given is.has.settled s answers.0 held (leaves answers.0 held);
     }
     checkpoint-since (Err checkpoint.Aborted) answers checkpoints leaves is = subst (λ (d : OpenDeck D). Is d) (sym answers.1) is
     checkpoint-since (Err checkpoint.Nothing) answers checkpoints leaves is = subst (λ (d : OpenDeck D). Is d) (sym answers.2) is
@@ -411,33 +409,33 @@ module _ {D : Type 0} (size count faults : D → ℕ) (honest : D → Type 0) (n
         record {
           given = is.given;
           has = given-none is.given is.has answers.0 (ap (λ (d : OpenDeck D). d.trail) answers.3) (ap (λ (d : OpenDeck D). d.shape) answers.3) (ap (λ (d : OpenDeck D). d.log.next) answers.3);
-          since = λ h.
-              let s = is.since h in
-              none-since is.given is.has.settled s answers.0 (leaves answers.0 s.stays_honest) (ap (λ (d : OpenDeck D). d.trail) answers.3)
+          since = λ known_start held.
+              let s = is.since known_start (kept.was_honest held) in
+              none-since is.given is.has.settled s answers.0 held (leaves answers.0 held) (ap (λ (d : OpenDeck D). d.trail) answers.3)
               (subst (λ (d : OpenDeck D). SameJournal old.log.sb d.log.sb) (sym answers.3) refl)
               (ap (λ (d : OpenDeck D). d.log.next) answers.3)
-              answers.2.no_fewer (λ few none. absurd (more-counted b.faults (faults old.disk) (faults new.disk) s.no_fewer answers.2 few none))
+              answers.2.no_fewer (λ few none. absurd (more-counted b.faults (G.faults old.disk) (G.faults new.disk) s.no_fewer answers.2 few none))
               (λ still. absurd (not-both new.aborted failed still));
         }
 
     -- the journal was given the same handles
     module _ (leaves : LeavesNone) (is : Is old) where
-      pub checked-given : (checked : Checked) (answers : AnswersCheckpoint (faults old.disk) (faults new.disk) old new (Ok checked)) (checkpoints : honest old.disk → Checkpoints newest old new) → (checkpoint-since (Ok checked) answers checkpoints leaves is).given ≡ is.given
+      pub checked-given : (checked : Checked) (answers : AnswersCheckpoint (G.faults old.disk) (G.faults new.disk) old new (Ok checked)) (checkpoints : G.honest new.disk → Checkpoints G.newest old new) → (checkpoint-since (Ok checked) answers checkpoints leaves is).given ≡ is.given
       unfolding checkpoint-since
       checked-given checked answers checkpoints = refl
 
-      pub unchecked-given : (answers : AnswersCheckpoint (faults old.disk) (faults new.disk) old new (Err checkpoint.DeviceFault)) (checkpoints : honest old.disk → Unit {0}) → (checkpoint-since (Err checkpoint.DeviceFault) answers checkpoints leaves is).given ≡ is.given
+      pub unchecked-given : (answers : AnswersCheckpoint (G.faults old.disk) (G.faults new.disk) old new (Err checkpoint.DeviceFault)) (checkpoints : G.honest new.disk → Unit {0}) → (checkpoint-since (Err checkpoint.DeviceFault) answers checkpoints leaves is).given ≡ is.given
       unfolding checkpoint-since
       unchecked-given answers checkpoints = refl
 
-    pub checkpoint-round : (r : Result Checked CheckpointFault) → AnswersCheckpoint (faults old.disk) (faults new.disk) old new r → (honest old.disk → OnOk r (Checkpoints newest old new)) → Is old → Is new → ChecksRound size count faults honest newest may_leave moment left_since b r
+    pub checkpoint-round : (r : Result Checked CheckpointFault) → AnswersCheckpoint (G.faults old.disk) (G.faults new.disk) old new r → (G.honest new.disk → OnOk r (Checkpoints G.newest old new)) → Is old → Is new → ChecksRound G b r
     checkpoint-round (Ok checked) answers checkpoints is after = record {
       old = old;
       new = new;
       same_disk = kept;
       up = answers.0;
       takes = answers.2;
-      checkpoints = λ h. checkpoints (is.since h).stays_honest;
+      checkpoints = λ known_start held. checkpoints held;
       before = plain-is old is;
       after = plain-is new after;
     }
@@ -447,13 +445,13 @@ module _ {D : Type 0} (size count faults : D → ℕ) (honest : D → Type 0) (n
 
     -- the same at a level, where as many blocks were in use unless the journal had failed
     module _ (level : ℕ) (high : old.aborted ≡ false → level ≤ blocks_in_use old) where
-      pub home-at : (checked : Checked) → AnswersCheckpoint (faults old.disk) (faults new.disk) old new (Ok checked) → (honest old.disk → Checkpoints newest old new) → Is old → Is new
-          → TakesHomeAt size count faults honest newest may_leave moment left_since b level checked
+      pub home-at : (checked : Checked) → AnswersCheckpoint (G.faults old.disk) (G.faults new.disk) old new (Ok checked) → (G.honest new.disk → Checkpoints G.newest old new) → Is old → Is new
+          → TakesHomeAt G b level checked
       unfolding checkpoint-round
       home-at checked answers checkpoints is after = record { takes = checkpoint-round (Ok checked) answers checkpoints is after; high = high answers.0 }
 
-      pub fault-at : (fault : CheckpointFault) → AnswersCheckpoint (faults old.disk) (faults new.disk) old new (Err fault) → Is old → Is new
-          → ChecksAt size count faults honest newest may_leave moment left_since b level (Err fault)
+      pub fault-at : (fault : CheckpointFault) → AnswersCheckpoint (G.faults old.disk) (G.faults new.disk) old new (Err fault) → Is old → Is new
+          → ChecksAt G b level (Err fault)
       fault-at checkpoint.Aborted answers is after = checkpoint-round (Err checkpoint.Aborted) answers (λ h. tt) is after
       fault-at checkpoint.Nothing answers is after =
           let none : blocks_in_use old ≡ 0 = ap (λ gs. log_blocks (transactions old.log gs)) answers.1 in
@@ -461,7 +459,7 @@ module _ {D : Type 0} (size count faults : D → ℕ) (honest : D → Type 0) (n
           (omega (arith, none, some), checkpoint-round (Err checkpoint.Nothing) answers (λ h. tt) is after)
       fault-at checkpoint.DeviceFault answers is after = checkpoint-round (Err checkpoint.DeviceFault) answers (λ h. tt) is after
 
-      pub round-at : (r : Result Checked CheckpointFault) → AnswersCheckpoint (faults old.disk) (faults new.disk) old new r → (honest old.disk → OnOk r (Checkpoints newest old new)) → Is old → Is new
-          → ChecksAt size count faults honest newest may_leave moment left_since b level (round_of r)
+      pub round-at : (r : Result Checked CheckpointFault) → AnswersCheckpoint (G.faults old.disk) (G.faults new.disk) old new r → (G.honest new.disk → OnOk r (Checkpoints G.newest old new)) → Is old → Is new
+          → ChecksAt G b level (round_of r)
       round-at (Ok checked) answers checkpoints is after = home-at checked answers checkpoints is after
       round-at (Err fault) answers checkpoints is after = fault-at fault answers is after

@@ -2,7 +2,7 @@
 use Rattle.std.proofs.Common.{◌≡◌, ◌⊎◌, ℕ, zero, suc, ◌+◌, ◌<◌, ◌≤◌, List, [], ◌∷◌, length, All, Option, Some, None, get_or, slice_get, inl, inr, ⊎_elim, ap, sym, subst, ◌∙◌, arith}
 use Rattle.std.proofs.lemmas.Option.{get_or_from_slice_get, slice_get-get_or, slice_get_within}
 use mathlib.Core.List.{IsPrefix}
-use Rattle.jb_disk.specs.Image.{Image}
+use Rattle.jb_disk.specs.declared.disk.Disk.{Ghosts}
 use Rattle.jb_handle.specs.Tickets.{TicketsFrom}
 use Rattle.jb_handle.specs.Word.{WordMap}
 use Rattle.jb_handle.specs.declared.stopped.Stopped.{Stopped}
@@ -40,29 +40,30 @@ shown-at marks ticket (inr s) = record {
 }
 
 -- what holds of all marks holds of this one
-of-mark : {D : Type 0} (P : OpenDeck D → Type 0) (marks : List (OpenDeck D)) (at : ℕ) (m : OpenDeck D) → StandsIn marks (at, m) → All P marks → P m
+pub of-mark : {D : Type 0} (P : OpenDeck D → Type 0) (marks : List (OpenDeck D)) (at : ℕ) (m : OpenDeck D) → StandsIn marks (at, m) → All P marks → P m
 of-mark P marks at m stands each = subst P (get_or_from_slice_get marks at m m stands) (each at m (slice_get_within marks at m stands))
 
 -- ---- a crash
 
-pub stays : {D : Type 0} (size count faults : D → ℕ) (honest : D → Type 0) (newest : D → Image) (may_leave : D → Image → Type 0) (moment : D → ℕ) (left_since : D → ℕ → Image → Type 0) (b : Begun) → ShownStays size count faults honest newest may_leave moment left_since b
-stays size count faults honest newest may_leave moment left_since b stops handles shape disk trail known before marks ticket ends first shown h =
+pub stays : {D : Type 0} (G : Ghosts D) (b : Begun) → ShownStays G b
+stays G b stops handles shape disk trail known before marks ticket ends first shown known_start held =
     let s = shown-at before ticket shown in
     let m = s.mark in
-    let last = of-mark (Lasts moment left_since b ends.ends.since.given ends.ends.deck) marks s.at m (placed_on before marks first (s.at, m) s.stands) ends.last in
+    let last = of-mark (Lasts G b ends.ends.since.given ends.ends.deck) marks s.at m (placed_on before marks first (s.at, m) s.stands) ends.last in
     let late = s.late last.has.tiles in
+    let there = subst G.honest (sym ends.ends.same_disk) held in
     record {
       at = s.at;
       mark = m;
       stands = s.stands;
-      earlier = subst (λ x. moment m.disk ≤ moment x) ends.ends.same_disk (last.earlier h);
+      earlier = subst (λ x. G.moment m.disk ≤ G.moment x) ends.ends.same_disk (last.earlier known_start there);
       log = ends.ends.log;
       stopped = ends.ends.stopped;
       given = ends.ends.since.given;
       first = ends.ends.since.has.stopped;
       tickets = ends.ends.since.has.tickets;
       leaves = λ c left. (
-          let f = last.leaves h c (subst (λ x. left_since x (moment m.disk) c) (sym ends.ends.same_disk) left) in
+          let f = last.leaves known_start there c (subst (λ x. G.left_since x (G.moment m.disk) c) (sym ends.ends.same_disk) left) in
           let from = f.from in
           record { many = f.many; from = omega (arith, late, from); to = f.to; next = f.next; number = f.number; recovered = f.recovered });
     }
@@ -78,8 +79,8 @@ abbrev words-or : WordMap → Option WordMap → WordMap
 words-or w None = w
 words-or w (Some x) = x
 
-pub shown_is_given : {D : Type 0} (size count faults : D → ℕ) (honest : D → Type 0) (newest : D → Image) (may_leave : D → Image → Type 0) (moment : D → ℕ) (left_since : D → ℕ → Image → Type 0) (b : Begun) → ShownIsGiven size count faults honest newest may_leave moment left_since b
-shown_is_given size count faults honest newest may_leave moment left_since b known marks d ticket words is each shown stopped =
+pub shown_is_given : {D : Type 0} (G : Ghosts D) (b : Begun) → ShownIsGiven G b
+shown_is_given G b known marks d ticket words is each shown stopped =
     let s = shown-at marks ticket shown in
     let has = of-mark (HasSettledOf d) marks s.at s.mark s.stands each in
     let late = s.late has.tiles in

@@ -5,7 +5,7 @@ use Rattle.std.proofs.lemmas.List.{length-append}
 use Rattle.std.proofs.lemmas.List.Elements.{All-drop}
 use Rattle.std.specs.Global.{Vec}
 use Rattle.std.specs.declared.alloc.AllocError.{AllocError}
-use Rattle.jb_disk.specs.Image.{Image}
+use Rattle.jb_disk.specs.declared.disk.Disk.{Ghosts}
 use Rattle.jb_handle.specs.declared.stopped.Stopped.{Stopped}
 use Rattle.jb_deck.specs.Deck.{OpenDeck}
 use Rattle.jb_deck.specs.Done.{Follow, past_after, start_of}
@@ -22,19 +22,19 @@ use Rattle.jb_desk.proofs.Sincing.{is-weaker, weaker-given}
 all-rest : (P : Entry → Type 0) (all taken rest : List Entry) → all ≡ taken ++ rest → All P all → All P rest
 all-rest P all taken rest is each = subst (All P) (ap (drop (length taken)) is ∙ drop-append_seam taken rest) (All-drop P (length taken) all each)
 
-module _ {D : Type 0} (size count faults : D → ℕ) (honest : D → Type 0) (newest : D → Image) (may_leave : D → Image → Type 0) (moment : D → ℕ) (left_since : D → ℕ → Image → Type 0) (b : Begun) (known : Stopped → Type 0) (plain : (h : Stopped) → known h → b.stops h.words) (past : ℕ) (old new : OpenDeck D) where
+module _ {D : Type 0} (G : Ghosts D) (b : Begun) (known : Stopped → Type 0) (plain : (h : Stopped) → known h → b.stops h.words) (past : ℕ) (old new : OpenDeck D) where
   abbrev Is : OpenDeck D → Type 0
-  Is d = IsSinceOf size count faults honest newest may_leave moment left_since b known d
+  Is d = IsSinceOf G b known d
 
   abbrev Stands : List Stopped → OpenDeck D → Type 0
-  Stands given d = Since size count faults honest newest may_leave moment left_since b given d
+  Stands given d = Since G b given d
 
-  plain-is : (d : OpenDeck D) → Is d → IsSince size count faults honest newest may_leave moment left_since b d
-  plain-is d is = is-weaker size count faults honest newest may_leave moment left_since b known (may_stop b) plain d is
+  plain-is : (d : OpenDeck D) → Is d → IsSince G b d
+  plain-is d is = is-weaker G b known (may_stop b) plain d is
 
   given-same : (d : OpenDeck D) (is : Is d) → (plain-is d is).given ≡ is.given
   unfolding plain-is
-  given-same d is = weaker-given size count faults honest newest may_leave moment left_since b known (may_stop b) plain d is
+  given-same d is = weaker-given G b known (may_stop b) plain d is
 
   abbrev Tiles : Type 0
   Tiles = Follow (start_of old.trail) 0 (past_after 0 old.trail) old.trail
@@ -69,7 +69,6 @@ module _ {D : Type 0} (size count faults : D → ℕ) (honest : D → Type 0) (n
     left-stands tiles given s = record {
       same_size = s.same_size;
       same_count = s.same_count;
-      stays_honest = s.stays_honest;
       no_fewer = s.no_fewer;
       up = s.up;
       same = s.same;
@@ -91,7 +90,7 @@ module _ {D : Type 0} (size count faults : D → ℕ) (honest : D → Type 0) (n
     taken-since tiles is = record {
       given = is.given;
       has = subst (λ (d : OpenDeck D). WasGiven known is.given d) (sym takes.same) (left-given is.given is.has);
-      since = λ h. subst (λ (d : OpenDeck D). Stands is.given d) (sym takes.same) (left-stands tiles is.given (is.since h));
+      since = λ known_start held. subst (λ (d : OpenDeck D). Stands is.given d) (sym takes.same) (left-stands tiles is.given (is.since known_start (subst (λ (d : OpenDeck D). G.honest d.disk) takes.same held)));
     }
 
     -- the journal was given the same handles
@@ -109,7 +108,7 @@ module _ {D : Type 0} (size count faults : D → ℕ) (honest : D → Type 0) (n
   take-since (Ok taken) tiles takes keeps is = taken-since taken.items takes tiles is
   take-since (Err memory) tiles takes keeps is = subst (λ (d : OpenDeck D). Is d) (sym keeps.0) is
 
-  pub gives-trail : (r : Result (Vec Entry) AllocError) → Tiles → Takes r → Keeps r → Is old → GivesTrail size count faults honest newest may_leave moment left_since b r
+  pub gives-trail : (r : Result (Vec Entry) AllocError) → Tiles → Takes r → Keeps r → Is old → GivesTrail G b r
   unfolding taken-since plain-is
   gives-trail (Ok taken) tiles takes keeps is = record {
     past = past;

@@ -1,7 +1,7 @@
 -- How a committer and a checkpointer end.
-use Rattle.std.specs.Prelude.{◌≡◌, ℕ, Bool, true, false, Option, None, is_some}
+use Rattle.std.specs.Prelude.{◌≡◌, Bool, true, false, Option, None, is_some}
 use Rattle.jb_batch.specs.Batch.{Gathered}
-use Rattle.jb_disk.specs.Image.{Image}
+use Rattle.jb_disk.specs.declared.disk.Disk.{Ghosts}
 use Rattle.jb_desk.specs.Journal.{HasNone}
 use Rattle.jb_book.specs.Origin.{Begun}
 use Rattle.jb_desk.specs.declared.ended.Ended.{Ended}
@@ -22,8 +22,8 @@ EndsHolding Memory held = is_some held ≡ true
 EndsHolding Refused held = is_some held ≡ true
 
 -- a checkpointer ends as the desk is over and no group is live in its journal, or as the journal has failed
-abbrev pub EndsChecking : {D : Type 0} → (size count faults : D → ℕ) → (D → Type 0) → (D → Image) → (D → Image → Type 0) → (D → ℕ) → (D → ℕ → Image → Type 0) → Begun → Ended → Type 0
-EndsChecking size count faults honest newest may_leave moment left_since begun (Shut over) = HasNone size count faults honest newest may_leave moment left_since begun
-EndsChecking size count faults honest newest may_leave moment left_since begun Aborted = Unit {0}
-EndsChecking size count faults honest newest may_leave moment left_since begun Memory = ⊥
-EndsChecking size count faults honest newest may_leave moment left_since begun Refused = ⊥
+abbrev pub EndsChecking : {D : Type 0} → Ghosts D → Begun → Ended → Type 0
+EndsChecking G begun (Shut over) = HasNone G begun
+EndsChecking G begun Aborted = Unit {0}
+EndsChecking G begun Memory = ⊥
+EndsChecking G begun Refused = ⊥

@@ -3,13 +3,13 @@ use Rattle.std.specs.Prelude.{◌≡◌, ℕ, List, All, length}
 use Rattle.std.specs.List.{sum_by}
 use Rattle.jb_cost.specs.Pieces.{joined}
 use Rattle.jb_deck.specs.declared.done.Entry.{Entry}
-use Rattle.jb_disk.specs.Image.{Image}
+use Rattle.jb_disk.specs.declared.disk.Disk.{Ghosts}
 use Rattle.jb_handle.specs.Word.{WordMap}
 use Rattle.jb_handle.specs.declared.shape.Shape.{Shape}
 use Rattle.jb_handle.specs.declared.stopped.Stopped.{Stopped}
 use Rattle.jb_history.specs.Rule.{StandsIn, with_places}
-use Rattle.jb_book.specs.Led.{IsInHistory, IsOfBegun, IsMachineRun}
-use Rattle.jb_deck.specs.Deck.{OpenDeck}
+use Rattle.jb_book.specs.Led.{IsInHistory, IsMachineRun}
+use Rattle.jb_deck.specs.Deck.{OpenDeck, IsShapeOf}
 use Rattle.jb_history.specs.History.{HistoryId, history_id}
 use Rattle.jb_desk.specs.declared.stops.Stops.{Stops}
 use Rattle.jb_book.specs.Origin.{Begun}
@@ -32,7 +32,7 @@ pub record AreAllStops (log : List WordMap) (stops : List (ℕ × WordMap)) : Ty
 -- How a desk ends whose seats have stopped these handles: there is one history of so many stops, which has them all and no others; the
 -- journal on the disk was given the first handles of this history; and there is a list of events that the machine of handles accepts, in which
 -- these handles stopped in this order, and whose settled groups are those of the trail
-pub record EndsWith {D : Type 0} (size count faults : D → ℕ) (honest : D → Type 0) (newest : D → Image) (may_leave : D → Image → Type 0) (moment : D → ℕ) (left_since : D → ℕ → Image → Type 0) (b : Begun) (stops : List (List (ℕ × WordMap))) (handles : ℕ) (shape : Shape) (disk : D) (trail : List Entry) : Type 0 where
+pub record EndsWith {D : Type 0} (G : Ghosts D) (b : Begun) (stops : List (List (ℕ × WordMap))) (handles : ℕ) (shape : Shape) (disk : D) (trail : List Entry) : Type 0 where
   pub log : List WordMap
   pub number : length log ≡ handles
   pub stopped : AreAllStops log (joined stops)
@@ -40,9 +40,9 @@ pub record EndsWith {D : Type 0} (size count faults : D → ℕ) (honest : D →
   pub same_disk : deck.disk ≡ disk
   pub same_shape : deck.shape ≡ shape
   pub same_trail : deck.trail ≡ trail
-  pub since : IsSinceOf size count faults honest newest may_leave moment left_since b (IsStop b log) deck
-  -- on an honest disk the shape is that of the journal of the start, for the run and for what its groups cost
+  pub since : IsSinceOf G b (IsStop b log) deck
+  -- where the disk is honest now, the shape is that of the journal of the start, for the run and for what its groups cost
   pub run_shape : Shape
   pub run : IsMachineRun run_shape log trail
-  pub runs_as : b.honest → run_shape ≡ shape
-  pub journal : IsOfBegun b shape
+  pub runs_as : b.is_known → G.honest disk → run_shape ≡ shape
+  pub journal : b.is_known → G.honest disk → IsShapeOf b.own b.count shape

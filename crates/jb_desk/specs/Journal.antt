@@ -5,8 +5,8 @@ use Rattle.std.specs.declared.alloc.AllocError.{AllocError}
 use Rattle.jb_batch.specs.Batch.{Gathered}
 use Rattle.jb_batch.specs.Prepared.{Planned, IsPlanned}
 use Rattle.jb_block.specs.declared.stamp.Stamp.{Stamp}
-use Rattle.jb_disk.specs.Image.{Image}
 use Rattle.jb_disk.specs.Kept.{Kept}
+use Rattle.jb_disk.specs.declared.disk.Disk.{Ghosts}
 use Rattle.jb_log.specs.Found.{log_blocks}
 use Rattle.jb_deck.specs.Checkpoints.{AnswersCheckpoint, Checkpoints, TakesOldest}
 use Rattle.jb_deck.specs.Committing.{CommitsBatch, CommitsOnDisk, FindsLive, SettlesSome, TakesBatch}
@@ -25,6 +25,7 @@ use Rattle.jb_deck.specs.declared.done.Entry.{Entry}
 use Rattle.jb_deck.specs.declared.read.ReadHomeFault.{ReadHomeFault}
 use Rattle.jb_book.specs.Origin.{Begun}
 use Rattle.jb_handle.specs.Word.{WordMap}
+use Rattle.jb_history.specs.Rule.{StandsIn}
 use Rattle.jb_desk.specs.History.{IsStop}
 use Rattle.jb_desk.specs.Marks.{HasSettledOf}
 use Rattle.jb_desk.specs.Since.{IsSince, IsSinceOf}
@@ -47,7 +48,7 @@ AnswersAt level before after old new (Ok (Low used)) = (old.aborted ≡ false) �
 AnswersAt level before after old new (Ok (Home checked)) = (level ≤ blocks_in_use old) × AnswersCheckpoint before after old new (Ok checked)
 AnswersAt level before after old new (Err fault) = ((old.aborted ≡ true) ⊎ (level ≤ blocks_in_use old)) × AnswersCheckpoint before after old new (Err fault)
 
-module _ {D : Type 0} (size count faults : D → ℕ) (honest : D → Type 0) (newest : D → Image) (may_leave : D → Image → Type 0) (moment : D → ℕ) (left_since : D → ℕ → Image → Type 0) (b : Begun) where
+module _ {D : Type 0} (G : Ghosts D) (b : Begun) where
   -- the desk's journal before and after it committed this batch, of which these are the groups; the handles that it was given are
   -- those of before, and then the batch's
   pub record IsRound (p : Planned) (done : Done) : Type 0 where
@@ -55,13 +56,13 @@ module _ {D : Type 0} (size count faults : D → ℕ) (honest : D → Type 0) (n
     pub stamp : Stamp
     pub old : OpenDeck D
     pub new : OpenDeck D
-    pub same_disk : Kept size count honest old.disk new.disk
+    pub same_disk : Kept G.size G.count G.honest old.disk new.disk
     pub takes : TakesBatch old p
     pub commits : CommitsBatch p stamp old new done
-    pub on_disk : b.honest → CommitsOnDisk newest p stamp old new
-    pub finds : b.honest → FindsLive (size old.disk) (count old.disk) new.log new.groups (newest new.disk)
-    pub before : IsSince size count faults honest newest may_leave moment left_since b old
-    pub after : IsSince size count faults honest newest may_leave moment left_since b new
+    pub on_disk : b.is_known → G.honest new.disk → CommitsOnDisk G.newest p stamp old new
+    pub finds : b.is_known → G.honest new.disk → FindsLive (G.size old.disk) (G.count old.disk) new.log new.groups (G.newest new.disk)
+    pub before : IsSince G b old
+    pub after : IsSince G b new
     pub adds : after.given ≡ before.given ++ p.batch.handles
 
   -- the desk's journal before and after a commit of a prepared batch in which a call of its disk failed: these groups, first ones of the batch, are settled in it
@@ -70,29 +71,29 @@ module _ {D : Type 0} (size count faults : D → ℕ) (honest : D → Type 0) (n
     pub stamp : Stamp
     pub old : OpenDeck D
     pub new : OpenDeck D
-    pub same_disk : Kept size count honest old.disk new.disk
+    pub same_disk : Kept G.size G.count G.honest old.disk new.disk
     pub takes : TakesBatch old p
     pub settles : SettlesSome p stamp old new settled
-    pub before : IsSince size count faults honest newest may_leave moment left_since b old
-    pub after : IsSince size count faults honest newest may_leave moment left_since b new
+    pub before : IsSince G b old
+    pub after : IsSince G b new
     pub adds : after.given ≡ before.given ++ p.batch.handles
 
   -- the desk's journal has failed
   pub record HasFailed : Type 0 where
     pub deck : OpenDeck D
-    pub since : IsSince size count faults honest newest may_leave moment left_since b deck
+    pub since : IsSince G b deck
     pub failed : deck.aborted ≡ true
 
   -- the desk's journal before and after its oldest live group was written home
   pub record TakesHome (checked : Checked) : Type 0 where
     pub old : OpenDeck D
     pub new : OpenDeck D
-    pub same_disk : Kept size count honest old.disk new.disk
+    pub same_disk : Kept G.size G.count G.honest old.disk new.disk
     pub up : old.aborted ≡ false
     pub takes : TakesOldest old new checked
-    pub checkpoints : b.honest → Checkpoints newest old new
-    pub before : IsSince size count faults honest newest may_leave moment left_since b old
-    pub after : IsSince size count faults honest newest may_leave moment left_since b new
+    pub checkpoints : b.is_known → G.honest new.disk → Checkpoints G.newest old new
+    pub before : IsSince G b old
+    pub after : IsSince G b new
 
   -- the desk's journal before and after these entries were taken from the front of its trail, which has no gap: of groups that are home, with no ticket from
   -- `past` on. It was given the same handles
@@ -102,15 +103,15 @@ module _ {D : Type 0} (size count faults : D → ℕ) (honest : D → Type 0) (n
     pub new : OpenDeck D
     pub tiles : Follow (start_of old.trail) 0 (past_after 0 old.trail) old.trail
     pub takes : TakesTrail past old new taken
-    pub before : IsSince size count faults honest newest may_leave moment left_since b old
-    pub after : IsSince size count faults honest newest may_leave moment left_since b new
+    pub before : IsSince G b old
+    pub after : IsSince G b new
     pub same : after.given ≡ before.given
 
   -- the first entry of the desk's journal may be taken
   pub record HasEntries : Type 0 where
     pub past : ℕ
     pub deck : OpenDeck D
-    pub since : IsSince size count faults honest newest may_leave moment left_since b deck
+    pub since : IsSince G b deck
     pub some : CanTake (oldest_number deck) past deck.trail
 
   -- entries of the desk's journal were taken; or there was no memory for some that may be
@@ -121,23 +122,26 @@ module _ {D : Type 0} (size count faults : D → ℕ) (honest : D → Type 0) (n
   -- no group is live in the desk's journal, which has not failed
   pub record HasNone : Type 0 where
     pub deck : OpenDeck D
-    pub since : IsSince size count faults honest newest may_leave moment left_since b deck
+    pub since : IsSince G b deck
     pub up : deck.aborted ≡ false
     pub none : deck.groups ≡ []
 
   -- The desk's journal before and after a home was read into so many bytes, which then are these: what is answered, in the words of the journal's own read.
-  -- Nothing that the journal knows has changed, nor has what the disk holds; where the read has ended well, the bytes are what stands in the home. The journal was
-  -- given the handles of this history, and has settled what it had settled at these marks.
-  pub record ReadsHome (known : List WordMap) (marks : List (OpenDeck D)) (home bytes : ℕ) (found : List ℕ) (result : Result (Unit {0}) ReadHomeFault) : Type 0 where
+  -- Nothing that the journal knows has changed, nor has what an honest disk holds; where the read has ended well, the bytes are what stands in the home. The journal was
+  -- given the handles of this history, and has settled what it had settled at the marks that were seen before. As it was after the read it is one of the marks that are seen
+  -- then: where the disk is honest at a later time at which these last, it was so here.
+  pub record ReadsHome (known : List WordMap) (marks marks_after : List (OpenDeck D)) (home bytes : ℕ) (found : List ℕ) (result : Result (Unit {0}) ReadHomeFault) : Type 0 where
     pub old : OpenDeck D
     pub new : OpenDeck D
-    pub same_disk : Kept size count honest old.disk new.disk
-    pub answers : AnswersRead (size old.disk) (faults old.disk) (faults new.disk) old new home bytes result
-    pub stands : b.honest → OnOk result (found ≡ standing old.log old.groups (newest old.disk) home)
-    pub content : b.honest → newest new.disk ≡ newest old.disk
-    pub before : IsSinceOf size count faults honest newest may_leave moment left_since b (IsStop b known) old
-    pub after : IsSinceOf size count faults honest newest may_leave moment left_since b (IsStop b known) new
+    pub same_disk : Kept G.size G.count G.honest old.disk new.disk
+    pub answers : AnswersRead (G.size old.disk) (G.faults old.disk) (G.faults new.disk) old new home bytes result
+    pub stands : b.is_known → G.honest new.disk → OnOk result (found ≡ standing old.log old.groups (G.newest old.disk) home)
+    pub content : b.is_known → G.honest new.disk → G.newest new.disk ≡ G.newest old.disk
+    pub before : IsSinceOf G b (IsStop b known) old
+    pub after : IsSinceOf G b (IsStop b known) new
     pub settled : All (HasSettledOf old) marks
+    pub at : ℕ
+    pub marked : StandsIn marks_after (at, new)
 
   -- what a round of a committer that held such a batch, and whose seat is then sure of so many settled tickets, has done: a batch is committed; or the journal
   -- has failed, and the seat is sure of what is settled in it
@@ -169,7 +173,7 @@ module _ {D : Type 0} (size count faults : D → ℕ) (honest : D → Type 0) (n
   -- fewer blocks of the log than the level are in use in the desk's journal, which has not failed: so many
   pub record IsLow (level used : ℕ) : Type 0 where
     pub deck : OpenDeck D
-    pub since : IsSince size count faults honest newest may_leave moment left_since b deck
+    pub since : IsSince G b deck
     pub up : deck.aborted ≡ false
     pub in_use : used ≡ blocks_in_use deck
     pub low : used < level

@@ -1,6 +1,7 @@
--- What a crash leaves since a mark: the journal of a desk as it was after some round of a committer.
+-- What a crash leaves since a mark: the journal of a desk as it was when it was started, after some round of a committer, or after some read.
 use Rattle.std.specs.Prelude.{◌≡◌, ◌⊎◌, ℕ, suc, ◌<◌, ◌≤◌, List, All, Some, slice_get, Result, Ok, Err}
 use Rattle.jb_disk.specs.Image.{Image}
+use Rattle.jb_disk.specs.declared.disk.Disk.{Ghosts}
 use Rattle.jb_handle.specs.Tickets.{TicketsFrom}
 use Rattle.jb_handle.specs.Word.{WordMap}
 use Rattle.jb_handle.specs.declared.shape.Shape.{Shape}
@@ -29,17 +30,19 @@ pub record HasSettledOf {D : Type 0} (d m : OpenDeck D) : Type 0 where
   pub tiles : Within m.trail
   pub settled : past_after 0 m.trail ≤ past_after 0 d.trail
 
--- The mark lasts: of a journal that was given these handles since the start, on a disk that was honest then, a crash at any moment since the mark leaves all
--- that were settled at the mark
-pub record Lasts {D : Type 0} (moment : D → ℕ) (left_since : D → ℕ → Image → Type 0) (b : Begun) (given : List Stopped) (d : OpenDeck D) (m : OpenDeck D) : Type 0 where
+-- The mark lasts: the journal has the shape that it had at the mark, and a disk that is honest was so at the mark. Of a journal that was given these handles since
+-- the start, on a disk that is honest, a crash at any moment since the mark leaves all that were settled at the mark
+pub record Lasts {D : Type 0} (G : Ghosts D) (b : Begun) (given : List Stopped) (d : OpenDeck D) (m : OpenDeck D) : Type 0 where
   pub has : HasSettledOf d m
-  pub earlier : b.honest → moment m.disk ≤ moment d.disk
-  pub leaves : b.honest → (c : Image) → left_since d.disk (moment m.disk) c → HasFirst b given (past_after 0 m.trail) c
+  pub same_shape : d.shape ≡ m.shape
+  pub was_honest : G.honest d.disk → G.honest m.disk
+  pub earlier : b.is_known → G.honest d.disk → G.moment m.disk ≤ G.moment d.disk
+  pub leaves : b.is_known → G.honest d.disk → (c : Image) → G.left_since d.disk (G.moment m.disk) c → HasFirst b given (past_after 0 m.trail) c
 
 -- a journal that stands as it must since the start, whose marks last
-pub record IsMarkedOf {D : Type 0} (size count faults : D → ℕ) (honest : D → Type 0) (newest : D → Image) (may_leave : D → Image → Type 0) (moment : D → ℕ) (left_since : D → ℕ → Image → Type 0) (b : Begun) (is : Stopped → Type 0) (marks : List (OpenDeck D)) (d : OpenDeck D) : Type 0 where
-  pub since : IsSinceOf size count faults honest newest may_leave moment left_since b is d
-  pub marks_last : All (Lasts moment left_since b since.given d) marks
+pub record IsMarkedOf {D : Type 0} (G : Ghosts D) (b : Begun) (is : Stopped → Type 0) (marks : List (OpenDeck D)) (d : OpenDeck D) : Type 0 where
+  pub since : IsSinceOf G b is d
+  pub marks_last : All (Lasts G b since.given d) marks
 
 -- one of these marks has the entries of the groups that were settled; where the journal has failed, it had failed at one of them
 abbrev pub MarksSettled : {D : Type 0} → List (OpenDeck D) → Result Done BatchFault → Type 0
@@ -58,37 +61,37 @@ ShowsTaken marks ticket wait.Aborted = Unit {0}
 ShowsTaken marks ticket wait.Unknown = Unit {0}
 
 -- How a desk ends of which these stops and these marks were seen: the stops are the first of its history, and each of the marks lasts
-pub record EndsMarked {D : Type 0} (size count faults : D → ℕ) (honest : D → Type 0) (newest : D → Image) (may_leave : D → Image → Type 0) (moment : D → ℕ) (left_since : D → ℕ → Image → Type 0) (b : Begun) (stops : List (List (ℕ × WordMap))) (handles : ℕ) (shape : Shape) (disk : D) (trail : List Entry) (known : List WordMap) (marks : List (OpenDeck D)) : Type 0 where
-  pub ends : EndsWith size count faults honest newest may_leave moment left_since b stops handles shape disk trail
+pub record EndsMarked {D : Type 0} (G : Ghosts D) (b : Begun) (stops : List (List (ℕ × WordMap))) (handles : ℕ) (shape : Shape) (disk : D) (trail : List Entry) (known : List WordMap) (marks : List (OpenDeck D)) : Type 0 where
+  pub ends : EndsWith G b stops handles shape disk trail
   pub knows : IsFirstPart known ends.log
-  pub last : All (Lasts moment left_since b ends.since.given ends.deck) marks
+  pub last : All (Lasts G b ends.since.given ends.deck) marks
 
 -- ---- what follows for a ticket that was shown
 
 -- The handle with the ticket stays: there is one mark among these, and a crash at any moment since it leaves the handles of the one history that the seats
 -- made up to this one, at least
-pub record TicketStays {D : Type 0} (moment : D → ℕ) (left_since : D → ℕ → Image → Type 0) (b : Begun) (stops : List (List (ℕ × WordMap))) (disk : D) (marks : List (OpenDeck D)) (ticket : ℕ) : Type 0 where
+pub record TicketStays {D : Type 0} (G : Ghosts D) (b : Begun) (stops : List (List (ℕ × WordMap))) (disk : D) (marks : List (OpenDeck D)) (ticket : ℕ) : Type 0 where
   pub at : ℕ
   pub mark : OpenDeck D
   pub stands : StandsIn marks (at, mark)
-  pub earlier : moment mark.disk ≤ moment disk
+  pub earlier : G.moment mark.disk ≤ G.moment disk
   pub log : List WordMap
   pub stopped : AreAllStops log (joined stops)
   pub given : List Stopped
   pub first : All (IsStop b log) given
   pub tickets : TicketsFrom 0 given
-  pub leaves : (c : Image) → left_since disk (moment mark.disk) c → HasFirst b given (suc ticket) c
+  pub leaves : (c : Image) → G.left_since disk (G.moment mark.disk) c → HasFirst b given (suc ticket) c
 
 -- some mark shows that the ticket is settled: the number of its group, or an entry that comes after it
 abbrev pub IsShown : {D : Type 0} → List (OpenDeck D) → ℕ → Type 0
 IsShown marks ticket = ((number : ℕ) × Shows marks ticket number) ⊎ ShowsAfter marks ticket
 
--- what was shown of a ticket at any time, by some of the marks that a desk was closed with, stays
-abbrev pub ShownStays : {D : Type 0} → (size count faults : D → ℕ) → (honest : D → Type 0) → (newest : D → Image) → (may_leave : D → Image → Type 0) → (moment : D → ℕ) → (left_since : D → ℕ → Image → Type 0) → Begun → Type 0
-ShownStays {D = D} size count faults honest newest may_leave moment left_since b =
+-- what was shown of a ticket at any time, by some of the marks that a desk was closed with, stays on a disk that is honest as the desk is closed
+abbrev pub ShownStays : {D : Type 0} → Ghosts D → Begun → Type 0
+ShownStays {D = D} G b =
     (stops : List (List (ℕ × WordMap))) (handles : ℕ) (shape : Shape) (disk : D) (trail : List Entry) (known : List WordMap) (before marks : List (OpenDeck D)) (ticket : ℕ)
-    → EndsMarked size count faults honest newest may_leave moment left_since b stops handles shape disk trail known marks → IsFirstPart before marks → IsShown before ticket → b.honest
-    → TicketStays moment left_since b stops disk before ticket
+    → EndsMarked G b stops handles shape disk trail known marks → IsFirstPart before marks → IsShown before ticket → b.is_known → G.honest disk
+    → TicketStays G b stops disk before ticket
 
 -- the handle with this ticket, which stopped with these words, is among those that were given, and settled
 pub record IsGiven {D : Type 0} (given : List Stopped) (d : OpenDeck D) (ticket : ℕ) (words : WordMap) : Type 0 where
@@ -100,8 +103,8 @@ pub record IsGiven {D : Type 0} (given : List Stopped) (d : OpenDeck D) (ticket 
 
 -- A journal that was given handles of the history, as was seen, and that has settled what it had settled at these marks, was given each handle that they show, with the
 -- words that it stopped with
-abbrev pub ShownIsGiven : {D : Type 0} → (size count faults : D → ℕ) → (honest : D → Type 0) → (newest : D → Image) → (may_leave : D → Image → Type 0) → (moment : D → ℕ) → (left_since : D → ℕ → Image → Type 0) → Begun → Type 0
-ShownIsGiven {D = D} size count faults honest newest may_leave moment left_since b =
+abbrev pub ShownIsGiven : {D : Type 0} → Ghosts D → Begun → Type 0
+ShownIsGiven {D = D} G b =
     (known : List WordMap) (marks : List (OpenDeck D)) (d : OpenDeck D) (ticket : ℕ) (words : WordMap)
-    → (is : IsSinceOf size count faults honest newest may_leave moment left_since b (IsStop b known) d) → All (HasSettledOf d) marks → IsShown marks ticket → StandsIn known (ticket, words)
+    → (is : IsSinceOf G b (IsStop b known) d) → All (HasSettledOf d) marks → IsShown marks ticket → StandsIn known (ticket, words)
     → IsGiven is.given d ticket words

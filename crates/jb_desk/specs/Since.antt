@@ -1,6 +1,7 @@
 -- How a journal stands since its desk was started: which handles it was given, what its homes hold, and what a crash leaves.
 use Rattle.std.specs.Prelude.{◌≡◌, ◌⊎◌, ℕ, ◌+◌, ◌-◌, ◌<◌, ◌≤◌, ◌^◌, false, List, [], ◌∷◌, All, length, take}
 use Rattle.jb_disk.specs.Image.{Image}
+use Rattle.jb_disk.specs.declared.disk.Disk.{Ghosts}
 use Rattle.jb_batch.specs.Costs.{cost_in}
 use Rattle.jb_handle.specs.Tickets.{TicketsFrom}
 use Rattle.jb_handle.specs.Words.{word}
@@ -56,52 +57,50 @@ pub record WasGiven {D : Type 0} (is : Stopped → Type 0) (given : List Stopped
 
 -- The journal of the start, on its disk, since then, when it was given these handles. While it has not failed its homes stand as they say, those
 -- that are free aside.
-pub record Since {D : Type 0} (size count faults : D → ℕ) (honest : D → Type 0) (newest : D → Image) (may_leave : D → Image → Type 0) (moment : D → ℕ) (left_since : D → ℕ → Image → Type 0) (b : Begun) (given : List Stopped) (d : OpenDeck D) : Type 0 where
-  pub same_size : size d.disk ≡ b.size
-  pub same_count : count d.disk ≡ b.count
-  pub stays_honest : honest d.disk
+pub record Since {D : Type 0} (G : Ghosts D) (b : Begun) (given : List Stopped) (d : OpenDeck D) : Type 0 where
+  pub same_size : G.size d.disk ≡ b.size
+  pub same_count : G.count d.disk ≡ b.count
   -- it has not failed unless a call of the disk has
-  pub no_fewer : b.faults ≤ faults d.disk
-  pub up : b.faults < 2 ^ 64 - 1 → faults d.disk ≡ b.faults → d.aborted ≡ false
+  pub no_fewer : b.faults ≤ G.faults d.disk
+  pub up : b.faults < 2 ^ 64 - 1 → G.faults d.disk ≡ b.faults → d.aborted ≡ false
   pub same : SameJournal b.own d.log.sb
   -- no more numbers are taken than there are handles
   pub number : d.log.next ≤ b.own.sequence + 1 + length given
   -- the first group has the number after that of the start; a trail from whose front entries were taken begins at a later ticket
   pub began : start_of d.trail ≡ 0 → d.log.next ≡ b.own.sequence + 1 + length d.trail
-  pub stood : d.aborted ≡ false → (home : ℕ) → StandsBy (word given home) (b.homes home) (deck_homes newest d home)
+  pub stood : d.aborted ≡ false → (home : ℕ) → StandsBy (word given home) (b.homes home) (deck_homes G.newest d home)
   pub live : d.aborted ≡ false → LiveOf given d.groups
   -- what a crash may leave now has the settled ones at least
-  pub now : (c : Image) → may_leave d.disk c → HasFirst b given (past_after 0 d.trail) c
+  pub now : (c : Image) → G.may_leave d.disk c → HasFirst b given (past_after 0 d.trail) c
   -- what a crash since that moment might have left
-  pub later : b.since ≤ moment d.disk
-  pub ever : (c : Image) → left_since d.disk b.since c → b.left c ⊎ HasFirst b given 0 c
+  pub later : b.since ≤ G.moment d.disk
+  pub ever : (c : Image) → G.left_since d.disk b.since c → b.left c ⊎ HasFirst b given 0 c
 
--- the journal was given handles, each as `is` says (`WasGiven`), and where the disk of the start is honest it stands as it must since then (`Since`)
-pub record IsSinceOf {D : Type 0} (size count faults : D → ℕ) (honest : D → Type 0) (newest : D → Image) (may_leave : D → Image → Type 0) (moment : D → ℕ) (left_since : D → ℕ → Image → Type 0) (b : Begun) (is : Stopped → Type 0) (d : OpenDeck D) : Type 0 where
+-- the journal was given handles, each as `is` says (`WasGiven`), and where the start is known and the disk is honest now, it stands as it must since then (`Since`)
+pub record IsSinceOf {D : Type 0} (G : Ghosts D) (b : Begun) (is : Stopped → Type 0) (d : OpenDeck D) : Type 0 where
   pub given : List Stopped
   pub has : WasGiven is given d
-  pub since : b.honest → Since size count faults honest newest may_leave moment left_since b given d
+  pub since : b.is_known → G.honest d.disk → Since G b given d
 
 -- the same of handles that each stopped with words that a handle may stop with
-abbrev pub IsSince : {D : Type 0} → (D → ℕ) → (D → ℕ) → (D → ℕ) → (D → Type 0) → (D → Image) → (D → Image → Type 0) → (D → ℕ) → (D → ℕ → Image → Type 0) → Begun → OpenDeck D → Type 0
-IsSince size count faults honest newest may_leave moment left_since b d = IsSinceOf size count faults honest newest may_leave moment left_since b (may_stop b) d
+abbrev pub IsSince : {D : Type 0} → Ghosts D → Begun → OpenDeck D → Type 0
+IsSince G b d = IsSinceOf G b (may_stop b) d
 
 -- the disk and the trail are those of a journal that stands as it must since the start
-pub record EndsSince {D : Type 0} (size count faults : D → ℕ) (honest : D → Type 0) (newest : D → Image) (may_leave : D → Image → Type 0) (moment : D → ℕ) (left_since : D → ℕ → Image → Type 0) (b : Begun) (disk : D) (trail : List Entry) : Type 0 where
+pub record EndsSince {D : Type 0} (G : Ghosts D) (b : Begun) (disk : D) (trail : List Entry) : Type 0 where
   pub deck : OpenDeck D
   pub same_disk : deck.disk ≡ disk
   pub same_trail : deck.trail ≡ trail
-  pub since : IsSince size count faults honest newest may_leave moment left_since b deck
+  pub since : IsSince G b deck
 
 -- The start is that of the journal on this disk, once it is opened: its homes stood as recovery leaves them, and what a crash might
 -- have left has what it might leave before the journal is opened and meanwhile.
-pub record IsBegunOn {D : Type 0} (size count faults : D → ℕ) (honest : D → Type 0) (newest : D → Image) (moment : D → ℕ) (left_since : D → ℕ → Image → Type 0) (b : Begun) (disk : D) : Type 0 where
-  pub same_size : size disk ≡ b.size
-  pub same_count : count disk ≡ b.count
-  pub stays_honest : b.honest → honest disk
-  pub same_faults : faults disk ≡ b.faults
-  pub own : own_on (size disk) (count disk) (newest disk) ≡ b.own
-  pub homes : (home : ℕ) → recovered_home (size disk) (count disk) (newest disk) home ≡ b.homes home
-  pub later : b.since ≤ moment disk
-  pub ever : b.honest → (c : Image) → left_since disk b.since c → b.left c
-  pub opening : (c : Image) → FollowsEntry (size disk) (count disk) (newest disk) c → b.left c
+pub record IsBegunOn {D : Type 0} (G : Ghosts D) (b : Begun) (disk : D) : Type 0 where
+  pub same_size : G.size disk ≡ b.size
+  pub same_count : G.count disk ≡ b.count
+  pub same_faults : G.faults disk ≡ b.faults
+  pub own : own_on (G.size disk) (G.count disk) (G.newest disk) ≡ b.own
+  pub homes : (home : ℕ) → recovered_home (G.size disk) (G.count disk) (G.newest disk) home ≡ b.homes home
+  pub later : b.since ≤ G.moment disk
+  pub ever : b.is_known → G.honest disk → (c : Image) → G.left_since disk b.since c → b.left c
+  pub opening : (c : Image) → FollowsEntry (G.size disk) (G.count disk) (G.newest disk) c → b.left c

@@ -63,7 +63,8 @@ impl<D: Disk, C: Clock, H: Origin, N: Ledger> Desk<D, C, H, N> {
 
     /// A desk over a journal that has committed nothing yet and has not failed. `handles` is a new ledger,
     /// in which the handles that stop are counted, with a new history of them, and `changes` a new ledger,
-    /// in which the blocks that they touched are; `marks` is a new history of the journal as it is after each round.
+    /// in which the blocks that they touched are; `marks` is a new history of the journal as it is now, after each round
+    /// of a committer and after each read.
     /// What is promised of the disk from now on is said of the start that the caller picks (`H.begun`).
     ///
     /// # Errors
@@ -83,8 +84,7 @@ impl<D: Disk, C: Clock, H: Origin, N: Ledger> Desk<D, C, H, N> {
         requires changes { (changes.name ≡ N.name) × (changes.parts ≡ N.parts) × (N.parts ≡ 2 ^ 61 + 1) }
         requires fresh { deck.trail ≡ [] }
         requires running { deck.aborted ≡ false }
-        requires begun { IsSince D.size D.count D.faults D.honest D.newest D.may_leave D.moment D.left_since H.begun
-            deck }
+        requires begun { IsSince D.Disk H.begun deck }
         ensures shape { IfOk result (λ desk. shape_in desk ≡ deck.shape) }
         ensures back { IfErr result (λ back. back ≡ (handles, changes, marks, deck, clock)) }
     {
@@ -96,7 +96,8 @@ impl<D: Disk, C: Clock, H: Origin, N: Ledger> Desk<D, C, H, N> {
         let (stops, mut scribe) = history.named::<H>();
         let sight = stops.show(&mut scribe);
         let (marks, mut marking) = marks.named::<Marks<H>>();
-        let seen = marks.show(&mut marking);
+        let histories = Histories { stops, marks };
+        let seen = histories.mark(&mut marking, &deck);
         let register = Register::new(alloc, shape, u64::from(deck.usable()), scribe, seen);
         Ok(Desk {
             counter: Mutex::new(Counter::new(register, tickets, changes)),
@@ -104,7 +105,7 @@ impl<D: Disk, C: Clock, H: Origin, N: Ledger> Desk<D, C, H, N> {
             moved: Condvar::new(),
             turns: Turns::new(),
             board: Shown::new(board),
-            histories: Histories { stops, marks },
+            histories,
             shape,
             alloc,
         })

@@ -14,18 +14,14 @@ use std::alloc::Global;
 ///
 /// # Errors
 ///
-/// Those of [`Deck::open`]; the disk is lost.
-pub fn open<D: Disk + Drop, H: Origin>(alloc: Global, disk: D) -> Result<Deck<D>, OpenFault>
-    requires { IsBegunOn D.size D.count D.faults D.honest D.newest D.moment D.left_since H.begun disk }
+/// Those of [`Deck::open`], with the disk.
+pub fn open<D: Disk, H: Origin>(alloc: Global, disk: D) -> Result<Deck<D>, (D, OpenFault)>
+    requires { IsBegunOn D.Disk H.begun disk }
     ensures opened { IfOk result (λ deck. (shape : ShapeValue) → IsShapeOf deck.log.sb (D.count deck.disk) shape
-        → WasOpened D.size D.count D.faults D.honest D.newest disk shape) }
+        → WasOpened D.Disk disk shape) }
     ensures new { IfOk result (λ deck. (deck.trail ≡ []) × (deck.aborted ≡ false)) }
-    ensures since { IfOk result (λ deck.
-        IsSince D.size D.count D.faults D.honest D.newest D.may_leave D.moment D.left_since H.begun deck) }
-    ensures refused { IfErr result (NotOpened D.size D.count D.faults D.honest D.newest disk) }
+    ensures since { IfOk result (IsSince D.Disk H.begun) }
+    ensures refused { IfErr result (λ back. NotOpened D.Disk disk back.0 back.1) }
 {
-    match Deck::open(alloc, disk) {
-        Ok(deck) => Ok(deck),
-        Err((_, fault)) => Err(fault),
-    }
+    Deck::open(alloc, disk)
 }

@@ -1,5 +1,4 @@
-ghost use Rattle.std.specs.Prelude.{◌≡◌, [], false, length, All, IfOk, OnErr};
-ghost use Rattle.jb_history.specs.Rule.{IsFirstPart};
+ghost use Rattle.std.specs.Prelude.{◌≡◌, [], ◌∷◌, false, length, All, IfOk, OnErr};
 
 use crate::checkpoint::CheckpointRound;
 use jb_block::Memory;
@@ -36,8 +35,7 @@ impl<D: Disk, C: Clock, S: Origin> Model for Works<D, C, S> {
 
     ghost view = { λ w. worked w.deck w.clock };
 
-    ghost invariant = { λ w. IsMarkedOf D.size D.count D.faults D.honest D.newest D.may_leave D.moment D.left_since
-        S.begun (IsStop S.begun w.sight) w.scribe w.deck };
+    ghost invariant = { λ w. IsMarkedOf D.Disk S.begun (IsStop S.begun w.sight) w.scribe w.deck };
 }
 
 impl<D: Disk, C: Clock, S: Origin> Works<D, C, S> {
@@ -51,6 +49,7 @@ impl<D: Disk, C: Clock, S: Origin> Works<D, C, S> {
     ghost use Rattle.jb_book.specs.Tied.{TellsFirst};
     ghost use Rattle.jb_handle.specs.Tickets.{TicketsFrom};
     ghost use Rattle.jb_book.specs.Led.{IsInHistory};
+    ghost use Rattle.jb_book.specs.Marks.{SeesMore};
     ghost use Rattle.jb_desk.specs.History.{IsStop};
     ghost use Rattle.jb_book.specs.Origin.{AreStops};
     ghost use Rattle.jb_desk.specs.Marks.{IsMarkedOf, MarksSettled};
@@ -58,18 +57,17 @@ impl<D: Disk, C: Clock, S: Origin> Works<D, C, S> {
     ghost use Rattle.jb_desk.specs.Works.{worked};
 
     /// A journal that stands as it must since the start and has committed nothing, a clock, what was seen
-    /// of the history, and the right to add marks, of which there is none.
+    /// of the history, and the right to add marks, of which there is one: the journal as it is.
     pub fn new(
         deck: Deck<D>,
         clock: C,
         sight: Sight<Words, S>,
         scribe: Scribe<Deck<D>, Marks<S>>,
     ) -> Works<D, C, S>
-        requires unmarked { scribe ≡ [] }
+        requires marked { scribe ≡ deck ∷ [] }
         requires fresh { deck.trail ≡ [] }
         requires running { deck.aborted ≡ false }
-        requires begun { IsSince D.size D.count D.faults D.honest D.newest D.may_leave D.moment D.left_since S.begun
-            deck }
+        requires begun { IsSince D.Disk S.begun deck }
         ensures { result ≡ worked deck clock }
     {
         Works {
@@ -101,10 +99,8 @@ impl<D: Disk, C: Clock, S: Origin> Works<D, C, S> {
             self.new.deck result.0 }
         ensures tells { CommitsAs prepared result.0 × TellsFirst prepared result.0
             × TicketsFrom prepared.batch.first prepared.batch.handles }
-        ensures round { IfOk result.0 (IsRound D.size D.count D.faults D.honest D.newest D.may_leave D.moment
-            D.left_since S.begun prepared) }
-        ensures failed { FailsAs D.size D.count D.faults D.honest D.newest D.may_leave D.moment D.left_since S.begun
-            prepared result.0 }
+        ensures round { IfOk result.0 (IsRound D.Disk S.begun prepared) }
+        ensures failed { FailsAs D.Disk S.begun prepared result.0 }
         ensures clock { self.new.clock ≡ self.old.clock }
         ensures stops { result.1.stops ≡ sight }
         ensures marked { MarksSettled result.1.marks result.0 }
@@ -116,9 +112,7 @@ impl<D: Disk, C: Clock, S: Origin> Works<D, C, S> {
         let result = self.deck.commit_batch(prepared, stamp);
         // that its entries leave no gap is known by looking at them
         let _trail = self.deck.trail();
-        let mut made = histories.marks.enter();
-        histories.marks.add(&mut self.scribe, &mut made, &self.deck);
-        let marks = histories.marks.show(&mut self.scribe);
+        let marks = histories.mark(&mut self.scribe, &self.deck);
         (
             result,
             Sights {
@@ -134,8 +128,7 @@ impl<D: Disk, C: Clock, S: Origin> Works<D, C, S> {
     ///
     /// Those of the journal's own checkpoint.
     pub fn checkpoint(&mut self) -> Result<Checked, CheckpointFault>
-        ensures round { ChecksRound D.size D.count D.faults D.honest D.newest D.may_leave D.moment D.left_since S.begun
-            result }
+        ensures round { ChecksRound D.Disk S.begun result }
         ensures clock { self.new.clock ≡ self.old.clock }
     {
         self.deck.checkpoint_one()
@@ -149,8 +142,7 @@ impl<D: Disk, C: Clock, S: Origin> Works<D, C, S> {
     pub fn checkpoint_at(&mut self, level: u32) -> Result<CheckpointRound, CheckpointFault>
         ensures answers { AnswersAt level (D.faults self.old.deck.disk) (D.faults self.new.deck.disk) self.old.deck
             self.new.deck result }
-        ensures round { ChecksAt D.size D.count D.faults D.honest D.newest D.may_leave D.moment D.left_since S.begun
-            level result }
+        ensures round { ChecksAt D.Disk S.begun level result }
         ensures clock { self.new.clock ≡ self.old.clock }
     {
         let in_use = self.deck.in_use();
@@ -164,7 +156,8 @@ impl<D: Disk, C: Clock, S: Origin> Works<D, C, S> {
     }
 
     /// Reads a home block as it stands. All that the journal was given is seen then; what was settled at the marks that were
-    /// seen is settled in it.
+    /// seen is settled in it. The journal is marked then, whatever came of the read, and the mark is seen: a disk that is
+    /// honest later was so in the read.
     ///
     /// # Errors
     ///
@@ -178,15 +171,20 @@ impl<D: Disk, C: Clock, S: Origin> Works<D, C, S> {
     ) -> Result<(), ReadHomeFault>
         ensures answers { AnswersRead (D.size self.old.deck.disk) (D.faults self.old.deck.disk)
             (D.faults self.new.deck.disk) self.old.deck self.new.deck home (length buf.old) result }
-        ensures home { ReadsHome D.size D.count D.faults D.honest D.newest D.may_leave D.moment D.left_since S.begun
-            seen.new.stops seen.old.marks home (length buf.old) buf.new result }
-        ensures sees { IsFirstPart seen.old.stops seen.new.stops × (seen.new.marks ≡ seen.old.marks) }
+        ensures home { ReadsHome D.Disk S.begun seen.new.stops seen.old.marks seen.new.marks home (length buf.old)
+            buf.new result }
+        ensures sees { SeesMore seen.old seen.new }
         ensures clock { self.new.clock ≡ self.old.clock }
     {
         histories.stops.learn(&mut seen.stops, &mut self.sight);
         let marks = histories.marks.again(&mut seen.marks);
         histories.marks.check(&mut self.scribe, marks);
-        self.deck.read_home(home, buf)
+        let result = self.deck.read_home(home, buf);
+        // that its entries leave no gap is known by looking at them
+        let _trail = self.deck.trail();
+        let mut shown = histories.mark(&mut self.scribe, &self.deck);
+        histories.marks.learn(&mut seen.marks, &mut shown);
+        result
     }
 
     /// Takes entries from the front of the trail: those of groups that are home, with no ticket from `past` on. The
@@ -199,8 +197,7 @@ impl<D: Disk, C: Clock, S: Origin> Works<D, C, S> {
         ensures taken { IfOk result (λ taken. TakesTrail past self.old.deck self.new.deck taken.items) }
         ensures refused { OnErr result ((self.new.deck ≡ self.old.deck)
             × CanTake (oldest_number self.old.deck) past self.old.deck.trail) }
-        ensures gives { GivesTrail D.size D.count D.faults D.honest D.newest D.may_leave D.moment D.left_since S.begun
-            result }
+        ensures gives { GivesTrail D.Disk S.begun result }
         ensures clock { self.new.clock ≡ self.old.clock }
     {
         // that its entries leave no gap is known by looking at them
@@ -216,8 +213,7 @@ impl<D: Disk, C: Clock, S: Origin> Works<D, C, S> {
         marks: Sight<Deck<D>, Marks<S>>,
     ) -> (Deck<D>, C, Sight<Words, S>)
         ensures parts { (result.0 ≡ self.deck) × (result.1 ≡ self.clock) }
-        ensures since { IsMarkedOf D.size D.count D.faults D.honest D.newest D.may_leave D.moment D.left_since S.begun
-            (IsStop S.begun result.2) marks result.0 }
+        ensures since { IsMarkedOf D.Disk S.begun (IsStop S.begun result.2) marks result.0 }
     {
         let Works {
             deck,

@@ -4,13 +4,12 @@ use Rattle.jb_disk.specs.Faults.{MoreFaults}
 use Rattle.jb_disk.specs.Kept.{Kept}
 
 pub kept_same : {D : Type 0} (size count : D → ℕ) (honest : D → Type 0) (disk : D) → Kept size count honest disk disk
-kept_same size count honest disk = record { same_size = refl; same_count = refl; stays_honest = λ is. is; was_honest = λ is. is }
+kept_same size count honest disk = record { same_size = refl; same_count = refl; was_honest = λ is. is }
 
 pub kept_on : {D : Type 0} (size count : D → ℕ) (honest : D → Type 0) (old mid new : D) → Kept size count honest old mid → Kept size count honest mid new → Kept size count honest old new
 kept_on size count honest old mid new first second = record {
   same_size = second.same_size ∙ first.same_size;
   same_count = second.same_count ∙ first.same_count;
-  stays_honest = λ is. second.stays_honest (first.stays_honest is);
   was_honest = λ is. first.was_honest (second.was_honest is);
 }
 

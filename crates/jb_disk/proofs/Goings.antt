@@ -1,9 +1,10 @@
 -- How the life of a disk in memory goes on.
-use Rattle.std.proofs.Common.{◌≡◌, ◌∷◌, length, inl, inr, ⊎_elim, arith}
+use Rattle.std.proofs.Common.{◌≡◌, ℕ, List, ◌∷◌, length, inl, inr, ⊎_elim, arith}
 use Rattle.jb_block.specs.Size.{bytes_of}
-use Rattle.jb_disk.specs.Image.{Same}
+use Rattle.jb_disk.specs.Image.{Same, Torn}
 use Rattle.jb_disk.specs.Time.{Goes}
 use Rattle.jb_disk.specs.History.{History, Synced, replay, MayLeave, LeftSince, IsSound}
+use Rattle.jb_disk.specs.Writes.{torn_same}
 use Rattle.jb_disk.specs.Lives.{newest_stays}
 
 -- a sync leaves one of the images that were there
@@ -14,4 +15,14 @@ goes_synced old new sound first steps = rw (first, steps) (record {
   later = omega arith;
   nothing_else = λ t c earlier left. ⊎_elim (λ now. inr now.1) inl left;
   keeps = λ t c earlier left. inr left;
+})
+
+-- a write that is not made leaves all as it was
+pub goes_refused : (old new : History) (place : ℕ) (bytes : List ℕ) → new.first ≡ old.first → new.steps ≡ old.steps →
+    Goes (λ h. MayLeave h.first h.steps) (λ h. length h.steps) (λ h. LeftSince h.first h.steps) (Torn place bytes) old new
+goes_refused old new place bytes first steps = rw (first, steps) (record {
+  crash = λ c now. (c, now, torn_same c place bytes);
+  later = omega arith;
+  nothing_else = λ t c earlier left. inl left;
+  keeps = λ t c earlier left. left;
 })

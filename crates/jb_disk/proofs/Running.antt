@@ -1,9 +1,10 @@
 -- Blocks in a row, read one after the other.
-use Rattle.std.proofs.Common.{◌≡◌, ◌<◌, ◌≤◌, ℕ, ◌+◌, ◌-◌, ◌*◌, IsTrue, List, ◌++◌, length, take, drop, ⊎_elim, ap, sym, ◌∙◌, subst, arith}
+use Rattle.std.proofs.Common.{◌≡◌, ◌<◌, ◌≤◌, ℕ, zero, suc, ◌+◌, ◌-◌, ◌*◌, Bool, true, false, IsTrue, List, ◌++◌, length, take, drop, ⊎_elim, ap, refl, sym, ◌∙◌, subst, arith}
 use Rattle.std.proofs.lemmas.Bool.{cases_lt}
 use Rattle.std.proofs.lemmas.List.{drop-take, take-append-le}
 use Rattle.std.proofs.lemmas.Slice.{take-put_mid_below, between-put_mid}
 use borrow.Rule.Slice.PartMut.{put_mid}
+use Rattle.jb_disk.specs.Called.{AllMade, AreMade, Called, Reads}
 use Rattle.jb_disk.specs.Image.{Image, block, Same}
 use Rattle.jb_disk.specs.Kept.{Kept}
 use Rattle.jb_disk.specs.Runs.{part, ReadsRun}
@@ -47,15 +48,33 @@ reads-more size n place m c to ys is long within so_far found k below =
     subst (λ j. part size j (put_mid (size * n) m to ys) ≡ block c (place + j)) same (part-put size n m to ys is long within ∙ found))
     (cases_lt k n)
 
+-- ---- the calls of a run
+
+module _ {D : Type 0} (own : Called → D → D → Bool → Type 0) (call : ℕ → Called) where
+  -- one more succeeded
+  pub made-more : (n : ℕ) (old mid new : D) → AllMade own call n old mid → own (call n) mid new true → AllMade own call (n + 1) old new
+  made-more n old mid new so_far one = subst (λ m. AllMade own call m old new) (let h : suc n ≡ n + 1 = omega arith in h) (mid, so_far, one)
+
+  -- a disk of which no call that succeeds says anything may make them as one
+  pub made-once : (n : ℕ) (old new : D) (ok : Bool) → 0 < n → ((k : ℕ) → own (call k) old old true) → ((k : ℕ) → own (call k) old new ok) → AreMade own call n old new ok
+  made-once zero old new ok some idle last = absurd (let h : ⊥ = omega (arith, some) in h)
+  made-once (suc n) old new true some idle last = (old, stays n, last n)
+    where
+      stays : (k : ℕ) → AllMade own call k old old
+      stays zero = refl
+      stays (suc k) = (old, stays k, idle k)
+  made-once (suc n) old new false some idle last = (0, omega arith, old, refl, last 0)
+
 -- ---- the loop
 
 -- the first k blocks from a place on are read
 pub record ReadSoFar {D : Type 0} (G : Ghosts D) (place k : ℕ) (old now : D) (buf : List ℕ) : Type 0 where
   pub kept : Kept G.size G.count G.honest old now
   pub same_faults : G.faults now ≡ G.faults old
-  pub found : G.honest old → ReadsRun (G.size old) k place (G.newest old) buf
-  pub same_newest : G.honest old → G.newest now ≡ G.newest old
-  pub goes : G.honest old → Goes G.may_leave G.moment G.left_since Same old now
+  pub made : AllMade G.own (λ j. Reads (place + j)) k old now
+  pub found : G.honest now → ReadsRun (G.size old) k place (G.newest old) buf
+  pub same_newest : G.honest now → G.newest now ≡ G.newest old
+  pub goes : G.honest now → Goes G.may_leave G.moment G.left_since Same old now
   pub untried : k ≡ 0 → now ≡ old
   pub passed : 0 < k → IsTrue (G.fails_next old) → ⊥
 

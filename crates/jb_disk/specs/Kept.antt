@@ -2,11 +2,10 @@
 use Rattle.std.specs.Prelude.{◌≡◌, ◌↔◌, ℕ}
 use Rattle.jb_disk.specs.Image.{Image}
 
--- the size of the blocks, their number and honesty stay
+-- the size of the blocks and their number stay, and a disk that is honest after the call was so before it
 pub record Kept {D : Type 0} (size count : D → ℕ) (honest : D → Type 0) (old new : D) : Type 0 where
   pub same_size : size new ≡ size old
   pub same_count : count new ≡ count old
-  pub stays_honest : honest old → honest new
   pub was_honest : honest new → honest old
 
 -- a call that was refused before it was tried: the contents and the moment are those of before

@@ -1,6 +1,8 @@
+pub mod Agreeing
 pub mod Ahead
 pub mod Called
 pub mod Calls
+pub mod Events
 pub mod Faults
 pub mod File
 pub mod Fuse

@@ -48,10 +48,11 @@ impl Ahead {
         requires ahead { IsAheadOf D.Disk place end self.old disk.old }
         ensures kept { Kept D.size D.count D.honest disk.old disk.new }
         ensures faults { CountsFault result (D.faults disk.old) (D.faults disk.new) }
+        ensures held { IsAhead self.old place → (disk.new ≡ disk.old) × (self.new ≡ self.old) }
         ensures holds { OnOk result (IsAhead self.new place) }
         ensures ahead { IsAheadOf D.Disk place end self.new disk.new }
-        ensures newest { D.honest disk.old → D.newest disk.new ≡ D.newest disk.old }
-        ensures goes { D.honest disk.old → Goes D.may_leave D.moment D.left_since Same disk.old disk.new }
+        ensures newest { D.honest disk.new → D.newest disk.new ≡ D.newest disk.old }
+        ensures goes { D.honest disk.new → Goes D.may_leave D.moment D.left_since Same disk.old disk.new }
     {
         if self.first <= place && place < self.first + self.count as u64 {
             return Ok(());

@@ -1,13 +1,13 @@
 //! What is assumed of a disk: whole blocks of 512-byte sectors, and what a crash may leave of them.
-ghost use Rattle.std.specs.Prelude.{Bool, false, is_ok, IsTrue, IsErr, ◌≡◌, ◌<◌, ◌≤◌};
+ghost use Rattle.std.specs.Prelude.{Bool, true, false, is_ok, IsTrue, IsErr, ◌≡◌, ◌<◌, ◌≤◌};
 ghost use Rattle.std.specs.Prelude.{◌^◌, ◌+◌, ◌*◌, ℕ, length, OnOk, set};
 ghost use Rattle.jb_block.specs.Size.{bytes_of, IsBlockSize};
 ghost use Rattle.jb_disk.specs.Image.{Image, block, Torn, Same, Only, HasShape};
 ghost use Rattle.jb_disk.specs.Time.{Goes};
-ghost use Rattle.jb_disk.specs.Called.{Called, Reads, Writes, Syncs};
+ghost use Rattle.jb_disk.specs.Called.{AreMade, Called, Reads, Writes, Syncs};
 ghost use Rattle.jb_disk.specs.Faults.{CountsFault};
 ghost use Rattle.jb_disk.specs.Kept.{Kept, Untouched};
-ghost use Rattle.jb_disk.specs.Runs.{ReadsRun, TornRun, WroteRun};
+ghost use Rattle.jb_disk.specs.Runs.{part, ReadsRun, TornRun, WroteRun};
 ghost use Rattle.jb_disk.specs.Steps.{Steps};
 
 use crate::Fault;
@@ -15,7 +15,7 @@ use jb_block::BlockSize;
 
 /// A disk of equal blocks, read and written one whole block at a time.
 ///
-/// The clauses on contents hold of an honest disk, and honesty stays over each call.
+/// The clauses on contents say what holds where the disk is honest after the call; it was honest before it then.
 /// The clauses on size, number of blocks and faults hold of any disk.
 pub trait Disk {
     /// How many bytes a block has.
@@ -49,6 +49,10 @@ pub trait Disk {
     /// unless a disk says it.
     ghost own: { Called → Self → Self → Bool → Type 0 } = { λ _ _ _ _. Unit {0} };
 
+    /// A run of blocks does to the state of this kind of disk what a call for each of them does, up to
+    /// the first that fails.
+    ghost runs_as_calls: { Bool } = { true };
+
     /// The size of the disk's blocks.
     fn block_size(&self) -> BlockSize
         ensures { bytes_of result ≡ size self.now };
@@ -67,9 +71,9 @@ pub trait Disk {
             × Untouched newest may_leave moment self.old self.new }
         ensures faults { CountsFault result (faults self.old) (faults self.new) }
         ensures own { own (Reads place) self.old self.new (is_ok result) }
-        ensures found { honest self.old → OnOk result (buf.new ≡ block (newest self.old) place) }
-        ensures newest { honest self.old → newest self.new ≡ newest self.old }
-        ensures goes { honest self.old → Goes may_leave moment left_since Same self.old self.new };
+        ensures found { honest self.new → OnOk result (buf.new ≡ block (newest self.old) place) }
+        ensures newest { honest self.new → newest self.new ≡ newest self.old }
+        ensures goes { honest self.new → Goes may_leave moment left_since Same self.old self.new };
 
     /// Writes `bytes`, which has the length of one block, to the block at `place`. Until a sync
     /// succeeds, a crash may leave each of its sectors as it was or as it is written; after a fault a
@@ -82,21 +86,21 @@ pub trait Disk {
             × Untouched newest may_leave moment self.old self.new }
         ensures faults { CountsFault result (faults self.old) (faults self.new) }
         ensures own { own (Writes place bytes.now) self.old self.new (is_ok result) }
-        ensures written { honest self.old → OnOk result (newest self.new ≡ set (newest self.old) place bytes.now) }
-        ensures torn { honest self.old → Torn place bytes.now (newest self.old) (newest self.new) }
-        ensures goes { honest self.old → Goes may_leave moment left_since (Torn place bytes.now) self.old self.new };
+        ensures written { honest self.new → OnOk result (newest self.new ≡ set (newest self.old) place bytes.now) }
+        ensures torn { honest self.new → Torn place bytes.now (newest self.old) (newest self.new) }
+        ensures goes { honest self.new → Goes may_leave moment left_since (Torn place bytes.now) self.old self.new };
 
     /// Makes the newest content the only one that a crash may leave. A sync that fails promises nothing
-    /// of what was written before it.
+    /// of what was written before it, and of a file nothing is known once anything is asked of it then.
     fn sync(&mut self) -> Result<(), Fault>
         ensures kept { Kept size count honest self.old self.new }
         ensures spent { IsTrue (fails_next self.old) → IsErr result
             × Untouched newest may_leave moment self.old self.new }
         ensures faults { CountsFault result (faults self.old) (faults self.new) }
         ensures own { own Syncs self.old self.new (is_ok result) }
-        ensures newest { honest self.old → newest self.new ≡ newest self.old }
-        ensures durable { honest self.old → OnOk result (Only (newest self.old) (may_leave self.new)) }
-        ensures goes { honest self.old → Goes may_leave moment left_since Same self.old self.new };
+        ensures newest { honest self.new → newest self.new ≡ newest self.old }
+        ensures durable { honest self.new → OnOk result (Only (newest self.old) (may_leave self.new)) }
+        ensures goes { honest self.new → Goes may_leave moment left_since Same self.old self.new };
 
     /// Reads `blocks` blocks from the one at `place` on into `buf`, which has their length: one at least. Most
     /// disks make one call of `read` for each of them. After a fault `buf` may hold anything.
@@ -109,10 +113,12 @@ pub trait Disk {
         ensures spent { IsTrue (fails_next self.old) → IsErr result
             × Untouched newest may_leave moment self.old self.new }
         ensures faults { CountsFault result (faults self.old) (faults self.new) }
-        ensures found { honest self.old → OnOk result
+        ensures own { IsTrue runs_as_calls
+            → AreMade own (λ k. Reads (place + k)) blocks self.old self.new (is_ok result) }
+        ensures found { honest self.new → OnOk result
             (ReadsRun (size self.old) blocks place (newest self.old) buf.new) }
-        ensures newest { honest self.old → newest self.new ≡ newest self.old }
-        ensures goes { honest self.old → Goes may_leave moment left_since Same self.old self.new }
+        ensures newest { honest self.new → newest self.new ≡ newest self.old }
+        ensures goes { honest self.new → Goes may_leave moment left_since Same self.old self.new }
     {
         let size = self.block_size().bytes() as usize;
         for k in 0..blocks {
@@ -134,11 +140,14 @@ pub trait Disk {
         ensures spent { IsTrue (fails_next self.old) → IsErr result
             × Untouched newest may_leave moment self.old self.new }
         ensures faults { CountsFault result (faults self.old) (faults self.new) }
-        ensures written { honest self.old → OnOk result
+        ensures own { IsTrue runs_as_calls
+            → AreMade own (λ k. Writes (place + k) (part (size self.old) k bytes.now)) blocks
+            self.old self.new (is_ok result) }
+        ensures written { honest self.new → OnOk result
             (WroteRun (size self.old) blocks place bytes.now (newest self.old) (newest self.new)) }
-        ensures torn { honest self.old →
+        ensures torn { honest self.new →
             TornRun (size self.old) blocks place bytes.now (newest self.old) (newest self.new) }
-        ensures steps { honest self.old → Steps may_leave moment left_since
+        ensures steps { honest self.new → Steps may_leave moment left_since
             (TornRun (size self.old) blocks place bytes.now) self.old self.new }
     {
         let size = self.block_size().bytes() as usize;

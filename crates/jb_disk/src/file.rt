@@ -1,33 +1,36 @@
 //! A file of the operating system as a disk.
-ghost use Rattle.std.specs.Prelude.{◌≡◌, ◌<◌, ◌*◌, ◌/◌, ◌^◌, ◌↔◌, [], is_ok, IsTrue, Ok, IfOk};
+ghost use Rattle.std.specs.Prelude.{◌≡◌, ◌<◌, ◌*◌, ◌/◌, ◌^◌, [], ◌∷◌, length, is_ok, IfOk};
 ghost use Rattle.jb_block.specs.Size.{bytes_of};
 ghost use Rattle.jb_disk.specs.Faults.{CountsFault, CountsOne};
 ghost use Rattle.jb_disk.specs.Lives.{is_block_size};
 
-use crate::{Disk, Fault};
+use crate::host::Host;
+use crate::{Disk, Fault, Start, Unknown};
 use jb_block::BlockSize;
 use std::fs::File;
-use std::io;
-use std::io::{Seek, SeekFrom};
-use std::os::unix::fs::FileExt;
+use std::marker::PhantomData;
 
 /// An open file, or a block device, as a disk. Its blocks are the whole blocks of the length that it
 /// had when it was made a disk; bytes after them are neither read nor written.
 ///
 /// A read or write makes one call of the system. One that a signal interrupts, or that moves less
 /// than a block, is a fault: it is not tried again. A sync that a signal interrupts is tried again,
-/// by the library.
+/// by the library. After a sync that failed the file has to be opened anew, by a program that is started
+/// anew: the system may have dropped what was written, and call the next sync a success.
+///
+/// `S` is what is supposed of the file. A program that supposes nothing writes `FileDisk` alone.
 #[derive(Drop)]
-pub struct FileDisk {
-    file: File,
+pub struct FileDisk<S: Start = Unknown> {
+    host: Host,
     size: BlockSize,
     blocks: u64,
     faults: u64,
+    start: PhantomData<S>,
     ghost addressed: { blocks * bytes_of size < 2 ^ 64 },
 }
 
 impl FileDisk {
-    ghost use Rattle.jb_disk.specs.File.{size_of, faults_of};
+    ghost use Rattle.jb_disk.specs.File.{size_of, faults_of, IsMeasured};
 
     /// The disk that `file` is, in blocks of this size; a part of a block at its end is left out.
     /// Its length is the place of its end: of a block device the metadata say 0.
@@ -35,54 +38,80 @@ impl FileDisk {
     /// # Errors
     ///
     /// A fault where the system does not give the file's end.
-    pub fn of(mut file: File, size: BlockSize) -> Result<FileDisk, Fault>
+    pub fn of(file: File, size: BlockSize) -> Result<FileDisk, Fault>
         ensures size { IfOk result (λ disk. size_of disk ≡ size) }
         ensures fresh { IfOk result (λ disk. faults_of disk ≡ 0) }
+        ensures opened { IfOk result IsMeasured }
     {
-        let Ok(len) = file.seek(SeekFrom::End(0)) else {
+        FileDisk::holding(file, size)
+    }
+}
+
+impl<S: Start> FileDisk<S> {
+    ghost use Rattle.jb_disk.specs.File.{size_of, faults_of, IsMeasured};
+
+    /// The same, of a file that is supposed to hold what `S` says.
+    ///
+    /// # Errors
+    ///
+    /// A fault where the system does not give the file's end.
+    pub fn holding(file: File, size: BlockSize) -> Result<FileDisk<S>, Fault>
+        ensures size { IfOk result (λ disk. size_of disk ≡ size) }
+        ensures fresh { IfOk result (λ disk. faults_of disk ≡ 0) }
+        ensures opened { IfOk result IsMeasured }
+    {
+        let Ok((host, len)) = Host::of(file) else {
             return Err(Fault);
         };
         Ok(FileDisk {
-            file,
+            host,
             size,
             blocks: whole_blocks(len, size),
             faults: 0,
+            start: PhantomData,
         })
     }
 }
 
-/// No contract says what a file holds: the clauses of a disk say nothing of its contents, since no
-/// code can know that it is honest. Its size, its number of blocks and its faults are proved.
-impl Disk for FileDisk {
+/// It is an honest disk where its answers so far are those of an honest file that held what `S` says. The record of
+/// its calls has them, for clauses alone: no code can know it.
+impl<S: Start> Disk for FileDisk<S> {
+    ghost use Rattle.jb_disk.specs.File.{IsHonest, content_of, FileLeaves, FileLeft};
+    ghost use Rattle.jb_disk.specs.Agreeing.{newest_left, left_shape, from_shape, left_from_now, left_from_only};
+
     ghost size = { λ f. bytes_of f.size };
 
     ghost count = { λ f. f.blocks };
 
     ghost faults = { λ f. f.faults };
 
-    ghost honest = { λ _. ⊥ };
+    ghost honest = { IsHonest };
 
-    ghost newest = { λ _. [] };
+    ghost newest = { content_of };
 
-    ghost may_leave = { λ _ _. ⊥ };
+    ghost may_leave = { FileLeaves };
 
-    ghost moment = { λ _. 0 };
+    ghost moment = { λ f. length f.host.log.events };
 
-    ghost left_since = { λ _ _ _. ⊥ };
+    ghost left_since = { FileLeft };
 
     ghost own = { λ _ old new ok. CountsOne ok old.faults new.faults };
 
     ghost has_size = { λ f. is_block_size f.size };
 
-    ghost newest_may_stay = { λ _ honest. absurd honest };
+    ghost newest_may_stay = { λ f honest.
+        newest_left f.blocks (bytes_of f.size) S.content honest.0 f.host.log.events honest.1 };
 
-    ghost has_shape = { λ _ _ honest _. absurd honest };
+    ghost has_shape = { λ f c honest left.
+        left_shape f.blocks (bytes_of f.size) S.content honest.0 f.host.log.events c left };
 
-    ghost has_shape_since = { λ _ _ _ honest _. absurd honest };
+    ghost has_shape_since = { λ f t c honest left.
+        from_shape f.blocks (bytes_of f.size) S.content honest.0 f.host.log.events t c left };
 
-    ghost counts_now = { λ _ _ _ honest _ _. absurd honest };
+    ghost counts_now = { λ f t c _ earlier left.
+        left_from_now (bytes_of f.size) S.content f.host.log.events t c earlier left };
 
-    ghost only_now = { λ _ _ honest _. absurd honest };
+    ghost only_now = { λ f c _ left. left_from_only (bytes_of f.size) S.content f.host.log.events c left };
 
     fn block_size(&self) -> BlockSize {
         self.size
@@ -93,29 +122,41 @@ impl Disk for FileDisk {
     }
 
     fn read(&mut self, place: u64, buf: &mut [u8]) -> Result<(), Fault> {
-        let at = place * u64::from(self.size.bytes());
-        settle(read_whole(&self.file, at, buf), &mut self.faults)
+        let at = offset_of(place, self.size);
+        let succeeded = self.host.read_at(at, buf);
+        settle(succeeded, &mut self.faults)
     }
 
     fn read_run(&mut self, place: u64, _blocks: usize, buf: &mut [u8]) -> Result<(), Fault> {
-        let at = place * u64::from(self.size.bytes());
-        settle(read_whole(&self.file, at, buf), &mut self.faults)
+        let at = offset_of(place, self.size);
+        let succeeded = self.host.read_at(at, buf);
+        settle(succeeded, &mut self.faults)
     }
 
     fn write(&mut self, place: u64, bytes: &[u8]) -> Result<(), Fault> {
-        let at = place * u64::from(self.size.bytes());
-        settle(write_whole(&self.file, at, bytes), &mut self.faults)
+        let at = offset_of(place, self.size);
+        let succeeded = self.host.write_at(at, bytes);
+        settle(succeeded, &mut self.faults)
     }
 
     fn write_run(&mut self, place: u64, _blocks: usize, bytes: &[u8]) -> Result<(), Fault> {
-        let at = place * u64::from(self.size.bytes());
-        settle(write_whole(&self.file, at, bytes), &mut self.faults)
+        let at = offset_of(place, self.size);
+        let succeeded = self.host.write_at(at, bytes);
+        settle(succeeded, &mut self.faults)
     }
 
     fn sync(&mut self) -> Result<(), Fault> {
-        let answer = self.file.sync_data();
-        settle(answer.is_ok(), &mut self.faults)
+        let succeeded = self.host.sync();
+        settle(succeeded, &mut self.faults)
     }
+}
+
+/// The offset in bytes of the block at this place.
+fn offset_of(place: u64, size: BlockSize) -> u64
+    requires { place * bytes_of size < 2 ^ 64 }
+    ensures { result ≡ place * bytes_of size }
+{
+    place * u64::from(size.bytes())
 }
 
 /// How many whole blocks so many bytes have.
@@ -124,27 +165,6 @@ fn whole_blocks(len: u64, size: BlockSize) -> u64
     ensures addressed { result * bytes_of size < 2 ^ 64 }
 {
     len / u64::from(size.bytes())
-}
-
-/// Fills the buffer with the bytes of the file from offset `at` on, by one call; tells whether there were
-/// as many.
-fn read_whole(file: &File, at: u64, buf: &mut [u8]) -> bool {
-    let len = buf.len();
-    let answer = file.read_at(buf, at);
-    is_whole(&answer, len)
-}
-
-/// Writes the bytes to the file from offset `at` on, by one call; tells whether all of them were written.
-fn write_whole(file: &File, at: u64, bytes: &[u8]) -> bool {
-    let answer = file.write_at(bytes, at);
-    is_whole(&answer, bytes.len())
-}
-
-/// Whether so many bytes were moved, and no fewer.
-fn is_whole(answer: &io::Result<usize>, len: usize) -> bool
-    ensures { IsTrue result ↔ (answer.now ≡ Ok len) }
-{
-    matches!(answer, Ok(moved) if *moved == len)
 }
 
 /// Counts a fault where the call did not succeed.

@@ -7,10 +7,13 @@ mod disk;
 mod fault;
 mod file;
 mod fuse;
+mod host;
 pub mod laws;
 mod memory;
 mod one_fault;
+mod record;
 mod sector;
+mod start;
 
 pub use ahead::Ahead;
 pub use clock::{Clock, FixedClock};
@@ -21,3 +24,4 @@ pub use fuse::FuseDisk;
 pub use memory::MemoryDisk;
 pub use one_fault::OneFaultDisk;
 pub use sector::SECTOR;
+pub use start::{Start, Unknown};

@@ -67,6 +67,14 @@ impl MemoryDisk {
         })
     }
 
+    /// This disk is honest, whatever it was called for: its first content and each of its writes have its shape. Does
+    /// nothing when it runs.
+    pub fn always_sound(&self)
+        ensures sound { IsSound self.now }
+    {
+        let _count = self.first.len();
+    }
+
     /// The disk after a crash at this moment, in which nothing is pending. Of the sectors that have
     /// been written since the last sync the k-th, by place and then within the block, gets its
     /// `choice[k]`-th version, modulo their number; 0, or no number, is what it held at the sync. A disk

@@ -1,4 +1,4 @@
-ghost use Rattle.std.specs.Prelude.{◌≡◌, ◌<◌, [], IfSome, IsErr, is_ok};
+ghost use Rattle.std.specs.Prelude.{◌≡◌, ◌<◌, IfSome, IsErr, is_ok};
 ghost use Rattle.jb_disk.specs.Faults.{CountsFault, CountsOne, counted};
 ghost use Rattle.jb_extents.specs.Disks.{ExtentsCalled, at_block, spread_count};
 
@@ -58,37 +58,43 @@ impl<D: Disk> ExtentsDisk<D> {
     }
 }
 
-/// What each read or write of a block and each sync does to the image is said by `own`.
+/// What each read or write of a block and each sync does to the image is said by `own`. Of the contents all is said
+/// where the image is honest and no block is in two of the extents: each place holds the block of the image that it is.
 impl<D: Disk> Disk for ExtentsDisk<D> {
+    ghost use Rattle.std.proofs.Common.{refl};
+    ghost use Rattle.jb_extents.specs.Spread.{IsHonestWithin, WithinLeaves, WithinLeft, within, within-shape};
+
     ghost size = { λ d. D.size d.disk };
 
     ghost count = { λ d. spread_count d.journal (D.count d.disk) };
 
     ghost faults = { λ d. counted (D.faults d.disk) d.failed };
 
-    ghost honest = { λ _. ⊥ };
+    ghost honest = { IsHonestWithin D.Disk };
 
-    ghost newest = { λ _. [] };
+    ghost newest = { λ d. within D.Disk d (D.newest d.disk) };
 
-    ghost may_leave = { λ _ _. ⊥ };
+    ghost may_leave = { WithinLeaves D.Disk };
 
-    ghost moment = { λ _. 0 };
+    ghost moment = { λ d. D.moment d.disk };
 
-    ghost left_since = { λ _ _ _. ⊥ };
+    ghost left_since = { WithinLeft D.Disk };
 
     ghost own = { λ call old new ok. ExtentsCalled D.count D.faults D.own call old new ok };
 
     ghost has_size = { λ d. D.has_size d.disk };
 
-    ghost newest_may_stay = { λ _ honest. absurd honest };
+    ghost newest_may_stay = { λ d honest. (D.newest d.disk, D.newest_may_stay d.disk honest.whole, refl) };
 
-    ghost has_shape = { λ _ _ honest _. absurd honest };
+    ghost has_shape = { λ d c honest left. within-shape d.extents d.journal (D.size d.disk) (D.count d.disk) c left.0 (D.has_shape d.disk left.0 honest.whole left.1) left.2 };
 
-    ghost has_shape_since = { λ _ _ _ honest _. absurd honest };
+    ghost has_shape_since = { λ d t c honest left.
+        within-shape d.extents d.journal (D.size d.disk) (D.count d.disk) c left.0 (D.has_shape_since d.disk t left.0 honest.whole left.1) left.2 };
 
-    ghost counts_now = { λ _ _ _ honest _ _. absurd honest };
+    ghost counts_now = { λ d t c honest earlier left.
+        (left.0, D.counts_now d.disk t left.0 honest.whole earlier left.1, left.2) };
 
-    ghost only_now = { λ _ _ honest _. absurd honest };
+    ghost only_now = { λ d c honest left. (left.0, D.only_now d.disk left.0 honest.whole left.1, left.2) };
 
     fn block_size(&self) -> BlockSize {
         self.disk.block_size()

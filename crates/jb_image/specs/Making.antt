@@ -1,9 +1,8 @@
 -- When numbers make an image, and what its making does to its file.
 use Rattle.std.specs.Prelude.{◌≡◌, ◌+◌, ◌*◌, ◌^◌, ◌<◌, ◌≤◌, Result}
 use Rattle.jb_block.specs.Size.{bytes_of}
-use Rattle.jb_disk.specs.File.{count_of, faults_of, size_of}
+use Rattle.jb_disk.specs.File.{UnknownFile, IsHonest, count_of, faults_of, size_of}
 use Rattle.jb_disk.specs.Kept.{Kept}
-use Rattle.jb_disk.specs.declared.file.FileDisk.{FileDisk}
 use Rattle.jb_front.specs.Formatted.{FormatFaults}
 use Rattle.jb_front.specs.declared.fault.FormatFault.{FormatFault}
 use Rattle.jb_image.specs.declared.geometry.Geometry.{Geometry}
@@ -16,8 +15,8 @@ pub record MakesImage (g : Geometry) : Type 0 where
 
 -- a journal was formatted on a file of the blocks that were asked for, with this answer: its blocks are as many as before, and a fault is a failed call of the
 -- file. No clause says what a file holds
-pub record IsFormatted (g : Geometry) (old new : FileDisk) (answer : Result Unit FormatFault) : Type 0 where
+pub record IsFormatted (g : Geometry) (old new : UnknownFile) (answer : Result Unit FormatFault) : Type 0 where
   pub size : size_of old ≡ g.block_size
   pub count : count_of old ≡ g.journal + g.homes
-  pub kept : Kept (λ (f : FileDisk). bytes_of (size_of f)) count_of (λ _. ⊥) old new
+  pub kept : Kept (λ (f : UnknownFile). bytes_of (size_of f)) count_of IsHonest old new
   pub faults : FormatFaults answer (faults_of old) (faults_of new)

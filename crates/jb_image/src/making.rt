@@ -1,8 +1,7 @@
 //! Images that are made.
 ghost use Rattle.std.specs.Prelude.{◌≡◌, ◌↔◌, ◌+◌, ◌*◌, IfOk, IsTrue, Err, Ok};
 ghost use Rattle.jb_block.specs.Size.{bytes_of};
-ghost use Rattle.jb_disk.specs.File.{count_of, size_of};
-ghost use Rattle.jb_disk.specs.declared.file.FileDisk.{FileDisk as Files};
+ghost use Rattle.jb_disk.specs.File.{UnknownFile, count_of, size_of};
 ghost use Rattle.jb_front.specs.declared.fault.FormatFault.TheVariants.{DeviceFault as NotFormatted};
 ghost use Rattle.jb_image.specs.Making.{IsFormatted, MakesImage};
 ghost use Rattle.jb_image.specs.declared.fault.MakeFault.TheVariants.{DeviceFault, Geometry as NoGeometry};
@@ -32,9 +31,9 @@ pub fn create_image<R: Files<File = File> + AllocGlobal>(
     geometry: Geometry,
 ) -> Result<FileDisk, MakeFault>
     ensures geometry { (result ≡ Err NoGeometry) ↔ (MakesImage geometry → ⊥) }
-    ensures made { IfOk result (λ disk. (old : Files) × IsFormatted geometry old disk (Ok tt)) }
+    ensures made { IfOk result (λ disk. (old : UnknownFile) × IsFormatted geometry old disk (Ok tt)) }
     ensures failed { result ≡ Err DeviceFault
-        → (old : Files) × (new : Files) × IsFormatted geometry old new (Err NotFormatted) }
+        → (old : UnknownFile) × (new : UnknownFile) × IsFormatted geometry old new (Err NotFormatted) }
 {
     let Some(len) = geometry.len() else {
         return Err(MakeFault::Geometry);
@@ -52,9 +51,9 @@ fn make<R: Files<File = File> + AllocGlobal>(
     requires geometry { MakesImage geometry }
     requires len { len ≡ (geometry.journal + geometry.homes) * bytes_of geometry.block_size }
     ensures never { result ≡ Err NoGeometry → ⊥ }
-    ensures made { IfOk result (λ disk. (old : Files) × IsFormatted geometry old disk (Ok tt)) }
+    ensures made { IfOk result (λ disk. (old : UnknownFile) × IsFormatted geometry old disk (Ok tt)) }
     ensures failed { result ≡ Err DeviceFault
-        → (old : Files) × (new : Files) × IsFormatted geometry old new (Err NotFormatted) }
+        → (old : UnknownFile) × (new : UnknownFile) × IsFormatted geometry old new (Err NotFormatted) }
 {
     let draft = match Draft::begin(rt, name) {
         Ok(draft) => draft,
@@ -84,9 +83,9 @@ fn fill(draft: &Draft<'_>, len: u64, geometry: Geometry) -> Result<FileDisk, Mak
     requires geometry { MakesImage geometry }
     requires len { len ≡ (geometry.journal + geometry.homes) * bytes_of geometry.block_size }
     ensures never { result ≡ Err NoGeometry → ⊥ }
-    ensures made { IfOk result (λ disk. (old : Files) × IsFormatted geometry old disk (Ok tt)) }
+    ensures made { IfOk result (λ disk. (old : UnknownFile) × IsFormatted geometry old disk (Ok tt)) }
     ensures failed { result ≡ Err DeviceFault
-        → (old : Files) × (new : Files) × IsFormatted geometry old new (Err NotFormatted) }
+        → (old : UnknownFile) × (new : UnknownFile) × IsFormatted geometry old new (Err NotFormatted) }
 {
     let mut disk = disk_of(draft.handle()?, len, geometry)?;
     let Geometry {

@@ -2,7 +2,7 @@
 use Rattle.std.proofs.Common.{◌≡◌, ℕ, ◌≤◌, All, List, [], ◌∷◌, map, sym, ap, subst, ◌∙◌, arith}
 use Rattle.std.proofs.lemmas.List.Elements.{All-map, All-weaker}
 use Rattle.jb_cost.specs.Pieces.{joined}
-use Rattle.jb_disk.specs.Image.{Image}
+use Rattle.jb_disk.specs.declared.disk.Disk.{Ghosts}
 use Rattle.jb_handle.specs.Word.{WordMap}
 use Rattle.jb_handle.specs.declared.shape.Shape.{Shape}
 use Rattle.jb_deck.specs.Done.{Follow, past_after, start_of}
@@ -13,9 +13,9 @@ use Rattle.jb_desk.specs.Marks.{EndsMarked}
 use Rattle.jb_book.specs.Origin.{Begun}
 use Rattle.jb_book.specs.Marks.{SeesMore}
 use Rattle.jb_book.specs.declared.sights.Sights.{Sights}
-use Rattle.jb_journal.specs.Client.{known_in}
+use Rattle.jb_journal.specs.Client.{AreHonest, known_in}
 use Rattle.jb_journal.specs.Notes.{Known, KnownLasts}
-use Rattle.jb_journal.proofs.Noting.{first-trans, known-lasts}
+use Rattle.jb_journal.proofs.Noting.{first-trans, known-lasts, were-honest}
 
 -- where a trail ends
 ends-at : (past : ℕ) (trail : List Entry) → Follow (start_of trail) 0 past trail → past_after 0 trail ≡ past
@@ -28,10 +28,10 @@ settled-as settled handles trail is (past, follows, within) =
     let same : past ≡ settled = sym (ends-at past trail follows) ∙ sym is in
     (subst (λ p. Follow (start_of trail) 0 p trail) same follows, omega (arith, same, within))
 
-module _ {D : Type 0} (size count faults : D → ℕ) (honest : D → Type 0) (newest : D → Image) (may_leave : D → Image → Type 0) (moment : D → ℕ) (left_since : D → ℕ → Image → Type 0) (b : Begun)
+module _ {D : Type 0} (G : Ghosts D) (b : Begun)
     (all stopped : List (List (ℕ × WordMap))) (handles : ℕ) (shape : Shape) (disk : D) (trail : List Entry) where
   abbrev Ends : List (List (ℕ × WordMap)) → Type 0
-  Ends stops = EndsWith size count faults honest newest may_leave moment left_since b stops handles shape disk trail
+  Ends stops = EndsWith G b stops handles shape disk trail
 
   -- how a desk ends, without the seat that has stopped no handle
   abbrev ends-without : all ≡ [] ∷ stopped → Ends all → Ends stopped
@@ -50,14 +50,17 @@ module _ {D : Type 0} (size count faults : D → ℕ) (honest : D → Type 0) (n
     journal = ends.journal;
   }
 
-  -- and what each worker knew lasts
+  -- and what each worker knew lasts; a disk that is honest was so at all that each had seen
   pub ends-known : {H X : Type 0} (sights : X → Sights D H) (ws : List X) (seen : Sights D H) → all ≡ [] ∷ stopped
-      → EndsMarked size count faults honest newest may_leave moment left_since b all handles shape disk trail seen.stops seen.marks → All (λ w. SeesMore (sights w) seen) ws
-      → (ends : Ends stopped) × All (KnownLasts moment left_since b ends.log ends.since.given disk trail) (map (λ w. known_in moment (sights w)) ws)
+      → EndsMarked G b all handles shape disk trail seen.stops seen.marks → All (λ w. SeesMore (sights w) seen) ws
+      → (ends : Ends stopped) × All (KnownLasts G b ends.log ends.since.given disk trail) (map (λ w. known_in G.moment (sights w)) ws) × (G.honest disk → All (AreHonest G) (map (λ w. (sights w).marks) ws))
   ends-known sights ws seen is ends each = (
     ends-without is ends.ends,
-    All-map (KnownLasts moment left_since b ends.ends.log ends.ends.since.given disk trail) (λ w. known_in moment (sights w)) ws
-        (All-weaker (λ w. SeesMore (sights w) seen) (λ w. KnownLasts moment left_since b ends.ends.log ends.ends.since.given disk trail (known_in moment (sights w)))
-        (λ w more. known-lasts moment left_since b ends.ends.since.given ends.ends.log (sights w).stops ends.ends.deck disk trail (sights w).marks seen.marks ends.ends.same_disk ends.ends.same_trail
+    All-map (KnownLasts G b ends.ends.log ends.ends.since.given disk trail) (λ w. known_in G.moment (sights w)) ws
+        (All-weaker (λ w. SeesMore (sights w) seen) (λ w. KnownLasts G b ends.ends.log ends.ends.since.given disk trail (known_in G.moment (sights w)))
+        (λ w more. known-lasts G b ends.ends.since.given ends.ends.log (sights w).stops ends.ends.deck disk trail (sights w).marks seen.marks ends.ends.same_disk ends.ends.same_trail
         (first-trans (sights w).stops seen.stops ends.ends.log more.0 ends.knows) more.1 ends.last) ws each),
+    (λ held. All-map (AreHonest G) (λ w. (sights w).marks) ws
+        (All-weaker (λ w. SeesMore (sights w) seen) (λ w. AreHonest G (sights w).marks)
+        (λ w more. were-honest G b ends.ends.since.given ends.ends.deck disk (sights w).marks seen.marks ends.ends.same_disk more.1 ends.last held) ws each)),
   )

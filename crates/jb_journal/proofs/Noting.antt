@@ -6,6 +6,7 @@ use Rattle.std.proofs.lemmas.List.Elements.{All-map, All-take, All-weaker}
 use Rattle.std.proofs.lemmas.Option.{slice_get-map, slice_get_within, get_or_from_slice_get}
 use mathlib.Core.List.{IsPrefix}
 use Rattle.jb_disk.specs.Image.{Image}
+use Rattle.jb_disk.specs.declared.disk.Disk.{Ghosts}
 use Rattle.jb_handle.specs.Word.{WordMap}
 use Rattle.jb_handle.specs.Words.{word}
 use Rattle.jb_handle.specs.declared.stopped.Stopped.{Stopped}
@@ -25,6 +26,7 @@ use Rattle.jb_desk.specs.Journal.{ReadsHome}
 use Rattle.jb_desk.specs.Marks.{HasSettledOf, Lasts, ShowsTaken, Within}
 use Rattle.jb_desk.specs.declared.fault.WaitFault.{WaitFault}
 use Rattle.jb_desk.specs.declared.fault.WaitFault.TheVariants as wait
+use Rattle.jb_journal.specs.Client.{AreHonest}
 use Rattle.jb_journal.specs.Notes.{Note, IsInNotes, IsPastInNotes, Known, KnownLasts, KnowsMore, NoteLasts, NotesTaken, ReadsAs, StaysSince, Stop, committed_by, note_of}
 
 -- ---- first parts
@@ -41,6 +43,14 @@ sees-trans one two three p q = (first-trans one.stops two.stops three.stops p.0 
 
 pub All-first : {A : Type 0} (P : A → Type 0) (xs ys : List A) → IsPrefix xs ys → All P ys → All P xs
 All-first P xs ys p each = subst (All P) (take-append_seam xs p.0) (All-take P (length xs) (xs ++ p.0) (subst (All P) (sym p.1) each))
+
+-- where the disk was honest at all marks, it was so at the first of them
+pub honest-first : {D : Type 0} (G : Ghosts D) (xs ys : List (OpenDeck D)) → IsPrefix xs ys → AreHonest G ys → AreHonest G xs
+honest-first G xs ys p each = All-first (λ m. G.honest m.disk) xs ys p each
+
+-- and at each of them
+honest-at : {D : Type 0} (G : Ghosts D) (ms : List (OpenDeck D)) (at : ℕ) (m : OpenDeck D) → StandsIn ms (at, m) → AreHonest G ms → G.honest m.disk
+honest-at G ms at m stands each = subst (λ x. G.honest x.disk) (get_or_from_slice_get ms at m m stands) (each at m (slice_get_within ms at m stands))
 
 -- what stands in a first part stands in the whole
 pub stands-on : (old new : List WordMap) → IsPrefix old new → (s : Stop) → StandsIn old s → StandsIn new s
@@ -91,39 +101,45 @@ module _ {D : Type 0} (moment : D → ℕ) where
   noted-taken ms ticket (Ok number) is = tt
   noted-taken ms ticket (Err fault) is = taken-of ms ticket fault is
 
-  -- ---- what lasts
+-- ---- what lasts
 
-  module _ (left_since : D → ℕ → Image → Type 0) (b : Begun) (given : List Stopped) where
-    note-lasts : (d m : OpenDeck D) → Lasts moment left_since b given d m → NoteLasts moment left_since b given d.disk d.trail (note_of moment m)
-    note-lasts d m l = record { tiles = l.has.tiles; settled = l.has.settled; earlier = l.earlier; leaves = l.leaves }
+module _ {D : Type 0} (G : Ghosts D) (b : Begun) (given : List Stopped) where
+  note-lasts : (d m : OpenDeck D) → Lasts G b given d m → NoteLasts G b given d.disk d.trail (note_of G.moment m)
+  note-lasts d m l = record { tiles = l.has.tiles; settled = l.has.settled; earlier = l.earlier; leaves = l.leaves }
 
-    pub known-lasts : (log known : List WordMap) (d : OpenDeck D) (disk : D) (trail : List Entry) (ms all : List (OpenDeck D)) → d.disk ≡ disk → d.trail ≡ trail → IsPrefix known log → IsPrefix ms all → All (Lasts moment left_since b given d) all
-        → KnownLasts moment left_since b log given disk trail (record { log = known; notes = map (note_of moment) ms })
-    known-lasts log known d disk trail ms all same_disk same_trail begins p each = record {
-      begins = begins;
-      last =
-          subst (λ (x : D × List Entry). All (NoteLasts moment left_since b given x.0 x.1) (map (note_of moment) ms)) (λ i. (same_disk i, same_trail i))
-          (All-map (NoteLasts moment left_since b given d.disk d.trail) (note_of moment) ms
-          (All-weaker (Lasts moment left_since b given d) (λ m. NoteLasts moment left_since b given d.disk d.trail (note_of moment m)) (λ m l. note-lasts d m l) ms
-          (All-first (Lasts moment left_since b given d) ms all p each)));
-    }
+  pub known-lasts : (log known : List WordMap) (d : OpenDeck D) (disk : D) (trail : List Entry) (ms all : List (OpenDeck D)) → d.disk ≡ disk → d.trail ≡ trail → IsPrefix known log → IsPrefix ms all → All (Lasts G b given d) all
+      → KnownLasts G b log given disk trail (record { log = known; notes = map (note_of G.moment) ms })
+  known-lasts log known d disk trail ms all same_disk same_trail begins p each = record {
+    begins = begins;
+    last =
+        subst (λ (x : D × List Entry). All (NoteLasts G b given x.0 x.1) (map (note_of G.moment) ms)) (λ i. (same_disk i, same_trail i))
+        (All-map (NoteLasts G b given d.disk d.trail) (note_of G.moment) ms
+        (All-weaker (Lasts G b given d) (λ m. NoteLasts G b given d.disk d.trail (note_of G.moment m)) (λ m l. note-lasts d m l) ms
+        (All-first (Lasts G b given d) ms all p each)));
+  }
 
-    -- a handle that is noted stays since then
-    pub noted-stays : (disk : D) (trail : List Entry) (notes : List Note) (ticket number : ℕ) → (n : IsInNotes notes ticket number) → All (NoteLasts moment left_since b given disk trail) notes → b.honest
-        → StaysSince moment left_since b given disk n.note.moment ticket
-    noted-stays disk trail notes ticket number n each h =
-        let last : NoteLasts moment left_since b given disk trail n.note =
-        subst (NoteLasts moment left_since b given disk trail) (get_or_from_slice_get notes n.at n.note n.note n.stands) (each n.at n.note (slice_get_within notes n.at n.note n.stands)) in
-        let within = last.tiles n.entry n.has in
-        let to = n.to in
-        let past = within.1 in
-        record {
-          earlier = last.earlier h;
-          leaves = λ c left. (
-              let f = last.leaves h c left in
-              let from = f.from in
-              record { many = f.many; from = omega (arith, to, past, from); to = f.to; next = f.next; number = f.number; recovered = f.recovered });
-        }
+  -- a handle that is noted stays since then
+  pub noted-stays : (disk : D) (trail : List Entry) (notes : List Note) (ticket number : ℕ) → (n : IsInNotes notes ticket number) → All (NoteLasts G b given disk trail) notes → b.is_known → G.honest disk
+      → StaysSince G b given disk n.note.moment ticket
+  noted-stays disk trail notes ticket number n each known held =
+      let last : NoteLasts G b given disk trail n.note =
+      subst (NoteLasts G b given disk trail) (get_or_from_slice_get notes n.at n.note n.note n.stands) (each n.at n.note (slice_get_within notes n.at n.note n.stands)) in
+      let within = last.tiles n.entry n.has in
+      let to = n.to in
+      let past = within.1 in
+      record {
+        earlier = last.earlier known held;
+        leaves = λ c left. (
+            let f = last.leaves known held c left in
+            let from = f.from in
+            record { many = f.many; from = omega (arith, to, past, from); to = f.to; next = f.next; number = f.number; recovered = f.recovered });
+      }
+
+  -- a disk that is honest was so at all marks that last
+  pub were-honest : (d : OpenDeck D) (disk : D) (ms all : List (OpenDeck D)) → d.disk ≡ disk → IsPrefix ms all → All (Lasts G b given d) all → G.honest disk → AreHonest G ms
+  were-honest d disk ms all same p each held =
+      let now : G.honest d.disk = subst G.honest (sym same) held in
+      All-weaker (Lasts G b given d) (λ m. G.honest m.disk) (λ m l. l.was_honest now) ms (All-first (Lasts G b given d) ms all p each)
 
 -- what is noted stays noted
 pub noted-on : (before after : List Note) (ticket number : ℕ) → IsPrefix before after → IsInNotes before ticket number → IsInNotes after ticket number
@@ -140,29 +156,31 @@ noted-on before after ticket number p n = record {
 
 -- ---- what a read gives
 
-module _ {D : Type 0} (size count faults : D → ℕ) (honest : D → Type 0) (newest : D → Image) (may_leave : D → Image → Type 0) (moment : D → ℕ) (left_since : D → ℕ → Image → Type 0) (b : Begun) (known log : List WordMap) (marks : List (OpenDeck D)) (notes : List Note) (home bytes : ℕ) (found : List ℕ) where
+module _ {D : Type 0} (G : Ghosts D) (b : Begun) (known log : List WordMap) (marks after : List (OpenDeck D)) (notes : List Note) (home bytes : ℕ) (found : List ℕ) where
   abbrev HasNote : List Entry → Note → Type 0
   HasNote trail n = Within n.trail × (committed_by n ≤ past_after 0 trail)
 
-  pub reads-as : (r : Result (Unit {0}) ReadHomeFault) → ReadsHome size count faults honest newest may_leave moment left_since b known marks home bytes found r
-      → OnOk r (ReadsAs b (record { log = log; notes = map (note_of moment) marks }) (record { log = known; notes = notes }) home found)
+  pub reads-as : (r : Result (Unit {0}) ReadHomeFault) → ReadsHome G b known marks after home bytes found r
+      → OnOk r (ReadsAs b (AreHonest G after) (record { log = log; notes = map (note_of G.moment) marks }) (record { log = known; notes = notes }) home found)
   reads-as (Err fault) reads = tt
   reads-as (Ok unit) reads =
       let trail = reads.old.trail in
       let up = reads.answers.0 in
       let given = reads.before.given in
       let long = reads.before.has.all up in
-      let each : All (HasNote trail) (map (note_of moment) marks) =
-      All-map (HasNote trail) (note_of moment) marks (All-weaker (HasSettledOf reads.old) (λ m. HasNote trail (note_of moment m)) (λ m s. (s.tiles, s.settled)) marks reads.settled) in
+      let each : All (HasNote trail) (map (note_of G.moment) marks) =
+      All-map (HasNote trail) (note_of G.moment) marks (All-weaker (HasSettledOf reads.old) (λ m. HasNote trail (note_of G.moment m)) (λ m s. (s.tiles, s.settled)) marks reads.settled) in
       record {
         given = given;
         tickets = reads.before.has.tickets;
         are = All-weaker (IsStop b known) (IsInHistory known) (λ h s. s.1) given reads.before.has.stopped;
         sees = λ ticket number n. (
-            let one : HasNote trail n.note = subst (HasNote trail) (get_or_from_slice_get (map (note_of moment) marks) n.at n.note n.note n.stands) (each n.at n.note (slice_get_within (map (note_of moment) marks) n.at n.note n.stands)) in
+            let one : HasNote trail n.note = subst (HasNote trail) (get_or_from_slice_get (map (note_of G.moment) marks) n.at n.note n.note n.stands) (each n.at n.note (slice_get_within (map (note_of G.moment) marks) n.at n.note n.stands)) in
             let past = (one.0 n.entry n.has).1 in
             let to = n.to in
             let settled = one.1 in
             omega (arith, past, to, settled, long));
-        stands = λ h. subst (StandsBy (word given home) (b.homes home)) (sym (reads.stands h)) ((reads.before.since h).stood up home);
+        stands = λ is_known sure. (
+            let held : G.honest reads.new.disk = honest-at G after reads.at reads.new reads.marked sure in
+            subst (StandsBy (word given home) (b.homes home)) (sym (reads.stands is_known held)) ((reads.before.since is_known (reads.same_disk.was_honest held)).stood up home));
       }

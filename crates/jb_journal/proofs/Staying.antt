@@ -4,7 +4,7 @@ use Rattle.std.proofs.Math.Seq.{drop-append_seam}
 use Rattle.std.proofs.lemmas.List.Elements.{All-drop}
 use Rattle.std.proofs.lemmas.Option.{get_or_from_slice_get, slice_get-get_or, slice_get_within}
 use Rattle.jb_cost.specs.Pieces.{joined}
-use Rattle.jb_disk.specs.Image.{Image}
+use Rattle.jb_disk.specs.declared.disk.Disk.{Ghosts}
 use Rattle.jb_handle.specs.Tickets.{TicketsFrom}
 use Rattle.jb_handle.specs.Word.{WordMap}
 use Rattle.jb_handle.specs.declared.stopped.Stopped.{Stopped}
@@ -45,21 +45,21 @@ given-at b log given tickets stopped stop stands lt =
     let words : Some stop.1 ≡ Some h.words = sym stands ∙ ap (slice_get log) (sym ticket) ∙ (stopped stop.0 none lt).1 in
     slice_get-get_or given stop.0 none lt ∙ ap (λ (x : Stopped). Some x) (λ i. record { ticket = ticket i; words = ap (value-of stop.1) (sym words) i })
 
-module _ {T D : Type 0} (size count faults : D → ℕ) (honest : D → Type 0) (newest : D → Image) (may_leave : D → Image → Type 0) (moment : D → ℕ) (left_since : D → ℕ → Image → Type 0) (b : Begun) (may : ℕ → ℕ → List Stop → Known → T → Type 0) (workers : ℕ) (ran : Ran T D)
-    (all : RanAll size count faults honest newest may_leave moment left_since b may workers ran) where
+module _ {T D : Type 0} (G : Ghosts D) (b : Begun) (may : Type 0 → ℕ → ℕ → List Stop → Known → T → Type 0) (workers : ℕ) (ran : Ran T D)
+    (all : RanAll G b may workers ran) where
   -- what a client knew lasts
-  pub lasts-at : (by : ℕ) (known : Known) → slice_get all.known by ≡ Some known → KnownLasts moment left_since b all.ends.log all.ends.since.given ran.disk ran.trail.items known
+  pub lasts-at : (by : ℕ) (known : Known) → slice_get all.known by ≡ Some known → KnownLasts G b all.ends.log all.ends.since.given ran.disk ran.trail.items known
   lasts-at by known is =
-      subst (KnownLasts moment left_since b all.ends.log all.ends.since.given ran.disk ran.trail.items) (get_or_from_slice_get all.known by known known is) (all.last by known (slice_get_within all.known by known is))
+      subst (KnownLasts G b all.ends.log all.ends.since.given ran.disk ran.trail.items) (get_or_from_slice_get all.known by known known is) (all.last by known (slice_get_within all.known by known is))
 
   -- the handle of one worker's client stays, where the client of one of them knew that it was committed
   pub stays-noted : (at by : ℕ) (stops : List Stop) (known : Known) → slice_get all.stopped at ≡ Some stops → slice_get all.known by ≡ Some known → (k : ℕ) (stop : Stop) → slice_get stops k ≡ Some stop
-      → (number : ℕ) → IsInNotes known.notes stop.0 number → HandleStays size count faults honest newest may_leave moment left_since b may workers ran all known.notes stop
+      → (number : ℕ) → IsInNotes known.notes stop.0 number → HandleStays G b may workers ran all known.notes stop
   stays-noted at by stops known stopped is k stop placed number n =
       let last = (lasts-at by known is).last in
       let notes = known.notes in
-      let one : NoteLasts moment left_since b all.ends.since.given ran.disk ran.trail.items n.note =
-      subst (NoteLasts moment left_since b all.ends.since.given ran.disk ran.trail.items) (get_or_from_slice_get notes n.at n.note n.note n.stands) (last n.at n.note (slice_get_within notes n.at n.note n.stands)) in
+      let one : NoteLasts G b all.ends.since.given ran.disk ran.trail.items n.note =
+      subst (NoteLasts G b all.ends.since.given ran.disk ran.trail.items) (get_or_from_slice_get notes n.at n.note n.note n.stands) (last n.at n.note (slice_get_within notes n.at n.note n.stands)) in
       let stand = all-parts (StandsIn all.ends.log) all.stopped all.ends.stopped.stand at stops stopped in
       let stands : StandsIn all.ends.log stop = subst (StandsIn all.ends.log) (get_or_from_slice_get stops k stop stop placed) (stand k stop (slice_get_within stops k stop placed)) in
       let within = (one.tiles n.entry n.has).1 in
@@ -71,12 +71,12 @@ module _ {T D : Type 0} (size count faults : D → ℕ) (honest : D → Type 0) 
         number = number;
         noted = n;
         given = given-at b all.ends.log all.ends.since.given all.ends.since.has.tickets all.ends.since.has.stopped stop stands (omega (arith, within, to, settled, trail, given));
-        stays = λ h by m. noted-stays moment left_since b all.ends.since.given ran.disk ran.trail.items notes stop.0 by m last h;
+        stays = λ is_known held by m. noted-stays G b all.ends.since.given ran.disk ran.trail.items notes stop.0 by m last is_known held;
       }
 
   -- the first of a client's handles stay, where the client of one of them knew that they were committed
   pub all-stay : (at by : ℕ) (stops : List Stop) (known : Known) → slice_get all.stopped at ≡ Some stops → slice_get all.known by ≡ Some known → (first last : List Stop) → stops ≡ first ++ last → AreInNotes known.notes first
-      → All (HandleStays size count faults honest newest may_leave moment left_since b may workers ran all known.notes) first
+      → All (HandleStays G b may workers ran all known.notes) first
   all-stay at by stops known stopped is first last are each k d lt =
       let stop : Stop = get_or first k d in
       let placed : slice_get stops k ≡ Some stop = subst (λ l. slice_get l k ≡ Some stop) (sym are) (get_before first last k stop (slice_get-get_or first k d lt)) in

@@ -4,6 +4,7 @@ use Rattle.std.specs.FinMap as map
 use Rattle.jb_board.specs.Front.{front}
 use Rattle.jb_board.specs.Seats.{BoardId}
 use Rattle.jb_board.specs.declared.front.Front.{Front}
+use Rattle.jb_deck.specs.Deck.{OpenDeck}
 use Rattle.jb_disk.specs.declared.disk.Disk.{Ghosts as Disks}
 use Rattle.jb_desk.specs.Desks.{desk_id, shape_in}
 use Rattle.jb_book.specs.Origin.{Begun}
@@ -38,6 +39,10 @@ abbrev pub made_from : {H N : Type 0} {O : OriginGhosts H} {P : Places H} → Op
 made_from None = []
 made_from (Some seat) = made_by seat
 
+-- each of these journals had a disk that was honest
+abbrev pub AreHonest : {D : Type 0} → Disks D → List (OpenDeck D) → Type 0
+AreHonest G marks = All (λ m. G.honest m.disk) marks
+
 -- what is known by these sights
 abbrev pub known_in : {D H : Type 0} → (D → ℕ) → Sights D H → Known
 known_in moment seen = record { log = seen.stops; notes = each (note_of moment) seen.marks }
@@ -65,6 +70,10 @@ module _ {D C R H N : Type 0} {Q : Disks D} {O : OriginGhosts H} {P : Places H} 
   -- what the client knows of the journal
   abbrev pub client_known : Client D C R H N Q O P → Known
   client_known client = known_in Q.moment client.seen
+
+  -- the disk was honest at all that the client has seen of the journal
+  abbrev pub client_honest : Client D C R H N Q O P → Type 0
+  client_honest client = AreHonest Q client.seen.marks
 
   -- what its handles have to fit
   abbrev pub shape_of : Client D C R H N Q O P → Shape

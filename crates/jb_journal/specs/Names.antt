@@ -1,6 +1,7 @@
 -- Words of the crates below that the contracts and proofs of a program name.
 pub use Rattle.jb_cost.specs.Pieces.{joined}
-pub use Rattle.jb_disk.specs.Image.{Image}
+pub use Rattle.jb_deck.specs.Deck.{OpenDeck}
+pub use Rattle.jb_disk.specs.declared.disk.Disk.{Ghosts}
 pub use Rattle.jb_handle.specs.Tickets.{TicketsFrom}
 pub use Rattle.jb_handle.specs.Word.{WordMap}
 pub use Rattle.jb_handle.specs.Words.{word}

@@ -1,6 +1,7 @@
 -- What a client knows of its journal: the handles that have stopped, and what was committed when.
 use Rattle.std.specs.Prelude.{◌≡◌, ℕ, suc, ◌<◌, ◌≤◌, All, List, map, length}
 use Rattle.jb_disk.specs.Image.{Image}
+use Rattle.jb_disk.specs.declared.disk.Disk.{Ghosts}
 use Rattle.jb_handle.specs.Tickets.{TicketsFrom}
 use Rattle.jb_handle.specs.Word.{WordMap}
 use Rattle.jb_handle.specs.Words.{word}
@@ -22,8 +23,8 @@ use Rattle.jb_desk.specs.declared.fault.WaitFault.TheVariants as wait
 abbrev pub Stop : Type 0
 Stop = ℕ × WordMap
 
--- The journal as it was after a round of its committer: the moment, and the transactions that were committed by then, without those that had been taken from
--- the trail
+-- The journal as it was when it was opened, after a round of its committer, or after a read: the moment, and the transactions that were committed by then, without those that
+-- had been taken from the trail
 pub record Note : Type 0 where
   pub moment : ℕ
   pub trail : List Entry
@@ -36,7 +37,7 @@ note_of moment m = record { moment = moment m.disk; trail = m.trail }
 abbrev pub committed_by : Note → ℕ
 committed_by n = past_after 0 n.trail
 
--- What is known of a journal: the words of the first handles that stopped, each at the place of its ticket, and the notes of its first rounds
+-- What is known of a journal: the words of the first handles that stopped, each at the place of its ticket, and the first notes of it
 pub record Known : Type 0 where
   pub log : List WordMap
   pub notes : List Note
@@ -76,30 +77,30 @@ abbrev pub AreInNotes : List Note → List Stop → Type 0
 AreInNotes notes stops = All (λ s. (number : ℕ) × IsInNotes notes s.0 number) stops
 
 -- What a home holds that was read: what the first of the known handles leave in it, all of those among them that were known to be committed before; nothing is said of a
--- home that these leave free
-pub record ReadsAs (b : Begun) (before after : Known) (home : ℕ) (found : List ℕ) : Type 0 where
+-- home that these leave free. What it holds is said where the start is known, and the disk is sure to have been honest
+pub record ReadsAs (b : Begun) (sure : Type 0) (before after : Known) (home : ℕ) (found : List ℕ) : Type 0 where
   pub given : List Stopped
   pub tickets : TicketsFrom 0 given
   pub are : All (IsInHistory after.log) given
   pub sees : (ticket number : ℕ) → IsInNotes before.notes ticket number → ticket < length given
-  pub stands : b.honest → StandsBy (word given home) (b.homes home) found
+  pub stands : b.is_known → sure → StandsBy (word given home) (b.homes home) found
 
 -- ---- what a run keeps of it
 
--- A note lasts, on the disk that a run leaves, of a journal that was given these handles and has this trail: what a crash at any time since that moment leaves has the
--- handles that were committed then, at least
-pub record NoteLasts {D : Type 0} (moment : D → ℕ) (left_since : D → ℕ → Image → Type 0) (b : Begun) (given : List Stopped) (disk : D) (trail : List Entry) (n : Note) : Type 0 where
+-- A note lasts, on the disk that a run leaves, of a journal that was given these handles and has this trail: where that disk is honest, what a crash at any time since that
+-- moment leaves has the handles that were committed then, at least
+pub record NoteLasts {D : Type 0} (G : Ghosts D) (b : Begun) (given : List Stopped) (disk : D) (trail : List Entry) (n : Note) : Type 0 where
   pub tiles : Within n.trail
   pub settled : committed_by n ≤ past_after 0 trail
-  pub earlier : b.honest → n.moment ≤ moment disk
-  pub leaves : b.honest → (c : Image) → left_since disk n.moment c → HasFirst b given (committed_by n) c
+  pub earlier : b.is_known → G.honest disk → n.moment ≤ G.moment disk
+  pub leaves : b.is_known → G.honest disk → (c : Image) → G.left_since disk n.moment c → HasFirst b given (committed_by n) c
 
 -- what was known holds of the whole run: the handles are the first of all that stopped, and the notes last
-pub record KnownLasts {D : Type 0} (moment : D → ℕ) (left_since : D → ℕ → Image → Type 0) (b : Begun) (log : List WordMap) (given : List Stopped) (disk : D) (trail : List Entry) (k : Known) : Type 0 where
+pub record KnownLasts {D : Type 0} (G : Ghosts D) (b : Begun) (log : List WordMap) (given : List Stopped) (disk : D) (trail : List Entry) (k : Known) : Type 0 where
   pub begins : IsFirstPart k.log log
-  pub last : All (NoteLasts moment left_since b given disk trail) k.notes
+  pub last : All (NoteLasts G b given disk trail) k.notes
 
 -- the handle with this ticket stays since this moment: what a crash at any time since then leaves has the first of these handles by their tickets, up to this one at least
-pub record StaysSince {D : Type 0} (moment : D → ℕ) (left_since : D → ℕ → Image → Type 0) (b : Begun) (given : List Stopped) (disk : D) (since ticket : ℕ) : Type 0 where
-  pub earlier : since ≤ moment disk
-  pub leaves : (c : Image) → left_since disk since c → HasFirst b given (suc ticket) c
+pub record StaysSince {D : Type 0} (G : Ghosts D) (b : Begun) (given : List Stopped) (disk : D) (since ticket : ℕ) : Type 0 where
+  pub earlier : since ≤ G.moment disk
+  pub leaves : (c : Image) → G.left_since disk since c → HasFirst b given (suc ticket) c

@@ -1,9 +1,10 @@
 -- What the threads of a journal leave.
 use Rattle.std.specs.Prelude.{◌≡◌, ℕ, ◌<◌, ◌≤◌, Bool, true, false, All, List, [], length, map, slice_index_or, Option, Some, None, IfSome}
 use Rattle.std.specs.Bool.{OnTrue}
-use Rattle.jb_disk.specs.Image.{Image}
+use Rattle.jb_disk.specs.declared.disk.Disk.{Ghosts as Disks}
 use Rattle.jb_handle.specs.Word.{WordMap}
 use Rattle.jb_handle.specs.declared.shape.Shape.{Shape}
+use Rattle.jb_deck.specs.Deck.{OpenDeck}
 use Rattle.jb_deck.specs.Done.{Follow, start_of}
 use Rattle.jb_desk.specs.Ends.{is_shut}
 use Rattle.jb_desk.specs.declared.ended.Ended.{Ended}
@@ -17,19 +18,21 @@ use Rattle.jb_desk.specs.declared.seat.Seat.{Seat}
 use Rattle.jb_history.specs.declared.place.Place.{Ghosts as Places}
 use Rattle.jb_book.specs.Marks.{SeesMore}
 use Rattle.jb_book.specs.declared.sights.Sights.{Sights}
-use Rattle.jb_journal.specs.Client.{known_in}
+use Rattle.jb_journal.specs.Client.{AreHonest, known_in}
 use Rattle.jb_journal.specs.Notes.{Known, KnownLasts, Stop}
 use Rattle.jb_journal.specs.declared.ran.Ran.{Ran}
 use Rattle.jb_journal.specs.declared.threads.Threaded.{Threaded}
 use Rattle.jb_journal.specs.declared.threads.Worked.{Worked}
 
--- each of so many workers answered what it may with the handles that its client has stopped and what that knew of the journal
-pub record AreAnswers {T : Type 0} (may : ℕ → ℕ → List Stop → Known → T → Type 0) (workers : ℕ) (stopped : List (List Stop)) (known : List Known) (answers : List T) : Type 0 where
+-- each of so many workers answered what it may with the handles that its client has stopped and what that knew of the journal, where what it read rests on that the disk
+-- was honest at all that its client has seen
+pub record AreAnswers {T D : Type 0} (G : Disks D) (may : Type 0 → ℕ → ℕ → List Stop → Known → T → Type 0) (workers : ℕ) (stopped : List (List Stop)) (known : List Known) (seen : List (List (OpenDeck D))) (answers : List T) : Type 0 where
   pub number : length answers ≡ workers
   pub same : length stopped ≡ workers
   pub knew : length known ≡ workers
-  pub each : (at : ℕ) (none : List Stop) (unknown : Known) (d : T) → at < workers
-      → may workers at (slice_index_or stopped at none) (slice_index_or known at unknown) (slice_index_or answers at d)
+  pub saw : length seen ≡ workers
+  pub each : (at : ℕ) (none : List Stop) (unknown : Known) (unseen : List (OpenDeck D)) (d : T) → at < workers
+      → may (AreHonest G (slice_index_or seen at unseen)) workers at (slice_index_or stopped at none) (slice_index_or known at unknown) (slice_index_or answers at d)
 
 -- the handles that stopped with a seat that has left, where there was one
 abbrev pub stops_left_by : {H N : Type 0} {O : Ghosts H} {P : Places H} → Option (Left H N O P) → List Stop
@@ -49,19 +52,24 @@ module _ {T D H N : Type 0} {O : Ghosts H} {P : Places H} where
   abbrev pub known_of_worked : (D → ℕ) → Worked T D H N O P → Known
   known_of_worked moment w = known_in moment w.seen
 
+  -- what a worker's client had seen of the marks
+  abbrev pub marks_of_worked : Worked T D H N O P → List (OpenDeck D)
+  marks_of_worked w = w.seen.marks
+
   -- all that a worker's client has seen is seen, and perhaps more
   abbrev pub HasAllSeen : Sights D H → Worked T D H N O P → Type 0
   HasAllSeen seen w = SeesMore w.seen seen
 
   -- each of so many workers has answered what it may, or had no seat
-  pub record HaveWorked (moment : D → ℕ) (may : ℕ → ℕ → List Stop → Known → T → Type 0) (workers : ℕ) (ran : List (Worked T D H N O P)) : Type 0 where
+  pub record HaveWorked (G : Disks D) (may : Type 0 → ℕ → ℕ → List Stop → Known → T → Type 0) (workers : ℕ) (ran : List (Worked T D H N O P)) : Type 0 where
     pub number : length ran ≡ workers
     pub each : (at : ℕ) (d : Worked T D H N O P) → at < workers
-        → IfSome (answer_of (slice_index_or ran at d)) (may workers at (stops_of_worked (slice_index_or ran at d)) (known_of_worked moment (slice_index_or ran at d)))
+        → IfSome (answer_of (slice_index_or ran at d))
+        (may (AreHonest G (marks_of_worked (slice_index_or ran at d))) workers at (stops_of_worked (slice_index_or ran at d)) (known_of_worked G.moment (slice_index_or ran at d)))
 
   -- the workers have answered, and the committer has stopped no handle
-  pub record HasThreaded (moment : D → ℕ) (may : ℕ → ℕ → List Stop → Known → T → Type 0) (workers : ℕ) (ran : Threaded T D H N O P) : Type 0 where
-    pub worked : HaveWorked moment may workers ran.workers.items
+  pub record HasThreaded (G : Disks D) (may : Type 0 → ℕ → ℕ → List Stop → Known → T → Type 0) (workers : ℕ) (ran : Threaded T D H N O P) : Type 0 where
+    pub worked : HaveWorked G may workers ran.workers.items
     pub committed : made_left ran.committer ≡ []
 
 -- a seat that was there has left, with what it stopped
@@ -91,15 +99,17 @@ pub record EndsRun {T D : Type 0} (checkpoint : Bool) (ran : Ran T D) : Type 0 w
 abbrev pub AllSettled : {T D : Type 0} → Ran T D → Type 0
 AllSettled ran = ran.settled ≡ ran.handles
 
--- What was run: there are the handles that each worker's client has stopped, and what it knew of the journal, with which it answered what it may. The handles are
+-- What was run: there are the handles that each worker's client has stopped, and what it knew and had seen of the journal, with which it answered what it may. The handles are
 -- all of one history, of as many as are reported, and each is there once; the journal that the disk is left with was given the first of this history; and the
 -- machine of handles accepts a list of events in which they stopped in this order, and whose settled groups are those of the trail. What a client knew to be
--- committed at some moment, what a crash at any time since then leaves has
-pub record RanAll {T D : Type 0} (size count faults : D → ℕ) (honest : D → Type 0) (newest : D → Image) (may_leave : D → Image → Type 0) (moment : D → ℕ) (left_since : D → ℕ → Image → Type 0) (b : Begun) (may : ℕ → ℕ → List Stop → Known → T → Type 0) (workers : ℕ) (ran : Ran T D) : Type 0 where
+-- committed at some moment, what a crash at any time since then leaves has. Where the disk that is given back is honest, it was so at all that any client has seen
+pub record RanAll {T D : Type 0} (G : Disks D) (b : Begun) (may : Type 0 → ℕ → ℕ → List Stop → Known → T → Type 0) (workers : ℕ) (ran : Ran T D) : Type 0 where
   pub stopped : List (List Stop)
   pub known : List Known
-  pub answers : AreAnswers may workers stopped known ran.answers.items
+  pub seen : List (List (OpenDeck D))
+  pub answers : AreAnswers G may workers stopped known seen ran.answers.items
   -- that of the journal, by which its groups have cost what its trail says
   pub shape : Shape
-  pub ends : EndsWith size count faults honest newest may_leave moment left_since b stopped ran.handles shape ran.disk ran.trail.items
-  pub last : All (KnownLasts moment left_since b ends.log ends.since.given ran.disk ran.trail.items) known
+  pub ends : EndsWith G b stopped ran.handles shape ran.disk ran.trail.items
+  pub last : All (KnownLasts G b ends.log ends.since.given ran.disk ran.trail.items) known
+  pub honest : G.honest ran.disk → All (AreHonest G) seen

@@ -36,7 +36,7 @@ impl<'a, D: Disk, C: Clock, R: Wait + time::Clock, H: Origin, N: Ledger> Client<
     ghost use Rattle.jb_desk.specs.Journal.{GivesTrail, ReadsHome};
     ghost use Rattle.jb_batch.specs.Costs.{geometry_of};
     ghost use Rattle.jb_cost.specs.Credits.{IsMost};
-    ghost use Rattle.jb_journal.specs.Client.{IsClient, client_known, client_stops, made_from};
+    ghost use Rattle.jb_journal.specs.Client.{IsClient, client_honest, client_known, client_stops, made_from};
     ghost use Rattle.jb_journal.specs.Client.{seen_by, shape_of, sights_of};
     ghost use Rattle.jb_journal.specs.Notes.{IsInNotes, KnowsMore, NotesTaken, ReadsAs};
 
@@ -119,7 +119,6 @@ impl<'a, D: Disk, C: Clock, R: Wait + time::Clock, H: Origin, N: Ledger> Client<
     /// waited for.
     ///
     /// # Errors
-    ///
     /// `Begin` where the handle is not begun, and `change` was not called then; `Refused` with what `change` gave;
     /// `Aborted`, `NotOpen` or `Memory` where the handle does not stop. Nothing is changed by it.
     pub fn change<T: Drop, E, F: FnOnce(&mut Handle<()>) -> Result<T, E>>(
@@ -135,6 +134,7 @@ impl<'a, D: Disk, C: Clock, R: Wait + time::Clock, H: Origin, N: Ledger> Client<
         ensures stopped { IfOk result (λ given. given.1 < (seen_by self.new).stopped) }
         ensures later { IfOk result (λ given. length (client_known self.old).log ≤ given.1) }
         ensures knows { KnowsMore (client_known self.old) (client_known self.new) }
+        ensures honest { client_honest self.new → client_honest self.old }
         ensures shape { shape_of self.new ≡ shape_of self.old }
     {
         let (rt, desk) = (self.rt, self.desk);
@@ -151,16 +151,17 @@ impl<'a, D: Disk, C: Clock, R: Wait + time::Clock, H: Origin, N: Ledger> Client<
     /// for another thread.
     ///
     /// # Errors
-    ///
     /// In this order: `Aborted` where the journal has failed, `OutOfRange` where there is no such home block, `Length`
     /// where `buf` has not the length of one block, and `DeviceFault` where the read fails; it can be tried again then.
     pub fn read(&mut self, home: u64, buf: &mut [u8]) -> Result<(), ReadHomeFault>
         requires client { IsClient H.begun self.old }
         ensures client { IsClient H.begun self.new }
-        ensures answers { ReadsHome D.size D.count D.faults D.honest D.newest D.may_leave D.moment D.left_since H.begun
-            (sights_of self.new).stops (sights_of self.old).marks home (length buf.old) buf.new result }
-        ensures reads { OnOk result (ReadsAs H.begun (client_known self.old) (client_known self.new) home buf.new) }
+        ensures answers { ReadsHome D.Disk H.begun (sights_of self.new).stops (sights_of self.old).marks
+            (sights_of self.new).marks home (length buf.old) buf.new result }
+        ensures reads { OnOk result (ReadsAs H.begun (client_honest self.new) (client_known self.old)
+            (client_known self.new) home buf.new) }
         ensures knows { KnowsMore (client_known self.old) (client_known self.new) }
+        ensures honest { client_honest self.new → client_honest self.old }
         ensures shape { shape_of self.new ≡ shape_of self.old }
         ensures kept { client_stops self.new ≡ client_stops self.old }
     {
@@ -172,11 +173,9 @@ impl<'a, D: Disk, C: Clock, R: Wait + time::Clock, H: Origin, N: Ledger> Client<
     /// is not in [`Ran::trail`](crate::Ran::trail). Waits while the disk is at work for another thread.
     ///
     /// # Errors
-    ///
     /// `Memory` where there is none for the entries: none is taken.
     pub fn take_trail(&self) -> Result<Vec<Entry>, Memory>
-        ensures { GivesTrail D.size D.count D.faults D.honest D.newest D.may_leave D.moment D.left_since H.begun
-            result }
+        ensures { GivesTrail D.Disk H.begun result }
     {
         self.desk.take_trail(self.rt)
     }
@@ -202,7 +201,6 @@ impl<'a, D: Disk, C: Clock, R: Wait + time::Clock, H: Origin, N: Ledger> Client<
     /// (`jbd2_log_wait_commit`). It stands after a crash then.
     ///
     /// # Errors
-    ///
     /// `Aborted` where the journal has failed and the handle is not committed; `Taken` where it is committed and the
     /// entry of its transaction was taken from the trail; `Unknown` where no handle has the ticket.
     pub fn wait(&mut self, ticket: u64) -> Result<u32, WaitFault>
@@ -213,6 +211,7 @@ impl<'a, D: Disk, C: Clock, R: Wait + time::Clock, H: Origin, N: Ledger> Client<
         ensures noted { IfOk result (IsInNotes (client_known self.new).notes ticket) }
         ensures noted_taken { IfErr result (NotesTaken (client_known self.new).notes ticket) }
         ensures knows { KnowsMore (client_known self.old) (client_known self.new) }
+        ensures honest { client_honest self.new → client_honest self.old }
         ensures shape { shape_of self.new ≡ shape_of self.old }
         ensures kept { client_stops self.new ≡ client_stops self.old }
     {

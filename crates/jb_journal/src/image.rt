@@ -98,11 +98,11 @@ pub fn read_home<D: Disk>(disk: &mut D, home: u64, buf: &mut [u8]) -> Result<(),
     ensures untouched { result ≡ Err Length → disk.new ≡ disk.old }
     ensures buffer { result ≡ Err Length → buf.new ≡ buf.old }
     ensures faults { HomeFaults result (D.faults disk.old) (D.faults disk.new) }
-    ensures newest { D.honest disk.old → D.newest disk.new ≡ D.newest disk.old }
-    ensures idle { D.honest disk.old → Goes D.may_leave D.moment D.left_since Same disk.old disk.new }
-    ensures reads { D.honest disk.old → ReadsWhole (D.size disk.old) (D.count disk.old) (D.newest disk.old) home buf.old
+    ensures newest { D.honest disk.new → D.newest disk.new ≡ D.newest disk.old }
+    ensures idle { D.honest disk.new → Goes D.may_leave D.moment D.left_since Same disk.old disk.new }
+    ensures reads { D.honest disk.new → ReadsWhole (D.size disk.old) (D.count disk.old) (D.newest disk.old) home buf.old
         buf.new result }
-    ensures ends { D.honest disk.old → OnOk result (IsRecoveredHome (D.size disk.old) (D.count disk.old)
+    ensures ends { D.honest disk.new → OnOk result (IsRecoveredHome (D.size disk.old) (D.count disk.old)
         (D.newest disk.old) home buf.new) }
 {
     if buf.len() != disk.block_size().bytes() as usize {

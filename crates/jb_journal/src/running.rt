@@ -38,7 +38,8 @@ const PARTS: u64 = (1 << 61) + 1;
 /// opened again.
 ///
 /// # Errors
-/// - `Open` where the journal was not opened, and nothing ran.
+/// - `Open` where the journal was not opened, and nothing ran. The disk is lost: what is said of it holds of some disk
+///   that this one has become.
 /// - `Memory` where there was none for the desk, a thread's answer or what the threads leave; handles may have been
 ///   committed then.
 /// - `NoThread` where the system makes no thread for each worker, for what commits and for what writes home within ten
@@ -52,14 +53,11 @@ pub fn run<
     R: AllocGlobal + Threads + Wait + time::Clock + Sync,
 >(rt: &R, disk: D, clock: C, options: Options, worker: &W) -> Result<Ran<T, D>, RunFault>
     requires workers { (1 ≤ options.workers) × (options.workers ≤ 64) }
-    ensures ran { IfOk result (RanAll D.size D.count D.faults D.honest D.newest D.may_leave D.moment D.left_since
-        (started_on D.size D.count D.faults D.honest D.newest D.moment D.left_since disk) (W.answers worker.now
-        (started_on D.size D.count D.faults D.honest D.newest D.moment D.left_since disk)) options.workers) }
+    ensures ran { IfOk result (RanAll D.Disk (started_on D.Disk disk) (W.answers worker.now (started_on D.Disk disk))
+        options.workers) }
     ensures ends { IfOk result (EndsRun options.checkpoint) }
-    ensures since { IfOk result (λ ran. EndsSince D.size D.count D.faults D.honest D.newest D.may_leave D.moment
-        D.left_since (started_on D.size D.count D.faults D.honest D.newest D.moment D.left_since disk) ran.disk
-        ran.trail.items) }
-    ensures refused { IfErr result (RefusesRun D.size D.count D.faults D.honest D.newest disk) }
+    ensures since { IfOk result (λ ran. EndsSince D.Disk (started_on D.Disk disk) ran.disk ran.trail.items) }
+    ensures refused { IfErr result (RefusesRun D.Disk disk) }
 {
     run_on::<T, W, D, C, R, Brand>(rt, rt.alloc(), disk, clock, options, worker)
 }
@@ -84,18 +82,16 @@ pub fn run_on<
     worker: &W,
 ) -> Result<Ran<T, D>, RunFault>
     requires workers { (1 ≤ options.workers) × (options.workers ≤ 64) }
-    requires begun { IsBegunOn D.size D.count D.faults D.honest D.newest D.moment D.left_since H.begun disk }
+    requires begun { IsBegunOn D.Disk H.begun disk }
     requires any { (words : WordMap) → H.begun.stops words }
-    ensures ran { IfOk result (RanAll D.size D.count D.faults D.honest D.newest D.may_leave D.moment D.left_since
-        H.begun (W.answers worker.now H.begun) options.workers) }
+    ensures ran { IfOk result (RanAll D.Disk H.begun (W.answers worker.now H.begun) options.workers) }
     ensures ends { IfOk result (EndsRun options.checkpoint) }
-    ensures since { IfOk result (λ ran. EndsSince D.size D.count D.faults D.honest D.newest D.may_leave D.moment
-        D.left_since H.begun ran.disk ran.trail.items) }
-    ensures refused { IfErr result (RefusesRun D.size D.count D.faults D.honest D.newest disk) }
+    ensures since { IfOk result (λ ran. EndsSince D.Disk H.begun ran.disk ran.trail.items) }
+    ensures refused { IfErr result (RefusesRun D.Disk disk) }
 {
     let deck = match jb_desk::open::<D, H>(alloc, disk) {
         Ok(deck) => deck,
-        Err(fault) => return Err(RunFault::Open(fault)),
+        Err((_, fault)) => return Err(RunFault::Open(fault)),
     };
     let _shape = deck.shape(); // for the proof alone: what its handles have to fit
     let Ok(handles) = Stops::new(alloc, PARTS) else {
@@ -135,14 +131,11 @@ fn run_open<
         × (history_in handles ≡ H.history) }
     requires changes { (changes.name ≡ N.name) × (changes.parts ≡ N.parts) × (N.parts ≡ 2 ^ 61 + 1) }
     requires marks { history_id marks ≡ H.marks }
-    requires deck { (deck.trail ≡ []) × (deck.aborted ≡ false)
-        × IsSince D.size D.count D.faults D.honest D.newest D.may_leave D.moment D.left_since H.begun deck }
+    requires deck { (deck.trail ≡ []) × (deck.aborted ≡ false) × IsSince D.Disk H.begun deck }
     requires any { (words : WordMap) → H.begun.stops words }
-    ensures ran { IfOk result (RanAll D.size D.count D.faults D.honest D.newest D.may_leave D.moment D.left_since
-        H.begun (W.answers worker.now H.begun) options.workers) }
+    ensures ran { IfOk result (RanAll D.Disk H.begun (W.answers worker.now H.begun) options.workers) }
     ensures ends { IfOk result (EndsRun options.checkpoint) }
-    ensures since { IfOk result (λ ran. EndsSince D.size D.count D.faults D.honest D.newest D.may_leave D.moment
-        D.left_since H.begun ran.disk ran.trail.items) }
+    ensures since { IfOk result (λ ran. EndsSince D.Disk H.begun ran.disk ran.trail.items) }
     ensures faults { IfErr result (λ fault. (fault ≡ OutOfMemory) ⊎ ((fault ≡ Accounts) ⊎ (fault ≡ NoThread))) }
 {
     let shape = deck.shape();
@@ -172,11 +165,9 @@ fn run_at<
     requires parts { (H.parts ≡ 2 ^ 61 + 1) × (N.parts ≡ 2 ^ 61 + 1) }
     requires shape { shape ≡ shape_in desk }
     requires any { (words : WordMap) → H.begun.stops words }
-    ensures ran { IfOk result (RanAll D.size D.count D.faults D.honest D.newest D.may_leave D.moment D.left_since
-        H.begun (W.answers worker.now H.begun) options.workers) }
+    ensures ran { IfOk result (RanAll D.Disk H.begun (W.answers worker.now H.begun) options.workers) }
     ensures ends { IfOk result (EndsRun options.checkpoint) }
-    ensures since { IfOk result (λ ran. EndsSince D.size D.count D.faults D.honest D.newest D.may_leave D.moment
-        D.left_since H.begun ran.disk ran.trail.items) }
+    ensures since { IfOk result (λ ran. EndsSince D.Disk H.begun ran.disk ran.trail.items) }
     ensures faults { IfErr result (λ fault. (fault ≡ OutOfMemory) ⊎ ((fault ≡ Accounts) ⊎ (fault ≡ NoThread))) }
 {
     let (ran, checkpoint) = run_all(rt, alloc, &desk, shape, options, worker);

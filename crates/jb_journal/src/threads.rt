@@ -4,7 +4,8 @@ ghost use Rattle.jb_handle.specs.Word.{WordMap};
 ghost use Rattle.jb_journal.specs.declared.fault.RunFault.TheVariants.{Accounts, NoThread, Memory as OutOfMemory};
 ghost use Rattle.jb_desk.specs.Desks.{shape_in};
 ghost use Rattle.jb_journal.specs.Running.{HasThreaded, HaveWorked, EndsChecked};
-ghost use Rattle.jb_journal.specs.Running.{known_of_worked, stops_of_worked};
+ghost use Rattle.jb_journal.specs.Client.{AreHonest};
+ghost use Rattle.jb_journal.specs.Running.{known_of_worked, marks_of_worked, stops_of_worked};
 
 use crate::client::Client;
 use crate::committing::commit_from;
@@ -64,7 +65,7 @@ pub(crate) fn run_all<
 ) -> (Result<Threaded<T, D, H, N>, RunFault>, Option<Ended>)
     requires shape { shape ≡ shape_in desk.now }
     requires any { (words : WordMap) → H.begun.stops words }
-    ensures ran { IfOk result.0 (HasThreaded D.moment (W.answers worker.now H.begun) options.workers) }
+    ensures ran { IfOk result.0 (HasThreaded D.Disk (W.answers worker.now H.begun) options.workers) }
     ensures faults { IfErr result.0 (λ fault. (fault ≡ OutOfMemory) ⊎ ((fault ≡ Accounts) ⊎ (fault ≡ NoThread))) }
     ensures ended { EndsChecked options.checkpoint result.1 }
 {
@@ -123,7 +124,7 @@ fn run_workers<
 ) -> Result<Threaded<T, D, H, N>, RunFault>
     requires shape { shape ≡ shape_in desk.now }
     requires any { (words : WordMap) → H.begun.stops words }
-    ensures ran { IfOk result (HasThreaded D.moment (W.answers worker.now H.begun) workers) }
+    ensures ran { IfOk result (HasThreaded D.Disk (W.answers worker.now H.begun) workers) }
     ensures faults { IfErr result (λ fault. (fault ≡ OutOfMemory) ⊎ ((fault ≡ Accounts) ⊎ (fault ≡ NoThread))) }
 {
     let Ok(seat) = desk.seat(rt) else {
@@ -175,7 +176,7 @@ fn work<
 ) -> Result<Vec<Worked<T, D, H, N>>, Memory>
     requires shape { shape ≡ shape_in desk.now }
     requires any { (words : WordMap) → H.begun.stops words }
-    ensures { IfOk result (λ ran. HaveWorked D.moment (W.answers worker.now H.begun) workers ran.items) }
+    ensures { IfOk result (λ ran. HaveWorked D.Disk (W.answers worker.now H.begun) workers ran.items) }
 {
     let ran = thread::map_indices(
         rt,
@@ -183,8 +184,8 @@ fn work<
         workers,
         &|at: usize| -> Worked<T, D, H, N>
             requires { (shape ≡ shape_in desk.now) × ((words : WordMap) → H.begun.stops words) }
-            ensures { IfSome result.answer (W.answers worker.entry.now H.begun workers at (stops_of_worked result)
-                (known_of_worked D.moment result)) }
+            ensures { IfSome result.answer (W.answers worker.entry.now H.begun (AreHonest D.Disk (marks_of_worked result))
+                workers at (stops_of_worked result) (known_of_worked D.moment result)) }
         { work_at(rt, desk, shape, gate, workers, worker, at) },
     );
     desk.shut(rt);
@@ -203,8 +204,8 @@ fn work_at<T, W: Worker<T>, D: Disk, C: Clock, R: Wait + time::Clock, H: Origin,
 ) -> Worked<T, D, H, N>
     requires shape { shape ≡ shape_in desk.now }
     requires any { (words : WordMap) → H.begun.stops words }
-    ensures { IfSome result.answer (W.answers worker.now H.begun workers at (stops_of_worked result)
-        (known_of_worked D.moment result)) }
+    ensures { IfSome result.answer (W.answers worker.now H.begun (AreHonest D.Disk (marks_of_worked result)) workers at
+        (stops_of_worked result) (known_of_worked D.moment result)) }
 {
     if !gate.wait(rt) {
         return Worked {

@@ -44,9 +44,9 @@ pub struct Telling {
 
 impl Worker<Found> for Telling {
     ghost use Rattle.std.specs.Prelude.{◌≡◌, []};
-    ghost use Rattle.jb_journal.specs.Client.{IsClient, client_known, client_stops};
+    ghost use Rattle.jb_journal.specs.Client.{IsClient, client_honest, client_known, client_stops};
 
-    ghost answers = { λ telling begun workers at stops known found. HasFound telling.bytes begun stops known found };
+    ghost answers = { λ telling begun sure workers at stops known found. HasFound telling.bytes begun sure stops known found };
 
     fn work<'a, D: Disk, C: Clock, R: Wait + time::Clock, H: Origin, N: Ledger>(
         &self,
@@ -56,7 +56,8 @@ impl Worker<Found> for Telling {
     ) -> Found
         requires client { IsClient H.begun client.old }
         requires fresh { client_stops client.old ≡ [] }
-        ensures answers { HasFound self.now.bytes H.begun (client_stops client.new) (client_known client.new) result }
+        ensures answers { HasFound self.now.bytes H.begun (client_honest client.new) (client_stops client.new)
+            (client_known client.new) result }
     {
         if at == 0 {
             let ticket = self.write(client);
@@ -73,7 +74,7 @@ impl Worker<Found> for Telling {
 
 impl Telling {
     ghost use Rattle.std.specs.Prelude.{◌≡◌, []};
-    ghost use Rattle.jb_journal.specs.Client.{IsClient, client_known, client_stops};
+    ghost use Rattle.jb_journal.specs.Client.{IsClient, client_honest, client_known, client_stops};
 
     /// Two workers that have told nothing yet.
     pub fn new(bytes: [u8; 1024]) -> Telling
@@ -114,7 +115,8 @@ impl Telling {
     ) -> Found
         requires client { IsClient H.begun client.old }
         requires fresh { client_stops client.old ≡ [] }
-        ensures { HasFound self.now.bytes H.begun (client_stops client.new) (client_known client.new) result }
+        ensures { HasFound self.now.bytes H.begun (client_honest client.new) (client_stops client.new)
+            (client_known client.new) result }
     {
         let Some(ticket) = self.hear(client.runtime()) else {
             return Found::Failed;

@@ -9,7 +9,8 @@ use std::thread::Threads;
 use std::time;
 
 /// Runs the journal on a disk with two workers: the first one writes these bytes to a home and waits, and tells the
-/// second one, which reads the home. What the first has written stays after a crash, and is what the second has read.
+/// second one, which reads the home. Where the disk that is given back is honest, what the first has written stays after
+/// a crash, and is what the second has read.
 ///
 /// # Errors
 /// Those of [`run`].
@@ -18,8 +19,7 @@ pub fn two_workers<
     C: Clock + Drop + Send,
     R: AllocGlobal + Threads + Wait + time::Clock + Sync,
 >(rt: &R, disk: D, clock: C, bytes: [u8; 1024]) -> Result<Ran<Found, D>, RunFault>
-    ensures { IfOk result (TwoHaveWorked D.size D.count D.faults D.honest D.newest D.may_leave D.moment D.left_since bytes
-        disk) }
+    ensures { IfOk result (TwoHaveWorked D.Disk bytes disk) }
 {
     run(rt, disk, clock, Options::new(2), &Telling::new(bytes))
 }

@@ -1,6 +1,7 @@
 pub mod Adding
 pub mod Answering
 pub mod Costing
+pub mod Opening
 pub mod Reading
 pub mod Refusals
 pub mod Stepping

@@ -3,7 +3,7 @@ use Rattle.std.specs.Prelude.{◌≡◌, ◌≢◌, ℕ, ◌<◌, ◌≤◌, Boo
 use Rattle.std.specs.List.{flat_map, sum_by}
 use Rattle.jb_block.specs.Size.{bytes_of}
 use Rattle.jb_block.specs.declared.size.BlockSize.{BlockSize}
-use Rattle.jb_disk.specs.Image.{Image}
+use Rattle.jb_disk.specs.declared.disk.Disk.{Ghosts}
 use Rattle.jb_disk.specs.Kept.{Kept}
 use Rattle.jb_handle.specs.declared.shape.Shape.{Shape}
 use Rattle.jb_handle.specs.declared.stopped.Stopped.{Stopped}
@@ -67,27 +67,27 @@ pub record Loads (shape : Shape) (queue : List Stopped) (threads : ℕ) (loaded 
   pub counts : Counts queue shape (flat_map (λ (r : Run). r.stops) runs) trail loaded
   pub refused : loaded.refused ≡ first_refused runs
 
-module _ {D : Type 0} (size count faults : D → ℕ) (honest : D → Type 0) (newest : D → Image) (disk : D) where
-  -- the journal on the disk was not opened, for this
-  pub record NotOpened (fault : OpenFault) : Type 0 where
-    pub after : D
-    pub kept : Kept size count honest disk after
-    pub fault_count : OpenFaults fault (faults disk) (faults after)
-    pub refuses : honest disk → RefusesOpen (size disk) (count disk) (newest disk) (newest after) fault
+module _ {D : Type 0} (G : Ghosts D) (disk : D) where
+  -- the journal on the disk, which is this one after that, was not opened, for this
+  pub record NotOpened (after : D) (fault : OpenFault) : Type 0 where
+    pub kept : Kept G.size G.count G.honest disk after
+    pub fault_count : OpenFaults fault (G.faults disk) (G.faults after)
+    pub refuses : G.honest after → RefusesOpen (G.size disk) (G.count disk) (G.newest disk) (G.newest after) fault
 
   -- the journal on the disk was opened, and its handles have to fit this shape
   pub record IsOpened (shape : Shape) : Type 0 where
     pub deck : OpenDeck D
-    pub kept : Kept size count honest disk deck.disk
-    pub fault_count : faults deck.disk ≡ faults disk
-    pub opens : honest disk → Opens (size disk) (count disk) (newest disk) (newest deck.disk) deck.log
-    pub journal : IsShapeOf deck.log.sb (count deck.disk) shape
+    pub kept : Kept G.size G.count G.honest disk deck.disk
+    pub fault_count : G.faults deck.disk ≡ G.faults disk
+    pub opens : G.honest deck.disk → Opens (G.size disk) (G.count disk) (G.newest disk) (G.newest deck.disk) deck.log
+    pub journal : IsShapeOf deck.log.sb (G.count deck.disk) shape
 
-  -- What a load answers to a queue of blocks of this size. Only where the size is not the disk's does it answer so
+  -- What a load answers to a queue of blocks of this size. Only where the size is not the disk's does it answer so. Where the journal was not opened, some disk that this one has
+  -- become is lost
   abbrev pub AnswersLoad : BlockSize → List Stopped → LoadOptions → Result (Loaded × D) LoadFault → Type 0
-  AnswersLoad bs queue options (Err fault.BlockSize) = bytes_of bs ≢ size disk
-  AnswersLoad bs queue options (Err (fault.Open why)) = (bytes_of bs ≡ size disk) × NotOpened why
-  AnswersLoad bs queue options (Err fault.Memory) = (bytes_of bs ≡ size disk) × ((shape : Shape) × IsOpened shape)
-  AnswersLoad bs queue options (Err fault.Accounts) = (bytes_of bs ≡ size disk) × ((shape : Shape) × IsOpened shape)
+  AnswersLoad bs queue options (Err fault.BlockSize) = bytes_of bs ≢ G.size disk
+  AnswersLoad bs queue options (Err (fault.Open why)) = (bytes_of bs ≡ G.size disk) × ((after : D) × NotOpened after why)
+  AnswersLoad bs queue options (Err fault.Memory) = (bytes_of bs ≡ G.size disk) × ((shape : Shape) × IsOpened shape)
+  AnswersLoad bs queue options (Err fault.Accounts) = (bytes_of bs ≡ G.size disk) × ((shape : Shape) × IsOpened shape)
   AnswersLoad bs queue options (Ok ended) =
-      (bytes_of bs ≡ size disk) × ((shape : Shape) × IsOpened shape × Loads shape queue options.threads ended.0) × EndsCheckpoint options.checkpoint ended.0.checkpoint
+      (bytes_of bs ≡ G.size disk) × ((shape : Shape) × IsOpened shape × Loads shape queue options.threads ended.0) × EndsCheckpoint options.checkpoint ended.0.checkpoint

@@ -41,7 +41,8 @@ const PARTS: u64 = (1 << 61) + 1;
 ///
 /// # Errors
 /// - `BlockSize` where the block size of the queue is not the disk's.
-/// - `Open` where the journal was not opened.
+/// - `Open` where the journal was not opened. The disk is lost: what is said of it holds of some disk that this one has
+///   become.
 /// - `Memory` where there was none for the desk or a thread's answer; handles may have been committed then.
 /// - `Accounts` where the desk's sums do not agree, its journal has another shape, or its trail was taken, which cannot
 ///   happen.
@@ -59,19 +60,18 @@ pub fn load_on<
     options: LoadOptions,
 ) -> Result<(Loaded, D), LoadFault>
     requires threads { (1 ≤ options.threads) × (options.threads ≤ 64) }
-    requires begun { IsBegunOn D.size D.count D.faults D.honest D.newest D.moment D.left_since H.begun disk }
+    requires begun { IsBegunOn D.Disk H.begun disk }
     requires words { MayStop H.begun (handles_of queue.now) }
-    ensures answers { AnswersLoad D.size D.count D.faults D.honest D.newest disk queue.now.bs (handles_of queue.now)
-        options result }
-    ensures since { IfOk result (λ ended. LoadsSince D.size D.count D.faults D.honest D.newest D.may_leave D.moment
-        D.left_since H.begun disk (handles_of queue.now) options.threads ended.0 ended.1) }
+    ensures answers { AnswersLoad D.Disk disk queue.now.bs (handles_of queue.now) options result }
+    ensures since { IfOk result (λ ended. LoadsSince D.Disk H.begun disk (handles_of queue.now) options.threads ended.0
+        ended.1) }
 {
     if queue.bs.bytes() != disk.block_size().bytes() {
         return Err(LoadFault::BlockSize);
     }
     let deck = match open::<D, H>(alloc, disk) {
         Ok(deck) => deck,
-        Err(fault) => return Err(LoadFault::Open(fault)),
+        Err((_, fault)) => return Err(LoadFault::Open(fault)),
     };
     let shape = deck.shape();
     let Ok(handles) = Stops::new(alloc, PARTS) else {
@@ -86,20 +86,16 @@ pub fn load_on<
     )
 }
 
-/// Opens the journal on the disk of the start.
-fn open<D: Disk + Drop, H: Origin>(alloc: Global, disk: D) -> Result<Deck<D>, OpenFault>
-    requires { IsBegunOn D.size D.count D.faults D.honest D.newest D.moment D.left_since H.begun disk }
+/// Opens the journal on the disk of the start. Where it is not opened the disk is given back.
+fn open<D: Disk, H: Origin>(alloc: Global, disk: D) -> Result<Deck<D>, (D, OpenFault)>
+    requires { IsBegunOn D.Disk H.begun disk }
     ensures opened { IfOk result (λ deck. (shape : ShapeValue) → IsShapeOf deck.log.sb (D.count deck.disk) shape
-        → IsOpened D.size D.count D.faults D.honest D.newest disk shape) }
+        → IsOpened D.Disk disk shape) }
     ensures new { IfOk result (λ deck. (deck.trail ≡ []) × (deck.aborted ≡ false)) }
-    ensures since { IfOk result (λ deck. IsSince D.size D.count D.faults D.honest D.newest D.may_leave D.moment
-        D.left_since H.begun deck) }
-    ensures refused { IfErr result (NotOpened D.size D.count D.faults D.honest D.newest disk) }
+    ensures since { IfOk result (λ deck. IsSince D.Disk H.begun deck) }
+    ensures refused { IfErr result (λ back. NotOpened D.Disk disk back.0 back.1) }
 {
-    match Deck::open(alloc, disk) {
-        Ok(deck) => Ok(deck),
-        Err((_, fault)) => Err(fault),
-    }
+    Deck::open(alloc, disk)
 }
 
 /// Runs the handles of a queue at a desk over a journal that was just opened. The desk's ledgers are `handles`, with
@@ -127,11 +123,11 @@ fn load_open<
     requires changes { (changes.name ≡ N.name) × (changes.parts ≡ N.parts) × (N.parts ≡ 2 ^ 61 + 1) }
     requires marks { history_id marks ≡ H.marks }
     requires deck { (deck.trail ≡ []) × (deck.aborted ≡ false) × (deck.shape ≡ shape) }
-    requires begun { IsSince D.size D.count D.faults D.honest D.newest D.may_leave D.moment D.left_since H.begun deck }
+    requires begun { IsSince D.Disk H.begun deck }
     requires queue { (1 ≤ options.threads) × (options.threads ≤ 64) × MayStop H.begun (handles_of queue.now) }
     ensures ended { IfOk result (λ ended. EndsCheckpoint options.checkpoint ended.0.checkpoint) }
-    ensures since { IfOk result (λ ended. LoadedSince D.size D.count D.faults D.honest D.newest D.may_leave D.moment
-        D.left_since H.begun shape (handles_of queue.now) options.threads ended.0 ended.1) }
+    ensures since { IfOk result (λ ended. LoadedSince D.Disk H.begun shape (handles_of queue.now) options.threads
+        ended.0 ended.1) }
     ensures faults { IfErr result (λ fault. (fault ≡ OutOfMemory) ⊎ (fault ≡ Accounts)) }
 {
     let Ok(desk) = Desk::<D, C, H, N>::start(alloc, handles, changes, marks, deck, clock) else {
@@ -154,8 +150,8 @@ fn load_at<D: SharedDisk, C: SharedClock, R: Runtime, H: SharedOrigin, N: Shared
     requires shape { shape_in desk ≡ shape }
     requires words { MayStop H.begun (handles_of queue.now) }
     ensures ended { IfOk result (λ ended. EndsCheckpoint options.checkpoint ended.0.checkpoint) }
-    ensures since { IfOk result (λ ended. LoadedSince D.size D.count D.faults D.honest D.newest D.may_leave D.moment
-        D.left_since H.begun shape (handles_of queue.now) options.threads ended.0 ended.1) }
+    ensures since { IfOk result (λ ended. LoadedSince D.Disk H.begun shape (handles_of queue.now) options.threads
+        ended.0 ended.1) }
     ensures faults { IfErr result (λ fault. (fault ≡ OutOfMemory) ⊎ (fault ≡ Accounts)) }
 {
     let room = Gathered::with_room(alloc, options.threads + 1)?;

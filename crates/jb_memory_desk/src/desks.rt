@@ -92,7 +92,7 @@ fn start<H: Origin, N: Ledger>(
     marks: Opened<Deck<MemoryDisk>>,
     deck: Deck<MemoryDisk>,
 ) -> Result<Small<H, N>, Parts>
-    requires blind { H.begun.honest → ⊥ }
+    requires blind { H.begun.is_known → ⊥ }
     requires handles { (handles.tickets.name ≡ H.name) × (handles.tickets.parts ≡ H.parts) × (H.parts ≡ 2 ^ 61 + 1) }
     requires histories { (history_in handles ≡ H.history) × (history_id marks ≡ H.marks) }
     requires changes { (changes.name ≡ N.name) × (changes.parts ≡ N.parts) × (N.parts ≡ 2 ^ 61 + 1) }
@@ -110,7 +110,7 @@ pub fn started<H: Origin, N: Ledger>(
     changes: Blank,
     marks: Opened<Deck<MemoryDisk>>,
 ) -> Result<Small<H, N>, Wrong>
-    requires blind { H.begun.honest → ⊥ }
+    requires blind { H.begun.is_known → ⊥ }
     requires handles { (handles.tickets.name ≡ H.name) × (handles.tickets.parts ≡ H.parts) × (H.parts ≡ 2 ^ 61 + 1) }
     requires histories { (history_in handles ≡ H.history) × (history_id marks ≡ H.marks) }
     requires changes { (changes.name ≡ N.name) × (changes.parts ≡ N.parts) × (N.parts ≡ 2 ^ 61 + 1) }
@@ -129,7 +129,7 @@ pub fn start_row<R: Files<File = File> + Wait, H: Origin, N: Ledger>(
     changes: Blank,
     marks: Opened<Deck<MemoryDisk>>,
 ) -> Result<Met, Wrong>
-    requires blind { H.begun.honest → ⊥ }
+    requires blind { H.begun.is_known → ⊥ }
     requires handles { (handles.tickets.name ≡ H.name) × (handles.tickets.parts ≡ H.parts) × (H.parts ≡ 2 ^ 61 + 1) }
     requires histories { (history_in handles ≡ H.history) × (history_id marks ≡ H.marks) }
     requires changes { (changes.name ≡ N.name) × (changes.parts ≡ N.parts) × (N.parts ≡ 2 ^ 61 + 1) }

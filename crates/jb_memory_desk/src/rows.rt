@@ -105,7 +105,7 @@ fn run_row<
     changes: Blank,
     marks: Opened<Deck<MemoryDisk>>,
 ) -> Result<Met, Wrong>
-    requires blind { H.begun.honest → ⊥ }
+    requires blind { H.begun.is_known → ⊥ }
     requires any { (words : WordMap) → H.begun.stops words }
     requires handles { (handles.tickets.name ≡ H.name) × (handles.tickets.parts ≡ H.parts) × (H.parts ≡ 2 ^ 61 + 1) }
     requires histories { (history_in handles ≡ H.history) × (history_id marks ≡ H.marks) }

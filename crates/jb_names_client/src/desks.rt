@@ -62,7 +62,7 @@ fn started<H: Origin, N: Ledger>(
     changes: Blank,
     marks: Opened<Deck<MemoryDisk>>,
 ) -> Small<H, N>
-    requires blind { H.begun.honest → ⊥ }
+    requires blind { H.begun.is_known → ⊥ }
     requires handles { (handles.tickets.name ≡ H.name) × (handles.tickets.parts ≡ H.parts) × (H.parts ≡ 2 ^ 61 + 1) }
     requires histories { (history_in handles ≡ H.history) × (history_id marks ≡ H.marks) }
     requires changes { (changes.name ≡ N.name) × (changes.parts ≡ N.parts) × (N.parts ≡ 2 ^ 61 + 1) }
@@ -80,7 +80,7 @@ fn start<H: Origin, N: Ledger>(
     marks: Opened<Deck<MemoryDisk>>,
     deck: Deck<MemoryDisk>,
 ) -> Small<H, N>
-    requires blind { H.begun.honest → ⊥ }
+    requires blind { H.begun.is_known → ⊥ }
     requires handles { (handles.tickets.name ≡ H.name) × (handles.tickets.parts ≡ H.parts) × (H.parts ≡ 2 ^ 61 + 1) }
     requires histories { (history_in handles ≡ H.history) × (history_id marks ≡ H.marks) }
     requires changes { (changes.name ≡ N.name) × (changes.parts ≡ N.parts) × (N.parts ≡ 2 ^ 61 + 1) }
@@ -288,7 +288,7 @@ pub fn check_desks<R: Abort + Wait, H: Origin, N: Ledger>(
     changes: Blank,
     marks: Opened<Deck<MemoryDisk>>,
 )
-    requires blind { H.begun.honest → ⊥ }
+    requires blind { H.begun.is_known → ⊥ }
     requires any { (words : WordMap) → H.begun.stops words }
     requires handles { (handles.tickets.name ≡ H.name) × (handles.tickets.parts ≡ H.parts) × (H.parts ≡ 2 ^ 61 + 1) }
     requires histories { (history_in handles ≡ H.history) × (history_id marks ≡ H.marks) }

@@ -1,23 +1,23 @@
-ghost use Rattle.std.specs.Prelude.{◌≡◌, []};
+ghost use Rattle.std.specs.Prelude.{◌≡◌, false};
 
 use crate::pair::PairDisk;
 use jb_block::BlockSize;
 use jb_disk::{Disk, Fault, FileDisk};
 use jb_extents::ExtentsDisk;
 
-/// The disk that an image in files is: one file with the journal and the home blocks, or a file with each; or one whose
-/// home blocks are all of its blocks, some of which hold the journal.
+/// The disk that an image is: one disk with the journal and the home blocks, or one for each; or one whose home blocks
+/// are all of its blocks, some of which hold the journal. Of an image in files, each of them is a file.
 #[derive(Drop)]
-pub enum ImageDisk {
-    /// The journal at the front of a file, and the home blocks after it.
-    One(FileDisk),
-    /// The journal in a file of its own, and the home blocks in another.
-    Two(PairDisk<FileDisk, FileDisk>),
-    /// The journal in extents of the file that has the home blocks.
-    Within(ExtentsDisk<FileDisk>),
+pub enum ImageDisk<D: Disk = FileDisk, E: Disk = FileDisk> {
+    /// The journal at the front of a disk, and the home blocks after it.
+    One(D),
+    /// The journal on a disk of its own, and the home blocks on another.
+    Two(PairDisk<E, D>),
+    /// The journal in extents of the disk that has the home blocks.
+    Within(ExtentsDisk<D>),
 }
 
-impl ImageDisk {
+impl<D: Disk, E: Disk> ImageDisk<D, E> {
     ghost use Rattle.std.specs.Prelude.{◌≡◌};
     ghost use Rattle.jb_pair.specs.Images.{is_within, own_home};
 
@@ -39,43 +39,50 @@ impl ImageDisk {
     }
 }
 
-/// No contract says what a file holds: of the contents nothing is promised, as of a `FileDisk`.
-impl Disk for ImageDisk {
-    ghost use Rattle.jb_pair.specs.Images.{image_count, image_faults, image_size, has_image_size, ImageCalled};
+/// What it holds is said where each of its disks is honest: it is the disk, the pair or the disk with the journal in
+/// extents that it was made of, to which each call is passed on.
+impl<D: Disk, E: Disk> Disk for ImageDisk<D, E> {
+    ghost use Rattle.jb_pair.specs.Bound.{members};
+    ghost use Rattle.jb_pair.specs.Images.{image_count, image_faults, image_moment, image_newest, image_size};
+    ghost use Rattle.jb_pair.specs.Images.{IsHonestImage, ImageCalled, ImageLeaves, ImageLeft};
+    ghost use Rattle.jb_pair.specs.Images as images;
 
-    ghost size = { λ d. image_size d };
+    ghost size = { image_size D.Disk E.Disk };
 
-    ghost count = { λ d. image_count d };
+    ghost count = { image_count D.Disk E.Disk };
 
-    ghost faults = { λ d. image_faults d };
+    ghost faults = { image_faults D.Disk E.Disk };
 
-    ghost honest = { λ _. ⊥ };
+    ghost honest = { IsHonestImage D.Disk E.Disk };
 
-    ghost newest = { λ _. [] };
+    ghost newest = { image_newest D.Disk E.Disk };
 
-    ghost may_leave = { λ _ _. ⊥ };
+    ghost may_leave = { ImageLeaves D.Disk E.Disk };
 
-    ghost moment = { λ _. 0 };
+    ghost moment = { image_moment D.Disk E.Disk };
 
-    ghost left_since = { λ _ _ _. ⊥ };
+    ghost left_since = { ImageLeft D.Disk E.Disk };
 
-    ghost own = { λ call old new ok. ImageCalled call old new ok };
+    ghost own = { ImageCalled D.Disk E.Disk };
 
-    ghost has_size = { λ d. has_image_size d };
+    ghost runs_as_calls = { false };
 
-    ghost newest_may_stay = { λ _ honest. absurd honest };
+    ghost has_size = { λ d. images.has_image_size (members D.Disk) (members E.Disk) D.has_size E.has_size d };
 
-    ghost has_shape = { λ _ _ honest _. absurd honest };
+    ghost newest_may_stay = { λ d honest. images.newest_may_stay (members D.Disk) (members E.Disk) D.newest_may_stay E.newest_may_stay d honest };
 
-    ghost has_shape_since = { λ _ _ _ honest _. absurd honest };
+    ghost has_shape = { λ d c honest left. images.has_image_shape (members D.Disk) (members E.Disk) D.has_shape E.has_shape d c honest left };
 
-    ghost counts_now = { λ _ _ _ honest _ _. absurd honest };
+    ghost has_shape_since = { λ d t c honest left. images.has_shape_since (members D.Disk) (members E.Disk) D.has_shape_since d t c honest left };
 
-    ghost only_now = { λ _ _ honest _. absurd honest };
+    ghost counts_now = { λ d t c honest earlier left.
+        images.counts_now (members D.Disk) (members E.Disk) D.counts_now D.has_shape E.has_shape d t c honest earlier left };
+
+    ghost only_now = { λ d c honest left. images.only_now (members D.Disk) (members E.Disk) D.only_now d c honest left };
 
     fn block_size(&self) -> BlockSize {
         match self {
-            ImageDisk::One(file) => file.block_size(),
+            ImageDisk::One(disk) => disk.block_size(),
             ImageDisk::Two(pair) => pair.block_size(),
             ImageDisk::Within(disk) => disk.block_size(),
         }
@@ -83,7 +90,7 @@ impl Disk for ImageDisk {
 
     fn blocks(&self) -> u64 {
         match self {
-            ImageDisk::One(file) => file.blocks(),
+            ImageDisk::One(disk) => disk.blocks(),
             ImageDisk::Two(pair) => pair.blocks(),
             ImageDisk::Within(disk) => disk.blocks(),
         }
@@ -91,7 +98,7 @@ impl Disk for ImageDisk {
 
     fn read(&mut self, place: u64, buf: &mut [u8]) -> Result<(), Fault> {
         match self {
-            ImageDisk::One(file) => file.read(place, buf),
+            ImageDisk::One(disk) => disk.read(place, buf),
             ImageDisk::Two(pair) => pair.read(place, buf),
             ImageDisk::Within(disk) => disk.read(place, buf),
         }
@@ -99,7 +106,7 @@ impl Disk for ImageDisk {
 
     fn read_run(&mut self, place: u64, blocks: usize, buf: &mut [u8]) -> Result<(), Fault> {
         match self {
-            ImageDisk::One(file) => file.read_run(place, blocks, buf),
+            ImageDisk::One(disk) => disk.read_run(place, blocks, buf),
             ImageDisk::Two(pair) => pair.read_run(place, blocks, buf),
             ImageDisk::Within(disk) => disk.read_run(place, blocks, buf),
         }
@@ -107,7 +114,7 @@ impl Disk for ImageDisk {
 
     fn write(&mut self, place: u64, bytes: &[u8]) -> Result<(), Fault> {
         match self {
-            ImageDisk::One(file) => file.write(place, bytes),
+            ImageDisk::One(disk) => disk.write(place, bytes),
             ImageDisk::Two(pair) => pair.write(place, bytes),
             ImageDisk::Within(disk) => disk.write(place, bytes),
         }
@@ -115,7 +122,7 @@ impl Disk for ImageDisk {
 
     fn write_run(&mut self, place: u64, blocks: usize, bytes: &[u8]) -> Result<(), Fault> {
         match self {
-            ImageDisk::One(file) => file.write_run(place, blocks, bytes),
+            ImageDisk::One(disk) => disk.write_run(place, blocks, bytes),
             ImageDisk::Two(pair) => pair.write_run(place, blocks, bytes),
             ImageDisk::Within(disk) => disk.write_run(place, blocks, bytes),
         }
@@ -123,7 +130,7 @@ impl Disk for ImageDisk {
 
     fn sync(&mut self) -> Result<(), Fault> {
         match self {
-            ImageDisk::One(file) => file.sync(),
+            ImageDisk::One(disk) => disk.sync(),
             ImageDisk::Two(pair) => pair.sync(),
             ImageDisk::Within(disk) => disk.sync(),
         }

@@ -3,6 +3,7 @@
 
 mod image;
 mod pair;
+mod past;
 
 pub use image::ImageDisk;
 pub use pair::PairDisk;

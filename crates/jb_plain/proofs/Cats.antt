@@ -18,6 +18,7 @@ use Rattle.jb_plain.specs.Lines.{upto}
 use Rattle.jb_plain.specs.Faults.{peek_fault}
 use Rattle.jb_plain.specs.declared.fault.CommandFault.{CommandFault}
 use Rattle.jb_plain.specs.declared.fault.CommandFault.TheVariants.{Memory, WriteFault}
+use Rattle.jb_disk.specs.declared.disk.Disk.{Ghosts as Disks}
 
 -- nothing is written
 appends-none : (out : Option (List ℕ)) → Appends out out []
@@ -50,14 +51,14 @@ unpeeked-by size count c home before after (peeking.Super fault) told = told.0
 unpeeked-by size count c home before after (peeking.BadRevoke at) told = told.0
 unpeeked-by size count c home before after (peeking.HomeOutOfRange other) told = told.0
 
-module _ {D : Type 0} (size count : D → ℕ) (honest : D → Type 0) (newest : D → Image) (first : ℕ) (hex : Bool) where
+module _ {D : Type 0} (G : Disks D) (first : ℕ) (hex : Bool) where
   -- so many blocks are written, and the next one has this offset
   pub record Catting (old now : D) (out_old out_now : Option (List ℕ)) (i at : ℕ) : Type 0 where
     pub blocks : List (List ℕ)
     pub done : length blocks ≡ i
-    pub kept : Kept size count honest old now
-    pub same : honest old → newest now ≡ newest old
-    pub peeked : honest old → ArePeeked (size old) (count old) (newest old) first blocks
+    pub kept : Kept G.size G.count G.honest old now
+    pub same : G.honest now → G.newest now ≡ G.newest old
+    pub peeked : G.honest now → ArePeeked (G.size old) (G.count old) (G.newest old) first blocks
     pub offset : at ≡ offset_after 0 blocks
     pub text : Appends out_old out_now (blocks_text hex 0 blocks)
 
@@ -65,48 +66,51 @@ module _ {D : Type 0} (size count : D → ℕ) (honest : D → Type 0) (newest :
   catting-start old out = record {
     blocks = [];
     done = refl;
-    kept = kept_same size count honest old;
+    kept = kept_same G.size G.count G.honest old;
     same = λ held. refl;
     peeked = λ held k within. absurd (let h : ⊥ = omega (arith, within) in h);
     offset = refl;
     text = appends-none out;
   }
 
-  module _ (old now next : D) (out_old out_now : Option (List ℕ)) (i at : ℕ) (state : Catting old now out_old out_now i at) (kept : Kept size count honest now next) (same : honest now → newest next ≡ newest now) where
-    kept-next : Kept size count honest old next
-    kept-next = kept_on size count honest old now next state.kept kept
+  module _ (old now next : D) (out_old out_now : Option (List ℕ)) (i at : ℕ) (state : Catting old now out_old out_now i at) (kept : Kept G.size G.count G.honest now next) (same : G.honest next → G.newest next ≡ G.newest now) where
+    kept-next : Kept G.size G.count G.honest old next
+    kept-next = kept_on G.size G.count G.honest old now next state.kept kept
 
-    same-next : honest old → newest next ≡ newest old
-    same-next held = same (state.kept.stays_honest held) ∙ state.same held
+    same-next : G.honest next → G.newest next ≡ G.newest old
+    same-next held = same held ∙ state.same (kept.was_honest held)
+
+    peeked-still : G.honest next → ArePeeked (G.size old) (G.count old) (G.newest old) first state.blocks
+    peeked-still held = state.peeked (kept.was_honest held)
 
     -- what is known of a peek on the disk as it is now is known of it as it was
-    as-before : (P : ℕ → ℕ → Image → Type 0) → (honest now → P (size now) (count now) (newest now)) → honest old → P (size old) (count old) (newest old)
+    as-before : (P : ℕ → ℕ → Image → Type 0) → (G.honest next → P (G.size now) (G.count now) (G.newest now)) → G.honest next → P (G.size old) (G.count old) (G.newest old)
     as-before P told held =
-        subst (λ s. P s (count old) (newest old)) state.kept.same_size
-        (subst (λ n. P (size now) n (newest old)) state.kept.same_count
-        (subst (P (size now) (count now)) (state.same held) (told (state.kept.stays_honest held))))
+        subst (λ s. P s (G.count old) (G.newest old)) state.kept.same_size
+        (subst (λ n. P (G.size now) n (G.newest old)) state.kept.same_count
+        (subst (P (G.size now) (G.count now)) (state.same (kept.was_honest held)) (told held)))
 
     -- there was no memory for the block
-    pub cats-starved : (homes : Option ℕ) (n : ℕ) → i < n → CatsOn size count honest newest homes first n hex old next out_old out_now (Err Memory)
+    pub cats-starved : (homes : Option ℕ) (n : ℕ) → i < n → CatsOn G homes first n hex old next out_old out_now (Err Memory)
     cats-starved homes n more = record {
       blocks = state.blocks;
       kept = kept-next;
       same = same-next;
-      peeked = state.peeked;
+      peeked = peeked-still;
       told = inr (inl (refl, let done = state.done in omega (arith, more, done), state.text));
     }
 
-    module _ (bytes : List ℕ) (told : honest now → (peek_refusal (size now) (count now) (newest now) (home_at first i) ≡ None) × IsPeeked (size now) (count now) (newest now) (home_at first i) bytes) where
+    module _ (bytes : List ℕ) (told : G.honest next → (peek_refusal (G.size now) (G.count now) (G.newest now) (home_at first i) ≡ None) × IsPeeked (G.size now) (G.count now) (G.newest now) (home_at first i) bytes) where
       abbrev more : List (List ℕ)
       more = state.blocks ++ bytes ∷ []
 
       one_more : length more ≡ i + 1
       one_more = let len = length-append state.blocks (bytes ∷ []) in let done = state.done in omega (arith, len, done)
 
-      peeked-next : honest old → ArePeeked (size old) (count old) (newest old) first more
+      peeked-next : G.honest next → ArePeeked (G.size old) (G.count old) (G.newest old) first more
       peeked-next held =
-          peeked-more (size old) (count old) (newest old) first state.blocks bytes (state.peeked held)
-          (subst (λ k. (peek_refusal (size old) (count old) (newest old) (home_at first k) ≡ None) × IsPeeked (size old) (count old) (newest old) (home_at first k) bytes) (sym state.done)
+          peeked-more (G.size old) (G.count old) (G.newest old) first state.blocks bytes (peeked-still held)
+          (subst (λ k. (peek_refusal (G.size old) (G.count old) (G.newest old) (home_at first k) ≡ None) × IsPeeked (G.size old) (G.count old) (G.newest old) (home_at first k) bytes) (sym state.done)
           (as-before (λ s n c. (peek_refusal s n c (home_at first i) ≡ None) × IsPeeked s n c (home_at first i) bytes) told held))
 
       text-next : blocks_text hex 0 more ≡ blocks_text hex 0 state.blocks ++ block_text hex at bytes
@@ -124,7 +128,7 @@ module _ {D : Type 0} (size count : D → ℕ) (honest : D → Type 0) (newest :
       }
 
       -- the block was written in part
-      pub cats-cut : (homes : Option ℕ) (n : ℕ) (out_next : Option (List ℕ)) → PutsPart out_now out_next (block_text hex at bytes) → CatsOn size count honest newest homes first n hex old next out_old out_next (Err WriteFault)
+      pub cats-cut : (homes : Option ℕ) (n : ℕ) (out_next : Option (List ℕ)) → PutsPart out_now out_next (block_text hex at bytes) → CatsOn G homes first n hex old next out_old out_next (Err WriteFault)
       cats-cut homes n out_next part = record {
         blocks = more;
         kept = kept-next;
@@ -134,25 +138,25 @@ module _ {D : Type 0} (size count : D → ℕ) (honest : D → Type 0) (newest :
       }
 
       -- the block was not written whole
-      pub cats-stopped : (homes : Option ℕ) (n : ℕ) (out_next : Option (List ℕ)) (fault : CommandFault) (end : Result ℕ CommandFault) → end ≡ Err fault → i < n → PutsText (block_text hex at bytes) out_now out_next (Err fault) → CatsOn size count honest newest homes first n hex old next out_old out_next end
-      cats-stopped homes n out_next WriteFault end is more puts = subst (CatsOn size count honest newest homes first n hex old next out_old out_next) (sym is) (cats-cut homes n out_next puts)
+      pub cats-stopped : (homes : Option ℕ) (n : ℕ) (out_next : Option (List ℕ)) (fault : CommandFault) (end : Result ℕ CommandFault) → end ≡ Err fault → i < n → PutsText (block_text hex at bytes) out_now out_next (Err fault) → CatsOn G homes first n hex old next out_old out_next end
+      cats-stopped homes n out_next WriteFault end is more puts = subst (CatsOn G homes first n hex old next out_old out_next) (sym is) (cats-cut homes n out_next puts)
       cats-stopped homes n out_next Memory end is more puts =
-          subst (CatsOn size count honest newest homes first n hex old next out_old out_next) (sym is)
-          (subst (λ o. CatsOn size count honest newest homes first n hex old next out_old o (Err Memory)) (sym puts) (cats-starved homes n more))
+          subst (CatsOn G homes first n hex old next out_old out_next) (sym is)
+          (subst (λ o. CatsOn G homes first n hex old next out_old o (Err Memory)) (sym puts) (cats-starved homes n more))
       cats-stopped homes n out_next _ end is more puts = absurd puts
 
     -- the peek was refused
-    pub cats-refused : (homes : Option ℕ) (n : ℕ) (stop : PeekFault) → i < n → (honest now → IsUnpeeked (size now) (count now) (newest now) (home_at first i) stop) → CatsOn size count honest newest homes first n hex old next out_old out_now (Err (peek_fault homes stop))
+    pub cats-refused : (homes : Option ℕ) (n : ℕ) (stop : PeekFault) → i < n → (G.honest next → IsUnpeeked (G.size now) (G.count now) (G.newest now) (home_at first i) stop) → CatsOn G homes first n hex old next out_old out_now (Err (peek_fault homes stop))
     cats-refused homes n stop more told = record {
       blocks = state.blocks;
       kept = kept-next;
       same = same-next;
-      peeked = state.peeked;
-      told = inr (inr (stop, refl, let done = state.done in omega (arith, more, done), λ held. subst (λ k. IsUnpeeked (size old) (count old) (newest old) (home_at first k) stop) (sym state.done) (as-before (λ s c b. IsUnpeeked s c b (home_at first i) stop) told held), state.text));
+      peeked = peeked-still;
+      told = inr (inr (stop, refl, let done = state.done in omega (arith, more, done), λ held. subst (λ k. IsUnpeeked (G.size old) (G.count old) (G.newest old) (home_at first k) stop) (sym state.done) (as-before (λ s c b. IsUnpeeked s c b (home_at first i) stop) told held), state.text));
     }
 
   -- all blocks are written
-  pub cats-done : (homes : Option ℕ) (n at : ℕ) (old now : D) (out_old out_now : Option (List ℕ)) → Catting old now out_old out_now n at → CatsOn size count honest newest homes first n hex old now out_old out_now (Ok 0)
+  pub cats-done : (homes : Option ℕ) (n at : ℕ) (old now : D) (out_old out_now : Option (List ℕ)) → Catting old now out_old out_now n at → CatsOn G homes first n hex old now out_old out_now (Ok 0)
   cats-done homes n at old now out_old out_now state = record {
     blocks = state.blocks;
     kept = state.kept;

@@ -13,6 +13,7 @@ use Rattle.jb_plain.specs.Faults.{peek_fault}
 use Rattle.jb_plain.specs.Lines.{upto}
 use Rattle.jb_plain.specs.declared.fault.CommandFault.{CommandFault}
 use Rattle.jb_plain.specs.declared.fault.CommandFault.TheVariants.{Memory, WriteFault}
+use Rattle.jb_disk.specs.declared.disk.Disk.{Ghosts as Disks}
 
 -- ---- the text of a block
 
@@ -84,11 +85,11 @@ TellsHomes IsRefused homes n done text out_old out_new (Err fault) =
     ⊎ ((stop : PeekFault) × (fault ≡ peek_fault homes stop) × (done < n) × IsRefused stop × Appends out_old out_new text))
 
 -- the homes of a disk from the first one on were peeked at and written, as many as were asked for, or up to a fault; the disk's content stays
-pub record CatsOn {D : Type 0} (size count : D → ℕ) (honest : D → Type 0) (newest : D → Image) (homes : Option ℕ) (first n : ℕ) (hex : Bool) (old new : D)
+pub record CatsOn {D : Type 0} (G : Disks D) (homes : Option ℕ) (first n : ℕ) (hex : Bool) (old new : D)
     (out_old out_new : Option (List ℕ)) (end : Result ℕ CommandFault) : Type 0 where
   pub blocks : List (List ℕ)
-  pub kept : Kept size count honest old new
-  pub same : honest old → newest new ≡ newest old
-  pub peeked : honest old → ArePeeked (size old) (count old) (newest old) first blocks
-  pub told : TellsHomes (λ stop. honest old → IsUnpeeked (size old) (count old) (newest old) (home_at first (length blocks)) stop) homes n (length blocks)
+  pub kept : Kept G.size G.count G.honest old new
+  pub same : G.honest new → G.newest new ≡ G.newest old
+  pub peeked : G.honest new → ArePeeked (G.size old) (G.count old) (G.newest old) first blocks
+  pub told : TellsHomes (λ stop. G.honest new → IsUnpeeked (G.size old) (G.count old) (G.newest old) (home_at first (length blocks)) stop) homes n (length blocks)
       (blocks_text hex 0 blocks) out_old out_new end

@@ -11,6 +11,7 @@ use Rattle.jb_front.specs.declared.change.Widened.{Widened}
 use Rattle.jb_plain.specs.Said.{TellsLine}
 use Rattle.jb_plain.specs.Faults.{change_fault}
 use Rattle.jb_plain.specs.declared.fault.CommandFault.{CommandFault}
+use Rattle.jb_disk.specs.declared.disk.Disk.{Ghosts as Disks}
 
 -- the line of a renumbering
 abbrev pub renumbered_line : Renumbered → List ℕ
@@ -29,15 +30,14 @@ TellsChange line (Err fault) out_old out_new end = (end ≡ Err (change_fault fa
 
 -- a clean journal on the disk was changed, as the clauses of the change say of its answer, and that answer is reported: what the
 -- change does, which images a crash in its midst may leave, and which end in the same image where it is called again
-pub record ChangesOn {D T : Type 0} (size count faults : D → ℕ) (honest : D → Type 0) (newest : D → Image) (may_leave : D → Image → Type 0)
-    (moment : D → ℕ) (left_since : D → ℕ → Image → Type 0)
+pub record ChangesOn {D T : Type 0} (G : Disks D)
     (Does : ℕ → ℕ → Image → Image → Result T ChangeFault → Type 0) (IsMidst EndsAlike : ℕ → ℕ → Image → Image → Type 0) (line : T → List ℕ)
     (old new : D) (out_old out_new : Option (List ℕ)) (end : Result ℕ CommandFault) : Type 0 where
   pub answer : Result T ChangeFault
-  pub kept : Kept size count honest old new
-  pub fault_count : ChangeFaults answer (faults old) (faults new)
-  pub done : honest old → Does (size old) (count old) (newest old) (newest new) answer
-  pub crash : honest old → LeavesOnly moment left_since old new (λ c. may_leave old c ⊎ IsMidst (size old) (count old) (newest old) c)
-  pub again : honest old → EndsAlike (size old) (count old) (newest old) (newest new)
-  pub durable : honest old → OnOk answer (Only (newest new) (may_leave new))
+  pub kept : Kept G.size G.count G.honest old new
+  pub fault_count : ChangeFaults answer (G.faults old) (G.faults new)
+  pub done : G.honest new → Does (G.size old) (G.count old) (G.newest old) (G.newest new) answer
+  pub crash : G.honest new → LeavesOnly G.moment G.left_since old new (λ c. G.may_leave old c ⊎ IsMidst (G.size old) (G.count old) (G.newest old) c)
+  pub again : G.honest new → EndsAlike (G.size old) (G.count old) (G.newest old) (G.newest new)
+  pub durable : G.honest new → OnOk answer (Only (G.newest new) (G.may_leave new))
   pub told : TellsChange line answer out_old out_new end

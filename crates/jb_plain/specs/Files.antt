@@ -2,9 +2,9 @@
 use Rattle.std.specs.Prelude.{◌≡◌, ◌≢◌, ◌⊎◌, ◌<◌, ℕ, ⊤, List, [], Option, Some, None, Result, Ok, Err}
 use Rattle.hex.specs.Hex.{decode_of}
 use Rattle.jb_block.specs.Size.{bytes_of}
-use Rattle.jb_disk.specs.File.{count_of, faults_of, size_of}
-use Rattle.jb_disk.specs.declared.file.FileDisk.{FileDisk}
+use Rattle.jb_disk.specs.File.{UnknownFile, count_of, faults_of, size_of}
 use Rattle.jb_disk.specs.Image.{Image}
+use Rattle.jb_disk.specs.declared.disk.Disk.{Ghosts as Disks}
 use Rattle.jb_front.specs.declared.change.ChangeFault.{ChangeFault}
 use Rattle.jb_front.specs.declared.fault.FormatFault.{FormatFault}
 use Rattle.jb_front.specs.declared.fault.FormatFault.TheVariants.{Geometry as NoRoom}
@@ -16,9 +16,8 @@ use Rattle.jb_front.specs.Widening.{IsWidened, Widens, WidensAs}
 use Rattle.jb_super.specs.Faults.{super_in}
 use Rattle.jb_super.specs.Superblock.{Superblock}
 use Rattle.jb_words.specs.Named.{Options}
-use Rattle.jb_pair.specs.Images.{image_count, image_faults, image_size}
+use Rattle.jb_pair.specs.Files.{FileImage, as_file, as_image}
 use Rattle.jb_pair.specs.Pair.{back_disk, front_disk}
-use Rattle.jb_pair.specs.declared.image.ImageDisk.{ImageDisk}
 use Rattle.jb_pair.specs.declared.image.ImageDisk.TheVariants.{One, Two, Within}
 use Rattle.jb_plain.specs.Change.{ChangesOn, renumbered_line, widened_line}
 use Rattle.jb_plain.specs.Format.{FormatsOn}
@@ -38,21 +37,25 @@ IsUnmade name o _ = ⊥
 
 -- a journal was formatted on a file of the blocks that were asked for, with this answer: it was made, or a call of the file failed
 pub record HasFormatted (g : Geometry) (answer : Result Unit FormatFault) : Type 0 where
-  pub old : FileDisk
-  pub new : FileDisk
+  pub old : UnknownFile
+  pub new : UnknownFile
   pub formatted : IsFormatted g old new answer
   pub room : answer ≢ Err NoRoom
+
+-- a file as a disk of whose contents nothing is said
+abbrev pub unread_file : Disks UnknownFile
+unread_file = record as_file { honest = λ _. ⊥ }
 
 -- the journal that the options ask for was made at the front of a file with their block size. No clause says what a file
 -- holds: of its content nothing follows
 pub record FormatsFile (o : Options) (out_old out_new : Option (List ℕ)) (end : Result ℕ CommandFault) : Type 0 where
-  pub old : FileDisk
-  pub new : FileDisk
+  pub old : UnknownFile
+  pub new : UnknownFile
   pub uuid : List ℕ
   pub journal : IsJournalLength o.journal
   pub size : bytes_of (size_of old) ≡ o.bs
   pub digits : decode_of o.uuid ≡ Ok uuid
-  pub formats : FormatsOn (λ (f : FileDisk). bytes_of (size_of f)) count_of faults_of (λ _. ⊥) (λ _. []) (λ _ _. ⊥) (λ _. 0) (λ _ _ _. ⊥) o.journal o.max uuid o.wide old new out_old out_new end
+  pub formats : FormatsOn unread_file o.journal o.max uuid o.wide old new out_old out_new end
 
 -- the file was not made, and nothing was done; or the journal was made in it, and the answer is reported
 abbrev pub EndsOfFormat : List ℕ → Options → Option (List ℕ) → Option (List ℕ) → Result ℕ CommandFault → Type 0
@@ -91,7 +94,7 @@ abbrev pub SaysSize : ℕ → Type 0
 SaysSize size = (front : List ℕ) × (sb : Superblock) × (super_in front ≡ Ok sb) × (size ≡ sb.block_size)
 
 -- the files that were named: one, or a journal of exactly its superblock's blocks and another of the same block size
-abbrev pub IsHeldBy : Option (List ℕ) → ImageDisk → Superblock → Type 0
+abbrev pub IsHeldBy : Option (List ℕ) → FileImage → Superblock → Type 0
 IsHeldBy None (One file) sb = ⊤
 IsHeldBy None (Two pair) sb = ⊥
 IsHeldBy None (Within disk) sb = ⊥
@@ -101,18 +104,18 @@ IsHeldBy (Some journal) (Two pair) sb = (count_of (front_disk pair) ≡ sb.maxle
 
 -- some first bytes are a superblock, which says the image's block size; so many home blocks are after the journal that it says, and
 -- can be named in it
-abbrev pub IsOpened : Option (List ℕ) → ImageDisk → ℕ → Type 0
+abbrev pub IsOpened : Option (List ℕ) → FileImage → ℕ → Type 0
 IsOpened journal disk homes =
-    (front : List ℕ) × (sb : Superblock) × (super_in front ≡ Ok sb) × (image_size disk ≡ sb.block_size) × (homes ≡ homes_in sb (image_count disk)) × IsHeldBy journal disk sb
+    (front : List ℕ) × (sb : Superblock) × (super_in front ≡ Ok sb) × (as_image.size disk ≡ sb.block_size) × (homes ≡ homes_in sb (as_image.count disk)) × IsHeldBy journal disk sb
 
--- the clean journal in a file was changed, in blocks of the size that its first bytes say. No clause says what a file holds: of
--- its content nothing follows
+-- the clean journal in a file was changed, in blocks of the size that its first bytes say. Nothing is supposed of the
+-- files: of the content of one that has a block nothing follows
 pub record ChangesFile {T : Type 0} (Does : ℕ → ℕ → Image → Image → Result T ChangeFault → Type 0) (IsMidst EndsAlike : ℕ → ℕ → Image → Image → Type 0)
     (line : T → List ℕ) (out_old out_new : Option (List ℕ)) (end : Result ℕ CommandFault) : Type 0 where
-  pub old : ImageDisk
-  pub new : ImageDisk
-  pub size : SaysSize (image_size old)
-  pub changes : ChangesOn image_size image_count image_faults (λ _. ⊥) (λ _. []) (λ _ _. ⊥) (λ _. 0) (λ _ _ _. ⊥)
+  pub old : FileImage
+  pub new : FileImage
+  pub size : SaysSize (as_image.size old)
+  pub changes : ChangesOn as_image
       Does IsMidst EndsAlike line old new out_old out_new end
 
 -- the image was not read, and nothing was done; or its journal was given its first number again, and the answer is reported

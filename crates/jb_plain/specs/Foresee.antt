@@ -1,15 +1,18 @@
 -- How `jb recover --dry-run` ends on a disk.
 use Rattle.std.specs.Prelude.{◌≡◌, ℕ, Bool, if◌then◌else◌, List, [], ◌∷◌, ◌++◌, map, Option, Result, Ok, Err, codes, decimal}
-use Rattle.jb_disk.specs.Image.{Image}
+use Rattle.jb_disk.specs.Image.{Image, Same}
+use Rattle.jb_disk.specs.Kept.{Kept}
+use Rattle.jb_disk.specs.Time.{Goes}
 use Rattle.jb_io.specs.Parts.{spelled}
 use Rattle.jb_recover.specs.Foresees.{Foresees}
-use Rattle.jb_recover.specs.Passes.{Passed}
+use Rattle.jb_recover.specs.Passes.{PassFaults}
 use Rattle.jb_recover.specs.declared.fault.RecoverFault.{RecoverFault}
 use Rattle.jb_recover.specs.declared.recovered.Foreseen.{Foreseen}
 use Rattle.jb_plain.specs.Faults.{recover_fault}
 use Rattle.jb_plain.specs.Recover.{recovered_line}
 use Rattle.jb_plain.specs.Said.{TellsLine}
 use Rattle.jb_plain.specs.declared.fault.CommandFault.{CommandFault}
+use Rattle.jb_disk.specs.declared.disk.Disk.{Ghosts as Disks}
 
 -- the line of a home block that would be written
 abbrev pub home_line : ℕ → List ℕ
@@ -30,9 +33,11 @@ TellsForeseen homes list (Err fault) out_old out_new end = (end ≡ Err (recover
 
 -- it was foreseen what a recovery of the disk answers, and that is reported; the disk's content stays, and a crash leaves what it could
 -- leave before
-pub record ForeseesOn {D : Type 0} (size count faults : D → ℕ) (honest : D → Type 0) (newest : D → Image) (may_leave : D → Image → Type 0)
-    (moment : D → ℕ) (left_since : D → ℕ → Image → Type 0) (homes : Option ℕ) (list : Bool) (old new : D) (out_old out_new : Option (List ℕ)) (end : Result ℕ CommandFault) : Type 0 where
+pub record ForeseesOn {D : Type 0} (G : Disks D) (homes : Option ℕ) (list : Bool) (old new : D) (out_old out_new : Option (List ℕ)) (end : Result ℕ CommandFault) : Type 0 where
   pub answer : Result Foreseen RecoverFault
-  pub passed : Passed size count faults honest newest may_leave moment left_since answer old new
-  pub foresees : honest old → Foresees (size old) (count old) (newest old) answer
+  pub kept : Kept G.size G.count G.honest old new
+  pub fault_count : PassFaults answer (G.faults old) (G.faults new)
+  pub same : G.honest new → G.newest new ≡ G.newest old
+  pub idle : G.honest new → Goes G.may_leave G.moment G.left_since Same old new
+  pub foresees : G.honest new → Foresees (G.size old) (G.count old) (G.newest old) answer
   pub told : TellsForeseen homes list answer out_old out_new end

@@ -13,6 +13,7 @@ use Rattle.jb_super.specs.Superblock.{new_super}
 use Rattle.jb_plain.specs.Said.{TellsLine}
 use Rattle.jb_plain.specs.Faults.{format_fault}
 use Rattle.jb_plain.specs.declared.fault.CommandFault.{CommandFault}
+use Rattle.jb_disk.specs.declared.disk.Disk.{Ghosts as Disks}
 
 -- the line of a new journal with this limit
 abbrev pub formatted_line : ℕ → List ℕ
@@ -25,15 +26,14 @@ TellsFormat limit (Err fault) out_old out_new end = (end ≡ Err (format_fault f
 
 -- a journal of so many blocks, with block numbers of 64 bits or of 32, was made on the disk, as the clauses of its making say of the answer, and that answer
 -- is reported; a crash in its midst leaves what the disk might have left, with some new sectors of block 0
-pub record FormatsOn {D : Type 0} (size count faults : D → ℕ) (honest : D → Type 0) (newest : D → Image) (may_leave : D → Image → Type 0)
-    (moment : D → ℕ) (left_since : D → ℕ → Image → Type 0) (journal most : ℕ) (uuid : List ℕ) (wide : Bool) (old new : D) (out_old out_new : Option (List ℕ)) (end : Result ℕ CommandFault) : Type 0 where
+pub record FormatsOn {D : Type 0} (G : Disks D) (journal most : ℕ) (uuid : List ℕ) (wide : Bool) (old new : D) (out_old out_new : Option (List ℕ)) (end : Result ℕ CommandFault) : Type 0 where
   pub answer : Result Unit FormatFault
-  pub room : (answer ≡ Err NoGeometry) ↔ (HasRoom journal (count old) → ⊥)
+  pub room : (answer ≡ Err NoGeometry) ↔ (HasRoom journal (G.count old) → ⊥)
   pub untouched : answer ≡ Err NoGeometry → new ≡ old
-  pub kept : Kept size count honest old new
-  pub fault_count : FormatFaults answer (faults old) (faults new)
-  pub written : honest old → OnOk answer (newest new ≡ set (newest old) 0 (new_block wide (size old) journal most uuid))
-  pub torn : honest old → Torn 0 (new_block wide (size old) journal most uuid) (newest old) (newest new)
-  pub steps : honest old → Steps may_leave moment left_since (Torn 0 (new_block wide (size old) journal most uuid)) old new
-  pub durable : honest old → OnOk answer (Only (newest new) (may_leave new))
-  pub told : TellsFormat (limit_of (of_width wide (new_super (size old) journal most uuid))) answer out_old out_new end
+  pub kept : Kept G.size G.count G.honest old new
+  pub fault_count : FormatFaults answer (G.faults old) (G.faults new)
+  pub written : G.honest new → OnOk answer (G.newest new ≡ set (G.newest old) 0 (new_block wide (G.size old) journal most uuid))
+  pub torn : G.honest new → Torn 0 (new_block wide (G.size old) journal most uuid) (G.newest old) (G.newest new)
+  pub steps : G.honest new → Steps G.may_leave G.moment G.left_since (Torn 0 (new_block wide (G.size old) journal most uuid)) old new
+  pub durable : G.honest new → OnOk answer (Only (G.newest new) (G.may_leave new))
+  pub told : TellsFormat (limit_of (of_width wide (new_super (G.size old) journal most uuid))) answer out_old out_new end

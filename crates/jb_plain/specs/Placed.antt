@@ -12,8 +12,8 @@ use Rattle.jb_extents.specs.declared.fault.ExtentsFault.TheVariants.{Home, NoJou
 use Rattle.jb_front.specs.Front.{homes_in}
 use Rattle.jb_super.specs.Superblock.{Superblock}
 use Rattle.jb_words.specs.Named.{CatWords, RecoverWords}
-use Rattle.jb_pair.specs.Images.{image_count, image_faults, image_size, own_home}
-use Rattle.jb_pair.specs.declared.image.ImageDisk.{ImageDisk}
+use Rattle.jb_pair.specs.Files.{FileImage, as_image}
+use Rattle.jb_pair.specs.Images.{own_home}
 use Rattle.jb_pair.specs.declared.image.ImageDisk.TheVariants.{One, Two, Within}
 use Rattle.jb_recover.specs.declared.fault.RecoverFault.{RecoverFault}
 use Rattle.jb_plain.specs.Cat.{CatsOn}
@@ -61,19 +61,19 @@ pub record IsHeldWithin (es : List Extent) (sb : Superblock) (count : ℕ) : Typ
   pub enough : sb.maxlen ≤ extents_count es
 
 -- the same of the disk that is used
-abbrev pub IsJournalWithin : List Extent → Superblock → ImageDisk → Type 0
+abbrev pub IsJournalWithin : List Extent → Superblock → FileImage → Type 0
 IsJournalWithin es sb (One file) = ⊥
 IsJournalWithin es sb (Two pair) = ⊥
 IsJournalWithin es sb (Within disk) = (list_of (extents_of disk) ≡ es) × (journal_blocks disk ≡ sb.maxlen) × IsHeldWithin es sb (count_of (whole_disk disk))
 
 -- a file of this block size, with a journal within it
-abbrev pub JoinsFile : List Extent → Superblock → BlockSize → ImageDisk → Type 0
-JoinsFile es sb size disk = IsJournalWithin es sb disk × (image_size disk ≡ bytes_of size)
+abbrev pub JoinsFile : List Extent → Superblock → BlockSize → FileImage → Type 0
+JoinsFile es sb size disk = IsJournalWithin es sb disk × (as_image.size disk ≡ bytes_of size)
 
 -- the list was read, and the journal is there, in blocks of the size that its superblock says
-abbrev pub IsOpenedWithin : List ℕ → ImageDisk → ℕ → Type 0
+abbrev pub IsOpenedWithin : List ℕ → FileImage → ℕ → Type 0
 IsOpenedWithin list disk homes =
-    (es : List Extent) × (extents_in list ≡ Some es) × (sb : Superblock) × SaysSuper sb × (image_size disk ≡ sb.block_size) × (homes ≡ homes_in sb (image_count disk)) × IsJournalWithin es sb disk
+    (es : List Extent) × (extents_in list ≡ Some es) × (sb : Superblock) × SaysSuper sb × (as_image.size disk ≡ sb.block_size) × (homes ≡ homes_in sb (as_image.count disk)) × IsJournalWithin es sb disk
 
 -- ---- wherever the journal is
 
@@ -84,19 +84,19 @@ IsShutAt name None (Some list) fault = IsShutWithin name list fault
 IsShutAt name (Some journal) (Some list) fault = IsBadOption (codes "--extents") fault
 
 -- it is open
-abbrev pub IsOpenedAt : Option (List ℕ) → Option (List ℕ) → ImageDisk → ℕ → Type 0
+abbrev pub IsOpenedAt : Option (List ℕ) → Option (List ℕ) → FileImage → ℕ → Type 0
 IsOpenedAt journal None disk homes = IsOpened journal disk homes
 IsOpenedAt None (Some list) disk homes = IsOpenedWithin list disk homes
 IsOpenedAt (Some journal) (Some list) disk homes = ⊥
 
 -- home blocks of an image were written as their peeks gave them, in blocks of the size that its first bytes say, as many as asked for from one on.
--- No clause says what a file holds: of its content nothing follows
+-- Nothing is supposed of the files: of the content of one that has a block nothing follows
 pub record CatsFile (words : CatWords) (out_old out_new : Option (List ℕ)) (end : Result ℕ CommandFault) : Type 0 where
-  pub old : ImageDisk
-  pub new : ImageDisk
+  pub old : FileImage
+  pub new : FileImage
   pub homes : ℕ
   pub opened : IsOpenedAt words.journal words.extents old homes
-  pub cats : CatsOn image_size image_count (λ _. ⊥) (λ _. []) (Some homes) words.home words.count words.hex old new out_old out_new end
+  pub cats : CatsOn as_image (Some homes) words.home words.count words.hex old new out_old out_new end
 
 -- the image was not opened, and nothing was done; or its home blocks were written, and the answer is reported
 abbrev pub EndsOfCat : List ℕ → CatWords → Option (List ℕ) → Option (List ℕ) → Result ℕ CommandFault → Type 0
@@ -106,30 +106,30 @@ EndsOfCat name words out_old out_new end =
 -- ---- a recovery
 
 -- the disk was only read
-abbrev pub IsOnlyRead : ImageDisk → ImageDisk → Type 0
-IsOnlyRead old new = Kept image_size image_count (λ _. ⊥) old new
+abbrev pub IsOnlyRead : FileImage → FileImage → Type 0
+IsOnlyRead old new = Kept as_image.size as_image.count as_image.honest old new
 
 -- a recovery is refused for this, or a copy of it is for a home block that is one of the journal's own
 abbrev pub IsRecoveryRefused : Option ℕ → CommandFault → Type 0
 IsRecoveryRefused homes fault =
     ((f : RecoverFault) × (fault ≡ recover_fault homes f))
-    ⊎ ((disk : ImageDisk) × (copied : List ℕ) × (home : ℕ) × (own_home disk copied ≡ Some home) × (fault ≡ InExtents (Home home)))
+    ⊎ ((disk : FileImage) × (copied : List ℕ) × (home : ℕ) × (own_home disk copied ≡ Some home) × (fault ≡ InExtents (Home home)))
 
--- an image was opened for a recovery, wherever its journal is, in blocks of the size that its superblock says. No clause says what a
--- file holds: of its content nothing follows
-pub record IsOpenedToRecover (words : RecoverWords) (disk : ImageDisk) (homes : ℕ) : Type 0 where
-  pub first : ImageDisk
+-- an image was opened for a recovery, wherever its journal is, in blocks of the size that its superblock says. Nothing is
+-- supposed of the files: of the content of one that has a block nothing follows
+pub record IsOpenedToRecover (words : RecoverWords) (disk : FileImage) (homes : ℕ) : Type 0 where
+  pub first : FileImage
   pub opened : IsOpenedAt words.journal words.extents first homes
   pub read : IsOnlyRead first disk
 
 -- a journal is not recovered into its home blocks
-abbrev pub IsRejectedBy : Bool → ImageDisk → ImageDisk → CommandFault → Type 0
-IsRejectedBy force old new fault = JudgesOn image_size image_count image_faults (λ _. ⊥) (λ _. []) force old new (Err fault)
+abbrev pub IsRejectedBy : Bool → FileImage → FileImage → CommandFault → Type 0
+IsRejectedBy force old new fault = JudgesOn as_image force old new (Err fault)
 
 -- the image that was opened was refused by what its journal and its file system are
 abbrev pub IsRejected : RecoverWords → CommandFault → Type 0
 IsRejected words fault =
-    (disk later : ImageDisk) × (homes : ℕ) × IsOpenedAt words.journal words.extents disk homes
+    (disk later : FileImage) × (homes : ℕ) × IsOpenedAt words.journal words.extents disk homes
     × IsRejectedBy words.force disk later fault
 
 -- it was not opened, or was refused
@@ -137,19 +137,19 @@ abbrev pub IsNotOpenedToRecover : List ℕ → RecoverWords → CommandFault →
 IsNotOpenedToRecover name words fault = IsBadOption (codes "--list") fault ⊎ (IsShutAt name words.journal words.extents fault ⊎ IsRejected words fault)
 
 -- it was said what a recovery of the image would do, or it was refused
-abbrev pub ForeseesImage : ℕ → Bool → ImageDisk → Option (List ℕ) → Option (List ℕ) → Result ℕ CommandFault → Type 0
+abbrev pub ForeseesImage : ℕ → Bool → FileImage → Option (List ℕ) → Option (List ℕ) → Result ℕ CommandFault → Type 0
 ForeseesImage homes list disk out_old out_new end =
-    ((new : ImageDisk) × ForeseesOn image_size image_count image_faults (λ _. ⊥) (λ _. []) (λ _ _. ⊥) (λ _. 0) (λ _ _ _. ⊥) (Some homes) list disk new out_old out_new end)
+    ((new : FileImage) × ForeseesOn as_image (Some homes) list disk new out_old out_new end)
     ⊎ ((fault : CommandFault) × (end ≡ Err fault) × IsRecoveryRefused (Some homes) fault × (out_new ≡ out_old))
 
 -- the image was recovered, after reads alone, and the answer is reported; or it was refused before that
-abbrev pub RecoversImage : ℕ → ImageDisk → Option (List ℕ) → Option (List ℕ) → Result ℕ CommandFault → Type 0
+abbrev pub RecoversImage : ℕ → FileImage → Option (List ℕ) → Option (List ℕ) → Result ℕ CommandFault → Type 0
 RecoversImage homes disk out_old out_new end =
-    ((later new : ImageDisk) × IsOnlyRead disk later × RecoversOn image_size image_count image_faults (λ _. ⊥) (λ _. []) (λ _ _. ⊥) (λ _. 0) (λ _ _ _. ⊥) (Some homes) later new out_old out_new end)
+    ((later new : FileImage) × IsOnlyRead disk later × RecoversOn as_image (Some homes) later new out_old out_new end)
     ⊎ ((fault : CommandFault) × (end ≡ Err fault) × IsRecoveryRefused (Some homes) fault × (out_new ≡ out_old))
 
 -- what was asked for was done to an image: it was recovered, or with `--dry-run` it was said what that would do
-abbrev pub DoesRecover : Bool → Bool → ℕ → ImageDisk → Option (List ℕ) → Option (List ℕ) → Result ℕ CommandFault → Type 0
+abbrev pub DoesRecover : Bool → Bool → ℕ → FileImage → Option (List ℕ) → Option (List ℕ) → Result ℕ CommandFault → Type 0
 DoesRecover true list homes disk = ForeseesImage homes list disk
 DoesRecover false list homes disk = RecoversImage homes disk
 
@@ -157,4 +157,4 @@ DoesRecover false list homes disk = RecoversImage homes disk
 abbrev pub EndsOfRecover : List ℕ → RecoverWords → Option (List ℕ) → Option (List ℕ) → Result ℕ CommandFault → Type 0
 EndsOfRecover name words out_old out_new end =
     ((fault : CommandFault) × (end ≡ Err fault) × IsNotOpenedToRecover name words fault × (out_new ≡ out_old))
-    ⊎ ((disk : ImageDisk) × (homes : ℕ) × IsOpenedToRecover words disk homes × DoesRecover words.dry_run words.list homes disk out_old out_new end)
+    ⊎ ((disk : FileImage) × (homes : ℕ) × IsOpenedToRecover words disk homes × DoesRecover words.dry_run words.list homes disk out_old out_new end)

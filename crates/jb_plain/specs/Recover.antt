@@ -12,6 +12,7 @@ use Rattle.jb_recover.specs.declared.recovered.Recovered.{Recovered}
 use Rattle.jb_plain.specs.Said.{TellsLine}
 use Rattle.jb_plain.specs.Faults.{recover_fault}
 use Rattle.jb_plain.specs.declared.fault.CommandFault.{CommandFault}
+use Rattle.jb_disk.specs.declared.disk.Disk.{Ghosts as Disks}
 
 -- the line of a recovery
 abbrev pub recovered_line : Recovered → List ℕ
@@ -26,13 +27,12 @@ TellsRecovery homes (Err fault) out_old out_new end = (end ≡ Err (recover_faul
 
 -- the disk was recovered, as the clauses of the recovery say of its answer, and that answer is reported. A crash in its midst, or what
 -- it leaves after a fault, recovers to the image that the disk's content recovers to
-pub record RecoversOn {D : Type 0} (size count faults : D → ℕ) (honest : D → Type 0) (newest : D → Image) (may_leave : D → Image → Type 0)
-    (moment : D → ℕ) (left_since : D → ℕ → Image → Type 0) (homes : Option ℕ) (old new : D) (out_old out_new : Option (List ℕ)) (end : Result ℕ CommandFault) : Type 0 where
+pub record RecoversOn {D : Type 0} (G : Disks D) (homes : Option ℕ) (old new : D) (out_old out_new : Option (List ℕ)) (end : Result ℕ CommandFault) : Type 0 where
   pub answer : Result Recovered RecoverFault
-  pub kept : Kept size count honest old new
-  pub fault_count : PassFaults answer (faults old) (faults new)
-  pub recovers : honest old → Recovers (size old) (count old) (newest old) (newest new) answer
-  pub crash : honest old → LeavesOnly moment left_since old new (λ c. may_leave old c ⊎ RecoversAs (size old) (count old) (newest old) c)
-  pub again : honest old → RecoversAs (size old) (count old) (newest old) (newest new)
-  pub durable : honest old → OnOk answer (Only (newest new) (may_leave new))
+  pub kept : Kept G.size G.count G.honest old new
+  pub fault_count : PassFaults answer (G.faults old) (G.faults new)
+  pub recovers : G.honest new → Recovers (G.size old) (G.count old) (G.newest old) (G.newest new) answer
+  pub crash : G.honest new → LeavesOnly G.moment G.left_since old new (λ c. G.may_leave old c ⊎ RecoversAs (G.size old) (G.count old) (G.newest old) c)
+  pub again : G.honest new → RecoversAs (G.size old) (G.count old) (G.newest old) (G.newest new)
+  pub durable : G.honest new → OnOk answer (Only (G.newest new) (G.may_leave new))
   pub told : TellsRecovery homes answer out_old out_new end

@@ -6,8 +6,7 @@ use Rattle.jb_answers.specs.Faulty.{queue_fault}
 use Rattle.jb_answers.specs.Said.{Said}
 use Rattle.jb_deck.specs.declared.fault.OpenFault.{OpenFault}
 use Rattle.jb_deck.specs.declared.fault.OpenFault.TheVariants as opening
-use Rattle.jb_pair.specs.Images.{image_count, image_faults, image_size}
-use Rattle.jb_pair.specs.declared.image.ImageDisk.{ImageDisk}
+use Rattle.jb_pair.specs.Files.{FileImage, as_image}
 use Rattle.jb_io.specs.declared.putting.WriteFault.{WriteFault}
 use Rattle.jb_load.specs.Loads.{AnswersLoad}
 use Rattle.jb_load.specs.Telling.{TellsLoad}
@@ -72,27 +71,27 @@ beside_in homes None = Nothing
 beside_in homes (Some refused) = beside_fault homes refused.fault
 
 -- what a load into an image of so many home blocks answered is reported: its lines, or its fault, and then nothing is written
-abbrev pub ReportsLoad : ℕ → Result (Loaded × ImageDisk) LoadFault → Outputs → Outputs → Result Ended CommandFault → Type 0
+abbrev pub ReportsLoad : ℕ → Result (Loaded × FileImage) LoadFault → Outputs → Outputs → Result Ended CommandFault → Type 0
 ReportsLoad homes (Ok ended) old new end =
     (told : Result ℕ WriteFault) × (end ≡ end_by (beside_in homes ended.0.refused) told) × TellsLoad ended.0 old.out new.out old.err new.err told
 ReportsLoad homes (Err fault) old new end = (end ≡ Err (load_fault fault)) × (new ≡ old)
 
 -- a queue was loaded into an open image, as the clause of a load says of the answer, and that answer is reported
-pub record LoadsOn (options : LoadOptions) (homes : ℕ) (disk : ImageDisk) (queue : Queue) (old new : Outputs) (end : Result Ended CommandFault) : Type 0 where
-  pub answer : Result (Loaded × ImageDisk) LoadFault
-  pub loads : AnswersLoad image_size image_count image_faults (λ _. ⊥) (λ _. []) disk queue.size queue.handles options answer
+pub record LoadsOn (options : LoadOptions) (homes : ℕ) (disk : FileImage) (queue : Queue) (old new : Outputs) (end : Result Ended CommandFault) : Type 0 where
+  pub answer : Result (Loaded × FileImage) LoadFault
+  pub loads : AnswersLoad as_image disk queue.size queue.handles options answer
   pub told : ReportsLoad homes answer old new end
 
 -- the queue of a text was loaded, or the text's first fault is reported
-abbrev pub EndsOfText : Loading → ℕ → ImageDisk → Result Queue QueueFault → Outputs → Outputs → Result Ended CommandFault → Type 0
+abbrev pub EndsOfText : Loading → ℕ → FileImage → Result Queue QueueFault → Outputs → Outputs → Result Ended CommandFault → Type 0
 EndsOfText load homes disk (Ok queue) old new end = (options : LoadOptions) × IsAskedBy load options × LoadsOn options homes disk queue old new end
 EndsOfText load homes disk (Err fault) old new end =
     (words : Said) × (told : Result ℕ CommandFault) × (queue_fault fault ≡ Some words) × (end ≡ alone told) × Tells words old new told
 
 -- the image was opened, in blocks of the size that its first bytes say, with so many home blocks after the journal that they say; then the text was not had, and nothing was done, or it was,
--- and what it holds is loaded or refused. No clause says what a file holds: of an image's content nothing follows
+-- and what it holds is loaded or refused. Nothing is supposed of what a file holds: of an image's content nothing follows
 pub record EndsOpened (load : Loading) (old new : Outputs) (end : Result Ended CommandFault) : Type 0 where
-  pub disk : ImageDisk
+  pub disk : FileImage
   pub homes : ℕ
   pub opened : IsOpened load.journal disk homes
   pub ends : ((fault : CommandFault) × (end ≡ Err fault) × HasNoText load.file None fault × (new ≡ old))

@@ -7,100 +7,51 @@ use crate::files::{
 };
 use crate::runs::{End, Host, check_run, check_status, joined, ran};
 
-/// A run of `jb cat`.
-struct Cat {
-    /// The words after the image.
-    words: &'static [&'static str],
-    status: u8,
-    /// How what is written begins, and how many bytes it has.
-    front: &'static [u8],
-    len: usize,
-    /// The line of a refusal, of an image and of two files.
-    errs: [&'static str; 2],
-}
+/// A run of `jb cat`: the words after the image, the status, how what is written begins, how many bytes that has, and
+/// the line of a refusal, of an image and of two files.
+type Cat = (
+    &'static [&'static str],
+    u8,
+    &'static [u8],
+    usize,
+    [&'static str; 2],
+);
 
 /// How home block 5 begins after a recovery.
 const FIVE: &[u8] = &[0xC0, 0x3B, 0x39, 0x98, 1, 2, 3, 4, 0];
 
 const LINE: &[u8] = b"00000000: c03b 3998 0102 0304 0000 0000 0000 0000  .;9.............\n";
 
+const NOTHING: [&str; 2] = ["", ""];
+
+const SIXTEEN: [&str; 2] = ["jb: NoHome 16\n", "jb: NoHome 16 cat_homes.img\n"];
+
+const FARTHEST: [&str; 2] = [
+    "jb: NoHome 18446744073709551615\n",
+    "jb: NoHome 18446744073709551615 cat_homes.img\n",
+];
+
 static CATS: [Cat; 9] = [
-    Cat {
-        words: &["5"],
-        status: 0,
-        front: FIVE,
-        len: 1024,
-        errs: ["", ""],
-    },
-    Cat {
-        words: &["6"],
-        status: 0,
-        front: &[0; 9],
-        len: 1024,
-        errs: ["", ""],
-    },
-    Cat {
-        words: &["5", "-n", "2"],
-        status: 0,
-        front: FIVE,
-        len: 2048,
-        errs: ["", ""],
-    },
-    Cat {
-        words: &["5", "-n", "0"],
-        status: 0,
-        front: b"",
-        len: 0,
-        errs: ["", ""],
-    },
-    Cat {
-        words: &["5", "--hex"],
-        status: 0,
-        front: LINE,
-        len: 4352,
-        errs: ["", ""],
-    },
-    Cat {
-        words: &["--hex", "-n2", "5"],
-        status: 0,
-        front: LINE,
-        len: 8704,
-        errs: ["", ""],
-    },
-    Cat {
-        words: &["16"],
-        status: 1,
-        front: b"",
-        len: 0,
-        errs: ["jb: NoHome 16\n", "jb: NoHome 16 cat_homes.img\n"],
-    },
-    Cat {
-        words: &["15", "-n", "3"],
-        status: 1,
-        front: &[0; 9],
-        len: 1024,
-        errs: ["jb: NoHome 16\n", "jb: NoHome 16 cat_homes.img\n"],
-    },
-    Cat {
-        words: &["18446744073709551615", "-n", "2"],
-        status: 1,
-        front: b"",
-        len: 0,
-        errs: [
-            "jb: NoHome 18446744073709551615\n",
-            "jb: NoHome 18446744073709551615 cat_homes.img\n",
-        ],
-    },
+    (&["5"], 0, FIVE, 1024, NOTHING),
+    (&["6"], 0, &[0; 9], 1024, NOTHING),
+    (&["5", "-n", "2"], 0, FIVE, 2048, NOTHING),
+    (&["5", "-n", "0"], 0, b"", 0, NOTHING),
+    (&["5", "--hex"], 0, LINE, 4352, NOTHING),
+    (&["--hex", "-n2", "5"], 0, LINE, 8704, NOTHING),
+    (&["16"], 1, b"", 0, SIXTEEN),
+    (&["15", "-n", "3"], 1, &[0; 9], 1024, SIXTEEN),
+    (&["18446744073709551615", "-n", "2"], 1, b"", 0, FARTHEST),
 ];
 
 /// Checks `jb cat` with these words, and then those of its row; it may end with this line.
 fn check_cat(rt: &impl Host, image: &[&str], cat: &Cat, err: &'static str, row: usize) {
-    let words = joined(rt, image, cat.words);
+    let (more, status, front, len, _) = *cat;
+    let words = joined(rt, image, more);
     let (ran, what) = (ran(rt, &words, b""), "cat");
     check_text(rt, &ran.err, err, what, row);
-    check_status(rt, ran.ended, cat.status, what, row);
-    check_number(rt, ran.out.len() as u64, cat.len as u64, what, row);
-    check_at(rt, ran.out.starts_with(cat.front), what, row)
+    check_status(rt, ran.ended, status, what, row);
+    check_number(rt, ran.out.len() as u64, len as u64, what, row);
+    check_at(rt, ran.out.starts_with(front), what, row)
 }
 
 /// Sixteen home blocks, of which number 5 begins with these words.
@@ -120,7 +71,7 @@ fn used(len: usize) -> Front {
 /// Checks `jb cat` of an image, and of home blocks and a journal in files of their own.
 fn check_cats(rt: &impl Host) {
     for (row, cat) in CATS.iter().enumerate() {
-        let [of_one, of_two] = cat.errs;
+        let [of_one, of_two] = cat.4;
         check_cat(rt, &["cat", "cat.img"], cat, of_one, row);
         let two = ["cat", "cat_homes.img", "--journal", "cat.bin"];
         check_cat(rt, &two, cat, of_two, row);

@@ -3,103 +3,33 @@
 use crate::files::{COPY, MAGIC, WHOLE, add_block, check_file, image, remove, write};
 use crate::runs::{Host, check_run};
 
-/// An image of which a file has so many bytes, and what its recovery answers.
-struct Recovery {
-    incompat: u32,
-    /// What its revoke block says of its length.
-    count: u32,
-    /// The home of its copy.
-    home: u32,
-    len: usize,
-    answer: Result<&'static str, &'static str>,
-}
+/// An image: its incompatible features, what its revoke block says of its length, the home of its copy, and how many of
+/// its bytes a file has.
+type Image = (u32, u32, u32, usize);
 
-static RECOVERIES: [Recovery; 12] = [
-    Recovery {
-        incompat: 1,
-        count: 20,
-        home: 5,
-        len: WHOLE,
-        answer: Ok("transactions 1 copies 1 revoked 0 next 4\n"),
-    },
-    Recovery {
-        incompat: 1,
-        count: 20,
-        home: 7,
-        len: WHOLE,
-        answer: Ok("transactions 1 copies 0 revoked 1 next 4\n"),
-    },
-    Recovery {
-        incompat: 16,
-        count: 20,
-        home: 5,
-        len: WHOLE,
-        answer: Err("jb: Super Feature 2 16\n"),
-    },
-    Recovery {
-        incompat: 0x13,
-        count: 20,
-        home: 5,
-        len: WHOLE,
-        answer: Err("jb: Super Feature 2 16\n"),
-    },
-    // of a wide tag the first word of the UUID is the high half of the home
-    Recovery {
-        incompat: 3,
-        count: 20,
-        home: 5,
-        len: WHOLE,
-        answer: Err("jb: HomeOutOfRange 283686884868101 2\n"),
-    },
-    Recovery {
-        incompat: 1,
-        count: 1025,
-        home: 5,
-        len: WHOLE,
-        answer: Err("jb: BadRevoke 1\n"),
-    },
-    Recovery {
-        incompat: 1,
-        count: 20,
-        home: 16,
-        len: WHOLE,
-        answer: Err("jb: HomeOutOfRange 16 2\n"),
-    },
-    Recovery {
-        incompat: 1,
-        count: 20,
-        home: 5,
-        len: 20 * 1024,
-        answer: Err("jb: Super Geometry\n"),
-    },
-    Recovery {
-        incompat: 1,
-        count: 20,
-        home: 5,
-        len: 33 * 1024 - 1,
-        answer: Err("jb: Super Geometry\n"),
-    },
-    Recovery {
-        incompat: 1,
-        count: 20,
-        home: 5,
-        len: 33 * 1024,
-        answer: Err("jb: HomeOutOfRange 5 2\n"),
-    },
-    Recovery {
-        incompat: 1,
-        count: 20,
-        home: 5,
-        len: 1023,
-        answer: Err("jb: Super ShortBlock\n"),
-    },
-    Recovery {
-        incompat: 1,
-        count: 20,
-        home: 5,
-        len: 0,
-        answer: Err("jb: Super ShortBlock\n"),
-    },
+type Answer = Result<&'static str, &'static str>;
+
+const COPIED: Answer = Ok("transactions 1 copies 1 revoked 0 next 4\n");
+
+const REVOKED: Answer = Ok("transactions 1 copies 0 revoked 1 next 4\n");
+
+/// Of a wide tag the first word of the UUID is the high half of the home.
+const FAR: Answer = Err("jb: HomeOutOfRange 283686884868101 2\n");
+
+/// Images, and what the recovery of each answers.
+static RECOVERIES: [(Image, Answer); 12] = [
+    ((1, 20, 5, WHOLE), COPIED),
+    ((1, 20, 7, WHOLE), REVOKED),
+    ((16, 20, 5, WHOLE), Err("jb: Super Feature 2 16\n")),
+    ((0x13, 20, 5, WHOLE), Err("jb: Super Feature 2 16\n")),
+    ((3, 20, 5, WHOLE), FAR),
+    ((1, 1025, 5, WHOLE), Err("jb: BadRevoke 1\n")),
+    ((1, 20, 16, WHOLE), Err("jb: HomeOutOfRange 16 2\n")),
+    ((1, 20, 5, 20 * 1024), Err("jb: Super Geometry\n")),
+    ((1, 20, 5, 33 * 1024 - 1), Err("jb: Super Geometry\n")),
+    ((1, 20, 5, 33 * 1024), Err("jb: HomeOutOfRange 5 2\n")),
+    ((1, 20, 5, 1023), Err("jb: Super ShortBlock\n")),
+    ((1, 20, 5, 0), Err("jb: Super ShortBlock\n")),
 ];
 
 /// What `--list` adds to a line of one copy.
@@ -131,10 +61,11 @@ fn check_line(rt: &impl Host, line: &'static str, wanted: &[u8], what: &'static 
 }
 
 /// Checks a recovery, and that one more finds nothing to recover.
-fn check_recovered(rt: &impl Host, of: &Recovery, line: &'static str, row: usize) {
+fn check_recovered(rt: &impl Host, of: Image, line: &'static str, row: usize) {
+    let (incompat, count, home, _) = of;
     // clean with number 3, and the copy in home 5 unless it is revoked
-    let words = if of.home == 5 { COPY } else { [0, 0] };
-    let wanted = image(rt, [3, 0], of.incompat, of.count, of.home, &words);
+    let words = if home == 5 { COPY } else { [0, 0] };
+    let wanted = image(rt, [3, 0], incompat, count, home, &words);
     check_line(rt, line, &wanted, "recovery", row);
     let line = "transactions 0 copies 0 revoked 0 next 4\n";
     check_line(rt, line, &wanted, "one more recovery", row)
@@ -147,14 +78,15 @@ fn check_refused(rt: &impl Host, bytes: &[u8], line: &'static str, row: usize) {
 }
 
 /// Checks the recovery of a row.
-fn check_recovery(rt: &impl Host, of: &Recovery, row: usize) {
-    let mut bytes = image(rt, [2, 1], of.incompat, of.count, of.home, &[]);
-    bytes.truncate(of.len);
+fn check_recovery(rt: &impl Host, of: Image, answer: Answer, row: usize) {
+    let (incompat, count, home, len) = of;
+    let mut bytes = image(rt, [2, 1], incompat, count, home, &[]);
+    bytes.truncate(len);
     write(rt, "log.img", &bytes);
-    match of.answer {
+    match answer {
         Ok(line) => {
             check_dry(rt, (0, line, ""), &bytes, row);
-            check_listed(rt, line, of.home, row);
+            check_listed(rt, line, home, row);
             check_recovered(rt, of, line, row)
         }
         Err(line) => {
@@ -175,8 +107,8 @@ fn check_short(rt: &impl Host) {
 
 /// Checks each row of the table, and an image that is too short.
 fn check_recoveries(rt: &impl Host) {
-    for (row, of) in RECOVERIES.iter().enumerate() {
-        check_recovery(rt, of, row);
+    for (row, (of, answer)) in RECOVERIES.iter().enumerate() {
+        check_recovery(rt, *of, *answer, row);
     }
     check_short(rt);
     remove(rt, "log.img")

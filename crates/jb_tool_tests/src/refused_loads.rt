@@ -6,18 +6,21 @@ use crate::loads::{TEN, check_words};
 use crate::runs::{End, Host, check_over};
 use std::fs;
 
-/// A load that is refused.
-struct Refusal {
-    /// The image, if there is one.
-    image: Option<Front>,
-    /// The queue text, if there is one.
-    text: Option<&'static str>,
-    /// Further words of `jb load`.
-    options: &'static [&'static str],
-    end: End,
-}
+/// A load that is refused: the image and the queue text, if there are such, further words of `jb load`, and how it
+/// ends.
+type Refusal = (
+    Option<Front>,
+    Option<&'static str>,
+    &'static [&'static str],
+    End,
+);
 
 const CLEAN: [u32; 2] = [2, 0];
+
+/// An image with a transaction to recover, and one with a feature that is not known.
+const USED: Option<Front> = Some(([2, 1], 1, WHOLE));
+
+const FEATURE: Option<Front> = Some((CLEAN, 16, WHOLE));
 
 const OTHER_SIZE: &str = "bs 2048\nlimit 7\nh w1\n";
 
@@ -27,130 +30,83 @@ const NO_TEXT: &str = "bs 1024\nlimit 2\n";
 
 const BAD_OPTION: End = (2, "", "jb: bad option\n");
 
+const BAD_FEATURE: End = (1, "", "jb: Super Feature 2 16\n");
+
+const BAD_SIZE: End = (1, "", "jb: BlockSize\n");
+
+const BAD_GEOMETRY: End = (1, "", "jb: Super Geometry\n");
+
+const NOT_CLEAN: End = (1, "", "jb: NeedsRecovery\n");
+
 static REFUSALS: [Refusal; 19] = [
     // an option comes before any file
-    Refusal {
-        image: None,
-        text: Some(""),
-        options: &["--threads", "0"],
-        end: BAD_OPTION,
-    },
-    Refusal {
-        image: None,
-        text: Some(""),
-        options: &["--threads", "65"],
-        end: BAD_OPTION,
-    },
-    Refusal {
-        image: None,
-        text: Some(""),
-        options: &["--threads", "4294967297"],
-        end: BAD_OPTION,
-    },
+    (None, Some(""), &["--threads", "0"], BAD_OPTION),
+    (None, Some(""), &["--threads", "65"], BAD_OPTION),
+    (None, Some(""), &["--threads", "4294967297"], BAD_OPTION),
     // the image comes before the text
-    Refusal {
-        image: None,
-        text: Some(NO_TEXT),
-        options: &[],
-        end: (2, "", "jb: cannot read loaded.img\n"),
-    },
-    Refusal {
-        image: Some((CLEAN, 16, WHOLE)),
-        text: None,
-        options: &[],
-        end: (1, "", "jb: Super Feature 2 16\n"),
-    },
-    Refusal {
-        image: Some((CLEAN, 16, WHOLE)),
-        text: Some(NO_TEXT),
-        options: &[],
-        end: (1, "", "jb: Super Feature 2 16\n"),
-    },
-    Refusal {
-        image: Some((CLEAN, 1, 1023)),
-        text: Some(NO_TEXT),
-        options: &[],
-        end: (1, "", "jb: Super ShortBlock\n"),
-    },
+    (
+        None,
+        Some(NO_TEXT),
+        &[],
+        (2, "", "jb: cannot read loaded.img\n"),
+    ),
+    (FEATURE, None, &[], BAD_FEATURE),
+    (FEATURE, Some(NO_TEXT), &[], BAD_FEATURE),
+    (
+        Some((CLEAN, 1, 1023)),
+        Some(NO_TEXT),
+        &[],
+        (1, "", "jb: Super ShortBlock\n"),
+    ),
     // the text comes before the block size
-    Refusal {
-        image: Some(([2, 1], 1, WHOLE)),
-        text: None,
-        options: &[],
-        end: (2, "", "jb: cannot read queue.txt\n"),
-    },
-    Refusal {
-        image: Some(([2, 1], 1, WHOLE)),
-        text: Some(""),
-        options: &[],
-        end: (2, "", "jb: queue line 1: BlockSizeLine\n"),
-    },
-    Refusal {
-        image: Some(([2, 1], 1, WHOLE)),
-        text: Some(NO_TEXT),
-        options: &[],
-        end: (2, "", "jb: queue line 2: LimitLine\n"),
-    },
-    Refusal {
-        image: Some(([2, 1], 1, WHOLE)),
-        text: Some("bs 2048\nlimit 7\nh w1 w\n"),
-        options: &[],
-        end: (2, "", "jb: queue line 3: OpWord\n"),
-    },
+    (USED, None, &[], (2, "", "jb: cannot read queue.txt\n")),
+    (
+        USED,
+        Some(""),
+        &[],
+        (2, "", "jb: queue line 1: BlockSizeLine\n"),
+    ),
+    (
+        USED,
+        Some(NO_TEXT),
+        &[],
+        (2, "", "jb: queue line 2: LimitLine\n"),
+    ),
+    (
+        USED,
+        Some("bs 2048\nlimit 7\nh w1 w\n"),
+        &[],
+        (2, "", "jb: queue line 3: OpWord\n"),
+    ),
     // the block size comes before the journal
-    Refusal {
-        image: Some(([2, 1], 1, WHOLE)),
-        text: Some(OTHER_SIZE),
-        options: &[],
-        end: (1, "", "jb: BlockSize\n"),
-    },
-    Refusal {
-        image: Some((CLEAN, 1, 20 * 1024)),
-        text: Some(OTHER_SIZE),
-        options: &[],
-        end: (1, "", "jb: BlockSize\n"),
-    },
-    Refusal {
-        image: Some(([2, 1], 1, WHOLE)),
-        text: Some(TEN),
-        options: &[],
-        end: (1, "", "jb: NeedsRecovery\n"),
-    },
-    Refusal {
-        image: Some(([0xFFFF_FFFF, 1], 1, WHOLE)),
-        text: Some(TEN),
-        options: &["--hold"],
-        end: (1, "", "jb: NeedsRecovery\n"),
-    },
-    Refusal {
-        image: Some(([0xFFFF_FFFF, 0], 1, WHOLE)),
-        text: Some(TEN),
-        options: &["--threads", "64"],
-        end: (1, "", "jb: NumbersSpent\n"),
-    },
-    Refusal {
-        image: Some((CLEAN, 1, 20 * 1024)),
-        text: Some(TEN),
-        options: &[],
-        end: (1, "", "jb: Super Geometry\n"),
-    },
-    Refusal {
-        image: Some((CLEAN, 1, 1024)),
-        text: Some(TEN),
-        options: &[],
-        end: (1, "", "jb: Super Geometry\n"),
-    },
+    (USED, Some(OTHER_SIZE), &[], BAD_SIZE),
+    (Some((CLEAN, 1, 20 * 1024)), Some(OTHER_SIZE), &[], BAD_SIZE),
+    (USED, Some(TEN), &[], NOT_CLEAN),
+    (
+        Some(([0xFFFF_FFFF, 1], 1, WHOLE)),
+        Some(TEN),
+        &["--hold"],
+        NOT_CLEAN,
+    ),
+    (
+        Some(([0xFFFF_FFFF, 0], 1, WHOLE)),
+        Some(TEN),
+        &["--threads", "64"],
+        (1, "", "jb: NumbersSpent\n"),
+    ),
+    (Some((CLEAN, 1, 20 * 1024)), Some(TEN), &[], BAD_GEOMETRY),
+    (Some((CLEAN, 1, 1024)), Some(TEN), &[], BAD_GEOMETRY),
     // two groups, and a number for one of them
-    Refusal {
-        image: Some(([0xFFFF_FFFE, 0], 1, WHOLE)),
-        text: Some(TWO_GROUPS),
-        options: &["--hold"],
-        end: (
+    (
+        Some(([0xFFFF_FFFE, 0], 1, WHOLE)),
+        Some(TWO_GROUPS),
+        &["--hold"],
+        (
             1,
             "handles 2 changes 12 settled 0 groups 0 blocks 0\n",
             "jb: commit Refused\n",
         ),
-    },
+    ),
 ];
 
 /// Writes a queue text, or sees to it that there is none.
@@ -162,26 +118,27 @@ fn put_text(rt: &impl Host, text: Option<&str>) {
 }
 
 /// Checks a load into an image, which stays.
-fn check_kept(rt: &impl Host, image: Front, of: &Refusal, row: usize) {
+fn check_kept(rt: &impl Host, image: Front, options: &[&str], end: End, row: usize) {
     write_front(rt, "loaded.img", image);
-    check_words(rt, of.options, of.end, row);
+    check_words(rt, options, end, row);
     check_front(rt, "loaded.img", image, "load", row)
 }
 
 /// Checks a load into no image, of which none is made.
-fn check_none(rt: &impl Host, of: &Refusal, row: usize) {
+fn check_none(rt: &impl Host, options: &[&str], end: End, row: usize) {
     let _none = fs::remove_file(rt, "loaded.img");
-    check_words(rt, of.options, of.end, row);
+    check_words(rt, options, end, row);
     let has_none = is_missing(rt, "loaded.img");
     check_at(rt, has_none, "an image is made by load", row)
 }
 
 /// Checks the load of a row.
 fn check_refusal(rt: &impl Host, of: &Refusal, row: usize) {
-    put_text(rt, of.text);
-    match of.image {
-        Some(image) => check_kept(rt, image, of, row),
-        None => check_none(rt, of, row),
+    let (image, text, options, end) = *of;
+    put_text(rt, text);
+    match image {
+        Some(image) => check_kept(rt, image, options, end, row),
+        None => check_none(rt, options, end, row),
     }
 }
 

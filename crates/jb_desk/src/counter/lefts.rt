@@ -7,11 +7,11 @@ ghost use Rattle.jb_desk.specs.Seats.{stops_left, changes_left, made_left};
 
 use crate::counter::Counter;
 use crate::seat::Left;
-use jb_book::Origin;
-use jb_deck::Entry;
+use jb_book::{Marks, Origin};
+use jb_deck::{Deck, Entry};
 use jb_disk::Disk;
 use jb_handle::Words;
-use jb_history::{History, Made, Scribe};
+use jb_history::{History, Made, Scribe, Sight};
 use std::sync::ledger::{Ledger, Share};
 
 /// Merges what seats have left into two shares, and puts their stops together.
@@ -44,18 +44,25 @@ fn merged<H: Origin, N: Ledger>(
 }
 
 impl<D: Disk, H: Origin, N: Ledger> Counter<D, H, N> {
-    ghost use Rattle.jb_book.specs.Led.{IsOfBegun, IsMachineRun};
+    ghost use Rattle.jb_book.specs.Led.{IsMachineRun};
+    ghost use Rattle.jb_book.specs.Marks.{HasShapeMark};
     ghost use Rattle.jb_desk.specs.History.{AreAllStops};
 
     /// Takes it apart where every seat that was given has left: into the book's trail, how many handles
-    /// stopped and how many blocks they had touched, which are the sums over what the seats left, and the
-    /// history, which has all stops of the seats and no others. The history and the trail are those of events that the
-    /// machine of handles accepts.
+    /// stopped and how many blocks they had touched, which are the sums over what the seats left, the history, which has
+    /// all stops of the seats and no others, and the marks that were seen, at one of which the journal had the book's
+    /// shape. The history and the trail are those of events that the machine of handles accepts.
     pub fn totals(
         self,
         history: &History<Words, H>,
         lefts: Vec<Left<H, N>>,
-    ) -> (Vec<Entry>, u64, u64, Scribe<Words, H>)
+    ) -> (
+        Vec<Entry>,
+        u64,
+        u64,
+        Scribe<Words, H>,
+        Sight<Deck<D>, Marks<H>>,
+    )
         requires parts { (H.parts ≡ 2305843009213693953) × (N.parts ≡ 2305843009213693953) }
         requires all { vec_len lefts ≡ self.given }
         ensures trail { result.0.items ≡ self.register.book.trail }
@@ -65,7 +72,7 @@ impl<D: Disk, H: Origin, N: Ledger> Counter<D, H, N> {
         ensures few { (result.1 ≤ 2 ^ 61) × (result.2 ≤ 2 ^ 61) }
         ensures history { (length result.3 ≡ result.1) × AreAllStops result.3 (joined (map made_left lefts.items)) }
         ensures run { IsMachineRun self.register.book.shape result.3 result.0.items }
-        ensures journal { IsOfBegun H.begun self.register.book.shape }
+        ensures journal { HasShapeMark result.4 self.register.book.shape }
     {
         let Counter {
             register,
@@ -85,8 +92,8 @@ impl<D: Disk, H: Origin, N: Ledger> Counter<D, H, N> {
         changes.audit(&mut spare_changes);
         let stops = register.book().next();
         let touched = register.book().changes();
-        let (trail, mut scribe) = register.end();
+        let (trail, mut scribe, seen) = register.end();
         history.audit(&mut scribe, all);
-        (trail, stops, touched, scribe)
+        (trail, stops, touched, scribe, seen)
     }
 }

@@ -21,8 +21,7 @@ impl<D: Disk, C: Clock, H: Origin, N: Ledger> Desk<D, C, H, N> {
     /// Those of [`Deck::checkpoint_one`](jb_deck::Deck::checkpoint_one). The book does not fail with the
     /// journal: the next batch does that, so that groups which are committed can still be settled.
     pub fn checkpoint_round<R: Wait>(&self, rt: &R) -> Result<Checked, CheckpointFault>
-        ensures { ChecksRound D.size D.count D.faults D.honest D.newest D.may_leave D.moment D.left_since H.begun
-            result }
+        ensures { ChecksRound D.Disk H.begun result }
     {
         self.works.lock(rt).checkpoint()
     }
@@ -39,8 +38,7 @@ impl<D: Disk, C: Clock, H: Origin, N: Ledger> Desk<D, C, H, N> {
         rt: &R,
         level: u32,
     ) -> Result<CheckpointRound, CheckpointFault>
-        ensures { ChecksAt D.size D.count D.faults D.honest D.newest D.may_leave D.moment D.left_since H.begun level
-            result }
+        ensures { ChecksAt D.Disk H.begun level result }
     {
         self.works.lock(rt).checkpoint_at(level)
     }
@@ -48,8 +46,7 @@ impl<D: Disk, C: Clock, H: Origin, N: Ledger> Desk<D, C, H, N> {
     /// Writes committed groups home, the oldest first, until the desk is over and no group is left, or until
     /// the journal has failed.
     pub fn run_checkpointer<R: Wait>(&self, rt: &R) -> Ended
-        ensures { EndsChecking D.size D.count D.faults D.honest D.newest D.may_leave D.moment D.left_since H.begun
-            result }
+        ensures { EndsChecking D.Disk H.begun result }
     {
         self.run_checkpointer_at(rt, 0)
     }
@@ -59,8 +56,7 @@ impl<D: Disk, C: Clock, H: Origin, N: Ledger> Desk<D, C, H, N> {
     /// checkpointer keeps up with them, and need not write home themselves. A home that changes often is written less
     /// often under a high level, and more of the log is read by a recovery.
     pub fn run_checkpointer_at<R: Wait>(&self, rt: &R, level: u32) -> Ended
-        ensures { EndsChecking D.size D.count D.faults D.honest D.newest D.may_leave D.moment D.left_since H.begun
-            result }
+        ensures { EndsChecking D.Disk H.begun result }
     {
         for _ in rt.forever() {
             // asked before the checkpoint, so that what is settled since then is not missed

@@ -95,11 +95,9 @@ impl<D: Disk + Drop, C: Clock, H: Origin, N: Ledger> Desk<D, C, H, N> {
         ensures few { IfOk result (λ closed. (closed.handles ≤ 2 ^ 61) × (closed.changes ≤ 2 ^ 61)) }
         ensures trail { IfOk result (λ closed. (past : ℕ) × Follow (start_of closed.trail.items) 0 past
             closed.trail.items × (past ≤ closed.handles)) }
-        ensures since { IfOk result (λ closed. EndsSince D.size D.count D.faults D.honest D.newest D.may_leave D.moment
-            D.left_since H.begun closed.disk closed.trail.items) }
-        ensures stops { IfOk result (λ closed. EndsMarked D.size D.count D.faults D.honest D.newest D.may_leave D.moment
-            D.left_since H.begun (map made_left lefts.items) closed.handles closed.shape closed.disk
-            closed.trail.items seen.stops seen.marks) }
+        ensures since { IfOk result (λ closed. EndsSince D.Disk H.begun closed.disk closed.trail.items) }
+        ensures stops { IfOk result (λ closed. EndsMarked D.Disk H.begun (map made_left lefts.items) closed.handles
+            closed.shape closed.disk closed.trail.items seen.stops seen.marks) }
         ensures refused { IfErr result (IsNotClosed self lefts seen) }
     {
         let Desk {
@@ -147,17 +145,16 @@ fn close_parts<D: Disk + Drop, C: Clock, H: Origin, N: Ledger>(
     ensures few { IfOk result (λ closed. (closed.handles ≤ 2 ^ 61) × (closed.changes ≤ 2 ^ 61)) }
     ensures tiles { IfOk result (λ closed. (past : ℕ) × Follow (start_of closed.trail.items) 0 past closed.trail.items
         × (past ≤ closed.handles)) }
-    ensures since { IfOk result (λ closed. EndsSince D.size D.count D.faults D.honest D.newest D.may_leave D.moment
-        D.left_since H.begun closed.disk closed.trail.items) }
-    ensures stops { IfOk result (λ closed. EndsMarked D.size D.count D.faults D.honest D.newest D.may_leave D.moment
-        D.left_since H.begun (map made_left lefts.items) closed.handles closed.shape closed.disk closed.trail.items
-        seen.stops seen.marks) }
+    ensures since { IfOk result (λ closed. EndsSince D.Disk H.begun closed.disk closed.trail.items) }
+    ensures stops { IfOk result (λ closed. EndsMarked D.Disk H.begun (map made_left lefts.items) closed.handles
+        closed.shape closed.disk closed.trail.items seen.stops seen.marks) }
     ensures given { IfOk result (λ closed. (closed.disk ≡ works.deck.disk) × (closed.clock ≡ works.clock)
         × (closed.trail.items ≡ counter.register.book.trail) × (closed.trail.items ≡ works.deck.trail)) }
     ensures refused { IfErr result (DiffersAs counter works) }
 {
-    let (trail, handles, changes, mut scribe) = counter.totals(&histories.stops, lefts);
-    let Sights { stops, marks } = seen;
+    let (trail, handles, changes, mut scribe, mut known) = counter.totals(&histories.stops, lefts);
+    let Sights { stops, mut marks } = seen;
+    histories.marks.learn(&mut marks, &mut known);
     let (deck, clock, sight) = works.end(histories, marks);
     histories.stops.check(&mut scribe, sight);
     histories.stops.check(&mut scribe, stops);

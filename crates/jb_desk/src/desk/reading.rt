@@ -1,5 +1,5 @@
 //! Home blocks are read as they are committed.
-ghost use Rattle.std.specs.Prelude.{◌≡◌, length};
+ghost use Rattle.std.specs.Prelude.{length};
 
 use crate::desk::Desk;
 use jb_book::{Origin, Sights};
@@ -10,14 +10,15 @@ use std::sync::ledger::Ledger;
 
 impl<D: Disk, C: Clock, H: Origin, N: Ledger> Desk<D, C, H, N> {
     ghost use Rattle.jb_desk.specs.Journal.{ReadsHome};
-    ghost use Rattle.jb_history.specs.Rule.{IsFirstPart};
+    ghost use Rattle.jb_book.specs.Marks.{SeesMore};
 
     /// Reads a home block as it is committed: the copy that is its last live word, which may not be in its place
     /// yet, or else what the disk holds there. What no round has committed is not in it. Waits while the
     /// disk is at work for another thread; the book is not locked. Takes no memory, and changes nothing. After
     /// a fault of the disk `buf` may hold anything. What was settled at the marks that were seen is settled in the journal
     /// that is read: a read after a [`wait`](Desk::wait) sees the handle that was waited for
-    /// ([`laws::shown_is_given`](crate::laws::shown_is_given)).
+    /// ([`laws::shown_is_given`](crate::laws::shown_is_given)). The journal as it is after the read is a mark that is seen
+    /// then: where the disk is honest as the desk is [closed](Desk::close) with what was seen, it was honest in the read.
     ///
     /// # Errors
     ///
@@ -31,9 +32,9 @@ impl<D: Disk, C: Clock, H: Origin, N: Ledger> Desk<D, C, H, N> {
         home: u64,
         buf: &mut [u8],
     ) -> Result<(), ReadHomeFault>
-        ensures reads { ReadsHome D.size D.count D.faults D.honest D.newest D.may_leave D.moment D.left_since H.begun
-            seen.new.stops seen.old.marks home (length buf.old) buf.new result }
-        ensures sees { IsFirstPart seen.old.stops seen.new.stops × (seen.new.marks ≡ seen.old.marks) }
+        ensures reads { ReadsHome D.Disk H.begun seen.new.stops seen.old.marks seen.new.marks home (length buf.old)
+            buf.new result }
+        ensures sees { SeesMore seen.old seen.new }
     {
         self.works.lock(rt).read(&self.histories, seen, home, buf)
     }

@@ -54,8 +54,8 @@ impl<D: Disk, C: Clock, H: Origin, N: Ledger> Desk<D, C, H, N> {
         ensures view { SeesRound (held_by committer.old) (held_by committer.new) (view_of (seat_of committer.old))
             (view_of (seat_of committer.new)) result }
         ensures counted { KeepsStops (seat_of committer.old) (seat_of committer.new) }
-        ensures round { CommitsRound D.size D.count D.faults D.honest D.newest D.may_leave D.moment D.left_since
-            H.begun (held_by committer.old) (view_of (seat_of committer.new)).settled result }
+        ensures round { CommitsRound D.Disk H.begun (held_by committer.old) (view_of (seat_of committer.new)).settled
+            result }
     {
         let held = committer.batch.take();
         let mut counter = self.counter.lock(rt);
@@ -104,8 +104,8 @@ impl<D: Disk, C: Clock, H: Origin, N: Ledger> Desk<D, C, H, N> {
         ensures view { SeesCommit prepared.batch (view_of (seat_of committer.old)) (view_of (seat_of committer.new))
             result }
         ensures counted { KeepsStops (seat_of committer.old) (seat_of committer.new) }
-        ensures round { CommitsRound D.size D.count D.faults D.honest D.newest D.may_leave D.moment D.left_since
-            H.begun (Some prepared.batch) (view_of (seat_of committer.new)).settled result }
+        ensures round { CommitsRound D.Disk H.begun (Some prepared.batch) (view_of (seat_of committer.new)).settled
+            result }
     {
         let (tickets, sight, taken) = held;
         let end = past(prepared.batch());

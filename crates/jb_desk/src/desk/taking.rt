@@ -19,8 +19,7 @@ impl<D: Disk, C: Clock, H: Origin, N: Ledger> Desk<D, C, H, N> {
     ///
     /// `Memory` where there is none for the entries: none is taken.
     pub fn take_trail<R: Wait>(&self, rt: &R) -> Result<Vec<Entry>, Memory>
-        ensures { GivesTrail D.size D.count D.faults D.honest D.newest D.may_leave D.moment D.left_since H.begun
-            result }
+        ensures { GivesTrail D.Disk H.begun result }
     {
         // the book may be behind the journal, never ahead of it; what it has last stays in both
         let past = self.counter.lock(rt).last_start();

@@ -2,7 +2,7 @@
 ghost use Rattle.std.specs.Prelude.{◌≡◌, take, option_map, Some, None, IfErr, IfOk, IfSome};
 ghost use Rattle.jb_disk.specs.File.{size_of};
 ghost use Rattle.jb_front.specs.Front.{homes_in};
-ghost use Rattle.jb_pair.specs.Images.{image_size};
+ghost use Rattle.jb_pair.specs.Files.{as_image};
 ghost use Rattle.jb_plain.specs.Files.{IsOpened, IsShut, IsUnread, SaysSize, SaysSuper};
 
 use crate::fault::CommandFault;
@@ -34,7 +34,7 @@ pub(crate) fn open_disk<'a, R: Files<File = File> + AllocGlobal>(
     name: &'a str,
 ) -> Result<ImageDisk, CommandFault<'a>>
     ensures unread { IfErr result (IsUnread name.entry.now) }
-    ensures size { IfOk result (λ disk. SaysSize (image_size disk)) }
+    ensures size { IfOk result (λ disk. SaysSize (as_image.size disk)) }
 {
     let (disk, _) = open_one(rt, name, Opening::Change)?;
     Ok(disk)

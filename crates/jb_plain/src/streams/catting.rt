@@ -28,7 +28,7 @@ pub fn cat_on<'a, D: Disk, O: Write>(
     homes: Option<u64>,
     out: &mut O,
 ) -> Result<u8, CommandFault<'a>>
-    ensures cats { CatsOn D.size D.count D.honest D.newest homes home count hex disk.old disk.new (O.contents out.old)
+    ensures cats { CatsOn D.Disk homes home count hex disk.old disk.new (O.contents out.old)
         (O.contents out.new) result }
 {
     let mut block = [0u8; MOST_BYTES];

@@ -19,7 +19,7 @@ use std::io::Write;
 /// again; `CommandFault::WriteFault` where `out` took only the beginning of the line, after a renumbering that is
 /// done. But for the last nothing was written to `out`.
 pub fn renumber_on<'a, D: Disk, O: Write>(disk: &mut D, out: &mut O) -> Result<u8, CommandFault<'a>>
-    ensures renumbers { ChangesOn D.size D.count D.faults D.honest D.newest D.may_leave D.moment D.left_since
+    ensures renumbers { ChangesOn D.Disk
         Renumbers IsRenumbering RenumbersAs renumbered_line disk.old disk.new
         (O.contents out.old) (O.contents out.new) result }
 {
@@ -33,7 +33,7 @@ pub fn renumber_on<'a, D: Disk, O: Write>(disk: &mut D, out: &mut O) -> Result<u
 /// # Errors
 /// As those of `renumber_on`.
 pub fn widen_on<'a, D: Disk, O: Write>(disk: &mut D, out: &mut O) -> Result<u8, CommandFault<'a>>
-    ensures widens { ChangesOn D.size D.count D.faults D.honest D.newest D.may_leave D.moment D.left_since
+    ensures widens { ChangesOn D.Disk
         Widens IsWidened WidensAs widened_line disk.old disk.new (O.contents out.old) (O.contents out.new) result }
 {
     let answer = widen(disk);

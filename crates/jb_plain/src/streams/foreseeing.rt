@@ -23,7 +23,7 @@ pub fn foresee_on<'a, D: Disk, O: Write>(
     list: bool,
     out: &mut O,
 ) -> Result<u8, CommandFault<'a>>
-    ensures foresees { ForeseesOn D.size D.count D.faults D.honest D.newest D.may_leave D.moment D.left_since None
+    ensures foresees { ForeseesOn D.Disk None
         list disk.old disk.new (O.contents out.old) (O.contents out.new) result }
 {
     let answer = foresee(alloc, disk);

@@ -33,7 +33,7 @@ pub fn format_on<'a, D: Disk, O: Write>(
     width: Width,
     out: &mut O,
 ) -> Result<u8, CommandFault<'a>>
-    ensures formats { FormatsOn D.size D.count D.faults D.honest D.newest D.may_leave D.moment D.left_since journal
+    ensures formats { FormatsOn D.Disk journal
         max_transaction uuid (is_wide width) disk.old disk.new
         (O.contents out.old) (O.contents out.new) result }
 {

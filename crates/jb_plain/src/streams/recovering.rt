@@ -24,7 +24,7 @@ pub fn recover_on<'a, D: Disk, O: Write>(
     disk: &mut D,
     out: &mut O,
 ) -> Result<u8, CommandFault<'a>>
-    ensures recovers { RecoversOn D.size D.count D.faults D.honest D.newest D.may_leave D.moment D.left_since None
+    ensures recovers { RecoversOn D.Disk None
         disk.old disk.new
         (O.contents out.old) (O.contents out.new) result }
 {

@@ -19,17 +19,19 @@ loop-life-init c =
     let new1 = newest_of d1 in
     let kept = c.in_ok-recover.ensures.kept in
     record {
-      rest = λ sound.
+      rest =
+          let sound = c.always_sound.ensures.sound in
           let ended = (c.in_ok-recover.ensures.recovers sound).3 in
           let at : recovered size count new1 ≡ new1 = ap (recovered size count) ended ∙ c.recovered.ensures.once size count base ∙ sym ended in
           record {
-            sound = kept.stays_honest sound;
+            sound = sound;
             only = c.in_ok-recover.ensures.durable sound;
             still = subst (λ s. recovered s d1.count new1 ≡ new1) (sym kept.same_size) (subst (λ n. recovered size n new1 ≡ new1) (sym kept.same_count) at);
           };
       size = kept.same_size;
       count = kept.same_count;
-      lives = λ sound.
+      lives =
+          let sound = c.always_sound.ensures.sound in
           subst (λ reported. HasLives size count [] reported base new1) (sym c.new-committed.ensures.items)
           (lives-none size count base new1 (c.in_ok-recover.ensures.journal sound) (c.in_ok-recover.ensures.recovers sound).3);
     }
@@ -48,16 +50,16 @@ loop-life-preserved c =
     let is = c.in_ok-next.reported in
     let items : c.push.new.self.items ≡ c.loop-life.committed.items ++ is ∷ [] = search rules in
     record {
-      rest = λ sound. c.in_ok-next.ensures.rest (inv.rest sound);
+      rest = c.in_ok-next.ensures.rest inv.rest;
       size = same.0 ∙ inv.size;
       count = same.1 ∙ inv.count;
-      lives = λ sound.
-          let h = inv.lives sound in
+      lives =
+          let h = inv.lives in
           let before = recovered_home size count base in
           let held : HoldsChanges h.own h.now (bytes_of mid.size) mid.count before h.changes (newest_of mid) =
           subst (λ s. HoldsChanges h.own h.now s mid.count before h.changes (newest_of mid)) (sym inv.size)
           (subst (λ n. HoldsChanges h.own h.now size n before h.changes (newest_of mid)) (sym inv.count) h.holds) in
-          let life = c.in_ok-next.ensures.lives (inv.rest sound) h.own h.now before h.changes held in
+          let life = c.in_ok-next.ensures.lives inv.rest h.own h.now before h.changes held in
           let here : HoldsLife h.own h.now size count before h.changes handles is (newest_of new) =
           subst (λ s. HoldsLife h.own h.now s count before h.changes handles is (newest_of new)) inv.size
           (subst (λ n. HoldsLife h.own h.now (bytes_of mid.size) n before h.changes handles is (newest_of new)) inv.count life) in

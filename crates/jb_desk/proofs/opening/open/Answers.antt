@@ -1,7 +1,10 @@
-use Rattle.jb_desk.proofs.Begins.{opened-since}
+use Rattle.jb_desk.proofs.Begins.{open-opened, open-since}
 use Rattle.jb_desk.proofs.opening.open.Goals as goal
 
-pub returns-in-Ok-clause-since : goal.returns-in-Ok-clause-since
-returns-in-Ok-clause-since g c =
-    opened-since g.D.Disk.size g.D.Disk.count g.D.Disk.faults g.D.Disk.honest g.D.Disk.newest g.D.Disk.may_leave g.D.Disk.moment g.D.Disk.left_since g.met.D.Disk.counts_now g.H.Origin.begun
-    c.args.disk c.in-Ok.deck c.requires c.in-Ok.ensures.kept c.in-Ok.ensures.faults c.in-Ok.ensures.new c.in-Ok.ensures.opens c.in-Ok.ensures.leaves c.in-Ok.ensures.now c.in-Ok.ensures.stands
+pub returns-clause-opened : goal.returns-clause-opened
+returns-clause-opened g c = open-opened g.D.Disk c.args.disk c.open.result c.open.ensures.kept c.open.ensures.faults c.open.ensures.opens
+
+pub returns-clause-since : goal.returns-clause-since
+returns-clause-since g c =
+    open-since g.D.Disk c.args.disk g.met.D.Disk.counts_now g.H.Origin.begun c.requires c.open.result c.open.ensures.kept c.open.ensures.faults
+    c.open.ensures.new c.open.ensures.opens c.open.ensures.leaves c.open.ensures.now c.open.ensures.stands

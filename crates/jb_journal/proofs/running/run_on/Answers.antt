@@ -1,6 +1,10 @@
 use Rattle.jb_journal.proofs.Refusing.{refuses-as}
 use Rattle.jb_journal.proofs.running.run_on.Goals as goal
 
+-- the disk that is lost
+pub returns-in-Err-clause-refused : goal.returns-in-Err-clause-refused
+returns-in-Err-clause-refused g c = (c.in-Err.field-0-0, c.in-Err.ensures.refused)
+
 pub returns-in_default-clause-refused : goal.returns-in_default-clause-refused
 returns-in_default-clause-refused g c = (c.shape-shape.result, c.in-Ok.ensures.opened c.shape-shape.result c.shape-shape.ensures.journal)
 
@@ -9,6 +13,6 @@ returns-in_default-new-clause-refused g c = (c.shape-shape.result, c.in-Ok.ensur
 
 pub returns-clause-refused : goal.returns-clause-refused
 returns-clause-refused g c =
-    refuses-as g.D.Disk.size g.D.Disk.count g.D.Disk.faults g.D.Disk.honest g.D.Disk.newest c.args.disk
+    refuses-as g.D.Disk c.args.disk
     (c.shape-shape.result, c.in-Ok.ensures.opened c.shape-shape.result c.shape-shape.ensures.journal)
     c.run_open.result c.run_open.ensures.faults

@@ -3,4 +3,4 @@ use Rattle.jb_journal_client.proofs.two.two_workers.Goals as goal
 
 pub returns : goal.returns
 returns g c =
-    told-of g.D.Disk.size g.D.Disk.count g.D.Disk.faults g.D.Disk.honest g.D.Disk.newest g.D.Disk.may_leave g.D.Disk.moment g.D.Disk.left_since c.args.disk c.args.bytes _ c.new.result.workers c.new-2.ensures c.new.ensures.0 c.run.result c.run.ensures.ran
+    told-of g.D.Disk c.args.disk c.args.bytes _ c.new.result.workers c.new-2.ensures c.new.ensures.0 c.run.result c.run.ensures.ran

@@ -52,5 +52,5 @@ returns-clause-since g c =
       since = record { deck = ends.deck; same_disk = ends.same_disk; same_trail = ends.same_trail; since = ends.since };
       run_shape = ends.run_shape;
       run = ends.run;
-      runs_as = λ honest. ends.runs_as honest ∙ shape-same c.in-Ok.closed.shape c.args.shape c.if-ne.ensures;
+      runs_as = λ is_known honest. ends.runs_as is_known honest ∙ shape-same c.in-Ok.closed.shape c.args.shape c.if-ne.ensures;
     }

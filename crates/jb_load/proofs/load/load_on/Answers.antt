@@ -4,6 +4,10 @@ use Rattle.jb_queue.specs.QueueLines.{handles_of}
 use Rattle.jb_load.proofs.Answering.{answers-as, loads-since}
 use Rattle.jb_load.proofs.load.load_on.Goals as goal
 
+-- the disk that is lost
+pub returns-in-Err-clause-answers : goal.returns-in-Err-clause-answers
+returns-in-Err-clause-answers g c = (omega arith, (c.in-Err.field-0-0, c.in-Err.ensures.refused))
+
 pub returns-in_default-clause-answers : goal.returns-in_default-clause-answers
 returns-in_default-clause-answers g c = (
   omega arith,
@@ -25,12 +29,12 @@ returns-in_default-new-clause-answers g c = (
 pub returns-clause-answers : goal.returns-clause-answers
 returns-clause-answers g c =
     let same : bytes_of c.args.queue.now.bs ≡ g.D.Disk.size c.args.disk = omega arith in
-    answers-as g.D.Disk.size g.D.Disk.count g.D.Disk.faults g.D.Disk.honest g.D.Disk.newest g.D.Disk.may_leave g.D.Disk.moment g.D.Disk.left_since g.H.Origin.begun c.args.disk c.args.queue.now.bs (handles_of c.args.queue.now) c.args.options c.shape-shape.result same
+    answers-as g.D.Disk g.H.Origin.begun c.args.disk c.args.queue.now.bs (handles_of c.args.queue.now) c.args.options c.shape-shape.result same
     (c.in-Ok.ensures.opened c.shape-shape.result c.shape-shape.ensures.journal)
     c.load_open.result c.load_open.ensures.since c.load_open.ensures.ended c.load_open.ensures.faults
 
 pub returns-clause-since : goal.returns-clause-since
 returns-clause-since g c =
-    loads-since g.D.Disk.size g.D.Disk.count g.D.Disk.faults g.D.Disk.honest g.D.Disk.newest g.D.Disk.may_leave g.D.Disk.moment g.D.Disk.left_since g.H.Origin.begun c.args.disk (handles_of c.args.queue.now) c.args.options.threads c.shape-shape.result
+    loads-since g.D.Disk g.H.Origin.begun c.args.disk (handles_of c.args.queue.now) c.args.options.threads c.shape-shape.result
     (c.in-Ok.ensures.opened c.shape-shape.result c.shape-shape.ensures.journal)
     c.load_open.result c.load_open.ensures.since

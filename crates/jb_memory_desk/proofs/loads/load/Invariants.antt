@@ -8,9 +8,9 @@ use Rattle.jb_memory_desk.proofs.loads.load.Given as goal
 abbrev pub ghosts-load_on-H-Origin : goal.ghosts-load_on-H-Origin
 ghosts-load_on-H-Origin g a = record {
   begun = record {
+    is_known = Unit {0};
     size = g.D.Disk.size a.disk;
     count = g.D.Disk.count a.disk;
-    honest = g.D.Disk.honest a.disk;
     faults = g.D.Disk.faults a.disk;
     own = own_on (g.D.Disk.size a.disk) (g.D.Disk.count a.disk) (g.D.Disk.newest a.disk);
     homes = recovered_home (g.D.Disk.size a.disk) (g.D.Disk.count a.disk) (g.D.Disk.newest a.disk);

@@ -21,5 +21,5 @@ start-requires-clause-begun g c =
         numbers = subst (NumberedFrom c.args.deck.log.next) (sym c.requires.fresh) tt;
         next = (let none : length c.args.deck.trail ≡ 0 = ap length c.requires.fresh in omega (arith, none));
       };
-      since = λ honest. absurd (c.requires.blind honest);
+      since = λ known_start held. absurd (c.requires.blind known_start);
     }

@@ -4,6 +4,6 @@ use Rattle.jb_book.proofs.register.Register.drop_open.Goals as goal
 
 pub invariant_of-self : goal.invariant_of-self
 invariant_of-self g c = (
-  kept-dropped g.S.Origin.begun c.self.inside.book c.drop_open.new.self c.self.inside.scribe c.self.invariant.0 c.args.seat c.drop_open.ensures.value,
+  kept-dropped c.self.inside.book c.drop_open.new.self c.self.inside.scribe c.self.invariant.0 c.args.seat c.drop_open.ensures.value,
   marked-dropped c.self.inside.seen c.self.inside.book c.drop_open.new.self c.self.invariant.1 c.args.seat c.drop_open.ensures.value,
 )

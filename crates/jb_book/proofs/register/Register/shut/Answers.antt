@@ -4,6 +4,6 @@ use Rattle.jb_book.proofs.register.Register.shut.Goals as goal
 
 pub invariant_of-self : goal.invariant_of-self
 invariant_of-self g c = (
-  kept-shut g.S.Origin.begun c.self.inside.book c.shut.new.self c.self.inside.scribe c.self.invariant.0 c.shut.ensures.value,
+  kept-shut c.self.inside.book c.shut.new.self c.self.inside.scribe c.self.invariant.0 c.shut.ensures.value,
   marked-shut c.self.inside.seen c.self.inside.book c.shut.new.self c.self.invariant.1 c.shut.ensures.value,
 )

@@ -10,7 +10,7 @@ use Rattle.jb_book.proofs.register.Register.stop.Goals as goal
 pub invariant_of-self : goal.invariant_of-self
 invariant_of-self g c =
     let words = (changes_of c.args.handle).words in (
-      kept-stopped g.S.Origin.begun c.self.inside.book c.enqueue.new.self c.self.inside.scribe c.show-all.new.scribe c.args.seat words c.reserved-reserved.ensures.sound c.self.invariant.0 c.in-Ok.ensures.open c.in-Ok.ensures.ok
+      kept-stopped c.self.inside.book c.enqueue.new.self c.self.inside.scribe c.show-all.new.scribe c.args.seat words c.reserved-reserved.ensures.sound c.self.invariant.0 c.in-Ok.ensures.open c.in-Ok.ensures.ok
           (λ same. c.show-all.ensures.kept ∙ (c.record_last.ensures _ _ same).0 ∙ ap (λ l. l ++ words ∷ []) c.look.ensures.kept.0),
       marked-queued c.self.inside.seen c.self.inside.book c.enqueue.new.self c.self.invariant.1 c.args.seat words c.in-Ok.ensures.ok,
     )

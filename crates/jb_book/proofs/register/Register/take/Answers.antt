@@ -10,7 +10,7 @@ use Rattle.jb_book.proofs.register.Register.take.Goals.{in-Some, in-None}
 
 pub invariant_of-self : goal.invariant_of-self
 invariant_of-self g c = (
-  kept-take g.S.Origin.begun c.take.result c.self.inside.book c.take.new.self c.self.inside.scribe c.show-sight.new.scribe c.reserved-reserved.ensures.sound c.self.invariant.0 c.take.ensures.cut c.take.ensures.taken c.take.ensures.none c.show-sight.ensures.kept,
+  kept-take c.take.result c.self.inside.book c.take.new.self c.self.inside.scribe c.show-sight.new.scribe c.reserved-reserved.ensures.sound c.self.invariant.0 c.take.ensures.cut c.take.ensures.taken c.take.ensures.none c.show-sight.ensures.kept,
   marked-taken c.self.inside.seen c.self.inside.book c.take.new.self c.self.invariant.1 c.take.result c.take.ensures.taken c.take.ensures.none,
 )
 

@@ -64,12 +64,12 @@ returns-in_ok-settle-in-Ok-clause-view g c =
 pub returns-in_ok-settle-in-Ok-clause-round : goal.returns-in_ok-settle-in-Ok-clause-round
 returns-in_ok-settle-in-Ok-clause-round g c =
     let p = c.args.prepared in
-    (p, refl, subst (λ (r : Result Done BatchFault). IfOk r (IsRound g.D.Disk.size g.D.Disk.count g.D.Disk.faults g.D.Disk.honest g.D.Disk.newest g.D.Disk.may_leave g.D.Disk.moment g.D.Disk.left_since g.H.Origin.begun p)) c.in-Ok.is c.commit-result.ensures.round)
+    (p, refl, subst (λ (r : Result Done BatchFault). IfOk r (IsRound g.D.Disk g.H.Origin.begun p)) c.in-Ok.is c.commit-result.ensures.round)
 
 pub returns-in_ok-settle_last-in-Err-DeviceFault-clause-round : goal.returns-in_ok-settle_last-in-Err-DeviceFault-clause-round
 returns-in_ok-settle_last-in-Err-DeviceFault-clause-round g c =
     let p = c.args.prepared in
-    let Fails = λ (r : Result Done BatchFault). FailsAs g.D.Disk.size g.D.Disk.count g.D.Disk.faults g.D.Disk.honest g.D.Disk.newest g.D.Disk.may_leave g.D.Disk.moment g.D.Disk.left_since g.H.Origin.begun p r in
+    let Fails = λ (r : Result Done BatchFault). FailsAs g.D.Disk g.H.Origin.begun p r in
     let is : c.in-Err-DeviceFault.field-0 ≡ DeviceFault c.in-Err-DeviceFault.settled = search rules in (
       p,
       c.in-Err-DeviceFault.settled,

@@ -58,7 +58,7 @@ returns-in-Ok-clause-round g c =
     let b : Gathered = c.end-batch.result.0 in
     let same : c.in-Ok.prepared.batch ≡ b = c.in-Ok.ensures.batch in
     let up : TakesUp held b = subst (TakesUp held) (sym c.end-batch.ensures.batch) (subst (λ h. TakesUp h c.in-Some.held) c.take-held.ensures.value (gives-takes _ _ c.take-held.result c.in_ok-held.field-0 c.in-Some.held c.in-Some.is c.in_ok-held.ensures.batch)) in
-    round-up g.D.Disk.size g.D.Disk.count g.D.Disk.faults g.D.Disk.honest g.D.Disk.newest g.D.Disk.may_leave g.D.Disk.moment g.D.Disk.left_since g.H.Origin.begun held c.in-Ok.prepared.batch (view_of (seat_of c.commit.new.committer)).settled c.commit.result
+    round-up g.D.Disk g.H.Origin.begun held c.in-Ok.prepared.batch (view_of (seat_of c.commit.new.committer)).settled c.commit.result
     (subst (TakesUp held) (sym same) up) c.commit.ensures.round
 
 pub returns-in_default-clause-answers : goal.returns-in_default-clause-answers
@@ -98,4 +98,4 @@ returns-after-fault-clause-round g c =
       | in-Memory w ↦ inl w.result-is
       | in-NoCut w ↦ inr w.result-is
     ] in
-    round-held g.D.Disk.size g.D.Disk.count g.D.Disk.faults g.D.Disk.honest g.D.Disk.newest g.D.Disk.may_leave g.D.Disk.moment g.D.Disk.left_since g.H.Origin.begun (held_by c.args.committer.now) (view_of (seat_of c.hold.new.self)).settled c.match-fault.result fault
+    round-held g.D.Disk g.H.Origin.begun (held_by c.args.committer.now) (view_of (seat_of c.hold.new.self)).settled c.match-fault.result fault

@@ -1,6 +1,12 @@
-use Rattle.jb_desk.specs.Since.{may_stop}
-use Rattle.jb_desk.proofs.Shaped.{of-begun}
+use Rattle.std.proofs.Common.{List, length, subst, sym, ◌∙◌}
+use Rattle.jb_book.specs.Marks.{HasShapeMark}
+use Rattle.jb_deck.specs.Deck.{OpenDeck}
+use Rattle.jb_history.proofs.Placed.{get_last}
 use Rattle.jb_desk.proofs.desk.Desk.start.Goals as goal
 
+-- the journal as it is has its shape
 pub new-register-requires-clause-journal : goal.new-register-requires-clause-journal
-new-register-requires-clause-journal g c = of-begun g.D.Disk.size g.D.Disk.count g.D.Disk.faults g.D.Disk.honest g.D.Disk.newest g.D.Disk.may_leave g.D.Disk.moment g.D.Disk.left_since g.H.Origin.begun (may_stop g.H.Origin.begun) c.args.deck c.shape-shape.result c.shape-shape.ensures.journal c.requires.begun
+new-register-requires-clause-journal g c =
+    let none = c.named-marks.result.1 in
+    subst (λ (ms : List (OpenDeck g.row.D.Denot)). HasShapeMark ms c.shape-shape.result) (sym c.mark-seen.ensures.whole ∙ sym c.mark-seen.ensures.sight)
+    (record { at = length none; mark = c.args.deck; stands = get_last none c.args.deck; same = sym c.shape-shape.ensures.value })

@@ -5,12 +5,12 @@ use Rattle.jb_desk.proofs.works.Works.checkpoint.Goals as goal
 
 pub invariant_of-self : goal.invariant_of-self
 invariant_of-self g c =
-    checkpoint-marked g.D.Disk.size g.D.Disk.count g.D.Disk.faults g.D.Disk.honest g.D.Disk.newest g.D.Disk.may_leave g.D.Disk.moment g.D.Disk.left_since g.met.D.Disk.counts_now g.S.Origin.begun (IsStop g.S.Origin.begun c.self.inside.sight) (λ h s. s.0)
+    checkpoint-marked g.D.Disk g.met.D.Disk.counts_now g.S.Origin.begun (IsStop g.S.Origin.begun c.self.inside.sight) (λ h s. s.0)
     c.self.inside.deck c.checkpoint_one.new.self c.checkpoint_one.ensures.kept c.self.inside.scribe
     c.checkpoint_one.result c.checkpoint_one.ensures.answers c.checkpoint_one.ensures.checkpoints c.checkpoint_one.ensures.leaves c.self.invariant
 
 pub returns-clause-round : goal.returns-clause-round
 returns-clause-round g c =
-    checkpoint-round g.D.Disk.size g.D.Disk.count g.D.Disk.faults g.D.Disk.honest g.D.Disk.newest g.D.Disk.may_leave g.D.Disk.moment g.D.Disk.left_since g.met.D.Disk.counts_now g.S.Origin.begun (IsStop g.S.Origin.begun c.self.inside.sight) (λ h s. s.0)
+    checkpoint-round g.D.Disk g.met.D.Disk.counts_now g.S.Origin.begun (IsStop g.S.Origin.begun c.self.inside.sight) (λ h s. s.0)
     c.self.inside.deck c.checkpoint_one.new.self c.checkpoint_one.ensures.kept
     c.checkpoint_one.result c.checkpoint_one.ensures.answers c.checkpoint_one.ensures.checkpoints c.self.invariant.since (invariant_of-self g c).since

@@ -12,7 +12,7 @@ use Rattle.jb_desk.proofs.works.Works.checkpoint_at.Goals.{else-not-aborted-via-
 pub returns-then-in_use-level-clause-round : goal.returns-then-in_use-level-clause-round
 returns-then-in_use-level-clause-round g c = record {
   deck = c.self.inside.deck;
-  since = is-weaker g.D.Disk.size g.D.Disk.count g.D.Disk.faults g.D.Disk.honest g.D.Disk.newest g.D.Disk.may_leave g.D.Disk.moment g.D.Disk.left_since g.S.Origin.begun (IsStop g.S.Origin.begun c.self.inside.sight) (may_stop g.S.Origin.begun) (λ h s. s.0) c.self.inside.deck c.self.invariant.since;
+  since = is-weaker g.D.Disk g.S.Origin.begun (IsStop g.S.Origin.begun c.self.inside.sight) (may_stop g.S.Origin.begun) (λ h s. s.0) c.self.inside.deck c.self.invariant.since;
   up = search rules;
   in_use = c.in_use-in_use.ensures.blocks;
   low = c.if-in_use-level.true;
@@ -20,7 +20,7 @@ returns-then-in_use-level-clause-round g c = record {
 
 pub invariant_of-self : goal.invariant_of-self
 invariant_of-self g c =
-    checkpoint-marked g.D.Disk.size g.D.Disk.count g.D.Disk.faults g.D.Disk.honest g.D.Disk.newest g.D.Disk.may_leave g.D.Disk.moment g.D.Disk.left_since g.met.D.Disk.counts_now g.S.Origin.begun (IsStop g.S.Origin.begun c.self.inside.sight) (λ h s. s.0)
+    checkpoint-marked g.D.Disk g.met.D.Disk.counts_now g.S.Origin.begun (IsStop g.S.Origin.begun c.self.inside.sight) (λ h s. s.0)
     c.self.inside.deck c.checkpoint_one.new.self c.checkpoint_one.ensures.kept c.self.inside.scribe
     c.checkpoint_one.result c.checkpoint_one.ensures.answers c.checkpoint_one.ensures.checkpoints c.checkpoint_one.ensures.leaves c.self.invariant
 
@@ -36,6 +36,6 @@ returns-clause-round g c =
       | in-Ok w ↦ ap round_of w.in-Ok.is ∙ sym w.result-is
       | in-Err w ↦ ap round_of w.in-Err.is ∙ sym w.result-is
     ] in
-    subst (λ (r : Result CheckpointRound CheckpointFault). ChecksAt g.D.Disk.size g.D.Disk.count g.D.Disk.faults g.D.Disk.honest g.D.Disk.newest g.D.Disk.may_leave g.D.Disk.moment g.D.Disk.left_since g.S.Origin.begun c.args.level r) is
-    (round-at g.D.Disk.size g.D.Disk.count g.D.Disk.faults g.D.Disk.honest g.D.Disk.newest g.D.Disk.may_leave g.D.Disk.moment g.D.Disk.left_since g.met.D.Disk.counts_now g.S.Origin.begun (IsStop g.S.Origin.begun c.self.inside.sight) (λ h s. s.0) deck c.checkpoint_one.new.self c.checkpoint_one.ensures.kept c.args.level high
+    subst (λ (r : Result CheckpointRound CheckpointFault). ChecksAt g.D.Disk g.S.Origin.begun c.args.level r) is
+    (round-at g.D.Disk g.met.D.Disk.counts_now g.S.Origin.begun (IsStop g.S.Origin.begun c.self.inside.sight) (λ h s. s.0) deck c.checkpoint_one.new.self c.checkpoint_one.ensures.kept c.args.level high
     c.checkpoint_one.result c.checkpoint_one.ensures.answers c.checkpoint_one.ensures.checkpoints c.self.invariant.since (invariant_of-self g c).since)

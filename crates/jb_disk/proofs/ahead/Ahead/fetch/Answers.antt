@@ -28,7 +28,7 @@ returns-clause-ahead g c =
           ap (λ s. part s k (run ++ post_of 0 (bytes * count) c.args.self.now.run)) (sym c.bytes-size.ensures.value)
           ∙ part-append bytes k run (post_of 0 (bytes * count) c.args.self.now.run) within
           ∙ ap (λ s. part s k run) size
-          ∙ c.in_ok-read_run.ensures.found was k few
+          ∙ c.in_ok-read_run.ensures.found honest k few
           ∙ ap (block (G.newest disk)) at
-          ∙ ap (λ d. block d p) (sym (c.read_run.ensures.newest was));
+          ∙ ap (λ d. block d p) (sym (c.read_run.ensures.newest honest));
     }

@@ -1,5 +1,8 @@
 use Rattle.std.proofs.Common.{length, arith, sym, ◌∙◌, ap}
 use Rattle.jb_disk.proofs.Buffers.{kept_count, kept_size, kept_buffer, kept_written}
+use Rattle.std.specs.Prelude.{map, reverse}
+use Rattle.jb_disk.specs.Calls.{step_of}
+use Rattle.jb_disk.proofs.Goings.{goes_refused}
 use Rattle.jb_disk.proofs.memory.MemoryDiskDisk.write.Goals as goal
 
 pub index_mut-requires : goal.index_mut-requires
@@ -16,3 +19,8 @@ pub invariant_of-self : goal.invariant_of-self
 invariant_of-self c =
     kept_written c.self.inside c.self.invariant c.args.self.now c.self.view_is c.args.place c.args.bytes.now c.copy_from_slice.new.self c.note_write.new.calls
     c.requires.place c.requires.block c.copy_from_slice.ensures.items c.in-Ok.ensures.ok
+
+pub returns-in-Err-clause-goes : goal.returns-in-Err-clause-goes
+returns-in-Err-clause-goes c = λ _.
+    goes_refused c.args.self.now _ c.args.place c.args.bytes.now (ap (λ h. h.first) c.self.view_is)
+    (ap (λ items. reverse (map step_of items)) c.in-Err.ensures.err ∙ ap (λ h. h.steps) c.self.view_is)

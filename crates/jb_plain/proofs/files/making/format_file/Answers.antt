@@ -1,12 +1,12 @@
 use Rattle.std.proofs.Common.{◌∙◌, [], ap, inr, refl, subst, sym, arith}
 use Rattle.jb_block.specs.Size.{bytes_of}
 use Rattle.jb_block.specs.Width.{is_wide}
-use Rattle.jb_disk.specs.File.{count_of, faults_of, size_of}
-use Rattle.jb_disk.specs.declared.file.FileDisk.{FileDisk}
+use Rattle.jb_disk.specs.File.{UnknownFile, count_of, faults_of, size_of}
 use Rattle.jb_front.specs.Formatted.{HasRoom}
 use Rattle.jb_super.specs.Features.{of_width}
 use Rattle.jb_super.specs.Geometry.{limit_of}
 use Rattle.jb_super.specs.Superblock.{new_super}
+use Rattle.jb_plain.specs.Files.{unread_file}
 use Rattle.jb_plain.specs.Format.{FormatsOn, TellsFormat}
 use Rattle.jb_plain.specs.Options.{IsJournalLength}
 use Rattle.jb_plain.proofs.files.making.format_file.Goals as goal
@@ -20,13 +20,13 @@ returns g c =
     let room : HasRoom c.in-Ok.new.journal (count_of made.old) = record { least = good.0; most = good.1; blocks = rw file.count (omega arith) } in
     let limit = c.in-Some.ensures.value
     ∙ ap (λ size. limit_of (of_width (is_wide c.in-Ok.new.width) (new_super (bytes_of size) c.in-Ok.new.journal c.in-Ok.new.max_transaction c.in-Ok.new.uuid))) (sym file.size) in
-    let formats : FormatsOn (λ (f : FileDisk). bytes_of (size_of f)) count_of faults_of (λ _. ⊥) (λ _. []) (λ _ _. ⊥) (λ _. 0) (λ _ _ _. ⊥)
+    let formats : FormatsOn unread_file
     c.in-Ok.new.journal c.in-Ok.new.max_transaction c.in-Ok.new.uuid (is_wide c.in-Ok.new.width) made.old made.new
     (g.O.Write.contents c.args.out.now) (g.O.Write.contents c.tell_format.new.out) c.tell_format.result = record {
       answer = c.in-Ok-make_file.answer;
       room = (λ is. absurd (made.room is), λ none. absurd (none room));
       untouched = λ is. absurd (made.room is);
-      kept = file.kept;
+      kept = record { same_size = file.kept.same_size; same_count = file.kept.same_count; was_honest = λ never. never };
       fault_count = file.faults;
       written = λ never. absurd never;
       torn = λ never. absurd never;

@@ -12,7 +12,10 @@ returns g c = record {
     c.foresee-answer.new.disk,
     record {
       answer = c.foresee-answer.result;
-      passed = c.foresee-answer.ensures.passed;
+      kept = c.foresee-answer.ensures.passed.kept;
+      fault_count = c.foresee-answer.ensures.passed.fault_count;
+      same = c.foresee-answer.ensures.passed.same;
+      idle = c.foresee-answer.ensures.passed.idle;
       foresees = c.foresee-answer.ensures.foresees;
       told = c.tell_foreseen.ensures;
     },

@@ -1,0 +1,83 @@
+#!/usr/bin/env python3
+"""durable.py EXAMPLE_DURABLE [SECONDS [FOLDER]]: how many handles a second are durable, beside SQLite, and beside the limit of the disk.
+
+So many threads (1, 2, 4, .., 64) each change two home blocks by a handle and wait until it is durable, again and again; then as many
+threads each change two rows by a transaction of SQLite and commit it (a connection each, a log, synchronous=FULL). Each for so many
+seconds (2), one after the other, with nothing checkpointed until half of the log is in use, and once more with each transaction written
+home at once (level 0). First with the syncs of the disk that FOLDER is on, then in memory (/dev/shm), where a C library in front of the
+system's lets each sync take 1, 4 and 10 ms. The limit is what two syncs for as many handles as there are threads allow; a sync's own time
+is measured before each row, by a program that writes a block and syncs it.
+
+A line for each: handles a second, how many times the limit that is, syncs a handle, handles a transaction, and milliseconds until a handle
+is durable, the median and 99 of 100. The syncs are those from the first handle to the program's end, at which all is written home. Needs a
+C compiler and SQLite's library (libsqlite3-dev)."""
+import os
+import re
+import subprocess
+import sys
+import tempfile
+
+HERE = os.path.join(os.path.dirname(os.path.realpath(__file__)), "durable")
+LINE = re.compile(r"(\d+) handles in (\d+) us, (\d+) transactions, each in (\d+) us, 99 of 100 in (\d+) us")
+THREADS = (1, 2, 4, 8, 16, 32, 64)
+ROW = "%-16s %7s %9s %7s %7s %9s %8s %8s"
+
+
+def run(shim, micros, words):
+    """What a program prints, as numbers, and how many syncs it made."""
+    around = {**os.environ, "LD_PRELOAD": shim, "SYNC_MICROS": str(micros), "SYNC_COUNT": "count"}
+    fresh("count")
+    ran = subprocess.run(words, env=around, capture_output=True, text=True, timeout=600)
+    told = LINE.match(ran.stdout)
+    if ran.returncode or not told:
+        sys.exit("%s: status %d: %s" % (" ".join(words), ran.returncode, ran.stderr))
+    with open("count", "rb") as file:
+        return [int(number) for number in told.groups()], int.from_bytes(file.read(), sys.byteorder)
+
+
+def fresh(*names):
+    for name in names:
+        if os.path.exists(name):
+            os.remove(name)
+
+
+def row(what, threads, ran, limit):
+    (handles, whole, groups, median, most), syncs = ran
+    a_second = handles * 1e6 / max(whole, 1)
+    print(ROW % (what, threads, "%.0f" % a_second, "%.2f" % (a_second / limit), "%.2f" % (syncs / max(handles, 1)),
+                 "%.1f" % (handles / max(groups, 1)), "%.1f" % (median / 1000), "%.1f" % (most / 1000)), flush=True)
+
+
+def measure(program, sqlite, shim, seconds, micros):
+    """All rows with syncs that take so much longer."""
+    for threads in THREADS:
+        fresh("probe")
+        (syncs, whole, *_), _ = run(shim, micros, [sqlite, "probe", "0", "1"])
+        limit = threads * syncs * 1e6 / whole / 2
+        for what, level in (("here", "512"), ("here, level 0", "0")):
+            fresh("image")
+            run(shim, 0, [program, "image", "1", "0"])
+            row(what, threads, run(shim, micros, [program, "image", str(threads), str(seconds), level]), limit)
+        fresh("rows", "rows-wal", "rows-shm")
+        row("SQLite", threads, run(shim, micros, [sqlite, "rows", str(threads), str(seconds)]), limit)
+        print(ROW % ("the limit", threads, "%.0f" % limit, "", "", "", "", ""), flush=True)
+
+
+def main():
+    program = os.path.realpath(sys.argv[1])
+    seconds = int(sys.argv[2]) if len(sys.argv) > 2 else 2
+    folder = os.path.realpath(sys.argv[3] if len(sys.argv) > 3 else ".")
+    with tempfile.TemporaryDirectory() as made:
+        shim, sqlite = os.path.join(made, "slow_sync.so"), os.path.join(made, "sqlite")
+        subprocess.run(["cc", "-shared", "-fPIC", "-O2", "-o", shim, os.path.join(HERE, "slow_sync.c"), "-ldl"], check=True)
+        subprocess.run(["cc", "-O2", "-o", sqlite, os.path.join(HERE, "sqlite.c"), "-lsqlite3", "-lpthread"], check=True)
+        for micros, where in ((0, folder), (1000, "/dev/shm"), (4000, "/dev/shm"), (10000, "/dev/shm")):
+            with tempfile.TemporaryDirectory(dir=where) as at:
+                os.chdir(at)
+                print("\n%s, load %.1f" % ("syncs of %d ms" % (micros // 1000) if micros else "the disk's own sync", os.getloadavg()[0]))
+                print(ROW % ("", "threads", "handles/s", "limit", "syncs", "a group", "median", "99th"))
+                measure(program, sqlite, shim, seconds, micros)
+                os.chdir("/")
+
+
+main()

@@ -1,0 +1,89 @@
+-- What one call of a file as a disk comes to, from the record that has it as its newest.
+use Rattle.std.proofs.Common.{◌≡◌, ◌<◌, ℕ, ◌*◌, Bool, true, false, List, [], ◌∷◌, length, set, refl, sym, subst, arith}
+use Rattle.std.specs.Prelude.{Result, Ok, Err, is_ok, OnOk}
+use Rattle.jb_disk.specs.Image.{Image, block, Torn, HasShape}
+use Rattle.jb_disk.specs.Runs.{ReadsRun, WroteRun, TornRun}
+use Rattle.jb_disk.specs.Events.{Event, InBlocks, Makes, Agree, LeftBy, Leaves, IsHonestFile, read, written, synced}
+use Rattle.jb_disk.specs.Agreeing.{torn_of_wrote, newest_left}
+use Rattle.jb_disk.proofs.Noted.{read_one, torn_one, wrote_one}
+use Rattle.jb_disk.specs.declared.fault.Fault.{Fault}
+
+-- what holds of a call that succeeded
+on_ok : (P : Type 0) (r : Result Unit Fault) (ok : Bool) → is_ok r ≡ ok → (ok ≡ true → P) → OnOk r P
+on_ok P (Ok x) true is holds = holds refl
+on_ok P (Ok x) false is holds = absurd (let h : ⊥ = cc in h)
+on_ok P (Err e) ok is holds = tt
+
+module _ (size count : ℕ) (content : ℕ → Image) (older events : List Event) where
+  abbrev old : Image
+  old = content (length older)
+
+  abbrev new : Image
+  new = content (length events)
+
+  -- what the newest call made
+  made : (kind at : ℕ) (ok : Bool) (bytes : List ℕ) → events ≡ (kind, at, ok, bytes) ∷ older → IsHonestFile size count content events → Makes size kind at ok bytes old new
+  made kind at ok bytes are honest =
+      subst (λ es. Makes size kind at ok bytes old (content (length es))) (sym are) (subst (Agree size content) are honest.1).2
+
+  -- the record before it
+  agreed : (e : Event) → events ≡ e ∷ older → IsHonestFile size count content events → Agree size content older
+  agreed e are honest = (subst (Agree size content) are honest.1).0
+
+  reads : (at : ℕ) (ok : Bool) (bytes : List ℕ) → ok ≡ true → Makes size 0 at ok bytes old new → InBlocks size at bytes (λ place n. ReadsRun size n place old bytes)
+  reads at true bytes is makes = makes.1
+  reads at false bytes is makes = absurd (let h : ⊥ = cc in h)
+
+  idle : (at : ℕ) (ok : Bool) (bytes : List ℕ) → Makes size 0 at ok bytes old new → new ≡ old
+  idle at true bytes makes = makes.0
+  idle at false bytes makes = makes
+
+  writes : (at : ℕ) (ok : Bool) (bytes : List ℕ) → ok ≡ true → Makes size 1 at ok bytes old new → InBlocks size at bytes (λ place n. WroteRun size n place bytes old new)
+  writes at true bytes is makes = makes
+  writes at false bytes is makes = absurd (let h : ⊥ = cc in h)
+
+  tears : (at : ℕ) (ok : Bool) (bytes : List ℕ) → ((t : ℕ) → HasShape count size (content t)) → Makes size 1 at ok bytes old new → InBlocks size at bytes (λ place n. TornRun size n place bytes old new)
+  tears at true bytes shapes makes = λ place n here long. torn_of_wrote count size n place bytes old new (shapes (length older)) (shapes (length events)) (makes place n here long)
+  tears at false bytes shapes makes = makes
+
+  -- a read changes nothing
+  pub read_same : (at : ℕ) (ok : Bool) (bytes : List ℕ) → events ≡ read at ok bytes ∷ older → IsHonestFile size count content events → new ≡ old
+  read_same at ok bytes are honest = idle at ok bytes (made 0 at ok bytes are honest)
+
+  pub found_run : (place n at : ℕ) (ok : Bool) (bytes : List ℕ) (r : Result Unit Fault) → is_ok r ≡ ok → at ≡ place * size → length bytes ≡ size * n
+      → events ≡ read at ok bytes ∷ older → IsHonestFile size count content events → OnOk r (ReadsRun size n place old bytes)
+  found_run place n at ok bytes r is here long are honest = on_ok (ReadsRun size n place old bytes) r ok is
+      (λ yes. reads at ok bytes yes (made 0 at ok bytes are honest) place n here long)
+
+  pub found_block : (place at : ℕ) (ok : Bool) (bytes : List ℕ) (r : Result Unit Fault) → is_ok r ≡ ok → at ≡ place * size → length bytes ≡ size
+      → events ≡ read at ok bytes ∷ older → IsHonestFile size count content events → OnOk r (bytes ≡ block old place)
+  found_block place at ok bytes r is here long are honest = on_ok (bytes ≡ block old place) r ok is
+      (λ yes. read_one size place old bytes long (reads at ok bytes yes (made 0 at ok bytes are honest) place 1 here (omega (arith, long))))
+
+  pub written_run : (place n at : ℕ) (ok : Bool) (bytes : List ℕ) (r : Result Unit Fault) → is_ok r ≡ ok → at ≡ place * size → length bytes ≡ size * n
+      → events ≡ written at ok bytes ∷ older → IsHonestFile size count content events → OnOk r (WroteRun size n place bytes old new)
+  written_run place n at ok bytes r is here long are honest = on_ok (WroteRun size n place bytes old new) r ok is
+      (λ yes. writes at ok bytes yes (made 1 at ok bytes are honest) place n here long)
+
+  pub written_block : (place at : ℕ) (ok : Bool) (bytes : List ℕ) (r : Result Unit Fault) → is_ok r ≡ ok → at ≡ place * size → length bytes ≡ size → place < count
+      → events ≡ written at ok bytes ∷ older → IsHonestFile size count content events → OnOk r (new ≡ set old place bytes)
+  written_block place at ok bytes r is here long inside are honest = on_ok (new ≡ set old place bytes) r ok is
+      (λ yes. wrote_one size place bytes old new long (omega (arith, inside, (honest.0 (length older)).blocks)) (writes at ok bytes yes (made 1 at ok bytes are honest) place 1 here (omega (arith, long))))
+
+  pub torn_file : (place n at : ℕ) (ok : Bool) (bytes : List ℕ) → at ≡ place * size → length bytes ≡ size * n → events ≡ written at ok bytes ∷ older
+      → IsHonestFile size count content events → TornRun size n place bytes old new
+  torn_file place n at ok bytes here long are honest = tears at ok bytes honest.0 (made 1 at ok bytes are honest) place n here long
+
+  pub torn_block : (place at : ℕ) (ok : Bool) (bytes : List ℕ) → at ≡ place * size → length bytes ≡ size → events ≡ written at ok bytes ∷ older
+      → IsHonestFile size count content events → Torn place bytes old new
+  torn_block place at ok bytes here long are honest = torn_one size place bytes old new long (torn_file place 1 at ok bytes here (omega (arith, long)) are honest)
+
+  -- what a sync leaves could be left before it
+  comes_synced : (ok : Bool) (before : Image → Type 0) (c : Image) → before old → LeftBy size 2 0 ok [] old before c → (d : Image) × before d × (c ≡ d)
+  comes_synced true before c stays left = (old, stays, left)
+  comes_synced false before c stays left = (c, left, refl)
+
+  pub synced_from : (ok : Bool) (c : Image) → events ≡ synced ok ∷ older → IsHonestFile size count content events
+      → LeftBy size 2 0 ok [] old (Leaves size content older) c → (d : Image) × Leaves size content older d × (c ≡ d)
+  synced_from ok c are honest left =
+      comes_synced ok (Leaves size content older) c (newest_left count size content honest.0 older (agreed (synced ok) are honest)) left

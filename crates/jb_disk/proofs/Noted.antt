@@ -1,0 +1,70 @@
+-- A call of a file that is noted: what it means for one block, and for what a crash may leave.
+use Rattle.std.proofs.Common.{◌≡◌, ◌≢◌, ◌<◌, ◌⊎◌, ℕ, ◌+◌, ◌*◌, List, [], ◌∷◌, length, take, drop, set, sym, ◌∙◌, subst, inl, inr, ⊎_elim, ap, arith, length-set, get_or-set_same, get_or-set_other}
+use Rattle.std.proofs.lemmas.List.{ext_get_or, take_all}
+use Rattle.std.proofs.Math.Decide.{ℕ_discrete}
+use Rattle.jb_disk.specs.Image.{Image, block, sector, Torn}
+use Rattle.jb_disk.specs.Runs.{IsOutside, ReadsRun, WroteRun, TornRun, part}
+use Rattle.jb_disk.specs.Time.{Goes}
+use Rattle.jb_disk.specs.Events.{Event, LeftBy, Leaves, LeftFrom}
+
+-- ---- a run of one block
+
+part_one : (size : ℕ) (bytes : List ℕ) → length bytes ≡ size → part size 0 bytes ≡ bytes
+part_one size bytes long =
+    ap (λ n. take size (drop n bytes)) (let h : size * 0 ≡ 0 = omega arith in h)
+    ∙ take_all size bytes (omega (arith, long))
+
+first : (place : ℕ) → place + 0 ≡ place
+first place = omega arith
+
+-- a run of one block that is read is the block
+pub read_one : (size place : ℕ) (c : Image) (bytes : List ℕ) → length bytes ≡ size → ReadsRun size 1 place c bytes → bytes ≡ block c place
+read_one size place c bytes long found =
+    sym (part_one size bytes long) ∙ found 0 (omega arith) ∙ ap (block c) (first place)
+
+others : (place p : ℕ) → p ≢ place → IsOutside 1 place p
+others place p other k below = λ same. other (omega (arith, below, same))
+
+-- one that is torn is a torn block
+pub torn_one : (size place : ℕ) (bytes : List ℕ) (old new : Image) → length bytes ≡ size → TornRun size 1 place bytes old new → Torn place bytes old new
+torn_one size place bytes old new long torn = record {
+  count = torn.count;
+  elsewhere = λ p other. torn.elsewhere p (others place p other);
+  size = torn.sizes place;
+  sectors = λ k. subst (λ q. (sector k (block new q) ≡ sector k (block old q)) ⊎ (sector k (block new q) ≡ sector k bytes)) (first place)
+      (subst (λ b. (sector k (block new (place + 0)) ≡ sector k (block old (place + 0))) ⊎ (sector k (block new (place + 0)) ≡ sector k b)) (part_one size bytes long)
+      (torn.sectors 0 k (omega arith)));
+}
+
+-- one that is written is a block that is set
+pub wrote_one : (size place : ℕ) (bytes : List ℕ) (old new : Image) → length bytes ≡ size → place < length old → WroteRun size 1 place bytes old new → new ≡ set old place bytes
+wrote_one size place bytes old new long inside wrote =
+    ext_get_or [] new (set old place bytes) (wrote.count ∙ sym (length-set old place bytes))
+    (λ i below. elim (ℕ_discrete i place) [
+      | yes here ↦ ap (block new) (here ∙ sym (first place)) ∙ wrote.inside 0 (omega arith) ∙ part_one size bytes long ∙ sym (get_or-set_same old place bytes [] inside) ∙ ap (block (set old place bytes)) (sym here)
+      | no other ↦ wrote.elsewhere i (others place i other) ∙ sym (get_or-set_other old place i bytes [] other)
+    ])
+
+-- ---- the calls of a disk whose record grows
+
+module _ {D : Type 0} (size : D → ℕ) (content : ℕ → Image) (events : D → List Event) where
+  -- what a crash may leave goes on as the call lets it
+  pub goes_event : (step : Image → Image → Type 0) (old new : D) (e : Event) → size new ≡ size old → events new ≡ e ∷ events old
+      → ((c : Image) → LeftBy (size old) e.0 e.1 e.2 e.3 (content (length (events old))) (Leaves (size old) content (events old)) c
+      → (d : Image) × Leaves (size old) content (events old) d × step d c)
+      → Goes (λ d. Leaves (size d) content (events d)) (λ d. length (events d)) (λ d. LeftFrom (size d) content (events d)) step old new
+  goes_event step old new e same noted comes =
+      let back : (c : Image) → Leaves (size new) content (events new) c → Leaves (size old) content (e ∷ events old) c =
+      λ c l. subst (λ s. Leaves s content (e ∷ events old) c) same (subst (λ es. Leaves (size new) content es c) noted l) in
+      let forth : (c : Image) → Leaves (size old) content (e ∷ events old) c → Leaves (size new) content (events new) c =
+      λ c l. subst (λ es. Leaves (size new) content es c) (sym noted) (subst (λ s. Leaves s content (e ∷ events old) c) (sym same) l) in
+      let from : (t : ℕ) (c : Image) → LeftFrom (size new) content (events new) t c → LeftFrom (size old) content (e ∷ events old) t c =
+      λ t c l. subst (λ s. LeftFrom s content (e ∷ events old) t c) same (subst (λ es. LeftFrom (size new) content es t c) noted l) in
+      let to : (t : ℕ) (c : Image) → LeftFrom (size old) content (e ∷ events old) t c → LeftFrom (size new) content (events new) t c =
+      λ t c l. subst (λ es. LeftFrom (size new) content es t c) (sym noted) (subst (λ s. LeftFrom s content (e ∷ events old) t c) (sym same) l) in
+      record {
+        crash = λ c now. comes c (back c now);
+        later = omega (arith, ap length noted);
+        nothing_else = λ t c earlier left. ⊎_elim (λ now. inr (forth c now.1)) inl (from t c left);
+        keeps = λ t c earlier left. to t c (inr left);
+      }

@@ -1,0 +1,31 @@
+use Rattle.std.proofs.Common.{◌≡◌, ◌*◌, length, refl, arith}
+use Rattle.jb_block.specs.Size.{bytes_of}
+use Rattle.jb_disk.specs.Events.{written}
+use Rattle.jb_disk.specs.File.{size_of, events_of}
+use Rattle.jb_disk.specs.Image.{Torn}
+use Rattle.jb_disk.proofs.FileCalls.{written_block, torn_block}
+use Rattle.jb_disk.proofs.Noted.{goes_event, torn_one}
+use Rattle.jb_disk.proofs.file.FileDiskDisk.write.Goals as goal
+
+pub returns-clause-written : goal.returns-clause-written
+returns-clause-written g c = λ honest.
+    let f = c.args.self.now in
+    let here = c.offset_of-at.ensures in
+    written_block (bytes_of f.size) f.blocks g.S.Start.content f.host.log.events c.write_at-succeeded.new.self.log.events
+    c.args.place c.offset_of-at.result c.write_at-succeeded.result c.args.bytes.now c.settle.result c.settle.ensures.variant here c.requires.block c.requires.place c.write_at-succeeded.ensures honest
+
+pub returns-clause-torn : goal.returns-clause-torn
+returns-clause-torn g c = λ honest.
+    let f = c.args.self.now in
+    let here = c.offset_of-at.ensures in
+    torn_block (bytes_of f.size) f.blocks g.S.Start.content f.host.log.events c.write_at-succeeded.new.self.log.events
+    c.args.place c.offset_of-at.result c.write_at-succeeded.result c.args.bytes.now here c.requires.block c.write_at-succeeded.ensures honest
+
+pub returns-clause-goes : goal.returns-clause-goes
+returns-clause-goes g c = λ honest.
+    let f = c.args.self.now in
+    let here = c.offset_of-at.ensures in
+    let one : length c.args.bytes.now ≡ bytes_of f.size * 1 = omega (arith, c.requires.block) in
+    goes_event (λ d. bytes_of (size_of d)) g.S.Start.content events_of (Torn c.args.place c.args.bytes.now) f _
+    (written c.offset_of-at.result c.write_at-succeeded.result c.args.bytes.now) refl c.write_at-succeeded.ensures
+    (λ d left. (left.0, left.1, torn_one (bytes_of f.size) c.args.place c.args.bytes.now left.0 d c.requires.block (left.3 c.args.place 1 here one)))

@@ -1,0 +1,44 @@
+use Rattle.std.proofs.Common.{◌+◌, length, refl, sym, subst}
+use Rattle.std.specs.Prelude.{is_ok}
+use Rattle.jb_block.specs.Size.{bytes_of}
+use Rattle.jb_disk.specs.Agreeing.{left_from_only}
+use Rattle.jb_disk.specs.Called.{Writes}
+use Rattle.jb_disk.specs.Events.{Leaves, LeftFrom, written}
+use Rattle.jb_disk.specs.Faults.{CountsOne}
+use Rattle.jb_disk.specs.File.{faults_of, size_of, events_of}
+use Rattle.jb_disk.specs.Runs.{part, TornRun}
+use Rattle.jb_disk.proofs.FileCalls.{torn_file}
+use Rattle.jb_disk.proofs.RunWrites.{torn_run-same}
+use Rattle.jb_disk.proofs.Running.{made-once}
+use Rattle.jb_disk.proofs.Stepping.{steps-goes}
+use Rattle.jb_disk.proofs.Noted.{goes_event}
+use Rattle.jb_disk.proofs.file.FileDiskDisk.write_run.Goals as goal
+
+pub returns-clause-steps : goal.returns-clause-steps
+returns-clause-steps g c = λ honest.
+    let f = c.args.self.now in
+    let content = g.S.Start.content in
+    let size = bytes_of f.size in
+    let n = c.args._blocks in
+    let bytes = c.args.bytes.now in
+    let place = c.args.place in
+    let here = c.offset_of-at.ensures in
+    steps-goes (λ d. Leaves (bytes_of (size_of d)) content (events_of d)) (λ d. length (events_of d)) (λ d. LeftFrom (bytes_of (size_of d)) content (events_of d))
+    (TornRun size n place bytes) f _
+    (λ d. torn_run-same size n place bytes d)
+    (λ d left. left_from_only size content f.host.log.events d left)
+    (goes_event (λ d. bytes_of (size_of d)) content events_of (TornRun size n place bytes) f _
+    (written c.offset_of-at.result c.write_at-succeeded.result bytes) refl c.write_at-succeeded.ensures
+    (λ d left. (left.0, left.1, left.3 place n here c.requires.block)))
+
+pub returns-clause-torn : goal.returns-clause-torn
+returns-clause-torn g c = λ honest.
+    let f = c.args.self.now in
+    torn_file (bytes_of f.size) f.blocks g.S.Start.content f.host.log.events c.write_at-succeeded.new.self.log.events
+    c.args.place c.args._blocks c.offset_of-at.result c.write_at-succeeded.result c.args.bytes.now c.offset_of-at.ensures c.requires.block c.write_at-succeeded.ensures honest
+
+pub returns-clause-own : goal.returns-clause-own
+returns-clause-own g c = λ _.
+    let old = c.args.self.now in
+    let one : CountsOne (is_ok c.settle.result) old.faults c.settle.new.faults = subst (λ ok. CountsOne ok old.faults c.settle.new.faults) (sym c.settle.ensures.variant) c.settle.ensures.one in
+    made-once (λ _ old new ok. CountsOne ok (faults_of old) (faults_of new)) (λ k. Writes (c.args.place + k) (part (bytes_of old.size) k c.args.bytes.now)) c.args._blocks old _ (is_ok c.settle.result) c.requires.some (λ k. refl) (λ k. one)
