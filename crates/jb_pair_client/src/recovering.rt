@@ -44,8 +44,8 @@ pub fn recover_files<S: Start, T: Start>(
     ensures durable { IfOk result (λ ran. AreHonestFiles ran.0
         → OnOk ran.1 (Only (files_content ran.0) (FilesLeave ran.0))) }
 {
-    let front = FileDisk::<S>::of(journal, size)?;
-    let back = FileDisk::<T>::of(homes, size)?;
+    let front = FileDisk::<S>::holding(journal, size)?;
+    let back = FileDisk::<T>::holding(homes, size)?;
     let mut disk = PairDisk::of(front, back);
     let answer = recover(alloc, &mut disk);
     Ok((disk, answer))
