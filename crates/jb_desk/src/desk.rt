@@ -10,6 +10,7 @@ mod checkpoints;
 mod closing;
 mod committers;
 mod committing;
+mod gathering;
 mod reading;
 mod rounds;
 mod taking;
@@ -21,6 +22,7 @@ use crate::seat::{Left, Seat};
 use crate::shown::Shown;
 use crate::stops::Stops;
 use crate::turns::Turns;
+use crate::waits::Waits;
 use crate::works::Works;
 pub use closing::{CloseFault, Closed};
 use jb_board::{Board, Front};
@@ -44,6 +46,7 @@ pub struct Desk<D: Disk, C: Clock, H: Origin, N: Ledger> {
     /// the book has changed
     moved: Condvar,
     turns: Turns,
+    waits: Waits,
     board: Shown<H>,
     histories: Histories<D, H>,
     shape: Shape,
@@ -104,6 +107,7 @@ impl<D: Disk, C: Clock, H: Origin, N: Ledger> Desk<D, C, H, N> {
             works: Mutex::new(Works::new(deck, clock, sight, marking)),
             moved: Condvar::new(),
             turns: Turns::new(),
+            waits: Waits::new(),
             board: Shown::new(board),
             histories,
             shape,
@@ -265,11 +269,13 @@ impl<D: Disk, C: Clock, H: Origin, N: Ledger> Desk<D, C, H, N> {
         ensures refused { IfErr result (RefusesWait ticket seat.old seat.new) }
         ensures counted { KeepsStops seat.old seat.new }
     {
-        let mut counter = self.moved.wait_while(
+        self.waits.come(rt);
+        let mut counter = self.waits.settled.wait_while(
             rt,
             self.counter.lock(rt),
             |counter| counter.is_awaited(ticket),
         );
+        self.waits.go(rt);
         let number = counter.number_of(&self.histories, seen, ticket)?;
         let (tickets, settled) = (counter.tickets(), counter.seen());
         drop(counter);

@@ -15,6 +15,7 @@ mod seat;
 mod shown;
 mod stops;
 mod turns;
+mod waits;
 mod works;
 
 pub use checkpoint::CheckpointRound;

@@ -34,6 +34,12 @@ impl Turns {
         }
     }
 
+    /// Whether nobody stands in the line.
+    pub(crate) fn is_empty<R: Wait>(&self, rt: &R) -> bool {
+        let line = self.line.lock(rt);
+        line.gone == line.came
+    }
+
     /// Waits until all that came before have gone on; says how many handles were settled when one last waited for room
     /// in vain.
     pub(crate) fn wait<R: Wait>(&self, rt: &R) -> Option<u64> {

@@ -20,6 +20,7 @@ use std::marker::Brand;
 use std::process::Abort;
 use std::sync::Wait;
 use std::sync::ledger::{Blank, Ledger};
+use std::time::Clock;
 
 /// How far the two handles have come at the end.
 const DONE: Front = Front {
@@ -51,7 +52,7 @@ fn stop_two<R: Abort + Wait, H: Origin, N: Ledger>(
 }
 
 /// A committer and a checkpointer end at a desk that is shut, with two handles settled.
-fn end<R: Abort + Wait, H: Origin, N: Ledger>(
+fn end<R: Abort + Wait + Clock, H: Origin, N: Ledger>(
     rt: &R,
     desk: &Small<H, N>,
     seat: Seat<H, N>,
@@ -77,7 +78,7 @@ fn end<R: Abort + Wait, H: Origin, N: Ledger>(
 }
 
 /// Two handles stop at a new desk which is shut then.
-fn desk_ended<R: Abort + Wait, H: Origin, N: Ledger>(
+fn desk_ended<R: Abort + Wait + Clock, H: Origin, N: Ledger>(
     rt: &R,
     alloc: Global,
     handles: Stops,

@@ -23,6 +23,7 @@ use std::marker::Brand;
 use std::process::Abort;
 use std::sync::Wait;
 use std::sync::ledger::{Blank, Ledger};
+use std::time::Clock;
 
 /// A handle has stopped.
 const STOPPED: Front = Front {
@@ -120,7 +121,7 @@ fn check_settled<R: Abort + Wait, H: Origin, N: Ledger>(
 }
 
 /// The desk is shut, and a committer ends.
-fn check_shut<R: Abort + Wait, H: Origin, N: Ledger>(
+fn check_shut<R: Abort + Wait + Clock, H: Origin, N: Ledger>(
     rt: &R,
     desk: &Small<H, N>,
     seat: Seat<H, N>,
@@ -141,7 +142,7 @@ fn check_shut<R: Abort + Wait, H: Origin, N: Ledger>(
 }
 
 /// What a seat finds that commits its own handle, and what is counted at the end: handles, changes and groups.
-fn one_round<R: Abort + Wait, H: Origin, N: Ledger>(rt: &R, alloc: Global, desk: Small<H, N>)
+fn one_round<R: Abort + Wait + Clock, H: Origin, N: Ledger>(rt: &R, alloc: Global, desk: Small<H, N>)
     requires any { (words : WordMap) → H.begun.stops words }
     requires parts { (H.parts ≡ 2 ^ 61 + 1) × (N.parts ≡ 2 ^ 61 + 1) }
 {
@@ -197,7 +198,7 @@ fn no_number<R: Abort + Wait, H: Origin, N: Ledger>(rt: &R, alloc: Global, desk:
 }
 
 /// A new desk over a new journal, or over one with one number left.
-fn rows<R: Abort + Wait, H: Origin, N: Ledger>(
+fn rows<R: Abort + Wait + Clock, H: Origin, N: Ledger>(
     rt: &R,
     alloc: Global,
     is_last: bool,

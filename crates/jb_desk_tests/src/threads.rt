@@ -210,7 +210,7 @@ fn work<R: Abort + Wait + Clock, D: Disk, H: Origin, N: Ledger>(
 
 /// Commits until the desk is shut; where a round is out of memory, the next one takes its batch up. Gives what its seat
 /// left, and how it ended.
-fn commit<R: Abort + Wait, D: Disk, H: Origin, N: Ledger>(
+fn commit<R: Abort + Wait + Clock, D: Disk, H: Origin, N: Ledger>(
     rt: &R,
     desk: &Still<D, H, N>,
 ) -> (Left<H, N>, Ended) {

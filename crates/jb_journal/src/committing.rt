@@ -9,10 +9,11 @@ use jb_desk::{Desk, Ended, Left, Origin, Seat};
 use jb_disk::{Clock, Disk};
 use std::sync::Wait;
 use std::sync::ledger::Ledger;
+use std::time;
 
 /// Commits until the desk is over or a round does not end well, and then leaves; a batch that could not be committed is
 /// given up at once, so that nobody waits for it.
-fn commit_all<D: Disk, C: Clock, R: Wait, H: Origin, N: Ledger>(
+fn commit_all<D: Disk, C: Clock, R: Wait + time::Clock, H: Origin, N: Ledger>(
     rt: &R,
     desk: &Desk<D, C, H, N>,
     seat: Seat<H, N>,
@@ -30,7 +31,7 @@ fn commit_all<D: Disk, C: Clock, R: Wait, H: Origin, N: Ledger>(
 
 /// The same with a seat that was taken before, as a desk that is shut gives none; `None` where there is none. Comes to
 /// the gate first.
-pub(crate) fn commit_from<D: Disk, C: Clock, R: Wait, H: Origin, N: Ledger>(
+pub(crate) fn commit_from<D: Disk, C: Clock, R: Wait + time::Clock, H: Origin, N: Ledger>(
     rt: &R,
     desk: &Desk<D, C, H, N>,
     gate: &Gate,

@@ -16,6 +16,7 @@ use std::fs::File;
 use std::rt::Files;
 use std::sync::Wait;
 use std::sync::ledger::Ledger;
+use std::time::Clock;
 
 /// A committer, at whose desk a handle that writes home 1 has stopped; none where that was refused.
 fn stopped<R: Wait, H: Origin, N: Ledger>(rt: &R, desk: &Small<H, N>) -> Option<Committer<H, N>>
@@ -131,7 +132,7 @@ fn ended_as(ended: Ended, met: Met) -> Result<Met, Wrong> {
 }
 
 /// A committer that ended for want of memory holds its batch, and commits it when it is run again.
-pub fn run_committer_row<R: Files<File = File> + Wait, H: Origin, N: Ledger>(
+pub fn run_committer_row<R: Files<File = File> + Wait + Clock, H: Origin, N: Ledger>(
     rt: &R,
     alloc: Global,
     desk: Small<H, N>,

@@ -83,7 +83,7 @@ fn start_row<R: Files<File = File> + AllocGlobal + Wait>(rt: &R) -> Result<Met, 
 }
 
 /// Runs a row of a desk.
-fn desk_row<R: Files<File = File> + AllocGlobal + Threads + Wait + Sync>(
+fn desk_row<R: Files<File = File> + AllocGlobal + Threads + Wait + Clock + Sync>(
     rt: &R,
     row: OfDesk,
 ) -> Result<Met, Wrong> {
@@ -94,7 +94,7 @@ fn desk_row<R: Files<File = File> + AllocGlobal + Threads + Wait + Sync>(
 
 /// Starts a desk and runs a row of it.
 fn run_row<
-    R: Files<File = File> + Threads + Wait + Sync,
+    R: Files<File = File> + Threads + Wait + Clock + Sync,
     H: Origin + Send + Sync,
     N: Ledger + Send + Sync,
 >(

@@ -23,6 +23,7 @@ use std::alloc::Global;
 use std::process::Abort;
 use std::sync::Wait;
 use std::sync::ledger::{Blank, Ledger};
+use std::time::Clock;
 
 /// The parts of each ledger of a desk.
 pub const PARTS: u64 = (1 << 61) + 1;
@@ -219,7 +220,7 @@ fn check_seen<R: Abort + Wait, H: Origin, N: Ledger>(
 }
 
 /// The threads of a desk that is shut end.
-fn ended<R: Abort + Wait, H: Origin, N: Ledger>(
+fn ended<R: Abort + Wait + Clock, H: Origin, N: Ledger>(
     rt: &R,
     desk: &Small<H, N>,
     seat: Seat<H, N>,
@@ -281,7 +282,7 @@ fn check_counts(rt: &impl Abort, closed: &Closed<MemoryDisk, FixedClock>) {
 }
 
 /// One handle at a desk, from its start to its close.
-pub fn check_desks<R: Abort + Wait, H: Origin, N: Ledger>(
+pub fn check_desks<R: Abort + Wait + Clock, H: Origin, N: Ledger>(
     rt: &R,
     alloc: Global,
     handles: Stops,

@@ -55,6 +55,7 @@ impl<D: Disk, C: Clock, H: Origin, N: Ledger> Desk<D, C, H, N> {
         let Committer { seat, batch } = committer;
         self.counter.lock(rt).give_up(&self.histories.stops, batch);
         self.moved.notify_all();
+        self.waits.wake(rt);
         seat
     }
 
@@ -65,5 +66,6 @@ impl<D: Disk, C: Clock, H: Origin, N: Ledger> Desk<D, C, H, N> {
     {
         self.counter.lock(rt).fail(&self.histories, seen);
         self.moved.notify_all();
+        self.waits.wake(rt);
     }
 }

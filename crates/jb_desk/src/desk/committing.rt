@@ -4,11 +4,13 @@ ghost use Rattle.std.specs.Prelude.{◌≡◌};
 use crate::committer::{Committer, Round, RoundFault};
 use crate::counter::Over;
 use crate::desk::Desk;
+use crate::desk::gathering::Pace;
 use crate::ended::Ended;
 use jb_book::Origin;
 use jb_disk::{Clock, Disk};
 use std::sync::Wait;
 use std::sync::ledger::Ledger;
+use std::time;
 
 impl<D: Disk, C: Clock, H: Origin, N: Ledger> Desk<D, C, H, N> {
     ghost use Rattle.jb_desk.specs.Desks.{desk_id};
@@ -18,7 +20,7 @@ impl<D: Disk, C: Clock, H: Origin, N: Ledger> Desk<D, C, H, N> {
     ghost use Rattle.jb_board.specs.Front.{IsWithin};
 
     /// Commits what stops, round after round, until the desk is over, or until a round fails.
-    pub fn run_committer<R: Wait>(
+    pub fn run_committer<R: Wait + time::Clock>(
         &self,
         rt: &R,
         committer: Committer<H, N>,
@@ -30,10 +32,11 @@ impl<D: Disk, C: Clock, H: Origin, N: Ledger> Desk<D, C, H, N> {
         ensures held { EndsHolding result.1 (held_by result.0) }
         ensures counted { KeepsStops (seat_of committer) (seat_of result.0) }
     {
-        let mut committer = committer;
+        let (mut committer, mut pace) = (committer, Pace::new());
         for _ in rt.forever() {
+            self.gather(rt, &mut pace);
             match self.commit_round(rt, &mut committer) {
-                Ok(Round::Committed(_)) => {}
+                Ok(Round::Committed(_)) => pace.end(rt),
                 Ok(Round::Idle(_)) => {
                     if let Some(over) = self.await_work(rt) {
                         return (committer, Ended::Shut(over));

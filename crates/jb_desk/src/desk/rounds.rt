@@ -169,6 +169,7 @@ impl<D: Disk, C: Clock, H: Origin, N: Ledger> Desk<D, C, H, N> {
         let counts = counter.seen();
         drop(counter);
         self.moved.notify_all();
+        self.waits.wake(rt);
         let Ok(()) = settled else {
             return Err(RoundFault::Aborted);
         };
@@ -205,6 +206,7 @@ impl<D: Disk, C: Clock, H: Origin, N: Ledger> Desk<D, C, H, N> {
         let counts = counter.seen();
         drop(counter);
         self.moved.notify_all();
+        self.waits.wake(rt);
         let Ok(()) = settled else {
             return Err(RoundFault::Aborted);
         };

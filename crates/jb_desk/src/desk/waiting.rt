@@ -1,5 +1,5 @@
-//! Handles are begun in the order of arrival, and wait while the book is full.
-ghost use Rattle.std.specs.Prelude.{◌≡◌, IfOk, IfErr};
+//! Handles wait while the book is full, in the order of arrival.
+ghost use Rattle.std.specs.Prelude.{◌≡◌, IfOk, IfErr, IfSome};
 ghost use Rattle.std.specs.FinMap as map;
 ghost use Rattle.jb_handle.specs.Handle.{holder, changes_of};
 ghost use Rattle.jb_handle.specs.Held.{held};
@@ -21,8 +21,9 @@ impl<D: Disk, C: Clock, H: Origin, N: Ledger> Desk<D, C, H, N> {
     ghost use Rattle.jb_desk.specs.Desks.{shape_in};
     ghost use Rattle.jb_desk.specs.Refusals.{IsTooMany};
 
-    /// A seat begins a handle of so many credits (`jbd2_journal_start`), once all that came before have begun theirs
-    /// or were refused, and waits while the book is full.
+    /// A seat begins a handle of so many credits (`jbd2_journal_start`), and waits while the book is full: in a line, in
+    /// which all that came before begin theirs or are refused first. Where nobody stands in it, a handle that there is room
+    /// for is begun at once.
     ///
     /// # Errors
     ///
@@ -39,10 +40,43 @@ impl<D: Disk, C: Clock, H: Origin, N: Ledger> Desk<D, C, H, N> {
         ensures back { IfErr result (λ back. back.0 ≡ seat) }
         ensures refused { IfErr result (λ back. IsTooMany credits back.1) }
     {
+        let (seat, fault) = match self.begin_at_once(rt, seat, credits) {
+            Ok(handle) => return Ok(handle),
+            Err(back) => back,
+        };
+        if let Some(fault) = fault {
+            return Err((seat, fault));
+        }
         let in_vain = self.turns.wait(rt);
         let (begun, in_vain) = self.begin_in_turn(rt, seat, credits, in_vain);
         self.turns.pass(rt, in_vain);
         begun
+    }
+
+    /// Begins a handle at once where nobody stands in the line and the book is not full. Otherwise it gives the seat back,
+    /// with the fault where there is another one.
+    fn begin_at_once<R: Wait>(
+        &self,
+        rt: &R,
+        seat: Seat<H, N>,
+        credits: u32,
+    ) -> Result<Handle<Seat<H, N>>, (Seat<H, N>, Option<BeginFault>)>
+        ensures ok { IfOk result (λ handle. (holder handle ≡ seat)
+            × (changes_of handle ≡ held credits (shape_in self.now) map.empty)) }
+        ensures back { IfErr result (λ back. back.0 ≡ seat) }
+        ensures refused { IfErr result (λ back. IfSome back.1 (IsTooMany credits)) }
+    {
+        if !self.turns.is_empty(rt) {
+            return Err((seat, None));
+        }
+        let (seat, fault) = match self.begin(rt, seat, credits) {
+            Ok(handle) => return Ok(handle),
+            Err(back) => back,
+        };
+        let BeginFault::Full(_) = fault else {
+            return Err((seat, Some(fault)));
+        };
+        Err((seat, None))
     }
 
     /// Begins a handle, and waits while the book is full: until ten seconds have gone by in which no handle was
