@@ -2,7 +2,7 @@
 use Rattle.std.proofs.Common.{Result, Ok, Err, IfOk, IfErr}
 use Rattle.std.specs.Global.{Vec}
 use Rattle.jb_desk.specs.Closing.{DiffersAs, IsNotClosed}
-use Rattle.jb_desk.specs.Works.{Worked}
+use Rattle.jb_works.specs.Works.{Worked}
 use Rattle.jb_desk.specs.declared.counter.Counter.{Counter}
 use Rattle.jb_desk.specs.declared.desk.Desk.{Desk}
 use Rattle.jb_desk.specs.declared.desk.closing.CloseFault.{CloseFault}

@@ -1,49 +1,10 @@
--- Handles that stand in the history of a desk's stops.
-use Rattle.std.proofs.Common.{append_assoc, append-nil, map, ◌≡◌, ℕ, List, [], ◌∷◌, ◌++◌, length, All, get_or, false, sym, ap, subst, ◌∙◌, arith, refl}
-use Rattle.std.proofs.lemmas.List.Elements.{All-push, All-weaker}
-use mathlib.Core.List.{IsPrefix}
-use Rattle.jb_disk.specs.declared.disk.Disk.{Ghosts}
-use Rattle.jb_deck.specs.Deck.{OpenDeck}
-use Rattle.jb_deck.specs.Done.{past_after}
+-- The stops of all seats, put together, and the history.
+use Rattle.std.proofs.Common.{append_assoc, append-nil, map, ◌≡◌, ℕ, List, [], ◌∷◌, ◌++◌, length, All, sym, ap, subst, ◌∙◌}
+use Rattle.std.specs.List.{sum_by}
 use Rattle.jb_cost.specs.Pieces.{joined}
 use Rattle.jb_handle.specs.Word.{WordMap}
-use Rattle.jb_handle.specs.declared.stopped.Stopped.{Stopped}
-use Rattle.std.specs.List.{sum_by}
-use Rattle.jb_history.specs.Rule.{StandsIn, with_last, with_places}
-use Rattle.jb_history.proofs.Placed.{get_last, placed_on}
-use Rattle.std.proofs.lemmas.List.{length-append}
-use Rattle.jb_book.specs.Account.{Account, queued}
-use Rattle.jb_book.specs.Led.{IsInHistory}
-use Rattle.jb_desk.specs.History.{AreAllStops, IsStop}
-use Rattle.jb_book.specs.Origin.{Begun}
-use Rattle.jb_book.specs.Origin.{AreStops}
-use Rattle.jb_desk.specs.Since.{IsSince, IsSinceOf}
-
--- what stands in a first part of the history stands in the whole
-pub stop-on : (b : Begun) (xs ys : List WordMap) → IsPrefix xs ys → (h : Stopped) → IsStop b xs h → IsStop b ys h
-stop-on b xs ys p h s = (s.0, placed_on xs ys p (h.ticket, h.words) s.1)
-
-pub all-stops : (b : Begun) (xs ys : List WordMap) → IsPrefix xs ys → (hs : List Stopped) → AreStops b hs → All (IsInHistory xs) hs → All (IsStop b ys) hs
-all-stops b xs ys p hs stops stand k d lt = let h = get_or hs k d in (stops k d lt, placed_on xs ys p (h.ticket, h.words) (stand k d lt))
-
--- a journal that has committed nothing was given no handle, so anything is known of each
-pub none-given : {D : Type 0} (G : Ghosts D) (b : Begun) (known : Stopped → Type 0) (d : OpenDeck D) → d.trail ≡ [] → d.aborted ≡ false → IsSince G b d → IsSinceOf G b known d
-none-given G b known d fresh up is =
-    let none : length is.given ≡ 0 = is.has.all up ∙ ap (past_after 0) fresh in
-    record {
-      given = is.given;
-      has = record {
-        stopped = λ k x lt. absurd (omega (arith, lt, none));
-        tickets = is.has.tickets;
-        settled = is.has.settled;
-        all = is.has.all;
-        costs = is.has.costs;
-        first = is.has.first;
-        numbers = is.has.numbers;
-        next = is.has.next;
-      };
-      since = is.since;
-    }
+use Rattle.jb_history.specs.Rule.{StandsIn, with_places}
+use Rattle.jb_works.specs.History.{AreAllStops}
 
 -- one more list is joined to those before
 pub joined-more : {X Y : Type 0} (f : X → List Y) (xs : List X) (x : X) → joined (map f (xs ++ x ∷ [])) ≡ joined (map f xs) ++ f x

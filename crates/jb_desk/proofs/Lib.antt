@@ -1,16 +1,5 @@
-pub mod Begins
-pub mod Bounds
 pub mod Closings
-pub mod Costed
-pub mod Firsts
 pub mod Histories
-pub mod Marked
-pub mod Staying
-pub mod Numbered
-pub mod Readings
 pub mod Rounds
 pub mod Seen
-pub mod Shaped
-pub mod Sincing
 pub mod Stopping
-pub mod Takings

@@ -12,7 +12,8 @@ use Rattle.jb_book.specs.Account.{Account, IsSound, CanTake, is_full, RefusesBeg
 use Rattle.jb_desk.specs.Journal.{CommitsRound}
 use Rattle.jb_book.specs.Origin.{Begun}
 use Rattle.jb_desk.specs.Refusals.{IsTooMany}
-use Rattle.jb_desk.specs.Rounds.{AnswersRound, GivesBatch, end_of}
+use Rattle.jb_works.specs.Rounds.{end_of}
+use Rattle.jb_desk.specs.Rounds.{AnswersRound, GivesBatch}
 use Rattle.jb_book.specs.Shadow.{credits_at, reserved}
 use Rattle.jb_desk.specs.Views.{SeesCommit, SeesRound, TakesUp, with_taken}
 use Rattle.jb_desk.specs.declared.committer.Round.{Round}

@@ -4,7 +4,7 @@ use Rattle.std.specs.Global.{Vec}
 use Rattle.jb_desk.specs.Desks.{desk_id, shape_in}
 use Rattle.jb_desk.specs.declared.seat.Left.{Left}
 use Rattle.jb_desk.specs.declared.counter.Counter.{Counter}
-use Rattle.jb_desk.specs.Works.{Worked}
+use Rattle.jb_works.specs.Works.{Worked}
 use Rattle.jb_book.specs.Marks.{SeesSame}
 use Rattle.jb_book.specs.declared.sights.Sights.{Sights}
 use Rattle.jb_disk.specs.declared.disk.Disk.{Ghosts as Disks}

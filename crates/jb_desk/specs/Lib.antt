@@ -4,12 +4,9 @@ pub mod Ends
 pub mod History
 pub mod Journal
 pub mod Marks
-pub mod Opened
 pub mod Progress
 pub mod Refusals
 pub mod Rounds
 pub mod Seats
-pub mod Since
 pub mod Stops
 pub mod Views
-pub mod Works

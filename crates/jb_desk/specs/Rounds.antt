@@ -1,13 +1,10 @@
 -- What a round of a committer makes of a book and of the committer.
-use Rattle.std.specs.Prelude.{◌≡◌, ℕ, ◌+◌, ◌<◌, ◌≤◌, true, false, length, Option, Some, None, is_some, Result, Ok, Err}
+use Rattle.std.specs.Prelude.{◌≡◌, ℕ, ◌≤◌, true, false, Option, Some, None, is_some, Result, Ok, Err}
 use Rattle.jb_batch.specs.Batch.{Gathered, gathered}
 use Rattle.jb_batch.specs.Costs.{HasCut}
-use Rattle.jb_deck.specs.Done.{Follow, first_of, entries_of, past_after}
-use Rattle.jb_batch.specs.Prepared.{Planned}
-use Rattle.jb_deck.specs.declared.batched.BatchFault.{BatchFault}
-use Rattle.jb_deck.specs.declared.batched.BatchFault.TheVariants as batch
-use Rattle.jb_deck.specs.declared.done.Done.{Done}
+use Rattle.jb_deck.specs.Done.{Follow, first_of, entries_of}
 use Rattle.jb_book.specs.Account.{Account, taken_all, failed_of, CanTake, IsOver}
+use Rattle.jb_works.specs.Rounds.{end_of}
 use Rattle.jb_desk.specs.declared.committer.Committer.{Committer}
 use Rattle.jb_desk.specs.declared.committer.Round.{Round}
 use Rattle.jb_desk.specs.declared.committer.Round.TheVariants.{Idle, Committed}
@@ -46,22 +43,6 @@ pub record Rests (a : Account) : Type 0 where
   pub running : a.aborted ≡ false
   pub none : CanTake a → ⊥
   pub on : IsOver a → ⊥
-
--- ---- the journal
-
--- the ticket after those of a batch
-abbrev pub end_of : Gathered → ℕ
-end_of b = b.first + length b.handles
-
--- all of the batch is settled, or after a fault of the disk a first part of it and not all; otherwise it is handed back as it was
-abbrev pub CommitsAs : Planned → Result Done BatchFault → Type 0
-CommitsAs p (Ok done) = (first_of done ≡ p.batch.first) × Follow p.batch.first 0 (end_of p.batch) (entries_of done)
-CommitsAs p (Err (batch.Aborted back)) = back ≡ p
-CommitsAs p (Err (batch.WrongTicket back expected)) = back ≡ p
-CommitsAs p (Err (batch.OtherShape back)) = back ≡ p
-CommitsAs p (Err (batch.NumbersSpent back)) = back ≡ p
-CommitsAs p (Err (batch.Memory back)) = back ≡ p
-CommitsAs p (Err (batch.DeviceFault settled)) = (first_of settled ≡ p.batch.first) × (p.batch.first ≤ past_after p.batch.first (entries_of settled)) × (past_after p.batch.first (entries_of settled) < end_of p.batch)
 
 -- ---- the round
 

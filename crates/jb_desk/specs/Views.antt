@@ -4,7 +4,8 @@ use Rattle.jb_batch.specs.Batch.{Gathered}
 use Rattle.jb_board.specs.Front.{front}
 use Rattle.jb_board.specs.Steps.{raised_settled}
 use Rattle.jb_board.specs.declared.front.Front.{Front}
-use Rattle.jb_desk.specs.Rounds.{AnswersRound, end_of}
+use Rattle.jb_works.specs.Rounds.{end_of}
+use Rattle.jb_desk.specs.Rounds.{AnswersRound}
 use Rattle.jb_desk.specs.Seats.{view_of}
 use Rattle.jb_desk.specs.declared.committer.Round.{Round}
 use Rattle.jb_desk.specs.declared.committer.Round.TheVariants.{Idle, Committed}

@@ -23,7 +23,6 @@ use crate::shown::Shown;
 use crate::stops::Stops;
 use crate::turns::Turns;
 use crate::waits::Waits;
-use crate::works::Works;
 pub use closing::{CloseFault, Closed};
 use jb_board::{Board, Front};
 use jb_book::{BeginFault, Histories, Marks, Origin, Register, Sights};
@@ -31,6 +30,7 @@ use jb_deck::Deck;
 use jb_disk::{Clock, Disk};
 use jb_handle::{Handle, Shape};
 use jb_history::Opened;
+use jb_works::Works;
 use std::alloc::Global;
 use std::sync::ledger::{Blank, Ledger};
 use std::sync::{Condvar, Mutex, Wait};
@@ -61,7 +61,7 @@ impl<D: Disk, C: Clock, H: Origin, N: Ledger> Desk<D, C, H, N> {
     ghost use Rattle.jb_book.specs.Marks.{SeesMore, SeesSame, SeesStop, Shows};
     ghost use Rattle.jb_desk.specs.Marks.{ShowsTaken};
     ghost use Rattle.jb_desk.specs.Refusals.{HandsBack, IsTooMany};
-    ghost use Rattle.jb_desk.specs.Since.{IsSince};
+    ghost use Rattle.jb_works.specs.Since.{IsSince};
     ghost use Rattle.jb_desk.specs.Views.{with_settled, RefusesWait};
 
     /// A desk over a journal that has committed nothing yet and has not failed. `handles` is a new ledger,

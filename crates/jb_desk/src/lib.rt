@@ -1,7 +1,6 @@
 //! The desk over a journal: the book of open, stopped and settled handles that its lock guards.
 #![tactic(auto)]
 
-mod checkpoint;
 mod committer;
 mod counter;
 mod desk;
@@ -10,15 +9,12 @@ mod fault;
 mod follow;
 mod held;
 pub mod laws;
-mod opening;
 mod seat;
 mod shown;
 mod stops;
 mod turns;
 mod waits;
-mod works;
 
-pub use checkpoint::CheckpointRound;
 pub use committer::{Committer, Round, RoundFault};
 pub use counter::{NoBatch, Over};
 pub use desk::{CloseFault, Closed, Desk};
@@ -26,6 +22,6 @@ pub use ended::Ended;
 pub use fault::{SeatFault, StopFault, WaitFault};
 pub use jb_book::{BeginFault, Book, EnqueueFault, Marks, Origin, Sights, WrongBatch};
 pub use jb_handle::Ticket;
-pub use opening::open;
+pub use jb_works::{CheckpointRound, open};
 pub use seat::{Left, Seat};
 pub use stops::Stops;

@@ -21,9 +21,10 @@ use Rattle.jb_book.specs.Led.{IsInHistory}
 use Rattle.jb_book.specs.Marks.{SeesMore, Shows, ShowsAfter}
 use Rattle.jb_book.specs.Origin.{Begun}
 use Rattle.jb_book.specs.declared.sights.Sights.{Sights}
-use Rattle.jb_desk.specs.History.{IsStop}
-use Rattle.jb_desk.specs.Journal.{ReadsHome}
-use Rattle.jb_desk.specs.Marks.{HasSettledOf, Lasts, ShowsTaken, Within}
+use Rattle.jb_works.specs.History.{IsStop}
+use Rattle.jb_works.specs.Journal.{ReadsHome}
+use Rattle.jb_works.specs.Marks.{HasSettledOf, Lasts, Within}
+use Rattle.jb_desk.specs.Marks.{ShowsTaken}
 use Rattle.jb_desk.specs.declared.fault.WaitFault.{WaitFault}
 use Rattle.jb_desk.specs.declared.fault.WaitFault.TheVariants as wait
 use Rattle.jb_journal.specs.Client.{AreHonest}

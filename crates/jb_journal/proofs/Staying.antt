@@ -12,7 +12,7 @@ use Rattle.jb_history.proofs.Placed.{get_before}
 use Rattle.jb_history.specs.Rule.{StandsIn}
 use Rattle.jb_deck.specs.Done.{past_after}
 use Rattle.jb_book.specs.Origin.{Begun}
-use Rattle.jb_desk.specs.History.{IsStop}
+use Rattle.jb_works.specs.History.{IsStop}
 use Rattle.jb_journal.specs.Notes.{AreInNotes, IsInNotes, Known, KnownLasts, NoteLasts, Stop}
 use Rattle.jb_journal.specs.Running.{RanAll}
 use Rattle.jb_journal.specs.Staying.{HandleStays}

@@ -12,4 +12,4 @@ pub use Rattle.jb_history.specs.Rule.{IsFirstPart, StandsIn, with_places}
 pub use Rattle.jb_ring.specs.Follows.{StandsBy}
 pub use Rattle.jb_book.specs.Led.{IsInHistory}
 pub use Rattle.jb_book.specs.Origin.{Begun}
-pub use Rattle.jb_desk.specs.History.{AreAllStops}
+pub use Rattle.jb_works.specs.History.{AreAllStops}

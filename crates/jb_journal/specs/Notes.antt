@@ -14,8 +14,8 @@ use Rattle.jb_deck.specs.declared.done.Entry.{Entry}
 use Rattle.jb_book.specs.Led.{IsInHistory}
 use Rattle.jb_book.specs.Marks.{HasEntry}
 use Rattle.jb_book.specs.Origin.{Begun}
-use Rattle.jb_desk.specs.Marks.{Within}
-use Rattle.jb_desk.specs.Since.{HasFirst}
+use Rattle.jb_works.specs.Marks.{Within}
+use Rattle.jb_works.specs.Since.{HasFirst}
 use Rattle.jb_desk.specs.declared.fault.WaitFault.{WaitFault}
 use Rattle.jb_desk.specs.declared.fault.WaitFault.TheVariants as wait
 

@@ -9,7 +9,7 @@ use Rattle.jb_deck.specs.Done.{Follow, start_of}
 use Rattle.jb_desk.specs.Ends.{is_shut}
 use Rattle.jb_desk.specs.declared.ended.Ended.{Ended}
 use Rattle.jb_desk.specs.declared.ended.Ended.TheVariants as ended
-use Rattle.jb_desk.specs.History.{EndsWith}
+use Rattle.jb_works.specs.History.{EndsWith}
 use Rattle.jb_book.specs.Origin.{Begun}
 use Rattle.jb_desk.specs.Seats.{made_by, made_left}
 use Rattle.jb_book.specs.declared.origin.Origin.{Ghosts}

@@ -3,7 +3,7 @@ ghost use Rattle.std.specs.Prelude.{◌≡◌, ◌+◌, ◌^◌, ◌≤◌, ◌�
 ghost use Rattle.jb_deck.specs.Done.{past_after};
 ghost use Rattle.jb_desk.specs.Desks.{shape_in};
 ghost use Rattle.jb_desk.specs.History.{history_in};
-ghost use Rattle.jb_desk.specs.Since.{EndsSince, IsBegunOn, IsSince};
+ghost use Rattle.jb_works.specs.Since.{EndsSince, IsBegunOn, IsSince};
 ghost use Rattle.jb_handle.specs.Word.{WordMap};
 ghost use Rattle.jb_history.specs.History.{history_id};
 ghost use Rattle.jb_journal.specs.Refusing.{RefusesRun};

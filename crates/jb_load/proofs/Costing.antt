@@ -14,7 +14,7 @@ use Rattle.jb_handle.specs.declared.stopped.Stopped.{Stopped}
 use Rattle.jb_history.specs.Rule.{with_places}
 use Rattle.jb_deck.specs.declared.done.Entry.{Entry}
 use Rattle.jb_book.specs.Led.{IsInHistory}
-use Rattle.jb_desk.specs.Since.{IsCosted}
+use Rattle.jb_works.specs.Since.{IsCosted}
 use Rattle.jb_book.proofs.Limits.{length-range}
 use Rattle.jb_load.specs.Loads.{with_tickets}
 use Rattle.jb_load.proofs.Summing.{sum-same}

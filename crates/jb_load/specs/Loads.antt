@@ -15,7 +15,7 @@ use Rattle.jb_deck.specs.Done.{Follow}
 use Rattle.jb_deck.specs.Opening.{OpenFaults, Opens, RefusesOpen}
 use Rattle.jb_deck.specs.declared.done.Entry.{Entry}
 use Rattle.jb_deck.specs.declared.fault.OpenFault.{OpenFault}
-use Rattle.jb_desk.specs.History.{AreAllStops}
+use Rattle.jb_works.specs.History.{AreAllStops}
 use Rattle.jb_desk.specs.declared.ended.Ended.{Ended}
 use Rattle.jb_desk.specs.declared.ended.Ended.TheVariants as ended
 use Rattle.jb_load.specs.Gathering.{first_refused}

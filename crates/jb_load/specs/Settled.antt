@@ -6,8 +6,8 @@ use Rattle.jb_handle.specs.declared.shape.Shape.{Shape}
 use Rattle.jb_handle.specs.declared.stopped.Stopped.{Stopped}
 use Rattle.jb_book.specs.Led.{IsMachineRun}
 use Rattle.jb_book.specs.Origin.{Begun}
-use Rattle.jb_desk.specs.History.{IsStop}
-use Rattle.jb_desk.specs.Since.{IsSinceOf}
+use Rattle.jb_works.specs.History.{IsStop}
+use Rattle.jb_works.specs.Since.{IsSinceOf}
 use Rattle.jb_deck.specs.Deck.{OpenDeck}
 use Rattle.jb_deck.specs.declared.done.Entry.{Entry}
 use Rattle.jb_load.specs.Loads.{IsOpened, Loads}

@@ -4,7 +4,7 @@ ghost use Rattle.jb_load.specs.Loads.{AnswersLoad, EndsCheckpoint, IsOpened, Not
 ghost use Rattle.jb_load.specs.Settled.{LoadedSince, LoadsSince, MayStop};
 ghost use Rattle.jb_desk.specs.History.{history_in};
 ghost use Rattle.jb_history.specs.History.{history_id};
-ghost use Rattle.jb_desk.specs.Since.{IsBegunOn, IsSince};
+ghost use Rattle.jb_works.specs.Since.{IsBegunOn, IsSince};
 ghost use Rattle.jb_deck.specs.Deck.{IsShapeOf};
 ghost use Rattle.jb_handle.specs.declared.shape.Shape.{Shape as ShapeValue};
 ghost use Rattle.jb_queue.specs.QueueLines.{handles_of};

@@ -46,7 +46,7 @@ fn merged<H: Origin, N: Ledger>(
 impl<D: Disk, H: Origin, N: Ledger> Counter<D, H, N> {
     ghost use Rattle.jb_book.specs.Led.{IsMachineRun};
     ghost use Rattle.jb_book.specs.Marks.{HasShapeMark};
-    ghost use Rattle.jb_desk.specs.History.{AreAllStops};
+    ghost use Rattle.jb_works.specs.History.{AreAllStops};
 
     /// Takes it apart where every seat that was given has left: into the book's trail, how many handles
     /// stopped and how many blocks they had touched, which are the sums over what the seats left, the history, which has

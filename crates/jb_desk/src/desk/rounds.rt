@@ -21,7 +21,8 @@ use std::sync::ledger::Ledger;
 impl<D: Disk, C: Clock, H: Origin, N: Ledger> Desk<D, C, H, N> {
     ghost use Rattle.jb_desk.specs.Desks.{desk_id};
     ghost use Rattle.jb_desk.specs.Journal.{CommitsRound};
-    ghost use Rattle.jb_desk.specs.Rounds.{seat_of, held_by, AnswersRound, IdleKeeps, end_of as end_in};
+    ghost use Rattle.jb_works.specs.Rounds.{end_of as end_in};
+    ghost use Rattle.jb_desk.specs.Rounds.{seat_of, held_by, AnswersRound, IdleKeeps};
     ghost use Rattle.jb_desk.specs.Seats.{KeepsStops, seat_number, desk_of};
     ghost use Rattle.jb_book.specs.Led.{IsInHistory, IsSettling};
     ghost use Rattle.jb_book.specs.Marks.{HasFailedMark, IsMarked, SeesSame};

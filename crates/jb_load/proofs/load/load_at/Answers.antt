@@ -6,8 +6,8 @@ use Rattle.jb_deck.specs.Done.{Follow, start_of}
 use Rattle.jb_deck.proofs.Shapes.{shape-same}
 use Rattle.jb_desk.specs.Desks.{shape_in}
 use Rattle.jb_book.specs.Led.{IsInHistory}
-use Rattle.jb_desk.specs.History.{AreAllStops, IsStop}
-use Rattle.jb_desk.specs.Since.{IsCosted}
+use Rattle.jb_works.specs.History.{AreAllStops, IsStop}
+use Rattle.jb_works.specs.Since.{IsCosted}
 use Rattle.jb_queue.specs.QueueLines.{handles_of}
 use Rattle.jb_load.specs.Loads.{AreRuns}
 use Rattle.jb_load.specs.Running.{HasRun}

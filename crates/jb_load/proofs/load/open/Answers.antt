@@ -1,4 +1,4 @@
-use Rattle.jb_desk.proofs.Begins.{open-since}
+use Rattle.jb_works.proofs.Begins.{open-since}
 use Rattle.jb_load.proofs.Opening.{new-as, opened-as, refused-as}
 use Rattle.jb_load.proofs.load.open.Goals as goal
 

@@ -3,14 +3,14 @@ use mathlib.Core.List.{IsPrefix}
 use Rattle.jb_handle.specs.Word.{WordMap}
 use Rattle.std.specs.Prelude.{List}
 use Rattle.jb_history.proofs.Placed.{placed_on}
-use Rattle.jb_desk.specs.History.{IsStop}
-use Rattle.jb_desk.specs.Marks.{Lasts}
-use Rattle.jb_desk.specs.Since.{may_stop}
-use Rattle.jb_desk.proofs.Histories.{stop-on}
-use Rattle.jb_desk.proofs.Marked.{first-marks, marked-weaker}
-use Rattle.jb_desk.proofs.Shaped.{of-begun}
-use Rattle.jb_desk.proofs.Sincing.{is-weaker}
-use Rattle.jb_desk.proofs.Staying.{of-mark}
+use Rattle.jb_works.specs.History.{IsStop}
+use Rattle.jb_works.specs.Marks.{Lasts}
+use Rattle.jb_works.specs.Since.{may_stop}
+use Rattle.jb_works.proofs.Histories.{stop-on}
+use Rattle.jb_works.proofs.Marked.{first-marks, marked-weaker}
+use Rattle.jb_works.proofs.Shaped.{of-begun}
+use Rattle.jb_works.proofs.Sincing.{is-weaker}
+use Rattle.jb_works.proofs.Staying.{of-mark}
 use Rattle.jb_desk.proofs.desk.closing.close_parts.Goals as goal
 
 pub returns-clause-since : goal.returns-clause-since

@@ -1,0 +1,13 @@
+pub mod Begins
+pub mod Bounds
+pub mod Costed
+pub mod Firsts
+pub mod Histories
+pub mod Marked
+pub mod Numbered
+pub mod Readings
+pub mod Rounds
+pub mod Shaped
+pub mod Sincing
+pub mod Staying
+pub mod Takings

@@ -1,0 +1,16 @@
+use Rattle.jb_works.specs.History.{IsStop}
+use Rattle.jb_works.proofs.Marked.{checkpoint-marked}
+use Rattle.jb_works.proofs.Sincing.{checkpoint-round}
+use Rattle.jb_works.proofs.works.Works.checkpoint.Goals as goal
+
+pub invariant_of-self : goal.invariant_of-self
+invariant_of-self g c =
+    checkpoint-marked g.D.Disk g.met.D.Disk.counts_now g.S.Origin.begun (IsStop g.S.Origin.begun c.self.inside.sight) (λ h s. s.0)
+    c.self.inside.deck c.checkpoint_one.new.self c.checkpoint_one.ensures.kept c.self.inside.scribe
+    c.checkpoint_one.result c.checkpoint_one.ensures.answers c.checkpoint_one.ensures.checkpoints c.checkpoint_one.ensures.leaves c.self.invariant
+
+pub returns-clause-round : goal.returns-clause-round
+returns-clause-round g c =
+    checkpoint-round g.D.Disk g.met.D.Disk.counts_now g.S.Origin.begun (IsStop g.S.Origin.begun c.self.inside.sight) (λ h s. s.0)
+    c.self.inside.deck c.checkpoint_one.new.self c.checkpoint_one.ensures.kept
+    c.checkpoint_one.result c.checkpoint_one.ensures.answers c.checkpoint_one.ensures.checkpoints c.self.invariant.since (invariant_of-self g c).since
