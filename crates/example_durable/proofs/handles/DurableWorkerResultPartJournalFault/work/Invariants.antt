@@ -2,5 +2,5 @@ use Rattle.jb_journal.specs.Client.{IsClient}
 use Rattle.example_durable.proofs.handles.DurableWorkerResultPartJournalFault.work.Given as goal
 
 -- the client can change and wait
-abbrev pub invariant-loop : goal.invariant-loop
-invariant-loop g l = IsClient g.H.Origin.begun l.client
+abbrev pub invariant-loop-number : goal.invariant-loop-number
+invariant-loop-number g l = IsClient g.H.Origin.begun l.client
