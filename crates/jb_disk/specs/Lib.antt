@@ -8,6 +8,7 @@ pub mod File
 pub mod Fuse
 pub mod History
 pub mod Image
+pub mod Keeps
 pub mod Kept
 pub mod Laws
 pub mod Lives
