@@ -4,7 +4,7 @@ ghost use Rattle.jb_block.specs.Size.{bytes_of};
 ghost use Rattle.jb_disk.specs.Faults.{CountsAny};
 ghost use Rattle.jb_disk.specs.History.{newest_of};
 ghost use Rattle.jb_disk.specs.Image.{Only};
-ghost use Rattle.jb_disk.specs.Keeps.{Keeps};
+ghost use Rattle.jb_disk.specs.KeptOn.{KeptOn};
 ghost use Rattle.jb_disk.specs.Time.{LeavesOnly};
 ghost use Rattle.jb_ring.specs.Leaving.{AllHave};
 ghost use Rattle.jb_recover.specs.Outcomes.{RecoversAs};
@@ -119,7 +119,7 @@ fn live(alloc: Global, disk: MemoryDisk, life: Life) -> Result<(MemoryDisk, bool
 
 /// The disk after a recovery, whatever that answers.
 fn recover_in_part<D: Disk>(alloc: Global, disk: D) -> D
-    ensures kept { Keeps D.Disk CountsAny disk result }
+    ensures kept { KeptOn D.Disk CountsAny disk result }
     ensures leaves { D.honest result → Only (D.newest disk) (D.may_leave disk)
         → LeavesOnly D.moment D.left_since disk result
         (RecoversAs (D.size disk) (D.count disk) (D.newest disk)) }

@@ -3,7 +3,7 @@ use Rattle.std.proofs.Common.{◌≡◌, ◌⊎◌, ℕ, ◌+◌, ◌≤◌, Lis
 use Rattle.std.proofs.lemmas.List.Elements.{All-nil}
 use Rattle.jb_disk.specs.Image.{Image}
 use Rattle.jb_disk.specs.Faults.{CountsNone}
-use Rattle.jb_disk.specs.Keeps.{Keeps}
+use Rattle.jb_disk.specs.KeptOn.{KeptOn}
 use Rattle.jb_disk.specs.declared.disk.Disk.{Ghosts}
 use Rattle.jb_disk.specs.Time.{LeavesOnly}
 use Rattle.jb_front.specs.Front.{super_on}
@@ -51,7 +51,7 @@ pub opened-since : {D : Type 0} (G : Ghosts D)
     → (counts_now : (disk : D) (t : ℕ) (c : Image) → G.honest disk → t ≤ G.moment disk → G.may_leave disk c → G.left_since disk t c)
     → (b : Begun) (disk : D) (deck : OpenDeck D)
     → IsBegunOn G b disk
-    → Keeps G CountsNone disk deck.disk → IsNew deck
+    → KeptOn G CountsNone disk deck.disk → IsNew deck
     → (G.honest deck.disk → Opens (G.size disk) (G.count disk) (G.newest disk) (G.newest deck.disk) deck.log)
     → (G.honest deck.disk → LeavesOnly G.moment G.left_since disk deck.disk (λ c. G.may_leave disk c ⊎ FollowsEntry (G.size disk) (G.count disk) (G.newest disk) c))
     → (G.honest deck.disk → AllHave G.may_leave deck.disk (FollowsNone deck.log.sb deck.log.next (G.size disk) (G.count disk) (recovered_home (G.size disk) (G.count disk) (G.newest disk))))
@@ -112,13 +112,13 @@ module _ {D : Type 0} (G : Ghosts D) (disk : D) where
       (λ deck. Opens (G.size disk) (G.count disk) (G.newest disk) (G.newest deck.disk) deck.log)
       (λ refused. RefusesOpen (G.size disk) (G.count disk) (G.newest disk) (G.newest refused.0) refused.1)
 
-  pub open-opened : (r : Opened) → Keeps G (CountsOpen r) disk (disk_in r) → OpensAs r
+  pub open-opened : (r : Opened) → KeptOn G (CountsOpen r) disk (disk_in r) → OpensAs r
       → IfOk r (λ deck. (shape : Shape) → IsShapeOf deck.log.sb (G.count deck.disk) shape → WasOpened G disk shape)
   open-opened (Ok deck) kept opens = λ shape journal. record { deck = deck; kept = kept; opens = opens; journal = journal }
   open-opened (Err refused) kept opens = tt
 
   pub open-since : ((d : D) (t : ℕ) (c : Image) → G.honest d → t ≤ G.moment d → G.may_leave d c → G.left_since d t c)
-      → (b : Begun) → IsBegunOn G b disk → (r : Opened) → Keeps G (CountsOpen r) disk (disk_in r) → IfOk r IsNew → OpensAs r
+      → (b : Begun) → IsBegunOn G b disk → (r : Opened) → KeptOn G (CountsOpen r) disk (disk_in r) → IfOk r IsNew → OpensAs r
       → (G.honest (disk_in r) → LeavesOnly G.moment G.left_since disk (disk_in r) (λ c. G.may_leave disk c ⊎ FollowsEntry (G.size disk) (G.count disk) (G.newest disk) c))
       → (G.honest (disk_in r) → IfOk r (λ deck. AllHave G.may_leave deck.disk (FollowsNone deck.log.sb deck.log.next (G.size disk) (G.count disk) (recovered_home (G.size disk) (G.count disk) (G.newest disk)))))
       → (G.honest (disk_in r) → IfOk r (λ deck. (home : ℕ) → deck_homes G.newest deck home ≡ recovered_home (G.size disk) (G.count disk) (G.newest disk) home))

@@ -2,7 +2,7 @@
 use Rattle.std.proofs.Common.{◌≡◌, ℕ, false, ◌≤◌, List, All, length, Result, Ok, Err, OnOk, refl, ap, sym, subst, ◌∙◌, arith}
 use Rattle.jb_disk.specs.Image.{Image}
 use Rattle.jb_disk.specs.Faults.{CountsAny}
-use Rattle.jb_disk.specs.Keeps.{Keeps}
+use Rattle.jb_disk.specs.KeptOn.{KeptOn}
 use Rattle.jb_disk.specs.declared.disk.Disk.{Ghosts}
 use Rattle.jb_disk.specs.Time.{LeavesOnly}
 use Rattle.jb_disk.proofs.Moments.{weaken}
@@ -25,7 +25,7 @@ use Rattle.jb_desk.specs.History.{IsStop}
 use Rattle.jb_desk.specs.Marks.{HasSettledOf}
 use Rattle.jb_desk.proofs.Sincing.{given-none, is-weaker, none-since}
 
-module _ {D : Type 0} (G : Ghosts D) (counts_now : (disk : D) (t : ℕ) (c : Image) → G.honest disk → t ≤ G.moment disk → G.may_leave disk c → G.left_since disk t c) (b : Begun) (known : Stopped → Type 0) (plain : (h : Stopped) → known h → b.stops h.words) (old new : OpenDeck D) (kept : Keeps G CountsAny old.disk new.disk) where
+module _ {D : Type 0} (G : Ghosts D) (counts_now : (disk : D) (t : ℕ) (c : Image) → G.honest disk → t ≤ G.moment disk → G.may_leave disk c → G.left_since disk t c) (b : Begun) (known : Stopped → Type 0) (plain : (h : Stopped) → known h → b.stops h.words) (old new : OpenDeck D) (kept : KeptOn G CountsAny old.disk new.disk) where
   abbrev Is : OpenDeck D → Type 0
   Is d = IsSinceOf G b known d
 

@@ -6,7 +6,7 @@ use Rattle.jb_batch.specs.Batch.{Gathered}
 use Rattle.jb_batch.specs.Prepared.{Planned, IsPlanned}
 use Rattle.jb_block.specs.declared.stamp.Stamp.{Stamp}
 use Rattle.jb_disk.specs.Faults.{CountsAny}
-use Rattle.jb_disk.specs.Keeps.{Keeps}
+use Rattle.jb_disk.specs.KeptOn.{KeptOn}
 use Rattle.jb_disk.specs.declared.disk.Disk.{Ghosts}
 use Rattle.jb_log.specs.Found.{log_blocks}
 use Rattle.jb_deck.specs.Checkpoints.{AnswersCheckpoint, Checkpoints, TakesOldest}
@@ -57,7 +57,7 @@ module _ {D : Type 0} (G : Ghosts D) (b : Begun) where
     pub stamp : Stamp
     pub old : OpenDeck D
     pub new : OpenDeck D
-    pub same_disk : Keeps G CountsAny old.disk new.disk
+    pub same_disk : KeptOn G CountsAny old.disk new.disk
     pub takes : TakesBatch old p
     pub commits : CommitsBatch p stamp old new done
     pub on_disk : b.is_known → G.honest new.disk → CommitsOnDisk G.newest p stamp old new
@@ -72,7 +72,7 @@ module _ {D : Type 0} (G : Ghosts D) (b : Begun) where
     pub stamp : Stamp
     pub old : OpenDeck D
     pub new : OpenDeck D
-    pub same_disk : Keeps G CountsAny old.disk new.disk
+    pub same_disk : KeptOn G CountsAny old.disk new.disk
     pub takes : TakesBatch old p
     pub settles : SettlesSome p stamp old new settled
     pub before : IsSince G b old
@@ -89,7 +89,7 @@ module _ {D : Type 0} (G : Ghosts D) (b : Begun) where
   pub record TakesHome (checked : Checked) : Type 0 where
     pub old : OpenDeck D
     pub new : OpenDeck D
-    pub same_disk : Keeps G CountsAny old.disk new.disk
+    pub same_disk : KeptOn G CountsAny old.disk new.disk
     pub up : old.aborted ≡ false
     pub takes : TakesOldest old new checked
     pub checkpoints : b.is_known → G.honest new.disk → Checkpoints G.newest old new
@@ -134,7 +134,7 @@ module _ {D : Type 0} (G : Ghosts D) (b : Begun) where
   pub record ReadsHome (known : List WordMap) (marks marks_after : List (OpenDeck D)) (home bytes : ℕ) (found : List ℕ) (result : Result (Unit {0}) ReadHomeFault) : Type 0 where
     pub old : OpenDeck D
     pub new : OpenDeck D
-    pub same_disk : Keeps G CountsAny old.disk new.disk
+    pub same_disk : KeptOn G CountsAny old.disk new.disk
     pub answers : AnswersRead (G.size old.disk) (G.faults old.disk) (G.faults new.disk) old new home bytes result
     pub stands : b.is_known → G.honest new.disk → OnOk result (found ≡ standing old.log old.groups (G.newest old.disk) home)
     pub content : b.is_known → G.honest new.disk → G.newest new.disk ≡ G.newest old.disk

@@ -8,8 +8,8 @@ pub mod File
 pub mod Fuse
 pub mod History
 pub mod Image
-pub mod Keeps
 pub mod Kept
+pub mod KeptOn
 pub mod Laws
 pub mod Lives
 pub mod Memory

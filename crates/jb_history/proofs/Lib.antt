@@ -1,2 +1,2 @@
-pub mod Keeps
+pub mod KeptOn
 pub mod Placed
