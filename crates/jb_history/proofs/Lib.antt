@@ -1,2 +1,2 @@
-pub mod KeptOn
+pub mod Keeps
 pub mod Placed
