@@ -25,7 +25,7 @@ use Rattle.jb_deck.specs.Trailing.{handles_to}
 use Rattle.jb_deck.specs.declared.freed.FreeFault.{FreeFault}
 use Rattle.jb_deck.specs.declared.freed.FreeFault.TheVariants.{Aborted, NotFree, Length, DeviceFault}
 use Rattle.jb_ring.specs.declared.log.Log.{Log}
-use Rattle.jb_ring.specs.Leaving.{AllHave}
+use Rattle.jb_disk.specs.Throughout.{AllHave}
 use Rattle.jb_deck.proofs.Changed.{holds-append}
 use Rattle.jb_deck.proofs.Opened.{revoking-same}
 use Rattle.jb_client.specs.Programs.{HasChanges, IsPartOf, LeftByProgram, Part, after_batch, after_write, commits, in_batch, in_write, no_more, writes}

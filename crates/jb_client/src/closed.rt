@@ -5,7 +5,7 @@ ghost use Rattle.jb_client.specs.Programs.{all_changes, commits, disk_either, Ha
 ghost use Rattle.jb_disk.specs.Faults.{CountsAny};
 ghost use Rattle.jb_disk.specs.KeptOn.{KeptOn};
 ghost use Rattle.jb_disk.specs.Time.{LeavesOnly};
-ghost use Rattle.jb_ring.specs.Leaving.{AllHave};
+ghost use Rattle.jb_disk.specs.Throughout.{AllHave};
 ghost use Rattle.jb_deck.specs.Gathering.{groups_in};
 
 use crate::commit::{commit, give_up};

@@ -5,7 +5,7 @@ ghost use Rattle.jb_disk.specs.KeptOn.{KeptOn};
 ghost use Rattle.jb_disk.specs.Time.{LeavesOnly};
 ghost use Rattle.jb_batch.specs.Prepared.{IsPlanned};
 ghost use Rattle.jb_deck.specs.Gathering.{groups_in};
-ghost use Rattle.jb_ring.specs.Leaving.{AllHave};
+ghost use Rattle.jb_disk.specs.Throughout.{AllHave};
 ghost use Rattle.jb_ring.specs.Log.{standing};
 ghost use Rattle.jb_deck.specs.Trailing.{FollowsSome};
 ghost use Rattle.jb_deck.specs.Changes.{settles};

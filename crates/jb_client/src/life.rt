@@ -4,7 +4,7 @@ ghost use Rattle.jb_batch.specs.Prepared.{IsPlanned};
 ghost use Rattle.jb_disk.specs.Faults.{CountsAny};
 ghost use Rattle.jb_disk.specs.KeptOn.{KeptOn};
 ghost use Rattle.jb_disk.specs.Time.{LeavesOnly};
-ghost use Rattle.jb_ring.specs.Leaving.{AllHave};
+ghost use Rattle.jb_disk.specs.Throughout.{AllHave};
 ghost use Rattle.jb_client.specs.Lives.{LeftByLife};
 
 use crate::commit::commit;

@@ -6,7 +6,7 @@ ghost use Rattle.jb_disk.specs.History.{newest_of};
 ghost use Rattle.jb_disk.specs.Image.{Only};
 ghost use Rattle.jb_disk.specs.KeptOn.{KeptOn};
 ghost use Rattle.jb_disk.specs.Time.{LeavesOnly};
-ghost use Rattle.jb_ring.specs.Leaving.{AllHave};
+ghost use Rattle.jb_disk.specs.Throughout.{AllHave};
 ghost use Rattle.jb_recover.specs.Outcomes.{RecoversAs};
 ghost use Rattle.jb_super.specs.Superblock.{Superblock};
 ghost use Rattle.jb_deck.specs.Changes.{Change};

@@ -18,7 +18,7 @@ use Rattle.jb_super.specs.Superblock.{Superblock}
 use Rattle.jb_deck.specs.Deck.{IsShapeOf, OpenDeck}
 use Rattle.jb_deck.specs.Done.{past_after}
 use Rattle.jb_ring.specs.Follows.{FollowsNone}
-use Rattle.jb_ring.specs.Leaving.{AllHave}
+use Rattle.jb_disk.specs.Throughout.{AllHave}
 use Rattle.jb_deck.specs.Opening.{CountsOpen, FollowsEntry, IsNew, Opens, RefusesOpen, disk_in, opened_log, recovered_home}
 use Rattle.jb_deck.specs.declared.fault.OpenFault.{OpenFault}
 use Rattle.jb_ring.specs.declared.log.Log.{Log}

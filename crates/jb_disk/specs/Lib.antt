@@ -17,7 +17,9 @@ pub mod Mixing
 pub mod Once
 pub mod OneFault
 pub mod Runs
+pub mod Stays
 pub mod Steps
+pub mod Throughout
 pub mod Time
 pub mod Versions
 pub mod Writes
