@@ -5,7 +5,8 @@ use mathlib.Core.List.{append-nil}
 use Rattle.jb_batch.specs.Prepared.{Planned}
 use Rattle.jb_disk.specs.declared.disk.Disk.{Ghosts}
 use Rattle.jb_disk.specs.Image.{Image, block}
-use Rattle.jb_disk.specs.Kept.{Kept}
+use Rattle.jb_disk.specs.Faults.{CountsAny}
+use Rattle.jb_disk.specs.KeptOn.{KeptOn}
 use Rattle.jb_handle.specs.declared.shape.Shape.{Shape}
 use Rattle.jb_disk.specs.Time.{LeavesOnly}
 use Rattle.jb_disk.proofs.Moments.{after, weaken}
@@ -24,7 +25,7 @@ use Rattle.jb_deck.specs.Trailing.{handles_to}
 use Rattle.jb_deck.specs.declared.freed.FreeFault.{FreeFault}
 use Rattle.jb_deck.specs.declared.freed.FreeFault.TheVariants.{Aborted, NotFree, Length, DeviceFault}
 use Rattle.jb_ring.specs.declared.log.Log.{Log}
-use Rattle.jb_ring.specs.Leaving.{AllHave}
+use Rattle.jb_disk.specs.Throughout.{AllHave}
 use Rattle.jb_deck.proofs.Changed.{holds-append}
 use Rattle.jb_deck.proofs.Opened.{revoking-same}
 use Rattle.jb_client.specs.Programs.{HasChanges, IsPartOf, LeftByProgram, Part, after_batch, after_write, commits, in_batch, in_write, no_more, writes}
@@ -99,7 +100,7 @@ module _ {D : Type 0} (G : Ghosts D) (entry : D) (parts : List Part) where
     pub stands : (home : ℕ) → deck_homes G.newest deck home ≡ before home
 
   -- so say the clauses of opening it, and of its shape
-  pub opened-as : (deck : OpenDeck D) → IsNew deck → Opens size count base (G.newest deck.disk) deck.log → ((home : ℕ) → deck_homes G.newest deck home ≡ before home) → Kept G.size G.count G.honest entry deck.disk
+  pub opened-as : {counts : ℕ → ℕ → Type 0} (deck : OpenDeck D) → IsNew deck → Opens size count base (G.newest deck.disk) deck.log → ((home : ℕ) → deck_homes G.newest deck home ≡ before home) → KeptOn G counts entry deck.disk
       → (shape : Shape) → shape ≡ deck.shape → IsShapeOf deck.log.sb (G.count deck.disk) shape → IsOpened deck
   opened-as deck new opens stands kept shape is shaped = record {
     new = new;
@@ -118,7 +119,7 @@ module _ {D : Type 0} (G : Ghosts D) (entry : D) (parts : List Part) where
     pub run : Runs now.disk
     pub part : (changes : List Change) (more : ℕ) → IsPartOf rest changes more → IsPartOf parts (done ++ changes) (groups + more)
 
-  pub begun : OpeningIsRecovered → (opened : OpenDeck D) → IsOpened opened → Kept G.size G.count G.honest entry opened.disk
+  pub begun : {counts : ℕ → ℕ → Type 0} → OpeningIsRecovered → (opened : OpenDeck D) → IsOpened opened → KeptOn G counts entry opened.disk
       → LeavesOnly G.moment G.left_since entry opened.disk (λ c. G.may_leave entry c ⊎ FollowsEntry size count base c) → SoFar opened parts [] 0 opened
   begun opening opened is kept run = record {
     calls = at_first;
@@ -179,7 +180,7 @@ module _ {D : Type 0} (G : Ghosts D) (entry : D) (parts : List Part) where
       idle-runs new run = after G.moment G.left_since entry now.disk new Left so.run
           (weaken G.moment G.left_since now.disk new (IsLeft G.newest (G.size now.disk) (G.count now.disk) now [] now.log.next) Left (λ c left. inr (left-none c left)) run)
 
-      pub idle-on : (new : OpenDeck D) → IsEnded G.newest now [] new → new.log.next ≡ now.log.next → new.aborted ≡ false → Kept G.size G.count G.honest now.disk new.disk → Runs new.disk → SoFar opened rest done groups new
+      pub idle-on : (new : OpenDeck D) → IsEnded G.newest now [] new → new.log.next ≡ now.log.next → new.aborted ≡ false → KeptOn G CountsAny now.disk new.disk → Runs new.disk → SoFar opened rest done groups new
       idle-on new ended next up kept run =
           subst (λ cs. SoFar opened rest cs groups new) (append-nil done) (record {
             calls = one_more done now [] new so.calls ended;
@@ -202,7 +203,7 @@ module _ {D : Type 0} (G : Ghosts D) (entry : D) (parts : List Part) where
           (λ c l. inr (left-program (commits batch ∷ rest) done groups now so (map settles (handles_to batch.groups l.groups batch.batch.handles)) l.groups c (in_batch batch rest l.groups l.within) l.left))
           run)
 
-      pub commit-on : (new : OpenDeck D) → IsEnded G.newest now (map settles batch.batch.handles) new → new.log.next ≡ now.log.next + groups_in batch.groups → new.aborted ≡ false → Kept G.size G.count G.honest now.disk new.disk
+      pub commit-on : (new : OpenDeck D) → IsEnded G.newest now (map settles batch.batch.handles) new → new.log.next ≡ now.log.next + groups_in batch.groups → new.aborted ≡ false → KeptOn G CountsAny now.disk new.disk
           → LeavesOnly G.moment G.left_since now.disk new.disk (LeftInCommit G.newest (G.size now.disk) (G.count now.disk) now batch) → SoFar opened rest (done ++ map settles batch.batch.handles) (groups + groups_in batch.groups) new
       commit-on new ended next up kept run = record {
         calls = one_more done now hs new so.calls ended;
@@ -228,7 +229,7 @@ module _ {D : Type 0} (G : Ghosts D) (entry : D) (parts : List Part) where
           (λ c left. inr (left-program (writes home bytes ∷ rest) done groups now so torn 0 c (torn-part r home bytes rest) (subst (λ n. IsLeft G.newest (G.size now.disk) (G.count now.disk) now torn n c) (let n : now.log.next ≡ now.log.next + 0 = omega arith in n) left)))
           run)
 
-      pub write-on : (new : OpenDeck D) → IsEnded G.newest now (fills home bytes ∷ []) new → new.log.next ≡ now.log.next → new.aborted ≡ false → Kept G.size G.count G.honest now.disk new.disk → Runs new.disk → SoFar opened rest (done ++ fills home bytes ∷ []) groups new
+      pub write-on : (new : OpenDeck D) → IsEnded G.newest now (fills home bytes ∷ []) new → new.log.next ≡ now.log.next → new.aborted ≡ false → KeptOn G CountsAny now.disk new.disk → Runs new.disk → SoFar opened rest (done ++ fills home bytes ∷ []) groups new
       write-on new ended next up kept run = record {
         calls = one_more done now (fills home bytes ∷ []) new so.calls ended;
         next = next ∙ so.next;

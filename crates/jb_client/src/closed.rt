@@ -2,9 +2,10 @@
 ghost use Rattle.std.specs.Prelude.{◌∷◌, ◌⊎◌, [], IfOk};
 ghost use Rattle.jb_client.specs.Client.{LeavesAll};
 ghost use Rattle.jb_client.specs.Programs.{all_changes, commits, disk_either, HasChanges, LeftByProgram};
-ghost use Rattle.jb_disk.specs.Kept.{Kept};
+ghost use Rattle.jb_disk.specs.Faults.{CountsAny};
+ghost use Rattle.jb_disk.specs.KeptOn.{KeptOn};
 ghost use Rattle.jb_disk.specs.Time.{LeavesOnly};
-ghost use Rattle.jb_ring.specs.Leaving.{AllHave};
+ghost use Rattle.jb_disk.specs.Throughout.{AllHave};
 ghost use Rattle.jb_deck.specs.Gathering.{groups_in};
 
 use crate::commit::{commit, give_up};
@@ -35,7 +36,7 @@ pub fn commit_and_close<D: Disk>(
     ensures ends { D.honest (disk_either result) → IfOk result (λ closed. AllHave D.may_leave closed
         (HasChanges (D.size disk) (D.count disk) (D.newest disk) (all_changes (commits batch ∷ []))
         (groups_in batch.groups))) }
-    ensures kept { Kept D.size D.count D.honest disk (disk_either result) }
+    ensures kept { KeptOn D.Disk CountsAny disk (disk_either result) }
 {
     jb_deck::laws::since::<D>();
     jb_deck::laws::holds::<D>();

@@ -1,10 +1,11 @@
 //! One call of a client: a batch is committed, and what a refused one hands back is given up.
 ghost use Rattle.std.specs.Prelude.{◌≡◌, ◌+◌, false, map, OnOk};
-ghost use Rattle.jb_disk.specs.Kept.{Kept};
+ghost use Rattle.jb_disk.specs.Faults.{CountsAny};
+ghost use Rattle.jb_disk.specs.KeptOn.{KeptOn};
 ghost use Rattle.jb_disk.specs.Time.{LeavesOnly};
 ghost use Rattle.jb_batch.specs.Prepared.{IsPlanned};
 ghost use Rattle.jb_deck.specs.Gathering.{groups_in};
-ghost use Rattle.jb_ring.specs.Leaving.{AllHave};
+ghost use Rattle.jb_disk.specs.Throughout.{AllHave};
 ghost use Rattle.jb_ring.specs.Log.{standing};
 ghost use Rattle.jb_deck.specs.Trailing.{FollowsSome};
 ghost use Rattle.jb_deck.specs.Changes.{settles};
@@ -46,7 +47,7 @@ pub(crate) fn commit<D: Disk>(
     stamp: Stamp,
 ) -> Result<(), Refused>
     ensures planned { IsPlanned batch }
-    ensures kept { Kept D.size D.count D.honest deck.old.disk deck.new.disk }
+    ensures kept { KeptOn D.Disk CountsAny deck.old.disk deck.new.disk }
     ensures up { OnOk result ((deck.old.aborted ≡ false) × (deck.new.aborted ≡ false)) }
     ensures numbers { OnOk result (deck.new.log.next ≡ deck.old.log.next + groups_in batch.groups) }
     ensures ended { D.honest deck.new.disk → OnOk result (IsEnded D.newest deck.old

@@ -1,9 +1,10 @@
 //! One life of a journal, up to the crash that ends it.
 ghost use Rattle.std.specs.Prelude.{◌≡◌, ◌⊎◌, false, true, IfSome};
 ghost use Rattle.jb_batch.specs.Prepared.{IsPlanned};
-ghost use Rattle.jb_disk.specs.Kept.{Kept};
+ghost use Rattle.jb_disk.specs.Faults.{CountsAny};
+ghost use Rattle.jb_disk.specs.KeptOn.{KeptOn};
 ghost use Rattle.jb_disk.specs.Time.{LeavesOnly};
-ghost use Rattle.jb_ring.specs.Leaving.{AllHave};
+ghost use Rattle.jb_disk.specs.Throughout.{AllHave};
 ghost use Rattle.jb_client.specs.Lives.{LeftByLife};
 
 use crate::commit::commit;
@@ -42,7 +43,7 @@ pub(crate) fn run<D: Disk>(
     stamp: Stamp,
     checkpoint: bool,
 ) -> (D, bool)
-    ensures kept { Kept D.size D.count D.honest disk result.0 }
+    ensures kept { KeptOn D.Disk CountsAny disk result.0 }
     ensures leaves { D.honest result.0 → LeavesOnly D.moment D.left_since disk result.0
         (λ c. D.may_leave disk c
         ⊎ LeftByLife (D.size disk) (D.count disk) (D.newest disk) handles.items false c) }

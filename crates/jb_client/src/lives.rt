@@ -1,11 +1,12 @@
 //! Lives of a journal in memory, each of which ends with a crash, and with another one while that is recovered.
 ghost use Rattle.std.specs.Prelude.{◌≡◌, ◌⊎◌, ℕ, [], false, map, true, IfOk, List};
 ghost use Rattle.jb_block.specs.Size.{bytes_of};
+ghost use Rattle.jb_disk.specs.Faults.{CountsAny};
 ghost use Rattle.jb_disk.specs.History.{newest_of};
 ghost use Rattle.jb_disk.specs.Image.{Only};
-ghost use Rattle.jb_disk.specs.Kept.{Kept};
+ghost use Rattle.jb_disk.specs.KeptOn.{KeptOn};
 ghost use Rattle.jb_disk.specs.Time.{LeavesOnly};
-ghost use Rattle.jb_ring.specs.Leaving.{AllHave};
+ghost use Rattle.jb_disk.specs.Throughout.{AllHave};
 ghost use Rattle.jb_recover.specs.Outcomes.{RecoversAs};
 ghost use Rattle.jb_super.specs.Superblock.{Superblock};
 ghost use Rattle.jb_deck.specs.Changes.{Change};
@@ -118,7 +119,7 @@ fn live(alloc: Global, disk: MemoryDisk, life: Life) -> Result<(MemoryDisk, bool
 
 /// The disk after a recovery, whatever that answers.
 fn recover_in_part<D: Disk>(alloc: Global, disk: D) -> D
-    ensures kept { Kept D.size D.count D.honest disk result }
+    ensures kept { KeptOn D.Disk CountsAny disk result }
     ensures leaves { D.honest result → Only (D.newest disk) (D.may_leave disk)
         → LeavesOnly D.moment D.left_since disk result
         (RecoversAs (D.size disk) (D.count disk) (D.newest disk)) }

@@ -1,7 +1,7 @@
 //! A home block that a batch freed is written in its place, without the log.
 ghost use Rattle.std.specs.Prelude.{◌≡◌, ◌+◌, ◌∷◌, ◌⊎◌, [], IfOk, OnOk};
 ghost use Rattle.jb_disk.specs.Time.{LeavesOnly};
-ghost use Rattle.jb_ring.specs.Leaving.{AllHave};
+ghost use Rattle.jb_disk.specs.Throughout.{AllHave};
 ghost use Rattle.jb_deck.specs.Gathering.{groups_in};
 ghost use Rattle.jb_client.specs.Programs.{all_changes, commits, disk_either, HasChanges, LeftByProgram, writes};
 

@@ -16,6 +16,7 @@ pub mod Running
 pub mod RunWrites
 pub mod Sectors
 pub mod Starts
+pub mod Stays
 pub mod Stepping
 pub mod Syncs
 pub mod Tables

@@ -6,7 +6,8 @@ use Rattle.std.proofs.lemmas.Slice.{take-put_mid_below, between-put_mid}
 use borrow.Rule.Slice.PartMut.{put_mid}
 use Rattle.jb_disk.specs.Called.{AllMade, AreMade, Called, Reads}
 use Rattle.jb_disk.specs.Image.{Image, block, Same}
-use Rattle.jb_disk.specs.Kept.{Kept}
+use Rattle.jb_disk.specs.Faults.{CountsNone}
+use Rattle.jb_disk.specs.KeptOn.{KeptOn}
 use Rattle.jb_disk.specs.Runs.{part, ReadsRun}
 use Rattle.jb_disk.specs.Time.{Goes}
 use Rattle.jb_disk.specs.declared.disk.Disk.{Ghosts}
@@ -69,8 +70,7 @@ module _ {D : Type 0} (own : Called → D → D → Bool → Type 0) (call : ℕ
 
 -- the first k blocks from a place on are read
 pub record ReadSoFar {D : Type 0} (G : Ghosts D) (place k : ℕ) (old now : D) (buf : List ℕ) : Type 0 where
-  pub kept : Kept G.size G.count G.honest old now
-  pub same_faults : G.faults now ≡ G.faults old
+  pub kept : KeptOn G CountsNone old now
   pub made : AllMade G.own (λ j. Reads (place + j)) k old now
   pub found : G.honest now → ReadsRun (G.size old) k place (G.newest old) buf
   pub same_newest : G.honest now → G.newest now ≡ G.newest old

@@ -19,6 +19,14 @@ abbrev pub CountsCall : Bool → ℕ → ℕ → Type 0
 CountsCall true old new = new ≡ old
 CountsCall false old new = MoreFaults old new
 
+-- the count stays: no call has failed
+abbrev pub CountsNone : ℕ → ℕ → Type 0
+CountsNone old new = new ≡ old
+
+-- the count may be any here
+abbrev pub CountsAny : ℕ → ℕ → Type 0
+CountsAny old new = Unit {0}
+
 -- the count of a disk of its own: by one where a call fails, up to the largest count
 abbrev pub CountsOne : Bool → ℕ → ℕ → Type 0
 CountsOne true old new = new ≡ old

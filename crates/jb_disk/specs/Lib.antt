@@ -9,6 +9,7 @@ pub mod Fuse
 pub mod History
 pub mod Image
 pub mod Kept
+pub mod KeptOn
 pub mod Laws
 pub mod Lives
 pub mod Memory
@@ -16,7 +17,9 @@ pub mod Mixing
 pub mod Once
 pub mod OneFault
 pub mod Runs
+pub mod Stays
 pub mod Steps
+pub mod Throughout
 pub mod Time
 pub mod Versions
 pub mod Writes

@@ -4,7 +4,7 @@ ghost use Rattle.jb_block.specs.Size.{bytes_of};
 ghost use Rattle.jb_disk.specs.Ahead.{size_ahead, AreAhead, FitsAhead, IsAhead, IsAheadOf};
 ghost use Rattle.jb_disk.specs.Faults.{CountsFault};
 ghost use Rattle.jb_disk.specs.Image.{Image, block, Same};
-ghost use Rattle.jb_disk.specs.Kept.{Kept};
+ghost use Rattle.jb_disk.specs.KeptOn.{KeptOn};
 ghost use Rattle.jb_disk.specs.Time.{Goes};
 
 use crate::{Disk, Fault};
@@ -46,8 +46,7 @@ impl Ahead {
     pub fn fetch<D: Disk>(&mut self, disk: &mut D, place: u64, end: u64) -> Result<(), Fault>
         requires place { place < end }
         requires ahead { IsAheadOf D.Disk place end self.old disk.old }
-        ensures kept { Kept D.size D.count D.honest disk.old disk.new }
-        ensures faults { CountsFault result (D.faults disk.old) (D.faults disk.new) }
+        ensures kept { KeptOn D.Disk (CountsFault result) disk.old disk.new }
         ensures held { IsAhead self.old place → (disk.new ≡ disk.old) × (self.new ≡ self.old) }
         ensures holds { OnOk result (IsAhead self.new place) }
         ensures ahead { IsAheadOf D.Disk place end self.new disk.new }

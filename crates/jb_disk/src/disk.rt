@@ -66,10 +66,9 @@ pub trait Disk {
     fn read(&mut self, place: u64, buf: &mut [u8]) -> Result<(), Fault>
         requires place { place < count self.old }
         requires block { length buf.old ≡ size self.old }
-        ensures kept { Kept size count honest self.old self.new }
+        ensures kept { Kept size count faults honest (CountsFault result) self.old self.new }
         ensures spent { IsTrue (fails_next self.old) → IsErr result
             × Untouched newest may_leave moment self.old self.new }
-        ensures faults { CountsFault result (faults self.old) (faults self.new) }
         ensures own { own (Reads place) self.old self.new (is_ok result) }
         ensures found { honest self.new → OnOk result (buf.new ≡ block (newest self.old) place) }
         ensures newest { honest self.new → newest self.new ≡ newest self.old }
@@ -81,10 +80,9 @@ pub trait Disk {
     fn write(&mut self, place: u64, bytes: &[u8]) -> Result<(), Fault>
         requires place { place < count self.old }
         requires block { length bytes.now ≡ size self.old }
-        ensures kept { Kept size count honest self.old self.new }
+        ensures kept { Kept size count faults honest (CountsFault result) self.old self.new }
         ensures spent { IsTrue (fails_next self.old) → IsErr result
             × Untouched newest may_leave moment self.old self.new }
-        ensures faults { CountsFault result (faults self.old) (faults self.new) }
         ensures own { own (Writes place bytes.now) self.old self.new (is_ok result) }
         ensures written { honest self.new → OnOk result (newest self.new ≡ set (newest self.old) place bytes.now) }
         ensures torn { honest self.new → Torn place bytes.now (newest self.old) (newest self.new) }
@@ -93,10 +91,9 @@ pub trait Disk {
     /// Makes the newest content the only one that a crash may leave. A sync that fails promises nothing
     /// of what was written before it, and of a file nothing is known once anything is asked of it then.
     fn sync(&mut self) -> Result<(), Fault>
-        ensures kept { Kept size count honest self.old self.new }
+        ensures kept { Kept size count faults honest (CountsFault result) self.old self.new }
         ensures spent { IsTrue (fails_next self.old) → IsErr result
             × Untouched newest may_leave moment self.old self.new }
-        ensures faults { CountsFault result (faults self.old) (faults self.new) }
         ensures own { own Syncs self.old self.new (is_ok result) }
         ensures newest { honest self.new → newest self.new ≡ newest self.old }
         ensures durable { honest self.new → OnOk result (Only (newest self.old) (may_leave self.new)) }
@@ -109,10 +106,9 @@ pub trait Disk {
         requires place { place + blocks ≤ count self.old }
         requires range { place + blocks < 2 ^ 64 }
         requires block { length buf.old ≡ size self.old * blocks }
-        ensures kept { Kept size count honest self.old self.new }
+        ensures kept { Kept size count faults honest (CountsFault result) self.old self.new }
         ensures spent { IsTrue (fails_next self.old) → IsErr result
             × Untouched newest may_leave moment self.old self.new }
-        ensures faults { CountsFault result (faults self.old) (faults self.new) }
         ensures own { IsTrue runs_as_calls
             → AreMade own (λ k. Reads (place + k)) blocks self.old self.new (is_ok result) }
         ensures found { honest self.new → OnOk result
@@ -136,10 +132,9 @@ pub trait Disk {
         requires place { place + blocks ≤ count self.old }
         requires range { place + blocks < 2 ^ 64 }
         requires block { length bytes.now ≡ size self.old * blocks }
-        ensures kept { Kept size count honest self.old self.new }
+        ensures kept { Kept size count faults honest (CountsFault result) self.old self.new }
         ensures spent { IsTrue (fails_next self.old) → IsErr result
             × Untouched newest may_leave moment self.old self.new }
-        ensures faults { CountsFault result (faults self.old) (faults self.new) }
         ensures own { IsTrue runs_as_calls
             → AreMade own (λ k. Writes (place + k) (part (size self.old) k bytes.now)) blocks
             self.old self.new (is_ok result) }

@@ -18,5 +18,4 @@ pub record MakesImage (g : Geometry) : Type 0 where
 pub record IsFormatted (g : Geometry) (old new : UnknownFile) (answer : Result Unit FormatFault) : Type 0 where
   pub size : size_of old ≡ g.block_size
   pub count : count_of old ≡ g.journal + g.homes
-  pub kept : Kept (λ (f : UnknownFile). bytes_of (size_of f)) count_of IsHonest old new
-  pub faults : FormatFaults answer (faults_of old) (faults_of new)
+  pub kept : Kept (λ (f : UnknownFile). bytes_of (size_of f)) count_of faults_of IsHonest (FormatFaults answer) old new

@@ -3,7 +3,7 @@ ghost use Rattle.std.specs.Prelude.{◌≡◌, ◌↔◌, IfOk, OnOk, Err, lengt
 ghost use Rattle.jb_block.specs.Size.{bytes_of};
 ghost use Rattle.jb_disk.specs.File.{size_of};
 ghost use Rattle.jb_disk.specs.Image.{Same};
-ghost use Rattle.jb_disk.specs.Kept.{Kept};
+ghost use Rattle.jb_disk.specs.KeptOn.{KeptOn};
 ghost use Rattle.jb_disk.specs.Time.{Goes};
 ghost use Rattle.jb_recover.specs.Peeks.{IsRecoveredHome};
 ghost use Rattle.jb_journal.specs.Homes.{HomeFaults, ReadsWhole};
@@ -93,11 +93,10 @@ fn open_whole<R: Files<File = File> + AllocGlobal>(
 /// where there is no such home, with `DeviceFault` where a call of the disk failed, and with `Super` or `BadRevoke`
 /// where the disk holds no journal that can be read. But for `DeviceFault` the buffer is as it was then.
 pub fn read_home<D: Disk>(disk: &mut D, home: u64, buf: &mut [u8]) -> Result<(), HomeFault>
-    ensures kept { Kept D.size D.count D.honest disk.old disk.new }
+    ensures kept { KeptOn D.Disk (HomeFaults result) disk.old disk.new }
     ensures length { (result ≡ Err Length) ↔ (length buf.old ≡ D.size disk.old → ⊥) }
     ensures untouched { result ≡ Err Length → disk.new ≡ disk.old }
     ensures buffer { result ≡ Err Length → buf.new ≡ buf.old }
-    ensures faults { HomeFaults result (D.faults disk.old) (D.faults disk.new) }
     ensures newest { D.honest disk.new → D.newest disk.new ≡ D.newest disk.old }
     ensures idle { D.honest disk.new → Goes D.may_leave D.moment D.left_since Same disk.old disk.new }
     ensures reads { D.honest disk.new → ReadsWhole (D.size disk.old) (D.count disk.old) (D.newest disk.old) home buf.old

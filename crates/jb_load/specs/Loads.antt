@@ -4,7 +4,8 @@ use Rattle.std.specs.List.{flat_map, sum_by}
 use Rattle.jb_block.specs.Size.{bytes_of}
 use Rattle.jb_block.specs.declared.size.BlockSize.{BlockSize}
 use Rattle.jb_disk.specs.declared.disk.Disk.{Ghosts}
-use Rattle.jb_disk.specs.Kept.{Kept}
+use Rattle.jb_disk.specs.Faults.{CountsNone}
+use Rattle.jb_disk.specs.KeptOn.{KeptOn}
 use Rattle.jb_handle.specs.declared.shape.Shape.{Shape}
 use Rattle.jb_handle.specs.declared.stopped.Stopped.{Stopped}
 use Rattle.jb_handle.specs.Word.{WordMap}
@@ -70,15 +71,13 @@ pub record Loads (shape : Shape) (queue : List Stopped) (threads : ℕ) (loaded 
 module _ {D : Type 0} (G : Ghosts D) (disk : D) where
   -- the journal on the disk, which is this one after that, was not opened, for this
   pub record NotOpened (after : D) (fault : OpenFault) : Type 0 where
-    pub kept : Kept G.size G.count G.honest disk after
-    pub fault_count : OpenFaults fault (G.faults disk) (G.faults after)
+    pub kept : KeptOn G (OpenFaults fault) disk after
     pub refuses : G.honest after → RefusesOpen (G.size disk) (G.count disk) (G.newest disk) (G.newest after) fault
 
   -- the journal on the disk was opened, and its handles have to fit this shape
   pub record IsOpened (shape : Shape) : Type 0 where
     pub deck : OpenDeck D
-    pub kept : Kept G.size G.count G.honest disk deck.disk
-    pub fault_count : G.faults deck.disk ≡ G.faults disk
+    pub kept : KeptOn G CountsNone disk deck.disk
     pub opens : G.honest deck.disk → Opens (G.size disk) (G.count disk) (G.newest disk) (G.newest deck.disk) deck.log
     pub journal : IsShapeOf deck.log.sb (G.count deck.disk) shape
 

@@ -34,12 +34,12 @@ module _ {D E : Type 0} (G : Ghosts D) (H : Ghosts E) (step : ℕ → Image → 
       → Steps (ImageLeaves G H) (image_moment G H) (ImageLeft G H) (step (image_size G H old)) old (Two q)
   steps-two p q is run =
       let same : Steps (ImageLeaves G H) (image_moment G H) (ImageLeft G H) (step (H.size (front_disk p))) (Two p) (Two q)
-      = record { now = run.now; since = record { later = run.since.later; each = run.since.each; before = run.since.before } } in
+      = record { now = record { each = run.now.each }; leaves = record { later = run.leaves.later; each = run.leaves.each; before = run.leaves.before } } in
       subst (λ o. Steps (ImageLeaves G H) (image_moment G H) (ImageLeft G H) (step (image_size G H o)) o (Two q)) (sym is) same
 
   pub steps-within : (d e : ExtentsDisk D) → old ≡ Within d → Steps (WithinLeaves G) (λ d. G.moment (whole_disk d)) (WithinLeft G) (step (G.size (whole_disk d))) d e
       → Steps (ImageLeaves G H) (image_moment G H) (ImageLeft G H) (step (image_size G H old)) old (Within e)
   steps-within d e is run =
       let same : Steps (ImageLeaves G H) (image_moment G H) (ImageLeft G H) (step (G.size (whole_disk d))) (Within d) (Within e)
-      = record { now = run.now; since = record { later = run.since.later; each = run.since.each; before = run.since.before } } in
+      = record { now = record { each = run.now.each }; leaves = record { later = run.leaves.later; each = run.leaves.each; before = run.leaves.before } } in
       subst (λ o. Steps (ImageLeaves G H) (image_moment G H) (ImageLeft G H) (step (image_size G H o)) o (Within e)) (sym is) same

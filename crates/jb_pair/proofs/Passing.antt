@@ -97,8 +97,8 @@ module _ {A B : Type 0} (G : Ghosts A) (H : Ghosts B) where
         (⊎_elim (λ between. inr (within c between.1)) (λ before. inl (record { shape = shape-before c left.shape; left = before })))
         (subst (λ past. From (a', b') past t c) noted left.left) in
         record {
-          now = moves;
-          since = record {
+          now = record { each = moves };
+          leaves = record {
             later = omega (arith, ap length noted);
             each = λ c left. ⊎_elim (λ before. (c, only (a, b) (states old) c before.left, stays c)) (λ comes. comes) (back (length (states old)) c left);
             before = λ t c earlier left. back t c left;
@@ -128,8 +128,8 @@ module _ {A B : Type 0} (G : Ghosts A) (H : Ghosts B) where
     pub steps-front : ((c : Image) → step' c c) → Steps G.may_leave G.moment G.left_since step a a' → PairSteps step' (record { front = a; back = b; past = old }) (record { front = a'; back = b; past = new })
     steps-front stays run =
         steps-pair a a' b b old new noted size count refl refl step' stays
-        (λ c left. moves-front c left.front left.back (run.now left.front left.first) left.second left.joined)
-        (λ c one. moves-front c one.front one.back (run.since.each one.front one.first) (quiet one.back one.second) one.joined)
+        (λ c left. moves-front c left.front left.back (run.now.each left.front left.first) left.second left.joined)
+        (λ c one. moves-front c one.front one.back (run.leaves.each one.front one.first) (quiet one.back one.second) one.joined)
 
   -- ---- the second disk
 
@@ -154,8 +154,8 @@ module _ {A B : Type 0} (G : Ghosts A) (H : Ghosts B) where
     pub steps-back : ((c : Image) → step' c c) → Steps H.may_leave H.moment H.left_since step b b' → PairSteps step' (record { front = a; back = b; past = old }) (record { front = a; back = b'; past = new })
     steps-back stays run =
         steps-pair a a b b' old new noted refl refl other more step' stays
-        (λ c left. moves-back c left.front left.back left.first (run.now left.back left.second) left.joined)
-        (λ c one. moves-back c one.front one.back (quiet one.front one.first) (run.since.each one.back one.second) one.joined)
+        (λ c left. moves-back c left.front left.back left.first (run.now.each left.back left.second) left.joined)
+        (λ c one. moves-back c one.front one.back (quiet one.front one.first) (run.leaves.each one.back one.second) one.joined)
 
   -- ---- the first disk, and then the second
 

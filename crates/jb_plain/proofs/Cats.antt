@@ -5,8 +5,9 @@ use Rattle.std.proofs.Math.Seq.{get_or-append_seam}
 use Rattle.std.proofs.lemmas.List.{get_or_append_left}
 use Rattle.std.specs.Io.KnownBytes.{Appends}
 use Rattle.std.proofs.KnownBytes.{Appends-trans}
+use Rattle.jb_disk.specs.Faults.{CountsAny}
 use Rattle.jb_disk.specs.Image.{Image}
-use Rattle.jb_disk.specs.Kept.{Kept}
+use Rattle.jb_disk.specs.KeptOn.{KeptOn}
 use Rattle.jb_disk.proofs.Counts.{kept_on, kept_same}
 use Rattle.jb_io.specs.Puts.{PutsPart}
 use Rattle.jb_io.proofs.PartByPart.{part_after}
@@ -56,7 +57,7 @@ module _ {D : Type 0} (G : Disks D) (first : ℕ) (hex : Bool) where
   pub record Catting (old now : D) (out_old out_now : Option (List ℕ)) (i at : ℕ) : Type 0 where
     pub blocks : List (List ℕ)
     pub done : length blocks ≡ i
-    pub kept : Kept G.size G.count G.honest old now
+    pub kept : KeptOn G CountsAny old now
     pub same : G.honest now → G.newest now ≡ G.newest old
     pub peeked : G.honest now → ArePeeked (G.size old) (G.count old) (G.newest old) first blocks
     pub offset : at ≡ offset_after 0 blocks
@@ -66,16 +67,16 @@ module _ {D : Type 0} (G : Disks D) (first : ℕ) (hex : Bool) where
   catting-start old out = record {
     blocks = [];
     done = refl;
-    kept = kept_same G.size G.count G.honest old;
+    kept = kept_same old tt;
     same = λ held. refl;
     peeked = λ held k within. absurd (let h : ⊥ = omega (arith, within) in h);
     offset = refl;
     text = appends-none out;
   }
 
-  module _ (old now next : D) (out_old out_now : Option (List ℕ)) (i at : ℕ) (state : Catting old now out_old out_now i at) (kept : Kept G.size G.count G.honest now next) (same : G.honest next → G.newest next ≡ G.newest now) where
-    kept-next : Kept G.size G.count G.honest old next
-    kept-next = kept_on G.size G.count G.honest old now next state.kept kept
+  module _ {counts : ℕ → ℕ → Type 0} (old now next : D) (out_old out_now : Option (List ℕ)) (i at : ℕ) (state : Catting old now out_old out_now i at) (kept : KeptOn G counts now next) (same : G.honest next → G.newest next ≡ G.newest now) where
+    kept-next : KeptOn G CountsAny old next
+    kept-next = kept_on state.kept kept tt
 
     same-next : G.honest next → G.newest next ≡ G.newest old
     same-next held = same held ∙ state.same (kept.was_honest held)

@@ -3,8 +3,9 @@ use Rattle.std.specs.Prelude.{◌≡◌, ◌+◌, ◌*◌, ◌-◌, ◌/◌, ◌
 use Rattle.std.specs.Int.{w32, to_be_bytes}
 use Rattle.std.specs.Io.KnownBytes.{Appends}
 use Rattle.hex.specs.Hex.{encode_lower}
+use Rattle.jb_disk.specs.Faults.{CountsAny}
 use Rattle.jb_disk.specs.Image.{Image}
-use Rattle.jb_disk.specs.Kept.{Kept}
+use Rattle.jb_disk.specs.KeptOn.{KeptOn}
 use Rattle.jb_io.specs.Puts.{PutsPart}
 use Rattle.jb_recover.specs.Peeks.{IsPeeked, peek_refusal}
 use Rattle.jb_recover.specs.declared.fault.PeekFault.{PeekFault}
@@ -88,7 +89,7 @@ TellsHomes IsRefused homes n done text out_old out_new (Err fault) =
 pub record CatsOn {D : Type 0} (G : Disks D) (homes : Option ℕ) (first n : ℕ) (hex : Bool) (old new : D)
     (out_old out_new : Option (List ℕ)) (end : Result ℕ CommandFault) : Type 0 where
   pub blocks : List (List ℕ)
-  pub kept : Kept G.size G.count G.honest old new
+  pub kept : KeptOn G CountsAny old new
   pub same : G.honest new → G.newest new ≡ G.newest old
   pub peeked : G.honest new → ArePeeked (G.size old) (G.count old) (G.newest old) first blocks
   pub told : TellsHomes (λ stop. G.honest new → IsUnpeeked (G.size old) (G.count old) (G.newest old) (home_at first (length blocks)) stop) homes n (length blocks)

@@ -1,7 +1,7 @@
 -- How `jb renumber` and `jb widen` end on a disk.
 use Rattle.std.specs.Prelude.{◌⊎◌, ◌≡◌, ℕ, if◌then◌else◌, List, [], ◌∷◌, Option, Result, Ok, Err, OnOk, codes, decimal}
 use Rattle.jb_disk.specs.Image.{Image, Only}
-use Rattle.jb_disk.specs.Kept.{Kept}
+use Rattle.jb_disk.specs.KeptOn.{KeptOn}
 use Rattle.jb_disk.specs.Time.{LeavesOnly}
 use Rattle.jb_io.specs.Parts.{spelled}
 use Rattle.jb_front.specs.Changes.{ChangeFaults}
@@ -34,8 +34,7 @@ pub record ChangesOn {D T : Type 0} (G : Disks D)
     (Does : ℕ → ℕ → Image → Image → Result T ChangeFault → Type 0) (IsMidst EndsAlike : ℕ → ℕ → Image → Image → Type 0) (line : T → List ℕ)
     (old new : D) (out_old out_new : Option (List ℕ)) (end : Result ℕ CommandFault) : Type 0 where
   pub answer : Result T ChangeFault
-  pub kept : Kept G.size G.count G.honest old new
-  pub fault_count : ChangeFaults answer (G.faults old) (G.faults new)
+  pub kept : KeptOn G (ChangeFaults answer) old new
   pub done : G.honest new → Does (G.size old) (G.count old) (G.newest old) (G.newest new) answer
   pub crash : G.honest new → LeavesOnly G.moment G.left_since old new (λ c. G.may_leave old c ⊎ IsMidst (G.size old) (G.count old) (G.newest old) c)
   pub again : G.honest new → EndsAlike (G.size old) (G.count old) (G.newest old) (G.newest new)

@@ -1,7 +1,7 @@
 -- How `jb recover --dry-run` ends on a disk.
 use Rattle.std.specs.Prelude.{◌≡◌, ℕ, Bool, if◌then◌else◌, List, [], ◌∷◌, ◌++◌, map, Option, Result, Ok, Err, codes, decimal}
 use Rattle.jb_disk.specs.Image.{Image, Same}
-use Rattle.jb_disk.specs.Kept.{Kept}
+use Rattle.jb_disk.specs.KeptOn.{KeptOn}
 use Rattle.jb_disk.specs.Time.{Goes}
 use Rattle.jb_io.specs.Parts.{spelled}
 use Rattle.jb_recover.specs.Foresees.{Foresees}
@@ -35,8 +35,7 @@ TellsForeseen homes list (Err fault) out_old out_new end = (end ≡ Err (recover
 -- leave before
 pub record ForeseesOn {D : Type 0} (G : Disks D) (homes : Option ℕ) (list : Bool) (old new : D) (out_old out_new : Option (List ℕ)) (end : Result ℕ CommandFault) : Type 0 where
   pub answer : Result Foreseen RecoverFault
-  pub kept : Kept G.size G.count G.honest old new
-  pub fault_count : PassFaults answer (G.faults old) (G.faults new)
+  pub kept : KeptOn G (PassFaults answer) old new
   pub same : G.honest new → G.newest new ≡ G.newest old
   pub idle : G.honest new → Goes G.may_leave G.moment G.left_since Same old new
   pub foresees : G.honest new → Foresees (G.size old) (G.count old) (G.newest old) answer

@@ -1,7 +1,7 @@
 -- How `jb format` ends on a disk.
 use Rattle.std.specs.Prelude.{◌≡◌, ◌↔◌, ℕ, Bool, List, [], ◌∷◌, Option, Result, Ok, Err, OnOk, codes, decimal, set}
 use Rattle.jb_disk.specs.Image.{Image, Only, Torn}
-use Rattle.jb_disk.specs.Kept.{Kept}
+use Rattle.jb_disk.specs.KeptOn.{KeptOn}
 use Rattle.jb_disk.specs.Steps.{Steps}
 use Rattle.jb_io.specs.Parts.{spelled}
 use Rattle.jb_front.specs.Formatted.{FormatFaults, HasRoom, new_block}
@@ -30,8 +30,7 @@ pub record FormatsOn {D : Type 0} (G : Disks D) (journal most : ℕ) (uuid : Lis
   pub answer : Result Unit FormatFault
   pub room : (answer ≡ Err NoGeometry) ↔ (HasRoom journal (G.count old) → ⊥)
   pub untouched : answer ≡ Err NoGeometry → new ≡ old
-  pub kept : Kept G.size G.count G.honest old new
-  pub fault_count : FormatFaults answer (G.faults old) (G.faults new)
+  pub kept : KeptOn G (FormatFaults answer) old new
   pub written : G.honest new → OnOk answer (G.newest new ≡ set (G.newest old) 0 (new_block wide (G.size old) journal most uuid))
   pub torn : G.honest new → Torn 0 (new_block wide (G.size old) journal most uuid) (G.newest old) (G.newest new)
   pub steps : G.honest new → Steps G.may_leave G.moment G.left_since (Torn 0 (new_block wide (G.size old) journal most uuid)) old new

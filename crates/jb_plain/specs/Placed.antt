@@ -3,7 +3,8 @@ use Rattle.std.specs.Prelude.{◌≡◌, ◌⊎◌, ◌<◌, ◌≤◌, ℕ, Boo
 use Rattle.jb_block.specs.Size.{bytes_of}
 use Rattle.jb_block.specs.declared.size.BlockSize.{BlockSize}
 use Rattle.jb_disk.specs.File.{count_of}
-use Rattle.jb_disk.specs.Kept.{Kept}
+use Rattle.jb_disk.specs.Faults.{CountsAny}
+use Rattle.jb_disk.specs.KeptOn.{KeptOn}
 use Rattle.jb_extents.specs.Disks.{extents_of, journal_blocks, whole_disk}
 use Rattle.jb_extents.specs.Lists.{extents_count, extents_in, list_of, past_in, shared_in}
 use Rattle.jb_extents.specs.declared.extent.Extent.{Extent}
@@ -107,7 +108,7 @@ EndsOfCat name words out_old out_new end =
 
 -- the disk was only read
 abbrev pub IsOnlyRead : FileImage → FileImage → Type 0
-IsOnlyRead old new = Kept as_image.size as_image.count as_image.honest old new
+IsOnlyRead old new = KeptOn as_image CountsAny old new
 
 -- a recovery is refused for this, or a copy of it is for a home block that is one of the journal's own
 abbrev pub IsRecoveryRefused : Option ℕ → CommandFault → Type 0

@@ -1,7 +1,7 @@
 -- How `jb recover` ends on a disk.
 use Rattle.std.specs.Prelude.{◌≡◌, ◌⊎◌, ℕ, List, [], ◌∷◌, Option, Result, Ok, Err, OnOk, codes, decimal}
 use Rattle.jb_disk.specs.Image.{Image, Only}
-use Rattle.jb_disk.specs.Kept.{Kept}
+use Rattle.jb_disk.specs.KeptOn.{KeptOn}
 use Rattle.jb_disk.specs.Time.{LeavesOnly}
 use Rattle.jb_io.specs.Parts.{spelled}
 use Rattle.jb_recover.specs.Outcomes.{RecoversAs}
@@ -29,8 +29,7 @@ TellsRecovery homes (Err fault) out_old out_new end = (end ≡ Err (recover_faul
 -- it leaves after a fault, recovers to the image that the disk's content recovers to
 pub record RecoversOn {D : Type 0} (G : Disks D) (homes : Option ℕ) (old new : D) (out_old out_new : Option (List ℕ)) (end : Result ℕ CommandFault) : Type 0 where
   pub answer : Result Recovered RecoverFault
-  pub kept : Kept G.size G.count G.honest old new
-  pub fault_count : PassFaults answer (G.faults old) (G.faults new)
+  pub kept : KeptOn G (PassFaults answer) old new
   pub recovers : G.honest new → Recovers (G.size old) (G.count old) (G.newest old) (G.newest new) answer
   pub crash : G.honest new → LeavesOnly G.moment G.left_since old new (λ c. G.may_leave old c ⊎ RecoversAs (G.size old) (G.count old) (G.newest old) c)
   pub again : G.honest new → RecoversAs (G.size old) (G.count old) (G.newest old) (G.newest new)

@@ -2,7 +2,8 @@
 use Rattle.std.proofs.Common.{◌≡◌, ◌⊎◌, ℕ, ◌+◌, ◌≤◌, List, [], length, All, Option, Some, None, Result, Ok, Err, IfOk, MatchResult, inl, ⊎_elim, refl, ap, sym, subst, ◌∙◌, arith}
 use Rattle.std.proofs.lemmas.List.Elements.{All-nil}
 use Rattle.jb_disk.specs.Image.{Image}
-use Rattle.jb_disk.specs.Kept.{Kept}
+use Rattle.jb_disk.specs.Faults.{CountsNone}
+use Rattle.jb_disk.specs.KeptOn.{KeptOn}
 use Rattle.jb_disk.specs.declared.disk.Disk.{Ghosts}
 use Rattle.jb_disk.specs.Time.{LeavesOnly}
 use Rattle.jb_front.specs.Front.{super_on}
@@ -17,8 +18,8 @@ use Rattle.jb_super.specs.Superblock.{Superblock}
 use Rattle.jb_deck.specs.Deck.{IsShapeOf, OpenDeck}
 use Rattle.jb_deck.specs.Done.{past_after}
 use Rattle.jb_ring.specs.Follows.{FollowsNone}
-use Rattle.jb_ring.specs.Leaving.{AllHave}
-use Rattle.jb_deck.specs.Opening.{FollowsEntry, IsNew, OpenFaults, Opens, RefusesOpen, disk_in, opened_log, recovered_home}
+use Rattle.jb_disk.specs.Throughout.{AllHave}
+use Rattle.jb_deck.specs.Opening.{CountsOpen, FollowsEntry, IsNew, Opens, RefusesOpen, disk_in, opened_log, recovered_home}
 use Rattle.jb_deck.specs.declared.fault.OpenFault.{OpenFault}
 use Rattle.jb_ring.specs.declared.log.Log.{Log}
 use Rattle.jb_deck.specs.Since.{LiveOf, deck_homes}
@@ -50,13 +51,13 @@ pub opened-since : {D : Type 0} (G : Ghosts D)
     → (counts_now : (disk : D) (t : ℕ) (c : Image) → G.honest disk → t ≤ G.moment disk → G.may_leave disk c → G.left_since disk t c)
     → (b : Begun) (disk : D) (deck : OpenDeck D)
     → IsBegunOn G b disk
-    → Kept G.size G.count G.honest disk deck.disk → G.faults deck.disk ≡ G.faults disk → IsNew deck
+    → KeptOn G CountsNone disk deck.disk → IsNew deck
     → (G.honest deck.disk → Opens (G.size disk) (G.count disk) (G.newest disk) (G.newest deck.disk) deck.log)
     → (G.honest deck.disk → LeavesOnly G.moment G.left_since disk deck.disk (λ c. G.may_leave disk c ⊎ FollowsEntry (G.size disk) (G.count disk) (G.newest disk) c))
     → (G.honest deck.disk → AllHave G.may_leave deck.disk (FollowsNone deck.log.sb deck.log.next (G.size disk) (G.count disk) (recovered_home (G.size disk) (G.count disk) (G.newest disk))))
     → (G.honest deck.disk → (home : ℕ) → deck_homes G.newest deck home ≡ recovered_home (G.size disk) (G.count disk) (G.newest disk) home)
     → IsSince G b deck
-opened-since {D = D} G counts_now b disk deck begun kept fault_count new opens leaves now stands = record {
+opened-since {D = D} G counts_now b disk deck begun kept new opens leaves now stands = record {
   given = [];
   has = (let past : past_after 0 deck.trail ≡ 0 = ap (past_after 0) new.trail in
       record {
@@ -79,7 +80,7 @@ opened-since {D = D} G counts_now b disk deck begun kept fault_count new opens l
       record {
         same_size = kept.same_size ∙ begun.same_size;
         same_count = kept.same_count ∙ begun.same_count;
-        no_fewer = let same = begun.same_faults in omega (arith, fault_count, same);
+        no_fewer = let stayed : G.faults deck.disk ≡ G.faults disk = kept.counted in let same = begun.same_faults in omega (arith, stayed, same);
         up = λ few none. new.aborted;
         same = own-opened (G.size disk) (G.count disk) (G.newest disk) b.own deck.log op.sb op.taken op.log begun.own;
         number = omega (arith, numbered);
@@ -106,24 +107,21 @@ module _ {D : Type 0} (G : Ghosts D) (disk : D) where
   abbrev Opened : Type 0
   Opened = Result (OpenDeck D) (D × OpenFault)
 
-  abbrev Counts : Opened → Type 0
-  Counts r = MatchResult r (λ deck. G.faults deck.disk ≡ G.faults disk) (λ refused. OpenFaults refused.1 (G.faults disk) (G.faults refused.0))
-
   abbrev OpensAs : Opened → Type 0
   OpensAs r = G.honest (disk_in r) → MatchResult r
       (λ deck. Opens (G.size disk) (G.count disk) (G.newest disk) (G.newest deck.disk) deck.log)
       (λ refused. RefusesOpen (G.size disk) (G.count disk) (G.newest disk) (G.newest refused.0) refused.1)
 
-  pub open-opened : (r : Opened) → Kept G.size G.count G.honest disk (disk_in r) → Counts r → OpensAs r
+  pub open-opened : (r : Opened) → KeptOn G (CountsOpen r) disk (disk_in r) → OpensAs r
       → IfOk r (λ deck. (shape : Shape) → IsShapeOf deck.log.sb (G.count deck.disk) shape → WasOpened G disk shape)
-  open-opened (Ok deck) kept counted opens = λ shape journal. record { deck = deck; kept = kept; fault_count = counted; opens = opens; journal = journal }
-  open-opened (Err refused) kept counted opens = tt
+  open-opened (Ok deck) kept opens = λ shape journal. record { deck = deck; kept = kept; opens = opens; journal = journal }
+  open-opened (Err refused) kept opens = tt
 
   pub open-since : ((d : D) (t : ℕ) (c : Image) → G.honest d → t ≤ G.moment d → G.may_leave d c → G.left_since d t c)
-      → (b : Begun) → IsBegunOn G b disk → (r : Opened) → Kept G.size G.count G.honest disk (disk_in r) → Counts r → IfOk r IsNew → OpensAs r
+      → (b : Begun) → IsBegunOn G b disk → (r : Opened) → KeptOn G (CountsOpen r) disk (disk_in r) → IfOk r IsNew → OpensAs r
       → (G.honest (disk_in r) → LeavesOnly G.moment G.left_since disk (disk_in r) (λ c. G.may_leave disk c ⊎ FollowsEntry (G.size disk) (G.count disk) (G.newest disk) c))
       → (G.honest (disk_in r) → IfOk r (λ deck. AllHave G.may_leave deck.disk (FollowsNone deck.log.sb deck.log.next (G.size disk) (G.count disk) (recovered_home (G.size disk) (G.count disk) (G.newest disk)))))
       → (G.honest (disk_in r) → IfOk r (λ deck. (home : ℕ) → deck_homes G.newest deck home ≡ recovered_home (G.size disk) (G.count disk) (G.newest disk) home))
       → IfOk r (IsSince G b)
-  open-since counts_now b begun (Ok deck) kept counted new opens leaves now stands = opened-since G counts_now b disk deck begun kept counted new opens leaves now stands
-  open-since counts_now b begun (Err refused) kept counted new opens leaves now stands = tt
+  open-since counts_now b begun (Ok deck) kept new opens leaves now stands = opened-since G counts_now b disk deck begun kept new opens leaves now stands
+  open-since counts_now b begun (Err refused) kept new opens leaves now stands = tt

@@ -1,7 +1,8 @@
 -- A home that is read from a journal since its desk was started.
 use Rattle.std.proofs.Common.{◌≡◌, ℕ, false, ◌≤◌, List, All, length, Result, Ok, Err, OnOk, refl, ap, sym, subst, ◌∙◌, arith}
 use Rattle.jb_disk.specs.Image.{Image}
-use Rattle.jb_disk.specs.Kept.{Kept}
+use Rattle.jb_disk.specs.Faults.{CountsAny}
+use Rattle.jb_disk.specs.KeptOn.{KeptOn}
 use Rattle.jb_disk.specs.declared.disk.Disk.{Ghosts}
 use Rattle.jb_disk.specs.Time.{LeavesOnly}
 use Rattle.jb_disk.proofs.Moments.{weaken}
@@ -24,7 +25,7 @@ use Rattle.jb_works.specs.History.{IsStop}
 use Rattle.jb_works.specs.Marks.{HasSettledOf}
 use Rattle.jb_works.proofs.Sincing.{given-none, is-weaker, none-since}
 
-module _ {D : Type 0} (G : Ghosts D) (counts_now : (disk : D) (t : ℕ) (c : Image) → G.honest disk → t ≤ G.moment disk → G.may_leave disk c → G.left_since disk t c) (b : Begun) (known : Stopped → Type 0) (plain : (h : Stopped) → known h → b.stops h.words) (old new : OpenDeck D) (kept : Kept G.size G.count G.honest old.disk new.disk) where
+module _ {D : Type 0} (G : Ghosts D) (counts_now : (disk : D) (t : ℕ) (c : Image) → G.honest disk → t ≤ G.moment disk → G.may_leave disk c → G.left_since disk t c) (b : Begun) (known : Stopped → Type 0) (plain : (h : Stopped) → known h → b.stops h.words) (old new : OpenDeck D) (kept : KeptOn G CountsAny old.disk new.disk) where
   abbrev Is : OpenDeck D → Type 0
   Is d = IsSinceOf G b known d
 

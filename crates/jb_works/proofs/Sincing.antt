@@ -9,7 +9,8 @@ use Rattle.jb_block.specs.declared.stamp.Stamp.{Stamp}
 use Rattle.jb_cost.specs.Cut.{IsCut}
 use Rattle.jb_disk.specs.Faults.{MoreFaults}
 use Rattle.jb_disk.specs.Image.{Image}
-use Rattle.jb_disk.specs.Kept.{Kept}
+use Rattle.jb_disk.specs.Faults.{CountsAny}
+use Rattle.jb_disk.specs.KeptOn.{KeptOn}
 use Rattle.jb_disk.specs.declared.disk.Disk.{Ghosts}
 use Rattle.jb_disk.specs.Time.{LeavesOnly}
 use Rattle.jb_handle.specs.Tickets.{TicketsFrom}
@@ -97,7 +98,7 @@ module _ {D : Type 0} (G : Ghosts D) (counts_now : (disk : D) (t : ℕ) (c : Ima
 
   -- ---- a batch
 
-  module _ (p : Planned) (stamp : Stamp) (old new : OpenDeck D) (planned : IsPlanned p) (tickets : TicketsFrom p.batch.first p.batch.handles) (stopped : All known p.batch.handles) (kept : Kept G.size G.count G.honest old.disk new.disk) where
+  module _ (p : Planned) (stamp : Stamp) (old new : OpenDeck D) (planned : IsPlanned p) (tickets : TicketsFrom p.batch.first p.batch.handles) (stopped : All known p.batch.handles) (kept : KeptOn G CountsAny old.disk new.disk) where
     abbrev hs : List Stopped
     hs = p.batch.handles
 
@@ -338,7 +339,7 @@ module _ {D : Type 0} (G : Ghosts D) (counts_now : (disk : D) (t : ℕ) (c : Ima
 
   -- ---- the oldest group
 
-  module _ (old new : OpenDeck D) (kept : Kept G.size G.count G.honest old.disk new.disk) where
+  module _ (old new : OpenDeck D) (kept : KeptOn G CountsAny old.disk new.disk) where
     abbrev None : Image → Type 0
     None c = FollowsNone old.log.sb old.log.next (G.size old.disk) (G.count old.disk) (deck_homes G.newest old) c
 

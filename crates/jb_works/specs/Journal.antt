@@ -4,7 +4,8 @@ use Rattle.std.specs.Global.{Vec}
 use Rattle.std.specs.declared.alloc.AllocError.{AllocError}
 use Rattle.jb_batch.specs.Prepared.{Planned, IsPlanned}
 use Rattle.jb_block.specs.declared.stamp.Stamp.{Stamp}
-use Rattle.jb_disk.specs.Kept.{Kept}
+use Rattle.jb_disk.specs.Faults.{CountsAny}
+use Rattle.jb_disk.specs.KeptOn.{KeptOn}
 use Rattle.jb_disk.specs.declared.disk.Disk.{Ghosts}
 use Rattle.jb_log.specs.Found.{log_blocks}
 use Rattle.jb_deck.specs.Checkpoints.{AnswersCheckpoint, Checkpoints, TakesOldest}
@@ -50,7 +51,7 @@ module _ {D : Type 0} (G : Ghosts D) (b : Begun) where
     pub stamp : Stamp
     pub old : OpenDeck D
     pub new : OpenDeck D
-    pub same_disk : Kept G.size G.count G.honest old.disk new.disk
+    pub same_disk : KeptOn G CountsAny old.disk new.disk
     pub takes : TakesBatch old p
     pub commits : CommitsBatch p stamp old new done
     pub on_disk : b.is_known → G.honest new.disk → CommitsOnDisk G.newest p stamp old new
@@ -65,7 +66,7 @@ module _ {D : Type 0} (G : Ghosts D) (b : Begun) where
     pub stamp : Stamp
     pub old : OpenDeck D
     pub new : OpenDeck D
-    pub same_disk : Kept G.size G.count G.honest old.disk new.disk
+    pub same_disk : KeptOn G CountsAny old.disk new.disk
     pub takes : TakesBatch old p
     pub settles : SettlesSome p stamp old new settled
     pub before : IsSince G b old
@@ -82,7 +83,7 @@ module _ {D : Type 0} (G : Ghosts D) (b : Begun) where
   pub record TakesHome (checked : Checked) : Type 0 where
     pub old : OpenDeck D
     pub new : OpenDeck D
-    pub same_disk : Kept G.size G.count G.honest old.disk new.disk
+    pub same_disk : KeptOn G CountsAny old.disk new.disk
     pub up : old.aborted ≡ false
     pub takes : TakesOldest old new checked
     pub checkpoints : b.is_known → G.honest new.disk → Checkpoints G.newest old new
@@ -127,7 +128,7 @@ module _ {D : Type 0} (G : Ghosts D) (b : Begun) where
   pub record ReadsHome (known : List WordMap) (marks marks_after : List (OpenDeck D)) (home bytes : ℕ) (found : List ℕ) (result : Result (Unit {0}) ReadHomeFault) : Type 0 where
     pub old : OpenDeck D
     pub new : OpenDeck D
-    pub same_disk : Kept G.size G.count G.honest old.disk new.disk
+    pub same_disk : KeptOn G CountsAny old.disk new.disk
     pub answers : AnswersRead (G.size old.disk) (G.faults old.disk) (G.faults new.disk) old new home bytes result
     pub stands : b.is_known → G.honest new.disk → OnOk result (found ≡ standing old.log old.groups (G.newest old.disk) home)
     pub content : b.is_known → G.honest new.disk → G.newest new.disk ≡ G.newest old.disk

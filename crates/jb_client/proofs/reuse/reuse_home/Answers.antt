@@ -1,5 +1,6 @@
 use Rattle.std.proofs.Common.{◌≡◌, ℕ, ◌+◌, false, List, [], ◌∷◌, ◌++◌, map, append_assoc, ap, sym, subst, ◌∙◌, arith}
-use Rattle.jb_disk.specs.Kept.{Kept}
+use Rattle.jb_disk.specs.Faults.{CountsAny}
+use Rattle.jb_disk.specs.KeptOn.{KeptOn}
 use Rattle.jb_disk.proofs.Counts.{kept_same}
 use Rattle.jb_deck.specs.Changes.{Change, fills, settles}
 use Rattle.jb_deck.specs.Deck.{OpenDeck}
@@ -207,7 +208,7 @@ returns-in-Ok-commit-2-clause-leaves g c = λ held.
     let same4 = c.in-Ok-take_trail.ensures.taken.same in
     let disk4 : d4.disk ≡ d3.disk = ap (λ (d : OpenDeck g.row.D.Denot). d.disk) same4 in
     let so4 = idle-on G entry parts c.since.ensures c.holds.ensures c.keeps.ensures opened is rest2 cs2 n1 d3 so3 d4 c.take_trail.ensures.ended (ap (λ (d : OpenDeck g.row.D.Denot). d.log.next) same4) (ap (λ (d : OpenDeck g.row.D.Denot). d.aborted) same4 ∙ so3.up)
-    (subst (Kept G.size G.count G.honest d3.disk) (sym disk4) (kept_same G.size G.count G.honest d3.disk)) (subst (Runs G entry parts) (sym disk4) run3) in
+    (subst (KeptOn G CountsAny d3.disk) (sym disk4) (kept_same d3.disk tt)) (subst (Runs G entry parts) (sym disk4) run3) in
     let left5 = c.commit-2.ensures.left so4.up h5 in
     let run5 = commit-runs G entry parts c.since.ensures c.holds.ensures c.keeps.ensures opened is c.args.second [] cs2 n1 d4 so4 c.commit-2.new.deck.disk left5 in
     subst (Runs G entry parts) (sym c.close-in-Ok-commit-2.ensures.value) (run5)
@@ -252,7 +253,7 @@ returns-in-Ok-commit-2-clause-ends g c = λ held.
     let same4 = c.in-Ok-take_trail.ensures.taken.same in
     let disk4 : d4.disk ≡ d3.disk = ap (λ (d : OpenDeck g.row.D.Denot). d.disk) same4 in
     let so4 = idle-on G entry parts c.since.ensures c.holds.ensures c.keeps.ensures opened is rest2 cs2 n1 d3 so3 d4 c.take_trail.ensures.ended (ap (λ (d : OpenDeck g.row.D.Denot). d.log.next) same4) (ap (λ (d : OpenDeck g.row.D.Denot). d.aborted) same4 ∙ so3.up)
-    (subst (Kept G.size G.count G.honest d3.disk) (sym disk4) (kept_same G.size G.count G.honest d3.disk)) (subst (Runs G entry parts) (sym disk4) run3) in
+    (subst (KeptOn G CountsAny d3.disk) (sym disk4) (kept_same d3.disk tt)) (subst (Runs G entry parts) (sym disk4) run3) in
     let left5 = c.commit-2.ensures.left so4.up h5 in
     let run5 = commit-runs G entry parts c.since.ensures c.holds.ensures c.keeps.ensures opened is c.args.second [] cs2 n1 d4 so4 c.commit-2.new.deck.disk left5 in
     let d5 = c.commit-2.new.deck in
@@ -313,7 +314,7 @@ returns-in-Err-commit-clause-leaves g c = λ held.
     let same4 = c.in-Ok-take_trail.ensures.taken.same in
     let disk4 : d4.disk ≡ d3.disk = ap (λ (d : OpenDeck g.row.D.Denot). d.disk) same4 in
     let so4 = idle-on G entry parts c.since.ensures c.holds.ensures c.keeps.ensures opened is rest2 cs2 n1 d3 so3 d4 c.take_trail.ensures.ended (ap (λ (d : OpenDeck g.row.D.Denot). d.log.next) same4) (ap (λ (d : OpenDeck g.row.D.Denot). d.aborted) same4 ∙ so3.up)
-    (subst (Kept G.size G.count G.honest d3.disk) (sym disk4) (kept_same G.size G.count G.honest d3.disk)) (subst (Runs G entry parts) (sym disk4) run3) in
+    (subst (KeptOn G CountsAny d3.disk) (sym disk4) (kept_same d3.disk tt)) (subst (Runs G entry parts) (sym disk4) run3) in
     let left5 = c.commit-2.ensures.left so4.up h5 in
     let run5 = commit-runs G entry parts c.since.ensures c.holds.ensures c.keeps.ensures opened is c.args.second [] cs2 n1 d4 so4 c.commit-2.new.deck.disk left5 in
     subst (Runs G entry parts) (sym c.close-in-Err-commit.ensures.value) (run5)

@@ -4,7 +4,7 @@ use borrow.Rule.Slice.PartMut.{put_mid}
 use Rattle.jb_disk.specs.Called.{Reads}
 use Rattle.jb_disk.specs.Image.{block, Same}
 use Rattle.jb_disk.specs.Runs.{ReadsRun}
-use Rattle.jb_disk.proofs.Counts.{kept_on}
+use Rattle.jb_disk.proofs.Counts.{kept_ok}
 use Rattle.jb_disk.proofs.Running.{made-more, not_spent, reads-more}
 use Rattle.jb_disk.proofs.Stepping.{goes-on}
 use Rattle.jb_disk.proofs.disk.Disk.read_run.Goals as goal
@@ -24,8 +24,7 @@ loop-k-preserved g c =
     let below : k < c.args.blocks = omega (arith, c.loop-k-test.true) in
     let within : bytes * k + bytes ≤ length buf = grind (arith, room, below) in
     record {
-      kept = kept_on G.size G.count G.honest old now c.read.new.self so.kept c.read.ensures.kept;
-      same_faults = c.in_ok-read.ensures.faults ∙ so.same_faults;
+      kept = kept_ok so.kept c.in_ok-read.ensures.kept;
       made = made-more G.own (λ j. Reads (c.args.place + j)) k old now c.read.new.self so.made c.in_ok-read.ensures.own;
       found = λ honest.
           let was = c.read.ensures.kept.was_honest honest in

@@ -4,7 +4,7 @@ use Rattle.jb_disk.specs.Called.{Writes}
 use Rattle.jb_disk.specs.Image.{Torn, HasShape}
 use Rattle.jb_disk.specs.Runs.{part}
 use Rattle.jb_disk.specs.Time.{Goes}
-use Rattle.jb_disk.proofs.Counts.{kept_on}
+use Rattle.jb_disk.proofs.Counts.{kept_ok}
 use Rattle.jb_disk.proofs.Running.{made-more, not_spent}
 use Rattle.jb_disk.proofs.RunWrites.{part-slice, torn_run-more, torn_run-next, wrote_run-more, steps-run}
 use Rattle.jb_disk.proofs.disk.Disk.write_run.Goals as goal
@@ -45,8 +45,7 @@ loop-k-preserved g c =
     let bytes = c.args.bytes.now in
     let slice = part-slice (G.size old) c.bytes-size.result k bytes (c.bytes-size.ensures.value ∙ c.block_size.ensures) in
     record {
-      kept = kept_on G.size G.count G.honest old now new so.kept c.write.ensures.kept;
-      same_faults = c.in_ok-write.ensures.faults ∙ so.same_faults;
+      kept = kept_ok so.kept c.in_ok-write.ensures.kept;
       made = made-more G.own (λ j. Writes (place + j) (part (G.size old) j bytes)) k old now new so.made
           (subst (λ b. G.own (Writes (place + k) b) now new true) slice c.in_ok-write.ensures.own);
       written = λ honest.

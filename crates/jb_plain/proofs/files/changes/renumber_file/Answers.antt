@@ -12,7 +12,6 @@ returns g c =
         changes = record {
           answer = c.renumber-answer.result;
           kept = done.kept;
-          fault_count = done.faults;
           done = done.renumbers;
           crash = done.crash;
           again = done.again;

@@ -12,7 +12,6 @@ returns g c =
         changes = record {
           answer = c.widen-answer.result;
           kept = done.kept;
-          fault_count = done.faults;
           done = done.widens;
           crash = done.crash;
           again = done.again;

@@ -26,8 +26,7 @@ returns g c =
       answer = c.in-Ok-make_file.answer;
       room = (λ is. absurd (made.room is), λ none. absurd (none room));
       untouched = λ is. absurd (made.room is);
-      kept = record { same_size = file.kept.same_size; same_count = file.kept.same_count; was_honest = λ never. never };
-      fault_count = file.faults;
+      kept = record { same_size = file.kept.same_size; same_count = file.kept.same_count; was_honest = λ never. never; counted = file.kept.counted };
       written = λ never. absurd never;
       torn = λ never. absurd never;
       steps = λ never. absurd never;

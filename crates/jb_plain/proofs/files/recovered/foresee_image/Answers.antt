@@ -13,7 +13,6 @@ returns g c = record {
     record {
       answer = c.foresee-answer.result;
       kept = c.foresee-answer.ensures.passed.kept;
-      fault_count = c.foresee-answer.ensures.passed.fault_count;
       same = c.foresee-answer.ensures.passed.same;
       idle = c.foresee-answer.ensures.passed.idle;
       foresees = c.foresee-answer.ensures.foresees;

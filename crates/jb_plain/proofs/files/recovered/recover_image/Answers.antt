@@ -12,7 +12,6 @@ returns g c =
         record {
           answer = c.recover-answer.result;
           kept = done.kept;
-          fault_count = done.faults;
           recovers = done.recovers;
           crash = done.crash;
           again = done.again;
