@@ -142,7 +142,11 @@ fn check_shut<R: Abort + Wait + Clock, H: Origin, N: Ledger>(
 }
 
 /// What a seat finds that commits its own handle, and what is counted at the end: handles, changes and groups.
-fn one_round<R: Abort + Wait + Clock, H: Origin, N: Ledger>(rt: &R, alloc: Global, desk: Small<H, N>)
+fn one_round<R: Abort + Wait + Clock, H: Origin, N: Ledger>(
+    rt: &R,
+    alloc: Global,
+    desk: Small<H, N>,
+)
     requires any { (words : WordMap) → H.begun.stops words }
     requires parts { (H.parts ≡ 2 ^ 61 + 1) × (N.parts ≡ 2 ^ 61 + 1) }
 {
