@@ -3,6 +3,7 @@ import os
 import re
 
 ROOT = os.path.dirname(os.path.dirname(os.path.abspath(__file__)))
+LINK = re.compile(r"\[([^\]]*)\]\(([^)\s]+)\)")
 WORD = r"(?:(?:abbrev|pub|record|unfoldable|data) )+"
 
 
@@ -53,6 +54,29 @@ def signatures(text, name=r"\w+"):
         end = re.search(r"^%s\{|;$" % found.group(1), rest, re.M)
         of_trait, owner = block_around(text, found.start()) if found.group(1) else (False, None)
         yield found.group(2).startswith("pub ") or of_trait, owner, found.group(3), rest[:end.start()] if end else rest
+
+
+def clause_in(lines, clause):
+    """A clause among the lines of a signature, as it stands; the text in its braces is group 1. The only clause of a function has no name."""
+    name = "" if clause is None else clause + " "
+    # a clause may go on in the lines after it, up to the next one
+    return re.search(r"^ *ensures %s\{ (.*?)(?=\n\s*(?:ensures|requires|decreases)\b|\Z)" % name, lines, re.M | re.S)
+
+
+def rows_of(text, head):
+    """The rows of a page's tables, each with its line number, but for the first one, which begins so."""
+    for number, row in enumerate(text.splitlines(), 1):
+        if row.startswith("| ") and not row.startswith("| " + head):
+            yield number, row
+
+
+def cells_of(row):
+    return [cell.strip() for cell in row.strip().strip("|").split(" | ")]
+
+
+def clauses_named(cell):
+    """The names of clauses in a cell of a row; None for the only one."""
+    return [None] if cell == "the only one" else [one.strip("`") for one in cell.split(", ")]
 
 
 def public_types(crate):
