@@ -1,6 +1,9 @@
-//! A client of a file as a disk: what is proved of any honest disk, said of the file that a program was given.
+//! A client of files as disks: what is proved of any honest disk, said of the file, or of the two files, that a program was
+//! given.
 #![tactic(auto)]
 
 mod recovering;
+mod two_files;
 
 pub use recovering::recover_file;
+pub use two_files::recover_files;

@@ -1,10 +1,18 @@
 -- When numbers make an image, and what its making does to its file.
-use Rattle.std.specs.Prelude.{◌≡◌, ◌+◌, ◌*◌, ◌^◌, ◌<◌, ◌≤◌, Result}
+use Rattle.std.specs.Prelude.{◌≡◌, ◌+◌, ◌*◌, ◌^◌, ◌<◌, ◌≤◌, ℕ, List, Result, Ok, Err, OnOk, set}
 use Rattle.jb_block.specs.Size.{bytes_of}
-use Rattle.jb_disk.specs.File.{UnknownFile, IsHonest, count_of, faults_of, size_of}
-use Rattle.jb_disk.specs.Kept.{Kept}
-use Rattle.jb_front.specs.Formatted.{FormatFaults}
+use Rattle.jb_block.specs.Width.{is_wide}
+use Rattle.jb_disk.specs.File.{IsMeasured, count_of, size_of}
+use Rattle.jb_disk.specs.Image.{Only, Torn}
+use Rattle.jb_disk.specs.KeptOn.{KeptOn}
+use Rattle.jb_disk.specs.Steps.{Steps}
+use Rattle.jb_disk.specs.declared.disk.Disk.{Ghosts as Disks}
+use Rattle.jb_disk.specs.declared.file.FileDisk.{FileDisk}
+use Rattle.jb_disk.specs.declared.start.Start.{Ghosts as Starts}
+use Rattle.jb_pair.specs.Files.{as_file}
+use Rattle.jb_front.specs.Formatted.{FormatFaults, new_block}
 use Rattle.jb_front.specs.declared.fault.FormatFault.{FormatFault}
+use Rattle.jb_front.specs.declared.fault.FormatFault.TheVariants.{DeviceFault}
 use Rattle.jb_image.specs.declared.geometry.Geometry.{Geometry}
 
 -- the journal has as many blocks as one may have, and the image a length that a file may have
@@ -13,9 +21,32 @@ pub record MakesImage (g : Geometry) : Type 0 where
   pub most : g.journal < 2 ^ 31
   pub len : (g.journal + g.homes) * bytes_of g.block_size < 2 ^ 63
 
--- a journal was formatted on a file of the blocks that were asked for, with this answer: its blocks are as many as before, and a fault is a failed call of the
--- file. No clause says what a file holds
-pub record IsFormatted (g : Geometry) (old new : UnknownFile) (answer : Result Unit FormatFault) : Type 0 where
+-- block 0 of the journal that is asked for, in blocks of this size
+abbrev pub block_made : ℕ → Geometry → List ℕ
+block_made size g = new_block (is_wide g.width) size g.journal g.max_transaction g.uuid
+
+-- A journal was formatted on a disk, with this answer: no block has changed but block 0, which is that of the new journal then, and
+-- nothing is pending. A crash in its midst leaves what the disk might have left, with some new sectors of block 0.
+pub record FormatsOn {D : Type 0} (G : Disks D) (g : Geometry) (old new : D) (answer : Result Unit FormatFault) : Type 0 where
+  pub kept : KeptOn G (FormatFaults answer) old new
+  pub written : G.honest new → OnOk answer (G.newest new ≡ set (G.newest old) 0 (block_made (G.size old) g))
+  pub torn : G.honest new → Torn 0 (block_made (G.size old) g) (G.newest old) (G.newest new)
+  pub steps : G.honest new → Steps G.may_leave G.moment G.left_since (Torn 0 (block_made (G.size old) g)) old new
+  pub durable : G.honest new → OnOk answer (Only (G.newest new) (G.may_leave new))
+
+-- the same of a file of the blocks that were asked for, which was asked its length and nothing else before
+pub record IsFormatted {S : Type 0} {start : Starts S} (g : Geometry) (old new : FileDisk S start) (answer : Result Unit FormatFault) : Type 0 where
   pub size : size_of old ≡ g.block_size
   pub count : count_of old ≡ g.journal + g.homes
-  pub kept : Kept (λ (f : UnknownFile). bytes_of (size_of f)) count_of faults_of IsHonest (FormatFaults answer) old new
+  pub measured : IsMeasured old
+  pub formatted : FormatsOn as_file g old new answer
+
+module _ {S : Type 0} {start : Starts S} where
+  -- the journal was made in a file since that was opened
+  abbrev pub WasMade : Geometry → FileDisk S start → Type 0
+  WasMade g new = (old : FileDisk S start) × IsFormatted g old new (Ok tt)
+
+module _ {S : Type 0} (start : Starts S) where
+  -- a call of a file failed while a journal was made in it
+  abbrev pub MakingFailed : Geometry → Type 0
+  MakingFailed g = (old new : FileDisk S start) × IsFormatted g old new (Err DeviceFault)

@@ -1,16 +1,15 @@
 //! Images that are made.
-ghost use Rattle.std.specs.Prelude.{◌≡◌, ◌↔◌, ◌+◌, ◌*◌, IfOk, IsTrue, Err, Ok};
+ghost use Rattle.std.specs.Prelude.{◌≡◌, ◌↔◌, ◌+◌, ◌*◌, IfOk, IsTrue, Err};
 ghost use Rattle.jb_block.specs.Size.{bytes_of};
-ghost use Rattle.jb_disk.specs.File.{UnknownFile, count_of, size_of};
-ghost use Rattle.jb_front.specs.declared.fault.FormatFault.TheVariants.{DeviceFault as NotFormatted};
-ghost use Rattle.jb_image.specs.Making.{IsFormatted, MakesImage};
+ghost use Rattle.jb_disk.specs.File.{IsMeasured, count_of, size_of};
+ghost use Rattle.jb_image.specs.Making.{MakingFailed, MakesImage, WasMade};
 ghost use Rattle.jb_image.specs.declared.fault.MakeFault.TheVariants.{DeviceFault, Geometry as NoGeometry};
 
 use crate::draft::Draft;
 use crate::fault::{ImageFault, MakeFault, SystemFault};
 use crate::geometry::Geometry;
 use jb_block::BlockSize;
-use jb_disk::{Disk, FileDisk};
+use jb_disk::{Disk, FileDisk, Start};
 use jb_front::{FormatFault, format};
 use std::fs::File;
 use std::rt::Files;
@@ -31,9 +30,23 @@ pub fn create_image<R: Files<File = File> + AllocGlobal>(
     geometry: Geometry,
 ) -> Result<FileDisk, MakeFault>
     ensures geometry { (result ≡ Err NoGeometry) ↔ (MakesImage geometry → ⊥) }
-    ensures made { IfOk result (λ disk. (old : UnknownFile) × IsFormatted geometry old disk (Ok tt)) }
-    ensures failed { result ≡ Err DeviceFault
-        → (old : UnknownFile) × (new : UnknownFile) × IsFormatted geometry old new (Err NotFormatted) }
+    ensures made { IfOk result (WasMade geometry) }
+{
+    create_holding(rt, name, geometry)
+}
+
+/// The same, of a file that is supposed to hold what `S` says, once it has its length.
+///
+/// # Errors
+/// As those of [`create_image`].
+pub fn create_holding<S: Start, R: Files<File = File> + AllocGlobal>(
+    rt: &R,
+    name: &str,
+    geometry: Geometry,
+) -> Result<FileDisk<S>, MakeFault>
+    ensures geometry { (result ≡ Err NoGeometry) ↔ (MakesImage geometry → ⊥) }
+    ensures made { IfOk result (WasMade geometry) }
+    ensures failed { result ≡ Err DeviceFault → MakingFailed S.Start geometry }
 {
     let Some(len) = geometry.len() else {
         return Err(MakeFault::Geometry);
@@ -42,18 +55,17 @@ pub fn create_image<R: Files<File = File> + AllocGlobal>(
 }
 
 /// The same, of numbers that make an image of this length.
-fn make<R: Files<File = File> + AllocGlobal>(
+fn make<S: Start, R: Files<File = File> + AllocGlobal>(
     rt: &R,
     name: &str,
     len: u64,
     geometry: Geometry,
-) -> Result<FileDisk, MakeFault>
+) -> Result<FileDisk<S>, MakeFault>
     requires geometry { MakesImage geometry }
     requires len { len ≡ (geometry.journal + geometry.homes) * bytes_of geometry.block_size }
     ensures never { result ≡ Err NoGeometry → ⊥ }
-    ensures made { IfOk result (λ disk. (old : UnknownFile) × IsFormatted geometry old disk (Ok tt)) }
-    ensures failed { result ≡ Err DeviceFault
-        → (old : UnknownFile) × (new : UnknownFile) × IsFormatted geometry old new (Err NotFormatted) }
+    ensures made { IfOk result (WasMade geometry) }
+    ensures failed { result ≡ Err DeviceFault → MakingFailed S.Start geometry }
 {
     let draft = match Draft::begin(rt, name) {
         Ok(draft) => draft,
@@ -79,13 +91,12 @@ fn make<R: Files<File = File> + AllocGlobal>(
 ///
 /// # Errors
 /// `Image` with `System` where the system refuses a call; `DeviceFault` where the journal was not written.
-fn fill(draft: &Draft<'_>, len: u64, geometry: Geometry) -> Result<FileDisk, MakeFault>
+fn fill<S: Start>(draft: &Draft<'_>, len: u64, geometry: Geometry) -> Result<FileDisk<S>, MakeFault>
     requires geometry { MakesImage geometry }
     requires len { len ≡ (geometry.journal + geometry.homes) * bytes_of geometry.block_size }
     ensures never { result ≡ Err NoGeometry → ⊥ }
-    ensures made { IfOk result (λ disk. (old : UnknownFile) × IsFormatted geometry old disk (Ok tt)) }
-    ensures failed { result ≡ Err DeviceFault
-        → (old : UnknownFile) × (new : UnknownFile) × IsFormatted geometry old new (Err NotFormatted) }
+    ensures made { IfOk result (WasMade geometry) }
+    ensures failed { result ≡ Err DeviceFault → MakingFailed S.Start geometry }
 {
     let mut disk = disk_of(draft.handle()?, len, geometry)?;
     let Geometry {
@@ -106,14 +117,15 @@ fn fill(draft: &Draft<'_>, len: u64, geometry: Geometry) -> Result<FileDisk, Mak
 ///
 /// # Errors
 /// `System` where the system refuses a call, or another length is found.
-fn disk_of(file: File, len: u64, geometry: Geometry) -> Result<FileDisk, ImageFault>
+fn disk_of<S: Start>(file: File, len: u64, geometry: Geometry) -> Result<FileDisk<S>, ImageFault>
     requires { len ≡ (geometry.journal + geometry.homes) * bytes_of geometry.block_size }
     ensures size { IfOk result (λ disk. size_of disk ≡ geometry.block_size) }
     ensures count { IfOk result (λ disk. count_of disk ≡ geometry.journal + geometry.homes) }
+    ensures measured { IfOk result IsMeasured }
 {
     file.set_len(len)?;
     file.sync_all()?;
-    let Ok(disk) = FileDisk::of(file, geometry.block_size) else {
+    let Ok(disk) = FileDisk::<S>::holding(file, geometry.block_size) else {
         return Err(ImageFault::System(SystemFault { code: None }));
     };
     if !has_len(&disk, len, geometry.block_size) {
@@ -123,7 +135,7 @@ fn disk_of(file: File, len: u64, geometry: Geometry) -> Result<FileDisk, ImageFa
 }
 
 /// Whether the blocks of a disk have so many bytes.
-fn has_len(disk: &FileDisk, len: u64, size: BlockSize) -> bool
+fn has_len<S: Start>(disk: &FileDisk<S>, len: u64, size: BlockSize) -> bool
     ensures { IsTrue result → count_of disk.now * bytes_of size ≡ len }
 {
     u128::from(disk.blocks()) * u128::from(size.bytes()) == u128::from(len)

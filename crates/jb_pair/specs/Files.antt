@@ -25,21 +25,25 @@ as_file = record {
   runs_as_calls = true;
 }
 
--- what an image in two files is, the one with the home blocks first; or in one of the first kind
-abbrev pub as_files : {S T : Type 0} {start : Starts S} {other : Starts T} → Ghosts (ImageDisk (FileDisk S start) (FileDisk T other))
-as_files = record {
-  size = image_size as_file as_file;
-  count = image_count as_file as_file;
-  faults = image_faults as_file as_file;
-  honest = IsHonestImage as_file as_file;
-  newest = image_newest as_file as_file;
-  may_leave = ImageLeaves as_file as_file;
-  moment = image_moment as_file as_file;
-  left_since = ImageLeft as_file as_file;
+-- what an image on disks of two kinds is: of the first kind the one with the home blocks
+abbrev pub as_disks : {D E : Type 0} → Ghosts D → Ghosts E → Ghosts (ImageDisk D E)
+as_disks G H = record {
+  size = image_size G H;
+  count = image_count G H;
+  faults = image_faults G H;
+  honest = IsHonestImage G H;
+  newest = image_newest G H;
+  may_leave = ImageLeaves G H;
+  moment = image_moment G H;
+  left_since = ImageLeft G H;
   fails_next = λ _. false;
-  own = ImageCalled as_file as_file;
+  own = ImageCalled G H;
   runs_as_calls = false;
 }
+
+-- what an image in two files is, the one with the home blocks first; or in one of the first kind
+abbrev pub as_files : {S T : Type 0} {start : Starts S} {other : Starts T} → Ghosts (ImageDisk (FileDisk S start) (FileDisk T other))
+as_files = as_disks as_file as_file
 
 -- an image in files of which nothing is supposed
 abbrev pub FileImage : Type 0

@@ -1,20 +1,22 @@
 -- Home blocks that are peeked at and written, one after the other, for any disk.
-use Rattle.std.proofs.Common.{◌≡◌, suc, ◌+◌, ◌<◌, ℕ, Bool, List, [], ◌∷◌, ◌++◌, length, get_or, Option, Some, None, Result, Ok, Err, refl, ap, sym, ◌∙◌, subst, inl, inr, arith, length-append, append_assoc, append-nil}
+use Rattle.std.proofs.Common.{◌≡◌, suc, ◌+◌, ◌<◌, ◌≤◌, ℕ, Bool, true, List, [], ◌∷◌, ◌++◌, length, get_or, Option, Some, None, Result, Ok, Err, refl, ap, sym, ◌∙◌, subst, inl, inr, arith, length-append, append_assoc, append-nil}
 use Rattle.std.proofs.Math.Decide.{ℕ_discrete}
 use Rattle.std.proofs.Math.Seq.{get_or-append_seam}
 use Rattle.std.proofs.lemmas.List.{get_or_append_left}
 use Rattle.std.specs.Io.KnownBytes.{Appends}
 use Rattle.std.proofs.KnownBytes.{Appends-trans}
-use Rattle.jb_disk.specs.Faults.{CountsAny}
-use Rattle.jb_disk.specs.Image.{Image}
+use Rattle.jb_disk.specs.Faults.{CountsNone, MoreFaults}
+use Rattle.jb_disk.specs.Image.{Image, Same}
 use Rattle.jb_disk.specs.KeptOn.{KeptOn}
-use Rattle.jb_disk.proofs.Counts.{kept_on, kept_same}
+use Rattle.jb_disk.specs.Time.{Goes}
+use Rattle.jb_disk.proofs.Counts.{kept_as, kept_on, kept_same}
+use Rattle.jb_disk.proofs.Stepping.{goes-none, goes-on}
 use Rattle.jb_io.specs.Puts.{PutsPart}
 use Rattle.jb_io.proofs.PartByPart.{part_after}
-use Rattle.jb_recover.specs.Peeks.{IsPeeked, Peeks, peek_refusal}
+use Rattle.jb_recover.specs.Peeks.{IsPeeked, Peeks, PeekFaults, peek_refusal}
 use Rattle.jb_recover.specs.declared.fault.PeekFault.{PeekFault}
 use Rattle.jb_recover.specs.declared.fault.PeekFault.TheVariants as peeking
-use Rattle.jb_plain.specs.Cat.{ArePeeked, block_text, blocks_text, CatsOn, home_at, IsUnpeeked, offset_after, offset_behind, PutsText}
+use Rattle.jb_plain.specs.Cat.{ArePeeked, block_text, blocks_text, CatFaults, CatsOn, home_at, IsUnpeeked, offset_after, offset_behind, PutsText}
 use Rattle.jb_plain.specs.Lines.{upto}
 use Rattle.jb_plain.specs.Faults.{peek_fault}
 use Rattle.jb_plain.specs.declared.fault.CommandFault.{CommandFault}
@@ -52,13 +54,21 @@ unpeeked-by size count c home before after (peeking.Super fault) told = told.0
 unpeeked-by size count c home before after (peeking.BadRevoke at) told = told.0
 unpeeked-by size count c home before after (peeking.HomeOutOfRange other) told = told.0
 
+-- the count after a peek that stopped
+peek-counted : (homes : Option ℕ) (stop : PeekFault) (old mid new : ℕ) → mid ≡ old → PeekFaults {T = Unit} (Err stop) mid new → CatFaults (Err (peek_fault homes stop)) old new
+peek-counted homes peeking.DeviceFault old mid new before told = subst (λ n. MoreFaults n new) before told
+peek-counted homes (peeking.Super fault) old mid new before told = told ∙ before
+peek-counted homes (peeking.BadRevoke at) old mid new before told = told ∙ before
+peek-counted homes (peeking.HomeOutOfRange other) old mid new before told = told ∙ before
+
 module _ {D : Type 0} (G : Disks D) (first : ℕ) (hex : Bool) where
   -- so many blocks are written, and the next one has this offset
   pub record Catting (old now : D) (out_old out_now : Option (List ℕ)) (i at : ℕ) : Type 0 where
     pub blocks : List (List ℕ)
     pub done : length blocks ≡ i
-    pub kept : KeptOn G CountsAny old now
+    pub kept : KeptOn G CountsNone old now
     pub same : G.honest now → G.newest now ≡ G.newest old
+    pub idle : G.honest now → Goes G.may_leave G.moment G.left_since Same old now
     pub peeked : G.honest now → ArePeeked (G.size old) (G.count old) (G.newest old) first blocks
     pub offset : at ≡ offset_after 0 blocks
     pub text : Appends out_old out_now (blocks_text hex 0 blocks)
@@ -67,19 +77,27 @@ module _ {D : Type 0} (G : Disks D) (first : ℕ) (hex : Bool) where
   catting-start old out = record {
     blocks = [];
     done = refl;
-    kept = kept_same old tt;
+    kept = kept_same old refl;
     same = λ held. refl;
+    idle = λ held. goes-none G.may_leave G.moment G.left_since old;
     peeked = λ held k within. absurd (let h : ⊥ = omega (arith, within) in h);
     offset = refl;
     text = appends-none out;
   }
 
-  module _ {counts : ℕ → ℕ → Type 0} (old now next : D) (out_old out_now : Option (List ℕ)) (i at : ℕ) (state : Catting old now out_old out_now i at) (kept : KeptOn G counts now next) (same : G.honest next → G.newest next ≡ G.newest now) where
-    kept-next : KeptOn G CountsAny old next
-    kept-next = kept_on state.kept kept tt
+  module _ {counts : ℕ → ℕ → Type 0} (old now next : D) (out_old out_now : Option (List ℕ)) (i at : ℕ) (state : Catting old now out_old out_now i at)
+      (kept : KeptOn G counts now next) (same : G.honest next → G.newest next ≡ G.newest now) (idle : G.honest next → Goes G.may_leave G.moment G.left_since Same now next)
+      (counts_now : (t : ℕ) (c : Image) → G.honest old → t ≤ G.moment old → G.may_leave old c → G.left_since old t c) where
+    kept-next : (both : ℕ → ℕ → Type 0) → both (G.faults old) (G.faults next) → KeptOn G both old next
+    kept-next both counted = kept_on state.kept kept counted
 
     same-next : G.honest next → G.newest next ≡ G.newest old
     same-next held = same held ∙ state.same (kept.was_honest held)
+
+    idle-next : G.honest next → Goes G.may_leave G.moment G.left_since Same old next
+    idle-next held =
+        let was = kept.was_honest held in
+        goes-on G.may_leave G.moment G.left_since Same old now next (λ t c earlier left. counts_now t c (state.kept.was_honest was) earlier left) (state.idle was) (idle held)
 
     peeked-still : G.honest next → ArePeeked (G.size old) (G.count old) (G.newest old) first state.blocks
     peeked-still held = state.peeked (kept.was_honest held)
@@ -91,17 +109,18 @@ module _ {D : Type 0} (G : Disks D) (first : ℕ) (hex : Bool) where
         (subst (λ n. P (G.size now) n (G.newest old)) state.kept.same_count
         (subst (P (G.size now) (G.count now)) (state.same (kept.was_honest held)) (told held)))
 
-    -- there was no memory for the block
-    pub cats-starved : (homes : Option ℕ) (n : ℕ) → i < n → CatsOn G homes first n hex old next out_old out_now (Err Memory)
-    cats-starved homes n more = record {
+    -- there was no memory for the rows of the block
+    cats-starved : G.faults next ≡ G.faults now → (homes : Option ℕ) (n : ℕ) → hex ≡ true → i < n → CatsOn G homes first n hex old next out_old out_now (Err Memory)
+    cats-starved none homes n rows more = record {
       blocks = state.blocks;
-      kept = kept-next;
+      kept = kept-next (CatFaults (Err Memory)) (none ∙ state.kept.counted);
       same = same-next;
+      idle = idle-next;
       peeked = peeked-still;
-      told = inr (inl (refl, let done = state.done in omega (arith, more, done), state.text));
+      told = inr (inl (refl, rows, let done = state.done in omega (arith, more, done), state.text));
     }
 
-    module _ (bytes : List ℕ) (told : G.honest next → (peek_refusal (G.size now) (G.count now) (G.newest now) (home_at first i) ≡ None) × IsPeeked (G.size now) (G.count now) (G.newest now) (home_at first i) bytes) where
+    module _ (none : G.faults next ≡ G.faults now) (bytes : List ℕ) (told : G.honest next → (peek_refusal (G.size now) (G.count now) (G.newest now) (home_at first i) ≡ None) × IsPeeked (G.size now) (G.count now) (G.newest now) (home_at first i) bytes) where
       abbrev more : List (List ℕ)
       more = state.blocks ++ bytes ∷ []
 
@@ -121,8 +140,9 @@ module _ {D : Type 0} (G : Disks D) (first : ℕ) (hex : Bool) where
       catting-more out_next at_next written offset = record {
         blocks = more;
         done = one_more;
-        kept = kept-next;
+        kept = kept-next CountsNone (none ∙ state.kept.counted);
         same = same-next;
+        idle = idle-next;
         peeked = peeked-next;
         offset = offset ∙ ap (λ o. offset_behind o bytes) state.offset ∙ sym (offset-more 0 state.blocks bytes);
         text = subst (Appends out_old out_next) (sym text-next) (Appends-trans out_old out_now out_next (blocks_text hex 0 state.blocks) (block_text hex at bytes) state.text written);
@@ -132,26 +152,28 @@ module _ {D : Type 0} (G : Disks D) (first : ℕ) (hex : Bool) where
       pub cats-cut : (homes : Option ℕ) (n : ℕ) (out_next : Option (List ℕ)) → PutsPart out_now out_next (block_text hex at bytes) → CatsOn G homes first n hex old next out_old out_next (Err WriteFault)
       cats-cut homes n out_next part = record {
         blocks = more;
-        kept = kept-next;
+        kept = kept-next (CatFaults (Err WriteFault)) (none ∙ state.kept.counted);
         same = same-next;
+        idle = idle-next;
         peeked = peeked-next;
         told = inl (refl, subst (PutsPart out_old out_next) (sym text-next) (part_after out_old out_now out_next (blocks_text hex 0 state.blocks) (block_text hex at bytes) state.text part));
       }
 
       -- the block was not written whole
-      pub cats-stopped : (homes : Option ℕ) (n : ℕ) (out_next : Option (List ℕ)) (fault : CommandFault) (end : Result ℕ CommandFault) → end ≡ Err fault → i < n → PutsText (block_text hex at bytes) out_now out_next (Err fault) → CatsOn G homes first n hex old next out_old out_next end
-      cats-stopped homes n out_next WriteFault end is more puts = subst (CatsOn G homes first n hex old next out_old out_next) (sym is) (cats-cut homes n out_next puts)
-      cats-stopped homes n out_next Memory end is more puts =
+      pub cats-stopped : (homes : Option ℕ) (n : ℕ) (out_next : Option (List ℕ)) (fault : CommandFault) (end : Result ℕ CommandFault) → end ≡ Err fault → (fault ≡ Memory → hex ≡ true) → i < n → PutsText (block_text hex at bytes) out_now out_next (Err fault) → CatsOn G homes first n hex old next out_old out_next end
+      cats-stopped homes n out_next WriteFault end is rows more puts = subst (CatsOn G homes first n hex old next out_old out_next) (sym is) (cats-cut homes n out_next puts)
+      cats-stopped homes n out_next Memory end is rows more puts =
           subst (CatsOn G homes first n hex old next out_old out_next) (sym is)
-          (subst (λ o. CatsOn G homes first n hex old next out_old o (Err Memory)) (sym puts) (cats-starved homes n more))
-      cats-stopped homes n out_next _ end is more puts = absurd puts
+          (subst (λ o. CatsOn G homes first n hex old next out_old o (Err Memory)) (sym puts) (cats-starved none homes n (rows refl) more))
+      cats-stopped homes n out_next _ end is rows more puts = absurd puts
 
     -- the peek was refused
-    pub cats-refused : (homes : Option ℕ) (n : ℕ) (stop : PeekFault) → i < n → (G.honest next → IsUnpeeked (G.size now) (G.count now) (G.newest now) (home_at first i) stop) → CatsOn G homes first n hex old next out_old out_now (Err (peek_fault homes stop))
-    cats-refused homes n stop more told = record {
+    pub cats-refused : (homes : Option ℕ) (n : ℕ) (stop : PeekFault) → PeekFaults {T = Unit} (Err stop) (G.faults now) (G.faults next) → i < n → (G.honest next → IsUnpeeked (G.size now) (G.count now) (G.newest now) (home_at first i) stop) → CatsOn G homes first n hex old next out_old out_now (Err (peek_fault homes stop))
+    cats-refused homes n stop counted more told = record {
       blocks = state.blocks;
-      kept = kept-next;
+      kept = kept-next (CatFaults (Err (peek_fault homes stop))) (peek-counted homes stop (G.faults old) (G.faults now) (G.faults next) state.kept.counted counted);
       same = same-next;
+      idle = idle-next;
       peeked = peeked-still;
       told = inr (inr (stop, refl, let done = state.done in omega (arith, more, done), λ held. subst (λ k. IsUnpeeked (G.size old) (G.count old) (G.newest old) (home_at first k) stop) (sym state.done) (as-before (λ s c b. IsUnpeeked s c b (home_at first i) stop) told held), state.text));
     }
@@ -162,6 +184,7 @@ module _ {D : Type 0} (G : Disks D) (first : ℕ) (hex : Bool) where
     blocks = state.blocks;
     kept = state.kept;
     same = state.same;
+    idle = state.idle;
     peeked = state.peeked;
     told = (refl, state.done, state.text);
   }

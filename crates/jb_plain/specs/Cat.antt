@@ -3,9 +3,10 @@ use Rattle.std.specs.Prelude.{◌≡◌, ◌+◌, ◌*◌, ◌-◌, ◌/◌, ◌
 use Rattle.std.specs.Int.{w32, to_be_bytes}
 use Rattle.std.specs.Io.KnownBytes.{Appends}
 use Rattle.hex.specs.Hex.{encode_lower}
-use Rattle.jb_disk.specs.Faults.{CountsAny}
-use Rattle.jb_disk.specs.Image.{Image}
+use Rattle.jb_disk.specs.Faults.{MoreFaults}
+use Rattle.jb_disk.specs.Image.{Image, Same}
 use Rattle.jb_disk.specs.KeptOn.{KeptOn}
+use Rattle.jb_disk.specs.Time.{Goes}
 use Rattle.jb_io.specs.Puts.{PutsPart}
 use Rattle.jb_recover.specs.Peeks.{IsPeeked, peek_refusal}
 use Rattle.jb_recover.specs.declared.fault.PeekFault.{PeekFault}
@@ -13,7 +14,7 @@ use Rattle.jb_recover.specs.declared.fault.PeekFault.TheVariants as peeking
 use Rattle.jb_plain.specs.Faults.{peek_fault}
 use Rattle.jb_plain.specs.Lines.{upto}
 use Rattle.jb_plain.specs.declared.fault.CommandFault.{CommandFault}
-use Rattle.jb_plain.specs.declared.fault.CommandFault.TheVariants.{Memory, WriteFault}
+use Rattle.jb_plain.specs.declared.fault.CommandFault.TheVariants.{DeviceFault, Memory, WriteFault}
 use Rattle.jb_disk.specs.declared.disk.Disk.{Ghosts as Disks}
 
 -- ---- the text of a block
@@ -77,20 +78,29 @@ PutsText text old new (Err WriteFault) = PutsPart old new text
 PutsText text old new (Err Memory) = new ≡ old
 PutsText text old new (Err _) = ⊥
 
--- so many blocks were asked for, and all of them are written; or their beginning; or all before one that was not peeked at or had no memory
-abbrev pub TellsHomes : (PeekFault → Type 0) → Option ℕ → ℕ → ℕ → List ℕ → Option (List ℕ) → Option (List ℕ) → Result ℕ CommandFault → Type 0
-TellsHomes IsRefused homes n done text out_old out_new (Ok status) = (status ≡ 0) × (done ≡ n) × Appends out_old out_new text
-TellsHomes IsRefused homes n done text out_old out_new (Err fault) =
+-- so many blocks were asked for, and all of them are written; or their beginning; or all before one that was not peeked at, or had no
+-- memory for its rows
+abbrev pub TellsHomes : (PeekFault → Type 0) → Option ℕ → Bool → ℕ → ℕ → List ℕ → Option (List ℕ) → Option (List ℕ) → Result ℕ CommandFault → Type 0
+TellsHomes IsRefused homes hex n done text out_old out_new (Ok status) = (status ≡ 0) × (done ≡ n) × Appends out_old out_new text
+TellsHomes IsRefused homes hex n done text out_old out_new (Err fault) =
     ((fault ≡ WriteFault) × PutsPart out_old out_new text)
-    ⊎ (((fault ≡ Memory) × (done < n) × Appends out_old out_new text)
+    ⊎ (((fault ≡ Memory) × (hex ≡ true) × (done < n) × Appends out_old out_new text)
     ⊎ ((stop : PeekFault) × (fault ≡ peek_fault homes stop) × (done < n) × IsRefused stop × Appends out_old out_new text))
 
--- the homes of a disk from the first one on were peeked at and written, as many as were asked for, or up to a fault; the disk's content stays
+-- how the count of failed calls changes: it rises where one is why the command ended, and else stays
+abbrev pub CatFaults : Result ℕ CommandFault → ℕ → ℕ → Type 0
+CatFaults (Ok status) old new = new ≡ old
+CatFaults (Err DeviceFault) old new = MoreFaults old new
+CatFaults (Err _) old new = new ≡ old
+
+-- the homes of a disk from the first one on were peeked at and written, as many as were asked for, or up to a fault; the disk's content
+-- stays, and a crash leaves what it could leave before
 pub record CatsOn {D : Type 0} (G : Disks D) (homes : Option ℕ) (first n : ℕ) (hex : Bool) (old new : D)
     (out_old out_new : Option (List ℕ)) (end : Result ℕ CommandFault) : Type 0 where
   pub blocks : List (List ℕ)
-  pub kept : KeptOn G CountsAny old new
+  pub kept : KeptOn G (CatFaults end) old new
   pub same : G.honest new → G.newest new ≡ G.newest old
+  pub idle : G.honest new → Goes G.may_leave G.moment G.left_since Same old new
   pub peeked : G.honest new → ArePeeked (G.size old) (G.count old) (G.newest old) first blocks
-  pub told : TellsHomes (λ stop. G.honest new → IsUnpeeked (G.size old) (G.count old) (G.newest old) (home_at first (length blocks)) stop) homes n (length blocks)
+  pub told : TellsHomes (λ stop. G.honest new → IsUnpeeked (G.size old) (G.count old) (G.newest old) (home_at first (length blocks)) stop) homes hex n (length blocks)
       (blocks_text hex 0 blocks) out_old out_new end

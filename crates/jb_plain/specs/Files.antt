@@ -1,66 +1,31 @@
--- How the commands over images end over a file.
-use Rattle.std.specs.Prelude.{◌≡◌, ◌≢◌, ◌⊎◌, ◌<◌, ℕ, ⊤, List, [], Option, Some, None, Result, Ok, Err}
-use Rattle.hex.specs.Hex.{decode_of}
-use Rattle.jb_block.specs.Size.{bytes_of}
-use Rattle.jb_disk.specs.File.{UnknownFile, count_of, faults_of, size_of}
+-- How the commands over images end over files.
+use Rattle.std.specs.Prelude.{◌≡◌, ◌⊎◌, ◌<◌, ℕ, ⊤, List, [], Option, Some, None, Result, Ok, Err}
+use Rattle.jb_disk.specs.File.{IsMeasured, count_of, size_of}
 use Rattle.jb_disk.specs.Image.{Image}
-use Rattle.jb_disk.specs.declared.disk.Disk.{Ghosts as Disks}
-use Rattle.jb_front.specs.declared.change.ChangeFault.{ChangeFault}
-use Rattle.jb_front.specs.declared.fault.FormatFault.{FormatFault}
-use Rattle.jb_front.specs.declared.fault.FormatFault.TheVariants.{Geometry as NoRoom}
-use Rattle.jb_image.specs.Making.{IsFormatted}
-use Rattle.jb_image.specs.declared.geometry.Geometry.{Geometry}
+use Rattle.jb_disk.specs.declared.file.FileDisk.{FileDisk}
+use Rattle.jb_disk.specs.declared.start.Start.{Ghosts as Starts}
 use Rattle.jb_front.specs.Front.{homes_in}
-use Rattle.jb_front.specs.Renumbering.{IsRenumbering, Renumbers, RenumbersAs}
-use Rattle.jb_front.specs.Widening.{IsWidened, Widens, WidensAs}
+use Rattle.jb_front.specs.declared.change.ChangeFault.{ChangeFault}
+use Rattle.jb_image.specs.Making.{WasMade}
+use Rattle.jb_image.specs.declared.geometry.Geometry.{Geometry}
+use Rattle.jb_pair.specs.Files.{as_files}
+use Rattle.jb_pair.specs.Pair.{back_disk, front_disk, past_states}
+use Rattle.jb_pair.specs.declared.image.ImageDisk.{ImageDisk}
+use Rattle.jb_pair.specs.declared.image.ImageDisk.TheVariants.{One, Two, Within}
+use Rattle.jb_pair.specs.declared.pair.PairDisk.{PairDisk}
 use Rattle.jb_super.specs.Faults.{super_in}
 use Rattle.jb_super.specs.Superblock.{Superblock}
-use Rattle.jb_words.specs.Named.{Options}
-use Rattle.jb_pair.specs.Files.{FileImage, as_file, as_image}
-use Rattle.jb_pair.specs.Pair.{back_disk, front_disk}
-use Rattle.jb_pair.specs.declared.image.ImageDisk.TheVariants.{One, Two, Within}
-use Rattle.jb_plain.specs.Change.{ChangesOn, renumbered_line, widened_line}
-use Rattle.jb_plain.specs.Format.{FormatsOn}
-use Rattle.jb_plain.specs.Options.{AreGood, IsFirstBad, IsJournalLength}
-use Rattle.jb_plain.specs.declared.fault.CommandFault.{CommandFault}
 use Rattle.jb_super.specs.declared.fault.SuperFault.TheVariants.{Geometry as NoGeometry}
-use Rattle.jb_plain.specs.declared.fault.CommandFault.TheVariants.{BadOption, CannotMake, CannotRead, Geometry as BadGeometry, InUse, JournalLength, Memory, SameFile, Super}
+use Rattle.jb_words.specs.Named.{Options}
+use Rattle.jb_plain.specs.Change.{ChangesOn}
+use Rattle.jb_plain.specs.Format.{new_limit_of}
+use Rattle.jb_plain.specs.Options.{AreGood, IsAskedBy, IsFirstBad, IsJournalLength}
+use Rattle.jb_plain.specs.declared.fault.CommandFault.{CommandFault}
+use Rattle.jb_plain.specs.declared.fault.CommandFault.TheVariants.{BadOption, CannotMake, CannotRead, DeviceFault, Geometry as BadGeometry, InUse, JournalLength, Memory, SameFile, Super}
+use Rattle.jb_plain.specs.declared.report.Report.{Report}
+use Rattle.jb_plain.specs.declared.report.Report.TheVariants.{Formatted}
 
--- the file of this name was not made: an option is bad; or none is, and a journal may not have so many blocks; or it may, and the
--- system refuses the file
-abbrev pub IsUnmade : List ℕ → Options → CommandFault → Type 0
-IsUnmade name o (BadOption told) = IsFirstBad o told.now
-IsUnmade name o BadGeometry = AreGood o × (IsJournalLength o.journal → ⊥)
-IsUnmade name o (CannotMake told code) = AreGood o × IsJournalLength o.journal × (told.now ≡ name)
-IsUnmade name o Memory = AreGood o × IsJournalLength o.journal
-IsUnmade name o _ = ⊥
-
--- a journal was formatted on a file of the blocks that were asked for, with this answer: it was made, or a call of the file failed
-pub record HasFormatted (g : Geometry) (answer : Result Unit FormatFault) : Type 0 where
-  pub old : UnknownFile
-  pub new : UnknownFile
-  pub formatted : IsFormatted g old new answer
-  pub room : answer ≢ Err NoRoom
-
--- a file as a disk of whose contents nothing is said
-abbrev pub unread_file : Disks UnknownFile
-unread_file = record as_file { honest = λ _. ⊥ }
-
--- the journal that the options ask for was made at the front of a file with their block size. No clause says what a file
--- holds: of its content nothing follows
-pub record FormatsFile (o : Options) (out_old out_new : Option (List ℕ)) (end : Result ℕ CommandFault) : Type 0 where
-  pub old : UnknownFile
-  pub new : UnknownFile
-  pub uuid : List ℕ
-  pub journal : IsJournalLength o.journal
-  pub size : bytes_of (size_of old) ≡ o.bs
-  pub digits : decode_of o.uuid ≡ Ok uuid
-  pub formats : FormatsOn unread_file o.journal o.max uuid o.wide old new out_old out_new end
-
--- the file was not made, and nothing was done; or the journal was made in it, and the answer is reported
-abbrev pub EndsOfFormat : List ℕ → Options → Option (List ℕ) → Option (List ℕ) → Result ℕ CommandFault → Type 0
-EndsOfFormat name o out_old out_new end =
-    ((fault : CommandFault) × (end ≡ Err fault) × IsUnmade name o fault × (out_new ≡ out_old)) ⊎ (AreGood o × FormatsFile o out_old out_new end)
+-- ---- images that are opened
 
 -- the file of this name was not read, or another program has locked it, or it is that of the journal too, or its first bytes are refused as a superblock
 abbrev pub IsUnread : List ℕ → CommandFault → Type 0
@@ -89,43 +54,72 @@ abbrev pub IsShut : List ℕ → Option (List ℕ) → CommandFault → Type 0
 IsShut name None fault = IsUnread name fault
 IsShut name (Some journal) fault = IsUnread name fault ⊎ (IsUnread journal fault ⊎ (IsShort fault ⊎ IsLong fault))
 
--- some first bytes are a superblock, which says this block size
-abbrev pub SaysSize : ℕ → Type 0
-SaysSize size = (front : List ℕ) × (sb : Superblock) × (super_in front ≡ Ok sb) × (size ≡ sb.block_size)
+module _ {S T : Type 0} {start : Starts S} {other : Starts T} where
+  -- a journal of exactly its superblock's blocks, and a file of blocks of the same size; they were asked their lengths and nothing else
+  pub record AreTwoFiles (pair : PairDisk (FileDisk T other) (FileDisk S start)) (sb : Superblock) : Type 0 where
+    pub count : count_of (front_disk pair) ≡ sb.maxlen
+    pub size : size_of (back_disk pair) ≡ size_of (front_disk pair)
+    pub front : IsMeasured (front_disk pair)
+    pub back : IsMeasured (back_disk pair)
+    pub fresh : past_states pair ≡ []
 
--- the files that were named: one, or a journal of exactly its superblock's blocks and another of the same block size
-abbrev pub IsHeldBy : Option (List ℕ) → FileImage → Superblock → Type 0
-IsHeldBy None (One file) sb = ⊤
-IsHeldBy None (Two pair) sb = ⊥
-IsHeldBy None (Within disk) sb = ⊥
-IsHeldBy (Some journal) (One file) sb = ⊥
-IsHeldBy (Some journal) (Within disk) sb = ⊥
-IsHeldBy (Some journal) (Two pair) sb = (count_of (front_disk pair) ≡ sb.maxlen) × (size_of (back_disk pair) ≡ size_of (front_disk pair))
+  -- the files that were named: one, or two; they were asked their lengths and nothing else
+  abbrev pub IsHeldBy : Option (List ℕ) → ImageDisk (FileDisk S start) (FileDisk T other) → Superblock → Type 0
+  IsHeldBy None (One file) sb = IsMeasured file
+  IsHeldBy None (Two pair) sb = ⊥
+  IsHeldBy None (Within disk) sb = ⊥
+  IsHeldBy (Some journal) (One file) sb = ⊥
+  IsHeldBy (Some journal) (Within disk) sb = ⊥
+  IsHeldBy (Some journal) (Two pair) sb = AreTwoFiles pair sb
 
--- some first bytes are a superblock, which says the image's block size; so many home blocks are after the journal that it says, and
--- can be named in it
-abbrev pub IsOpened : Option (List ℕ) → FileImage → ℕ → Type 0
-IsOpened journal disk homes =
-    (front : List ℕ) × (sb : Superblock) × (super_in front ≡ Ok sb) × (as_image.size disk ≡ sb.block_size) × (homes ≡ homes_in sb (as_image.count disk)) × IsHeldBy journal disk sb
+  -- some first bytes are a superblock, which says the image's block size; so many home blocks are after the journal that it says, and
+  -- can be named in it
+  abbrev pub IsOpened : Option (List ℕ) → ImageDisk (FileDisk S start) (FileDisk T other) → ℕ → Type 0
+  IsOpened journal disk homes =
+      (front : List ℕ) × (sb : Superblock) × (super_in front ≡ Ok sb) × (as_files.size disk ≡ sb.block_size) × (homes ≡ homes_in sb (as_files.count disk)) × IsHeldBy journal disk sb
 
--- the clean journal in a file was changed, in blocks of the size that its first bytes say. Nothing is supposed of the
--- files: of the content of one that has a block nothing follows
-pub record ChangesFile {T : Type 0} (Does : ℕ → ℕ → Image → Image → Result T ChangeFault → Type 0) (IsMidst EndsAlike : ℕ → ℕ → Image → Image → Type 0)
-    (line : T → List ℕ) (out_old out_new : Option (List ℕ)) (end : Result ℕ CommandFault) : Type 0 where
-  pub old : FileImage
-  pub new : FileImage
-  pub size : SaysSize (as_image.size old)
-  pub changes : ChangesOn as_image
-      Does IsMidst EndsAlike line old new out_old out_new end
+  -- the image was not read, and nothing was done; or its clean journal was changed, in blocks of the size that its first bytes say, since
+  -- it was opened, and what the change answered is the end. If the file is honest, all that the change says of contents holds of it
+  abbrev pub EndsOfChange : {R : Type 0} → (ℕ → ℕ → Image → Image → Result R ChangeFault → Type 0) → (ℕ → ℕ → Image → Image → Type 0) → (ℕ → ℕ → Image → Image → Type 0)
+      → (R → Report) → List ℕ → Option (ImageDisk (FileDisk S start) (FileDisk T other)) → Result Report CommandFault → Type 0
+  EndsOfChange Does IsMidst EndsAlike report name None end = (fault : CommandFault) × (end ≡ Err fault) × IsUnread name fault
+  EndsOfChange Does IsMidst EndsAlike report name (Some new) end =
+      (old : ImageDisk (FileDisk S start) (FileDisk T other)) × (homes : ℕ) × IsOpened None old homes × ChangesOn as_files Does IsMidst EndsAlike report old new end
 
--- the image was not read, and nothing was done; or its journal was given its first number again, and the answer is reported
-abbrev pub EndsOfRenumber : List ℕ → Option (List ℕ) → Option (List ℕ) → Result ℕ CommandFault → Type 0
-EndsOfRenumber name out_old out_new end =
-    ((fault : CommandFault) × (end ≡ Err fault) × IsUnread name fault × (out_new ≡ out_old))
-    ⊎ ChangesFile Renumbers IsRenumbering RenumbersAs renumbered_line out_old out_new end
+-- ---- images that are made
 
--- the image was not read, and nothing was done; or its journal was given block numbers of 64 bits, and the answer is reported
-abbrev pub EndsOfWiden : List ℕ → Option (List ℕ) → Option (List ℕ) → Result ℕ CommandFault → Type 0
-EndsOfWiden name out_old out_new end =
-    ((fault : CommandFault) × (end ≡ Err fault) × IsUnread name fault × (out_new ≡ out_old))
-    ⊎ ChangesFile Widens IsWidened WidensAs widened_line out_old out_new end
+-- the system refuses the file of this name, or memory ran out
+abbrev pub IsUnnamed : List ℕ → CommandFault → Type 0
+IsUnnamed name (CannotMake told code) = told.now ≡ name
+IsUnnamed name Memory = ⊤
+IsUnnamed name _ = ⊥
+
+-- the same, or the journal was not written
+abbrev pub IsNotMade : List ℕ → CommandFault → Type 0
+IsNotMade name DeviceFault = ⊤
+IsNotMade name fault = IsUnnamed name fault
+
+-- the file of this name was not made: an option is bad; or none is, and a journal may not have so many blocks
+abbrev pub IsBadFormat : Options → CommandFault → Type 0
+IsBadFormat o (BadOption told) = IsFirstBad o told.now
+IsBadFormat o BadGeometry = AreGood o × (IsJournalLength o.journal → ⊥)
+IsBadFormat o _ = ⊥
+
+module _ {S T : Type 0} {start : Starts S} {other : Starts T} where
+  -- the new image is one file, in which a journal was made since it was opened, and its limit is the end. If the file is honest, the
+  -- journal stands in it
+  abbrev pub IsMade : Geometry → ImageDisk (FileDisk S start) (FileDisk T other) → Result Report CommandFault → Type 0
+  IsMade g (One new) end = WasMade g new × (end ≡ Ok (Formatted (new_limit_of g)))
+  IsMade g (Two pair) end = ⊥
+  IsMade g (Within disk) end = ⊥
+
+  -- the image of this name was made, or it was not
+  abbrev pub EndsOfMaking : List ℕ → Geometry → Option (ImageDisk (FileDisk S start) (FileDisk T other)) → Result Report CommandFault → Type 0
+  EndsOfMaking name g None end = (fault : CommandFault) × (end ≡ Err fault) × IsNotMade name fault
+  EndsOfMaking name g (Some new) end = IsMade g new end
+
+  -- an option or the length is bad, and no file was looked at; or they are good, and the image that they ask for was made, or not
+  abbrev pub EndsOfFormat : List ℕ → Options → Option (ImageDisk (FileDisk S start) (FileDisk T other)) → Result Report CommandFault → Type 0
+  EndsOfFormat name o image end =
+      ((fault : CommandFault) × (end ≡ Err fault) × IsBadFormat o fault × (image ≡ None))
+      ⊎ (AreGood o × IsJournalLength o.journal × ((g : Geometry) × IsAskedBy o g × EndsOfMaking name g image end))

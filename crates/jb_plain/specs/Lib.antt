@@ -10,6 +10,7 @@ pub mod Lines
 pub mod Placed
 pub mod Options
 pub mod Recover
+pub mod Reports
 pub mod Runs
 pub mod Said
 pub mod Faults

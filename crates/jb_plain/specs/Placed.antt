@@ -1,10 +1,11 @@
 -- An image with its journal at its front, in a file of its own or within it: how it is opened, read and recovered.
-use Rattle.std.specs.Prelude.{◌≡◌, ◌⊎◌, ◌<◌, ◌≤◌, ℕ, Bool, true, false, ⊤, List, [], Option, Some, None, Result, Err, codes}
+use Rattle.std.specs.Prelude.{◌≡◌, ◌⊎◌, ◌<◌, ◌≤◌, ℕ, Bool, true, false, ⊤, List, [], Option, Some, None, Result, Ok, Err, codes}
 use Rattle.jb_block.specs.Size.{bytes_of}
 use Rattle.jb_block.specs.declared.size.BlockSize.{BlockSize}
-use Rattle.jb_disk.specs.File.{count_of}
-use Rattle.jb_disk.specs.Faults.{CountsAny}
-use Rattle.jb_disk.specs.KeptOn.{KeptOn}
+use Rattle.jb_disk.specs.File.{IsMeasured, count_of}
+use Rattle.jb_disk.specs.declared.disk.Disk.{Ghosts as Disks}
+use Rattle.jb_disk.specs.declared.file.FileDisk.{FileDisk}
+use Rattle.jb_disk.specs.declared.start.Start.{Ghosts as Starts}
 use Rattle.jb_extents.specs.Disks.{extents_of, journal_blocks, whole_disk}
 use Rattle.jb_extents.specs.Lists.{extents_count, extents_in, list_of, past_in, shared_in}
 use Rattle.jb_extents.specs.declared.extent.Extent.{Extent}
@@ -13,18 +14,21 @@ use Rattle.jb_extents.specs.declared.fault.ExtentsFault.TheVariants.{Home, NoJou
 use Rattle.jb_front.specs.Front.{homes_in}
 use Rattle.jb_super.specs.Superblock.{Superblock}
 use Rattle.jb_words.specs.Named.{CatWords, RecoverWords}
-use Rattle.jb_pair.specs.Files.{FileImage, as_image}
-use Rattle.jb_pair.specs.Images.{own_home}
+use Rattle.jb_pair.specs.Files.{as_files}
+use Rattle.jb_pair.specs.Images.{is_within}
+use Rattle.jb_pair.specs.declared.image.ImageDisk.{ImageDisk}
 use Rattle.jb_pair.specs.declared.image.ImageDisk.TheVariants.{One, Two, Within}
 use Rattle.jb_recover.specs.declared.fault.RecoverFault.{RecoverFault}
+use Rattle.jb_recover.specs.declared.recovered.Foreseen.{Foreseen}
 use Rattle.jb_plain.specs.Cat.{CatsOn}
-use Rattle.jb_plain.specs.Faults.{recover_fault}
 use Rattle.jb_plain.specs.Files.{IsOpened, IsShut, IsUnread, SaysSuper}
-use Rattle.jb_plain.specs.Foresee.{ForeseesOn}
+use Rattle.jb_plain.specs.Foresee.{Foretells, foreseen_end, own_checked}
 use Rattle.jb_plain.specs.Judge.{JudgesOn}
 use Rattle.jb_plain.specs.Recover.{RecoversOn}
+use Rattle.jb_plain.specs.Reports.{status_end}
 use Rattle.jb_plain.specs.declared.fault.CommandFault.{CommandFault}
 use Rattle.jb_plain.specs.declared.fault.CommandFault.TheVariants.{BadOption, Extents as InExtents}
+use Rattle.jb_plain.specs.declared.report.Report.{Report}
 
 -- the option of this name is bad
 abbrev pub IsBadOption : List ℕ → CommandFault → Type 0
@@ -61,101 +65,101 @@ pub record IsHeldWithin (es : List Extent) (sb : Superblock) (count : ℕ) : Typ
   pub inside : past_in count es ≡ None
   pub enough : sb.maxlen ≤ extents_count es
 
--- the same of the disk that is used
-abbrev pub IsJournalWithin : List Extent → Superblock → FileImage → Type 0
-IsJournalWithin es sb (One file) = ⊥
-IsJournalWithin es sb (Two pair) = ⊥
-IsJournalWithin es sb (Within disk) = (list_of (extents_of disk) ≡ es) × (journal_blocks disk ≡ sb.maxlen) × IsHeldWithin es sb (count_of (whole_disk disk))
-
--- a file of this block size, with a journal within it
-abbrev pub JoinsFile : List Extent → Superblock → BlockSize → FileImage → Type 0
-JoinsFile es sb size disk = IsJournalWithin es sb disk × (as_image.size disk ≡ bytes_of size)
-
--- the list was read, and the journal is there, in blocks of the size that its superblock says
-abbrev pub IsOpenedWithin : List ℕ → FileImage → ℕ → Type 0
-IsOpenedWithin list disk homes =
-    (es : List Extent) × (extents_in list ≡ Some es) × (sb : Superblock) × SaysSuper sb × (as_image.size disk ≡ sb.block_size) × (homes ≡ homes_in sb (as_image.count disk)) × IsJournalWithin es sb disk
-
--- ---- wherever the journal is
-
 -- it was not opened: both places were named, or see those of the one
 abbrev pub IsShutAt : List ℕ → Option (List ℕ) → Option (List ℕ) → CommandFault → Type 0
 IsShutAt name journal None fault = IsShut name journal fault
 IsShutAt name None (Some list) fault = IsShutWithin name list fault
 IsShutAt name (Some journal) (Some list) fault = IsBadOption (codes "--extents") fault
 
--- it is open
-abbrev pub IsOpenedAt : Option (List ℕ) → Option (List ℕ) → FileImage → ℕ → Type 0
-IsOpenedAt journal None disk homes = IsOpened journal disk homes
-IsOpenedAt None (Some list) disk homes = IsOpenedWithin list disk homes
-IsOpenedAt (Some journal) (Some list) disk homes = ⊥
+module _ {S T : Type 0} {start : Starts S} {other : Starts T} where
+  -- the same of the disk that is used, which was asked its length and nothing else
+  abbrev pub IsJournalWithin : List Extent → Superblock → ImageDisk (FileDisk S start) (FileDisk T other) → Type 0
+  IsJournalWithin es sb (One file) = ⊥
+  IsJournalWithin es sb (Two pair) = ⊥
+  IsJournalWithin es sb (Within disk) =
+      (list_of (extents_of disk) ≡ es) × (journal_blocks disk ≡ sb.maxlen) × IsHeldWithin es sb (count_of (whole_disk disk)) × IsMeasured (whole_disk disk)
 
--- home blocks of an image were written as their peeks gave them, in blocks of the size that its first bytes say, as many as asked for from one on.
--- Nothing is supposed of the files: of the content of one that has a block nothing follows
-pub record CatsFile (words : CatWords) (out_old out_new : Option (List ℕ)) (end : Result ℕ CommandFault) : Type 0 where
-  pub old : FileImage
-  pub new : FileImage
-  pub homes : ℕ
-  pub opened : IsOpenedAt words.journal words.extents old homes
-  pub cats : CatsOn as_image (Some homes) words.home words.count words.hex old new out_old out_new end
+  -- a file of this block size, with a journal within it
+  abbrev pub JoinsFile : List Extent → Superblock → BlockSize → ImageDisk (FileDisk S start) (FileDisk T other) → Type 0
+  JoinsFile es sb size disk = IsJournalWithin es sb disk × (as_files.size disk ≡ bytes_of size)
 
--- the image was not opened, and nothing was done; or its home blocks were written, and the answer is reported
-abbrev pub EndsOfCat : List ℕ → CatWords → Option (List ℕ) → Option (List ℕ) → Result ℕ CommandFault → Type 0
-EndsOfCat name words out_old out_new end =
-    ((fault : CommandFault) × (end ≡ Err fault) × IsShutAt name words.journal words.extents fault × (out_new ≡ out_old)) ⊎ CatsFile words out_old out_new end
+  -- the list was read, and the journal is there, in blocks of the size that its superblock says
+  abbrev pub IsOpenedWithin : List ℕ → ImageDisk (FileDisk S start) (FileDisk T other) → ℕ → Type 0
+  IsOpenedWithin list disk homes =
+      (es : List Extent) × (extents_in list ≡ Some es) × (sb : Superblock) × SaysSuper sb × (as_files.size disk ≡ sb.block_size) × (homes ≡ homes_in sb (as_files.count disk)) × IsJournalWithin es sb disk
+
+  -- it is open, wherever its journal is
+  abbrev pub IsOpenedAt : Option (List ℕ) → Option (List ℕ) → ImageDisk (FileDisk S start) (FileDisk T other) → ℕ → Type 0
+  IsOpenedAt journal None disk homes = IsOpened journal disk homes
+  IsOpenedAt None (Some list) disk homes = IsOpenedWithin list disk homes
+  IsOpenedAt (Some journal) (Some list) disk homes = ⊥
+
+  -- the image was not opened, and nothing was done; or home blocks of it were written as their peeks gave them, in blocks of the size that
+  -- its first bytes say, as many as asked for from one on, since it was opened
+  abbrev pub EndsOfCat : List ℕ → CatWords → Option (List ℕ) → Option (List ℕ) → Option (ImageDisk (FileDisk S start) (FileDisk T other)) → Result Report CommandFault → Type 0
+  EndsOfCat name words out_old out_new None end = (fault : CommandFault) × (end ≡ Err fault) × IsShutAt name words.journal words.extents fault × (out_new ≡ out_old)
+  EndsOfCat name words out_old out_new (Some new) end =
+      (old : ImageDisk (FileDisk S start) (FileDisk T other)) × (homes : ℕ) × IsOpenedAt words.journal words.extents old homes
+      × ((told : Result ℕ CommandFault) × CatsOn as_files (Some homes) words.home words.count words.hex old new out_old out_new told × (end ≡ status_end told))
 
 -- ---- a recovery
 
--- the disk was only read
-abbrev pub IsOnlyRead : FileImage → FileImage → Type 0
-IsOnlyRead old new = KeptOn as_image CountsAny old new
+-- the journal is elsewhere than at the front of the image
+abbrev pub is_beside : Option (List ℕ) → Option (List ℕ) → Bool
+is_beside None None = false
+is_beside None (Some list) = true
+is_beside (Some journal) extents = true
 
--- a recovery is refused for this, or a copy of it is for a home block that is one of the journal's own
-abbrev pub IsRecoveryRefused : Option ℕ → CommandFault → Type 0
-IsRecoveryRefused homes fault =
-    ((f : RecoverFault) × (fault ≡ recover_fault homes f))
-    ⊎ ((disk : FileImage) × (copied : List ℕ) × (home : ℕ) × (own_home disk copied ≡ Some home) × (fault ≡ InExtents (Home home)))
+-- a journal that is beside its home blocks was judged by them
+abbrev pub JudgesBeside : {D : Type 0} → Disks D → Bool → Bool → D → D → Result Unit CommandFault → Type 0
+JudgesBeside G true force old new judged = JudgesOn G force old new judged
+JudgesBeside G false force old new judged = (new ≡ old) × (judged ≡ Ok tt)
 
--- an image was opened for a recovery, wherever its journal is, in blocks of the size that its superblock says. Nothing is
--- supposed of the files: of the content of one that has a block nothing follows
-pub record IsOpenedToRecover (words : RecoverWords) (disk : FileImage) (homes : ℕ) : Type 0 where
-  pub first : FileImage
-  pub opened : IsOpenedAt words.journal words.extents first homes
-  pub read : IsOnlyRead first disk
+module _ {D E : Type 0} (G : Disks (ImageDisk D E)) where
+  -- it was foreseen what a recovery of an image would do, and that is the end, unless a copy is for a home block that is the journal's own
+  abbrev pub ForeseesImage : ℕ → Bool → ImageDisk D E → ImageDisk D E → Result Report CommandFault → Type 0
+  ForeseesImage homes list old new end = (answer : Result Foreseen RecoverFault) × Foretells G old new answer × (end ≡ foreseen_end new homes list answer)
 
--- a journal is not recovered into its home blocks
-abbrev pub IsRejectedBy : Bool → FileImage → FileImage → CommandFault → Type 0
-IsRejectedBy force old new fault = JudgesOn as_image force old new (Err fault)
+  -- of a journal within its home blocks it was foreseen whether a copy is for one of its own
+  abbrev pub ChecksOwn : ℕ → ImageDisk D E → ImageDisk D E → Result Unit CommandFault → Type 0
+  ChecksOwn homes old new checked =
+      ((is_within old ≡ false) × (new ≡ old) × (checked ≡ Ok tt))
+      ⊎ ((is_within old ≡ true) × ((answer : Result Foreseen RecoverFault) × Foretells G old new answer × (checked ≡ own_checked new homes answer)))
 
--- the image that was opened was refused by what its journal and its file system are
-abbrev pub IsRejected : RecoverWords → CommandFault → Type 0
-IsRejected words fault =
-    (disk later : FileImage) × (homes : ℕ) × IsOpenedAt words.journal words.extents disk homes
-    × IsRejectedBy words.force disk later fault
+  -- the image was recovered, or that is why not
+  abbrev pub RecoversChecked : ℕ → Result Unit CommandFault → ImageDisk D E → ImageDisk D E → Result Report CommandFault → Type 0
+  RecoversChecked homes (Ok done) old new end = RecoversOn G (Some homes) old new end
+  RecoversChecked homes (Err fault) old new end = (new ≡ old) × (end ≡ Err fault)
 
--- it was not opened, or was refused
+  -- the image was recovered, unless a copy is for a home block that is the journal's own
+  abbrev pub RecoversImage : ℕ → ImageDisk D E → ImageDisk D E → Result Report CommandFault → Type 0
+  RecoversImage homes old new end = (mid : ImageDisk D E) × (checked : Result Unit CommandFault) × ChecksOwn homes old mid checked × RecoversChecked homes checked mid new end
+
+  -- it was said what a recovery would do, or the image was recovered
+  abbrev pub DoesRecover : Bool → Bool → ℕ → ImageDisk D E → ImageDisk D E → Result Report CommandFault → Type 0
+  DoesRecover true list homes = ForeseesImage homes list
+  DoesRecover false list homes = RecoversImage homes
+
+  -- what was asked for was done, or that is why not
+  abbrev pub RecoversJudged : RecoverWords → ℕ → Result Unit CommandFault → ImageDisk D E → ImageDisk D E → Result Report CommandFault → Type 0
+  RecoversJudged words homes (Ok done) old new end = DoesRecover words.dry_run words.list homes old new end
+  RecoversJudged words homes (Err fault) old new end = (new ≡ old) × (end ≡ Err fault)
+
+  -- an image with so many home blocks was judged, where its journal is beside them, and then what was asked for was done
+  abbrev pub RecoversOpened : RecoverWords → ℕ → ImageDisk D E → ImageDisk D E → Result Report CommandFault → Type 0
+  RecoversOpened words homes old new end =
+      (mid : ImageDisk D E) × (judged : Result Unit CommandFault) × JudgesBeside G (is_beside words.journal words.extents) words.force old mid judged × RecoversJudged words homes judged mid new end
+
+-- the words do not go together, or the image was not opened
 abbrev pub IsNotOpenedToRecover : List ℕ → RecoverWords → CommandFault → Type 0
-IsNotOpenedToRecover name words fault = IsBadOption (codes "--list") fault ⊎ (IsShutAt name words.journal words.extents fault ⊎ IsRejected words fault)
+IsNotOpenedToRecover name words fault =
+    (IsBadOption (codes "--list") fault × (words.list ≡ true) × (words.dry_run ≡ false)) ⊎ IsShutAt name words.journal words.extents fault
 
--- it was said what a recovery of the image would do, or it was refused
-abbrev pub ForeseesImage : ℕ → Bool → FileImage → Option (List ℕ) → Option (List ℕ) → Result ℕ CommandFault → Type 0
-ForeseesImage homes list disk out_old out_new end =
-    ((new : FileImage) × ForeseesOn as_image (Some homes) list disk new out_old out_new end)
-    ⊎ ((fault : CommandFault) × (end ≡ Err fault) × IsRecoveryRefused (Some homes) fault × (out_new ≡ out_old))
-
--- the image was recovered, after reads alone, and the answer is reported; or it was refused before that
-abbrev pub RecoversImage : ℕ → FileImage → Option (List ℕ) → Option (List ℕ) → Result ℕ CommandFault → Type 0
-RecoversImage homes disk out_old out_new end =
-    ((later new : FileImage) × IsOnlyRead disk later × RecoversOn as_image (Some homes) later new out_old out_new end)
-    ⊎ ((fault : CommandFault) × (end ≡ Err fault) × IsRecoveryRefused (Some homes) fault × (out_new ≡ out_old))
-
--- what was asked for was done to an image: it was recovered, or with `--dry-run` it was said what that would do
-abbrev pub DoesRecover : Bool → Bool → ℕ → FileImage → Option (List ℕ) → Option (List ℕ) → Result ℕ CommandFault → Type 0
-DoesRecover true list homes disk = ForeseesImage homes list disk
-DoesRecover false list homes disk = RecoversImage homes disk
-
--- the image was not opened or was refused, and nothing was done; or what was asked for was done
-abbrev pub EndsOfRecover : List ℕ → RecoverWords → Option (List ℕ) → Option (List ℕ) → Result ℕ CommandFault → Type 0
-EndsOfRecover name words out_old out_new end =
-    ((fault : CommandFault) × (end ≡ Err fault) × IsNotOpenedToRecover name words fault × (out_new ≡ out_old))
-    ⊎ ((disk : FileImage) × (homes : ℕ) × IsOpenedToRecover words disk homes × DoesRecover words.dry_run words.list homes disk out_old out_new end)
+module _ {S T : Type 0} {start : Starts S} {other : Starts T} where
+  -- the image was not opened, and nothing was done; or what was asked for was done since it was opened. If its files are honest, all that
+  -- a recovery says of contents holds of them
+  abbrev pub EndsOfRecover : List ℕ → RecoverWords → Option (ImageDisk (FileDisk S start) (FileDisk T other)) → Result Report CommandFault → Type 0
+  EndsOfRecover name words None end = (fault : CommandFault) × (end ≡ Err fault) × IsNotOpenedToRecover name words fault
+  EndsOfRecover name words (Some new) end =
+      (old : ImageDisk (FileDisk S start) (FileDisk T other)) × (homes : ℕ) × IsOpenedAt words.journal words.extents old homes
+      × RecoversOpened as_files words homes old new end

@@ -9,11 +9,11 @@ mod placed;
 mod recovered;
 mod texts;
 
-pub(crate) use changes::{renumber_file, widen_file};
-pub(crate) use homes::cat_file;
+pub use changes::{renumber_file, widen_file};
+pub use homes::cat_file;
 pub(crate) use journals::{choice_of, dump_named};
-pub(crate) use making::format_file;
+pub use making::format_file;
 pub use opening::{Opening, open_counted};
-pub(crate) use recovered::recover_file;
+pub use recovered::recover_file;
 pub use texts::read_file;
 pub(crate) use texts::{read_file_within, read_text};

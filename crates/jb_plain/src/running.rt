@@ -1,9 +1,13 @@
-ghost use Rattle.std.specs.Prelude.{◌≡◌, ℕ, List, Option, false};
+ghost use Rattle.std.specs.Prelude.{◌≡◌, ℕ, List, Option, Some, codes, false};
+ghost use Rattle.std.specs.Str.{bytes_eq};
 ghost use Rattle.jb_words.specs.Named.{asks};
 ghost use Rattle.jb_answers.specs.Check.{CheckSays};
+ghost use Rattle.jb_answers.specs.Cost.{cost_said};
+ghost use Rattle.jb_answers.specs.Plan.{PlanSays};
 ghost use Rattle.jb_plain.specs.Lines.{names_said};
-ghost use Rattle.jb_plain.specs.Runs.{Closes, EndsAsked, EndsOfTwo, Runs, reads_input};
+ghost use Rattle.jb_plain.specs.Runs.{Closes, Ends, EndsAsked, EndsOfTwo, Runs, reads_input};
 
+use crate::done::Done;
 use crate::ended::{Ended, alone};
 use crate::fault::CommandFault;
 use crate::files::{
@@ -11,49 +15,85 @@ use crate::files::{
     recover_file, renumber_file, widen_file,
 };
 use crate::names::{TwoFiles, files_of};
+use crate::report::status_end;
 use crate::streams::{CERT_LIMIT, tell};
 use jb_answers::{check_answer, cost_answer, fault_answer, plan_answer};
+use jb_disk::{Start, Unknown};
 use jb_queue::read_queue;
 use jb_words::Plain;
 use std::fs::File;
 use std::io::{Read, Write};
 use std::rt::Files;
 
-/// Runs a command: reads its files, or `input` for `-` and for nothing else, and writes what it has to say.
+/// Runs a command: reads its files, or `input` for `-` and for nothing else, and works on its image. A command over
+/// texts, `dump` and `cat` write as they go; what the others have to say is in the answer, with the image, still open.
 ///
-/// # Errors
-/// The reason where the command ends without an answer; nothing was written then, but for `CommandFault::WriteFault`.
-pub fn perform<'a, R: Files<File = File> + AllocGlobal, I: Read, O: Write, E: Write>(
+/// `S` and `T` are what is supposed of the image's files ([`Done`]).
+pub fn perform<
+    'a,
+    S: Start,
+    T: Start,
+    R: Files<File = File> + AllocGlobal,
+    I: Read,
+    O: Write,
+    E: Write,
+>(rt: &R, plain: Plain<'a>, input: &mut I, out: &mut O, err: &mut E) -> Done<'a, S, T>
+    ensures ends { EndsAsked (asks plain.entry) (I.remaining input.old)
+        (record { out = O.contents out.old; err = E.contents err.old })
+        (record { out = O.contents out.new; err = E.contents err.new }) result.image result.end }
+    ensures unread { reads_input (asks plain.entry) ≡ false → input.new ≡ input.old }
+{
+    match plain {
+        Plain::Cost { file } => Done::alone(status_end(perform_cost(rt, file, input, out, err))),
+        Plain::Plan { file } => Done::alone(status_end(perform_plan(rt, file, input, out, err))),
+        Plain::Check { file, cert } => Done::alone(status_end(perform_check(
+            rt, file, cert, out, err,
+        ))),
+        Plain::Dump { file, options } => {
+            Done::alone(status_end(dump_named(rt, file, choice_of(options), input, out)))
+        }
+        Plain::Format { image, options } => format_file(rt, image, options),
+        Plain::Cat { image, options } => cat_file(rt, image, options, out),
+        Plain::Recover { image, options } => recover_file(rt, image, options),
+        Plain::Renumber { image } => renumber_file(rt, image),
+        Plain::Widen { image } => widen_file(rt, image),
+    }
+}
+
+/// Runs `jb cost`.
+fn perform_cost<'a, R: Files + AllocGlobal, I: Read, O: Write, E: Write>(
     rt: &R,
-    plain: Plain<'a>,
+    file: &'a str,
     input: &mut I,
     out: &mut O,
     err: &mut E,
 ) -> Result<u8, CommandFault<'a>>
-    ensures ends { EndsAsked (asks plain.entry) (I.remaining input.old)
+    ensures ends { Ends (λ text words. cost_said text ≡ Some words) file.entry.now (I.remaining input.old)
         (record { out = O.contents out.old; err = E.contents err.old })
         (record { out = O.contents out.new; err = E.contents err.new }) result }
-    ensures unread { reads_input (asks plain.entry) ≡ false → input.new ≡ input.old }
+    ensures unread { bytes_eq file.entry.now (codes "-") ≡ false → input.new ≡ input.old }
 {
-    match plain {
-        Plain::Cost { file } => {
-            let text = read_text(rt, file, input)?;
-            let answer = cost_answer(rt.alloc(), text.as_slice())?;
-            tell(&answer, out, err)
-        }
-        Plain::Plan { file } => {
-            let text = read_text(rt, file, input)?;
-            let answer = plan_answer(rt.alloc(), text.as_slice())?;
-            tell(&answer, out, err)
-        }
-        Plain::Check { file, cert } => perform_check(rt, file, cert, out, err),
-        Plain::Dump { file, options } => dump_named(rt, file, choice_of(options), input, out),
-        Plain::Format { image, options } => format_file(rt, image, options, out),
-        Plain::Cat { image, options } => cat_file(rt, image, options, out),
-        Plain::Recover { image, options } => recover_file(rt, image, options, out),
-        Plain::Renumber { image } => renumber_file(rt, image, out),
-        Plain::Widen { image } => widen_file(rt, image, out),
-    }
+    let text = read_text(rt, file, input)?;
+    let answer = cost_answer(rt.alloc(), text.as_slice())?;
+    tell(&answer, out, err)
+}
+
+/// Runs `jb plan`.
+fn perform_plan<'a, R: Files + AllocGlobal, I: Read, O: Write, E: Write>(
+    rt: &R,
+    file: &'a str,
+    input: &mut I,
+    out: &mut O,
+    err: &mut E,
+) -> Result<u8, CommandFault<'a>>
+    ensures ends { Ends PlanSays file.entry.now (I.remaining input.old)
+        (record { out = O.contents out.old; err = E.contents err.old })
+        (record { out = O.contents out.new; err = E.contents err.new }) result }
+    ensures unread { bytes_eq file.entry.now (codes "-") ≡ false → input.new ≡ input.old }
+{
+    let text = read_text(rt, file, input)?;
+    let answer = plan_answer(rt.alloc(), text.as_slice())?;
+    tell(&answer, out, err)
 }
 
 /// Runs `jb check`: the second file is opened where the first is the text of a queue.
@@ -95,8 +135,9 @@ pub fn run_plain<R: Files<File = File> + AllocGlobal, I: Read, O: Write, E: Writ
         (record { out = O.contents out.new; err = E.contents err.new }) result }
     ensures unread { reads_input (asks plain.entry) ≡ false → input.new ≡ input.old }
 {
-    let end = perform(rt, plain, input, out, err);
-    close(alone(end), files_of(plain), err)
+    let done = perform::<Unknown, Unknown, R, I, O, E>(rt, plain, input, out, err);
+    let told = done.tell(out);
+    close(alone(told), files_of(plain), err)
 }
 
 /// The program's end at the end of a command, over these files where they are two; of one that ended without an answer

@@ -1,14 +1,23 @@
 -- How `jb load` ends over files.
-use Rattle.std.specs.Prelude.{◌≡◌, ◌⊎◌, ◌≤◌, ℕ, List, [], Option, None, Result, Ok, Err, Some, codes}
+use Rattle.std.specs.Prelude.{◌≡◌, ◌⊎◌, ◌≤◌, ℕ, ⊤, List, [], Option, None, Result, Ok, Err, Some, codes}
 use Rattle.jb_advice.specs.declared.beside.Beside.{Beside}
 use Rattle.jb_advice.specs.declared.beside.Beside.TheVariants.{Homes, Nothing}
 use Rattle.jb_answers.specs.Faulty.{queue_fault}
-use Rattle.jb_answers.specs.Said.{Said}
+use Rattle.jb_answers.specs.Said.{said}
+use Rattle.jb_answers.specs.declared.answer.Answer.{Answer}
+use Rattle.jb_book.specs.Origin.{Begun, own_on}
+use Rattle.jb_deck.specs.Opening.{recovered_home}
 use Rattle.jb_deck.specs.declared.fault.OpenFault.{OpenFault}
 use Rattle.jb_deck.specs.declared.fault.OpenFault.TheVariants as opening
-use Rattle.jb_pair.specs.Files.{FileImage, as_image}
+use Rattle.jb_disk.specs.declared.disk.Disk.{Ghosts as Disks}
+use Rattle.jb_disk.specs.declared.file.FileDisk.{FileDisk}
+use Rattle.jb_disk.specs.declared.start.Start.{Ghosts as Starts}
+use Rattle.jb_handle.specs.declared.stopped.Stopped.{Stopped}
+use Rattle.jb_pair.specs.Files.{FileImage, as_files}
+use Rattle.jb_pair.specs.declared.image.ImageDisk.{ImageDisk}
 use Rattle.jb_io.specs.declared.putting.WriteFault.{WriteFault}
 use Rattle.jb_load.specs.Loads.{AnswersLoad}
+use Rattle.jb_load.specs.Settled.{IsOfQueue, LoadsSince}
 use Rattle.jb_load.specs.Telling.{TellsLoad}
 use Rattle.jb_load.specs.declared.fault.LoadFault.{LoadFault}
 use Rattle.jb_load.specs.declared.fault.LoadFault.TheVariants as loading
@@ -27,6 +36,8 @@ use Rattle.jb_plain.specs.Runs.{Closes}
 use Rattle.jb_plain.specs.Said.{Outputs, Tells}
 use Rattle.jb_plain.specs.Texts.{HasNoText, IsText}
 use Rattle.jb_plain.specs.declared.ended.Ended.{Ended}
+use Rattle.jb_tool.specs.declared.loaded.LoadReport.{LoadReport}
+use Rattle.jb_tool.specs.declared.loaded.LoadReport.TheVariants.{Loaded as ReportsLoaded, Text as ReportsText}
 use Rattle.jb_plain.specs.declared.fault.CommandFault.{CommandFault}
 use Rattle.jb_plain.specs.declared.fault.CommandFault.TheVariants.{Accounts, BadOption, BlockSize, DeviceFault, Memory, NeedsRecovery, NumbersSpent, Super, WriteFault as CommandWriteFault}
 
@@ -70,44 +81,76 @@ abbrev pub beside_in : ℕ → Option Refused → Beside
 beside_in homes None = Nothing
 beside_in homes (Some refused) = beside_fault homes refused.fault
 
--- what a load into an image of so many home blocks answered is reported: its lines, or its fault, and then nothing is written
-abbrev pub ReportsLoad : ℕ → Result (Loaded × FileImage) LoadFault → Outputs → Outputs → Result Ended CommandFault → Type 0
-ReportsLoad homes (Ok ended) old new end =
-    (told : Result ℕ WriteFault) × (end ≡ end_by (beside_in homes ended.0.refused) told) × TellsLoad ended.0 old.out new.out old.err new.err told
-ReportsLoad homes (Err fault) old new end = (end ≡ Err (load_fault fault)) × (new ≡ old)
+-- what a load has to say is told: its lines, or the line of its text's first fault
+abbrev pub TellsLoadReport : LoadReport → Outputs → Outputs → Result Ended CommandFault → Type 0
+TellsLoadReport (ReportsLoaded loaded homes) old new end =
+    (told : Result ℕ WriteFault) × (end ≡ end_by (beside_in homes loaded.refused) told) × TellsLoad loaded old.out new.out old.err new.err told
+TellsLoadReport (ReportsText answer) old new end = (told : Result ℕ CommandFault) × (end ≡ alone told) × Tells (said answer) old new told
 
--- a queue was loaded into an open image, as the clause of a load says of the answer, and that answer is reported
-pub record LoadsOn (options : LoadOptions) (homes : ℕ) (disk : FileImage) (queue : Queue) (old new : Outputs) (end : Result Ended CommandFault) : Type 0 where
-  pub answer : Result (Loaded × FileImage) LoadFault
-  pub loads : AnswersLoad as_image disk queue.size queue.handles options answer
-  pub told : ReportsLoad homes answer old new end
+-- what a load ended with is told, or it ended with a fault, and then nothing is written
+abbrev pub TellsLoadEnd : Result LoadReport CommandFault → Outputs → Outputs → Result Ended CommandFault → Type 0
+TellsLoadEnd (Ok report) old new end = TellsLoadReport report old new end
+TellsLoadEnd (Err fault) old new end = (end ≡ Err fault) × (new ≡ old)
 
--- the queue of a text was loaded, or the text's first fault is reported
-abbrev pub EndsOfText : Loading → ℕ → FileImage → Result Queue QueueFault → Outputs → Outputs → Result Ended CommandFault → Type 0
-EndsOfText load homes disk (Ok queue) old new end = (options : LoadOptions) × IsAskedBy load options × LoadsOn options homes disk queue old new end
-EndsOfText load homes disk (Err fault) old new end =
-    (words : Said) × (told : Result ℕ CommandFault) × (queue_fault fault ≡ Some words) × (end ≡ alone told) × Tells words old new told
+-- a load began with the disk as it stood, and its handles are those of the queue
+abbrev pub begun_on : {D : Type 0} → Disks D → D → List Stopped → Begun
+begun_on G disk queue = record {
+  is_known = Unit {0};
+  size = G.size disk;
+  count = G.count disk;
+  faults = G.faults disk;
+  own = own_on (G.size disk) (G.count disk) (G.newest disk);
+  homes = recovered_home (G.size disk) (G.count disk) (G.newest disk);
+  since = G.moment disk;
+  left = λ c. Unit {0};
+  stops = IsOfQueue queue;
+}
 
--- the image was opened, in blocks of the size that its first bytes say, with so many home blocks after the journal that they say; then the text was not had, and nothing was done, or it was,
--- and what it holds is loaded or refused. Nothing is supposed of what a file holds: of an image's content nothing follows
-pub record EndsOpened (load : Loading) (old new : Outputs) (end : Result Ended CommandFault) : Type 0 where
-  pub disk : FileImage
-  pub homes : ℕ
-  pub opened : IsOpened load.journal disk homes
-  pub ends : ((fault : CommandFault) × (end ≡ Err fault) × HasNoText load.file None fault × (new ≡ old))
-      ⊎ ((text : List ℕ) × IsText None text × EndsOfText load homes disk (queue_of text) old new end)
+module _ {S T : Type 0} {start : Starts S} {other : Starts T} where
+  -- a queue was loaded into an open image, and this is the image then: the groups that the load counts stand in its journal, if its files
+  -- are honest
+  pub record LoadsOn (options : LoadOptions) (homes : ℕ) (disk : ImageDisk (FileDisk S start) (FileDisk T other)) (queue : Queue)
+      (new : ImageDisk (FileDisk S start) (FileDisk T other)) (end : Result LoadReport CommandFault) : Type 0 where
+    pub loaded : Loaded
+    pub answers : AnswersLoad as_files disk queue.size queue.handles options (Ok (loaded, new))
+    pub since : LoadsSince as_files (begun_on as_files disk queue.handles) disk queue.handles options.threads loaded new
+    pub told : end ≡ Ok (ReportsLoaded loaded homes)
+
+  -- a queue was loaded into an open image; or there is no answer, for this, and the image is lost
+  abbrev pub LoadsQueue : LoadOptions → ℕ → ImageDisk (FileDisk S start) (FileDisk T other) → Queue → Option (ImageDisk (FileDisk S start) (FileDisk T other)) → Result LoadReport CommandFault → Type 0
+  LoadsQueue options homes disk queue None end =
+      (fault : LoadFault) × AnswersLoad as_files disk queue.size queue.handles options (Err fault) × (end ≡ Err (load_fault fault))
+  LoadsQueue options homes disk queue (Some new) end = LoadsOn options homes disk queue new end
+
+  -- the queue of a text was loaded; or the text's first fault is told, and the image is as it was opened
+  abbrev pub LoadsRead : LoadOptions → ℕ → ImageDisk (FileDisk S start) (FileDisk T other) → Result Queue QueueFault → Option (ImageDisk (FileDisk S start) (FileDisk T other)) → Result LoadReport CommandFault → Type 0
+  LoadsRead options homes disk (Ok queue) image end = LoadsQueue options homes disk queue image end
+  LoadsRead options homes disk (Err fault) image end =
+      (image ≡ Some disk) × ((answer : Answer) × (queue_fault fault ≡ Some (said answer)) × (end ≡ Ok (ReportsText answer)))
+
+  -- the text of the file of this name was not had, or there was no memory for its fault, and the image is as it was opened; or it was had,
+  -- and what it holds is loaded or refused
+  abbrev pub LoadsText : List ℕ → LoadOptions → ℕ → ImageDisk (FileDisk S start) (FileDisk T other) → Option (ImageDisk (FileDisk S start) (FileDisk T other)) → Result LoadReport CommandFault → Type 0
+  LoadsText name options homes disk image end =
+      ((fault : CommandFault) × (image ≡ Some disk) × (end ≡ Err fault) × HasNoText name None fault)
+      ⊎ ((text : List ℕ) × IsText None text × LoadsRead options homes disk (queue_of text) image end)
 
 -- the image was not opened: the number of threads is bad, or it is not and the image was not read
 abbrev pub IsUnopened : Loading → CommandFault → Type 0
 IsUnopened load (BadOption name) = (name.now ≡ codes "--threads") × (HasThreads load → ⊥)
 IsUnopened load fault = HasThreads load × IsShut load.image load.journal fault
 
--- the image was not opened, and nothing was done; or it was, and the text came next
-abbrev pub EndsOfLoad : Loading → Outputs → Outputs → Result Ended CommandFault → Type 0
-EndsOfLoad load old new end =
-    ((fault : CommandFault) × (end ≡ Err fault) × IsUnopened load fault × (new ≡ old)) ⊎ (HasThreads load × EndsOpened load old new end)
+module _ {S T : Type 0} {start : Starts S} {other : Starts T} where
+  -- the image was not opened, and nothing was done; or it was, in blocks of the size that its first bytes say, with so many home blocks
+  -- after the journal that they say, and the text came next
+  abbrev pub EndsOfLoad : Loading → Option (ImageDisk (FileDisk S start) (FileDisk T other)) → Result LoadReport CommandFault → Type 0
+  EndsOfLoad load image end =
+      ((fault : CommandFault) × (image ≡ None) × (end ≡ Err fault) × IsUnopened load fault)
+      ⊎ (HasThreads load × ((disk : ImageDisk (FileDisk S start) (FileDisk T other)) × (homes : ℕ) × IsOpened load.journal disk homes
+      × ((options : LoadOptions) × IsAskedBy load options × LoadsText load.file options homes disk image end)))
 
 -- the whole run of a load
 abbrev pub RunsLoad : Loading → Outputs → Outputs → Ended → Type 0
 RunsLoad load old new ended =
-    (end : Result Ended CommandFault) × (told : Outputs) × EndsOfLoad load old told end × Closes (names_with load.image load.journal) end told new ended
+    (image : Option FileImage) × (end : Result LoadReport CommandFault) × EndsOfLoad load image end
+    × ((told : Result Ended CommandFault) × (mid : Outputs) × TellsLoadEnd end old mid told × Closes (names_with load.image load.journal) told mid new ended)

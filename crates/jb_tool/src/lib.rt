@@ -4,9 +4,13 @@
 
 mod command_line;
 mod load;
+mod loaded;
 
 pub use command_line::run;
 pub use jb_plain::{
-    CommandFault, Ended, Plain, TEXT_LIMIT, TwoFiles, dump_from, format_on, perform, recover_on,
-    refuse_words, renumber_on, run_plain, widen_on,
+    CommandFault, Done, Ended, Plain, Report, TEXT_LIMIT, TwoFiles, cat_file, dump_from,
+    format_file, perform, recover_file, recover_on, refuse_words, renumber_file, renumber_on,
+    run_plain, widen_file, widen_on,
 };
+pub use load::load_files;
+pub use loaded::{LoadDone, LoadReport};

@@ -1,18 +1,18 @@
 //! `jb load`: the handles of a queue text, run by threads and committed to an image.
-ghost use Rattle.std.specs.Prelude.{◌≡◌, ◌≤◌, ◌↔◌, Ok, IsSome, IfSome};
+ghost use Rattle.std.specs.Prelude.{◌≡◌, ◌≤◌, ◌↔◌, IsSome, IfSome};
 ghost use Rattle.jb_queue.specs.QueueLines.{queue_in};
 ghost use Rattle.jb_words.specs.Wanted.{load_said};
-ghost use Rattle.jb_tool.specs.Load.{EndsOfLoad, HasThreads, IsAskedBy, LoadsOn};
-ghost use Rattle.jb_tool.specs.Load.{ReportsLoad, RunsLoad, beside_in, load_fault};
+ghost use Rattle.jb_tool.specs.Load.{EndsOfLoad, HasThreads, IsAskedBy, LoadsQueue, LoadsText};
+ghost use Rattle.jb_tool.specs.Load.{RunsLoad, load_fault};
 
-use jb_advice::Beside;
+use crate::loaded::{LoadDone, LoadReport};
 use jb_answers::fault_answer;
 use jb_block::Stamp;
 use jb_deck::OpenFault;
-use jb_disk::FixedClock;
-use jb_load::{HandleFault, LoadFault, LoadOptions, Loaded, Refused, load_on, tell_loaded};
+use jb_disk::{FileDisk, FixedClock, Start, Unknown};
+use jb_load::{LoadFault, LoadOptions, load_on};
 use jb_pair::ImageDisk;
-use jb_plain::{CommandFault, Ended, Opening, TwoFiles, close, open_counted, read_file, tell};
+use jb_plain::{CommandFault, Ended, Opening, TwoFiles, close, open_counted, read_file};
 use jb_queue::{QueueLines, read_lines};
 use jb_words::LoadWords;
 use std::fs::File;
@@ -35,60 +35,99 @@ pub(crate) fn run_load<
     ensures runs { RunsLoad (load_said load.entry) (record { out = O.contents out.old; err = E.contents err.old })
         (record { out = O.contents out.new; err = E.contents err.new }) result }
 {
-    let end = load_files(rt, load, out, err);
-    close(end, TwoFiles::of(load.image, load.journal), err)
+    let done = load_files::<Unknown, Unknown, R>(rt, load);
+    let told = done.tell(out, err);
+    close(told, TwoFiles::of(load.image, load.journal), err)
 }
 
-/// Loads the queue text of one file into the image that another one is, and tells what came of it.
+/// Loads the queue text of one file into the image that another one is.
 ///
 /// # Errors
 /// `CommandFault::BadOption` where `--threads` is not from 1 to 64, before any file is looked at; those of
-/// `open_counted` and of `read_file`; and those of `load_queue`. Nothing was written to the outputs then, but for
-/// `CommandFault::WriteFault`.
-fn load_files<
+/// `open_counted` and of `read_file`; and those of `load_on`, after which the image is lost.
+pub fn load_files<
     'a,
+    S: Start + Send,
+    T: Start + Send,
     R: Files<File = File> + AllocGlobal + Threads + Wait + Clock + Sync,
-    O: Write,
-    E: Write,
->(rt: &R, load: LoadWords<'a>, out: &mut O, err: &mut E) -> Result<Ended, CommandFault<'a>>
-    ensures ends { EndsOfLoad (load_said load.entry) (record { out = O.contents out.old; err = E.contents err.old })
-        (record { out = O.contents out.new; err = E.contents err.new }) result }
+>(rt: &R, load: LoadWords<'a>) -> LoadDone<'a, S, T>
+    ensures ends { EndsOfLoad (load_said load.entry) result.image result.end }
 {
     let Some(options) = load_options(load) else {
-        return Err(CommandFault::BadOption("--threads"));
+        return LoadDone {
+            image: None,
+            end: Err(CommandFault::BadOption("--threads")),
+        };
     };
-    let (disk, homes) = open_counted(rt, load.image, load.journal, Opening::Change)?;
-    let text = read_file(rt, load.file)?;
-    match read_lines(rt.alloc(), text) {
-        Ok(queue) => load_queue(rt, disk, homes, load.stamp, &queue, options, out, err),
+    let (disk, homes) = match open_counted(rt, load.image, load.journal, Opening::Change) {
+        Ok(opened) => opened,
         Err(fault) => {
-            // no line is written while an image is open
-            drop(disk);
-            let answer = fault_answer(rt.alloc(), fault)?;
-            let status = tell(&answer, out, err)?;
-            Ok(Ended::with_status(status))
+            return LoadDone {
+                image: None,
+                end: Err(fault),
+            };
         }
+    };
+    load_text(rt, load, disk, homes, options)
+}
+
+/// Loads the queue text of a file into an open image of so many home blocks.
+///
+/// # Errors
+/// Those of `read_file`, and those of `load_on`, after which the image is lost.
+fn load_text<
+    'a,
+    S: Start + Send,
+    T: Start + Send,
+    R: Files<File = File> + AllocGlobal + Threads + Wait + Clock + Sync,
+>(
+    rt: &R,
+    load: LoadWords<'a>,
+    disk: ImageDisk<FileDisk<S>, FileDisk<T>>,
+    homes: u64,
+    options: LoadOptions,
+) -> LoadDone<'a, S, T>
+    requires threads { (1 ≤ options.threads) × (options.threads ≤ 64) }
+    ensures loads { LoadsText (load_said load.entry).file options homes disk result.image result.end }
+{
+    let text = match read_file(rt, load.file) {
+        Ok(text) => text,
+        Err(fault) => {
+            return LoadDone {
+                image: Some(disk),
+                end: Err(fault),
+            };
+        }
+    };
+    match read_lines(rt.alloc(), text) {
+        Ok(queue) => load_queue(rt, disk, homes, load.stamp, &queue, options),
+        Err(fault) => match fault_answer(rt.alloc(), fault) {
+            Ok(answer) => LoadDone {
+                image: Some(disk),
+                end: Ok(LoadReport::Text(answer)),
+            },
+            Err(_) => LoadDone {
+                image: Some(disk),
+                end: Err(CommandFault::Memory),
+            },
+        },
     }
 }
 
-/// Loads a queue into an image of so many home blocks with this stamp on each commit, and tells what came of it.
+/// Loads a queue into an image of so many home blocks with this stamp on each commit.
 ///
 /// # Errors
-/// Those of `load_on`, and `CommandFault::WriteFault` where standard output took only the beginning of its line.
-fn load_queue<'a, R: AllocGlobal + Threads + Wait + Clock + Sync, O: Write, E: Write>(
+/// Those of `load_on`, after which the image is lost.
+fn load_queue<'a, S: Start + Send, T: Start + Send, R: AllocGlobal + Threads + Wait + Clock + Sync>(
     rt: &R,
-    disk: ImageDisk,
+    disk: ImageDisk<FileDisk<S>, FileDisk<T>>,
     homes: u64,
     stamp: u64,
     queue: &QueueLines,
     options: LoadOptions,
-    out: &mut O,
-    err: &mut E,
-) -> Result<Ended, CommandFault<'a>>
+) -> LoadDone<'a, S, T>
     requires threads { (1 ≤ options.threads) × (options.threads ≤ 64) }
-    ensures loads { LoadsOn options homes disk (queue_in queue.now)
-        (record { out = O.contents out.old; err = E.contents err.old })
-        (record { out = O.contents out.new; err = E.contents err.new }) result }
+    ensures loads { LoadsQueue options homes disk (queue_in queue.now) result.image result.end }
 {
     let clock = FixedClock {
         stamp: Stamp {
@@ -96,7 +135,7 @@ fn load_queue<'a, R: AllocGlobal + Threads + Wait + Clock + Sync, O: Write, E: W
             nsec: 0,
         },
     };
-    let loaded = load_on::<ImageDisk, FixedClock, R, Brand>(
+    let loaded = load_on::<ImageDisk<FileDisk<S>, FileDisk<T>>, FixedClock, R, Brand>(
         rt,
         rt.alloc(),
         disk,
@@ -105,47 +144,14 @@ fn load_queue<'a, R: AllocGlobal + Threads + Wait + Clock + Sync, O: Write, E: W
         options,
     );
     match loaded {
-        Ok(ended) => tell_ended(ended, homes, out, err),
-        Err(fault) => Err(fault_of(fault)),
-    }
-}
-
-/// Closes an image of so many home blocks, and tells what came of a load into it.
-///
-/// # Errors
-/// `CommandFault::WriteFault` where standard output took only the beginning of its line.
-fn tell_ended<'a, O: Write, E: Write>(
-    ended: (Loaded, ImageDisk),
-    homes: u64,
-    out: &mut O,
-    err: &mut E,
-) -> Result<Ended, CommandFault<'a>>
-    ensures reports { ReportsLoad homes (Ok ended) (record { out = O.contents out.old; err = E.contents err.old })
-        (record { out = O.contents out.new; err = E.contents err.new }) result }
-{
-    let (loaded, disk) = ended;
-    // no line is written while an image is open
-    drop(disk);
-    let status = tell_loaded(&loaded, out, err)?;
-    Ok(Ended {
-        status,
-        beside: beside_of(&loaded, homes),
-    })
-}
-
-/// What a second line says of a load into an image of so many home blocks beside the words of its first line's row:
-/// their number, where a handle was refused for want of one.
-fn beside_of(loaded: &Loaded, homes: u64) -> Beside
-    ensures { result ≡ beside_in homes loaded.now.refused }
-{
-    match loaded.refused {
-        Some(
-            Refused {
-                fault: HandleFault::OutOfRange(_),
-                ..
-            },
-        ) => Beside::Homes(homes),
-        _ => Beside::Nothing,
+        Ok((loaded, disk)) => LoadDone {
+            image: Some(disk),
+            end: Ok(LoadReport::Loaded(loaded, homes)),
+        },
+        Err(fault) => LoadDone {
+            image: None,
+            end: Err(fault_of(fault)),
+        },
     }
 }
 

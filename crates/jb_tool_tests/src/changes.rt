@@ -5,7 +5,8 @@ use crate::files::{Front, WHOLE, check_file, check_front, front_of, remove, writ
 use crate::runs::{End, Host, check_run};
 use jb_block::{BlockSize, Width};
 use jb_disk::{MemoryDisk, OneFaultDisk};
-use jb_tool::{CommandFault, format_on, renumber_on, widen_on};
+use jb_front::format;
+use jb_tool::{CommandFault, renumber_on, widen_on};
 use std::alloc::Global;
 use std::process::Abort;
 
@@ -116,8 +117,7 @@ const MOST: usize = 60;
 /// A disk with a new journal, of which the call of this number fails.
 fn failing(rt: &impl Abort, alloc: Global, call: usize) -> OneFaultDisk<MemoryDisk> {
     let mut disk = MemoryDisk::new(alloc, BlockSize::OneKib, 49).expect(rt, "memory");
-    let mut out = Vec::new(alloc);
-    let made = format_on(&mut disk, 33, 0, [0; 16], Width::Narrow, &mut out);
+    let made = format(&mut disk, 33, 0, [0; 16], Width::Narrow);
     check(rt, made.is_ok(), "it is not made");
     OneFaultDisk::of(disk, call as u64)
 }
@@ -134,9 +134,13 @@ fn is_changed(
     let mut disk = failing(rt, alloc, call);
     let mut out = Vec::new(alloc);
     let answer = if widens {
-        widen_on(&mut disk, &mut out)
+        widen_on(&mut disk)
     } else {
-        renumber_on(&mut disk, &mut out)
+        renumber_on(&mut disk)
+    };
+    let answer = match answer {
+        Ok(report) => report.tell(&mut out),
+        Err(fault) => Err(fault),
     };
     let met = matches!(answer, Err(CommandFault::DeviceFault));
     let wanted = if met { "" } else { line };

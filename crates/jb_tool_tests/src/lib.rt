@@ -12,6 +12,8 @@ mod checks;
 #[cfg(test)]
 mod files;
 #[cfg(test)]
+mod given_back;
+#[cfg(test)]
 mod homes;
 #[cfg(test)]
 mod images;

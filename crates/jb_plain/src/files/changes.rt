@@ -1,44 +1,64 @@
-//! Images that are changed. Each is closed before the line of its command is written.
-ghost use Rattle.jb_plain.specs.Files.{EndsOfRenumber, EndsOfWiden};
+//! Images whose journal is changed.
+ghost use Rattle.jb_front.specs.Renumbering.{IsRenumbering, Renumbers, RenumbersAs};
+ghost use Rattle.jb_front.specs.Widening.{IsWidened, Widens, WidensAs};
+ghost use Rattle.jb_plain.specs.Files.{EndsOfChange};
+ghost use Rattle.jb_plain.specs.declared.report.Report.TheVariants.{Renumbered as ReportsRenumbered};
+ghost use Rattle.jb_plain.specs.declared.report.Report.TheVariants.{Widened as ReportsWidened};
 
-use crate::fault::CommandFault;
-use crate::files::opening::open_disk;
-use crate::streams::{tell_renumbering, tell_widening};
-use jb_front::{renumber, widen};
+use crate::done::Done;
+use crate::files::opening::{Opening, open_counted};
+use crate::streams::{renumber_on, widen_on};
+use jb_disk::Start;
 use std::fs::File;
-use std::io::Write;
 use std::rt::Files;
 
-/// Gives the clean journal at the front of the file of this name its first number again, and tells what came of it.
+/// Gives the clean journal at the front of the file of this name its first number again.
 ///
 /// # Errors
-/// Those of `open_disk`, and those of `renumber_on`.
-pub(crate) fn renumber_file<'a, R: Files<File = File> + AllocGlobal, O: Write>(
+/// Those of `open_counted`, and those of `renumber_on`.
+pub fn renumber_file<'a, S: Start, T: Start, R: Files<File = File> + AllocGlobal>(
     rt: &R,
     image: &'a str,
-    out: &mut O,
-) -> Result<u8, CommandFault<'a>>
-    ensures ends { EndsOfRenumber image.entry.now (O.contents out.old) (O.contents out.new) result }
+) -> Done<'a, S, T>
+    ensures ends { EndsOfChange Renumbers IsRenumbering RenumbersAs ReportsRenumbered image.entry.now result.image
+        result.end }
 {
-    let mut disk = open_disk(rt, image)?;
-    let answer = renumber(&mut disk);
-    drop(disk);
-    tell_renumbering(answer, out)
+    match open_counted(rt, image, None, Opening::Change) {
+        Ok((mut disk, _homes)) => {
+            let end = renumber_on(&mut disk);
+            Done {
+                image: Some(disk),
+                end,
+            }
+        }
+        Err(fault) => Done {
+            image: None,
+            end: Err(fault),
+        },
+    }
 }
 
-/// Gives the clean journal at the front of the file of this name block numbers of 64 bits, and tells what came of it.
+/// Gives the clean journal at the front of the file of this name block numbers of 64 bits.
 ///
 /// # Errors
-/// Those of `open_disk`, and those of `widen_on`.
-pub(crate) fn widen_file<'a, R: Files<File = File> + AllocGlobal, O: Write>(
+/// Those of `open_counted`, and those of `widen_on`.
+pub fn widen_file<'a, S: Start, T: Start, R: Files<File = File> + AllocGlobal>(
     rt: &R,
     image: &'a str,
-    out: &mut O,
-) -> Result<u8, CommandFault<'a>>
-    ensures ends { EndsOfWiden image.entry.now (O.contents out.old) (O.contents out.new) result }
+) -> Done<'a, S, T>
+    ensures ends { EndsOfChange Widens IsWidened WidensAs ReportsWidened image.entry.now result.image result.end }
 {
-    let mut disk = open_disk(rt, image)?;
-    let answer = widen(&mut disk);
-    drop(disk);
-    tell_widening(answer, out)
+    match open_counted(rt, image, None, Opening::Change) {
+        Ok((mut disk, _homes)) => {
+            let end = widen_on(&mut disk);
+            Done {
+                image: Some(disk),
+                end,
+            }
+        }
+        Err(fault) => Done {
+            image: None,
+            end: Err(fault),
+        },
+    }
 }

@@ -2,10 +2,12 @@
 ghost use Rattle.jb_words.specs.Named.{cat_said};
 ghost use Rattle.jb_plain.specs.Placed.{EndsOfCat};
 
-use crate::fault::CommandFault;
+use crate::done::Done;
 use crate::files::opening::Opening;
 use crate::files::placed::open_placed;
+use crate::report::status_end;
 use crate::streams::cat_on;
+use jb_disk::Start;
 use jb_words::CatOptions;
 use std::fs::File;
 use std::io::Write;
@@ -15,16 +17,27 @@ use std::rt::Files;
 ///
 /// # Errors
 /// Those of `open_placed`, and those of `cat_on`.
-pub(crate) fn cat_file<'a, R: Files<File = File> + AllocGlobal, O: Write>(
+pub fn cat_file<'a, S: Start, T: Start, R: Files<File = File> + AllocGlobal, O: Write>(
     rt: &R,
     image: &'a str,
     options: CatOptions<'a>,
     out: &mut O,
-) -> Result<u8, CommandFault<'a>>
-    ensures ends { EndsOfCat image.entry.now (cat_said options.entry) (O.contents out.old) (O.contents out.new) result }
+) -> Done<'a, S, T>
+    ensures ends { EndsOfCat image.entry.now (cat_said options.entry) (O.contents out.old) (O.contents out.new)
+        result.image result.end }
 {
-    let (journal, extents) = (options.journal, options.extents);
-    let (mut disk, homes) = open_placed(rt, image, journal, extents, Opening::Read)?;
     let (home, count, hex) = (options.home, options.count, options.hex);
-    cat_on(rt.alloc(), &mut disk, home, count, hex, Some(homes), out)
+    match open_placed(rt, image, options.journal, options.extents, Opening::Read) {
+        Ok((mut disk, homes)) => {
+            let told = cat_on(rt.alloc(), &mut disk, home, count, hex, Some(homes), out);
+            Done {
+                image: Some(disk),
+                end: status_end(told),
+            }
+        }
+        Err(fault) => Done {
+            image: None,
+            end: Err(fault),
+        },
+    }
 }

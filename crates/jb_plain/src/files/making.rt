@@ -1,106 +1,111 @@
 //! Images that are made.
-ghost use Rattle.std.specs.Prelude.{◌≡◌, ◌↔◌, IfErr, IfOk, IfSome, IsSome};
-ghost use Rattle.jb_block.specs.Size.{bytes_of};
-ghost use Rattle.jb_block.specs.Width.{is_wide};
-ghost use Rattle.jb_super.specs.Features.{of_width};
-ghost use Rattle.jb_super.specs.Geometry.{limit_of as most_of};
-ghost use Rattle.jb_super.specs.Superblock.{new_super};
+ghost use Rattle.std.specs.Prelude.{◌≡◌, ◌↔◌, IfSome, IsSome};
 ghost use Rattle.jb_image.specs.Making.{MakesImage};
-ghost use Rattle.jb_words.specs.Named.{Options, options_said};
-ghost use Rattle.jb_plain.specs.Files.{EndsOfFormat, HasFormatted, IsUnmade};
-ghost use Rattle.jb_plain.specs.Options.{AreGood, IsJournalLength};
+ghost use Rattle.jb_words.specs.Named.{options_said};
+ghost use Rattle.jb_plain.specs.Files.{EndsOfFormat, EndsOfMaking, IsUnnamed};
+ghost use Rattle.jb_plain.specs.Format.{new_limit_of};
+ghost use Rattle.jb_plain.specs.Options.{IsJournalLength};
 
+use crate::done::Done;
 use crate::fault::CommandFault;
 use crate::options::new_file;
-use crate::streams::{new_limit, tell_format};
-use jb_front::FormatFault;
-use jb_image::{Geometry, ImageFault, MakeFault, create_image};
+use crate::report::Report;
+use jb_disk::Start;
+use jb_image::{Geometry, ImageFault, MakeFault, create_holding};
+use jb_pair::ImageDisk;
+use jb_super::Super;
 use jb_words::FormatOptions;
 use std::fs::File;
-use std::io::Write;
 use std::rt::Files;
 
 /// The number of the system's error where a file is there already (`EEXIST`).
 const EXISTS: i32 = 17;
 
 /// Makes the image that the options ask for, in a new file of this name, whole or not at all: a new journal, and home
-/// blocks of zeros after it. Tells the most log blocks of a transaction, and gives status 0. The file is closed before
-/// the line is written.
+/// blocks of zeros after it. Reports the most log blocks of a transaction.
 ///
 /// # Errors
 /// `CommandFault::BadOption` where an option is bad, and `CommandFault::Geometry` where a journal may not have so
 /// many blocks, before any file is looked at; `CommandFault::CannotMake` where the file is there already, another
 /// process makes it, or the system refuses it; `CommandFault::Memory` where memory ran out;
-/// `CommandFault::DeviceFault` where the journal was not written. There is no new file then. Last
-/// `CommandFault::WriteFault`, after which the image is there.
-pub(crate) fn format_file<'a, R: Files<File = File> + AllocGlobal, O: Write>(
+/// `CommandFault::DeviceFault` where the journal was not written. There is no new file then.
+pub fn format_file<'a, S: Start, T: Start, R: Files<File = File> + AllocGlobal>(
     rt: &R,
     image: &'a str,
     options: FormatOptions<'_>,
-    out: &mut O,
-) -> Result<u8, CommandFault<'a>>
-    ensures ends { EndsOfFormat image.entry.now (options_said options.entry) (O.contents out.old) (O.contents out.new)
-        result }
+) -> Done<'a, S, T>
+    ensures ends { EndsOfFormat image.entry.now (options_said options.entry) result.image result.end }
 {
     let new = match new_file(options) {
         Ok(new) => new,
-        Err(name) => return Err(CommandFault::BadOption(name)),
+        Err(name) => {
+            return Done {
+                image: None,
+                end: Err(CommandFault::BadOption(name)),
+            };
+        }
     };
     let Some(limit) = limit_of(new) else {
-        return Err(CommandFault::Geometry);
+        return Done {
+            image: None,
+            end: Err(CommandFault::Geometry),
+        };
     };
-    let answer = match make_file(rt, image, new) {
-        Ok(answer) => answer,
-        Err(fault) => return Err(fault),
-    };
-    tell_format(limit, answer, out)
+    make_file(rt, image, new, limit)
 }
 
 /// The most log blocks of a transaction of a new journal, or `None` where a journal may not have so many blocks.
 fn limit_of(new: Geometry) -> Option<u32>
     ensures good { IsSome result ↔ IsJournalLength new.journal }
-    ensures value { IfSome result (λ limit. limit ≡ most_of
-        (of_width (is_wide new.width) (new_super (bytes_of new.block_size) new.journal new.max_transaction new.uuid))) }
+    ensures value { IfSome result (λ limit. limit ≡ new_limit_of new) }
 {
-    new_limit(
-        new.block_size,
-        new.journal,
-        new.max_transaction,
-        new.uuid,
-        new.width,
-    )
+    let Geometry {
+        block_size,
+        journal,
+        max_transaction,
+        uuid,
+        width,
+        ..
+    } = new;
+    Some(Super::new(block_size, journal, max_transaction, uuid, width)?.limit())
 }
 
-/// Makes an image and closes it; says how its journal was formatted.
+/// Makes an image whose journal has this limit.
 ///
 /// # Errors
 /// `CommandFault::CannotMake` where the file is there already, another process makes it, or the system refuses it;
-/// `CommandFault::Memory` where memory ran out.
-fn make_file<'a, R: Files<File = File> + AllocGlobal>(
+/// `CommandFault::Memory` where memory ran out; `CommandFault::DeviceFault` where the journal was not written.
+fn make_file<'a, S: Start, T: Start, R: Files<File = File> + AllocGlobal>(
     rt: &R,
     name: &'a str,
     geometry: Geometry,
-) -> Result<Result<(), FormatFault>, CommandFault<'a>>
-    requires { MakesImage geometry }
-    ensures made { IfOk result (HasFormatted geometry) }
-    ensures unmade { IfErr result (λ fault. (o : Options) → AreGood o → IsJournalLength o.journal
-        → IsUnmade name.entry.now o fault) }
+    limit: u32,
+) -> Done<'a, S, T>
+    requires geometry { MakesImage geometry }
+    requires limit { limit ≡ new_limit_of geometry }
+    ensures ends { EndsOfMaking name.entry.now geometry result.image result.end }
 {
-    match create_image(rt, name, geometry) {
+    let fault = match create_holding(rt, name, geometry) {
         Ok(disk) => {
-            drop(disk);
-            Ok(Ok(()))
+            return Done {
+                image: Some(ImageDisk::One(disk)),
+                end: Ok(Report::Formatted(limit)),
+            };
         }
-        Err(MakeFault::DeviceFault) => Ok(Err(FormatFault::DeviceFault)),
         Err(MakeFault::Geometry) => unreachable!(),
-        Err(MakeFault::Exists) => Err(CommandFault::CannotMake(name, Some(EXISTS))),
-        Err(MakeFault::Image(fault)) => Err(unnamed(name, fault)),
+        Err(MakeFault::DeviceFault) => CommandFault::DeviceFault,
+        Err(MakeFault::Exists) => CommandFault::CannotMake(name, Some(EXISTS)),
+        Err(MakeFault::Image(fault)) => unnamed(name, fault),
+    };
+    Done {
+        image: None,
+        end: Err(fault),
     }
 }
 
-/// Why the file of this name was not made.
+/// Why the system did not make the file of this name.
 fn unnamed<'a>(name: &'a str, fault: ImageFault) -> CommandFault<'a>
-    ensures { (o : Options) → AreGood o → IsJournalLength o.journal → IsUnmade name.entry.now o result }
+    ensures { IsUnnamed name.entry.now result }
 {
     match fault {
         ImageFault::System(fault) => CommandFault::CannotMake(name, fault.code),

@@ -1,13 +1,12 @@
 //! Images that are there: opened, locked, and used as disks.
 ghost use Rattle.std.specs.Prelude.{◌≡◌, take, option_map, Some, None, IfErr, IfOk, IfSome};
-ghost use Rattle.jb_disk.specs.File.{size_of};
+ghost use Rattle.jb_disk.specs.File.{IsMeasured, size_of};
 ghost use Rattle.jb_front.specs.Front.{homes_in};
-ghost use Rattle.jb_pair.specs.Files.{as_image};
-ghost use Rattle.jb_plain.specs.Files.{IsOpened, IsShut, IsUnread, SaysSize, SaysSuper};
+ghost use Rattle.jb_plain.specs.Files.{IsOpened, IsShut, IsUnread, SaysSuper};
 
 use crate::fault::CommandFault;
 use jb_block::BlockSize;
-use jb_disk::{Disk, FileDisk};
+use jb_disk::{Disk, FileDisk, Start};
 use jb_front::homes_behind;
 pub use jb_image::Opening;
 use jb_image::{ImageFault, open_file};
@@ -24,35 +23,21 @@ use std::{fs, io};
 /// How many bytes of a file are read as a superblock.
 const FRONT: usize = 1024;
 
-/// The file of this name, as a disk of the block size that its first bytes say.
-///
-/// # Errors
-/// Those of `open_image`; `CommandFault::CannotRead` where the file cannot be read; `CommandFault::Super` where its
-/// first bytes are no superblock; `CommandFault::Memory` where memory ran out.
-pub(crate) fn open_disk<'a, R: Files<File = File> + AllocGlobal>(
-    rt: &R,
-    name: &'a str,
-) -> Result<ImageDisk, CommandFault<'a>>
-    ensures unread { IfErr result (IsUnread name.entry.now) }
-    ensures size { IfOk result (λ disk. SaysSize (as_image.size disk)) }
-{
-    let (disk, _) = open_one(rt, name, Opening::Change)?;
-    Ok(disk)
-}
-
 /// The image of this name as a disk, with the number of its home blocks: those after the journal's, as many as the
 /// journal's first bytes say, and of a journal with block numbers of 32 bits 2^32 at most. The journal is the front of
 /// that file, or a file of its own.
 ///
 /// # Errors
-/// Those of `open_disk` for each file; `CommandFault::SameFile` where the two are one file; where the journal's own file has
-/// fewer blocks than the journal, `CommandFault::Super` with `Geometry`, and where it has more, `CommandFault::JournalLength`.
-pub fn open_counted<'a, R: Files<File = File> + AllocGlobal>(
+/// Those of `open_image` for each file; `CommandFault::CannotRead` where the file cannot be read; `CommandFault::Super`
+/// where its first bytes are no superblock; `CommandFault::Memory` where memory ran out; `CommandFault::SameFile` where
+/// the two are one file; where the journal's own file has fewer blocks than the journal, `CommandFault::Super` with
+/// `Geometry`, and where it has more, `CommandFault::JournalLength`.
+pub fn open_counted<'a, S: Start, T: Start, R: Files<File = File> + AllocGlobal>(
     rt: &R,
     name: &'a str,
     journal: Option<&'a str>,
     opening: Opening,
-) -> Result<(ImageDisk, u64), CommandFault<'a>>
+) -> Result<(ImageDisk<FileDisk<S>, FileDisk<T>>, u64), CommandFault<'a>>
     ensures shut { IfErr result (IsShut name.entry.now (option_map (λ word. word.now) journal.entry)) }
     ensures opened { IfOk result (λ opened. IsOpened (option_map (λ word. word.now) journal.entry) opened.0 opened.1) }
 {
@@ -65,12 +50,12 @@ pub fn open_counted<'a, R: Files<File = File> + AllocGlobal>(
 /// The file of this name as a disk with a journal at its front, and the number of its home blocks.
 ///
 /// # Errors
-/// Those of `open_disk`.
-fn open_one<'a, R: Files<File = File> + AllocGlobal>(
+/// As those of `open_counted`.
+fn open_one<'a, S: Start, T: Start, R: Files<File = File> + AllocGlobal>(
     rt: &R,
     name: &'a str,
     opening: Opening,
-) -> Result<(ImageDisk, u64), CommandFault<'a>>
+) -> Result<(ImageDisk<FileDisk<S>, FileDisk<T>>, u64), CommandFault<'a>>
     ensures unread { IfErr result (IsUnread name.entry.now) }
     ensures opened { IfOk result (λ opened. IsOpened None opened.0 opened.1) }
 {
@@ -88,12 +73,12 @@ fn open_one<'a, R: Files<File = File> + AllocGlobal>(
 ///
 /// # Errors
 /// Those of `open_counted`.
-fn open_two<'a, R: Files<File = File> + AllocGlobal>(
+fn open_two<'a, S: Start, T: Start, R: Files<File = File> + AllocGlobal>(
     rt: &R,
     name: &'a str,
     journal: &'a str,
     opening: Opening,
-) -> Result<(ImageDisk, u64), CommandFault<'a>>
+) -> Result<(ImageDisk<FileDisk<S>, FileDisk<T>>, u64), CommandFault<'a>>
     ensures shut { IfErr result (IsShut name.entry.now (Some journal.entry.now)) }
     ensures opened { IfOk result (λ opened. IsOpened (Some journal.entry.now) opened.0 opened.1) }
 {
@@ -165,15 +150,16 @@ fn super_of<'a, R: Read>(
 ///
 /// # Errors
 /// `CommandFault::CannotRead` where the system does not give the file's end.
-pub(crate) fn disk_of<'a>(
+pub(crate) fn disk_of<'a, S: Start>(
     file: File,
     size: BlockSize,
     name: &'a str,
-) -> Result<FileDisk, CommandFault<'a>>
+) -> Result<FileDisk<S>, CommandFault<'a>>
     ensures unread { IfErr result (IsUnread name.entry.now) }
     ensures size { IfOk result (λ disk. size_of disk ≡ size) }
+    ensures measured { IfOk result IsMeasured }
 {
-    match FileDisk::of(file, size) {
+    match FileDisk::<S>::holding(file, size) {
         Ok(disk) => Ok(disk),
         Err(_) => Err(CommandFault::CannotRead(name, None)),
     }

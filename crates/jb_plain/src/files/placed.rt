@@ -1,6 +1,6 @@
 //! Images whose journal stands at the front, in a file of its own, or within the home blocks.
 ghost use Rattle.std.specs.Prelude.{◌≡◌, option_map, None, IfErr, IfOk, IfSome};
-ghost use Rattle.jb_disk.specs.File.{size_of};
+ghost use Rattle.jb_disk.specs.File.{IsMeasured, size_of};
 ghost use Rattle.jb_extents.specs.Lists.{list_of, shared_in};
 ghost use Rattle.jb_plain.specs.Files.{IsUnread, SaysSuper};
 ghost use Rattle.jb_plain.specs.Placed.{IsNoPlaceFor, IsOpenedAt, IsOpenedWithin, IsShutAt, IsShutWithin, JoinsFile};
@@ -8,7 +8,7 @@ ghost use Rattle.jb_plain.specs.Placed.{IsNoPlaceFor, IsOpenedAt, IsOpenedWithin
 use crate::fault::CommandFault;
 use crate::files::opening::{Opening, disk_of, front_of, homes_after, open_counted, open_image};
 use jb_block::BlockSize;
-use jb_disk::{Disk, FileDisk};
+use jb_disk::{Disk, FileDisk, Start};
 use jb_extents::{Extents, ExtentsDisk, ExtentsFault, ListFault};
 use jb_pair::ImageDisk;
 use jb_super::{Super, SuperFault};
@@ -22,13 +22,13 @@ use std::rt::Files;
 ///
 /// # Errors
 /// Those of the two, and `CommandFault::BadOption` where both places of the journal are given.
-pub(crate) fn open_placed<'a, R: Files<File = File> + AllocGlobal>(
+pub(crate) fn open_placed<'a, S: Start, T: Start, R: Files<File = File> + AllocGlobal>(
     rt: &R,
     name: &'a str,
     journal: Option<&'a str>,
     extents: Option<&'a str>,
     opening: Opening,
-) -> Result<(ImageDisk, u64), CommandFault<'a>>
+) -> Result<(ImageDisk<FileDisk<S>, FileDisk<T>>, u64), CommandFault<'a>>
     ensures shut { IfErr result (IsShutAt name.entry.now (option_map (λ word. word.now) journal.entry)
         (option_map (λ word. word.now) extents.entry)) }
     ensures opened { IfOk result (λ opened. IsOpenedAt (option_map (λ word. word.now) journal.entry)
@@ -48,12 +48,12 @@ pub(crate) fn open_placed<'a, R: Files<File = File> + AllocGlobal>(
 /// `CommandFault::BadOption` where the list is none; `CommandFault::Extents` where a block is in two of the extents, no
 /// journal is there, one of them is not in the file, or the journal has more blocks; those of `open_counted` for a
 /// file.
-fn open_within<'a, R: Files<File = File> + AllocGlobal>(
+fn open_within<'a, S: Start, T: Start, R: Files<File = File> + AllocGlobal>(
     rt: &R,
     name: &'a str,
     list: &'a str,
     opening: Opening,
-) -> Result<(ImageDisk, u64), CommandFault<'a>>
+) -> Result<(ImageDisk<FileDisk<S>, FileDisk<T>>, u64), CommandFault<'a>>
     ensures shut { IfErr result (IsShutWithin name.entry.now list.entry.now) }
     ensures opened { IfOk result (λ opened. IsOpenedWithin list.entry.now opened.0 opened.1) }
 {
@@ -85,8 +85,13 @@ fn open_within<'a, R: Files<File = File> + AllocGlobal>(
 ///
 /// # Errors
 /// `PastEnd` where an extent is not in the file, `Short` where they have fewer blocks than the journal.
-fn joined(disk: FileDisk, extents: Extents, sb: &Super) -> Result<ImageDisk, ExtentsFault>
-    requires { shared_in (list_of extents) ≡ None }
+fn joined<S: Start, T: Start>(
+    disk: FileDisk<S>,
+    extents: Extents,
+    sb: &Super,
+) -> Result<ImageDisk<FileDisk<S>, FileDisk<T>>, ExtentsFault>
+    requires apart { shared_in (list_of extents) ≡ None }
+    requires measured { IsMeasured disk }
     ensures joined { IfOk result (λ whole. JoinsFile (list_of extents) sb.now (size_of disk) whole) }
     ensures apart { IfErr result (IsNoPlaceFor (list_of extents) sb.now) }
 {

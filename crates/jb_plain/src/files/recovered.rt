@@ -1,122 +1,172 @@
-//! Images that are recovered, or of which it is said what a recovery would do. Each is closed before a line is written.
-ghost use Rattle.std.specs.Prelude.{◌≡◌, ◌↔◌, ℕ, IfErr, IfOk, IsOk, None, Option, Some};
-ghost use Rattle.jb_extents.specs.declared.fault.ExtentsFault.TheVariants.{Home};
-ghost use Rattle.jb_pair.specs.Images.{own_home};
+//! Images that are recovered, or of which it is said what a recovery would do.
+ghost use Rattle.std.specs.Prelude.{◌≡◌, option_map};
+ghost use Rattle.jb_pair.specs.Files.{as_disks};
 ghost use Rattle.jb_words.specs.Named.{recover_said};
-ghost use Rattle.jb_plain.specs.Placed.{EndsOfRecover, ForeseesImage, IsOnlyRead, IsOpenedToRecover, IsRecoveryRefused};
-ghost use Rattle.jb_plain.specs.Placed.{IsNotOpenedToRecover, IsRejectedBy, RecoversImage};
-ghost use Rattle.jb_plain.specs.declared.fault.CommandFault.TheVariants.{Extents};
+ghost use Rattle.jb_plain.specs.Foresee.{foreseen_end as foreseen_so, own_checked};
+ghost use Rattle.jb_plain.specs.Placed.{EndsOfRecover, is_beside as stands_beside};
+ghost use Rattle.jb_plain.specs.Placed.{ChecksOwn, ForeseesImage, JudgesBeside, RecoversImage, RecoversOpened};
 
+use crate::done::Done;
 use crate::fault::CommandFault;
 use crate::files::opening::Opening;
 use crate::files::placed::open_placed;
-use crate::streams::{judge_on, tell_foreseen, tell_recovery};
+use crate::report::Report;
+use crate::streams::{judge_on, recover_on};
+use jb_disk::{Disk, Start};
 use jb_extents::ExtentsFault;
 use jb_pair::ImageDisk;
-use jb_recover::{Foreseen, RecoverFault, foresee, recover};
+use jb_recover::{Foreseen, RecoverFault, foresee};
 use jb_words::RecoverOptions;
 use std::alloc::Global;
 use std::fs::File;
-use std::io::Write;
 use std::rt::Files;
 
-/// Recovers the journal of the image of this name, and tells what came of it; with `--dry-run` only tells what would.
+/// Recovers the journal of the image of this name; with `--dry-run` only reports what a recovery would do. Where the
+/// journal is not at its front, the image may be a file system, which has to be the journal's own.
 ///
 /// # Errors
-/// Those of `open_ready`, and those of `recover_on` or of `foresee_on`; `CommandFault::Extents` where a copy is for a
-/// home block that is one of the journal's own.
-pub(crate) fn recover_file<'a, R: Files<File = File> + AllocGlobal, O: Write>(
+/// `CommandFault::BadOption` where `--list` is given without `--dry-run`; those of `open_placed` and of `judge_on`, and
+/// those of `recover_on`; `CommandFault::Extents` where a copy is for a home block that is one of the journal's own.
+pub fn recover_file<'a, S: Start, T: Start, R: Files<File = File> + AllocGlobal>(
     rt: &R,
     image: &'a str,
     options: RecoverOptions<'a>,
-    out: &mut O,
-) -> Result<u8, CommandFault<'a>>
-    ensures ends { EndsOfRecover image.entry.now (recover_said options.entry) (O.contents out.old)
-        (O.contents out.new) result }
+) -> Done<'a, S, T>
+    ensures ends { EndsOfRecover image.entry.now (recover_said options.entry) result.image result.end }
 {
-    let (list, dry_run) = (options.list, options.dry_run);
-    let (disk, homes) = open_ready(rt, image, options)?;
-    if dry_run {
-        foresee_image(rt.alloc(), disk, homes, list, out)
-    } else {
-        recover_image(rt.alloc(), disk, homes, out)
+    if options.list && !options.dry_run {
+        return Done {
+            image: None,
+            end: Err(CommandFault::BadOption("--list")),
+        };
+    }
+    let opening = opening_of(options.dry_run);
+    match open_placed(rt, image, options.journal, options.extents, opening) {
+        Ok((mut disk, homes)) => {
+            let end = recover_opened(rt.alloc(), &mut disk, homes, options);
+            Done {
+                image: Some(disk),
+                end,
+            }
+        }
+        Err(fault) => Done {
+            image: None,
+            end: Err(fault),
+        },
     }
 }
 
-/// The image of this name for a recovery with these options, and the number of its home blocks. Where the journal is
-/// not at its front, the image may be a file system, which has to be the journal's own.
-///
-/// # Errors
-/// `CommandFault::BadOption` where `--list` is given without `--dry-run`; those of `open_placed` and of `judge_on`.
-fn open_ready<'a, R: Files<File = File> + AllocGlobal>(
-    rt: &R,
-    image: &'a str,
-    options: RecoverOptions<'a>,
-) -> Result<(ImageDisk, u64), CommandFault<'a>>
-    ensures unready { IfErr result (IsNotOpenedToRecover image.entry.now (recover_said options.entry)) }
-    ensures ready { IfOk result (λ ready. IsOpenedToRecover (recover_said options.entry) ready.0 ready.1) }
-{
-    if options.list && !options.dry_run {
-        return Err(CommandFault::BadOption("--list"));
-    }
-    let opening = if options.dry_run {
+/// How an image is opened that is to be recovered, or only read.
+fn opening_of(dry_run: bool) -> Opening {
+    if dry_run {
         Opening::Read
     } else {
         Opening::Change
-    };
-    let (journal, extents) = (options.journal, options.extents);
-    let beside = journal.is_some() || extents.is_some();
-    let (mut disk, homes) = open_placed(rt, image, journal, extents, opening)?;
-    judge_beside(&mut disk, beside, options.force)?;
-    Ok((disk, homes))
+    }
+}
+
+/// The same of an image that is open, with so many home blocks.
+fn recover_opened<'a, D: Disk, E: Disk>(
+    alloc: Global,
+    disk: &mut ImageDisk<D, E>,
+    homes: u64,
+    options: RecoverOptions<'_>,
+) -> Result<Report, CommandFault<'a>>
+    ensures recovers { RecoversOpened (as_disks D.Disk E.Disk) (recover_said options.entry) homes disk.old disk.new
+        result }
+{
+    let beside = is_beside(options.journal, options.extents);
+    let (list, dry_run) = (options.list, options.dry_run);
+    match judge_beside(disk, beside, options.force) {
+        Ok(()) => {}
+        Err(fault) => return Err(fault),
+    }
+    if dry_run {
+        foresee_image(alloc, disk, homes, list)
+    } else {
+        recover_image(alloc, disk, homes)
+    }
+}
+
+/// Whether the journal is elsewhere than at the front of the image.
+fn is_beside(journal: Option<&str>, extents: Option<&str>) -> bool
+    ensures { result ≡ stands_beside (option_map (λ word. word.now) journal.entry)
+        (option_map (λ word. word.now) extents.entry) }
+{
+    match (journal, extents) {
+        (None, None) => false,
+        (None, Some(_)) => true,
+        (Some(_), _) => true,
+    }
 }
 
 /// Whether the journal of an image may be recovered into its home blocks; one that is not beside them may.
 ///
 /// # Errors
 /// Those of `judge_on`.
-fn judge_beside<'a>(disk: &mut ImageDisk, beside: bool, force: bool) -> Result<(), CommandFault<'a>>
-    ensures read { IsOnlyRead disk.old disk.new }
-    ensures rejected { IfErr result (IsRejectedBy force disk.old disk.new) }
+fn judge_beside<'a, D: Disk>(
+    disk: &mut D,
+    beside: bool,
+    force: bool,
+) -> Result<(), CommandFault<'a>>
+    ensures judges { JudgesBeside D.Disk beside force disk.old disk.new result }
 {
-    if !beside {
-        return Ok(());
+    if beside {
+        judge_on(disk, force)
+    } else {
+        Ok(())
     }
-    judge_on(disk, force)
 }
 
-/// Tells what a recovery of an image would tell.
-fn foresee_image<'a, O: Write>(
+/// Reports what a recovery of an image would do.
+///
+/// # Errors
+/// Those of a recovery; `CommandFault::Extents` where a copy is for a home block that is one of the journal's own.
+fn foresee_image<'a, D: Disk, E: Disk>(
     alloc: Global,
-    disk: ImageDisk,
+    disk: &mut ImageDisk<D, E>,
     homes: u64,
     list: bool,
-    out: &mut O,
-) -> Result<u8, CommandFault<'a>>
-    ensures tells { ForeseesImage homes list disk (O.contents out.old) (O.contents out.new) result }
+) -> Result<Report, CommandFault<'a>>
+    ensures foresees { ForeseesImage (as_disks D.Disk E.Disk) homes list disk.old disk.new result }
 {
-    let mut disk = disk;
-    let answer = foresee(alloc, &mut disk);
-    let free = free_if_told(&disk, &answer);
-    drop(disk);
-    free?;
-    tell_foreseen(answer, Some(homes), list, out)
+    let answer = foresee(alloc, disk);
+    foreseen_end(disk, homes, list, answer)
 }
 
-/// Recovers an image, and tells what came of it.
-fn recover_image<'a, O: Write>(
-    alloc: Global,
-    disk: ImageDisk,
+/// What was foreseen of an image, as the command's end.
+fn foreseen_end<'a, D: Disk, E: Disk>(
+    disk: &ImageDisk<D, E>,
     homes: u64,
-    out: &mut O,
-) -> Result<u8, CommandFault<'a>>
-    ensures tells { RecoversImage homes disk (O.contents out.old) (O.contents out.new) result }
+    list: bool,
+    answer: Result<Foreseen, RecoverFault>,
+) -> Result<Report, CommandFault<'a>>
+    ensures { result ≡ foreseen_so disk.now homes list answer }
 {
-    let mut disk = disk;
-    check_own(alloc, &mut disk, homes)?;
-    let answer = recover(alloc, &mut disk);
-    drop(disk);
-    tell_recovery(answer, Some(homes), out)
+    match answer {
+        Ok(told) => match disk.first_own(told.homes.as_slice()) {
+            None => Ok(Report::Foreseen(told, list)),
+            Some(home) => Err(CommandFault::Extents(ExtentsFault::Home(home))),
+        },
+        Err(fault) => Err(CommandFault::of_recovery(fault, Some(homes))),
+    }
+}
+
+/// Recovers an image.
+///
+/// # Errors
+/// Those of `check_own` and of `recover_on`.
+fn recover_image<'a, D: Disk, E: Disk>(
+    alloc: Global,
+    disk: &mut ImageDisk<D, E>,
+    homes: u64,
+) -> Result<Report, CommandFault<'a>>
+    ensures recovers { RecoversImage (as_disks D.Disk E.Disk) homes disk.old disk.new result }
+{
+    match check_own(alloc, disk, homes) {
+        Ok(()) => recover_on(alloc, disk, Some(homes)),
+        Err(fault) => Err(fault),
+    }
 }
 
 /// Where the journal of an image stands within its home blocks: whether no copy is for one of those. Nothing is
@@ -124,40 +174,35 @@ fn recover_image<'a, O: Write>(
 ///
 /// # Errors
 /// Those of a recovery that comes before its first write; `CommandFault::Extents` for such a copy.
-fn check_own<'a>(alloc: Global, disk: &mut ImageDisk, homes: u64) -> Result<(), CommandFault<'a>>
-    ensures read { IsOnlyRead disk.old disk.new }
-    ensures refused { IfErr result (IsRecoveryRefused (Some homes)) }
+fn check_own<'a, D: Disk, E: Disk>(
+    alloc: Global,
+    disk: &mut ImageDisk<D, E>,
+    homes: u64,
+) -> Result<(), CommandFault<'a>>
+    ensures checks { ChecksOwn (as_disks D.Disk E.Disk) homes disk.old disk.new result }
 {
-    if !disk.is_within() {
-        return Ok(());
-    }
-    match foresee(alloc, disk) {
-        Ok(told) => free_of_own(disk, told.homes.as_slice()),
-        Err(fault) => Err(CommandFault::of_recovery(fault, Some(homes))),
+    let within = disk.is_within();
+    if within {
+        let answer = foresee(alloc, disk);
+        own_end(disk, homes, answer)
+    } else {
+        Ok(())
     }
 }
 
-/// Whether no home block that would be written, where that is known, is one of the journal's own.
-fn free_if_told<'a>(
-    disk: &ImageDisk,
-    answer: &Result<Foreseen, RecoverFault>,
+/// Whether a recovery of an image may write, by what was foreseen.
+fn own_end<'a, D: Disk, E: Disk>(
+    disk: &ImageDisk<D, E>,
+    homes: u64,
+    answer: Result<Foreseen, RecoverFault>,
 ) -> Result<(), CommandFault<'a>>
-    ensures { (homes : Option ℕ) → IfErr result (IsRecoveryRefused homes) }
+    ensures { result ≡ own_checked disk.now homes answer }
 {
     match answer {
-        Ok(told) => free_of_own(disk, told.homes.as_slice()),
-        Err(_) => Ok(()),
-    }
-}
-
-/// Whether none of these home blocks is one of the journal's own.
-fn free_of_own<'a>(disk: &ImageDisk, homes: &[u64]) -> Result<(), CommandFault<'a>>
-    ensures free { IsOk result ↔ (own_home disk.now homes.now ≡ None) }
-    ensures own { IfErr result (λ fault. (home : ℕ) × (own_home disk.now homes.now ≡ Some home)
-        × (fault ≡ Extents (Home home))) }
-{
-    match disk.first_own(homes) {
-        None => Ok(()),
-        Some(home) => Err(CommandFault::Extents(ExtentsFault::Home(home))),
+        Ok(told) => match disk.first_own(told.homes.as_slice()) {
+            None => Ok(()),
+            Some(home) => Err(CommandFault::Extents(ExtentsFault::Home(home))),
+        },
+        Err(fault) => Err(CommandFault::of_recovery(fault, Some(homes))),
     }
 }

@@ -1,7 +1,8 @@
-ghost use Rattle.std.specs.Prelude.{◌≡◌, ◌≤◌, ◌++◌, true, length, map, IfOk, OnOk};
+ghost use Rattle.std.specs.Prelude.{◌≡◌, ◌≤◌, ◌++◌, true, length, map, IfErr, IfOk, OnOk};
 ghost use Rattle.hex.specs.Hex.{encode_lower};
 ghost use Rattle.jb_plain.specs.Cat.{block_text, CatsOn, pair_text, PutsText, row_text, shown_as};
 ghost use Rattle.jb_plain.specs.Lines.{upto};
+ghost use Rattle.jb_plain.specs.declared.fault.CommandFault.TheVariants.{Memory as NoMemory};
 
 use crate::fault::CommandFault;
 use jb_block::{MOST_BYTES, Memory};
@@ -17,7 +18,7 @@ use std::io::Write;
 /// # Errors
 /// `CommandFault::Super`, `CommandFault::BadRevoke` and `CommandFault::NoHome` where a peek is refused, the last with
 /// the number of home blocks, where that is known; `CommandFault::DeviceFault` where a call of the disk failed, and
-/// `CommandFault::Memory` where a growth was refused: the blocks before it are written then.
+/// `CommandFault::Memory` where a growth was refused, with `hex` alone: the blocks before it are written then.
 /// `CommandFault::WriteFault` where `out` took only the beginning.
 pub fn cat_on<'a, D: Disk, O: Write>(
     alloc: Global,
@@ -55,6 +56,7 @@ fn put_block<'a, O: Write>(
 ) -> Result<(), CommandFault<'a>>
     requires short { length bytes.now ≤ 4096 }
     ensures puts { PutsText (block_text hex at bytes.now) (O.contents out.old) (O.contents out.new) result }
+    ensures memory { IfErr result (λ fault. fault ≡ NoMemory → hex ≡ true) }
 {
     if hex {
         let rows = rows_of(alloc, at, bytes)?;

@@ -1,22 +1,8 @@
-use Rattle.std.proofs.Common.{inr}
+use Rattle.std.proofs.Common.{refl}
 use Rattle.jb_plain.proofs.files.changes.renumber_file.Goals as goal
 
-pub returns : goal.returns
-returns g c =
-    let done = c.renumber-answer.ensures in
-    record {
-      ends = inr (record {
-        old = c.in_ok-disk.disk;
-        new = c.renumber-answer.new.disk;
-        size = c.in_ok-disk.ensures.size;
-        changes = record {
-          answer = c.renumber-answer.result;
-          kept = done.kept;
-          done = done.renumbers;
-          crash = done.crash;
-          again = done.again;
-          durable = done.durable;
-          told = c.tell_renumbering.ensures;
-        };
-      });
-    }
+pub returns-in-Ok : goal.returns-in-Ok
+returns-in-Ok g c = record { ends = (c.in-Ok.disk, c.in-Ok._homes, c.in-Ok.ensures.opened, c.renumber_on-end.ensures.renumbers) }
+
+pub returns-in-Err : goal.returns-in-Err
+returns-in-Err g c = record { ends = (c.in-Err.fault, refl, c.in-Err.ensures.shut) }

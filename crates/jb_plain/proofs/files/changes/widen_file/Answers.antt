@@ -1,22 +1,8 @@
-use Rattle.std.proofs.Common.{inr}
+use Rattle.std.proofs.Common.{refl}
 use Rattle.jb_plain.proofs.files.changes.widen_file.Goals as goal
 
-pub returns : goal.returns
-returns g c =
-    let done = c.widen-answer.ensures in
-    record {
-      ends = inr (record {
-        old = c.in_ok-disk.disk;
-        new = c.widen-answer.new.disk;
-        size = c.in_ok-disk.ensures.size;
-        changes = record {
-          answer = c.widen-answer.result;
-          kept = done.kept;
-          done = done.widens;
-          crash = done.crash;
-          again = done.again;
-          durable = done.durable;
-          told = c.tell_widening.ensures;
-        };
-      });
-    }
+pub returns-in-Ok : goal.returns-in-Ok
+returns-in-Ok g c = record { ends = (c.in-Ok.disk, c.in-Ok._homes, c.in-Ok.ensures.opened, c.widen_on-end.ensures.widens) }
+
+pub returns-in-Err : goal.returns-in-Err
+returns-in-Err g c = record { ends = (c.in-Err.fault, refl, c.in-Err.ensures.shut) }

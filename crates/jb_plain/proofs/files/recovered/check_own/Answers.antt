@@ -1,6 +1,17 @@
-use Rattle.std.proofs.Common.{Some}
-use Rattle.jb_plain.proofs.Owning.{own-refused}
+use Rattle.std.proofs.Common.{refl, sym, ◌∙◌, inl, inr}
 use Rattle.jb_plain.proofs.files.recovered.check_own.Goals as goal
 
-pub returns-in-Ok-clause-refused : goal.returns-in-Ok-clause-refused
-returns-in-Ok-clause-refused c = own-refused (Some c.args.homes) c.foresee.new.disk c.as_slice.result.now c.free_of_own.result c.free_of_own.ensures.own
+pub returns-then-within : goal.returns-then-within
+returns-then-within g c = record {
+  checks = inr (
+    sym c.is_within-within.ensures ∙ c.if-within.true,
+    (
+      c.foresee-answer.result,
+      record { passed = c.foresee-answer.ensures.passed; foresees = c.foresee-answer.ensures.foresees },
+      c.own_end.ensures,
+    ),
+  );
+}
+
+pub returns-else-within : goal.returns-else-within
+returns-else-within g c = record { checks = inl (sym c.is_within-within.ensures ∙ c.if-within.false, refl, refl) }

@@ -1,12 +1,8 @@
-use Rattle.std.proofs.Common.{inr}
+use Rattle.std.proofs.Common.{refl, inr}
 use Rattle.jb_plain.proofs.files.recovered.recover_file.Goals as goal
 
-pub returns-then-dry_run : goal.returns-then-dry_run
-returns-then-dry_run g c = record {
-  ends = inr (c.in_ok-disk.disk, c.in_ok-disk.homes, c.in_ok-disk.ensures.ready, rw c.if-dry_run.true c.foresee_image.ensures.tells);
-}
+pub returns-in-Ok : goal.returns-in-Ok
+returns-in-Ok g c = record { ends = (c.in-Ok.disk, c.in-Ok.homes, c.in-Ok.ensures.opened, c.recover_opened-end.ensures.recovers) }
 
-pub returns-else-dry_run : goal.returns-else-dry_run
-returns-else-dry_run g c = record {
-  ends = inr (c.in_ok-disk.disk, c.in_ok-disk.homes, c.in_ok-disk.ensures.ready, rw c.if-dry_run.false c.recover_image.ensures.tells);
-}
+pub returns-in-Err : goal.returns-in-Err
+returns-in-Err g c = record { ends = (c.in-Err.fault, refl, inr c.in-Err.ensures.shut) }

@@ -1,22 +1,8 @@
-use Rattle.std.proofs.Common.{inl}
+use Rattle.std.proofs.Common.{refl, Ok, Err}
 use Rattle.jb_plain.proofs.files.recovered.recover_image.Goals as goal
 
-pub returns : goal.returns
-returns g c =
-    let done = c.recover-answer.ensures in
-    record {
-      tells = inl (
-        c.check_own.new.disk,
-        c.recover-answer.new.disk,
-        c.check_own.ensures.read,
-        record {
-          answer = c.recover-answer.result;
-          kept = done.kept;
-          recovers = done.recovers;
-          crash = done.crash;
-          again = done.again;
-          durable = done.durable;
-          told = c.tell_recovery.ensures;
-        },
-      );
-    }
+pub returns-in-Ok : goal.returns-in-Ok
+returns-in-Ok g c = record { recovers = (c.check_own.new.disk, Ok tt, c.in-Ok.ensures.checks, c.recover_on.ensures.recovers) }
+
+pub returns-in-Err : goal.returns-in-Err
+returns-in-Err g c = record { recovers = (c.check_own.new.disk, Err c.in-Err.fault, c.in-Err.ensures.checks, (refl, refl)) }
