@@ -2,7 +2,7 @@
 
 use crate::checks::By;
 use crate::dumped::{SESSION, SESSION_TEXT};
-use crate::journals::{CLEAN_TEXT, by_hand, journal_of};
+use crate::journals::{CLEAN_TEXT, WRAPPED, WRAPPED_TEXT, by_hand, journal_of};
 use jb_dump::{Choice, DumpFault, dump_chosen};
 use jb_super::SuperFault;
 use std::alloc::Global;
@@ -43,6 +43,9 @@ static OF_CLEAN: [Taken; 3] = [
     (Some(0), None, false, &[]),
     (None, None, true, &[0, 1]),
 ];
+
+/// The last transaction of a log that wraps, which is its only one.
+static OF_WRAPPED: [Taken; 1] = [(None, Some(1), false, &[0, 1, 2, 3, 4, 5, 6, 7, 8])];
 
 /// Words that leave a journal without a text, and why.
 static REFUSED: [(&str, DumpFault); 2] = [
@@ -113,6 +116,8 @@ fn check_choices(test: &impl Test, alloc: Global) {
     check_taken(test, alloc, &session, SESSION_TEXT, &OF_SESSION, "session");
     let clean = by_hand(test, alloc, "10:21 1 2 0");
     check_taken(test, alloc, &clean, CLEAN_TEXT, &OF_CLEAN, "clean");
+    let wraps = by_hand(test, alloc, WRAPPED);
+    check_taken(test, alloc, &wraps, WRAPPED_TEXT, &OF_WRAPPED, "wraps");
     for (words, fault) in &REFUSED {
         check_refused(test, alloc, words, *fault)
     }

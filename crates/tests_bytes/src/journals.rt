@@ -62,19 +62,10 @@ pub fn told(alloc: Global, journal: &[u8]) -> (Result<(), DumpFault>, Vec<u8>) {
 pub type Dumped = Result<&'static str, DumpFault>;
 
 /// The words that are put into the journal made by hand, and what its dump answers.
-static CASES: [(&str, Dumped); 7] = [
+static CASES: [(&str, Dumped); 8] = [
     ("", Ok(REVOKE_AND_COPY_TEXT)),
-    (
-        "10:21 1 2 1e
-400:5 6 0 0 0 0 0 0
-800:7 8 0 0 0 0 0 0 0 0 0 0
-c00:c03b3998 2 2 0
-1000:0 0 0 0
-7800:c03b3998 1 2 5 7820:0 6 2 7 2 8 a 0
-7c00:1 2 0 0
-8000:3 4 0 0",
-        Ok(WRAPPED_TEXT),
-    ),
+    (WRAPPED, Ok(WRAPPED_TEXT)),
+    ("1800:c03b3998 2 3 0", Ok(REVOKE_AND_COPY_TEXT)),
     ("10:21 1 2 0", Ok(CLEAN_TEXT)),
     (
         "20:0 0 3 0
@@ -95,7 +86,18 @@ c00:c03b3998 2 2 0
     ("400:c03b3998 5 2 401", Err(DumpFault::BadRevoke(1))),
 ];
 
-const WRAPPED_TEXT: &str =
+/// A log that begins at place 30 and ends at place 3.
+pub const WRAPPED: &str = "10:21 1 2 1e
+400:5 6 0 0 0 0 0 0
+800:7 8 0 0 0 0 0 0 0 0 0 0
+c00:c03b3998 2 2 0
+1000:0 0 0 0
+7800:c03b3998 1 2 5 7820:0 6 2 7 2 8 a 0
+7c00:1 2 0 0
+8000:3 4 0 0";
+
+/// Its text.
+pub const WRAPPED_TEXT: &str =
     "super bs=1024 maxlen=33 first=1 sequence=2 start=30 errno=0 compat=00000000 incompat=00000001 rocompat=00000000 max=0 limit=8
 uuid 000102030405060708090a0b0c0d0e0f
 30 descriptor number=2 tags=4
