@@ -245,7 +245,7 @@ class Declared:
         code = lines[self.at:end + 1]
         self.note, self.blocks = "", [code]
         fields = set(re.findall(r"^    (?:pub(?:\(\w+\))? )?(\w+):", "\n".join(code), re.M))
-        ghosts = re.compile(r"^ *ghost \w+: \{.*?\},$", re.M | re.S)
+        ghosts = re.compile(r"^ *(?:pub(?:\(\w+\))? )?ghost \w+: \{.*?\},$", re.M | re.S)
         rust = re.sub(r"//.*|#\[.*\]$", "", ghosts.sub("", "\n".join(code)), flags=re.M)
         if "enum " in self.head:
             self.constructors = re.findall(r"^    (\w+)", rust, re.M)

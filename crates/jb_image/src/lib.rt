@@ -11,4 +11,4 @@ mod opening;
 pub use fault::{ImageFault, MakeFault, SystemFault};
 pub use geometry::Geometry;
 pub use making::{create_holding, create_image};
-pub use opening::{Opening, open_file, open_image};
+pub use opening::{Opening, open_file, open_holding, open_image};

@@ -1,11 +1,11 @@
 //! Images that are there: opened, and locked for as long as they are open.
 ghost use Rattle.std.specs.Prelude.{◌≡◌, IfOk};
-ghost use Rattle.jb_disk.specs.File.{faults_of, size_of};
+ghost use Rattle.jb_disk.specs.File.{IsMeasured, faults_of, size_of};
 
 use crate::fault::{ImageFault, SystemFault};
 use crate::mounted::is_mounted;
 use jb_block::BlockSize;
-use jb_disk::FileDisk;
+use jb_disk::{FileDisk, Start};
 use std::fs::{File, Metadata, OpenOptions, TryLockError};
 use std::os::unix::fs::FileTypeExt;
 use std::rt::Files;
@@ -32,9 +32,27 @@ pub fn open_image<R: Files<File = File> + AllocGlobal>(
 ) -> Result<FileDisk, ImageFault>
     ensures size { IfOk result (λ disk. size_of disk ≡ size) }
     ensures fresh { IfOk result (λ disk. faults_of disk ≡ 0) }
+    ensures opened { IfOk result IsMeasured }
+{
+    open_holding(rt, name, size, opening)
+}
+
+/// The same, of a file that is supposed to hold what `S` says.
+///
+/// # Errors
+/// As those of [`open_image`].
+pub fn open_holding<S: Start, R: Files<File = File> + AllocGlobal>(
+    rt: &R,
+    name: &str,
+    size: BlockSize,
+    opening: Opening,
+) -> Result<FileDisk<S>, ImageFault>
+    ensures size { IfOk result (λ disk. size_of disk ≡ size) }
+    ensures fresh { IfOk result (λ disk. faults_of disk ≡ 0) }
+    ensures opened { IfOk result IsMeasured }
 {
     let file = open_file(rt, name, opening)?;
-    match FileDisk::of(file, size) {
+    match FileDisk::<S>::holding(file, size) {
         Ok(disk) => Ok(disk),
         Err(_) => Err(ImageFault::System(SystemFault { code: None })),
     }

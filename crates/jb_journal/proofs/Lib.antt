@@ -2,5 +2,6 @@ pub mod Answering
 pub mod Changing
 pub mod Ending
 pub mod Noting
+pub mod Opening
 pub mod Refusing
 pub mod Staying

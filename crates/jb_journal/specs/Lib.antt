@@ -3,6 +3,7 @@ pub mod Client
 pub mod Homes
 pub mod Names
 pub mod Notes
+pub mod Opening
 pub mod Refusing
 pub mod Running
 pub mod Starting

@@ -1,5 +1,5 @@
 //! Images that are opened for a program, and homes that are read without a run.
-ghost use Rattle.std.specs.Prelude.{◌≡◌, ◌↔◌, IfOk, OnOk, Err, length};
+ghost use Rattle.std.specs.Prelude.{◌≡◌, ◌↔◌, IfErr, IfOk, OnOk, Err, length};
 ghost use Rattle.jb_block.specs.Size.{bytes_of};
 ghost use Rattle.jb_disk.specs.File.{size_of};
 ghost use Rattle.jb_disk.specs.Image.{Same};
@@ -7,13 +7,14 @@ ghost use Rattle.jb_disk.specs.KeptOn.{KeptOn};
 ghost use Rattle.jb_disk.specs.Time.{Goes};
 ghost use Rattle.jb_recover.specs.Peeks.{IsRecoveredHome};
 ghost use Rattle.jb_journal.specs.Homes.{HomeFaults, ReadsWhole};
+ghost use Rattle.jb_journal.specs.Opening.{WasRecoveredOrMade, RefusesImage, WasRecovered};
 ghost use Rattle.jb_journal.specs.declared.fault.HomeFault.TheVariants.{Length};
 
 use crate::fault::HomeFault;
 use crate::journal_fault::JournalFault;
 use jb_block::{BlockSize, MOST_BYTES};
-use jb_disk::{Disk, FileDisk};
-use jb_image::{Geometry, ImageFault, MakeFault, Opening, create_image, open_image};
+use jb_disk::{Disk, FileDisk, Start};
+use jb_image::{Geometry, ImageFault, MakeFault, Opening, create_holding};
 use jb_recover::{PeekFault, peek, recover};
 use std::fs::File;
 use std::rt::Files;
@@ -30,11 +31,32 @@ pub fn open<R: Files<File = File> + AllocGlobal>(
     name: &str,
     size: BlockSize,
 ) -> Result<FileDisk, JournalFault>
-    ensures { IfOk result (λ disk. bytes_of (size_of disk) ≡ bytes_of size) }
+    ensures size { IfOk result (λ disk. bytes_of (size_of disk) ≡ bytes_of size) }
+    ensures opened { IfOk result (WasRecovered size) }
 {
-    let mut disk = open_image(rt, name, size, Opening::Change)?;
-    recover(rt.alloc(), &mut disk)?;
-    Ok(disk)
+    open_holding(rt, name, size)
+}
+
+/// The same, of a file that is supposed to hold what `S` says.
+///
+/// # Errors
+/// Those of [`open`].
+pub fn open_holding<S: Start, R: Files<File = File> + AllocGlobal>(
+    rt: &R,
+    name: &str,
+    size: BlockSize,
+) -> Result<FileDisk<S>, JournalFault>
+    ensures opened { IfOk result (WasRecovered size) }
+    ensures refused { IfErr result (RefusesImage S.Start size) }
+{
+    let mut disk = match jb_image::open_holding::<S, R>(rt, name, size, Opening::Change) {
+        Ok(disk) => disk,
+        Err(fault) => return Err(JournalFault::Image(fault)),
+    };
+    match recover(rt.alloc(), &mut disk) {
+        Ok(_) => Ok(disk),
+        Err(fault) => Err(JournalFault::Recover(fault)),
+    }
 }
 
 /// The same, where there is an image of this name; otherwise makes it, whole or not at all: under another name
@@ -50,13 +72,29 @@ pub fn open_or_create<R: Files<File = File> + AllocGlobal>(
     name: &str,
     geometry: Geometry,
 ) -> Result<FileDisk, JournalFault>
-    ensures { IfOk result (λ disk. bytes_of (size_of disk) ≡ bytes_of geometry.block_size) }
+    ensures size { IfOk result (λ disk. bytes_of (size_of disk) ≡ bytes_of geometry.block_size) }
+    ensures ready { IfOk result (WasRecoveredOrMade geometry) }
+{
+    open_or_create_holding(rt, name, geometry)
+}
+
+/// The same, of a file that is supposed to hold what `S` says: where it is made, once it has its length.
+///
+/// # Errors
+/// Those of [`open_or_create`].
+pub fn open_or_create_holding<S: Start, R: Files<File = File> + AllocGlobal>(
+    rt: &R,
+    name: &str,
+    geometry: Geometry,
+) -> Result<FileDisk<S>, JournalFault>
+    ensures size { IfOk result (λ disk. bytes_of (size_of disk) ≡ bytes_of geometry.block_size) }
+    ensures ready { IfOk result (WasRecoveredOrMade geometry) }
 {
     match open_whole(rt, name, geometry) {
         Err(JournalFault::Image(ImageFault::System(fault))) if fault.is_not_found() => {}
         opened => return opened,
     }
-    match create_image(rt, name, geometry) {
+    match create_holding(rt, name, geometry) {
         Ok(disk) => Ok(disk),
         // another process has made it meanwhile
         Err(MakeFault::Exists) => open_whole(rt, name, geometry),
@@ -65,14 +103,14 @@ pub fn open_or_create<R: Files<File = File> + AllocGlobal>(
 }
 
 /// Opens an image that has to have so many homes.
-fn open_whole<R: Files<File = File> + AllocGlobal>(
+fn open_whole<S: Start, R: Files<File = File> + AllocGlobal>(
     rt: &R,
     name: &str,
     geometry: Geometry,
-) -> Result<FileDisk, JournalFault>
-    ensures { IfOk result (λ disk. bytes_of (size_of disk) ≡ bytes_of geometry.block_size) }
+) -> Result<FileDisk<S>, JournalFault>
+    ensures opened { IfOk result (WasRecovered geometry.block_size) }
 {
-    let mut disk = open(rt, name, geometry.block_size)?;
+    let mut disk = open_holding::<S, R>(rt, name, geometry.block_size)?;
     let Some(last) = geometry.homes.checked_sub(1) else {
         return Ok(disk);
     };

@@ -1,8 +1,8 @@
 //! Images in files: opened, locked, made whole, and read while no journal runs.
 use jb_image::{ImageFault, MakeFault, Opening, create_image, open_image};
 use jb_journal::{
-    BlockSize, Disk, Geometry, HomeFault, JournalFault, PeekFault, RecoverFault, open,
-    open_or_create, read_home,
+    BlockSize, Disk, Geometry, HomeFault, JournalFault, PeekFault, RecoverFault, Unknown, open,
+    open_holding, open_or_create, open_or_create_holding, read_home,
 };
 use jb_super::SuperFault;
 use std::fs;
@@ -34,7 +34,7 @@ fn an_image_is_opened_by_one_process_at_a_time(rt: HostRuntime) -> Result<(), Fa
     assert!(rt;
         matches!(none, Err(JournalFault::Image(ImageFault::System(fault))) if fault.is_not_found())
     );
-    let made = open_or_create(&rt, NAME, geometry())?;
+    let made = open_or_create_holding::<Unknown, HostRuntime>(&rt, NAME, geometry())?;
     assert_eq!(rt; (made.blocks(), made.block_size()), (49, BlockSize::OneKib));
     // the lock lies on the open file: a second open in this process is one of another
     let in_use = Err(JournalFault::Image(ImageFault::InUse));
@@ -57,10 +57,10 @@ fn an_image_is_opened_by_one_process_at_a_time(rt: HostRuntime) -> Result<(), Fa
         in_use
     );
     drop(reader);
-    assert_eq!(rt;
-        open(&rt, NAME, BlockSize::OneKib).map(|disk| disk.blocks()),
-        Ok(49)
+    let opened = open_holding::<Unknown, HostRuntime>(&rt, NAME, BlockSize::OneKib).map(
+        |disk| disk.blocks(),
     );
+    assert_eq!(rt; opened, Ok(49));
     fresh(&rt);
     Ok(())
 }

@@ -4,7 +4,7 @@ use Rattle.jb_disk.specs.File.{FileLeaves, IsHonest, content_of, size_of}
 use Rattle.jb_disk.specs.Image.{Only}
 use Rattle.jb_pair.specs.Pair.{front_disk, past_states}
 use Rattle.jb_file_client.specs.Files.{FilesLeave, FilesLeft, files_content, files_count}
-use Rattle.jb_file_client.proofs.Opened.{opened-holds, opened-leaves}
+use Rattle.jb_image.proofs.Opened.{opened-holds, opened-leaves}
 use Rattle.jb_recover.specs.Outcomes.{RecoversAs}
 use Rattle.jb_file_client.proofs.two_files.recover_files.Goals as goal
 
