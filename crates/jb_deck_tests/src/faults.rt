@@ -35,9 +35,9 @@ const THREE: [Row; 3] = [
     (HOMES + 8, 0, [0xAE00_0000, 0, 0, 0]),
 ];
 
-/// The calls of the journal, the call of the disk that fails, which of the pending sectors are new, what recovery reports (transactions, copies, revoked copies
-/// and the next number); and once the journal is opened again, from which place on all is as it was, but for these
-/// rows.
+/// The calls of the journal, the call of the disk that fails, which of the pending sectors are new, what recovery
+/// reports (transactions, copies, revoked copies and the next number); and once the journal is opened again, from
+/// which place on all is as it was, but for these rows.
 struct Given {
     name: &'static str,
     steps: &'static [Step],
