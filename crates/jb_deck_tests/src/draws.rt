@@ -151,7 +151,10 @@ pub fn call_at_random<D: Disk>(
     let drawn = seed.below(odds.calls);
     let next = seed.fresh();
     let call = if drawn < odds.checkpoints {
-        Call::Checkpoint
+        match drawn % 2 {
+            0 => Call::Checkpoint,
+            _ => Call::Run(count as usize),
+        }
     } else if drawn < odds.checkpoints.saturating_add(odds.writes) {
         Call::Write(seed.below(4) as usize, next)
     } else {

@@ -4,7 +4,7 @@ use crate::cases::{Case, check_cases};
 use crate::checks::By;
 use crate::images::{BLOCKS, HOMES, MAGIC};
 use crate::scripts::Step;
-use jb_deck::FreeFault;
+use jb_deck::{CheckedRun, CheckpointFault, FreeFault};
 
 /// The bytes that a script writes to a free home.
 const SEVENS: [u32; 4] = [0x7777_7777, 0x7777_7777, 0x7777_7777, 0x7777_7777];
@@ -57,6 +57,79 @@ static COPIES: [Case; 2] = [
         after: &[
             (0, 0x10, [33, 1, 4, 0]),
             (HOMES + 1, 0, [0x0B00_0000, 0, 0, 0]),
+        ],
+    },
+];
+
+/// Groups that go home together.
+static RUNS: [Case; 2] = [
+    Case {
+        name: "three groups go home under one call, but for a home that the second of them frees",
+        image: &[],
+        steps: &[
+            Step::Runs(3, Err(CheckpointFault::Nothing)),
+            Step::Commits("h w5=aa w6=ab\n", &[(0, 1, 2, 4)]),
+            Step::Commits("h r5 w7=ac\n", &[(1, 2, 3, 4)]),
+            Step::Commits("h w6=ad w8=ae\n", &[(2, 3, 4, 4)]),
+            Step::Runs(0, Err(CheckpointFault::Nothing)),
+            Step::Runs(
+                3,
+                Ok(CheckedRun {
+                    count: 3,
+                    last: 4,
+                    blocks: 4,
+                }),
+            ),
+            Step::Idle,
+            Step::Word(6, None),
+            Step::Ends(&[(0, 1, 2, 4), (1, 2, 3, 4), (2, 3, 4, 4)], 5),
+        ],
+        groups: &[
+            (1, 2, &[], &[5, 6], &[0xAA00_0000, 0xAB00_0000]),
+            (5, 3, &[5], &[7], &[0xAC00_0000]),
+            (9, 4, &[], &[6, 8], &[0xAD00_0000, 0xAE00_0000]),
+        ],
+        rows: &[
+            (0, 0x10, [33, 1, 4, 0]),
+            (HOMES + 6, 0, [0xAD00_0000, 0, 0, 0]),
+            (HOMES + 7, 0, [0xAC00_0000, 0, 0, 0]),
+            (HOMES + 8, 0, [0xAE00_0000, 0, 0, 0]),
+        ],
+        recovered: (0, 0, 0, 5),
+        after: &[],
+    },
+    Case {
+        name: "two of three groups go home, but for a home that the third frees",
+        image: &[],
+        steps: &[
+            Step::Commits("h w5=aa w6=ab\n", &[(0, 1, 2, 4)]),
+            Step::Commits("h w7=ac\n", &[(1, 2, 3, 3)]),
+            Step::Commits("h r6 w5=ad\n", &[(2, 3, 4, 4)]),
+            Step::Runs(
+                2,
+                Ok(CheckedRun {
+                    count: 2,
+                    last: 3,
+                    blocks: 2,
+                }),
+            ),
+            Step::Word(7, None),
+            Step::Word(6, Some(false)),
+        ],
+        groups: &[
+            (1, 2, &[], &[5, 6], &[0xAA00_0000, 0xAB00_0000]),
+            (5, 3, &[], &[7], &[0xAC00_0000]),
+            (8, 4, &[6], &[5], &[0xAD00_0000]),
+        ],
+        rows: &[
+            (0, 0x10, [33, 1, 4, 8]),
+            (HOMES + 5, 0, [0xAA00_0000, 0, 0, 0]),
+            (HOMES + 7, 0, [0xAC00_0000, 0, 0, 0]),
+        ],
+        recovered: (1, 1, 0, 6),
+        after: &[
+            (0, 0x10, [33, 1, 5, 0]),
+            (HOMES + 5, 0, [0xAD00_0000, 0, 0, 0]),
         ],
     },
 ];
@@ -121,7 +194,8 @@ static FREES: [Case; 3] = [
 
 #[test]
 fn copies_go_home_as_worked_by_hand(rt: HostRuntime) {
-    check_cases(&By(&rt, rt.alloc()), BLOCKS, &COPIES)
+    check_cases(&By(&rt, rt.alloc()), BLOCKS, &COPIES);
+    check_cases(&By(&rt, rt.alloc()), BLOCKS, &RUNS)
 }
 
 #[test]

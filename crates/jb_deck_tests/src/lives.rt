@@ -21,6 +21,8 @@ pub enum Call<'a> {
     Handles(&'a [Does]),
     /// The oldest transaction is checkpointed, if there is one.
     Checkpoint,
+    /// The oldest transactions are checkpointed together, at most so many, if there is one.
+    Run(usize),
     /// These contents are written to a home, if it is free.
     Write(usize, u32),
 }
@@ -191,6 +193,7 @@ pub fn make_call<D: Disk>(
             commit(test, deck, model, (handles.len(), &touches))
         }
         Call::Checkpoint => checkpoint(test, deck, model),
+        Call::Run(most) => checkpoint_run(test, deck, model, most),
         Call::Write(home, contents) => write(test, deck, model, home, contents),
     }
 }
@@ -204,6 +207,26 @@ fn checkpoint<D: Disk>(test: &impl Test, deck: &mut Deck<D>, model: &mut Model) 
         Err(CheckpointFault::Nothing) if !is => None,
         Err(CheckpointFault::DeviceFault) if is => Some(only(stood)),
         _ => fail(test, "the checkpoint"),
+    }
+}
+
+/// Checkpoints the oldest transactions together, at most so many; after a fault, what a crash may leave.
+fn checkpoint_run<D: Disk>(
+    test: &impl Test,
+    deck: &mut Deck<D>,
+    model: &mut Model,
+    most: usize,
+) -> Option<Left> {
+    let stood = model.standing();
+    let mut went: usize = 0;
+    for _ in 0..most {
+        went = went.saturating_add(usize::from(model.checkpoint()));
+    }
+    match deck.checkpoint_up_to(most) {
+        Ok(run) if run.count == went && went > 0 => None,
+        Err(CheckpointFault::Nothing) if went == 0 => None,
+        Err(CheckpointFault::DeviceFault) if went > 0 => Some(only(stood)),
+        _ => fail(test, "the checkpoint of several"),
     }
 }
 

@@ -27,7 +27,9 @@ static ABORTED: [Step; 3] = [
 
 /// A journal that is aborted refuses each call.
 fn refuse_each<D: Disk>(test: &impl Bench, deck: &mut Deck<D>) {
-    let is_aborted = deck.aborted() && deck.checkpoint_one() == Err(CheckpointFault::Aborted);
+    let is_aborted = deck.aborted()
+        && deck.checkpoint_one() == Err(CheckpointFault::Aborted)
+        && deck.checkpoint_up_to(0) == Err(CheckpointFault::Aborted);
     check(test, is_aborted, "it is not aborted");
     check_steps(test, "a journal that is aborted", deck, &ABORTED)
 }

@@ -5,8 +5,8 @@ use crate::images::Label;
 use crate::words::says;
 use jb_block::{BlockSize, Width};
 use jb_deck::{
-    Batch, BatchFault, Checked, CheckpointFault, Deck, Done, Entry, FreeFault, Prepared, is_batch,
-    prepare,
+    Batch, BatchFault, Checked, CheckedRun, CheckpointFault, Deck, Done, Entry, FreeFault,
+    Prepared, is_batch, prepare,
 };
 use jb_disk::Disk;
 use jb_handle::{Shape, Stopped, Word};
@@ -29,6 +29,8 @@ pub enum Step {
     Refuses(u64, Made, &'static str, Refusal),
     /// The oldest transaction, of this number, is checkpointed, and so many copies are written.
     Checkpoints(u32, u64),
+    /// The oldest transactions are checkpointed, at most so many.
+    Runs(usize, Result<CheckedRun, CheckpointFault>),
     /// There is no transaction to checkpoint.
     Idle,
     /// So many bytes are written to a home that is free.
@@ -263,6 +265,7 @@ fn answers<D: Disk>(test: &impl Bench, deck: &mut Deck<D>, step: &Step) -> bool 
         Step::Commits(lines, entries) => commits(test, deck, lines, entries),
         Step::Refuses(first, made, lines, why) => refuses(test, deck, first, made, lines, why),
         Step::Checkpoints(number, blocks) => { checkpoints(deck, Ok(Checked { number, blocks })) }
+        Step::Runs(most, answer) => deck.checkpoint_up_to(most) == answer,
         Step::Idle => checkpoints(deck, Err(CheckpointFault::Nothing)),
         Step::Writes(home, len, answer) => writes(test, deck, home, len, answer),
         Step::Word(home, copy) => has_word(deck, home, copy),

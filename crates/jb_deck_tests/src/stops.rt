@@ -30,7 +30,7 @@ const SOME: u32 = 6;
 
 /// A group with an escaped copy and a freed home, which is written; home 3, which is copied, freed, written and free
 /// to the end; groups that fill the log, and some that make room and go round its end; and all are checkpointed.
-pub static SCRIPT: [Call<'static>; 15] = [
+pub static SCRIPT: [Call<'static>; 14] = [
     Call::Handles(&[]),
     Call::Handles(&[(&[5], 2, &[7])]),
     Call::Write(7, 8),
@@ -49,11 +49,10 @@ pub static SCRIPT: [Call<'static>; 15] = [
         ],
     ),
     Call::Checkpoint,
-    Call::Checkpoint,
-    Call::Checkpoint,
-    Call::Checkpoint,
-    Call::Checkpoint,
-    Call::Checkpoint,
+    Call::Run(0),
+    Call::Run(3),
+    Call::Run(3),
+    Call::Run(3),
 ];
 
 /// Homes of zeros, and words in block 0 after the superblock.
@@ -159,7 +158,7 @@ fn stop_each(test: &impl Bench) {
     for number in 0..MOST {
         if stop_at(test, number) {
             let calls = u64::from(number);
-            return check_at(test, calls == 151, "calls of the whole script:", calls);
+            return check_at(test, calls == 143, "calls of the whole script:", calls);
         }
     }
     fail(test, "it never ends")

@@ -10,7 +10,7 @@ use crate::blind::{marks, small, stops};
 use crate::checks::{check, check_at, check_in, fail};
 use crate::closing::{closed, left};
 use crate::journal::{PARTS, Small, Still, commit, home, seated};
-use jb_deck::{Checked, CheckpointFault, Deck};
+use jb_deck::{CheckedRun, CheckpointFault, Deck};
 use jb_desk::{CheckpointRound, Origin, Seat, Stops};
 use jb_disk::{Disk, MemoryDisk};
 use jb_history::Opened;
@@ -105,10 +105,17 @@ fn level<R: Abort + Wait, H: Origin, N: Ledger>(
     check_row(rt, alloc, number, row, desk)
 }
 
-/// The oldest group, of one home, is written home.
-const HOME: Answer = Ok(CheckpointRound::Home(Checked {
-    number: 2,
+/// The first groups, each of one home, are written home together: one of them, and two.
+const ONE: Answer = Ok(CheckpointRound::Home(CheckedRun {
+    count: 1,
+    last: 2,
     blocks: 1,
+}));
+
+const TWO: Answer = Ok(CheckpointRound::Home(CheckedRun {
+    count: 2,
+    last: 3,
+    blocks: 2,
 }));
 
 /// Each commit takes three blocks of the log.
@@ -128,13 +135,13 @@ static ROWS: [Row; 9] = [
     Row {
         commits: 1,
         level: 0,
-        answer: HOME,
+        answer: ONE,
         byte: 7,
     },
     Row {
         commits: 1,
         level: 3,
-        answer: HOME,
+        answer: ONE,
         byte: 7,
     },
     Row {
@@ -146,13 +153,13 @@ static ROWS: [Row; 9] = [
     Row {
         commits: 2,
         level: 0,
-        answer: HOME,
+        answer: TWO,
         byte: 7,
     },
     Row {
         commits: 2,
         level: 6,
-        answer: HOME,
+        answer: TWO,
         byte: 7,
     },
     Row {
@@ -214,7 +221,7 @@ fn in_use_at_last<R: Abort + Wait + Clock, D: Disk, H: Origin, N: Ledger>(
 }
 
 /// Commits two handles and then a third beside a checkpointer, and shuts the desk. Two groups are in use a while after
-/// the second, and once there are fewer blocks than the level after the third.
+/// the second, and none is once the checkpointer has been at work after the third.
 fn commit_beside<R: Abort + Wait + Clock, D: Disk, H: Origin, N: Ledger>(
     rt: &R,
     desk: &Still<D, H, N>,
@@ -236,7 +243,7 @@ fn commit_beside<R: Abort + Wait + Clock, D: Disk, H: Origin, N: Ledger>(
     );
     check_at(
         rt,
-        high == 6,
+        high == 0,
         "blocks in use after three groups:",
         u64::from(high),
     );

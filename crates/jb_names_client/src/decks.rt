@@ -5,8 +5,8 @@ use crate::groups::STAMP;
 use crate::handles::{SHAPE, stopped};
 use crate::recoveries::formatted;
 use jb_deck::{
-    Batch, BatchFault, Checked, CheckpointFault, Deck, Done, Entry, FreeFault, OpenFault,
-    PrepareFault, Prepared,
+    Batch, BatchFault, Checked, CheckedRun, CheckpointFault, Deck, Done, Entry, FreeFault,
+    OpenFault, PrepareFault, Prepared,
 };
 use jb_disk::{Disk, MemoryDisk};
 use jb_handle::{Shape, Stopped, Word};
@@ -143,7 +143,7 @@ fn check_homes(rt: &impl Abort, deck: &mut Deck<MemoryDisk>) {
         blocks: 1,
     };
     check(rt, deck.checkpoint_one() == Ok(checked), "checkpoint_one");
-    let nothing = deck.checkpoint_one();
+    let nothing: Result<CheckedRun, CheckpointFault> = deck.checkpoint_up_to(64);
     check(rt, nothing == Err(CheckpointFault::Nothing), "Nothing");
 }
 

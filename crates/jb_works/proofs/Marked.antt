@@ -15,7 +15,7 @@ use Rattle.jb_disk.specs.Time.{LeavesOnly}
 use Rattle.jb_handle.specs.Tickets.{TicketsFrom}
 use Rattle.jb_handle.specs.declared.stopped.Stopped.{Stopped}
 use Rattle.jb_history.proofs.Placed.{get_last}
-use Rattle.jb_deck.specs.Checkpoints.{AnswersCheckpoint, Checkpoints}
+use Rattle.jb_deck.specs.Checkpoints.{AnswersRun, Checkpoints}
 use Rattle.jb_deck.specs.Committing.{AnswersBatch, CommitsBatch, CommitsOnDisk, LeavesGroups, SettlesSome, TakesBatch}
 use Rattle.jb_deck.specs.Deck.{OpenDeck}
 use Rattle.jb_deck.specs.Done.{Follow, entries_of, past_after, start_of}
@@ -26,7 +26,7 @@ use Rattle.jb_deck.specs.Taking.{CanTake, TakesTrail, oldest_number}
 use Rattle.jb_deck.specs.Trailing.{FollowsSome}
 use Rattle.jb_deck.specs.declared.batched.BatchFault.{BatchFault}
 use Rattle.jb_deck.specs.declared.batched.BatchFault.TheVariants as batch
-use Rattle.jb_deck.specs.declared.checked.Checked.{Checked}
+use Rattle.jb_deck.specs.declared.checked.CheckedRun.{CheckedRun}
 use Rattle.jb_deck.specs.declared.checked.CheckpointFault.{CheckpointFault}
 use Rattle.jb_deck.specs.declared.checked.CheckpointFault.TheVariants as checkpoint
 use Rattle.jb_deck.specs.declared.done.Done.{Done}
@@ -247,21 +247,21 @@ module _ {D : Type 0} (G : Ghosts D) (counts_now : (disk : D) (t : ℕ) (c : Ima
         ((leaves up held).before t c earlier left)))
         ms each
 
-    pub checkpoint-marked : (ms : List (OpenDeck D)) (r : Result Checked CheckpointFault) → AnswersCheckpoint (G.faults old.disk) (G.faults new.disk) old new r → (G.honest new.disk → OnOk r (Checkpoints G.newest old new)) → (old.aborted ≡ false → G.honest new.disk → LeavesOnly G.moment G.left_since old.disk new.disk Unmoved) → Is ms old → Is ms new
-    checkpoint-marked ms (Ok checked) answers checkpoints leaves is =
-        let since = checkpoint-since G counts_now b known plain old new kept (Ok checked) answers checkpoints leaves is.since in
+    pub checkpoint-marked : (ms : List (OpenDeck D)) (most : ℕ) (r : Result CheckedRun CheckpointFault) → AnswersRun most (G.faults old.disk) (G.faults new.disk) old new r → (G.honest new.disk → OnOk r (Checkpoints G.newest old new)) → (old.aborted ≡ false → G.honest new.disk → LeavesOnly G.moment G.left_since old.disk new.disk Unmoved) → Is ms old → Is ms new
+    checkpoint-marked ms most (Ok run) answers checkpoints leaves is =
+        let since = checkpoint-since G counts_now b known plain old new kept most (Ok run) answers checkpoints leaves is.since in
         record {
           since = since;
-          marks_last = last-of since.given is.since.given new ms (checked-given G counts_now b known plain old new kept leaves is.since checked answers checkpoints)
+          marks_last = last-of since.given is.since.given new ms (checked-given G counts_now b known plain old new kept leaves is.since most run answers checkpoints)
               (none-kept is.since.given is.since.has answers.0 answers.2.trail answers.2.shape Unmoved (λ c f. f) leaves is.since.since ms is.marks_last);
         }
-    checkpoint-marked ms (Err checkpoint.Aborted) answers checkpoints leaves is = subst (λ (d : OpenDeck D). Is ms d) (sym answers.1) is
-    checkpoint-marked ms (Err checkpoint.Nothing) answers checkpoints leaves is = subst (λ (d : OpenDeck D). Is ms d) (sym answers.2) is
-    checkpoint-marked ms (Err checkpoint.DeviceFault) answers checkpoints leaves is =
-        let since = checkpoint-since G counts_now b known plain old new kept (Err checkpoint.DeviceFault) answers checkpoints leaves is.since in
+    checkpoint-marked ms most (Err checkpoint.Aborted) answers checkpoints leaves is = subst (λ (d : OpenDeck D). Is ms d) (sym answers.1) is
+    checkpoint-marked ms most (Err checkpoint.Nothing) answers checkpoints leaves is = subst (λ (d : OpenDeck D). Is ms d) (sym answers.2) is
+    checkpoint-marked ms most (Err checkpoint.DeviceFault) answers checkpoints leaves is =
+        let since = checkpoint-since G counts_now b known plain old new kept most (Err checkpoint.DeviceFault) answers checkpoints leaves is.since in
         record {
           since = since;
-          marks_last = last-of since.given is.since.given new ms (unchecked-given G counts_now b known plain old new kept leaves is.since answers checkpoints)
+          marks_last = last-of since.given is.since.given new ms (unchecked-given G counts_now b known plain old new kept leaves is.since most answers checkpoints)
               (none-kept is.since.given is.since.has answers.0 (ap (λ (d : OpenDeck D). d.trail) answers.3) (ap (λ (d : OpenDeck D). d.shape) answers.3) Unmoved (λ c f. f) leaves is.since.since ms is.marks_last);
         }
 

@@ -1,5 +1,5 @@
 -- A journal since its desk was started: what each of its calls keeps.
-use Rattle.std.proofs.Common.{◌≡◌, ◌⊎◌, ℕ, Bool, true, false, ◌+◌, ◌<◌, ◌≤◌, List, [], ◌++◌, length, take, slice_index, All, Result, Ok, Err, IfOk, OnOk, inl, inr, ⊎_elim, refl, ap, sym, subst, ◌∙◌, arith}
+use Rattle.std.proofs.Common.{◌≡◌, ◌⊎◌, ℕ, Bool, true, false, ◌+◌, ◌<◌, ◌≤◌, List, [], ◌∷◌, ◌++◌, length, take, slice_index, All, Result, Ok, Err, IfOk, OnOk, inl, inr, ⊎_elim, refl, ap, sym, subst, ◌∙◌, arith}
 use Rattle.std.proofs.lemmas.List.{length-append, length-take-le}
 use Rattle.std.proofs.lemmas.List.Elements.{All-append, All-weaker}
 use mathlib.Core.List.{append-nil}
@@ -20,7 +20,8 @@ use Rattle.jb_handle.specs.declared.stopped.Stopped.{Stopped}
 use Rattle.jb_handle.proofs.Tickets.{tickets-append}
 use Rattle.jb_log.specs.Found.{log_blocks}
 use Rattle.jb_super.specs.Journal.{SameJournal}
-use Rattle.jb_deck.specs.Checkpoints.{AnswersCheckpoint, Checkpoints, TakesOldest}
+use Rattle.jb_deck.specs.Checkpoints.{AnswersCheckpoint, AnswersRun, Checkpoints, TakesRun}
+use Rattle.jb_group.specs.declared.group.Group.{Group}
 use Rattle.jb_deck.specs.Committing.{AnswersBatch, CommitsBatch, CommitsOnDisk, FindsLive, LeavesGroups, SettlesSome, TakesBatch}
 use Rattle.jb_deck.specs.Deck.{OpenDeck}
 use Rattle.jb_deck.specs.Done.{entries_of, past_after, start_of}
@@ -31,6 +32,7 @@ use Rattle.jb_deck.specs.Trailing.{FollowsSome}
 use Rattle.jb_deck.specs.declared.batched.BatchFault.{BatchFault}
 use Rattle.jb_deck.specs.declared.batched.BatchFault.TheVariants as batch
 use Rattle.jb_deck.specs.declared.checked.Checked.{Checked}
+use Rattle.jb_deck.specs.declared.checked.CheckedRun.{CheckedRun}
 use Rattle.jb_deck.specs.declared.checked.CheckpointFault.{CheckpointFault}
 use Rattle.jb_deck.specs.declared.checked.CheckpointFault.TheVariants as checkpoint
 use Rattle.jb_deck.specs.declared.done.Done.{Done}
@@ -39,7 +41,7 @@ use Rattle.jb_ring.proofs.Owning.{same-then}
 use Rattle.jb_deck.specs.Since.{LiveOf, checkpointed, committed, deck_homes}
 use Rattle.jb_deck.proofs.Sinces.{ended-is-call}
 use Rattle.jb_deck.proofs.Stood.{call-stood}
-use Rattle.jb_works.specs.Journal.{blocks_in_use, ChecksAt, ChecksRound, FailsAs, IsRound, TakesHomeAt}
+use Rattle.jb_works.specs.Journal.{blocks_in_use, most_at_once, ChecksAt, ChecksRound, FailsAs, IsRound, TakesHomeAt}
 use Rattle.jb_works.specs.declared.checkpoint.CheckpointRound.{CheckpointRound}
 use Rattle.jb_works.specs.declared.checkpoint.CheckpointRound.TheVariants.{Home}
 use Rattle.jb_book.specs.Origin.{Begun}
@@ -52,9 +54,14 @@ use Rattle.jb_works.proofs.Rounds.{for-follow}
 use Rattle.jb_book.proofs.Follows.{follow-past}
 
 -- what a round answers of what the journal answers
-abbrev pub round_of : Result Checked CheckpointFault → Result CheckpointRound CheckpointFault
-round_of (Ok checked) = Ok (Home checked)
+abbrev pub round_of : Result CheckedRun CheckpointFault → Result CheckpointRound CheckpointFault
+round_of (Ok run) = Ok (Home run)
 round_of (Err fault) = Err fault
+
+-- of no groups the first ones are none
+none-first : (gs : List Group) → take most_at_once gs ≡ [] → gs ≡ []
+none-first [] none = refl
+none-first (g ∷ gs) none = absurd (let h : ⊥ = cc in h)
 
 not-both : (x : Bool) → x ≡ true → x ≡ false → ⊥
 not-both true one other = let h : ⊥ = cc in h
@@ -391,21 +398,21 @@ module _ {D : Type 0} (G : Ghosts D) (counts_now : (disk : D) (t : ℕ) (c : Ima
     abbrev LeavesNone : Type 0
     LeavesNone = old.aborted ≡ false → G.honest new.disk → LeavesOnly G.moment G.left_since old.disk new.disk None
 
-    home-since : (checked : Checked) → G.faults new.disk ≡ G.faults old.disk → TakesOldest old new checked → Checkpoints G.newest old new → (given : List Stopped) → past_after 0 old.trail ≤ length given → (s : Stands given old) → old.aborted ≡ false → G.honest new.disk → LeavesOnly G.moment G.left_since old.disk new.disk None → Stands given new
-    home-since checked counted takes goes given settled s up held leaves =
-        let called = ended-is-call G.newest given old [] new (s.live up) (checkpointed checked new takes goes) in
+    home-since : (most : ℕ) (run : CheckedRun) → G.faults new.disk ≡ G.faults old.disk → TakesRun most old new run → Checkpoints G.newest old new → (given : List Stopped) → past_after 0 old.trail ≤ length given → (s : Stands given old) → old.aborted ≡ false → G.honest new.disk → LeavesOnly G.moment G.left_since old.disk new.disk None → Stands given new
+    home-since most run counted takes goes given settled s up held leaves =
+        let called = ended-is-call G.newest given old [] new (s.live up) (checkpointed most run new takes goes) in
         none-since given settled s up held leaves takes.trail (subst (λ l. SameJournal old.log.sb l.sb) (sym takes.log) refl) (ap (λ l. l.next) takes.log) (omega (arith, counted)) (λ few none. takes.live)
         (λ still. (goes.standing, subst (λ hs. LiveOf hs new.groups) (append-nil given) called.1))
 
-    pub checkpoint-since : (r : Result Checked CheckpointFault) → AnswersCheckpoint (G.faults old.disk) (G.faults new.disk) old new r → (G.honest new.disk → OnOk r (Checkpoints G.newest old new)) → LeavesNone → Is old → Is new
-    checkpoint-since (Ok checked) answers checkpoints leaves is = record {
+    pub checkpoint-since : (most : ℕ) (r : Result CheckedRun CheckpointFault) → AnswersRun most (G.faults old.disk) (G.faults new.disk) old new r → (G.honest new.disk → OnOk r (Checkpoints G.newest old new)) → LeavesNone → Is old → Is new
+    checkpoint-since most (Ok run) answers checkpoints leaves is = record {
       given = is.given;
       has = given-none is.given is.has answers.0 answers.2.trail answers.2.shape (ap (λ l. l.next) answers.2.log);
-      since = λ known_start held. let s = is.since known_start (kept.was_honest held) in home-since checked answers.1 answers.2 (checkpoints held) is.given is.has.settled s answers.0 held (leaves answers.0 held);
+      since = λ known_start held. let s = is.since known_start (kept.was_honest held) in home-since most run answers.1 answers.2 (checkpoints held) is.given is.has.settled s answers.0 held (leaves answers.0 held);
     }
-    checkpoint-since (Err checkpoint.Aborted) answers checkpoints leaves is = subst (λ (d : OpenDeck D). Is d) (sym answers.1) is
-    checkpoint-since (Err checkpoint.Nothing) answers checkpoints leaves is = subst (λ (d : OpenDeck D). Is d) (sym answers.2) is
-    checkpoint-since (Err checkpoint.DeviceFault) answers checkpoints leaves is =
+    checkpoint-since most (Err checkpoint.Aborted) answers checkpoints leaves is = subst (λ (d : OpenDeck D). Is d) (sym answers.1) is
+    checkpoint-since most (Err checkpoint.Nothing) answers checkpoints leaves is = subst (λ (d : OpenDeck D). Is d) (sym answers.2) is
+    checkpoint-since most (Err checkpoint.DeviceFault) answers checkpoints leaves is =
         let failed : new.aborted ≡ true = ap (λ (d : OpenDeck D). d.aborted) answers.3 in
         record {
           given = is.given;
@@ -421,13 +428,13 @@ module _ {D : Type 0} (G : Ghosts D) (counts_now : (disk : D) (t : ℕ) (c : Ima
 
     -- the journal was given the same handles
     module _ (leaves : LeavesNone) (is : Is old) where
-      pub checked-given : (checked : Checked) (answers : AnswersCheckpoint (G.faults old.disk) (G.faults new.disk) old new (Ok checked)) (checkpoints : G.honest new.disk → Checkpoints G.newest old new) → (checkpoint-since (Ok checked) answers checkpoints leaves is).given ≡ is.given
+      pub checked-given : (most : ℕ) (run : CheckedRun) (answers : AnswersRun most (G.faults old.disk) (G.faults new.disk) old new (Ok run)) (checkpoints : G.honest new.disk → Checkpoints G.newest old new) → (checkpoint-since most (Ok run) answers checkpoints leaves is).given ≡ is.given
       unfolding checkpoint-since
-      checked-given checked answers checkpoints = refl
+      checked-given most run answers checkpoints = refl
 
-      pub unchecked-given : (answers : AnswersCheckpoint (G.faults old.disk) (G.faults new.disk) old new (Err checkpoint.DeviceFault)) (checkpoints : G.honest new.disk → Unit {0}) → (checkpoint-since (Err checkpoint.DeviceFault) answers checkpoints leaves is).given ≡ is.given
+      pub unchecked-given : (most : ℕ) (answers : AnswersRun most (G.faults old.disk) (G.faults new.disk) old new (Err checkpoint.DeviceFault)) (checkpoints : G.honest new.disk → Unit {0}) → (checkpoint-since most (Err checkpoint.DeviceFault) answers checkpoints leaves is).given ≡ is.given
       unfolding checkpoint-since
-      unchecked-given answers checkpoints = refl
+      unchecked-given most answers checkpoints = refl
 
     pub checkpoint-round : (r : Result Checked CheckpointFault) → AnswersCheckpoint (G.faults old.disk) (G.faults new.disk) old new r → (G.honest new.disk → OnOk r (Checkpoints G.newest old new)) → Is old → Is new → ChecksRound G b r
     checkpoint-round (Ok checked) answers checkpoints is after = record {
@@ -446,21 +453,31 @@ module _ {D : Type 0} (G : Ghosts D) (counts_now : (disk : D) (t : ℕ) (c : Ima
 
     -- the same at a level, where as many blocks were in use unless the journal had failed
     module _ (level : ℕ) (high : old.aborted ≡ false → level ≤ blocks_in_use old) where
-      pub home-at : (checked : Checked) → AnswersCheckpoint (G.faults old.disk) (G.faults new.disk) old new (Ok checked) → (G.honest new.disk → Checkpoints G.newest old new) → Is old → Is new
-          → TakesHomeAt G b level checked
-      unfolding checkpoint-round
-      home-at checked answers checkpoints is after = record { takes = checkpoint-round (Ok checked) answers checkpoints is after; high = high answers.0 }
+      home-at : (run : CheckedRun) → AnswersRun most_at_once (G.faults old.disk) (G.faults new.disk) old new (Ok run) → (G.honest new.disk → Checkpoints G.newest old new) → Is old → Is new
+          → TakesHomeAt G b level run
+      home-at run answers checkpoints is after = record {
+        old = old;
+        new = new;
+        same_disk = kept;
+        up = answers.0;
+        high = high answers.0;
+        takes = answers.2;
+        checkpoints = λ known_start held. checkpoints held;
+        before = plain-is old is;
+        after = plain-is new after;
+      }
 
-      pub fault-at : (fault : CheckpointFault) → AnswersCheckpoint (G.faults old.disk) (G.faults new.disk) old new (Err fault) → Is old → Is new
+      fault-at : (fault : CheckpointFault) → AnswersRun most_at_once (G.faults old.disk) (G.faults new.disk) old new (Err fault) → Is old → Is new
           → ChecksAt G b level (Err fault)
-      fault-at checkpoint.Aborted answers is after = checkpoint-round (Err checkpoint.Aborted) answers (λ h. tt) is after
+      fault-at checkpoint.Aborted answers is after = record { deck = old; since = plain-is old is; failed = answers.0 }
       fault-at checkpoint.Nothing answers is after =
-          let none : blocks_in_use old ≡ 0 = ap (λ gs. log_blocks (transactions old.log gs)) answers.1 in
+          let empty = none-first old.groups answers.1 in
+          let none : blocks_in_use old ≡ 0 = ap (λ gs. log_blocks (transactions old.log gs)) empty in
           let some : level ≤ blocks_in_use old = high answers.0 in
-          (omega (arith, none, some), checkpoint-round (Err checkpoint.Nothing) answers (λ h. tt) is after)
-      fault-at checkpoint.DeviceFault answers is after = checkpoint-round (Err checkpoint.DeviceFault) answers (λ h. tt) is after
+          (omega (arith, none, some), record { deck = old; since = plain-is old is; up = answers.0; none = empty })
+      fault-at checkpoint.DeviceFault answers is after = record { deck = new; since = plain-is new after; failed = ap (λ (d : OpenDeck D). d.aborted) answers.3 }
 
-      pub round-at : (r : Result Checked CheckpointFault) → AnswersCheckpoint (G.faults old.disk) (G.faults new.disk) old new r → (G.honest new.disk → OnOk r (Checkpoints G.newest old new)) → Is old → Is new
+      pub round-at : (r : Result CheckedRun CheckpointFault) → AnswersRun most_at_once (G.faults old.disk) (G.faults new.disk) old new r → (G.honest new.disk → OnOk r (Checkpoints G.newest old new)) → Is old → Is new
           → ChecksAt G b level (round_of r)
-      round-at (Ok checked) answers checkpoints is after = home-at checked answers checkpoints is after
+      round-at (Ok run) answers checkpoints is after = home-at run answers checkpoints is after
       round-at (Err fault) answers checkpoints is after = fault-at fault answers is after

@@ -8,7 +8,7 @@ use Rattle.jb_disk.specs.Faults.{CountsAny}
 use Rattle.jb_disk.specs.KeptOn.{KeptOn}
 use Rattle.jb_disk.specs.declared.disk.Disk.{Ghosts}
 use Rattle.jb_log.specs.Found.{log_blocks}
-use Rattle.jb_deck.specs.Checkpoints.{AnswersCheckpoint, Checkpoints, TakesOldest}
+use Rattle.jb_deck.specs.Checkpoints.{AnswersRun, Checkpoints, TakesOldest, TakesRun}
 use Rattle.jb_deck.specs.Committing.{CommitsBatch, CommitsOnDisk, FindsLive, SettlesSome, TakesBatch}
 use Rattle.jb_deck.specs.Deck.{OpenDeck}
 use Rattle.jb_deck.specs.Done.{Follow, past_after, start_of}
@@ -18,6 +18,7 @@ use Rattle.jb_deck.specs.Taking.{CanTake, TakesTrail, oldest_number}
 use Rattle.jb_deck.specs.declared.batched.BatchFault.{BatchFault}
 use Rattle.jb_deck.specs.declared.batched.BatchFault.TheVariants as batch
 use Rattle.jb_deck.specs.declared.checked.Checked.{Checked}
+use Rattle.jb_deck.specs.declared.checked.CheckedRun.{CheckedRun}
 use Rattle.jb_deck.specs.declared.checked.CheckpointFault.{CheckpointFault}
 use Rattle.jb_deck.specs.declared.checked.CheckpointFault.TheVariants as checkpoint
 use Rattle.jb_deck.specs.declared.done.Done.{Done}
@@ -36,12 +37,16 @@ use Rattle.jb_works.specs.declared.checkpoint.CheckpointRound.TheVariants.{Low, 
 abbrev pub blocks_in_use : {D : Type 0} → OpenDeck D → ℕ
 blocks_in_use d = log_blocks (transactions d.log d.groups)
 
+-- how many groups go home together at most in a round at a level
+abbrev pub most_at_once : ℕ
+most_at_once = 64
+
 -- What a checkpoint at a level answers, and what it makes of the journal, of which so many calls had failed before it and after it. The journal has not failed
--- and fewer blocks of its log than the level are in use, exactly where it answers `Low`, with how many: it does nothing then. Otherwise it is the journal's own
+-- and fewer blocks of its log than the level are in use, exactly where it answers `Low`, with how many: it does nothing then. Otherwise it is the journal's own, of so many groups at most
 abbrev pub AnswersAt : {D : Type 0} → ℕ → ℕ → ℕ → OpenDeck D → OpenDeck D → Result CheckpointRound CheckpointFault → Type 0
 AnswersAt level before after old new (Ok (Low used)) = (old.aborted ≡ false) × (used ≡ blocks_in_use old) × (used < level) × (new ≡ old)
-AnswersAt level before after old new (Ok (Home checked)) = (level ≤ blocks_in_use old) × AnswersCheckpoint before after old new (Ok checked)
-AnswersAt level before after old new (Err fault) = ((old.aborted ≡ true) ⊎ (level ≤ blocks_in_use old)) × AnswersCheckpoint before after old new (Err fault)
+AnswersAt level before after old new (Ok (Home run)) = (level ≤ blocks_in_use old) × AnswersRun most_at_once before after old new (Ok run)
+AnswersAt level before after old new (Err fault) = ((old.aborted ≡ true) ⊎ (level ≤ blocks_in_use old)) × AnswersRun most_at_once before after old new (Err fault)
 
 module _ {D : Type 0} (G : Ghosts D) (b : Begun) where
   -- the desk's journal before and after it committed this batch, of which these are the groups; the handles that it was given are
@@ -163,16 +168,23 @@ module _ {D : Type 0} (G : Ghosts D) (b : Begun) where
     pub in_use : used ≡ blocks_in_use deck
     pub low : used < level
 
-  -- the oldest live group was written home, where so many blocks of the log were in use at least
-  pub record TakesHomeAt (level : ℕ) (checked : Checked) : Type 0 where
-    pub takes : TakesHome checked
-    pub high : level ≤ blocks_in_use takes.old
+  -- the desk's journal before and after its live groups were written home together, at most so many of them, where so many blocks of the log were in use at least
+  pub record TakesHomeAt (level : ℕ) (run : CheckedRun) : Type 0 where
+    pub old : OpenDeck D
+    pub new : OpenDeck D
+    pub same_disk : KeptOn G CountsAny old.disk new.disk
+    pub up : old.aborted ≡ false
+    pub high : level ≤ blocks_in_use old
+    pub takes : TakesRun most_at_once old new run
+    pub checkpoints : b.is_known → G.honest new.disk → Checkpoints G.newest old new
+    pub before : IsSince G b old
+    pub after : IsSince G b new
 
-  -- What a round of a checkpointer at a level has done: fewer blocks of the log are in use; or the oldest group is home and as many were; or none was live, and the
-  -- level is 0; or the journal has failed
+  -- What a round of a checkpointer at a level has done: fewer blocks of the log are in use; or as many were, and the oldest groups are home, all that were live or so many;
+  -- or none was live, and the level is 0; or the journal has failed
   abbrev pub ChecksAt : ℕ → Result CheckpointRound CheckpointFault → Type 0
   ChecksAt level (Ok (Low used)) = IsLow level used
-  ChecksAt level (Ok (Home checked)) = TakesHomeAt level checked
+  ChecksAt level (Ok (Home run)) = TakesHomeAt level run
   ChecksAt level (Err checkpoint.Nothing) = (level ≡ 0) × HasNone
   ChecksAt level (Err checkpoint.Aborted) = HasFailed
   ChecksAt level (Err checkpoint.DeviceFault) = HasFailed

@@ -9,6 +9,9 @@ use jb_handle::Words;
 use jb_history::{Scribe, Sight};
 use std::marker::{Model, PhantomData};
 
+/// How many transactions a round at a level writes home at most: while it does so, nothing is committed.
+const MOST_AT_ONCE: usize = 64;
+
 /// What the second lock of a desk guards: the journal on its disk, and the clock that stamps its
 /// groups, with a first part of the history of stops, and the right to add marks. The journal stands as it must since
 /// the desk was started, and was given the first handles of this history. Its marks last: a crash at any moment since
@@ -134,7 +137,8 @@ impl<D: Disk, C: Clock, S: Origin> Works<D, C, S> {
         self.deck.checkpoint_one()
     }
 
-    /// The same, where so many blocks of the log are in use at least.
+    /// Writes the committed groups home together, at most 64 of them, where so many blocks of the log are in use at
+    /// least.
     ///
     /// # Errors
     ///
@@ -149,8 +153,8 @@ impl<D: Disk, C: Clock, S: Origin> Works<D, C, S> {
         if !self.deck.aborted() && in_use < level {
             return Ok(CheckpointRound::Low(in_use));
         }
-        match self.deck.checkpoint_one() {
-            Ok(checked) => Ok(CheckpointRound::Home(checked)),
+        match self.deck.checkpoint_up_to(MOST_AT_ONCE) {
+            Ok(run) => Ok(CheckpointRound::Home(run)),
             Err(fault) => Err(fault),
         }
     }

@@ -1,7 +1,7 @@
 use Rattle.std.proofs.Common.{rules, ◌≡◌, ◌≤◌, false, subst, sym, ap, ◌∙◌, arith, Result}
 use Rattle.jb_deck.specs.declared.checked.CheckpointFault.{CheckpointFault}
 use Rattle.jb_works.specs.History.{IsStop}
-use Rattle.jb_works.specs.Journal.{blocks_in_use, ChecksAt}
+use Rattle.jb_works.specs.Journal.{blocks_in_use, most_at_once, ChecksAt}
 use Rattle.jb_works.specs.Since.{may_stop}
 use Rattle.jb_works.specs.declared.checkpoint.CheckpointRound.{CheckpointRound}
 use Rattle.jb_works.proofs.Marked.{checkpoint-marked}
@@ -21,8 +21,8 @@ returns-then-in_use-level-clause-round g c = record {
 pub invariant_of-self : goal.invariant_of-self
 invariant_of-self g c =
     checkpoint-marked g.D.Disk g.met.D.Disk.counts_now g.S.Origin.begun (IsStop g.S.Origin.begun c.self.inside.sight) (λ h s. s.0)
-    c.self.inside.deck c.checkpoint_one.new.self c.checkpoint_one.ensures.kept c.self.inside.scribe
-    c.checkpoint_one.result c.checkpoint_one.ensures.answers c.checkpoint_one.ensures.checkpoints c.checkpoint_one.ensures.leaves c.self.invariant
+    c.self.inside.deck c.checkpoint_up_to.new.self c.checkpoint_up_to.ensures.kept c.self.inside.scribe
+    most_at_once c.checkpoint_up_to.result c.checkpoint_up_to.ensures.answers c.checkpoint_up_to.ensures.checkpoints c.checkpoint_up_to.ensures.leaves c.self.invariant
 
 pub returns-clause-round : goal.returns-clause-round
 returns-clause-round g c =
@@ -32,10 +32,10 @@ returns-clause-round g c =
       | else-not-aborted-via-then-not-aborted+else-in_use-level w ↦ λ up. (let low = w.if-in_use-level.false in let blocks = c.in_use-in_use.ensures.blocks in omega (arith, low, blocks))
       | else-not-aborted-via-else-not-aborted w ↦ λ up. absurd (let h : ⊥ = cc in h)
     ] in
-    let is : round_of c.checkpoint_one.result ≡ c.match-checkpoint_one.result = elim c.match-checkpoint_one.branch [
+    let is : round_of c.checkpoint_up_to.result ≡ c.match-checkpoint_up_to.result = elim c.match-checkpoint_up_to.branch [
       | in-Ok w ↦ ap round_of w.in-Ok.is ∙ sym w.result-is
       | in-Err w ↦ ap round_of w.in-Err.is ∙ sym w.result-is
     ] in
     subst (λ (r : Result CheckpointRound CheckpointFault). ChecksAt g.D.Disk g.S.Origin.begun c.args.level r) is
-    (round-at g.D.Disk g.met.D.Disk.counts_now g.S.Origin.begun (IsStop g.S.Origin.begun c.self.inside.sight) (λ h s. s.0) deck c.checkpoint_one.new.self c.checkpoint_one.ensures.kept c.args.level high
-    c.checkpoint_one.result c.checkpoint_one.ensures.answers c.checkpoint_one.ensures.checkpoints c.self.invariant.since (invariant_of-self g c).since)
+    (round-at g.D.Disk g.met.D.Disk.counts_now g.S.Origin.begun (IsStop g.S.Origin.begun c.self.inside.sight) (λ h s. s.0) deck c.checkpoint_up_to.new.self c.checkpoint_up_to.ensures.kept c.args.level high
+    c.checkpoint_up_to.result c.checkpoint_up_to.ensures.answers c.checkpoint_up_to.ensures.checkpoints c.self.invariant.since (invariant_of-self g c).since)
