@@ -2,11 +2,15 @@
 #![tactic(auto)]
 
 #[cfg(test)]
+mod books;
+#[cfg(test)]
 mod cases;
 #[cfg(test)]
 mod changes;
 #[cfg(test)]
 mod checks;
+#[cfg(test)]
+mod clients;
 #[cfg(test)]
 mod commits;
 #[cfg(test)]

@@ -147,7 +147,7 @@ pub fn next_ticket<D: Disk>(deck: &Deck<D>) -> u64 {
 }
 
 /// Whether entries are these.
-fn are(entries: &[Entry], told: &[Told]) -> bool {
+pub fn are(entries: &[Entry], told: &[Told]) -> bool {
     for (entry, wanted) in entries.iter().zip(told) {
         if (entry.first, entry.past, entry.number, entry.blocks) != *wanted {
             return false;

@@ -26,13 +26,9 @@ use std::time::{Clock, Duration};
 /// What a round of a checkpointer answers.
 type Answer = Result<CheckpointRound, CheckpointFault>;
 
-/// After so many commits a round at this level: what it answers, and the first byte of home 0 on the disk then.
-struct Row {
-    commits: u64,
-    level: u32,
-    answer: Answer,
-    byte: u8,
-}
+/// How many commits, and the level of the round after them; what it answers, and the first byte of home 0 on the disk
+/// then.
+type Row = (u64, u32, Answer, u8);
 
 /// Commits so many handles one by one, each of which writes the next home.
 fn commit_all<R: Wait, D: Disk, H: Origin, N: Ledger>(
@@ -64,25 +60,14 @@ fn check_row<R: Abort + Wait, H: Origin, N: Ledger>(
     requires any { (words : WordMap) → H.begun.stops words }
     requires parts { (H.parts ≡ 2 ^ 61 + 1) × (N.parts ≡ 2 ^ 61 + 1) }
 {
-    let seat = commit_all(rt, &desk, seated(rt, &desk), row.commits);
-    let answer = desk.checkpoint_round_at(rt, row.level);
+    let (commits, level, answer, byte) = *row;
+    let seat = commit_all(rt, &desk, seated(rt, &desk), commits);
+    let is_told = desk.checkpoint_round_at(rt, level) == answer;
     let lefts = left(rt, alloc, &desk, seat);
     let mut closed = closed(rt, desk, lefts);
-    let byte = home(rt, &mut closed.disk, 0)[0];
-    check_in(
-        rt,
-        answer == row.answer,
-        number,
-        "the answer after commits:",
-        row.commits,
-    );
-    check_in(
-        rt,
-        byte == row.byte,
-        number,
-        "the byte at home:",
-        u64::from(byte),
-    );
+    let found = home(rt, &mut closed.disk, 0)[0];
+    check_in(rt, is_told, number, "the answer after commits:", commits);
+    check_in(rt, found == byte, number, "the byte at home:", found.into());
 }
 
 /// A row on a new desk.
@@ -120,60 +105,15 @@ const TWO: Answer = Ok(CheckpointRound::Home(CheckedRun {
 
 /// Each commit takes three blocks of the log.
 static ROWS: [Row; 9] = [
-    Row {
-        commits: 0,
-        level: 0,
-        answer: Err(CheckpointFault::Nothing),
-        byte: 0,
-    },
-    Row {
-        commits: 0,
-        level: 1,
-        answer: Ok(CheckpointRound::Low(0)),
-        byte: 0,
-    },
-    Row {
-        commits: 1,
-        level: 0,
-        answer: ONE,
-        byte: 7,
-    },
-    Row {
-        commits: 1,
-        level: 3,
-        answer: ONE,
-        byte: 7,
-    },
-    Row {
-        commits: 1,
-        level: 4,
-        answer: Ok(CheckpointRound::Low(3)),
-        byte: 0,
-    },
-    Row {
-        commits: 2,
-        level: 0,
-        answer: TWO,
-        byte: 7,
-    },
-    Row {
-        commits: 2,
-        level: 6,
-        answer: TWO,
-        byte: 7,
-    },
-    Row {
-        commits: 2,
-        level: 7,
-        answer: Ok(CheckpointRound::Low(6)),
-        byte: 0,
-    },
-    Row {
-        commits: 2,
-        level: u32::MAX,
-        answer: Ok(CheckpointRound::Low(6)),
-        byte: 0,
-    },
+    (0, 0, Err(CheckpointFault::Nothing), 0),
+    (0, 1, Ok(CheckpointRound::Low(0)), 0),
+    (1, 0, ONE, 7),
+    (1, 3, ONE, 7),
+    (1, 4, Ok(CheckpointRound::Low(3)), 0),
+    (2, 0, TWO, 7),
+    (2, 6, TWO, 7),
+    (2, 7, Ok(CheckpointRound::Low(6)), 0),
+    (2, u32::MAX, Ok(CheckpointRound::Low(6)), 0),
 ];
 
 #[test]
@@ -235,18 +175,8 @@ fn commit_beside<R: Abort + Wait + Clock, D: Disk, H: Origin, N: Ledger>(
     let high = in_use_at_last(rt, desk);
     let _left = desk.leave(rt, seat);
     desk.shut(rt);
-    check_at(
-        rt,
-        low == 6,
-        "blocks in use after two groups:",
-        u64::from(low),
-    );
-    check_at(
-        rt,
-        high == 0,
-        "blocks in use after three groups:",
-        u64::from(high),
-    );
+    check_at(rt, low == 6, "blocks after two groups:", low.into());
+    check_at(rt, high == 0, "blocks after three groups:", high.into());
 }
 
 /// Commits beside a checkpointer at the level, which leaves no group once the desk is over.
@@ -268,16 +198,9 @@ fn beside<
         || commit_beside(rt, &desk),
     );
     let last = desk.checkpoint_round(rt);
-    check(
-        rt,
-        ended.is_shut(),
-        "the checkpointer does not end with the desk",
-    );
-    check(
-        rt,
-        last == Err(CheckpointFault::Nothing),
-        "a group is left in the log",
-    );
+    check(rt, ended.is_shut(), "the end of the checkpointer");
+    let is_empty = last == Err(CheckpointFault::Nothing);
+    check(rt, is_empty, "a group is left in the log");
 }
 
 #[test]

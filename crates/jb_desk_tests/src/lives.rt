@@ -21,27 +21,16 @@ use std::process::Abort;
 use std::sync::Wait;
 use std::sync::ledger::{Blank, Ledger};
 
-/// How a desk lives: in each round a handle stops and is committed, a group is brought home or is not, and the trail is
-/// taken or is not.
-struct Life {
-    rounds: u64,
-    checkpoints: bool,
-    takes: bool,
-}
+/// How a desk lives: how many rounds, in each of which a handle stops and is committed, whether a group is brought home
+/// in each, and whether the trail is taken.
+type Life = (u64, bool, bool);
 
-/// What such a life comes to.
-struct Lived {
-    /// how many entries were taken
-    taken: usize,
-    /// how many entries the trail has had at most
-    longest: usize,
-    /// how many are left at the end
-    left: usize,
-    /// what is answered of the first ticket
-    first: Result<u32, WaitFault>,
-    /// what is answered of the last ticket
-    last: Result<u32, WaitFault>,
-}
+/// What such a life comes to: how many entries were taken, how many the trail has had at most, and how many are left at
+/// the end; and what is answered of the first ticket, and of the last one.
+type Lived = (usize, usize, usize, Answer, Answer);
+
+/// What is answered of a ticket.
+type Answer = Result<u32, WaitFault>;
 
 /// What was taken of a trail.
 #[derive(Drop)]
@@ -101,14 +90,15 @@ fn check_entries(rt: &impl Abort, row: u64, entries: &[Entry], first: usize) {
 fn tend<R: Abort + Wait, D: Disk, H: Origin, N: Ledger>(
     rt: &R,
     desk: &Still<D, H, N>,
-    life: &Life,
+    life: Life,
     taken: &mut Taken,
 ) {
+    let (_, checkpoints, takes) = life;
     taken.add();
-    if life.checkpoints {
+    if checkpoints {
         let _checked = desk.checkpoint_round(rt);
     }
-    if life.takes {
+    if takes {
         taken.take(rt, desk.take_trail(rt));
     }
 }
@@ -118,7 +108,7 @@ fn rounds<R: Abort + Wait, D: Disk, H: Origin, N: Ledger>(
     rt: &R,
     desk: &Still<D, H, N>,
     seat: Seat<H, N>,
-    life: &Life,
+    life: Life,
     taken: &mut Taken,
 ) -> Seat<H, N>
     requires any { (words : WordMap) → H.begun.stops words }
@@ -126,7 +116,7 @@ fn rounds<R: Abort + Wait, D: Disk, H: Origin, N: Ledger>(
     ensures { desk_of result ≡ desk_id desk.now }
 {
     let mut seat = seat;
-    for round in 0..life.rounds {
+    for round in 0..life.0 {
         let (back, _) = commit(rt, desk, seat, round % 16);
         seat = back;
         tend(rt, desk, life, taken);
@@ -144,25 +134,21 @@ fn check_numbers<R: Abort + Wait, D: Disk, H: Origin, N: Ledger>(
 )
     requires desk { desk_of seat.old ≡ desk_id desk.now }
 {
-    let (life, lived) = row;
-    let ticket = life.rounds.saturating_sub(1);
-    let is_first = desk.wait(rt, seat, &mut desk.sights(rt), 0) == lived.first;
-    let is_last = desk.wait(rt, seat, &mut desk.sights(rt), ticket) == lived.last;
+    let ((rounds, _, _), (_, _, _, first, last)) = *row;
+    let ticket = rounds.saturating_sub(1);
+    let is_first = desk.wait(rt, seat, &mut desk.sights(rt), 0) == first;
+    let is_last = desk.wait(rt, seat, &mut desk.sights(rt), ticket) == last;
     check_in(rt, is_first, number, "the number of ticket", 0);
     check_in(rt, is_last, number, "the number of ticket", ticket);
 }
 
 /// Checks what was taken of a trail, and what is left of it.
-fn check_trail(rt: &impl Abort, number: u64, lived: &Lived, taken: &Taken, trail: &[Entry]) {
-    let count = taken.entries.len();
-    let is_taken = count == lived.taken;
-    let longest = taken.longest;
-    let is_longest = longest == lived.longest;
-    let left = trail.len();
-    let is_left = left == lived.left;
-    check_in(rt, is_taken, number, "entries taken:", count as u64);
-    check_in(rt, is_longest, number, "entries at most:", longest as u64);
-    check_in(rt, is_left, number, "entries left:", left as u64);
+fn check_trail(rt: &impl Abort, number: u64, lived: Lived, taken: &Taken, trail: &[Entry]) {
+    let (wanted, at_most, at_last, _, _) = lived;
+    let (count, longest, left) = (taken.entries.len(), taken.longest, trail.len());
+    check_in(rt, count == wanted, number, "entries taken:", count as u64);
+    check_in(rt, longest == at_most, number, "at most:", longest as u64);
+    check_in(rt, left == at_last, number, "left:", left as u64);
     check_entries(rt, number, &taken.entries, 0);
     check_entries(rt, number, trail, count);
 }
@@ -178,14 +164,14 @@ fn outcome<R: Abort + Wait, H: Origin, N: Ledger>(
     requires any { (words : WordMap) → H.begun.stops words }
     requires parts { (H.parts ≡ 2 ^ 61 + 1) × (N.parts ≡ 2 ^ 61 + 1) }
 {
-    let (life, lived) = row;
+    let (life, lived) = *row;
     let mut taken = Taken::new(alloc);
     let mut seat = rounds(rt, &desk, seated(rt, &desk), life, &mut taken);
     check_numbers(rt, &desk, &mut seat, number, row);
     let lefts = left(rt, alloc, &desk, seat);
     let closed = closed(rt, desk, lefts);
     let handles = closed.handles;
-    check_in(rt, handles == life.rounds, number, "handles:", handles);
+    check_in(rt, handles == life.0, number, "handles:", handles);
     check_trail(rt, number, lived, &taken, &closed.trail);
 }
 
@@ -209,79 +195,17 @@ fn live<R: Abort + Wait, H: Origin, N: Ledger>(
     outcome(rt, alloc, number, row, desk)
 }
 
+/// The entry of the ticket was taken.
+const GONE: Answer = Err(WaitFault::Taken);
+
 /// Where each group is brought home at once, the trail has two entries at most; where none is but for room, the 32
 /// blocks of the log hold ten groups of three, and one group more is home.
 static ROWS: [(Life, Lived); 5] = [
-    (
-        Life {
-            rounds: 100,
-            checkpoints: true,
-            takes: true,
-        },
-        Lived {
-            taken: 99,
-            longest: 2,
-            left: 1,
-            first: Err(WaitFault::Taken),
-            last: Ok(101),
-        },
-    ),
-    (
-        Life {
-            rounds: 100,
-            checkpoints: true,
-            takes: false,
-        },
-        Lived {
-            taken: 0,
-            longest: 100,
-            left: 100,
-            first: Ok(2),
-            last: Ok(101),
-        },
-    ),
-    (
-        Life {
-            rounds: 100,
-            checkpoints: false,
-            takes: true,
-        },
-        Lived {
-            taken: 90,
-            longest: 11,
-            left: 10,
-            first: Err(WaitFault::Taken),
-            last: Ok(101),
-        },
-    ),
-    (
-        Life {
-            rounds: 8,
-            checkpoints: false,
-            takes: true,
-        },
-        Lived {
-            taken: 0,
-            longest: 8,
-            left: 8,
-            first: Ok(2),
-            last: Ok(9),
-        },
-    ),
-    (
-        Life {
-            rounds: 1,
-            checkpoints: true,
-            takes: true,
-        },
-        Lived {
-            taken: 0,
-            longest: 1,
-            left: 1,
-            first: Ok(2),
-            last: Ok(2),
-        },
-    ),
+    ((100, true, true), (99, 2, 1, GONE, Ok(101))),
+    ((100, true, false), (0, 100, 100, Ok(2), Ok(101))),
+    ((100, false, true), (90, 11, 10, GONE, Ok(101))),
+    ((8, false, true), (0, 8, 8, Ok(2), Ok(9))),
+    ((1, true, true), (0, 1, 1, Ok(2), Ok(2))),
 ];
 
 #[test]

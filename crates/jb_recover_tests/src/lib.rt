@@ -10,6 +10,8 @@ mod crashes;
 #[cfg(test)]
 mod disks;
 #[cfg(test)]
+mod extents;
+#[cfg(test)]
 mod faults;
 #[cfg(test)]
 mod foreign;
@@ -22,9 +24,13 @@ mod fronts;
 #[cfg(test)]
 mod images;
 #[cfg(test)]
+mod joined;
+#[cfg(test)]
 mod logs;
 #[cfg(test)]
 mod mixtures;
+#[cfg(test)]
+mod pairs;
 #[cfg(test)]
 mod peeks;
 #[cfg(test)]

@@ -29,7 +29,7 @@ const FIVE: &[(usize, [u8; 8])] = &[(5, [0xC0, 0x3B, 0x39, 0x98, 1, 2, 3, 4]), (
 /// Handles that touch the same two blocks, with contents of their own.
 const SAME: &str = "bs 1024\nlimit 3\nh w1=01 w2=01\nh w1=02 w2=02\nh w1=03 w2=03\nh w1=04 w2=04\n";
 
-static LOADS: [Load; 14] = [
+static LOADS: [Load; 15] = [
     Load {
         format: &[],
         options: &["--hold"],
@@ -157,20 +157,30 @@ static LOADS: [Load; 14] = [
         recovered: "transactions 0 copies 0 revoked 0 next 2\n",
         homes: &[],
     },
+    // the text's blocks are smaller than the image's
+    Load {
+        format: &["--bs", "2048"],
+        options: &[],
+        text: TEN,
+        end: (1, "", "jb: BlockSize\n"),
+        recovered: "transactions 0 copies 0 revoked 0 next 2\n",
+        homes: &[],
+    },
 ];
 
-/// The words of `jb format`: 33 blocks of journal and 16 home blocks.
+/// The words of `jb format`: 33 blocks of journal and 16 home blocks, of a size that a row may name in place of the last
+/// two.
 static FORMAT: [&str; 10] = [
     "format",
     "loaded.img",
-    "--bs",
-    "1024",
     "--journal",
     "33",
     "--homes",
     "16",
     "--uuid",
     "000102030405060708090a0b0c0d0e0f",
+    "--bs",
+    "1024",
 ];
 
 /// Writes an image with a new journal of 33 blocks and 16 home blocks, and a queue text.
@@ -181,7 +191,11 @@ fn make(rt: &impl Host, format: &[&str], text: &str, row: usize) {
         ["--max", "6"] => "formatted limit 6\n",
         _ => "formatted limit 8\n",
     };
-    let words = joined(rt, &FORMAT, format);
+    let words = match format {
+        ["--bs", ..] => &FORMAT[..8],
+        _ => &FORMAT,
+    };
+    let words = joined(rt, words, format);
     check_run(rt, &words, (0, out, ""), "format", row)
 }
 

@@ -1,11 +1,13 @@
 //! Lists of extents, and a journal that stands within its home blocks.
 
-use crate::calls::look;
 use crate::checks::By;
+use crate::pairs::look;
 use jb_block::BlockSize;
 use jb_disk::{Disk, Fault};
 use jb_extents::{Extents, ExtentsDisk, ListFault};
-use tests_support::{Bench, Must, Test, check, check_at, check_in, check_row, write_block, zeros};
+use tests_support::{
+    Bench, Must, Test, check, check_at, check_in, check_row, crashed, write_block, zeros,
+};
 
 /// What a list says: where these blocks of the journal stand, and how many blocks it has; or none.
 type Said = Option<(&'static [(u64, Option<u64>)], u64)>;
@@ -138,7 +140,8 @@ fn check_calls(test: &impl Bench) {
     check_blocks(test, &mut disk);
     let own = (disk.first_own(&[2, 4, 8, 3]), disk.first_own(&[2, 4]));
     check(test, own == (Some(8), None), "the first of its own");
-    let mut image = disk.into_inner();
+    // a crash leaves what was synced
+    let mut image = crashed(test, &disk.into_inner(), &[]);
     for (block, byte) in [(8, 1), (9, 2), (3, 3), (0, 4), (11, 5), (1, 0)] {
         check_at(test, look(&mut image, block) == Ok(byte), "block", block)
     }

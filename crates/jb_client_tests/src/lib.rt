@@ -1,5 +1,0 @@
-//! Tests of the clients of the journal.
-#![tactic(auto)]
-
-#[cfg(test)]
-mod clients;
