@@ -12,9 +12,20 @@ def text_of(*path):
         return file.read()
 
 
+def crate_rows():
+    """The rows of crates.txt: the layer that is over each, or None, its crate, the libraries that this uses, and those of them
+    that its code does not name."""
+    layer = None
+    for line in text_of("crates.txt").splitlines():
+        heading, row = re.match(r"# Layer: (.*)", line), re.match(r"(\w+):([^#]*)(.*)", line)
+        layer = heading.group(1) if heading else layer
+        if row:
+            yield layer, row.group(1), row.group(2).split(), row.group(3).partition("proofs alone:")[2].split()
+
+
 def crates():
     """The names of the crates, in the order of crates.txt: each after all that it uses, and then those that it does not name."""
-    named = re.findall(r"^(\w+):", text_of("crates.txt"), re.M)
+    named = [name for _, name, _, _ in crate_rows()]
     there = sorted(os.listdir(os.path.join(ROOT, "crates")))
     return [name for name in named if name in there] + [name for name in there if name not in named]
 

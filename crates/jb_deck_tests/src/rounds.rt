@@ -42,8 +42,8 @@ const MORE: &[u32] = &[
 ];
 
 /// The first twenty homes as one handle, and the next twenty as another.
-const TWENTIES: &str =
-    "h w0 w1 w2 w3 w4 w5 w6 w7 w8 w9 w10 w11 w12 w13 w14 w15 w16 w17 w18 w19\nh w20 w21 w22 w23 w24 w25 w26 w27 w28 w29 w30 w31 w32 w33 w34 w35 w36 w37 w38 w39\n";
+const TWENTIES: &str = "h w0 w1 w2 w3 w4 w5 w6 w7 w8 w9 w10 w11 w12 w13 w14 w15 w16 w17 w18 w19\n\
+     h w20 w21 w22 w23 w24 w25 w26 w27 w28 w29 w30 w31 w32 w33 w34 w35 w36 w37 w38 w39\n";
 
 /// Each fills the log; the second one then begins it anew.
 static FILLS: [Case; 2] = [

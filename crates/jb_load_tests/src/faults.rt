@@ -15,7 +15,8 @@ use std::time::{Clock, Duration};
 
 /// Five handles, each of which writes its number to two home blocks.
 const FIVE: &str =
-    "bs 1024\nlimit 6\nh w1=01 w2=01 w3=01\nh w1=02 w2=02 w4=02\nh w1=03 w2=03 w5=03\nh w1=04 w2=04 w6=04\nh w1=05 w2=05 w7=05\n";
+    "bs 1024\nlimit 6\nh w1=01 w2=01 w3=01\nh w1=02 w2=02 w4=02\nh w1=03 w2=03 w5=03\nh w1=04 w2=04 w6=04\n\
+     h w1=05 w2=05 w7=05\n";
 
 /// Loads with the call of this number as the first that fails, and as the only one too; gives the number of handles
 /// that recovery finds.

@@ -9,7 +9,8 @@ use std::process::Abort;
 
 /// The text of a journal that is clean.
 const CLEAN: &str =
-    "super bs=1024 maxlen=33 first=1 sequence=1 start=0 errno=0 compat=00000000 incompat=00000001 rocompat=00000000 max=0 limit=8
+    "super bs=1024 maxlen=33 first=1 sequence=1 start=0 errno=0 compat=00000000 incompat=00000001 \
+     rocompat=00000000 max=0 limit=8
 uuid 00000000000000000000000000000000
 clean next=2
 ";

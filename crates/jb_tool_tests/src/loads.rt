@@ -115,7 +115,8 @@ static LOADS: [Load; 15] = [
     Load {
         format: &[],
         options: &["--hold"],
-        text: "bs 1024\nlimit 3\nh w0=01 w1 w2 w3 w4 w5\nh w6 w7 w8 w9 w10 w11\nh w0=02 w1 w2 w3 w4 w5\nh w6 w7 w8 w9 w10 w11\nh w0=03 w1 w2 w3 w4 w5\n",
+        text: "bs 1024\nlimit 3\nh w0=01 w1 w2 w3 w4 w5\nh w6 w7 w8 w9 w10 w11\nh w0=02 w1 w2 w3 w4 w5\n\
+               h w6 w7 w8 w9 w10 w11\nh w0=03 w1 w2 w3 w4 w5\n",
         end: (0, "handles 5 changes 30 settled 5 groups 5 blocks 40\n", ""),
         recovered: "transactions 4 copies 24 revoked 0 next 8\n",
         homes: &[(0, [3, 0, 0, 0, 0, 0, 0, 0])],
@@ -241,7 +242,8 @@ fn check_stamp(rt: &impl Host) {
     let options = ["--stamp", "18446744073709551615"];
     check_words(rt, &options, (0, TEN_LOADED, ""), 0);
     let text =
-        "super bs=1024 maxlen=33 first=1 sequence=2 start=1 errno=0 compat=00000000 incompat=00000001 rocompat=00000000 max=0 limit=8
+        "super bs=1024 maxlen=33 first=1 sequence=2 start=1 errno=0 compat=00000000 incompat=00000001 \
+         rocompat=00000000 max=0 limit=8
 uuid 000102030405060708090a0b0c0d0e0f
 1 revoke number=2 count=20 homes=7
 2 descriptor number=2 tags=1

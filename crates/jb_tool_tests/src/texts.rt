@@ -96,7 +96,8 @@ static ROWS: [Row; 21] = [
         (
             2,
             "",
-            "error: the following required arguments were not provided:\n  <FILE>\n\nUsage: jb cost <FILE>\n\nFor more information, try '--help'.\n",
+            "error: the following required arguments were not provided:\n  <FILE>\n\nUsage: jb cost <FILE>\n\n\
+             For more information, try '--help'.\n",
         ),
     ),
 ];

@@ -15,7 +15,8 @@ c00:706c6169 6e206461 74612030 310a0000
 1800:c03b3998 2 2 1830:6b02b754 0 275e3770";
 
 const REVOKED_TEXT: &str =
-    "super bs=1024 maxlen=1024 first=1 sequence=1 start=1 errno=0 compat=00000000 incompat=00000001 rocompat=00000000 max=0 limit=255
+    "super bs=1024 maxlen=1024 first=1 sequence=1 start=1 errno=0 compat=00000000 incompat=00000001 \
+     rocompat=00000000 max=0 limit=255
 uuid 000102030405060708090a0b0c0d0e0f
 1 descriptor number=1 tags=2
 2 copy home=3001 flags=1 head=0000000001020304
@@ -45,7 +46,8 @@ c00:706c6169 6e206461 74612030 310a0000
 3c00:c03b3998 2 4 3c30:6b02d441 0 38053b78";
 
 pub const SESSION_TEXT: &str =
-    "super bs=1024 maxlen=1024 first=1 sequence=1 start=1 errno=0 compat=00000000 incompat=00000001 rocompat=00000000 max=0 limit=255
+    "super bs=1024 maxlen=1024 first=1 sequence=1 start=1 errno=0 compat=00000000 incompat=00000001 \
+     rocompat=00000000 max=0 limit=255
 uuid 000102030405060708090a0b0c0d0e0f
 1 descriptor number=1 tags=2
 2 copy home=3001 flags=1 head=0000000001020304
@@ -80,7 +82,8 @@ a000:c03b3998 5 3 14 bb9
 b000:c03b3998 2 3 b030:6b02d445 0 1cba2428";
 
 const LARGE_BLOCKS_TEXT: &str =
-    "super bs=4096 maxlen=1024 first=1 sequence=1 start=1 errno=0 compat=00000000 incompat=00000001 rocompat=00000000 max=0 limit=255
+    "super bs=4096 maxlen=1024 first=1 sequence=1 start=1 errno=0 compat=00000000 incompat=00000001 \
+     rocompat=00000000 max=0 limit=255
 uuid 000102030405060708090a0b0c0d0e0f
 1 descriptor number=1 tags=2
 2 copy home=3001 flags=1 head=0000000001020304
@@ -115,7 +118,8 @@ c00:706c6169 6e206461 74612030 310a0000
 3c00:c03b3998 2 4 3c30:6b03a430 0 39f3c508";
 
 const WIDE_TEXT: &str =
-    "super bs=1024 maxlen=1024 first=1 sequence=1 start=1 errno=0 compat=00000000 incompat=00000003 rocompat=00000000 max=0 limit=255
+    "super bs=1024 maxlen=1024 first=1 sequence=1 start=1 errno=0 compat=00000000 incompat=00000003 \
+     rocompat=00000000 max=0 limit=255
 uuid 000102030405060708090a0b0c0d0e0f
 1 descriptor number=1 tags=2
 2 copy home=3001 flags=1 head=0000000001020304

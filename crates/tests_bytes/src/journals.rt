@@ -22,7 +22,8 @@ c00:0 1020304 0 0
 
 /// The text of the journal that is made by hand.
 pub const REVOKE_AND_COPY_TEXT: &str =
-    "super bs=1024 maxlen=33 first=1 sequence=2 start=1 errno=0 compat=00000000 incompat=00000001 rocompat=00000000 max=0 limit=8
+    "super bs=1024 maxlen=33 first=1 sequence=2 start=1 errno=0 compat=00000000 incompat=00000001 \
+     rocompat=00000000 max=0 limit=8
 uuid 000102030405060708090a0b0c0d0e0f
 1 revoke number=2 count=20 homes=7
 2 descriptor number=2 tags=1
@@ -98,7 +99,8 @@ c00:c03b3998 2 2 0
 
 /// Its text.
 pub const WRAPPED_TEXT: &str =
-    "super bs=1024 maxlen=33 first=1 sequence=2 start=30 errno=0 compat=00000000 incompat=00000001 rocompat=00000000 max=0 limit=8
+    "super bs=1024 maxlen=33 first=1 sequence=2 start=30 errno=0 compat=00000000 incompat=00000001 \
+     rocompat=00000000 max=0 limit=8
 uuid 000102030405060708090a0b0c0d0e0f
 30 descriptor number=2 tags=4
 31 copy home=5 flags=0 head=0000000100000002
@@ -110,7 +112,8 @@ end transactions=1 expected=3
 ";
 
 const WIDE_TEXT: &str =
-    "super bs=1024 maxlen=33 first=1 sequence=2 start=1 errno=0 compat=00000000 incompat=00000003 rocompat=00000000 max=0 limit=8
+    "super bs=1024 maxlen=33 first=1 sequence=2 start=1 errno=0 compat=00000000 incompat=00000003 \
+     rocompat=00000000 max=0 limit=8
 uuid 000102030405060708090a0b0c0d0e0f
 1 revoke number=2 count=36 homes=7,4294967303
 2 descriptor number=2 tags=2
@@ -122,7 +125,8 @@ end transactions=1 expected=3
 
 /// The text of that journal where its log is clean.
 pub const CLEAN_TEXT: &str =
-    "super bs=1024 maxlen=33 first=1 sequence=2 start=0 errno=0 compat=00000000 incompat=00000001 rocompat=00000000 max=0 limit=8
+    "super bs=1024 maxlen=33 first=1 sequence=2 start=0 errno=0 compat=00000000 incompat=00000001 \
+     rocompat=00000000 max=0 limit=8
 uuid 000102030405060708090a0b0c0d0e0f
 clean next=3
 ";
