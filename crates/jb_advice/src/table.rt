@@ -94,8 +94,8 @@ macro_rules! options {
     };
 }
 
-/// What is to be done after each line, in the table's order.
+/// What is to be done after each line, in the table's order: the clauses read it.
 pub(crate) const ADVICE: &[&str] = diagnostics!(advice);
 
-/// Each option that may be bad, and what it may be, in the table's order.
+/// Each option that may be bad, and what it may be, in the table's order: the clauses read it.
 pub(crate) const OPTIONS: &[(&str, &str)] = diagnostics!(options);

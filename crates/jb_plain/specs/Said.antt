@@ -13,7 +13,7 @@ pub record Outputs : Type 0 where
   pub out : Option (List ℕ)
   pub err : Option (List ℕ)
 
--- all of it is on standard output, and on standard error as much as that took, and its status and its hint are the end; or standard output, for which there was
+-- all of it is on standard output, and on standard error as much as that took, and the end has its status and its hint; or standard output, for which there was
 -- something, failed part of the way
 abbrev pub Tells : Said → Outputs → Outputs → Result Ended CommandFault → Type 0
 Tells words old new (Ok ended) =

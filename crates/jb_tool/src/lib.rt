@@ -16,4 +16,4 @@ pub use jb_plain::{
 };
 pub use load::load_files;
 pub use loaded::{LoadDone, LoadReport};
-pub use program::{Terminals, finish, run_program};
+pub use program::{Terminals, run_program};

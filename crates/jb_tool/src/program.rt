@@ -51,7 +51,7 @@ pub fn run_program<
 }
 
 /// Writes on a terminal the second line that an end has, and gives the exit status. A fault of the writer is ignored.
-pub fn finish<E: Write>(ended: Ended, on_terminal: bool, err: &mut E) -> u8
+fn finish<E: Write>(ended: Ended, on_terminal: bool, err: &mut E) -> u8
     ensures status { result ≡ ended.status }
     ensures advises { Advises on_terminal ended.hint (E.contents err.old) (E.contents err.new) }
 {

@@ -115,7 +115,7 @@ fn past(byte: u8, text: &[u8]) -> Option<&[u8]> {
 fn past_digits(text: &[u8]) -> &[u8] {
     for at in 0..text.len() {
         if !text[at].is_ascii_digit() {
-            return &text[at..];
+            return text.split_at(at).1;
         }
     }
     &[]
@@ -133,12 +133,18 @@ fn fits(row: &str, line: &[u8]) -> bool {
     true
 }
 
+/// Adds a text to a line.
+fn add(rt: &impl Host, line: &mut Vec<u8>, text: &str) {
+    line.extend_from_slice(text.as_bytes()).expect(rt, "memory");
+}
+
 /// The second line of a hint that says this beside the words of its row.
 fn wanted(rt: &impl Host, hint: Hint, beside: &str) -> Vec<u8> {
     let mut line = Vec::new(rt.alloc());
-    for part in ["jb:  ", hint.advice(), beside, "\n"] {
-        line.extend_from_slice(part.as_bytes()).expect(rt, "memory");
-    }
+    add(rt, &mut line, "jb:  ");
+    add(rt, &mut line, hint.advice());
+    add(rt, &mut line, beside);
+    add(rt, &mut line, "\n");
     line
 }
 
@@ -160,7 +166,8 @@ pub fn check_hint(
     check_at(rt, fits(begins_of(hint), err), what, at);
     let mut second = Vec::new(rt.alloc());
     check_at(rt, put_hint(&mut second, hint).is_ok(), what, at);
-    check_at(rt, second == wanted(rt, hint, beside), what, at)
+    let wanted = wanted(rt, hint, beside);
+    check_at(rt, second.as_slice() == wanted.as_slice(), what, at)
 }
 
 /// Checks what a second line is about after a run with these words.
