@@ -6,11 +6,9 @@ mod streams;
 
 use crate::pipes::{Heard, Heeding};
 use crate::streams::fill_closed;
-use jb_advice::Noted;
-use jb_tool::{CommandFault, Ended};
-use std::alloc::AllocError;
+use jb_tool::{CommandFault, Terminals, run_program};
 use std::cell::Cell;
-use std::io::{ErrorKind, IsTerminal, Write};
+use std::io::{IsTerminal, Write};
 use std::process::ExitCode;
 use std::{env, io};
 
@@ -19,32 +17,29 @@ fn words(rt: &HostRuntime) -> io::Result<Vec<String>> {
     Ok(env::args(rt)?.skip(1).collect(rt.alloc())?)
 }
 
-/// The exit status once the help was written, or memory ran out for it.
-fn helped<E: Write>(shown: Result<(), AllocError>, err: &mut E) -> u8 {
-    match shown {
-        Ok(()) => 2,
-        Err(_) => jb_tool::refuse_words(ErrorKind::OutOfMemory, err),
-    }
+/// Says that a closed stream could not be filled, and gives the exit status.
+fn refuse_streams<E: Write>(err: &mut E) -> u8 {
+    let fault = CommandFault::CannotRead("/dev/null", None);
+    fault.tell(None, err);
+    fault.status()
 }
 
 fn main(rt: HostRuntime) -> ExitCode {
     let (gone, on_terminal) = (Cell::new(false), rt.stderr().is_terminal());
     let (mut input, mut out) = (rt.stdin(), Heard::new(rt.stdout(), &gone));
-    let mut err = Noted::new(Heeding::new(rt.stderr(), &gone, on_terminal));
+    let mut err = Heeding::new(rt.stderr(), &gone, on_terminal);
     let Ok(_files) = fill_closed(&rt) else {
-        let fault = CommandFault::CannotRead("/dev/null", None);
-        fault.tell(None, &mut err);
-        return ExitCode::from(fault.status());
+        return ExitCode::from(refuse_streams(&mut err));
     };
-    let ended = match words(&rt) {
-        Ok(words) if words.is_empty() && input.is_terminal() => {
-            Ended::with_status(helped(jb_words::show_help(rt.alloc(), &mut err), &mut err))
-        }
-        Ok(words) => jb_tool::run(&rt, words.as_slice(), &mut input, &mut out, &mut err),
-        Err(error) => Ended::with_status(jb_tool::refuse_words(error.kind(), &mut err)),
+    let words = words(&rt);
+    let given = match &words {
+        Ok(words) => Ok(words.as_slice()),
+        Err(error) => Err(error.kind()),
     };
-    if on_terminal {
-        let _ignored = err.advise(ended.beside);
-    }
-    ExitCode::from(ended.status)
+    let terminals = Terminals {
+        input: input.is_terminal(),
+        err: on_terminal,
+    };
+    let status = run_program(&rt, given, terminals, &mut input, &mut out, &mut err);
+    ExitCode::from(status)
 }

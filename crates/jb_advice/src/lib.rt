@@ -2,11 +2,11 @@
 //! second line that follows the first one on a terminal.
 #![tactic(auto)]
 
-mod beside;
-mod find;
-mod noted;
+mod hint;
+mod option_name;
 mod second;
 mod table;
 
-pub use beside::Beside;
-pub use noted::Noted;
+pub use hint::Hint;
+pub use option_name::OptionName;
+pub use second::put_hint;

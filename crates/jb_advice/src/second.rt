@@ -1,48 +1,39 @@
 //! The second line.
-ghost use Rattle.std.specs.Prelude.{◌≡◌, ℕ, List, [], ◌∷◌, codes, map, option_map};
-ghost use Rattle.jb_io.specs.Parts.{spelled};
+ghost use Rattle.std.specs.Prelude.{ℕ, List, []};
 ghost use Rattle.jb_io.specs.Puts.{Puts};
-ghost use Rattle.jb_advice.specs.Advice.{line_with, may_be as may_be_in, second_line};
+ghost use Rattle.jb_advice.specs.Advice.{hint_line, line_with};
+ghost use Rattle.jb_advice.specs.declared.hint.Beside.TheVariants.{BadOption};
 
-use crate::beside::Beside;
-use crate::find::found_in;
-use crate::table::OPTIONS;
+use crate::hint::{Beside, Hint};
+use crate::option_name::OptionName;
 use arrayvec::ArrayVec;
 use itoa::Buffer;
-use jb_io::{WriteFault, put, put_parts};
+use jb_io::{WriteFault, put_parts};
 use std::io::{self, Write};
 use std::str;
 
 /// How many bytes of the system's text are kept: more than any of them has.
 const TEXT: usize = 256;
 
-/// Writes what is advised as a second line, with what it says beside that; nothing where nothing is advised.
+/// Writes the second line of a hint: what to do, and what it says beside that.
 ///
 /// # Errors
 /// `WriteFault` where the writer took only the beginning of the line.
-pub(crate) fn put_second_line<W: Write>(
-    writer: &mut W,
-    advice: Option<&str>,
-    beside: Beside,
-) -> Result<(), WriteFault>
+pub fn put_hint<W: Write>(writer: &mut W, hint: Hint) -> Result<(), WriteFault>
     ensures { (system : List ℕ) × Puts (W.contents writer.old) (W.contents writer.new)
-        (second_line (map (λ row. (row.0.now, row.1.now)) OPTIONS.now) system
-        (option_map (λ words. words.now) advice.entry) beside) result }
+        (hint_line system hint) result }
 {
-    match advice {
-        Some(words) => put_words(writer, words, beside),
-        None => put(writer, b""),
-    }
+    put_words(writer, hint.advice(), hint.beside())
 }
 
 /// Writes these words as a second line, with what it says beside them.
 fn put_words<W: Write>(writer: &mut W, words: &str, beside: Beside) -> Result<(), WriteFault>
     ensures { (system : List ℕ) × Puts (W.contents writer.old) (W.contents writer.new)
-        (line_with (map (λ row. (row.0.now, row.1.now)) OPTIONS.now) system words.entry.now beside) result }
+        (line_with system words.entry.now beside) result }
 {
     match beside {
         Beside::Nothing => put_parts(writer, &["jb:  ", words, "\n"]),
-        Beside::BadOption(name) => put_option(writer, words, name),
+        Beside::BadOption(option) => put_option(writer, words, option),
         Beside::System(code) => {
             let mut room = ArrayVec::new();
             put_parts(
@@ -58,23 +49,17 @@ fn put_words<W: Write>(writer: &mut W, words: &str, beside: Beside) -> Result<()
 }
 
 /// Writes these words as a second line, with the name of a bad option and what it may be.
-fn put_option<'b, W: Write>(writer: &mut W, words: &'b str, name: &'b str) -> Result<(), WriteFault>
+fn put_option<'b, W: Write>(
+    writer: &mut W,
+    words: &'b str,
+    option: OptionName,
+) -> Result<(), WriteFault>
     ensures { Puts (W.contents writer.old) (W.contents writer.new)
-        (spelled (codes "jb:  " ∷ words.entry.now ∷ codes ": " ∷ name.entry.now ∷ codes " is "
-        ∷ may_be_in (map (λ row. (row.0.now, row.1.now)) OPTIONS.now) name.entry.now ∷ codes "\n" ∷ [])) result }
+        (line_with [] words.entry.now (BadOption option)) result }
 {
-    let values: &'b str = may_be(name);
+    let name: &'b str = option.name();
+    let values: &'b str = option.values();
     put_parts(writer, &["jb:  ", words, ": ", name, " is ", values, "\n"])
-}
-
-/// What the option of this name may be; nothing for a name that the table has not.
-fn may_be(name: &str) -> &'static str
-    ensures { result.now ≡ may_be_in (map (λ row. (row.0.now, row.1.now)) OPTIONS.now) name.now }
-{
-    match found_in(OPTIONS, name.as_bytes()) {
-        Some(words) => words,
-        None => "",
-    }
 }
 
 /// The text of the system's error of this number, as the library shows it.

@@ -1,71 +1,55 @@
-//! What follows a line.
+//! The line of each hint.
 
-use jb_advice::{Beside, Noted};
-use std::io::Write;
+use jb_advice::{Hint, OptionName, put_hint};
 use std::test::Fail;
 
-/// The parts in which a line is written, what is said beside, and what the writer holds once the advice is written.
-type Row = (&'static [&'static str], Beside, &'static str);
+/// A hint, and its line.
+type Row = (Hint, &'static str);
 
-const ROWS: &[Row] = &[
+static ROWS: [Row; 9] = [
     (
-        &["jb: Needs", "Recovery\n"],
-        Beside::Nothing,
-        "jb: NeedsRecovery\njb:  run jb recover on the image first\n",
+        Hint::NeedsRecovery,
+        "jb:  run jb recover on the image first\n",
     ),
     (
-        &["jb: handle ", "18446744073709551615", ": OutOfRange 7\n"],
-        Beside::Homes(18446744073709551615),
-        "jb: handle 18446744073709551615: OutOfRange 7\n\
-         jb:  home blocks are numbered from 0, and the image has so many: 18446744073709551615\n",
+        Hint::QueueBlockSizeLine,
+        "jb:  the first line is bs 1024, bs 2048 or bs 4096, with or without the word wide after it\n",
     ),
     (
-        &["jb: bad option\n"],
-        Beside::BadOption("--uuid"),
-        "jb: bad option\njb:  what the first bad option may be: --uuid is 32 hexadecimal digits\n",
+        Hint::WriteFault,
+        "jb:  standard output is closed or full; what the command does to an image may be done\n",
     ),
     (
-        &["jb: bad option\n"],
-        Beside::BadOption("--else"),
-        "jb: bad option\njb:  what the first bad option may be: --else is \n",
+        Hint::HandleOutOfRange(18446744073709551615),
+        "jb:  home blocks are numbered from 0, and the image has so many: 18446744073709551615\n",
     ),
     (
-        &["jb: cannot make a b\n"],
-        Beside::System(17),
-        "jb: cannot make a b\n\
-         jb:  take another name, or see to its folder, the permission and the room: File exists (os error 17)\n",
+        Hint::NoHome(None),
+        "jb:  home blocks are numbered from 0; jb widen gives numbers past 4294967295; the image has so many\n",
     ),
     (
-        &["jb: cannot make a\n"],
-        Beside::System(-1),
-        "jb: cannot make a\n\
-         jb:  take another name, or see to its folder, the permission and the room: Unknown error -1 (os error -1)\n",
+        Hint::BadOption(OptionName::Uuid),
+        "jb:  what the first bad option may be: --uuid is 32 hexadecimal digits\n",
     ),
     (
-        &["jb: handle : Full\n"],
-        Beside::Homes(1),
-        "jb: handle : Full\n",
+        Hint::CannotMake(Some(17)),
+        "jb:  take another name, or see to its folder, the permission and the room: File exists (os error 17)\n",
     ),
     (
-        &["cost 7 limit 7 fits\n"],
-        Beside::Nothing,
-        "cost 7 limit 7 fits\n",
+        Hint::CannotMake(Some(-1)),
+        "jb:  take another name, or see to its folder, the permission and the room: Unknown error -1 (os error -1)\n",
     ),
-    (&["jb: Need\n"], Beside::Nothing, "jb: Need\n"),
-    (&["NeedsRecovery\n"], Beside::System(2), "NeedsRecovery\n"),
-    (&[], Beside::Nothing, ""),
+    (
+        Hint::CannotMake(None),
+        "jb:  take another name, or see to its folder, the permission and the room\n",
+    ),
 ];
 
 #[test]
-fn each_line_has_its_advice(rt: HostRuntime) -> Result<(), Fail> {
-    for (parts, beside, wanted) in ROWS {
+fn each_hint_has_its_line(rt: HostRuntime) -> Result<(), Fail> {
+    for (hint, wanted) in &ROWS {
         let mut told = Vec::new(rt.alloc());
-        let mut noted = Noted::new(&mut told);
-        for part in *parts {
-            noted.write_all(part.as_bytes())?;
-        }
-        assert!(rt; noted.advise(*beside).is_ok(), "{wanted}");
-        drop(noted);
+        assert!(rt; put_hint(&mut told, *hint).is_ok(), "{wanted}");
         assert_eq!(rt; told.as_slice(), wanted.as_bytes(), "{wanted}");
     }
     Ok(())

@@ -1,6 +1,7 @@
 -- How long the text of a best certificate is: at most nine times as long as that of its queue.
 use Rattle.std.proofs.Common.{◌≡◌, ℕ, suc, take, ◌+◌, ◌*◌, ◌<◌, ◌≤◌, List, [], ◌∷◌, ◌++◌, length, map, refl, sym, ap, arith, Option, option_map, Some, None, Result, Ok, Err, codes, decimal, length-append}
 use Rattle.std.proofs.lemmas.Fmt.{length-decimal-le}
+use Rattle.jb_advice.specs.declared.hint.Hint.{Hint}
 use Rattle.jb_text.specs.Parts.{spaced}
 use Rattle.jb_handle.specs.Size.{weight}
 use Rattle.jb_handle.specs.declared.stopped.Stopped.{Stopped}
@@ -16,7 +17,7 @@ use Rattle.jb_price.specs.declared.certificate.Cert.{Cert}
 use Rattle.jb_price.specs.declared.certificate.CertAnswer.{CertAnswer}
 use Rattle.jb_price.specs.declared.certificate.CertAnswer.TheVariants.{Cut, NoCut}
 use Rattle.jb_queue.specs.declared.fault.QueueFault.{QueueFault}
-use Rattle.jb_answers.specs.Faulty.{cause_name, fault_line, queue_fault}
+use Rattle.jb_answers.specs.Faulty.{cause_told, fault_line, queue_fault}
 use Rattle.jb_answers.specs.Limits.{PlansAreReadable, PlansAreWithin}
 use Rattle.jb_answers.specs.Plan.{IsBest, IsBestOf, SaysPlan}
 use Rattle.jb_answers.specs.Said.{Said}
@@ -111,12 +112,12 @@ best-long text q cert small reads best =
 
 -- a fault has no words for standard output
 fault-silent : (fault : QueueFault) (words : Said) → queue_fault fault ≡ Some words → length words.out ≡ 0
-fault-silent fault words is = from (cause_name fault.cause) is
+fault-silent fault words is = from (cause_told fault.cause) is
   where
-    from : (name : Option (List ℕ)) → option_map (fault_line fault.line) name ≡ Some words → length words.out ≡ 0
+    from : (told : Option (List ℕ × Hint)) → option_map (fault_line fault.line) told ≡ Some words → length words.out ≡ 0
     from None gives = cc
-    from (Some name) gives =
-        let same : fault_line fault.line name ≡ words = cc in
+    from (Some told) gives =
+        let same : fault_line fault.line told ≡ words = cc in
         ap (λ (w : Said). length w.out) (sym same)
 
 -- what `jb plan` says of a text

@@ -1,5 +1,7 @@
 -- What `jb check` says of a queue text and the text of a certificate.
 use Rattle.std.specs.Prelude.{◌≡◌, ℕ, List, [], ◌++◌, Option, Some, None, Result, Ok, Err, codes, decimal, length}
+use Rattle.jb_advice.specs.declared.hint.Hint.{Hint}
+use Rattle.jb_advice.specs.declared.hint.Hint.TheVariants.{CertificateLength, CertificateSyntax}
 use Rattle.jb_cost.specs.Cut.{piece_cost}
 use Rattle.jb_cost.specs.declared.geometry.Geometry.{Geometry}
 use Rattle.jb_queue.specs.Queue.{Queue, queue_of}
@@ -28,17 +30,17 @@ reason_text EndPrice = codes "EndPrice\n"
 
 -- the line of a verdict, with the exit status
 abbrev pub verdict_text : Verdict → Said
-verdict_text Accepted = record { status = 0; out = codes "accepted\n"; err = [] }
-verdict_text (Refused reason) = record { status = 1; out = codes "refused " ++ reason_text reason; err = [] }
+verdict_text Accepted = record { status = 0; out = codes "accepted\n"; err = []; hint = None }
+verdict_text (Refused reason) = record { status = 1; out = codes "refused " ++ reason_text reason; err = []; hint = None }
 
--- the line for a text that is no certificate of the queue, with the exit status
-abbrev pub no_cert : List ℕ → Said
-no_cert cause = record { status = 2; out = []; err = codes "jb: certificate: " ++ cause }
+-- the line for a text that is no certificate of the queue, with the exit status and the hint
+abbrev pub no_cert : List ℕ → Hint → Said
+no_cert cause hint = record { status = 2; out = []; err = codes "jb: certificate: " ++ cause; hint = Some hint }
 
 -- what is said of such a text; none where memory ran out
 abbrev pub cert_fault : CertFault → Option Said
-cert_fault (Syntax line) = Some (no_cert (codes "Syntax " ++ (decimal line ++ codes "\n")))
-cert_fault Length = Some (no_cert (codes "Length\n"))
+cert_fault (Syntax line) = Some (no_cert (codes "Syntax " ++ (decimal line ++ codes "\n")) CertificateSyntax)
+cert_fault Length = Some (no_cert (codes "Length\n") CertificateLength)
 cert_fault Memory = None
 
 -- the verdict on a certificate of the queue; where it is accepted, its answer is right

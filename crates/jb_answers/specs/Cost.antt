@@ -1,5 +1,5 @@
 -- What `jb cost` says of a queue text.
-use Rattle.std.specs.Prelude.{ℕ, ◌+◌, List, [], ◌++◌, Option, Some, Result, Ok, Err, codes, decimal, nat_lt, if◌then◌else◌}
+use Rattle.std.specs.Prelude.{ℕ, ◌+◌, List, [], ◌++◌, Option, Some, None, Result, Ok, Err, codes, decimal, nat_lt, if◌then◌else◌}
 use Rattle.std.specs.Int.{div_ceil}
 use Rattle.std.specs.FinSet as set
 use Rattle.jb_block.specs.Capacity.{entries_in, tags_in}
@@ -35,6 +35,7 @@ cost_line cost limit = record {
   status = if nat_lt limit cost then 1 else 0;
   out = codes "cost " ++ (decimal cost ++ (codes " limit " ++ (decimal limit ++ verdict cost limit)));
   err = [];
+  hint = None;
 }
 
 -- what `jb cost` says of a queue, or of its first fault

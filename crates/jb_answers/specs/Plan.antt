@@ -1,5 +1,5 @@
 -- What `jb plan` says of a queue text.
-use Rattle.std.specs.Prelude.{◌≡◌, ℕ, List, [], Option, Some, Result, Ok, Err, length}
+use Rattle.std.specs.Prelude.{◌≡◌, ℕ, List, [], Option, Some, None, Result, Ok, Err, length}
 use Rattle.jb_cost.specs.Cut.{ArePrices, EachPiece, IsFirstToAttain, piece_cost}
 use Rattle.jb_cost.specs.declared.geometry.Geometry.{Geometry}
 use Rattle.jb_queue.specs.Queue.{Queue, queue_of}
@@ -47,7 +47,7 @@ IsBestOf q cert = (g : Geometry) × IsGeometryOf q g × IsBest (piece_cost g q.h
 
 -- what `jb plan` says of a certificate
 abbrev pub plan_text : Cert → Said
-plan_text cert = record { status = status_of_plan cert.answer; out = cert_text cert; err = [] }
+plan_text cert = record { status = status_of_plan cert.answer; out = cert_text cert; err = []; hint = None }
 
 -- what `jb plan` says of a queue, or of its first fault: the text of its best certificate
 abbrev pub SaysPlan : Result Queue QueueFault → Said → Type 0

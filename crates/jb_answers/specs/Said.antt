@@ -1,13 +1,15 @@
 -- What a command says.
-use Rattle.std.specs.Prelude.{ℕ, List, string_bytes}
+use Rattle.std.specs.Prelude.{ℕ, List, Option, string_bytes}
+use Rattle.jb_advice.specs.declared.hint.Hint.{Hint}
 use Rattle.jb_answers.specs.declared.answer.Answer.{Answer}
 
--- an exit status, and the bytes for standard output and for standard error
+-- an exit status, the bytes for standard output and for standard error, and what a second line is about where there is one
 pub record Said : Type 0 where
   pub status : ℕ
   pub out : List ℕ
   pub err : List ℕ
+  pub hint : Option Hint
 
 -- what an answer says
 abbrev pub said : Answer → Said
-said answer = record { status = answer.status; out = string_bytes answer.out; err = string_bytes answer.err }
+said answer = record { status = answer.status; out = string_bytes answer.out; err = string_bytes answer.err; hint = answer.hint }

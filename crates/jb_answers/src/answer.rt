@@ -1,5 +1,7 @@
+use jb_advice::Hint;
+
 /// What a command answers: its exit status and all that it writes.
-#[derive(Debug, Drop)]
+#[derive(Drop)]
 pub struct Answer {
     /// The program's exit status.
     pub status: u8,
@@ -7,4 +9,6 @@ pub struct Answer {
     pub out: String,
     /// The text for standard error.
     pub err: String,
+    /// What a second line is about, where there is a text for standard error.
+    pub hint: Option<Hint>,
 }

@@ -5,6 +5,7 @@ ghost use Rattle.jb_answers.specs.Check.{IsVerdictOn, SaysCheck, cert_fault, ver
 ghost use Rattle.jb_answers.specs.Said.{said};
 
 use crate::answer::Answer;
+use jb_advice::Hint;
 use jb_block::Memory;
 use jb_cost::Geometry;
 use jb_price::{Cert, CertFault, Reason, Verdict, check, read_cert};
@@ -50,6 +51,7 @@ fn verdict_told(alloc: Global, verdict: Verdict) -> Result<Answer, Memory>
                 status: 0,
                 out,
                 err: String::new(alloc),
+                hint: None,
             });
         }
         Verdict::Refused(reason) => reason,
@@ -66,6 +68,7 @@ fn verdict_told(alloc: Global, verdict: Verdict) -> Result<Answer, Memory>
         status: 1,
         out,
         err: String::new(alloc),
+        hint: None,
     })
 }
 
@@ -73,14 +76,21 @@ fn verdict_told(alloc: Global, verdict: Verdict) -> Result<Answer, Memory>
 fn cert_fault_told(alloc: Global, fault: CertFault) -> Result<Answer, Memory>
     ensures said { IfOk result (λ answer. cert_fault fault ≡ Some (said answer)) }
 {
-    let err = match fault {
-        CertFault::Syntax(line) => format!(in alloc; "jb: certificate: Syntax {line}\n")?,
-        CertFault::Length => format!(in alloc; "jb: certificate: Length\n")?,
+    let (err, hint) = match fault {
+        CertFault::Syntax(line) => (
+            format!(in alloc; "jb: certificate: Syntax {line}\n")?,
+            Hint::CertificateSyntax,
+        ),
+        CertFault::Length => (
+            format!(in alloc; "jb: certificate: Length\n")?,
+            Hint::CertificateLength,
+        ),
         CertFault::Memory => return Err(Memory),
     };
     Ok(Answer {
         status: 2,
         out: String::new(alloc),
         err,
+        hint: Some(hint),
     })
 }

@@ -38,6 +38,7 @@ fn cost_told(alloc: Global, cost: u64, limit: u32) -> Result<Answer, Memory>
             status: 0,
             out,
             err: String::new(alloc),
+            hint: None,
         })
     } else {
         let out = format!(in alloc; "cost {cost} limit {limit} over\n")?;
@@ -45,6 +46,7 @@ fn cost_told(alloc: Global, cost: u64, limit: u32) -> Result<Answer, Memory>
             status: 1,
             out,
             err: String::new(alloc),
+            hint: None,
         })
     }
 }

@@ -39,6 +39,7 @@ fn plan_told(alloc: Global, queue: &QueueText) -> Result<Answer, Memory>
         status: status_of(&cert.answer),
         out,
         err: String::new(alloc),
+        hint: None,
     })
 }
 

@@ -3,6 +3,7 @@ ghost use Rattle.jb_answers.specs.Faulty.{queue_fault};
 ghost use Rattle.jb_answers.specs.Said.{said};
 
 use crate::answer::Answer;
+use jb_advice::Hint;
 use jb_block::Memory;
 use jb_queue::{Cause, QueueFault};
 use std::alloc::Global;
@@ -15,17 +16,18 @@ pub fn fault_answer(alloc: Global, fault: QueueFault) -> Result<Answer, Memory>
     ensures said { IfOk result (λ answer. queue_fault fault ≡ Some (said answer)) }
 {
     let line = fault.line;
-    let cause = match fault.cause {
-        Cause::BlockSizeLine => "BlockSizeLine",
-        Cause::LimitLine => "LimitLine",
-        Cause::HandleLine => "HandleLine",
-        Cause::OpWord => "OpWord",
-        Cause::DataWord => "DataWord",
+    let (cause, hint) = match fault.cause {
+        Cause::BlockSizeLine => ("BlockSizeLine", Hint::QueueBlockSizeLine),
+        Cause::LimitLine => ("LimitLine", Hint::QueueLimitLine),
+        Cause::HandleLine => ("HandleLine", Hint::QueueHandleLine),
+        Cause::OpWord => ("OpWord", Hint::QueueOpWord),
+        Cause::DataWord => ("DataWord", Hint::QueueDataWord),
         Cause::Memory => return Err(Memory),
     };
     Ok(Answer {
         status: 2,
         out: String::new(alloc),
         err: format!(in alloc; "jb: queue line {line}: {cause}\n")?,
+        hint: Some(hint),
     })
 }

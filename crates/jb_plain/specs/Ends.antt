@@ -1,14 +1,13 @@
 -- How a run of the program ends.
-use Rattle.std.specs.Prelude.{ℕ, Result, Ok, Err}
-use Rattle.jb_advice.specs.declared.beside.Beside.TheVariants.{Nothing}
+use Rattle.std.specs.Prelude.{ℕ, None, Some}
+use Rattle.jb_plain.specs.Faults.{hint_of, status_of}
 use Rattle.jb_plain.specs.declared.ended.Ended.{Ended}
 use Rattle.jb_plain.specs.declared.fault.CommandFault.{CommandFault}
 
--- an end with this status, whose line says all
+-- an end with this status and no second line
 abbrev pub with_status : ℕ → Ended
-with_status status = record { status = status; beside = Nothing }
+with_status status = record { status = status; hint = None }
 
--- the end of a command that gives a status
-abbrev pub alone : Result ℕ CommandFault → Result Ended CommandFault
-alone (Ok status) = Ok (with_status status)
-alone (Err fault) = Err fault
+-- the end of a command that ended without an answer, for this
+abbrev pub of_fault : CommandFault → Ended
+of_fault fault = record { status = status_of fault; hint = Some (hint_of fault) }

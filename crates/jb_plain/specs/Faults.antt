@@ -1,7 +1,7 @@
--- The status and the line of each way in which a command ends without an answer, and which faults end it so.
-use Rattle.std.specs.Prelude.{ℕ, ℤ, List, [], ◌∷◌, Option, None, Some, codes, decimal}
-use Rattle.jb_advice.specs.declared.beside.Beside.{Beside}
-use Rattle.jb_advice.specs.declared.beside.Beside.TheVariants.{Nothing, BadOption as FirstBad, System, Homes}
+-- The status, the line and the hint of each way in which a command ends without an answer, and which faults end it so.
+use Rattle.std.specs.Prelude.{ℕ, List, [], ◌∷◌, Option, None, Some, codes, decimal}
+use Rattle.jb_advice.specs.declared.hint.Hint.{Hint}
+use Rattle.jb_advice.specs.declared.hint.Hint.TheVariants as hint
 use Rattle.jb_dump.specs.declared.fault.DumpFault.{DumpFault}
 use Rattle.jb_dump.specs.declared.fault.DumpFault.TheVariants as dumping
 use Rattle.jb_extents.specs.declared.fault.ExtentsFault.{ExtentsFault}
@@ -28,7 +28,7 @@ status_of (CannotRead name code) = 2
 status_of (InUse name) = 2
 status_of (SameFile name) = 2
 status_of (CannotMake name code) = 2
-status_of (BadOption name) = 2
+status_of (BadOption option) = 2
 status_of (TooLong name) = 2
 status_of ReadFault = 1
 status_of (Super fault) = 1
@@ -77,7 +77,7 @@ line_of names (CannotRead name code) = line_naming (codes "jb: cannot read" ∷ 
 line_of names (InUse name) = line_naming (codes "jb: in use" ∷ []) (Some name.now)
 line_of names (SameFile name) = line_naming (codes "jb: same file" ∷ []) (Some name.now)
 line_of names (CannotMake name code) = line_naming (codes "jb: cannot make" ∷ []) (Some name.now)
-line_of names (BadOption name) = line_naming (codes "jb: bad option" ∷ []) None
+line_of names (BadOption option) = line_naming (codes "jb: bad option" ∷ []) None
 line_of names (TooLong name) = line_naming (codes "jb: too long" ∷ []) (Some name.now)
 line_of names ReadFault = line_naming (codes "jb: ReadFault" ∷ []) None
 line_of names (Super fault) = super_line (journal_named names) fault
@@ -98,24 +98,53 @@ line_of names DeviceFault = line_naming (codes "jb: DeviceFault" ∷ []) None
 line_of names Memory = line_naming (codes "jb: Memory" ∷ []) None
 line_of names WriteFault = line_naming (codes "jb: WriteFault" ∷ []) None
 
--- what a second line says of a number of the system's, or of home blocks, where there is one
-abbrev pub of_code : Option ℤ → Beside
-of_code None = Nothing
-of_code (Some code) = System code
+-- what a second line is about after the line of a superblock that is refused
+abbrev pub super_hint : SuperFault → Hint
+super_hint super.ShortBlock = hint.SuperShortBlock
+super_hint super.NoMagic = hint.SuperNoMagic
+super_hint (super.NotVersion2 kind) = hint.SuperNotVersion2
+super_hint (super.BlockSize size) = hint.SuperBlockSize
+super_hint super.Geometry = hint.SuperGeometry
+super_hint (super.Feature word bits) = hint.SuperFeature
 
--- the home blocks that a second line names, where there are some
-abbrev pub of_homes : Option ℕ → Beside
-of_homes None = Nothing
-of_homes (Some homes) = Homes homes
+-- the same of a journal that is not recovered into a file system
+abbrev pub system_hint : FileSystemFault → Hint
+system_hint (system.BlockSize size) = hint.FileSystemBlockSize
+system_hint system.Uuid = hint.FileSystemUuid
+system_hint system.Clean = hint.FileSystemClean
 
--- what a second line says of a fault beside the words of its row
-abbrev pub beside_of : CommandFault → Beside
-beside_of (CannotRead name code) = of_code code
-beside_of (CannotMake name code) = of_code code
-beside_of (BadOption name) = FirstBad name
-beside_of (HomeOutOfRange home number homes) = of_homes homes
-beside_of (NoHome home homes) = of_homes homes
-beside_of _ = Nothing
+-- the same of extents that do not hold the journal
+abbrev pub extents_hint : ExtentsFault → Hint
+extents_hint (extents.Overlap block) = hint.ExtentsOverlap
+extents_hint (extents.PastEnd block) = hint.ExtentsPastEnd
+extents_hint (extents.Short blocks) = hint.ExtentsShort
+extents_hint extents.NoJournal = hint.ExtentsNoJournal
+extents_hint (extents.Home home) = hint.ExtentsHome
+
+-- what a second line is about after the line of a fault
+abbrev pub hint_of : CommandFault → Hint
+hint_of (CannotRead name code) = hint.CannotRead code
+hint_of (InUse name) = hint.InUse
+hint_of (SameFile name) = hint.SameFile
+hint_of (CannotMake name code) = hint.CannotMake code
+hint_of (BadOption option) = hint.BadOption option
+hint_of (TooLong name) = hint.TooLong
+hint_of ReadFault = hint.ReadFault
+hint_of (Super fault) = super_hint fault
+hint_of (JournalLength blocks maxlen) = hint.JournalLength
+hint_of (FileSystem fault) = system_hint fault
+hint_of (Extents fault) = extents_hint fault
+hint_of (BadRevoke place) = hint.BadRevoke
+hint_of (HomeOutOfRange home number homes) = hint.HomeOutOfRange homes
+hint_of (NoHome home homes) = hint.NoHome homes
+hint_of NeedsRecovery = hint.NeedsRecovery
+hint_of NumbersSpent = hint.NumbersSpent
+hint_of BlockSize = hint.BlockSize
+hint_of Accounts = hint.Accounts
+hint_of Geometry = hint.Geometry
+hint_of DeviceFault = hint.DeviceFault
+hint_of Memory = hint.Memory
+hint_of WriteFault = hint.WriteFault
 
 -- the line for a word of the command line that is not UTF-8
 abbrev pub not_utf8 : List ℕ

@@ -101,7 +101,7 @@ IsNotMade name fault = IsUnnamed name fault
 
 -- the file of this name was not made: an option is bad; or none is, and a journal may not have so many blocks
 abbrev pub IsBadFormat : Options → CommandFault → Type 0
-IsBadFormat o (BadOption told) = IsFirstBad o told.now
+IsBadFormat o (BadOption option) = IsFirstBad o option
 IsBadFormat o BadGeometry = AreGood o × (IsJournalLength o.journal → ⊥)
 IsBadFormat o _ = ⊥
 

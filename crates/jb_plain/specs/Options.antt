@@ -1,7 +1,9 @@
 -- When the options of `jb format` are good, and which image they ask for.
-use Rattle.std.specs.Prelude.{false, ◌≡◌, ◌+◌, ◌*◌, ◌^◌, ◌<◌, ◌≤◌, ◌⊎◌, ℕ, List, codes, length, Ok}
+use Rattle.std.specs.Prelude.{false, ◌≡◌, ◌+◌, ◌*◌, ◌^◌, ◌<◌, ◌≤◌, ◌⊎◌, ℕ, length, Ok}
 use Rattle.std.specs.List.{AllPass}
 use Rattle.hex.specs.Hex.{decode_of, is_hex_digit}
+use Rattle.jb_advice.specs.declared.option_name.OptionName.{OptionName}
+use Rattle.jb_advice.specs.declared.option_name.OptionName.TheVariants.{Bs, Homes, Journal, Max, Uuid}
 use Rattle.jb_block.specs.Size.{bytes_of, IsBlockSize}
 use Rattle.jb_block.specs.Width.{is_wide}
 use Rattle.jb_words.specs.Named.{Options}
@@ -24,18 +26,18 @@ pub record AreGood (o : Options) : Type 0 where
   pub uuid : (length o.uuid ≡ 32) × AllPass is_hex_digit o.uuid
   pub len : IsFileLength o
 
--- this option is bad and has this name, or it is good and this holds
-abbrev pub IsFirst : List ℕ → List ℕ → Type 0 → Type 0 → Type 0
-IsFirst name option Good Later = ((name ≡ option) × (Good → ⊥)) ⊎ (Good × Later)
+-- the second option is bad and it is the first one, or it is good and this holds
+abbrev pub IsFirst : OptionName → OptionName → Type 0 → Type 0 → Type 0
+IsFirst told option Good Later = ((told ≡ option) × (Good → ⊥)) ⊎ (Good × Later)
 
--- the option of this name is the first that is bad; --homes stands for the length
-abbrev pub IsFirstBad : Options → List ℕ → Type 0
-IsFirstBad o name =
-    IsFirst name (codes "--bs") (IsBlockSize o.bs)
-    (IsFirst name (codes "--journal") (o.journal < 2 ^ 32)
-    (IsFirst name (codes "--max") (o.max < 2 ^ 32)
-    (IsFirst name (codes "--uuid") ((length o.uuid ≡ 32) × AllPass is_hex_digit o.uuid)
-    (IsFirst name (codes "--homes") (IsFileLength o) ⊥))))
+-- this option is the first that is bad; --homes stands for the length
+abbrev pub IsFirstBad : Options → OptionName → Type 0
+IsFirstBad o told =
+    IsFirst told Bs (IsBlockSize o.bs)
+    (IsFirst told Journal (o.journal < 2 ^ 32)
+    (IsFirst told Max (o.max < 2 ^ 32)
+    (IsFirst told Uuid ((length o.uuid ≡ 32) × AllPass is_hex_digit o.uuid)
+    (IsFirst told Homes (IsFileLength o) ⊥))))
 
 -- the image that the options ask for
 pub record IsAskedBy (o : Options) (g : Geometry) : Type 0 where

@@ -1,7 +1,9 @@
 -- An image with its journal at its front, in a file of its own or within it: how it is opened, read and recovered.
-use Rattle.std.specs.Prelude.{◌≡◌, ◌⊎◌, ◌<◌, ◌≤◌, ℕ, Bool, true, false, ⊤, List, [], Option, Some, None, Result, Ok, Err, codes}
+use Rattle.std.specs.Prelude.{◌≡◌, ◌⊎◌, ◌<◌, ◌≤◌, ℕ, Bool, true, false, ⊤, List, [], Option, Some, None, Result, Ok, Err}
 use Rattle.jb_block.specs.Size.{bytes_of}
 use Rattle.jb_block.specs.declared.size.BlockSize.{BlockSize}
+use Rattle.jb_advice.specs.declared.option_name.OptionName.{OptionName}
+use Rattle.jb_advice.specs.declared.option_name.OptionName.TheVariants as option
 use Rattle.jb_disk.specs.File.{IsMeasured, count_of}
 use Rattle.jb_disk.specs.declared.disk.Disk.{Ghosts as Disks}
 use Rattle.jb_disk.specs.declared.file.FileDisk.{FileDisk}
@@ -30,10 +32,10 @@ use Rattle.jb_plain.specs.declared.fault.CommandFault.{CommandFault}
 use Rattle.jb_plain.specs.declared.fault.CommandFault.TheVariants.{BadOption, Extents as InExtents}
 use Rattle.jb_plain.specs.declared.report.Report.{Report}
 
--- the option of this name is bad
-abbrev pub IsBadOption : List ℕ → CommandFault → Type 0
-IsBadOption name (BadOption told) = told.now ≡ name
-IsBadOption name _ = ⊥
+-- this option is bad
+abbrev pub IsBadOption : OptionName → CommandFault → Type 0
+IsBadOption option (BadOption told) = told ≡ option
+IsBadOption option _ = ⊥
 
 -- ---- a journal within its image
 
@@ -55,7 +57,7 @@ IsNoPlaceFor es sb _ = ⊥
 abbrev pub IsShutWithin : List ℕ → List ℕ → CommandFault → Type 0
 IsShutWithin name list fault =
     IsUnread name fault
-    ⊎ ((IsBadOption (codes "--extents") fault × (extents_in list ≡ None))
+    ⊎ ((IsBadOption option.Extents fault × (extents_in list ≡ None))
     ⊎ ((es : List Extent) × (extents_in list ≡ Some es) × (x : ExtentsFault) × (fault ≡ InExtents x) × IsNoPlace es x))
 
 -- the image is the file of which these extents hold a journal with this superblock: they share no block, none is past the file's end,
@@ -69,7 +71,7 @@ pub record IsHeldWithin (es : List Extent) (sb : Superblock) (count : ℕ) : Typ
 abbrev pub IsShutAt : List ℕ → Option (List ℕ) → Option (List ℕ) → CommandFault → Type 0
 IsShutAt name journal None fault = IsShut name journal fault
 IsShutAt name None (Some list) fault = IsShutWithin name list fault
-IsShutAt name (Some journal) (Some list) fault = IsBadOption (codes "--extents") fault
+IsShutAt name (Some journal) (Some list) fault = IsBadOption option.Extents fault
 
 module _ {S T : Type 0} {start : Starts S} {other : Starts T} where
   -- the same of the disk that is used, which was asked its length and nothing else
@@ -153,7 +155,7 @@ module _ {D E : Type 0} (G : Disks (ImageDisk D E)) where
 -- the words do not go together, or the image was not opened
 abbrev pub IsNotOpenedToRecover : List ℕ → RecoverWords → CommandFault → Type 0
 IsNotOpenedToRecover name words fault =
-    (IsBadOption (codes "--list") fault × (words.list ≡ true) × (words.dry_run ≡ false)) ⊎ IsShutAt name words.journal words.extents fault
+    (IsBadOption option.List fault × (words.list ≡ true) × (words.dry_run ≡ false)) ⊎ IsShutAt name words.journal words.extents fault
 
 module _ {S T : Type 0} {start : Starts S} {other : Starts T} where
   -- the image was not opened, and nothing was done; or what was asked for was done since it was opened. If its files are honest, all that

@@ -1,6 +1,7 @@
 //! How a command has ended, with the image that it was over.
 ghost use Rattle.std.specs.Prelude.{◌≡◌, None};
 
+use crate::ended::Ended;
 use crate::fault::CommandFault;
 use crate::report::Report;
 use jb_disk::{FileDisk, Start, Unknown};
@@ -29,12 +30,12 @@ impl<'a, S: Start, T: Start> Done<'a, S, T> {
         Done { image: None, end }
     }
 
-    /// Closes the image, and then writes what there is to say, and gives the exit status.
+    /// Closes the image, and then writes what there is to say, and gives the end of the program.
     ///
     /// # Errors
     /// The fault of a command that ended without an answer, and then nothing was written; `CommandFault::WriteFault`
     /// where `out` took only the beginning of the text.
-    pub fn tell<O: Write>(self, out: &mut O) -> Result<u8, CommandFault<'a>>
+    pub fn tell<O: Write>(self, out: &mut O) -> Result<Ended, CommandFault<'a>>
         ensures { TellsEnd self.entry.end (O.contents out.old) (O.contents out.new) result }
     {
         let Done { image, end } = self;

@@ -1,39 +1,33 @@
-ghost use Rattle.std.specs.Prelude.{◌≡◌};
-ghost use Rattle.jb_plain.specs.Ends.{alone as ends_alone};
-
 use crate::fault::CommandFault;
-use jb_advice::Beside;
+use jb_advice::Hint;
 
 /// How a run of the program ended.
-#[derive(Clone, Copy, Debug, PartialEq, Eq)]
+#[derive(Clone, Copy)]
 pub struct Ended {
     /// The exit status.
     pub status: u8,
-    /// What a second line says of its first fault, beside the words of its row.
-    pub beside: Beside,
+    /// What a second line is about: the first line on standard error, where the table has a row for it.
+    pub hint: Option<Hint>,
 }
 
 impl Ended {
     ghost use Rattle.std.specs.Prelude.{◌≡◌};
-    ghost use Rattle.jb_plain.specs.Ends.{with_status};
+    ghost use Rattle.jb_plain.specs.Ends.{of_fault, with_status};
 
-    /// An end with this status, whose line says all.
+    /// An end with this status and no second line.
     pub fn with_status(status: u8) -> Ended
         ensures { result ≡ with_status status }
     {
-        Ended {
-            status,
-            beside: Beside::Nothing,
-        }
+        Ended { status, hint: None }
     }
-}
 
-/// The end of a command that gives a status.
-pub(crate) fn alone<'a>(end: Result<u8, CommandFault<'a>>) -> Result<Ended, CommandFault<'a>>
-    ensures { result ≡ ends_alone end.entry }
-{
-    match end {
-        Ok(status) => Ok(Ended::with_status(status)),
-        Err(fault) => Err(fault),
+    /// The end of a command that ended without an answer, for this.
+    pub fn of_fault(fault: CommandFault<'_>) -> Ended
+        ensures { result ≡ of_fault fault.entry }
+    {
+        Ended {
+            status: fault.status(),
+            hint: Some(fault.hint()),
+        }
     }
 }

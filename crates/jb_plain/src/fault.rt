@@ -1,6 +1,8 @@
 ghost use Rattle.std.specs.Prelude.{◌≡◌};
+ghost use Rattle.jb_plain.specs.Faults.{extents_hint as extents_hint_of, super_hint as super_hint_of};
+ghost use Rattle.jb_plain.specs.Faults.{system_hint as system_hint_of};
 
-use jb_advice::Beside;
+use jb_advice::{Hint, OptionName};
 use jb_dump::DumpFault;
 use jb_extents::ExtentsFault;
 use jb_filesystem::FileSystemFault;
@@ -23,8 +25,8 @@ pub enum CommandFault<'a> {
     /// The file of this name could not be made: it is there already, or the system refuses it; with the number of the
     /// system's error, where it has one.
     CannotMake(&'a str, Option<i32>),
-    /// The option of this name, with its two hyphens, is the first that has a value that it may not have.
-    BadOption(&'static str),
+    /// This option is the first that has a value that it may not have.
+    BadOption(OptionName),
     /// The file of this name has more bytes than a text may have.
     TooLong(&'a str),
     /// A read of the journal failed.
@@ -132,7 +134,7 @@ impl<'a> From<ChangeFault> for CommandFault<'a> {
 }
 
 impl<'a> CommandFault<'a> {
-    ghost use Rattle.jb_plain.specs.Faults.{beside_of, peek_fault, recover_fault, status_of};
+    ghost use Rattle.jb_plain.specs.Faults.{hint_of, peek_fault, recover_fault, status_of};
 
     /// The program's exit status: 2 where an option or a file was the reason, else 1.
     pub fn status(self) -> u8
@@ -182,17 +184,71 @@ impl<'a> CommandFault<'a> {
         }
     }
 
-    /// What a second line says of it beside the words of its row.
-    pub fn beside(self) -> Beside
-        ensures value { result ≡ beside_of self.entry }
+    /// What a second line is about after its line.
+    pub fn hint(self) -> Hint
+        ensures value { result ≡ hint_of self.entry }
     {
         match self {
-            CommandFault::BadOption(name) => Beside::BadOption(name),
-            CommandFault::CannotRead(_, Some(code)) => Beside::System(code),
-            CommandFault::CannotMake(_, Some(code)) => Beside::System(code),
-            CommandFault::HomeOutOfRange(_, _, Some(homes)) => Beside::Homes(homes),
-            CommandFault::NoHome(_, Some(homes)) => Beside::Homes(homes),
-            _ => Beside::Nothing,
+            CommandFault::CannotRead(_, code) => Hint::CannotRead(code),
+            CommandFault::InUse(_) => Hint::InUse,
+            CommandFault::SameFile(_) => Hint::SameFile,
+            CommandFault::CannotMake(_, code) => Hint::CannotMake(code),
+            CommandFault::BadOption(option) => Hint::BadOption(option),
+            CommandFault::TooLong(_) => Hint::TooLong,
+            CommandFault::ReadFault => Hint::ReadFault,
+            CommandFault::Super(fault) => super_hint(fault),
+            CommandFault::JournalLength(_, _) => Hint::JournalLength,
+            CommandFault::FileSystem(fault) => system_hint(fault),
+            CommandFault::Extents(fault) => extents_hint(fault),
+            CommandFault::BadRevoke(_) => Hint::BadRevoke,
+            CommandFault::HomeOutOfRange(_, _, homes) => Hint::HomeOutOfRange(homes),
+            CommandFault::NoHome(_, homes) => Hint::NoHome(homes),
+            CommandFault::NeedsRecovery => Hint::NeedsRecovery,
+            CommandFault::NumbersSpent => Hint::NumbersSpent,
+            CommandFault::BlockSize => Hint::BlockSize,
+            CommandFault::Accounts => Hint::Accounts,
+            CommandFault::Geometry => Hint::Geometry,
+            CommandFault::DeviceFault => Hint::DeviceFault,
+            CommandFault::Memory => Hint::Memory,
+            CommandFault::WriteFault => Hint::WriteFault,
         }
+    }
+}
+
+/// What a second line is about after the line of a superblock that is refused.
+fn super_hint(fault: SuperFault) -> Hint
+    ensures { result ≡ super_hint_of fault }
+{
+    match fault {
+        SuperFault::ShortBlock => Hint::SuperShortBlock,
+        SuperFault::NoMagic => Hint::SuperNoMagic,
+        SuperFault::NotVersion2(_) => Hint::SuperNotVersion2,
+        SuperFault::BlockSize(_) => Hint::SuperBlockSize,
+        SuperFault::Geometry => Hint::SuperGeometry,
+        SuperFault::Feature(_, _) => Hint::SuperFeature,
+    }
+}
+
+/// What a second line is about after the line of a journal that is not recovered into a file system.
+fn system_hint(fault: FileSystemFault) -> Hint
+    ensures { result ≡ system_hint_of fault }
+{
+    match fault {
+        FileSystemFault::BlockSize(_) => Hint::FileSystemBlockSize,
+        FileSystemFault::Uuid => Hint::FileSystemUuid,
+        FileSystemFault::Clean => Hint::FileSystemClean,
+    }
+}
+
+/// What a second line is about after the line of extents that do not hold the journal.
+fn extents_hint(fault: ExtentsFault) -> Hint
+    ensures { result ≡ extents_hint_of fault }
+{
+    match fault {
+        ExtentsFault::Overlap(_) => Hint::ExtentsOverlap,
+        ExtentsFault::PastEnd(_) => Hint::ExtentsPastEnd,
+        ExtentsFault::Short(_) => Hint::ExtentsShort,
+        ExtentsFault::NoJournal => Hint::ExtentsNoJournal,
+        ExtentsFault::Home(_) => Hint::ExtentsHome,
     }
 }

@@ -7,6 +7,7 @@ ghost use Rattle.jb_words.specs.Named.{options_said};
 ghost use Rattle.jb_plain.specs.Options.{AreGood, IsAskedBy, IsFirstBad};
 
 use hex::FromHex;
+use jb_advice::OptionName;
 use jb_block::{BlockSize, Width};
 use jb_image::Geometry;
 use jb_words::FormatOptions;
@@ -14,31 +15,31 @@ use jb_words::FormatOptions;
 /// The image that the options ask for.
 ///
 /// # Errors
-/// The name of the first option that is bad, in this order: `--bs` is not 1024, 2048 or 4096; `--journal` or `--max` is
+/// The first option that is bad, in this order: `--bs` is not 1024, 2048 or 4096; `--journal` or `--max` is
 /// above 2^32 - 1; `--uuid` is not 32 hexadecimal digits; or with `--homes` the file has 2^63 bytes or more, or
 /// without `--wide` more home blocks than 32 bits number.
-pub(crate) fn new_file(options: FormatOptions<'_>) -> Result<Geometry, &'static str>
+pub(crate) fn new_file(options: FormatOptions<'_>) -> Result<Geometry, OptionName>
     ensures good { IfOk result (λ _. AreGood (options_said options.entry)) }
     ensures asked { IfOk result (IsAskedBy (options_said options.entry)) }
-    ensures bad { IfErr result (λ name. IsFirstBad (options_said options.entry) name.now) }
+    ensures bad { IfErr result (λ option. IsFirstBad (options_said options.entry) option) }
 {
     let Some(size) = size_of(options.bs) else {
-        return Err("--bs");
+        return Err(OptionName::Bs);
     };
     let Some(journal) = word_of(options.journal) else {
-        return Err("--journal");
+        return Err(OptionName::Journal);
     };
     let Some(max) = word_of(options.max) else {
-        return Err("--max");
+        return Err(OptionName::Max);
     };
     let Some(uuid) = uuid_of(options.uuid) else {
-        return Err("--uuid");
+        return Err(OptionName::Uuid);
     };
     if !is_file_len(options.journal, options.homes, options.bs) {
-        return Err("--homes");
+        return Err(OptionName::Homes);
     }
     if !options.wide && options.homes > 1 << 32 {
-        return Err("--homes");
+        return Err(OptionName::Homes);
     }
     Ok(Geometry {
         block_size: size,

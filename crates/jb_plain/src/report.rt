@@ -1,7 +1,8 @@
 //! What a command has to say once its image is closed.
 ghost use Rattle.std.specs.Prelude.{◌≡◌};
-ghost use Rattle.jb_plain.specs.Reports.{status_end as ends_so};
+ghost use Rattle.jb_plain.specs.Reports.{said_end as ends_saying, status_end as ends_so};
 
+use crate::ended::Ended;
 use crate::fault::CommandFault;
 use crate::streams::{
     tell_foreseen, tell_formatted, tell_recovered, tell_renumbered, tell_widened,
@@ -13,8 +14,8 @@ use std::io::Write;
 /// What a command has done, for a line that is written once its image is closed.
 #[derive(Drop)]
 pub enum Report {
-    /// It has written all that it had to say, and ends with this status.
-    Status(u8),
+    /// It has written all that it had to say, and ends so.
+    Said(Ended),
     /// A journal was made, with so many log blocks of a transaction at most.
     Formatted(u32),
     /// A journal was recovered.
@@ -30,15 +31,15 @@ pub enum Report {
 impl Report {
     ghost use Rattle.jb_plain.specs.Reports.{TellsReport};
 
-    /// Writes its line, or its lines, and gives the exit status.
+    /// Writes its line, or its lines, and gives the end of the program.
     ///
     /// # Errors
     /// `CommandFault::WriteFault` where `out` took only the beginning of the text.
-    pub fn tell<'a, O: Write>(&self, out: &mut O) -> Result<u8, CommandFault<'a>>
+    pub fn tell<'a, O: Write>(&self, out: &mut O) -> Result<Ended, CommandFault<'a>>
         ensures { TellsReport self.now (O.contents out.old) (O.contents out.new) result }
     {
         match self {
-            Report::Status(status) => Ok(*status),
+            Report::Said(ended) => Ok(*ended),
             Report::Formatted(limit) => tell_formatted(*limit, out),
             Report::Recovered(done) => tell_recovered(*done, out),
             Report::Foreseen(told, list) => tell_foreseen(told, *list, out),
@@ -48,12 +49,22 @@ impl Report {
     }
 }
 
-/// The end of a command that has written all that it had to say.
+/// The end of a command that has written all that it had to say, and ends so.
+pub(crate) fn said_end<'a>(end: Result<Ended, CommandFault<'a>>) -> Result<Report, CommandFault<'a>>
+    ensures { result ≡ ends_saying end.entry }
+{
+    match end {
+        Ok(ended) => Ok(Report::Said(ended)),
+        Err(fault) => Err(fault),
+    }
+}
+
+/// The end of a command that has written all that it had to say, with this status.
 pub(crate) fn status_end<'a>(end: Result<u8, CommandFault<'a>>) -> Result<Report, CommandFault<'a>>
     ensures { result ≡ ends_so end.entry }
 {
     match end {
-        Ok(status) => Ok(Report::Status(status)),
+        Ok(status) => Ok(Report::Said(Ended::with_status(status))),
         Err(fault) => Err(fault),
     }
 }

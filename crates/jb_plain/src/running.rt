@@ -8,14 +8,14 @@ ghost use Rattle.jb_plain.specs.Lines.{names_said};
 ghost use Rattle.jb_plain.specs.Runs.{Closes, Ends, EndsAsked, EndsOfTwo, Runs, reads_input};
 
 use crate::done::Done;
-use crate::ended::{Ended, alone};
+use crate::ended::Ended;
 use crate::fault::CommandFault;
 use crate::files::{
     cat_file, choice_of, dump_named, format_file, read_file, read_file_within, read_text,
     recover_file, renumber_file, widen_file,
 };
 use crate::names::{TwoFiles, files_of};
-use crate::report::status_end;
+use crate::report::{said_end, status_end};
 use crate::streams::{CERT_LIMIT, tell};
 use jb_answers::{check_answer, cost_answer, fault_answer, plan_answer};
 use jb_disk::{Start, Unknown};
@@ -44,9 +44,9 @@ pub fn perform<
     ensures unread { reads_input (asks plain.entry) ≡ false → input.new ≡ input.old }
 {
     match plain {
-        Plain::Cost { file } => Done::alone(status_end(perform_cost(rt, file, input, out, err))),
-        Plain::Plan { file } => Done::alone(status_end(perform_plan(rt, file, input, out, err))),
-        Plain::Check { file, cert } => Done::alone(status_end(perform_check(
+        Plain::Cost { file } => Done::alone(said_end(perform_cost(rt, file, input, out, err))),
+        Plain::Plan { file } => Done::alone(said_end(perform_plan(rt, file, input, out, err))),
+        Plain::Check { file, cert } => Done::alone(said_end(perform_check(
             rt, file, cert, out, err,
         ))),
         Plain::Dump { file, options } => {
@@ -67,7 +67,7 @@ fn perform_cost<'a, R: Files + AllocGlobal, I: Read, O: Write, E: Write>(
     input: &mut I,
     out: &mut O,
     err: &mut E,
-) -> Result<u8, CommandFault<'a>>
+) -> Result<Ended, CommandFault<'a>>
     ensures ends { Ends (λ text words. cost_said text ≡ Some words) file.entry.now (I.remaining input.old)
         (record { out = O.contents out.old; err = E.contents err.old })
         (record { out = O.contents out.new; err = E.contents err.new }) result }
@@ -85,7 +85,7 @@ fn perform_plan<'a, R: Files + AllocGlobal, I: Read, O: Write, E: Write>(
     input: &mut I,
     out: &mut O,
     err: &mut E,
-) -> Result<u8, CommandFault<'a>>
+) -> Result<Ended, CommandFault<'a>>
     ensures ends { Ends PlanSays file.entry.now (I.remaining input.old)
         (record { out = O.contents out.old; err = E.contents err.old })
         (record { out = O.contents out.new; err = E.contents err.new }) result }
@@ -103,7 +103,7 @@ fn perform_check<'a, R: Files + AllocGlobal, O: Write, E: Write>(
     cert: &'a str,
     out: &mut O,
     err: &mut E,
-) -> Result<u8, CommandFault<'a>>
+) -> Result<Ended, CommandFault<'a>>
     ensures ends { EndsOfTwo CheckSays file.entry.now cert.entry.now
         (record { out = O.contents out.old; err = E.contents err.old })
         (record { out = O.contents out.new; err = E.contents err.new }) result }
@@ -137,7 +137,7 @@ pub fn run_plain<R: Files<File = File> + AllocGlobal, I: Read, O: Write, E: Writ
 {
     let done = perform::<Unknown, Unknown, R, I, O, E>(rt, plain, input, out, err);
     let told = done.tell(out);
-    close(alone(told), files_of(plain), err)
+    close(told, files_of(plain), err)
 }
 
 /// The program's end at the end of a command, over these files where they are two; of one that ended without an answer
@@ -155,10 +155,7 @@ pub fn close<E: Write>(
         Ok(ended) => ended,
         Err(fault) => {
             fault.tell(files, err);
-            Ended {
-                status: fault.status(),
-                beside: fault.beside(),
-            }
+            Ended::of_fault(fault)
         }
     }
 }

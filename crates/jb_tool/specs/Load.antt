@@ -1,7 +1,7 @@
 -- How `jb load` ends over files.
-use Rattle.std.specs.Prelude.{◌≡◌, ◌⊎◌, ◌≤◌, ℕ, ⊤, List, [], Option, None, Result, Ok, Err, Some, codes}
-use Rattle.jb_advice.specs.declared.beside.Beside.{Beside}
-use Rattle.jb_advice.specs.declared.beside.Beside.TheVariants.{Homes, Nothing}
+use Rattle.std.specs.Prelude.{◌≡◌, ◌⊎◌, ◌≤◌, ℕ, ⊤, List, [], Option, None, Result, Ok, Err, Some}
+use Rattle.jb_advice.specs.declared.hint.Hint.{Hint}
+use Rattle.jb_advice.specs.declared.option_name.OptionName.TheVariants.{Threads}
 use Rattle.jb_answers.specs.Faulty.{queue_fault}
 use Rattle.jb_answers.specs.Said.{said}
 use Rattle.jb_answers.specs.declared.answer.Answer.{Answer}
@@ -21,21 +21,18 @@ use Rattle.jb_load.specs.Settled.{IsOfQueue, LoadsSince}
 use Rattle.jb_load.specs.Telling.{TellsLoad}
 use Rattle.jb_load.specs.declared.fault.LoadFault.{LoadFault}
 use Rattle.jb_load.specs.declared.fault.LoadFault.TheVariants as loading
-use Rattle.jb_load.specs.declared.fault.HandleFault.{HandleFault}
-use Rattle.jb_load.specs.declared.fault.HandleFault.TheVariants.{OutOfRange}
 use Rattle.jb_load.specs.declared.loaded.Loaded.{Loaded}
-use Rattle.jb_load.specs.declared.loaded.Refused.{Refused}
 use Rattle.jb_load.specs.declared.options.LoadOptions.{LoadOptions}
 use Rattle.jb_queue.specs.Queue.{Queue, queue_of}
 use Rattle.jb_queue.specs.declared.fault.QueueFault.{QueueFault}
 use Rattle.jb_words.specs.Wanted.{Loading}
-use Rattle.jb_plain.specs.Ends.{alone}
 use Rattle.jb_plain.specs.Files.{IsOpened, IsShut}
 use Rattle.jb_plain.specs.Lines.{names_with}
 use Rattle.jb_plain.specs.Runs.{Closes}
 use Rattle.jb_plain.specs.Said.{Outputs, Tells}
 use Rattle.jb_plain.specs.Texts.{HasNoText, IsText}
 use Rattle.jb_plain.specs.declared.ended.Ended.{Ended}
+use Rattle.jb_tool.specs.Hints.{load_hint}
 use Rattle.jb_tool.specs.declared.loaded.LoadReport.{LoadReport}
 use Rattle.jb_tool.specs.declared.loaded.LoadReport.TheVariants.{Loaded as ReportsLoaded, Text as ReportsText}
 use Rattle.jb_plain.specs.declared.fault.CommandFault.{CommandFault}
@@ -66,26 +63,16 @@ load_fault (loading.Open fault) = open_fault fault
 load_fault loading.Memory = Memory
 load_fault loading.Accounts = Accounts
 
--- how a command ends by what the telling of a load answers, and by what a second line says beside its row
-abbrev pub end_by : Beside → Result ℕ WriteFault → Result Ended CommandFault
-end_by beside (Ok status) = Ok (record { status = status; beside = beside })
-end_by beside (Err fault) = Err CommandWriteFault
-
--- what a second line says of a fault of a handle beside the words of its row, in an image of so many home blocks
-abbrev pub beside_fault : ℕ → HandleFault → Beside
-beside_fault homes (OutOfRange home) = Homes homes
-beside_fault homes _ = Nothing
-
--- the same of the handle that was refused, where there is one
-abbrev pub beside_in : ℕ → Option Refused → Beside
-beside_in homes None = Nothing
-beside_in homes (Some refused) = beside_fault homes refused.fault
+-- how a command ends by what the telling of a load answers, and with this hint
+abbrev pub end_by : Option Hint → Result ℕ WriteFault → Result Ended CommandFault
+end_by hint (Ok status) = Ok (record { status = status; hint = hint })
+end_by hint (Err fault) = Err CommandWriteFault
 
 -- what a load has to say is told: its lines, or the line of its text's first fault
 abbrev pub TellsLoadReport : LoadReport → Outputs → Outputs → Result Ended CommandFault → Type 0
 TellsLoadReport (ReportsLoaded loaded homes) old new end =
-    (told : Result ℕ WriteFault) × (end ≡ end_by (beside_in homes loaded.refused) told) × TellsLoad loaded old.out new.out old.err new.err told
-TellsLoadReport (ReportsText answer) old new end = (told : Result ℕ CommandFault) × (end ≡ alone told) × Tells (said answer) old new told
+    (told : Result ℕ WriteFault) × (end ≡ end_by (load_hint homes loaded) told) × TellsLoad loaded old.out new.out old.err new.err told
+TellsLoadReport (ReportsText answer) old new end = Tells (said answer) old new end
 
 -- what a load ended with is told, or it ended with a fault, and then nothing is written
 abbrev pub TellsLoadEnd : Result LoadReport CommandFault → Outputs → Outputs → Result Ended CommandFault → Type 0
@@ -137,7 +124,7 @@ module _ {S T : Type 0} {start : Starts S} {other : Starts T} where
 
 -- the image was not opened: the number of threads is bad, or it is not and the image was not read
 abbrev pub IsUnopened : Loading → CommandFault → Type 0
-IsUnopened load (BadOption name) = (name.now ≡ codes "--threads") × (HasThreads load → ⊥)
+IsUnopened load (BadOption option) = (option ≡ Threads) × (HasThreads load → ⊥)
 IsUnopened load fault = HasThreads load × IsShut load.image load.journal fault
 
 module _ {S T : Type 0} {start : Starts S} {other : Starts T} where

@@ -6,7 +6,7 @@ use Rattle.jb_words.specs.Wanted.{Wanted}
 use Rattle.jb_words.specs.declared.Error.{Error}
 use Rattle.jb_words.specs.declared.ErrorKind.{ErrorKind}
 use Rattle.jb_words.specs.declared.ErrorKind.TheVariants.{DisplayHelp, DisplayVersion, OutOfMemory}
-use Rattle.jb_plain.specs.Ends.{with_status}
+use Rattle.jb_plain.specs.Ends.{of_fault, with_status}
 use Rattle.jb_plain.specs.Runs.{Closes}
 use Rattle.jb_plain.specs.Said.{Outputs}
 use Rattle.jb_plain.specs.Faults.{line_of}
@@ -18,7 +18,7 @@ use Rattle.jb_plain.specs.declared.fault.CommandFault.TheVariants.{Memory, Write
 pub record EndsRefused (kind : ErrorKind) (old new : Outputs) (ended : Ended) : Type 0 where
   pub memory : kind ≡ OutOfMemory → Closes None (Err Memory) old new ended
   pub shown : (kind ≡ DisplayHelp) ⊎ (kind ≡ DisplayVersion)
-      → ((ended ≡ with_status 0) × (new.err ≡ old.err)) ⊎ ((ended ≡ with_status 1) × PutsPart old.err new.err (line_of None WriteFault))
+      → ((ended ≡ with_status 0) × (new.err ≡ old.err)) ⊎ ((ended ≡ of_fault WriteFault) × PutsPart old.err new.err (line_of None WriteFault))
   pub mistake : kind ≢ OutOfMemory → kind ≢ DisplayHelp → kind ≢ DisplayVersion → (ended ≡ with_status 2) × (new.out ≡ old.out)
 
 -- the words were refused by one of the kinds of their first fault, or where memory ran out, or as they ask for no command

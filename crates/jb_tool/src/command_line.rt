@@ -3,7 +3,7 @@ ghost use Rattle.jb_words.specs.Faults.{faults_in, kind_of};
 ghost use Rattle.jb_words.specs.Named.Asked.{AsksCost};
 ghost use Rattle.jb_words.specs.Wanted.{wanted_in};
 ghost use Rattle.jb_io.specs.Puts.{PutsPart};
-ghost use Rattle.jb_plain.specs.Ends.{with_status};
+ghost use Rattle.jb_plain.specs.Ends.{of_fault, with_status};
 ghost use Rattle.jb_plain.specs.Runs.{Closes, Runs};
 ghost use Rattle.jb_plain.specs.Faults.{line_of};
 ghost use Rattle.jb_plain.specs.declared.fault.CommandFault.TheVariants.{Memory as CommandMemory, WriteFault};
@@ -65,14 +65,14 @@ fn tell_refusal<O: Write, E: Write>(error: &Error, out: &mut O, err: &mut E) -> 
         (record { out = O.contents out.new; err = E.contents err.new }) result }
     ensures shown { (kind_of error.now ≡ ErrorKind.DisplayHelp) ⊎ (kind_of error.now ≡ ErrorKind.DisplayVersion)
         → ((result ≡ with_status 0) × (E.contents err.new ≡ E.contents err.old))
-        ⊎ ((result ≡ with_status 1) × PutsPart (E.contents err.old) (E.contents err.new) (line_of None WriteFault)) }
+        ⊎ ((result ≡ of_fault WriteFault) × PutsPart (E.contents err.old) (E.contents err.new) (line_of None WriteFault)) }
     ensures mistake { kind_of error.now ≢ ErrorKind.OutOfMemory → kind_of error.now ≢ ErrorKind.DisplayHelp
         → kind_of error.now ≢ ErrorKind.DisplayVersion
         → (result ≡ with_status 2) × (O.contents out.new ≡ O.contents out.old) }
 {
     if error.kind() == ErrorKind::OutOfMemory {
         CommandFault::Memory.tell(None, err);
-        return Ended::with_status(CommandFault::Memory.status());
+        return Ended::of_fault(CommandFault::Memory);
     }
     if error.use_stderr() {
         let _ignored = write!(err, "{error}");
@@ -80,7 +80,7 @@ fn tell_refusal<O: Write, E: Write>(error: &Error, out: &mut O, err: &mut E) -> 
     }
     if write!(out, "{error}").is_err() || out.flush().is_err() {
         CommandFault::WriteFault.tell(None, err);
-        return Ended::with_status(CommandFault::WriteFault.status());
+        return Ended::of_fault(CommandFault::WriteFault);
     }
     Ended::with_status(0)
 }

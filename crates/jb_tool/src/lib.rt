@@ -3,8 +3,10 @@
 #![tactic(auto)]
 
 mod command_line;
+mod hints;
 mod load;
 mod loaded;
+mod program;
 
 pub use command_line::run;
 pub use jb_plain::{
@@ -14,3 +16,4 @@ pub use jb_plain::{
 };
 pub use load::load_files;
 pub use loaded::{LoadDone, LoadReport};
+pub use program::{Terminals, run_program};

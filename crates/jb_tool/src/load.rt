@@ -6,6 +6,7 @@ ghost use Rattle.jb_tool.specs.Load.{EndsOfLoad, HasThreads, IsAskedBy, LoadsQue
 ghost use Rattle.jb_tool.specs.Load.{RunsLoad, load_fault};
 
 use crate::loaded::{LoadDone, LoadReport};
+use jb_advice::OptionName;
 use jb_answers::fault_answer;
 use jb_block::Stamp;
 use jb_deck::OpenFault;
@@ -56,7 +57,7 @@ pub fn load_files<
     let Some(options) = load_options(load) else {
         return LoadDone {
             image: None,
-            end: Err(CommandFault::BadOption("--threads")),
+            end: Err(CommandFault::BadOption(OptionName::Threads)),
         };
     };
     let (disk, homes) = match open_counted(rt, load.image, load.journal, Opening::Change) {

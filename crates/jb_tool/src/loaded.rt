@@ -1,11 +1,10 @@
 //! What came of a load, and how it is told.
-ghost use Rattle.std.specs.Prelude.{◌≡◌};
-ghost use Rattle.jb_tool.specs.Load.{TellsLoadReport, beside_in};
+ghost use Rattle.jb_tool.specs.Load.{TellsLoadReport};
 
-use jb_advice::Beside;
+use crate::hints::load_hint;
 use jb_answers::Answer;
 use jb_disk::{FileDisk, Start, Unknown};
-use jb_load::{HandleFault, Loaded, Refused, tell_loaded};
+use jb_load::{Loaded, tell_loaded};
 use jb_pair::ImageDisk;
 use jb_plain::{CommandFault, Ended, tell};
 use std::io::Write;
@@ -72,28 +71,9 @@ fn tell_report<'a, O: Write, E: Write>(
             let status = tell_loaded(loaded, out, err)?;
             Ok(Ended {
                 status,
-                beside: beside_of(loaded, *homes),
+                hint: load_hint(loaded, *homes),
             })
         }
-        LoadReport::Text(answer) => {
-            let status = tell(answer, out, err)?;
-            Ok(Ended::with_status(status))
-        }
-    }
-}
-
-/// What a second line says of a load into an image of so many home blocks beside the words of its first line's row:
-/// their number, where a handle was refused for want of one.
-fn beside_of(loaded: &Loaded, homes: u64) -> Beside
-    ensures { result ≡ beside_in homes loaded.now.refused }
-{
-    match loaded.refused {
-        Some(
-            Refused {
-                fault: HandleFault::OutOfRange(_),
-                ..
-            },
-        ) => Beside::Homes(homes),
-        _ => Beside::Nothing,
+        LoadReport::Text(answer) => tell(answer, out, err),
     }
 }

@@ -2,8 +2,6 @@
 #![tactic(auto)]
 
 #[cfg(test)]
-mod besides;
-#[cfg(test)]
 mod certificates;
 #[cfg(test)]
 mod changes;
@@ -14,6 +12,10 @@ mod files;
 #[cfg(test)]
 mod given_back;
 #[cfg(test)]
+mod hinted_faults;
+#[cfg(test)]
+mod hints;
+#[cfg(test)]
 mod homes;
 #[cfg(test)]
 mod images;
@@ -21,6 +23,8 @@ mod images;
 mod journals;
 #[cfg(test)]
 mod loads;
+#[cfg(test)]
+mod programs;
 #[cfg(test)]
 mod recoveries;
 #[cfg(test)]

@@ -172,7 +172,7 @@ fn check_refusal(
     let is = refuse_words(kind, &mut err);
     check_number(
         rt,
-        u64::from(is),
+        u64::from(is.status),
         u64::from(status),
         "status of refusal",
         at,

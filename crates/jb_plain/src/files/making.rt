@@ -38,10 +38,10 @@ pub fn format_file<'a, S: Start, T: Start, R: Files<File = File> + AllocGlobal>(
 {
     let new = match new_file(options) {
         Ok(new) => new,
-        Err(name) => {
+        Err(option) => {
             return Done {
                 image: None,
-                end: Err(CommandFault::BadOption(name)),
+                end: Err(CommandFault::BadOption(option)),
             };
         }
     };

@@ -7,6 +7,7 @@ ghost use Rattle.jb_plain.specs.Placed.{IsNoPlaceFor, IsOpenedAt, IsOpenedWithin
 
 use crate::fault::CommandFault;
 use crate::files::opening::{Opening, disk_of, front_of, homes_after, open_counted, open_image};
+use jb_advice::OptionName;
 use jb_block::BlockSize;
 use jb_disk::{Disk, FileDisk, Start};
 use jb_extents::{Extents, ExtentsDisk, ExtentsFault, ListFault};
@@ -37,7 +38,7 @@ pub(crate) fn open_placed<'a, S: Start, T: Start, R: Files<File = File> + AllocG
     match (journal, extents) {
         (journal, None) => open_counted(rt, name, journal, opening),
         (None, Some(list)) => open_within(rt, name, list, opening),
-        (Some(_), Some(_)) => Err(CommandFault::BadOption("--extents")),
+        (Some(_), Some(_)) => Err(CommandFault::BadOption(OptionName::Extents)),
     }
 }
 
@@ -59,7 +60,7 @@ fn open_within<'a, S: Start, T: Start, R: Files<File = File> + AllocGlobal>(
 {
     let extents = match Extents::read(rt.alloc(), list.as_bytes()) {
         Ok(extents) => extents,
-        Err(ListFault::Syntax) => return Err(CommandFault::BadOption("--extents")),
+        Err(ListFault::Syntax) => return Err(CommandFault::BadOption(OptionName::Extents)),
         Err(ListFault::Memory) => return Err(CommandFault::Memory),
     };
     if let Some(block) = extents.shared() {

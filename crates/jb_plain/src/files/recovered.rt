@@ -12,6 +12,7 @@ use crate::files::opening::Opening;
 use crate::files::placed::open_placed;
 use crate::report::Report;
 use crate::streams::{judge_on, recover_on};
+use jb_advice::OptionName;
 use jb_disk::{Disk, Start};
 use jb_extents::ExtentsFault;
 use jb_pair::ImageDisk;
@@ -37,7 +38,7 @@ pub fn recover_file<'a, S: Start, T: Start, R: Files<File = File> + AllocGlobal>
     if options.list && !options.dry_run {
         return Done {
             image: None,
-            end: Err(CommandFault::BadOption("--list")),
+            end: Err(CommandFault::BadOption(OptionName::List)),
         };
     }
     let opening = opening_of(options.dry_run);

@@ -6,6 +6,7 @@ ghost use Rattle.jb_plain.specs.Said.{TellsLine};
 ghost use Rattle.jb_plain.specs.declared.report.Report.TheVariants.{Renumbered as ReportsRenumbered};
 ghost use Rattle.jb_plain.specs.declared.report.Report.TheVariants.{Widened as ReportsWidened};
 
+use crate::ended::Ended;
 use crate::fault::CommandFault;
 use crate::report::Report;
 use crate::streams::telling::tell_line;
@@ -65,7 +66,7 @@ fn widening_end<'a>(answer: Result<Widened, ChangeFault>) -> Result<Report, Comm
 pub(crate) fn tell_renumbered<'a, O: Write>(
     done: Renumbered,
     out: &mut O,
-) -> Result<u8, CommandFault<'a>>
+) -> Result<Ended, CommandFault<'a>>
     ensures { TellsLine (renumbered_line done) (O.contents out.old) (O.contents out.new) result }
 {
     let (mut blocks, mut next) = (Buffer::new(), Buffer::new());
@@ -74,7 +75,10 @@ pub(crate) fn tell_renumbered<'a, O: Write>(
 }
 
 /// Writes the line of a widening.
-pub(crate) fn tell_widened<'a, O: Write>(done: Widened, out: &mut O) -> Result<u8, CommandFault<'a>>
+pub(crate) fn tell_widened<'a, O: Write>(
+    done: Widened,
+    out: &mut O,
+) -> Result<Ended, CommandFault<'a>>
     ensures { TellsLine (widened_line done) (O.contents out.old) (O.contents out.new) result }
 {
     let mut digits = Buffer::new();

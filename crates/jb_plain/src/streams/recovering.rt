@@ -2,6 +2,7 @@ ghost use Rattle.std.specs.Prelude.{◌≡◌};
 ghost use Rattle.jb_plain.specs.Recover.{RecoversOn, recovered_line, recovery_end as ends_so};
 ghost use Rattle.jb_plain.specs.Said.{TellsLine};
 
+use crate::ended::Ended;
 use crate::fault::CommandFault;
 use crate::report::Report;
 use crate::streams::telling::tell_line;
@@ -47,7 +48,7 @@ fn recovery_end<'a>(
 pub(crate) fn tell_recovered<'a, O: Write>(
     done: Recovered,
     out: &mut O,
-) -> Result<u8, CommandFault<'a>>
+) -> Result<Ended, CommandFault<'a>>
     ensures { TellsLine (recovered_line done) (O.contents out.old) (O.contents out.new) result }
 {
     let (mut transactions, mut copies) = (Buffer::new(), Buffer::new());

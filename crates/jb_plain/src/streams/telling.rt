@@ -3,12 +3,13 @@ ghost use Rattle.jb_io.specs.Parts.{spelled};
 ghost use Rattle.jb_answers.specs.Said.{said};
 ghost use Rattle.jb_plain.specs.Said.{Tells, TellsLine};
 
+use crate::ended::Ended;
 use crate::fault::CommandFault;
 use jb_answers::Answer;
 use jb_io::{put, put_parts};
 use std::io::Write;
 
-/// Writes an answer and gives its status. A fault of standard error is ignored.
+/// Writes an answer and gives its end. A fault of standard error is ignored.
 ///
 /// # Errors
 /// `CommandFault::WriteFault` where standard output took only the beginning of its text, and never where there is
@@ -17,14 +18,17 @@ pub fn tell<'a, O: Write, E: Write>(
     answer: &Answer,
     out: &mut O,
     err: &mut E,
-) -> Result<u8, CommandFault<'a>>
+) -> Result<Ended, CommandFault<'a>>
     ensures { Tells (said answer.now) (record { out = O.contents out.old; err = E.contents err.old })
         (record { out = O.contents out.new; err = E.contents err.new }) result }
 {
     match put(out, answer.out.as_bytes()) {
         Ok(()) => {
             let _ignored = put(err, answer.err.as_bytes());
-            Ok(answer.status)
+            Ok(Ended {
+                status: answer.status,
+                hint: answer.hint,
+            })
         }
         Err(_) => Err(CommandFault::WriteFault),
     }
@@ -34,11 +38,14 @@ pub fn tell<'a, O: Write, E: Write>(
 ///
 /// # Errors
 /// `CommandFault::WriteFault` where the writer took only the beginning of the line.
-pub(crate) fn tell_line<'a, O: Write>(out: &mut O, parts: &[&str]) -> Result<u8, CommandFault<'a>>
+pub(crate) fn tell_line<'a, O: Write>(
+    out: &mut O,
+    parts: &[&str],
+) -> Result<Ended, CommandFault<'a>>
     ensures { TellsLine (spelled (map (λ part. part.now) parts.now)) (O.contents out.old) (O.contents out.new) result }
 {
     match put_parts(out, parts) {
-        Ok(()) => Ok(0),
+        Ok(()) => Ok(Ended::with_status(0)),
         Err(_) => Err(CommandFault::WriteFault),
     }
 }

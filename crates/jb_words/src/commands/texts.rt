@@ -4,7 +4,10 @@ use jb_advice::diagnostics;
 
 /// What stands at the end of the long help of `jb`, with the table of what can go wrong.
 macro_rules! jb_text {
-    (lines { $($begins:literal, $rest:literal, $advice:literal $(: $beside:literal)?;)* } options { $($option:literal, $values:literal;)* }) => {
+    (
+        lines { $($hint:ident, $begins:literal, $rest:literal, $advice:literal $(: $beside:literal)?;)* }
+        options { $($option:ident, $name:literal, $values:literal;)* }
+    ) => {
         concat!(
             "Files:
 A queue text, the FILE of cost, plan, check and load, has a line for each handle after its first two:
@@ -36,7 +39,7 @@ journal.bin | head -1. With --journal the line ends with the name of the file th
 DeviceFault, which is of either. A control character of a name is \\x and two digits for each of its bytes.
 # is a number, and REASON the system's own text, where it has one; the options that may be bad stand last.",
             $("\n  jb: ", $begins, $rest, "\n          ", $advice $(, ": ", $beside)?),*,
-            $("\n  ", $option, "\n          is ", $values),*
+            $("\n  ", $name, "\n          is ", $values),*
         )
     };
 }

@@ -11,6 +11,6 @@ returns-clause-runs g c = (
     c.tell-told.result,
     record { out = g.O.Write.contents c.tell-told.new.out; err = g.E.Write.contents c.perform-done.new.err },
     (c.tell-told.ensures, refl),
-    rw c.alone.ensures at rw c.files_of.ensures at c.close.ensures (g.O.Write.contents c.tell-told.new.out),
+    rw c.files_of.ensures at c.close.ensures (g.O.Write.contents c.tell-told.new.out),
   ),
 )

@@ -1,0 +1,47 @@
+-- What a second line is about after the lines of a load on standard error: the first of them.
+use Rattle.std.specs.Prelude.{ℕ, Option, Some, None}
+use Rattle.jb_advice.specs.declared.hint.Hint.{Hint}
+use Rattle.jb_advice.specs.declared.hint.Hint.TheVariants as hint
+use Rattle.jb_desk.specs.declared.ended.Ended.{Ended}
+use Rattle.jb_desk.specs.declared.ended.Ended.TheVariants as ended
+use Rattle.jb_load.specs.declared.fault.HandleFault.{HandleFault}
+use Rattle.jb_load.specs.declared.fault.HandleFault.TheVariants.{Aborted, Busy, Closed, Full, Length, Memory, NoCredit, NotOpen, OutOfRange, TooManyCredits}
+use Rattle.jb_load.specs.declared.loaded.Loaded.{Loaded}
+use Rattle.jb_load.specs.declared.loaded.Refused.{Refused}
+
+-- a handle that was refused, in an image of so many home blocks; the table has no row for a fault that no text has
+abbrev pub handle_hint : ℕ → HandleFault → Option Hint
+handle_hint homes (TooManyCredits most) = Some hint.HandleTooManyCredits
+handle_hint homes (OutOfRange home) = Some (hint.HandleOutOfRange homes)
+handle_hint homes (Full reserved) = Some hint.HandleFull
+handle_hint homes Memory = Some hint.HandleMemory
+handle_hint homes Aborted = Some hint.HandleAborted
+handle_hint homes Closed = None
+handle_hint homes Busy = None
+handle_hint homes (NoCredit credits) = None
+handle_hint homes Length = None
+handle_hint homes NotOpen = None
+
+-- a checkpointer that did not end Shut, and that no commit has stopped
+abbrev pub checkpoint_hint : Option Ended → Option Hint
+checkpoint_hint None = None
+checkpoint_hint (Some (ended.Shut over)) = None
+checkpoint_hint (Some ended.Aborted) = Some hint.CheckpointAborted
+checkpoint_hint (Some ended.Memory) = Some hint.CheckpointMemory
+checkpoint_hint (Some ended.Refused) = None
+
+-- a committer that did not end Shut, and else the checkpointer
+abbrev pub commit_hint : Ended → Option Ended → Option Hint
+commit_hint (ended.Shut over) checkpoint = checkpoint_hint checkpoint
+commit_hint ended.Aborted checkpoint = Some hint.CommitAborted
+commit_hint ended.Memory checkpoint = Some hint.CommitMemory
+commit_hint ended.Refused checkpoint = Some hint.CommitRefused
+
+-- the handle that was refused, where there is one, and else the two threads
+abbrev pub first_hint : ℕ → Option Refused → Option Hint → Option Hint
+first_hint homes None ends = ends
+first_hint homes (Some refused) ends = handle_hint homes refused.fault
+
+-- what a second line is about after a load into an image of so many home blocks: the first of its lines, where the table has a row for it
+abbrev pub load_hint : ℕ → Loaded → Option Hint
+load_hint homes l = first_hint homes l.refused (commit_hint l.commit l.checkpoint)

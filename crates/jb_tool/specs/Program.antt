@@ -1,0 +1,52 @@
+-- How the whole program ends.
+use Rattle.std.specs.Prelude.{◌≡◌, ◌≢◌, ◌⊎◌, ℕ, Bool, true, false, List, [], map, Option, Some, None, Err, IfSome, codes}
+use Rattle.std.specs.declared.io.ErrorKind.{ErrorKind}
+use Rattle.std.specs.declared.io.ErrorKind.TheVariants.{InvalidData}
+use Rattle.jb_advice.specs.Advice.{hint_line}
+use Rattle.jb_advice.specs.declared.hint.Hint.{Hint}
+use Rattle.jb_io.specs.Puts.{PutsPart}
+use Rattle.jb_words.specs.Faults.{faults_in}
+use Rattle.jb_words.specs.Named.Asked.{AsksCost}
+use Rattle.jb_words.specs.Wanted.{wanted_in}
+use Rattle.jb_plain.specs.Ends.{of_fault, with_status}
+use Rattle.jb_plain.specs.Faults.{line_of, not_utf8}
+use Rattle.jb_plain.specs.Runs.{Closes, Runs}
+use Rattle.jb_plain.specs.Said.{Outputs}
+use Rattle.jb_plain.specs.declared.ended.Ended.{Ended}
+use Rattle.jb_plain.specs.declared.fault.CommandFault.TheVariants.{Memory}
+use Rattle.jb_tool.specs.Refused.{RefusesWords}
+use Rattle.jb_tool.specs.Wanted.{RunsWanted}
+
+-- what `run` says of a run with these words
+pub record RunsWords {S : Type 0} (text : S → List ℕ) (words : List S) (input : Option (List ℕ)) (old new : Outputs) (ended : Ended) : Type 0 where
+  pub bare : words ≡ [] → Runs (AsksCost (codes "-")) input old new ended
+  pub asked : words ≢ [] → faults_in (map text words) ≡ []
+      → IfSome (wanted_in (map text words)) (λ wanted. RunsWanted wanted input old new ended ⊎ Closes None (Err Memory) old new ended)
+  pub refused : words ≢ [] → (faults_in (map text words) ≢ []) ⊎ (wanted_in (map text words) ≡ None)
+      → RefusesWords (faults_in (map text words)) (wanted_in (map text words)) old new ended
+
+-- the help is on standard error, with status 2, or there was no memory for it
+abbrev pub Helps : Option (List ℕ) → Option (List ℕ) → Ended → Type 0
+Helps err_old err_new ended = (ended ≡ with_status 2) ⊎ ((ended ≡ of_fault Memory) × PutsPart err_old err_new (line_of None Memory))
+
+-- what the program answers to its words: at a terminal its help where there are none, and else a run with them
+pub record AnswersWords {S : Type 0} (text : S → List ℕ) (words : List S) (at_terminal : Bool) (input : Option (List ℕ)) (old new : Outputs) (ended : Ended) : Type 0 where
+  pub help : words ≡ [] → at_terminal ≡ true → Helps old.err new.err ended × (new.out ≡ old.out)
+  pub run : (words ≢ []) ⊎ (at_terminal ≡ false) → RunsWords text words input old new ended
+
+-- what it answers where the system has not handed its words over: a word that is no text, or no memory
+pub record RefusesKind (kind : ErrorKind) (old new : Outputs) (ended : Ended) : Type 0 where
+  pub text : kind ≡ InvalidData → (ended ≡ with_status 2) × PutsPart old.err new.err not_utf8
+  pub memory : kind ≢ InvalidData → (ended ≡ of_fault Memory) × PutsPart old.err new.err (line_of None Memory)
+  pub out : new.out ≡ old.out
+
+-- on a terminal a second line follows where an end has a hint, as far as standard error took it; else nothing does
+abbrev pub Advises : Bool → Option Hint → Option (List ℕ) → Option (List ℕ) → Type 0
+Advises true (Some hint) err_old err_new = (system : List ℕ) × PutsPart err_old err_new (hint_line system hint)
+Advises true None err_old err_new = err_new ≡ err_old
+Advises false hint err_old err_new = err_new ≡ err_old
+
+-- the program's status and outputs by what it answered: the status is the answer's, and on a terminal the second line follows
+abbrev pub EndsProgram : Bool → (Outputs → Outputs → Ended → Type 0) → Outputs → Outputs → ℕ → Type 0
+EndsProgram on_terminal Answers old new status =
+    (ended : Ended) × (mid : Outputs) × Answers old mid ended × (status ≡ ended.status) × (new.out ≡ mid.out) × Advises on_terminal ended.hint mid.err new.err

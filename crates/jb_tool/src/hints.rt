@@ -1,0 +1,58 @@
+//! What a second line is about after the lines of a load on standard error: the first of them.
+ghost use Rattle.std.specs.Prelude.{◌≡◌};
+ghost use Rattle.jb_tool.specs.Hints.{checkpoint_hint as checkpoint_hinted, commit_hint as commit_hinted};
+ghost use Rattle.jb_tool.specs.Hints.{handle_hint as handle_hinted, load_hint as load_hinted};
+
+use jb_advice::Hint;
+use jb_desk::Ended;
+use jb_load::{HandleFault, Loaded};
+
+/// What a second line is about after a load into an image of so many home blocks: the line of the handle that was
+/// refused, or of the committer, or of the checkpointer, whichever is the first.
+pub(crate) fn load_hint(loaded: &Loaded, homes: u64) -> Option<Hint>
+    ensures { result ≡ load_hinted homes loaded.now }
+{
+    match loaded.refused {
+        Some(refused) => handle_hint(refused.fault, homes),
+        None => commit_hint(loaded.commit, loaded.checkpoint),
+    }
+}
+
+/// The same of a handle that was refused; the table has no row for a fault that no text has.
+fn handle_hint(fault: HandleFault, homes: u64) -> Option<Hint>
+    ensures { result ≡ handle_hinted homes fault }
+{
+    match fault {
+        HandleFault::TooManyCredits(_) => Some(Hint::HandleTooManyCredits),
+        HandleFault::OutOfRange(_) => Some(Hint::HandleOutOfRange(homes)),
+        HandleFault::Full(_) => Some(Hint::HandleFull),
+        HandleFault::Memory => Some(Hint::HandleMemory),
+        HandleFault::Aborted => Some(Hint::HandleAborted),
+        HandleFault::Closed | HandleFault::Busy | HandleFault::NoCredit(_) => None,
+        HandleFault::Length | HandleFault::NotOpen => None,
+    }
+}
+
+/// The same of the committer, and where it ended well, of the checkpointer.
+fn commit_hint(commit: Ended, checkpoint: Option<Ended>) -> Option<Hint>
+    ensures { result ≡ commit_hinted commit checkpoint }
+{
+    match commit {
+        Ended::Shut(_) => checkpoint_hint(checkpoint),
+        Ended::Aborted => Some(Hint::CommitAborted),
+        Ended::Memory => Some(Hint::CommitMemory),
+        Ended::Refused => Some(Hint::CommitRefused),
+    }
+}
+
+/// The same of the checkpointer, which no commit has stopped.
+fn checkpoint_hint(checkpoint: Option<Ended>) -> Option<Hint>
+    ensures { result ≡ checkpoint_hinted checkpoint }
+{
+    match checkpoint {
+        None | Some(Ended::Shut(_)) => None,
+        Some(Ended::Aborted) => Some(Hint::CheckpointAborted),
+        Some(Ended::Memory) => Some(Hint::CheckpointMemory),
+        Some(Ended::Refused) => None,
+    }
+}
