@@ -8,7 +8,7 @@ pub invariant_of-self : goal.invariant_of-self
 invariant_of-self g c =
     checkpoint-marked g.D.Disk g.met.D.Disk.counts_now g.S.Origin.begun (IsStop g.S.Origin.begun c.self.inside.sight) (λ h s. s.0)
     c.self.inside.deck c.checkpoint_one.new.self c.checkpoint_one.ensures.kept c.self.inside.scribe
-    1 (run_result c.checkpoint_one.result) (answers-run _ _ _ _ c.checkpoint_one.result c.checkpoint_one.ensures.answers) (λ honest. checks-run c.checkpoint_one.result (c.checkpoint_one.ensures.checkpoints honest)) c.checkpoint_one.ensures.leaves c.self.invariant
+    1 (run_result c.checkpoint_one.result) (answers-run _ _ _ _ c.checkpoint_one.result c.checkpoint_one.ensures.answers) (λ honest. checks-run _ c.checkpoint_one.result (c.checkpoint_one.ensures.checkpoints honest)) c.checkpoint_one.ensures.leaves c.self.invariant
 
 pub returns-clause-round : goal.returns-clause-round
 returns-clause-round g c =
