@@ -1,5 +1,5 @@
 -- Lines that are written one after the other.
-use Rattle.std.proofs.Common.{◌≡◌, ℕ, List, [], ◌++◌, Option, Result, Ok, Err, refl, append-nil, subst, sym}
+use Rattle.std.proofs.Common.{◌≡◌, ℕ, List, [], ◌++◌, Option, Result, Ok, Err, append-nil, subst, sym}
 use Rattle.std.specs.Io.KnownBytes.{Appends}
 use Rattle.std.proofs.KnownBytes.{Appends-nil, Appends-trans}
 use Rattle.jb_io.proofs.PartByPart.{part_after, part_first}
@@ -21,8 +21,8 @@ tells_first a b x y WriteFault r is part = rw is (part_first a b x y part)
 tells_first a b x y _ r is part = absurd part
 
 -- nothing is written
-pub tells_none : (a : Option (List ℕ)) → TellsLine [] a a (Ok (with_status 0))
-tells_none a = (refl, Appends-nil a)
+pub tells_none : (a : Option (List ℕ)) (ended : Ended) → ended ≡ with_status 0 → TellsLine [] a a (Ok ended)
+tells_none a ended is = (is, Appends-nil a)
 
 -- a text with nothing after it
 pub tells_alone : (a b : Option (List ℕ)) (x : List ℕ) (r : Result Ended CommandFault) → TellsLine x a b r → TellsLine (x ++ []) a b r

@@ -1,7 +1,6 @@
 use Rattle.std.proofs.Common.{◌≡◌, ◌+◌, rules, refl, codes, [], ◌∷◌, map, drop, get_or, Ok, Err, subst, arith}
 use Rattle.jb_io.specs.Parts.{spelled}
 use Rattle.jb_io.proofs.PartByPart.{spelled_next, spelled_none}
-use Rattle.jb_plain.specs.Ends.{with_status}
 use Rattle.jb_plain.specs.Foresee.{home_line}
 use Rattle.jb_plain.specs.Said.{TellsLine}
 use Rattle.jb_plain.proofs.Written.{tells_after, tells_first, tells_none}
@@ -34,4 +33,5 @@ pub returns : goal.returns
 returns g c =
     let now = g.O.Write.contents c.loop-home.out in
     let none = spelled_none home_line c.args.homes.now c.loop-home.home-index (omega (arith, c.loop-home-test.false)) in
-    c.loop-home.invariant now (Ok (with_status 0)) (subst (λ text. TellsLine text now now (Ok (with_status 0))) none (tells_none now))
+    let ended = c.with_status.result in
+    c.loop-home.invariant now (Ok ended) (subst (λ text. TellsLine text now now (Ok ended)) none (tells_none now ended c.with_status.ensures))
