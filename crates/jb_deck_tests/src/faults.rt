@@ -218,11 +218,15 @@ fn syncs_that_fail_leave_what_is_worked_out_by_hand(rt: HostRuntime) {
     }
 }
 
+/// Each of the eight calls by which three groups go home may fail, and there is no ninth.
+fn check_calls(test: &impl Bench) {
+    for call in COPIES..=AFTER_ALL {
+        let _failed = called_with_fault(test, "a call of eight fails", call, &RUN);
+    }
+    let _done = called_with_fault(test, "a later call fails", AFTER_ALL + 1, &DONE);
+}
+
 #[test]
 fn three_groups_go_home_in_eight_calls(rt: HostRuntime) {
-    let test = By(&rt, rt.alloc());
-    for call in COPIES..=AFTER_ALL {
-        let _failed = called_with_fault(&test, "a call of eight fails", call, &RUN);
-    }
-    let _done = called_with_fault(&test, "a later call fails", AFTER_ALL + 1, &DONE);
+    check_calls(&By(&rt, rt.alloc()))
 }

@@ -194,7 +194,11 @@ static FREES: [Case; 3] = [
 
 #[test]
 fn copies_go_home_as_worked_by_hand(rt: HostRuntime) {
-    check_cases(&By(&rt, rt.alloc()), BLOCKS, &COPIES);
+    check_cases(&By(&rt, rt.alloc()), BLOCKS, &COPIES)
+}
+
+#[test]
+fn groups_go_home_together_as_worked_by_hand(rt: HostRuntime) {
     check_cases(&By(&rt, rt.alloc()), BLOCKS, &RUNS)
 }
 
