@@ -1,5 +1,5 @@
 //! The whole program over its words and its three streams, whatever they are.
-ghost use Rattle.std.specs.Prelude.{◌≡◌, MatchResult};
+ghost use Rattle.std.specs.Prelude.{◌≡◌, MatchResult, true};
 ghost use Rattle.jb_tool.specs.Program.{Advises, AnswersWords, EndsProgram, Helps, RefusesKind};
 
 use crate::command_line::run;
