@@ -20,7 +20,8 @@ const RECOVERED: Recovered = Recovered {
 
 /// The text of the journal with the committed handle.
 const TEXT: &str =
-    "super bs=1024 maxlen=33 first=1 sequence=2 start=1 errno=0 compat=00000000 incompat=00000001 rocompat=00000000 max=0 limit=8
+    "super bs=1024 maxlen=33 first=1 sequence=2 start=1 errno=0 compat=00000000 incompat=00000001 \
+     rocompat=00000000 max=0 limit=8
 uuid 00000000000000000000000000000000
 1 revoke number=2 count=20 homes=7
 2 descriptor number=2 tags=1

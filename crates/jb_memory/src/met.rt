@@ -1,5 +1,5 @@
 //! Where memory may be refused, and how a row met that.
-ghost use Rattle.std.specs.Prelude.{◌≡◌, true, OnSome};
+ghost use Rattle.std.specs.Prelude.{◌≡◌, true, false, IfNone, OnSome};
 
 use jb_block::Memory;
 use std::fs::File;
@@ -29,7 +29,8 @@ pub fn ample(rt: &impl Files<File = File>) {
 
 /// Something where it holds: a row goes on.
 pub fn must(holds: bool) -> Option<()>
-    ensures { OnSome result (holds ≡ true) }
+    ensures some { OnSome result (holds ≡ true) }
+    ensures none { IfNone result (holds ≡ false) }
 {
     if holds { Some(()) } else { None }
 }
