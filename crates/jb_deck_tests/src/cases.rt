@@ -2,22 +2,25 @@
 //! recovery makes of these.
 
 use crate::groups::{Laid, lay_group};
-use crate::images::{BLOCKS, Label, Row, put_rows, small};
+use crate::images::{BLOCKS, Label, Row, Stands, put, small};
 use crate::scripts::{Step, check_steps, opening};
 use jb_disk::{Disk, MemoryDisk, OneFaultDisk};
 use jb_recover::{Recovered, recover};
 use tests_support::{Bench, Test, check_in, check_none, check_row, crashed, difference};
 
+/// What recovery reports: transactions, copies, revoked copies and the next number.
+pub type Report = (u32, u32, u32, u64);
+
 /// A journal that is recovered and opened, the calls, the blocks of the disk after them, and what recovery then
-/// reports (transactions, copies, revoked copies and the next number) and changes.
+/// reports and changes.
 pub struct Case {
     pub name: &'static str,
     pub image: &'static [Row],
     pub steps: &'static [Step],
     pub groups: &'static [Laid],
-    pub rows: &'static [Row],
-    pub recovered: (u32, u32, u32, u64),
-    pub after: &'static [Row],
+    pub rows: Stands,
+    pub recovered: Report,
+    pub after: Stands,
 }
 
 /// The disk of the journal of a row after these calls.
@@ -53,7 +56,7 @@ fn lay(test: &impl Test, case: &Case, disk: &mut MemoryDisk) {
     for group in case.groups {
         lay_group(test, disk, group);
     }
-    put_rows(test, disk, case.rows)
+    put(test, disk, &case.rows)
 }
 
 /// Checks the disk that the calls of a case left, and what a crash leaves of it: all that stands on the disk, since
@@ -69,8 +72,8 @@ fn check_left(test: &impl Bench, case: &Case, disk: &mut MemoryDisk) {
     check_home(test, case, &mut left, &mut wanted)
 }
 
-/// What recovery reports: transactions, copies, revoked copies and the next number.
-pub fn report(told: (u32, u32, u32, u64)) -> Recovered {
+/// What recovery reports.
+pub fn report(told: Report) -> Recovered {
     let (transactions, copies, revoked, next) = told;
     Recovered {
         transactions,
@@ -85,7 +88,7 @@ fn check_home(test: &impl Bench, case: &Case, left: &mut MemoryDisk, wanted: &mu
     let is_told = recover(test.alloc(), left) == Ok(report(case.recovered));
     let next = case.recovered.3;
     check_in(test, is_told, case.name, "what is recovered, at", next);
-    put_rows(test, wanted, case.after);
+    put(test, wanted, &case.after);
     let place = difference(test, left, wanted, 0);
     check_none(test, case.name, "block after recovery", place)
 }

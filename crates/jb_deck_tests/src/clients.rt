@@ -1,6 +1,6 @@
 //! Each client of jb_client is run, and the homes of its disk are compared after a recovery.
 
-use crate::cases::report;
+use crate::cases::{Report, report};
 use crate::checks::By;
 use crate::draws::formatted;
 use crate::groups::STAMP;
@@ -43,12 +43,7 @@ fn check_homes(test: &impl Test, disk: &mut MemoryDisk, wanted: [u8; 4], at: u64
 }
 
 /// Checks what a recovery reports, and the homes then.
-fn check_recovered(
-    test: &impl Bench,
-    disk: &mut MemoryDisk,
-    told: (u32, u32, u32, u64),
-    wanted: [u8; 4],
-) {
+fn check_recovered(test: &impl Bench, disk: &mut MemoryDisk, told: Report, wanted: [u8; 4]) {
     let is_told = recover(test.alloc(), disk) == Ok(report(told));
     check(test, is_told, "what is recovered");
     check_homes(test, disk, wanted, told.3)
@@ -115,8 +110,10 @@ const ONE: [u8; 4] = [0x11, 0x12, 0, 0];
 
 const TWO: [u8; 4] = [0x11, 0x22, 0x23, 0];
 
+const NONE: [u8; 4] = [0; 4];
+
 static LIVES: [LivesRow; 11] = [
-    (&[], &[], [0, 0, 0, 0]),
+    (&[], &[], NONE),
     (&[WHOLE], &[true], ONE),
     (&[WHOLE, WHOLE], &[true, true], TWO),
     // the power fails in the recovery too: before anything is written, and after a home is
@@ -125,11 +122,7 @@ static LIVES: [LivesRow; 11] = [
     (&[WHOLE, AT_ONCE], &[true, false], ONE),
     // while the second batch is committed
     (&[WHOLE, (38, 1000, false)], &[true, false], ONE),
-    (
-        &[(0, 0, false), (0, 0, false)],
-        &[false, false],
-        [0, 0, 0, 0],
-    ),
+    (&[(0, 0, false), (0, 0, false)], &[false, false], NONE),
     // a life that ends at once between two others, the last of which frees a home that the first has written
     (
         &[(1000, 1000, true), AT_ONCE, WHOLE],

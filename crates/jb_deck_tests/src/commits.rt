@@ -2,8 +2,8 @@
 
 use crate::cases::{Case, check_cases};
 use crate::checks::By;
-use crate::images::{BLOCKS, HOMES, MAGIC, Row};
-use crate::rounds::{SIX, SIX_HOMES, SIX_WORDS};
+use crate::images::{BLOCKS, HOMES, MAGIC, Row, Stands};
+use crate::rounds::{SIX, SIX_HOME, SIX_HOMES, SIX_WORDS};
 use crate::scripts::{Refusal, Step};
 use jb_block::Width;
 use jb_deck::FreeFault;
@@ -19,6 +19,15 @@ const NAMED: Row = (
 const TWO: &str = "h w0 w1 w2 w3\nh w6 w7 w8 w9\n";
 
 const TWELVE: &str = "h w0 w1 w2 w3 w4 w5\nh w6 w7 w8 w9 w10 w11\n";
+
+/// The escaped copy at home, and an empty log.
+const ESCAPED: Stands = (
+    &[
+        (0, 0x10, [33, 1, 3, 0]),
+        (HOMES + 5, 0, [MAGIC, 0x0102_0304, 0, 0]),
+    ],
+    &[],
+);
 
 /// Each block of the log is worked out by its words.
 static BY_BLOCKS: [Case; 4] = [
@@ -39,9 +48,9 @@ static BY_BLOCKS: [Case; 4] = [
             Step::Idle,
         ],
         groups: &[],
-        rows: &[],
+        rows: (&[], &[]),
         recovered: (0, 0, 0, 2),
-        after: &[],
+        after: (&[], &[]),
     },
     Case {
         name: "an escaped copy and a freed home",
@@ -59,67 +68,66 @@ static BY_BLOCKS: [Case; 4] = [
             Step::Ends(&[(0, 1, 2, 4)], 3),
         ],
         groups: &[],
-        rows: &[
-            (0, 0x10, [33, 1, 2, 1]),
-            (1, 0, [MAGIC, 5, 2, 20]),
-            (1, 0x10, [7, 0, 0, 0]),
-            (2, 0, [MAGIC, 1, 2, 5]),
-            (2, 0x10, [9, 0x0001_0203, 0x0405_0607, 0x0809_0A0B]),
-            (2, 0x20, [0x0C0D_0E0F, 0, 0, 0]),
-            (3, 0, [0, 0x0102_0304, 0, 0]),
-            (4, 0, [MAGIC, 2, 2, 0]),
-            (4, 0x30, [1, 2, 3, 0]),
-        ],
+        rows: (
+            &[
+                (0, 0x10, [33, 1, 2, 1]),
+                (1, 0, [MAGIC, 5, 2, 20]),
+                (1, 0x10, [7, 0, 0, 0]),
+                (2, 0, [MAGIC, 1, 2, 5]),
+                (2, 0x10, [9, 0x0001_0203, 0x0405_0607, 0x0809_0A0B]),
+                (2, 0x20, [0x0C0D_0E0F, 0, 0, 0]),
+                (3, 0, [0, 0x0102_0304, 0, 0]),
+                (4, 0, [MAGIC, 2, 2, 0]),
+                (4, 0x30, [1, 2, 3, 0]),
+            ],
+            &[],
+        ),
         recovered: (1, 1, 0, 4),
-        after: &[
-            (0, 0x10, [33, 1, 3, 0]),
-            (HOMES + 5, 0, [MAGIC, 0x0102_0304, 0, 0]),
-        ],
+        after: ESCAPED,
     },
     Case {
         name: "the same with block numbers of 64 bits",
         image: &[NAMED, (0, 0x20, [0, 0, 2, 0])],
         steps: &[Step::Commits("h w5=c03b399801020304 r7\n", &[(0, 1, 2, 4)])],
         groups: &[],
-        rows: &[
-            (0, 0x10, [33, 1, 2, 1]),
-            (0, 0x20, [0, 0, 3, 0]),
-            (1, 0, [MAGIC, 5, 2, 24]),
-            (1, 0x10, [0, 7, 0, 0]),
-            (2, 0, [MAGIC, 1, 2, 5]),
-            (2, 0x10, [9, 0, 0x0001_0203, 0x0405_0607]),
-            (2, 0x20, [0x0809_0A0B, 0x0C0D_0E0F, 0, 0]),
-            (3, 0, [0, 0x0102_0304, 0, 0]),
-            (4, 0, [MAGIC, 2, 2, 0]),
-            (4, 0x30, [1, 2, 3, 0]),
-        ],
+        rows: (
+            &[
+                (0, 0x10, [33, 1, 2, 1]),
+                (0, 0x20, [0, 0, 3, 0]),
+                (1, 0, [MAGIC, 5, 2, 24]),
+                (1, 0x10, [0, 7, 0, 0]),
+                (2, 0, [MAGIC, 1, 2, 5]),
+                (2, 0x10, [9, 0, 0x0001_0203, 0x0405_0607]),
+                (2, 0x20, [0x0809_0A0B, 0x0C0D_0E0F, 0, 0]),
+                (3, 0, [0, 0x0102_0304, 0, 0]),
+                (4, 0, [MAGIC, 2, 2, 0]),
+                (4, 0x30, [1, 2, 3, 0]),
+            ],
+            &[],
+        ),
         recovered: (1, 1, 0, 4),
-        after: &[
-            (0, 0x10, [33, 1, 3, 0]),
-            (HOMES + 5, 0, [MAGIC, 0x0102_0304, 0, 0]),
-        ],
+        after: ESCAPED,
     },
     Case {
         name: "two copies",
         image: &[NAMED],
         steps: &[Step::Commits("h w5=0d w6=0e\n", &[(0, 1, 2, 4)])],
         groups: &[],
-        rows: &[
-            (0, 0x10, [33, 1, 2, 1]),
-            (1, 0, [MAGIC, 1, 2, 5]),
-            (1, 0x10, [0, 0x0001_0203, 0x0405_0607, 0x0809_0A0B]),
-            (1, 0x20, [0x0C0D_0E0F, 6, 10, 0]),
-            (2, 0, [0x0D00_0000, 0, 0, 0]),
-            (3, 0, [0x0E00_0000, 0, 0, 0]),
-            (4, 0, [MAGIC, 2, 2, 0]),
-            (4, 0x30, [1, 2, 3, 0]),
-        ],
+        rows: (
+            &[
+                (0, 0x10, [33, 1, 2, 1]),
+                (1, 0, [MAGIC, 1, 2, 5]),
+                (1, 0x10, [0, 0x0001_0203, 0x0405_0607, 0x0809_0A0B]),
+                (1, 0x20, [0x0C0D_0E0F, 6, 10, 0]),
+                (2, 0, [0x0D00_0000, 0, 0, 0]),
+                (3, 0, [0x0E00_0000, 0, 0, 0]),
+                (4, 0, [MAGIC, 2, 2, 0]),
+                (4, 0x30, [1, 2, 3, 0]),
+            ],
+            &[],
+        ),
         recovered: (1, 2, 0, 4),
-        after: &[
-            (0, 0x10, [33, 1, 3, 0]),
-            (HOMES + 5, 0, [0x0D00_0000, 0, 0, 0]),
-            (HOMES + 6, 0, [0x0E00_0000, 0, 0, 0]),
-        ],
+        after: (&[(0, 0x10, [33, 1, 3, 0])], &[(5, 0x0D), (6, 0x0E)]),
     },
 ];
 
@@ -137,33 +145,23 @@ static BY_GROUPS: [Case; 3] = [
             Step::Word(9, Some(true)),
         ],
         groups: &[
-            (1, 2, &[2, 9], &[1, 3], &[0x0100_0000, 0x1300_0000]),
-            (
-                6,
-                3,
-                &[],
-                &[4, 6, 7, 8, 9],
-                &[
-                    0x0400_0000,
-                    0x0600_0000,
-                    0x0700_0000,
-                    0x0800_0000,
-                    0x0900_0000,
-                ],
-            ),
+            (1, 2, &[2, 9], &[1, 3], &[0x01, 0x13]),
+            (6, 3, &[], &[4, 6, 7, 8, 9], &[0x04, 0x06, 0x07, 0x08, 0x09]),
         ],
-        rows: &[(0, 0x10, [33, 1, 2, 1])],
+        rows: (&[(0, 0x10, [33, 1, 2, 1])], &[]),
         recovered: (2, 7, 0, 5),
-        after: &[
-            (0, 0x10, [33, 1, 4, 0]),
-            (HOMES + 1, 0, [0x0100_0000, 0, 0, 0]),
-            (HOMES + 3, 0, [0x1300_0000, 0, 0, 0]),
-            (HOMES + 4, 0, [0x0400_0000, 0, 0, 0]),
-            (HOMES + 6, 0, [0x0600_0000, 0, 0, 0]),
-            (HOMES + 7, 0, [0x0700_0000, 0, 0, 0]),
-            (HOMES + 8, 0, [0x0800_0000, 0, 0, 0]),
-            (HOMES + 9, 0, [0x0900_0000, 0, 0, 0]),
-        ],
+        after: (
+            &[(0, 0x10, [33, 1, 4, 0])],
+            &[
+                (1, 0x01),
+                (3, 0x13),
+                (4, 0x04),
+                (6, 0x06),
+                (7, 0x07),
+                (8, 0x08),
+                (9, 0x09),
+            ],
+        ),
     },
     Case {
         name: "the last number",
@@ -181,17 +179,9 @@ static BY_GROUPS: [Case; 3] = [
             Step::Refuses(1, (16, 8, NARROW), SIX, Refusal::NumbersSpent),
         ],
         groups: &[(1, 4294967295, &[], SIX_HOMES, SIX_WORDS)],
-        rows: &[
-            (0, 0x10, [33, 1, 4294967295, 0]),
-            (HOMES, 0, [0x0A00_0000, 0, 0, 0]),
-            (HOMES + 1, 0, [0x0B00_0000, 0, 0, 0]),
-            (HOMES + 2, 0, [0x0C00_0000, 0, 0, 0]),
-            (HOMES + 3, 0, [0x0D00_0000, 0, 0, 0]),
-            (HOMES + 4, 0, [0x0E00_0000, 0, 0, 0]),
-            (HOMES + 5, 0, [0x0F00_0000, 0, 0, 0]),
-        ],
+        rows: (&[(0, 0x10, [33, 1, 4294967295, 0])], SIX_HOME),
         recovered: (0, 0, 0, 4294967296),
-        after: &[],
+        after: (&[], &[]),
     },
     Case {
         name: "handles without changes",
@@ -202,9 +192,9 @@ static BY_GROUPS: [Case; 3] = [
             Step::Checkpoints(2, 0),
         ],
         groups: &[(1, 2, &[], &[], &[]), (2, 3, &[], &[], &[])],
-        rows: &[(0, 0x10, [33, 1, 3, 2])],
+        rows: (&[(0, 0x10, [33, 1, 3, 2])], &[]),
         recovered: (1, 0, 0, 5),
-        after: &[(0, 0x10, [33, 1, 4, 0])],
+        after: (&[(0, 0x10, [33, 1, 4, 0])], &[]),
     },
 ];
 

@@ -84,8 +84,6 @@ fn is_either(bytes: &[u8], one: &[u8], other: &[u8]) -> bool {
 
 /// Whether the homes of a disk, from a place on, are among what a crash may leave.
 pub fn is_left<D: Disk>(test: &impl Test, disk: &mut D, first: u64, left: &Left) -> bool {
-    if holds(test, disk, first, &left.was, left.torn) {
-        return true;
-    }
-    holds(test, disk, first, &left.becomes, left.torn)
+    holds(test, disk, first, &left.was, left.torn)
+        || holds(test, disk, first, &left.becomes, left.torn)
 }

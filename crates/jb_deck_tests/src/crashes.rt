@@ -96,24 +96,11 @@ fn mends(test: &impl Bench, left: &mut MemoryDisk, wanted: &mut Wanted, from: u6
     difference(test, left, &mut wanted.whole, from).is_none()
 }
 
-/// The disk of a journal that was opened, or was not for this fault.
-#[derive(Drop)]
-struct Tried<D: Disk> {
-    disk: D,
-    fault: Option<OpenFault>,
-}
-
-/// What is left once the journal on a disk is opened and closed.
-fn left_on<D: Disk + Drop>(alloc: Global, disk: D) -> Tried<D> {
+/// What is left once the journal on a disk is opened and closed, or is not opened for this fault.
+fn left_on<D: Disk + Drop>(alloc: Global, disk: D) -> (D, Option<OpenFault>) {
     match Deck::open(alloc, disk) {
-        Ok(deck) => Tried {
-            disk: deck.close(),
-            fault: None,
-        },
-        Err((disk, fault)) => Tried {
-            disk,
-            fault: Some(fault),
-        },
+        Ok(deck) => (deck.close(), None),
+        Err((disk, fault)) => (disk, Some(fault)),
     }
 }
 
@@ -143,15 +130,15 @@ fn check_left(
 /// Checks what is left of a case where the call of this number and all after it fail.
 fn check_rest(test: &impl Bench, of: &Case, wanted: &mut Wanted, call: u64) {
     let before = small(test, BLOCKS, of.1, &[]);
-    let left = left_on(test.alloc(), FuseDisk::of(before, call));
-    check_left(test, of, wanted, call, &left.disk.into_inner(), left.fault)
+    let (left, fault) = left_on(test.alloc(), FuseDisk::of(before, call));
+    check_left(test, of, wanted, call, &left.into_inner(), fault)
 }
 
 /// Checks what is left of a case where the call of this number alone fails.
 fn check_alone(test: &impl Bench, of: &Case, wanted: &mut Wanted, call: u64) {
     let before = small(test, BLOCKS, of.1, &[]);
-    let left = left_on(test.alloc(), OneFaultDisk::of(before, call));
-    check_left(test, of, wanted, call, &left.disk.into_inner(), left.fault)
+    let (left, fault) = left_on(test.alloc(), OneFaultDisk::of(before, call));
+    check_left(test, of, wanted, call, &left.into_inner(), fault)
 }
 
 /// Checks what is left of a case for the number of each call, and for the one after them.

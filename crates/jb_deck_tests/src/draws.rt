@@ -10,17 +10,20 @@ use jb_disk::{Disk, MemoryDisk};
 use jb_front::format;
 use tests_support::{Bench, Must, Test, check, write_at, zeros};
 
-/// A generator's state (Knuth's MMIX), and the next number that no contents have yet.
+/// Numbers that look like chance, and the next number that no contents have yet.
 #[derive(Drop)]
 pub struct Seed {
-    state: u64,
+    numbers: tests_support::Seed,
     next: u32,
 }
 
 impl Seed {
-    /// A generator of this state.
+    /// The numbers of this state.
     pub fn of(state: u64) -> Seed {
-        Seed { state, next: 1 }
+        Seed {
+            numbers: tests_support::Seed { state },
+            next: 1,
+        }
     }
 
     /// A number that no contents have yet.
@@ -32,12 +35,7 @@ impl Seed {
 
     /// A number below a limit, or 0.
     pub fn below(&mut self, limit: u32) -> u32 {
-        self.state = self
-            .state
-            .wrapping_mul(6_364_136_223_846_793_005)
-            .wrapping_add(1_442_695_040_888_963_407);
-        let number = u32::try_from(self.state >> 33).unwrap_or(0);
-        if limit == 0 { 0 } else { number % limit }
+        self.numbers.below(u64::from(limit)) as u32
     }
 }
 

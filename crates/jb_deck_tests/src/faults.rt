@@ -1,12 +1,12 @@
 //! A commit or a checkpoint of which one sync fails, and what a crash leaves of it then.
 
-use crate::cases::{called_with_fault, report};
+use crate::cases::{Report, called_with_fault, report};
 use crate::checks::By;
 use crate::frames::Frame;
-use crate::images::{BLOCKS, HOMES, MAGIC, Row, small};
+use crate::images::{BLOCKS, HOMES, Label, MAGIC, Row, small};
 use crate::scripts::{Refusal, Step, opening};
 use jb_block::Width;
-use jb_deck::{CheckedRun, CheckpointFault};
+use jb_deck::CheckpointFault;
 use jb_disk::MemoryDisk;
 use jb_recover::recover;
 use tests_support::{Bench, check_in, check_none, crashed, difference};
@@ -35,111 +35,60 @@ const THREE: [Row; 3] = [
     (HOMES + 8, 0, [0xAE00_0000, 0, 0, 0]),
 ];
 
-/// The calls of the journal, the call of the disk that fails, which of the pending sectors are new, what recovery
-/// reports (transactions, copies, revoked copies and the next number); and once the journal is opened again, from
-/// which place on all is as it was, but for these rows.
-struct Given {
-    name: &'static str,
-    steps: &'static [Step],
-    call: u64,
-    choice: &'static [u32],
-    recovered: (u32, u32, u32, u64),
-    from: u64,
-    rows: &'static [Row],
-}
+/// A name; the call of the disk that fails, which of the pending sectors are new, what recovery reports; and once the
+/// journal is opened again, from which place on all is as it was, but for these rows.
+type Given = (
+    &'static str,
+    (u64, &'static [u32], Report, u64, &'static [Row]),
+);
 
-static ROWS: [Given; 10] = [
-    Given {
-        name: "the commit block is written, and all sectors are old",
-        steps: &COMMIT,
-        call: AFTER_COMMIT,
-        choice: &[],
-        recovered: (0, 0, 0, 3),
-        from: HOMES,
-        rows: &[],
-    },
-    Given {
-        name: "the commit block is written, and the second sector is new",
-        steps: &COMMIT,
-        call: AFTER_COMMIT,
-        choice: &[0, 1],
-        recovered: (0, 0, 0, 3),
-        from: HOMES,
-        rows: &[],
-    },
-    Given {
-        name: "the commit block is written, and the first sector is new",
-        steps: &COMMIT,
-        call: AFTER_COMMIT,
-        choice: &[1],
-        recovered: (1, 1, 0, 4),
-        from: HOMES,
-        rows: &COPY,
-    },
-    Given {
-        name: "no commit block is written, and all sectors are old",
-        steps: &COMMIT,
-        call: BEFORE_COMMIT,
-        choice: &[],
-        recovered: (0, 0, 0, 2),
-        from: 0,
-        rows: &[],
-    },
-    Given {
-        name: "no commit block is written, and the first sector of the superblock is new",
-        steps: &COMMIT,
-        call: BEFORE_COMMIT,
-        choice: &[1],
-        recovered: (0, 0, 0, 3),
-        from: HOMES,
-        rows: &[],
-    },
+/// What a crash leaves of the commit.
+static COMMITS: [Given; 6] = [
+    (
+        "the commit block is written, and all sectors are old",
+        (AFTER_COMMIT, &[], (0, 0, 0, 3), HOMES, &[]),
+    ),
+    (
+        "the commit block is written, and the second sector is new",
+        (AFTER_COMMIT, &[0, 1], (0, 0, 0, 3), HOMES, &[]),
+    ),
+    (
+        "the commit block is written, and the first sector is new",
+        (AFTER_COMMIT, &[1], (1, 1, 0, 4), HOMES, &COPY),
+    ),
+    (
+        "no commit block is written, and all sectors are old",
+        (BEFORE_COMMIT, &[], (0, 0, 0, 2), 0, &[]),
+    ),
+    (
+        "no commit block is written, and the first sector of the superblock is new",
+        (BEFORE_COMMIT, &[1], (0, 0, 0, 3), HOMES, &[]),
+    ),
     // Its number is the next one.
-    Given {
-        name: "no commit block is written, and the first sector of the revoke block is new",
-        steps: &COMMIT,
-        call: BEFORE_COMMIT,
-        choice: &[0, 0, 1],
-        recovered: (0, 0, 0, 2),
-        from: 0,
-        rows: &[],
-    },
-    Given {
-        name: "of three groups the first copy alone is written",
-        steps: &RUN,
-        call: COPIES + 1,
-        choice: &[1],
-        recovered: (3, 4, 1, 6),
-        from: HOMES,
-        rows: &THREE,
-    },
-    Given {
-        name: "of three groups all copies are written, and all sectors are old",
-        steps: &RUN,
-        call: AFTER_COPIES,
-        choice: &[],
-        recovered: (3, 4, 1, 6),
-        from: HOMES,
-        rows: &THREE,
-    },
-    Given {
-        name: "the copies of three groups are home, and the superblock is old",
-        steps: &RUN,
-        call: AFTER_ALL,
-        choice: &[],
-        recovered: (3, 4, 1, 6),
-        from: HOMES,
-        rows: &THREE,
-    },
-    Given {
-        name: "the copies of three groups are home, and the superblock is new",
-        steps: &RUN,
-        call: AFTER_ALL,
-        choice: &[1],
-        recovered: (0, 0, 0, 5),
-        from: HOMES,
-        rows: &THREE,
-    },
+    (
+        "no commit block is written, and the first sector of the revoke block is new",
+        (BEFORE_COMMIT, &[0, 0, 1], (0, 0, 0, 2), 0, &[]),
+    ),
+];
+
+/// What a crash leaves of the checkpoint of three groups.
+static RUNS: [Given; 4] = [
+    (
+        "of three groups the first copy alone is written",
+        (COPIES + 1, &[1], (3, 4, 1, 6), HOMES, &THREE),
+    ),
+    (
+        "of three groups all copies are written, and all sectors are old",
+        (AFTER_COPIES, &[], (3, 4, 1, 6), HOMES, &THREE),
+    ),
+    (
+        "the copies of three groups are home, and the superblock is old",
+        (AFTER_ALL, &[], (3, 4, 1, 6), HOMES, &THREE),
+    ),
+    (
+        "the copies of three groups are home, and the superblock is new",
+        (AFTER_ALL, &[1], (0, 0, 0, 5), HOMES, &THREE),
+    ),
 ];
 
 /// The commit, which meets the fault.
@@ -165,57 +114,47 @@ const RUN: [Step; 4] = [
 ];
 
 /// The same, which meets none.
-const DONE: [Step; 4] = [
-    FIRST,
-    SECOND,
-    THIRD,
-    Step::Runs(
-        3,
-        Ok(CheckedRun {
-            count: 3,
-            last: 4,
-            blocks: 4,
-        }),
-    ),
-];
+const DONE: [Step; 4] = [FIRST, SECOND, THIRD, Step::Runs(3, Ok((3, 4, 4)))];
 
-/// Checks a row.
-fn check_row(test: &impl Bench, of: &Given) {
-    let disk = called_with_fault(test, of.name, of.call, of.steps);
-    let mut left = crashed(test, &disk, of.choice);
-    check_recovered(test, of, &mut left);
-    check_opened(test, of, left)
+/// Checks a row of these calls of the journal.
+fn check_row(test: &impl Bench, steps: &[Step], of: &Given) {
+    let (row, (call, choice, recovered, from, rows)) = *of;
+    let mut left = crashed(test, &called_with_fault(test, row, call, steps), choice);
+    check_recovered(test, row, &mut left, recovered);
+    let deck = opening(test, left);
+    let number = deck.next_number();
+    check_in(test, number == recovered.3, row, "the next number", number);
+    let mut wanted = small(test, BLOCKS, rows, &[]);
+    let place = difference(test, &mut deck.close(), &mut wanted, from);
+    check_none(test, row, "block", place)
 }
 
 /// Checks what recovery reports of what is left of a row, and that what stands before the log is kept, before and
 /// after.
-fn check_recovered(test: &impl Bench, of: &Given, left: &mut MemoryDisk) {
-    let (row, call) = (of.name, of.call);
+fn check_recovered(test: &impl Bench, row: Label, left: &mut MemoryDisk, recovered: Report) {
+    let next = recovered.3;
     let front = Frame::of(test, &mut small(test, BLOCKS, &[], &[]), 1);
     let was_kept = front.is_kept(test, left);
-    check_in(test, was_kept, row, "changed before the log at", call);
-    let is_told = recover(test.alloc(), left) == Ok(report(of.recovered));
-    check_in(test, is_told, row, "what recovery reports after call", call);
+    check_in(test, was_kept, row, "changed before the log, to", next);
+    let is_told = recover(test.alloc(), left) == Ok(report(recovered));
+    check_in(test, is_told, row, "what recovery reports, at", next);
     let is_kept = front.is_kept(test, left);
-    check_in(test, is_kept, row, "recovery changed it after call", call)
+    check_in(test, is_kept, row, "recovery changed it, to", next)
 }
 
-/// Checks what is left of a row once it is opened again.
-fn check_opened(test: &impl Bench, of: &Given, left: MemoryDisk) {
-    let deck = opening(test, left);
-    let number = deck.next_number();
-    let is_next = number == of.recovered.3;
-    check_in(test, is_next, of.name, "the next number", number);
-    let mut wanted = small(test, BLOCKS, of.rows, &[]);
-    let place = difference(test, &mut deck.close(), &mut wanted, of.from);
-    check_none(test, of.name, "block", place)
+/// Checks each row.
+fn check_rows(test: &impl Bench) {
+    for row in &COMMITS {
+        check_row(test, &COMMIT, row);
+    }
+    for row in &RUNS {
+        check_row(test, &RUN, row);
+    }
 }
 
 #[test]
 fn syncs_that_fail_leave_what_is_worked_out_by_hand(rt: HostRuntime) {
-    for row in &ROWS {
-        check_row(&By(&rt, rt.alloc()), row);
-    }
+    check_rows(&By(&rt, rt.alloc()))
 }
 
 /// Each of the eight calls by which three groups go home may fail, and there is no ninth.

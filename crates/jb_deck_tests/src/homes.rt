@@ -4,7 +4,7 @@ use crate::cases::{Case, check_cases};
 use crate::checks::By;
 use crate::images::{BLOCKS, HOMES, MAGIC};
 use crate::scripts::Step;
-use jb_deck::{CheckedRun, CheckpointFault, FreeFault};
+use jb_deck::{CheckpointFault, FreeFault};
 
 /// The bytes that a script writes to a free home.
 const SEVENS: [u32; 4] = [0x7777_7777, 0x7777_7777, 0x7777_7777, 0x7777_7777];
@@ -15,8 +15,8 @@ const FREED: [Step; 3] = [
     Step::Writes(5, 1024, Ok(())),
 ];
 
-/// Copies that go home.
-static COPIES: [Case; 2] = [
+/// Copies that go home, groups that go home together, and homes that are freed.
+static CASES: [Case; 7] = [
     Case {
         name: "the escaped copy goes home",
         image: &[],
@@ -31,13 +31,12 @@ static COPIES: [Case; 2] = [
             Step::Ends(&[(0, 1, 2, 4)], 3),
         ],
         groups: &[(1, 2, &[7], &[5], &[MAGIC])],
-        rows: &[
-            (0, 0x10, [33, 1, 2, 0]),
-            (HOMES + 5, 0, [MAGIC, 0, 0, 0]),
-            (HOMES + 7, 0, SEVENS),
-        ],
+        rows: (
+            &[(0, 0x10, [33, 1, 2, 0]), (HOMES + 7, 0, SEVENS)],
+            &[(5, MAGIC)],
+        ),
         recovered: (0, 0, 0, 3),
-        after: &[],
+        after: (&[], &[]),
     },
     Case {
         name: "a group after an emptied log",
@@ -48,21 +47,11 @@ static COPIES: [Case; 2] = [
             Step::Commits("h w1=0b\n", &[(1, 2, 3, 3)]),
             Step::Ends(&[(0, 1, 2, 4), (1, 2, 3, 3)], 4),
         ],
-        groups: &[
-            (1, 2, &[7], &[5], &[MAGIC]),
-            (5, 3, &[], &[1], &[0x0B00_0000]),
-        ],
-        rows: &[(0, 0x10, [33, 1, 3, 5]), (HOMES + 5, 0, [MAGIC, 0, 0, 0])],
+        groups: &[(1, 2, &[7], &[5], &[MAGIC]), (5, 3, &[], &[1], &[0x0B])],
+        rows: (&[(0, 0x10, [33, 1, 3, 5])], &[(5, MAGIC)]),
         recovered: (1, 1, 0, 5),
-        after: &[
-            (0, 0x10, [33, 1, 4, 0]),
-            (HOMES + 1, 0, [0x0B00_0000, 0, 0, 0]),
-        ],
+        after: (&[(0, 0x10, [33, 1, 4, 0])], &[(1, 0x0B)]),
     },
-];
-
-/// Groups that go home together.
-static RUNS: [Case; 2] = [
     Case {
         name: "three groups go home under one call, but for a home that the second of them frees",
         image: &[],
@@ -72,31 +61,22 @@ static RUNS: [Case; 2] = [
             Step::Commits("h r5 w7=ac\n", &[(1, 2, 3, 4)]),
             Step::Commits("h w6=ad w8=ae\n", &[(2, 3, 4, 4)]),
             Step::Runs(0, Err(CheckpointFault::Nothing)),
-            Step::Runs(
-                3,
-                Ok(CheckedRun {
-                    count: 3,
-                    last: 4,
-                    blocks: 4,
-                }),
-            ),
+            Step::Runs(3, Ok((3, 4, 4))),
             Step::Idle,
             Step::Word(6, None),
             Step::Ends(&[(0, 1, 2, 4), (1, 2, 3, 4), (2, 3, 4, 4)], 5),
         ],
         groups: &[
-            (1, 2, &[], &[5, 6], &[0xAA00_0000, 0xAB00_0000]),
-            (5, 3, &[5], &[7], &[0xAC00_0000]),
-            (9, 4, &[], &[6, 8], &[0xAD00_0000, 0xAE00_0000]),
+            (1, 2, &[], &[5, 6], &[0xAA, 0xAB]),
+            (5, 3, &[5], &[7], &[0xAC]),
+            (9, 4, &[], &[6, 8], &[0xAD, 0xAE]),
         ],
-        rows: &[
-            (0, 0x10, [33, 1, 4, 0]),
-            (HOMES + 6, 0, [0xAD00_0000, 0, 0, 0]),
-            (HOMES + 7, 0, [0xAC00_0000, 0, 0, 0]),
-            (HOMES + 8, 0, [0xAE00_0000, 0, 0, 0]),
-        ],
+        rows: (
+            &[(0, 0x10, [33, 1, 4, 0])],
+            &[(6, 0xAD), (7, 0xAC), (8, 0xAE)],
+        ),
         recovered: (0, 0, 0, 5),
-        after: &[],
+        after: (&[], &[]),
     },
     Case {
         name: "two of three groups go home, but for a home that the third frees",
@@ -105,45 +85,27 @@ static RUNS: [Case; 2] = [
             Step::Commits("h w5=aa w6=ab\n", &[(0, 1, 2, 4)]),
             Step::Commits("h w7=ac\n", &[(1, 2, 3, 3)]),
             Step::Commits("h r6 w5=ad\n", &[(2, 3, 4, 4)]),
-            Step::Runs(
-                2,
-                Ok(CheckedRun {
-                    count: 2,
-                    last: 3,
-                    blocks: 2,
-                }),
-            ),
+            Step::Runs(2, Ok((2, 3, 2))),
             Step::Word(7, None),
             Step::Word(6, Some(false)),
         ],
         groups: &[
-            (1, 2, &[], &[5, 6], &[0xAA00_0000, 0xAB00_0000]),
-            (5, 3, &[], &[7], &[0xAC00_0000]),
-            (8, 4, &[6], &[5], &[0xAD00_0000]),
+            (1, 2, &[], &[5, 6], &[0xAA, 0xAB]),
+            (5, 3, &[], &[7], &[0xAC]),
+            (8, 4, &[6], &[5], &[0xAD]),
         ],
-        rows: &[
-            (0, 0x10, [33, 1, 4, 8]),
-            (HOMES + 5, 0, [0xAA00_0000, 0, 0, 0]),
-            (HOMES + 7, 0, [0xAC00_0000, 0, 0, 0]),
-        ],
+        rows: (&[(0, 0x10, [33, 1, 4, 8])], &[(5, 0xAA), (7, 0xAC)]),
         recovered: (1, 1, 0, 6),
-        after: &[
-            (0, 0x10, [33, 1, 5, 0]),
-            (HOMES + 5, 0, [0xAD00_0000, 0, 0, 0]),
-        ],
+        after: (&[(0, 0x10, [33, 1, 5, 0])], &[(5, 0xAD)]),
     },
-];
-
-/// Homes that are freed.
-static FREES: [Case; 3] = [
     Case {
         name: "a freed home that is written",
         image: &[],
         steps: &FREED,
-        groups: &[(1, 2, &[], &[5], &[0xAA00_0000]), (4, 3, &[5], &[], &[])],
-        rows: &[(0, 0x10, [33, 1, 2, 1]), (HOMES + 5, 0, SEVENS)],
+        groups: &[(1, 2, &[], &[5], &[0xAA]), (4, 3, &[5], &[], &[])],
+        rows: (&[(0, 0x10, [33, 1, 2, 1]), (HOMES + 5, 0, SEVENS)], &[]),
         recovered: (2, 0, 1, 5),
-        after: &[(0, 0x10, [33, 1, 4, 0])],
+        after: (&[(0, 0x10, [33, 1, 4, 0])], &[]),
     },
     Case {
         name: "an older copy does not go home over what was freed, and a later one does",
@@ -159,20 +121,16 @@ static FREES: [Case; 3] = [
             Step::Word(6, None),
         ],
         groups: &[
-            (1, 2, &[], &[5, 6], &[0xAA00_0000, 0xAB00_0000]),
+            (1, 2, &[], &[5, 6], &[0xAA, 0xAB]),
             (5, 3, &[5], &[], &[]),
-            (7, 4, &[], &[5], &[0xAC00_0000]),
+            (7, 4, &[], &[5], &[0xAC]),
         ],
-        rows: &[
-            (0, 0x10, [33, 1, 3, 5]),
-            (HOMES + 5, 0, SEVENS),
-            (HOMES + 6, 0, [0xAB00_0000, 0, 0, 0]),
-        ],
+        rows: (
+            &[(0, 0x10, [33, 1, 3, 5]), (HOMES + 5, 0, SEVENS)],
+            &[(6, 0xAB)],
+        ),
         recovered: (2, 1, 0, 6),
-        after: &[
-            (0, 0x10, [33, 1, 5, 0]),
-            (HOMES + 5, 0, [0xAC00_0000, 0, 0, 0]),
-        ],
+        after: (&[(0, 0x10, [33, 1, 5, 0])], &[(5, 0xAC)]),
     },
     Case {
         name: "a group whose commit block is missing",
@@ -186,23 +144,13 @@ static FREES: [Case; 3] = [
         ],
         steps: &[Step::Commits("h w5=c03b3998 r7\n", &[(0, 1, 3, 4)])],
         groups: &[(1, 3, &[7], &[5], &[MAGIC])],
-        rows: &[(0, 0x10, [33, 1, 3, 1])],
+        rows: (&[(0, 0x10, [33, 1, 3, 1])], &[]),
         recovered: (1, 1, 0, 5),
-        after: &[(0, 0x10, [33, 1, 4, 0]), (HOMES + 5, 0, [MAGIC, 0, 0, 0])],
+        after: (&[(0, 0x10, [33, 1, 4, 0])], &[(5, MAGIC)]),
     },
 ];
 
 #[test]
-fn copies_go_home_as_worked_by_hand(rt: HostRuntime) {
-    check_cases(&By(&rt, rt.alloc()), BLOCKS, &COPIES)
-}
-
-#[test]
-fn groups_go_home_together_as_worked_by_hand(rt: HostRuntime) {
-    check_cases(&By(&rt, rt.alloc()), BLOCKS, &RUNS)
-}
-
-#[test]
-fn homes_are_freed_as_worked_by_hand(rt: HostRuntime) {
-    check_cases(&By(&rt, rt.alloc()), BLOCKS, &FREES)
+fn copies_go_home_and_homes_are_freed_as_worked_by_hand(rt: HostRuntime) {
+    check_cases(&By(&rt, rt.alloc()), BLOCKS, &CASES)
 }

@@ -192,41 +192,34 @@ pub fn make_call<D: Disk>(
             let touches = touches_of(test, handles);
             commit(test, deck, model, (handles.len(), &touches))
         }
-        Call::Checkpoint => checkpoint(test, deck, model),
-        Call::Run(most) => checkpoint_run(test, deck, model, most),
+        Call::Checkpoint => checkpoint(test, deck, model, None),
+        Call::Run(most) => checkpoint(test, deck, model, Some(most)),
         Call::Write(home, contents) => write(test, deck, model, home, contents),
     }
 }
 
-/// Checkpoints the oldest transaction; after a fault, what a crash may leave.
-fn checkpoint<D: Disk>(test: &impl Test, deck: &mut Deck<D>, model: &mut Model) -> Option<Left> {
-    let stood = model.standing();
-    let is = model.checkpoint();
-    match deck.checkpoint_one() {
-        Ok(_) if is => None,
-        Err(CheckpointFault::Nothing) if !is => None,
-        Err(CheckpointFault::DeviceFault) if is => Some(only(stood)),
-        _ => fail(test, "the checkpoint"),
-    }
-}
-
-/// Checkpoints the oldest transactions together, at most so many; after a fault, what a crash may leave.
-fn checkpoint_run<D: Disk>(
+/// Checkpoints the oldest transaction, or the oldest ones together, at most so many; after a fault, what a crash may
+/// leave.
+fn checkpoint<D: Disk>(
     test: &impl Test,
     deck: &mut Deck<D>,
     model: &mut Model,
-    most: usize,
+    most: Option<usize>,
 ) -> Option<Left> {
     let stood = model.standing();
     let mut went: usize = 0;
-    for _ in 0..most {
+    for _ in 0..most.unwrap_or(1) {
         went = went.saturating_add(usize::from(model.checkpoint()));
     }
-    match deck.checkpoint_up_to(most) {
-        Ok(run) if run.count == went && went > 0 => None,
+    let told = match most {
+        None => deck.checkpoint_one().map(|_| 1),
+        Some(most) => deck.checkpoint_up_to(most).map(|run| run.count),
+    };
+    match told {
+        Ok(count) if count == went && went > 0 => None,
         Err(CheckpointFault::Nothing) if went == 0 => None,
         Err(CheckpointFault::DeviceFault) if went > 0 => Some(only(stood)),
-        _ => fail(test, "the checkpoint of several"),
+        _ => fail(test, "the checkpoint"),
     }
 }
 

@@ -15,28 +15,31 @@ const ZEROS: [u32; 4] = [0, 0, 0, 0];
 /// The next number, how many blocks the log has, and how wide block numbers are.
 pub type Told = (u64, u32, Width);
 
+/// What the small image says of itself.
+const MADE: Told = (2, 32, Width::Narrow);
+
 /// A name, the rows of the small image that differ, what the journal says of itself, and the rows that opening it
 /// changes.
 type Opened = (&'static str, &'static [Row], Told, &'static [Row]);
 
 static OPENED: [Opened; 11] = [
-    ("as it is made", &[], (2, 32, Width::Narrow), &[]),
+    ("as it is made", &[], MADE, &[]),
     (
         "a later number, and an older one",
         &[(9, 0, [MAGIC, 2, 7, 0]), (10, 0, [MAGIC, 2, 1, 0])],
-        (2, 32, Width::Narrow),
+        MADE,
         &[(9, 0, ZEROS)],
     ),
     (
         "the next number, in the first block of the log",
         &[(1, 0, [MAGIC, 1, 2, 5]), (1, 0x3F0, [6, 6, 6, 6])],
-        (2, 32, Width::Narrow),
+        MADE,
         &[(1, 0, ZEROS), (1, 0x3F0, ZEROS)],
     ),
     (
         "the number 0, in the last block of the log",
         &[(32, 0, [MAGIC, 5, 0, 16])],
-        (2, 32, Width::Narrow),
+        MADE,
         &[(32, 0, ZEROS)],
     ),
     (
@@ -45,25 +48,25 @@ static OPENED: [Opened; 11] = [
             (3, 0, [MAGIC, 9, 0x8000_0000, 0]),
             (4, 0, [MAGIC, 0, 0xFFFF_FFFF, 0]),
         ],
-        (2, 32, Width::Narrow),
+        MADE,
         &[(3, 0, ZEROS), (4, 0, ZEROS)],
     ),
     (
         "no magic",
         &[(5, 0, [0xC03B_3999, 2, 7, 0]), (6, 0, [0, MAGIC, 2, 7])],
-        (2, 32, Width::Narrow),
+        MADE,
         &[],
     ),
     (
         "home blocks that begin as blocks of the log's",
         &[(33, 0, [MAGIC, 2, 7, 0]), (48, 0, [MAGIC, 2, 0, 0])],
-        (2, 32, Width::Narrow),
+        MADE,
         &[],
     ),
     (
         "no feature for revoke blocks",
         &[(0, 0x20, [0, 0, 0, 0]), (0, 0x3F0, [7, 7, 7, 7])],
-        (2, 32, Width::Narrow),
+        MADE,
         &[(0, 0x20, [0, 0, 1, 0])],
     ),
     (

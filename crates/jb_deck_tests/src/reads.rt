@@ -82,26 +82,13 @@ fn every_home_is_read_as_it_stands_after_every_call(rt: HostRuntime) {
 /// A name, a home, how long the buffer is, and the answer, on the small image with sixteen homes.
 type Refused = (&'static str, u64, usize, ReadHomeFault);
 
+const OUT: ReadHomeFault = ReadHomeFault::OutOfRange;
+
 static REFUSALS: [Refused; 4] = [
-    (
-        "the read after the last home",
-        16,
-        1024,
-        ReadHomeFault::OutOfRange,
-    ),
-    (
-        "the read after the last home, into a short buffer",
-        16,
-        1023,
-        ReadHomeFault::OutOfRange,
-    ),
-    (
-        "the read into a short buffer",
-        5,
-        1023,
-        ReadHomeFault::Length,
-    ),
-    ("the read into an empty buffer", 5, 0, ReadHomeFault::Length),
+    ("the read after the last home", 16, 1024, OUT),
+    ("the read after the last home, and short", 16, 1023, OUT),
+    ("the short read", 5, 1023, ReadHomeFault::Length),
+    ("the empty read", 5, 0, ReadHomeFault::Length),
 ];
 
 /// The calls that opening the small image makes.

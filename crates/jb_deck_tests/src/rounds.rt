@@ -2,7 +2,7 @@
 
 use crate::cases::{Case, check_cases};
 use crate::checks::By;
-use crate::images::{BLOCKS, HOMES, Row};
+use crate::images::{BLOCKS, HOMES, Stands};
 use crate::scripts::Step;
 use tests_support::Bench;
 
@@ -12,25 +12,20 @@ pub const SIX: &str = "h w0=0a w1=0b w2=0c w3=0d w4=0e w5=0f\n";
 /// Its copies in the log: their homes, and the first word of each.
 pub const SIX_HOMES: &[u32] = &[0, 1, 2, 3, 4, 5];
 
-pub const SIX_WORDS: &[u32] = &[
-    0x0A00_0000,
-    0x0B00_0000,
-    0x0C00_0000,
-    0x0D00_0000,
-    0x0E00_0000,
-    0x0F00_0000,
+pub const SIX_WORDS: &[u32] = &[0x0A, 0x0B, 0x0C, 0x0D, 0x0E, 0x0F];
+
+/// The homes that they go to.
+pub const SIX_HOME: &[(u64, u32)] = &[
+    (0, 0x0A),
+    (1, 0x0B),
+    (2, 0x0C),
+    (3, 0x0D),
+    (4, 0x0E),
+    (5, 0x0F),
 ];
 
 /// The superblock's row of a log that begins at place 9 with number 3, and the homes that six copies went to.
-const ROUND: [Row; 7] = [
-    (0, 0x10, [33, 1, 3, 9]),
-    (HOMES, 0, [0x0A00_0000, 0, 0, 0]),
-    (HOMES + 1, 0, [0x0B00_0000, 0, 0, 0]),
-    (HOMES + 2, 0, [0x0C00_0000, 0, 0, 0]),
-    (HOMES + 3, 0, [0x0D00_0000, 0, 0, 0]),
-    (HOMES + 4, 0, [0x0E00_0000, 0, 0, 0]),
-    (HOMES + 5, 0, [0x0F00_0000, 0, 0, 0]),
-];
+const ROUND: Stands = (&[(0, 0x10, [33, 1, 3, 9])], SIX_HOME);
 
 /// Twenty homes whose copies are zeros, and twenty more.
 const TWENTY: &[u32] = &[
@@ -45,8 +40,8 @@ const MORE: &[u32] = &[
 const TWENTIES: &str = "h w0 w1 w2 w3 w4 w5 w6 w7 w8 w9 w10 w11 w12 w13 w14 w15 w16 w17 w18 w19\n\
      h w20 w21 w22 w23 w24 w25 w26 w27 w28 w29 w30 w31 w32 w33 w34 w35 w36 w37 w38 w39\n";
 
-/// Each fills the log; the second one then begins it anew.
-static FILLS: [Case; 2] = [
+/// Groups that fill the log, begin it anew, and go round its end.
+static ROUNDS: [Case; 3] = [
     Case {
         name: "four groups of eight blocks fill the log",
         image: &[],
@@ -62,17 +57,9 @@ static FILLS: [Case; 2] = [
             (17, 4, &[], SIX_HOMES, SIX_WORDS),
             (25, 5, &[], SIX_HOMES, SIX_WORDS),
         ],
-        rows: &[(0, 0x10, [33, 1, 2, 1])],
+        rows: (&[(0, 0x10, [33, 1, 2, 1])], &[]),
         recovered: (4, 24, 0, 7),
-        after: &[
-            (0, 0x10, [33, 1, 6, 0]),
-            (HOMES, 0, [0x0A00_0000, 0, 0, 0]),
-            (HOMES + 1, 0, [0x0B00_0000, 0, 0, 0]),
-            (HOMES + 2, 0, [0x0C00_0000, 0, 0, 0]),
-            (HOMES + 3, 0, [0x0D00_0000, 0, 0, 0]),
-            (HOMES + 4, 0, [0x0E00_0000, 0, 0, 0]),
-            (HOMES + 5, 0, [0x0F00_0000, 0, 0, 0]),
-        ],
+        after: (&[(0, 0x10, [33, 1, 6, 0])], SIX_HOME),
     },
     Case {
         name: "the fifth group stands where the first was",
@@ -99,54 +86,37 @@ static FILLS: [Case; 2] = [
             (9, 3, &[], SIX_HOMES, SIX_WORDS),
             (17, 4, &[], SIX_HOMES, SIX_WORDS),
             (25, 5, &[], SIX_HOMES, SIX_WORDS),
-            (1, 6, &[], &[0], &[0x1A00_0000]),
+            (1, 6, &[], &[0], &[0x1A]),
         ],
-        rows: &ROUND,
+        rows: ROUND,
         recovered: (4, 19, 0, 8),
-        after: &[(0, 0x10, [33, 1, 7, 0]), (HOMES, 0, [0x1A00_0000, 0, 0, 0])],
+        after: (&[(0, 0x10, [33, 1, 7, 0])], &[(0, 0x1A)]),
+    },
+    Case {
+        name: "a group that goes round the end of the log",
+        image: &[],
+        steps: &[
+            Step::Commits(SIX, &[(0, 1, 2, 8)]),
+            Step::Commits(SIX, &[(1, 2, 3, 8)]),
+            Step::Commits(SIX, &[(2, 3, 4, 8)]),
+            Step::Commits("h w0=1a w1=1b w2=1c\n", &[(3, 4, 5, 5)]),
+            Step::Commits("h w0=2a w1=2b w2=2c w3=2d\n", &[(4, 5, 6, 6)]),
+        ],
+        groups: &[
+            (1, 2, &[], SIX_HOMES, SIX_WORDS),
+            (9, 3, &[], SIX_HOMES, SIX_WORDS),
+            (17, 4, &[], SIX_HOMES, SIX_WORDS),
+            (25, 5, &[], &[0, 1, 2], &[0x1A, 0x1B, 0x1C]),
+            (30, 6, &[], &[0, 1, 2, 3], &[0x2A, 0x2B, 0x2C, 0x2D]),
+        ],
+        rows: ROUND,
+        recovered: (4, 19, 0, 8),
+        after: (
+            &[(0, 0x10, [33, 1, 7, 0])],
+            &[(0, 0x2A), (1, 0x2B), (2, 0x2C), (3, 0x2D)],
+        ),
     },
 ];
-
-/// Each goes round the log.
-static ROUNDS: [Case; 1] = [Case {
-    name: "a group that goes round the end of the log",
-    image: &[],
-    steps: &[
-        Step::Commits(SIX, &[(0, 1, 2, 8)]),
-        Step::Commits(SIX, &[(1, 2, 3, 8)]),
-        Step::Commits(SIX, &[(2, 3, 4, 8)]),
-        Step::Commits("h w0=1a w1=1b w2=1c\n", &[(3, 4, 5, 5)]),
-        Step::Commits("h w0=2a w1=2b w2=2c w3=2d\n", &[(4, 5, 6, 6)]),
-    ],
-    groups: &[
-        (1, 2, &[], SIX_HOMES, SIX_WORDS),
-        (9, 3, &[], SIX_HOMES, SIX_WORDS),
-        (17, 4, &[], SIX_HOMES, SIX_WORDS),
-        (
-            25,
-            5,
-            &[],
-            &[0, 1, 2],
-            &[0x1A00_0000, 0x1B00_0000, 0x1C00_0000],
-        ),
-        (
-            30,
-            6,
-            &[],
-            &[0, 1, 2, 3],
-            &[0x2A00_0000, 0x2B00_0000, 0x2C00_0000, 0x2D00_0000],
-        ),
-    ],
-    rows: &ROUND,
-    recovered: (4, 19, 0, 8),
-    after: &[
-        (0, 0x10, [33, 1, 7, 0]),
-        (HOMES, 0, [0x2A00_0000, 0, 0, 0]),
-        (HOMES + 1, 0, [0x2B00_0000, 0, 0, 0]),
-        (HOMES + 2, 0, [0x2C00_0000, 0, 0, 0]),
-        (HOMES + 3, 0, [0x2D00_0000, 0, 0, 0]),
-    ],
-}];
 
 /// Goes round the log, before forty homes.
 static FORTY: [Case; 1] = [Case {
@@ -158,15 +128,13 @@ static FORTY: [Case; 1] = [Case {
         Step::Word(20, Some(true)),
     ],
     groups: &[(1, 2, &[], TWENTY, &[0; 20]), (23, 3, &[], MORE, &[0; 20])],
-    rows: &[(0, 0x10, [33, 1, 3, 23]), (HOMES + 5, 0, [0, 0, 0, 0])],
+    rows: (
+        &[(0, 0x10, [33, 1, 3, 23]), (HOMES + 5, 0, [0, 0, 0, 0])],
+        &[],
+    ),
     recovered: (1, 20, 0, 5),
-    after: &[(0, 0x10, [33, 1, 4, 0])],
+    after: (&[(0, 0x10, [33, 1, 4, 0])], &[]),
 }];
-
-#[test]
-fn batches_fill_the_log_as_worked_by_hand(rt: HostRuntime) {
-    check_cases(&By(&rt, rt.alloc()), BLOCKS, &FILLS)
-}
 
 fn check_rounds(test: &impl Bench) {
     check_cases(test, BLOCKS, &ROUNDS);
@@ -174,6 +142,6 @@ fn check_rounds(test: &impl Bench) {
 }
 
 #[test]
-fn batches_go_round_the_log_as_worked_by_hand(rt: HostRuntime) {
+fn batches_fill_the_log_and_go_round_it_as_worked_by_hand(rt: HostRuntime) {
     check_rounds(&By(&rt, rt.alloc()))
 }

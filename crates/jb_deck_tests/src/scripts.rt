@@ -5,8 +5,8 @@ use crate::images::Label;
 use crate::words::says;
 use jb_block::{BlockSize, Width};
 use jb_deck::{
-    Batch, BatchFault, Checked, CheckedRun, CheckpointFault, Deck, Done, Entry, FreeFault,
-    Prepared, is_batch, prepare,
+    Batch, BatchFault, Checked, CheckpointFault, Deck, Done, Entry, FreeFault, Prepared, is_batch,
+    prepare,
 };
 use jb_disk::Disk;
 use jb_handle::{Shape, Stopped, Word};
@@ -20,6 +20,9 @@ pub type Made = (u64, u32, Width);
 /// The entry of a group: its first ticket, the one after its last, its number, and how many log blocks it takes.
 pub type Told = (u64, u64, u32, u32);
 
+/// Transactions that are checkpointed together: how many, the last number, and how many copies are written.
+pub type Run = (usize, u32, u64);
+
 /// A call, and what it answers.
 #[derive(Clone, Copy)]
 pub enum Step {
@@ -30,7 +33,7 @@ pub enum Step {
     /// The oldest transaction, of this number, is checkpointed, and so many copies are written.
     Checkpoints(u32, u64),
     /// The oldest transactions are checkpointed, at most so many.
-    Runs(usize, Result<CheckedRun, CheckpointFault>),
+    Runs(usize, Result<Run, CheckpointFault>),
     /// There is no transaction to checkpoint.
     Idle,
     /// So many bytes are written to a home that is free.
@@ -185,7 +188,12 @@ pub fn settles<D: Disk>(
 }
 
 /// Whether the groups of the handles of these lines are these.
-fn commits<D: Disk>(test: &impl Bench, deck: &mut Deck<D>, lines: &str, entries: &[Told]) -> bool {
+pub fn commits<D: Disk>(
+    test: &impl Bench,
+    deck: &mut Deck<D>,
+    lines: &str,
+    entries: &[Told],
+) -> bool {
     let handles = handles_of(test, lines, next_ticket(deck));
     settles(test.alloc(), deck, handles, entries)
 }
@@ -241,14 +249,11 @@ pub fn refuses<D: Disk>(
     }
 }
 
-/// Whether the oldest transaction is checkpointed so.
-fn checkpoints<D: Disk>(deck: &mut Deck<D>, answer: Result<Checked, CheckpointFault>) -> bool {
-    deck.checkpoint_one() == answer
-}
-
-/// Whether the last word on a home is this one, by whether it is a copy.
-fn has_word<D: Disk>(deck: &Deck<D>, home: u64, copy: Option<bool>) -> bool {
-    deck.word_of(home).map(Word::is_copy) == copy
+/// Whether the oldest transactions, at most so many, are checkpointed so.
+fn runs<D: Disk>(deck: &mut Deck<D>, most: usize, answer: Result<Run, CheckpointFault>) -> bool {
+    deck.checkpoint_up_to(most)
+        .map(|run| (run.count, run.last, run.blocks))
+        == answer
 }
 
 /// Whether the entries that are taken from the trail are these.
@@ -264,11 +269,12 @@ fn answers<D: Disk>(test: &impl Bench, deck: &mut Deck<D>, step: &Step) -> bool 
     match *step {
         Step::Commits(lines, entries) => commits(test, deck, lines, entries),
         Step::Refuses(first, made, lines, why) => refuses(test, deck, first, made, lines, why),
-        Step::Checkpoints(number, blocks) => { checkpoints(deck, Ok(Checked { number, blocks })) }
-        Step::Runs(most, answer) => deck.checkpoint_up_to(most) == answer,
-        Step::Idle => checkpoints(deck, Err(CheckpointFault::Nothing)),
+        Step::Checkpoints(number, blocks) => deck.checkpoint_one()
+            == Ok(Checked { number, blocks }),
+        Step::Runs(most, answer) => runs(deck, most, answer),
+        Step::Idle => deck.checkpoint_one() == Err(CheckpointFault::Nothing),
         Step::Writes(home, len, answer) => writes(test, deck, home, len, answer),
-        Step::Word(home, copy) => has_word(deck, home, copy),
+        Step::Word(home, copy) => deck.word_of(home).map(Word::is_copy) == copy,
         Step::Takes(past, entries) => takes(deck, past, entries),
         Step::Ends(trail, next) => are(deck.trail(), trail) && deck.next_number() == next,
         Step::Aborted => deck.aborted(),

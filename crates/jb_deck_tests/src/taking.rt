@@ -2,8 +2,8 @@
 
 use crate::cases::{Case, called_with_fault, check_cases};
 use crate::checks::By;
-use crate::images::{BLOCKS, HOMES};
-use crate::rounds::{SIX, SIX_HOMES, SIX_WORDS};
+use crate::images::BLOCKS;
+use crate::rounds::{SIX, SIX_HOME, SIX_HOMES, SIX_WORDS};
 use crate::scripts::{Refusal, Step};
 use jb_block::Width;
 
@@ -39,17 +39,9 @@ static TAKINGS: [Case; 1] = [Case {
         (18, 5, &[], &[], &[]),
         (19, 6, &[], &[], &[]),
     ],
-    rows: &[
-        (0, 0x10, [33, 1, 5, 18]),
-        (HOMES, 0, [0x0A00_0000, 0, 0, 0]),
-        (HOMES + 1, 0, [0x0B00_0000, 0, 0, 0]),
-        (HOMES + 2, 0, [0x0C00_0000, 0, 0, 0]),
-        (HOMES + 3, 0, [0x0D00_0000, 0, 0, 0]),
-        (HOMES + 4, 0, [0x0E00_0000, 0, 0, 0]),
-        (HOMES + 5, 0, [0x0F00_0000, 0, 0, 0]),
-    ],
+    rows: (&[(0, 0x10, [33, 1, 5, 18])], SIX_HOME),
     recovered: (2, 0, 0, 8),
-    after: &[(0, 0x10, [33, 1, 7, 0])],
+    after: (&[(0, 0x10, [33, 1, 7, 0])], &[]),
 }];
 
 /// The call of the disk that fails, the first sync of the third commit: opening the small image makes 34; the first

@@ -1,12 +1,14 @@
 //! Disks in memory, their recovery and their text.
 
-use crate::journals::{HOME_5, committed, put_word, small, word_at};
-use jb_block::{BlockSize, MAGIC};
+use crate::journals::{HOME_5, committed, formatted, put_word, word_at};
+use crate::met::{Met, ample, must, refusing, tried};
+use jb_block::{BlockSize, MAGIC, Memory};
 use jb_disk::{Disk, MemoryDisk};
 use jb_dump::{DumpFault, dump};
 use jb_recover::{RecoverFault, Recovered, recover};
-use jb_refusing::{Met, Wrong, ample, must, refusing};
 use std::alloc::Global;
+use std::fs::File;
+use std::rt::Files;
 
 /// What recovery of the committed handle reports.
 const RECOVERED: Recovered = Recovered {
@@ -18,7 +20,8 @@ const RECOVERED: Recovered = Recovered {
 
 /// The text of the journal with the committed handle.
 const TEXT: &str =
-    "super bs=1024 maxlen=33 first=1 sequence=2 start=1 errno=0 compat=00000000 incompat=00000001 rocompat=00000000 max=0 limit=8
+    "super bs=1024 maxlen=33 first=1 sequence=2 start=1 errno=0 compat=00000000 incompat=00000001 \
+     rocompat=00000000 max=0 limit=8
 uuid 00000000000000000000000000000000
 1 revoke number=2 count=20 homes=7
 2 descriptor number=2 tags=1
@@ -27,116 +30,81 @@ uuid 00000000000000000000000000000000
 end transactions=1 expected=3
 ";
 
-/// A new disk has blocks of zeros.
-pub fn new_row(rt: &HostRuntime) -> Result<Met, Wrong> {
-    let alloc = rt.alloc();
-    refusing(rt);
-    let first = MemoryDisk::new(alloc, BlockSize::OneKib, 49);
-    ample(rt);
-    let (met, disk) = match first {
-        Ok(disk) => (Met::Ample, disk),
-        Err(_) => (Met::Memory, MemoryDisk::new(alloc, BlockSize::OneKib, 49)?),
-    };
-    let mut disk = disk;
-    must(
-        disk.blocks() == 49 && word_at(&mut disk, 48)? == 0,
-        Wrong::Answer,
-    )?;
-    Ok(met)
+/// Whether a new disk has blocks of zeros.
+fn is_new(alloc: Global) -> Result<bool, Memory> {
+    let mut disk = MemoryDisk::new(alloc, BlockSize::OneKib, 49)?;
+    Ok(disk.blocks() == 49 && word_at(&mut disk, 48) == Some(0))
 }
 
-/// Of a block that was written since the last sync the crash leaves the first sector as it was written.
-pub fn crash_row(rt: &HostRuntime) -> Result<Met, Wrong> {
-    let mut disk = small(rt.alloc())?;
+/// A new disk.
+pub fn new_row(rt: &impl Files<File = File>, alloc: Global) -> Option<Met> {
+    tried(rt, || is_new(alloc))
+}
+
+/// Whether of two blocks that were written since the last sync a crash leaves the first one.
+fn is_left(disk: &MemoryDisk) -> Result<bool, Memory> {
+    let mut left = disk.crash(&[1])?;
+    let is_first = word_at(&mut left, HOME_5) == Some(MAGIC);
+    Ok(is_first && word_at(&mut left, HOME_5 + 1) == Some(0))
+}
+
+/// A crash leaves the disk as it was.
+pub fn crash_row(rt: &impl Files<File = File>, alloc: Global) -> Option<Met> {
+    let mut disk = formatted(alloc)?;
     put_word(&mut disk, HOME_5, MAGIC)?;
     put_word(&mut disk, HOME_5 + 1, MAGIC)?;
-    refusing(rt);
-    let first = disk.crash(&[1]);
-    ample(rt);
-    let (met, left) = match first {
-        Ok(left) => (Met::Ample, left),
-        Err(_) => (Met::Memory, disk.crash(&[1])?),
-    };
-    let mut left = left;
-    must(word_at(&mut left, HOME_5)? == MAGIC, Wrong::Answer)?;
-    must(word_at(&mut left, HOME_5 + 1)? == 0, Wrong::Answer)?;
-    must(word_at(&mut disk, HOME_5 + 1)? == MAGIC, Wrong::Stands)?;
-    Ok(met)
+    let met = tried(rt, || is_left(&disk))?;
+    must(word_at(&mut disk, HOME_5 + 1)? == MAGIC)?;
+    Some(met)
 }
 
 /// The disk of a recovery that ran out of memory is as it was. One that failed is recovered by the next call.
-pub fn recover_row(rt: &HostRuntime) -> Result<Met, Wrong> {
-    let alloc = rt.alloc();
+pub fn recover_row(rt: &impl Files<File = File>, alloc: Global) -> Option<Met> {
     let mut disk = committed(alloc)?;
     refusing(rt);
     let first = recover(alloc, &mut disk);
     ample(rt);
-    let met = match first {
-        Ok(found) => {
-            must(found == RECOVERED, Wrong::Answer)?;
-            Met::Ample
-        }
+    let (met, found) = match first {
+        Ok(found) => (Met::Ample, found),
         Err(RecoverFault::Memory) => {
-            must(word_at(&mut disk, HOME_5)? == 0, Wrong::Stands)?;
-            must(recover(alloc, &mut disk) == Ok(RECOVERED), Wrong::Answer)?;
-            Met::Memory
+            must(word_at(&mut disk, HOME_5)? == 0)?;
+            (Met::Memory, recover(alloc, &mut disk).ok()?)
         }
-        Err(RecoverFault::DeviceFault) => {
-            must(next_of(recover(alloc, &mut disk)) == Some(4), Wrong::Answer)?;
-            Met::Fault
-        }
-        Err(_) => return Err(Wrong::Answer),
+        Err(RecoverFault::DeviceFault) => (Met::Fault, recover(alloc, &mut disk).ok()?),
+        Err(_) => return None,
     };
-    must(word_at(&mut disk, HOME_5)? == MAGIC, Wrong::Stands)?;
-    Ok(met)
-}
-
-/// The next number that a recovery reports.
-fn next_of(found: Result<Recovered, RecoverFault>) -> Option<u64> {
-    match found {
-        Ok(found) => Some(found.next),
-        Err(_) => None,
-    }
+    must(found == RECOVERED || met == Met::Fault && found.next == 4)?;
+    must(word_at(&mut disk, HOME_5)? == MAGIC)?;
+    Some(met)
 }
 
 /// The bytes of the journal with the committed handle.
-fn journal(alloc: Global) -> Result<Vec<u8>, Wrong> {
+fn journal(alloc: Global) -> Option<Vec<u8>> {
     let mut disk = committed(alloc)?;
-    must(
-        disk.blocks() == 49 && disk.block_size().bytes() == 1024,
-        Wrong::Inputs,
-    )?;
     let mut bytes = Vec::new(alloc);
     let mut block = [0; 1024];
     for place in 0..33 {
-        if place < disk.blocks() && disk.block_size().bytes() == 1024 {
-            disk.read(place, &mut block)?;
-            bytes.extend_from_slice(&block)?;
-        }
+        must(place < disk.blocks() && disk.block_size().bytes() == 1024)?;
+        disk.read(place, &mut block).ok()?;
+        bytes.extend_from_slice(&block).ok()?;
     }
-    Ok(bytes)
+    Some(bytes)
 }
 
-/// A dump that ran out of memory has written nothing.
-pub fn dump_row(rt: &HostRuntime) -> Result<Met, Wrong> {
-    let alloc = rt.alloc();
+/// Whether the text of a journal is dumped. A dump that ran out of memory has written nothing.
+fn is_dumped(alloc: Global, bytes: &[u8], text: &mut Vec<u8>) -> Result<bool, Memory> {
+    let mut reader = bytes;
+    match dump(alloc, &mut reader, text) {
+        Ok(()) => Ok(text.as_slice() == TEXT.as_bytes()),
+        Err(DumpFault::Memory) if text.is_empty() => Err(Memory),
+        Err(_) => Ok(false),
+    }
+}
+
+/// The dump of a journal.
+pub fn dump_row(rt: &impl Files<File = File>, alloc: Global) -> Option<Met> {
     let bytes = journal(alloc)?;
     let mut text = Vec::new(alloc);
-    text.reserve(1024)?;
-    let mut reader = bytes.as_slice();
-    refusing(rt);
-    let first = dump(alloc, &mut reader, &mut text);
-    ample(rt);
-    let met = match first {
-        Ok(()) => Met::Ample,
-        Err(DumpFault::Memory) => {
-            must(text.is_empty(), Wrong::Stands)?;
-            let mut again = bytes.as_slice();
-            must(dump(alloc, &mut again, &mut text).is_ok(), Wrong::Answer)?;
-            Met::Memory
-        }
-        Err(_) => return Err(Wrong::Answer),
-    };
-    must(text.as_slice() == TEXT.as_bytes(), Wrong::Answer)?;
-    Ok(met)
+    text.reserve(1024).ok()?;
+    tried(rt, || is_dumped(alloc, &bytes, &mut text))
 }

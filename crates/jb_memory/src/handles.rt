@@ -1,61 +1,38 @@
 //! Calls of handles and batches.
 
 use crate::journals::SHAPE;
-use crate::values::{PRICES, three};
-use jb_block::{BlockSize, Width};
+use crate::met::{Met, ample, must, refusing, tried};
+use crate::texts::THREE;
+use crate::values::PRICES;
+use jb_block::{BlockSize, Memory, Width};
 use jb_deck::{Batch, PrepareFault, Prepared, is_batch, prepare};
 use jb_handle::{Handle, Shape, Stopped, TouchFault};
-use jb_refusing::{Met, Wrong, ample, refusing};
+use jb_queue::read_queue;
 use std::alloc::Global;
+use std::fs::File;
+use std::rt::Files;
 
-/// A change of a handle.
-#[derive(Clone, Copy)]
-enum Change {
-    Write,
-    Revoke,
-}
-
-/// Changes home block 5 in a handle.
-fn touch(handle: &mut Handle<()>, change: Change) -> Result<(), TouchFault> {
-    match change {
-        Change::Write => handle.write(5, &[7; 1024]),
-        Change::Revoke => handle.revoke(5),
-    }
-}
-
-/// A handle that ran out of memory has touched nothing.
-fn touch_row(rt: &HostRuntime, change: Change) -> Result<Met, Wrong> {
-    let mut handle = Handle::new(rt.alloc(), (), 2, SHAPE);
-    refusing(rt);
-    let first = touch(&mut handle, change);
-    ample(rt);
-    let met = match first {
-        Ok(()) => Ok(Met::Ample),
-        Err(TouchFault::Memory) if handle.touched() != 0 => Err(Wrong::Stands),
-        Err(TouchFault::Memory) => match touch(&mut handle, change) {
-            Ok(()) => Ok(Met::Memory),
-            Err(_) => Err(Wrong::Answer),
-        },
-        Err(_) => Err(Wrong::Answer),
+/// Whether a handle writes or frees home block 5. One that ran out of memory has touched nothing.
+fn is_touched(handle: &mut Handle<()>, is_write: bool) -> Result<bool, Memory> {
+    let touched = if is_write {
+        handle.write(5, &[7; 1024])
+    } else {
+        handle.revoke(5)
     };
-    let (_, words) = handle.end();
-    let met = met?;
-    match words.get(5) {
-        Some(word) if word.is_copy() == matches!(change, Change::Write) && words.len() == 1 => {
-            Ok(met)
-        }
-        _ => Err(Wrong::Answer),
+    match touched {
+        Ok(()) => Ok(true),
+        Err(TouchFault::Memory) if handle.touched() == 0 => Err(Memory),
+        Err(_) => Ok(false),
     }
 }
 
-/// A refused write leaves the handle as it was.
-pub fn write_row(rt: &HostRuntime) -> Result<Met, Wrong> {
-    touch_row(rt, Change::Write)
-}
-
-/// A refused revoke leaves the handle as it was.
-pub fn revoke_row(rt: &HostRuntime) -> Result<Met, Wrong> {
-    touch_row(rt, Change::Revoke)
+/// A refused write or revoke leaves the handle as it was.
+pub fn touch_row(rt: &impl Files<File = File>, alloc: Global, is_write: bool) -> Option<Met> {
+    let mut handle = Handle::new(alloc, (), 2, SHAPE);
+    let met = tried(rt, || is_touched(&mut handle, is_write));
+    let (_, words) = handle.end();
+    must(words.len() == 1 && words.get(5)?.is_copy() == is_write)?;
+    met
 }
 
 /// The journal that the three handles are for: a group takes seven log blocks at most.
@@ -67,55 +44,47 @@ const SEVEN: Shape = Shape {
 };
 
 /// These handles as a batch; none where they are not one.
-fn batch_of(handles: Vec<Stopped>, shape: Shape) -> Option<Batch> {
-    if !is_batch(0, &handles, shape) {
+pub fn batch_of(first: u64, handles: Vec<Stopped>, shape: Shape) -> Option<Batch> {
+    if !is_batch(first, &handles, shape) {
         return None;
     }
-    Some(Batch::of(0, handles, shape))
+    Some(Batch::of(first, handles, shape))
 }
 
 /// A batch that is handed back for want of memory is prepared by the next call.
-pub fn prepare_row(rt: &HostRuntime) -> Result<Met, Wrong> {
-    let alloc = rt.alloc();
-    let Some(batch) = batch_of(three(alloc)?.handles, SEVEN) else {
-        return Err(Wrong::Inputs);
-    };
+pub fn prepare_row(rt: &impl Files<File = File>, alloc: Global) -> Option<Met> {
+    let batch = batch_of(0, read_queue(alloc, THREE).ok()?.handles, SEVEN)?;
     refusing(rt);
     let first = prepare(alloc, batch);
     ample(rt);
     match first {
         Ok(prepared) => planned(prepared, Met::Ample),
-        Err((batch, PrepareFault::Memory)) => prepare_again(alloc, batch),
-        Err((batch, PrepareFault::NoCut(_))) => {
-            let _handles = batch.end();
-            Err(Wrong::Answer)
+        Err((batch, PrepareFault::Memory)) if batch.len() == 3 && batch.first() == 0 => {
+            planned(prepared(alloc, batch)?, Met::Memory)
         }
-    }
-}
-
-/// Prepares a batch that was handed back.
-fn prepare_again(alloc: Global, batch: Batch) -> Result<Met, Wrong> {
-    if batch.len() != 3 || batch.first() != 0 {
-        let _handles = batch.end();
-        return Err(Wrong::Stands);
-    }
-    match prepare(alloc, batch) {
-        Ok(prepared) => planned(prepared, Met::Memory),
         Err((batch, _)) => {
             let _handles = batch.end();
-            Err(Wrong::Answer)
+            None
         }
     }
 }
 
-/// Whether a batch has the plan of the three handles; it is let go.
-fn planned(prepared: Prepared, met: Met) -> Result<Met, Wrong> {
+/// A batch with its plan; none where it is refused.
+pub fn prepared(alloc: Global, batch: Batch) -> Option<Prepared> {
+    match prepare(alloc, batch) {
+        Ok(prepared) => Some(prepared),
+        Err((batch, _)) => {
+            let _handles = batch.end();
+            None
+        }
+    }
+}
+
+/// As it was met, where a batch has the plan of the three handles; it is let go.
+fn planned(prepared: Prepared, met: Met) -> Option<Met> {
     let is_least = prepared.groups() == [0, 3].as_slice() && prepared.total() == 7;
     let is_priced = prepared.prices() == PRICES.as_slice();
     let _handles = prepared.back().end();
-    if is_least && is_priced {
-        Ok(met)
-    } else {
-        Err(Wrong::Answer)
-    }
+    must(is_least && is_priced)?;
+    Some(met)
 }

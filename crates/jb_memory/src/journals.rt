@@ -1,11 +1,14 @@
-//! The journal that the rows of disks and decks use, and what is committed to it.
+//! The journal that the rows of disks, decks and desks use, and what is committed to it.
+ghost use Rattle.std.specs.Prelude.{◌≡◌, [], false, IfSome};
 
-use jb_block::{BlockSize, MAGIC, Stamp, Width, get32, put32};
-use jb_deck::{Batch, BatchFault, Deck, Prepared, is_batch, prepare};
+use crate::handles::{batch_of, prepared};
+use crate::met::must;
+use jb_block::{BlockSize, Stamp, Width, get32, put32};
+use jb_deck::{BatchFault, Deck, Prepared};
 use jb_disk::{Disk, MemoryDisk};
+use jb_front::format;
 use jb_handle::Shape;
 use jb_queue::read_queue;
-use jb_refusing::{Wrong, must};
 use std::alloc::Global;
 
 /// The place of home block 5.
@@ -25,95 +28,58 @@ pub const SHAPE: Shape = Shape {
 /// A handle with an escaped copy of home 5, which frees home 7.
 const HANDLE: &[u8] = b"bs 1024\nlimit 8\nh w5=c03b399801020304 r7\n";
 
-/// The superblock's words that are not 0, each with its offset: 33 blocks of 1 KiB, and the next number 2.
-const FRONT: [(usize, u32); 8] = [
-    (0x00, MAGIC),
-    (0x04, 4),
-    (0x0C, 1024),
-    (0x10, 33),
-    (0x14, 1),
-    (0x18, 1),
-    (0x28, 1),
-    (0x40, 1),
-];
-
-/// A journal of 33 blocks of 1 KiB with nothing to recover, and after it 16 home blocks of zeros.
-pub fn small(alloc: Global) -> Result<MemoryDisk, Wrong> {
-    let mut disk = MemoryDisk::new(alloc, BlockSize::OneKib, 49)?;
-    let mut block = [0; 1024];
-    for (offset, word) in FRONT {
-        if offset <= 1020 {
-            put32(&mut block, offset, word);
-        }
-    }
-    must(
-        disk.blocks() == 49 && disk.block_size().bytes() == 1024,
-        Wrong::Inputs,
-    )?;
-    disk.write(0, &block)?;
-    disk.sync()?;
-    Ok(disk)
+/// A new journal of 33 blocks of 1 KiB, and after it 16 home blocks of zeros. A group takes 8 log blocks at most.
+pub fn formatted(alloc: Global) -> Option<MemoryDisk> {
+    let mut disk = MemoryDisk::new(alloc, BlockSize::OneKib, 49).ok()?;
+    must(format(&mut disk, 33, 0, [0; 16], Width::Narrow).is_ok())?;
+    Some(disk)
 }
 
 /// The same journal, opened.
-pub fn opened(alloc: Global) -> Result<Deck<MemoryDisk>, Wrong> {
-    match Deck::open(alloc, small(alloc)?) {
-        Ok(deck) => Ok(deck),
-        Err(_) => Err(Wrong::Inputs),
+pub fn opened(alloc: Global) -> Option<Deck<MemoryDisk>>
+    ensures { IfSome result (λ deck. (deck.trail ≡ []) × (deck.aborted ≡ false)) }
+{
+    match Deck::open(alloc, formatted(alloc)?) {
+        Ok(deck) => Some(deck),
+        Err(_) => None,
     }
-}
-
-/// The handle as a batch with its plan.
-pub fn prepared(alloc: Global, shape: Shape) -> Result<Prepared, Wrong> {
-    prepared_from(alloc, 0, shape)
 }
 
 /// The handle as a batch from this ticket on, with its plan.
-fn prepared_from(alloc: Global, first: u64, shape: Shape) -> Result<Prepared, Wrong> {
-    let mut handles = match read_queue(alloc, HANDLE) {
-        Ok(queue) => queue.handles,
-        Err(_) => return Err(Wrong::Inputs),
-    };
+pub fn prepared_from(alloc: Global, first: u64, shape: Shape) -> Option<Prepared> {
+    let mut handles = read_queue(alloc, HANDLE).ok()?.handles;
     for handle in &mut handles {
         handle.ticket = first;
     }
-    if !is_batch(first, &handles, shape) {
-        return Err(Wrong::Inputs);
-    }
-    match prepare(alloc, Batch::of(first, handles, shape)) {
-        Ok(prepared) => Ok(prepared),
-        Err((batch, _)) => {
-            let _handles = batch.end();
-            Err(Wrong::Inputs)
+    prepared(alloc, batch_of(first, handles, shape)?)
+}
+
+/// Commits the handle with this ticket.
+fn commit(alloc: Global, deck: &mut Deck<MemoryDisk>, ticket: u64) -> Option<()> {
+    let batch = prepared_from(alloc, ticket, deck.shape())?;
+    match deck.commit_batch(batch, STAMP) {
+        Ok(_) => Some(()),
+        Err(fault) => {
+            let_go(fault);
+            None
         }
     }
 }
 
 /// The journal after the handle was committed twice, where the first group is home.
-pub fn settled_twice(alloc: Global) -> Result<Deck<MemoryDisk>, Wrong> {
+pub fn settled_twice(alloc: Global) -> Option<Deck<MemoryDisk>> {
     let mut deck = opened(alloc)?;
-    for first in 0..2 {
-        let batch = prepared_from(alloc, first, deck.shape())?;
-        if let Err(fault) = deck.commit_batch(batch, STAMP) {
-            let_go(fault);
-            return Err(Wrong::Inputs);
-        }
-    }
-    must(deck.checkpoint_one().is_ok(), Wrong::Inputs)?;
-    Ok(deck)
+    commit(alloc, &mut deck, 0)?;
+    commit(alloc, &mut deck, 1)?;
+    must(deck.checkpoint_one().is_ok())?;
+    Some(deck)
 }
 
 /// The journal's disk after the handle was committed.
-pub fn committed(alloc: Global) -> Result<MemoryDisk, Wrong> {
+pub fn committed(alloc: Global) -> Option<MemoryDisk> {
     let mut deck = opened(alloc)?;
-    let batch = prepared(alloc, deck.shape())?;
-    match deck.commit_batch(batch, STAMP) {
-        Ok(_) => Ok(deck.close()),
-        Err(fault) => {
-            let_go(fault);
-            Err(Wrong::Inputs)
-        }
-    }
+    commit(alloc, &mut deck, 0)?;
+    Some(deck.close())
 }
 
 /// Lets a refused batch go.
@@ -131,24 +97,17 @@ pub fn let_go(fault: BatchFault) {
 }
 
 /// The first word of the block at a place.
-pub fn word_at(disk: &mut MemoryDisk, place: u64) -> Result<u32, Wrong> {
+pub fn word_at(disk: &mut MemoryDisk, place: u64) -> Option<u32> {
     let mut block = [0; 1024];
-    must(
-        place < disk.blocks() && disk.block_size().bytes() == 1024,
-        Wrong::Inputs,
-    )?;
-    disk.read(place, &mut block)?;
-    Ok(get32(&block, 0))
+    must(place < disk.blocks() && disk.block_size().bytes() == 1024)?;
+    disk.read(place, &mut block).ok()?;
+    Some(get32(&block, 0))
 }
 
 /// Writes a block that begins with this word, without a sync.
-pub fn put_word(disk: &mut MemoryDisk, place: u64, word: u32) -> Result<(), Wrong> {
+pub fn put_word(disk: &mut MemoryDisk, place: u64, word: u32) -> Option<()> {
     let mut block = [0; 1024];
     put32(&mut block, 0, word);
-    must(
-        place < disk.blocks() && disk.block_size().bytes() == 1024,
-        Wrong::Inputs,
-    )?;
-    disk.write(place, &block)?;
-    Ok(())
+    must(place < disk.blocks() && disk.block_size().bytes() == 1024)?;
+    disk.write(place, &block).ok()
 }

@@ -1,10 +1,12 @@
 //! The reader of a log.
 ghost use Rattle.std.specs.Prelude.{◌≡◌, All, IfOk, length};
 
+use crate::met::{Met, tried};
 use jb_block::{BlockSize, Memory, Width};
 use jb_log::{Block, Piece, ReadFault, Seen, read_transactions};
-use jb_refusing::{Met, Wrong, ample, must, refusing};
 use std::alloc::Global;
+use std::fs::File;
+use std::rt::Files;
 
 /// The fronts of a log's blocks: a revoke of home 7, a descriptor of home 5, its data, and a commit block, all of
 /// number 2.
@@ -43,24 +45,22 @@ fn log(alloc: Global) -> Result<Vec<Block>, Memory>
 }
 
 /// The transactions of a log.
-pub fn read_transactions_row(rt: &HostRuntime) -> Result<Met, Wrong> {
-    let alloc = rt.alloc();
-    let blocks = log(alloc)?;
-    refusing(rt);
-    let first = read_transactions(alloc, &blocks, BlockSize::OneKib, 2, Width::Narrow);
-    ample(rt);
-    let (met, seen) = match first {
-        Ok(seen) => (Met::Ample, seen),
-        Err(ReadFault::Memory) => {
-            match read_transactions(alloc, &blocks, BlockSize::OneKib, 2, Width::Narrow) {
-                Ok(seen) => (Met::Memory, seen),
-                Err(_) => return Err(Wrong::Answer),
-            }
-        }
-        Err(_) => return Err(Wrong::Answer),
+pub fn row(rt: &impl Files<File = File>, alloc: Global) -> Option<Met> {
+    let Ok(blocks) = log(alloc) else {
+        return None;
     };
-    must(is_whole(&seen), Wrong::Answer)?;
-    Ok(met)
+    tried(rt, || is_read(alloc, &blocks))
+}
+
+/// Whether the log is read as it is.
+fn is_read(alloc: Global, log: &Vec<Block>) -> Result<bool, Memory>
+    requires { All (λ block. length block ≡ 1024) log.now.items }
+{
+    match read_transactions(alloc, log, BlockSize::OneKib, 2, Width::Narrow) {
+        Ok(seen) => Ok(is_whole(&seen)),
+        Err(ReadFault::Memory) => Err(Memory),
+        Err(_) => Ok(false),
+    }
 }
 
 /// Whether the one transaction was found, with its revoke block and its copy.

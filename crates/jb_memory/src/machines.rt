@@ -1,42 +1,39 @@
 //! Steps of the machine.
 
 use crate::journals::SHAPE;
+use crate::met::{Met, must, tried};
 use jb_block::Memory;
 use jb_core::{CoreFault, Event, Reply, State, run, step};
 use jb_handle::{Op, Payload};
-use jb_refusing::{Met, Wrong, ample, must, refusing};
 use std::alloc::Global;
+use std::fs::File;
+use std::rt::Files;
 
-/// What happens in a step: a write is of a block of zeros to home block 1.
-#[derive(Clone, Copy)]
-enum Act {
-    Open,
-    Write,
-    Stop,
-    Take,
-}
+/// A row of a step: its name, what the step answers, and how many handles are then queued, and groups taken and
+/// settled.
+type Row = (&'static str, Reply, [usize; 3]);
 
-/// A handle that is begun, changed, stopped and taken, with what each step answers.
-const ACTS: [(Act, Reply); 4] = [
-    (Act::Open, Reply::Plain),
-    (Act::Write, Reply::Plain),
-    (Act::Stop, Reply::Ticket(0)),
-    (Act::Take, Reply::Plain),
+/// A handle that is begun, changed, stopped and taken.
+static STEPS: [Row; 4] = [
+    ("step:Open", Reply::Plain, [0, 0, 0]),
+    ("step:Touch", Reply::Plain, [0, 0, 0]),
+    ("step:Stop", Reply::Ticket(0), [1, 0, 0]),
+    ("step:Take", Reply::Plain, [0, 1, 0]),
 ];
 
-/// The event of a step by seat 1.
-fn event(alloc: Global, act: Act) -> Result<Event, Memory> {
-    Ok(match act {
-        Act::Open => Event::Open {
+/// The event of a step by seat 1: a write is of a block of zeros to home block 1.
+fn event(alloc: Global, name: &str) -> Result<Event, Memory> {
+    Ok(match name {
+        "step:Open" => Event::Open {
             seat: 1,
             credits: 2,
         },
-        Act::Write => Event::Touch {
+        "step:Touch" => Event::Touch {
             seat: 1,
             op: Op::Write(1, Payload::padded(Vec::new(alloc), 1024)),
         },
-        Act::Stop => Event::Stop { seat: 1 },
-        Act::Take => Event::Take {
+        "step:Stop" => Event::Stop { seat: 1 },
+        _ => Event::Take {
             bounds: [0, 1].as_slice().to_vec(alloc)?,
         },
     })
@@ -47,95 +44,64 @@ fn left(state: &State) -> [usize; 3] {
     [state.queue().len(), state.taken(), state.settled()]
 }
 
-/// Makes the steps before this one.
-fn stepped(alloc: Global, acts: &[(Act, Reply)]) -> Result<State, Wrong> {
-    let mut state = State::new(alloc, SHAPE);
-    for (act, reply) in acts {
-        let event = event(alloc, *act)?;
-        must(step(&mut state, event) == Ok(*reply), Wrong::Inputs)?;
-    }
-    Ok(state)
-}
-
-/// The step of this index. A machine that ran out of memory is as it was.
-fn step_row(rt: &HostRuntime, at: usize, after: [usize; 3]) -> Result<Met, Wrong> {
-    if at >= 4 {
-        return Err(Wrong::Inputs);
-    }
-    let alloc = rt.alloc();
-    let mut state = stepped(alloc, &ACTS[..at])?;
-    let (act, reply) = ACTS[at];
-    let was = left(&state);
-    let event = event(alloc, act)?;
-    refusing(rt);
-    let first = step(&mut state, event);
-    ample(rt);
-    let met = match first {
-        Ok(answer) => {
-            must(answer == reply, Wrong::Answer)?;
-            Met::Ample
-        }
-        Err(CoreFault::Memory) => {
-            must(left(&state) == was, Wrong::Stands)?;
-            again(alloc, &mut state, act, reply)?;
-            Met::Memory
-        }
-        Err(_) => return Err(Wrong::Answer),
+/// Whether a step answers and leaves what it must. A machine that ran out of memory is as it was.
+fn is_made(state: &mut State, event: Option<Event>, row: &Row) -> Result<bool, Memory> {
+    let Some(event) = event else {
+        return Ok(false);
     };
-    must(left(&state) == after, Wrong::Answer)?;
-    Ok(met)
+    let was = left(state);
+    let (_, reply, after) = row;
+    match step(state, event) {
+        Ok(answer) => Ok(answer == *reply && left(state) == *after),
+        Err(CoreFault::Memory) if left(state) == was => Err(Memory),
+        Err(_) => Ok(false),
+    }
 }
 
-/// Makes the step once more, with ample memory.
-fn again(alloc: Global, state: &mut State, act: Act, reply: Reply) -> Result<(), Wrong> {
-    let event = event(alloc, act)?;
-    must(step(state, event) == Ok(reply), Wrong::Answer)
+/// The machine after the first so many steps.
+fn stepped(alloc: Global, count: usize) -> Option<State> {
+    let mut state = State::new(alloc, SHAPE);
+    for (name, reply, _) in STEPS.iter().take(count) {
+        let event = event(alloc, name).ok()?;
+        must(step(&mut state, event) == Ok(*reply))?;
+    }
+    Some(state)
 }
 
-/// A refused Open leaves the machine as it was.
-pub fn open_step_row(rt: &HostRuntime) -> Result<Met, Wrong> {
-    step_row(rt, 0, [0, 0, 0])
-}
-
-/// A refused write leaves the machine as it was.
-pub fn write_step_row(rt: &HostRuntime) -> Result<Met, Wrong> {
-    step_row(rt, 1, [0, 0, 0])
-}
-
-/// A refused Stop leaves the machine as it was.
-pub fn stop_step_row(rt: &HostRuntime) -> Result<Met, Wrong> {
-    step_row(rt, 2, [1, 0, 0])
-}
-
-/// A refused Take leaves the machine as it was.
-pub fn take_step_row(rt: &HostRuntime) -> Result<Met, Wrong> {
-    step_row(rt, 3, [0, 1, 0])
+/// The step of this name, after those before it.
+pub fn step_row(rt: &impl Files<File = File>, alloc: Global, name: &str) -> Option<Met> {
+    let at = STEPS.iter().position(|row| row.0 == name)?;
+    let row = STEPS.get(at)?;
+    let mut state = stepped(alloc, at)?;
+    let mut events = Vec::new(alloc);
+    events.push(event(alloc, name).ok()?).ok()?;
+    events.push(event(alloc, name).ok()?).ok()?;
+    tried(rt, || is_made(&mut state, events.pop(), row))
 }
 
 /// The events of all steps.
-fn events(alloc: Global) -> Result<Vec<Event>, Memory> {
+fn events(alloc: Global) -> Option<Vec<Event>> {
     let mut events = Vec::new(alloc);
-    for (act, _) in ACTS {
-        events.push(event(alloc, act)?)?;
+    for (name, _, _) in &STEPS {
+        events.push(event(alloc, name).ok()?).ok()?;
     }
-    Ok(events)
+    Some(events)
+}
+
+/// Whether a run over the events of all steps ends as the last one does.
+fn is_run(alloc: Global, events: Option<Vec<Event>>) -> Result<bool, Memory> {
+    let Some(events) = events else {
+        return Ok(false);
+    };
+    let (state, answers) = run(alloc, SHAPE, events)?;
+    let is_answered = answers.len() == 4 && answers.iter().all(|answer| answer.is_ok());
+    Ok(is_answered && left(&state) == [0, 1, 0])
 }
 
 /// A run over several events.
-pub fn run_row(rt: &HostRuntime) -> Result<Met, Wrong> {
-    let alloc = rt.alloc();
-    let events_once = events(alloc)?;
-    let events_again = events(alloc)?;
-    refusing(rt);
-    let first = run(alloc, SHAPE, events_once);
-    ample(rt);
-    let (met, ran) = match first {
-        Ok(ran) => (Met::Ample, ran),
-        Err(_) => (Met::Memory, run(alloc, SHAPE, events_again)?),
-    };
-    let (state, answers) = ran;
-    must(left(&state) == [0, 1, 0], Wrong::Answer)?;
-    must(answers.len() == 4, Wrong::Answer)?;
-    must(answers.iter().all(|answer| answer.is_ok()), Wrong::Answer)?;
-    Ok(met)
+pub fn run_row(rt: &impl Files<File = File>, alloc: Global) -> Option<Met> {
+    let mut runs = Vec::new(alloc);
+    runs.push(events(alloc)?).ok()?;
+    runs.push(events(alloc)?).ok()?;
+    tried(rt, || is_run(alloc, runs.pop()))
 }

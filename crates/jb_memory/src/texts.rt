@@ -1,170 +1,106 @@
 //! Calls that read and write texts and blocks.
 
-use jb_block::{Width, put32};
-use jb_price::{CertFault, print_cert, read_cert};
+use crate::met::{Met, tried};
+use jb_block::{Memory, Width, put32};
+use jb_price::{Cert, CertFault, print_cert, read_cert};
 use jb_queue::{Cause, QueueFault, QueueLines, read_lines, read_queue};
-use jb_refusing::{Met, Wrong, ample, must, refusing};
 use jb_revoke::{RevokeFault, read_revokes};
 use jb_tags::read_tags;
 use std::alloc::Global;
+use std::fs::File;
+use std::rt::Files;
 
 /// Three handles that fit into one group.
 pub const THREE: &[u8] = b"bs 1024\nlimit 7\nh w1 w2 w3\nh w3 w4 w5\nh w1 w2\n";
 
-/// A handle was not read again, for want of memory.
-const OUT: QueueFault = QueueFault {
-    line: 3,
-    cause: Cause::Memory,
-};
-
 /// Their certificate.
 pub const CERTIFICATE: &str = "prices 0 5 7 7\ncut 0 3\ntotal 7\n";
 
-/// A text of which memory ran out has no fault before the line that is named.
-pub fn read_queue_row(rt: &HostRuntime) -> Result<Met, Wrong> {
-    let alloc = rt.alloc();
-    refusing(rt);
-    let first = read_queue(alloc, THREE);
-    ample(rt);
-    let (met, queue) = match first {
-        Ok(queue) => (Met::Ample, queue),
-        Err(
-            QueueFault {
-                line,
-                cause: Cause::Memory,
-            },
-        ) => {
-            must(3 <= line && line <= 5, Wrong::Answer)?;
-            match read_queue(alloc, THREE) {
-                Ok(queue) => (Met::Memory, queue),
-                Err(_) => return Err(Wrong::Answer),
-            }
-        }
-        Err(_) => return Err(Wrong::Answer),
-    };
-    must(queue.handles.len() == 3 && queue.limit == 7, Wrong::Answer)?;
-    Ok(met)
+/// The rows of texts and blocks, by their names.
+pub fn row(rt: &impl Files<File = File>, alloc: Global, name: &str) -> Option<Met> {
+    let cert = read_cert(alloc, CERTIFICATE.as_bytes(), 3).ok()?;
+    let mut texts = Vec::new(alloc);
+    texts.push(THREE.to_vec(alloc).ok()?).ok()?;
+    texts.push(THREE.to_vec(alloc).ok()?).ok()?;
+    tried(rt, || is_read(alloc, name, &cert, texts.pop()))
 }
 
-/// Reads a text's lines, and each handle from them.
-fn handles_read(alloc: Global, text: Vec<u8>) -> Result<usize, QueueFault> {
-    let queue = read_lines(alloc, text)?;
-    read_each(alloc, &queue)
+/// Whether the call of this name reads or writes what it must.
+fn is_read(alloc: Global, name: &str, cert: &Cert, text: Option<Vec<u8>>) -> Result<bool, Memory> {
+    match name {
+        "read_queue" => is_queue(alloc),
+        "read_lines" => match text {
+            Some(text) => is_of_eight(alloc, text),
+            None => Ok(false),
+        },
+        "read_cert" => is_cert(alloc, cert),
+        "print_cert" => Ok(&*print_cert(alloc, cert)? == CERTIFICATE),
+        "read_tags" => is_of_zeros(alloc),
+        "read_revokes" => is_of_five(alloc),
+        _ => Ok(false),
+    }
+}
+
+/// Memory ran out, where a text has no fault before the line that is named.
+fn ran_out(fault: QueueFault) -> Result<bool, Memory> {
+    match fault.cause {
+        Cause::Memory if 3 <= fault.line && fault.line <= 5 => Err(Memory),
+        _ => Ok(false),
+    }
+}
+
+/// Whether a text has the three handles.
+fn is_queue(alloc: Global) -> Result<bool, Memory> {
+    match read_queue(alloc, THREE) {
+        Ok(queue) => Ok(queue.handles.len() == 3 && queue.limit == 7),
+        Err(fault) => ran_out(fault),
+    }
+}
+
+/// Whether a text that is read without its handles, and its handles then, have eight words.
+fn is_of_eight(alloc: Global, text: Vec<u8>) -> Result<bool, Memory> {
+    match read_lines(alloc, text) {
+        Ok(queue) => Ok(words_of(alloc, &queue)? == 8),
+        Err(fault) => ran_out(fault),
+    }
 }
 
 /// How many words the handles of a text have, read one after the other.
-fn read_each(alloc: Global, queue: &QueueLines) -> Result<usize, QueueFault> {
+fn words_of(alloc: Global, queue: &QueueLines) -> Result<usize, Memory> {
     let mut reader = queue.reader();
     let mut words = 0usize;
     for _handle in 0..queue.len() {
-        match reader.read(alloc, 0) {
-            Ok(Some(handle)) => words = words.saturating_add(handle.len()),
-            Ok(None) => return Ok(words),
-            Err(_) => return Err(OUT),
+        match reader.read(alloc, 0)? {
+            Some(handle) => words = words.saturating_add(handle.len()),
+            None => return Ok(words),
         }
     }
     Ok(words)
 }
 
-/// A text that is read without its handles, and its handles then; what ran out of memory is read again.
-pub fn read_lines_row(rt: &HostRuntime) -> Result<Met, Wrong> {
-    let alloc = rt.alloc();
-    let (Ok(text), Ok(again)) = (THREE.to_vec(alloc), THREE.to_vec(alloc)) else {
-        return Err(Wrong::Inputs);
-    };
-    refusing(rt);
-    let first = handles_read(alloc, text);
-    ample(rt);
-    let (met, words) = match first {
-        Ok(words) => (Met::Ample, words),
-        Err(
-            QueueFault {
-                line,
-                cause: Cause::Memory,
-            },
-        ) => {
-            must(3 <= line && line <= 5, Wrong::Answer)?;
-            match handles_read(alloc, again) {
-                Ok(words) => (Met::Memory, words),
-                Err(_) => return Err(Wrong::Answer),
-            }
-        }
-        Err(_) => return Err(Wrong::Answer),
-    };
-    must(words == 8, Wrong::Answer)?;
-    Ok(met)
+/// Whether a certificate is read as it was before.
+fn is_cert(alloc: Global, cert: &Cert) -> Result<bool, Memory> {
+    match read_cert(alloc, CERTIFICATE.as_bytes(), 3) {
+        Ok(again) => Ok(again == *cert),
+        Err(CertFault::Memory) => Err(Memory),
+        Err(_) => Ok(false),
+    }
 }
 
-/// A certificate that is read, as it is printed again.
-pub fn read_cert_row(rt: &HostRuntime) -> Result<Met, Wrong> {
-    let alloc = rt.alloc();
-    refusing(rt);
-    let first = read_cert(alloc, CERTIFICATE.as_bytes(), 3);
-    ample(rt);
-    let (met, cert) = match first {
-        Ok(cert) => (Met::Ample, cert),
-        Err(CertFault::Memory) => match read_cert(alloc, CERTIFICATE.as_bytes(), 3) {
-            Ok(cert) => (Met::Memory, cert),
-            Err(_) => return Err(Wrong::Answer),
-        },
-        Err(_) => return Err(Wrong::Answer),
-    };
-    must(&*print_cert(alloc, &cert)? == CERTIFICATE, Wrong::Answer)?;
-    Ok(met)
-}
-
-/// A certificate that is printed.
-pub fn print_cert_row(rt: &HostRuntime) -> Result<Met, Wrong> {
-    let alloc = rt.alloc();
-    let Ok(cert) = read_cert(alloc, CERTIFICATE.as_bytes(), 3) else {
-        return Err(Wrong::Inputs);
-    };
-    refusing(rt);
-    let first = print_cert(alloc, &cert);
-    ample(rt);
-    let (met, text) = match first {
-        Ok(text) => (Met::Ample, text),
-        Err(_) => (Met::Memory, print_cert(alloc, &cert)?),
-    };
-    must(&*text == CERTIFICATE, Wrong::Answer)?;
-    Ok(met)
-}
-
-/// The tags of a block of zeros.
-pub fn read_tags_row(rt: &HostRuntime) -> Result<Met, Wrong> {
-    let alloc = rt.alloc();
-    let block = [0u8; 1024];
-    refusing(rt);
-    let first = read_tags(alloc, &block, Width::Narrow);
-    ample(rt);
-    let (met, tags) = match first {
-        Ok(tags) => (Met::Ample, tags),
-        Err(_) => (Met::Memory, read_tags(alloc, &block, Width::Narrow)?),
-    };
+/// Whether the tags of a block of zeros are those of home block 0.
+fn is_of_zeros(alloc: Global) -> Result<bool, Memory> {
+    let tags = read_tags(alloc, &[0; 1024], Width::Narrow)?;
     let of_block_0 = tags.iter().all(|tag| tag.home == 0 && tag.flags == 0);
-    must(tags.len() == 42 && of_block_0, Wrong::Answer)?;
-    Ok(met)
+    Ok(tags.len() == 42 && of_block_0)
 }
 
-/// A revoke block of five homes, the numbers of which are 0.
-pub fn read_revokes_row(rt: &HostRuntime) -> Result<Met, Wrong> {
-    let alloc = rt.alloc();
+/// Whether a revoke block has five homes, the numbers of which are 0.
+fn is_of_five(alloc: Global) -> Result<bool, Memory> {
     let mut block = [0u8; 1024];
     put32(&mut block, 12, 36);
-    refusing(rt);
-    let first = read_revokes(alloc, &block, Width::Narrow);
-    ample(rt);
-    let (met, homes) = match first {
-        Ok(homes) => (Met::Ample, homes),
-        Err(RevokeFault::Memory) => match read_revokes(alloc, &block, Width::Narrow) {
-            Ok(homes) => (Met::Memory, homes),
-            Err(_) => return Err(Wrong::Answer),
-        },
-        Err(_) => return Err(Wrong::Answer),
-    };
-    must(
-        homes.as_slice() == [0, 0, 0, 0, 0].as_slice(),
-        Wrong::Answer,
-    )?;
-    Ok(met)
+    match read_revokes(alloc, &block, Width::Narrow) {
+        Ok(homes) => Ok(homes.as_slice() == [0; 5].as_slice()),
+        Err(RevokeFault::Memory) => Err(Memory),
+        Err(_) => Ok(false),
+    }
 }

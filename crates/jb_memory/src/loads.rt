@@ -1,12 +1,13 @@
 //! A load, whose workers and committer are threads.
 
-use crate::desks::{CLOCK, formatted};
+use crate::desks::CLOCK;
+use crate::journals::formatted;
+use crate::met::{Met, ample, must, refusing};
 use jb_deck::OpenFault;
 use jb_desk::Ended;
 use jb_disk::{Disk, FixedClock};
 use jb_load::{HandleFault, LoadFault, LoadOptions, Loaded, load_on};
 use jb_queue::{QueueLines, read_lines};
-use jb_refusing::{Met, Wrong, ample, must, refusing};
 use std::alloc::Global;
 use std::fs::File;
 use std::marker::Brand;
@@ -50,51 +51,43 @@ fn is_all(loaded: &Loaded) -> bool {
 
 /// How a load met refused memory. One allocation is refused, so where a handle ran out of it nothing else did, and the
 /// others are settled.
-fn met_by(answer: &Result<Loaded, LoadFault>) -> Result<Met, Wrong> {
-    match answer {
-        Ok(loaded) => match (loaded.refused, loaded.commit) {
-            (None, Ended::Shut(_)) => {
-                must(is_all(loaded), Wrong::Answer)?;
-                Ok(Met::Ample)
-            }
-            (None, Ended::Memory) => {
-                must(loaded.handles == 3 && loaded.settled == 0, Wrong::Stands)?;
-                Ok(Met::Memory)
-            }
-            (None, Ended::Aborted) => {
-                must(loaded.handles == 3 && loaded.settled == 0, Wrong::Stands)?;
-                Ok(Met::Fault)
-            }
-            (Some(refused), Ended::Shut(_)) => {
-                must(refused.fault == HandleFault::Memory, Wrong::Answer)?;
-                must(loaded.settled == loaded.handles, Wrong::Stands)?;
-                Ok(Met::Memory)
-            }
-            _ => Err(Wrong::Answer),
-        },
-        Err(LoadFault::Memory | LoadFault::Open(OpenFault::Memory)) => Ok(Met::Memory),
-        Err(LoadFault::Open(OpenFault::DeviceFault)) => Ok(Met::Fault),
-        Err(_) => Err(Wrong::Answer),
-    }
+fn met_by(answer: &Result<Loaded, LoadFault>) -> Option<Met> {
+    let loaded = match answer {
+        Ok(loaded) => loaded,
+        Err(LoadFault::Memory | LoadFault::Open(OpenFault::Memory)) => return Some(Met::Memory),
+        Err(LoadFault::Open(OpenFault::DeviceFault)) => return Some(Met::Fault),
+        Err(_) => return None,
+    };
+    let is_none = loaded.handles == 3 && loaded.settled == 0;
+    let (met, is_so) = match (loaded.refused, loaded.commit) {
+        (None, Ended::Shut(_)) => (Met::Ample, is_all(loaded)),
+        (None, Ended::Memory) => (Met::Memory, is_none),
+        (None, Ended::Aborted) => (Met::Fault, is_none),
+        (Some(refused), Ended::Shut(_)) => {
+            let is_settled = loaded.settled == loaded.handles;
+            (
+                Met::Memory,
+                is_settled && refused.fault == HandleFault::Memory,
+            )
+        }
+        _ => return None,
+    };
+    must(is_so)?;
+    Some(met)
 }
 
 /// A load that ran out of memory is made again, into another journal, as the first one is lost with its disk.
-pub fn load_row<R: Files<File = File> + AllocGlobal + Threads + Wait + Clock + Sync>(
+pub fn load_row<R: Files<File = File> + Threads + Wait + Clock + Sync>(
     rt: &R,
-) -> Result<Met, Wrong> {
-    let alloc = rt.alloc();
-    let Ok(text) = TEXT.to_vec(alloc) else {
-        return Err(Wrong::Inputs);
-    };
-    let Ok(queue) = read_lines(alloc, text) else {
-        return Err(Wrong::Inputs);
-    };
+    alloc: Global,
+) -> Option<Met> {
+    let queue = read_lines(alloc, TEXT.to_vec(alloc).ok()?).ok()?;
     let disk = formatted(alloc)?;
     refusing(rt);
     let first = load(rt, alloc, disk, &queue);
     ample(rt);
     let met = met_by(&first)?;
     let again = load(rt, alloc, formatted(alloc)?, &queue);
-    must(met_by(&again)? == Met::Ample, Wrong::Answer)?;
-    Ok(met)
+    must(met_by(&again)? == Met::Ample)?;
+    Some(met)
 }

@@ -1,7 +1,7 @@
 use Rattle.jb_book.specs.Origin.{unknown}
 use Rattle.jb_desk.specs.History.{history_in}
 use Rattle.jb_history.specs.History.{history_id}
-use Rattle.jb_memory_desk.proofs.rows.desk_row.Given as goal
+use Rattle.jb_memory.proofs.rows.desk_row.Given as goal
 
 abbrev pub ghosts-run_row-H-Ledger : goal.ghosts-run_row-H-Ledger
 ghosts-run_row-H-Ledger g a = record { name = a.handles.tickets.name; parts = a.handles.tickets.parts }

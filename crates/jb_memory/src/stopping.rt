@@ -6,9 +6,9 @@ ghost use Rattle.jb_handle.specs.Handle.{holder};
 ghost use Rattle.jb_handle.specs.Word.{WordMap};
 
 use crate::desks::{Small, sums, sums_with};
+use crate::met::{Met, ample, must, refusing};
 use jb_desk::{BeginFault, Left, Origin, Seat, StopFault};
 use jb_handle::Handle;
-use jb_refusing::{Met, Wrong, ample, must, refusing};
 use std::alloc::Global;
 use std::fs::File;
 use std::rt::Files;
@@ -40,16 +40,16 @@ pub fn written<R: Wait, H: Origin, N: Ledger>(
     }
 }
 
-/// Begins a handle and drops it: whether it is begun, and then as it was met.
+/// Begins a handle and drops it: how that was met.
 fn begun<R: Wait, H: Origin, N: Ledger>(
     rt: &R,
     desk: &Small<H, N>,
     seat: Seat<H, N>,
-    met: Met,
-) -> (Seat<H, N>, Result<Met, Wrong>) {
+) -> (Seat<H, N>, Option<Met>) {
     match desk.begin(rt, seat, 1) {
-        Ok(handle) => (desk.abandon(rt, handle), Ok(met)),
-        Err((seat, _)) => (seat, Err(Wrong::Answer)),
+        Ok(handle) => (desk.abandon(rt, handle), Some(Met::Ample)),
+        Err((seat, BeginFault::Memory)) => (seat, Some(Met::Memory)),
+        Err((seat, _)) => (seat, None),
     }
 }
 
@@ -58,104 +58,107 @@ pub fn begin_row<R: Files<File = File> + Wait, H: Origin, N: Ledger>(
     rt: &R,
     alloc: Global,
     desk: Small<H, N>,
-) -> Result<Met, Wrong>
+) -> Option<Met>
     requires parts { (H.parts ≡ 2 ^ 61 + 1) × (N.parts ≡ 2 ^ 61 + 1) }
 {
     let Ok(seat) = desk.seat(rt) else {
-        return Err(Wrong::Inputs);
+        return None;
     };
     refusing(rt);
-    let first = desk.begin(rt, seat, 1);
+    let (seat, met) = begun(rt, &desk, seat);
     ample(rt);
-    let (seat, met) = match first {
-        Ok(handle) => begun(rt, &desk, desk.abandon(rt, handle), Met::Ample),
-        Err((seat, BeginFault::Memory)) => begun(rt, &desk, seat, Met::Memory),
-        Err((seat, _)) => (seat, Err(Wrong::Answer)),
-    };
-    must(sums(rt, alloc, desk, seat)? == (0, 0, 0, 0), Wrong::Stands)?;
+    let (seat, again) = begun(rt, &desk, seat);
+    must(sums(rt, alloc, desk, seat)? == (0, 0, 0, 0))?;
+    must(again == Some(Met::Ample))?;
     met
 }
 
 /// What the stop of a handle came to.
 #[derive(Clone, Copy, PartialEq, Eq)]
-pub struct Stop {
+pub struct Came {
     /// Its ticket, where it stopped.
-    ticket: Option<u64>,
-    /// The first call answered that memory ran out.
-    ran_out: bool,
+    pub ticket: Option<u64>,
+    /// How the first call was met.
+    pub met: Met,
 }
 
-/// A handle is stopped; where memory ran out, once more.
+/// A stop that is refused for another reason.
+const REFUSED: Came = Came {
+    ticket: None,
+    met: Met::Ample,
+};
+
+/// A stop with this ticket.
+fn stop_at(ticket: u64, met: Met) -> Came {
+    let ticket = Some(ticket);
+    Came { ticket, met }
+}
+
+/// A handle for which memory ran out is stopped once more.
 fn stop_again<R: Wait, H: Origin, N: Ledger>(
     rt: &R,
     desk: &Small<H, N>,
     handle: Handle<Seat<H, N>>,
-    ran_out: bool,
-) -> (Seat<H, N>, Stop)
+) -> (Seat<H, N>, Came)
     requires any { (words : WordMap) → H.begun.stops words }
     requires desk { desk_of (holder handle) ≡ desk_id desk.now }
     ensures { desk_of result.0 ≡ desk_id desk.now }
 {
-    let (seat, ticket) = match desk.stop(rt, &mut desk.sights(rt), handle) {
-        Ok((seat, ticket)) => (seat, Some(ticket)),
-        Err(StopFault::Aborted(seat)) => (seat, None),
-        Err(StopFault::NotOpen(handle)) => (desk.abandon(rt, handle), None),
-        Err(StopFault::Memory(handle)) => (desk.abandon(rt, handle), None),
-    };
-    (seat, Stop { ticket, ran_out })
+    match desk.stop(rt, &mut desk.sights(rt), handle) {
+        Ok((seat, ticket)) => (seat, stop_at(ticket, Met::Memory)),
+        Err(StopFault::Aborted(seat)) => (seat, REFUSED),
+        Err(StopFault::NotOpen(handle)) => (desk.abandon(rt, handle), REFUSED),
+        Err(StopFault::Memory(handle)) => (desk.abandon(rt, handle), REFUSED),
+    }
 }
 
-/// Stops a handle where memory may be refused, and once more where it was.
+/// Stops a handle, and once more where memory ran out.
+pub fn stop<R: Wait, H: Origin, N: Ledger>(
+    rt: &R,
+    desk: &Small<H, N>,
+    handle: Handle<Seat<H, N>>,
+) -> (Seat<H, N>, Came)
+    requires any { (words : WordMap) → H.begun.stops words }
+    requires desk { desk_of (holder handle) ≡ desk_id desk.now }
+    ensures { desk_of result.0 ≡ desk_id desk.now }
+{
+    match desk.stop(rt, &mut desk.sights(rt), handle) {
+        Ok((seat, ticket)) => (seat, stop_at(ticket, Met::Ample)),
+        Err(StopFault::Memory(handle)) => stop_again(rt, desk, handle),
+        Err(StopFault::Aborted(seat)) => (seat, REFUSED),
+        Err(StopFault::NotOpen(handle)) => (desk.abandon(rt, handle), REFUSED),
+    }
+}
+
+/// A handle that ran out of memory stops when it is asked again.
 pub fn stop_row<R: Files<File = File> + Wait, H: Origin, N: Ledger>(
     rt: &R,
     alloc: Global,
     desk: Small<H, N>,
-) -> Result<Met, Wrong>
+) -> Option<Met>
     requires any { (words : WordMap) → H.begun.stops words }
     requires parts { (H.parts ≡ 2 ^ 61 + 1) × (N.parts ≡ 2 ^ 61 + 1) }
 {
     let Some(handle) = written(rt, &desk, 1) else {
-        return Err(Wrong::Inputs);
+        return None;
     };
-    let mut seen = desk.sights(rt);
     refusing(rt);
-    let first = desk.stop(rt, &mut seen, handle);
+    let (seat, stop) = stop(rt, &desk, handle);
     ample(rt);
-    let (seat, stop) = match first {
-        Ok((seat, ticket)) => (
-            seat,
-            Stop {
-                ticket: Some(ticket),
-                ran_out: false,
-            },
-        ),
-        Err(StopFault::Memory(handle)) => stop_again(rt, &desk, handle, true),
-        Err(StopFault::Aborted(seat)) => (seat, REFUSED),
-        Err(StopFault::NotOpen(handle)) => (desk.abandon(rt, handle), REFUSED),
-    };
     let found = sums(rt, alloc, desk, seat)?;
-    must(stop.ticket == Some(0), Wrong::Answer)?;
-    must(found == (1, 1, 0, 0), Wrong::Stands)?;
-    Ok(met_by(stop.ran_out))
+    must(stop.ticket == Some(0) && found == (1, 1, 0, 0))?;
+    Some(stop.met)
 }
 
-/// A stop that is refused for another reason.
-const REFUSED: Stop = Stop {
-    ticket: None,
-    ran_out: false,
-};
+/// What a thread left that stopped a handle.
+type Ended<H, N> = Option<(Left<H, N>, Came)>;
 
-/// How a row met refused memory.
-fn met_by(ran_out: bool) -> Met {
-    if ran_out { Met::Memory } else { Met::Ample }
-}
-
-/// Stops the handle at a place, and once more where memory ran out; its seat leaves.
+/// Stops the handle at a place; its seat leaves.
 fn stop_from<R: Wait, H: Origin, N: Ledger>(
     rt: &R,
     desk: &Small<H, N>,
     place: &mut Option<Handle<Seat<H, N>>>,
-) -> Option<(Left<H, N>, Stop)>
+) -> Ended<H, N>
     requires any { (words : WordMap) → H.begun.stops words }
     requires desk { IfSome place.old (λ handle. desk_of (holder handle) ≡ desk_id desk.now) }
     ensures { place.new ≡ None }
@@ -163,23 +166,9 @@ fn stop_from<R: Wait, H: Origin, N: Ledger>(
     let Some(handle) = place.take() else {
         return None;
     };
-    let (seat, stop) = match desk.stop(rt, &mut desk.sights(rt), handle) {
-        Ok((seat, ticket)) => (
-            seat,
-            Stop {
-                ticket: Some(ticket),
-                ran_out: false,
-            },
-        ),
-        Err(StopFault::Memory(handle)) => stop_again(rt, desk, handle, true),
-        Err(StopFault::Aborted(seat)) => (seat, REFUSED),
-        Err(StopFault::NotOpen(handle)) => (desk.abandon(rt, handle), REFUSED),
-    };
+    let (seat, stop) = stop(rt, desk, handle);
     Some((desk.leave(rt, seat), stop))
 }
-
-/// What a thread left that stopped a handle.
-type Ended<H, N> = Option<(Left<H, N>, Stop)>;
 
 /// Two threads stop a handle each.
 fn stop_both<R: Threads + Wait + Sync, H: Origin + Send + Sync, N: Ledger + Send + Sync>(
@@ -215,33 +204,32 @@ pub fn stop_beside_stop_row<
     R: Files<File = File> + Threads + Wait + Sync,
     H: Origin + Send + Sync,
     N: Ledger + Send + Sync,
->(rt: &R, alloc: Global, desk: Small<H, N>) -> Result<Met, Wrong>
+>(rt: &R, alloc: Global, desk: Small<H, N>) -> Option<Met>
     requires any { (words : WordMap) → H.begun.stops words }
     requires parts { (H.parts ≡ 2 ^ 61 + 1) × (N.parts ≡ 2 ^ 61 + 1) }
 {
     let Some(one) = written(rt, &desk, 1) else {
-        return Err(Wrong::Inputs);
+        return None;
     };
     let Some(other) = written(rt, &desk, 2) else {
         let seat = desk.abandon(rt, one);
         let _left = desk.leave(rt, seat);
-        return Err(Wrong::Inputs);
+        return None;
     };
     refusing(rt);
     let (first, second) = stop_both(rt, &desk, one, other);
     ample(rt);
     let (Some((one, first)), Some((other, second))) = (first, second) else {
-        return Err(Wrong::Answer);
+        return None;
     };
     let mut lefts = Vec::new(alloc);
-    lefts.reserve(1)?;
+    lefts.reserve(1).ok()?;
     lefts.push_reserved(one);
     let found = sums_with(rt, alloc, desk, lefts, other)?;
-    let tickets = (first.ticket, second.ticket);
-    must(
-        tickets == (Some(0), Some(1)) || tickets == (Some(1), Some(0)),
-        Wrong::Answer,
-    )?;
-    must(found == (2, 2, 0, 0), Wrong::Stands)?;
-    Ok(met_by(first.ran_out || second.ran_out))
+    must(found == (2, 2, 0, 0))?;
+    match (first.ticket, second.ticket) {
+        (Some(0), Some(1)) | (Some(1), Some(0)) if first.met == Met::Ample => Some(second.met),
+        (Some(0), Some(1)) | (Some(1), Some(0)) => Some(first.met),
+        _ => None,
+    }
 }

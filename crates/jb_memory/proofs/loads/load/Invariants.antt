@@ -3,7 +3,7 @@ use Rattle.jb_book.specs.Origin.{own_on}
 use Rattle.jb_history.specs.Place.{nowhere}
 use Rattle.jb_load.specs.Settled.{IsOfQueue}
 use Rattle.jb_queue.specs.QueueLines.{handles_of}
-use Rattle.jb_memory_desk.proofs.loads.load.Given as goal
+use Rattle.jb_memory.proofs.loads.load.Given as goal
 
 abbrev pub ghosts-load_on-H-Origin : goal.ghosts-load_on-H-Origin
 ghosts-load_on-H-Origin g a = record {
