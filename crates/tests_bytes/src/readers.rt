@@ -1,7 +1,9 @@
 //! Readers that stop early, give little at a time, or fail.
 
 use crate::checks::By;
-use crate::journals::{BLOCKS, REVOKE_AND_COPY_TEXT, by_hand, check_dump, front};
+use crate::journals::{
+    BLOCKS, REVOKE_AND_COPY_TEXT, WRAPPED, WRAPPED_TEXT, by_hand, check_dump, front,
+};
 use jb_dump::{DumpFault, dump};
 use jb_super::SuperFault;
 use std::alloc::Global;
@@ -58,15 +60,21 @@ impl<'a> Read for Halting<'a> {
     }
 }
 
-/// How many calls of 700 bytes a journal takes: the superblock two, and each of the two runs of 16 blocks after it
-/// 24.
-const CALLS: usize = 2 + 2 * 24;
+/// The words of journals made by hand, their texts, and how many calls of 700 bytes they take: the superblock two, and
+/// the 32 blocks after it 47 where they are one run, or 43 and 5 where the log begins at the thirtieth of them.
+static READ: [(&str, &str, usize); 2] = [
+    ("", REVOKE_AND_COPY_TEXT, 2 + 47),
+    (WRAPPED, WRAPPED_TEXT, 2 + 43 + 5),
+];
 
-/// Checks a dump of a journal and one byte after it, which stays unread, from a reader of so many bytes a call.
+/// Checks a dump of a journal and one byte after it, which stays unread, from a reader of so many bytes a call: it
+/// gives the text, unless one of the so many calls fails that the journal takes.
 fn check_halting(
     test: &impl Test,
     alloc: Global,
     journal: &[u8],
+    wanted: &str,
+    calls: usize,
     most: usize,
     fails_after: Option<usize>,
 ) {
@@ -78,13 +86,13 @@ fn check_halting(
     };
     let mut text = Vec::new(alloc);
     let answer = dump(alloc, &mut halting, &mut text);
-    if fails_after.is_some_and(|calls| calls < CALLS) {
+    if fails_after.is_some_and(|after| after < calls) {
         let is_fault = answer == Err(DumpFault::ReadFault);
         check_at(test, is_fault, "what fails after", step);
         check_at(test, text.is_empty(), "what is written before", step)
     } else {
         check_at(test, answer.is_ok(), "what a reader answers after", step);
-        let is_text = text.as_slice() == REVOKE_AND_COPY_TEXT.as_bytes();
+        let is_text = text.as_slice() == wanted.as_bytes();
         check_at(test, is_text, "what is written after", step);
         let is_left = halting.rest == [77].as_slice();
         check_at(test, is_left, "what is left after", step)
@@ -95,12 +103,19 @@ fn check_halting(
 /// and never fails, and ones that stop early.
 fn check_readers(test: &impl Test, alloc: Global) {
     check_cut(test, alloc);
-    let mut journal = by_hand(test, alloc, "");
-    journal.push(77).must(test, "memory");
-    for step in 0..CALLS + 2 {
-        check_halting(test, alloc, &journal, 700, Some(step))
+    for (words, wanted, calls) in &READ {
+        check_calls(test, alloc, words, wanted, *calls)
     }
-    check_halting(test, alloc, &journal, 1, None)
+}
+
+/// The same of one journal, but for those that stop early.
+fn check_calls(test: &impl Test, alloc: Global, words: &str, wanted: &str, calls: usize) {
+    let mut journal = by_hand(test, alloc, words);
+    journal.push(77).must(test, "memory");
+    for step in 0..calls + 2 {
+        check_halting(test, alloc, &journal, wanted, calls, 700, Some(step))
+    }
+    check_halting(test, alloc, &journal, wanted, calls, 1, None)
 }
 
 #[test]
