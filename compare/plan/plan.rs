@@ -175,13 +175,14 @@ impl Touches {
         Span { from: low, copies, frees, least }
     }
 
-    fn span(&mut self, end: usize) -> Option<Span> {
-        if !end.is_multiple_of(SPAN) {
+    // The span of the handle before `low`, where it ends at most at `until`.
+    fn span(&mut self, low: usize, until: usize) -> Option<Span> {
+        let place = (low - 1) / SPAN;
+        if place >= until / SPAN {
             return None;
         }
-        let place = end / SPAN - 1;
         if self.spans[place].is_none() {
-            self.spans[place] = Some(self.counted(end));
+            self.spans[place] = Some(self.counted((place + 1) * SPAN));
         }
         self.spans[place]
     }
@@ -191,13 +192,16 @@ impl Touches {
         let mut best: Option<Found> = None;
         let mut tally = Tally::none(self.t, self.r);
         let mut low = self.owned.len();
+        // The handles from `low` up to this one are idle.
+        let mut until = low;
         while low > 0 {
-            if let Some(span) = self.span(low) {
+            if let Some(span) = self.span(low, until) {
                 let sum = tally.plus(span.copies, span.frees);
                 if sum.names_as(tally) && sum.cost() <= limit {
                     let cost = tally.cost();
                     best = better(best, span.least.map(|f| Found { cost: f.cost + cost, ..f }));
                     tally = sum;
+                    until = (low - 1) / SPAN * SPAN;
                     low = span.from;
                     continue;
                 }
@@ -213,6 +217,7 @@ impl Touches {
             let found = |least: Priced| Found { from: least.from, price: least.price, cost };
             best = better(best, stretch.least.map(found));
             low = stretch.from;
+            until = start;
         }
         best.map(|found| (found.from, found.sum()))
     }

@@ -38,6 +38,7 @@ LOADS = {
     "halves": (2047, 60000, lambda n: [f"w{2 * i} r{2 * i + 1}" for i in range(n)]),
     "eighth": (MOST, 16000, lambda n: idle(n, 7)),
     "sparse": (MOST, 16000, lambda n: [f"w{i}" if i % 8 == 0 else "" for i in range(n)]),
+    "second": (MOST, 16000, lambda n: [f"w{i}" if i % 8 == 1 else "" for i in range(n)]),
     "fresh_eighth": (2047, 60000, lambda n: idle(n, 7)),
     "twos": (MOST, 16000, lambda n: [f"w{i // 2}" for i in range(n)]),
     "shifted": (MOST, 16000, lambda n: [f"w{(i + 1) // 2}" for i in range(n)]),

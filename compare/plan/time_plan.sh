@@ -33,7 +33,7 @@ one() {
     jb_check=$(taken "$work/said" "$jb" check "$work/queue" "$work/cert")
     echo "$name: $(stat -c %s "$work/queue") bytes, rust $rust, plan $jb_plan, check $jb_check, $(cat "$work/said")"
 }
-for load in seven sixty wide freed inodes new fresh halves eighth fresh_eighth sparse twos shifted; do
+for load in seven sixty wide freed inodes new fresh halves eighth fresh_eighth sparse second twos shifted; do
     one "$load" "$load"
 done
 for mib in 2 4 8 15; do

@@ -6,11 +6,25 @@ use Rattle.jb_cost.specs.declared.owned.Owned.{Owned}
 use Rattle.jb_cost.specs.declared.found.Found.{Found}
 use Rattle.jb_cost.specs.declared.span.Span.{Span}
 use Rattle.jb_cost.specs.declared.tally.Tally.{Tally}
+use Rattle.jb_cost.specs.declared.best_start.Walk.{Walk}
 use Rattle.jb_cost.specs.Cost.{blocks_of}
 use Rattle.jb_cost.specs.Owned.{owned_from, copies_of, frees_of, owned_cost}
-use Rattle.jb_cost.specs.Starts.{BestStart, dearer_by, better_of}
+use Rattle.jb_cost.specs.Search.{IsWalk}
+use Rattle.jb_cost.specs.Starts.{BestStart, AreIdle, dearer_by, better_of}
 use Rattle.jb_cost.specs.Spans.{IsSpan, IsBestOf}
 use Rattle.jb_cost.proofs.Spans.{span-copies, span-frees, span-best}
+use Rattle.jb_cost.proofs.Walking.{idle-copies, idle-frees}
+
+-- a span may end after low, where the handles between the two are idle
+module _ (os : List Owned) (w : Walk) (is : IsWalk os w) (end : ℕ) (after : w.low ≤ end) (within : end ≤ w.until) where
+  until-idle : AreIdle os w.low end
+  until-idle j above below = is.idle j above (omega (arith, within, below))
+
+  pub until-copies : owned_from copies_of os w.low ≡ owned_from copies_of os end
+  until-copies = idle-copies os w.low end after (omega (arith, within, is.order.1)) until-idle
+
+  pub until-frees : owned_from frees_of os w.low ≡ owned_from frees_of os end
+  until-frees = idle-frees os w.low end after (omega (arith, within, is.order.1)) until-idle
 
 module _ (os : List Owned) (walk sum : Tally) (low : ℕ) (s : Span) (is : IsSpan os low s) (copies : walk.copies.entries ≡ owned_from copies_of os low) (frees : walk.frees.entries ≡ owned_from frees_of os low)
     (geometry : sum.geometry ≡ walk.geometry) (copied : sum.copies.entries ≡ walk.copies.entries + s.copies) (freed : sum.frees.entries ≡ walk.frees.entries + s.frees) where

@@ -4,13 +4,15 @@ use Rattle.jb_cost.specs.declared.geometry.Geometry.{Geometry}
 use Rattle.jb_cost.specs.declared.owned.Owned.{Owned}
 use Rattle.jb_cost.specs.declared.best_start.Walk.{Walk}
 use Rattle.jb_cost.specs.Owned.{owned_from, copies_of, frees_of, owned_cost}
-use Rattle.jb_cost.specs.Starts.{BestStart}
+use Rattle.jb_cost.specs.Starts.{BestStart, AreIdle}
 
--- the sums are those of the handles from low on
+-- the sums are those of the handles from low on, of which the first ones, up to until, are idle
 pub record IsWalk (os : List Owned) (w : Walk) : Type 0 where
   pub copies : w.tally.copies.entries ≡ owned_from copies_of os w.low
   pub frees : w.tally.frees.entries ≡ owned_from frees_of os w.low
   pub within : w.low ≤ length os
+  pub order : (w.low ≤ w.until) × (w.until ≤ length os)
+  pub idle : AreIdle os w.low w.until
 
 -- a search has gone on to an earlier handle
 pub record Goes (os : List Owned) (w next : Walk) : Type 0 where

@@ -8,7 +8,7 @@ use crate::found::Found;
 use crate::geometry::Geometry;
 use crate::owned::Owned;
 use crate::shortcuts::Shortcuts;
-use crate::span::span_end;
+use crate::span::{SPAN, span_end};
 use crate::tally::Tally;
 
 /// A search as far as it has come: what the handles from `low` on take as one group, and the best of
@@ -17,6 +17,8 @@ use crate::tally::Tally;
 pub(crate) struct Walk {
     tally: Tally,
     low: usize,
+    /// The handles from `low` up to this one are idle.
+    until: usize,
     best: Option<Found>,
 }
 
@@ -39,6 +41,7 @@ pub(crate) fn best_start(
     let mut walk = Walk {
         tally: Tally::none(geometry),
         low: owned.len(),
+        until: owned.len(),
         best: None,
     };
     while walk.low > 0 {
@@ -69,9 +72,9 @@ fn further(walk: Walk, owned: &[Owned], shortcuts: &mut Shortcuts, limit: u32) -
     over_stretch(walk, owned, shortcuts, limit)
 }
 
-/// The search beyond the span of the handle before it, where those of the span that it has looked at are
-/// idle, the groups from all of its starts are within the limit, and each of these has as many descriptors
-/// and revoke blocks as the group so far.
+/// The search beyond the span of the handle before it, where those of the span that it has gone over are idle,
+/// the groups from all of its starts are within the limit, and each of these has as many descriptors and
+/// revoke blocks as the group so far.
 fn over_span(walk: Walk, owned: &[Owned], shortcuts: &mut Shortcuts, limit: u32) -> Option<Walk>
     requires few { owned_from copies_of owned.now 0 + owned_from frees_of owned.now 0 ≤ 2 ^ 62 }
     requires fit { FitOwned owned.now shortcuts.old }
@@ -83,7 +86,7 @@ fn over_span(walk: Walk, owned: &[Owned], shortcuts: &mut Shortcuts, limit: u32)
         × (BestSoFar walk.tally.geometry owned.now limit ps walk →
         IfSome result (BestSoFar walk.tally.geometry owned.now limit ps)) }
 {
-    let Some(end) = span_end(owned, walk.low) else {
+    let Some(end) = span_end(walk.low, walk.until) else {
         return None
     };
     let span = shortcuts.span(owned, end);
@@ -101,6 +104,7 @@ fn over_span(walk: Walk, owned: &[Owned], shortcuts: &mut Shortcuts, limit: u32)
     Some(Walk {
         tally,
         low: span.from,
+        until: end - SPAN,
         best: Found::better(walk.best, earlier),
     })
 }
@@ -128,6 +132,7 @@ fn over_stretch(walk: Walk, owned: &[Owned], shortcuts: &mut Shortcuts, limit: u
     Some(Walk {
         tally,
         low: stretch.from,
+        until: start,
         best: Found::better(walk.best, Found::of(stretch.least, cost)),
     })
 }

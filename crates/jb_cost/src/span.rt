@@ -1,6 +1,5 @@
 ghost use Rattle.std.specs.Prelude.{◌≡◌, ◌≢◌, ℕ, ◌+◌, ◌/◌, ◌%◌, ◌<◌, ◌≤◌, length, Some, IfSome};
 ghost use Rattle.jb_cost.specs.declared.span.Span.{Span as SpanValue};
-ghost use Rattle.jb_cost.specs.Starts.{AreIdle};
 ghost use Rattle.jb_cost.specs.Spans.{span_at};
 
 use crate::found::Found;
@@ -36,26 +35,18 @@ impl Span {
     }
 }
 
-/// The end of the span of the handle before `low`, where those of its handles from `low` on are idle: a
-/// search that has come to `low` can go over it, and counts no home twice. Where the handle before `low` is the
-/// first of its span, the answer is `None`: the stretch that ends with it goes as far in less time.
-pub(crate) fn span_end(owned: &[Owned], low: usize) -> Option<usize>
-    requires inside { (0 < low) × (low ≤ length owned.now) }
+/// The end of the span of the handle before `low`, if it is at most `until`. A search that has come to `low`
+/// can go over the whole span, and counts no home twice, where the handles from `low` up to `until` are idle.
+pub(crate) fn span_end(low: usize, until: usize) -> Option<usize>
+    requires order { (0 < low) × (low ≤ until) }
     ensures end { IfSome result (λ end. (end % 8 ≡ 0) × (end < low + 8)) }
-    ensures inside { IfSome result (λ end. (low ≤ end) × (end ≤ length owned.now)) }
-    ensures idle { IfSome result (λ end. AreIdle owned.now low end) }
+    ensures inside { IfSome result (λ end. (low ≤ end) × (end ≤ until)) }
 {
-    if low % SPAN == 1 {
+    let place = (low - 1) / SPAN;
+    if place >= until / SPAN {
         return None;
     }
-    let mut end = low;
-    while end % SPAN != 0 {
-        if end == owned.len() || !owned[end].is_idle() {
-            return None;
-        }
-        end += 1;
-    }
-    Some(end)
+    Some((place + 1) * SPAN)
 }
 
 /// Forgets the span with a handle, if there is one.

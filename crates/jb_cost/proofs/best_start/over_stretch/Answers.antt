@@ -30,6 +30,8 @@ returns-clause-next c =
         copies = stretch-copies c.args.walk.tally.geometry c.args.owned.now c.args.walk.low _ _ is.within is.copies is.frees c.requires.walk.1 _ _ c.plus-tally.ensures.copies c.plus-tally.ensures.frees stretch.result.from stretch.ensures.back stretch.ensures.idle;
         frees = stretch-frees c.args.walk.tally.geometry c.args.owned.now c.args.walk.low _ _ is.within is.copies is.frees c.requires.walk.1 _ _ c.plus-tally.ensures.copies c.plus-tally.ensures.frees stretch.result.from stretch.ensures.back stretch.ensures.idle;
         within = omega (arith, stretch.ensures.back, is.within);
+        order = (omega (arith, stretch.ensures.back), omega (arith, is.within));
+        idle = stretch.ensures.idle;
       };
       earlier = omega (arith, stretch.ensures.back, c.requires.walk.1);
       geometry = c.plus-tally.ensures.geometry;
