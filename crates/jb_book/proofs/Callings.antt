@@ -1,152 +1,30 @@
 -- Any list of calls of a book is a list of events of the machine, and keeps each handle whole in one group or in none.
-use Rattle.std.proofs.Common.{◌≡◌, ◌⊎◌, inl, inr, ℕ, ◌≤◌, Bool, true, false, List, [], ◌∷◌, ◌++◌, map, length, take, drop, Option, Some, None, sym, refl, ap, subst, ◌∙◌, Ok, Err, arith}
-use Rattle.std.proofs.lemmas.List.{length-append, append_assoc, append-nil, map-append}
+use Rattle.std.proofs.Common.{◌≡◌, ℕ, ◌≤◌, Bool, true, false, List, [], ◌∷◌, ◌++◌, map, length, take, drop, sym, refl, ap, subst, ◌∙◌, Ok, Err, arith}
+use Rattle.std.proofs.lemmas.List.{append-nil, map-append}
 use Rattle.std.specs.Global.{Vec}
 use Rattle.jb_handle.specs.declared.shape.Shape.{Shape}
 use Rattle.jb_handle.specs.declared.stopped.Stopped.{Stopped}
-use Rattle.jb_handle.specs.Tickets.{TicketsFrom}
-use Rattle.jb_handle.specs.Word.{WordMap}
-use Rattle.jb_handle.proofs.Tickets.{tickets-append}
 use Rattle.jb_cost.specs.Pieces.{joined, pieces}
 use Rattle.jb_batch.specs.Batch.{gathered}
 use Rattle.jb_deck.specs.declared.done.Entry.{Entry}
-use Rattle.jb_deck.specs.Done.{start_of}
 use Rattle.jb_core.specs.declared.event.Event.TheVariants as event
-use Rattle.jb_core.specs.declared.event.Reply.TheVariants.{Plain, Ticket}
-use Rattle.jb_core.specs.Lives.{Log, settled_now, handles_of, stop_order}
-use Rattle.jb_core.specs.Machine.{Machine, after}
+use Rattle.jb_core.specs.declared.event.Reply.TheVariants.{Plain}
+use Rattle.jb_core.specs.Machine.{after}
 use Rattle.jb_core.proofs.Runs.{sounds}
 use Rattle.jb_core.proofs.Wholes.{whole}
-use Rattle.jb_book.specs.Account.{Account, IsSound, IsStart, granted_to, dropped_of, queued, taken_all, settled_to, failed_of, refusal, CanStop, CanTake, Settles}
+use Rattle.jb_book.specs.Account.{Account, IsStart, taken_all, settled_to, failed_of, CanTake, Settles}
 use Rattle.jb_book.specs.Calls.{Call, Opened, Enqueued, Dropped, Took, TookNone, Settled, Failed, Shut, stops_of, out_of, settled_of, AreOfFirst, IsCutOf, Does, Called, handles_in, KeepsWhole}
-use Rattle.jb_book.specs.Shadow.{Shadow, credits_at}
-use Rattle.jb_book.specs.Tied.{Tied, touches_of, EveryRun}
-use Rattle.jb_book.proofs.Accounts.{begun-sound, dropped-sound, queued-sound, taken-sound, settled-sound, failed-sound, shut-sound}
-use Rattle.jb_book.proofs.Ties.{tied-starts, tied-opens, tied-stops, tied-drops, tied-drops-none, tied-takes, tied-settles, tied-settles-none, tied-fails, tied-fails-again, tied-shuts}
-use Rattle.jb_book.proofs.Grouped.{started, more-stops, groups-in, cut-few, vec_of}
+use Rattle.jb_book.specs.Shadow.{Shadow}
+use Rattle.jb_book.specs.Tied.{EveryRun}
+use Rattle.jb_book.proofs.Accounts.{taken-sound, settled-sound, failed-sound}
+use Rattle.jb_book.proofs.SeatTies.{tied-starts}
+use Rattle.jb_book.proofs.Ties.{tied-takes, tied-settles, tied-settles-none, tied-fails, tied-fails-again}
+use Rattle.jb_book.proofs.Grouped.{started, groups-in, cut-few, vec_of}
+use Rattle.jb_book.proofs.Between.{Stands, call-dropped, call-idle, call-opened, call-shut, call-stopped, handles-all, settled-handles}
 
--- ---- what is known between two calls
-
--- the events, and how the calls tell the stops and the groups
-record Stands (shape : Shape) (calls : List Call) (a : Account) : Type 0 where
-  same_shape : a.shape ≡ shape
-  sound : IsSound a
-  log : Log
-  machine : Machine
-  tied : Tied a log machine
-  stops : handles_of (stop_order log) ≡ stops_of calls
-  settled : machine.settled ≡ settled_of calls
-  out : machine.taken ≡ out_of calls
-  numbered : TicketsFrom 0 (stops_of calls)
-  counted : length (stops_of calls) ≡ a.shadow.next
-  trail : settled_of calls ≡ map (handles_in (stops_of calls)) a.trail
-
--- while the machine is up, what it has of the life are its stops
-all-of : (a : Account) (log : Log) (m : Machine) → Tied a log m → a.aborted ≡ false → joined m.settled ++ (joined m.taken ++ a.shadow.queue) ≡ handles_of (stop_order log)
-all-of a log m t running =
-    let is = t.running running in
-    ap (λ n. joined (drop n m.settled) ++ (joined m.taken ++ a.shadow.queue)) (sym t.one_life)
-    ∙ ap (λ (s : Shadow). settled_now m ++ (joined m.taken ++ s.queue)) (sym is.shadow)
-    ∙ (whole a.shape log m t.ran).up is.up
+-- ---- batches and a failure
 
 module _ (shape : Shape) (calls : List Call) (a : Account) (s : Stands shape calls a) where
-  handles-all : a.aborted ≡ false → joined (settled_of calls) ++ (joined (out_of calls) ++ a.shadow.queue) ≡ stops_of calls
-  handles-all running =
-      ap (λ gs. joined gs ++ (joined (out_of calls) ++ a.shadow.queue)) (sym s.settled)
-      ∙ ap (λ gs. joined s.machine.settled ++ (joined gs ++ a.shadow.queue)) (sym s.out)
-      ∙ all-of a s.log s.machine s.tied running
-      ∙ s.stops
-
-  -- how many handles the settled groups have
-  settled-handles : a.aborted ≡ false → length (joined (settled_of calls)) ≡ a.shadow.settled
-  settled-handles running =
-      ap (λ gs. length (joined gs)) (sym s.settled)
-      ∙ ap (λ n. length (joined (drop n s.machine.settled))) (sym s.tied.one_life)
-      ∙ ap (λ (s : Shadow). s.settled) (s.tied.running running).shadow
-
-  few-stops : a.shadow.settled ≤ length (stops_of calls)
-  few-stops = let order = s.sound.order in let within = s.sound.within in let counted = s.counted in omega (arith, order, within, counted)
-
-  -- ---- each call
-
-  call-opened : (seat credits : ℕ) → refusal a seat credits ≡ None → Stands shape (Opened seat credits (Ok tt) ∷ calls) (granted_to seat credits a)
-  call-opened seat credits none = record {
-    same_shape = s.same_shape;
-    sound = begun-sound a s.sound seat credits none;
-    log = (event.Open seat credits, Ok Plain) ∷ s.log;
-    machine = after s.machine (event.Open seat credits);
-    tied = tied-opens a s.log s.machine s.tied s.sound seat credits none;
-    stops = s.stops;
-    settled = s.settled;
-    out = s.out;
-    numbered = s.numbered;
-    counted = s.counted;
-    trail = s.trail;
-  }
-
-  call-stopped : (seat : ℕ) (ws : WordMap) (ticket : ℕ) → CanStop a seat ws → ticket ≡ a.shadow.next → Stands shape (Enqueued seat ws (Ok ticket) ∷ calls) (queued seat ws a)
-  call-stopped seat ws ticket can is =
-      let (n, tied, settled, taken) = tied-stops a s.log s.machine s.tied seat ws can in
-      let one : Stopped = record { ticket = ticket; words = ws } in
-      let own : Stopped = record { ticket = a.shadow.next; words = ws } in
-      let counted = s.counted in
-      let longer = length-append (stops_of calls) (record { ticket = ticket; words = ws } ∷ []) in
-      let follow = s.sound.trail in
-      record {
-        same_shape = s.same_shape;
-        sound = queued-sound a s.sound seat can.1.0 ws can.0 can.1.1;
-        log = (event.Stop seat, Ok (Ticket a.shadow.next)) ∷ touches_of seat ws ++ s.log;
-        machine = n;
-        tied = tied;
-        stops =
-            sym (all-of (queued seat ws a) _ n tied can.0)
-            ∙ (λ i. joined (settled i) ++ (joined (taken i) ++ (a.shadow.queue ++ record { ticket = a.shadow.next; words = ws } ∷ [])))
-            ∙ ap (λ xs. joined s.machine.settled ++ xs) (sym (append_assoc (joined s.machine.taken) a.shadow.queue (record { ticket = a.shadow.next; words = ws } ∷ [])))
-            ∙ sym (append_assoc (joined s.machine.settled) (joined s.machine.taken ++ a.shadow.queue) (record { ticket = a.shadow.next; words = ws } ∷ []))
-            ∙ ap (λ xs. xs ++ record { ticket = a.shadow.next; words = ws } ∷ []) (all-of a s.log s.machine s.tied can.0 ∙ s.stops)
-            ∙ ap (λ k. stops_of calls ++ record { ticket = k; words = ws } ∷ []) (sym is);
-        settled = settled ∙ s.settled;
-        out = taken ∙ s.out;
-        numbered = tickets-append 0 (stops_of calls) (record { ticket = ticket; words = ws } ∷ []) s.numbered (omega (arith, is, counted), tt);
-        counted = omega (arith, longer, counted);
-        trail = s.trail ∙ sym (more-stops (start_of a.trail) 0 a.shadow.settled (stops_of calls) (record { ticket = ticket; words = ws } ∷ []) a.trail follow few-stops);
-      }
-
-  call-dropped : (seat : ℕ) → Stands shape (Dropped seat ∷ calls) (dropped_of seat a)
-  call-dropped seat = at a.aborted refl (credits_at a.shadow seat) refl
-    where
-      idle : (a.aborted ≡ true) ⊎ (credits_at a.shadow seat ≡ None) → Stands shape (Dropped seat ∷ calls) (dropped_of seat a)
-      idle why = record {
-        same_shape = s.same_shape;
-        sound = dropped-sound a s.sound seat;
-        log = s.log;
-        machine = s.machine;
-        tied = tied-drops-none a s.log s.machine s.tied seat why;
-        stops = s.stops;
-        settled = s.settled;
-        out = s.out;
-        numbered = s.numbered;
-        counted = s.counted;
-        trail = s.trail;
-      }
-
-      at : (b : Bool) → a.aborted ≡ b → (found : Option ℕ) → credits_at a.shadow seat ≡ found → Stands shape (Dropped seat ∷ calls) (dropped_of seat a)
-      at true fell found is = idle (inl fell)
-      at false running None is = idle (inr is)
-      at false running (Some credits) is = record {
-        same_shape = s.same_shape;
-        sound = dropped-sound a s.sound seat;
-        log = (event.Abandon seat, Ok Plain) ∷ s.log;
-        machine = after s.machine (event.Abandon seat);
-        tied = tied-drops a s.log s.machine s.tied running seat credits is;
-        stops = s.stops;
-        settled = s.settled;
-        out = s.out;
-        numbered = s.numbered;
-        counted = s.counted;
-        trail = s.trail;
-      }
-
   call-took : Vec Entry → (cut : List ℕ) → CanTake a → IsCutOf (gathered a.shadow.taken a.shadow.queue a.shape) cut → Stands shape (Took (gathered a.shadow.taken a.shadow.queue a.shape) cut ∷ calls) (taken_all a)
   call-took any cut can least =
       let few = cut-few (length a.shadow.queue) cut least.fitting.cut in
@@ -188,7 +66,7 @@ module _ (shape : Shape) (calls : List Call) (a : Account) (s : Stands shape cal
                 ∙ ap (map (handles_in (stops_of calls))) (sym (append-nil a.trail) ∙ ap (λ es. a.trail ++ es) (sym none));
           }
       at false running =
-          let new = groups-in a.shadow.settled _ past (joined (settled_of calls)) (out_of calls) a.shadow.queue entries (settled-handles running) is.follow are in
+          let new = groups-in a.shadow.settled _ past (joined (settled_of calls)) (out_of calls) a.shadow.queue entries (settled-handles shape calls a s running) is.follow are in
           record {
             same_shape = s.same_shape;
             sound = settled-sound a s.sound past entries is;
@@ -200,7 +78,7 @@ module _ (shape : Shape) (calls : List Call) (a : Account) (s : Stands shape cal
             out = ap (drop (length entries)) s.out;
             numbered = s.numbered;
             counted = s.counted;
-            trail = ap (λ gs. settled_of calls ++ gs) (new ∙ ap (λ stops. map (handles_in stops) entries) (handles-all running))
+            trail = ap (λ gs. settled_of calls ++ gs) (new ∙ ap (λ stops. map (handles_in stops) entries) (handles-all shape calls a s running))
                 ∙ ap (λ gs. gs ++ map (handles_in (stops_of calls)) entries) s.trail
                 ∙ sym (map-append (handles_in (stops_of calls)) a.trail entries);
           }
@@ -236,46 +114,15 @@ module _ (shape : Shape) (calls : List Call) (a : Account) (s : Stands shape cal
         trail = s.trail;
       }
 
-  -- a call that answers a refusal, or that only shuts the book
-  call-shut : Stands shape (Shut ∷ calls) (record a { shut = true })
-  call-shut = record {
-    same_shape = s.same_shape;
-    sound = shut-sound a s.sound;
-    log = s.log;
-    machine = s.machine;
-    tied = tied-shuts a s.log s.machine s.tied;
-    stops = s.stops;
-    settled = s.settled;
-    out = s.out;
-    numbered = s.numbered;
-    counted = s.counted;
-    trail = s.trail;
-  }
-
-  call-idle : (last : Call) → stops_of (last ∷ calls) ≡ stops_of calls → settled_of (last ∷ calls) ≡ settled_of calls → out_of (last ∷ calls) ≡ out_of calls → Stands shape (last ∷ calls) a
-  call-idle last same settled out = record {
-    same_shape = s.same_shape;
-    sound = s.sound;
-    log = s.log;
-    machine = s.machine;
-    tied = s.tied;
-    stops = s.stops ∙ sym same;
-    settled = s.settled ∙ sym settled;
-    out = s.out ∙ sym out;
-    numbered = subst (TicketsFrom 0) (sym same) s.numbered;
-    counted = ap length same ∙ s.counted;
-    trail = settled ∙ s.trail ∙ ap (λ stops. map (handles_in stops) a.trail) (sym same);
-  }
-
   -- ---- what is promised
 
   keeps-whole : KeepsWhole shape calls a
   keeps-whole =
       let (rest, first) = left a.aborted refl in
-      record { same_shape = s.same_shape; numbered = s.numbered; counted = s.counted; running = handles-all; rest = rest; first = first; trail = s.trail }
+      record { same_shape = s.same_shape; numbered = s.numbered; counted = s.counted; running = handles-all shape calls a s; rest = rest; first = first; trail = s.trail }
     where
       left : (b : Bool) → a.aborted ≡ b → (rest : List Stopped) × (joined (settled_of calls) ++ rest ≡ stops_of calls)
-      left false running = (joined (out_of calls) ++ a.shadow.queue, handles-all running)
+      left false running = (joined (out_of calls) ++ a.shadow.queue, handles-all shape calls a s running)
       left true fell =
           let (rest, is) = (whole a.shape s.log s.machine s.tied.ran).crashed (s.tied.failed fell).down in
           (rest, ap (λ gs. joined gs ++ rest) (sym s.settled) ∙ ap (λ n. joined (drop n s.machine.settled) ++ rest) (sym s.tied.one_life) ∙ is ∙ s.stops)

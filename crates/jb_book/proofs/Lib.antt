@@ -1,4 +1,5 @@
 pub mod Accounts
+pub mod Between
 pub mod Callings
 pub mod Cuts
 pub mod Follows
@@ -10,7 +11,9 @@ pub mod Leds
 pub mod Limits
 pub mod Marked
 pub mod Registers
+pub mod Remains
 pub mod SeatCredits
+pub mod SeatTies
 pub mod Shadows
 pub mod Telling
 pub mod Ties

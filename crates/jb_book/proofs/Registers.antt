@@ -25,7 +25,8 @@ use Rattle.jb_book.specs.Led.{AreCut, FailsAfter, IsInHistory, IsLed, IsOutAs, I
 use Rattle.jb_book.specs.Tied.{EveryRun}
 use Rattle.jb_book.proofs.Callings.{every_run}
 use Rattle.jb_book.proofs.Follows.{follow-past}
-use Rattle.jb_book.proofs.Leds.{any-led, led-dropped, led-failed, led-opened, led-settled, led-settled-last, led-shortened, led-shut, led-stopped, led-taken, led_start, recorded-more}
+use Rattle.jb_book.proofs.Leds.{any-led, led-dropped, led-failed, led-opened, led-settled, led-settled-last, led-shortened, led-shut, led-stopped, led-taken, led_start}
+use Rattle.jb_book.proofs.Remains.{recorded-more}
 
 -- ---- which groups are settled
 

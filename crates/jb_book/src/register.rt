@@ -1,18 +1,19 @@
 //! The book beside the history of its stops.
-ghost use Rattle.std.specs.Prelude.{◌≡◌, ℕ, ◌^◌, ◌≤◌, ◌↔◌, All, [], ◌++◌, ◌∷◌, length, IsTrue, None, true};
+ghost use Rattle.std.specs.Prelude.{◌≡◌, ℕ, ◌≤◌, All, [], length, None, true};
 ghost use Rattle.std.specs.Prelude.{OnOk, OnErr, IfOk, IfErr, IfSome, IfNone};
 ghost use Rattle.jb_handle.specs.Handle.{holder, changes_of};
 ghost use Rattle.jb_batch.specs.Batch.{gathered};
 ghost use Rattle.jb_batch.specs.Costs.{HasCut};
-ghost use Rattle.jb_deck.specs.Done.{Follow, entries_of, first_of, past_after, start_of};
+ghost use Rattle.jb_deck.specs.Done.{Follow, start_of};
 ghost use Rattle.jb_history.specs.Rule.{IsFirstPart};
 
+mod settling;
+
 use crate::book::Book;
-use crate::fault::{BeginFault, EnqueueFault, WrongBatch};
-use crate::follow::end_of;
+use crate::fault::{BeginFault, EnqueueFault};
 use crate::origin::{Marks, Origin};
 use crate::sights::{Histories, Sights};
-use jb_deck::{Batch, Deck, Done, Entry};
+use jb_deck::{Batch, Deck, Entry};
 use jb_disk::Disk;
 use jb_handle::{Handle, Shape, Words};
 use jb_history::{History, Made, Scribe, Sight};
@@ -47,9 +48,9 @@ impl<D: Disk, S: Origin> Model for Register<D, S> {
 impl<D: Disk, S: Origin> Register<D, S> {
     ghost use Rattle.jb_book.specs.Account.{IsStart, granted_to, dropped_of, taken_all, shortened};
     ghost use Rattle.jb_book.specs.Account.{failed_of, refusal, RefusesBegin, RefusesStop, CanTake};
-    ghost use Rattle.jb_book.specs.Led.{IsInHistory, IsLed, IsSettling, IsOutAs, SettlesOrFails};
-    ghost use Rattle.jb_book.specs.Led.{FailsAfter, IsMachineRun, Queues};
-    ghost use Rattle.jb_book.specs.Marks.{HasFailedMark, HasShapeMark, IsMarked, SeesMore, SeesSame, SeesStop};
+    ghost use Rattle.jb_book.specs.Led.{IsInHistory, IsLed};
+    ghost use Rattle.jb_book.specs.Led.{IsMachineRun, Queues};
+    ghost use Rattle.jb_book.specs.Marks.{HasFailedMark, HasShapeMark, IsMarked, SeesSame, SeesStop};
     ghost use Rattle.jb_book.specs.Origin.{AreStops};
 
     /// A book in which nothing has happened yet, for a journal of this shape with so many usable log blocks, as was seen
@@ -149,92 +150,6 @@ impl<D: Disk, S: Origin> Register<D, S> {
             Some(batch) => Some((batch, sight)),
             None => None,
         }
-    }
-
-    /// Settles the batch that is out, whole: a batch of this shape that ends at this ticket, whose handles were seen, and
-    /// its groups at a mark. Of any other batch the book fails.
-    ///
-    /// # Errors
-    ///
-    /// `WrongBatch` where it is not the batch that is out, or not all of it is committed. The book has failed then.
-    pub fn settle(
-        &mut self,
-        histories: &Histories<D, S>,
-        seen: &mut Sights<D, S>,
-        done: &Done,
-        end: u64,
-        shape: Shape,
-    ) -> Result<(), WrongBatch>
-        requires settling { IsSettling seen.old.stops end shape done.now }
-        requires marked { All (IsMarked seen.old.marks) (entries_of done.now) }
-        ensures settles { SettlesOrFails end shape done.now self.old.book result self.new.book }
-        ensures log { self.new.log ≡ self.old.log }
-        ensures kept { SeesSame seen.old seen.new }
-    {
-        // that the book is sound is known by looking at it
-        let _reserved = self.book.reserved();
-        look(&histories.stops, &mut self.scribe, &mut seen.stops);
-        histories.marks.learn(&mut self.seen, &mut seen.marks);
-        if !self.is_whole(done, end, shape) {
-            self.book.fail();
-            return Err(WrongBatch);
-        }
-        match self.book.settle(done) {
-            Ok(()) => Ok(()),
-            Err(wrong) => {
-                self.book.fail();
-                Err(wrong)
-            }
-        }
-    }
-
-    /// Settles what was committed of the batch that is out before the journal failed, as was seen at a mark, and fails
-    /// with it.
-    ///
-    /// # Errors
-    ///
-    /// `WrongBatch` where it is not the batch that is out. The book has failed without it then.
-    pub fn settle_last(
-        &mut self,
-        histories: &Histories<D, S>,
-        seen: &mut Sights<D, S>,
-        done: &Done,
-        end: u64,
-        shape: Shape,
-    ) -> Result<(), WrongBatch>
-        requires settling { IsSettling seen.old.stops end shape done.now }
-        requires marked { All (IsMarked seen.old.marks) (entries_of done.now) }
-        requires failed { HasFailedMark seen.old.marks }
-        ensures fails { FailsAfter end shape done.now self.old.book result self.new.book }
-        ensures log { self.new.log ≡ self.old.log }
-        ensures kept { SeesSame seen.old seen.new }
-    {
-        // that the book is sound is known by looking at it
-        let _reserved = self.book.reserved();
-        look(&histories.stops, &mut self.scribe, &mut seen.stops);
-        histories.marks.learn(&mut self.seen, &mut seen.marks);
-        if !self.is_out(done.first(), end, shape) {
-            self.book.fail();
-            return Err(WrongBatch);
-        }
-        let settled = self.book.settle(done);
-        self.book.fail();
-        settled
-    }
-
-    /// Whether the batch that is out has these tickets and this shape.
-    fn is_out(&self, first: u64, end: u64, shape: Shape) -> bool
-        ensures { IsTrue result ↔ IsOutAs self.now.book first end shape }
-    {
-        first == self.book.settled() && end == self.book.taken() && self.book.shape() == shape
-    }
-
-    /// Whether these are groups of the batch that is out, up to its end.
-    fn is_whole(&self, done: &Done, end: u64, shape: Shape) -> bool
-        ensures { IsTrue result ↔ (IsOutAs self.now.book (first_of done.now) end shape
-            × (past_after (first_of done.now) (entries_of done.now) ≡ end)) }
-    {
-        self.is_out(done.first(), end, shape) && end_of(done) == end
     }
 
     /// The journal has failed, as was seen at a mark: the queue and the batch that is out are lost.

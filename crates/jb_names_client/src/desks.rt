@@ -9,14 +9,14 @@ ghost use Rattle.jb_handle.specs.Handle.{holder};
 ghost use Rattle.jb_handle.specs.Word.{WordMap};
 
 use crate::checks::check;
+use crate::closings::{check_closed, ended, is_shut};
 use crate::recoveries::formatted;
 use jb_board::Front;
 use jb_deck::{Checked, Deck};
 use jb_desk::{
-    BeginFault, CloseFault, Closed, Committer, Desk, Ended, Left, Origin, Round, Seat, SeatFault,
-    StopFault, Stops, Ticket, WaitFault,
+    BeginFault, Closed, Committer, Desk, Origin, Round, Seat, StopFault, Stops, Ticket, WaitFault,
 };
-use jb_disk::{Disk, FixedClock, MemoryDisk};
+use jb_disk::{FixedClock, MemoryDisk};
 use jb_handle::Handle;
 use jb_history::Opened;
 use std::alloc::Global;
@@ -34,7 +34,7 @@ const CLOCK: FixedClock = FixedClock {
 };
 
 /// A desk over the small journal.
-type Small<H, N> = Desk<MemoryDisk, FixedClock, H, N>;
+pub type Small<H, N> = Desk<MemoryDisk, FixedClock, H, N>;
 
 /// A new ledger for the handles that will stop, and a new history of them.
 pub fn stops(rt: &impl Abort, alloc: Global) -> Stops
@@ -217,68 +217,6 @@ fn check_seen<R: Abort + Wait, H: Origin, N: Ledger>(
         desk.checkpoint_round(rt) == Ok(home),
         "checkpoint_round",
     );
-}
-
-/// The threads of a desk that is shut end.
-fn ended<R: Abort + Wait + Clock, H: Origin, N: Ledger>(
-    rt: &R,
-    desk: &Small<H, N>,
-    seat: Seat<H, N>,
-) -> Left<H, N>
-    requires desk { desk_of seat ≡ desk_id desk.now }
-{
-    desk.shut(rt);
-    let (committer, ended) = desk.run_committer(rt, desk.committer(seat));
-    check(rt, matches!(ended, Ended::Shut(_)), "run_committer");
-    let checked = desk.run_checkpointer(rt);
-    check(rt, matches!(checked, Ended::Shut(_)), "run_checkpointer");
-    desk.leave(rt, desk.give_up(rt, committer))
-}
-
-/// Whether a desk gives no seat.
-fn is_shut<R: Wait, H: Origin, N: Ledger>(rt: &R, desk: &Small<H, N>) -> bool {
-    match desk.seat(rt) {
-        Ok(seat) => {
-            let _left = desk.leave(rt, seat);
-            false
-        }
-        Err(fault) => fault == SeatFault::Closed,
-    }
-}
-
-/// A desk is closed, at first without what its seat left.
-fn check_closed<R: Abort + Wait, H: Origin, N: Ledger>(
-    rt: &R,
-    alloc: Global,
-    desk: Small<H, N>,
-    left: Left<H, N>,
-)
-    requires parts { (H.parts ≡ 2 ^ 61 + 1) × (N.parts ≡ 2 ^ 61 + 1) }
-{
-    let seen = desk.sights(rt);
-    match desk.close(Vec::new(alloc), seen) {
-        Err(CloseFault::SeatsOut(desk, mut lefts, seen)) => {
-            lefts.push(left).expect(rt, "memory");
-            let closed = desk.close(lefts, seen).ok().expect(rt, "close");
-            check_counts(rt, &closed)
-        }
-        _ => check(rt, false, "SeatsOut"),
-    }
-}
-
-/// What is left of a desk.
-fn check_counts(rt: &impl Abort, closed: &Closed<MemoryDisk, FixedClock>) {
-    check(
-        rt,
-        (closed.handles, closed.changes) == (1, 1),
-        "handles and changes",
-    );
-    check(
-        rt,
-        closed.trail.len() == 1 && closed.disk.blocks() == 49,
-        "trail and disk",
-    );
-    check(rt, closed.clock.stamp == crate::groups::STAMP, "clock");
 }
 
 /// One handle at a desk, from its start to its close.

@@ -11,6 +11,8 @@ mod books;
 #[cfg(test)]
 mod checks;
 #[cfg(test)]
+mod closings;
+#[cfg(test)]
 mod costs;
 #[cfg(test)]
 mod decks;

@@ -2,7 +2,9 @@ pub mod Begins
 pub mod Bounds
 pub mod Costed
 pub mod Firsts
+pub mod Givings
 pub mod Histories
+pub mod Lasting
 pub mod Marked
 pub mod Numbered
 pub mod Readings

@@ -8,6 +8,8 @@ mod checks;
 #[cfg(test)]
 mod costs;
 #[cfg(test)]
+mod faulty;
+#[cfg(test)]
 mod handles;
 #[cfg(test)]
 mod plain;

@@ -7,7 +7,8 @@ use Rattle.jb_works.specs.History.{IsStop}
 use Rattle.jb_works.specs.Marks.{Lasts}
 use Rattle.jb_works.specs.Since.{may_stop}
 use Rattle.jb_works.proofs.Histories.{stop-on}
-use Rattle.jb_works.proofs.Marked.{first-marks, marked-weaker}
+use Rattle.jb_works.proofs.Lasting.{first-marks}
+use Rattle.jb_works.proofs.Marked.{marked-weaker}
 use Rattle.jb_works.proofs.Shaped.{of-begun}
 use Rattle.jb_works.proofs.Sincing.{is-weaker}
 use Rattle.jb_works.proofs.Staying.{of-mark}

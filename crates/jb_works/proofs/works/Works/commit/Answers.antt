@@ -8,9 +8,10 @@ use Rattle.jb_book.proofs.Telling.{commit_tells}
 use Rattle.jb_works.specs.History.{IsStop}
 use Rattle.jb_works.specs.Marks.{IsMarkedOf, MarksSettled}
 use Rattle.jb_works.proofs.Histories.{all-stops, stop-on}
-use Rattle.jb_works.proofs.Marked.{commit-marked, marked-now, marked-weaker, marks-settled}
+use Rattle.jb_works.proofs.Lasting.{marked-now, marks-settled}
+use Rattle.jb_works.proofs.Marked.{commit-marked, marked-weaker}
 use Rattle.jb_works.proofs.Rounds.{commits-as}
-use Rattle.jb_works.proofs.Sincing.{commit-fails, commit-round}
+use Rattle.jb_works.proofs.Givings.{commit-fails, commit-round}
 use Rattle.jb_works.proofs.works.Works.commit.Goals as goal
 
 pub invariant_of-self : goal.invariant_of-self

@@ -1,5 +1,5 @@
 use Rattle.jb_works.specs.Marks.{Lasts}
-use Rattle.jb_works.proofs.Marked.{first-marks}
+use Rattle.jb_works.proofs.Lasting.{first-marks}
 use Rattle.jb_works.proofs.works.Works.end.Goals as goal
 
 pub returns-clause-since : goal.returns-clause-since

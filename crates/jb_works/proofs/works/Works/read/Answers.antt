@@ -9,7 +9,8 @@ use Rattle.jb_history.specs.Rule.{StandsIn, with_last}
 use Rattle.jb_works.specs.History.{IsStop}
 use Rattle.jb_works.specs.Marks.{IsMarkedOf}
 use Rattle.jb_works.proofs.Histories.{stop-on}
-use Rattle.jb_works.proofs.Marked.{marked-now, read-marked, settled-of}
+use Rattle.jb_works.proofs.Lasting.{marked-now, settled-of}
+use Rattle.jb_works.proofs.Marked.{read-marked}
 use Rattle.jb_works.proofs.Readings.{read-home}
 use Rattle.jb_works.proofs.works.Works.read.Goals as goal
 

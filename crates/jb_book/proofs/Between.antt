@@ -1,0 +1,176 @@
+-- What is known between two calls of a book, and what the calls of its seats keep of it.
+use Rattle.std.proofs.Common.{◌≡◌, ◌⊎◌, inl, inr, ℕ, ◌≤◌, Bool, true, false, List, [], ◌∷◌, ◌++◌, map, length, drop, Option, Some, None, sym, refl, ap, subst, ◌∙◌, Ok, arith}
+use Rattle.std.proofs.lemmas.List.{length-append, append_assoc}
+use Rattle.jb_handle.specs.declared.shape.Shape.{Shape}
+use Rattle.jb_handle.specs.declared.stopped.Stopped.{Stopped}
+use Rattle.jb_handle.specs.Tickets.{TicketsFrom}
+use Rattle.jb_handle.specs.Word.{WordMap}
+use Rattle.jb_handle.proofs.Tickets.{tickets-append}
+use Rattle.jb_cost.specs.Pieces.{joined}
+use Rattle.jb_deck.specs.Done.{start_of}
+use Rattle.jb_core.specs.declared.event.Event.TheVariants as event
+use Rattle.jb_core.specs.declared.event.Reply.TheVariants.{Plain, Ticket}
+use Rattle.jb_core.specs.Lives.{Log, settled_now, handles_of, stop_order}
+use Rattle.jb_core.specs.Machine.{Machine, after}
+use Rattle.jb_core.proofs.Wholes.{whole}
+use Rattle.jb_book.specs.Account.{Account, IsSound, granted_to, dropped_of, queued, refusal, CanStop}
+use Rattle.jb_book.specs.Calls.{Call, Opened, Enqueued, Dropped, Shut, stops_of, out_of, settled_of, handles_in}
+use Rattle.jb_book.specs.Shadow.{Shadow, credits_at}
+use Rattle.jb_book.specs.Tied.{Tied, touches_of}
+use Rattle.jb_book.proofs.Accounts.{begun-sound, dropped-sound, queued-sound, shut-sound}
+use Rattle.jb_book.proofs.SeatTies.{tied-opens, tied-stops, tied-drops, tied-drops-none}
+use Rattle.jb_book.proofs.Ties.{tied-shuts}
+use Rattle.jb_book.proofs.Grouped.{more-stops}
+
+-- ---- what is known between two calls
+
+-- the events, and how the calls tell the stops and the groups
+pub record Stands (shape : Shape) (calls : List Call) (a : Account) : Type 0 where
+  same_shape : a.shape ≡ shape
+  sound : IsSound a
+  log : Log
+  machine : Machine
+  tied : Tied a log machine
+  stops : handles_of (stop_order log) ≡ stops_of calls
+  settled : machine.settled ≡ settled_of calls
+  out : machine.taken ≡ out_of calls
+  numbered : TicketsFrom 0 (stops_of calls)
+  counted : length (stops_of calls) ≡ a.shadow.next
+  trail : settled_of calls ≡ map (handles_in (stops_of calls)) a.trail
+
+-- while the machine is up, what it has of the life are its stops
+all-of : (a : Account) (log : Log) (m : Machine) → Tied a log m → a.aborted ≡ false → joined m.settled ++ (joined m.taken ++ a.shadow.queue) ≡ handles_of (stop_order log)
+all-of a log m t running =
+    let is = t.running running in
+    ap (λ n. joined (drop n m.settled) ++ (joined m.taken ++ a.shadow.queue)) (sym t.one_life)
+    ∙ ap (λ (s : Shadow). settled_now m ++ (joined m.taken ++ s.queue)) (sym is.shadow)
+    ∙ (whole a.shape log m t.ran).up is.up
+
+module _ (shape : Shape) (calls : List Call) (a : Account) (s : Stands shape calls a) where
+  pub handles-all : a.aborted ≡ false → joined (settled_of calls) ++ (joined (out_of calls) ++ a.shadow.queue) ≡ stops_of calls
+  handles-all running =
+      ap (λ gs. joined gs ++ (joined (out_of calls) ++ a.shadow.queue)) (sym s.settled)
+      ∙ ap (λ gs. joined s.machine.settled ++ (joined gs ++ a.shadow.queue)) (sym s.out)
+      ∙ all-of a s.log s.machine s.tied running
+      ∙ s.stops
+
+  -- how many handles the settled groups have
+  pub settled-handles : a.aborted ≡ false → length (joined (settled_of calls)) ≡ a.shadow.settled
+  settled-handles running =
+      ap (λ gs. length (joined gs)) (sym s.settled)
+      ∙ ap (λ n. length (joined (drop n s.machine.settled))) (sym s.tied.one_life)
+      ∙ ap (λ (s : Shadow). s.settled) (s.tied.running running).shadow
+
+  few-stops : a.shadow.settled ≤ length (stops_of calls)
+  few-stops = let order = s.sound.order in let within = s.sound.within in let counted = s.counted in omega (arith, order, within, counted)
+
+  -- ---- each call
+
+  pub call-opened : (seat credits : ℕ) → refusal a seat credits ≡ None → Stands shape (Opened seat credits (Ok tt) ∷ calls) (granted_to seat credits a)
+  call-opened seat credits none = record {
+    same_shape = s.same_shape;
+    sound = begun-sound a s.sound seat credits none;
+    log = (event.Open seat credits, Ok Plain) ∷ s.log;
+    machine = after s.machine (event.Open seat credits);
+    tied = tied-opens a s.log s.machine s.tied s.sound seat credits none;
+    stops = s.stops;
+    settled = s.settled;
+    out = s.out;
+    numbered = s.numbered;
+    counted = s.counted;
+    trail = s.trail;
+  }
+
+  pub call-stopped : (seat : ℕ) (ws : WordMap) (ticket : ℕ) → CanStop a seat ws → ticket ≡ a.shadow.next → Stands shape (Enqueued seat ws (Ok ticket) ∷ calls) (queued seat ws a)
+  call-stopped seat ws ticket can is =
+      let (n, tied, settled, taken) = tied-stops a s.log s.machine s.tied seat ws can in
+      let one : Stopped = record { ticket = ticket; words = ws } in
+      let own : Stopped = record { ticket = a.shadow.next; words = ws } in
+      let counted = s.counted in
+      let longer = length-append (stops_of calls) (record { ticket = ticket; words = ws } ∷ []) in
+      let follow = s.sound.trail in
+      record {
+        same_shape = s.same_shape;
+        sound = queued-sound a s.sound seat can.1.0 ws can.0 can.1.1;
+        log = (event.Stop seat, Ok (Ticket a.shadow.next)) ∷ touches_of seat ws ++ s.log;
+        machine = n;
+        tied = tied;
+        stops =
+            sym (all-of (queued seat ws a) _ n tied can.0)
+            ∙ (λ i. joined (settled i) ++ (joined (taken i) ++ (a.shadow.queue ++ record { ticket = a.shadow.next; words = ws } ∷ [])))
+            ∙ ap (λ xs. joined s.machine.settled ++ xs) (sym (append_assoc (joined s.machine.taken) a.shadow.queue (record { ticket = a.shadow.next; words = ws } ∷ [])))
+            ∙ sym (append_assoc (joined s.machine.settled) (joined s.machine.taken ++ a.shadow.queue) (record { ticket = a.shadow.next; words = ws } ∷ []))
+            ∙ ap (λ xs. xs ++ record { ticket = a.shadow.next; words = ws } ∷ []) (all-of a s.log s.machine s.tied can.0 ∙ s.stops)
+            ∙ ap (λ k. stops_of calls ++ record { ticket = k; words = ws } ∷ []) (sym is);
+        settled = settled ∙ s.settled;
+        out = taken ∙ s.out;
+        numbered = tickets-append 0 (stops_of calls) (record { ticket = ticket; words = ws } ∷ []) s.numbered (omega (arith, is, counted), tt);
+        counted = omega (arith, longer, counted);
+        trail = s.trail ∙ sym (more-stops (start_of a.trail) 0 a.shadow.settled (stops_of calls) (record { ticket = ticket; words = ws } ∷ []) a.trail follow few-stops);
+      }
+
+  pub call-dropped : (seat : ℕ) → Stands shape (Dropped seat ∷ calls) (dropped_of seat a)
+  call-dropped seat = at a.aborted refl (credits_at a.shadow seat) refl
+    where
+      idle : (a.aborted ≡ true) ⊎ (credits_at a.shadow seat ≡ None) → Stands shape (Dropped seat ∷ calls) (dropped_of seat a)
+      idle why = record {
+        same_shape = s.same_shape;
+        sound = dropped-sound a s.sound seat;
+        log = s.log;
+        machine = s.machine;
+        tied = tied-drops-none a s.log s.machine s.tied seat why;
+        stops = s.stops;
+        settled = s.settled;
+        out = s.out;
+        numbered = s.numbered;
+        counted = s.counted;
+        trail = s.trail;
+      }
+
+      at : (b : Bool) → a.aborted ≡ b → (found : Option ℕ) → credits_at a.shadow seat ≡ found → Stands shape (Dropped seat ∷ calls) (dropped_of seat a)
+      at true fell found is = idle (inl fell)
+      at false running None is = idle (inr is)
+      at false running (Some credits) is = record {
+        same_shape = s.same_shape;
+        sound = dropped-sound a s.sound seat;
+        log = (event.Abandon seat, Ok Plain) ∷ s.log;
+        machine = after s.machine (event.Abandon seat);
+        tied = tied-drops a s.log s.machine s.tied running seat credits is;
+        stops = s.stops;
+        settled = s.settled;
+        out = s.out;
+        numbered = s.numbered;
+        counted = s.counted;
+        trail = s.trail;
+      }
+
+  -- a call that answers a refusal, or that only shuts the book
+  pub call-shut : Stands shape (Shut ∷ calls) (record a { shut = true })
+  call-shut = record {
+    same_shape = s.same_shape;
+    sound = shut-sound a s.sound;
+    log = s.log;
+    machine = s.machine;
+    tied = tied-shuts a s.log s.machine s.tied;
+    stops = s.stops;
+    settled = s.settled;
+    out = s.out;
+    numbered = s.numbered;
+    counted = s.counted;
+    trail = s.trail;
+  }
+
+  pub call-idle : (last : Call) → stops_of (last ∷ calls) ≡ stops_of calls → settled_of (last ∷ calls) ≡ settled_of calls → out_of (last ∷ calls) ≡ out_of calls → Stands shape (last ∷ calls) a
+  call-idle last same settled out = record {
+    same_shape = s.same_shape;
+    sound = s.sound;
+    log = s.log;
+    machine = s.machine;
+    tied = s.tied;
+    stops = s.stops ∙ sym same;
+    settled = s.settled ∙ sym settled;
+    out = s.out ∙ sym out;
+    numbered = subst (TicketsFrom 0) (sym same) s.numbered;
+    counted = ap length same ∙ s.counted;
+    trail = settled ∙ s.trail ∙ ap (λ stops. map (handles_in stops) a.trail) (sym same);
+  }

@@ -1,0 +1,123 @@
+-- Handles of one history, cuts of nothing, and what is left of a trail.
+use Rattle.std.proofs.Common.{◌≡◌, ℕ, zero, suc, ◌+◌, ◌<◌, ◌≤◌, Bool, true, false, List, [], ◌∷◌, ◌++◌, All, length, Some, slice_get, sym, refl, ap, ◌∙◌, subst, arith, append_assoc, nat_le, cond}
+use Rattle.std.proofs.lemmas.List.Elements.{All-cons, All-nil, All-push, All-weaker}
+use Rattle.jb_batch.specs.Batch.{gathered}
+use Rattle.jb_cost.specs.Cut.{RisesTo, IsCut}
+use Rattle.jb_cost.specs.Pieces.{pieces}
+use Rattle.jb_deck.specs.declared.done.Entry.{Entry}
+use Rattle.jb_deck.specs.Done.{least_after}
+use Rattle.jb_handle.specs.declared.shape.Shape.{Shape}
+use Rattle.jb_handle.specs.declared.stopped.Stopped.{Stopped}
+use Rattle.jb_handle.specs.Tickets.{TicketsFrom}
+use Rattle.jb_handle.specs.Word.{WordMap}
+use Rattle.jb_history.proofs.Placed.{get_last, placed_on}
+use Rattle.jb_book.specs.Account.{Account, trail_from}
+use Rattle.jb_book.specs.Calls.{IsCutOf}
+use Rattle.jb_book.specs.Led.{IsInHistory, IsRestOf, AreCut, HasOut}
+
+-- ---- handles of one history
+
+-- one more handle stops, at the end of the history
+pub recorded-more : (log : List WordMap) (queue : List Stopped) (ticket : ℕ) (words : WordMap) → All (IsInHistory log) queue → length log ≡ ticket
+    → All (IsInHistory (log ++ words ∷ [])) (queue ++ record { ticket = ticket; words = words } ∷ [])
+recorded-more log queue ticket words stand at =
+    let more = log ++ words ∷ [] in
+    All-push (IsInHistory more) queue (record { ticket = ticket; words = words })
+    (All-weaker (IsInHistory log) (IsInHistory more) (λ h is. placed_on log more (words ∷ [], refl) (h.ticket, h.words) is) queue stand)
+    (subst (λ k. IsInHistory more (record { ticket = k; words = words })) at (get_last log words))
+
+get-back : {E : Type 0} (xs ys : List E) (k : ℕ) (e : E) → k < length xs → slice_get (xs ++ ys) k ≡ Some e → slice_get xs k ≡ Some e
+get-back [] ys k e lt at = absurd (let h : ⊥ = omega (arith, lt) in h)
+get-back (x ∷ xs) ys zero e lt at = at
+get-back (x ∷ xs) ys (suc k) e lt at = get-back xs ys k e (omega (arith, lt)) at
+
+first-of-all : (P : Stopped → Type 0) (h : Stopped) (hs : List Stopped) → All P (h ∷ hs) → P h
+first-of-all P h hs each = each 0 h (omega arith)
+
+rest-of-all : (P : Stopped → Type 0) (h : Stopped) (hs : List Stopped) → All P (h ∷ hs) → All P hs
+rest-of-all P h hs each = λ k d lt. each (suc k) d (omega (arith, lt))
+
+-- handles whose tickets are below the history's end stand in it before the next one stops
+pub recorded-back : (log more : List WordMap) (n : ℕ) (hs : List Stopped) → TicketsFrom n hs → n + length hs ≤ length log → All (IsInHistory (log ++ more)) hs → All (IsInHistory log) hs
+recorded-back log more n [] tickets few each = All-nil (IsInHistory log)
+recorded-back log more n (h ∷ hs) tickets few each =
+    let at = tickets.0 in
+    All-cons (IsInHistory log) h hs (get-back log more h.ticket h.words (omega (arith, at, few)) (first-of-all (IsInHistory (log ++ more)) h hs each))
+    (recorded-back log more (n + 1) hs tickets.1 (omega (arith, few)) (rest-of-all (IsInHistory (log ++ more)) h hs each))
+
+-- as many handles of one history from one ticket on are the same
+pub same-out : (log : List WordMap) (n : ℕ) (xs ys : List Stopped) → TicketsFrom n xs → TicketsFrom n ys → All (IsInHistory log) xs → All (IsInHistory log) ys → length xs ≡ length ys → xs ≡ ys
+same-out log n [] [] tx ty ax ay long = refl
+same-out log n [] (y ∷ ys) tx ty ax ay long = absurd (let h : ⊥ = omega (arith, long) in h)
+same-out log n (x ∷ xs) [] tx ty ax ay long = absurd (let h : ⊥ = omega (arith, long) in h)
+same-out log n (x ∷ xs) (y ∷ ys) tx ty ax ay long =
+    let at : x.ticket ≡ y.ticket = tx.0 ∙ sym ty.0 in
+    let both : Some x.words ≡ Some y.words = sym (first-of-all (IsInHistory log) x xs ax) ∙ ap (slice_get log) at ∙ first-of-all (IsInHistory log) y ys ay in
+    let words : x.words ≡ y.words = cc in
+    let heads : x ≡ y = (λ i. record { ticket = at i; words = words i }) in
+    let tails = same-out log (n + 1) xs ys tx.1 ty.1 (rest-of-all (IsInHistory log) x xs ax) (rest-of-all (IsInHistory log) y ys ay) (omega (arith, long)) in
+    (λ i. heads i ∷ tails i)
+
+-- ---- cuts of nothing
+
+none-rise : (bs : List ℕ) → RisesTo 0 0 bs → bs ≡ []
+none-rise [] is = refl
+none-rise (b ∷ bs) is = absurd (none b bs is.0 is.1)
+  where
+    none : (b : ℕ) (bs : List ℕ) → 0 < b → RisesTo 0 b bs → ⊥
+    none b [] more is = omega (arith, more, is)
+    none b (c ∷ bs) more is = let up = is.0 in none c bs (omega (arith, more, up)) is.1
+
+pub none-pieces : (hs : List Stopped) (cut : List ℕ) → length hs ≡ 0 → IsCut (length hs) cut → pieces cut hs ≡ []
+none-pieces (h ∷ hs) cut none is = absurd (let h : ⊥ = omega (arith, none) in h)
+none-pieces [] [] none is = absurd is
+none-pieces [] (a ∷ bs) none is = ap (λ cs. pieces (a ∷ cs) []) (none-rise bs (subst (λ k. RisesTo 0 k bs) is.0 is.1))
+
+no-cut : (shape : Shape) (settled : ℕ) → IsCutOf (gathered settled [] shape) (0 ∷ [])
+no-cut shape settled = record {
+  fitting = record { cut = (refl, refl); fits = tt };
+  least = λ other fits. omega arith;
+}
+
+pub none-are : (log : List WordMap) (a : Account) → a.shadow.settled ≡ a.shadow.taken → AreCut log a [] (0 ∷ [])
+none-are log a free = (record { tickets = tt; recorded = All-nil (IsInHistory log); number = (let h : a.shadow.settled + 0 ≡ a.shadow.taken = omega (arith, free) in h) }, no-cut a.shape a.shadow.settled)
+
+pub none-out : (log : List WordMap) (a : Account) → a.shadow.settled ≡ a.shadow.taken → HasOut log a
+none-out log a free = record { handles = []; cut = 0 ∷ []; are = none-are log a free }
+
+-- ---- trails
+
+least-rest : (least : ℕ) (front : List Entry) (e : Entry) (left : List Entry) → least_after least (front ++ e ∷ left) ≡ least_after 0 (e ∷ left)
+least-rest least [] e left = refl
+least-rest least (f ∷ front) e left = least-rest (f.number + 1) front e left
+
+pub least-same : (left full : List Entry) → IsRestOf left full → least_after 0 left ≡ least_after 0 full
+least-same [] full rest = ap (least_after 0) (sym (rest.last refl))
+least-same (e ∷ left) full rest = sym (least-rest 0 rest.front e left) ∙ ap (least_after 0) rest.is
+
+both-none : (xs ys : List Entry) → xs ++ ys ≡ [] → (xs ≡ []) × (ys ≡ [])
+both-none [] ys none = (refl, none)
+both-none (x ∷ xs) ys none = absurd (let h : ⊥ = cc in h)
+
+pub rest-more : (left full es : List Entry) → IsRestOf left full → IsRestOf (left ++ es) (full ++ es)
+rest-more left full es rest = record {
+  front = rest.front;
+  is = sym (append_assoc rest.front left es) ∙ ap (λ l. l ++ es) rest.is;
+  last = λ none. let both = both-none left es none in ap (λ l. l ++ es) (rest.last both.0) ∙ both.1;
+}
+
+pub rest-from : (past : ℕ) (left : List Entry) → IsRestOf (trail_from past left) left
+rest-from past [] = record { front = []; is = refl; last = λ none. refl }
+rest-from past (e ∷ []) = record { front = []; is = refl; last = λ none. none }
+rest-from past (e ∷ f ∷ es) = at (nat_le e.past past) (rest-from past (f ∷ es))
+  where
+    at : (b : Bool) → IsRestOf (trail_from past (f ∷ es)) (f ∷ es) → IsRestOf (cond b (trail_from past (f ∷ es)) (e ∷ f ∷ es)) (e ∷ f ∷ es)
+    at true rest = record { front = e ∷ rest.front; is = ap (λ l. e ∷ l) rest.is; last = λ none. absurd (let is = rest.last none in let h : ⊥ = cc in h) }
+    at false rest = record { front = []; is = refl; last = λ none. none }
+
+pub rest-of-rest : (less left full : List Entry) → IsRestOf less left → IsRestOf left full → IsRestOf less full
+rest-of-rest less left full one two = record {
+  front = two.front ++ one.front;
+  is = append_assoc two.front one.front less ∙ ap (λ l. two.front ++ l) one.is ∙ two.is;
+  last = λ none. two.last (one.last none);
+}

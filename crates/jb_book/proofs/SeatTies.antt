@@ -1,0 +1,202 @@
+-- What a book accepts of its seats, the machine accepts, and the account after it is tied again.
+use Rattle.std.proofs.Common.{◌≡◌, ◌⊎◌, inl, inr, ℕ, ◌+◌, ◌^◌, ◌<◌, ◌≤◌, true, false, nat_lt, nat_le, [], ◌∷◌, ◌++◌, length, Some, None, All, IfSome, sym, refl, ap, subst, ◌∙◌, Ok, arith}
+use Rattle.std.proofs.lemmas.Bool.Decides.{nat_tests}
+use Rattle.std.proofs.lemmas.List.{length-map}
+use Rattle.std.proofs.lemmas.List.Elements.{All-nil}
+use Rattle.std.proofs.lemmas.Map.Views.{All-values-insert_entry, All-map-remove_entry, IfSome-lookup_from_All}
+use Rattle.std.specs.Int.{div_ceil}
+use Rattle.std.specs.Ordering.{nat_cmp}
+use Rattle.std.specs.BTreeMap.{is_at}
+use Rattle.std.specs.Map.{values_of}
+use Rattle.std.specs.FinMap as words
+use Rattle.jb_handle.specs.declared.shape.Shape.{Shape}
+use Rattle.jb_handle.specs.Held.{Held, held}
+use Rattle.jb_handle.specs.Word.{WordMap}
+use Rattle.jb_cost.specs.declared.geometry.Geometry.{Geometry}
+use Rattle.jb_cost.specs.Cost.{worst_cost_of}
+use Rattle.jb_cost.specs.Credits.{IsMost}
+use Rattle.jb_batch.specs.Costs.{geometry_of}
+use Rattle.jb_core.specs.declared.event.Event.TheVariants.{Open, Stop, Abandon}
+use Rattle.jb_core.specs.declared.event.Reply.TheVariants.{Plain, Ticket}
+use Rattle.jb_core.specs.Lives.{Log}
+use Rattle.jb_core.specs.Machine.{Machine, handle_at, held_at, reserved, is_full, refusal, after}
+use Rattle.jb_core.proofs.Accepted.{still-up, there-at}
+use Rattle.jb_core.proofs.Runs.{sounds}
+use Rattle.jb_core.proofs.Sounds.{granted-at}
+use Rattle.jb_book.specs.Account.{Account, IsSound as IsSoundBook, IsStart as IsStartBook, granted_to, dropped_of, queued, CanStop}
+use Rattle.jb_book.specs.Account as book
+use Rattle.jb_book.specs.Events.{granted_in, shadow_of}
+use Rattle.jb_book.specs.Shadow.{Shadow, credits_at, begun, dropped, stopped}
+use Rattle.jb_book.specs.Shadow as shadow
+use Rattle.jb_book.specs.Tied.{IsUntouched, HasHandle, Tied, TiedBy, touches_of}
+use Rattle.jb_book.proofs.Accounts.{passed}
+use Rattle.jb_book.proofs.Shadows.{shadowed, lookup-map}
+use Rattle.jb_book.proofs.Touching.{touched, words-all, entries-fit}
+use Rattle.jb_book.proofs.Limits.{limits, same-reserved, no-handle, some-handle, gone-none}
+
+-- ---- the start
+
+-- a machine that is up and has done nothing, with the limits of a book
+abbrev begun_as : Shape → Geometry → ℕ → Machine
+begun_as shape geometry most = record {
+  shape = shape;
+  geometry = geometry;
+  most = most;
+  up = true;
+  handles = [];
+  queue = [];
+  taken = [];
+  settled = [];
+  earlier = 0;
+  checkpointed = 0;
+  next = 0;
+  credits = [];
+}
+
+pub tied-starts : (shape : Shape) (usable : ℕ) (a : Account) → IsStartBook shape usable a → TiedBy a []
+tied-starts shape usable a start =
+    let m = begun_as a.shape (geometry_of a.shape) a.most in (
+      m,
+      record {
+        ran = record {
+          same_shape = refl;
+          tags = refl;
+          entries = refl;
+          most = subst (λ (s : Shape). IsMost (geometry_of s) s.limit a.most) (sym start.same_shape) start.most;
+          up = refl;
+          handles = refl;
+          queue = refl;
+          taken = refl;
+          settled = refl;
+          earlier = refl;
+          checkpointed = refl;
+          next = refl;
+          credits = refl;
+        };
+        accepted = tt;
+        one_life = refl;
+        untouched = All-nil IsUntouched;
+        filled = All-nil HasHandle;
+        running = λ up. record { up = refl; shadow = sym start.shadow };
+        failed = λ down. still-up a.aborted down start.aborted;
+      },
+    )
+
+-- ---- the calls
+
+module _ (a : Account) (log : Log) (m : Machine) (t : Tied a log m) where
+  module _ (running : a.aborted ≡ false) where
+    pub tied-up : m.up ≡ true
+    tied-up = (t.running running).up
+
+    pub tied-shadow : shadow_of m ≡ a.shadow
+    tied-shadow = (t.running running).shadow
+
+    none-at : (seat : ℕ) → credits_at a.shadow seat ≡ None → handle_at m seat ≡ None
+    none-at seat free = no-handle (handle_at m seat) (sym (lookup-map (is_at (nat_cmp seat)) m.handles) ∙ ap (λ s. credits_at s seat) tied-shadow ∙ free)
+
+    some-at : (seat credits : ℕ) → credits_at a.shadow seat ≡ Some credits → (h : Held) × (handle_at m seat ≡ Some h) × (h.credits ≡ credits)
+    some-at seat credits there = some-handle credits (handle_at m seat) (sym (lookup-map (is_at (nat_cmp seat)) m.handles) ∙ ap (λ s. credits_at s seat) tied-shadow ∙ there)
+
+    -- an open handle is untouched, and has the book's shape
+    open-at : (seat credits : ℕ) → credits_at a.shadow seat ≡ Some credits → handle_at m seat ≡ Some (held credits a.shape words.empty)
+    open-at seat credits there =
+        let (h, is, same) = some-at seat credits there in
+        let granted = granted-at m (sounds a.shape log m t.ran) seat h is in
+        let lim = limits a.shape log m t.ran in
+        let untouched : IsUntouched h = subst (λ found. IfSome found IsUntouched) is (IfSome-lookup_from_All IsUntouched (is_at (nat_cmp seat)) m.handles t.untouched) in
+        let shaped : h.shape ≡ a.shape = granted.same_shape ∙ lim.same_shape in
+        is ∙ ap Some (λ i. record { credits = same i; shape = shaped i; words = untouched i })
+
+  pub tied-opens : IsSoundBook a → (seat credits : ℕ) → book.refusal a seat credits ≡ None → Tied (granted_to seat credits a) ((Open seat credits, Ok Plain) ∷ log) (after m (Open seat credits))
+  tied-opens sound seat credits free_at =
+      let (running, shut, free, few, room, left, grants) = passed a seat credits free_at in
+      let lim = limits a.shape log m t.ran in
+      let own = sounds a.shape log m t.ran in
+      let up = tied-up running in
+      let same = tied-shadow running in
+      let none = none-at running seat free in
+      let costs : worst_cost_of m.geometry a.most ≤ m.shape.limit =
+      subst (λ (s : Shape). worst_cost_of m.geometry a.most ≤ s.limit) (sym lim.same_shape) (subst (λ n. 1 + a.most + div_ceil a.most n ≤ a.shape.limit) (sym lim.tags) sound.most.within) in
+      let most = own.most.greatest a.most costs in
+      let many : nat_lt m.most credits ≡ false = grind (arith, nat_tests) in
+      let small = sound.small in
+      let sums : reserved m ≡ shadow.reserved a.shadow = sym (same-reserved m) ∙ ap shadow.reserved same in
+      let over : nat_lt 2147483646 (reserved m + credits) ≡ false = (let le : reserved m + credits ≤ 2147483646 = omega (arith, sums, room, small) in grind (arith, nat_tests)) in
+      let seats : length m.handles ≡ length a.shadow.seats = sym (length-map m.handles granted_in) ∙ ap (λ (s : Shadow). length s.seats) same in
+      let next : m.next ≡ a.shadow.next = ap (λ (s : Shadow). s.next) same in
+      let late : nat_le (2 ^ 61) (m.next + length m.handles) ≡ false = (let lt : m.next + length m.handles < 2 ^ 61 = omega (arith, seats, next, left) in grind (arith, nat_tests)) in
+      let full : is_full m credits ≡ false = rw (over, late) refl in
+      let granted : refusal m (Open seat credits) ≡ None = rw (up, none, many, full) refl in
+      record {
+        ran = (m, t.ran, (granted, tt, refl, refl));
+        accepted = t.accepted;
+        one_life = t.one_life;
+        untouched = All-values-insert_entry nat_cmp seat (held credits m.shape words.empty) IsUntouched m.handles t.untouched refl;
+        filled = t.filled;
+        running = λ is. record { up = up; shadow = shadowed m own (Open seat credits) granted tt ∙ ap (begun seat credits) same };
+        failed = λ is. still-up a.aborted is running;
+      }
+
+  pub tied-drops : a.aborted ≡ false → (seat credits : ℕ) → credits_at a.shadow seat ≡ Some credits → Tied (dropped_of seat a) ((Abandon seat, Ok Plain) ∷ log) (after m (Abandon seat))
+  tied-drops running seat credits listed =
+      let up = tied-up running in
+      let there = (some-at running seat credits listed).1 in
+      let granted : refusal m (Abandon seat) ≡ None = rw (up, there) refl in
+      record {
+        ran = (m, t.ran, (granted, tt, refl, refl));
+        accepted = t.accepted;
+        one_life = t.one_life;
+        untouched = All-map-remove_entry (is_at (nat_cmp seat)) (λ (e : ℕ × Held). e.1) IsUntouched m.handles t.untouched;
+        filled = t.filled;
+        running = λ is. record { up = up; shadow = shadowed m (sounds a.shape log m t.ran) (Abandon seat) granted tt ∙ ap (dropped seat) (tied-shadow running) };
+        failed = λ is. still-up a.aborted is running;
+      }
+
+  pub tied-drops-none : (seat : ℕ) → (a.aborted ≡ true) ⊎ (credits_at a.shadow seat ≡ None) → Tied (dropped_of seat a) log m
+  tied-drops-none seat (inl fell) = record {
+    ran = t.ran;
+    accepted = t.accepted;
+    one_life = t.one_life;
+    untouched = t.untouched;
+    filled = t.filled;
+    running = λ is. still-up a.aborted fell is;
+    failed = λ is. record { down = (t.failed is).down; shadow = (t.failed is).shadow };
+  }
+  tied-drops-none seat (inr none) = record {
+    ran = t.ran;
+    accepted = t.accepted;
+    one_life = t.one_life;
+    untouched = t.untouched;
+    filled = t.filled;
+    running = λ is. record { up = (t.running is).up; shadow = (t.running is).shadow ∙ ap (λ es. let s : Shadow = record a.shadow { seats = es } in s) (sym (gone-none (is_at (nat_cmp seat)) a.shadow.seats none)) };
+    failed = λ is. record { down = (t.failed is).down; shadow = (t.failed is).shadow };
+  }
+
+  pub tied-stops : (seat : ℕ) (ws : WordMap) → CanStop a seat ws
+      → (n : Machine) × Tied (queued seat ws a) ((Stop seat, Ok (Ticket a.shadow.next)) ∷ touches_of seat ws ++ log) n × (n.settled ≡ m.settled) × (n.taken ≡ m.taken)
+  tied-stops seat ws can =
+      let running = can.0 in
+      let credits = can.1.0 in
+      let is = can.1.1 in
+      let within = is.within in
+      let size = words.len-entries ws in
+      let (n, u) = touched a.shape log m seat credits t.ran t.accepted (tied-up running) (open-at running seat credits is.listed) (words.entries ws) (omega (arith, within, size)) (entries-fit a.shape ws is.fits) in
+      let still : n.up ≡ true = ap (λ (k : Machine). k.up) u.same ∙ tied-up running in
+      let same : shadow_of n ≡ a.shadow = u.shadow ∙ tied-shadow running in
+      let granted : refusal n (Stop seat) ≡ None = rw (still, u.there) refl in
+      let has : (held_at n seat).words ≡ ws = ap (λ (h : Held). h.words) (there-at n seat _ u.there) ∙ words-all ws in
+      let ticket : a.shadow.next ≡ n.next = ap (λ (s : Shadow). s.next) (sym same) in (
+        after n (Stop seat),
+        record {
+          ran = (n, u.ran, (granted, tt, refl, ap Ticket ticket));
+          accepted = u.accepted;
+          one_life = ap (λ (k : Machine). k.earlier) u.same ∙ t.one_life;
+          untouched = subst (λ es. All IsUntouched (values_of es)) (sym u.rest) (All-map-remove_entry (is_at (nat_cmp seat)) (λ (e : ℕ × Held). e.1) IsUntouched m.handles t.untouched);
+          filled = subst (All HasHandle) (ap (λ (k : Machine). k.taken) (sym u.same)) t.filled;
+          running = λ on. record { up = still; shadow = shadowed n (sounds a.shape _ n u.ran) (Stop seat) granted tt ∙ (λ i. stopped seat (has i) (same i)) };
+          failed = λ fell. still-up a.aborted fell running;
+        },
+        ap (λ (k : Machine). k.settled) u.same,
+        ap (λ (k : Machine). k.taken) u.same,
+      )

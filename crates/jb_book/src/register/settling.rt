@@ -1,0 +1,103 @@
+//! The batch that is out is settled.
+ghost use Rattle.std.specs.Prelude.{◌≡◌, ◌↔◌, All, IsTrue};
+ghost use Rattle.jb_deck.specs.Done.{entries_of, first_of, past_after};
+
+use super::{Register, look};
+use crate::fault::WrongBatch;
+use crate::follow::end_of;
+use crate::origin::Origin;
+use crate::sights::{Histories, Sights};
+use jb_deck::Done;
+use jb_disk::Disk;
+use jb_handle::Shape;
+
+impl<D: Disk, S: Origin> Register<D, S> {
+    ghost use Rattle.jb_book.specs.Led.{FailsAfter, IsOutAs, IsSettling, SettlesOrFails};
+    ghost use Rattle.jb_book.specs.Marks.{HasFailedMark, IsMarked, SeesSame};
+
+    /// Settles the batch that is out, whole: a batch of this shape that ends at this ticket, whose handles were seen, and
+    /// its groups at a mark. Of any other batch the book fails.
+    ///
+    /// # Errors
+    ///
+    /// `WrongBatch` where it is not the batch that is out, or not all of it is committed. The book has failed then.
+    pub fn settle(
+        &mut self,
+        histories: &Histories<D, S>,
+        seen: &mut Sights<D, S>,
+        done: &Done,
+        end: u64,
+        shape: Shape,
+    ) -> Result<(), WrongBatch>
+        requires settling { IsSettling seen.old.stops end shape done.now }
+        requires marked { All (IsMarked seen.old.marks) (entries_of done.now) }
+        ensures settles { SettlesOrFails end shape done.now self.old.book result self.new.book }
+        ensures log { self.new.log ≡ self.old.log }
+        ensures kept { SeesSame seen.old seen.new }
+    {
+        // that the book is sound is known by looking at it
+        let _reserved = self.book.reserved();
+        look(&histories.stops, &mut self.scribe, &mut seen.stops);
+        histories.marks.learn(&mut self.seen, &mut seen.marks);
+        if !self.is_whole(done, end, shape) {
+            self.book.fail();
+            return Err(WrongBatch);
+        }
+        match self.book.settle(done) {
+            Ok(()) => Ok(()),
+            Err(wrong) => {
+                self.book.fail();
+                Err(wrong)
+            }
+        }
+    }
+
+    /// Settles what was committed of the batch that is out before the journal failed, as was seen at a mark, and fails
+    /// with it.
+    ///
+    /// # Errors
+    ///
+    /// `WrongBatch` where it is not the batch that is out. The book has failed without it then.
+    pub fn settle_last(
+        &mut self,
+        histories: &Histories<D, S>,
+        seen: &mut Sights<D, S>,
+        done: &Done,
+        end: u64,
+        shape: Shape,
+    ) -> Result<(), WrongBatch>
+        requires settling { IsSettling seen.old.stops end shape done.now }
+        requires marked { All (IsMarked seen.old.marks) (entries_of done.now) }
+        requires failed { HasFailedMark seen.old.marks }
+        ensures fails { FailsAfter end shape done.now self.old.book result self.new.book }
+        ensures log { self.new.log ≡ self.old.log }
+        ensures kept { SeesSame seen.old seen.new }
+    {
+        // that the book is sound is known by looking at it
+        let _reserved = self.book.reserved();
+        look(&histories.stops, &mut self.scribe, &mut seen.stops);
+        histories.marks.learn(&mut self.seen, &mut seen.marks);
+        if !self.is_out(done.first(), end, shape) {
+            self.book.fail();
+            return Err(WrongBatch);
+        }
+        let settled = self.book.settle(done);
+        self.book.fail();
+        settled
+    }
+
+    /// Whether the batch that is out has these tickets and this shape.
+    fn is_out(&self, first: u64, end: u64, shape: Shape) -> bool
+        ensures { IsTrue result ↔ IsOutAs self.now.book first end shape }
+    {
+        first == self.book.settled() && end == self.book.taken() && self.book.shape() == shape
+    }
+
+    /// Whether these are groups of the batch that is out, up to its end.
+    fn is_whole(&self, done: &Done, end: u64, shape: Shape) -> bool
+        ensures { IsTrue result ↔ (IsOutAs self.now.book (first_of done.now) end shape
+            × (past_after (first_of done.now) (entries_of done.now) ≡ end)) }
+    {
+        self.is_out(done.first(), end, shape) && end_of(done) == end
+    }
+}
