@@ -1,7 +1,7 @@
 //! Clean journals that are changed in their place, in files and on disks whose calls fail.
 
 use crate::checks::{check, check_at, check_text, fail};
-use crate::files::{Front, WHOLE, check_file, check_front, front_of, remove, write_front};
+use crate::files::{Front, WHOLE, check_file, front_of, remove, write};
 use crate::runs::{End, Host, check_run};
 use jb_block::{BlockSize, Width};
 use jb_disk::{MemoryDisk, OneFaultDisk};
@@ -39,105 +39,71 @@ static ROWS: [Row; 13] = [
 ];
 
 /// Makes a log bare of its three headed blocks, at the places 1, 2 and 4.
-fn bare(image: &mut [u8]) {
+fn bare(mut image: Vec<u8>) -> Vec<u8> {
     for (at, byte) in image.iter_mut().enumerate() {
         if matches!(at / 1024, 1 | 2 | 4) {
             *byte = 0;
         }
     }
+    image
 }
 
-/// Checks that the image is renumbered with this end, and that its log is then bare.
-fn check_renumber(rt: &impl Host, end: End, wanted: Front, row: usize) {
-    check_run(rt, &["renumber", "changed.img"], end, "renumber", row);
-    let mut bytes = front_of(rt, wanted);
-    bare(&mut bytes);
-    check_file(rt, "changed.img", &bytes, "renumber", row)
-}
-
-/// Checks that an image is renumbered, and then is so already.
-fn check_renumbered(rt: &impl Host, of: Front, row: usize) {
-    let (_, incompat, len) = of;
-    let wanted = ([0, 0], incompat, len);
-    write_front(rt, "changed.img", of);
-    check_renumber(rt, RENUMBERED, wanted, row);
-    check_renumber(rt, NONE_LEFT, wanted, row)
-}
-
-/// Checks the command that ends so, and leaves this front of the image.
-fn check_change(rt: &impl Host, command: &'static str, end: End, wanted: Front, row: usize) {
-    check_run(rt, &[command, "changed.img"], end, command, row);
-    check_front(rt, "changed.img", wanted, command, row)
-}
-
-/// Checks that an image is widened, and then is so already.
-fn check_widened(rt: &impl Host, of: Front, line: &'static str, row: usize) {
-    let (log, incompat, len) = of;
-    let wanted = (log, incompat | 2, len);
-    write_front(rt, "changed.img", of);
-    check_change(rt, "widen", (0, line, ""), wanted, row);
-    check_change(rt, "widen", (0, ALREADY, ""), wanted, row)
-}
-
-/// Checks that both commands refuse an image, and that it stays.
-fn check_refused(rt: &impl Host, of: Front, line: &'static str, row: usize) {
-    write_front(rt, "changed.img", of);
-    check_change(rt, "renumber", (1, "", line), of, row);
-    check_change(rt, "widen", (1, "", line), of, row)
+/// Checks a command on this front of the image: it ends so, and leaves these bytes; and then so, and they stay.
+fn check_change(rt: &impl Host, line: &str, of: Front, ends: [End; 2], wanted: &[u8], row: usize) {
+    write(rt, "changed.img", &front_of(rt, of));
+    let [first, second] = ends;
+    check_run(rt, line, first, row);
+    check_file(rt, "changed.img", wanted, row);
+    check_run(rt, line, second, row);
+    check_file(rt, "changed.img", wanted, row);
+    remove(rt, "changed.img")
 }
 
 /// Checks both commands on the image of a row.
 fn check_row(rt: &impl Host, of: &Row, row: usize) {
     let (of, answer) = *of;
-    match answer {
-        Ok(line) => {
-            check_renumbered(rt, of, row);
-            check_widened(rt, of, line, row)
-        }
-        Err(line) => check_refused(rt, of, line, row),
-    }
-}
-
-/// Checks each row of the table.
-fn check_rows(rt: &impl Host) {
-    for (row, of) in ROWS.iter().enumerate() {
-        check_row(rt, of, row);
-    }
-    remove(rt, "changed.img")
+    let (log, incompat, len) = of;
+    let (renumbered, widened, bare, wide) = match answer {
+        Ok(line) => (
+            [RENUMBERED, NONE_LEFT],
+            [(0, line, ""), (0, ALREADY, "")],
+            bare(front_of(rt, ([0, 0], incompat, len))),
+            front_of(rt, (log, incompat | 2, len)),
+        ),
+        Err(line) => (
+            [(1, "", line); 2],
+            [(1, "", line); 2],
+            front_of(rt, of),
+            front_of(rt, of),
+        ),
+    };
+    check_change(rt, "renumber changed.img", of, renumbered, &bare, row);
+    check_change(rt, "widen changed.img", of, widened, &wide, row)
 }
 
 #[test]
 fn each_change_answers_its_row_and_a_refused_image_stays(rt: HostRuntime) {
-    check_rows(&rt)
+    for (row, of) in ROWS.iter().enumerate() {
+        check_row(&rt, of, row);
+    }
 }
 
 /// More calls than a change of the small image makes.
 const MOST: usize = 60;
 
-/// A disk with a new journal, of which the call of this number fails.
-fn failing(rt: &impl Abort, alloc: Global, call: usize) -> OneFaultDisk<MemoryDisk> {
+/// Changes a new journal on a disk of which the call of this number fails: whether it met none, and then it writes this
+/// line. Else the fault is answered, and nothing is written.
+fn is_changed(rt: &impl Abort, alloc: Global, widens: bool, call: usize, line: &str) -> bool {
     let mut disk = MemoryDisk::new(alloc, BlockSize::OneKib, 49).expect(rt, "memory");
     let made = format(&mut disk, 33, 0, [0; 16], Width::Narrow);
     check(rt, made.is_ok(), "it is not made");
-    OneFaultDisk::of(disk, call as u64)
-}
-
-/// Changes a new journal on a disk of which the call of this number fails: whether it met none, and then it writes this
-/// line. Else the fault is answered, and nothing is written.
-fn is_changed(
-    rt: &impl Abort,
-    alloc: Global,
-    widens: bool,
-    call: usize,
-    line: &'static str,
-) -> bool {
-    let mut disk = failing(rt, alloc, call);
-    let mut out = Vec::new(alloc);
+    let mut disk = OneFaultDisk::of(disk, call as u64);
     let answer = if widens {
         widen_on(&mut disk)
     } else {
         renumber_on(&mut disk)
     };
+    let mut out = Vec::new(alloc);
     let answer = match answer {
         Ok(report) => report.tell(&mut out),
         Err(fault) => Err(fault),
@@ -145,17 +111,12 @@ fn is_changed(
     let met = matches!(answer, Err(CommandFault::DeviceFault));
     let wanted = if met { "" } else { line };
     check_text(rt, &out, wanted, "a disk that fails its call", call);
-    check_at(
-        rt,
-        met || answer.is_ok(),
-        "the answer of a disk that fails its call",
-        call,
-    );
+    check_at(rt, met || answer.is_ok(), "the answer to call", call);
     !met
 }
 
 /// Checks how many calls of the disk a change of a new journal makes, each of which may fail, and what it writes then.
-fn check_calls(rt: &impl Abort, alloc: Global, widens: bool, calls: usize, line: &'static str) {
+fn check_calls(rt: &impl Abort, alloc: Global, widens: bool, calls: usize, line: &str) {
     for call in 0..MOST {
         if is_changed(rt, alloc, widens, call, line) {
             return check_at(rt, call == calls, "calls that a change makes:", call);

@@ -39,7 +39,7 @@ fn check_done(
     rt: &impl Host,
     done: Done<'_, Unknown, Unknown>,
     blocks: Option<u64>,
-    wanted: &'static str,
+    wanted: &str,
     at: usize,
 ) {
     let has = match &done.image {
@@ -56,26 +56,17 @@ fn check_done(
 /// Makes an image, recovers it, and changes its journal.
 fn check_changes(rt: &impl Host) {
     let all = Some(49);
-    check_done(
-        rt,
-        format_file(rt, NAME, NEW),
-        all,
-        "formatted limit 8\n",
-        0,
-    );
+    let made = format_file(rt, NAME, NEW);
+    check_done(rt, made, all, "formatted limit 8\n", 0);
     check_done(rt, format_file(rt, NAME, NEW), None, "", 1);
     let line = "transactions 0 copies 0 revoked 0 next 2\n";
     check_done(rt, recover_file(rt, NAME, RECOVER), all, line, 2);
     let line = "renumbered blocks 0 next 1\n";
     check_done(rt, renumber_file(rt, NAME), all, line, 3);
     check_done(rt, widen_file(rt, NAME), all, "widened limit 8\n", 4);
-    let again = perform(
-        rt,
-        Plain::Widen { image: NAME },
-        &mut b"".as_slice(),
-        &mut Vec::new(rt.alloc()),
-        &mut Vec::new(rt.alloc()),
-    );
+    let (mut out, mut err) = (Vec::new(rt.alloc()), Vec::new(rt.alloc()));
+    let widen = Plain::Widen { image: NAME };
+    let again = perform(rt, widen, &mut b"".as_slice(), &mut out, &mut err);
     check_done(rt, again, all, "already wide limit 8\n", 5);
 }
 
@@ -83,12 +74,8 @@ fn check_changes(rt: &impl Host) {
 fn check_cat(rt: &impl Host) {
     let mut out = Vec::new(rt.alloc());
     check_done(rt, cat_file(rt, NAME, CAT, &mut out), Some(49), "", 6);
-    check_at(
-        rt,
-        out.as_slice() == [0; 1024].as_slice(),
-        "a home of zeros:",
-        6,
-    );
+    let is_home = out.as_slice() == [0; 1024].as_slice();
+    check_at(rt, is_home, "a home of zeros:", 6);
     remove(rt, NAME);
     check_done(rt, cat_file(rt, NAME, CAT, &mut out), None, "", 7);
     check_done(rt, recover_file(rt, NAME, RECOVER), None, "", 8)

@@ -116,14 +116,8 @@ static LOADS: [Load; 16] = [
 fn check_fault(rt: &impl Host, fault: CommandFault<'static>, beside: &str, row: usize) {
     let mut err = Vec::new(rt.alloc());
     fault.tell(None, &mut err);
-    check_hint(
-        rt,
-        Some(fault.hint()),
-        err.as_slice(),
-        Some(beside),
-        "the hint of fault",
-        row,
-    )
+    let (hint, beside) = (Some(fault.hint()), Some(beside));
+    check_hint(rt, hint, &err, beside, "the hint of fault", row)
 }
 
 /// A load of three handles that ended so.
@@ -156,25 +150,19 @@ fn check_load(rt: &impl Host, load: &Load, row: usize) {
         Ok(ended) => ended.hint,
         Err(_) => return fail(rt, "a load is told"),
     };
-    check_hint(rt, hint, err.as_slice(), beside, "the hint of load", row)
-}
-
-/// Checks each row of the first table.
-fn check_faults(rt: &impl Host) {
-    for (row, (fault, beside)) in FAULTS.iter().enumerate() {
-        check_fault(rt, *fault, beside, row);
-    }
-}
-
-/// Checks each row of the other table.
-fn check_loads(rt: &impl Host) {
-    for (row, load) in LOADS.iter().enumerate() {
-        check_load(rt, load, row);
-    }
+    check_hint(rt, hint, &err, beside, "the hint of load", row)
 }
 
 #[test]
 fn a_hint_is_about_the_line_of_its_fault(rt: HostRuntime) {
-    check_faults(&rt);
-    check_loads(&rt)
+    for (row, (fault, beside)) in FAULTS.iter().enumerate() {
+        check_fault(&rt, *fault, beside, row);
+    }
+}
+
+#[test]
+fn a_hint_is_about_the_lines_of_its_load(rt: HostRuntime) {
+    for (row, load) in LOADS.iter().enumerate() {
+        check_load(&rt, load, row);
+    }
 }

@@ -9,16 +9,12 @@ use crate::runs::{End, Host, check_run, check_status, joined, ran};
 
 /// A run of `jb cat`: the words after the image, the status, how what is written begins, how many bytes that has, and
 /// the line of a refusal, of an image and of two files.
-type Cat = (
-    &'static [&'static str],
-    u8,
-    &'static [u8],
-    usize,
-    [&'static str; 2],
-);
+type Cat = (&'static str, u8, &'static [u8], usize, [&'static str; 2]);
 
 /// How home block 5 begins after a recovery.
 const FIVE: &[u8] = &[0xC0, 0x3B, 0x39, 0x98, 1, 2, 3, 4, 0];
+
+const ZEROS: &[u8] = &[0; 9];
 
 const LINE: &[u8] = b"00000000: c03b 3998 0102 0304 0000 0000 0000 0000  .;9.............\n";
 
@@ -32,26 +28,25 @@ const FARTHEST: [&str; 2] = [
 ];
 
 static CATS: [Cat; 9] = [
-    (&["5"], 0, FIVE, 1024, NOTHING),
-    (&["6"], 0, &[0; 9], 1024, NOTHING),
-    (&["5", "-n", "2"], 0, FIVE, 2048, NOTHING),
-    (&["5", "-n", "0"], 0, b"", 0, NOTHING),
-    (&["5", "--hex"], 0, LINE, 4352, NOTHING),
-    (&["--hex", "-n2", "5"], 0, LINE, 8704, NOTHING),
-    (&["16"], 1, b"", 0, SIXTEEN),
-    (&["15", "-n", "3"], 1, &[0; 9], 1024, SIXTEEN),
-    (&["18446744073709551615", "-n", "2"], 1, b"", 0, FARTHEST),
+    ("5", 0, FIVE, 1024, NOTHING),
+    ("6", 0, ZEROS, 1024, NOTHING),
+    ("5 -n 2", 0, FIVE, 2048, NOTHING),
+    ("5 -n 0", 0, b"", 0, NOTHING),
+    ("5 --hex", 0, LINE, 4352, NOTHING),
+    ("--hex -n2 5", 0, LINE, 8704, NOTHING),
+    ("16", 1, b"", 0, SIXTEEN),
+    ("15 -n 3", 1, ZEROS, 1024, SIXTEEN),
+    ("18446744073709551615 -n 2", 1, b"", 0, FARTHEST),
 ];
 
 /// Checks `jb cat` with these words, and then those of its row; it may end with this line.
-fn check_cat(rt: &impl Host, image: &[&str], cat: &Cat, err: &'static str, row: usize) {
+fn check_cat(rt: &impl Host, image: &str, cat: &Cat, err: &str, row: usize) {
     let (more, status, front, len, _) = *cat;
-    let words = joined(rt, image, more);
-    let (ran, what) = (ran(rt, &words, b""), "cat");
-    check_text(rt, &ran.err, err, what, row);
-    check_status(rt, ran.ended, status, what, row);
-    check_number(rt, ran.out.len() as u64, len as u64, what, row);
-    check_at(rt, ran.out.starts_with(front), what, row)
+    let ran = ran(rt, joined(rt, image, more).as_str(), b"");
+    check_text(rt, &ran.err, err, image, row);
+    check_status(rt, ran.ended, status, image, row);
+    check_number(rt, ran.out.len() as u64, len as u64, image, row);
+    check_at(rt, ran.out.starts_with(front), image, row)
 }
 
 /// Sixteen home blocks, of which number 5 begins with these words.
@@ -72,21 +67,21 @@ fn used(len: usize) -> Front {
 fn check_cats(rt: &impl Host) {
     for (row, cat) in CATS.iter().enumerate() {
         let [of_one, of_two] = cat.4;
-        check_cat(rt, &["cat", "cat.img"], cat, of_one, row);
-        let two = ["cat", "cat_homes.img", "--journal", "cat.bin"];
-        check_cat(rt, &two, cat, of_two, row);
+        check_cat(rt, "cat cat.img", cat, of_one, row);
+        check_cat(rt, "cat cat_homes.img --journal cat.bin", cat, of_two, row);
     }
 }
 
 /// Checks each row of the table, and that the images stay.
 fn check_shown(rt: &impl Host) {
+    let homes = homes(rt, &[]);
     write_front(rt, "cat.img", used(WHOLE));
     write_front(rt, "cat.bin", used(JOURNAL));
-    write(rt, "cat_homes.img", &homes(rt, &[]));
+    write(rt, "cat_homes.img", &homes);
     check_cats(rt);
-    check_front(rt, "cat.img", used(WHOLE), "cat", 0);
-    check_front(rt, "cat.bin", used(JOURNAL), "cat", 0);
-    check_file(rt, "cat_homes.img", &homes(rt, &[]), "cat", 0);
+    check_front(rt, "cat.img", used(WHOLE), 0);
+    check_front(rt, "cat.bin", used(JOURNAL), 0);
+    check_file(rt, "cat_homes.img", &homes, 0);
     remove(rt, "cat.img");
     remove(rt, "cat.bin");
     remove(rt, "cat_homes.img")
@@ -99,22 +94,7 @@ fn home_blocks_are_shown_and_nothing_is_written(rt: HostRuntime) {
 
 /// Checks a recovery of home blocks whose journal has a file of its own.
 fn check_own(rt: &impl Host, out: &'static str, at: usize) {
-    let words = ["recover", "own.img", "--journal", "own.bin"];
-    check_run(rt, &words, (0, out, ""), "recovery", at)
-}
-
-/// Checks a load into the same files.
-fn check_own_load(rt: &impl Host) {
-    let words = [
-        "load",
-        "own.img",
-        "own.txt",
-        "--journal",
-        "own.bin",
-        "--hold",
-    ];
-    let out = "handles 1 changes 1 settled 1 groups 1 blocks 3\n";
-    check_run(rt, &words, (0, out, ""), "load", 1)
+    check_run(rt, "recover own.img --journal own.bin", (0, out, ""), at)
 }
 
 /// Checks two recoveries, a load, and a recovery after it, over home blocks and a journal in files of their own.
@@ -123,9 +103,11 @@ fn check_two_files(rt: &impl Host) {
     write(rt, "own.img", &homes(rt, &[]));
     write(rt, "own.txt", b"bs 1024\nlimit 8\nh w3\n");
     check_own(rt, "transactions 1 copies 1 revoked 0 next 4\n", 1);
-    check_file(rt, "own.img", &homes(rt, &COPY), "recovery", 1);
+    check_file(rt, "own.img", &homes(rt, &COPY), 1);
     check_own(rt, "transactions 0 copies 0 revoked 0 next 4\n", 2);
-    check_own_load(rt);
+    let load = "load own.img own.txt --journal own.bin --hold";
+    let out = "handles 1 changes 1 settled 1 groups 1 blocks 3\n";
+    check_run(rt, load, (0, out, ""), 1);
     check_own(rt, "transactions 1 copies 1 revoked 0 next 6\n", 3);
     remove(rt, "own.bin");
     remove(rt, "own.img");
@@ -137,59 +119,36 @@ fn a_journal_in_its_own_file_is_recovered_and_loaded(rt: HostRuntime) {
     check_two_files(&rt)
 }
 
+const SHORT: End = (1, "", "jb: Super Geometry bad.bin\n");
+
+const LONG: End = (1, "", "jb: JournalLength 34 33 bad.bin\n");
+
+const SAME: End = (2, "", "jb: same file bad.bin\n");
+
 /// How many blocks the file of the journal has, the words before its option, and how the run ends.
-static REFUSED: [(usize, &[&str], End); 7] = [
-    (
-        32,
-        &["recover", "bad.img"],
-        (1, "", "jb: Super Geometry bad.bin\n"),
-    ),
-    (
-        34,
-        &["load", "bad.img", "bad.txt"],
-        (1, "", "jb: JournalLength 34 33 bad.bin\n"),
-    ),
-    (
-        34,
-        &["cat", "bad.img", "5"],
-        (1, "", "jb: JournalLength 34 33 bad.bin\n"),
-    ),
+static REFUSED: [(usize, &str, End); 7] = [
+    (32, "recover bad.img", SHORT),
+    (34, "load bad.img bad.txt", LONG),
+    (34, "cat bad.img 5", LONG),
+    (33, "recover bad.bin", SAME),
+    (33, "cat ./bad.bin 5", (2, "", "jb: same file ./bad.bin\n")),
+    (33, "recover no.img", (2, "", "jb: cannot read no.img\n")),
     (
         33,
-        &["recover", "bad.bin"],
-        (2, "", "jb: same file bad.bin\n"),
-    ),
-    (
-        33,
-        &["cat", "./bad.bin", "5"],
-        (2, "", "jb: same file ./bad.bin\n"),
-    ),
-    (
-        33,
-        &["recover", "no.img"],
-        (2, "", "jb: cannot read no.img\n"),
-    ),
-    (
-        33,
-        &["load", "bad.img", "bad.txt"],
+        "load bad.img bad.txt",
         (2, "", "jb: cannot read bad.txt\n"),
     ),
 ];
 
-/// Checks that a run with these words is refused, where the file of the journal has so many bytes, and that both files
-/// stay.
-fn check_refused(rt: &impl Host, len: usize, words: &[&str], end: End, homes: &[u8], row: usize) {
-    write_front(rt, "bad.bin", used(len));
-    let all = joined(rt, words, &["--journal", "bad.bin"]);
-    check_run(rt, &all, end, "refusal", row);
-    check_front(rt, "bad.bin", used(len), "refusal", row);
-    check_file(rt, "bad.img", homes, "refusal", row)
-}
-
-/// Checks each row of the table over these homes.
+/// Checks that each row of the table is refused over these homes, and that both files stay.
 fn check_refusals(rt: &impl Host, homes: &[u8]) {
-    for (row, (blocks, words, end)) in REFUSED.iter().enumerate() {
-        check_refused(rt, blocks.saturating_mul(1024), words, *end, homes, row);
+    for (row, (blocks, line, end)) in REFUSED.iter().enumerate() {
+        let journal = used(blocks.saturating_mul(1024));
+        write_front(rt, "bad.bin", journal);
+        let line = joined(rt, line, "--journal bad.bin");
+        check_run(rt, line.as_str(), *end, row);
+        check_front(rt, "bad.bin", journal, row);
+        check_file(rt, "bad.img", homes, row);
     }
 }
 
@@ -198,9 +157,8 @@ fn check_names(rt: &impl Host) {
     let homes = homes(rt, &[]);
     write(rt, "bad.img", &homes);
     check_refusals(rt, &homes);
-    let words = ["recover", "bad.img", "--journal", "no.bin"];
     let end = (2, "", "jb: cannot read no.bin\n");
-    check_run(rt, &words, end, "recovery without a journal", 0);
+    check_run(rt, "recover bad.img --journal no.bin", end, 0);
     remove(rt, "bad.bin");
     remove(rt, "bad.img")
 }

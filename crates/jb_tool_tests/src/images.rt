@@ -10,80 +10,58 @@ use std::fs;
 use std::fs::File;
 
 /// The sizes of a new image, another option with its value, and how the run ends.
-type Format = ([&'static str; 3], [&'static str; 2], End);
+type Format = (&'static str, &'static str, End);
 
-const SMALL: [&str; 3] = ["1024", "33", "16"];
+const SMALL: &str = "--bs 1024 --journal 33 --homes 16";
 
-const NO_MAX: [&str; 2] = ["--max", "0"];
+const FEW: &str = "--bs 1024 --journal 8 --homes 16";
 
-const BAD_OPTION: End = (2, "", "jb: bad option\n");
+const NONE: &str = "--bs 1024 --journal 0 --homes 16";
+
+const NO_MAX: &str = "--max 0";
+
+const MADE: End = (0, "formatted limit 8\n", "");
+
+const SIX: End = (0, "formatted limit 6\n", "");
+
+const GEOMETRY: End = (1, "", "jb: Geometry\n");
+
+const BAD: End = (2, "", "jb: bad option\n");
 
 static FORMATS: [Format; 19] = [
-    (SMALL, NO_MAX, (0, "formatted limit 8\n", "")),
-    (SMALL, ["--max", "6"], (0, "formatted limit 6\n", "")),
-    (SMALL, ["--max=6", "--wide"], (0, "formatted limit 6\n", "")),
-    (SMALL, ["--max", "1"], (0, "formatted limit 3\n", "")),
+    (SMALL, NO_MAX, MADE),
+    (SMALL, "--max 6", SIX),
+    (SMALL, "--max=6 --wide", SIX),
+    (SMALL, "--max 1", (0, "formatted limit 3\n", "")),
+    (SMALL, "--max 4294967295", (0, "formatted limit 32\n", "")),
+    (FEW, NO_MAX, GEOMETRY),
+    (NONE, NO_MAX, GEOMETRY),
+    ("--bs 512 --journal 33 --homes 16", NO_MAX, BAD),
+    ("--bs 1025 --journal 33 --homes 16", NO_MAX, BAD),
+    ("--bs 8192 --journal 33 --homes 16", NO_MAX, BAD),
+    ("--bs 1024 --journal 4294967296 --homes 16", NO_MAX, BAD),
+    (SMALL, "--max 4294967296", BAD),
     (
-        SMALL,
-        ["--max", "4294967295"],
-        (0, "formatted limit 32\n", ""),
-    ),
-    (["1024", "8", "16"], NO_MAX, (1, "", "jb: Geometry\n")),
-    (["1024", "0", "16"], NO_MAX, (1, "", "jb: Geometry\n")),
-    (["512", "33", "16"], NO_MAX, BAD_OPTION),
-    (["1025", "33", "16"], NO_MAX, BAD_OPTION),
-    (["8192", "33", "16"], NO_MAX, BAD_OPTION),
-    (["1024", "4294967296", "16"], NO_MAX, BAD_OPTION),
-    (SMALL, ["--max", "4294967296"], BAD_OPTION),
-    (["1024", "0", "9007199254740992"], NO_MAX, BAD_OPTION),
-    (["1024", "33", "4294967297"], NO_MAX, BAD_OPTION),
-    (
-        ["4096", "4294967295", "18446744073709551615"],
+        "--bs 1024 --journal 0 --homes 9007199254740992",
         NO_MAX,
-        BAD_OPTION,
+        BAD,
     ),
-    (SMALL, ["--uuid", ""], BAD_OPTION),
+    ("--bs 1024 --journal 33 --homes 4294967297", NO_MAX, BAD),
     (
-        SMALL,
-        ["--uuid", "000102030405060708090a0b0c0d0e0g"],
-        BAD_OPTION,
+        "--bs 4096 --journal 4294967295 --homes 18446744073709551615",
+        NO_MAX,
+        BAD,
     ),
-    (
-        SMALL,
-        ["--uuid", "000102030405060708090a0b0c0d0e"],
-        BAD_OPTION,
-    ),
-    (
-        SMALL,
-        ["--uuid", "000102030405060708090a0b0c0d0e0f10"],
-        BAD_OPTION,
-    ),
+    (SMALL, "--uuid ''", BAD),
+    (SMALL, "--uuid 000102030405060708090a0b0c0d0e0g", BAD),
+    (SMALL, "--uuid 000102030405060708090a0b0c0d0e", BAD),
+    (SMALL, "--uuid 000102030405060708090a0b0c0d0e0f10", BAD),
 ];
 
 /// Checks `jb format` with these sizes, in a file of this name.
-fn check_format(
-    rt: &impl Host,
-    name: &'static str,
-    sizes: [&'static str; 3],
-    more: [&'static str; 2],
-    end: End,
-    at: usize,
-) {
-    let [bs, journal, homes] = sizes;
-    let [option, value] = more;
-    let words = [
-        "format",
-        name,
-        "--bs",
-        bs,
-        "--journal",
-        journal,
-        "--homes",
-        homes,
-        option,
-        value,
-    ];
-    check_run(rt, &words, end, name, at)
+fn check_format(rt: &impl Host, name: &str, sizes: &str, more: &str, end: End, at: usize) {
+    let line = format!(in rt.alloc(); "format {name} {sizes} {more}").expect(rt, "memory");
+    check_run(rt, line.as_str(), end, at)
 }
 
 /// Checks that there is a new image, with the features that are asked for, and removes it.
@@ -102,7 +80,7 @@ fn check_row(rt: &impl Host, of: &Format, row: usize) {
     let (sizes, more, end) = *of;
     check_format(rt, "new.img", sizes, more, end, row);
     if end.0 == 0 {
-        check_new(rt, more[1] == "--wide", row)
+        check_new(rt, more.ends_with("--wide"), row)
     } else {
         let has_none = is_missing(rt, "new.img");
         check_at(rt, has_none, "a refused image is made, row", row)
@@ -120,7 +98,7 @@ fn each_format_answers_its_row(rt: HostRuntime) {
 static NAMES: [(&str, &str); 4] = [
     ("front.img", "jb: cannot make front.img\n"),
     (".", "jb: cannot make .\n"),
-    ("", "jb: cannot make \n"),
+    ("''", "jb: cannot make \n"),
     (
         "no-such-folder/a.img",
         "jb: cannot make no-such-folder/a.img\n",
@@ -147,23 +125,23 @@ fn new_image(rt: &impl Host) -> Vec<u8> {
 
 /// Checks the format of the new image, and that it has nothing to recover.
 fn check_made(rt: &impl Host, wanted: &[u8]) {
-    let more = ["--uuid", "000102030405060708090A0b0c0d0e0f"];
+    let sizes = "--bs 2048 --journal 40 --homes 1";
+    let more = "--uuid 000102030405060708090A0b0c0d0e0f";
     let end = (0, "formatted limit 9\n", "");
-    check_format(rt, "front.img", ["2048", "40", "1"], more, end, 1);
-    check_file(rt, "front.img", wanted, "format", 1);
+    check_format(rt, "front.img", sizes, more, end, 1);
+    check_file(rt, "front.img", wanted, 1);
     let out = "transactions 0 copies 0 revoked 0 next 2\n";
-    check_run(rt, &["recover", "front.img"], (0, out, ""), "recovery", 1)
+    check_run(rt, "recover front.img", (0, out, ""), 1)
 }
 
 /// Checks that a new image is made, and that it stays where formats of other files, and of its own, are refused.
 fn check_once(rt: &impl Host) {
-    check_made(rt, &new_image(rt));
+    let image = new_image(rt);
+    check_made(rt, &image);
     check_names(rt);
     // the geometry is judged before the file
-    let few = ["1024", "8", "16"];
-    let end = (1, "", "jb: Geometry\n");
-    check_format(rt, "front.img", few, NO_MAX, end, 2);
-    check_file(rt, "front.img", &new_image(rt), "format", 2);
+    check_format(rt, "front.img", FEW, NO_MAX, GEOMETRY, 2);
+    check_file(rt, "front.img", &image, 2);
     remove(rt, "front.img")
 }
 
@@ -173,38 +151,20 @@ fn a_new_image_is_its_superblock_and_zeros_and_is_made_once(rt: HostRuntime) {
 }
 
 /// 2^63 - 1024 bytes, which many file systems refuse and some take.
-static LONG: [&str; 9] = [
-    "format",
-    "long.img",
-    "--bs",
-    "1024",
-    "--journal",
-    "33",
-    "--homes",
-    "9007199254740958",
-    "--wide",
-];
-
-const MADE: End = (0, "formatted limit 8\n", "");
+const LONG: &str = "format long.img --bs 1024 --journal 33 --homes 9007199254740958 --wide";
 
 const NOT_MADE: End = (2, "", "jb: cannot make long.img\n");
 
-/// Checks how many bytes the image has, and removes it.
-fn check_len(rt: &impl Host, wanted: u64) {
-    let len = fs::metadata(rt, "long.img").expect(rt, "long.img").len();
-    check_number(rt, len, wanted, "bytes of format", 1);
-    remove(rt, "long.img")
-}
-
 /// Checks that the long image is made whole, and removes it, or that it is refused, and then there is none.
 fn check_long(rt: &impl Host) {
-    let ran = ran(rt, &LONG, b"");
+    let ran = ran(rt, LONG, b"");
     if is_missing(rt, "long.img") {
-        check_ran(rt, &ran, NOT_MADE, "format", 1)
-    } else {
-        check_ran(rt, &ran, MADE, "format", 1);
-        check_len(rt, 9_223_372_036_854_774_784)
+        return check_ran(rt, &ran, NOT_MADE, LONG, 1);
     }
+    check_ran(rt, &ran, MADE, LONG, 1);
+    let len = fs::metadata(rt, "long.img").expect(rt, "long.img").len();
+    check_number(rt, len, 9_223_372_036_854_774_784, "bytes of format", 1);
+    remove(rt, "long.img")
 }
 
 /// Checks a long image, and that a small one of the same name is made after it.
@@ -223,27 +183,21 @@ fn a_file_is_made_whole_or_not_at_all(rt: HostRuntime) {
 const USED: Front = ([2, 1], 1, WHOLE);
 
 /// Runs that would change the image or lock it.
-static LOCKED: [&[&str]; 4] = [
-    &["recover", "locked.img"],
-    &["renumber", "locked.img"],
-    &["widen", "locked.img"],
-    &["load", "locked.img", "no-such-queue.txt"],
+static LOCKED: [&str; 4] = [
+    "recover locked.img",
+    "renumber locked.img",
+    "widen locked.img",
+    "load locked.img no-such-queue.txt",
 ];
 
-/// Checks that each of the runs is refused by the name of the image.
-fn check_locked(rt: &impl Host) {
-    for (row, words) in LOCKED.iter().enumerate() {
-        let end = (2, "", "jb: in use locked.img\n");
-        check_run(rt, words, end, "run on a locked image", row);
-    }
-}
-
-/// Checks that each of the runs is refused while another has the image locked, and that it stays.
+/// Checks that each of the runs is refused by the name of the image while another has it locked, and that it stays.
 fn check_lock(rt: &impl Host) {
     let other = File::open(rt, "locked.img").expect(rt, "locked.img");
     check(rt, other.try_lock().is_ok(), "it is not locked");
-    check_locked(rt);
-    check_front(rt, "locked.img", USED, "run on a locked image", 0)
+    for (row, line) in LOCKED.iter().enumerate() {
+        check_run(rt, line, (2, "", "jb: in use locked.img\n"), row);
+        check_front(rt, "locked.img", USED, row);
+    }
 }
 
 /// Checks the runs on a locked image, and that it is recovered when it is locked no more.
@@ -251,7 +205,7 @@ fn check_unlocked(rt: &impl Host) {
     write_front(rt, "locked.img", USED);
     check_lock(rt);
     let out = "transactions 1 copies 1 revoked 0 next 4\n";
-    check_run(rt, &["recover", "locked.img"], (0, out, ""), "recovery", 0);
+    check_run(rt, "recover locked.img", (0, out, ""), 0);
     remove(rt, "locked.img")
 }
 

@@ -1,6 +1,8 @@
-//! Tests of the program by whole runs.
+//! Tests of the program by whole runs, and of its words, its hints and its loads by themselves.
 #![tactic(auto)]
 
+#[cfg(test)]
+mod advices;
 #[cfg(test)]
 mod certificates;
 #[cfg(test)]
@@ -22,7 +24,15 @@ mod images;
 #[cfg(test)]
 mod journals;
 #[cfg(test)]
+mod lent;
+#[cfg(test)]
+mod load_faults;
+#[cfg(test)]
 mod loads;
+#[cfg(test)]
+mod orders;
+#[cfg(test)]
+mod parsing;
 #[cfg(test)]
 mod programs;
 #[cfg(test)]
@@ -30,8 +40,14 @@ mod recoveries;
 #[cfg(test)]
 mod refused_loads;
 #[cfg(test)]
+mod refusing;
+#[cfg(test)]
 mod runs;
+#[cfg(test)]
+mod small;
 #[cfg(test)]
 mod streams;
 #[cfg(test)]
 mod texts;
+#[cfg(test)]
+mod worked;

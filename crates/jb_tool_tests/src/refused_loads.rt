@@ -8,23 +8,26 @@ use std::fs;
 
 /// A load that is refused: the image and the queue text, if there are such, further words of `jb load`, and how it
 /// ends.
-type Refusal = (
-    Option<Front>,
-    Option<&'static str>,
-    &'static [&'static str],
-    End,
-);
+type Refusal = (Option<Front>, Option<&'static str>, &'static str, End);
 
 const CLEAN: [u32; 2] = [2, 0];
 
-/// An image with a transaction to recover, and one with a feature that is not known.
+/// An image with a transaction to recover.
 const USED: Option<Front> = Some(([2, 1], 1, WHOLE));
 
+/// The last number that there is, with a transaction to recover and without.
+const LAST_USED: Option<Front> = Some(([0xFFFF_FFFF, 1], 1, WHOLE));
+
+const LAST: Option<Front> = Some(([0xFFFF_FFFF, 0], 1, WHOLE));
+
+/// An image with a feature that is not known.
 const FEATURE: Option<Front> = Some((CLEAN, 16, WHOLE));
 
 const OTHER_SIZE: &str = "bs 2048\nlimit 7\nh w1\n";
 
 const TWO_GROUPS: &str = "bs 1024\nlimit 3\nh w0 w1 w2 w3 w4 w5\nh w6 w7 w8 w9 w10 w11\n";
+
+const NO_OPERATION: &str = "bs 2048\nlimit 7\nh w1 w\n";
 
 const NO_TEXT: &str = "bs 1024\nlimit 2\n";
 
@@ -38,69 +41,46 @@ const BAD_GEOMETRY: End = (1, "", "jb: Super Geometry\n");
 
 const NOT_CLEAN: End = (1, "", "jb: NeedsRecovery\n");
 
+const NO_IMAGE: End = (2, "", "jb: cannot read loaded.img\n");
+
+const FIRST_LINE: End = (2, "", "jb: queue line 1: BlockSizeLine\n");
+
+const SECOND_LINE: End = (2, "", "jb: queue line 2: LimitLine\n");
+
+const THIRD_LINE: End = (2, "", "jb: queue line 3: OpWord\n");
+
+const SHORT: End = (1, "", "jb: Super ShortBlock\n");
+
+const SPENT: End = (1, "", "jb: NumbersSpent\n");
+
 static REFUSALS: [Refusal; 19] = [
     // an option comes before any file
-    (None, Some(""), &["--threads", "0"], BAD_OPTION),
-    (None, Some(""), &["--threads", "65"], BAD_OPTION),
-    (None, Some(""), &["--threads", "4294967297"], BAD_OPTION),
+    (None, Some(""), "--threads 0", BAD_OPTION),
+    (None, Some(""), "--threads 65", BAD_OPTION),
+    (None, Some(""), "--threads 4294967297", BAD_OPTION),
     // the image comes before the text
-    (
-        None,
-        Some(NO_TEXT),
-        &[],
-        (2, "", "jb: cannot read loaded.img\n"),
-    ),
-    (FEATURE, None, &[], BAD_FEATURE),
-    (FEATURE, Some(NO_TEXT), &[], BAD_FEATURE),
-    (
-        Some((CLEAN, 1, 1023)),
-        Some(NO_TEXT),
-        &[],
-        (1, "", "jb: Super ShortBlock\n"),
-    ),
+    (None, Some(NO_TEXT), "", NO_IMAGE),
+    (FEATURE, None, "", BAD_FEATURE),
+    (FEATURE, Some(NO_TEXT), "", BAD_FEATURE),
+    (Some((CLEAN, 1, 1023)), Some(NO_TEXT), "", SHORT),
     // the text comes before the block size
-    (USED, None, &[], (2, "", "jb: cannot read queue.txt\n")),
-    (
-        USED,
-        Some(""),
-        &[],
-        (2, "", "jb: queue line 1: BlockSizeLine\n"),
-    ),
-    (
-        USED,
-        Some(NO_TEXT),
-        &[],
-        (2, "", "jb: queue line 2: LimitLine\n"),
-    ),
-    (
-        USED,
-        Some("bs 2048\nlimit 7\nh w1 w\n"),
-        &[],
-        (2, "", "jb: queue line 3: OpWord\n"),
-    ),
+    (USED, None, "", (2, "", "jb: cannot read queue.txt\n")),
+    (USED, Some(""), "", FIRST_LINE),
+    (USED, Some(NO_TEXT), "", SECOND_LINE),
+    (USED, Some(NO_OPERATION), "", THIRD_LINE),
     // the block size comes before the journal
-    (USED, Some(OTHER_SIZE), &[], BAD_SIZE),
-    (Some((CLEAN, 1, 20 * 1024)), Some(OTHER_SIZE), &[], BAD_SIZE),
-    (USED, Some(TEN), &[], NOT_CLEAN),
-    (
-        Some(([0xFFFF_FFFF, 1], 1, WHOLE)),
-        Some(TEN),
-        &["--hold"],
-        NOT_CLEAN,
-    ),
-    (
-        Some(([0xFFFF_FFFF, 0], 1, WHOLE)),
-        Some(TEN),
-        &["--threads", "64"],
-        (1, "", "jb: NumbersSpent\n"),
-    ),
-    (Some((CLEAN, 1, 20 * 1024)), Some(TEN), &[], BAD_GEOMETRY),
-    (Some((CLEAN, 1, 1024)), Some(TEN), &[], BAD_GEOMETRY),
+    (USED, Some(OTHER_SIZE), "", BAD_SIZE),
+    (Some((CLEAN, 1, 20 * 1024)), Some(OTHER_SIZE), "", BAD_SIZE),
+    (USED, Some(TEN), "", NOT_CLEAN),
+    (LAST_USED, Some(TEN), "--hold", NOT_CLEAN),
+    (LAST, Some(TEN), "--threads 64", SPENT),
+    (Some((CLEAN, 1, 20 * 1024)), Some(TEN), "", BAD_GEOMETRY),
+    (Some((CLEAN, 1, 1024)), Some(TEN), "", BAD_GEOMETRY),
     // two groups, and a number for one of them
     (
         Some(([0xFFFF_FFFE, 0], 1, WHOLE)),
         Some(TWO_GROUPS),
-        &["--hold"],
+        "--hold",
         (
             1,
             "handles 2 changes 12 settled 0 groups 0 blocks 0\n",
@@ -118,18 +98,22 @@ fn put_text(rt: &impl Host, text: Option<&str>) {
 }
 
 /// Checks a load into an image, which stays.
-fn check_kept(rt: &impl Host, image: Front, options: &[&str], end: End, row: usize) {
+fn check_kept(rt: &impl Host, image: Front, options: &str, end: End, row: usize) {
     write_front(rt, "loaded.img", image);
     check_words(rt, options, end, row);
-    check_front(rt, "loaded.img", image, "load", row)
+    check_front(rt, "loaded.img", image, row)
 }
 
 /// Checks a load into no image, of which none is made.
-fn check_none(rt: &impl Host, options: &[&str], end: End, row: usize) {
+fn check_none(rt: &impl Host, options: &str, end: End, row: usize) {
     let _none = fs::remove_file(rt, "loaded.img");
     check_words(rt, options, end, row);
-    let has_none = is_missing(rt, "loaded.img");
-    check_at(rt, has_none, "an image is made by load", row)
+    check_at(
+        rt,
+        is_missing(rt, "loaded.img"),
+        "an image is made, row",
+        row,
+    )
 }
 
 /// Checks the load of a row.
@@ -143,15 +127,12 @@ fn check_refusal(rt: &impl Host, of: &Refusal, row: usize) {
 }
 
 /// Loads of an image and a text that could be loaded, but for one of the names.
-static NAMES: [([&str; 3], &str); 5] = [
-    (["load", "-", "queue.txt"], "jb: cannot read -\n"),
-    (["load", "loaded.img", "-"], "jb: cannot read -\n"),
-    (["load", ".", "queue.txt"], "jb: cannot read .\n"),
-    (["load", "loaded.img", "."], "jb: cannot read .\n"),
-    (
-        ["load", "loaded.img", "/dev/zero"],
-        "jb: too long /dev/zero\n",
-    ),
+static NAMES: [(&str, &str); 5] = [
+    ("load - queue.txt", "jb: cannot read -\n"),
+    ("load loaded.img -", "jb: cannot read -\n"),
+    ("load . queue.txt", "jb: cannot read .\n"),
+    ("load loaded.img .", "jb: cannot read .\n"),
+    ("load loaded.img /dev/zero", "jb: too long /dev/zero\n"),
 ];
 
 /// An image that could be loaded into.
@@ -159,24 +140,18 @@ const READY: Front = (CLEAN, 1, WHOLE);
 
 /// Checks each of the loads, with a text on standard input.
 fn check_names(rt: &impl Host) {
-    write_front(rt, "loaded.img", READY);
-    for (row, (words, err)) in NAMES.iter().enumerate() {
-        let text = TEN.as_bytes();
-        check_over(rt, words, text, (2, "", err), "load of the names", row);
-        check_front(rt, "loaded.img", READY, "load of the names", row);
-    }
-}
-
-/// Checks each row of the table, and the names.
-fn check_refusals(rt: &impl Host) {
-    for (row, of) in REFUSALS.iter().enumerate() {
-        check_refusal(rt, of, row);
-    }
     put_text(rt, Some(TEN));
-    check_names(rt)
+    write_front(rt, "loaded.img", READY);
+    for (row, (line, err)) in NAMES.iter().enumerate() {
+        check_over(rt, line, TEN.as_bytes(), (2, "", err), row);
+        check_front(rt, "loaded.img", READY, row);
+    }
 }
 
 #[test]
 fn each_refused_load_answers_its_row_and_leaves_the_image(rt: HostRuntime) {
-    check_refusals(&rt)
+    for (row, of) in REFUSALS.iter().enumerate() {
+        check_refusal(&rt, of, row);
+    }
+    check_names(&rt)
 }

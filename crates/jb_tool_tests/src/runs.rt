@@ -29,22 +29,37 @@ pub struct Outcome {
     pub err: Vec<u8>,
 }
 
-/// A run with these words, which reads from this input.
-pub fn ran_from<I: Read>(rt: &impl Host, words: &[&str], input: &mut I) -> Outcome {
+/// The words of a command line; of `''`, an empty one.
+pub fn words_of<'a>(rt: &impl Host, line: &'a str) -> Vec<&'a str> {
+    let mut words = Vec::new(rt.alloc());
+    for word in line.split_whitespace() {
+        let word = if word == "''" { "" } else { word };
+        words.push(word).expect(rt, "memory");
+    }
+    words
+}
+
+/// A command line with these words after it.
+pub fn joined(rt: &impl Host, line: &str, more: &str) -> String {
+    format!(in rt.alloc(); "{line} {more}").expect(rt, "memory")
+}
+
+/// A run of this command line, which reads from this input.
+pub fn ran_from<I: Read>(rt: &impl Host, line: &str, input: &mut I) -> Outcome {
     let mut out = Vec::new(rt.alloc());
     let mut err = Vec::new(rt.alloc());
-    let ended = run(rt, words, input, &mut out, &mut err);
+    let ended = run(rt, &words_of(rt, line), input, &mut out, &mut err);
     Outcome { ended, out, err }
 }
 
-/// A run with these words and this input.
-pub fn ran(rt: &impl Host, words: &[&str], input: &[u8]) -> Outcome {
+/// A run of this command line over this input.
+pub fn ran(rt: &impl Host, line: &str, input: &[u8]) -> Outcome {
     let mut rest = input;
-    ran_from(rt, words, &mut rest)
+    ran_from(rt, line, &mut rest)
 }
 
 /// Checks the status with which a run ended. `at` is which run it is, as the row of a table.
-pub fn check_status(rt: &impl Abort, ended: Ended, wanted: u8, what: &'static str, at: usize) {
+pub fn check_status(rt: &impl Abort, ended: Ended, wanted: u8, what: &str, at: usize) {
     let is = ended.status;
     assert!(rt;
         is == wanted,
@@ -53,34 +68,19 @@ pub fn check_status(rt: &impl Abort, ended: Ended, wanted: u8, what: &'static st
 }
 
 /// Checks how a run ended, and what it wrote.
-pub fn check_ran(rt: &impl Abort, ran: &Outcome, end: End, what: &'static str, at: usize) {
+pub fn check_ran(rt: &impl Abort, ran: &Outcome, end: End, what: &str, at: usize) {
     let (status, out, err) = end;
     check_text(rt, &ran.err, err, what, at);
     check_text(rt, &ran.out, out, what, at);
     check_status(rt, ran.ended, status, what, at)
 }
 
-/// Checks how a run with these words and this input ends, and what it writes.
-pub fn check_over(
-    rt: &impl Host,
-    words: &[&str],
-    input: &[u8],
-    end: End,
-    what: &'static str,
-    at: usize,
-) {
-    check_ran(rt, &ran(rt, words, input), end, what, at)
+/// Checks how a run of this command line over this input ends, and what it writes.
+pub fn check_over(rt: &impl Host, line: &str, input: &[u8], end: End, at: usize) {
+    check_ran(rt, &ran(rt, line, input), end, line, at)
 }
 
 /// The same with no input.
-pub fn check_run(rt: &impl Host, words: &[&str], end: End, what: &'static str, at: usize) {
-    check_over(rt, words, b"", end, what, at)
-}
-
-/// These words, and then those.
-pub fn joined<'a>(rt: &impl Host, words: &[&'a str], more: &[&'a str]) -> Vec<&'a str> {
-    let mut joined = Vec::new(rt.alloc());
-    joined.extend_from_slice(words).expect(rt, "memory");
-    joined.extend_from_slice(more).expect(rt, "memory");
-    joined
+pub fn check_run(rt: &impl Host, line: &str, end: End, at: usize) {
+    check_over(rt, line, b"", end, at)
 }

@@ -2,7 +2,7 @@
 
 use crate::checks::{check_at, check_text};
 use crate::files::{WHOLE, remove, write, write_front};
-use crate::runs::{Host, check_status};
+use crate::runs::{Host, check_status, words_of};
 use jb_tool::run;
 use std::io::{self, Error, ErrorKind, Read, Write};
 
@@ -23,6 +23,12 @@ impl Read for Closed {
 struct Torn {
     left: usize,
     stuck: bool,
+}
+
+impl Torn {
+    fn of(left: usize, stuck: bool) -> Torn {
+        Torn { left, stuck }
+    }
 }
 
 impl Write for Torn {
@@ -50,6 +56,15 @@ struct Counting {
     bytes: usize,
 }
 
+impl Counting {
+    fn new() -> Counting {
+        Counting {
+            writes: 0,
+            bytes: 0,
+        }
+    }
+}
+
 impl Write for Counting {
     fn write(&mut self, buf: &[u8]) -> io::Result<usize> {
         self.writes = self.writes.saturating_add(1);
@@ -63,28 +78,21 @@ impl Write for Counting {
 }
 
 /// Runs that write a line, in their order on one image, how many writes each takes on each output, and how many bytes.
-static LINES: [(&[&str], [usize; 2], [usize; 2]); 7] = [
-    (&["recover", "line.img"], [1, 0], [41, 0]),
-    (&["renumber", "line.img"], [1, 0], [27, 0]),
-    (&["widen", "line.img"], [1, 0], [16, 0]),
-    (&["widen", "line.img"], [1, 0], [21, 0]),
-    (&["load", "line.img", "line.txt"], [1, 1], [48, 28]),
-    (&["recover", "no-such.img"], [0, 1], [0, 28]),
-    (&["widen", "line.img"], [0, 1], [0, 18]),
+static LINES: [(&str, [usize; 2], [usize; 2]); 7] = [
+    ("recover line.img", [1, 0], [41, 0]),
+    ("renumber line.img", [1, 0], [27, 0]),
+    ("widen line.img", [1, 0], [16, 0]),
+    ("widen line.img", [1, 0], [21, 0]),
+    ("load line.img line.txt", [1, 1], [48, 28]),
+    ("recover no-such.img", [0, 1], [0, 28]),
+    ("widen line.img", [0, 1], [0, 18]),
 ];
 
 /// Checks how many writes a run takes on each output, and how many bytes.
-fn check_line(rt: &impl Host, words: &[&str], writes: [usize; 2], sizes: [usize; 2], row: usize) {
+fn check_line(rt: &impl Host, line: &str, writes: [usize; 2], sizes: [usize; 2], row: usize) {
+    let (mut out, mut err) = (Counting::new(), Counting::new());
     let mut input = b"".as_slice();
-    let mut out = Counting {
-        writes: 0,
-        bytes: 0,
-    };
-    let mut err = Counting {
-        writes: 0,
-        bytes: 0,
-    };
-    run(rt, words, &mut input, &mut out, &mut err);
+    run(rt, &words_of(rt, line), &mut input, &mut out, &mut err);
     let is_so = [out.writes, err.writes] == writes;
     check_at(rt, is_so, "how many writes a line takes, row", row);
     let is_so = [out.bytes, err.bytes] == sizes;
@@ -95,8 +103,8 @@ fn check_line(rt: &impl Host, words: &[&str], writes: [usize; 2], sizes: [usize;
 fn check_lines(rt: &impl Host) {
     write_front(rt, "line.img", ([2, 1], 1, WHOLE));
     write(rt, "line.txt", b"bs 1024\nlimit 8\nh w1\nh w16\n");
-    for (row, (words, writes, sizes)) in LINES.iter().enumerate() {
-        check_line(rt, words, *writes, *sizes, row);
+    for (row, (line, writes, sizes)) in LINES.iter().enumerate() {
+        check_line(rt, line, *writes, *sizes, row);
     }
     remove(rt, "line.img")
 }
@@ -107,69 +115,47 @@ fn each_line_is_one_write(rt: HostRuntime) {
 }
 
 /// An output that takes nothing, one that takes three bytes, and one that takes all and loses it when it is flushed.
-static TORN: [(usize, bool); 3] = [(0, false), (3, false), (1000, true)];
+const TORN: [(usize, bool); 3] = [(0, false), (3, false), (1000, true)];
 
-/// Checks that a run reports a standard output that fails. `at` is which of the torn outputs it is.
-fn check_torn_output(
-    rt: &impl Host,
-    words: &[&str],
-    torn: (usize, bool),
-    what: &'static str,
-    at: usize,
-) {
-    let (left, stuck) = torn;
-    let mut rest = QUEUE;
-    let mut out = Torn { left, stuck };
-    let mut err = Vec::new(rt.alloc());
-    let ended = run(rt, words, &mut rest, &mut out, &mut err);
-    check_status(rt, ended, 1, what, at);
-    check_text(rt, &err, "jb: WriteFault\n", what, at)
-}
-
-/// Checks the same of each of the torn outputs.
-fn check_torn_outputs(rt: &impl Host, words: &[&str], what: &'static str) {
-    for (at, torn) in TORN.iter().enumerate() {
-        check_torn_output(rt, words, *torn, what, at);
+/// Checks that a run reports each standard output that fails.
+fn check_torn_outputs(rt: &impl Host, line: &str) {
+    for (at, (left, stuck)) in TORN.iter().enumerate() {
+        let mut out = Torn::of(*left, *stuck);
+        let mut err = Vec::new(rt.alloc());
+        let mut rest = QUEUE;
+        let ended = run(rt, &words_of(rt, line), &mut rest, &mut out, &mut err);
+        check_status(rt, ended, 1, line, at);
+        check_text(rt, &err, "jb: WriteFault\n", line, at);
     }
 }
 
 /// Checks a command, help and the version, whose standard output fails.
-fn check_outputs(rt: &impl Host) {
-    check_torn_outputs(rt, &["cost", "-"], "cost to output");
-    check_torn_outputs(rt, &["--help"], "help to output");
-    check_torn_outputs(rt, &["--version"], "version to output")
-}
-
 #[test]
 fn an_output_that_fails_is_reported(rt: HostRuntime) {
-    check_outputs(&rt)
+    for line in ["cost -", "--help", "--version"] {
+        check_torn_outputs(&rt, line);
+    }
 }
 
-/// The words and the input of a run, and its status and what it writes to standard output.
-type Quiet = (&'static [&'static str], &'static [u8], (u8, &'static str));
+/// The command line and the input of a run, and its status and what it writes to standard output.
+type Quiet = (&'static str, &'static [u8], u8, &'static str);
 
 static QUIETS: [Quiet; 3] = [
-    (&["cost", "-"], QUEUE, (0, "cost 3 limit 7 fits\n")),
-    (&["cost", "-"], b"", (2, "")),
-    (&["coast"], QUEUE, (2, "")),
+    ("cost -", QUEUE, 0, "cost 3 limit 7 fits\n"),
+    ("cost -", b"", 2, ""),
+    ("coast", QUEUE, 2, ""),
 ];
 
 /// Checks that a run ends as its row says where standard error fails.
-fn check_torn_error(rt: &impl Host, of: &Quiet, torn: (usize, bool), row: usize) {
-    let (words, input, (status, out)) = *of;
-    let (left, stuck) = torn;
-    let mut rest = input;
-    let mut told = Vec::new(rt.alloc());
-    let mut err = Torn { left, stuck };
-    let ended = run(rt, words, &mut rest, &mut told, &mut err);
-    check_status(rt, ended, status, "run", row);
-    check_text(rt, &told, out, "run", row)
-}
-
-/// Checks the same of each of the torn outputs.
 fn check_torn_errors(rt: &impl Host, of: &Quiet, row: usize) {
-    for torn in &TORN {
-        check_torn_error(rt, of, *torn, row);
+    let (line, input, status, out) = *of;
+    for (left, stuck) in TORN {
+        let mut err = Torn::of(left, stuck);
+        let mut told = Vec::new(rt.alloc());
+        let mut rest = input;
+        let ended = run(rt, &words_of(rt, line), &mut rest, &mut told, &mut err);
+        check_status(rt, ended, status, line, row);
+        check_text(rt, &told, out, line, row);
     }
 }
 
@@ -182,10 +168,7 @@ fn a_failing_standard_error_changes_no_status(rt: HostRuntime) {
 
 /// Checks that a run over this input writes this line, and does not flush an output to which it writes nothing.
 fn check_unwritten<I: Read>(rt: &impl Host, input: &mut I, line: &str, at: usize) {
-    let mut out = Torn {
-        left: 0,
-        stuck: true,
-    };
+    let mut out = Torn::of(0, true);
     let mut err = Vec::new(rt.alloc());
     let ended = run(rt, &["cost", "-"], input, &mut out, &mut err);
     check_status(rt, ended, 2, "cost", at);
@@ -193,15 +176,11 @@ fn check_unwritten<I: Read>(rt: &impl Host, input: &mut I, line: &str, at: usize
 }
 
 /// Checks an input that fails, and one that has nothing.
-fn check_inputs(rt: &impl Host) {
-    check_unwritten(rt, &mut Closed, "jb: cannot read -\n", 0);
-    let mut rest = b"".as_slice();
-    check_unwritten(rt, &mut rest, "jb: queue line 1: BlockSizeLine\n", 1)
-}
-
 #[test]
 fn an_input_that_fails_is_reported_and_an_output_that_is_not_written_is_not_flushed(
     rt: HostRuntime,
 ) {
-    check_inputs(&rt)
+    check_unwritten(&rt, &mut Closed, "jb: cannot read -\n", 0);
+    let mut rest = b"".as_slice();
+    check_unwritten(&rt, &mut rest, "jb: queue line 1: BlockSizeLine\n", 1)
 }

@@ -8,90 +8,88 @@ use std::alloc::Global;
 use std::io::{self, ErrorKind, Read};
 use std::process::Abort;
 
-/// The words and the input of a run, and how it ends.
-type Row = (&'static [&'static str], &'static [u8], End);
-
-const COST: &[&str] = &["cost", "-"];
+/// The command line and the input of a run, and how it ends.
+type Row = (&'static str, &'static [u8], End);
 
 static ROWS: [Row; 21] = [
     (
-        COST,
+        "cost -",
         b"bs 1024\nlimit 7\nh w1 w2 w3\nh w3 w4 w5\nh w1 w2\n",
         (0, "cost 7 limit 7 fits\n", ""),
     ),
-    (COST, b"", (2, "", "jb: queue line 1: BlockSizeLine\n")),
+    ("cost -", b"", (2, "", "jb: queue line 1: BlockSizeLine\n")),
     (
-        &["plan", "-"],
+        "plan -",
         b"bs 1024\nlimit 6\nh w1 w2\nh w3 w4\nh w3 w4\nh w3 w4 w5\n",
         (0, "prices 0 4 6 6 9\ncut 0 1 4\ntotal 9\n", ""),
     ),
     (
-        &["plan", "-"],
+        "plan -",
         b"bs 1024\nlimit 3\nh w1 w2\n",
         (1, "prices 0 none\ncut none\n", ""),
     ),
     (
-        &[],
+        "",
         b"bs 1024\nlimit 7\nh w1 w2 w3\nh w3 w4 w5\nh w1 w2\n",
         (0, "cost 7 limit 7 fits\n", ""),
     ),
     (
-        &[],
+        "",
         b"bs 1024\nlimit 6\nh w1 w2 w3\nh w3 w4 w5\nh w1 w2\n",
         (1, "cost 7 limit 6 over\n", ""),
     ),
     (
-        &["plan", "-"],
+        "plan -",
         b"bs 1024\nlimit 7\nh x\n",
         (2, "", "jb: queue line 3: OpWord\n"),
     ),
     (
-        &["cost", "no-such-queue.txt"],
+        "cost no-such-queue.txt",
         b"bs 1024\nlimit 7\n",
         (2, "", "jb: cannot read no-such-queue.txt\n"),
     ),
     (
-        &["cost", "."],
+        "cost .",
         b"bs 1024\nlimit 7\n",
         (2, "", "jb: cannot read .\n"),
     ),
     (
-        &["cost", ""],
+        "cost ''",
         b"bs 1024\nlimit 7\n",
         (2, "", "jb: cannot read \n"),
     ),
-    (&["dump", "."], b"", (1, "", "jb: ReadFault\n")),
+    ("dump .", b"", (1, "", "jb: ReadFault\n")),
     (
-        &["dump", "no-such.journal"],
+        "dump no-such.journal",
         b"",
         (2, "", "jb: cannot read no-such.journal\n"),
     ),
     (
-        &["recover", "no-such.img"],
+        "recover no-such.img",
         b"",
         (2, "", "jb: cannot read no-such.img\n"),
     ),
-    (&["recover", "."], b"", (2, "", "jb: cannot read .\n")),
-    (&["recover", ""], b"", (2, "", "jb: cannot read \n")),
+    ("recover .", b"", (2, "", "jb: cannot read .\n")),
+    ("recover ''", b"", (2, "", "jb: cannot read \n")),
     (
-        &["renumber", "no-such.img"],
+        "renumber no-such.img",
         b"",
         (2, "", "jb: cannot read no-such.img\n"),
     ),
-    (&["widen", "."], b"", (2, "", "jb: cannot read .\n")),
+    ("widen .", b"", (2, "", "jb: cannot read .\n")),
     (
-        &["recover", "/dev/zero"],
+        "recover /dev/zero",
         b"",
         (2, "", "jb: cannot read /dev/zero\n"),
     ),
     (
-        &["load", "/dev/null", "no-such-queue.txt"],
+        "load /dev/null no-such-queue.txt",
         b"",
         (2, "", "jb: cannot read /dev/null\n"),
     ),
-    (&["--version"], b"", (0, "jb 0.1.0\n", "")),
+    ("--version", b"", (0, "jb 0.1.0\n", "")),
     (
-        &["cost"],
+        "cost",
         b"",
         (
             2,
@@ -102,56 +100,38 @@ static ROWS: [Row; 21] = [
     ),
 ];
 
-/// Checks each row of the table.
-fn check_runs(rt: &impl Host) {
-    for (row, (words, input, end)) in ROWS.iter().enumerate() {
-        check_over(rt, words, input, *end, "run", row);
-    }
-}
-
 #[test]
 fn each_run_answers_its_row(rt: HostRuntime) {
-    check_runs(&rt)
+    for (row, (line, input, end)) in ROWS.iter().enumerate() {
+        check_over(&rt, line, input, *end, row);
+    }
 }
 
 /// Checks an input that is so many bytes longer than a text may be: all of them but one are left.
 fn check_long(rt: &impl Host, past: u64, err: &'static str, row: usize) {
     let mut input = io::repeat(b'x').take((TEXT_LIMIT as u64).saturating_add(past));
-    let ran = ran_from(rt, COST, &mut input);
+    let ran = ran_from(rt, "cost -", &mut input);
     check_ran(rt, &ran, (2, "", err), "run over a long text", row);
     let left = past.saturating_sub(1);
     check_number(rt, input.limit(), left, "bytes left of a long text", row)
 }
 
-/// Checks that a text is too long where one byte more than the limit is read of it.
-fn check_too_long(rt: &impl Abort, alloc: Global) {
+/// Checks that a text is too long where one byte more than the limit is read of it, and that one as long as the limit
+/// is read.
+fn check_read(rt: &impl Abort, alloc: Global) {
     let mut four = b"abcd".as_slice();
-    let text = read_within(alloc, &mut four, 2);
-    check(
-        rt,
-        matches!(text, Err(ReadFault::TooLong)),
-        "it is not too long",
-    );
-    check(rt, four == b"d".as_slice(), "another rest is not read")
-}
-
-/// Checks that a text as long as the limit is read.
-fn check_all_read(rt: &impl Abort, alloc: Global) {
-    let mut two = b"ab".as_slice();
-    let text = read_within(alloc, &mut two, 2).expect(rt, "it is not read");
-    check(
-        rt,
-        text.as_slice() == b"ab".as_slice(),
-        "another text is read",
-    )
+    let is_long = matches!(read_within(alloc, &mut four, 2), Err(ReadFault::TooLong));
+    check(rt, is_long, "it is not too long");
+    check(rt, four == b"d".as_slice(), "another rest is not read");
+    let text = read_within(alloc, &mut b"ab".as_slice(), 2).expect(rt, "it is not read");
+    check_text(rt, &text, "ab", "what is read", 0)
 }
 
 /// Checks inputs that are longer than a text may be, and one that is as long.
 fn check_limits(rt: &impl Host) {
     check_long(rt, 0, "jb: queue line 1: BlockSizeLine\n", 0);
     check_long(rt, 3, "jb: too long -\n", 1);
-    check_too_long(rt, rt.alloc());
-    check_all_read(rt, rt.alloc())
+    check_read(rt, rt.alloc())
 }
 
 #[test]
@@ -160,30 +140,16 @@ fn no_more_than_one_byte_past_the_limit_is_read(rt: HostRuntime) {
 }
 
 /// Checks how words are refused where the system has this error.
-fn check_refusal(
-    rt: &impl Abort,
-    alloc: Global,
-    kind: ErrorKind,
-    status: u8,
-    line: &str,
-    at: usize,
-) {
+fn check_refusal(rt: &impl Abort, alloc: Global, kind: ErrorKind, status: u8, line: &str) {
     let mut err = Vec::new(alloc);
     let is = refuse_words(kind, &mut err);
-    check_number(
-        rt,
-        u64::from(is.status),
-        u64::from(status),
-        "status of refusal",
-        at,
-    );
-    check_text(rt, &err, line, "refusal", at)
+    check(rt, is.status == status, "the status of a refusal");
+    check_text(rt, &err, line, "a refusal of status", usize::from(status))
 }
 
 #[test]
 fn words_that_the_system_cannot_hand_over_are_refused(rt: HostRuntime) {
     let no_text = "error: invalid UTF-8 was detected in one or more arguments\n";
-    check_refusal(&rt, rt.alloc(), ErrorKind::InvalidData, 2, no_text, 0);
-    let memory = "jb: Memory\n";
-    check_refusal(&rt, rt.alloc(), ErrorKind::OutOfMemory, 1, memory, 1)
+    check_refusal(&rt, rt.alloc(), ErrorKind::InvalidData, 2, no_text);
+    check_refusal(&rt, rt.alloc(), ErrorKind::OutOfMemory, 1, "jb: Memory\n")
 }

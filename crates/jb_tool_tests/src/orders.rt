@@ -1,15 +1,12 @@
 //! Loads by several threads: what does not depend on their order is as worked out by hand, and the homes are as in some
 //! order of the handles.
 
-use crate::journal::{HOMES, formatted, load_lent, load_slowly, recovered};
+use crate::small::{FOUR, HOMES, formatted, load_lent, recovered};
 use jb_load::{HandleFault, LoadOptions, Loaded, Refused};
 use std::alloc::Global;
 use std::fmt::Write;
 use std::test::Fail;
 use std::time::{Duration, Instant};
-
-const FOUR: &str =
-    "bs 1024\nlimit 6\nh w1=01 w2=02\nh w3=03 w4=04\nh w3=13 w4=14\nh w3=23 w4=24 w5=25\n";
 
 /// Whether four handles are loaded and all of them are settled.
 fn is_whole(loaded: &Loaded) -> bool {
@@ -45,7 +42,14 @@ fn threads_load_all_in_some_order(rt: HostRuntime) -> Result<(), Fail> {
                 checkpoint,
             };
             let disk = formatted(rt.alloc(), 6, 1)?;
-            let (mut disk, answer) = load_lent(&rt, rt.alloc(), disk, FOUR, options)?;
+            let (mut disk, answer) = load_lent(
+                &rt,
+                rt.alloc(),
+                disk,
+                Duration::ZERO,
+                FOUR,
+                options,
+            )?;
             let loaded = answer?;
             assert!(rt; is_whole(&loaded), "{loaded:?}");
             let (_, homes) = recovered(rt.alloc(), &mut disk)?;
@@ -85,23 +89,12 @@ fn a_full_journal_is_waited_for(rt: HostRuntime) -> Result<(), Fail> {
         let text = writers(rt.alloc(), handles, more)?;
         let disk = formatted(rt.alloc(), 0, 1)?;
         let start = Instant::now(&rt)?;
-        let (mut disk, answer) = load_slowly(
-            &rt,
-            rt.alloc(),
-            disk,
-            Duration::from_millis(slow),
-            text.as_str(),
-            options,
-        )?;
+        let slow = Duration::from_millis(slow);
+        let (mut disk, answer) = load_lent(&rt, rt.alloc(), disk, slow, text.as_str(), options)?;
         let loaded = answer?;
-        assert_eq!(rt;
-            (
-                loaded.handles,
-                loaded.settled,
-                loaded.refused.map(|refused| refused.fault)
-            ),
-            (stopped, stopped, fault)
-        );
+        let refused = loaded.refused.map(|refused| refused.fault);
+        let counts = (loaded.handles, loaded.settled, refused);
+        assert_eq!(rt; counts, (stopped, stopped, fault));
         // no more than one of the workers waits in vain
         assert!(rt; start.elapsed(&rt)?.as_secs() < 20);
         let (_, homes) = recovered(rt.alloc(), &mut disk)?;

@@ -9,6 +9,7 @@ use jb_disk::{Disk, Fault, MemoryDisk};
 use std::sync::{Mutex, Wait};
 use std::thread;
 use std::time::{Clock, Duration};
+use tests_support::{read_block, write_block};
 
 /// A disk that somebody else keeps. What it holds is known to nobody, so that no clause on contents speaks of it.
 #[derive(Drop)]
@@ -78,12 +79,18 @@ impl<'a, R: Wait + Clock> Disk for LentDisk<'a, R> {
     }
 
     fn read(&mut self, place: u64, buf: &mut [u8]) -> Result<(), Fault> {
-        let answer = read_at(self.rt, self.disk, place, buf);
+        let answer = {
+            let mut disk = self.disk.lock(self.rt);
+            read_block(&mut *disk, place, buf)
+        };
         settle(answer, &mut self.faults)
     }
 
     fn write(&mut self, place: u64, bytes: &[u8]) -> Result<(), Fault> {
-        let answer = write_at(self.rt, self.disk, place, bytes);
+        let answer = {
+            let mut disk = self.disk.lock(self.rt);
+            write_block(&mut *disk, place, bytes)
+        };
         settle(answer, &mut self.faults)
     }
 
@@ -94,34 +101,6 @@ impl<'a, R: Wait + Clock> Disk for LentDisk<'a, R> {
         let answer = self.disk.lock(self.rt).sync();
         settle(answer, &mut self.faults)
     }
-}
-
-/// Reads a block of the disk that is kept.
-fn read_at<R: Wait>(
-    rt: &R,
-    disk: &Mutex<MemoryDisk>,
-    place: u64,
-    buf: &mut [u8],
-) -> Result<(), Fault> {
-    let mut disk = disk.lock(rt);
-    if place >= disk.blocks() || buf.len() != disk.block_size().bytes() as usize {
-        return Err(Fault);
-    }
-    disk.read(place, buf)
-}
-
-/// Writes a block of the disk that is kept.
-fn write_at<R: Wait>(
-    rt: &R,
-    disk: &Mutex<MemoryDisk>,
-    place: u64,
-    bytes: &[u8],
-) -> Result<(), Fault> {
-    let mut disk = disk.lock(rt);
-    if place >= disk.blocks() || bytes.len() != disk.block_size().bytes() as usize {
-        return Err(Fault);
-    }
-    disk.write(place, bytes)
 }
 
 /// Counts a fault where the call did not succeed.

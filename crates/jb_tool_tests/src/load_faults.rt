@@ -1,8 +1,8 @@
 //! Loads over disks that fail at each of their calls: the counts add up, all threads end, and recovery finds the homes
 //! as the first so many handles leave them.
 
-use crate::journal::{formatted, load, recovered};
 use crate::lent::LentDisk;
+use crate::small::{formatted, load, recovered};
 use jb_deck::OpenFault;
 use jb_desk::Ended;
 use jb_disk::{FuseDisk, OneFaultDisk};

@@ -13,6 +13,7 @@ use std::sync::{Mutex, Wait};
 use std::test::Fail;
 use std::thread::Threads;
 use std::time::{Clock, Duration};
+use tests_support::{read_block, write_block};
 
 /// The clock of all loads.
 const CLOCK: FixedClock = FixedClock {
@@ -22,12 +23,9 @@ const CLOCK: FixedClock = FixedClock {
 /// How many home blocks the journals have.
 pub const HOMES: usize = 16;
 
-/// One worker, which ends before anything is committed.
-pub const HELD: LoadOptions = LoadOptions {
-    threads: 1,
-    hold: true,
-    checkpoint: false,
-};
+/// Four handles on five home blocks.
+pub const FOUR: &str =
+    "bs 1024\nlimit 6\nh w1=01 w2=02\nh w3=03 w4=04\nh w3=13 w4=14\nh w3=23 w4=24 w5=25\n";
 
 /// A journal of 32 usable log blocks and 16 home blocks of zeros, of which a group takes so many log blocks at most,
 /// after a transaction of this number.
@@ -35,11 +33,9 @@ pub fn formatted(alloc: Global, most: u32, number: u32) -> Result<MemoryDisk, Fa
     let mut disk = MemoryDisk::new(alloc, BlockSize::OneKib, 49)?;
     format(&mut disk, 33, most, [0; 16], Width::Narrow)?;
     let mut front = [0; 1024];
-    if disk.block_size() == BlockSize::OneKib && disk.blocks() > 0 {
-        disk.read(0, &mut front)?;
-        put32(&mut front, 24, number);
-        disk.write(0, &front)?;
-    }
+    read_block(&mut disk, 0, &mut front)?;
+    put32(&mut front, 24, number);
+    write_block(&mut disk, 0, &front)?;
     Ok(disk)
 }
 
@@ -58,19 +54,8 @@ pub fn load<D: Disk + Drop + Send, R: Threads + Wait + Clock + Sync>(
     Ok(answer.map(|(loaded, _)| loaded))
 }
 
-/// Loads a queue text into a journal that is given back.
-pub fn load_lent<R: Threads + Wait + Clock + Sync>(
-    rt: &R,
-    alloc: Global,
-    disk: MemoryDisk,
-    text: &str,
-    options: LoadOptions,
-) -> Result<(MemoryDisk, Result<Loaded, LoadFault>), Fail> {
-    load_slowly(rt, alloc, disk, Duration::ZERO, text, options)
-}
-
 /// Loads a queue text into a journal that is given back, of which each sync takes so long.
-pub fn load_slowly<R: Threads + Wait + Clock + Sync>(
+pub fn load_lent<R: Threads + Wait + Clock + Sync>(
     rt: &R,
     alloc: Global,
     disk: MemoryDisk,
@@ -96,10 +81,8 @@ pub fn recovered(alloc: Global, disk: &mut MemoryDisk) -> Result<((u32, u32), [u
     let mut first = [0; HOMES];
     let mut home = [0; 1024];
     for at in 0..HOMES {
-        if disk.block_size() == BlockSize::OneKib && disk.blocks() > 33 + at as u64 {
-            disk.read(33 + at as u64, &mut home)?;
-            first[at] = home[0];
-        }
+        read_block(disk, 33 + at as u64, &mut home)?;
+        first[at] = home[0];
     }
     Ok(((found.transactions, found.copies), first))
 }

@@ -1,7 +1,7 @@
-use crate::checks::By;
+use crate::checks::{check_at, check_text};
+use crate::runs::{Host, words_of};
 use jb_words::parse;
 use std::alloc::Global;
-use tests_support::{Bench, Must, check_at};
 
 /// What clap says of words that it does not take: whether that goes to standard error, and its text.
 fn said(alloc: Global, words: &[&str]) -> Option<(bool, String)> {
@@ -11,89 +11,66 @@ fn said(alloc: Global, words: &[&str]) -> Option<(bool, String)> {
     }
 }
 
-/// Words that are a mistake, and what is said of them.
-static MISTAKES: [(&[&str], &str); 14] = [
+/// Command lines that lack a word, the word, and what is said of their use.
+static LACKING: [(&str, &str, &str); 7] = [
+    ("cost", "<FILE>", "cost <FILE>"),
+    ("check a", "<CERT>", "check <FILE> <CERT>"),
     (
-        &["cost"],
-        "error: the following required arguments were not provided:\n  <FILE>\n\nUsage: jb cost <FILE>\n\n\
-         For more information, try '--help'.\n",
+        "format a --bs 1024 --journal 33",
+        "--homes <N>",
+        "format --bs <N> --journal <N> --homes <N> <IMAGE>",
+    ),
+    ("recover", "<IMAGE>", "recover <IMAGE>"),
+    ("cat a.img", "<HOME>", "cat <IMAGE> <HOME>"),
+    ("load a.img", "<FILE>", "load <IMAGE> <FILE>"),
+    ("renumber", "<IMAGE>", "renumber <IMAGE>"),
+];
+
+/// Command lines that are another mistake, and what is said of them before `--help` is named.
+static MISTAKES: [(&str, &str); 7] = [
+    (
+        "format a --bs 18446744073709551616",
+        "invalid value '18446744073709551616' for '--bs <N>': number too large to fit in target type",
     ),
     (
-        &["check", "a"],
-        "error: the following required arguments were not provided:\n  <CERT>\n\nUsage: jb check <FILE> <CERT>\n\n\
-         For more information, try '--help'.\n",
+        "format a --bs x",
+        "invalid value 'x' for '--bs <N>': invalid digit found in string",
     ),
     (
-        &["format", "a", "--bs", "1024", "--journal", "33"],
-        "error: the following required arguments were not provided:\n  --homes <N>\n\n\
-         Usage: jb format --bs <N> --journal <N> --homes <N> <IMAGE>\n\nFor more information, try '--help'.\n",
+        "load a.img a --threads -1",
+        "unexpected argument '-1' found\n\n  tip: to pass '-1' as a value, use '-- -1'\n\n\
+         Usage: jb load [OPTIONS] <IMAGE> <FILE>",
     ),
     (
-        &["format", "a", "--bs", "18446744073709551616"],
-        "error: invalid value '18446744073709551616' for '--bs <N>': number too large to fit in target type\n\n\
-         For more information, try '--help'.\n",
+        "load a.img a --hold=yes",
+        "unexpected value 'yes' for '--hold' found; no more were expected\n\nUsage: jb load --hold <IMAGE> <FILE>",
     ),
     (
-        &["format", "a", "--bs", "x"],
-        "error: invalid value 'x' for '--bs <N>': invalid digit found in string\n\n\
-         For more information, try '--help'.\n",
+        "widen a b",
+        "unexpected argument 'b' found\n\nUsage: jb widen <IMAGE>",
     ),
     (
-        &["recover"],
-        "error: the following required arguments were not provided:\n  <IMAGE>\n\nUsage: jb recover <IMAGE>\n\n\
-         For more information, try '--help'.\n",
+        "cost a b",
+        "unexpected argument 'b' found\n\nUsage: jb cost <FILE>",
     ),
     (
-        &["cat", "a.img"],
-        "error: the following required arguments were not provided:\n  <HOME>\n\nUsage: jb cat <IMAGE> <HOME>\n\n\
-         For more information, try '--help'.\n",
-    ),
-    (
-        &["load", "a.img"],
-        "error: the following required arguments were not provided:\n  <FILE>\n\nUsage: jb load <IMAGE> <FILE>\n\n\
-         For more information, try '--help'.\n",
-    ),
-    (
-        &["load", "a.img", "a", "--threads", "-1"],
-        "error: unexpected argument '-1' found\n\n  tip: to pass '-1' as a value, use '-- -1'\n\n\
-         Usage: jb load [OPTIONS] <IMAGE> <FILE>\n\nFor more information, try '--help'.\n",
-    ),
-    (
-        &["load", "a.img", "a", "--hold=yes"],
-        "error: unexpected value 'yes' for '--hold' found; no more were expected\n\n\
-         Usage: jb load --hold <IMAGE> <FILE>\n\nFor more information, try '--help'.\n",
-    ),
-    (
-        &["renumber"],
-        "error: the following required arguments were not provided:\n  <IMAGE>\n\nUsage: jb renumber <IMAGE>\n\n\
-         For more information, try '--help'.\n",
-    ),
-    (
-        &["widen", "a", "b"],
-        "error: unexpected argument 'b' found\n\nUsage: jb widen <IMAGE>\n\nFor more information, try '--help'.\n",
-    ),
-    (
-        &["cost", "a", "b"],
-        "error: unexpected argument 'b' found\n\nUsage: jb cost <FILE>\n\nFor more information, try '--help'.\n",
-    ),
-    (
-        &["coast", "a"],
-        "error: unrecognized subcommand 'coast'\n\n  tip: some similar subcommands exist: 'format', 'cost'\n\n\
-         Usage: jb <COMMAND>\n\nFor more information, try '--help'.\n",
+        "coast a",
+        "unrecognized subcommand 'coast'\n\n  tip: some similar subcommands exist: 'format', 'cost'\n\n\
+         Usage: jb <COMMAND>",
     ),
 ];
 
 /// Words that ask for a text, and the text.
-static SHOWN: [(&[&str], &str); 9] = [
-    (&["--version"], "jb 0.1.0\n"),
+static SHOWN: [(&str, &str); 9] = [
+    ("--version", "jb 0.1.0\n"),
     (
-        &["cost", "-h"],
+        "cost -h",
         "Prints the log blocks that the queue takes as one group\n\nUsage: jb cost <FILE>\n\nArguments:\
          \n  <FILE>  A queue text, or - for standard input\n\nOptions:\
          \n  -h, --help  Print help (see more with '--help')\n",
     ),
     (
-        &["dump", "-h"],
+        "dump -h",
         "Prints the committed transactions of a journal, block by block\n\nUsage: jb dump [OPTIONS] <FILE>\n\n\
          Arguments:\n  <FILE>  A file with the whole journal at its front, or - for standard input\n\nOptions:\
          \n      --home <N>  Only the lines that speak of home block N\
@@ -101,7 +78,7 @@ static SHOWN: [(&[&str], &str); 9] = [
          \n  -h, --help      Print help (see more with '--help')\n",
     ),
     (
-        &["cat", "-h"],
+        "cat -h",
         "Writes home blocks of an image as recovery would leave them\n\nUsage: jb cat [OPTIONS] <IMAGE> <HOME>\n\n\
          Arguments:\n  <IMAGE>  A file or block device with a journal at its front, and the home blocks after it\
          \n  <HOME>   The number of the first home block\n\nOptions:\
@@ -112,7 +89,7 @@ static SHOWN: [(&[&str], &str); 9] = [
          \n  -h, --help            Print help (see more with '--help')\n",
     ),
     (
-        &["format", "-h"],
+        "format -h",
         "Makes an image: a new journal, and home blocks of zeros after it\n\n\
          Usage: jb format [OPTIONS] --bs <N> --journal <N> --homes <N> <IMAGE>\n\nArguments:\
          \n  <IMAGE>  The file to make; an existing file is not overwritten\n\nOptions:\
@@ -125,7 +102,7 @@ static SHOWN: [(&[&str], &str); 9] = [
          \n  -h, --help         Print help (see more with '--help')\n",
     ),
     (
-        &["load", "-h"],
+        "load -h",
         "Commits the handles of a queue text to an image, run by threads\n\nUsage: jb load [OPTIONS] <IMAGE> <FILE>\n\n\
          Arguments:\n  <IMAGE>  A file or block device with a journal at its front, and the home blocks after it\
          \n  <FILE>   A queue text of the image's block size\n\nOptions:\
@@ -137,7 +114,7 @@ static SHOWN: [(&[&str], &str); 9] = [
          \n  -h, --help            Print help (see more with '--help')\n",
     ),
     (
-        &["recover", "-h"],
+        "recover -h",
         "Writes home what an image's journal has committed, and empties its log\n\n\
          Usage: jb recover [OPTIONS] <IMAGE>\n\nArguments:\
          \n  <IMAGE>  A file or block device with a journal at its front, and the home blocks after it\n\nOptions:\
@@ -149,7 +126,7 @@ static SHOWN: [(&[&str], &str); 9] = [
          \n  -h, --help            Print help (see more with '--help')\n",
     ),
     (
-        &["help", "renumber"],
+        "help renumber",
         "Restarts the transaction numbers of a clean journal at 1\n\nUsage: jb renumber <IMAGE>\n\nArguments:\
          \n  <IMAGE>\n          A file or block device with a journal at its front, and the home blocks after it\n\n\
          Options:\n  -h, --help\n          Print help (see a summary with '-h')\n\n\
@@ -159,7 +136,7 @@ static SHOWN: [(&[&str], &str); 9] = [
          \n  jb renumber a.img     # renumbered blocks 2 next 1\n",
     ),
     (
-        &["-h"],
+        "-h",
         "A block journal in jbd2's format\n\nUsage: jb <COMMAND>\n\nCommands:\
          \n  cost      Prints the log blocks that the queue takes as one group\
          \n  plan      Prints a least cut of the queue into groups, with its prices\
@@ -177,22 +154,40 @@ static SHOWN: [(&[&str], &str); 9] = [
 ];
 
 /// Checks what clap says of the words of a row, and whether it goes to standard error.
-fn check_row(test: &impl Bench, words: &[&str], is_mistake: bool, wanted: &str, row: u64) {
-    let (goes_to_err, text) = said(test.alloc(), words).must(test, "a text");
-    check_at(test, goes_to_err == is_mistake, "where goes row", row);
-    check_at(test, text.as_str() == wanted, "the text of row", row)
+fn check_said(rt: &impl Host, line: &str, is_mistake: bool, wanted: &str, row: usize) {
+    let words = words_of(rt, line);
+    let (goes_to_err, text) = said(rt.alloc(), &words).expect(rt, "a text");
+    check_at(rt, goes_to_err == is_mistake, line, row);
+    check_text(rt, text.as_bytes(), wanted, line, row)
 }
 
-fn check_rows(test: &impl Bench) {
-    for (row, (words, wanted)) in (0..).zip(&MISTAKES) {
-        check_row(test, words, true, wanted, row)
-    }
-    for (row, (words, wanted)) in (0..).zip(&SHOWN) {
-        check_row(test, words, false, wanted, row)
-    }
+/// Checks what clap says of a mistake.
+fn check_mistake(rt: &impl Host, line: &str, what: &str, row: usize) {
+    let wanted = format!(in rt.alloc(); "error: {what}\n\nFor more information, try '--help'.\n");
+    check_said(rt, line, true, wanted.expect(rt, "memory").as_str(), row)
+}
+
+/// Checks what clap says of a word that is lacking.
+fn check_lacking(rt: &impl Host, line: &str, word: &str, usage: &str, row: usize) {
+    let what = format!(in rt.alloc();
+        "the following required arguments were not provided:\n  {word}\n\nUsage: jb {usage}"
+    );
+    check_mistake(rt, line, what.expect(rt, "memory").as_str(), row)
 }
 
 #[test]
 fn what_is_no_command_is_answered_by_clap(rt: HostRuntime) {
-    check_rows(&By(&rt, rt.alloc()))
+    for (row, (line, word, usage)) in LACKING.iter().enumerate() {
+        check_lacking(&rt, line, word, usage, row);
+    }
+    for (row, (line, what)) in MISTAKES.iter().enumerate() {
+        check_mistake(&rt, line, what, row);
+    }
+}
+
+#[test]
+fn help_is_shown_by_clap(rt: HostRuntime) {
+    for (row, (line, wanted)) in SHOWN.iter().enumerate() {
+        check_said(&rt, line, false, wanted, row);
+    }
 }
