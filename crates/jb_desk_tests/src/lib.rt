@@ -2,9 +2,11 @@
 #![tactic(auto)]
 
 #[cfg(test)]
-mod blind;
-#[cfg(test)]
 mod books;
+#[cfg(test)]
+mod bounds;
+#[cfg(test)]
+mod cases;
 #[cfg(test)]
 mod checkpoints;
 #[cfg(test)]
