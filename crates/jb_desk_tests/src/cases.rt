@@ -15,9 +15,21 @@ use std::marker::Brand;
 use std::sync::ledger::{Blank, Ledger};
 
 /// The parts of each ledger of a desk.
-const PARTS: u64 = (1 << 61) + 1;
+pub const PARTS: u64 = (1 << 61) + 1;
 
-/// What is tried at a new desk. A value is one case, as the row of a table, and `T` is what is found.
+/// A new ledger for the handles that will stop, and a new history of them.
+pub fn stops(rt: &impl Host) -> Stops
+    ensures { result.tickets.parts ≡ 2 ^ 61 + 1 }
+{
+    Stops::new(rt.alloc(), PARTS).expect(rt, "memory")
+}
+
+/// A new history of a journal's marks.
+pub fn marks<D: SharedDisk>(rt: &impl Host) -> Opened<Deck<D>> {
+    Opened::new(rt.alloc()).expect(rt, "memory")
+}
+
+/// What one thread tries at a new desk (for several threads see [`Crew`](crate::crews::Crew)). A value is one case, as the row of a table, and `T` is what is found.
 pub trait Case<D: SharedDisk, T> {
     /// Runs it at a new desk. `at` is which one it is: the number of the row, or of the call of the disk that fails.
     fn run<R: Host, H: SharedOrigin, N: SharedLedger>(
@@ -44,6 +56,27 @@ pub fn run_over<T, D: SharedDisk, C: Case<D, T>, R: Host>(
     }
 }
 
+/// Starts a desk over a journal of which nothing is known. Its ledgers are `handles`, with its history, and `changes`;
+/// `marks` is the history of its commits.
+pub fn started<D: SharedDisk, H: Origin, N: Ledger>(
+    rt: &impl Host,
+    handles: Stops,
+    changes: Blank,
+    marks: Opened<Deck<D>>,
+    deck: Deck<D>,
+) -> Still<D, H, N>
+    requires blind { H.begun.is_known → ⊥ }
+    requires handles { (handles.tickets.name ≡ H.name) × (handles.tickets.parts ≡ H.parts) × (H.parts ≡ 2 ^ 61 + 1) }
+    requires histories { (history_in handles ≡ H.history) × (history_id marks ≡ H.marks) }
+    requires changes { (changes.name ≡ N.name) × (changes.parts ≡ N.parts) × (N.parts ≡ 2 ^ 61 + 1) }
+    requires fresh { deck.trail ≡ [] }
+    requires running { deck.aborted ≡ false }
+{
+    Desk::start(rt.alloc(), handles, changes, marks, deck, CLOCK)
+        .ok()
+        .expect(rt, "the desk is not started")
+}
+
 /// Runs a case at a new desk over a journal that was just opened.
 fn run_opened<T, D: SharedDisk, C: Case<D, T>, R: Host>(
     rt: &R,
@@ -53,14 +86,13 @@ fn run_opened<T, D: SharedDisk, C: Case<D, T>, R: Host>(
 ) -> T
     requires deck { (deck.trail ≡ []) × (deck.aborted ≡ false) }
 {
-    let handles = Stops::new(rt.alloc(), PARTS).expect(rt, "memory");
+    let handles = stops(rt);
     let changes = Blank::new(PARTS);
-    let marks = Opened::new(rt.alloc()).expect(rt, "memory");
+    let marks = marks(rt);
     run_started::<T, D, C, R, Brand, Brand>(rt, handles, changes, marks, deck, case, at)
 }
 
-/// Starts a desk, and runs a case at it. Its ledgers are `handles`, with its history, and `changes`; `marks` is the
-/// history of its commits.
+/// Runs a case at a desk that is started with these ledgers (see [`started`]).
 fn run_started<
     T,
     D: SharedDisk,
@@ -82,12 +114,9 @@ fn run_started<
     requires handles { (handles.tickets.name ≡ H.name) × (handles.tickets.parts ≡ H.parts) × (H.parts ≡ 2 ^ 61 + 1) }
     requires histories { (history_in handles ≡ H.history) × (history_id marks ≡ H.marks) }
     requires changes { (changes.name ≡ N.name) × (changes.parts ≡ N.parts) × (N.parts ≡ 2 ^ 61 + 1) }
-    requires fresh { deck.trail ≡ [] }
-    requires running { deck.aborted ≡ false }
+    requires deck { (deck.trail ≡ []) × (deck.aborted ≡ false) }
 {
-    let desk: Still<D, H, N> = Desk::start(rt.alloc(), handles, changes, marks, deck, CLOCK)
-        .ok()
-        .expect(rt, "the desk is not started");
+    let desk: Still<D, H, N> = started(rt, handles, changes, marks, deck);
     case.run(rt, desk, at)
 }
 
@@ -103,15 +132,8 @@ pub fn run_each<C: Case<MemoryDisk, ()>, R: Host>(rt: &R, cases: &[C]) {
     }
 }
 
-/// Runs a case so many times, over a new small journal each time.
-pub fn run_times<C: Case<MemoryDisk, ()>, R: Host>(rt: &R, case: &C, times: u64) {
-    for time in 0..times {
-        run_case(rt, formatted(rt), case, time);
-    }
-}
-
 /// Where the call of the disk that fails is made.
-#[derive(Clone, Copy)]
+#[derive(Drop)]
 pub enum Fails {
     /// in the call of the desk that the case is about
     Here,
@@ -127,7 +149,7 @@ pub fn run_each_fault<C: Case<OneFaultDisk<MemoryDisk>, Fails>, R: Host>(rt: &R,
     for call in 0..200 {
         match run_over(rt, OneFaultDisk::of(formatted(rt), call), case, call) {
             Some(Fails::Here) => has_failed = true,
-            Some(Fails::Never) => return check(rt, has_failed, "the call that should fails never"),
+            Some(Fails::Never) => return check(rt, has_failed, "no call fails where one should"),
             Some(Fails::Elsewhere) | None => {}
         }
     }

@@ -5,9 +5,10 @@ ghost use Rattle.jb_desk.specs.Seats.{desk_of};
 ghost use Rattle.jb_handle.specs.Word.{WordMap};
 
 use crate::bounds::{Host, SharedDisk, SharedLedger, SharedOrigin};
-use crate::cases::{Case, Fails, run_each_fault, run_times};
+use crate::cases::{Case, Fails, run_each_fault};
 use crate::checks::check_at;
 use crate::closing::{closed, left};
+use crate::crews::{Crew, run_crews};
 use crate::journal::{Came, Still, commit, is_one, refused, round_of, seated, write};
 use jb_deck::{Checked, CheckpointFault, ReadHomeFault};
 use jb_desk::{BeginFault, Ended, Origin, RoundFault, Seat, WaitFault};
@@ -89,14 +90,10 @@ fn after_checkpoint<R: Host, D: SharedDisk, H: Origin, N: Ledger>(
     }
 }
 
-/// Whether the checkpoint and the round after it succeed.
-fn is_whole(found: &Found) -> bool {
-    found.checked.is_ok() && is_one(found.second, 1, 3)
-}
-
-/// Checks what is found where the call of this number fails in the checkpoint. Says where it does.
+/// Checks what is found where the call of this number fails in the checkpoint. Says where it does: nowhere, if the
+/// checkpoint and the round after it succeed.
 fn check_found(rt: &impl Abort, call: u64, found: &Found) -> Fails {
-    if is_whole(found) {
+    if found.checked.is_ok() && is_one(found.second, 1, 3) {
         return Fails::Never;
     }
     if found.checked != Err(CheckpointFault::DeviceFault) {
@@ -197,31 +194,22 @@ fn run_crowded<R: Host, D: SharedDisk, H: SharedOrigin, N: SharedLedger>(
     ended
 }
 
-/// No group is left once a checkpointer has ended that ran while the last handle of the desk was committed.
-struct Race;
-
-impl<D: SharedDisk> Case<D, ()> for Race {
-    fn run<R: Host, H: SharedOrigin, N: SharedLedger>(
-        &self,
-        rt: &R,
-        desk: Still<D, H, N>,
-        race: u64,
-    )
-        requires any { (words : WordMap) → H.begun.stops words }
-    {
-        let (_, ended) = thread::join(rt, || commit_last(rt, &desk), || run_crowded(rt, &desk));
-        let is_empty = desk.checkpoint_round(rt) == Err(CheckpointFault::Nothing);
-        check_at(
-            rt,
-            ended.is_shut(),
-            "how the checkpointer ends in race",
-            race,
-        );
-        check_at(rt, is_empty, "a group is left in race", race);
-    }
+/// Checks that no group is left once a checkpointer has ended that ran while the last handle of the desk was
+/// committed.
+pub fn race<R: Host, D: SharedDisk, H: SharedOrigin, N: SharedLedger>(
+    rt: &R,
+    desk: Still<D, H, N>,
+    race: u64,
+)
+    requires any { (words : WordMap) → H.begun.stops words }
+{
+    let (_, ended) = thread::join(rt, || commit_last(rt, &desk), || run_crowded(rt, &desk));
+    let is_empty = desk.checkpoint_round(rt) == Err(CheckpointFault::Nothing);
+    check_at(rt, ended.is_shut(), "how it ends in race", race);
+    check_at(rt, is_empty, "a group is left in race", race);
 }
 
 #[test]
 fn a_checkpointer_ends_with_no_group(rt: HostRuntime) {
-    run_times(&rt, &Race, RACES);
+    run_crews(&rt, Crew::Race, RACES);
 }

@@ -8,8 +8,7 @@ use crate::bounds::{Host, SharedDisk, SharedLedger, SharedOrigin};
 use crate::cases::{Case, run_each};
 use crate::checks::check;
 use crate::closing::{check_close, check_close_twice, is_closed, left, over_at};
-use crate::journal::{SHAPE, Still, begun, refused, seated, stop};
-use jb_board::Front;
+use crate::journal::{SHAPE, STOPPED, Still, begun, refused, seated, stop};
 use jb_deck::CheckpointFault;
 use jb_desk::{BeginFault, EnqueueFault, Left, Origin, Seat, WaitFault};
 use jb_disk::Disk;
@@ -17,13 +16,6 @@ use jb_handle::Handle;
 use std::process::Abort;
 use std::sync::Wait;
 use std::sync::ledger::Ledger;
-
-/// One handle has stopped.
-const STOPPED: Front = Front {
-    settled: 0,
-    taken: 0,
-    stopped: 1,
-};
 
 /// A handle may have six credits, and no more.
 fn check_credits<R: Abort + Wait, D: Disk, H: Origin, N: Ledger>(
@@ -37,11 +29,8 @@ fn check_credits<R: Abort + Wait, D: Disk, H: Origin, N: Ledger>(
     let (seat, most) = refused(rt, desk, seat, 6);
     let (seat, more) = refused(rt, desk, seat, 7);
     check(rt, most.is_none(), "a begin with six credits");
-    check(
-        rt,
-        more == Some(BeginFault::TooManyCredits(6)),
-        "a begin with seven credits",
-    );
+    let is_refused = more == Some(BeginFault::TooManyCredits(6));
+    check(rt, is_refused, "a begin with seven credits");
     seat
 }
 
@@ -61,11 +50,8 @@ fn check_stop<R: Abort + Wait, D: Disk, H: Origin, N: Ledger>(
     let unknown = desk.wait(rt, &mut seat, &mut desk.sights(rt), 1);
     check(rt, ticket == Ok(0), "the ticket");
     check(rt, front == STOPPED, "the front");
-    check(
-        rt,
-        unknown == Err(WaitFault::Unknown),
-        "the number of a ticket that nobody has",
-    );
+    let is_unknown = unknown == Err(WaitFault::Unknown);
+    check(rt, is_unknown, "the number of a ticket that nobody has");
     seat
 }
 
@@ -77,18 +63,12 @@ fn one_handle<R: Host, D: SharedDisk, H: Origin, N: Ledger>(rt: &R, desk: Still<
     let seat = check_credits(rt, &desk, seated(rt, &desk));
     let seat = check_stop(rt, &desk, seat);
     let checked = desk.checkpoint_round(rt);
-    check(
-        rt,
-        checked == Err(CheckpointFault::Nothing),
-        "a checkpoint of no group",
-    );
+    let is_nothing = checked == Err(CheckpointFault::Nothing);
+    check(rt, is_nothing, "a checkpoint of no group");
     desk.shut(rt);
     let (seat, begun) = refused(rt, &desk, seat, 1);
-    check(
-        rt,
-        begun == Some(BeginFault::Closed),
-        "a begin at a desk that is shut",
-    );
+    let is_refused = begun == Some(BeginFault::Closed);
+    check(rt, is_refused, "a begin at a desk that is shut");
     let lefts = left(rt, &desk, seat);
     check(rt, is_closed(rt, &desk), "a desk that is shut gives a seat");
     check_close(rt, "one handle", desk, lefts, (1, 1, 0))
@@ -102,11 +82,8 @@ fn check_busy<R: Abort + Wait, D: Disk, H: Origin, N: Ledger>(
     let handle = begun(rt, desk, seated(rt, desk), 1, "a handle that its seat ends");
     let (seat, _words) = handle.end();
     let (seat, busy) = refused(rt, desk, seat, 1);
-    check(
-        rt,
-        busy == Some(BeginFault::Busy),
-        "a begin of a seat that has ended its handle itself",
-    );
+    let is_busy = busy == Some(BeginFault::Busy);
+    check(rt, is_busy, "a begin after a handle was taken apart");
     desk.leave(rt, seat)
 }
 
@@ -121,11 +98,8 @@ fn check_foreign<R: Host, D: Disk, H: Origin, N: Ledger>(
 {
     let handle = Handle::new(rt.alloc(), seat, 1, SHAPE);
     let (seat, foreign) = stop(rt, desk, handle);
-    check(
-        rt,
-        foreign == Err(EnqueueFault::NotOpen),
-        "the stop of a handle that nobody has begun",
-    );
+    let is_refused = foreign == Err(EnqueueFault::NotOpen);
+    check(rt, is_refused, "the stop of a handle that is not begun");
     seat
 }
 
@@ -141,11 +115,7 @@ fn strays<R: Host, D: SharedDisk, H: Origin, N: Ledger>(rt: &R, desk: Still<D, H
     desk.shut(rt);
     // a checkpointer would not end where a handle stays listed
     let over = over_at(desk.run_checkpointer(rt));
-    check(
-        rt,
-        over == Some(0),
-        "how many handles were settled when the desk was over",
-    );
+    check(rt, over == Some(0), "handles that were settled");
     check_close_twice(rt, "strays", desk, lefts, first, (0, 0, 0))
 }
 
@@ -154,11 +124,8 @@ fn check_full<R: Abort + Wait, D: Disk, H: Origin, N: Ledger>(rt: &R, desk: &Sti
     let (seat, three) = refused(rt, desk, seated(rt, desk), 3);
     let (seat, two) = refused(rt, desk, seat, 2);
     let _left = desk.leave(rt, seat);
-    check(
-        rt,
-        three == Some(BeginFault::Full(30)),
-        "a begin with three credits",
-    );
+    let is_full = three == Some(BeginFault::Full(30));
+    check(rt, is_full, "a begin with three credits");
     check(rt, two.is_none(), "a begin with two credits");
 }
 
@@ -187,7 +154,6 @@ fn leavers<R: Abort + Wait, D: Disk, H: Origin, N: Ledger>(rt: &R, desk: &Still<
 }
 
 /// What is asked of a new desk.
-#[derive(Clone, Copy)]
 enum Row {
     OneHandle,
     Beside,
@@ -195,12 +161,14 @@ enum Row {
     Strays,
 }
 
+static ROWS: [Row; 4] = [Row::OneHandle, Row::Beside, Row::Leavers, Row::Strays];
+
 impl<D: SharedDisk> Case<D, ()> for Row {
     fn run<R: Host, H: SharedOrigin, N: SharedLedger>(&self, rt: &R, desk: Still<D, H, N>, _at: u64)
         requires any { (words : WordMap) → H.begun.stops words }
         requires parts { (H.parts ≡ 2 ^ 61 + 1) × (N.parts ≡ 2 ^ 61 + 1) }
     {
-        match *self {
+        match self {
             Row::OneHandle => one_handle(rt, desk),
             Row::Beside => beside(rt, &desk, 5),
             Row::Leavers => leavers(rt, &desk),
@@ -211,8 +179,5 @@ impl<D: SharedDisk> Case<D, ()> for Row {
 
 #[test]
 fn desks_answer_as_worked_by_hand(rt: HostRuntime) {
-    run_each(
-        &rt,
-        &[Row::OneHandle, Row::Beside, Row::Leavers, Row::Strays],
-    );
+    run_each(&rt, &ROWS);
 }

@@ -36,11 +36,7 @@ fn stop_two<R: Abort + Wait, D: Disk, H: Origin, N: Ledger>(
 {
     let seat = desk.give_up(rt, desk.committer(seat));
     let (seat, begun) = refused(rt, desk, seat, 1);
-    check(
-        rt,
-        begun.is_none(),
-        "a begin after a committer without a batch has given up",
-    );
+    check(rt, begun.is_none(), "a begin after nothing was given up");
     let (seat, _) = write(rt, desk, seat, 1, &[1]);
     let (seat, _) = write(rt, desk, seat, 2, &[2, 3]);
     seat
@@ -64,11 +60,8 @@ fn end<R: Host, D: Disk, H: Origin, N: Ledger>(
     let ended = desk.run_checkpointer(rt);
     check(rt, over_at(ended) == Some(2), "how the checkpointer ends");
     let last = desk.checkpoint_round(rt);
-    check(
-        rt,
-        last == Err(CheckpointFault::Nothing),
-        "a group is left in the log",
-    );
+    let is_empty = last == Err(CheckpointFault::Nothing);
+    check(rt, is_empty, "a group is left in the log");
     seat
 }
 

@@ -4,9 +4,9 @@ ghost use Rattle.jb_disk.specs.Faults.{CountsFault, counted};
 ghost use Rattle.jb_handle.specs.Word.{WordMap};
 
 use crate::bounds::{Host, SharedDisk, SharedLedger, SharedOrigin};
-use crate::cases::{Case, run_case};
 use crate::checks::check;
 use crate::closing::check_close;
+use crate::crews::{Crew, run_crew};
 use crate::journal::{Still, begun, formatted, is_one, retired, round, seated, stop, write};
 use jb_block::BlockSize;
 use jb_desk::{Left, Origin};
@@ -188,29 +188,25 @@ fn second<R: Host, D: Disk, H: Origin, N: Ledger>(
 }
 
 /// Two threads stop a handle each, the second one while the disk is at work for the first.
-#[derive(Drop)]
-struct TwoStops<'a> {
-    gate: &'a Gate,
-}
-
-impl<'a, D: SharedDisk> Case<D, ()> for TwoStops<'a> {
-    fn run<R: Host, H: SharedOrigin, N: SharedLedger>(&self, rt: &R, desk: Still<D, H, N>, _at: u64)
-        requires any { (words : WordMap) → H.begun.stops words }
-        requires parts { (H.parts ≡ 2 ^ 61 + 1) × (N.parts ≡ 2 ^ 61 + 1) }
-    {
-        let gate = self.gate;
-        let (other, one) = thread::join(rt, || second(rt, &desk, gate), || first(rt, &desk, gate));
-        let mut lefts = Vec::new(rt.alloc());
-        lefts.push(one).expect(rt, "memory");
-        lefts.push(other).expect(rt, "memory");
-        check_close(rt, "the desk", desk, lefts, (2, 2, 2))
-    }
+pub fn stop_both<R: Host, D: SharedDisk, H: SharedOrigin, N: SharedLedger>(
+    rt: &R,
+    desk: Still<D, H, N>,
+    gate: &Gate,
+)
+    requires any { (words : WordMap) → H.begun.stops words }
+    requires parts { (H.parts ≡ 2 ^ 61 + 1) × (N.parts ≡ 2 ^ 61 + 1) }
+{
+    let (other, one) = thread::join(rt, || second(rt, &desk, gate), || first(rt, &desk, gate));
+    let mut lefts = Vec::new(rt.alloc());
+    lefts.push(one).expect(rt, "memory");
+    lefts.push(other).expect(rt, "memory");
+    check_close(rt, "the desk", desk, lefts, (2, 2, 2))
 }
 
 /// Two threads stop a handle each at a new desk.
 fn check_stops(rt: &impl Host) {
     let gate = Gate::shut();
-    run_case(rt, gated_disk(rt, &gate), &TwoStops { gate: &gate }, 0);
+    run_crew(rt, gated_disk(rt, &gate), Crew::Stopping(&gate), 0);
 }
 
 #[test]

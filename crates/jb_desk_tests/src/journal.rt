@@ -9,6 +9,7 @@ ghost use Rattle.jb_handle.specs.Word.{WordMap};
 use crate::bounds::Host;
 use crate::checks::{read_at, write_at};
 use jb_block::{BlockSize, Width, put32};
+use jb_board::Front;
 use jb_deck::{Deck, Entry};
 use jb_desk::{
     BeginFault, Committer, Desk, EnqueueFault, Origin, Round, RoundFault, Seat, StopFault,
@@ -36,6 +37,13 @@ pub const SHAPE: Shape = Shape {
     homes: 16,
     limit: 8,
     width: Width::Narrow,
+};
+
+/// The only handle of a desk has stopped.
+pub const STOPPED: Front = Front {
+    settled: 0,
+    taken: 0,
+    stopped: 1,
 };
 
 /// A new journal of 32 usable log blocks and 16 home blocks, of which a group takes 8 log blocks at most.

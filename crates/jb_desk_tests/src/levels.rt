@@ -8,6 +8,7 @@ use crate::bounds::{Host, SharedDisk, SharedLedger, SharedOrigin};
 use crate::cases::{Case, run_each};
 use crate::checks::{check, check_at, check_in, fail};
 use crate::closing::{closed, left};
+use crate::crews::{Crew, run_crews};
 use crate::journal::{Still, commit, home, seated};
 use jb_deck::{CheckedRun, CheckpointFault};
 use jb_desk::{CheckpointRound, Origin, Seat};
@@ -132,26 +133,22 @@ fn commit_beside<R: Host, D: Disk, H: Origin, N: Ledger>(rt: &R, desk: &Still<D,
     check_at(rt, high == 0, "blocks after three groups:", high.into());
 }
 
-/// A checkpointer at the level, which leaves no group once the desk is over.
-struct Resting;
-
-impl<D: SharedDisk> Case<D, ()> for Resting {
-    fn run<R: Host, H: SharedOrigin, N: SharedLedger>(&self, rt: &R, desk: Still<D, H, N>, _at: u64)
-        requires any { (words : WordMap) → H.begun.stops words }
-    {
-        let (ended, _) = thread::join(
-            rt,
-            || desk.run_checkpointer_at(rt, LEVEL),
-            || commit_beside(rt, &desk),
-        );
-        let last = desk.checkpoint_round(rt);
-        check(rt, ended.is_shut(), "the end of the checkpointer");
-        let is_empty = last == Err(CheckpointFault::Nothing);
-        check(rt, is_empty, "a group is left in the log");
-    }
+/// Commits beside a checkpointer at the level, which leaves no group once the desk is over.
+pub fn rest<R: Host, D: SharedDisk, H: SharedOrigin, N: SharedLedger>(rt: &R, desk: Still<D, H, N>)
+    requires any { (words : WordMap) → H.begun.stops words }
+{
+    let (ended, _) = thread::join(
+        rt,
+        || desk.run_checkpointer_at(rt, LEVEL),
+        || commit_beside(rt, &desk),
+    );
+    let last = desk.checkpoint_round(rt);
+    check(rt, ended.is_shut(), "the end of the checkpointer");
+    let is_empty = last == Err(CheckpointFault::Nothing);
+    check(rt, is_empty, "a group is left in the log");
 }
 
 #[test]
 fn a_checkpointer_rests_below_its_level(rt: HostRuntime) {
-    run_each(&rt, &[Resting]);
+    run_crews(&rt, Crew::Resting, 1);
 }

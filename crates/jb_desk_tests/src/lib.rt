@@ -14,6 +14,8 @@ mod checks;
 #[cfg(test)]
 mod closing;
 #[cfg(test)]
+mod crews;
+#[cfg(test)]
 mod desks;
 #[cfg(test)]
 mod ends;

@@ -4,9 +4,9 @@ ghost use Rattle.std.specs.Prelude.{◌≡◌, ◌+◌, ◌^◌};
 ghost use Rattle.jb_handle.specs.Word.{WordMap};
 
 use crate::bounds::{Host, SharedDisk, SharedLedger, SharedOrigin};
-use crate::cases::{Case, run_over};
 use crate::checks::check_at;
 use crate::closing::closed;
+use crate::crews::load_over;
 use crate::homes::{Stop, contents_of, prefix_of};
 use crate::journal::{Still, with_journal};
 use crate::keys::{Draws, HOMES};
@@ -30,7 +30,7 @@ const LOADS: u64 = 16;
 
 /// A load: the seed of its keys, the handles that each thread begins, and the calls after which the disk stops.
 #[derive(Clone, Copy)]
-struct Load {
+pub struct Load {
     seed: u64,
     handles: u32,
     calls: u64,
@@ -38,7 +38,7 @@ struct Load {
 
 /// What was reported of a load.
 #[derive(Drop)]
-struct Outcome {
+pub struct Outcome {
     /// in the order of their tickets
     stops: Vec<Stop>,
     waited: Vec<(u64, u32)>,
@@ -91,36 +91,34 @@ fn sums_of<H: Origin, N: Ledger>(rt: &impl Host, reports: Reports<H, N>) -> Sums
     all
 }
 
-impl<D: SharedDisk> Case<D, (Outcome, D)> for Load {
-    fn run<R: Host, H: SharedOrigin, N: SharedLedger>(
-        &self,
-        rt: &R,
-        desk: Still<D, H, N>,
-        seed: u64,
-    ) -> (Outcome, D)
-        requires any { (words : WordMap) → H.begun.stops words }
-        requires parts { (H.parts ≡ 2 ^ 61 + 1) × (N.parts ≡ 2 ^ 61 + 1) }
-    {
-        let reports = work_all(rt, &desk, self.seed, self.handles);
-        let (committed, checkpointed) = reports.ended;
-        let Sums {
-            lefts,
-            stops,
-            waited,
-            touched,
-        } = sums_of(rt, reports);
-        let closed = closed(rt, desk, lefts);
-        let has_stops = closed.handles == stops.len() as u64;
-        check_at(rt, has_stops, "handles of load", seed);
-        check_at(rt, closed.changes == touched, "changes of load", seed);
-        let outcome = Outcome {
-            stops,
-            waited,
-            trail: closed.trail,
-            is_whole: committed.is_shut() && checkpointed.is_shut(),
-        };
-        (outcome, closed.disk)
-    }
+/// A load of a new desk, and the disk after it.
+pub fn load<R: Host, D: SharedDisk, H: SharedOrigin, N: SharedLedger>(
+    rt: &R,
+    desk: Still<D, H, N>,
+    load: Load,
+) -> (Outcome, D)
+    requires any { (words : WordMap) → H.begun.stops words }
+    requires parts { (H.parts ≡ 2 ^ 61 + 1) × (N.parts ≡ 2 ^ 61 + 1) }
+{
+    let reports = work_all(rt, &desk, load.seed, load.handles);
+    let (committed, checkpointed) = reports.ended;
+    let Sums {
+        lefts,
+        stops,
+        waited,
+        touched,
+    } = sums_of(rt, reports);
+    let closed = closed(rt, desk, lefts);
+    let has_stops = closed.handles == stops.len() as u64;
+    check_at(rt, has_stops, "handles of load", load.seed);
+    check_at(rt, closed.changes == touched, "changes of load", load.seed);
+    let outcome = Outcome {
+        stops,
+        waited,
+        trail: closed.trail,
+        is_whole: committed.is_shut() && checkpointed.is_shut(),
+    };
+    (outcome, closed.disk)
 }
 
 /// Whether the tickets go up from 0 with no gap.
@@ -222,7 +220,7 @@ fn check_load(rt: &impl Host, seed: u64) {
     let mut draws = Draws::of(seed);
     let load = load_of(&mut draws, seed);
     let disk = FuseDisk::of(with_journal(rt, JOURNAL, HOMES as u64), load.calls);
-    match run_over(rt, disk, &load, seed) {
+    match load_over(rt, disk, load) {
         Some((outcome, disk)) => {
             check_outcome(rt, &mut draws, load, &outcome, &mut disk.into_inner())
         }

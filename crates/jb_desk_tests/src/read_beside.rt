@@ -2,8 +2,8 @@
 ghost use Rattle.jb_handle.specs.Word.{WordMap};
 
 use crate::bounds::{Host, SharedDisk, SharedLedger, SharedOrigin};
-use crate::cases::{Case, run_case};
 use crate::checks::check_at;
+use crate::crews::{Crew, run_crew};
 use crate::gate::{Gate, await_flag, gated_disk};
 use crate::journal::{Still, round_of, seated, write};
 use crate::reads::filled;
@@ -48,24 +48,20 @@ fn read<R: Host, D: SharedDisk, H: SharedOrigin, N: SharedLedger>(
 }
 
 /// A home is read before a round, and while the disk holds it.
-#[derive(Drop)]
-struct Beside<'a> {
-    gate: &'a Gate,
-}
-
-impl<'a, D: SharedDisk> Case<D, ()> for Beside<'a> {
-    fn run<R: Host, H: SharedOrigin, N: SharedLedger>(&self, rt: &R, desk: Still<D, H, N>, _at: u64)
-        requires any { (words : WordMap) → H.begun.stops words }
-    {
-        let gate = self.gate;
-        thread::join(rt, || commit(rt, &desk), || read(rt, &desk, gate));
-    }
+pub fn commit_and_read<R: Host, D: SharedDisk, H: SharedOrigin, N: SharedLedger>(
+    rt: &R,
+    desk: Still<D, H, N>,
+    gate: &Gate,
+)
+    requires any { (words : WordMap) → H.begun.stops words }
+{
+    thread::join(rt, || commit(rt, &desk), || read(rt, &desk, gate));
 }
 
 /// Commits and reads at a new desk.
 fn check_read(rt: &impl Host) {
     let gate = Gate::shut();
-    run_case(rt, gated_disk(rt, &gate), &Beside { gate: &gate }, 0);
+    run_crew(rt, gated_disk(rt, &gate), Crew::Reading(&gate), 0);
 }
 
 #[test]

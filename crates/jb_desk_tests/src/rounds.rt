@@ -9,7 +9,8 @@ use crate::cases::{Case, run_case};
 use crate::checks::check;
 use crate::closing::{check_close, check_close_twice, left, over_at};
 use crate::journal::{
-    Came, Still, formatted, is_one, refused, retired, round_of, seated, with_one_number, write,
+    Came, STOPPED, Still, formatted, is_one, refused, retired, round_of, seated, with_one_number,
+    write,
 };
 use jb_board::Front;
 use jb_deck::{Checked, CheckpointFault};
@@ -19,14 +20,7 @@ use std::process::Abort;
 use std::sync::Wait;
 use std::sync::ledger::Ledger;
 
-/// A handle has stopped.
-const STOPPED: Front = Front {
-    settled: 0,
-    taken: 0,
-    stopped: 1,
-};
-
-/// It is settled.
+/// The only handle is settled.
 const SETTLED: Front = Front {
     settled: 1,
     taken: 1,
@@ -57,11 +51,8 @@ fn check_idle<R: Abort + Wait, D: Disk, H: Origin, N: Ledger>(
 {
     let (seat, _) = refused(rt, desk, seat, 2);
     let (seat, came, _) = round_of(rt, desk, seat);
-    check(
-        rt,
-        matches!(came, Came::Idle),
-        "a round with nothing to commit",
-    );
+    let is_idle = matches!(came, Came::Idle);
+    check(rt, is_idle, "a round with nothing to commit");
     seat
 }
 
@@ -99,19 +90,13 @@ fn check_settled<R: Abort + Wait, D: Disk, H: Origin, N: Ledger>(
     let first = desk.checkpoint_round(rt);
     let second = desk.checkpoint_round(rt);
     check(rt, first == Ok(HOME), "the first checkpoint");
-    check(
-        rt,
-        second == Err(CheckpointFault::Nothing),
-        "the second checkpoint",
-    );
+    let is_nothing = second == Err(CheckpointFault::Nothing);
+    check(rt, is_nothing, "the second checkpoint");
     let settled = desk.wait(rt, seat, &mut desk.sights(rt), 0);
     let unknown = desk.wait(rt, seat, &mut desk.sights(rt), 1);
     check(rt, settled == Ok(2), "the number of the ticket");
-    check(
-        rt,
-        unknown == Err(WaitFault::Unknown),
-        "the number of a ticket that nobody has",
-    );
+    let is_unknown = unknown == Err(WaitFault::Unknown);
+    check(rt, is_unknown, "the number of a ticket that nobody has");
 }
 
 /// The desk is shut, and a committer ends.
@@ -126,11 +111,8 @@ fn check_shut<R: Host, D: Disk, H: Origin, N: Ledger>(
     let (seat, begun) = refused(rt, desk, seat, 1);
     let (committer, ended) = desk.run_committer(rt, desk.committer(seat));
     let (seat, _) = retired(rt, desk, committer);
-    check(
-        rt,
-        begun == Some(BeginFault::Closed),
-        "a begin at a desk that is shut",
-    );
+    let is_closed = begun == Some(BeginFault::Closed);
+    check(rt, is_closed, "a begin at a desk that is shut");
     check(rt, over_at(ended) == Some(1), "how the committer ends");
     seat
 }
@@ -166,16 +148,9 @@ fn check_refused<R: Abort + Wait, D: Disk, H: Origin, N: Ledger>(
     let is_refused = matches!(came, Came::Failed(RoundFault::Refused));
     check(rt, is_refused, "the round without a number");
     check(rt, !is_retired, "the committer retires with a batch");
-    check(
-        rt,
-        front == TAKEN,
-        "the front after the round without a number",
-    );
-    check(
-        rt,
-        begun == Some(BeginFault::Aborted),
-        "a begin after a committer has given up",
-    );
+    check(rt, front == TAKEN, "the front after a refused round");
+    let is_aborted = begun == Some(BeginFault::Aborted);
+    check(rt, is_aborted, "a begin after a committer has given up");
     seat
 }
 

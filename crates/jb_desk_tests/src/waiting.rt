@@ -5,8 +5,8 @@ ghost use Rattle.jb_desk.specs.Seats.{desk_of};
 ghost use Rattle.jb_handle.specs.Word.{WordMap};
 
 use crate::bounds::{Host, SharedDisk, SharedLedger, SharedOrigin};
-use crate::cases::{Case, run_case};
 use crate::checks::check;
+use crate::crews::{Crew, run_crew};
 use crate::gate::{await_flag, has_come};
 use crate::journal::{Still, formatted, retired, round, seated, with_one_number, write};
 use jb_desk::{Origin, Seat, WaitFault};
@@ -59,11 +59,8 @@ fn wait<R: Host, D: Disk, H: Origin, N: Ledger>(
     desk.inform(&mut informed, &mut seen);
     let mut block = [0; 1024];
     let read = desk.read(rt, &mut informed, 1, &mut block);
-    check(
-        rt,
-        read.is_ok() && block == [7; 1024],
-        "what is read after the wait",
-    );
+    let is_read = read.is_ok() && block == [7; 1024];
+    check(rt, is_read, "what is read after the wait");
 }
 
 /// One handle stops; or two, of which each takes a transaction.
@@ -109,32 +106,29 @@ fn commit<R: Host, D: Disk, H: Origin, N: Ledger>(
 }
 
 /// A thread waits for the ticket of a handle that another one commits, or gives up.
-struct Waited {
+pub fn wait_and_commit<R: Host, D: SharedDisk, H: SharedOrigin, N: SharedLedger>(
+    rt: &R,
+    desk: Still<D, H, N>,
     is_lost: bool,
-}
-
-impl<D: SharedDisk> Case<D, ()> for Waited {
-    fn run<R: Host, H: SharedOrigin, N: SharedLedger>(&self, rt: &R, desk: Still<D, H, N>, _at: u64)
-        requires any { (words : WordMap) → H.begun.stops words }
-    {
-        let told = Told {
-            has_stopped: AtomicBool::new(false),
-            is_awaited: AtomicBool::new(false),
-            has_ended: AtomicBool::new(false),
-        };
-        let is_lost = self.is_lost;
-        thread::join(
-            rt,
-            || wait(rt, &desk, &told, is_lost),
-            || commit(rt, &desk, &told, is_lost),
-        );
-    }
+)
+    requires any { (words : WordMap) → H.begun.stops words }
+{
+    let told = Told {
+        has_stopped: AtomicBool::new(false),
+        is_awaited: AtomicBool::new(false),
+        has_ended: AtomicBool::new(false),
+    };
+    thread::join(
+        rt,
+        || wait(rt, &desk, &told, is_lost),
+        || commit(rt, &desk, &told, is_lost),
+    );
 }
 
 /// Waits over a new journal, and over a journal with one number left.
 fn check_waits(rt: &impl Host) {
-    run_case(rt, formatted(rt), &Waited { is_lost: false }, 0);
-    run_case(rt, with_one_number(rt), &Waited { is_lost: true }, 1);
+    run_crew(rt, formatted(rt), Crew::Waiting(false), 0);
+    run_crew(rt, with_one_number(rt), Crew::Waiting(true), 1);
 }
 
 #[test]
