@@ -285,7 +285,7 @@ def read_only():
 def one_write():
     """Each line is one call of write."""
     if shutil.which("strace") is None:
-        print("one line, one write: not tried here, as there is no strace (a test of jb_tool_tests counts writes)")
+        print("one line, one write: not tried here, as there is no strace (a test of tests_tool counts writes)")
         return
     new, loaded = made()
     runs = 0

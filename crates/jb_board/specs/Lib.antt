@@ -1,4 +1,9 @@
 pub mod Front
+pub mod History
+pub mod HistoryRule
+pub mod HistorySteps
+pub mod Place
 pub mod Rule
 pub mod Seats
 pub mod Steps
+pub mod View

@@ -5,7 +5,7 @@ use Rattle.std.specs.Global.{Vec}
 use Rattle.jb_handle.specs.declared.shape.Shape.{Shape}
 use Rattle.jb_handle.specs.declared.stopped.Stopped.{Stopped}
 use Rattle.jb_cost.specs.Pieces.{joined, pieces}
-use Rattle.jb_batch.specs.Batch.{gathered}
+use Rattle.jb_plan.specs.Batch.{gathered}
 use Rattle.jb_deck.specs.declared.done.Entry.{Entry}
 use Rattle.jb_core.specs.declared.event.Event.TheVariants as event
 use Rattle.jb_core.specs.declared.event.Reply.TheVariants.{Plain}

@@ -10,7 +10,7 @@ use Rattle.jb_cost.specs.Credits.{IsMost, Covers}
 use Rattle.jb_cost.specs.Cut.{RisesTo, EachFrom, piece_cost}
 use Rattle.jb_cost.proofs.Pieces.{piece-left, piece-none}
 use Rattle.jb_cost.proofs.Worst.{worst-bound}
-use Rattle.jb_batch.specs.Costs.{geometry_of, HasCut}
+use Rattle.jb_plan.specs.Costs.{geometry_of, HasCut}
 use Rattle.jb_book.specs.Account.{Account, IsSound}
 
 -- the k bounds after a, one by one

@@ -12,7 +12,7 @@ use Rattle.jb_handle.specs.Held.{Fits}
 use Rattle.jb_cost.specs.Credits.{IsMost}
 use Rattle.jb_cost.specs.Cut.{RisesTo, IsCut}
 use Rattle.jb_cost.specs.Pieces.{joined}
-use Rattle.jb_batch.specs.Costs.{geometry_of}
+use Rattle.jb_plan.specs.Costs.{geometry_of}
 use Rattle.jb_deck.specs.declared.done.Entry.{Entry}
 use Rattle.jb_deck.specs.Done.{Follow, start_of}
 use Rattle.jb_core.proofs.Accepted.{still-up}

@@ -5,8 +5,8 @@ use Rattle.std.proofs.Math.Nat.{eq-or-lt_of_le}
 use Rattle.jb_cost.specs.Cut.{price, FitsCut, IsLeastCut, IsPrice}
 use Rattle.jb_plan.specs.Step.{Step, BestFrom, AreSteps, price_of, from_of}
 use Rattle.jb_plan.proofs.Steps.{steps-start, steps-more, prices-steps}
-use Rattle.jb_batch.specs.Batch.{Gathered}
-use Rattle.jb_batch.specs.Costs.{cost_in, HasCut}
+use Rattle.jb_plan.specs.Batch.{Gathered}
+use Rattle.jb_plan.specs.Costs.{cost_in, HasCut}
 use Rattle.jb_book.specs.Calls.{IsCutOf}
 
 module _ (c : ℕ → ℕ → ℕ) (limit : ℕ) (ps : List (Option ℕ)) (end : ℕ) where

@@ -2,8 +2,8 @@
 use Rattle.std.proofs.Common.{◌≡◌, ℕ, ◌+◌, ◌-◌, Bool, true, false, List, [], ◌∷◌, ◌++◌, All, length, drop, None, Ok, sym, refl, ap, ◌∙◌, subst, arith}
 use Rattle.std.proofs.lemmas.List.{map-append}
 use Rattle.std.proofs.lemmas.List.Elements.{All-drop, All-weaker}
-use Rattle.jb_batch.specs.Batch.{gathered}
-use Rattle.jb_batch.specs.Costs.{HasCut}
+use Rattle.jb_plan.specs.Batch.{gathered}
+use Rattle.jb_plan.specs.Costs.{HasCut}
 use Rattle.jb_cost.specs.Cut.{total}
 use Rattle.jb_cost.specs.Pieces.{joined, pieces}
 use Rattle.jb_core.proofs.Accepted.{none-left, still-up}
@@ -14,8 +14,8 @@ use Rattle.jb_handle.specs.declared.stopped.Stopped.{Stopped}
 use Rattle.jb_handle.specs.Tickets.{TicketsFrom}
 use Rattle.jb_handle.specs.Word.{WordMap}
 use Rattle.jb_cost.specs.Credits.{IsMost}
-use Rattle.jb_batch.specs.Costs.{geometry_of}
-use Rattle.jb_history.proofs.Placed.{placed_on}
+use Rattle.jb_plan.specs.Costs.{geometry_of}
+use Rattle.jb_board.proofs.Placed.{placed_on}
 use Rattle.jb_book.specs.Account.{Account, IsStart, IsSound, granted_to, dropped_of, queued, taken_all, settled_to, failed_of, shortened, trail_from, refusal, CanStop, CanTake, Settles}
 use Rattle.jb_book.specs.Calls.{Opened, Enqueued, Dropped, Took, Settled, Failed, Shut, stops_of, out_of, AreOfFirst, IsCutOf}
 use Rattle.jb_book.specs.Led.{IsInHistory, with_trail, Led, AreCut, IsLed}

@@ -7,8 +7,8 @@ use Rattle.jb_deck.specs.Deck.{OpenDeck}
 use Rattle.jb_deck.specs.Done.{start_of}
 use Rattle.jb_deck.specs.declared.done.Entry.{Entry}
 use Rattle.jb_handle.specs.Word.{WordMap}
-use Rattle.jb_history.proofs.Placed.{get_last, placed_on}
-use Rattle.jb_history.specs.Rule.{StandsIn}
+use Rattle.jb_board.proofs.Placed.{get_last, placed_on}
+use Rattle.jb_board.specs.HistoryRule.{StandsIn}
 use Rattle.jb_book.specs.Account.{Account, AnswersNumber, CanTake, IsSettledBy, Settles, dropped_of, failed_of, granted_to, queued, settled_to, shortened, taken_all, trail_from}
 use Rattle.jb_handle.specs.declared.shape.Shape.{Shape}
 use Rattle.jb_book.specs.Marks.{AreOfBook, AreShown, HasShapeMark, IsMarked, SeesStop, Shows, ShowsAfter}

@@ -3,8 +3,8 @@ use Rattle.std.proofs.Common.{◌≡◌, ◌↔◌, IsTrue, ℕ, ◌+◌, List, 
 use Rattle.std.proofs.lemmas.List.{length-append}
 use Rattle.std.proofs.lemmas.List.Elements.{All-nil, All-weaker}
 use Rattle.std.specs.Global.{Vec}
-use Rattle.jb_batch.specs.Batch.{Gathered}
-use Rattle.jb_batch.specs.Costs.{cost_in, HasCut}
+use Rattle.jb_plan.specs.Batch.{Gathered}
+use Rattle.jb_plan.specs.Costs.{cost_in, HasCut}
 use Rattle.jb_cost.specs.Cut.{IsLeastCut}
 use Rattle.jb_core.proofs.Accepted.{still-up}
 use Rattle.jb_core.specs.Lives.{handles_of, stop_order}
@@ -15,8 +15,8 @@ use Rattle.jb_handle.specs.declared.shape.Shape.{Shape}
 use Rattle.jb_handle.specs.declared.stopped.Stopped.{Stopped}
 use Rattle.jb_handle.specs.Tickets.{TicketsFrom}
 use Rattle.jb_handle.specs.Word.{WordMap}
-use Rattle.jb_history.proofs.Placed.{placed_on}
-use Rattle.jb_history.specs.Rule.{IsFirstPart}
+use Rattle.jb_board.proofs.Placed.{placed_on}
+use Rattle.jb_board.specs.HistoryRule.{IsFirstPart}
 use Rattle.jb_book.specs.Account.{Account, IsStart, IsSound, granted_to, dropped_of, queued, taken_all, settled_to, failed_of, shortened, refusal, CanStop, CanTake, Settles}
 use Rattle.jb_book.specs.Calls.{handles_in}
 use Rattle.jb_book.specs.declared.fault.BeginFault.{BeginFault}

@@ -1,7 +1,7 @@
 -- Handles of one history, cuts of nothing, and what is left of a trail.
 use Rattle.std.proofs.Common.{◌≡◌, ℕ, zero, suc, ◌+◌, ◌<◌, ◌≤◌, Bool, true, false, List, [], ◌∷◌, ◌++◌, All, length, Some, slice_get, sym, refl, ap, ◌∙◌, subst, arith, append_assoc, nat_le, cond}
 use Rattle.std.proofs.lemmas.List.Elements.{All-cons, All-nil, All-push, All-weaker}
-use Rattle.jb_batch.specs.Batch.{gathered}
+use Rattle.jb_plan.specs.Batch.{gathered}
 use Rattle.jb_cost.specs.Cut.{RisesTo, IsCut}
 use Rattle.jb_cost.specs.Pieces.{pieces}
 use Rattle.jb_deck.specs.declared.done.Entry.{Entry}
@@ -10,7 +10,7 @@ use Rattle.jb_handle.specs.declared.shape.Shape.{Shape}
 use Rattle.jb_handle.specs.declared.stopped.Stopped.{Stopped}
 use Rattle.jb_handle.specs.Tickets.{TicketsFrom}
 use Rattle.jb_handle.specs.Word.{WordMap}
-use Rattle.jb_history.proofs.Placed.{get_last, placed_on}
+use Rattle.jb_board.proofs.Placed.{get_last, placed_on}
 use Rattle.jb_book.specs.Account.{Account, trail_from}
 use Rattle.jb_book.specs.Calls.{IsCutOf}
 use Rattle.jb_book.specs.Led.{IsInHistory, IsRestOf, AreCut, HasOut}

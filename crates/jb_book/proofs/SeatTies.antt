@@ -15,7 +15,7 @@ use Rattle.jb_handle.specs.Word.{WordMap}
 use Rattle.jb_cost.specs.declared.geometry.Geometry.{Geometry}
 use Rattle.jb_cost.specs.Cost.{worst_cost_of}
 use Rattle.jb_cost.specs.Credits.{IsMost}
-use Rattle.jb_batch.specs.Costs.{geometry_of}
+use Rattle.jb_plan.specs.Costs.{geometry_of}
 use Rattle.jb_core.specs.declared.event.Event.TheVariants.{Open, Stop, Abandon}
 use Rattle.jb_core.specs.declared.event.Reply.TheVariants.{Plain, Ticket}
 use Rattle.jb_core.specs.Lives.{Log}

@@ -5,8 +5,8 @@ use Rattle.jb_handle.specs.declared.stopped.Stopped.{Stopped}
 use Rattle.jb_cost.specs.Cut.{RisesTo, IsCut}
 use Rattle.jb_cost.specs.Pieces.{pieces, pieces_from}
 use Rattle.jb_cost.proofs.Cuts.{rises-le}
-use Rattle.jb_batch.specs.Costs.{cost_in}
-use Rattle.jb_batch.specs.Prepared.{Planned, IsPlanned}
+use Rattle.jb_plan.specs.Costs.{cost_in}
+use Rattle.jb_plan.specs.Prepared.{Planned, IsPlanned}
 use Rattle.jb_deck.specs.Committing.{AnswersBatch}
 use Rattle.jb_deck.specs.Deck.{OpenDeck}
 use Rattle.jb_deck.specs.Gathering.{entries_from, entries_for}

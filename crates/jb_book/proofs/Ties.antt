@@ -5,9 +5,9 @@ use Rattle.std.proofs.lemmas.List.Elements.{All-nil, All-drop}
 use Rattle.std.specs.Global.{Vec}
 use Rattle.jb_handle.specs.declared.shape.Shape.{Shape}
 use Rattle.jb_cost.specs.Cut.{IsLeastCut, piece_cost}
-use Rattle.jb_batch.specs.Batch.{gathered}
-use Rattle.jb_batch.specs.Costs.{cost_in}
-use Rattle.jb_batch.proofs.SameCosts.{same-costs}
+use Rattle.jb_plan.specs.Batch.{gathered}
+use Rattle.jb_plan.specs.Costs.{cost_in}
+use Rattle.jb_plan.proofs.SameCosts.{same-costs}
 use Rattle.jb_deck.specs.declared.done.Entry.{Entry}
 use Rattle.jb_core.specs.declared.event.Event.TheVariants.{Take, Settle, Crash}
 use Rattle.jb_core.specs.declared.event.Reply.TheVariants.{Plain}

@@ -10,7 +10,7 @@ use Rattle.jb_handle.specs.Tickets.{TicketsFrom}
 use Rattle.jb_handle.specs.Word.{WordMap}
 use Rattle.jb_cost.specs.Credits.{IsMost, Covers}
 use Rattle.jb_deck.specs.declared.done.Entry.{Entry}
-use Rattle.jb_batch.specs.Costs.{geometry_of}
+use Rattle.jb_plan.specs.Costs.{geometry_of}
 use Rattle.jb_deck.specs.Done.{Follow, least_after, start_of}
 use Rattle.jb_book.specs.declared.fault.BeginFault.{BeginFault}
 use Rattle.jb_book.specs.declared.fault.BeginFault.TheVariants.{Aborted, Closed, Busy, TooManyCredits, Full, Memory}

@@ -6,8 +6,8 @@ use Rattle.jb_handle.specs.Tickets.{TicketsFrom}
 use Rattle.jb_handle.specs.Word.{WordMap}
 use Rattle.jb_cost.specs.Cut.{IsLeastCut}
 use Rattle.jb_cost.specs.Pieces.{joined, pieces}
-use Rattle.jb_batch.specs.Batch.{Gathered, gathered}
-use Rattle.jb_batch.specs.Costs.{cost_in, HasCut}
+use Rattle.jb_plan.specs.Batch.{Gathered, gathered}
+use Rattle.jb_plan.specs.Costs.{cost_in, HasCut}
 use Rattle.jb_deck.specs.declared.done.Entry.{Entry}
 use Rattle.jb_book.specs.declared.fault.BeginFault.{BeginFault}
 use Rattle.jb_book.specs.declared.fault.EnqueueFault.{EnqueueFault}

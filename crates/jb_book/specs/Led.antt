@@ -1,12 +1,12 @@
 -- The calls that led to a book, whose stops are the history.
 use Rattle.std.specs.Prelude.{◌≡◌, ℕ, ◌+◌, ◌≤◌, ◌^◌, false, List, [], ◌∷◌, ◌++◌, map, length, All, Result, Ok, Err}
-use Rattle.jb_batch.specs.Batch.{gathered}
+use Rattle.jb_plan.specs.Batch.{gathered}
 use Rattle.jb_cost.specs.Pieces.{pieces}
 use Rattle.jb_deck.specs.declared.done.Entry.{Entry}
 use Rattle.jb_handle.specs.Tickets.{TicketsFrom}
 use Rattle.jb_handle.specs.Word.{WordMap}
 use Rattle.jb_handle.specs.declared.stopped.Stopped.{Stopped}
-use Rattle.jb_batch.specs.Prepared.{Planned, IsPlanned}
+use Rattle.jb_plan.specs.Prepared.{Planned, IsPlanned}
 use Rattle.jb_deck.specs.Done.{first_of, entries_of}
 use Rattle.jb_deck.specs.declared.done.Done.{Done}
 use Rattle.jb_handle.specs.declared.shape.Shape.{Shape}
@@ -17,7 +17,7 @@ use Rattle.jb_book.specs.Account.{Account, CanStop, Settles, failed_of, queued, 
 use Rattle.jb_book.specs.Calls.{Call, Called, AreOfFirst, IsCutOf, handles_in, out_of, stops_of}
 use Rattle.jb_book.specs.Tied.{AreAccepted}
 use Rattle.jb_book.specs.declared.fault.WrongBatch.{WrongBatch}
-use Rattle.jb_history.specs.Rule.{StandsIn}
+use Rattle.jb_board.specs.HistoryRule.{StandsIn}
 
 -- the handle is the one of the history that has its ticket
 abbrev pub IsInHistory : List WordMap → Stopped → Type 0

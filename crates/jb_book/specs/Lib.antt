@@ -2,8 +2,15 @@ pub mod Account
 pub mod Book
 pub mod Calls
 pub mod Events
+pub mod History
+pub mod Journal
 pub mod Led
 pub mod Marks
+pub mod Opened
 pub mod Origin
+pub mod Rounds
 pub mod Shadow
+pub mod Since
+pub mod SinceMark
 pub mod Tied
+pub mod Works

@@ -4,7 +4,7 @@ use Rattle.jb_deck.specs.Deck.{OpenDeck}
 use Rattle.jb_deck.specs.declared.done.Entry.{Entry}
 use Rattle.jb_handle.specs.Word.{WordMap}
 use Rattle.jb_handle.specs.declared.shape.Shape.{Shape}
-use Rattle.jb_history.specs.Rule.{IsFirstPart, StandsIn}
+use Rattle.jb_board.specs.HistoryRule.{IsFirstPart, StandsIn}
 use Rattle.jb_book.specs.Account.{Account}
 use Rattle.jb_book.specs.declared.sights.Sights.{Sights}
 

@@ -1,10 +1,10 @@
 -- What a desk was started with: the disk and its homes at that time, and what its handles may hold.
 use Rattle.std.specs.Prelude.{ℕ, List, [], All, Result, Ok, Err}
 use Rattle.jb_disk.specs.Image.{Image}
-use Rattle.jb_front.specs.Front.{super_on}
+use Rattle.jb_format.specs.Front.{super_on}
 use Rattle.jb_handle.specs.Word.{WordMap}
 use Rattle.jb_handle.specs.declared.stopped.Stopped.{Stopped}
-use Rattle.jb_ready.specs.Ready.{revoking}
+use Rattle.jb_format.specs.Ready.{revoking}
 use Rattle.jb_super.specs.Superblock.{Superblock, superblock_in}
 use Rattle.jb_super.specs.declared.fault.SuperFault.{SuperFault}
 

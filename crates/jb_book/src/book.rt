@@ -1,8 +1,8 @@
 ghost use Rattle.std.specs.Prelude.{◌≡◌, ℕ, ◌+◌, ◌^◌, ◌≤◌, List, Some, None, true};
 ghost use Rattle.std.specs.Prelude.{OnOk, OnErr, IfOk, IfErr, IfSome, IfNone};
 ghost use Rattle.jb_handle.specs.Handle.{holder, changes_of};
-ghost use Rattle.jb_batch.specs.Batch.{gathered};
-ghost use Rattle.jb_batch.specs.Costs.{HasCut};
+ghost use Rattle.jb_plan.specs.Batch.{gathered};
+ghost use Rattle.jb_plan.specs.Costs.{HasCut};
 ghost use Rattle.jb_deck.specs.Done.{entries_of};
 
 mod readers;

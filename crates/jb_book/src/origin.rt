@@ -1,5 +1,5 @@
 //! What a desk was started with, which its caller picks.
-use jb_history::Place;
+use jb_board::Place;
 use std::marker::{Brand, PhantomData};
 use std::sync::ledger::Ledger;
 
@@ -8,7 +8,7 @@ use std::sync::ledger::Ledger;
 /// passes [`Brand`].
 pub trait Origin: Ledger + Place {
     ghost use Rattle.jb_book.specs.Origin.{Begun};
-    ghost use Rattle.jb_history.specs.History.{HistoryId};
+    ghost use Rattle.jb_board.specs.History.{HistoryId};
 
     /// The disk at the start.
     ghost begun: { Begun };
@@ -19,7 +19,7 @@ pub trait Origin: Ledger + Place {
 
 impl Origin for Brand {
     ghost use Rattle.jb_book.specs.Origin.{unknown};
-    ghost use Rattle.jb_history.specs.Place.{nowhere};
+    ghost use Rattle.jb_board.specs.Place.{nowhere};
 
     ghost begun = { unknown };
 

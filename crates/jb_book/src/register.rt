@@ -2,10 +2,10 @@
 ghost use Rattle.std.specs.Prelude.{◌≡◌, ℕ, ◌≤◌, All, [], length, None, true};
 ghost use Rattle.std.specs.Prelude.{OnOk, OnErr, IfOk, IfErr, IfSome, IfNone};
 ghost use Rattle.jb_handle.specs.Handle.{holder, changes_of};
-ghost use Rattle.jb_batch.specs.Batch.{gathered};
-ghost use Rattle.jb_batch.specs.Costs.{HasCut};
+ghost use Rattle.jb_plan.specs.Batch.{gathered};
+ghost use Rattle.jb_plan.specs.Costs.{HasCut};
 ghost use Rattle.jb_deck.specs.Done.{Follow, start_of};
-ghost use Rattle.jb_history.specs.Rule.{IsFirstPart};
+ghost use Rattle.jb_board.specs.HistoryRule.{IsFirstPart};
 
 mod settling;
 
@@ -13,10 +13,10 @@ use crate::book::Book;
 use crate::fault::{BeginFault, EnqueueFault};
 use crate::origin::{Marks, Origin};
 use crate::sights::{Histories, Sights};
+use jb_board::{History, Made, Scribe, Sight};
 use jb_deck::{Batch, Deck, Entry};
 use jb_disk::Disk;
 use jb_handle::{Handle, Shape, Words};
-use jb_history::{History, Made, Scribe, Sight};
 use std::alloc::Global;
 use std::marker::Model;
 

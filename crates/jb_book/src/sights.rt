@@ -1,12 +1,12 @@
 //! What is seen of the two histories of a desk.
 ghost use Rattle.std.specs.Prelude.{◌≡◌};
-ghost use Rattle.jb_history.specs.Rule.{with_last};
+ghost use Rattle.jb_board.specs.HistoryRule.{with_last};
 
 use crate::origin::{Marks, Origin};
+use jb_board::{History, Scribe, Sight};
 use jb_deck::Deck;
 use jb_disk::Disk;
 use jb_handle::Words;
-use jb_history::{History, Scribe, Sight};
 
 /// The two histories of a desk: the words of each handle that stopped, at its ticket, and its marks, which are the journal
 /// as it was when the desk was started, after each round of a committer and after each read. Neither has bytes for what

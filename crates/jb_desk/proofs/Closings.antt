@@ -2,7 +2,7 @@
 use Rattle.std.proofs.Common.{Result, Ok, Err, IfOk, IfErr}
 use Rattle.std.specs.Global.{Vec}
 use Rattle.jb_desk.specs.Closing.{DiffersAs, IsNotClosed}
-use Rattle.jb_works.specs.Works.{Worked}
+use Rattle.jb_book.specs.Works.{Worked}
 use Rattle.jb_desk.specs.declared.counter.Counter.{Counter}
 use Rattle.jb_desk.specs.declared.desk.Desk.{Desk}
 use Rattle.jb_desk.specs.declared.desk.closing.CloseFault.{CloseFault}
@@ -11,7 +11,7 @@ use Rattle.jb_desk.specs.declared.desk.closing.Closed.{Closed}
 use Rattle.jb_disk.specs.declared.disk.Disk.{Ghosts as Disks}
 use Rattle.jb_book.specs.declared.sights.Sights.{Sights}
 use Rattle.jb_book.specs.declared.origin.Origin.{Ghosts}
-use Rattle.jb_history.specs.declared.place.Place.{Ghosts as Places}
+use Rattle.jb_board.specs.declared.place.Place.{Ghosts as Places}
 use Rattle.jb_desk.specs.declared.seat.Left.{Left}
 
 pub first-ok : {A B : Type 0} (P Q : A → Type 0) (r : Result A B) → IfOk r (λ a. P a × Q a) → IfOk r P

@@ -3,8 +3,8 @@ use Rattle.std.proofs.Common.{append_assoc, append-nil, map, ◌≡◌, ℕ, Lis
 use Rattle.std.specs.List.{sum_by}
 use Rattle.jb_cost.specs.Pieces.{joined}
 use Rattle.jb_handle.specs.Word.{WordMap}
-use Rattle.jb_history.specs.Rule.{StandsIn, with_places}
-use Rattle.jb_works.specs.History.{AreAllStops}
+use Rattle.jb_board.specs.HistoryRule.{StandsIn, with_places}
+use Rattle.jb_book.specs.History.{AreAllStops}
 
 -- one more list is joined to those before
 pub joined-more : {X Y : Type 0} (f : X → List Y) (xs : List X) (x : X) → joined (map f (xs ++ x ∷ [])) ≡ joined (map f xs) ++ f x

@@ -2,7 +2,7 @@
 use Rattle.std.proofs.Common.{◌≡◌, ◌⊎◌, ℕ, length, Bool, true, false, nat_lt, is_some, [], ◌∷◌, Option, Some, None, Result, Ok, Err, inl, inr, refl, ap, sym, subst, ◌∙◌, arith}
 use Rattle.std.proofs.lemmas.Bool.{cases_lt}
 use Rattle.std.proofs.lemmas.Bool.Decides.{nat_tests}
-use Rattle.jb_batch.specs.Batch.{Gathered}
+use Rattle.jb_plan.specs.Batch.{Gathered}
 use Rattle.jb_board.specs.Front.{IsWithin}
 use Rattle.jb_board.specs.Steps.{raised_settled}
 use Rattle.jb_board.specs.declared.front.Front.{Front}
@@ -12,7 +12,7 @@ use Rattle.jb_book.specs.Account.{Account, IsSound, CanTake, is_full, RefusesBeg
 use Rattle.jb_desk.specs.Journal.{CommitsRound}
 use Rattle.jb_book.specs.Origin.{Begun}
 use Rattle.jb_desk.specs.Refusals.{IsTooMany}
-use Rattle.jb_works.specs.Rounds.{end_of}
+use Rattle.jb_book.specs.Rounds.{end_of}
 use Rattle.jb_desk.specs.Rounds.{AnswersRound, GivesBatch}
 use Rattle.jb_book.specs.Shadow.{credits_at, reserved}
 use Rattle.jb_desk.specs.Views.{SeesCommit, SeesRound, TakesUp, with_taken}

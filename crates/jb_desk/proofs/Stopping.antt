@@ -4,7 +4,7 @@ use mathlib.Core.HLevel.{is_prop→PathP}
 use native.Mathlib.Nat.{ℕ_set}
 use Rattle.jb_handle.specs.Handle.{changes_of, holder}
 use Rattle.jb_handle.specs.declared.handle.Handle.{Handle}
-use Rattle.jb_history.specs.declared.place.Place.{Ghosts as Places}
+use Rattle.jb_board.specs.declared.place.Place.{Ghosts as Places}
 use Rattle.jb_book.specs.declared.origin.Origin.{Ghosts}
 use Rattle.jb_desk.specs.declared.seat.Seat.{Seat}
 

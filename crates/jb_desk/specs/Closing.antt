@@ -4,12 +4,12 @@ use Rattle.std.specs.Global.{Vec}
 use Rattle.jb_desk.specs.Desks.{desk_id, shape_in}
 use Rattle.jb_desk.specs.declared.seat.Left.{Left}
 use Rattle.jb_desk.specs.declared.counter.Counter.{Counter}
-use Rattle.jb_works.specs.Works.{Worked}
+use Rattle.jb_book.specs.Works.{Worked}
 use Rattle.jb_book.specs.Marks.{SeesSame}
 use Rattle.jb_book.specs.declared.sights.Sights.{Sights}
 use Rattle.jb_disk.specs.declared.disk.Disk.{Ghosts as Disks}
 use Rattle.jb_book.specs.declared.origin.Origin.{Ghosts}
-use Rattle.jb_history.specs.declared.place.Place.{Ghosts as Places}
+use Rattle.jb_board.specs.declared.place.Place.{Ghosts as Places}
 use Rattle.jb_desk.specs.declared.desk.Desk.{Desk}
 use Rattle.jb_desk.specs.declared.desk.closing.CloseFault.{CloseFault}
 use Rattle.jb_desk.specs.declared.desk.closing.CloseFault.TheVariants.{SeatsOut, TrailsDiffer}

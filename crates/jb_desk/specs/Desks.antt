@@ -4,7 +4,7 @@ use Rattle.jb_handle.specs.declared.shape.Shape.{Shape}
 use Rattle.jb_desk.specs.declared.desk.Desk.{Desk}
 use Rattle.jb_disk.specs.declared.disk.Disk.{Ghosts as Disks}
 use Rattle.jb_book.specs.declared.origin.Origin.{Ghosts}
-use Rattle.jb_history.specs.declared.place.Place.{Ghosts as Places}
+use Rattle.jb_board.specs.declared.place.Place.{Ghosts as Places}
 
 -- the board of the desk, which tells it from every other
 abbrev pub desk_id : {D C H N : Type 0} {Q : Disks D} {O : Ghosts H} {P : Places H} → Desk D C H N Q O P → BoardId

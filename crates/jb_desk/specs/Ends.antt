@@ -1,8 +1,8 @@
 -- How a committer and a checkpointer end.
 use Rattle.std.specs.Prelude.{◌≡◌, Bool, true, false, Option, None, is_some}
-use Rattle.jb_batch.specs.Batch.{Gathered}
+use Rattle.jb_plan.specs.Batch.{Gathered}
 use Rattle.jb_disk.specs.declared.disk.Disk.{Ghosts}
-use Rattle.jb_works.specs.Journal.{HasNone}
+use Rattle.jb_book.specs.Journal.{HasNone}
 use Rattle.jb_book.specs.Origin.{Begun}
 use Rattle.jb_desk.specs.declared.ended.Ended.{Ended}
 use Rattle.jb_desk.specs.declared.ended.Ended.TheVariants.{Shut, Aborted, Memory, Refused}

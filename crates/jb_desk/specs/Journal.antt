@@ -1,12 +1,12 @@
 -- What a round of a committer has done to the journal of its desk.
 use Rattle.std.specs.Prelude.{◌≤◌, ℕ, Option, Result, Ok, Err}
-use Rattle.jb_batch.specs.Batch.{Gathered}
-use Rattle.jb_batch.specs.Prepared.{Planned}
+use Rattle.jb_plan.specs.Batch.{Gathered}
+use Rattle.jb_plan.specs.Prepared.{Planned}
 use Rattle.jb_disk.specs.declared.disk.Disk.{Ghosts}
 use Rattle.jb_deck.specs.Done.{entries_of, first_of, past_after}
 use Rattle.jb_deck.specs.declared.done.Done.{Done}
 use Rattle.jb_book.specs.Origin.{Begun}
-use Rattle.jb_works.specs.Journal.{FailsRound, IsRound}
+use Rattle.jb_book.specs.Journal.{FailsRound, IsRound}
 use Rattle.jb_desk.specs.Views.{TakesUp}
 use Rattle.jb_desk.specs.declared.committer.Round.{Round}
 use Rattle.jb_desk.specs.declared.committer.Round.TheVariants.{Idle, Committed}

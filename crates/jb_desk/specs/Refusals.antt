@@ -3,7 +3,7 @@ use Rattle.std.specs.Prelude.{◌≡◌, ℕ, ◌<◌, if◌then◌else◌}
 use Rattle.jb_handle.specs.Handle.{holder}
 use Rattle.jb_handle.specs.declared.handle.Handle.{Handle}
 use Rattle.jb_book.specs.declared.origin.Origin.{Ghosts}
-use Rattle.jb_history.specs.declared.place.Place.{Ghosts as Places}
+use Rattle.jb_board.specs.declared.place.Place.{Ghosts as Places}
 use Rattle.jb_desk.specs.declared.seat.Seat.{Seat}
 use Rattle.jb_book.specs.declared.fault.BeginFault.{BeginFault}
 use Rattle.jb_book.specs.declared.fault.BeginFault.TheVariants as begin

@@ -1,17 +1,17 @@
 -- What a round of a committer makes of a book and of the committer.
 use Rattle.std.specs.Prelude.{◌≡◌, ℕ, ◌≤◌, true, false, Option, Some, None, is_some, Result, Ok, Err}
-use Rattle.jb_batch.specs.Batch.{Gathered, gathered}
-use Rattle.jb_batch.specs.Costs.{HasCut}
+use Rattle.jb_plan.specs.Batch.{Gathered, gathered}
+use Rattle.jb_plan.specs.Costs.{HasCut}
 use Rattle.jb_deck.specs.Done.{Follow, first_of, entries_of}
 use Rattle.jb_book.specs.Account.{Account, taken_all, failed_of, CanTake, IsOver}
-use Rattle.jb_works.specs.Rounds.{end_of}
+use Rattle.jb_book.specs.Rounds.{end_of}
 use Rattle.jb_desk.specs.declared.committer.Committer.{Committer}
 use Rattle.jb_desk.specs.declared.committer.Round.{Round}
 use Rattle.jb_desk.specs.declared.committer.Round.TheVariants.{Idle, Committed}
 use Rattle.jb_desk.specs.declared.committer.RoundFault.{RoundFault}
 use Rattle.jb_desk.specs.declared.committer.RoundFault.TheVariants.{Aborted, Memory, DeviceFault, Refused}
 use Rattle.jb_book.specs.declared.origin.Origin.{Ghosts}
-use Rattle.jb_history.specs.declared.place.Place.{Ghosts as Places}
+use Rattle.jb_board.specs.declared.place.Place.{Ghosts as Places}
 use Rattle.jb_desk.specs.declared.seat.Seat.{Seat}
 
 -- ---- a committer

@@ -4,7 +4,7 @@ use Rattle.jb_handle.specs.Word.{WordMap}
 use Rattle.jb_board.specs.Seats.{BoardId, seat_board, seat_view}
 use Rattle.jb_board.specs.declared.front.Front.{Front}
 use Rattle.jb_book.specs.declared.origin.Origin.{Ghosts}
-use Rattle.jb_history.specs.declared.place.Place.{Ghosts as Places}
+use Rattle.jb_board.specs.declared.place.Place.{Ghosts as Places}
 use Rattle.jb_desk.specs.declared.seat.Seat.{Seat}
 use Rattle.jb_desk.specs.declared.seat.Left.{Left}
 

@@ -7,7 +7,7 @@ use Rattle.jb_book.specs.Account.{Account, queued, dropped_of, CanStop, RefusesS
 use Rattle.jb_desk.specs.Seats.{stops, changes, made_by}
 use Rattle.jb_book.specs.declared.fault.EnqueueFault.TheVariants as book
 use Rattle.jb_book.specs.declared.origin.Origin.{Ghosts}
-use Rattle.jb_history.specs.declared.place.Place.{Ghosts as Places}
+use Rattle.jb_board.specs.declared.place.Place.{Ghosts as Places}
 use Rattle.jb_desk.specs.declared.seat.Seat.{Seat}
 use Rattle.jb_desk.specs.declared.fault.StopFault.{StopFault}
 use Rattle.jb_desk.specs.declared.fault.StopFault.TheVariants.{Aborted, NotOpen, Memory}

@@ -1,10 +1,10 @@
 -- What a call makes of the counts that its seat is sure of.
 use Rattle.std.specs.Prelude.{◌≡◌, ◌⊎◌, ℕ, ◌+◌, ◌<◌, ◌≤◌, max, Option, Some, None, Result, Ok, Err}
-use Rattle.jb_batch.specs.Batch.{Gathered}
+use Rattle.jb_plan.specs.Batch.{Gathered}
 use Rattle.jb_board.specs.Front.{front}
 use Rattle.jb_board.specs.Steps.{raised_settled}
 use Rattle.jb_board.specs.declared.front.Front.{Front}
-use Rattle.jb_works.specs.Rounds.{end_of}
+use Rattle.jb_book.specs.Rounds.{end_of}
 use Rattle.jb_desk.specs.Rounds.{AnswersRound}
 use Rattle.jb_desk.specs.Seats.{view_of}
 use Rattle.jb_desk.specs.declared.committer.Round.{Round}
@@ -15,7 +15,7 @@ use Rattle.jb_desk.specs.declared.fault.WaitFault.{WaitFault}
 use Rattle.jb_desk.specs.declared.fault.WaitFault.TheVariants as wait
 use Rattle.jb_book.specs.declared.origin.Origin.{Ghosts}
 use Rattle.jb_desk.specs.declared.seat.Seat.{Seat}
-use Rattle.jb_history.specs.declared.place.Place.{Ghosts as Places}
+use Rattle.jb_board.specs.declared.place.Place.{Ghosts as Places}
 
 -- the tickets below this one are taken
 abbrev pub with_taken : ℕ → Front → Front

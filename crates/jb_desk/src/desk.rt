@@ -4,7 +4,7 @@ ghost use Rattle.jb_handle.specs.Handle.{holder, changes_of};
 ghost use Rattle.jb_handle.specs.Held.{held, touched};
 ghost use Rattle.jb_board.specs.Front.{front, InOrder, IsWithin};
 ghost use Rattle.jb_board.specs.Steps.{raised_stopped};
-ghost use Rattle.jb_history.specs.History.{history_id};
+ghost use Rattle.jb_board.specs.History.{history_id};
 
 mod checkpoints;
 mod closing;
@@ -24,13 +24,11 @@ use crate::stops::Stops;
 use crate::turns::Turns;
 use crate::waits::Waits;
 pub use closing::{CloseFault, Closed};
-use jb_board::{Board, Front};
-use jb_book::{BeginFault, Histories, Marks, Origin, Register, Sights};
+use jb_board::{Board, Front, Opened};
+use jb_book::{BeginFault, Histories, Marks, Origin, Register, Sights, Works};
 use jb_deck::Deck;
 use jb_disk::{Clock, Disk};
 use jb_handle::{Handle, Shape};
-use jb_history::Opened;
-use jb_works::Works;
 use std::alloc::Global;
 use std::sync::ledger::{Blank, Ledger};
 use std::sync::{Condvar, Mutex, Wait};
@@ -61,7 +59,7 @@ impl<D: Disk, C: Clock, H: Origin, N: Ledger> Desk<D, C, H, N> {
     ghost use Rattle.jb_book.specs.Marks.{SeesMore, SeesSame, SeesStop, Shows};
     ghost use Rattle.jb_desk.specs.Marks.{ShowsTaken};
     ghost use Rattle.jb_desk.specs.Refusals.{HandsBack, IsTooMany};
-    ghost use Rattle.jb_works.specs.Since.{IsSince};
+    ghost use Rattle.jb_book.specs.Since.{IsSince};
     ghost use Rattle.jb_desk.specs.Views.{with_settled, RefusesWait};
 
     /// A desk over a journal that has committed nothing yet and has not failed. `handles` is a new ledger,

@@ -2,11 +2,10 @@
 ghost use Rattle.std.specs.Prelude.{◌≡◌, ◌+◌, ◌≤◌, length, All};
 
 use crate::counter::Seen;
-use jb_board::Tickets;
+use jb_board::{Sight, Tickets};
 use jb_book::Origin;
 use jb_deck::Batch;
 use jb_handle::Words;
-use jb_history::Sight;
 use std::marker::Model;
 
 /// A batch whose handles stopped with words that a handle may stop with (`S.begun`), and that its tickets
@@ -25,7 +24,7 @@ impl<S: Origin> Model for Held<S> {
     ghost use Rattle.std.specs.Prelude.{◌+◌, ◌≤◌, length, All};
     ghost use Rattle.jb_board.specs.Seats.{given_by};
     ghost use Rattle.jb_handle.specs.Word.{words_code};
-    ghost use Rattle.jb_batch.specs.Batch.{Gathered};
+    ghost use Rattle.jb_plan.specs.Batch.{Gathered};
     ghost use Rattle.jb_book.specs.Led.{IsInHistory};
     ghost use Rattle.jb_book.specs.Origin.{AreStops};
 

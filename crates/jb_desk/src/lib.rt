@@ -20,8 +20,9 @@ pub use counter::{NoBatch, Over};
 pub use desk::{CloseFault, Closed, Desk};
 pub use ended::Ended;
 pub use fault::{SeatFault, StopFault, WaitFault};
-pub use jb_book::{BeginFault, Book, EnqueueFault, Marks, Origin, Sights, WrongBatch};
+pub use jb_book::{
+    BeginFault, Book, CheckpointRound, EnqueueFault, Marks, Origin, Sights, WrongBatch, open,
+};
 pub use jb_handle::Ticket;
-pub use jb_works::{CheckpointRound, open};
 pub use seat::{Left, Seat};
 pub use stops::Stops;

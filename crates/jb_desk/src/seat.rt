@@ -1,10 +1,9 @@
 //! What a thread has of a desk, and what it leaves there.
 ghost use Rattle.std.specs.Prelude.{◌≡◌, length};
 
-use jb_board::BoardSeat;
+use jb_board::{BoardSeat, Made};
 use jb_book::Origin;
 use jb_handle::Words;
-use jb_history::Made;
 use std::sync::ledger::{Ledger, Share};
 
 /// A thread's place at a desk: its number in the book, its seat at the board, its shares of the two

@@ -2,8 +2,8 @@
 ghost use Rattle.std.specs.Prelude.{◌≡◌, IfOk};
 
 use jb_block::Memory;
+use jb_board::Opened;
 use jb_handle::Words;
-use jb_history::Opened;
 use std::alloc::Global;
 use std::sync::ledger::Blank;
 

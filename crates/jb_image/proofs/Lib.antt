@@ -1,1 +1,7 @@
+mod Images
+mod Joined
+mod Passing
+pub mod Listed
 pub mod Opened
+pub mod Placing
+pub mod Taken

@@ -1,1 +1,15 @@
+pub mod Blocks
+pub mod Bound
+pub mod Disks
+pub mod Fields
+pub mod Files
+pub mod Images
+pub mod Judged
+pub mod Laws
+pub mod Lists
 pub mod Making
+pub mod Pair
+pub mod Past
+pub mod Spread
+pub mod System
+pub mod Words

@@ -1,14 +1,35 @@
-//! Image files: opened and locked as disks, and made whole or not at all.
+//! Images in files: opened and locked as disks, and made whole or not at all; two disks as one, with the journal on
+//! the one and the home blocks on the other; and a journal that is within its file system, whose blocks debugfs
+//! lists.
 #![tactic(auto)]
 
 mod draft;
+mod extent;
+mod extents;
+mod extents_disk;
+mod extents_fault;
 mod fault;
+mod field;
 mod geometry;
+mod image;
+mod judging;
+mod list_word;
 mod making;
 mod mounted;
 mod opening;
+mod pair;
+mod past;
+mod system;
 
+pub use extent::Extent;
+pub use extents::Extents;
+pub use extents_disk::ExtentsDisk;
+pub use extents_fault::{ExtentsFault, ListFault};
 pub use fault::{ImageFault, MakeFault, SystemFault};
 pub use geometry::Geometry;
+pub use image::ImageDisk;
+pub use judging::{FileSystemFault, judge};
 pub use making::{create_holding, create_image};
 pub use opening::{Opening, open_file, open_holding, open_image};
+pub use pair::PairDisk;
+pub use system::{FRONT, FileSystem};

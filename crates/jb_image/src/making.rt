@@ -10,7 +10,7 @@ use crate::fault::{ImageFault, MakeFault, SystemFault};
 use crate::geometry::Geometry;
 use jb_block::BlockSize;
 use jb_disk::{Disk, FileDisk, Start};
-use jb_front::{FormatFault, format};
+use jb_format::{FormatFault, format};
 use std::fs::File;
 use std::rt::Files;
 

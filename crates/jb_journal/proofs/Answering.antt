@@ -5,7 +5,7 @@ use Rattle.std.proofs.lemmas.List.{get_or-map}
 use Rattle.jb_book.specs.declared.origin.Origin.{Ghosts}
 use Rattle.jb_deck.specs.Deck.{OpenDeck}
 use Rattle.jb_disk.specs.declared.disk.Disk.{Ghosts as Disks}
-use Rattle.jb_history.specs.declared.place.Place.{Ghosts as Places}
+use Rattle.jb_board.specs.declared.place.Place.{Ghosts as Places}
 use Rattle.jb_journal.specs.Client.{AreHonest}
 use Rattle.jb_journal.specs.Notes.{Known, Stop}
 use Rattle.jb_journal.specs.Running.{AreAnswers, HaveWorked, answer_of, known_of_worked, marks_of_worked, stops_of_worked}

@@ -7,8 +7,8 @@ use Rattle.jb_handle.specs.Handle.{changes_of}
 use Rattle.jb_handle.specs.Held.{Held}
 use Rattle.jb_handle.specs.Word.{WordMap}
 use Rattle.jb_handle.specs.declared.handle.Handle.{Handle}
-use Rattle.jb_history.specs.Rule.{StandsIn}
-use Rattle.jb_history.specs.declared.place.Place.{Ghosts as Places}
+use Rattle.jb_board.specs.HistoryRule.{StandsIn}
+use Rattle.jb_board.specs.declared.place.Place.{Ghosts as Places}
 use Rattle.jb_book.specs.Marks.{SeesStop}
 use Rattle.jb_book.specs.declared.origin.Origin.{Ghosts}
 use Rattle.jb_book.specs.declared.sights.Sights.{Sights}

@@ -8,8 +8,8 @@ use Rattle.jb_handle.specs.declared.shape.Shape.{Shape}
 use Rattle.jb_deck.specs.Done.{Follow, past_after, start_of}
 use Rattle.jb_deck.specs.declared.done.Entry.{Entry}
 use Rattle.jb_book.proofs.Follows.{follow-past}
-use Rattle.jb_works.specs.History.{AreAllStops, EndsWith}
-use Rattle.jb_works.specs.Marks.{EndsMarked}
+use Rattle.jb_book.specs.History.{AreAllStops, EndsWith}
+use Rattle.jb_book.specs.SinceMark.{EndsMarked}
 use Rattle.jb_book.specs.Origin.{Begun}
 use Rattle.jb_book.specs.Marks.{SeesMore}
 use Rattle.jb_book.specs.declared.sights.Sights.{Sights}

@@ -10,9 +10,9 @@ use Rattle.jb_disk.specs.declared.disk.Disk.{Ghosts}
 use Rattle.jb_handle.specs.Word.{WordMap}
 use Rattle.jb_handle.specs.Words.{word}
 use Rattle.jb_handle.specs.declared.stopped.Stopped.{Stopped}
-use Rattle.jb_history.proofs.Placed.{placed_on}
-use Rattle.jb_history.specs.Rule.{StandsIn}
-use Rattle.jb_ring.specs.Follows.{StandsBy}
+use Rattle.jb_board.proofs.Placed.{placed_on}
+use Rattle.jb_board.specs.HistoryRule.{StandsIn}
+use Rattle.jb_log.specs.Follows.{StandsBy}
 use Rattle.jb_deck.specs.Deck.{OpenDeck}
 use Rattle.jb_deck.specs.Done.{past_after}
 use Rattle.jb_deck.specs.declared.done.Entry.{Entry}
@@ -21,9 +21,9 @@ use Rattle.jb_book.specs.Led.{IsInHistory}
 use Rattle.jb_book.specs.Marks.{SeesMore, Shows, ShowsAfter}
 use Rattle.jb_book.specs.Origin.{Begun}
 use Rattle.jb_book.specs.declared.sights.Sights.{Sights}
-use Rattle.jb_works.specs.History.{IsStop}
-use Rattle.jb_works.specs.Journal.{ReadsHome}
-use Rattle.jb_works.specs.Marks.{HasSettledOf, Lasts, Within}
+use Rattle.jb_book.specs.History.{IsStop}
+use Rattle.jb_book.specs.Journal.{ReadsHome}
+use Rattle.jb_book.specs.SinceMark.{HasSettledOf, Lasts, Within}
 use Rattle.jb_desk.specs.Marks.{ShowsTaken}
 use Rattle.jb_desk.specs.declared.fault.WaitFault.{WaitFault}
 use Rattle.jb_desk.specs.declared.fault.WaitFault.TheVariants as wait

@@ -8,11 +8,11 @@ use Rattle.jb_disk.specs.declared.disk.Disk.{Ghosts}
 use Rattle.jb_handle.specs.Tickets.{TicketsFrom}
 use Rattle.jb_handle.specs.Word.{WordMap}
 use Rattle.jb_handle.specs.declared.stopped.Stopped.{Stopped}
-use Rattle.jb_history.proofs.Placed.{get_before}
-use Rattle.jb_history.specs.Rule.{StandsIn}
+use Rattle.jb_board.proofs.Placed.{get_before}
+use Rattle.jb_board.specs.HistoryRule.{StandsIn}
 use Rattle.jb_deck.specs.Done.{past_after}
 use Rattle.jb_book.specs.Origin.{Begun}
-use Rattle.jb_works.specs.History.{IsStop}
+use Rattle.jb_book.specs.History.{IsStop}
 use Rattle.jb_journal.specs.Notes.{AreInNotes, IsInNotes, Known, KnownLasts, NoteLasts, Stop}
 use Rattle.jb_journal.specs.Running.{RanAll}
 use Rattle.jb_journal.specs.Staying.{HandleStays}

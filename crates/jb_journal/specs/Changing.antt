@@ -6,7 +6,7 @@ use Rattle.jb_handle.specs.Handle.{changes_of}
 use Rattle.jb_handle.specs.Held.{Held}
 use Rattle.jb_handle.specs.Word.{WordMap}
 use Rattle.jb_handle.specs.declared.handle.Handle.{Handle}
-use Rattle.jb_history.specs.Rule.{IsFirstPart, StandsIn}
+use Rattle.jb_board.specs.HistoryRule.{IsFirstPart, StandsIn}
 use Rattle.jb_book.specs.declared.sights.Sights.{Sights}
 use Rattle.jb_journal.specs.Notes.{Stop}
 use Rattle.jb_journal.specs.declared.fault.HandleFault.{HandleFault}

@@ -14,9 +14,9 @@ use Rattle.jb_handle.specs.Word.{WordMap}
 use Rattle.jb_handle.specs.declared.shape.Shape.{Shape}
 use Rattle.jb_handle.specs.declared.word.Word.TheVariants.{Copy}
 use Rattle.jb_book.specs.declared.origin.Origin.{Ghosts as OriginGhosts}
-use Rattle.jb_history.specs.declared.place.Place.{Ghosts as Places}
+use Rattle.jb_board.specs.declared.place.Place.{Ghosts as Places}
 use Rattle.jb_book.specs.declared.sights.Sights.{Sights}
-use Rattle.jb_history.specs.Rule.{StandsIn}
+use Rattle.jb_board.specs.HistoryRule.{StandsIn}
 use Rattle.jb_journal.specs.Notes.{Known, Stop, note_of}
 use Rattle.jb_journal.specs.declared.client.Client.{Client}
 

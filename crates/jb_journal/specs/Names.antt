@@ -8,8 +8,8 @@ pub use Rattle.jb_handle.specs.Words.{word}
 pub use Rattle.jb_handle.specs.declared.stopped.Stopped.{Stopped}
 pub use Rattle.jb_handle.specs.declared.word.Word.{Word}
 pub use Rattle.jb_handle.specs.declared.word.Word.TheVariants.{Copy, Free}
-pub use Rattle.jb_history.specs.Rule.{IsFirstPart, StandsIn, with_places}
-pub use Rattle.jb_ring.specs.Follows.{StandsBy}
+pub use Rattle.jb_board.specs.HistoryRule.{IsFirstPart, StandsIn, with_places}
+pub use Rattle.jb_log.specs.Follows.{StandsBy}
 pub use Rattle.jb_book.specs.Led.{IsInHistory}
 pub use Rattle.jb_book.specs.Origin.{Begun}
-pub use Rattle.jb_works.specs.History.{AreAllStops}
+pub use Rattle.jb_book.specs.History.{AreAllStops}

@@ -6,16 +6,16 @@ use Rattle.jb_handle.specs.Tickets.{TicketsFrom}
 use Rattle.jb_handle.specs.Word.{WordMap}
 use Rattle.jb_handle.specs.Words.{word}
 use Rattle.jb_handle.specs.declared.stopped.Stopped.{Stopped}
-use Rattle.jb_history.specs.Rule.{IsFirstPart, StandsIn}
-use Rattle.jb_ring.specs.Follows.{StandsBy}
+use Rattle.jb_board.specs.HistoryRule.{IsFirstPart, StandsIn}
+use Rattle.jb_log.specs.Follows.{StandsBy}
 use Rattle.jb_deck.specs.Deck.{OpenDeck}
 use Rattle.jb_deck.specs.Done.{past_after}
 use Rattle.jb_deck.specs.declared.done.Entry.{Entry}
 use Rattle.jb_book.specs.Led.{IsInHistory}
 use Rattle.jb_book.specs.Marks.{HasEntry}
 use Rattle.jb_book.specs.Origin.{Begun}
-use Rattle.jb_works.specs.Marks.{Within}
-use Rattle.jb_works.specs.Since.{HasFirst}
+use Rattle.jb_book.specs.SinceMark.{Within}
+use Rattle.jb_book.specs.Since.{HasFirst}
 use Rattle.jb_desk.specs.declared.fault.WaitFault.{WaitFault}
 use Rattle.jb_desk.specs.declared.fault.WaitFault.TheVariants as wait
 

@@ -1,6 +1,6 @@
 -- Why a journal was not run.
 use Rattle.std.specs.Prelude.{ℕ}
-use Rattle.jb_works.specs.Opened.{NotOpened, WasOpened}
+use Rattle.jb_book.specs.Opened.{NotOpened, WasOpened}
 use Rattle.jb_disk.specs.declared.disk.Disk.{Ghosts}
 use Rattle.jb_handle.specs.declared.shape.Shape.{Shape}
 use Rattle.jb_journal.specs.declared.fault.RunFault.{RunFault}

@@ -9,13 +9,13 @@ use Rattle.jb_deck.specs.Done.{Follow, start_of}
 use Rattle.jb_desk.specs.Ends.{is_shut}
 use Rattle.jb_desk.specs.declared.ended.Ended.{Ended}
 use Rattle.jb_desk.specs.declared.ended.Ended.TheVariants as ended
-use Rattle.jb_works.specs.History.{EndsWith}
+use Rattle.jb_book.specs.History.{EndsWith}
 use Rattle.jb_book.specs.Origin.{Begun}
 use Rattle.jb_desk.specs.Seats.{made_by, made_left}
 use Rattle.jb_book.specs.declared.origin.Origin.{Ghosts}
 use Rattle.jb_desk.specs.declared.seat.Left.{Left}
 use Rattle.jb_desk.specs.declared.seat.Seat.{Seat}
-use Rattle.jb_history.specs.declared.place.Place.{Ghosts as Places}
+use Rattle.jb_board.specs.declared.place.Place.{Ghosts as Places}
 use Rattle.jb_book.specs.Marks.{SeesMore}
 use Rattle.jb_book.specs.declared.sights.Sights.{Sights}
 use Rattle.jb_journal.specs.Client.{AreHonest, known_in}

@@ -33,8 +33,8 @@ pub struct Client<'a, D: Disk, C: Clock, R, H: Origin, N: Ledger> {
 }
 
 impl<'a, D: Disk, C: Clock, R: Wait + time::Clock, H: Origin, N: Ledger> Client<'a, D, C, R, H, N> {
-    ghost use Rattle.jb_works.specs.Journal.{GivesTrail, ReadsHome};
-    ghost use Rattle.jb_batch.specs.Costs.{geometry_of};
+    ghost use Rattle.jb_book.specs.Journal.{GivesTrail, ReadsHome};
+    ghost use Rattle.jb_plan.specs.Costs.{geometry_of};
     ghost use Rattle.jb_cost.specs.Credits.{IsMost};
     ghost use Rattle.jb_journal.specs.Client.{IsClient, client_honest, client_known, client_stops, made_from};
     ghost use Rattle.jb_journal.specs.Client.{seen_by, shape_of, sights_of};

@@ -3,7 +3,7 @@ use crate::fault::{HandleFault, HomeFault, NotSettled, RunFault};
 use jb_block::Memory;
 use jb_deck::ReadHomeFault;
 use jb_desk::WaitFault;
-use jb_front::FormatFault;
+use jb_format::FormatFault;
 use jb_handle::TouchFault;
 use jb_image::{ImageFault, MakeFault};
 use jb_recover::RecoverFault;

@@ -24,7 +24,7 @@ pub use jb_block::{BlockSize, Memory, Stamp, Width};
 pub use jb_deck::{Entry, OpenFault, ReadHomeFault};
 pub use jb_desk::{BeginFault, Ended, Origin, WaitFault};
 pub use jb_disk::{Clock, Disk, Fault, FileDisk, FixedClock, MemoryDisk, Start, Unknown};
-pub use jb_front::{FormatFault, format};
+pub use jb_format::{FormatFault, format};
 pub use jb_handle::{Handle, Payload, Shape, TouchFault, Word, Words};
 pub use jb_image::{Geometry, ImageFault, MakeFault, SystemFault};
 pub use jb_recover::{PeekFault, RecoverFault, Recovered, recover};

@@ -2,7 +2,7 @@
 ghost use Rattle.std.specs.Prelude.{◌≡◌, ◌+◌, ◌^◌, [], false, IfSome};
 ghost use Rattle.jb_desk.specs.Desks.{desk_id};
 ghost use Rattle.jb_desk.specs.History.{history_in};
-ghost use Rattle.jb_history.specs.History.{history_id};
+ghost use Rattle.jb_board.specs.History.{history_id};
 ghost use Rattle.jb_desk.specs.Rounds.{seat_of};
 ghost use Rattle.jb_desk.specs.Seats.{desk_of};
 ghost use Rattle.jb_handle.specs.Handle.{holder};
@@ -11,14 +11,13 @@ ghost use Rattle.jb_handle.specs.Word.{WordMap};
 use crate::checks::check;
 use crate::closings::{check_closed, ended, is_shut};
 use crate::recoveries::formatted;
-use jb_board::Front;
+use jb_board::{Front, Opened};
 use jb_deck::{Checked, Deck};
 use jb_desk::{
     BeginFault, Closed, Committer, Desk, Origin, Round, Seat, StopFault, Stops, Ticket, WaitFault,
 };
 use jb_disk::{FixedClock, MemoryDisk};
 use jb_handle::Handle;
-use jb_history::Opened;
 use std::alloc::Global;
 use std::process::Abort;
 use std::sync::Wait;

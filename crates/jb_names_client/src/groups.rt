@@ -5,7 +5,7 @@ use crate::checks::check;
 use crate::handles::{SHAPE, stopped};
 use jb_block::{BlockSize, Width};
 use jb_group::{CountedGroup, Group, Image, Piece, ReadFault, Seen, Stamp, Transaction};
-use jb_log::Block;
+use jb_scan::Block;
 use std::alloc::Global;
 use std::process::Abort;
 

@@ -6,7 +6,7 @@ use crate::handles::{SHAPE, stopped};
 use jb_block::{Kind, Width, put_header};
 use jb_cost::LastTouches;
 use jb_handle::{Changes, Gathered, Op, Payload, TouchFault, Word};
-use jb_log::{Reader, Taken};
+use jb_scan::{Reader, Taken};
 use std::alloc::Global;
 use std::process::Abort;
 
@@ -72,7 +72,7 @@ fn check_touches(rt: &impl Abort, alloc: Global) {
 /// The short help of the program.
 fn check_help(rt: &impl Abort, alloc: Global) {
     let mut help = Vec::new(alloc);
-    jb_words::show_help(alloc, &mut help).expect(rt, "memory");
+    jb_args::show_help(alloc, &mut help).expect(rt, "memory");
     let usage = b"Usage: jb".as_slice();
     let shown = help.windows(usage.len()).any(|bytes| bytes == usage);
     check(rt, shown, "show_help");

@@ -1,2 +1,5 @@
+pub mod Belonging
 pub mod Founds
+pub mod Planning
+pub mod SameCosts
 pub mod Steps

@@ -1,13 +1,13 @@
 -- What a second line is about after the lines of a load on standard error: the first of them.
 use Rattle.std.specs.Prelude.{ℕ, Option, Some, None}
-use Rattle.jb_advice.specs.declared.hint.Hint.{Hint}
-use Rattle.jb_advice.specs.declared.hint.Hint.TheVariants as hint
+use Rattle.jb_args.specs.declared.hint.Hint.{Hint}
+use Rattle.jb_args.specs.declared.hint.Hint.TheVariants as hint
 use Rattle.jb_desk.specs.declared.ended.Ended.{Ended}
 use Rattle.jb_desk.specs.declared.ended.Ended.TheVariants as ended
-use Rattle.jb_load.specs.declared.fault.HandleFault.{HandleFault}
-use Rattle.jb_load.specs.declared.fault.HandleFault.TheVariants.{Aborted, Busy, Closed, Full, Length, Memory, NoCredit, NotOpen, OutOfRange, TooManyCredits}
-use Rattle.jb_load.specs.declared.loaded.Loaded.{Loaded}
-use Rattle.jb_load.specs.declared.loaded.Refused.{Refused}
+use Rattle.jb_tool.specs.declared.loading.fault.HandleFault.{HandleFault}
+use Rattle.jb_tool.specs.declared.loading.fault.HandleFault.TheVariants.{Aborted, Busy, Closed, Full, Length, Memory, NoCredit, NotOpen, OutOfRange, TooManyCredits}
+use Rattle.jb_tool.specs.declared.loading.loaded.Loaded.{Loaded}
+use Rattle.jb_tool.specs.declared.loading.loaded.Refused.{Refused}
 
 -- a handle that was refused, in an image of so many home blocks; the table has no row for a fault that no text has
 abbrev pub handle_hint : ℕ → HandleFault → Option Hint

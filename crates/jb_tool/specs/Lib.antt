@@ -1,5 +1,13 @@
+pub mod Faults
+pub mod Gathering
 pub mod Hints
 pub mod Load
+pub mod Loads
 pub mod Program
 pub mod Refused
+pub mod Refusing
+pub mod Running
+pub mod Runs
+pub mod Settled
+pub mod Telling
 pub mod Wanted

@@ -1,10 +1,10 @@
 -- How `jb load` ends over files.
 use Rattle.std.specs.Prelude.{◌≡◌, ◌⊎◌, ◌≤◌, ℕ, ⊤, List, [], Option, None, Result, Ok, Err, Some}
-use Rattle.jb_advice.specs.declared.hint.Hint.{Hint}
-use Rattle.jb_advice.specs.declared.option_name.OptionName.TheVariants.{Threads}
-use Rattle.jb_answers.specs.Faulty.{queue_fault}
-use Rattle.jb_answers.specs.Said.{said}
-use Rattle.jb_answers.specs.declared.answer.Answer.{Answer}
+use Rattle.jb_args.specs.declared.hint.Hint.{Hint}
+use Rattle.jb_args.specs.declared.option_name.OptionName.TheVariants.{Threads}
+use Rattle.jb_commands.specs.Faulty.{queue_fault}
+use Rattle.jb_commands.specs.AnswerSaid.{said}
+use Rattle.jb_commands.specs.declared.answer.Answer.{Answer}
 use Rattle.jb_book.specs.Origin.{Begun, own_on}
 use Rattle.jb_deck.specs.Opening.{recovered_home}
 use Rattle.jb_deck.specs.declared.fault.OpenFault.{OpenFault}
@@ -13,30 +13,30 @@ use Rattle.jb_disk.specs.declared.disk.Disk.{Ghosts as Disks}
 use Rattle.jb_disk.specs.declared.file.FileDisk.{FileDisk}
 use Rattle.jb_disk.specs.declared.start.Start.{Ghosts as Starts}
 use Rattle.jb_handle.specs.declared.stopped.Stopped.{Stopped}
-use Rattle.jb_pair.specs.Files.{FileImage, as_files}
-use Rattle.jb_pair.specs.declared.image.ImageDisk.{ImageDisk}
-use Rattle.jb_io.specs.declared.putting.WriteFault.{WriteFault}
-use Rattle.jb_load.specs.Loads.{AnswersLoad}
-use Rattle.jb_load.specs.Settled.{IsOfQueue, LoadsSince}
-use Rattle.jb_load.specs.Telling.{TellsLoad}
-use Rattle.jb_load.specs.declared.fault.LoadFault.{LoadFault}
-use Rattle.jb_load.specs.declared.fault.LoadFault.TheVariants as loading
-use Rattle.jb_load.specs.declared.loaded.Loaded.{Loaded}
-use Rattle.jb_load.specs.declared.options.LoadOptions.{LoadOptions}
+use Rattle.jb_image.specs.Files.{FileImage, as_files}
+use Rattle.jb_image.specs.declared.image.ImageDisk.{ImageDisk}
+use Rattle.jb_text.specs.declared.putting.WriteFault.{WriteFault}
+use Rattle.jb_tool.specs.Loads.{AnswersLoad}
+use Rattle.jb_tool.specs.Settled.{IsOfQueue, LoadsSince}
+use Rattle.jb_tool.specs.Telling.{TellsLoad}
+use Rattle.jb_tool.specs.declared.loading.fault.LoadFault.{LoadFault}
+use Rattle.jb_tool.specs.declared.loading.fault.LoadFault.TheVariants as loading
+use Rattle.jb_tool.specs.declared.loading.loaded.Loaded.{Loaded}
+use Rattle.jb_tool.specs.declared.loading.options.LoadOptions.{LoadOptions}
 use Rattle.jb_queue.specs.Queue.{Queue, queue_of}
 use Rattle.jb_queue.specs.declared.fault.QueueFault.{QueueFault}
-use Rattle.jb_words.specs.Wanted.{Loading}
-use Rattle.jb_plain.specs.Files.{IsOpened, IsShut}
-use Rattle.jb_plain.specs.Lines.{names_with}
-use Rattle.jb_plain.specs.Runs.{Closes}
-use Rattle.jb_plain.specs.Said.{Outputs, Tells}
-use Rattle.jb_plain.specs.Texts.{HasNoText, IsText}
-use Rattle.jb_plain.specs.declared.ended.Ended.{Ended}
+use Rattle.jb_args.specs.Wanted.{Loading}
+use Rattle.jb_commands.specs.Files.{IsOpened, IsShut}
+use Rattle.jb_commands.specs.Lines.{names_with}
+use Rattle.jb_commands.specs.Runs.{Closes}
+use Rattle.jb_commands.specs.Said.{Outputs, Tells}
+use Rattle.jb_commands.specs.Texts.{HasNoText, IsText}
+use Rattle.jb_commands.specs.declared.ended.Ended.{Ended}
 use Rattle.jb_tool.specs.Hints.{load_hint}
-use Rattle.jb_tool.specs.declared.loaded.LoadReport.{LoadReport}
-use Rattle.jb_tool.specs.declared.loaded.LoadReport.TheVariants.{Loaded as ReportsLoaded, Text as ReportsText}
-use Rattle.jb_plain.specs.declared.fault.CommandFault.{CommandFault}
-use Rattle.jb_plain.specs.declared.fault.CommandFault.TheVariants.{Accounts, BadOption, BlockSize, DeviceFault, Memory, NeedsRecovery, NumbersSpent, Super, WriteFault as CommandWriteFault}
+use Rattle.jb_tool.specs.declared.load_report.LoadReport.{LoadReport}
+use Rattle.jb_tool.specs.declared.load_report.LoadReport.TheVariants.{Loaded as ReportsLoaded, Text as ReportsText}
+use Rattle.jb_commands.specs.declared.fault.CommandFault.{CommandFault}
+use Rattle.jb_commands.specs.declared.fault.CommandFault.TheVariants.{Accounts, BadOption, BlockSize, DeviceFault, Memory, NeedsRecovery, NumbersSpent, Super, WriteFault as CommandWriteFault}
 
 -- as many threads as a load may have
 abbrev pub HasThreads : Loading → Type 0

@@ -2,18 +2,18 @@
 use Rattle.std.specs.Prelude.{◌≡◌, ◌≢◌, ◌⊎◌, ℕ, Bool, true, false, List, [], map, Option, Some, None, Err, IfSome, codes}
 use Rattle.std.specs.declared.io.ErrorKind.{ErrorKind}
 use Rattle.std.specs.declared.io.ErrorKind.TheVariants.{InvalidData}
-use Rattle.jb_advice.specs.Advice.{hint_line}
-use Rattle.jb_advice.specs.declared.hint.Hint.{Hint}
-use Rattle.jb_io.specs.Puts.{PutsPart}
-use Rattle.jb_words.specs.Faults.{faults_in}
-use Rattle.jb_words.specs.Named.Asked.{AsksCost}
-use Rattle.jb_words.specs.Wanted.{wanted_in}
-use Rattle.jb_plain.specs.Ends.{of_fault, with_status}
-use Rattle.jb_plain.specs.Faults.{line_of, not_utf8}
-use Rattle.jb_plain.specs.Runs.{Closes, Runs}
-use Rattle.jb_plain.specs.Said.{Outputs}
-use Rattle.jb_plain.specs.declared.ended.Ended.{Ended}
-use Rattle.jb_plain.specs.declared.fault.CommandFault.TheVariants.{Memory}
+use Rattle.jb_args.specs.Advice.{hint_line}
+use Rattle.jb_args.specs.declared.hint.Hint.{Hint}
+use Rattle.jb_text.specs.Puts.{PutsPart}
+use Rattle.jb_args.specs.Faults.{faults_in}
+use Rattle.jb_args.specs.Named.Asked.{AsksCost}
+use Rattle.jb_args.specs.Wanted.{wanted_in}
+use Rattle.jb_commands.specs.Ends.{of_fault, with_status}
+use Rattle.jb_commands.specs.Faults.{line_of, not_utf8}
+use Rattle.jb_commands.specs.Runs.{Closes, Runs}
+use Rattle.jb_commands.specs.Said.{Outputs}
+use Rattle.jb_commands.specs.declared.ended.Ended.{Ended}
+use Rattle.jb_commands.specs.declared.fault.CommandFault.TheVariants.{Memory}
 use Rattle.jb_tool.specs.Refused.{RefusesWords}
 use Rattle.jb_tool.specs.Wanted.{RunsWanted}
 

@@ -1,17 +1,17 @@
 -- How a run ends whose words clap refuses.
 use Rattle.std.specs.Prelude.{◌≡◌, ◌≢◌, ◌⊎◌, [], Option, None, Err}
-use Rattle.jb_io.specs.Puts.{PutsPart}
-use Rattle.jb_words.specs.Faults.{HasKind, Kinds, kind_of}
-use Rattle.jb_words.specs.Wanted.{Wanted}
-use Rattle.jb_words.specs.declared.Error.{Error}
-use Rattle.jb_words.specs.declared.ErrorKind.{ErrorKind}
-use Rattle.jb_words.specs.declared.ErrorKind.TheVariants.{DisplayHelp, DisplayVersion, OutOfMemory}
-use Rattle.jb_plain.specs.Ends.{of_fault, with_status}
-use Rattle.jb_plain.specs.Runs.{Closes}
-use Rattle.jb_plain.specs.Said.{Outputs}
-use Rattle.jb_plain.specs.Faults.{line_of}
-use Rattle.jb_plain.specs.declared.ended.Ended.{Ended}
-use Rattle.jb_plain.specs.declared.fault.CommandFault.TheVariants.{Memory, WriteFault}
+use Rattle.jb_text.specs.Puts.{PutsPart}
+use Rattle.jb_args.specs.Faults.{HasKind, Kinds, kind_of}
+use Rattle.jb_args.specs.Wanted.{Wanted}
+use Rattle.jb_args.specs.declared.Error.{Error}
+use Rattle.jb_args.specs.declared.ErrorKind.{ErrorKind}
+use Rattle.jb_args.specs.declared.ErrorKind.TheVariants.{DisplayHelp, DisplayVersion, OutOfMemory}
+use Rattle.jb_commands.specs.Ends.{of_fault, with_status}
+use Rattle.jb_commands.specs.Runs.{Closes}
+use Rattle.jb_commands.specs.Said.{Outputs}
+use Rattle.jb_commands.specs.Faults.{line_of}
+use Rattle.jb_commands.specs.declared.ended.Ended.{Ended}
+use Rattle.jb_commands.specs.declared.fault.CommandFault.TheVariants.{Memory, WriteFault}
 
 -- how a run ends whose words clap refuses for this reason: help and the version are for standard output, and all else of
 -- clap's texts for standard error

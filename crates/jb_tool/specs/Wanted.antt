@@ -1,10 +1,10 @@
 -- What a whole run did, by what the words ask for.
 use Rattle.std.specs.Prelude.{ℕ, Bool, false, List, Option}
-use Rattle.jb_words.specs.Wanted.{Wanted}
-use Rattle.jb_words.specs.Wanted.Wanted.{WantsLoad, WantsPlain}
-use Rattle.jb_plain.specs.Runs.{Runs, reads_input}
-use Rattle.jb_plain.specs.Said.{Outputs}
-use Rattle.jb_plain.specs.declared.ended.Ended.{Ended}
+use Rattle.jb_args.specs.Wanted.{Wanted}
+use Rattle.jb_args.specs.Wanted.Wanted.{WantsLoad, WantsPlain}
+use Rattle.jb_commands.specs.Runs.{Runs, reads_input}
+use Rattle.jb_commands.specs.Said.{Outputs}
+use Rattle.jb_commands.specs.declared.ended.Ended.{Ended}
 use Rattle.jb_tool.specs.Load.{RunsLoad}
 
 -- whether the command that is wanted reads standard input

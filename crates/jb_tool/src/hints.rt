@@ -3,9 +3,9 @@ ghost use Rattle.std.specs.Prelude.{◌≡◌};
 ghost use Rattle.jb_tool.specs.Hints.{checkpoint_hint as checkpoint_hinted, commit_hint as commit_hinted};
 ghost use Rattle.jb_tool.specs.Hints.{handle_hint as handle_hinted, load_hint as load_hinted};
 
-use jb_advice::Hint;
+use crate::{HandleFault, Loaded};
+use jb_args::Hint;
 use jb_desk::Ended;
-use jb_load::{HandleFault, Loaded};
 
 /// What a second line is about after a load into an image of so many home blocks: the line of the handle that was
 /// refused, or of the committer, or of the checkpointer, whichever is the first.

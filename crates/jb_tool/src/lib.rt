@@ -4,16 +4,18 @@
 
 mod command_line;
 mod hints;
-mod load;
-mod loaded;
+mod load_command;
+mod load_report;
+mod loading;
 mod program;
 
 pub use command_line::run;
-pub use jb_plain::{
+pub use jb_commands::{
     CommandFault, Done, Ended, Plain, Report, TEXT_LIMIT, TwoFiles, cat_file, dump_from,
     format_file, perform, recover_file, recover_on, refuse_words, renumber_file, renumber_on,
     run_plain, widen_file, widen_on,
 };
-pub use load::load_files;
-pub use loaded::{LoadDone, LoadReport};
+pub use load_command::load_files;
+pub use load_report::{LoadDone, LoadReport};
+pub use loading::{HandleFault, LoadFault, LoadOptions, Loaded, Refused, load_on, tell_loaded};
 pub use program::{Terminals, run_program};

@@ -3,9 +3,8 @@ ghost use Rattle.std.specs.Prelude.{◌≡◌, MatchResult, true};
 ghost use Rattle.jb_tool.specs.Program.{Advises, AnswersWords, EndsProgram, Helps, RefusesKind};
 
 use crate::command_line::run;
-use jb_advice::put_hint;
-use jb_plain::{CommandFault, Ended, refuse_words};
-use jb_words::show_help;
+use jb_args::{put_hint, show_help};
+use jb_commands::{CommandFault, Ended, refuse_words};
 use std::alloc::Global;
 use std::convert::AsStr;
 use std::fs::File;

@@ -4,7 +4,7 @@ ghost use Rattle.std.specs.Prelude.{◌≡◌, All, length};
 use crate::blocks::{COMMIT, DATA, DESCRIPTOR, REVOKE, WIDE_DESCRIPTOR, WIDE_REVOKE};
 use crate::checks::By;
 use jb_block::{BlockSize, Stamp, Width};
-use jb_log::{Block, Piece, ReadFault, Transaction, read_transactions};
+use jb_scan::{Block, Piece, ReadFault, Transaction, read_transactions};
 use jb_tags::Tag;
 use std::alloc::Global;
 use tests_support::{Must, Test, block_of, check, check_at};

@@ -4,7 +4,7 @@ use crate::checks::By;
 use crate::costs::one_handle;
 use crate::plans::cert_of;
 use crate::texts::{ALONE, FREEING, GROWING, MIDDLE, check_said, check_told, queue_of};
-use jb_answers::fault_answer;
+use jb_commands::fault_answer;
 use jb_cost::Geometry;
 use jb_price::{
     Cert, CertAnswer, CertFault, Reason, Verdict, check as judge, print_cert, read_cert,

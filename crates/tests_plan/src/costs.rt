@@ -3,8 +3,8 @@ ghost use Rattle.jb_handle.specs.Size.{IsWithinSize};
 
 use crate::checks::By;
 use crate::texts::{bytes_of, check_told, queue_of};
-use jb_answers::cost_answer;
 use jb_block::{BlockSize, Memory, Width};
+use jb_commands::cost_answer;
 use jb_cost::{Footprint, Geometry, group_cost, most_credits, worst_cost};
 use jb_handle::{Payload, Stopped, Word, Words, is_within_size};
 use std::alloc::Global;

@@ -1,7 +1,7 @@
 //! Texts that are no queues: their first fault, and what is said of it.
 
 use crate::texts::{bytes_of, check_told};
-use jb_answers::cost_answer;
+use jb_commands::cost_answer;
 use jb_queue::{Cause, QueueFault, read_lines, read_queue};
 use std::alloc::Global;
 use tests_support::{Must, Test, check, check_at};

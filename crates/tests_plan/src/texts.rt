@@ -2,7 +2,7 @@
 ghost use Rattle.std.specs.Prelude.{◌≡◌, ◌<◌, ◌^◌, length};
 ghost use Rattle.jb_handle.specs.Size.{IsWithinSize};
 
-use jb_answers::{Answer, check_answer};
+use jb_commands::{Answer, check_answer};
 use jb_handle::is_within_size;
 use jb_queue::{QueueText, read_queue};
 use std::alloc::Global;

@@ -2,15 +2,15 @@
 use crate::book::Book;
 use crate::follow::number_in;
 use crate::origin::Origin;
+use jb_board::{History, Made, Scribe};
 use jb_deck::Entry;
 use jb_handle::{Shape, Words};
-use jb_history::{History, Made, Scribe};
 
 impl<S: Origin> Book<S> {
     ghost use Rattle.std.specs.Prelude.{◌≡◌, ℕ, ◌<◌, ◌≤◌, ◌^◌, ◌↔◌, ◌⊎◌, List};
     ghost use Rattle.std.specs.Prelude.{[], ◌∷◌, ◌++◌, length, IfSome, IfNone, IsTrue};
     ghost use Rattle.jb_handle.specs.declared.stopped.Stopped.{Stopped};
-    ghost use Rattle.jb_history.specs.Rule.{with_last};
+    ghost use Rattle.jb_board.specs.HistoryRule.{with_last};
     ghost use Rattle.jb_book.specs.Account.{IsSound, IsOver, IsSettledBy, CanTake};
     ghost use Rattle.jb_book.specs.Shadow.{reserved};
     ghost use Rattle.jb_deck.specs.Done.{Follow, start_of};

@@ -7,11 +7,11 @@ ghost use Rattle.jb_desk.specs.Seats.{stops_left, changes_left, made_left};
 
 use crate::counter::Counter;
 use crate::seat::Left;
+use jb_board::{History, Made, Scribe, Sight};
 use jb_book::{Marks, Origin};
 use jb_deck::{Deck, Entry};
 use jb_disk::Disk;
 use jb_handle::Words;
-use jb_history::{History, Made, Scribe, Sight};
 use std::sync::ledger::{Ledger, Share};
 
 /// Merges what seats have left into two shares, and puts their stops together.
@@ -46,7 +46,7 @@ fn merged<H: Origin, N: Ledger>(
 impl<D: Disk, H: Origin, N: Ledger> Counter<D, H, N> {
     ghost use Rattle.jb_book.specs.Led.{IsMachineRun};
     ghost use Rattle.jb_book.specs.Marks.{HasShapeMark};
-    ghost use Rattle.jb_works.specs.History.{AreAllStops};
+    ghost use Rattle.jb_book.specs.History.{AreAllStops};
 
     /// Takes it apart where every seat that was given has left: into the book's trail, how many handles
     /// stopped and how many blocks they had touched, which are the sums over what the seats left, the history, which has

@@ -4,11 +4,11 @@ ghost use Rattle.std.specs.Prelude.{◌≡◌, ◌↔◌, IsTrue, true, false, A
 use crate::committer::RoundFault;
 use crate::counter::Counter;
 use crate::held::Held;
+use jb_board::History;
 use jb_book::{Histories, Origin, Sights, WrongBatch};
 use jb_deck::Done;
 use jb_disk::Disk;
 use jb_handle::{Shape, Words};
-use jb_history::History;
 use std::sync::ledger::Ledger;
 
 impl<D: Disk, H: Origin, N: Ledger> Counter<D, H, N> {

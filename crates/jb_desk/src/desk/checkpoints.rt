@@ -2,16 +2,15 @@
 use crate::counter::Progress;
 use crate::desk::Desk;
 use crate::ended::Ended;
-use jb_book::Origin;
+use jb_book::{CheckpointRound, Origin};
 use jb_deck::{Checked, CheckpointFault};
 use jb_disk::{Clock, Disk};
-use jb_works::CheckpointRound;
 use std::sync::Wait;
 use std::sync::ledger::Ledger;
 
 impl<D: Disk, C: Clock, H: Origin, N: Ledger> Desk<D, C, H, N> {
     ghost use Rattle.jb_desk.specs.Ends.{EndsChecking};
-    ghost use Rattle.jb_works.specs.Journal.{ChecksAt, ChecksRound};
+    ghost use Rattle.jb_book.specs.Journal.{ChecksAt, ChecksRound};
 
     /// Writes the oldest committed group home (`jbd2_log_do_checkpoint`). The book is not locked
     /// while the disk is at work.

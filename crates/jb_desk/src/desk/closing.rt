@@ -3,19 +3,18 @@ ghost use Rattle.std.specs.Prelude.{◌≡◌, ℕ, ◌+◌, ◌≤◌, ◌^◌,
 ghost use Rattle.std.specs.List.{sum_by};
 ghost use Rattle.jb_deck.specs.Done.{Follow, start_of};
 ghost use Rattle.jb_desk.specs.Seats.{stops_left, changes_left, made_left};
-ghost use Rattle.jb_works.specs.Marks.{EndsMarked};
+ghost use Rattle.jb_book.specs.SinceMark.{EndsMarked};
 ghost use Rattle.jb_desk.specs.Closing.{DiffersAs};
-ghost use Rattle.jb_works.specs.Since.{EndsSince};
+ghost use Rattle.jb_book.specs.Since.{EndsSince};
 
 use crate::counter::Counter;
 use crate::desk::Desk;
 use crate::follow::are_same;
 use crate::seat::Left;
-use jb_book::{Histories, Origin, Sights};
+use jb_book::{Histories, Origin, Sights, Works};
 use jb_deck::{Deck, Entry};
 use jb_disk::{Clock, Disk};
 use jb_handle::Shape;
-use jb_works::Works;
 use std::fmt;
 use std::sync::Mutex;
 use std::sync::ledger::Ledger;
@@ -73,9 +72,9 @@ impl<D: Disk, C: Clock, H: Origin, N: Ledger> fmt::Display for CloseFault<D, C, 
 
 impl<D: Disk + Drop, C: Clock, H: Origin, N: Ledger> Desk<D, C, H, N> {
     ghost use Rattle.jb_desk.specs.Seats.{stops_left, changes_left, made_left};
-    ghost use Rattle.jb_works.specs.Marks.{EndsMarked};
+    ghost use Rattle.jb_book.specs.SinceMark.{EndsMarked};
     ghost use Rattle.jb_desk.specs.Closing.{IsNotClosed};
-    ghost use Rattle.jb_works.specs.Since.{EndsSince};
+    ghost use Rattle.jb_book.specs.Since.{EndsSince};
 
     /// Closes the desk, where every seat that it gave has left. It writes nothing. Of the marks that were seen it says that
     /// each lasts: what a crash since then leaves has all that was settled at the mark.

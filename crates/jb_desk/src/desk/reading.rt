@@ -9,7 +9,7 @@ use std::sync::Wait;
 use std::sync::ledger::Ledger;
 
 impl<D: Disk, C: Clock, H: Origin, N: Ledger> Desk<D, C, H, N> {
-    ghost use Rattle.jb_works.specs.Journal.{ReadsHome};
+    ghost use Rattle.jb_book.specs.Journal.{ReadsHome};
     ghost use Rattle.jb_book.specs.Marks.{SeesMore};
 
     /// Reads a home block as it is committed: the copy that is its last live word, which may not be in its place

@@ -1,7 +1,7 @@
 //! Batches are committed, one in each round of a committer.
 ghost use Rattle.std.specs.Prelude.{◌≡◌, ◌+◌, ◌≤◌, length, None, Some, All, IfErr, OnOk};
 ghost use Rattle.jb_deck.specs.Done.{first_of, entries_of, past_after};
-ghost use Rattle.jb_batch.specs.Prepared.{IsPlanned};
+ghost use Rattle.jb_plan.specs.Prepared.{IsPlanned};
 ghost use Rattle.jb_desk.specs.Seats.{view_of};
 
 use crate::committer::{Committer, Round, RoundFault};
@@ -9,19 +9,18 @@ use crate::counter::Seen;
 use crate::desk::Desk;
 use crate::held::Held;
 use crate::seat::Seat;
-use jb_board::Tickets;
+use jb_board::{Sight, Tickets};
 use jb_book::{Origin, Sights, end_of};
 use jb_deck::{Batch, BatchFault, Done, PrepareFault, Prepared, prepare};
 use jb_disk::{Clock, Disk};
 use jb_handle::{Shape, Words};
-use jb_history::Sight;
 use std::sync::Wait;
 use std::sync::ledger::Ledger;
 
 impl<D: Disk, C: Clock, H: Origin, N: Ledger> Desk<D, C, H, N> {
     ghost use Rattle.jb_desk.specs.Desks.{desk_id};
     ghost use Rattle.jb_desk.specs.Journal.{CommitsRound};
-    ghost use Rattle.jb_works.specs.Rounds.{end_of as end_in};
+    ghost use Rattle.jb_book.specs.Rounds.{end_of as end_in};
     ghost use Rattle.jb_desk.specs.Rounds.{seat_of, held_by, AnswersRound, IdleKeeps};
     ghost use Rattle.jb_desk.specs.Seats.{KeepsStops, seat_number, desk_of};
     ghost use Rattle.jb_book.specs.Led.{IsInHistory, IsSettling};

@@ -8,7 +8,7 @@ use std::sync::Wait;
 use std::sync::ledger::Ledger;
 
 impl<D: Disk, C: Clock, H: Origin, N: Ledger> Desk<D, C, H, N> {
-    ghost use Rattle.jb_works.specs.Journal.{GivesTrail};
+    ghost use Rattle.jb_book.specs.Journal.{GivesTrail};
 
     /// Takes the entries of groups that are settled and home from the front of the trail, which so does not grow for
     /// ever. The last entry always stays. A [`wait`](Desk::wait) for a ticket of an entry that was taken answers

@@ -1,4 +1,4 @@
-use Rattle.jb_history.specs.Place.{nowhere}
+use Rattle.jb_board.specs.Place.{nowhere}
 use Rattle.jb_journal.specs.Starting.{started_on}
 use Rattle.jb_journal.proofs.running.run.Given as goal
 

@@ -1,5 +1,5 @@
 use Rattle.jb_desk.specs.History.{history_in}
-use Rattle.jb_history.specs.History.{history_id}
+use Rattle.jb_board.specs.History.{history_id}
 use Rattle.jb_journal.proofs.running.run_on.Given as goal
 
 abbrev pub ghosts-run_open-H-Ledger : goal.ghosts-run_open-H-Ledger

@@ -2,7 +2,7 @@ use Rattle.std.proofs.Common.{◌≡◌, [], length, All, sym, ap, subst, arith}
 use Rattle.std.proofs.lemmas.List.Elements.{All-nil}
 use Rattle.jb_handle.specs.declared.stopped.Stopped.{Stopped}
 use Rattle.jb_deck.specs.Done.{past_after}
-use Rattle.jb_works.specs.Since.{IsCosted, NumberedFrom}
+use Rattle.jb_book.specs.Since.{IsCosted, NumberedFrom}
 use Rattle.jb_names_client.proofs.desks.start.Goals as goal
 
 -- no handle was given to a journal that has settled none

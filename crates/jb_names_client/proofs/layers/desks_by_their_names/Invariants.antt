@@ -1,6 +1,6 @@
 use Rattle.jb_book.specs.Origin.{unknown}
 use Rattle.jb_desk.specs.History.{history_in}
-use Rattle.jb_history.specs.History.{history_id}
+use Rattle.jb_board.specs.History.{history_id}
 use Rattle.jb_names_client.proofs.layers.desks_by_their_names.Given as goal
 
 abbrev pub ghosts-check_desks-H-Ledger : goal.ghosts-check_desks-H-Ledger

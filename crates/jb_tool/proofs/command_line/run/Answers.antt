@@ -1,4 +1,4 @@
-use Rattle.jb_tool.proofs.Refusals.{refused-asks}
+use Rattle.jb_tool.proofs.WordRefusals.{refused-asks}
 use Rattle.jb_tool.proofs.command_line.run.Goals as goal
 
 pub returns-in-Err-clause-refused : goal.returns-in-Err-clause-refused

@@ -1,6 +1,6 @@
 use Rattle.std.proofs.Common.{true, sym, subst}
-use Rattle.jb_advice.specs.Advice.{hint_line}
-use Rattle.jb_io.proofs.PartByPart.{partly}
+use Rattle.jb_args.specs.Advice.{hint_line}
+use Rattle.jb_text.proofs.PartByPart.{partly}
 use Rattle.jb_tool.specs.Program.{Advises}
 use Rattle.jb_tool.proofs.program.advise.Goals as goal
 

@@ -1,6 +1,6 @@
 use Rattle.std.proofs.Common.{rules, ◌≡◌, false, sym, subst}
 use Rattle.jb_handle.specs.Size.{IsWithinSize}
-use Rattle.jb_batch.specs.Costs.{HasCut}
+use Rattle.jb_plan.specs.Costs.{HasCut}
 use Rattle.jb_book.specs.Account.{Account}
 use Rattle.jb_book.specs.Book.{account_of}
 use Rattle.jb_book.proofs.Accounts.{queue-size}

@@ -1,6 +1,6 @@
 use Rattle.std.proofs.Common.{◌≡◌, ◌++◌, ◌∷◌, [], length, ap, sym, subst, ◌∙◌}
 use Rattle.jb_handle.specs.Handle.{changes_of, holder}
-use Rattle.jb_history.specs.Rule.{IsFirstPart}
+use Rattle.jb_board.specs.HistoryRule.{IsFirstPart}
 use Rattle.jb_book.specs.Account.{Account, RefusesStop}
 use Rattle.jb_book.specs.Led.{Queues, Registered, registered}
 use Rattle.jb_book.proofs.Marked.{marked-queued, sees-stop}

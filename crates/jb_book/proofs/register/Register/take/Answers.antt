@@ -1,6 +1,6 @@
 use Rattle.std.proofs.Common.{IfSome, List, Option, subst, sym}
-use Rattle.jb_batch.specs.Batch.{Gathered}
-use Rattle.jb_batch.specs.Costs.{HasCut}
+use Rattle.jb_plan.specs.Batch.{Gathered}
+use Rattle.jb_plan.specs.Costs.{HasCut}
 use Rattle.jb_handle.specs.Word.{WordMap}
 use Rattle.jb_book.specs.Led.{Registered}
 use Rattle.jb_book.proofs.Marked.{marked-taken}

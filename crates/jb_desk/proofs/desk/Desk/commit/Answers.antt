@@ -4,9 +4,9 @@ use Rattle.jb_deck.specs.declared.batched.BatchFault.{BatchFault}
 use Rattle.jb_deck.specs.declared.batched.BatchFault.TheVariants.{DeviceFault}
 use Rattle.jb_deck.specs.declared.done.Done.{Done}
 use Rattle.jb_book.specs.Tied.{TellsFirst}
-use Rattle.jb_works.specs.Journal.{FailsAs, IsRound}
-use Rattle.jb_works.specs.Marks.{MarksSettled}
-use Rattle.jb_works.specs.Rounds.{CommitsAs}
+use Rattle.jb_book.specs.Journal.{FailsAs, IsRound}
+use Rattle.jb_book.specs.SinceMark.{MarksSettled}
+use Rattle.jb_book.specs.Rounds.{CommitsAs}
 use Rattle.jb_desk.specs.Rounds.{seat_of}
 use Rattle.jb_desk.specs.Seats.{view_of}
 use Rattle.jb_desk.proofs.Rounds.{settles-whole, whole-past}

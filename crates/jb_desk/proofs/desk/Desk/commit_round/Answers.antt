@@ -1,10 +1,10 @@
 use Rattle.std.proofs.Common.{All, ◌≡◌, ◌⊎◌, Some, inl, inr, sym, ap, subst, ◌∙◌}
-use Rattle.jb_batch.specs.Batch.{Gathered}
+use Rattle.jb_plan.specs.Batch.{Gathered}
 use Rattle.jb_board.specs.Steps.{raised_taken}
 use Rattle.jb_book.specs.Led.{IsInHistory}
 use Rattle.jb_book.specs.Origin.{AreStops}
 use Rattle.jb_desk.specs.Rounds.{held_by, seat_of}
-use Rattle.jb_works.specs.Rounds.{end_of as end_in}
+use Rattle.jb_book.specs.Rounds.{end_of as end_in}
 use Rattle.jb_desk.specs.Seats.{view_of}
 use Rattle.jb_desk.specs.Views.{TakesUp, with_taken}
 use Rattle.jb_desk.specs.declared.committer.RoundFault.TheVariants.{Memory, Refused}

@@ -2,16 +2,16 @@ use Rattle.std.proofs.Common.{rules, sym, subst, ◌∙◌}
 use mathlib.Core.List.{IsPrefix}
 use Rattle.jb_handle.specs.Word.{WordMap}
 use Rattle.std.specs.Prelude.{List}
-use Rattle.jb_history.proofs.Placed.{placed_on}
-use Rattle.jb_works.specs.History.{IsStop}
-use Rattle.jb_works.specs.Marks.{Lasts}
-use Rattle.jb_works.specs.Since.{may_stop}
-use Rattle.jb_works.proofs.Histories.{stop-on}
-use Rattle.jb_works.proofs.Lasting.{first-marks}
-use Rattle.jb_works.proofs.Marked.{marked-weaker}
-use Rattle.jb_works.proofs.Shaped.{of-begun}
-use Rattle.jb_works.proofs.Sincing.{is-weaker}
-use Rattle.jb_works.proofs.Staying.{of-mark}
+use Rattle.jb_board.proofs.Placed.{placed_on}
+use Rattle.jb_book.specs.History.{IsStop}
+use Rattle.jb_book.specs.SinceMark.{Lasts}
+use Rattle.jb_book.specs.Since.{may_stop}
+use Rattle.jb_book.proofs.StopHistories.{stop-on}
+use Rattle.jb_book.proofs.Lasting.{first-marks}
+use Rattle.jb_book.proofs.LastingMarks.{marked-weaker}
+use Rattle.jb_book.proofs.Shaped.{of-begun}
+use Rattle.jb_book.proofs.Sincing.{is-weaker}
+use Rattle.jb_book.proofs.Staying.{of-mark}
 use Rattle.jb_desk.proofs.desk.closing.close_parts.Goals as goal
 
 pub returns-clause-since : goal.returns-clause-since

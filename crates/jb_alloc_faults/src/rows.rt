@@ -1,0 +1,124 @@
+//! The rows by their names.
+ghost use Rattle.std.specs.Prelude.{◌≡◌, ◌+◌, ◌^◌};
+ghost use Rattle.jb_desk.specs.History.{history_in};
+ghost use Rattle.jb_board.specs.History.{history_id};
+ghost use Rattle.jb_handle.specs.Word.{WordMap};
+
+use crate::desks::{PARTS, started};
+use crate::met::Met;
+use crate::{
+    books, decks, desks, disks, handles, loads, logs, machines, rounds, stopping, texts, values,
+};
+use jb_board::Opened;
+use jb_deck::Deck;
+use jb_desk::{Origin, Stops};
+use jb_disk::MemoryDisk;
+use std::alloc::Global;
+use std::fs::File;
+use std::marker::Brand;
+use std::rt::Files;
+use std::sync::Wait;
+use std::sync::ledger::{Blank, Ledger};
+use std::thread::Threads;
+use std::time::Clock;
+
+/// Runs the row of this name; nothing where something is not as it must be, or there is no such row.
+pub fn row<R: Files<File = File> + Threads + Wait + Clock + Sync>(
+    rt: &R,
+    alloc: Global,
+    name: &str,
+) -> Option<Met> {
+    match name {
+        "plan" | "group_cost" | "add_left" | "check" => values::row(rt, alloc, name),
+        "read_queue" | "read_lines" | "read_cert" | "print_cert" | "read_tags" | "read_revokes" => {
+            texts::row(rt, alloc, name)
+        }
+        "read_transactions" => logs::row(rt, alloc),
+        "Handle::write" => handles::touch_row(rt, alloc, true),
+        "Handle::revoke" => handles::touch_row(rt, alloc, false),
+        "prepare" => handles::prepare_row(rt, alloc),
+        "step:Open" | "step:Touch" | "step:Stop" | "step:Take" => {
+            machines::step_row(rt, alloc, name)
+        }
+        "run" => machines::run_row(rt, alloc),
+        "MemoryDisk::new" => disks::new_row(rt, alloc),
+        "MemoryDisk::crash" => disks::crash_row(rt, alloc),
+        "recover" => disks::recover_row(rt, alloc),
+        "dump" => disks::dump_row(rt, alloc),
+        _ => shared_row(rt, alloc, name),
+    }
+}
+
+/// Runs the row of this name, of a journal or of what threads share.
+fn shared_row<R: Files<File = File> + Threads + Wait + Clock + Sync>(
+    rt: &R,
+    alloc: Global,
+    name: &str,
+) -> Option<Met> {
+    match name {
+        "Deck::open" => decks::open_row(rt, alloc),
+        "commit_batch" => decks::commit_batch_row(rt, alloc),
+        "Deck::take_trail" => decks::take_trail_row(rt, alloc),
+        "Book::open" => books::open_row(rt, alloc),
+        "Book::enqueue" => books::enqueue_row(rt, alloc),
+        "Stops::new" => desks::stops_row(rt, alloc),
+        "load_on" => loads::load_row(rt, alloc),
+        _ => desk_row(rt, alloc, name),
+    }
+}
+
+/// Runs the row of this name, of a board or of a desk, whose ledgers are named here.
+fn desk_row<R: Files<File = File> + Threads + Wait + Clock + Sync>(
+    rt: &R,
+    alloc: Global,
+    name: &str,
+) -> Option<Met> {
+    let (handles, changes) = (Stops::new(alloc, PARTS).ok()?, Blank::new(PARTS));
+    let marks = Opened::new(alloc).ok()?;
+    run_row::<R, Brand, Brand>(rt, alloc, name, handles, changes, marks)
+}
+
+/// Starts a desk and runs a row of it.
+fn run_row<
+    R: Files<File = File> + Threads + Wait + Clock + Sync,
+    H: Origin + Send + Sync,
+    N: Ledger + Send + Sync,
+>(
+    rt: &R,
+    alloc: Global,
+    name: &str,
+    handles: Stops,
+    changes: Blank,
+    marks: Opened<Deck<MemoryDisk>>,
+) -> Option<Met>
+    requires blind { H.begun.is_known → ⊥ }
+    requires any { (words : WordMap) → H.begun.stops words }
+    requires handles { (handles.tickets.name ≡ H.name) × (handles.tickets.parts ≡ H.parts) × (H.parts ≡ 2 ^ 61 + 1) }
+    requires histories { (history_in handles ≡ H.history) × (history_id marks ≡ H.marks) }
+    requires changes { (changes.name ≡ N.name) × (changes.parts ≡ N.parts) × (N.parts ≡ 2 ^ 61 + 1) }
+{
+    let (met, desk) = started::<R, H, N>(
+        rt,
+        alloc,
+        handles,
+        changes,
+        marks,
+        name == "Desk::start",
+    )?;
+    let found = match name {
+        "Board::new" => books::board_row::<R, N>(rt, alloc),
+        "Desk::start" | "Desk::seat" | "Desk::close" => desks::seat_row(rt, alloc, desk),
+        "Desk::begin" => stopping::begin_row(rt, alloc, desk),
+        "Desk::stop" => stopping::stop_row(rt, alloc, desk),
+        "stop_beside_stop" => stopping::stop_beside_stop_row(rt, alloc, desk),
+        "commit_round" => rounds::commit_round_row(rt, alloc, desk),
+        "run_committer" => rounds::run_committer_row(rt, alloc, desk),
+        "checkpoint_round" => rounds::checkpoint_round_row(rt, alloc, desk),
+        "Desk::take_trail" => rounds::take_trail_row(rt, alloc, desk),
+        _ => None,
+    };
+    match found {
+        Some(Met::Ample) => Some(met),
+        found => found,
+    }
+}

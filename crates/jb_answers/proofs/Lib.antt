@@ -1,4 +1,0 @@
-pub mod Best
-pub mod Lengths
-pub mod Light
-pub mod Verdicts

@@ -1,0 +1,10 @@
+use Rattle.std.proofs.Common.{ap₂, ◌∙◌}
+use Rattle.clap.specs.Words.{with_rule}
+use Rattle.jb_args.proofs.Apps.{rule-last}
+use Rattle.jb_args.proofs.commands.dump.Goals as goal
+
+pub returns-clause-app : goal.returns-clause-app
+returns-clause-app c =
+    let home = c.in_ok-command-2.ensures.app ∙ ap₂ with_rule c.in_ok-command.ensures.app c.number_option.ensures.rule in
+    let last = c.in_ok-command-3.ensures.app ∙ ap₂ with_rule home c.number_option-2.ensures.rule in
+    rule-last c.with-3.result last c.flag.ensures.rule c.with-3.ensures.app

@@ -1,0 +1,6 @@
+use Rattle.clap.specs.Words.{found_of}
+use Rattle.jb_args.proofs.Numerals.{number_read}
+use Rattle.jb_args.proofs.words.number_of.Goals as goal
+
+pub returns : goal.returns
+returns c = number_read (found_of c.args.found.now) c.args.name.now c.get_one.result c.get_one.ensures.none c.get_one.ensures.value

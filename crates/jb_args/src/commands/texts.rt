@@ -1,0 +1,183 @@
+//! What stands at the end of long help: the statuses of a command, and an example.
+
+use crate::diagnostics;
+
+/// What stands at the end of the long help of `jb`, with the table of what can go wrong.
+macro_rules! jb_text {
+    (
+        lines { $($hint:ident, $begins:literal, $rest:literal, $advice:literal $(: $beside:literal)?;)* }
+        options { $($option:ident, $name:literal, $values:literal;)* }
+    ) => {
+        concat!(
+            "Files:
+A queue text, the FILE of cost, plan, check and load, has a line for each handle after its first two:
+  bs 1024                 the bytes of a block: 1024, 2048 or 4096
+  limit 7                 the most log blocks of a group
+  h w1 w2=c03b3998 r5     a handle that writes home block 1, and 2 with these bytes, and revokes 5
+An image has the journal first, its superblock at the front, and the home blocks after it: home block N
+is the block at s_maxlen + N. It is a regular file or a block device. The FILE of dump is a journal,
+whatever comes after it; it may be a pipe.
+With --extents LIST the image is a file system with its journal in it, in the blocks that LIST says as
+debugfs prints them, and home block N is block N of the image. With --journal FILE the journal is the whole
+of another file, with exactly s_maxlen blocks, and home block N is block N of the image: a file system,
+with its journal copied out. renumber and widen take a journal alone as their image.
+
+Locks: load, recover, renumber and widen lock their files while they use them (flock), and format the one
+that it makes. cat shares its lock with others that only read. A file that another program has locked is
+refused at once, with jb: in use NAME and status 2. dump takes no lock. Nothing keeps out a program that
+takes none, as cp, and where the system has no lock for a file jb goes on without.
+
+Status: 0 where a command is done, and what it judges fits or is accepted; 1 where it is not, or an image
+is refused, or a read, a write or memory failed; 2 where the words, a file or a text cannot be taken. With
+no words jb acts as jb cost -; where standard input is a terminal it prints its help, with status 2. A
+write past the limit of the file size (ulimit -f) ends jb by the signal SIGXFSZ: format leaves an empty
+file then, and an image is to be recovered, as after a crash.
+
+Diagnostics: what went wrong is one line on standard error. Where that is a terminal, what to do follows
+on a second line; nothing is said there where nobody reads standard output any more, as after jb dump
+journal.bin | head -1. With --journal the line ends with the name of the file that it is about, but for
+DeviceFault, which is of either. A control character of a name is \\x and two digits for each of its bytes.
+# is a number, and REASON the system's own text, where it has one; the options that may be bad stand last.",
+            $("\n  jb: ", $begins, $rest, "\n          ", $advice $(, ": ", $beside)?),*,
+            $("\n  ", $name, "\n          is ", $values),*
+        )
+    };
+}
+
+/// Of `jb` itself: the files that its commands are about, its statuses, and its lines on standard error.
+pub(crate) const JB: &str = diagnostics!(jb_text);
+
+/// What stands at the end of the long help of the command of this name.
+pub(crate) fn more_of(command: &str) -> &'static str {
+    match command {
+        "cost" => COST,
+        "plan" => PLAN,
+        "check" => CHECK,
+        "dump" => DUMP,
+        "cat" => CAT,
+        "format" => FORMAT,
+        "load" => LOAD,
+        "recover" => RECOVER,
+        "renumber" => RENUMBER,
+        "widen" => WIDEN,
+        _ => "",
+    }
+}
+
+const COST: &str =
+    "Status: 0 where they fit the text's limit, 1 where they do not, 2 where the text cannot be read or
+breaks its form.
+
+Example:
+  printf 'bs 1024\\nlimit 7\\nh w1 w2 w3\\n' | jb cost -     # cost 5 limit 7 fits";
+
+const PLAN: &str =
+    "Status: 0 with a cut, 1 where none fits the limit, 2 where the text cannot be read or breaks its form.
+
+Example:
+  jb plan queue.txt > queue.cert";
+
+const CHECK: &str =
+    "Status: 0 where it is accepted, 1 where it is refused, by the name of its first fault, 2 where a text
+cannot be read or breaks its form.
+
+Example:
+  jb check queue.txt queue.cert     # accepted";
+
+const DUMP: &str =
+    "With --home N these lines alone are printed: each copy of home block N, each descriptor block with a tag of
+it, and each revoke block that names it; the last two say the transaction's number. With --last N the lines
+of all transactions before the last N are left out, with --super all lines but the first two. Of several
+options each leaves out its lines. The whole journal is read, and refused, whatever is printed.
+
+Status: 0 where they are printed, 1 where the journal is refused, by the name of its fault, or a read
+fails, 2 where the file cannot be opened.
+
+Examples:
+  jb dump journal.bin
+  jb dump journal.bin --home 5 --last 2     # what the last two transactions do to home block 5";
+
+const CAT: &str =
+    "The image is opened for reading, and nothing is written to it. Each block is what the last copy of it that
+is not revoked makes of it, or the block as it stands. For each block the log is read once, so many blocks
+of an image with a long log are read faster after jb recover. A copy for another home block that the image
+does not have is not looked at, though recover refuses it.
+
+With --hex a block is lines as xxd prints them, with offsets from 0 on over all the blocks, of 32 bits.
+
+Status: 0 where they are written, 1 where the image is refused, by the name of its fault, or does not have
+the block: the blocks before it are written then, 2 where the file cannot be opened or read, or is in use.
+
+Example:
+  jb cat a.img 5 --hex -n 2";
+
+const FORMAT: &str =
+    "Status: 0 where the image is made, 1 where the numbers make no journal, 2 where an option is bad or the
+file cannot be made.
+
+Example:
+  jb format a.img --bs 1024 --journal 33 --homes 16     # formatted limit 8";
+
+const LOAD: &str =
+    "Prints how many handles ran, the blocks that they touch, how many of them are committed, and the groups
+and log blocks of these. Thread K of T runs handles K, K+T, K+2T and so on, up to its first one that is
+refused; the text's limit is not used, the image's is. Without --checkpoint what is committed waits in the
+log for jb recover.
+
+A journal that is put back into its file system with a log is thrown away at the next mount, and e2fsck -p
+stops at it, where the flag needs_recovery is clear: set it by debugfs -w -R 'feature needs_recovery' fs.img
+before, and run e2fsck or mount. OCFS2 has the flag dirty of the journal's inode in its place.
+
+Status: 0 where all handles are committed, 1 where one is refused, or the commits or the checkpoints ended
+early, or the image is refused, by the name of its fault, 2 where a file or the text cannot be taken.
+
+Example:
+  jb load a.img queue.txt --hold     # handles 3 changes 8 settled 3 groups 1 blocks 7";
+
+const RECOVER: &str =
+    "IMAGE is not to be mounted. A block device that is mounted, as far as /proc/self/mountinfo says so, is
+refused (jb: in use NAME); a mount that this process does not see, or of a device that stands on it, is not
+found, and jb cannot keep a device from being mounted while it writes. So unmount it first.
+
+The journal of an ext3 or ext4 file system that is not mounted is recovered where it stands:
+  debugfs -R 'stat <8>' fs.img      # lists its blocks after EXTENTS: or BLOCKS:
+  jb recover fs.img --extents '(0-1023):8193-9216, (1024-4095):16385-19456'
+Its log is empty then, and a later e2fsck has nothing to replay. Spaces, commas or both are between the
+words of the list, and words as (IND):8192 are passed over. A stretch without a place, as 8193-9216, has the
+next blocks of the journal: so those of OCFS2 are given, whose debugfs.ocfs2 -R 'stat //journal:0000' prints
+the first block of each extent, and its clusters.
+
+With --journal FILE the journal is a copy, and the one inside the file system stays full: run e2fsck at
+once, and write nothing before, or it replays the log once more over what was written since.
+
+Where IMAGE has the superblock of ext2, ext3 or ext4 and the journal is not at its front, the journal has
+to be the file system's own: its block size has to be the same, and unless --force is given its UUID
+(where the journal has one; tune2fs -U changes the file system's alone) and the flag needs_recovery, which
+e2fsck and a mount take away.
+
+With --dry-run nothing is written, the image is opened for reading, and the line is that of the recovery;
+with --list the home block of each copy that would be written follows, as home N, in the log's order.
+
+Status: 0 where the image is recovered, 1 where it is refused, by the name of its fault, and stays as it
+is, 2 where the file cannot be opened or read. After jb: DeviceFault, status 1, it is to be called again.
+
+Examples:
+  jb recover a.img     # transactions 1 copies 5 revoked 0 next 4
+  jb recover fs.img --extents '(0-4095):32801-36896' --dry-run --list
+  jb recover fs.img --journal journal.bin";
+
+const RENUMBER: &str =
+    "Status: 0 where the journal is renumbered, 1 where it is refused, by the name of its fault, and stays as
+it is, 2 where the file cannot be opened or read. After jb: NeedsRecovery it is to be recovered first; after
+jb: DeviceFault, status 1, the command is to be called again.
+
+Example:
+  jb renumber a.img     # renumbered blocks 2 next 1";
+
+const WIDEN: &str =
+    "Status: 0 where the journal has block numbers of 64 bits now, 1 where it is refused, by the name of its
+fault, and stays as it is, 2 where the file cannot be opened or read. After jb: NeedsRecovery it is to be
+recovered first; after jb: DeviceFault, status 1, the command is to be called again.
+
+Example:
+  jb widen a.img     # widened limit 8";

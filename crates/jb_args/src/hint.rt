@@ -1,0 +1,161 @@
+ghost use Rattle.std.specs.Prelude.{◌≡◌};
+ghost use Rattle.jb_args.specs.Advice.{advice_of, beside_of};
+
+use crate::diagnostics;
+use crate::option_name::OptionName;
+
+/// The line on standard error that a second line is about, with what that one says beside the words of the table: what
+/// the first line has not.
+#[derive(Clone, Copy)]
+pub enum Hint {
+    /// The first line of a queue text is not that of the block size.
+    QueueBlockSizeLine,
+    /// The second line of a queue text is not that of the limit.
+    QueueLimitLine,
+    /// A line of a queue text is not that of a handle.
+    QueueHandleLine,
+    /// A handle's word is none.
+    QueueOpWord,
+    /// The bytes of a word are none, or too many.
+    QueueDataWord,
+    /// A certificate's text breaks its form.
+    CertificateSyntax,
+    /// A certificate has not one price more than its queue has handles.
+    CertificateLength,
+    /// The first option that is bad.
+    BadOption(OptionName),
+    /// A file was not made; the number of the system's error, where it has one.
+    CannotMake(Option<i32>),
+    /// A file was not opened or read; the number of the system's error, where it has one.
+    CannotRead(Option<i32>),
+    /// A file is locked by another program.
+    InUse,
+    /// The image is the file of the journal, too.
+    SameFile,
+    /// A text is longer than it may be.
+    TooLong,
+    /// A read of a journal failed.
+    ReadFault,
+    /// A superblock is cut short.
+    SuperShortBlock,
+    /// A superblock has not the magic number.
+    SuperNoMagic,
+    /// A superblock is of another version.
+    SuperNotVersion2,
+    /// A superblock has another block size.
+    SuperBlockSize,
+    /// A superblock's numbers make no journal, or the file is too short for it.
+    SuperGeometry,
+    /// The journal's own file has too many blocks.
+    JournalLength,
+    /// A superblock has a feature that is not taken.
+    SuperFeature,
+    /// A file system has another block size than the journal.
+    FileSystemBlockSize,
+    /// A file system has another UUID than the journal.
+    FileSystemUuid,
+    /// A file system needs no recovery.
+    FileSystemClean,
+    /// A block is in two extents.
+    ExtentsOverlap,
+    /// An extent is not in the image.
+    ExtentsPastEnd,
+    /// The extents have fewer blocks than the journal.
+    ExtentsShort,
+    /// No journal begins in the extents.
+    ExtentsNoJournal,
+    /// A copy is for a home block that holds the journal.
+    ExtentsHome,
+    /// A journal may not have so many blocks.
+    Geometry,
+    /// A revoke block is damaged.
+    BadRevoke,
+    /// A copy is for a home block that the image has not; how many it has, where that is known.
+    HomeOutOfRange(Option<u64>),
+    /// The image has not this home block; how many it has, where that is known.
+    NoHome(Option<u64>),
+    /// The log is not clean.
+    NeedsRecovery,
+    /// The journal has no number left for a transaction.
+    NumbersSpent,
+    /// A queue text has another block size than the image.
+    BlockSize,
+    /// A handle touches more blocks than one may.
+    HandleTooManyCredits,
+    /// A handle names a home block that the image has not; how many it has.
+    HandleOutOfRange(u64),
+    /// A handle found no room in the log.
+    HandleFull,
+    /// Memory ran out for a handle.
+    HandleMemory,
+    /// The journal had failed before a handle.
+    HandleAborted,
+    /// No number is left for a group.
+    CommitRefused,
+    /// Memory ran out for the commits.
+    CommitMemory,
+    /// The journal failed under the commits.
+    CommitAborted,
+    /// Memory ran out for the checkpoints.
+    CheckpointMemory,
+    /// The checkpoints stopped with the commits.
+    CheckpointStopped,
+    /// The journal failed under the checkpoints.
+    CheckpointAborted,
+    /// The accounts of a load do not agree.
+    Accounts,
+    /// A call on an image failed.
+    DeviceFault,
+    /// Memory ran out.
+    Memory,
+    /// Standard output was not written.
+    WriteFault,
+}
+
+/// What a second line says beside the words of the table.
+#[derive(Clone, Copy)]
+pub(crate) enum Beside {
+    /// Nothing.
+    Nothing,
+    /// An option that is bad.
+    BadOption(OptionName),
+    /// The number of the system's error, whose text the library has.
+    System(i32),
+    /// How many home blocks the image has.
+    Homes(u64),
+}
+
+/// A `match` of a hint with what to do in each arm.
+macro_rules! advice_in {
+    (
+        $of:ident
+        lines { $($hint:ident, $begins:literal, $rest:literal, $advice:literal $(: $beside:literal)?;)* }
+        options { $($option:ident, $name:literal, $values:literal;)* }
+    ) => {
+        match $of { $(Hint::$hint { .. } => $advice),* }
+    };
+}
+
+impl Hint {
+    /// What to do, in the words of the table.
+    #[tactic(auto, unfolding(crate::specs::Advice::advice_of))]
+    pub fn advice(self) -> &'static str
+        ensures { result.now ≡ advice_of self }
+    {
+        let hint = self;
+        diagnostics!(advice_in, hint)
+    }
+
+    /// What is said beside the words of the table.
+    pub(crate) fn beside(self) -> Beside
+        ensures { result ≡ beside_of self }
+    {
+        match self {
+            Hint::BadOption(option) => Beside::BadOption(option),
+            Hint::CannotMake(Some(code)) | Hint::CannotRead(Some(code)) => Beside::System(code),
+            Hint::HomeOutOfRange(Some(homes)) | Hint::NoHome(Some(homes)) => Beside::Homes(homes),
+            Hint::HandleOutOfRange(homes) => Beside::Homes(homes),
+            _ => Beside::Nothing,
+        }
+    }
+}

@@ -1,0 +1,21 @@
+//! The command line of `jb`: the words that clap takes, each command as a value, clap's refusals, and what to do
+//! when a command ends with a line on standard error.
+#![tactic(auto)]
+
+mod command;
+mod commands;
+mod hint;
+mod option_name;
+mod plain;
+mod second;
+mod table;
+mod words;
+
+pub use clap::Error;
+pub use clap::error::ErrorKind;
+pub use command::{LoadWords, Words};
+pub use hint::Hint;
+pub use option_name::OptionName;
+pub use plain::{CatOptions, DumpOptions, FormatOptions, Plain, RecoverOptions};
+pub use second::put_hint;
+pub use words::{parse, show_help};

@@ -1,0 +1,72 @@
+//! The second line.
+ghost use Rattle.std.specs.Prelude.{ℕ, List, []};
+ghost use Rattle.jb_text.specs.Puts.{Puts};
+ghost use Rattle.jb_args.specs.Advice.{hint_line, line_with};
+ghost use Rattle.jb_args.specs.declared.hint.Beside.TheVariants.{BadOption};
+
+use crate::hint::{Beside, Hint};
+use crate::option_name::OptionName;
+use arrayvec::ArrayVec;
+use itoa::Buffer;
+use jb_text::{WriteFault, put_parts};
+use std::io::{self, Write};
+use std::str;
+
+/// How many bytes of the system's text are kept: more than any of them has.
+const TEXT: usize = 256;
+
+/// Writes the second line of a hint: what to do, and what it says beside that.
+///
+/// # Errors
+/// `WriteFault` where the writer took only the beginning of the line.
+pub fn put_hint<W: Write>(writer: &mut W, hint: Hint) -> Result<(), WriteFault>
+    ensures { (system : List ℕ) × Puts (W.contents writer.old) (W.contents writer.new)
+        (hint_line system hint) result }
+{
+    put_words(writer, hint.advice(), hint.beside())
+}
+
+/// Writes these words as a second line, with what it says beside them.
+fn put_words<W: Write>(writer: &mut W, words: &str, beside: Beside) -> Result<(), WriteFault>
+    ensures { (system : List ℕ) × Puts (W.contents writer.old) (W.contents writer.new)
+        (line_with system words.entry.now beside) result }
+{
+    match beside {
+        Beside::Nothing => put_parts(writer, &["jb:  ", words, "\n"]),
+        Beside::BadOption(option) => put_option(writer, words, option),
+        Beside::System(code) => {
+            let mut room = ArrayVec::new();
+            put_parts(
+                writer,
+                &["jb:  ", words, ": ", system_text(code, &mut room), "\n"],
+            )
+        }
+        Beside::Homes(homes) => {
+            let mut digits = Buffer::new();
+            put_parts(writer, &["jb:  ", words, ": ", digits.format(homes), "\n"])
+        }
+    }
+}
+
+/// Writes these words as a second line, with the name of a bad option and what it may be.
+fn put_option<'b, W: Write>(
+    writer: &mut W,
+    words: &'b str,
+    option: OptionName,
+) -> Result<(), WriteFault>
+    ensures { Puts (W.contents writer.old) (W.contents writer.new)
+        (line_with [] words.entry.now (BadOption option)) result }
+{
+    let name: &'b str = option.name();
+    let values: &'b str = option.values();
+    put_parts(writer, &["jb:  ", words, ": ", name, " is ", values, "\n"])
+}
+
+/// The text of the system's error of this number, as the library shows it.
+fn system_text(code: i32, room: &mut ArrayVec<u8, TEXT>) -> &str {
+    let _fits = write!(room, "{}", io::Error::from_raw_os_error(code));
+    match str::from_utf8(room.as_slice()) {
+        Ok(text) => text,
+        Err(_) => "",
+    }
+}

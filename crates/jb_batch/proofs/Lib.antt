@@ -1,3 +1,0 @@
-pub mod Belonging
-pub mod Planning
-pub mod SameCosts

@@ -1,0 +1,94 @@
+-- Images with a first part of the handles that a journal was given.
+use Rattle.std.proofs.Common.{◌≡◌, ℕ, ◌+◌, ◌<◌, ◌≤◌, None, List, [], ◌++◌, length, take, slice_index, sym, subst, arith}
+use Rattle.std.proofs.lemmas.List.{length-append, take-append-le}
+use Rattle.std.proofs.Math.Seq.{take-append-add, take-length}
+use mathlib.Core.List.{append-nil}
+use Rattle.jb_cost.specs.Cut.{IsCut}
+use Rattle.jb_disk.specs.Image.{Image}
+use Rattle.jb_handle.specs.declared.stopped.Stopped.{Stopped}
+use Rattle.jb_super.specs.Journal.{SameJournal}
+use Rattle.jb_super.specs.Superblock.{Superblock}
+use Rattle.jb_log.specs.Follows.{Follows, FollowsNone, OldHeaders}
+use Rattle.jb_deck.specs.Gathering.{groups_in}
+use Rattle.jb_deck.specs.Trailing.{FollowsSome, handles_to}
+use Rattle.jb_deck.specs.Calls.{IsRecoveredTo}
+use Rattle.jb_deck.proofs.Stood.{Stood, stood-recovered}
+use Rattle.jb_book.specs.Origin.{Begun}
+use Rattle.jb_book.specs.Since.{HasFirst}
+use Rattle.jb_book.proofs.Bounds.{cut-high, cut-rise, cut-many}
+use Rattle.jb_recover.specs.Outcomes.{recovered, RecoversAs}
+use Rattle.jb_deck.specs.Opening.{open_refusal}
+use Rattle.jb_deck.proofs.Recovered.{interrupted-recovered, recovered-opens}
+
+module _ (b : Begun) where
+  -- the image is recovered to the homes of the start with these handles
+  abbrev Recovered : ℕ → List Stopped → Image → Type 0
+  Recovered next hs c = IsRecoveredTo b.own next b.size b.count b.homes hs c
+
+  -- with all that were given, and the first ones of those that come after them
+  pub first-more : (given more : List Stopped) (n least next : ℕ) (c : Image) → n ≤ length more → least ≤ length given + n → next ≤ b.own.sequence + 1 + (length given + n) → Recovered next (given ++ take n more) c → HasFirst b (given ++ more) least c
+  first-more given more n least next c within low few is = record {
+    many = length given + n;
+    from = low;
+    to = let all = length-append given more in omega (arith, all, within);
+    next = next;
+    number = few;
+    recovered = subst (λ hs. Recovered next hs c) (sym (take-append-add given more n)) is;
+  }
+
+  pub first-whole : (given : List Stopped) (least next : ℕ) (c : Image) → least ≤ length given → next ≤ b.own.sequence + 1 + length given → Recovered next given c → HasFirst b given least c
+  first-whole given least next c low few is = record {
+    many = length given;
+    from = low;
+    to = omega arith;
+    next = next;
+    number = few;
+    recovered = subst (λ hs. Recovered next hs c) (sym (take-length given)) is;
+  }
+
+  -- a first part of the handles is one of these and further ones
+  pub first-longer : (given more : List Stopped) (least : ℕ) (c : Image) → HasFirst b given least c → HasFirst b (given ++ more) least c
+  first-longer given more least c is = record {
+    many = is.many;
+    from = is.from;
+    to = let all = length-append given more in let to = is.to in omega (arith, all, to);
+    next = is.next;
+    number = is.number;
+    recovered = subst (λ hs. Recovered is.next hs c) (sym (take-append-le is.many given more is.to)) is.recovered;
+  }
+
+  -- what a recovery of such an image leaves, wherever it is interrupted, is one
+  pub first-interrupted : (given : List Stopped) (least : ℕ) (c left : Image) → HasFirst b given least c → RecoversAs b.size b.count c left → HasFirst b given least left
+  first-interrupted given least c left is goes = record {
+    many = is.many;
+    from = is.from;
+    to = is.to;
+    next = is.next;
+    number = is.number;
+    recovered = interrupted-recovered b.own is.next b.size b.count b.homes (take is.many given) c left is.recovered goes;
+  }
+
+  -- once it is recovered the journal can be opened, as long as there is a number for each handle and one more
+  pub first-opens : (given : List Stopped) (least : ℕ) (c : Image) → HasFirst b given least c → b.own.sequence + 1 + length given < 4294967295 → open_refusal b.size b.count (recovered b.size b.count c) ≡ None
+  first-opens given least c is few =
+      recovered-opens b.own is.next b.size b.count b.homes (take is.many given) c is.recovered
+      (let number = is.number in let to = is.to in omega (arith, number, to, few))
+
+  -- ---- where the homes stand as the handles say, an image that follows with further ones
+
+  module _ (own : Superblock) (same : SameJournal b.own own) (n m : ℕ) (sized : n ≡ b.size) (counted : m ≡ b.count) (given : List Stopped) (homes : ℕ → List ℕ) (stood : Stood given b.homes homes) where
+    recovered-more : (more : List Stopped) (next : ℕ) (c : Image) → Follows own n m homes more c → OldHeaders own next n m c → Recovered next (given ++ more) c
+    recovered-more more next c f h =
+        let is = stood-recovered b.own own next n m b.homes given homes more c same stood f h in
+        subst (λ k. IsRecoveredTo b.own next k b.count b.homes (given ++ more) c) sized (subst (λ k. IsRecoveredTo b.own next n k b.homes (given ++ more) c) counted is)
+
+    pub first-none : (least next : ℕ) (c : Image) → least ≤ length given → next ≤ b.own.sequence + 1 + length given → FollowsNone own next n m homes c → HasFirst b given least c
+    first-none least next c low few none = first-whole given least next c low few (subst (λ hs. Recovered next hs c) (append-nil given) (recovered-more [] next c none.follows none.headers))
+
+    pub first-some : (hs : List Stopped) (bounds : List ℕ) (least most low next : ℕ) (c : Image) → next ≤ b.own.sequence + 1 + length given → IsCut (length hs) bounds → most ≤ groups_in bounds → low ≤ length given + slice_index bounds least → FollowsSome own next n m homes hs bounds least most c → HasFirst b (given ++ hs) low c
+    first-some hs bounds least most low next c few cut within below some =
+        let to = some.to in
+        let groups : some.groups ≤ groups_in bounds = omega (arith, to, within) in
+        let rise = cut-rise (length hs) bounds least some.groups cut some.from groups in
+        let many = cut-many (length hs) bounds some.groups cut groups in
+        first-more given hs (slice_index bounds some.groups) low (next + some.groups) c (cut-high (length hs) bounds some.groups cut groups) (omega (arith, below, rise)) (omega (arith, few, many)) (recovered-more (handles_to bounds some.groups hs) (next + some.groups) c some.follows some.headers)

@@ -1,0 +1,5 @@
+use Rattle.jb_book.proofs.Staying.{stays}
+use Rattle.jb_book.proofs.mark_laws.stays.Goals as goal
+
+pub returns : goal.returns
+returns g c = stays g.D.Disk g.H.Origin.begun

@@ -1,0 +1,106 @@
+-- How a journal stands since its desk was started: which handles it was given, what its homes hold, and what a crash leaves.
+use Rattle.std.specs.Prelude.{◌≡◌, ◌⊎◌, ℕ, ◌+◌, ◌-◌, ◌<◌, ◌≤◌, ◌^◌, false, List, [], ◌∷◌, All, length, take}
+use Rattle.jb_disk.specs.Image.{Image}
+use Rattle.jb_disk.specs.declared.disk.Disk.{Ghosts}
+use Rattle.jb_plan.specs.Costs.{cost_in}
+use Rattle.jb_handle.specs.Tickets.{TicketsFrom}
+use Rattle.jb_handle.specs.Words.{word}
+use Rattle.jb_handle.specs.declared.shape.Shape.{Shape}
+use Rattle.jb_handle.specs.declared.stopped.Stopped.{Stopped}
+use Rattle.jb_super.specs.Journal.{SameJournal}
+use Rattle.jb_deck.specs.Deck.{OpenDeck}
+use Rattle.jb_deck.specs.Done.{past_after, start_of}
+use Rattle.jb_log.specs.Follows.{StandsBy}
+use Rattle.jb_deck.specs.Opening.{recovered_home, FollowsEntry}
+use Rattle.jb_deck.specs.Calls.{IsRecoveredTo}
+use Rattle.jb_deck.specs.Since.{LiveOf, deck_homes}
+use Rattle.jb_deck.specs.declared.done.Entry.{Entry}
+use Rattle.jb_book.specs.Origin.{Begun, own_on}
+
+-- an image of the journal of the start that recovery takes, and that is recovered to the homes of the start with a first part of
+-- these handles, so many at least; of the numbers after that of the start no more are taken than it has handles
+pub record HasFirst (b : Begun) (given : List Stopped) (least : ℕ) (c : Image) : Type 0 where
+  pub many : ℕ
+  pub from : least ≤ many
+  pub to : many ≤ length given
+  pub next : ℕ
+  pub number : next ≤ b.own.sequence + 1 + many
+  pub recovered : IsRecoveredTo b.own next b.size b.count b.homes (take many given) c
+
+-- the handle stopped with words that a handle may stop with
+abbrev pub may_stop : Begun → Stopped → Type 0
+may_stop b h = b.stops h.words
+
+-- the entry is of handles of this list, one at least, and its blocks are what these cost as one group of a journal of this shape
+pub record IsCosted (shape : Shape) (given : List Stopped) (e : Entry) : Type 0 where
+  pub some : e.first < e.past
+  pub within : e.past ≤ length given
+  pub blocks : e.blocks ≡ cost_in shape given e.first e.past
+
+-- the entries have the numbers from this one on
+abbrev pub NumberedFrom : ℕ → List Entry → Type 0
+NumberedFrom number [] = Unit {0}
+NumberedFrom number (e ∷ es) = (e.number ≡ number) × NumberedFrom (number + 1) es
+
+-- The handles that a journal was given, in the order of their tickets, of each of which this is known: those that its trail has settled, each group
+-- with what its handles cost, and on a journal that has failed the batch in hand after them. The numbers of the trail rise by one, up to the journal's
+-- next one
+pub record WasGiven {D : Type 0} (is : Stopped → Type 0) (given : List Stopped) (d : OpenDeck D) : Type 0 where
+  pub stopped : All is given
+  pub tickets : TicketsFrom 0 given
+  pub settled : past_after 0 d.trail ≤ length given
+  pub all : d.aborted ≡ false → length given ≡ past_after 0 d.trail
+  pub costs : All (IsCosted d.shape given) d.trail
+  pub first : ℕ
+  pub numbers : NumberedFrom first d.trail
+  pub next : first + length d.trail ≡ d.log.next
+
+-- The journal of the start, on its disk, since then, when it was given these handles. While it has not failed its homes stand as they say, those
+-- that are free aside.
+pub record Since {D : Type 0} (G : Ghosts D) (b : Begun) (given : List Stopped) (d : OpenDeck D) : Type 0 where
+  pub same_size : G.size d.disk ≡ b.size
+  pub same_count : G.count d.disk ≡ b.count
+  -- it has not failed unless a call of the disk has
+  pub no_fewer : b.faults ≤ G.faults d.disk
+  pub up : b.faults < 2 ^ 64 - 1 → G.faults d.disk ≡ b.faults → d.aborted ≡ false
+  pub same : SameJournal b.own d.log.sb
+  -- no more numbers are taken than there are handles
+  pub number : d.log.next ≤ b.own.sequence + 1 + length given
+  -- the first group has the number after that of the start; a trail from whose front entries were taken begins at a later ticket
+  pub began : start_of d.trail ≡ 0 → d.log.next ≡ b.own.sequence + 1 + length d.trail
+  pub stood : d.aborted ≡ false → (home : ℕ) → StandsBy (word given home) (b.homes home) (deck_homes G.newest d home)
+  pub live : d.aborted ≡ false → LiveOf given d.groups
+  -- what a crash may leave now has the settled ones at least
+  pub now : (c : Image) → G.may_leave d.disk c → HasFirst b given (past_after 0 d.trail) c
+  -- what a crash since that moment might have left
+  pub later : b.since ≤ G.moment d.disk
+  pub ever : (c : Image) → G.left_since d.disk b.since c → b.left c ⊎ HasFirst b given 0 c
+
+-- the journal was given handles, each as `is` says (`WasGiven`), and where the start is known and the disk is honest now, it stands as it must since then (`Since`)
+pub record IsSinceOf {D : Type 0} (G : Ghosts D) (b : Begun) (is : Stopped → Type 0) (d : OpenDeck D) : Type 0 where
+  pub given : List Stopped
+  pub has : WasGiven is given d
+  pub since : b.is_known → G.honest d.disk → Since G b given d
+
+-- the same of handles that each stopped with words that a handle may stop with
+abbrev pub IsSince : {D : Type 0} → Ghosts D → Begun → OpenDeck D → Type 0
+IsSince G b d = IsSinceOf G b (may_stop b) d
+
+-- the disk and the trail are those of a journal that stands as it must since the start
+pub record EndsSince {D : Type 0} (G : Ghosts D) (b : Begun) (disk : D) (trail : List Entry) : Type 0 where
+  pub deck : OpenDeck D
+  pub same_disk : deck.disk ≡ disk
+  pub same_trail : deck.trail ≡ trail
+  pub since : IsSince G b deck
+
+-- The start is that of the journal on this disk, once it is opened: its homes stood as recovery leaves them, and what a crash might
+-- have left has what it might leave before the journal is opened and meanwhile.
+pub record IsBegunOn {D : Type 0} (G : Ghosts D) (b : Begun) (disk : D) : Type 0 where
+  pub same_size : G.size disk ≡ b.size
+  pub same_count : G.count disk ≡ b.count
+  pub same_faults : G.faults disk ≡ b.faults
+  pub own : own_on (G.size disk) (G.count disk) (G.newest disk) ≡ b.own
+  pub homes : (home : ℕ) → recovered_home (G.size disk) (G.count disk) (G.newest disk) home ≡ b.homes home
+  pub later : b.since ≤ G.moment disk
+  pub ever : b.is_known → G.honest disk → (c : Image) → G.left_since disk b.since c → b.left c
+  pub opening : (c : Image) → FollowsEntry (G.size disk) (G.count disk) (G.newest disk) c → b.left c

@@ -1,0 +1,29 @@
+use Rattle.std.proofs.Common.{refl, ◌∙◌}
+use Rattle.jb_commands.proofs.running.perform.Goals as goal
+
+pub returns-in-Cost-clause-ends : goal.returns-in-Cost-clause-ends
+returns-in-Cost-clause-ends g c = rw c.in-Cost.is (c.perform_cost.result, c.perform_cost.ensures.ends, c.alone.ensures.image, c.alone.ensures.end ∙ c.said_end.ensures)
+
+pub returns-in-Plan-clause-ends : goal.returns-in-Plan-clause-ends
+returns-in-Plan-clause-ends g c = rw c.in-Plan.is (c.perform_plan.result, c.perform_plan.ensures.ends, c.alone-in-Plan.ensures.image, c.alone-in-Plan.ensures.end ∙ c.said_end-in-Plan.ensures)
+
+pub returns-in-Check-clause-ends : goal.returns-in-Check-clause-ends
+returns-in-Check-clause-ends g c = rw c.in-Check.is (c.perform_check.result, c.perform_check.ensures.ends, c.alone-in-Check.ensures.image, c.alone-in-Check.ensures.end ∙ c.said_end-in-Check.ensures)
+
+pub returns-in-Dump-clause-ends : goal.returns-in-Dump-clause-ends
+returns-in-Dump-clause-ends g c = rw c.in-Dump.is ((c.dump_named.result, (g.I.Read.remaining c.dump_named.new.input, rw c.choice_of.ensures at c.dump_named.ensures.ends), c.alone-in-Dump.ensures.image, c.alone-in-Dump.ensures.end ∙ c.status_end.ensures), refl)
+
+pub returns-in-Format-clause-ends : goal.returns-in-Format-clause-ends
+returns-in-Format-clause-ends g c = rw c.in-Format.is (c.format_file.ensures.ends, refl)
+
+pub returns-in-Cat-clause-ends : goal.returns-in-Cat-clause-ends
+returns-in-Cat-clause-ends g c = rw c.in-Cat.is (c.cat_file.ensures.ends, refl)
+
+pub returns-in-Recover-clause-ends : goal.returns-in-Recover-clause-ends
+returns-in-Recover-clause-ends g c = rw c.in-Recover.is (c.recover_file.ensures.ends, refl)
+
+pub returns-in-Renumber-clause-ends : goal.returns-in-Renumber-clause-ends
+returns-in-Renumber-clause-ends g c = rw c.in-Renumber.is (c.renumber_file.ensures.ends, refl)
+
+pub returns-in-Widen-clause-ends : goal.returns-in-Widen-clause-ends
+returns-in-Widen-clause-ends g c = rw c.in-Widen.is (c.widen_file.ensures.ends, refl)

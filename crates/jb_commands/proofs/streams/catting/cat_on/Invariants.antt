@@ -1,0 +1,7 @@
+use Rattle.jb_commands.proofs.Cats.{Catting}
+use Rattle.jb_commands.proofs.streams.catting.cat_on.Given as goal
+
+abbrev pub invariant-loop-i : goal.invariant-loop-i
+invariant-loop-i g l = record {
+  state : Catting g.D.Disk l.fn.home l.fn.hex l.fn.disk l.disk (g.O.Write.contents l.fn.out) (g.O.Write.contents l.out) l.i l.at;
+}

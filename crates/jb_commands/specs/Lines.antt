@@ -1,0 +1,72 @@
+-- A line on standard error, and the name of a file at its end.
+use Rattle.std.specs.Prelude.{ℕ, zero, suc, ◌+◌, ◌-◌, ◌==◌, ◌&&◌, ◌||◌, not, Bool, if◌then◌else◌, List, [], ◌∷◌, ◌++◌, length, get_or, nat_lt, Option, None, Some, option_map, codes}
+use Rattle.hex.specs.Hex.{encode_lower}
+use Rattle.jb_text.specs.TextParts.{spelled}
+use Rattle.jb_args.specs.Named.{Asked}
+use Rattle.jb_args.specs.Named.Asked.{AsksCat, AsksRecover}
+use Rattle.jb_commands.specs.declared.names.TwoFiles.{TwoFiles}
+
+-- ---- a name as it is shown
+
+-- the texts of the first numbers, one after the other
+abbrev pub upto : (ℕ → List ℕ) → ℕ → List ℕ
+upto text zero = []
+upto text (suc n) = upto text n ++ text n
+
+-- a byte is the second one of a control character of two bytes, the first of which is 194
+abbrev pub is_second : ℕ → Bool
+is_second b = not (nat_lt b 128) && nat_lt b 160
+
+-- the byte at this place of a name belongs to a control character: it is one alone, or one of two together are
+abbrev pub is_control_at : List ℕ → ℕ → Bool
+is_control_at name at =
+    (nat_lt (get_or name at 0) 32 || get_or name at 0 == 127)
+    || ((get_or name at 0 == 194 && is_second (get_or name (at + 1) 0))
+    || (is_second (get_or name at 0) && (not (at == 0) && get_or name (at - 1) 0 == 194)))
+
+-- the byte at this place of a name as it is shown: of a control character as `\x` and two hexadecimal digits
+abbrev pub shown_at : List ℕ → ℕ → List ℕ
+shown_at name at =
+    if is_control_at name at then 92 ∷ 120 ∷ encode_lower (get_or name at 0 ∷ []) else get_or name at 0 ∷ []
+
+-- a name as it is shown
+abbrev pub shown_name : List ℕ → List ℕ
+shown_name name = upto (shown_at name) (length name)
+
+-- what a line has after its words: a space and a name, where there is one
+abbrev pub after_words : Option (List ℕ) → List ℕ
+after_words None = []
+after_words (Some name) = 32 ∷ shown_name name
+
+-- a line: its words, the name of a file after them where there is one, and the LF
+abbrev pub line_naming : List (List ℕ) → Option (List ℕ) → List ℕ
+line_naming words name = spelled words ++ (after_words name ++ codes "\n")
+
+-- ---- the names of two files
+
+-- the names of the two files of a command whose journal is in a file of its own
+pub record Names : Type 0 where
+  pub image : List ℕ
+  pub journal : List ℕ
+
+-- the image's name and the journal's, where that is in a file of its own
+abbrev pub names_with : List ℕ → Option (List ℕ) → Option Names
+names_with image journal = option_map (λ name. record { image = image; journal = name }) journal
+
+-- the names as the program has them
+abbrev pub names_said : Option TwoFiles → Option Names
+names_said files = option_map (λ (f : TwoFiles). record { image = f.image.now; journal = f.journal.now }) files
+
+-- the name of the image, where the command has two files
+abbrev pub image_named : Option Names → Option (List ℕ)
+image_named names = option_map (λ (n : Names). n.image) names
+
+-- the name of the journal's file, where the command has two files
+abbrev pub journal_named : Option Names → Option (List ℕ)
+journal_named names = option_map (λ (n : Names). n.journal) names
+
+-- the two files of the command that the words ask for
+abbrev pub names_of : Asked → Option Names
+names_of (AsksCat image words) = names_with image words.journal
+names_of (AsksRecover image words) = names_with image words.journal
+names_of _ = None

@@ -1,0 +1,167 @@
+-- An image with its journal at its front, in a file of its own or within it: how it is opened, read and recovered.
+use Rattle.std.specs.Prelude.{◌≡◌, ◌⊎◌, ◌<◌, ◌≤◌, ℕ, Bool, true, false, ⊤, List, [], Option, Some, None, Result, Ok, Err}
+use Rattle.jb_block.specs.Size.{bytes_of}
+use Rattle.jb_block.specs.declared.size.BlockSize.{BlockSize}
+use Rattle.jb_args.specs.declared.option_name.OptionName.{OptionName}
+use Rattle.jb_args.specs.declared.option_name.OptionName.TheVariants as option
+use Rattle.jb_disk.specs.File.{IsMeasured, count_of}
+use Rattle.jb_disk.specs.declared.disk.Disk.{Ghosts as Disks}
+use Rattle.jb_disk.specs.declared.file.FileDisk.{FileDisk}
+use Rattle.jb_disk.specs.declared.start.Start.{Ghosts as Starts}
+use Rattle.jb_image.specs.Disks.{extents_of, journal_blocks, whole_disk}
+use Rattle.jb_image.specs.Lists.{extents_count, extents_in, list_of, past_in, shared_in}
+use Rattle.jb_image.specs.declared.extent.Extent.{Extent}
+use Rattle.jb_image.specs.declared.extents_fault.ExtentsFault.{ExtentsFault}
+use Rattle.jb_image.specs.declared.extents_fault.ExtentsFault.TheVariants.{Home, NoJournal, Overlap, PastEnd, Short}
+use Rattle.jb_format.specs.Front.{homes_in}
+use Rattle.jb_super.specs.Superblock.{Superblock}
+use Rattle.jb_args.specs.Named.{CatWords, RecoverWords}
+use Rattle.jb_image.specs.Files.{as_files}
+use Rattle.jb_image.specs.Images.{is_within}
+use Rattle.jb_image.specs.declared.image.ImageDisk.{ImageDisk}
+use Rattle.jb_image.specs.declared.image.ImageDisk.TheVariants.{One, Two, Within}
+use Rattle.jb_recover.specs.declared.fault.RecoverFault.{RecoverFault}
+use Rattle.jb_recover.specs.declared.recovered.Foreseen.{Foreseen}
+use Rattle.jb_commands.specs.Cat.{CatsOn}
+use Rattle.jb_commands.specs.Files.{IsOpened, IsShut, IsUnread, SaysSuper}
+use Rattle.jb_commands.specs.Foresee.{Foretells, foreseen_end, own_checked}
+use Rattle.jb_commands.specs.Judge.{JudgesOn}
+use Rattle.jb_commands.specs.Recover.{RecoversOn}
+use Rattle.jb_commands.specs.Reports.{status_end}
+use Rattle.jb_commands.specs.declared.fault.CommandFault.{CommandFault}
+use Rattle.jb_commands.specs.declared.fault.CommandFault.TheVariants.{BadOption, Extents as InExtents}
+use Rattle.jb_commands.specs.declared.report.Report.{Report}
+
+-- this option is bad
+abbrev pub IsBadOption : OptionName → CommandFault → Type 0
+IsBadOption option (BadOption told) = told ≡ option
+IsBadOption option _ = ⊥
+
+-- ---- a journal within its image
+
+-- why these extents hold no journal
+abbrev pub IsNoPlace : List Extent → ExtentsFault → Type 0
+IsNoPlace es (Overlap block) = shared_in es ≡ Some block
+IsNoPlace es (PastEnd block) = (count : ℕ) × (past_in count es ≡ Some block)
+IsNoPlace es (Short blocks) = (blocks ≡ extents_count es) × ((sb : Superblock) × SaysSuper sb × (blocks < sb.maxlen))
+IsNoPlace es NoJournal = ⊤
+IsNoPlace es (Home home) = ⊥
+
+-- the same of a journal with this superblock
+abbrev pub IsNoPlaceFor : List Extent → Superblock → ExtentsFault → Type 0
+IsNoPlaceFor es sb (PastEnd block) = (count : ℕ) × (past_in count es ≡ Some block)
+IsNoPlaceFor es sb (Short blocks) = (blocks ≡ extents_count es) × (blocks < sb.maxlen)
+IsNoPlaceFor es sb _ = ⊥
+
+-- the image of this name was not opened, or the list is none of extents, or they hold no journal
+abbrev pub IsShutWithin : List ℕ → List ℕ → CommandFault → Type 0
+IsShutWithin name list fault =
+    IsUnread name fault
+    ⊎ ((IsBadOption option.Extents fault × (extents_in list ≡ None))
+    ⊎ ((es : List Extent) × (extents_in list ≡ Some es) × (x : ExtentsFault) × (fault ≡ InExtents x) × IsNoPlace es x))
+
+-- the image is the file of which these extents hold a journal with this superblock: they share no block, none is past the file's end,
+-- and they have as many blocks as the journal
+pub record IsHeldWithin (es : List Extent) (sb : Superblock) (count : ℕ) : Type 0 where
+  pub apart : shared_in es ≡ None
+  pub inside : past_in count es ≡ None
+  pub enough : sb.maxlen ≤ extents_count es
+
+-- it was not opened: both places were named, or see those of the one
+abbrev pub IsShutAt : List ℕ → Option (List ℕ) → Option (List ℕ) → CommandFault → Type 0
+IsShutAt name journal None fault = IsShut name journal fault
+IsShutAt name None (Some list) fault = IsShutWithin name list fault
+IsShutAt name (Some journal) (Some list) fault = IsBadOption option.Extents fault
+
+module _ {S T : Type 0} {start : Starts S} {other : Starts T} where
+  -- the same of the disk that is used, which was asked its length and nothing else
+  abbrev pub IsJournalWithin : List Extent → Superblock → ImageDisk (FileDisk S start) (FileDisk T other) → Type 0
+  IsJournalWithin es sb (One file) = ⊥
+  IsJournalWithin es sb (Two pair) = ⊥
+  IsJournalWithin es sb (Within disk) =
+      (list_of (extents_of disk) ≡ es) × (journal_blocks disk ≡ sb.maxlen) × IsHeldWithin es sb (count_of (whole_disk disk)) × IsMeasured (whole_disk disk)
+
+  -- a file of this block size, with a journal within it
+  abbrev pub JoinsFile : List Extent → Superblock → BlockSize → ImageDisk (FileDisk S start) (FileDisk T other) → Type 0
+  JoinsFile es sb size disk = IsJournalWithin es sb disk × (as_files.size disk ≡ bytes_of size)
+
+  -- the list was read, and the journal is there, in blocks of the size that its superblock says
+  abbrev pub IsOpenedWithin : List ℕ → ImageDisk (FileDisk S start) (FileDisk T other) → ℕ → Type 0
+  IsOpenedWithin list disk homes =
+      (es : List Extent) × (extents_in list ≡ Some es) × (sb : Superblock) × SaysSuper sb × (as_files.size disk ≡ sb.block_size) × (homes ≡ homes_in sb (as_files.count disk)) × IsJournalWithin es sb disk
+
+  -- it is open, wherever its journal is
+  abbrev pub IsOpenedAt : Option (List ℕ) → Option (List ℕ) → ImageDisk (FileDisk S start) (FileDisk T other) → ℕ → Type 0
+  IsOpenedAt journal None disk homes = IsOpened journal disk homes
+  IsOpenedAt None (Some list) disk homes = IsOpenedWithin list disk homes
+  IsOpenedAt (Some journal) (Some list) disk homes = ⊥
+
+  -- the image was not opened, and nothing was done; or home blocks of it were written as their peeks gave them, in blocks of the size that
+  -- its first bytes say, as many as asked for from one on, since it was opened
+  abbrev pub EndsOfCat : List ℕ → CatWords → Option (List ℕ) → Option (List ℕ) → Option (ImageDisk (FileDisk S start) (FileDisk T other)) → Result Report CommandFault → Type 0
+  EndsOfCat name words out_old out_new None end = (fault : CommandFault) × (end ≡ Err fault) × IsShutAt name words.journal words.extents fault × (out_new ≡ out_old)
+  EndsOfCat name words out_old out_new (Some new) end =
+      (old : ImageDisk (FileDisk S start) (FileDisk T other)) × (homes : ℕ) × IsOpenedAt words.journal words.extents old homes
+      × ((told : Result ℕ CommandFault) × CatsOn as_files (Some homes) words.home words.count words.hex old new out_old out_new told × (end ≡ status_end told))
+
+-- ---- a recovery
+
+-- the journal is elsewhere than at the front of the image
+abbrev pub is_beside : Option (List ℕ) → Option (List ℕ) → Bool
+is_beside None None = false
+is_beside None (Some list) = true
+is_beside (Some journal) extents = true
+
+-- a journal that is beside its home blocks was judged by them
+abbrev pub JudgesBeside : {D : Type 0} → Disks D → Bool → Bool → D → D → Result Unit CommandFault → Type 0
+JudgesBeside G true force old new judged = JudgesOn G force old new judged
+JudgesBeside G false force old new judged = (new ≡ old) × (judged ≡ Ok tt)
+
+module _ {D E : Type 0} (G : Disks (ImageDisk D E)) where
+  -- it was foreseen what a recovery of an image would do, and that is the end, unless a copy is for a home block that is the journal's own
+  abbrev pub ForeseesImage : ℕ → Bool → ImageDisk D E → ImageDisk D E → Result Report CommandFault → Type 0
+  ForeseesImage homes list old new end = (answer : Result Foreseen RecoverFault) × Foretells G old new answer × (end ≡ foreseen_end new homes list answer)
+
+  -- of a journal within its home blocks it was foreseen whether a copy is for one of its own
+  abbrev pub ChecksOwn : ℕ → ImageDisk D E → ImageDisk D E → Result Unit CommandFault → Type 0
+  ChecksOwn homes old new checked =
+      ((is_within old ≡ false) × (new ≡ old) × (checked ≡ Ok tt))
+      ⊎ ((is_within old ≡ true) × ((answer : Result Foreseen RecoverFault) × Foretells G old new answer × (checked ≡ own_checked new homes answer)))
+
+  -- the image was recovered, or that is why not
+  abbrev pub RecoversChecked : ℕ → Result Unit CommandFault → ImageDisk D E → ImageDisk D E → Result Report CommandFault → Type 0
+  RecoversChecked homes (Ok done) old new end = RecoversOn G (Some homes) old new end
+  RecoversChecked homes (Err fault) old new end = (new ≡ old) × (end ≡ Err fault)
+
+  -- the image was recovered, unless a copy is for a home block that is the journal's own
+  abbrev pub RecoversImage : ℕ → ImageDisk D E → ImageDisk D E → Result Report CommandFault → Type 0
+  RecoversImage homes old new end = (mid : ImageDisk D E) × (checked : Result Unit CommandFault) × ChecksOwn homes old mid checked × RecoversChecked homes checked mid new end
+
+  -- it was said what a recovery would do, or the image was recovered
+  abbrev pub DoesRecover : Bool → Bool → ℕ → ImageDisk D E → ImageDisk D E → Result Report CommandFault → Type 0
+  DoesRecover true list homes = ForeseesImage homes list
+  DoesRecover false list homes = RecoversImage homes
+
+  -- what was asked for was done, or that is why not
+  abbrev pub RecoversJudged : RecoverWords → ℕ → Result Unit CommandFault → ImageDisk D E → ImageDisk D E → Result Report CommandFault → Type 0
+  RecoversJudged words homes (Ok done) old new end = DoesRecover words.dry_run words.list homes old new end
+  RecoversJudged words homes (Err fault) old new end = (new ≡ old) × (end ≡ Err fault)
+
+  -- an image with so many home blocks was judged, where its journal is beside them, and then what was asked for was done
+  abbrev pub RecoversOpened : RecoverWords → ℕ → ImageDisk D E → ImageDisk D E → Result Report CommandFault → Type 0
+  RecoversOpened words homes old new end =
+      (mid : ImageDisk D E) × (judged : Result Unit CommandFault) × JudgesBeside G (is_beside words.journal words.extents) words.force old mid judged × RecoversJudged words homes judged mid new end
+
+-- the words do not go together, or the image was not opened
+abbrev pub IsNotOpenedToRecover : List ℕ → RecoverWords → CommandFault → Type 0
+IsNotOpenedToRecover name words fault =
+    (IsBadOption option.List fault × (words.list ≡ true) × (words.dry_run ≡ false)) ⊎ IsShutAt name words.journal words.extents fault
+
+module _ {S T : Type 0} {start : Starts S} {other : Starts T} where
+  -- the image was not opened, and nothing was done; or what was asked for was done since it was opened. If its files are honest, all that
+  -- a recovery says of contents holds of them
+  abbrev pub EndsOfRecover : List ℕ → RecoverWords → Option (ImageDisk (FileDisk S start) (FileDisk T other)) → Result Report CommandFault → Type 0
+  EndsOfRecover name words None end = (fault : CommandFault) × (end ≡ Err fault) × IsNotOpenedToRecover name words fault
+  EndsOfRecover name words (Some new) end =
+      (old : ImageDisk (FileDisk S start) (FileDisk T other)) × (homes : ℕ) × IsOpenedAt words.journal words.extents old homes
+      × RecoversOpened as_files words homes old new end

@@ -1,0 +1,52 @@
+ghost use Rattle.std.specs.Prelude.{◌≡◌, ◌^◌, ◌<◌, IfOk, Some, length};
+ghost use Rattle.jb_commands.specs.AnswerSaid.{said};
+ghost use Rattle.jb_commands.specs.Cost.{cost_line, cost_said};
+
+use crate::answer::Answer;
+use crate::queue_fault::fault_answer;
+use jb_block::Memory;
+use jb_cost::{Geometry, group_cost};
+use jb_queue::read_queue;
+use std::alloc::Global;
+
+/// What `jb cost` says of the bytes of a queue text: the log blocks that all its handles take as one group, and whether
+/// they fit the text's limit, status 0, or not, status 1; or the text's first fault, status 2.
+///
+/// # Errors
+/// `Memory` where memory ran out.
+pub fn cost_answer(alloc: Global, text: &[u8]) -> Result<Answer, Memory>
+    requires { length text.now < 2 ^ 63 }
+    ensures said { IfOk result (λ answer. cost_said text.now ≡ Some (said answer)) }
+{
+    match read_queue(alloc, text) {
+        Ok(queue) => {
+            let geometry = Geometry::of(queue.bs, queue.width);
+            let cost = group_cost(alloc, queue.handles.as_slice(), geometry)?;
+            cost_told(alloc, cost, queue.limit)
+        }
+        Err(fault) => fault_answer(alloc, fault),
+    }
+}
+
+/// The line about a cost and a limit.
+fn cost_told(alloc: Global, cost: u64, limit: u32) -> Result<Answer, Memory>
+    ensures said { IfOk result (λ answer. said answer ≡ cost_line cost limit) }
+{
+    if cost <= u64::from(limit) {
+        let out = format!(in alloc; "cost {cost} limit {limit} fits\n")?;
+        Ok(Answer {
+            status: 0,
+            out,
+            err: String::new(alloc),
+            hint: None,
+        })
+    } else {
+        let out = format!(in alloc; "cost {cost} limit {limit} over\n")?;
+        Ok(Answer {
+            status: 1,
+            out,
+            err: String::new(alloc),
+            hint: None,
+        })
+    }
+}

@@ -1,0 +1,49 @@
+//! How a command has ended, with the image that it was over.
+ghost use Rattle.std.specs.Prelude.{◌≡◌, None};
+
+use crate::ended::Ended;
+use crate::fault::CommandFault;
+use crate::report::Report;
+use jb_disk::{FileDisk, Start, Unknown};
+use jb_image::ImageDisk;
+use std::io::Write;
+
+/// How a command has ended. `S` and `T` are what is supposed of the image's files, of that with the home blocks and of
+/// that with the journal alone.
+#[derive(Drop)]
+pub struct Done<'a, S: Start = Unknown, T: Start = Unknown> {
+    /// The image that the command was over, as it has left it; `None` where none was opened.
+    pub image: Option<ImageDisk<FileDisk<S>, FileDisk<T>>>,
+    /// What it has to say, or why it ends without an answer.
+    pub end: Result<Report, CommandFault<'a>>,
+}
+
+impl<'a, S: Start, T: Start> Done<'a, S, T> {
+    ghost use Rattle.std.specs.Prelude.{◌≡◌, None};
+    ghost use Rattle.jb_commands.specs.Reports.{TellsEnd};
+
+    /// The end of a command that has no image open.
+    pub(crate) fn alone(end: Result<Report, CommandFault<'a>>) -> Done<'a, S, T>
+        ensures image { result.image ≡ None }
+        ensures end { result.end ≡ end.entry }
+    {
+        Done { image: None, end }
+    }
+
+    /// Closes the image, and then writes what there is to say, and gives the end of the program.
+    ///
+    /// # Errors
+    /// The fault of a command that ended without an answer, and then nothing was written; `CommandFault::WriteFault`
+    /// where `out` took only the beginning of the text.
+    pub fn tell<O: Write>(self, out: &mut O) -> Result<Ended, CommandFault<'a>>
+        ensures { TellsEnd self.entry.end (O.contents out.old) (O.contents out.new) result }
+    {
+        let Done { image, end } = self;
+        // no line is written while an image is open
+        drop(image);
+        match end {
+            Ok(report) => report.tell(out),
+            Err(fault) => Err(fault),
+        }
+    }
+}

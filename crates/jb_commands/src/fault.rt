@@ -1,0 +1,253 @@
+ghost use Rattle.std.specs.Prelude.{◌≡◌};
+ghost use Rattle.jb_commands.specs.Faults.{extents_hint as extents_hint_of, super_hint as super_hint_of};
+ghost use Rattle.jb_commands.specs.Faults.{system_hint as system_hint_of};
+
+use jb_args::{Hint, OptionName};
+use jb_dump::DumpFault;
+use jb_format::{ChangeFault, FormatFault};
+use jb_image::{ExtentsFault, FileSystemFault};
+use jb_recover::{PeekFault, RecoverFault};
+use jb_super::SuperFault;
+use jb_text::WriteFault;
+use std::alloc::AllocError;
+
+/// Why a command ends without an answer of its own.
+#[derive(Clone, Copy, Debug)]
+pub enum CommandFault<'a> {
+    /// The file of this name, or standard input for `-`, could not be opened or read; with the number of the system's
+    /// error, where it has one.
+    CannotRead(&'a str, Option<i32>),
+    /// Another program has locked the image of this name.
+    InUse(&'a str),
+    /// The image of this name is the file of the journal, too.
+    SameFile(&'a str),
+    /// The file of this name could not be made: it is there already, or the system refuses it; with the number of the
+    /// system's error, where it has one.
+    CannotMake(&'a str, Option<i32>),
+    /// This option is the first that has a value that it may not have.
+    BadOption(OptionName),
+    /// The file of this name has more bytes than a text may have.
+    TooLong(&'a str),
+    /// A read of the journal failed.
+    ReadFault,
+    /// Journal block 0 is refused for this; `Geometry` also where there are fewer blocks than `s_maxlen`.
+    Super(SuperFault),
+    /// The journal's own file has so many blocks, more than its superblock says (`s_maxlen`), which is the second number.
+    JournalLength(u64, u32),
+    /// The journal is not recovered into this file system.
+    FileSystem(FileSystemFault),
+    /// The extents do not hold the journal.
+    Extents(ExtentsFault),
+    /// The block at this place of the journal, of a committed transaction, is a revoke block whose `r_count` is above
+    /// the block size.
+    BadRevoke(u64),
+    /// A copy that is not revoked is for this home block, which the image does not have; its transaction has this
+    /// number. Last how many home blocks the image has, where that is known.
+    HomeOutOfRange(u64, u32, Option<u64>),
+    /// The image does not have this home block. Last how many it has, where that is known.
+    NoHome(u64, Option<u64>),
+    /// The log of the journal is not clean, and it is to be recovered first.
+    NeedsRecovery,
+    /// The journal has no number left for a transaction, and it is to be renumbered first.
+    NumbersSpent,
+    /// The block size of a queue text is not that of the image.
+    BlockSize,
+    /// The accounts of a load do not agree. This cannot happen.
+    Accounts,
+    /// The options make no journal: fewer than 9 blocks, or more than 2^31 - 1.
+    Geometry,
+    /// A call on an image that is used as a disk failed.
+    DeviceFault,
+    /// Memory ran out.
+    Memory,
+    /// Standard output could not be written.
+    WriteFault,
+}
+
+impl<'a> From<AllocError> for CommandFault<'a> {
+    ghost use Rattle.std.specs.Prelude.{◌≡◌};
+    ghost use Rattle.jb_commands.specs.declared.fault.CommandFault.TheVariants.{Memory};
+
+    ghost from_gives = { λ _ stop. stop ≡ Memory };
+
+    fn from(_: AllocError) -> CommandFault<'a> {
+        CommandFault::Memory
+    }
+}
+
+impl<'a> From<WriteFault> for CommandFault<'a> {
+    ghost use Rattle.std.specs.Prelude.{◌≡◌};
+    ghost use Rattle.jb_commands.specs.declared.fault.CommandFault.TheVariants.{WriteFault as CommandWriteFault};
+
+    ghost from_gives = { λ _ stop. stop ≡ CommandWriteFault };
+
+    fn from(_: WriteFault) -> CommandFault<'a> {
+        CommandFault::WriteFault
+    }
+}
+
+impl<'a> From<DumpFault> for CommandFault<'a> {
+    ghost use Rattle.std.specs.Prelude.{◌≡◌};
+    ghost use Rattle.jb_commands.specs.Faults.{dump_fault};
+
+    ghost from_gives = { λ fault stop. stop ≡ dump_fault fault };
+
+    fn from(fault: DumpFault) -> CommandFault<'a> {
+        match fault {
+            DumpFault::ReadFault => CommandFault::ReadFault,
+            DumpFault::WriteFault => CommandFault::WriteFault,
+            DumpFault::Super(fault) => CommandFault::Super(fault),
+            DumpFault::BadRevoke(place) => CommandFault::BadRevoke(place),
+            DumpFault::Memory => CommandFault::Memory,
+        }
+    }
+}
+
+impl<'a> From<FormatFault> for CommandFault<'a> {
+    ghost use Rattle.std.specs.Prelude.{◌≡◌};
+    ghost use Rattle.jb_commands.specs.Faults.{format_fault};
+
+    ghost from_gives = { λ fault stop. stop ≡ format_fault fault };
+
+    fn from(fault: FormatFault) -> CommandFault<'a> {
+        match fault {
+            FormatFault::DeviceFault => CommandFault::DeviceFault,
+            FormatFault::Geometry => CommandFault::Geometry,
+        }
+    }
+}
+
+impl<'a> From<ChangeFault> for CommandFault<'a> {
+    ghost use Rattle.std.specs.Prelude.{◌≡◌};
+    ghost use Rattle.jb_commands.specs.Faults.{change_fault};
+
+    ghost from_gives = { λ fault stop. stop ≡ change_fault fault };
+
+    fn from(fault: ChangeFault) -> CommandFault<'a> {
+        match fault {
+            ChangeFault::DeviceFault => CommandFault::DeviceFault,
+            ChangeFault::Super(fault) => CommandFault::Super(fault),
+            ChangeFault::NeedsRecovery => CommandFault::NeedsRecovery,
+        }
+    }
+}
+
+impl<'a> CommandFault<'a> {
+    ghost use Rattle.jb_commands.specs.Faults.{hint_of, peek_fault, recover_fault, status_of};
+
+    /// The program's exit status: 2 where an option or a file was the reason, else 1.
+    pub fn status(self) -> u8
+        ensures value { result ≡ status_of self.entry }
+    {
+        match self {
+            CommandFault::CannotRead(_, _) | CommandFault::TooLong(_) => 2,
+            CommandFault::InUse(_) | CommandFault::SameFile(_) | CommandFault::CannotMake(_, _) =>
+                2,
+            CommandFault::BadOption(_) => 2,
+            CommandFault::ReadFault | CommandFault::Super(_) | CommandFault::BadRevoke(_) => 1,
+            CommandFault::HomeOutOfRange(_, _, _)
+            | CommandFault::NoHome(_, _)
+            | CommandFault::NeedsRecovery
+            | CommandFault::NumbersSpent => 1,
+            CommandFault::JournalLength(_, _) => 1,
+            CommandFault::FileSystem(_) | CommandFault::Extents(_) => 1,
+            CommandFault::BlockSize | CommandFault::Accounts | CommandFault::Geometry => 1,
+            CommandFault::DeviceFault | CommandFault::Memory | CommandFault::WriteFault => 1,
+        }
+    }
+
+    /// A fault of a recovery of an image with so many home blocks, where that is known.
+    pub(crate) fn of_recovery(fault: RecoverFault, homes: Option<u64>) -> CommandFault<'a>
+        ensures value { result ≡ recover_fault homes fault }
+    {
+        match fault {
+            RecoverFault::DeviceFault => CommandFault::DeviceFault,
+            RecoverFault::Super(fault) => CommandFault::Super(fault),
+            RecoverFault::BadRevoke(place) => CommandFault::BadRevoke(place),
+            RecoverFault::HomeOutOfRange(home, number) => {
+                CommandFault::HomeOutOfRange(home, number, homes)
+            }
+            RecoverFault::Memory => CommandFault::Memory,
+        }
+    }
+
+    /// A fault of a peek into an image with so many home blocks, where that is known.
+    pub(crate) fn of_peek(fault: PeekFault, homes: Option<u64>) -> CommandFault<'a>
+        ensures value { result ≡ peek_fault homes fault }
+    {
+        match fault {
+            PeekFault::DeviceFault => CommandFault::DeviceFault,
+            PeekFault::Super(fault) => CommandFault::Super(fault),
+            PeekFault::BadRevoke(place) => CommandFault::BadRevoke(place),
+            PeekFault::HomeOutOfRange(home) => CommandFault::NoHome(home, homes),
+        }
+    }
+
+    /// What a second line is about after its line.
+    pub fn hint(self) -> Hint
+        ensures value { result ≡ hint_of self.entry }
+    {
+        match self {
+            CommandFault::CannotRead(_, code) => Hint::CannotRead(code),
+            CommandFault::InUse(_) => Hint::InUse,
+            CommandFault::SameFile(_) => Hint::SameFile,
+            CommandFault::CannotMake(_, code) => Hint::CannotMake(code),
+            CommandFault::BadOption(option) => Hint::BadOption(option),
+            CommandFault::TooLong(_) => Hint::TooLong,
+            CommandFault::ReadFault => Hint::ReadFault,
+            CommandFault::Super(fault) => super_hint(fault),
+            CommandFault::JournalLength(_, _) => Hint::JournalLength,
+            CommandFault::FileSystem(fault) => system_hint(fault),
+            CommandFault::Extents(fault) => extents_hint(fault),
+            CommandFault::BadRevoke(_) => Hint::BadRevoke,
+            CommandFault::HomeOutOfRange(_, _, homes) => Hint::HomeOutOfRange(homes),
+            CommandFault::NoHome(_, homes) => Hint::NoHome(homes),
+            CommandFault::NeedsRecovery => Hint::NeedsRecovery,
+            CommandFault::NumbersSpent => Hint::NumbersSpent,
+            CommandFault::BlockSize => Hint::BlockSize,
+            CommandFault::Accounts => Hint::Accounts,
+            CommandFault::Geometry => Hint::Geometry,
+            CommandFault::DeviceFault => Hint::DeviceFault,
+            CommandFault::Memory => Hint::Memory,
+            CommandFault::WriteFault => Hint::WriteFault,
+        }
+    }
+}
+
+/// What a second line is about after the line of a superblock that is refused.
+fn super_hint(fault: SuperFault) -> Hint
+    ensures { result ≡ super_hint_of fault }
+{
+    match fault {
+        SuperFault::ShortBlock => Hint::SuperShortBlock,
+        SuperFault::NoMagic => Hint::SuperNoMagic,
+        SuperFault::NotVersion2(_) => Hint::SuperNotVersion2,
+        SuperFault::BlockSize(_) => Hint::SuperBlockSize,
+        SuperFault::Geometry => Hint::SuperGeometry,
+        SuperFault::Feature(_, _) => Hint::SuperFeature,
+    }
+}
+
+/// What a second line is about after the line of a journal that is not recovered into a file system.
+fn system_hint(fault: FileSystemFault) -> Hint
+    ensures { result ≡ system_hint_of fault }
+{
+    match fault {
+        FileSystemFault::BlockSize(_) => Hint::FileSystemBlockSize,
+        FileSystemFault::Uuid => Hint::FileSystemUuid,
+        FileSystemFault::Clean => Hint::FileSystemClean,
+    }
+}
+
+/// What a second line is about after the line of extents that do not hold the journal.
+fn extents_hint(fault: ExtentsFault) -> Hint
+    ensures { result ≡ extents_hint_of fault }
+{
+    match fault {
+        ExtentsFault::Overlap(_) => Hint::ExtentsOverlap,
+        ExtentsFault::PastEnd(_) => Hint::ExtentsPastEnd,
+        ExtentsFault::Short(_) => Hint::ExtentsShort,
+        ExtentsFault::NoJournal => Hint::ExtentsNoJournal,
+        ExtentsFault::Home(_) => Hint::ExtentsHome,
+    }
+}

@@ -1,0 +1,43 @@
+//! Home blocks of images, as recovery would leave them.
+ghost use Rattle.jb_args.specs.Named.{cat_said};
+ghost use Rattle.jb_commands.specs.Placed.{EndsOfCat};
+
+use crate::done::Done;
+use crate::files::opening::Opening;
+use crate::files::placed::open_placed;
+use crate::report::status_end;
+use crate::streams::cat_on;
+use jb_args::CatOptions;
+use jb_disk::Start;
+use std::fs::File;
+use std::io::Write;
+use std::rt::Files;
+
+/// Writes home blocks of the image of this name as recovery would leave them; the image is opened for reading alone.
+///
+/// # Errors
+/// Those of `open_placed`, and those of `cat_on`.
+pub fn cat_file<'a, S: Start, T: Start, R: Files<File = File> + AllocGlobal, O: Write>(
+    rt: &R,
+    image: &'a str,
+    options: CatOptions<'a>,
+    out: &mut O,
+) -> Done<'a, S, T>
+    ensures ends { EndsOfCat image.entry.now (cat_said options.entry) (O.contents out.old) (O.contents out.new)
+        result.image result.end }
+{
+    let (home, count, hex) = (options.home, options.count, options.hex);
+    match open_placed(rt, image, options.journal, options.extents, Opening::Read) {
+        Ok((mut disk, homes)) => {
+            let told = cat_on(rt.alloc(), &mut disk, home, count, hex, Some(homes), out);
+            Done {
+                image: Some(disk),
+                end: status_end(told),
+            }
+        }
+        Err(fault) => Done {
+            image: None,
+            end: Err(fault),
+        },
+    }
+}

@@ -1,0 +1,116 @@
+//! Images that are made.
+ghost use Rattle.std.specs.Prelude.{◌≡◌, ◌↔◌, IfSome, IsSome};
+ghost use Rattle.jb_image.specs.Making.{MakesImage};
+ghost use Rattle.jb_args.specs.Named.{options_said};
+ghost use Rattle.jb_commands.specs.Files.{EndsOfFormat, EndsOfMaking, IsUnnamed};
+ghost use Rattle.jb_commands.specs.Format.{new_limit_of};
+ghost use Rattle.jb_commands.specs.Options.{IsJournalLength};
+
+use crate::done::Done;
+use crate::fault::CommandFault;
+use crate::options::new_file;
+use crate::report::Report;
+use jb_args::FormatOptions;
+use jb_disk::Start;
+use jb_image::{Geometry, ImageDisk, ImageFault, MakeFault, create_holding};
+use jb_super::Super;
+use std::fs::File;
+use std::rt::Files;
+
+/// The number of the system's error where a file is there already (`EEXIST`).
+const EXISTS: i32 = 17;
+
+/// Makes the image that the options ask for, in a new file of this name, whole or not at all: a new journal, and home
+/// blocks of zeros after it. Reports the most log blocks of a transaction.
+///
+/// # Errors
+/// `CommandFault::BadOption` where an option is bad, and `CommandFault::Geometry` where a journal may not have so
+/// many blocks, before any file is looked at; `CommandFault::CannotMake` where the file is there already, another
+/// process makes it, or the system refuses it; `CommandFault::Memory` where memory ran out;
+/// `CommandFault::DeviceFault` where the journal was not written. There is no new file then.
+pub fn format_file<'a, S: Start, T: Start, R: Files<File = File> + AllocGlobal>(
+    rt: &R,
+    image: &'a str,
+    options: FormatOptions<'_>,
+) -> Done<'a, S, T>
+    ensures ends { EndsOfFormat image.entry.now (options_said options.entry) result.image result.end }
+{
+    let new = match new_file(options) {
+        Ok(new) => new,
+        Err(option) => {
+            return Done {
+                image: None,
+                end: Err(CommandFault::BadOption(option)),
+            };
+        }
+    };
+    let Some(limit) = limit_of(new) else {
+        return Done {
+            image: None,
+            end: Err(CommandFault::Geometry),
+        };
+    };
+    make_file(rt, image, new, limit)
+}
+
+/// The most log blocks of a transaction of a new journal, or `None` where a journal may not have so many blocks.
+fn limit_of(new: Geometry) -> Option<u32>
+    ensures good { IsSome result ↔ IsJournalLength new.journal }
+    ensures value { IfSome result (λ limit. limit ≡ new_limit_of new) }
+{
+    let Geometry {
+        block_size,
+        journal,
+        max_transaction,
+        uuid,
+        width,
+        ..
+    } = new;
+    Some(Super::new(block_size, journal, max_transaction, uuid, width)?.limit())
+}
+
+/// Makes an image whose journal has this limit.
+///
+/// # Errors
+/// `CommandFault::CannotMake` where the file is there already, another process makes it, or the system refuses it;
+/// `CommandFault::Memory` where memory ran out; `CommandFault::DeviceFault` where the journal was not written.
+fn make_file<'a, S: Start, T: Start, R: Files<File = File> + AllocGlobal>(
+    rt: &R,
+    name: &'a str,
+    geometry: Geometry,
+    limit: u32,
+) -> Done<'a, S, T>
+    requires geometry { MakesImage geometry }
+    requires limit { limit ≡ new_limit_of geometry }
+    ensures ends { EndsOfMaking name.entry.now geometry result.image result.end }
+{
+    let fault = match create_holding(rt, name, geometry) {
+        Ok(disk) => {
+            return Done {
+                image: Some(ImageDisk::One(disk)),
+                end: Ok(Report::Formatted(limit)),
+            };
+        }
+        Err(MakeFault::Geometry) => unreachable!(),
+        Err(MakeFault::DeviceFault) => CommandFault::DeviceFault,
+        Err(MakeFault::Exists) => CommandFault::CannotMake(name, Some(EXISTS)),
+        Err(MakeFault::Image(fault)) => unnamed(name, fault),
+    };
+    Done {
+        image: None,
+        end: Err(fault),
+    }
+}
+
+/// Why the system did not make the file of this name.
+fn unnamed<'a>(name: &'a str, fault: ImageFault) -> CommandFault<'a>
+    ensures { IsUnnamed name.entry.now result }
+{
+    match fault {
+        ImageFault::System(fault) => CommandFault::CannotMake(name, fault.code),
+        ImageFault::Memory => CommandFault::Memory,
+        ImageFault::InUse | ImageFault::Mounted | ImageFault::OtherKind => {
+            CommandFault::CannotMake(name, None)
+        }
+    }
+}

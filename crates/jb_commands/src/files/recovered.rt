@@ -1,0 +1,207 @@
+//! Images that are recovered, or of which it is said what a recovery would do.
+ghost use Rattle.std.specs.Prelude.{◌≡◌, option_map};
+ghost use Rattle.jb_image.specs.Files.{as_disks};
+ghost use Rattle.jb_args.specs.Named.{recover_said};
+ghost use Rattle.jb_commands.specs.Foresee.{foreseen_end as foreseen_so, own_checked};
+ghost use Rattle.jb_commands.specs.Placed.{EndsOfRecover, is_beside as stands_beside};
+ghost use Rattle.jb_commands.specs.Placed.{ChecksOwn, ForeseesImage, JudgesBeside, RecoversImage, RecoversOpened};
+
+use crate::done::Done;
+use crate::fault::CommandFault;
+use crate::files::opening::Opening;
+use crate::files::placed::open_placed;
+use crate::report::Report;
+use crate::streams::{judge_on, recover_on};
+use jb_args::{OptionName, RecoverOptions};
+use jb_disk::{Disk, Start};
+use jb_image::{ExtentsFault, ImageDisk};
+use jb_recover::{Foreseen, RecoverFault, foresee};
+use std::alloc::Global;
+use std::fs::File;
+use std::rt::Files;
+
+/// Recovers the journal of the image of this name; with `--dry-run` only reports what a recovery would do. Where the
+/// journal is not at its front, the image may be a file system, which has to be the journal's own.
+///
+/// # Errors
+/// `CommandFault::BadOption` where `--list` is given without `--dry-run`; those of `open_placed` and of `judge_on`, and
+/// those of `recover_on`; `CommandFault::Extents` where a copy is for a home block that is one of the journal's own.
+pub fn recover_file<'a, S: Start, T: Start, R: Files<File = File> + AllocGlobal>(
+    rt: &R,
+    image: &'a str,
+    options: RecoverOptions<'a>,
+) -> Done<'a, S, T>
+    ensures ends { EndsOfRecover image.entry.now (recover_said options.entry) result.image result.end }
+{
+    if options.list && !options.dry_run {
+        return Done {
+            image: None,
+            end: Err(CommandFault::BadOption(OptionName::List)),
+        };
+    }
+    let opening = opening_of(options.dry_run);
+    match open_placed(rt, image, options.journal, options.extents, opening) {
+        Ok((mut disk, homes)) => {
+            let end = recover_opened(rt.alloc(), &mut disk, homes, options);
+            Done {
+                image: Some(disk),
+                end,
+            }
+        }
+        Err(fault) => Done {
+            image: None,
+            end: Err(fault),
+        },
+    }
+}
+
+/// How an image is opened that is to be recovered, or only read.
+fn opening_of(dry_run: bool) -> Opening {
+    if dry_run {
+        Opening::Read
+    } else {
+        Opening::Change
+    }
+}
+
+/// The same of an image that is open, with so many home blocks.
+fn recover_opened<'a, D: Disk, E: Disk>(
+    alloc: Global,
+    disk: &mut ImageDisk<D, E>,
+    homes: u64,
+    options: RecoverOptions<'_>,
+) -> Result<Report, CommandFault<'a>>
+    ensures recovers { RecoversOpened (as_disks D.Disk E.Disk) (recover_said options.entry) homes disk.old disk.new
+        result }
+{
+    let beside = is_beside(options.journal, options.extents);
+    let (list, dry_run) = (options.list, options.dry_run);
+    match judge_beside(disk, beside, options.force) {
+        Ok(()) => {}
+        Err(fault) => return Err(fault),
+    }
+    if dry_run {
+        foresee_image(alloc, disk, homes, list)
+    } else {
+        recover_image(alloc, disk, homes)
+    }
+}
+
+/// Whether the journal is elsewhere than at the front of the image.
+fn is_beside(journal: Option<&str>, extents: Option<&str>) -> bool
+    ensures { result ≡ stands_beside (option_map (λ word. word.now) journal.entry)
+        (option_map (λ word. word.now) extents.entry) }
+{
+    match (journal, extents) {
+        (None, None) => false,
+        (None, Some(_)) => true,
+        (Some(_), _) => true,
+    }
+}
+
+/// Whether the journal of an image may be recovered into its home blocks; one that is not beside them may.
+///
+/// # Errors
+/// Those of `judge_on`.
+fn judge_beside<'a, D: Disk>(
+    disk: &mut D,
+    beside: bool,
+    force: bool,
+) -> Result<(), CommandFault<'a>>
+    ensures judges { JudgesBeside D.Disk beside force disk.old disk.new result }
+{
+    if beside {
+        judge_on(disk, force)
+    } else {
+        Ok(())
+    }
+}
+
+/// Reports what a recovery of an image would do.
+///
+/// # Errors
+/// Those of a recovery; `CommandFault::Extents` where a copy is for a home block that is one of the journal's own.
+fn foresee_image<'a, D: Disk, E: Disk>(
+    alloc: Global,
+    disk: &mut ImageDisk<D, E>,
+    homes: u64,
+    list: bool,
+) -> Result<Report, CommandFault<'a>>
+    ensures foresees { ForeseesImage (as_disks D.Disk E.Disk) homes list disk.old disk.new result }
+{
+    let answer = foresee(alloc, disk);
+    foreseen_end(disk, homes, list, answer)
+}
+
+/// What was foreseen of an image, as the command's end.
+fn foreseen_end<'a, D: Disk, E: Disk>(
+    disk: &ImageDisk<D, E>,
+    homes: u64,
+    list: bool,
+    answer: Result<Foreseen, RecoverFault>,
+) -> Result<Report, CommandFault<'a>>
+    ensures { result ≡ foreseen_so disk.now homes list answer }
+{
+    match answer {
+        Ok(told) => match disk.first_own(told.homes.as_slice()) {
+            None => Ok(Report::Foreseen(told, list)),
+            Some(home) => Err(CommandFault::Extents(ExtentsFault::Home(home))),
+        },
+        Err(fault) => Err(CommandFault::of_recovery(fault, Some(homes))),
+    }
+}
+
+/// Recovers an image.
+///
+/// # Errors
+/// Those of `check_own` and of `recover_on`.
+fn recover_image<'a, D: Disk, E: Disk>(
+    alloc: Global,
+    disk: &mut ImageDisk<D, E>,
+    homes: u64,
+) -> Result<Report, CommandFault<'a>>
+    ensures recovers { RecoversImage (as_disks D.Disk E.Disk) homes disk.old disk.new result }
+{
+    match check_own(alloc, disk, homes) {
+        Ok(()) => recover_on(alloc, disk, Some(homes)),
+        Err(fault) => Err(fault),
+    }
+}
+
+/// Where the journal of an image stands within its home blocks: whether no copy is for one of those. Nothing is
+/// written.
+///
+/// # Errors
+/// Those of a recovery that comes before its first write; `CommandFault::Extents` for such a copy.
+fn check_own<'a, D: Disk, E: Disk>(
+    alloc: Global,
+    disk: &mut ImageDisk<D, E>,
+    homes: u64,
+) -> Result<(), CommandFault<'a>>
+    ensures checks { ChecksOwn (as_disks D.Disk E.Disk) homes disk.old disk.new result }
+{
+    let within = disk.is_within();
+    if within {
+        let answer = foresee(alloc, disk);
+        own_end(disk, homes, answer)
+    } else {
+        Ok(())
+    }
+}
+
+/// Whether a recovery of an image may write, by what was foreseen.
+fn own_end<'a, D: Disk, E: Disk>(
+    disk: &ImageDisk<D, E>,
+    homes: u64,
+    answer: Result<Foreseen, RecoverFault>,
+) -> Result<(), CommandFault<'a>>
+    ensures { result ≡ own_checked disk.now homes answer }
+{
+    match answer {
+        Ok(told) => match disk.first_own(told.homes.as_slice()) {
+            None => Ok(()),
+            Some(home) => Err(CommandFault::Extents(ExtentsFault::Home(home))),
+        },
+        Err(fault) => Err(CommandFault::of_recovery(fault, Some(homes))),
+    }
+}

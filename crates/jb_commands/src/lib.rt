@@ -1,0 +1,40 @@
+//! The commands of `jb` that need no threads, over a runtime, an input and two outputs. What those over texts
+//! answer is a value.
+#![tactic(auto)]
+
+mod answer;
+mod check;
+mod cost;
+mod done;
+mod ended;
+mod fault;
+mod files;
+pub mod laws;
+mod names;
+mod options;
+mod plan;
+mod queue_fault;
+mod report;
+mod running;
+mod streams;
+
+pub use answer::Answer;
+pub use check::check_answer;
+pub use cost::cost_answer;
+pub use done::Done;
+pub use ended::Ended;
+pub use fault::CommandFault;
+pub use files::{
+    Opening, cat_file, format_file, open_counted, read_file, recover_file, renumber_file,
+    widen_file,
+};
+pub use jb_args::Plain;
+pub use names::TwoFiles;
+pub use plan::plan_answer;
+pub use queue_fault::fault_answer;
+pub use report::Report;
+pub use running::{close, perform, run_plain};
+pub use streams::{
+    CERT_LIMIT, TEXT_LIMIT, cat_on, dump_from, judge_on, recover_on, refuse_words, renumber_on,
+    tell, widen_on,
+};

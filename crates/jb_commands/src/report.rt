@@ -1,0 +1,70 @@
+//! What a command has to say once its image is closed.
+ghost use Rattle.std.specs.Prelude.{◌≡◌};
+ghost use Rattle.jb_commands.specs.Reports.{said_end as ends_saying, status_end as ends_so};
+
+use crate::ended::Ended;
+use crate::fault::CommandFault;
+use crate::streams::{
+    tell_foreseen, tell_formatted, tell_recovered, tell_renumbered, tell_widened,
+};
+use jb_format::{Renumbered, Widened};
+use jb_recover::{Foreseen, Recovered};
+use std::io::Write;
+
+/// What a command has done, for a line that is written once its image is closed.
+#[derive(Drop)]
+pub enum Report {
+    /// It has written all that it had to say, and ends so.
+    Said(Ended),
+    /// A journal was made, with so many log blocks of a transaction at most.
+    Formatted(u32),
+    /// A journal was recovered.
+    Recovered(Recovered),
+    /// A recovery would answer so; whether its home blocks are to be listed too.
+    Foreseen(Foreseen, bool),
+    /// A journal has its first number again.
+    Renumbered(Renumbered),
+    /// A journal has block numbers of 64 bits.
+    Widened(Widened),
+}
+
+impl Report {
+    ghost use Rattle.jb_commands.specs.Reports.{TellsReport};
+
+    /// Writes its line, or its lines, and gives the end of the program.
+    ///
+    /// # Errors
+    /// `CommandFault::WriteFault` where `out` took only the beginning of the text.
+    pub fn tell<'a, O: Write>(&self, out: &mut O) -> Result<Ended, CommandFault<'a>>
+        ensures { TellsReport self.now (O.contents out.old) (O.contents out.new) result }
+    {
+        match self {
+            Report::Said(ended) => Ok(*ended),
+            Report::Formatted(limit) => tell_formatted(*limit, out),
+            Report::Recovered(done) => tell_recovered(*done, out),
+            Report::Foreseen(told, list) => tell_foreseen(told, *list, out),
+            Report::Renumbered(done) => tell_renumbered(*done, out),
+            Report::Widened(done) => tell_widened(*done, out),
+        }
+    }
+}
+
+/// The end of a command that has written all that it had to say, and ends so.
+pub(crate) fn said_end<'a>(end: Result<Ended, CommandFault<'a>>) -> Result<Report, CommandFault<'a>>
+    ensures { result ≡ ends_saying end.entry }
+{
+    match end {
+        Ok(ended) => Ok(Report::Said(ended)),
+        Err(fault) => Err(fault),
+    }
+}
+
+/// The end of a command that has written all that it had to say, with this status.
+pub(crate) fn status_end<'a>(end: Result<u8, CommandFault<'a>>) -> Result<Report, CommandFault<'a>>
+    ensures { result ≡ ends_so end.entry }
+{
+    match end {
+        Ok(status) => Ok(Report::Said(Ended::with_status(status))),
+        Err(fault) => Err(fault),
+    }
+}

@@ -1,0 +1,161 @@
+ghost use Rattle.std.specs.Prelude.{◌≡◌, ℕ, List, Option, Some, codes, false};
+ghost use Rattle.std.specs.Str.{bytes_eq};
+ghost use Rattle.jb_args.specs.Named.{asks};
+ghost use Rattle.jb_commands.specs.Check.{CheckSays};
+ghost use Rattle.jb_commands.specs.Cost.{cost_said};
+ghost use Rattle.jb_commands.specs.Plan.{PlanSays};
+ghost use Rattle.jb_commands.specs.Lines.{names_said};
+ghost use Rattle.jb_commands.specs.Runs.{Closes, Ends, EndsAsked, EndsOfTwo, Runs, reads_input};
+
+use crate::done::Done;
+use crate::ended::Ended;
+use crate::fault::CommandFault;
+use crate::files::{
+    cat_file, choice_of, dump_named, format_file, read_file, read_file_within, read_text,
+    recover_file, renumber_file, widen_file,
+};
+use crate::names::{TwoFiles, files_of};
+use crate::report::{said_end, status_end};
+use crate::streams::{CERT_LIMIT, tell};
+use crate::{check_answer, cost_answer, fault_answer, plan_answer};
+use jb_args::Plain;
+use jb_disk::{Start, Unknown};
+use jb_queue::read_queue;
+use std::fs::File;
+use std::io::{Read, Write};
+use std::rt::Files;
+
+/// Runs a command: reads its files, or `input` for `-` and for nothing else, and works on its image. A command over
+/// texts, `dump` and `cat` write as they go; what the others have to say is in the answer, with the image, still open.
+///
+/// `S` and `T` are what is supposed of the image's files ([`Done`]).
+pub fn perform<
+    'a,
+    S: Start,
+    T: Start,
+    R: Files<File = File> + AllocGlobal,
+    I: Read,
+    O: Write,
+    E: Write,
+>(rt: &R, plain: Plain<'a>, input: &mut I, out: &mut O, err: &mut E) -> Done<'a, S, T>
+    ensures ends { EndsAsked (asks plain.entry) (I.remaining input.old)
+        (record { out = O.contents out.old; err = E.contents err.old })
+        (record { out = O.contents out.new; err = E.contents err.new }) result.image result.end }
+    ensures unread { reads_input (asks plain.entry) ≡ false → input.new ≡ input.old }
+{
+    match plain {
+        Plain::Cost { file } => Done::alone(said_end(perform_cost(rt, file, input, out, err))),
+        Plain::Plan { file } => Done::alone(said_end(perform_plan(rt, file, input, out, err))),
+        Plain::Check { file, cert } => Done::alone(said_end(perform_check(
+            rt, file, cert, out, err,
+        ))),
+        Plain::Dump { file, options } => {
+            Done::alone(status_end(dump_named(rt, file, choice_of(options), input, out)))
+        }
+        Plain::Format { image, options } => format_file(rt, image, options),
+        Plain::Cat { image, options } => cat_file(rt, image, options, out),
+        Plain::Recover { image, options } => recover_file(rt, image, options),
+        Plain::Renumber { image } => renumber_file(rt, image),
+        Plain::Widen { image } => widen_file(rt, image),
+    }
+}
+
+/// Runs `jb cost`.
+fn perform_cost<'a, R: Files + AllocGlobal, I: Read, O: Write, E: Write>(
+    rt: &R,
+    file: &'a str,
+    input: &mut I,
+    out: &mut O,
+    err: &mut E,
+) -> Result<Ended, CommandFault<'a>>
+    ensures ends { Ends (λ text words. cost_said text ≡ Some words) file.entry.now (I.remaining input.old)
+        (record { out = O.contents out.old; err = E.contents err.old })
+        (record { out = O.contents out.new; err = E.contents err.new }) result }
+    ensures unread { bytes_eq file.entry.now (codes "-") ≡ false → input.new ≡ input.old }
+{
+    let text = read_text(rt, file, input)?;
+    let answer = cost_answer(rt.alloc(), text.as_slice())?;
+    tell(&answer, out, err)
+}
+
+/// Runs `jb plan`.
+fn perform_plan<'a, R: Files + AllocGlobal, I: Read, O: Write, E: Write>(
+    rt: &R,
+    file: &'a str,
+    input: &mut I,
+    out: &mut O,
+    err: &mut E,
+) -> Result<Ended, CommandFault<'a>>
+    ensures ends { Ends PlanSays file.entry.now (I.remaining input.old)
+        (record { out = O.contents out.old; err = E.contents err.old })
+        (record { out = O.contents out.new; err = E.contents err.new }) result }
+    ensures unread { bytes_eq file.entry.now (codes "-") ≡ false → input.new ≡ input.old }
+{
+    let text = read_text(rt, file, input)?;
+    let answer = plan_answer(rt.alloc(), text.as_slice())?;
+    tell(&answer, out, err)
+}
+
+/// Runs `jb check`: the second file is opened where the first is the text of a queue.
+fn perform_check<'a, R: Files + AllocGlobal, O: Write, E: Write>(
+    rt: &R,
+    file: &'a str,
+    cert: &'a str,
+    out: &mut O,
+    err: &mut E,
+) -> Result<Ended, CommandFault<'a>>
+    ensures ends { EndsOfTwo CheckSays file.entry.now cert.entry.now
+        (record { out = O.contents out.old; err = E.contents err.old })
+        (record { out = O.contents out.new; err = E.contents err.new }) result }
+{
+    let text = read_file(rt, file)?;
+    match read_queue(rt.alloc(), text.as_slice()) {
+        Ok(queue) => {
+            let claim = read_file_within(rt, cert, CERT_LIMIT)?;
+            let answer = check_answer(rt.alloc(), &queue, claim.as_slice())?;
+            tell(&answer, out, err)
+        }
+        Err(fault) => {
+            let answer = fault_answer(rt.alloc(), fault)?;
+            tell(&answer, out, err)
+        }
+    }
+}
+
+/// Runs a command and gives the end of the program; a command that ends without an answer has its line on `err`.
+pub fn run_plain<R: Files<File = File> + AllocGlobal, I: Read, O: Write, E: Write>(
+    rt: &R,
+    plain: Plain<'_>,
+    input: &mut I,
+    out: &mut O,
+    err: &mut E,
+) -> Ended
+    ensures runs { Runs (asks plain.entry) (I.remaining input.old)
+        (record { out = O.contents out.old; err = E.contents err.old })
+        (record { out = O.contents out.new; err = E.contents err.new }) result }
+    ensures unread { reads_input (asks plain.entry) ≡ false → input.new ≡ input.old }
+{
+    let done = perform::<Unknown, Unknown, R, I, O, E>(rt, plain, input, out, err);
+    let told = done.tell(out);
+    close(told, files_of(plain), err)
+}
+
+/// The program's end at the end of a command, over these files where they are two; of one that ended without an answer
+/// the line is written to `err`.
+pub fn close<E: Write>(
+    end: Result<Ended, CommandFault<'_>>,
+    files: Option<TwoFiles<'_>>,
+    err: &mut E,
+) -> Ended
+    ensures { (out_old : Option (List ℕ)) → Closes (names_said files.entry) end.entry
+        (record { out = out_old; err = E.contents err.old })
+        (record { out = out_old; err = E.contents err.new }) result }
+{
+    match end {
+        Ok(ended) => ended,
+        Err(fault) => {
+            fault.tell(files, err);
+            Ended::of_fault(fault)
+        }
+    }
+}

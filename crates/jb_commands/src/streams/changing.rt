@@ -1,0 +1,90 @@
+ghost use Rattle.std.specs.Prelude.{◌≡◌};
+ghost use Rattle.jb_format.specs.Renumbering.{IsRenumbering, Renumbers, RenumbersAs};
+ghost use Rattle.jb_format.specs.Widening.{IsWidened, Widens, WidensAs};
+ghost use Rattle.jb_commands.specs.Change.{ChangesOn, change_end, renumbered_line, widened_line};
+ghost use Rattle.jb_commands.specs.Said.{TellsLine};
+ghost use Rattle.jb_commands.specs.declared.report.Report.TheVariants.{Renumbered as ReportsRenumbered};
+ghost use Rattle.jb_commands.specs.declared.report.Report.TheVariants.{Widened as ReportsWidened};
+
+use crate::ended::Ended;
+use crate::fault::CommandFault;
+use crate::report::Report;
+use crate::streams::telling::tell_line;
+use itoa::Buffer;
+use jb_disk::Disk;
+use jb_format::{ChangeFault, Renumbered, Widened, renumber, widen};
+use std::io::Write;
+
+/// Gives the clean journal at the front of a disk its first number again. Reports how many blocks of its log became
+/// zeros and the number of the next transaction. No memory is taken.
+///
+/// # Errors
+/// `CommandFault::Super` where the superblock is refused, and `CommandFault::NeedsRecovery` where the log is not
+/// clean: the disk is as it was; `CommandFault::DeviceFault` where a call of the disk failed: it is to be called
+/// again.
+pub fn renumber_on<'a, D: Disk>(disk: &mut D) -> Result<Report, CommandFault<'a>>
+    ensures renumbers { ChangesOn D.Disk Renumbers IsRenumbering RenumbersAs ReportsRenumbered
+        disk.old disk.new result }
+{
+    let answer = renumber(disk);
+    renumbering_end(answer)
+}
+
+/// Gives the clean journal at the front of a disk block numbers of 64 bits, where it has them not. Reports whether it
+/// had, with the most log blocks of a transaction. No memory is taken.
+///
+/// # Errors
+/// As those of `renumber_on`.
+pub fn widen_on<'a, D: Disk>(disk: &mut D) -> Result<Report, CommandFault<'a>>
+    ensures widens { ChangesOn D.Disk Widens IsWidened WidensAs ReportsWidened disk.old disk.new result }
+{
+    let answer = widen(disk);
+    widening_end(answer)
+}
+
+/// What a renumbering answered, as the command's end.
+fn renumbering_end<'a>(answer: Result<Renumbered, ChangeFault>) -> Result<Report, CommandFault<'a>>
+    ensures { result ≡ change_end ReportsRenumbered answer }
+{
+    match answer {
+        Ok(done) => Ok(Report::Renumbered(done)),
+        Err(fault) => Err(CommandFault::from(fault)),
+    }
+}
+
+/// What a widening answered, as the command's end.
+fn widening_end<'a>(answer: Result<Widened, ChangeFault>) -> Result<Report, CommandFault<'a>>
+    ensures { result ≡ change_end ReportsWidened answer }
+{
+    match answer {
+        Ok(done) => Ok(Report::Widened(done)),
+        Err(fault) => Err(CommandFault::from(fault)),
+    }
+}
+
+/// Writes the line of a renumbering.
+pub(crate) fn tell_renumbered<'a, O: Write>(
+    done: Renumbered,
+    out: &mut O,
+) -> Result<Ended, CommandFault<'a>>
+    ensures { TellsLine (renumbered_line done) (O.contents out.old) (O.contents out.new) result }
+{
+    let (mut blocks, mut next) = (Buffer::new(), Buffer::new());
+    let (blocks, next) = (blocks.format(done.blocks), next.format(done.next));
+    tell_line(out, &["renumbered blocks ", blocks, " next ", next, "\n"])
+}
+
+/// Writes the line of a widening.
+pub(crate) fn tell_widened<'a, O: Write>(
+    done: Widened,
+    out: &mut O,
+) -> Result<Ended, CommandFault<'a>>
+    ensures { TellsLine (widened_line done) (O.contents out.old) (O.contents out.new) result }
+{
+    let mut digits = Buffer::new();
+    let limit = digits.format(done.limit);
+    if done.changed {
+        return tell_line(out, &["widened limit ", limit, "\n"]);
+    }
+    tell_line(out, &["already wide limit ", limit, "\n"])
+}

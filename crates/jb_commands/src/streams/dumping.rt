@@ -1,0 +1,28 @@
+ghost use Rattle.jb_commands.specs.Dump.{DumpsOn};
+
+use crate::fault::CommandFault;
+use jb_dump::{Choice, dump_chosen};
+use std::alloc::Global;
+use std::io::{Read, Write};
+
+/// Writes those lines of the text of the journal that a reader gives which a choice takes, and gives status 0. The
+/// reader is read for the journal's blocks and no further.
+///
+/// # Errors
+/// `CommandFault::ReadFault` where a read fails; `CommandFault::Super` and `CommandFault::BadRevoke` where the
+/// journal has no text; `CommandFault::Memory` where memory ran out; `CommandFault::WriteFault` where `out` took
+/// only the beginning of the text. But for the last nothing was written.
+pub fn dump_from<'a, I: Read, O: Write>(
+    alloc: Global,
+    journal: &mut I,
+    choice: Choice,
+    out: &mut O,
+) -> Result<u8, CommandFault<'a>>
+    ensures dumps { DumpsOn choice (I.remaining journal.old) (I.remaining journal.new) (O.contents out.old)
+        (O.contents out.new) result }
+{
+    match dump_chosen(alloc, journal, out, choice) {
+        Ok(()) => Ok(0),
+        Err(fault) => Err(CommandFault::from(fault)),
+    }
+}

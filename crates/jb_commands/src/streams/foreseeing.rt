@@ -1,0 +1,36 @@
+ghost use Rattle.jb_commands.specs.Foresee.{foreseen_text, homes_lines};
+ghost use Rattle.jb_commands.specs.Said.{TellsLine};
+
+use crate::ended::Ended;
+use crate::fault::CommandFault;
+use crate::streams::recovering::tell_recovered;
+use crate::streams::telling::tell_line;
+use itoa::Buffer;
+use jb_recover::Foreseen;
+use std::io::Write;
+
+/// Writes the line of a recovery, and with `list` the home blocks that it would write.
+pub(crate) fn tell_foreseen<'a, O: Write>(
+    told: &Foreseen,
+    list: bool,
+    out: &mut O,
+) -> Result<Ended, CommandFault<'a>>
+    ensures { TellsLine (foreseen_text list told.now) (O.contents out.old) (O.contents out.new) result }
+{
+    let ended = tell_recovered(told.counts, out)?;
+    if list {
+        return tell_homes(told.homes.as_slice(), out);
+    }
+    Ok(ended)
+}
+
+/// Writes home blocks, a line each.
+fn tell_homes<'a, O: Write>(homes: &[u64], out: &mut O) -> Result<Ended, CommandFault<'a>>
+    ensures { TellsLine (homes_lines homes.now) (O.contents out.old) (O.contents out.new) result }
+{
+    for home in homes {
+        let mut digits = Buffer::new();
+        let _ended = tell_line(out, &["home ", digits.format(*home), "\n"])?;
+    }
+    Ok(Ended::with_status(0))
+}

@@ -1,0 +1,68 @@
+ghost use Rattle.std.specs.Prelude.{◌≡◌};
+ghost use Rattle.jb_commands.specs.Recover.{RecoversOn, recovered_line, recovery_end as ends_so};
+ghost use Rattle.jb_commands.specs.Said.{TellsLine};
+
+use crate::ended::Ended;
+use crate::fault::CommandFault;
+use crate::report::Report;
+use crate::streams::telling::tell_line;
+use itoa::Buffer;
+use jb_disk::Disk;
+use jb_recover::{RecoverFault, Recovered, recover};
+use std::alloc::Global;
+use std::io::Write;
+
+/// Recovers the journal at the front of a disk: the home blocks after it are written as its committed transactions say,
+/// and its log is emptied. Reports how many transactions there were, how many copies were written and how many are
+/// revoked, and the number of the next transaction. Only the recovery takes memory.
+///
+/// # Errors
+/// `CommandFault::Super`, `CommandFault::BadRevoke` and `CommandFault::HomeOutOfRange`, the last with the number of
+/// home blocks where that is known, where the disk is refused, and `CommandFault::Memory` where a growth was refused:
+/// the disk is as it was; `CommandFault::DeviceFault` where a call of the disk failed: recovery is to be called again.
+pub fn recover_on<'a, D: Disk>(
+    alloc: Global,
+    disk: &mut D,
+    homes: Option<u64>,
+) -> Result<Report, CommandFault<'a>>
+    ensures recovers { RecoversOn D.Disk homes disk.old disk.new result }
+{
+    let answer = recover(alloc, disk);
+    recovery_end(answer, homes)
+}
+
+/// What a recovery answered, as the command's end.
+fn recovery_end<'a>(
+    answer: Result<Recovered, RecoverFault>,
+    homes: Option<u64>,
+) -> Result<Report, CommandFault<'a>>
+    ensures { result ≡ ends_so homes answer }
+{
+    match answer {
+        Ok(done) => Ok(Report::Recovered(done)),
+        Err(fault) => Err(CommandFault::of_recovery(fault, homes)),
+    }
+}
+
+/// Writes the line of a recovery.
+pub(crate) fn tell_recovered<'a, O: Write>(
+    done: Recovered,
+    out: &mut O,
+) -> Result<Ended, CommandFault<'a>>
+    ensures { TellsLine (recovered_line done) (O.contents out.old) (O.contents out.new) result }
+{
+    let (mut transactions, mut copies) = (Buffer::new(), Buffer::new());
+    let (mut revoked, mut next) = (Buffer::new(), Buffer::new());
+    let line = [
+        "transactions ",
+        transactions.format(done.transactions),
+        " copies ",
+        copies.format(done.copies),
+        " revoked ",
+        revoked.format(done.revoked),
+        " next ",
+        next.format(done.next),
+        "\n",
+    ];
+    tell_line(out, &line)
+}

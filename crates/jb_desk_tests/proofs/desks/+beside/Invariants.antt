@@ -1,4 +1,0 @@
-use Rattle.jb_desk_tests.proofs.desks.+beside.Given as goal
-
-abbrev pub decreases-beside : goal.decreases-beside
-decreases-beside g l = l.count

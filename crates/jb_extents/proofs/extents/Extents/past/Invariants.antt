@@ -1,6 +1,0 @@
-use Rattle.std.proofs.Common.{◌≡◌, drop}
-use Rattle.jb_extents.specs.Lists.{past_in, list_of}
-use Rattle.jb_extents.proofs.extents.Extents.past.Given as goal
-
-abbrev pub invariant-loop-extent : goal.invariant-loop-extent
-invariant-loop-extent l = past_in l.count (drop l.extent-index (list_of l.self)) ≡ past_in l.count (list_of l.self)

@@ -1,6 +1,0 @@
-use Rattle.std.proofs.Common.{sym, ◌∙◌, arith}
-use Rattle.jb_history.proofs.Keeps.{splits_sights}
-use Rattle.jb_history.proofs.history.History.show.Goals as goal
-
-pub split_seat-seat-requires : goal.split_seat-seat-requires
-split_seat-seat-requires g c = (c.scribe.invariant.0 ∙ sym c.self.invariant.0, omega (arith, c.self.invariant.1), splits_sights _ _)

@@ -1,5 +1,0 @@
-use Rattle.jb_history.proofs.Keeps.{starts}
-use Rattle.jb_history.proofs.history.Opened.new.Goals as goal
-
-pub of_words-requires : goal.of_words-requires
-of_words-requires g c = starts

@@ -1,0 +1,63 @@
+use Rattle.std.proofs.Common.{◌<◌, ◌-◌, ◌++◌, ◌∙◌, sym, ap, length, arith}
+use Rattle.std.proofs.lemmas.List.{set-append_left, set-append_right}
+use Rattle.std.proofs.lemmas.Result.{on_ok_weaker}
+use Rattle.jb_disk.specs.Image.{Torn}
+use Rattle.jb_image.proofs.Joined.{torn-front, torn-back}
+use Rattle.jb_image.proofs.Passing.{goes-front, goes-back}
+use Rattle.jb_image.proofs.pair.PairDiskDisk.write.Goals as goal
+
+pub returns-then-place-front-clause-written : goal.returns-then-place-front-clause-written
+returns-then-place-front-clause-written g c honest =
+    let p = c.args.self.now in
+    let was = c.write.ensures.kept.was_honest honest.first in
+    let shape = g.met.A.Disk.has_shape p.front (g.A.Disk.newest p.front) was (g.met.A.Disk.newest_may_stay p.front was) in
+    let within : c.args.place < length (g.A.Disk.newest p.front) = omega (arith, c.if-place-front.true, c.blocks-front.ensures, shape.blocks) in
+    let y = g.B.Disk.newest p.back in
+    on_ok_weaker c.write.result (λ is. ap (λ z. z ++ y) is ∙ sym (set-append_left (g.A.Disk.newest p.front) y c.args.place c.args.bytes.now within)) (c.write.ensures.written honest.first)
+
+pub returns-then-place-front-clause-torn : goal.returns-then-place-front-clause-torn
+returns-then-place-front-clause-torn g c honest =
+    let p = c.args.self.now in
+    let was = c.write.ensures.kept.was_honest honest.first in
+    let shape = g.met.A.Disk.has_shape p.front (g.A.Disk.newest p.front) was (g.met.A.Disk.newest_may_stay p.front was) in
+    torn-front c.args.place c.args.bytes.now (g.A.Disk.newest p.front) (g.A.Disk.newest c.write.new.self) (g.B.Disk.newest p.back)
+    (omega (arith, c.if-place-front.true, c.blocks-front.ensures, shape.blocks)) (c.write.ensures.torn honest.first)
+
+pub returns-then-place-front-clause-goes : goal.returns-then-place-front-clause-goes
+returns-then-place-front-clause-goes g c honest =
+    let p = c.args.self.now in
+    let bytes = c.args.bytes.now in
+    let was = c.write.ensures.kept.was_honest honest.first in
+    goes-front g.A.Disk g.B.Disk p.front c.write.new.self p.back p.past c.note.new.self c.note.ensures c.write.ensures.kept.same_size c.write.ensures.kept.same_count
+    (λ y left. g.met.B.Disk.only_now p.back y honest.second left)
+    (Torn c.args.place bytes) (Torn c.args.place bytes)
+    (λ x x' y left _ torn. torn-front c.args.place bytes x x' y (omega (arith, c.if-place-front.true, c.blocks-front.ensures, (g.met.A.Disk.has_shape p.front x was left).blocks)) torn)
+    (λ x left. g.met.A.Disk.only_now p.front x was left)
+    (c.write.ensures.goes honest.first)
+
+pub returns-clause-written : goal.returns-clause-written
+returns-clause-written g c honest =
+    let p = c.args.self.now in
+    let shape = g.met.A.Disk.has_shape p.front (g.A.Disk.newest p.front) honest.first (g.met.A.Disk.newest_may_stay p.front honest.first) in
+    let x = g.A.Disk.newest p.front in
+    on_ok_weaker c.write-2.result (λ is. ap (λ z. x ++ z) is ∙ sym (set-append_right x (g.B.Disk.newest p.back) c.blocks-front.result c.args.place c.args.bytes.now (shape.blocks ∙ sym c.blocks-front.ensures) c.if-place-front.false))
+    (c.write-2.ensures.written honest.second)
+
+pub returns-clause-torn : goal.returns-clause-torn
+returns-clause-torn g c honest =
+    let p = c.args.self.now in
+    let shape = g.met.A.Disk.has_shape p.front (g.A.Disk.newest p.front) honest.first (g.met.A.Disk.newest_may_stay p.front honest.first) in
+    torn-back (c.args.place - c.blocks-front.result) c.args.place c.args.bytes.now (g.A.Disk.newest p.front) (g.B.Disk.newest p.back) (g.B.Disk.newest c.write-2.new.self)
+    (omega (arith, c.if-place-front.false, c.blocks-front.ensures, shape.blocks)) (c.write-2.ensures.torn honest.second)
+
+pub returns-clause-goes : goal.returns-clause-goes
+returns-clause-goes g c honest =
+    let p = c.args.self.now in
+    let bytes = c.args.bytes.now in
+    let place = c.args.place - c.blocks-front.result in
+    goes-back g.A.Disk g.B.Disk p.front p.back c.write-2.new.self p.past c.note.new.self c.note.ensures c.write-2.ensures.kept.same_size c.write-2.ensures.kept.same_count
+    (λ x left. g.met.A.Disk.only_now p.front x honest.first left)
+    (Torn place bytes) (Torn c.args.place bytes)
+    (λ x y y' left _ torn. torn-back place c.args.place bytes x y y' (omega (arith, c.if-place-front.false, c.blocks-front.ensures, (g.met.A.Disk.has_shape p.front x honest.first left).blocks)) torn)
+    (λ y left. g.met.B.Disk.only_now p.back y (c.write-2.ensures.kept.was_honest honest.second) left)
+    (c.write-2.ensures.goes honest.second)

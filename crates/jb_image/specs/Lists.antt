@@ -1,0 +1,108 @@
+-- A list of extents: what a text lists, and which blocks it has.
+use Rattle.std.specs.Prelude.{◌≡◌, ℕ, ◌+◌, ◌-◌, ◌^◌, ◌==◌, ◌&&◌, ◌||◌, not, Bool, true, false, if◌then◌else◌, List, [], ◌∷◌, ◌++◌, min, max, nat_lt, Option, Some, None, option_and_then, Result, Ok, Err}
+use Rattle.jb_text.specs.Parts.{grow}
+use Rattle.jb_image.specs.Blocks.{extent_count, has_block}
+use Rattle.jb_image.specs.Words.{named_in}
+use Rattle.jb_image.specs.declared.extent.Extent.{Extent}
+use Rattle.jb_image.specs.declared.extents.Extents.{Extents}
+use Rattle.jb_image.specs.declared.extents_fault.ListFault.{ListFault}
+use Rattle.jb_image.specs.declared.extents_fault.ListFault.TheVariants.{Syntax, Memory}
+use Rattle.jb_image.specs.declared.list_word.Named.{Named}
+use Rattle.jb_image.specs.declared.list_word.Named.TheVariants.{Nothing, Blocks}
+
+-- ---- the words of a text
+
+-- a byte is between two words: a space or a comma
+abbrev pub is_between : ℕ → Bool
+is_between b = b == 32 || b == 44
+
+-- the words of a text; two such bytes in a row have an empty word between them
+unfoldable pub listed : List ℕ → List (List ℕ)
+listed [] = [] ∷ []
+listed (b ∷ bs) = if is_between b then [] ∷ listed bs else grow b (listed bs)
+
+-- the words of what follows such a byte, if there is one
+abbrev pub listed_in : Option (List ℕ) → List (List ℕ)
+listed_in None = []
+listed_in (Some text) = listed text
+
+-- ---- the extents
+
+-- the extents, in the journal's order
+abbrev pub list_of : Extents → List Extent
+list_of e = e.list.items
+
+-- how many blocks they have, up to the largest number
+abbrev pub extents_count_from : ℕ → List Extent → ℕ
+extents_count_from sum [] = sum
+extents_count_from sum (e ∷ es) = extents_count_from (min (sum + extent_count e) (2 ^ 64 - 1)) es
+
+-- the same from 0
+abbrev pub extents_count : List Extent → ℕ
+extents_count es = extents_count_from 0 es
+
+-- the block of the image that holds block i of the journal
+abbrev pub place_within : List Extent → ℕ → Option ℕ
+place_within [] i = None
+place_within (e ∷ es) i = if nat_lt i (extent_count e) then Some (e.first + i) else place_within es (i - extent_count e)
+
+-- one of them has this block of the image
+abbrev pub holds_in : List Extent → ℕ → Bool
+holds_in [] block = false
+holds_in (e ∷ es) block = has_block e block || holds_in es block
+
+-- the first block that an extent shares with the first of others that has one of its blocks
+abbrev pub meets_in : Extent → List Extent → Option ℕ
+meets_in e [] = None
+meets_in e (f ∷ fs) =
+    if not (nat_lt f.last e.first) && not (nat_lt e.last f.first) then Some (max e.first f.first) else meets_in e fs
+
+-- the first value that is there
+abbrev pub or_else : Option ℕ → Option ℕ → Option ℕ
+or_else (Some x) other = Some x
+or_else None other = other
+
+-- a block that stands in two of them
+abbrev pub shared_in : List Extent → Option ℕ
+shared_in [] = None
+shared_in (e ∷ es) = or_else (meets_in e es) (shared_in es)
+
+-- the last block of the first of them that is not whole in an image of so many blocks
+abbrev pub past_in : ℕ → List Extent → Option ℕ
+past_in count [] = None
+past_in count (e ∷ es) = if nat_lt e.last count then past_in count es else Some e.last
+
+-- a stretch that begins there comes next; one that does not say where it begins does
+abbrev pub follows_at : List Extent → Option ℕ → Bool
+follows_at es None = true
+follows_at es (Some at) = at == extents_count es
+
+-- the extents with the blocks that a word says, where they come next
+abbrev pub with_named : List Extent → Named → Option (List Extent)
+with_named es Nothing = Some es
+with_named es (Blocks at e) = if follows_at es at then Some (es ++ e ∷ []) else None
+
+-- the extents after one more word
+abbrev pub with_word : List Extent → List ℕ → Option (List Extent)
+with_word es word = option_and_then (with_named es) (named_in word)
+
+-- the extents after further words
+abbrev pub with_words : List Extent → List (List ℕ) → Option (List Extent)
+with_words es [] = Some es
+with_words es (word ∷ more) = option_and_then (λ now. with_words now more) (with_word es word)
+
+-- the extents that a text lists; none where it is no such list
+abbrev pub extents_in : List ℕ → Option (List Extent)
+extents_in text = with_words [] (listed text)
+
+-- a word was taken up: the extents are those with it; or they cannot be
+abbrev pub TakesWord : List ℕ → List Extent → List Extent → Result Unit ListFault → Type 0
+TakesWord word old new (Ok done) = with_word old word ≡ Some new
+TakesWord word old new (Err Syntax) = with_word old word ≡ None
+TakesWord word old new (Err Memory) = Unit {0}
+
+-- the extents that a text lists were read, or it lists none; or memory ran out
+abbrev pub ReadsList : List ℕ → Result Extents ListFault → Type 0
+ReadsList text (Ok extents) = extents_in text ≡ Some (list_of extents)
+ReadsList text (Err Syntax) = extents_in text ≡ None
+ReadsList text (Err Memory) = Unit {0}

@@ -1,0 +1,36 @@
+use jb_block::Memory;
+
+/// Why a text is no list of extents.
+#[derive(Clone, Copy, Debug, PartialEq, Eq)]
+pub enum ListFault {
+    /// It is not as debugfs lists them.
+    Syntax,
+    /// Memory ran out.
+    Memory,
+}
+
+impl From<Memory> for ListFault {
+    ghost use Rattle.std.specs.Prelude.{◌≡◌};
+    ghost use Rattle.jb_image.specs.declared.extents_fault.ListFault.TheVariants.{Memory};
+
+    ghost from_gives = { λ _ fault. fault ≡ Memory };
+
+    fn from(_: Memory) -> ListFault {
+        ListFault::Memory
+    }
+}
+
+/// Why extents hold no journal.
+#[derive(Clone, Copy, Debug, PartialEq, Eq)]
+pub enum ExtentsFault {
+    /// This block stands in two of them.
+    Overlap(u64),
+    /// This block is not in the image.
+    PastEnd(u64),
+    /// They have so many blocks, and the journal more.
+    Short(u64),
+    /// No journal begins at the first of them.
+    NoJournal,
+    /// A copy is for this home block, which is one of the journal's own.
+    Home(u64),
+}

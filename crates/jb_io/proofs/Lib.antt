@@ -1,3 +1,0 @@
-pub mod PartByPart
-pub mod Taken
-pub mod Written

@@ -1,3 +1,0 @@
-mod Joined
-mod Passing
-mod Images

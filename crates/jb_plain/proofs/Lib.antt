@@ -1,4 +1,0 @@
-pub mod Cats
-pub mod Judgement
-pub mod Written
-mod Lines

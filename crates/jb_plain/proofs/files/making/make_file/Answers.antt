@@ -1,6 +1,0 @@
-use Rattle.std.proofs.Common.{refl, ap, Ok}
-use Rattle.jb_plain.specs.declared.report.Report.TheVariants.{Formatted}
-use Rattle.jb_plain.proofs.files.making.make_file.Goals as goal
-
-pub returns-in-Ok : goal.returns-in-Ok
-returns-in-Ok g c = record { ends = (c.in-Ok.ensures.made, ap (λ limit. Ok (Formatted limit)) c.requires.limit) }

@@ -1,4 +1,0 @@
-use Rattle.jb_plain.proofs.report.Report.tell.Goals as goal
-
-pub returns-in-Foreseen : goal.returns-in-Foreseen
-returns-in-Foreseen g c = rw c.in-Foreseen.is c.tell_foreseen.ensures

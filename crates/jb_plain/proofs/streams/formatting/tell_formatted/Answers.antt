@@ -1,4 +1,0 @@
-use Rattle.jb_plain.proofs.streams.formatting.tell_formatted.Goals as goal
-
-pub returns : goal.returns
-returns g c = rw c.format.ensures.text at c.tell_line.ensures

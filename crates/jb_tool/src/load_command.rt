@@ -1,0 +1,188 @@
+//! `jb load`: the handles of a queue text, run by threads and committed to an image.
+ghost use Rattle.std.specs.Prelude.{◌≡◌, ◌≤◌, ◌↔◌, IsSome, IfSome};
+ghost use Rattle.jb_queue.specs.QueueLines.{queue_in};
+ghost use Rattle.jb_args.specs.Wanted.{load_said};
+ghost use Rattle.jb_tool.specs.Load.{EndsOfLoad, HasThreads, IsAskedBy, LoadsQueue, LoadsText};
+ghost use Rattle.jb_tool.specs.Load.{RunsLoad, load_fault};
+
+use crate::load_report::{LoadDone, LoadReport};
+use crate::{LoadFault, LoadOptions, load_on};
+use jb_args::{LoadWords, OptionName};
+use jb_block::Stamp;
+use jb_commands::{
+    CommandFault, Ended, Opening, TwoFiles, close, fault_answer, open_counted, read_file,
+};
+use jb_deck::OpenFault;
+use jb_disk::{FileDisk, FixedClock, Start, Unknown};
+use jb_image::ImageDisk;
+use jb_queue::{QueueLines, read_lines};
+use std::fs::File;
+use std::io::Write;
+use std::marker::Brand;
+use std::rt::Files;
+use std::sync::Wait;
+use std::thread::Threads;
+use std::time::Clock;
+
+/// The most threads that may run the handles.
+const MOST_THREADS: u64 = 64;
+
+/// Runs `jb load` and gives the program's end; a load that ends without an answer has its line on `err`.
+pub(crate) fn run_load<
+    R: Files<File = File> + AllocGlobal + Threads + Wait + Clock + Sync,
+    O: Write,
+    E: Write,
+>(rt: &R, load: LoadWords<'_>, out: &mut O, err: &mut E) -> Ended
+    ensures runs { RunsLoad (load_said load.entry) (record { out = O.contents out.old; err = E.contents err.old })
+        (record { out = O.contents out.new; err = E.contents err.new }) result }
+{
+    let done = load_files::<Unknown, Unknown, R>(rt, load);
+    let told = done.tell(out, err);
+    close(told, TwoFiles::of(load.image, load.journal), err)
+}
+
+/// Loads the queue text of one file into the image that another one is.
+///
+/// # Errors
+/// `CommandFault::BadOption` where `--threads` is not from 1 to 64, before any file is looked at; those of
+/// `open_counted` and of `read_file`; and those of `load_on`, after which the image is lost.
+pub fn load_files<
+    'a,
+    S: Start + Send,
+    T: Start + Send,
+    R: Files<File = File> + AllocGlobal + Threads + Wait + Clock + Sync,
+>(rt: &R, load: LoadWords<'a>) -> LoadDone<'a, S, T>
+    ensures ends { EndsOfLoad (load_said load.entry) result.image result.end }
+{
+    let Some(options) = load_options(load) else {
+        return LoadDone {
+            image: None,
+            end: Err(CommandFault::BadOption(OptionName::Threads)),
+        };
+    };
+    let (disk, homes) = match open_counted(rt, load.image, load.journal, Opening::Change) {
+        Ok(opened) => opened,
+        Err(fault) => {
+            return LoadDone {
+                image: None,
+                end: Err(fault),
+            };
+        }
+    };
+    load_text(rt, load, disk, homes, options)
+}
+
+/// Loads the queue text of a file into an open image of so many home blocks.
+///
+/// # Errors
+/// Those of `read_file`, and those of `load_on`, after which the image is lost.
+fn load_text<
+    'a,
+    S: Start + Send,
+    T: Start + Send,
+    R: Files<File = File> + AllocGlobal + Threads + Wait + Clock + Sync,
+>(
+    rt: &R,
+    load: LoadWords<'a>,
+    disk: ImageDisk<FileDisk<S>, FileDisk<T>>,
+    homes: u64,
+    options: LoadOptions,
+) -> LoadDone<'a, S, T>
+    requires threads { (1 ≤ options.threads) × (options.threads ≤ 64) }
+    ensures loads { LoadsText (load_said load.entry).file options homes disk result.image result.end }
+{
+    let text = match read_file(rt, load.file) {
+        Ok(text) => text,
+        Err(fault) => {
+            return LoadDone {
+                image: Some(disk),
+                end: Err(fault),
+            };
+        }
+    };
+    match read_lines(rt.alloc(), text) {
+        Ok(queue) => load_queue(rt, disk, homes, load.stamp, &queue, options),
+        Err(fault) => match fault_answer(rt.alloc(), fault) {
+            Ok(answer) => LoadDone {
+                image: Some(disk),
+                end: Ok(LoadReport::Text(answer)),
+            },
+            Err(_) => LoadDone {
+                image: Some(disk),
+                end: Err(CommandFault::Memory),
+            },
+        },
+    }
+}
+
+/// Loads a queue into an image of so many home blocks with this stamp on each commit.
+///
+/// # Errors
+/// Those of `load_on`, after which the image is lost.
+fn load_queue<'a, S: Start + Send, T: Start + Send, R: AllocGlobal + Threads + Wait + Clock + Sync>(
+    rt: &R,
+    disk: ImageDisk<FileDisk<S>, FileDisk<T>>,
+    homes: u64,
+    stamp: u64,
+    queue: &QueueLines,
+    options: LoadOptions,
+) -> LoadDone<'a, S, T>
+    requires threads { (1 ≤ options.threads) × (options.threads ≤ 64) }
+    ensures loads { LoadsQueue options homes disk (queue_in queue.now) result.image result.end }
+{
+    let clock = FixedClock {
+        stamp: Stamp {
+            sec: stamp,
+            nsec: 0,
+        },
+    };
+    let loaded = load_on::<ImageDisk<FileDisk<S>, FileDisk<T>>, FixedClock, R, Brand>(
+        rt,
+        rt.alloc(),
+        disk,
+        clock,
+        queue,
+        options,
+    );
+    match loaded {
+        Ok((loaded, disk)) => LoadDone {
+            image: Some(disk),
+            end: Ok(LoadReport::Loaded(loaded, homes)),
+        },
+        Err(fault) => LoadDone {
+            image: None,
+            end: Err(fault_of(fault)),
+        },
+    }
+}
+
+/// How the queue is to be loaded, or `None` where the number of threads is not from 1 to 64.
+fn load_options(load: LoadWords<'_>) -> Option<LoadOptions>
+    ensures good { IsSome result ↔ HasThreads (load_said load.entry) }
+    ensures asked { IfSome result (IsAskedBy (load_said load.entry)) }
+{
+    if load.threads == 0 || load.threads > MOST_THREADS {
+        return None;
+    }
+    Some(LoadOptions {
+        threads: load.threads as usize,
+        hold: load.hold,
+        checkpoint: load.checkpoint,
+    })
+}
+
+/// What a fault of a load is reported as.
+fn fault_of<'a>(fault: LoadFault) -> CommandFault<'a>
+    ensures { result ≡ load_fault fault }
+{
+    match fault {
+        LoadFault::BlockSize => CommandFault::BlockSize,
+        LoadFault::Open(OpenFault::DeviceFault) => CommandFault::DeviceFault,
+        LoadFault::Open(OpenFault::Super(fault)) => CommandFault::Super(fault),
+        LoadFault::Open(OpenFault::NeedsRecovery) => CommandFault::NeedsRecovery,
+        LoadFault::Open(OpenFault::NumbersSpent) => CommandFault::NumbersSpent,
+        LoadFault::Open(OpenFault::Memory) => CommandFault::Memory,
+        LoadFault::Memory => CommandFault::Memory,
+        LoadFault::Accounts => CommandFault::Accounts,
+    }
+}

@@ -1,0 +1,78 @@
+//! What came of a load, and how it is told.
+ghost use Rattle.jb_tool.specs.Load.{TellsLoadReport};
+
+use crate::hints::load_hint;
+use crate::{Loaded, tell_loaded};
+use jb_commands::{Answer, CommandFault, Ended, tell};
+use jb_disk::{FileDisk, Start, Unknown};
+use jb_image::ImageDisk;
+use std::io::Write;
+
+/// What a load has to say once its image is closed.
+#[derive(Drop)]
+pub enum LoadReport {
+    /// What it did, to an image of so many home blocks.
+    Loaded(Loaded, u64),
+    /// The first fault of its text.
+    Text(Answer),
+}
+
+/// How a load has ended. `S` and `T` are what is supposed of the image's files, of that with the home blocks and of that
+/// with the journal alone.
+#[derive(Drop)]
+pub struct LoadDone<'a, S: Start = Unknown, T: Start = Unknown> {
+    /// The image, as the load has left it; `None` where it was not opened, or was lost with the journal on it.
+    pub image: Option<ImageDisk<FileDisk<S>, FileDisk<T>>>,
+    /// What the load has to say, or why it ends without an answer.
+    pub end: Result<LoadReport, CommandFault<'a>>,
+}
+
+impl<'a, S: Start, T: Start> LoadDone<'a, S, T> {
+    ghost use Rattle.jb_tool.specs.Load.{TellsLoadEnd};
+
+    /// Closes the image, and then writes what there is to say, and gives the program's end.
+    ///
+    /// # Errors
+    /// The fault of a load that ended without an answer, and then nothing was written; `CommandFault::WriteFault` where
+    /// standard output took only the beginning of its line.
+    pub fn tell<O: Write, E: Write>(
+        self,
+        out: &mut O,
+        err: &mut E,
+    ) -> Result<Ended, CommandFault<'a>>
+        ensures tells { TellsLoadEnd self.entry.end (record { out = O.contents out.old; err = E.contents err.old })
+            (record { out = O.contents out.new; err = E.contents err.new }) result }
+    {
+        let LoadDone { image, end } = self;
+        // no line is written while an image is open
+        drop(image);
+        match end {
+            Ok(report) => tell_report(&report, out, err),
+            Err(fault) => Err(fault),
+        }
+    }
+}
+
+/// Writes what a load has to say.
+///
+/// # Errors
+/// `CommandFault::WriteFault` where standard output took only the beginning of its line.
+fn tell_report<'a, O: Write, E: Write>(
+    report: &LoadReport,
+    out: &mut O,
+    err: &mut E,
+) -> Result<Ended, CommandFault<'a>>
+    ensures tells { TellsLoadReport report.now (record { out = O.contents out.old; err = E.contents err.old })
+        (record { out = O.contents out.new; err = E.contents err.new }) result }
+{
+    match report {
+        LoadReport::Loaded(loaded, homes) => {
+            let status = tell_loaded(loaded, out, err)?;
+            Ok(Ended {
+                status,
+                hint: load_hint(loaded, *homes),
+            })
+        }
+        LoadReport::Text(answer) => tell(answer, out, err),
+    }
+}

@@ -1,0 +1,45 @@
+//! What has stopped is committed.
+ghost use Rattle.std.specs.Prelude.{◌≡◌, None, IfSome};
+ghost use Rattle.jb_desk.specs.Desks.{desk_id};
+ghost use Rattle.jb_desk.specs.Seats.{desk_of};
+ghost use Rattle.jb_tool.specs.Running.{LeavesAs, LeavesWith};
+
+use jb_desk::{Desk, Ended, Left, Origin, Seat};
+use jb_disk::{Clock, Disk};
+use std::sync::Wait;
+use std::sync::ledger::Ledger;
+use std::time;
+
+/// Commits until the desk is over or a round does not end well, and then leaves; a batch that could not be
+/// committed is given up at once, so that nobody waits for it.
+pub(crate) fn commit_all<D: Disk, C: Clock, R: Wait + time::Clock, H: Origin, N: Ledger>(
+    rt: &R,
+    desk: &Desk<D, C, H, N>,
+    seat: Seat<H, N>,
+) -> (Left<H, N>, Ended)
+    requires { desk_of seat ≡ desk_id desk.now }
+    ensures { LeavesWith seat result.0 }
+{
+    let (committer, ended) = desk.run_committer(rt, desk.committer(seat));
+    let seat = match desk.retire(rt, committer) {
+        Ok(seat) => seat,
+        Err(committer) => desk.give_up(rt, committer),
+    };
+    (desk.leave(rt, seat), ended)
+}
+
+/// The same with a seat that was taken before, as a desk that is shut gives none; `None` where there is none.
+pub(crate) fn commit_from<D: Disk, C: Clock, R: Wait + time::Clock, H: Origin, N: Ledger>(
+    rt: &R,
+    desk: &Desk<D, C, H, N>,
+    place: &mut Option<Seat<H, N>>,
+) -> Option<(Left<H, N>, Ended)>
+    requires { IfSome place.old (λ seat. desk_of seat ≡ desk_id desk.now) }
+    ensures taken { place.new ≡ None }
+    ensures left { LeavesAs place.old result }
+{
+    match place.take() {
+        Some(seat) => Some(commit_all(rt, desk, seat)),
+        None => None,
+    }
+}

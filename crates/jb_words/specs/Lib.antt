@@ -1,4 +1,0 @@
-pub mod App
-pub mod Faults
-pub mod Named
-pub mod Wanted

@@ -1,0 +1,267 @@
+-- One life of a journal: from what stands before it to what is recovered after it.
+use Rattle.std.specs.Prelude.{IfOk}
+use Rattle.std.proofs.Common.{◌≡◌, ℕ, ◌+◌, ◌%◌, ◌^◌, ◌⊎◌, Bool, true, false, nat_eq, List, [], ◌∷◌, ◌++◌, Result, Ok, Err, inl, inr, ⊎_elim, refl, ap, sym, subst, ◌∙◌, arith}
+use Rattle.jb_disk.specs.History.{History, MayLeave, newest_of, replay}
+use Rattle.jb_disk.specs.declared.disk.Disk.{Ghosts}
+use Rattle.jb_disk.specs.Image.{Image, Only, block}
+use Rattle.jb_disk.specs.Time.{LeavesOnly}
+use Rattle.jb_disk.proofs.Moments.{weaken}
+use Rattle.jb_super.specs.Journal.{SameJournal}
+use Rattle.jb_super.specs.Superblock.{Superblock}
+use Rattle.jb_plan.specs.Prepared.{IsPlanned, Planned}
+use Rattle.jb_handle.specs.declared.shape.Shape.{Shape}
+use Rattle.jb_handle.specs.declared.stopped.Stopped.{Stopped}
+use Rattle.jb_format.specs.Front.{homes_in, super_on}
+use Rattle.jb_format.specs.Ready.{revoking}
+use Rattle.jb_recover.specs.Outcomes.{KeepsJournal, recovered}
+use Rattle.jb_recover.proofs.Outcomes.{own-clean_refusal}
+use Rattle.jb_log.specs.declared.log.Log.{Log}
+use Rattle.jb_log.proofs.Framed.{frame-start}
+use Rattle.jb_log.proofs.Owning.{same-then}
+use Rattle.jb_deck.specs.Calls.{IsCleanAt, IsRecoveredTo}
+use Rattle.jb_deck.specs.Changes.{Change, HoldsAfter, settled_in}
+use Rattle.jb_deck.specs.Deck.{IsShapeOf}
+use Rattle.jb_deck.specs.Gathering.{groups_in}
+use Rattle.jb_deck.specs.Opening.{home_by, opened_log, recovered_home}
+use Rattle.jb_deck.specs.Since.{HoldsOn}
+use Rattle.jb_deck.proofs.Lives.{one-super, revoking-twice, same-revoking}
+use Rattle.jb_deck.proofs.Opened.{revoking-same}
+use Rattle.proof_clients.specs.Lives.{AreLives, HasLives, HoldsChanges, HoldsLife, IsBatchOf, IsPartOfLife, IsWholeLife, LeftByLife, no_life, nothing, of_batch, one_life}
+use Rattle.proof_clients.proofs.Programs.{Left, Runs}
+use Rattle.proof_clients.specs.Programs.{HasChanges, IsPartOf, LeftByProgram, after_batch, all_changes, commits, no_more}
+
+-- what holds of the value that was given holds in another form too
+pub ok-then : {A E : Type 0} {P Q : A → Type 0} → ((x : A) → P x → Q x) → (r : Result A E) → IfOk r P → IfOk r Q
+ok-then gives (Ok x) has = gives x has
+ok-then gives (Err e) has = tt
+
+-- a disk on which nothing is pending
+pub fresh-only : (h : History) → h.steps ≡ [] → Only (newest_of h) (MayLeave h.first h.steps)
+fresh-only h none = subst (λ steps. Only (replay h.first steps) (MayLeave h.first steps)) (sym none) (λ c is. is)
+
+-- the whole of a program of one batch
+whole-part : (batch : Planned) → IsPartOf (commits batch ∷ []) (all_changes (commits batch ∷ [])) (groups_in batch.groups)
+whole-part batch =
+    let sum : groups_in batch.groups + 0 ≡ groups_in batch.groups = omega arith in
+    subst (IsPartOf (commits batch ∷ []) (all_changes (commits batch ∷ []))) sum (after_batch batch [] [] 0 (no_more []))
+
+-- ---- up to the crash
+
+-- a life without a batch
+none-part : (own : Superblock) (count : ℕ) (handles : List Stopped) (changes : List Change) (groups : ℕ) → IsPartOf [] changes groups → IsPartOfLife own count handles changes groups
+none-part own count handles changes groups (no_more _) = nothing
+
+false-true : false ≡ true → ⊥
+false-true is = cc
+
+pub left-none : (size count : ℕ) (base : Image) (handles : List Stopped) (c : Image) → LeftByProgram size count base [] c → LeftByLife size count base handles false c
+left-none size count base handles c l = record { changes = l.changes; groups = l.groups; has = l.has; part = none-part l.has.own count handles l.changes l.groups l.part; all = λ yes. absurd (false-true yes) }
+
+-- the batch is one of the life's handles, planned for the journal that was opened
+batch-of : (own : Superblock) (l : Log) → l ≡ opened_log own → (count : ℕ) (handles : List Stopped) (batch : Planned) → IsPlanned batch → batch.batch.handles ≡ handles → IsShapeOf l.sb count batch.batch.shape → IsBatchOf own count handles batch
+batch-of own l is count handles batch planned same shaped =
+    let at = subst (λ (m : Log). IsShapeOf m.sb count batch.batch.shape) is shaped in
+    record { planned = planned; same = same; shape = record { size = at.size; homes = at.homes; limit = at.limit; width = at.width } }
+
+-- the same by the superblock that an image had
+pub batch-opened : (size count : ℕ) (base : Image) (sb : Superblock) (l : Log) → super_on size count base ≡ Ok sb → l ≡ opened_log sb → (handles : List Stopped) (batch : Planned) → IsPlanned batch → batch.batch.handles ≡ handles → IsShapeOf l.sb count batch.batch.shape
+    → (own : Superblock) → super_on size count base ≡ Ok own → IsBatchOf own count handles batch
+batch-opened size count base sb l taken is handles batch planned same shaped own was = batch-of own l (is ∙ ap opened_log (one-super size count base sb own taken was)) count handles batch planned same shaped
+
+module _ (size count : ℕ) (base : Image) (handles : List Stopped) (batch : Planned) (c : Image) where
+  -- of which superblock the batch is one
+  abbrev pub Of : Superblock → Type 0
+  Of own = IsBatchOf own count handles batch
+
+  -- a crash in the life
+  pub left-batch : ((own : Superblock) → super_on size count base ≡ Ok own → Of own) → LeftByProgram size count base (commits batch ∷ []) c → LeftByLife size count base handles false c
+  left-batch of l = record { changes = l.changes; groups = l.groups; has = l.has; part = of_batch batch l.changes l.groups (of l.has.own l.has.was) l.part; all = λ yes. absurd (false-true yes) }
+
+  -- or after it
+  pub left-whole : ((own : Superblock) → super_on size count base ≡ Ok own → Of own) → HasChanges size count base (all_changes (commits batch ∷ [])) (groups_in batch.groups) c → LeftByLife size count base handles true c
+  left-whole of has =
+      let is = of has.own has.was in
+      record {
+        changes = all_changes (commits batch ∷ []);
+        groups = groups_in batch.groups;
+        has = has;
+        part = of_batch batch (all_changes (commits batch ∷ [])) (groups_in batch.groups) is (whole-part batch);
+        all = λ yes. record { batch = batch; is = is; all = refl; every = refl };
+      }
+
+module _ {D : Type 0} (G : Ghosts D) (entry : D) (handles : List Stopped) where
+  -- what a crash leaves from the entry on
+  abbrev pub LifeLeft : Image → Type 0
+  LifeLeft c = G.may_leave entry c ⊎ LeftByLife (G.size entry) (G.count entry) (G.newest entry) handles false c
+
+  pub none-runs : (now : D) → Runs G entry [] now → LeavesOnly G.moment G.left_since entry now LifeLeft
+  none-runs now run =
+      weaken G.moment G.left_since entry now (Left G entry []) LifeLeft
+      (λ c. ⊎_elim inl (λ (l : LeftByProgram (G.size entry) (G.count entry) (G.newest entry) [] c). inr (left-none (G.size entry) (G.count entry) (G.newest entry) handles c l)))
+      run
+
+  pub batch-runs : (batch : Planned) → ((own : Superblock) → super_on (G.size entry) (G.count entry) (G.newest entry) ≡ Ok own → IsBatchOf own (G.count entry) handles batch)
+      → (now : D) → Runs G entry (commits batch ∷ []) now → LeavesOnly G.moment G.left_since entry now LifeLeft
+  batch-runs batch of now run =
+      weaken G.moment G.left_since entry now (Left G entry (commits batch ∷ [])) LifeLeft
+      (λ c. ⊎_elim inl (λ (l : LeftByProgram (G.size entry) (G.count entry) (G.newest entry) (commits batch ∷ []) c). inr (left-batch (G.size entry) (G.count entry) (G.newest entry) handles batch c of l)))
+      run
+
+-- ---- to the recovery after it
+
+module _ (on : HoldsOn) (size count : ℕ) (own : Superblock) (last : ℕ) (before : ℕ → List ℕ) (done : List Change) (base : Image) (entry : HoldsChanges own last size count before done base) (still : recovered size count base ≡ base) (handles : List Stopped) (committed : Bool) where
+  -- its superblock is the journal's own, with the feature for revoke blocks or without it
+  abbrev Own : Superblock → Type 0
+  Own sb = SameJournal own sb ⊎ SameJournal (revoking own) sb
+
+  own-then : (a b : Superblock) → Own a → SameJournal a b → Own b
+  own-then a b is same = ⊎_elim (λ (first : SameJournal own a). inl (same-then own a b first same)) (λ (second : SameJournal (revoking own) a). inr (same-then (revoking own) a b second same)) is
+
+  same-journal : (a : Superblock) → Own a → SameJournal (revoking own) (revoking a)
+  same-journal a is = ⊎_elim (same-revoking own a) (λ (second : SameJournal (revoking own) a). subst (λ (x : Superblock). SameJournal x (revoking a)) (revoking-twice own) (same-revoking (revoking own) a second)) is
+
+  own-revoking : (a : Superblock) → Own a → Own (revoking a)
+  own-revoking a is = inr (same-journal a is)
+
+  -- a plan for the one is one for the other
+  batch-own : (a : Superblock) → Own a → (batch : Planned) → IsBatchOf a count handles batch → IsBatchOf own count handles batch
+  batch-own a is batch of =
+      let at = subst (λ (x : Superblock). IsShapeOf x count batch.batch.shape) (same-journal a is) of.shape in
+      record { planned = of.planned; same = of.same; shape = record { size = at.size; homes = at.homes; limit = at.limit; width = at.width } }
+
+  part-own : (a : Superblock) → Own a → (changes : List Change) (groups : ℕ) → IsPartOfLife a count handles changes groups → IsPartOfLife own count handles changes groups
+  part-own a is changes groups nothing = nothing
+  part-own a is changes groups (of_batch batch _ _ of part) = of_batch batch changes groups (batch-own a is batch of) part
+
+  whole-own : (a : Superblock) → Own a → (changes : List Change) (groups : ℕ) → IsWholeLife a count handles changes groups → IsWholeLife own count handles changes groups
+  whole-own a is changes groups whole = record { batch = whole.batch; is = batch-own a is whole.batch whole.is; all = whole.all; every = whole.every }
+
+  own-maxlen : (a : Superblock) → Own a → a.maxlen ≡ own.maxlen
+  own-maxlen a is = ⊎_elim (λ (first : SameJournal own a). ap (λ (x : Superblock). x.maxlen) first) (λ (second : SameJournal (revoking own) a). ap (λ (x : Superblock). x.maxlen) second ∙ (revoking-same own).maxlen) is
+
+  -- an image with these changes since, recovered
+  module _ (changes : List Change) (groups : ℕ) (c : Image) (has : HasChanges size count base changes groups c) (part : IsPartOfLife has.own count handles changes groups) (all : committed ≡ true → IsWholeLife has.own count handles changes groups) where
+    abbrev r : Image
+    r = recovered size count c
+
+    is_own : has.own ≡ entry.sb
+    is_own = one-super size count base has.own entry.sb has.was entry.taken
+
+    owned : Own has.own
+    owned = subst Own (sym is_own) entry.same
+
+    stood : (home : ℕ) → recovered_home size count base home ≡ block base (own.maxlen + home)
+    stood home =
+        ap (λ x. home_by x (recovered size count base) home) has.was
+        ∙ ap (λ e. block e (has.own.maxlen + home)) still
+        ∙ ap (λ m. block base (m + home)) (own-maxlen has.own owned)
+
+    clean-more : (x : Superblock) → Own x → IsCleanAt x (has.own.sequence + 1 + groups) size count r → HoldsLife own last size count before done handles committed r
+    clean-more x is after =
+        let at : has.own.sequence ≡ last = ap (λ (s : Superblock). s.sequence) is_own ∙ entry.number in
+        record {
+          changes = changes;
+          groups = groups;
+          part = part-own has.own owned changes groups part;
+          all = λ yes. whole-own has.own owned changes groups (all yes);
+          now = after.sb.sequence;
+          counts = ⊎_elim
+              (λ early. inl (let e : after.sb.sequence ≡ last + groups = omega (arith, early, at) in e))
+              (λ late. inr (late ∙ ap (λ n. n % 2 ^ 32) (ap (λ n. n + 1 + groups) at)))
+              after.number;
+          holds = record {
+            sb = after.sb;
+            same = own-then x after.sb is after.same;
+            taken = after.taken;
+            clean = after.clean;
+            number = refl;
+            homes = λ home.
+                let now : List ℕ = block r (own.maxlen + home) in
+                on done changes home (before home) (block base (own.maxlen + home)) now (entry.homes home)
+                (subst (λ b. HoldsAfter changes home (λ bytes. bytes ≡ b) now) (stood home)
+                (subst (λ m. HoldsAfter changes home (λ bytes. bytes ≡ recovered_home size count base home) (block r (m + home))) (own-maxlen has.own owned) (has.holds home)));
+          };
+        }
+
+    has-more : HoldsLife own last size count before done handles committed r
+    has-more =
+        ⊎_elim
+        (λ (is : IsRecoveredTo has.own (has.own.sequence + 1 + groups) size count (recovered_home size count base) (settled_in changes) c). clean-more has.own owned is.after)
+        (λ (is : IsRecoveredTo (revoking has.own) (has.own.sequence + 1 + groups) size count (recovered_home size count base) (settled_in changes) c). clean-more (revoking has.own) (own-revoking has.own owned) is.after)
+        has.recovered_to
+
+  -- nothing was changed
+  none-has : HasChanges size count base [] 0 base
+  none-has =
+      let stands : (home : ℕ) → block (recovered size count base) (entry.sb.maxlen + home) ≡ recovered_home size count base home = λ home. sym (ap (λ x. home_by x (recovered size count base) home) entry.taken) in
+      record {
+        own = entry.sb;
+        was = entry.taken;
+        recovered_to = inl (record {
+          sb = entry.sb;
+          same = refl;
+          taken = entry.taken;
+          not_refused = own-clean_refusal size count entry.sb base entry.taken (ap (λ n. nat_eq n 0) entry.clean);
+          after = record { sb = entry.sb; same = refl; taken = ap (super_on size count) still ∙ entry.taken; clean = entry.clean; number = inl (let n : entry.sb.sequence + 1 ≡ entry.sb.sequence + 1 + 0 = omega arith in n) };
+          each = stands;
+        });
+        holds = stands;
+        keeps = frame-start entry.sb.first (entry.sb.maxlen + homes_in entry.sb count) base;
+      }
+
+  -- what a crash left, of the life or of before it, recovered
+  pub life-more : (c new : Image) → ((c ≡ base) ⊎ LeftByLife size count base handles false c)
+      → (committed ≡ true → LeftByLife size count base handles true c)
+      → new ≡ recovered size count c → HoldsLife own last size count before done handles committed new
+  life-more c new left whole ended = subst (HoldsLife own last size count before done handles committed) (sym ended) (go committed refl)
+    where
+      go : (b : Bool) → committed ≡ b → HoldsLife own last size count before done handles committed (recovered size count c)
+      go true is = let l = whole is in has-more l.changes l.groups c l.has l.part (λ yes. l.all refl)
+      go false is =
+          let never : committed ≡ true → ⊥ = λ yes. false-true (sym is ∙ yes) in
+          ⊎_elim
+          (λ (same : c ≡ base). has-more [] 0 c (subst (HasChanges size count base [] 0) (sym same) none-has) nothing (λ yes. absurd (never yes)))
+          (λ (l : LeftByLife size count base handles false c). has-more l.changes l.groups c l.has l.part (λ yes. absurd (never yes)))
+          left
+
+-- an image that was recovered has no changes, counted from its own homes
+pub holds-none : (size count : ℕ) (base new : Image) (keeps : KeepsJournal size count base new) → new ≡ recovered size count base → HoldsChanges keeps.own keeps.is.sb.sequence size count (recovered_home size count base) [] new
+holds-none size count base new keeps ended = record {
+  sb = keeps.is.sb;
+  same = inl keeps.is.same;
+  taken = keeps.is.taken;
+  clean = keeps.is.clean;
+  number = refl;
+  homes = λ home. ap (λ d. block d (keeps.own.maxlen + home)) ended ∙ sym (ap (λ r. home_by r (recovered size count base) home) keeps.was);
+}
+
+-- ---- one life after another
+
+-- before the first of them
+pub lives-none : (size count : ℕ) (base new : Image) (keeps : KeepsJournal size count base new) → new ≡ recovered size count base → HasLives size count [] [] base new
+lives-none size count base new keeps ended =
+    let none = holds-none size count base new keeps ended in
+    record {
+      own = keeps.own;
+      was = keeps.was;
+      last = keeps.is.sb.sequence;
+      begun = subst (HoldsChanges keeps.own keeps.is.sb.sequence size count (recovered_home size count base) []) ended none;
+      changes = [];
+      now = keeps.is.sb.sequence;
+      are = no_life;
+      holds = none;
+    }
+
+-- one more
+pub lives-more : (size count : ℕ) (lives : List (List Stopped)) (reported : List Bool) (old mid new : Image) (handles : List Stopped) (committed : Bool) → (h : HasLives size count lives reported old mid)
+    → HoldsLife h.own h.now size count (recovered_home size count old) h.changes handles committed new → HasLives size count (lives ++ handles ∷ []) (reported ++ committed ∷ []) old new
+lives-more size count lives reported old mid new handles committed h life = record {
+  own = h.own;
+  was = h.was;
+  last = h.last;
+  begun = h.begun;
+  changes = h.changes ++ life.changes;
+  now = life.now;
+  are = one_life lives reported h.changes h.now handles committed life.changes life.groups life.now h.are life.part life.all life.counts;
+  holds = life.holds;
+}

@@ -1,0 +1,80 @@
+-- What a crash leaves of a program: some first part of what the program changes.
+use Rattle.std.specs.Prelude.{◌≡◌, ◌⊎◌, ℕ, ◌+◌, ◌≤◌, List, [], ◌∷◌, ◌++◌, map, Ok, Result, Err}
+use Rattle.jb_disk.specs.Image.{Image, block}
+use Rattle.jb_super.specs.Superblock.{Superblock}
+use Rattle.jb_plan.specs.Prepared.{Planned}
+use Rattle.jb_format.specs.Front.{super_on}
+use Rattle.jb_format.specs.Ready.{revoking}
+use Rattle.jb_recover.specs.Outcomes.{recovered}
+use Rattle.jb_log.specs.Frame.{KeepsFrame}
+use Rattle.jb_deck.specs.Calls.{IsRecoveredTo}
+use Rattle.jb_deck.specs.Changes.{Change, HoldsAfter, fills, settled_in, settles, tears}
+use Rattle.jb_deck.specs.Deck.{OpenDeck}
+use Rattle.jb_deck.specs.Gathering.{groups_in}
+use Rattle.jb_deck.specs.Opening.{recovered_home}
+use Rattle.jb_deck.specs.Trailing.{handles_to}
+
+-- what a program changes by one call: it commits a batch, or writes bytes into a home that is free
+pub data Part : Type 0 where
+  commits : Planned → Part
+  writes : ℕ → List ℕ → Part
+
+-- These changes are a first part of what the program changes, with so many groups: some whole parts, and then the first
+-- groups of a batch, or some sectors of the bytes.
+pub data IsPartOf : List Part → List Change → ℕ → Type 0 where
+  no_more : (parts : List Part) → IsPartOf parts [] 0
+  in_batch : (batch : Planned) (parts : List Part) (groups : ℕ) → groups ≤ groups_in batch.groups
+      → IsPartOf (commits batch ∷ parts) (map settles (handles_to batch.groups groups batch.batch.handles)) groups
+  after_batch : (batch : Planned) (parts : List Part) (changes : List Change) (groups : ℕ)
+      → IsPartOf parts changes groups
+      → IsPartOf (commits batch ∷ parts) (map settles batch.batch.handles ++ changes)
+      (groups_in batch.groups + groups)
+  in_write : (home : ℕ) (bytes : List ℕ) (parts : List Part)
+      → IsPartOf (writes home bytes ∷ parts) (tears home bytes ∷ []) 0
+  after_write : (home : ℕ) (bytes : List ℕ) (parts : List Part) (changes : List Change) (groups : ℕ)
+      → IsPartOf parts changes groups
+      → IsPartOf (writes home bytes ∷ parts) (fills home bytes ∷ changes) groups
+
+-- everything that the program changes
+abbrev pub all_changes : List Part → List Change
+all_changes [] = []
+all_changes (commits batch ∷ parts) = map settles batch.batch.handles ++ all_changes parts
+all_changes (writes home bytes ∷ parts) = fills home bytes ∷ all_changes parts
+
+-- how many groups its batches have
+abbrev pub all_groups : List Part → ℕ
+all_groups [] = 0
+all_groups (commits batch ∷ parts) = groups_in batch.groups + all_groups parts
+all_groups (writes home bytes ∷ parts) = all_groups parts
+
+-- The image is of the journal that this one has, with these changes since and so many groups: it is recovered to the
+-- handles that were settled, at the number that follows, and each home then holds what the changes say. Its superblock
+-- is the one that stood, with the feature for revoke blocks or without it; and nothing has changed but that, the log
+-- and the homes.
+pub record HasChanges (size count : ℕ) (base : Image) (changes : List Change) (groups : ℕ) (c : Image) : Type 0 where
+  pub own : Superblock
+  pub was : super_on size count base ≡ Ok own
+  pub recovered_to : IsRecoveredTo own (own.sequence + 1 + groups) size count (recovered_home size count base)
+      (settled_in changes) c
+      ⊎ IsRecoveredTo (revoking own) (own.sequence + 1 + groups) size count (recovered_home size count base)
+      (settled_in changes) c
+  pub holds : (home : ℕ) → HoldsAfter changes home (λ bytes. bytes ≡ recovered_home size count base home)
+      (block (recovered size count c) (own.maxlen + home))
+  pub keeps : KeepsFrame own count base c
+
+-- a crash left the image in a program, which found the journal so: it has a first part of what the program changes
+pub record LeftByProgram (size count : ℕ) (base : Image) (parts : List Part) (c : Image) : Type 0 where
+  pub changes : List Change
+  pub groups : ℕ
+  pub part : IsPartOf parts changes groups
+  pub has : HasChanges size count base changes groups c
+
+-- the disk of a client that gives a deck, or gives the disk back
+abbrev pub disk_after : {D : Type 0} → Result (OpenDeck D) D → D
+disk_after (Ok deck) = deck.disk
+disk_after (Err disk) = disk
+
+-- the disk of one that gives it back in any case
+abbrev pub disk_either : {D : Type 0} → Result D D → D
+disk_either (Ok disk) = disk
+disk_either (Err disk) = disk

@@ -1,0 +1,26 @@
+//! Clients of a disk, a journal, a book and its threads: what the public clauses give a user, proved of a few calls
+//! one after another.
+#![tactic(auto)]
+
+mod calls;
+mod closed;
+mod commit;
+mod life;
+mod lives;
+mod prefix;
+mod recovering;
+mod reuse;
+mod telling;
+mod two;
+mod two_files;
+mod workers;
+
+pub use closed::commit_and_close;
+pub use lives::{Failure, Life, Lived, run_lives};
+pub use prefix::commit_three;
+pub use recovering::recover_file;
+pub use reuse::reuse_home;
+pub use telling::{Found, Telling};
+pub use two::two_handles;
+pub use two_files::recover_files;
+pub use workers::two_workers;

@@ -1,0 +1,25 @@
+//! The journal is run with the two workers.
+ghost use Rattle.std.specs.Prelude.{IfOk};
+ghost use Rattle.proof_clients.specs.Telling.{TwoHaveWorked};
+
+use crate::telling::{Found, Telling};
+use jb_journal::{Clock, Disk, Options, Ran, RunFault, run};
+use std::sync::Wait;
+use std::thread::Threads;
+use std::time;
+
+/// Runs the journal on a disk with two workers: the first one writes these bytes to a home and waits, and tells the
+/// second one, which reads the home. Where the disk that is given back is honest, what the first has written stays after
+/// a crash, and is what the second has read.
+///
+/// # Errors
+/// Those of [`run`].
+pub fn two_workers<
+    D: Disk + Drop + Send,
+    C: Clock + Drop + Send,
+    R: AllocGlobal + Threads + Wait + time::Clock + Sync,
+>(rt: &R, disk: D, clock: C, bytes: [u8; 1024]) -> Result<Ran<Found, D>, RunFault>
+    ensures { IfOk result (TwoHaveWorked D.Disk bytes disk) }
+{
+    run(rt, disk, clock, Options::new(2), &Telling::new(bytes))
+}

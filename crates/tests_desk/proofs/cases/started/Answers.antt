@@ -1,0 +1,25 @@
+use Rattle.std.proofs.Common.{◌≡◌, [], length, All, sym, ap, subst, arith}
+use Rattle.std.proofs.lemmas.List.Elements.{All-nil}
+use Rattle.jb_handle.specs.declared.stopped.Stopped.{Stopped}
+use Rattle.jb_deck.specs.Done.{past_after}
+use Rattle.jb_book.specs.Since.{IsCosted, NumberedFrom}
+use Rattle.tests_desk.proofs.cases.started.Goals as goal
+
+-- no handle was given to a journal that has settled none
+pub start-requires-clause-begun : goal.start-requires-clause-begun
+start-requires-clause-begun g c =
+    let past : past_after 0 c.args.deck.trail ≡ 0 = ap (past_after 0) c.requires.fresh in
+    record {
+      given = [];
+      has = record {
+        stopped = All-nil (λ (x : Stopped). g.H.Origin.begun.stops x.words);
+        tickets = tt;
+        settled = omega (arith, past);
+        all = λ up. sym past;
+        costs = subst (All (IsCosted c.args.deck.shape [])) (sym c.requires.fresh) (All-nil (IsCosted c.args.deck.shape []));
+        first = c.args.deck.log.next;
+        numbers = subst (NumberedFrom c.args.deck.log.next) (sym c.requires.fresh) tt;
+        next = (let none : length c.args.deck.trail ≡ 0 = ap length c.requires.fresh in omega (arith, none));
+      };
+      since = λ known_start held. absurd (c.requires.blind known_start);
+    }

@@ -1,0 +1,264 @@
+//! The small journal, and handles and rounds over it.
+ghost use Rattle.std.specs.Prelude.{◌≡◌, [], false, IfSome};
+ghost use Rattle.jb_handle.specs.Handle.{holder};
+ghost use Rattle.jb_desk.specs.Desks.{desk_id};
+ghost use Rattle.jb_desk.specs.Rounds.{seat_of};
+ghost use Rattle.jb_desk.specs.Seats.{desk_of};
+ghost use Rattle.jb_handle.specs.Word.{WordMap};
+
+use crate::bounds::Host;
+use crate::checks::{read_at, write_at};
+use jb_block::{BlockSize, Width, put32};
+use jb_board::Front;
+use jb_deck::{Deck, Entry};
+use jb_desk::{
+    BeginFault, Committer, Desk, EnqueueFault, Origin, Round, RoundFault, Seat, StopFault,
+};
+use jb_disk::{Disk, FixedClock, MemoryDisk};
+use jb_format::format;
+use jb_group::Stamp;
+use jb_handle::{Handle, Shape};
+use std::alloc::Global;
+use std::process::Abort;
+use std::sync::Wait;
+use std::sync::ledger::Ledger;
+
+/// A desk over a disk, whose clock stands still.
+pub type Still<D, H, N> = Desk<D, FixedClock, H, N>;
+
+/// The clock of all desks.
+pub const CLOCK: FixedClock = FixedClock {
+    stamp: Stamp { sec: 0, nsec: 0 },
+};
+
+/// What the handles of the small journal have to fit.
+pub const SHAPE: Shape = Shape {
+    bs: BlockSize::OneKib,
+    homes: 16,
+    limit: 8,
+    width: Width::Narrow,
+};
+
+/// The only handle of a desk has stopped.
+pub const STOPPED: Front = Front {
+    settled: 0,
+    taken: 0,
+    stopped: 1,
+};
+
+/// A new journal of 32 usable log blocks and 16 home blocks, of which a group takes 8 log blocks at most.
+pub fn formatted(rt: &impl Host) -> MemoryDisk {
+    with_journal(rt, 33, 16)
+}
+
+/// A new journal of so many blocks, and so many home blocks after them.
+pub fn with_journal(rt: &impl Host, blocks: u32, homes: u64) -> MemoryDisk {
+    let all = u64::from(blocks).saturating_add(homes);
+    let mut disk = MemoryDisk::new(rt.alloc(), BlockSize::OneKib, all).expect(rt, "memory");
+    format(&mut disk, blocks, 0, [0; 16], Width::Narrow).expect(rt, "the journal is not made");
+    disk
+}
+
+/// The small journal with one number left for a transaction.
+pub fn with_one_number(rt: &impl Host) -> MemoryDisk {
+    let mut disk = formatted(rt);
+    let mut front = [0; 1024];
+    read_at(rt, &mut disk, 0, &mut front);
+    put32(&mut front, 24, u32::MAX - 1);
+    write_at(rt, &mut disk, 0, &front);
+    disk
+}
+
+/// What a disk holds of a home block, which are after the 33 blocks of the journal.
+pub fn home<D: Disk>(rt: &impl Abort, disk: &mut D, number: u64) -> [u8; 1024] {
+    let mut block = [0; 1024];
+    read_at(rt, disk, number.saturating_add(33), &mut block);
+    block
+}
+
+/// Opens the journal on a disk.
+pub fn opened<D: Disk + Drop>(alloc: Global, disk: D) -> Option<Deck<D>>
+    ensures { IfSome result (λ deck. (deck.trail ≡ []) × (deck.aborted ≡ false)) }
+{
+    Deck::open(alloc, disk).ok()
+}
+
+/// A seat of a desk that is not shut.
+pub fn seated<R: Abort + Wait, D: Disk, H: Origin, N: Ledger>(
+    rt: &R,
+    desk: &Still<D, H, N>,
+) -> Seat<H, N>
+    ensures { desk_of result ≡ desk_id desk.now }
+{
+    desk.seat(rt).expect(rt, "there is no seat")
+}
+
+/// Begins a handle that is not refused. Fails the test where it is, and says that it was this one.
+pub fn begun<R: Abort + Wait, D: Disk, H: Origin, N: Ledger>(
+    rt: &R,
+    desk: &Still<D, H, N>,
+    seat: Seat<H, N>,
+    credits: u32,
+    what: &'static str,
+) -> Handle<Seat<H, N>>
+    ensures { holder result ≡ seat }
+{
+    match desk.begin(rt, seat, credits) {
+        Ok(handle) => handle,
+        Err((_seat, fault)) => panic!(rt; "{what} is not begun: {fault}"),
+    }
+}
+
+/// Begins a handle and drops it; says why that was refused.
+pub fn refused<R: Wait, D: Disk, H: Origin, N: Ledger>(
+    rt: &R,
+    desk: &Still<D, H, N>,
+    seat: Seat<H, N>,
+    credits: u32,
+) -> (Seat<H, N>, Option<BeginFault>)
+    ensures { result.0 ≡ seat }
+{
+    match desk.begin(rt, seat, credits) {
+        Ok(handle) => (desk.abandon(rt, handle), None),
+        Err((seat, fault)) => (seat, Some(fault)),
+    }
+}
+
+/// Stops a handle, or drops it where that is refused.
+pub fn stop<R: Wait, D: Disk, H: Origin, N: Ledger>(
+    rt: &R,
+    desk: &Still<D, H, N>,
+    handle: Handle<Seat<H, N>>,
+) -> (Seat<H, N>, Result<u64, EnqueueFault>)
+    requires any { (words : WordMap) → H.begun.stops words }
+    requires desk { desk_of (holder handle) ≡ desk_id desk.now }
+    ensures { desk_of result.0 ≡ desk_id desk.now }
+{
+    match desk.stop(rt, &mut desk.sights(rt), handle) {
+        Ok((seat, ticket)) => (seat, Ok(ticket)),
+        Err(StopFault::Aborted(seat)) => (seat, Err(EnqueueFault::Aborted)),
+        Err(StopFault::NotOpen(handle)) => (desk.abandon(rt, handle), Err(EnqueueFault::NotOpen)),
+        Err(StopFault::Memory(handle)) => (desk.abandon(rt, handle), Err(EnqueueFault::Memory)),
+    }
+}
+
+/// Begins a handle of so many credits, writes home blocks and stops it. Gives its ticket, if it stopped.
+pub fn write<R: Wait, D: Disk, H: Origin, N: Ledger>(
+    rt: &R,
+    desk: &Still<D, H, N>,
+    seat: Seat<H, N>,
+    credits: u32,
+    homes: &[u64],
+) -> (Seat<H, N>, Option<u64>)
+    requires any { (words : WordMap) → H.begun.stops words }
+    requires desk { desk_of seat ≡ desk_id desk.now }
+    ensures { desk_of result.0 ≡ desk_id desk.now }
+{
+    match desk.begin(rt, seat, credits) {
+        Ok(handle) => {
+            let (seat, ticket) = stop(rt, desk, written(handle, homes));
+            (seat, ticket.ok())
+        }
+        Err((seat, _)) => (seat, None),
+    }
+}
+
+/// Writes home blocks in a handle.
+pub fn written<H: Origin, N: Ledger>(
+    handle: Handle<Seat<H, N>>,
+    homes: &[u64],
+) -> Handle<Seat<H, N>>
+    ensures { holder result ≡ holder handle }
+{
+    let mut handle = handle;
+    for &home in homes {
+        let _refused = handle.write(home, &[7; 1024]);
+    }
+    handle
+}
+
+/// What a round came to: of a batch that was committed the first group, and how many there were.
+#[derive(Clone, Copy)]
+pub enum Came {
+    Idle,
+    Committed(Option<Entry>, usize),
+    Failed(RoundFault),
+}
+
+/// Whether a round has committed one handle of one copy, under this ticket and number.
+pub fn is_one(came: Came, ticket: u64, number: u32) -> bool {
+    let wanted = Entry {
+        first: ticket,
+        past: ticket.saturating_add(1),
+        number,
+        blocks: 3,
+    };
+    match came {
+        Came::Committed(Some(entry), 1) => entry == wanted,
+        _ => false,
+    }
+}
+
+/// One round of a committer.
+pub fn round<R: Wait, D: Disk, H: Origin, N: Ledger>(
+    rt: &R,
+    desk: &Still<D, H, N>,
+    committer: &mut Committer<H, N>,
+) -> Came
+    requires desk { desk_of (seat_of committer.old) ≡ desk_id desk.now }
+    ensures desk { desk_of (seat_of committer.new) ≡ desk_of (seat_of committer.old) }
+{
+    match desk.commit_round(rt, committer) {
+        Ok(Round::Idle(_)) => Came::Idle,
+        Ok(Round::Committed(done)) => {
+            let entries = done.entries();
+            Came::Committed(entries.first().copied(), entries.len())
+        }
+        Err(fault) => Came::Failed(fault),
+    }
+}
+
+/// A seat becomes a committer for one round. Says what it came to, and whether the committer retired.
+pub fn round_of<R: Wait, D: Disk, H: Origin, N: Ledger>(
+    rt: &R,
+    desk: &Still<D, H, N>,
+    seat: Seat<H, N>,
+) -> (Seat<H, N>, Came, bool)
+    requires desk { desk_of seat ≡ desk_id desk.now }
+    ensures { desk_of result.0 ≡ desk_id desk.now }
+{
+    let mut committer = desk.committer(seat);
+    let came = round(rt, desk, &mut committer);
+    let (seat, is_retired) = retired(rt, desk, committer);
+    (seat, came, is_retired)
+}
+
+/// Stops a handle that writes a home block, and commits it.
+pub fn commit<R: Wait, D: Disk, H: Origin, N: Ledger>(
+    rt: &R,
+    desk: &Still<D, H, N>,
+    seat: Seat<H, N>,
+    home: u64,
+) -> (Seat<H, N>, Came)
+    requires any { (words : WordMap) → H.begun.stops words }
+    requires desk { desk_of seat ≡ desk_id desk.now }
+    ensures { desk_of result.0 ≡ desk_id desk.now }
+{
+    let (seat, _) = write(rt, desk, seat, 1, &[home]);
+    let (seat, came, _) = round_of(rt, desk, seat);
+    (seat, came)
+}
+
+/// A committer retires, or gives up where it is handed back. Says whether it retired.
+pub fn retired<R: Wait, D: Disk, H: Origin, N: Ledger>(
+    rt: &R,
+    desk: &Still<D, H, N>,
+    committer: Committer<H, N>,
+) -> (Seat<H, N>, bool)
+    ensures { result.0 ≡ seat_of committer }
+{
+    match desk.retire(rt, committer) {
+        Ok(seat) => (seat, true),
+        Err(committer) => (desk.give_up(rt, committer), false),
+    }
+}

@@ -1,0 +1,88 @@
+//! Images that a command gives back, as it has left them, and what it has to say.
+
+use crate::checks::{check_at, check_text};
+use crate::files::remove;
+use crate::runs::Host;
+use jb_args::{CatOptions, FormatOptions, Plain, RecoverOptions};
+use jb_disk::{Disk, Unknown};
+use jb_tool::{Done, cat_file, format_file, perform, recover_file, renumber_file, widen_file};
+
+const NAME: &str = "given.img";
+
+const NEW: FormatOptions<'static> = FormatOptions {
+    bs: 1024,
+    journal: 33,
+    homes: 16,
+    max: 0,
+    uuid: "000102030405060708090a0b0c0d0e0f",
+    wide: false,
+};
+
+const RECOVER: RecoverOptions<'static> = RecoverOptions {
+    journal: None,
+    extents: None,
+    force: false,
+    dry_run: false,
+    list: false,
+};
+
+const CAT: CatOptions<'static> = CatOptions {
+    home: 3,
+    count: 1,
+    hex: false,
+    journal: None,
+    extents: None,
+};
+
+/// Checks how many blocks the image has that a command gives back, if it gives one, and what the command has to say.
+fn check_done(
+    rt: &impl Host,
+    done: Done<'_, Unknown, Unknown>,
+    blocks: Option<u64>,
+    wanted: &str,
+    at: usize,
+) {
+    let has = match &done.image {
+        Some(disk) => Some(disk.blocks()),
+        None => None,
+    };
+    check_at(rt, has == blocks, "the image that is given back:", at);
+    let mut out = Vec::new(rt.alloc());
+    let told = done.tell(&mut out);
+    check_at(rt, told.is_ok() == blocks.is_some(), "the end:", at);
+    check_text(rt, &out, wanted, "a command that is done", at)
+}
+
+/// Makes an image, recovers it, and changes its journal.
+fn check_changes(rt: &impl Host) {
+    let all = Some(49);
+    let made = format_file(rt, NAME, NEW);
+    check_done(rt, made, all, "formatted limit 8\n", 0);
+    check_done(rt, format_file(rt, NAME, NEW), None, "", 1);
+    let line = "transactions 0 copies 0 revoked 0 next 2\n";
+    check_done(rt, recover_file(rt, NAME, RECOVER), all, line, 2);
+    let line = "renumbered blocks 0 next 1\n";
+    check_done(rt, renumber_file(rt, NAME), all, line, 3);
+    check_done(rt, widen_file(rt, NAME), all, "widened limit 8\n", 4);
+    let (mut out, mut err) = (Vec::new(rt.alloc()), Vec::new(rt.alloc()));
+    let widen = Plain::Widen { image: NAME };
+    let again = perform(rt, widen, &mut b"".as_slice(), &mut out, &mut err);
+    check_done(rt, again, all, "already wide limit 8\n", 5);
+}
+
+/// Writes a home of that image, and of one that is not there.
+fn check_cat(rt: &impl Host) {
+    let mut out = Vec::new(rt.alloc());
+    check_done(rt, cat_file(rt, NAME, CAT, &mut out), Some(49), "", 6);
+    let is_home = out.as_slice() == [0; 1024].as_slice();
+    check_at(rt, is_home, "a home of zeros:", 6);
+    remove(rt, NAME);
+    check_done(rt, cat_file(rt, NAME, CAT, &mut out), None, "", 7);
+    check_done(rt, recover_file(rt, NAME, RECOVER), None, "", 8)
+}
+
+#[test]
+fn images_are_given_back(rt: HostRuntime) {
+    check_changes(&rt);
+    check_cat(&rt)
+}

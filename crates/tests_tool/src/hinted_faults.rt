@@ -1,0 +1,166 @@
+//! What a second line is about, of each fault of a command and of a load.
+
+use crate::checks::fail;
+use crate::hints::check_hint;
+use crate::runs::Host;
+use jb_args::OptionName;
+use jb_desk::Ended;
+use jb_disk::Unknown;
+use jb_image::{ExtentsFault, FileSystemFault};
+use jb_super::SuperFault;
+use jb_tool::{CommandFault, HandleFault, LoadDone, LoadReport, Loaded, Refused};
+
+/// Each fault of a command, with what the second line says beside the words of its row.
+static FAULTS: [(CommandFault<'static>, &str); 38] = [
+    (
+        CommandFault::CannotRead("a", Some(2)),
+        ": No such file or directory (os error 2)",
+    ),
+    (CommandFault::CannotRead("a", None), ""),
+    (CommandFault::InUse("a"), ""),
+    (CommandFault::SameFile("a"), ""),
+    (
+        CommandFault::CannotMake("a", Some(17)),
+        ": File exists (os error 17)",
+    ),
+    (CommandFault::CannotMake("a", None), ""),
+    (
+        CommandFault::BadOption(OptionName::List),
+        ": --list is for --dry-run alone",
+    ),
+    (
+        CommandFault::BadOption(OptionName::Extents),
+        ": --extents is a list as debugfs prints it, as (0-1023):8193-9216, (1024):9300; not with --journal",
+    ),
+    (CommandFault::TooLong("a"), ""),
+    (CommandFault::ReadFault, ""),
+    (CommandFault::Super(SuperFault::ShortBlock), ""),
+    (CommandFault::Super(SuperFault::NoMagic), ""),
+    (CommandFault::Super(SuperFault::NotVersion2(3)), ""),
+    (CommandFault::Super(SuperFault::BlockSize(512)), ""),
+    (CommandFault::Super(SuperFault::Geometry), ""),
+    (CommandFault::Super(SuperFault::Feature(2, 16)), ""),
+    (CommandFault::JournalLength(34, 33), ""),
+    (
+        CommandFault::FileSystem(FileSystemFault::BlockSize(4096)),
+        "",
+    ),
+    (CommandFault::FileSystem(FileSystemFault::Uuid), ""),
+    (CommandFault::FileSystem(FileSystemFault::Clean), ""),
+    (CommandFault::Extents(ExtentsFault::Overlap(9)), ""),
+    (CommandFault::Extents(ExtentsFault::PastEnd(9)), ""),
+    (CommandFault::Extents(ExtentsFault::Short(9)), ""),
+    (CommandFault::Extents(ExtentsFault::NoJournal), ""),
+    (CommandFault::Extents(ExtentsFault::Home(9)), ""),
+    (CommandFault::BadRevoke(2), ""),
+    (CommandFault::HomeOutOfRange(20, 2, Some(16)), ": 16"),
+    (CommandFault::HomeOutOfRange(20, 2, None), ""),
+    (CommandFault::NoHome(20, Some(16)), ": 16"),
+    (CommandFault::NoHome(20, None), ""),
+    (CommandFault::NeedsRecovery, ""),
+    (CommandFault::NumbersSpent, ""),
+    (CommandFault::BlockSize, ""),
+    (CommandFault::Accounts, ""),
+    (CommandFault::Geometry, ""),
+    (CommandFault::DeviceFault, ""),
+    (CommandFault::Memory, ""),
+    (CommandFault::WriteFault, ""),
+];
+
+/// Why a handle was refused, if one was, how the commits and the checkpoints ended, and what the second line says
+/// beside the words of its row, if there is to be one.
+type Load = (
+    Option<HandleFault>,
+    Ended,
+    Option<Ended>,
+    Option<&'static str>,
+);
+
+static LOADS: [Load; 16] = [
+    (
+        Some(HandleFault::TooManyCredits(8)),
+        Ended::Refused,
+        None,
+        Some(""),
+    ),
+    (
+        Some(HandleFault::OutOfRange(20)),
+        Ended::Refused,
+        None,
+        Some(": 16"),
+    ),
+    (Some(HandleFault::Full(8)), Ended::Memory, None, Some("")),
+    (Some(HandleFault::Memory), Ended::Aborted, None, Some("")),
+    (
+        Some(HandleFault::Aborted),
+        Ended::Aborted,
+        Some(Ended::Aborted),
+        Some(""),
+    ),
+    (Some(HandleFault::Closed), Ended::Aborted, None, None),
+    (Some(HandleFault::Busy), Ended::Aborted, None, None),
+    (Some(HandleFault::NoCredit(8)), Ended::Aborted, None, None),
+    (Some(HandleFault::Length), Ended::Aborted, None, None),
+    (Some(HandleFault::NotOpen), Ended::Aborted, None, None),
+    (None, Ended::Aborted, None, Some("")),
+    (None, Ended::Aborted, Some(Ended::Aborted), Some("")),
+    (None, Ended::Memory, None, Some("")),
+    (None, Ended::Memory, Some(Ended::Aborted), Some("")),
+    (None, Ended::Refused, None, Some("")),
+    (None, Ended::Refused, Some(Ended::Aborted), Some("")),
+];
+
+/// Checks what a second line is about after the line of a fault.
+fn check_fault(rt: &impl Host, fault: CommandFault<'static>, beside: &str, row: usize) {
+    let mut err = Vec::new(rt.alloc());
+    fault.tell(None, &mut err);
+    let (hint, beside) = (Some(fault.hint()), Some(beside));
+    check_hint(rt, hint, &err, beside, "the hint of fault", row)
+}
+
+/// A load of three handles that ended so.
+fn loaded(refused: Option<HandleFault>, commit: Ended, checkpoint: Option<Ended>) -> Loaded {
+    Loaded {
+        queued: 3,
+        handles: 2,
+        changes: 5,
+        settled: 1,
+        groups: 1,
+        blocks: 4,
+        refused: match refused {
+            Some(fault) => Some(Refused { handle: 12, fault }),
+            None => None,
+        },
+        commit,
+        checkpoint,
+    }
+}
+
+/// Checks what a second line is about after the lines of a load into an image of 16 home blocks.
+fn check_load(rt: &impl Host, load: &Load, row: usize) {
+    let (refused, commit, checkpoint, beside) = *load;
+    let (mut out, mut err) = (Vec::new(rt.alloc()), Vec::new(rt.alloc()));
+    let done = LoadDone::<Unknown, Unknown> {
+        image: None,
+        end: Ok(LoadReport::Loaded(loaded(refused, commit, checkpoint), 16)),
+    };
+    let hint = match done.tell(&mut out, &mut err) {
+        Ok(ended) => ended.hint,
+        Err(_) => return fail(rt, "a load is told"),
+    };
+    check_hint(rt, hint, &err, beside, "the hint of load", row)
+}
+
+#[test]
+fn a_hint_is_about_the_line_of_its_fault(rt: HostRuntime) {
+    for (row, (fault, beside)) in FAULTS.iter().enumerate() {
+        check_fault(&rt, *fault, beside, row);
+    }
+}
+
+#[test]
+fn a_hint_is_about_the_lines_of_its_load(rt: HostRuntime) {
+    for (row, load) in LOADS.iter().enumerate() {
+        check_load(&rt, load, row);
+    }
+}

@@ -1,0 +1,125 @@
+//! Words that are a command, and what they ask for.
+
+use crate::checks::check_text;
+use crate::runs::{Host, words_of};
+use jb_args::{Plain, Words, parse};
+use std::alloc::Global;
+
+/// What these words ask for, if they are taken: the command, its words and its options, in the order of `Plain` and
+/// `LoadWords`.
+fn asked(alloc: Global, words: &[&str]) -> Option<String> {
+    let asked = match parse(alloc, words).ok()? {
+        Words::Plain(Plain::Cost { file }) => format!(in alloc; "cost {file}"),
+        Words::Plain(Plain::Plan { file }) => format!(in alloc; "plan {file}"),
+        Words::Plain(Plain::Check { file, cert }) => format!(in alloc; "check {file} {cert}"),
+        Words::Plain(Plain::Dump { file, options: of }) => {
+            let (home, last, superblock) = (of.home, of.last, of.superblock);
+            format!(in alloc; "dump {file} {home:?} {last:?} {superblock}")
+        }
+        Words::Plain(Plain::Format { image, options: of }) => {
+            let (bs, journal, homes, max) = (of.bs, of.journal, of.homes, of.max);
+            let (uuid, wide) = (of.uuid, of.wide);
+            format!(in alloc; "format {image} {bs} {journal} {homes} {max} {uuid} {wide}")
+        }
+        Words::Plain(Plain::Cat { image, options: of }) => {
+            let (home, count, hex) = (of.home, of.count, of.hex);
+            let (journal, extents) = (of.journal.unwrap_or("-"), of.extents.unwrap_or("-"));
+            format!(in alloc; "cat {image} {home} {count} {hex} {journal} {extents}")
+        }
+        Words::Plain(Plain::Recover { image, options: of }) => {
+            let (journal, extents) = (of.journal.unwrap_or("-"), of.extents.unwrap_or("-"));
+            let (force, dry_run, list) = (of.force, of.dry_run, of.list);
+            format!(in alloc; "recover {image} {journal} {extents} {force} {dry_run} {list}")
+        }
+        Words::Plain(Plain::Renumber { image }) => format!(in alloc; "renumber {image}"),
+        Words::Plain(Plain::Widen { image }) => format!(in alloc; "widen {image}"),
+        Words::Load(of) => {
+            let (image, file, threads, stamp) = (of.image, of.file, of.threads, of.stamp);
+            let (hold, checkpoint) = (of.hold, of.checkpoint);
+            format!(in alloc; "load {image} {file} {threads} {stamp} {hold} {checkpoint}")
+        }
+    };
+    asked.ok()
+}
+
+/// Command lines, and what they ask for.
+static ROWS: [(&str, &str); 24] = [
+    ("cost queue.txt", "cost queue.txt"),
+    ("cost -", "cost -"),
+    ("cost -- -x", "cost -x"),
+    ("plan -", "plan -"),
+    ("check a b", "check a b"),
+    ("renumber a.img", "renumber a.img"),
+    ("widen -- -", "widen -"),
+    (
+        "format --uuid 000102030405060708090A0b0c0d0e0f --max=6 --wide a.img --homes 16 --journal 33 --bs 1024",
+        "format a.img 1024 33 16 6 000102030405060708090A0b0c0d0e0f true",
+    ),
+    (
+        "format a.img --bs +1024 --journal 033 --homes 16",
+        "format a.img 1024 33 16 0 00000000000000000000000000000000 false",
+    ),
+    ("dump a", "dump a None None false"),
+    ("dump --home 5 a", "dump a Some(5) None false"),
+    (
+        "dump a --last=18446744073709551615",
+        "dump a None Some(18446744073709551615) false",
+    ),
+    ("dump --super a", "dump a None None true"),
+    (
+        "dump --last 0 --super a --home=+07",
+        "dump a Some(7) Some(0) true",
+    ),
+    ("cat a.img 5", "cat a.img 5 1 false - -"),
+    (
+        "cat --hex a.img -n 3 18446744073709551615",
+        "cat a.img 18446744073709551615 3 true - -",
+    ),
+    ("cat a.img --journal j 0 -n0", "cat a.img 0 0 false j -"),
+    ("recover a.img", "recover a.img - - false false false"),
+    (
+        "recover --journal=j a.img",
+        "recover a.img j - false false false",
+    ),
+    (
+        "recover --force a.img --extents= --dry-run",
+        "recover a.img -  true true false",
+    ),
+    (
+        "recover a.img --list --dry-run",
+        "recover a.img - - false true true",
+    ),
+    (
+        "load a.img queue.txt",
+        "load a.img queue.txt 1 0 false false",
+    ),
+    (
+        "load --hold a.img --threads 64 queue.txt",
+        "load a.img queue.txt 64 0 true false",
+    ),
+    (
+        "load --stamp=18446744073709551615 --checkpoint a.img queue.txt --threads=0",
+        "load a.img queue.txt 0 18446744073709551615 false true",
+    ),
+];
+
+/// Checks what these words ask for.
+fn check_asked(rt: &impl Host, words: &[&str], wanted: &str, row: usize) {
+    let asked = asked(rt.alloc(), words).expect(rt, "words that are taken");
+    check_text(rt, asked.as_bytes(), wanted, "the command of row", row)
+}
+
+/// Checks each row of the table, and a list with a space in it.
+fn check_rows(rt: &impl Host) {
+    for (row, (line, wanted)) in ROWS.iter().enumerate() {
+        check_asked(rt, &words_of(rt, line), wanted, row);
+    }
+    let words = ["recover", "--extents", "(0-1):5-6, (2):9", "a.img"];
+    let wanted = "recover a.img - (0-1):5-6, (2):9 false false false";
+    check_asked(rt, &words, wanted, ROWS.len())
+}
+
+#[test]
+fn commands_with_their_words_are_taken(rt: HostRuntime) {
+    check_rows(&rt)
+}
