@@ -4,7 +4,7 @@
     rt ci > gate.log 2>&1 & compare/gate_times.py [FOLDER]
 
 It reads the list of processes every second and prints a row for each crate: processor seconds of its proof, of its
-tests' proof (of NAME_tests in the row of NAME) and of its edits, and after each the seconds by the clock. Processor
+tests' proof and of its edits, and after each the seconds by the clock. Processor
 seconds grow with the load of the machine: only rows of one run, or of runs side by side, can be compared. With a
 FOLDER, proofs and tests count only where they run below it. Of a prover that starts and ends between two looks
 nothing is seen. Nor is anything of a crate that the kit has kept from an earlier gate, since none is proved: the last
@@ -36,12 +36,12 @@ def provers(below):
         except (OSError, IndexError):
             continue
         name = words[words.index("--crate-name") + 1]
-        is_of_tests = name.startswith("tests_") or name.endswith("_tests") or "--test" in words
+        is_of_tests = name.startswith("tests_") or "--test" in words
         kind = "edits" if "/rt-edit-" in folder else "tests" if is_of_tests else "proof"
         if kind != "edits" and not folder.startswith(below):
             continue
         seconds = sum(map(int, fields[11:15])) / TICK  # its own, and those of the copies of it that have ended
-        found[pid] = (fields[1], (pid, name.removesuffix("_tests"), kind, seconds))
+        found[pid] = (fields[1], (pid, name, kind, seconds))
     return [it for parent, it in found.values() if parent not in found]
 
 
@@ -49,7 +49,7 @@ def listed():
     """The crates of crates.txt, by the names of their rows."""
     with open(os.path.join(os.path.dirname(os.path.abspath(__file__)), "..", "crates.txt"), encoding="utf-8") as it:
         lines = [line.split("#")[0] for line in it]
-    return {line.split(":")[0].strip().removesuffix("_tests") for line in lines if ":" in line}
+    return {line.split(":")[0].strip() for line in lines if ":" in line}
 
 
 def is_at_work():

@@ -112,7 +112,7 @@ fn check_readers(test: &impl Test, alloc: Global) {
 fn check_calls(test: &impl Test, alloc: Global, words: &str, wanted: &str, calls: usize) {
     let mut journal = by_hand(test, alloc, words);
     journal.push(77).must(test, "memory");
-    for step in 0..calls + 2 {
+    for step in 0..calls.saturating_add(2) {
         check_halting(test, alloc, &journal, wanted, calls, 700, Some(step))
     }
     check_halting(test, alloc, &journal, wanted, calls, 1, None)

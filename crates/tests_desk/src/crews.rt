@@ -13,7 +13,7 @@ use crate::checkpoints::race;
 use crate::gate::{Gate, stop_both};
 use crate::journal::{Still, formatted, opened};
 use crate::levels::rest;
-use crate::load::{Load, Outcome, load};
+use crate::load::{Load, Outcome, loaded};
 use crate::read_beside::commit_and_read;
 use crate::turns::arrive;
 use crate::waiting::wait_and_commit;
@@ -56,7 +56,7 @@ fn run_started<D: SharedDisk, R: Host, H: Origin + Send + Sync, N: Ledger + Send
     let desk: Still<D, H, N> = started(rt, handles, changes, marks, deck);
     match crew {
         Crew::Arrivals => arrive(rt, desk),
-        Crew::Load(of) => return Some(load(rt, desk, of)),
+        Crew::Load(of) => return Some(loaded(rt, desk, of)),
         Crew::Race => race(rt, desk, at),
         Crew::Reading(gate) => commit_and_read(rt, desk, gate),
         Crew::Resting => rest(rt, desk),

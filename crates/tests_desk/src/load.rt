@@ -92,7 +92,7 @@ fn sums_of<H: Origin, N: Ledger>(rt: &impl Host, reports: Reports<H, N>) -> Sums
 }
 
 /// A load of a new desk, and the disk after it.
-pub fn load<R: Host, D: SharedDisk, H: SharedOrigin, N: SharedLedger>(
+pub fn loaded<R: Host, D: SharedDisk, H: SharedOrigin, N: SharedLedger>(
     rt: &R,
     desk: Still<D, H, N>,
     load: Load,
