@@ -26,17 +26,17 @@ use Rattle.jb_book.proofs.Grouped.{more-stops}
 
 -- the events, and how the calls tell the stops and the groups
 pub record Stands (shape : Shape) (calls : List Call) (a : Account) : Type 0 where
-  same_shape : a.shape ≡ shape
-  sound : IsSound a
-  log : Log
-  machine : Machine
-  tied : Tied a log machine
-  stops : handles_of (stop_order log) ≡ stops_of calls
-  settled : machine.settled ≡ settled_of calls
-  out : machine.taken ≡ out_of calls
-  numbered : TicketsFrom 0 (stops_of calls)
-  counted : length (stops_of calls) ≡ a.shadow.next
-  trail : settled_of calls ≡ map (handles_in (stops_of calls)) a.trail
+  pub same_shape : a.shape ≡ shape
+  pub sound : IsSound a
+  pub log : Log
+  pub machine : Machine
+  pub tied : Tied a log machine
+  pub stops : handles_of (stop_order log) ≡ stops_of calls
+  pub settled : machine.settled ≡ settled_of calls
+  pub out : machine.taken ≡ out_of calls
+  pub numbered : TicketsFrom 0 (stops_of calls)
+  pub counted : length (stops_of calls) ≡ a.shadow.next
+  pub trail : settled_of calls ≡ map (handles_in (stops_of calls)) a.trail
 
 -- while the machine is up, what it has of the life are its stops
 all-of : (a : Account) (log : Log) (m : Machine) → Tied a log m → a.aborted ≡ false → joined m.settled ++ (joined m.taken ++ a.shadow.queue) ≡ handles_of (stop_order log)

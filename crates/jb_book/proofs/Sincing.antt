@@ -53,7 +53,7 @@ pub more-counted : (start before after : ℕ) → start ≤ before → MoreFault
 more-counted start before after low more few same = let rises = more.rises in omega (arith, low, rises, few, same)
 
 -- the same journal, where less is known of each of the handles
-pub is-weaker : {D : Type 0} (G : Ghosts D) (b : Begun) (known less : Stopped → Type 0) → ((h : Stopped) → known h → less h) → (d : OpenDeck D) → IsSinceOf G b known d → IsSinceOf G b less d
+unfoldable pub is-weaker : {D : Type 0} (G : Ghosts D) (b : Begun) (known less : Stopped → Type 0) → ((h : Stopped) → known h → less h) → (d : OpenDeck D) → IsSinceOf G b known d → IsSinceOf G b less d
 is-weaker G b known less weaker d is = record {
   given = is.given;
   has = record {
@@ -81,7 +81,7 @@ module _ {D : Type 0} (G : Ghosts D) (counts_now : (disk : D) (t : ℕ) (c : Ima
   abbrev Stands : List Stopped → OpenDeck D → Type 0
   Stands given d = Since G b given d
 
-  pub plain-is : (d : OpenDeck D) → Is d → IsSince G b d
+  unfoldable pub plain-is : (d : OpenDeck D) → Is d → IsSince G b d
   plain-is d is = is-weaker G b known (may_stop b) plain d is
 
   -- ---- the oldest group

@@ -3,7 +3,7 @@
 use crate::diagnostics;
 
 /// What stands at the end of the long help of `jb`, with the table of what can go wrong.
-macro_rules! jb_text {
+macro_rules! long_help_end {
     (
         lines { $($hint:ident, $begins:literal, $rest:literal, $advice:literal $(: $beside:literal)?;)* }
         options { $($option:ident, $name:literal, $values:literal;)* }
@@ -45,7 +45,7 @@ DeviceFault, which is of either. A control character of a name is \\x and two di
 }
 
 /// Of `jb` itself: the files that its commands are about, its statuses, and its lines on standard error.
-pub(crate) const JB: &str = diagnostics!(jb_text);
+pub(crate) const JB: &str = diagnostics!(long_help_end);
 
 /// What stands at the end of the long help of the command of this name.
 pub(crate) fn more_of(command: &str) -> &'static str {
