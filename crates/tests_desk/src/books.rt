@@ -1,12 +1,12 @@
 //! Calls of a book, with the answers that its limits give by hand.
 
-use crate::bounds::Host;
 use crate::checks::check_in;
-use crate::journal::SHAPE;
+use jb_block::{BlockSize, Width};
 use jb_desk::{BeginFault, Book, EnqueueFault};
-use jb_handle::Handle;
+use jb_handle::{Handle, Shape};
 use std::alloc::Global;
 use std::marker::Brand;
+use std::process::Abort;
 
 /// A call, and what it answers.
 #[derive(Clone, Copy)]
@@ -71,11 +71,12 @@ static ROWS: [&[Call]; 3] = [
 fn stop(
     alloc: Global,
     book: &mut Book<Brand>,
+    shape: Shape,
     seat: u64,
     credits: u32,
     homes: &[u64],
 ) -> Result<u64, EnqueueFault> {
-    let mut handle = Handle::new(alloc, (), credits, SHAPE);
+    let mut handle = Handle::new(alloc, (), credits, shape);
     for &home in homes {
         let _refused = handle.revoke(home);
     }
@@ -100,11 +101,11 @@ fn taken(book: &mut Book<Brand>) -> Option<(u64, usize)> {
 }
 
 /// Calls a book; says whether it answers so.
-fn is_answered(alloc: Global, book: &mut Book<Brand>, call: Call) -> bool {
+fn is_answered(alloc: Global, book: &mut Book<Brand>, shape: Shape, call: Call) -> bool {
     match call {
         Call::Open(seat, credits, wanted) => book.open(seat, credits) == wanted,
         Call::Stop(seat, credits, homes, wanted) => {
-            stop(alloc, book, seat, credits, homes) == wanted
+            stop(alloc, book, shape, seat, credits, homes) == wanted
         }
         Call::Take(wanted) => taken(book) == wanted,
         Call::Drop(seat) => {
@@ -123,22 +124,30 @@ fn is_answered(alloc: Global, book: &mut Book<Brand>, call: Call) -> bool {
 }
 
 /// Checks the answers of a new book to the calls of a row.
-fn check_calls(rt: &impl Host, row: u64, calls: &[Call]) {
-    let mut book = Book::<Brand>::new(rt.alloc(), SHAPE, 32);
+fn check_calls(
+    rt: &impl Abort,
+    alloc: Global,
+    book: &mut Book<Brand>,
+    shape: Shape,
+    row: u64,
+    calls: &[Call],
+) {
     for (number, &call) in calls.iter().enumerate() {
-        let is_so = is_answered(rt.alloc(), &mut book, call);
+        let is_so = is_answered(alloc, book, shape, call);
         check_in(rt, is_so, row, "the answer to call", number as u64);
-    }
-}
-
-/// Checks each row.
-fn check_books(rt: &impl Host) {
-    for (row, calls) in ROWS.iter().enumerate() {
-        check_calls(rt, row as u64, calls);
     }
 }
 
 #[test]
 fn books_answer_as_worked_by_hand(rt: HostRuntime) {
-    check_books(&rt);
+    let shape = Shape {
+        bs: BlockSize::OneKib,
+        homes: 16,
+        limit: 8,
+        width: Width::Narrow,
+    };
+    for (row, calls) in ROWS.iter().enumerate() {
+        let mut book = Book::<Brand>::new(rt.alloc(), shape, 32);
+        check_calls(&rt, rt.alloc(), &mut book, shape, row as u64, calls);
+    }
 }

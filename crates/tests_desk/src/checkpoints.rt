@@ -1,23 +1,32 @@
 //! Groups that are brought home: a checkpoint that fails, and a checkpointer that ends.
 ghost use Rattle.std.specs.Prelude.{◌≡◌, ◌+◌, ◌^◌};
+ghost use Rattle.jb_desk.specs.History.{history_in};
+ghost use Rattle.jb_board.specs.History.{history_id};
 ghost use Rattle.jb_desk.specs.Desks.{desk_id};
 ghost use Rattle.jb_desk.specs.Seats.{desk_of};
 ghost use Rattle.jb_handle.specs.Word.{WordMap};
 
-use crate::bounds::{Host, SharedDisk, SharedLedger, SharedOrigin};
-use crate::cases::{Case, Fails, run_each_fault};
-use crate::checks::check_at;
+use crate::blind::{marks, small, start, stops};
+use crate::checks::{check, check_at, fail};
 use crate::closing::{closed, left};
-use crate::crews::{Crew, run_crews};
-use crate::journal::{Came, Still, commit, is_one, refused, round_of, seated, write};
-use jb_deck::{Checked, CheckpointFault, ReadHomeFault};
-use jb_desk::{BeginFault, Ended, Origin, RoundFault, Seat, WaitFault};
-use jb_disk::Disk;
+use crate::journal::{
+    Came, PARTS, Small, Still, commit, formatted, is_one, opened, refused, round_of, seated, write,
+};
+use jb_board::Opened;
+use jb_deck::{Checked, CheckpointFault, Deck, ReadHomeFault};
+use jb_desk::{BeginFault, Ended, Origin, RoundFault, Seat, Stops, WaitFault};
+use jb_disk::{Disk, MemoryDisk, OneFaultDisk};
+use std::alloc::Global;
+use std::marker::Brand;
 use std::process::Abort;
 use std::sync::Wait;
 use std::sync::atomic::{AtomicBool, Ordering};
-use std::sync::ledger::Ledger;
+use std::sync::ledger::{Blank, Ledger};
 use std::thread;
+use std::thread::Threads;
+
+/// A desk whose disk fails once.
+type Failing<H, N> = Still<OneFaultDisk<MemoryDisk>, H, N>;
 
 /// What follows a checkpoint after one handle is committed and another has stopped: what a read of no home into half a
 /// block answers, the next round and a begin, what is answered of both tickets, and the handles, changes and groups at
@@ -65,8 +74,9 @@ fn after<R: Wait, D: Disk, H: Origin, N: Ledger>(
 }
 
 /// Commits a handle, stops another, and brings the first one's group home; then looks what follows.
-fn after_checkpoint<R: Host, D: SharedDisk, H: Origin, N: Ledger>(
+fn after_checkpoint<R: Abort + Wait, D: Disk + Drop, H: Origin, N: Ledger>(
     rt: &R,
+    alloc: Global,
     desk: Still<D, H, N>,
 ) -> Found
     requires any { (words : WordMap) → H.begun.stops words }
@@ -78,7 +88,7 @@ fn after_checkpoint<R: Host, D: SharedDisk, H: Origin, N: Ledger>(
     let read = desk.read(rt, &mut desk.sights(rt), 16, &mut [0; 512]);
     let (seat, second, _) = round_of(rt, &desk, seat);
     let (seat, after) = after(rt, &desk, seat);
-    let lefts = left(rt, &desk, seat);
+    let lefts = left(rt, alloc, &desk, seat);
     let closed = closed(rt, desk, lefts);
     Found {
         first,
@@ -90,14 +100,39 @@ fn after_checkpoint<R: Host, D: SharedDisk, H: Origin, N: Ledger>(
     }
 }
 
-/// Checks what is found where the call of this number fails in the checkpoint. Says where it does: nowhere, if the
-/// checkpoint and the round after it succeed.
-fn check_found(rt: &impl Abort, call: u64, found: &Found) -> Fails {
-    if found.checked.is_ok() && is_one(found.second, 1, 3) {
-        return Fails::Never;
+/// What is found where this call of the disk fails; `None` where the journal cannot be opened then.
+fn failing<R: Abort + Wait, H: Origin, N: Ledger>(
+    rt: &R,
+    alloc: Global,
+    call: u64,
+    handles: Stops,
+    changes: Blank,
+    marks: Opened<Deck<OneFaultDisk<MemoryDisk>>>,
+) -> Option<Found>
+    requires blind { H.begun.is_known → ⊥ }
+    requires any { (words : WordMap) → H.begun.stops words }
+    requires handles { (handles.tickets.name ≡ H.name) × (handles.tickets.parts ≡ H.parts) × (H.parts ≡ 2 ^ 61 + 1) }
+    requires histories { (history_in handles ≡ H.history) × (history_id marks ≡ H.marks) }
+    requires changes { (changes.name ≡ N.name) × (changes.parts ≡ N.parts) × (N.parts ≡ 2 ^ 61 + 1) }
+{
+    match opened(alloc, OneFaultDisk::of(formatted(rt, alloc), call)) {
+        Some(deck) => {
+            let desk: Failing<H, N> = start(rt, alloc, handles, changes, marks, deck);
+            Some(after_checkpoint(rt, alloc, desk))
+        }
+        None => None,
     }
+}
+
+/// Whether the checkpoint and the round after it succeed.
+fn is_whole(found: &Found) -> bool {
+    found.checked.is_ok() && is_one(found.second, 1, 3)
+}
+
+/// Checks what is found where the call of this number fails in the checkpoint. Says whether it does.
+fn check_failed(rt: &impl Abort, call: u64, found: &Found) -> bool {
     if found.checked != Err(CheckpointFault::DeviceFault) {
-        return Fails::Elsewhere;
+        return false;
     }
     let after = &found.after;
     let is_refused = after.begun == Some(BeginFault::Aborted);
@@ -115,30 +150,29 @@ fn check_found(rt: &impl Abort, call: u64, found: &Found) -> Fails {
     check_at(rt, found.counts.0 == 2, "handles, fault", call);
     check_at(rt, found.counts.1 == 2, "changes, fault", call);
     check_at(rt, found.counts.2 == 1, "groups, fault", call);
-    Fails::Here
-}
-
-/// A checkpoint, and what follows it.
-struct Checkpoint;
-
-impl<D: SharedDisk> Case<D, Fails> for Checkpoint {
-    fn run<R: Host, H: SharedOrigin, N: SharedLedger>(
-        &self,
-        rt: &R,
-        desk: Still<D, H, N>,
-        call: u64,
-    ) -> Fails
-        requires any { (words : WordMap) → H.begun.stops words }
-        requires parts { (H.parts ≡ 2 ^ 61 + 1) × (N.parts ≡ 2 ^ 61 + 1) }
-    {
-        let found = after_checkpoint(rt, desk);
-        check_found(rt, call, &found)
-    }
+    true
 }
 
 #[test]
 fn the_round_after_a_failed_checkpoint_fails_the_book(rt: HostRuntime) {
-    run_each_fault(&rt, &Checkpoint);
+    let mut has_failed = false;
+    for call in 0..200 {
+        let found = failing::<HostRuntime, Brand, Brand>(
+            &rt,
+            rt.alloc(),
+            call,
+            stops(&rt, rt.alloc()),
+            Blank::new(PARTS),
+            marks(&rt, rt.alloc()),
+        );
+        if let Some(found) = found {
+            if is_whole(&found) {
+                return check(&rt, has_failed, "no call fails in the checkpoint");
+            }
+            has_failed |= check_failed(&rt, call, &found);
+        }
+    }
+    fail(&rt, "some call of the first 200 always fails")
 }
 
 /// How many desks are raced. A checkpointer that asks too late for what is settled left a group in the thirty-first.
@@ -171,10 +205,12 @@ fn crowd<R: Wait, D: Disk, H: Origin, N: Ledger>(
 }
 
 /// Runs a checkpointer to its end beside two threads that ask for the book.
-fn run_crowded<R: Host, D: SharedDisk, H: SharedOrigin, N: SharedLedger>(
-    rt: &R,
-    desk: &Still<D, H, N>,
-) -> Ended {
+fn run_crowded<
+    R: Threads + Wait + Sync,
+    D: Disk + Send,
+    H: Origin + Send + Sync,
+    N: Ledger + Send + Sync,
+>(rt: &R, desk: &Still<D, H, N>) -> Ended {
     let is_done = AtomicBool::new(false);
     let (ended, _) = thread::join(
         rt,
@@ -196,20 +232,51 @@ fn run_crowded<R: Host, D: SharedDisk, H: SharedOrigin, N: SharedLedger>(
 
 /// Checks that no group is left once a checkpointer has ended that ran while the last handle of the desk was
 /// committed.
-pub fn race<R: Host, D: SharedDisk, H: SharedOrigin, N: SharedLedger>(
-    rt: &R,
-    desk: Still<D, H, N>,
-    race: u64,
-)
+fn check_race<
+    R: Abort + Threads + Wait + Sync,
+    D: Disk + Drop + Send,
+    H: Origin + Send + Sync,
+    N: Ledger + Send + Sync,
+>(rt: &R, race: u64, desk: Still<D, H, N>)
     requires any { (words : WordMap) → H.begun.stops words }
 {
     let (_, ended) = thread::join(rt, || commit_last(rt, &desk), || run_crowded(rt, &desk));
     let is_empty = desk.checkpoint_round(rt) == Err(CheckpointFault::Nothing);
-    check_at(rt, ended.is_shut(), "how it ends in race", race);
+    check_at(
+        rt,
+        ended.is_shut(),
+        "how the checkpointer ends in race",
+        race,
+    );
     check_at(rt, is_empty, "a group is left in race", race);
+}
+
+/// Races the threads of a new desk.
+fn ends_with_no_group<
+    R: Abort + Threads + Wait + Sync,
+    H: Origin + Send + Sync,
+    N: Ledger + Send + Sync,
+>(rt: &R, alloc: Global, race: u64, handles: Stops, changes: Blank, marks: Opened<Deck<MemoryDisk>>)
+    requires blind { H.begun.is_known → ⊥ }
+    requires any { (words : WordMap) → H.begun.stops words }
+    requires handles { (handles.tickets.name ≡ H.name) × (handles.tickets.parts ≡ H.parts) × (H.parts ≡ 2 ^ 61 + 1) }
+    requires histories { (history_in handles ≡ H.history) × (history_id marks ≡ H.marks) }
+    requires changes { (changes.name ≡ N.name) × (changes.parts ≡ N.parts) × (N.parts ≡ 2 ^ 61 + 1) }
+{
+    let desk: Small<H, N> = small(rt, alloc, handles, changes, marks);
+    check_race(rt, race, desk)
 }
 
 #[test]
 fn a_checkpointer_ends_with_no_group(rt: HostRuntime) {
-    run_crews(&rt, Crew::Race, RACES);
+    for race in 0..RACES {
+        ends_with_no_group::<HostRuntime, Brand, Brand>(
+            &rt,
+            rt.alloc(),
+            race,
+            stops(&rt, rt.alloc()),
+            Blank::new(PARTS),
+            marks(&rt, rt.alloc()),
+        );
+    }
 }

@@ -1,11 +1,11 @@
 //! Desks that are over, and what is counted once they are closed.
 ghost use Rattle.std.specs.Prelude.{◌≡◌, ◌+◌, ◌^◌};
 
-use crate::bounds::Host;
 use crate::checks::check_of;
 use crate::journal::Still;
 use jb_desk::{CloseFault, Closed, Ended, Left, Origin, Seat, SeatFault};
 use jb_disk::{Disk, FixedClock};
+use std::alloc::Global;
 use std::process::Abort;
 use std::sync::Wait;
 use std::sync::ledger::Ledger;
@@ -30,12 +30,13 @@ pub fn over_at(ended: Ended) -> Option<u64> {
 }
 
 /// What is left by the only seat of a desk.
-pub fn left<R: Host, D: Disk, H: Origin, N: Ledger>(
+pub fn left<R: Abort + Wait, D: Disk, H: Origin, N: Ledger>(
     rt: &R,
+    alloc: Global,
     desk: &Still<D, H, N>,
     seat: Seat<H, N>,
 ) -> Vec<Left<H, N>> {
-    let mut lefts = Vec::new(rt.alloc());
+    let mut lefts = Vec::new(alloc);
     lefts.push(desk.leave(rt, seat)).expect(rt, "memory");
     lefts
 }

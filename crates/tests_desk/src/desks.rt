@@ -1,26 +1,37 @@
 //! Calls of a desk over the small journal, with the answers that its limits give by hand.
 ghost use Rattle.std.specs.Prelude.{◌≡◌, ◌+◌, ◌^◌};
 ghost use Rattle.jb_desk.specs.Desks.{desk_id};
+ghost use Rattle.jb_desk.specs.History.{history_in};
+ghost use Rattle.jb_board.specs.History.{history_id};
 ghost use Rattle.jb_desk.specs.Seats.{desk_of};
 ghost use Rattle.jb_handle.specs.Word.{WordMap};
 
-use crate::bounds::{Host, SharedDisk, SharedLedger, SharedOrigin};
-use crate::cases::{Case, run_each};
+use crate::blind::{marks, small, stops};
 use crate::checks::check;
 use crate::closing::{check_close, check_close_twice, is_closed, left, over_at};
-use crate::journal::{SHAPE, STOPPED, Still, begun, refused, seated, stop};
-use jb_deck::CheckpointFault;
-use jb_desk::{BeginFault, EnqueueFault, Left, Origin, Seat, WaitFault};
-use jb_disk::Disk;
+use crate::journal::{PARTS, SHAPE, Small, begun, refused, seated, stop};
+use jb_board::{Front, Opened};
+use jb_deck::{CheckpointFault, Deck};
+use jb_desk::{BeginFault, EnqueueFault, Left, Origin, Seat, Stops, WaitFault};
+use jb_disk::MemoryDisk;
 use jb_handle::Handle;
+use std::alloc::Global;
+use std::marker::Brand;
 use std::process::Abort;
 use std::sync::Wait;
-use std::sync::ledger::Ledger;
+use std::sync::ledger::{Blank, Ledger};
+
+/// One handle has stopped.
+const STOPPED: Front = Front {
+    settled: 0,
+    taken: 0,
+    stopped: 1,
+};
 
 /// A handle may have six credits, and no more.
-fn check_credits<R: Abort + Wait, D: Disk, H: Origin, N: Ledger>(
+fn check_credits<R: Abort + Wait, H: Origin, N: Ledger>(
     rt: &R,
-    desk: &Still<D, H, N>,
+    desk: &Small<H, N>,
     seat: Seat<H, N>,
 ) -> Seat<H, N>
     requires desk { desk_of seat ≡ desk_id desk.now }
@@ -29,15 +40,18 @@ fn check_credits<R: Abort + Wait, D: Disk, H: Origin, N: Ledger>(
     let (seat, most) = refused(rt, desk, seat, 6);
     let (seat, more) = refused(rt, desk, seat, 7);
     check(rt, most.is_none(), "a begin with six credits");
-    let is_refused = more == Some(BeginFault::TooManyCredits(6));
-    check(rt, is_refused, "a begin with seven credits");
+    check(
+        rt,
+        more == Some(BeginFault::TooManyCredits(6)),
+        "a begin with seven credits",
+    );
     seat
 }
 
 /// A seat stops a handle that revokes a home.
-fn check_stop<R: Abort + Wait, D: Disk, H: Origin, N: Ledger>(
+fn check_stop<R: Abort + Wait, H: Origin, N: Ledger>(
     rt: &R,
-    desk: &Still<D, H, N>,
+    desk: &Small<H, N>,
     seat: Seat<H, N>,
 ) -> Seat<H, N>
     requires any { (words : WordMap) → H.begun.stops words }
@@ -50,91 +64,107 @@ fn check_stop<R: Abort + Wait, D: Disk, H: Origin, N: Ledger>(
     let unknown = desk.wait(rt, &mut seat, &mut desk.sights(rt), 1);
     check(rt, ticket == Ok(0), "the ticket");
     check(rt, front == STOPPED, "the front");
-    let is_unknown = unknown == Err(WaitFault::Unknown);
-    check(rt, is_unknown, "the number of a ticket that nobody has");
+    check(
+        rt,
+        unknown == Err(WaitFault::Unknown),
+        "the number of a ticket that nobody has",
+    );
     seat
 }
 
 /// What a seat finds that stops one handle, and what is counted at the end: handles, changes and groups.
-fn one_handle<R: Host, D: SharedDisk, H: Origin, N: Ledger>(rt: &R, desk: Still<D, H, N>)
+fn one_handle<R: Abort + Wait, H: Origin, N: Ledger>(rt: &R, alloc: Global, desk: Small<H, N>)
     requires any { (words : WordMap) → H.begun.stops words }
     requires parts { (H.parts ≡ 2 ^ 61 + 1) × (N.parts ≡ 2 ^ 61 + 1) }
 {
     let seat = check_credits(rt, &desk, seated(rt, &desk));
     let seat = check_stop(rt, &desk, seat);
     let checked = desk.checkpoint_round(rt);
-    let is_nothing = checked == Err(CheckpointFault::Nothing);
-    check(rt, is_nothing, "a checkpoint of no group");
+    check(
+        rt,
+        checked == Err(CheckpointFault::Nothing),
+        "a checkpoint of no group",
+    );
     desk.shut(rt);
     let (seat, begun) = refused(rt, &desk, seat, 1);
-    let is_refused = begun == Some(BeginFault::Closed);
-    check(rt, is_refused, "a begin at a desk that is shut");
-    let lefts = left(rt, &desk, seat);
+    check(
+        rt,
+        begun == Some(BeginFault::Closed),
+        "a begin at a desk that is shut",
+    );
+    let lefts = left(rt, alloc, &desk, seat);
     check(rt, is_closed(rt, &desk), "a desk that is shut gives a seat");
     check_close(rt, "one handle", desk, lefts, (1, 1, 0))
 }
 
 /// A seat begins a handle, takes it apart, and begins another one. Gives what it leaves.
-fn check_busy<R: Abort + Wait, D: Disk, H: Origin, N: Ledger>(
-    rt: &R,
-    desk: &Still<D, H, N>,
-) -> Left<H, N> {
+fn check_busy<R: Abort + Wait, H: Origin, N: Ledger>(rt: &R, desk: &Small<H, N>) -> Left<H, N> {
     let handle = begun(rt, desk, seated(rt, desk), 1, "a handle that its seat ends");
     let (seat, _words) = handle.end();
     let (seat, busy) = refused(rt, desk, seat, 1);
-    let is_busy = busy == Some(BeginFault::Busy);
-    check(rt, is_busy, "a begin after a handle was taken apart");
+    check(
+        rt,
+        busy == Some(BeginFault::Busy),
+        "a begin of a seat that has ended its handle itself",
+    );
     desk.leave(rt, seat)
 }
 
 /// A seat stops a handle that nobody has begun.
-fn check_foreign<R: Host, D: Disk, H: Origin, N: Ledger>(
+fn check_foreign<R: Abort + Wait, H: Origin, N: Ledger>(
     rt: &R,
-    desk: &Still<D, H, N>,
+    alloc: Global,
+    desk: &Small<H, N>,
     seat: Seat<H, N>,
 ) -> Seat<H, N>
     requires any { (words : WordMap) → H.begun.stops words }
     requires desk { desk_of seat ≡ desk_id desk.now }
 {
-    let handle = Handle::new(rt.alloc(), seat, 1, SHAPE);
+    let handle = Handle::new(alloc, seat, 1, SHAPE);
     let (seat, foreign) = stop(rt, desk, handle);
-    let is_refused = foreign == Err(EnqueueFault::NotOpen);
-    check(rt, is_refused, "the stop of a handle that is not begun");
+    check(
+        rt,
+        foreign == Err(EnqueueFault::NotOpen),
+        "the stop of a handle that nobody has begun",
+    );
     seat
 }
 
 /// What is answered of a handle that its seat has ended itself, of one that nobody has begun, and of a desk
 /// of which one seat has not left; and what is counted once all have.
-fn strays<R: Host, D: SharedDisk, H: Origin, N: Ledger>(rt: &R, desk: Still<D, H, N>)
+fn strays<R: Abort + Wait, H: Origin, N: Ledger>(rt: &R, alloc: Global, desk: Small<H, N>)
     requires any { (words : WordMap) → H.begun.stops words }
     requires parts { (H.parts ≡ 2 ^ 61 + 1) × (N.parts ≡ 2 ^ 61 + 1) }
 {
     let first = check_busy(rt, &desk);
-    let seat = check_foreign(rt, &desk, seated(rt, &desk));
-    let lefts = left(rt, &desk, seat);
+    let seat = check_foreign(rt, alloc, &desk, seated(rt, &desk));
+    let lefts = left(rt, alloc, &desk, seat);
     desk.shut(rt);
     // a checkpointer would not end where a handle stays listed
     let over = over_at(desk.run_checkpointer(rt));
-    check(rt, over == Some(0), "handles that were settled");
+    check(
+        rt,
+        over == Some(0),
+        "how many handles were settled when the desk was over",
+    );
     check_close_twice(rt, "strays", desk, lefts, first, (0, 0, 0))
 }
 
 /// Beside five handles of 6 credits, one of 3 is refused, and one of 2 is begun.
-fn check_full<R: Abort + Wait, D: Disk, H: Origin, N: Ledger>(rt: &R, desk: &Still<D, H, N>) {
+fn check_full<R: Abort + Wait, H: Origin, N: Ledger>(rt: &R, desk: &Small<H, N>) {
     let (seat, three) = refused(rt, desk, seated(rt, desk), 3);
     let (seat, two) = refused(rt, desk, seat, 2);
     let _left = desk.leave(rt, seat);
-    let is_full = three == Some(BeginFault::Full(30));
-    check(rt, is_full, "a begin with three credits");
+    check(
+        rt,
+        three == Some(BeginFault::Full(30)),
+        "a begin with three credits",
+    );
     check(rt, two.is_none(), "a begin with two credits");
 }
 
 /// Begins so many handles of 6 credits, one in the other, and asks for more beside them.
-fn beside<R: Abort + Wait, D: Disk, H: Origin, N: Ledger>(
-    rt: &R,
-    desk: &Still<D, H, N>,
-    count: u32,
-) {
+fn beside<R: Abort + Wait, H: Origin, N: Ledger>(rt: &R, desk: &Small<H, N>, count: u32) {
     if count == 0 {
         return check_full(rt, desk);
     }
@@ -145,7 +175,7 @@ fn beside<R: Abort + Wait, D: Disk, H: Origin, N: Ledger>(
 }
 
 /// Six seats, one after the other, begin a handle of 6 credits and leave with it.
-fn leavers<R: Abort + Wait, D: Disk, H: Origin, N: Ledger>(rt: &R, desk: &Still<D, H, N>) {
+fn leavers<R: Abort + Wait, H: Origin, N: Ledger>(rt: &R, desk: &Small<H, N>) {
     for _ in 0..6 {
         let handle = begun(rt, desk, seated(rt, desk), 6, "a handle after leavers");
         let (seat, _words) = handle.end();
@@ -154,6 +184,7 @@ fn leavers<R: Abort + Wait, D: Disk, H: Origin, N: Ledger>(rt: &R, desk: &Still<
 }
 
 /// What is asked of a new desk.
+#[derive(Drop)]
 enum Row {
     OneHandle,
     Beside,
@@ -161,23 +192,40 @@ enum Row {
     Strays,
 }
 
-static ROWS: [Row; 4] = [Row::OneHandle, Row::Beside, Row::Leavers, Row::Strays];
-
-impl<D: SharedDisk> Case<D, ()> for Row {
-    fn run<R: Host, H: SharedOrigin, N: SharedLedger>(&self, rt: &R, desk: Still<D, H, N>, _at: u64)
-        requires any { (words : WordMap) → H.begun.stops words }
-        requires parts { (H.parts ≡ 2 ^ 61 + 1) × (N.parts ≡ 2 ^ 61 + 1) }
-    {
-        match self {
-            Row::OneHandle => one_handle(rt, desk),
-            Row::Beside => beside(rt, &desk, 5),
-            Row::Leavers => leavers(rt, &desk),
-            Row::Strays => strays(rt, desk),
-        }
+/// What a new desk answers.
+fn rows<R: Abort + Wait, H: Origin, N: Ledger>(
+    rt: &R,
+    alloc: Global,
+    row: Row,
+    handles: Stops,
+    changes: Blank,
+    marks: Opened<Deck<MemoryDisk>>,
+)
+    requires blind { H.begun.is_known → ⊥ }
+    requires any { (words : WordMap) → H.begun.stops words }
+    requires handles { (handles.tickets.name ≡ H.name) × (handles.tickets.parts ≡ H.parts) × (H.parts ≡ 2 ^ 61 + 1) }
+    requires histories { (history_in handles ≡ H.history) × (history_id marks ≡ H.marks) }
+    requires changes { (changes.name ≡ N.name) × (changes.parts ≡ N.parts) × (N.parts ≡ 2 ^ 61 + 1) }
+{
+    let desk: Small<H, N> = small(rt, alloc, handles, changes, marks);
+    match row {
+        Row::OneHandle => one_handle(rt, alloc, desk),
+        Row::Beside => beside(rt, &desk, 5),
+        Row::Leavers => leavers(rt, &desk),
+        Row::Strays => strays(rt, alloc, desk),
     }
 }
 
 #[test]
 fn desks_answer_as_worked_by_hand(rt: HostRuntime) {
-    run_each(&rt, &ROWS);
+    for row in [Row::OneHandle, Row::Beside, Row::Leavers, Row::Strays] {
+        rows::<HostRuntime, Brand, Brand>(
+            &rt,
+            rt.alloc(),
+            row,
+            stops(&rt, rt.alloc()),
+            Blank::new(PARTS),
+            marks(&rt, rt.alloc()),
+        );
+    }
 }

@@ -1,21 +1,25 @@
 //! How committers and checkpointers end, and that all that stopped is done then.
 ghost use Rattle.std.specs.Prelude.{◌≡◌, ◌+◌, ◌^◌};
 ghost use Rattle.jb_desk.specs.Desks.{desk_id};
+ghost use Rattle.jb_desk.specs.History.{history_in};
+ghost use Rattle.jb_board.specs.History.{history_id};
 ghost use Rattle.jb_desk.specs.Seats.{desk_of};
 ghost use Rattle.jb_handle.specs.Word.{WordMap};
 
-use crate::bounds::{Host, SharedDisk, SharedLedger, SharedOrigin};
-use crate::cases::{Case, run_each};
+use crate::blind::{marks, small, stops};
 use crate::checks::check;
 use crate::closing::{check_close, is_closed, left, over_at};
-use crate::journal::{Still, refused, retired, seated, write};
-use jb_board::Front;
-use jb_deck::CheckpointFault;
-use jb_desk::{Origin, Seat};
-use jb_disk::Disk;
+use crate::journal::{PARTS, Small, refused, retired, seated, write};
+use jb_board::{Front, Opened};
+use jb_deck::{CheckpointFault, Deck};
+use jb_desk::{Origin, Seat, Stops};
+use jb_disk::MemoryDisk;
+use std::alloc::Global;
+use std::marker::Brand;
 use std::process::Abort;
 use std::sync::Wait;
-use std::sync::ledger::Ledger;
+use std::sync::ledger::{Blank, Ledger};
+use std::time::Clock;
 
 /// How far the two handles have come at the end.
 const DONE: Front = Front {
@@ -25,9 +29,9 @@ const DONE: Front = Front {
 };
 
 /// A committer without a batch gives up, and two handles stop.
-fn stop_two<R: Abort + Wait, D: Disk, H: Origin, N: Ledger>(
+fn stop_two<R: Abort + Wait, H: Origin, N: Ledger>(
     rt: &R,
-    desk: &Still<D, H, N>,
+    desk: &Small<H, N>,
     seat: Seat<H, N>,
 ) -> Seat<H, N>
     requires any { (words : WordMap) → H.begun.stops words }
@@ -36,16 +40,20 @@ fn stop_two<R: Abort + Wait, D: Disk, H: Origin, N: Ledger>(
 {
     let seat = desk.give_up(rt, desk.committer(seat));
     let (seat, begun) = refused(rt, desk, seat, 1);
-    check(rt, begun.is_none(), "a begin after nothing was given up");
+    check(
+        rt,
+        begun.is_none(),
+        "a begin after a committer without a batch has given up",
+    );
     let (seat, _) = write(rt, desk, seat, 1, &[1]);
     let (seat, _) = write(rt, desk, seat, 2, &[2, 3]);
     seat
 }
 
 /// A committer and a checkpointer end at a desk that is shut, with two handles settled.
-fn end<R: Host, D: Disk, H: Origin, N: Ledger>(
+fn end<R: Abort + Wait + Clock, H: Origin, N: Ledger>(
     rt: &R,
-    desk: &Still<D, H, N>,
+    desk: &Small<H, N>,
     seat: Seat<H, N>,
 ) -> Seat<H, N>
     requires desk { desk_of seat ≡ desk_id desk.now }
@@ -60,28 +68,43 @@ fn end<R: Host, D: Disk, H: Origin, N: Ledger>(
     let ended = desk.run_checkpointer(rt);
     check(rt, over_at(ended) == Some(2), "how the checkpointer ends");
     let last = desk.checkpoint_round(rt);
-    let is_empty = last == Err(CheckpointFault::Nothing);
-    check(rt, is_empty, "a group is left in the log");
+    check(
+        rt,
+        last == Err(CheckpointFault::Nothing),
+        "a group is left in the log",
+    );
     seat
 }
 
 /// Two handles stop at a new desk which is shut then.
-struct Shut;
-
-impl<D: SharedDisk> Case<D, ()> for Shut {
-    fn run<R: Host, H: SharedOrigin, N: SharedLedger>(&self, rt: &R, desk: Still<D, H, N>, _at: u64)
-        requires any { (words : WordMap) → H.begun.stops words }
-        requires parts { (H.parts ≡ 2 ^ 61 + 1) × (N.parts ≡ 2 ^ 61 + 1) }
-    {
-        let seat = stop_two(rt, &desk, seated(rt, &desk));
-        let seat = end(rt, &desk, seat);
-        let lefts = left(rt, &desk, seat);
-        check(rt, is_closed(rt, &desk), "a desk that is shut gives a seat");
-        check_close(rt, "the desk", desk, lefts, (2, 3, 1))
-    }
+fn desk_ended<R: Abort + Wait + Clock, H: Origin, N: Ledger>(
+    rt: &R,
+    alloc: Global,
+    handles: Stops,
+    changes: Blank,
+    marks: Opened<Deck<MemoryDisk>>,
+)
+    requires blind { H.begun.is_known → ⊥ }
+    requires any { (words : WordMap) → H.begun.stops words }
+    requires handles { (handles.tickets.name ≡ H.name) × (handles.tickets.parts ≡ H.parts) × (H.parts ≡ 2 ^ 61 + 1) }
+    requires histories { (history_in handles ≡ H.history) × (history_id marks ≡ H.marks) }
+    requires changes { (changes.name ≡ N.name) × (changes.parts ≡ N.parts) × (N.parts ≡ 2 ^ 61 + 1) }
+{
+    let desk: Small<H, N> = small(rt, alloc, handles, changes, marks);
+    let seat = stop_two(rt, &desk, seated(rt, &desk));
+    let seat = end(rt, &desk, seat);
+    let lefts = left(rt, alloc, &desk, seat);
+    check(rt, is_closed(rt, &desk), "a desk that is shut gives a seat");
+    check_close(rt, "the desk", desk, lefts, (2, 3, 1))
 }
 
 #[test]
 fn a_desk_that_is_shut_ends_with_all_done(rt: HostRuntime) {
-    run_each(&rt, &[Shut]);
+    desk_ended::<HostRuntime, Brand, Brand>(
+        &rt,
+        rt.alloc(),
+        stops(&rt, rt.alloc()),
+        Blank::new(PARTS),
+        marks(&rt, rt.alloc()),
+    );
 }

@@ -1,19 +1,29 @@
 //! A round over a disk that fails once, at each of its calls.
 ghost use Rattle.std.specs.Prelude.{◌≡◌, ◌+◌, ◌^◌};
+ghost use Rattle.jb_desk.specs.History.{history_in};
+ghost use Rattle.jb_board.specs.History.{history_id};
 ghost use Rattle.jb_handle.specs.Word.{WordMap};
 
-use crate::bounds::{Host, SharedDisk, SharedLedger, SharedOrigin};
-use crate::cases::{Case, Fails, run_each_fault};
-use crate::checks::check_at;
+use crate::blind::{marks, start, stops};
+use crate::checks::{check, check_at, fail};
 use crate::closing::{closed, left};
 use crate::journal::{
-    Came, Still, begun, home, is_one, refused, retired, round, seated, stop, write,
+    Came, PARTS, Still, begun, formatted, home, is_one, opened, refused, retired, round, seated,
+    stop, write,
 };
-use jb_desk::{BeginFault, EnqueueFault, Origin, RoundFault};
-use jb_disk::{MemoryDisk, OneFaultDisk};
+use jb_board::Opened;
+use jb_deck::Deck;
+use jb_desk::{BeginFault, EnqueueFault, Origin, RoundFault, Stops};
+use jb_disk::{Disk, MemoryDisk, OneFaultDisk};
 use jb_recover::recover;
+use std::alloc::Global;
+use std::marker::Brand;
 use std::process::Abort;
-use std::sync::ledger::Ledger;
+use std::sync::Wait;
+use std::sync::ledger::{Blank, Ledger};
+
+/// A desk whose disk fails once.
+type Failing<H, N> = Still<OneFaultDisk<MemoryDisk>, H, N>;
 
 /// What follows a round in which one handle is committed while another is open: what the other's stop and a further
 /// begin answer, how many handles have stopped, whether the committer retires, and the handles and changes at the end.
@@ -56,9 +66,9 @@ static COMMITTED: Answers = Answers {
 
 /// Checks that recovery finds home block 1 whole where this call of the disk fails: it has one byte throughout, 0 as it
 /// was, or 7 as it is written.
-fn check_whole(rt: &impl Host, call: u64, disk: MemoryDisk) {
+fn check_whole(rt: &impl Abort, alloc: Global, call: u64, disk: MemoryDisk) {
     let mut disk = disk;
-    let is_recovered = recover(rt.alloc(), &mut disk).is_ok();
+    let is_recovered = recover(alloc, &mut disk).is_ok();
     check_at(rt, is_recovered, "the recovery, fault", call);
     let block = home(rt, &mut disk, 1);
     let is_whole = block == [0; 1024] || block == [7; 1024];
@@ -66,8 +76,9 @@ fn check_whole(rt: &impl Host, call: u64, disk: MemoryDisk) {
 }
 
 /// What the round comes to and what follows it, and the disk then.
-fn after_round<R: Host, D: SharedDisk, H: Origin, N: Ledger>(
+fn after_round<R: Abort + Wait, D: Disk + Drop, H: Origin, N: Ledger>(
     rt: &R,
+    alloc: Global,
     desk: Still<D, H, N>,
 ) -> (Found, D)
     requires any { (words : WordMap) → H.begun.stops words }
@@ -80,7 +91,7 @@ fn after_round<R: Host, D: SharedDisk, H: Origin, N: Ledger>(
     let (seat, second) = stop(rt, &desk, handle);
     let (mut seat, begun) = refused(rt, &desk, seat, 1);
     let stopped = desk.front(&mut seat).stopped;
-    let mut lefts = left(rt, &desk, seat);
+    let mut lefts = left(rt, alloc, &desk, seat);
     let (seat, is_retired) = retired(rt, &desk, committer);
     lefts.push(desk.leave(rt, seat)).expect(rt, "memory");
     let closed = closed(rt, desk, lefts);
@@ -95,52 +106,80 @@ fn after_round<R: Host, D: SharedDisk, H: Origin, N: Ledger>(
     (Found { came, answers }, closed.disk)
 }
 
+/// What is found where this call of the disk fails; `None` where the journal cannot be opened then.
+fn failing<R: Abort + Wait, H: Origin, N: Ledger>(
+    rt: &R,
+    alloc: Global,
+    call: u64,
+    handles: Stops,
+    changes: Blank,
+    marks: Opened<Deck<OneFaultDisk<MemoryDisk>>>,
+) -> Option<Found>
+    requires blind { H.begun.is_known → ⊥ }
+    requires any { (words : WordMap) → H.begun.stops words }
+    requires handles { (handles.tickets.name ≡ H.name) × (handles.tickets.parts ≡ H.parts) × (H.parts ≡ 2 ^ 61 + 1) }
+    requires histories { (history_in handles ≡ H.history) × (history_id marks ≡ H.marks) }
+    requires changes { (changes.name ≡ N.name) × (changes.parts ≡ N.parts) × (N.parts ≡ 2 ^ 61 + 1) }
+{
+    match opened(alloc, OneFaultDisk::of(formatted(rt, alloc), call)) {
+        Some(deck) => {
+            let desk: Failing<H, N> = start(rt, alloc, handles, changes, marks, deck);
+            let (found, disk) = after_round(rt, alloc, desk);
+            check_whole(rt, alloc, call, disk.into_inner());
+            Some(found)
+        }
+        None => None,
+    }
+}
+
 /// Checks what follows a round of which this call of the disk fails.
 fn check_answers(rt: &impl Abort, call: u64, found: &Answers, wanted: &Answers) {
     let is_second = found.second == wanted.second;
     let is_begun = found.begun == wanted.begun;
-    let is_stopped = found.stopped == wanted.stopped;
     let is_retired = found.is_retired == wanted.is_retired;
     check_at(rt, is_second, "the stop of the other handle, fault", call);
     check_at(rt, is_begun, "a further begin, fault", call);
-    check_at(rt, is_stopped, "stopped handles, fault", call);
+    check_at(
+        rt,
+        found.stopped == wanted.stopped,
+        "stopped handles, fault",
+        call,
+    );
     check_at(rt, is_retired, "whether the committer retires, fault", call);
     check_at(rt, found.handles == wanted.handles, "handles, fault", call);
     check_at(rt, found.changes == wanted.changes, "changes, fault", call);
 }
 
-/// Checks what is found where this call of the disk fails, or is not made. Says where it is.
-fn check_found(rt: &impl Abort, call: u64, found: &Found) -> Fails {
+/// Checks what is found where this call of the disk fails, or is not made. Says whether the round has failed.
+fn check_found(rt: &impl Abort, call: u64, found: &Found) -> bool {
     if is_one(found.came, 0, 2) {
         check_answers(rt, call, &found.answers, &COMMITTED);
-        return Fails::Never;
+        return false;
     }
     let has_failed = matches!(found.came, Came::Failed(RoundFault::DeviceFault));
     check_at(rt, has_failed, "how the round fails, fault", call);
     check_answers(rt, call, &found.answers, &FAILED);
-    Fails::Here
-}
-
-/// A round that commits one handle while another is open.
-struct AfterRound;
-
-impl Case<OneFaultDisk<MemoryDisk>, Fails> for AfterRound {
-    fn run<R: Host, H: SharedOrigin, N: SharedLedger>(
-        &self,
-        rt: &R,
-        desk: Still<OneFaultDisk<MemoryDisk>, H, N>,
-        call: u64,
-    ) -> Fails
-        requires any { (words : WordMap) → H.begun.stops words }
-        requires parts { (H.parts ≡ 2 ^ 61 + 1) × (N.parts ≡ 2 ^ 61 + 1) }
-    {
-        let (found, disk) = after_round(rt, desk);
-        check_whole(rt, call, disk.into_inner());
-        check_found(rt, call, &found)
-    }
+    true
 }
 
 #[test]
 fn close_adds_up_after_each_fault(rt: HostRuntime) {
-    run_each_fault(&rt, &AfterRound);
+    let mut has_failed = false;
+    for call in 0..200 {
+        let found = failing::<HostRuntime, Brand, Brand>(
+            &rt,
+            rt.alloc(),
+            call,
+            stops(&rt, rt.alloc()),
+            Blank::new(PARTS),
+            marks(&rt, rt.alloc()),
+        );
+        if let Some(found) = found {
+            if !check_found(&rt, call, &found) {
+                return check(&rt, has_failed, "no call fails in the round");
+            }
+            has_failed = true;
+        }
+    }
+    fail(&rt, "some call of the first 200 always fails")
 }

@@ -1,20 +1,29 @@
 //! A handle stops while the disk is at work for another thread.
 ghost use Rattle.std.specs.Prelude.{◌≡◌, ◌+◌, ◌^◌};
+ghost use Rattle.jb_desk.specs.History.{history_in};
+ghost use Rattle.jb_board.specs.History.{history_id};
 ghost use Rattle.jb_disk.specs.Faults.{CountsFault, counted};
 ghost use Rattle.jb_handle.specs.Word.{WordMap};
 
-use crate::bounds::{Host, SharedDisk, SharedLedger, SharedOrigin};
+use crate::blind::{marks, start, stops};
 use crate::checks::check;
 use crate::closing::check_close;
-use crate::crews::{Crew, run_crew};
-use crate::journal::{Still, begun, formatted, is_one, retired, round, seated, stop, write};
+use crate::journal::{
+    PARTS, Still, begun, formatted, is_one, opened, retired, round, seated, stop, write,
+};
 use jb_block::BlockSize;
-use jb_desk::{Left, Origin};
+use jb_board::Opened;
+use jb_deck::Deck;
+use jb_desk::{Left, Origin, Stops};
 use jb_disk::{Disk, Fault, MemoryDisk};
+use std::alloc::Global;
+use std::marker::Brand;
 use std::process::Abort;
+use std::sync::Wait;
 use std::sync::atomic::{AtomicBool, Ordering};
-use std::sync::ledger::Ledger;
+use std::sync::ledger::{Blank, Ledger};
 use std::thread;
+use std::thread::Threads;
 use std::time::{Clock, Duration};
 
 /// How often a thread asks for what another is to do, once in a millisecond.
@@ -69,10 +78,17 @@ pub struct GateDisk<'a, D: Disk, K: Clock> {
     failed: u64,
 }
 
+/// A desk over the small journal on such a disk.
+pub type Gated<'a, K, H, N> = Still<GateDisk<'a, MemoryDisk, K>, H, N>;
+
 /// The small journal on such a disk.
-pub fn gated_disk<'a, R: Host>(rt: &'a R, gate: &'a Gate) -> GateDisk<'a, MemoryDisk, R> {
+pub fn gated_disk<'a, R: Abort + Clock>(
+    rt: &'a R,
+    alloc: Global,
+    gate: &'a Gate,
+) -> GateDisk<'a, MemoryDisk, R> {
     GateDisk {
-        disk: formatted(rt),
+        disk: formatted(rt, alloc),
         gate,
         clock: rt,
         is_open: false,
@@ -147,8 +163,8 @@ fn pass<K: Clock>(clock: &K, gate: &Gate, failed: &mut u64) -> Result<(), Fault>
 }
 
 /// Commits a handle, and then the one that stops meanwhile. Gives what its seat leaves.
-fn first<R: Host, D: Disk, H: Origin, N: Ledger>(
-    rt: &R,
+fn first<K: Abort + Wait + Clock, D: Disk, H: Origin, N: Ledger>(
+    rt: &K,
     desk: &Still<D, H, N>,
     gate: &Gate,
 ) -> Left<H, N>
@@ -162,16 +178,22 @@ fn first<R: Host, D: Disk, H: Origin, N: Ledger>(
     let (mut seat, _) = retired(rt, desk, committer);
     check(rt, is_one(one, 0, 2), "the first round");
     check(rt, is_one(other, 1, 3), "the second round");
-    let number = desk.wait(rt, &mut seat, &mut desk.sights(rt), 0);
-    check(rt, number == Ok(2), "the number of the first ticket");
-    let number = desk.wait(rt, &mut seat, &mut desk.sights(rt), 1);
-    check(rt, number == Ok(3), "the number of the second ticket");
+    check(
+        rt,
+        desk.wait(rt, &mut seat, &mut desk.sights(rt), 0) == Ok(2),
+        "the number of the first ticket",
+    );
+    check(
+        rt,
+        desk.wait(rt, &mut seat, &mut desk.sights(rt), 1) == Ok(3),
+        "the number of the second ticket",
+    );
     desk.leave(rt, seat)
 }
 
 /// Stops a handle while the disk is at work. Gives what its seat leaves.
-fn second<R: Host, D: Disk, H: Origin, N: Ledger>(
-    rt: &R,
+fn second<K: Abort + Wait + Clock, D: Disk, H: Origin, N: Ledger>(
+    rt: &K,
     desk: &Still<D, H, N>,
     gate: &Gate,
 ) -> Left<H, N>
@@ -188,28 +210,56 @@ fn second<R: Host, D: Disk, H: Origin, N: Ledger>(
 }
 
 /// Two threads stop a handle each, the second one while the disk is at work for the first.
-pub fn stop_both<R: Host, D: SharedDisk, H: SharedOrigin, N: SharedLedger>(
-    rt: &R,
-    desk: Still<D, H, N>,
-    gate: &Gate,
-)
+fn stop_both<
+    R: Abort + Threads + Wait + Clock + Sync,
+    D: Disk + Drop + Send,
+    H: Origin + Send + Sync,
+    N: Ledger + Send + Sync,
+>(rt: &R, alloc: Global, gate: &Gate, desk: Still<D, H, N>)
     requires any { (words : WordMap) → H.begun.stops words }
     requires parts { (H.parts ≡ 2 ^ 61 + 1) × (N.parts ≡ 2 ^ 61 + 1) }
 {
     let (other, one) = thread::join(rt, || second(rt, &desk, gate), || first(rt, &desk, gate));
-    let mut lefts = Vec::new(rt.alloc());
+    let mut lefts = Vec::new(alloc);
     lefts.push(one).expect(rt, "memory");
     lefts.push(other).expect(rt, "memory");
     check_close(rt, "the desk", desk, lefts, (2, 2, 2))
 }
 
 /// Two threads stop a handle each at a new desk.
-fn check_stops(rt: &impl Host) {
-    let gate = Gate::shut();
-    run_crew(rt, gated_disk(rt, &gate), Crew::Stopping(&gate), 0);
+fn gated<
+    'a,
+    R: Abort + Threads + Wait + Clock + Sync,
+    H: Origin + Send + Sync,
+    N: Ledger + Send + Sync,
+>(
+    rt: &'a R,
+    alloc: Global,
+    gate: &'a Gate,
+    handles: Stops,
+    changes: Blank,
+    marks: Opened<Deck<GateDisk<'a, MemoryDisk, R>>>,
+)
+    requires blind { H.begun.is_known → ⊥ }
+    requires any { (words : WordMap) → H.begun.stops words }
+    requires handles { (handles.tickets.name ≡ H.name) × (handles.tickets.parts ≡ H.parts) × (H.parts ≡ 2 ^ 61 + 1) }
+    requires histories { (history_in handles ≡ H.history) × (history_id marks ≡ H.marks) }
+    requires changes { (changes.name ≡ N.name) × (changes.parts ≡ N.parts) × (N.parts ≡ 2 ^ 61 + 1) }
+{
+    let deck = opened(alloc, gated_disk(rt, alloc, gate)).expect(rt, "the journal is not opened");
+    let desk: Gated<'_, R, H, N> = start(rt, alloc, handles, changes, marks, deck);
+    stop_both(rt, alloc, gate, desk)
 }
 
 #[test]
 fn gate_two_stops(rt: HostRuntime) {
-    check_stops(&rt);
+    let gate = Gate::shut();
+    gated::<HostRuntime, Brand, Brand>(
+        &rt,
+        rt.alloc(),
+        &gate,
+        stops(&rt, rt.alloc()),
+        Blank::new(PARTS),
+        marks(&rt, rt.alloc()),
+    );
 }

@@ -6,10 +6,8 @@ ghost use Rattle.jb_desk.specs.Rounds.{seat_of};
 ghost use Rattle.jb_desk.specs.Seats.{desk_of};
 ghost use Rattle.jb_handle.specs.Word.{WordMap};
 
-use crate::bounds::Host;
 use crate::checks::{read_at, write_at};
 use jb_block::{BlockSize, Width, put32};
-use jb_board::Front;
 use jb_deck::{Deck, Entry};
 use jb_desk::{
     BeginFault, Committer, Desk, EnqueueFault, Origin, Round, RoundFault, Seat, StopFault,
@@ -26,6 +24,12 @@ use std::sync::ledger::Ledger;
 /// A desk over a disk, whose clock stands still.
 pub type Still<D, H, N> = Desk<D, FixedClock, H, N>;
 
+/// A desk over the small journal.
+pub type Small<H, N> = Still<MemoryDisk, H, N>;
+
+/// The parts of each ledger of a desk.
+pub const PARTS: u64 = (1 << 61) + 1;
+
 /// The clock of all desks.
 pub const CLOCK: FixedClock = FixedClock {
     stamp: Stamp { sec: 0, nsec: 0 },
@@ -39,38 +43,25 @@ pub const SHAPE: Shape = Shape {
     width: Width::Narrow,
 };
 
-/// The only handle of a desk has stopped.
-pub const STOPPED: Front = Front {
-    settled: 0,
-    taken: 0,
-    stopped: 1,
-};
-
 /// A new journal of 32 usable log blocks and 16 home blocks, of which a group takes 8 log blocks at most.
-pub fn formatted(rt: &impl Host) -> MemoryDisk {
-    with_journal(rt, 33, 16)
-}
-
-/// A new journal of so many blocks, and so many home blocks after them.
-pub fn with_journal(rt: &impl Host, blocks: u32, homes: u64) -> MemoryDisk {
-    let all = u64::from(blocks).saturating_add(homes);
-    let mut disk = MemoryDisk::new(rt.alloc(), BlockSize::OneKib, all).expect(rt, "memory");
-    format(&mut disk, blocks, 0, [0; 16], Width::Narrow).expect(rt, "the journal is not made");
+pub fn formatted(rt: &impl Abort, alloc: Global) -> MemoryDisk {
+    let mut disk = MemoryDisk::new(alloc, BlockSize::OneKib, 49).expect(rt, "memory");
+    format(&mut disk, 33, 0, [0; 16], Width::Narrow).expect(rt, "the journal is not made");
     disk
 }
 
-/// The small journal with one number left for a transaction.
-pub fn with_one_number(rt: &impl Host) -> MemoryDisk {
-    let mut disk = formatted(rt);
+/// The same journal after a transaction of this number.
+pub fn numbered(rt: &impl Abort, alloc: Global, number: u32) -> MemoryDisk {
+    let mut disk = formatted(rt, alloc);
     let mut front = [0; 1024];
     read_at(rt, &mut disk, 0, &mut front);
-    put32(&mut front, 24, u32::MAX - 1);
+    put32(&mut front, 24, number);
     write_at(rt, &mut disk, 0, &front);
     disk
 }
 
 /// What a disk holds of a home block, which are after the 33 blocks of the journal.
-pub fn home<D: Disk>(rt: &impl Abort, disk: &mut D, number: u64) -> [u8; 1024] {
+pub fn home(rt: &impl Abort, disk: &mut MemoryDisk, number: u64) -> [u8; 1024] {
     let mut block = [0; 1024];
     read_at(rt, disk, number.saturating_add(33), &mut block);
     block

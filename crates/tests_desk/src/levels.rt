@@ -1,29 +1,34 @@
 //! Checkpoints at a level: below it nothing is written home.
 ghost use Rattle.std.specs.Prelude.{◌≡◌, ◌+◌, ◌^◌};
 ghost use Rattle.jb_desk.specs.Desks.{desk_id};
+ghost use Rattle.jb_desk.specs.History.{history_in};
+ghost use Rattle.jb_board.specs.History.{history_id};
 ghost use Rattle.jb_desk.specs.Seats.{desk_of};
 ghost use Rattle.jb_handle.specs.Word.{WordMap};
 
-use crate::bounds::{Host, SharedDisk, SharedLedger, SharedOrigin};
-use crate::cases::{Case, run_each};
+use crate::blind::{marks, small, stops};
 use crate::checks::{check, check_at, check_in, fail};
 use crate::closing::{closed, left};
-use crate::crews::{Crew, run_crews};
-use crate::journal::{Still, commit, home, seated};
-use jb_deck::{CheckedRun, CheckpointFault};
-use jb_desk::{CheckpointRound, Origin, Seat};
-use jb_disk::Disk;
+use crate::journal::{PARTS, Small, Still, commit, home, seated};
+use jb_board::Opened;
+use jb_deck::{CheckedRun, CheckpointFault, Deck};
+use jb_desk::{CheckpointRound, Origin, Seat, Stops};
+use jb_disk::{Disk, MemoryDisk};
+use std::alloc::Global;
+use std::marker::Brand;
+use std::process::Abort;
 use std::sync::Wait;
-use std::sync::ledger::Ledger;
+use std::sync::ledger::{Blank, Ledger};
 use std::thread;
-use std::time::Duration;
+use std::thread::Threads;
+use std::time::{Clock, Duration};
 
 /// What a round of a checkpointer answers.
 type Answer = Result<CheckpointRound, CheckpointFault>;
 
 /// How many commits, and the level of the round after them; what it answers, and the first byte of home 0 on the disk
 /// then.
-struct Row(u64, u32, Answer, u8);
+type Row = (u64, u32, Answer, u8);
 
 /// Commits so many handles one by one, each of which writes the next home.
 fn commit_all<R: Wait, D: Disk, H: Origin, N: Ledger>(
@@ -44,20 +49,45 @@ fn commit_all<R: Wait, D: Disk, H: Origin, N: Ledger>(
     seat
 }
 
-impl<D: SharedDisk> Case<D, ()> for Row {
-    fn run<R: Host, H: SharedOrigin, N: SharedLedger>(&self, rt: &R, desk: Still<D, H, N>, at: u64)
-        requires any { (words : WordMap) → H.begun.stops words }
-        requires parts { (H.parts ≡ 2 ^ 61 + 1) × (N.parts ≡ 2 ^ 61 + 1) }
-    {
-        let Row(commits, level, answer, byte) = *self;
-        let seat = commit_all(rt, &desk, seated(rt, &desk), commits);
-        let is_told = desk.checkpoint_round_at(rt, level) == answer;
-        let lefts = left(rt, &desk, seat);
-        let mut closed = closed(rt, desk, lefts);
-        let found = home(rt, &mut closed.disk, 0)[0];
-        check_in(rt, is_told, at, "the answer after commits:", commits);
-        check_in(rt, found == byte, at, "the byte at home:", found.into());
-    }
+/// Checks what a desk comes to that has committed nothing yet.
+fn check_row<R: Abort + Wait, H: Origin, N: Ledger>(
+    rt: &R,
+    alloc: Global,
+    number: u64,
+    row: &Row,
+    desk: Small<H, N>,
+)
+    requires any { (words : WordMap) → H.begun.stops words }
+    requires parts { (H.parts ≡ 2 ^ 61 + 1) × (N.parts ≡ 2 ^ 61 + 1) }
+{
+    let (commits, level, answer, byte) = *row;
+    let seat = commit_all(rt, &desk, seated(rt, &desk), commits);
+    let is_told = desk.checkpoint_round_at(rt, level) == answer;
+    let lefts = left(rt, alloc, &desk, seat);
+    let mut closed = closed(rt, desk, lefts);
+    let found = home(rt, &mut closed.disk, 0)[0];
+    check_in(rt, is_told, number, "the answer after commits:", commits);
+    check_in(rt, found == byte, number, "the byte at home:", found.into());
+}
+
+/// A row on a new desk.
+fn level<R: Abort + Wait, H: Origin, N: Ledger>(
+    rt: &R,
+    alloc: Global,
+    number: u64,
+    row: &Row,
+    handles: Stops,
+    changes: Blank,
+    marks: Opened<Deck<MemoryDisk>>,
+)
+    requires blind { H.begun.is_known → ⊥ }
+    requires any { (words : WordMap) → H.begun.stops words }
+    requires handles { (handles.tickets.name ≡ H.name) × (handles.tickets.parts ≡ H.parts) × (H.parts ≡ 2 ^ 61 + 1) }
+    requires histories { (history_in handles ≡ H.history) × (history_id marks ≡ H.marks) }
+    requires changes { (changes.name ≡ N.name) × (changes.parts ≡ N.parts) × (N.parts ≡ 2 ^ 61 + 1) }
+{
+    let desk: Small<H, N> = small(rt, alloc, handles, changes, marks);
+    check_row(rt, alloc, number, row, desk)
 }
 
 /// The first groups, each of one home, are written home together: one of them, and two.
@@ -75,20 +105,30 @@ const TWO: Answer = Ok(CheckpointRound::Home(CheckedRun {
 
 /// Each commit takes three blocks of the log.
 static ROWS: [Row; 9] = [
-    Row(0, 0, Err(CheckpointFault::Nothing), 0),
-    Row(0, 1, Ok(CheckpointRound::Low(0)), 0),
-    Row(1, 0, ONE, 7),
-    Row(1, 3, ONE, 7),
-    Row(1, 4, Ok(CheckpointRound::Low(3)), 0),
-    Row(2, 0, TWO, 7),
-    Row(2, 6, TWO, 7),
-    Row(2, 7, Ok(CheckpointRound::Low(6)), 0),
-    Row(2, u32::MAX, Ok(CheckpointRound::Low(6)), 0),
+    (0, 0, Err(CheckpointFault::Nothing), 0),
+    (0, 1, Ok(CheckpointRound::Low(0)), 0),
+    (1, 0, ONE, 7),
+    (1, 3, ONE, 7),
+    (1, 4, Ok(CheckpointRound::Low(3)), 0),
+    (2, 0, TWO, 7),
+    (2, 6, TWO, 7),
+    (2, 7, Ok(CheckpointRound::Low(6)), 0),
+    (2, u32::MAX, Ok(CheckpointRound::Low(6)), 0),
 ];
 
 #[test]
 fn nothing_is_written_home_below_the_level(rt: HostRuntime) {
-    run_each(&rt, &ROWS);
+    for (number, row) in ROWS.iter().enumerate() {
+        level::<HostRuntime, Brand, Brand>(
+            &rt,
+            rt.alloc(),
+            number as u64,
+            row,
+            stops(&rt, rt.alloc()),
+            Blank::new(PARTS),
+            marks(&rt, rt.alloc()),
+        );
+    }
 }
 
 /// The level of the checkpointer that runs. Two groups are below it, and three are not.
@@ -98,7 +138,7 @@ const LEVEL: u32 = 7;
 const APART: u64 = 100;
 
 /// How many blocks of the log are in use.
-fn in_use<R: Host, D: Disk, H: Origin, N: Ledger>(rt: &R, desk: &Still<D, H, N>) -> u32 {
+fn in_use<R: Abort + Wait, D: Disk, H: Origin, N: Ledger>(rt: &R, desk: &Still<D, H, N>) -> u32 {
     match desk.checkpoint_round_at(rt, u32::MAX) {
         Ok(CheckpointRound::Low(used)) => used,
         _ => fail(rt, "a round at the highest level"),
@@ -106,7 +146,10 @@ fn in_use<R: Host, D: Disk, H: Origin, N: Ledger>(rt: &R, desk: &Still<D, H, N>)
 }
 
 /// How many are in use once there are fewer than the level, within ten seconds.
-fn in_use_at_last<R: Host, D: Disk, H: Origin, N: Ledger>(rt: &R, desk: &Still<D, H, N>) -> u32 {
+fn in_use_at_last<R: Abort + Wait + Clock, D: Disk, H: Origin, N: Ledger>(
+    rt: &R,
+    desk: &Still<D, H, N>,
+) -> u32 {
     for _ in 0..10_000 {
         let used = in_use(rt, desk);
         if used < LEVEL {
@@ -119,7 +162,10 @@ fn in_use_at_last<R: Host, D: Disk, H: Origin, N: Ledger>(rt: &R, desk: &Still<D
 
 /// Commits two handles and then a third beside a checkpointer, and shuts the desk. Two groups are in use a while after
 /// the second, and none is once the checkpointer has been at work after the third.
-fn commit_beside<R: Host, D: Disk, H: Origin, N: Ledger>(rt: &R, desk: &Still<D, H, N>)
+fn commit_beside<R: Abort + Wait + Clock, D: Disk, H: Origin, N: Ledger>(
+    rt: &R,
+    desk: &Still<D, H, N>,
+)
     requires { (words : WordMap) → H.begun.stops words }
 {
     let seat = commit_all(rt, desk, seated(rt, desk), 2);
@@ -134,9 +180,18 @@ fn commit_beside<R: Host, D: Disk, H: Origin, N: Ledger>(rt: &R, desk: &Still<D,
 }
 
 /// Commits beside a checkpointer at the level, which leaves no group once the desk is over.
-pub fn rest<R: Host, D: SharedDisk, H: SharedOrigin, N: SharedLedger>(rt: &R, desk: Still<D, H, N>)
+fn beside<
+    R: Abort + Threads + Wait + Clock + Sync,
+    H: Origin + Send + Sync,
+    N: Ledger + Send + Sync,
+>(rt: &R, alloc: Global, handles: Stops, changes: Blank, marks: Opened<Deck<MemoryDisk>>)
+    requires blind { H.begun.is_known → ⊥ }
     requires any { (words : WordMap) → H.begun.stops words }
+    requires handles { (handles.tickets.name ≡ H.name) × (handles.tickets.parts ≡ H.parts) × (H.parts ≡ 2 ^ 61 + 1) }
+    requires histories { (history_in handles ≡ H.history) × (history_id marks ≡ H.marks) }
+    requires changes { (changes.name ≡ N.name) × (changes.parts ≡ N.parts) × (N.parts ≡ 2 ^ 61 + 1) }
 {
+    let desk: Small<H, N> = small(rt, alloc, handles, changes, marks);
     let (ended, _) = thread::join(
         rt,
         || desk.run_checkpointer_at(rt, LEVEL),
@@ -150,5 +205,11 @@ pub fn rest<R: Host, D: SharedDisk, H: SharedOrigin, N: SharedLedger>(rt: &R, de
 
 #[test]
 fn a_checkpointer_rests_below_its_level(rt: HostRuntime) {
-    run_crews(&rt, Crew::Resting, 1);
+    beside::<HostRuntime, Brand, Brand>(
+        &rt,
+        rt.alloc(),
+        stops(&rt, rt.alloc()),
+        Blank::new(PARTS),
+        marks(&rt, rt.alloc()),
+    );
 }

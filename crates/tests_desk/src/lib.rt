@@ -2,19 +2,15 @@
 #![tactic(auto)]
 
 #[cfg(test)]
+mod blind;
+#[cfg(test)]
 mod books;
-#[cfg(test)]
-mod bounds;
-#[cfg(test)]
-mod cases;
 #[cfg(test)]
 mod checkpoints;
 #[cfg(test)]
 mod checks;
 #[cfg(test)]
 mod closing;
-#[cfg(test)]
-mod crews;
 #[cfg(test)]
 mod desks;
 #[cfg(test)]

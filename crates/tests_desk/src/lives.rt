@@ -1,22 +1,25 @@
 //! Desks that live long, whose trail is taken.
 ghost use Rattle.std.specs.Prelude.{◌≡◌, ◌+◌, ◌^◌};
 ghost use Rattle.jb_desk.specs.Desks.{desk_id};
+ghost use Rattle.jb_desk.specs.History.{history_in};
+ghost use Rattle.jb_board.specs.History.{history_id};
 ghost use Rattle.jb_desk.specs.Seats.{desk_of};
 ghost use Rattle.jb_handle.specs.Word.{WordMap};
 
-use crate::bounds::{Host, SharedDisk, SharedLedger, SharedOrigin};
-use crate::cases::{Case, run_each};
+use crate::blind::{marks, small, stops};
 use crate::checks::check_in;
 use crate::closing::{closed, left};
-use crate::journal::{Still, commit, seated};
+use crate::journal::{PARTS, Small, Still, commit, seated};
 use jb_block::Memory;
-use jb_deck::Entry;
-use jb_desk::{Origin, Seat, WaitFault};
-use jb_disk::Disk;
+use jb_board::Opened;
+use jb_deck::{Deck, Entry};
+use jb_desk::{Origin, Seat, Stops, WaitFault};
+use jb_disk::{Disk, MemoryDisk};
 use std::alloc::Global;
+use std::marker::Brand;
 use std::process::Abort;
 use std::sync::Wait;
-use std::sync::ledger::Ledger;
+use std::sync::ledger::{Blank, Ledger};
 
 /// How a desk lives: how many rounds, in each of which a handle stops and is committed, whether a group is brought home
 /// in each, and whether the trail is taken.
@@ -127,11 +130,11 @@ fn check_numbers<R: Abort + Wait, D: Disk, H: Origin, N: Ledger>(
     desk: &Still<D, H, N>,
     seat: &mut Seat<H, N>,
     number: u64,
-    row: &Row,
+    row: &(Life, Lived),
 )
     requires desk { desk_of seat.old ≡ desk_id desk.now }
 {
-    let Row((rounds, _, _), (_, _, _, first, last)) = *row;
+    let ((rounds, _, _), (_, _, _, first, last)) = *row;
     let ticket = rounds.saturating_sub(1);
     let is_first = desk.wait(rt, seat, &mut desk.sights(rt), 0) == first;
     let is_last = desk.wait(rt, seat, &mut desk.sights(rt), ticket) == last;
@@ -150,24 +153,46 @@ fn check_trail(rt: &impl Abort, number: u64, lived: Lived, taken: &Taken, trail:
     check_entries(rt, number, trail, count);
 }
 
-/// A life, and what it comes to.
-struct Row(Life, Lived);
+/// Checks what the life of a desk comes to.
+fn outcome<R: Abort + Wait, H: Origin, N: Ledger>(
+    rt: &R,
+    alloc: Global,
+    number: u64,
+    row: &(Life, Lived),
+    desk: Small<H, N>,
+)
+    requires any { (words : WordMap) → H.begun.stops words }
+    requires parts { (H.parts ≡ 2 ^ 61 + 1) × (N.parts ≡ 2 ^ 61 + 1) }
+{
+    let (life, lived) = *row;
+    let mut taken = Taken::new(alloc);
+    let mut seat = rounds(rt, &desk, seated(rt, &desk), life, &mut taken);
+    check_numbers(rt, &desk, &mut seat, number, row);
+    let lefts = left(rt, alloc, &desk, seat);
+    let closed = closed(rt, desk, lefts);
+    let handles = closed.handles;
+    check_in(rt, handles == life.0, number, "handles:", handles);
+    check_trail(rt, number, lived, &taken, &closed.trail);
+}
 
-impl<D: SharedDisk> Case<D, ()> for Row {
-    fn run<R: Host, H: SharedOrigin, N: SharedLedger>(&self, rt: &R, desk: Still<D, H, N>, at: u64)
-        requires any { (words : WordMap) → H.begun.stops words }
-        requires parts { (H.parts ≡ 2 ^ 61 + 1) × (N.parts ≡ 2 ^ 61 + 1) }
-    {
-        let Row(life, lived) = *self;
-        let mut taken = Taken::new(rt.alloc());
-        let mut seat = rounds(rt, &desk, seated(rt, &desk), life, &mut taken);
-        check_numbers(rt, &desk, &mut seat, at, self);
-        let lefts = left(rt, &desk, seat);
-        let closed = closed(rt, desk, lefts);
-        let handles = closed.handles;
-        check_in(rt, handles == life.0, at, "handles:", handles);
-        check_trail(rt, at, lived, &taken, &closed.trail);
-    }
+/// The life of a new desk.
+fn live<R: Abort + Wait, H: Origin, N: Ledger>(
+    rt: &R,
+    alloc: Global,
+    number: u64,
+    row: &(Life, Lived),
+    handles: Stops,
+    changes: Blank,
+    marks: Opened<Deck<MemoryDisk>>,
+)
+    requires blind { H.begun.is_known → ⊥ }
+    requires any { (words : WordMap) → H.begun.stops words }
+    requires handles { (handles.tickets.name ≡ H.name) × (handles.tickets.parts ≡ H.parts) × (H.parts ≡ 2 ^ 61 + 1) }
+    requires histories { (history_in handles ≡ H.history) × (history_id marks ≡ H.marks) }
+    requires changes { (changes.name ≡ N.name) × (changes.parts ≡ N.parts) × (N.parts ≡ 2 ^ 61 + 1) }
+{
+    let desk: Small<H, N> = small(rt, alloc, handles, changes, marks);
+    outcome(rt, alloc, number, row, desk)
 }
 
 /// The entry of the ticket was taken.
@@ -175,15 +200,25 @@ const GONE: Answer = Err(WaitFault::Taken);
 
 /// Where each group is brought home at once, the trail has two entries at most; where none is but for room, the 32
 /// blocks of the log hold ten groups of three, and one group more is home.
-static ROWS: [Row; 5] = [
-    Row((100, true, true), (99, 2, 1, GONE, Ok(101))),
-    Row((100, true, false), (0, 100, 100, Ok(2), Ok(101))),
-    Row((100, false, true), (90, 11, 10, GONE, Ok(101))),
-    Row((8, false, true), (0, 8, 8, Ok(2), Ok(9))),
-    Row((1, true, true), (0, 1, 1, Ok(2), Ok(2))),
+static ROWS: [(Life, Lived); 5] = [
+    ((100, true, true), (99, 2, 1, GONE, Ok(101))),
+    ((100, true, false), (0, 100, 100, Ok(2), Ok(101))),
+    ((100, false, true), (90, 11, 10, GONE, Ok(101))),
+    ((8, false, true), (0, 8, 8, Ok(2), Ok(9))),
+    ((1, true, true), (0, 1, 1, Ok(2), Ok(2))),
 ];
 
 #[test]
 fn a_trail_that_is_taken_stays_short(rt: HostRuntime) {
-    run_each(&rt, &ROWS);
+    for (number, row) in ROWS.iter().enumerate() {
+        live::<HostRuntime, Brand, Brand>(
+            &rt,
+            rt.alloc(),
+            number as u64,
+            row,
+            stops(&rt, rt.alloc()),
+            Blank::new(PARTS),
+            marks(&rt, rt.alloc()),
+        );
+    }
 }

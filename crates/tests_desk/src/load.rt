@@ -1,25 +1,34 @@
 //! Eight threads stop handles while one thread commits and one brings groups home; also where the disk stops at some
 //! call, and the image that a crash leaves is recovered.
 ghost use Rattle.std.specs.Prelude.{◌≡◌, ◌+◌, ◌^◌};
+ghost use Rattle.jb_desk.specs.History.{history_in};
+ghost use Rattle.jb_board.specs.History.{history_id};
 ghost use Rattle.jb_handle.specs.Word.{WordMap};
 
-use crate::bounds::{Host, SharedDisk, SharedLedger, SharedOrigin};
+use crate::blind::{marks, start, stops};
 use crate::checks::check_at;
 use crate::closing::closed;
-use crate::crews::load_over;
 use crate::homes::{Stop, contents_of, prefix_of};
-use crate::journal::{Still, with_journal};
+use crate::journal::{PARTS, Still, opened};
 use crate::keys::{Draws, HOMES};
 use crate::report::Report;
 use crate::threads::{Reports, Worked, work_all};
-use jb_deck::Entry;
-use jb_desk::{Left, Origin};
+use jb_block::{BlockSize, Width};
+use jb_board::Opened;
+use jb_deck::{Deck, Entry};
+use jb_desk::{Left, Origin, Stops};
 use jb_disk::{FuseDisk, MemoryDisk};
+use jb_format::format;
 use jb_recover::recover;
+use std::alloc::Global;
+use std::marker::Brand;
 use std::process::Abort;
-use std::sync::ledger::Ledger;
+use std::sync::Wait;
+use std::sync::ledger::{Blank, Ledger};
+use std::thread::Threads;
+use std::time::Clock;
 
-/// The blocks of the journal, of which 256 are usable for the log; the homes are after them.
+/// The blocks of the journal.
 const JOURNAL: u32 = 257;
 
 /// Calls of a disk that never stops.
@@ -30,21 +39,33 @@ const LOADS: u64 = 16;
 
 /// A load: the seed of its keys, the handles that each thread begins, and the calls after which the disk stops.
 #[derive(Clone, Copy)]
-pub struct Load {
+struct Load {
     seed: u64,
     handles: u32,
     calls: u64,
 }
 
-/// What was reported of a load.
+/// A desk whose disk stops.
+type Fused<H, N> = Still<FuseDisk<MemoryDisk>, H, N>;
+
+/// A disk after a load, and what was reported of it.
 #[derive(Drop)]
-pub struct Outcome {
+struct Outcome {
+    disk: MemoryDisk,
     /// in the order of their tickets
     stops: Vec<Stop>,
     waited: Vec<(u64, u32)>,
     trail: Vec<Entry>,
     /// the committer and the checkpointer ended with the desk
     is_whole: bool,
+}
+
+/// A new journal of 256 usable log blocks, and 64 homes of zeros.
+fn journal(rt: &impl Abort, alloc: Global) -> MemoryDisk {
+    let blocks = u64::from(JOURNAL).saturating_add(HOMES as u64);
+    let mut disk = MemoryDisk::new(alloc, BlockSize::OneKib, blocks).expect(rt, "memory");
+    format(&mut disk, JOURNAL, 0, [0; 16], Width::Narrow).expect(rt, "the journal is not made");
+    disk
 }
 
 /// What all threads report, put together; the stops are in the order of their tickets.
@@ -74,11 +95,15 @@ impl<H: Origin, N: Ledger> Sums<H, N> {
 }
 
 /// Puts the threads' reports together.
-fn sums_of<H: Origin, N: Ledger>(rt: &impl Host, reports: Reports<H, N>) -> Sums<H, N> {
+fn sums_of<H: Origin, N: Ledger>(
+    rt: &impl Abort,
+    alloc: Global,
+    reports: Reports<H, N>,
+) -> Sums<H, N> {
     let mut all = Sums {
-        lefts: Vec::new(rt.alloc()),
-        stops: Vec::new(rt.alloc()),
-        waited: Vec::new(rt.alloc()),
+        lefts: Vec::new(alloc),
+        stops: Vec::new(alloc),
+        waited: Vec::new(alloc),
         touched: 0,
     };
     all.lefts.push(reports.left).expect(rt, "memory");
@@ -91,34 +116,62 @@ fn sums_of<H: Origin, N: Ledger>(rt: &impl Host, reports: Reports<H, N>) -> Sums
     all
 }
 
-/// A load of a new desk, and the disk after it.
-pub fn loaded<R: Host, D: SharedDisk, H: SharedOrigin, N: SharedLedger>(
-    rt: &R,
-    desk: Still<D, H, N>,
-    load: Load,
-) -> (Outcome, D)
+/// A load of a new desk.
+fn loaded<
+    R: Abort + Threads + Wait + Clock + Sync,
+    H: Origin + Send + Sync,
+    N: Ledger + Send + Sync,
+>(rt: &R, alloc: Global, load: Load, desk: Fused<H, N>) -> Outcome
     requires any { (words : WordMap) → H.begun.stops words }
     requires parts { (H.parts ≡ 2 ^ 61 + 1) × (N.parts ≡ 2 ^ 61 + 1) }
 {
-    let reports = work_all(rt, &desk, load.seed, load.handles);
+    let reports = work_all(rt, alloc, &desk, load.seed, load.handles);
     let (committed, checkpointed) = reports.ended;
     let Sums {
         lefts,
         stops,
         waited,
         touched,
-    } = sums_of(rt, reports);
+    } = sums_of(rt, alloc, reports);
     let closed = closed(rt, desk, lefts);
     let has_stops = closed.handles == stops.len() as u64;
     check_at(rt, has_stops, "handles of load", load.seed);
     check_at(rt, closed.changes == touched, "changes of load", load.seed);
-    let outcome = Outcome {
+    Outcome {
+        disk: closed.disk.into_inner(),
         stops,
         waited,
         trail: closed.trail,
         is_whole: committed.is_shut() && checkpointed.is_shut(),
-    };
-    (outcome, closed.disk)
+    }
+}
+
+/// A load of a new desk. `None` where the journal could not be opened.
+fn outcome_of<
+    R: Abort + Threads + Wait + Clock + Sync,
+    H: Origin + Send + Sync,
+    N: Ledger + Send + Sync,
+>(
+    rt: &R,
+    alloc: Global,
+    load: Load,
+    handles: Stops,
+    changes: Blank,
+    marks: Opened<Deck<FuseDisk<MemoryDisk>>>,
+) -> Option<Outcome>
+    requires blind { H.begun.is_known → ⊥ }
+    requires any { (words : WordMap) → H.begun.stops words }
+    requires handles { (handles.tickets.name ≡ H.name) × (handles.tickets.parts ≡ H.parts) × (H.parts ≡ 2 ^ 61 + 1) }
+    requires histories { (history_in handles ≡ H.history) × (history_id marks ≡ H.marks) }
+    requires changes { (changes.name ≡ N.name) × (changes.parts ≡ N.parts) × (N.parts ≡ 2 ^ 61 + 1) }
+{
+    match opened(alloc, FuseDisk::of(journal(rt, alloc), load.calls)) {
+        Some(deck) => {
+            let desk: Fused<H, N> = start(rt, alloc, handles, changes, marks, deck);
+            Some(loaded(rt, alloc, load, desk))
+        }
+        None => None,
+    }
 }
 
 /// Whether the tickets go up from 0 with no gap.
@@ -166,9 +219,9 @@ fn choice(draws: &mut Draws) -> [u32; 128] {
 }
 
 /// Crashes a disk that stopped, and recovers what is left of it.
-fn crash(rt: &impl Host, seed: u64, draws: &mut Draws, disk: &mut MemoryDisk) {
+fn crash(rt: &impl Abort, alloc: Global, seed: u64, draws: &mut Draws, disk: &mut MemoryDisk) {
     let mut left = disk.crash(&choice(draws)).expect(rt, "memory");
-    let is_recovered = recover(rt.alloc(), &mut left).is_ok();
+    let is_recovered = recover(alloc, &mut left).is_ok();
     check_at(rt, is_recovered, "the recovery of load", seed);
     *disk = left;
 }
@@ -176,19 +229,19 @@ fn crash(rt: &impl Host, seed: u64, draws: &mut Draws, disk: &mut MemoryDisk) {
 /// Checks that the homes hold what the stops of a load leave, all of them or, where the disk stopped, a first part of
 /// them with all that are settled, after a crash and a recovery.
 fn check_outcome(
-    rt: &impl Host,
+    rt: &impl Abort,
+    alloc: Global,
     draws: &mut Draws,
     load: Load,
-    outcome: &Outcome,
-    disk: &mut MemoryDisk,
+    outcome: &mut Outcome,
 ) {
     let Load { seed, calls, .. } = load;
     let is_whole = outcome.is_whole;
     let settled = settled(&outcome.trail);
     if !is_whole {
-        crash(rt, seed, draws, disk);
+        crash(rt, alloc, seed, draws, &mut outcome.disk);
     }
-    let contents = contents_of(rt, disk, u64::from(JOURNAL));
+    let contents = contents_of(rt, &mut outcome.disk, u64::from(JOURNAL));
     let found = prefix_of(&outcome.stops, &contents, settled, !is_whole);
     let has_settled = !is_whole || settled == outcome.stops.len() as u64;
     let has_tickets = has_all_tickets(&outcome.stops);
@@ -199,6 +252,21 @@ fn check_outcome(
     check_at(rt, has_settled, "the settled handles of load", seed);
     check_at(rt, has_tickets, "the tickets of load", seed);
     check_at(rt, is_in_trail, "an answered number of load", seed);
+}
+
+/// Checks a load, whose journal is opened where the disk does not stop.
+fn check_load(
+    rt: &impl Abort,
+    alloc: Global,
+    draws: &mut Draws,
+    load: Load,
+    outcome: Option<Outcome>,
+) {
+    let Load { seed, calls, .. } = load;
+    match outcome {
+        Some(mut outcome) => check_outcome(rt, alloc, draws, load, &mut outcome),
+        None => check_at(rt, calls < ALL, "the opening of load", seed),
+    }
 }
 
 /// The load of this number: the first one is large, and no disk stops it.
@@ -215,27 +283,19 @@ fn load_of(draws: &mut Draws, seed: u64) -> Load {
     }
 }
 
-/// Runs the load of this number and checks it. Its journal is opened where the disk does not stop.
-fn check_load(rt: &impl Host, seed: u64) {
-    let mut draws = Draws::of(seed);
-    let load = load_of(&mut draws, seed);
-    let disk = FuseDisk::of(with_journal(rt, JOURNAL, HOMES as u64), load.calls);
-    match load_over(rt, disk, load) {
-        Some((outcome, disk)) => {
-            check_outcome(rt, &mut draws, load, &outcome, &mut disk.into_inner())
-        }
-        None => check_at(rt, load.calls < ALL, "the opening of load", seed),
-    }
-}
-
-/// Runs all loads, one after the other.
-fn check_loads(rt: &impl Host) {
-    for seed in 0..LOADS {
-        check_load(rt, seed);
-    }
-}
-
 #[test]
 fn homes_are_those_of_the_tickets_in_order(rt: HostRuntime) {
-    check_loads(&rt);
+    for seed in 0..LOADS {
+        let mut draws = Draws::of(seed);
+        let load = load_of(&mut draws, seed);
+        let outcome = outcome_of::<HostRuntime, Brand, Brand>(
+            &rt,
+            rt.alloc(),
+            load,
+            stops(&rt, rt.alloc()),
+            Blank::new(PARTS),
+            marks(&rt, rt.alloc()),
+        );
+        check_load(&rt, rt.alloc(), &mut draws, load, outcome);
+    }
 }

@@ -1,19 +1,23 @@
 //! Homes that are read at a desk: after each round and each checkpoint, and where the read fails.
-ghost use Rattle.std.specs.Prelude.{◌≡◌};
+ghost use Rattle.std.specs.Prelude.{◌≡◌, ◌+◌, ◌^◌};
 ghost use Rattle.jb_desk.specs.Desks.{desk_id};
+ghost use Rattle.jb_desk.specs.History.{history_in};
+ghost use Rattle.jb_board.specs.History.{history_id};
 ghost use Rattle.jb_desk.specs.Seats.{desk_of};
 ghost use Rattle.jb_handle.specs.Word.{WordMap};
 
-use crate::bounds::{Host, SharedDisk, SharedLedger, SharedOrigin};
-use crate::cases::{Case, Fails, run_each, run_each_fault};
-use crate::checks::{check, check_at, check_in};
-use crate::journal::{Came, Still, begun, round_of, seated, stop};
-use jb_deck::ReadHomeFault;
-use jb_desk::{Origin, Seat};
-use jb_disk::Disk;
+use crate::blind::{marks, small, start, stops};
+use crate::checks::{check, check_at, check_in, fail};
+use crate::journal::{Came, PARTS, Small, Still, begun, formatted, opened, round_of, seated, stop};
+use jb_board::Opened;
+use jb_deck::{Deck, ReadHomeFault};
+use jb_desk::{Origin, Seat, Stops};
+use jb_disk::{Disk, MemoryDisk, OneFaultDisk};
+use std::alloc::Global;
+use std::marker::Brand;
 use std::process::Abort;
 use std::sync::Wait;
-use std::sync::ledger::Ledger;
+use std::sync::ledger::{Blank, Ledger};
 
 /// What each home is filled with.
 type Homes = [u8; 16];
@@ -41,8 +45,13 @@ fn check_homes<R: Abort + Wait, D: Disk, H: Origin, N: Ledger>(
 ) {
     for (home, &byte) in wanted.iter().enumerate() {
         let home = home as u64;
-        let is_so = filled(rt, desk, home) == byte;
-        check_in(rt, is_so, number, "the byte of home", home);
+        check_in(
+            rt,
+            filled(rt, desk, home) == byte,
+            number,
+            "the byte of home",
+            home,
+        );
     }
 }
 
@@ -161,54 +170,104 @@ fn check_steps<R: Abort + Wait, D: Disk, H: Origin, N: Ledger>(rt: &R, desk: &St
     }
 }
 
-/// All steps are taken, and then half a block is read.
-struct Steps;
-
-impl<D: SharedDisk> Case<D, ()> for Steps {
-    fn run<R: Host, H: SharedOrigin, N: SharedLedger>(&self, rt: &R, desk: Still<D, H, N>, _at: u64)
-        requires any { (words : WordMap) → H.begun.stops words }
-    {
-        check_steps(rt, &desk);
-        let none = desk.read(rt, &mut desk.sights(rt), 16, &mut [0; 512]);
-        let short = desk.read(rt, &mut desk.sights(rt), 15, &mut [0; 512]);
-        let is_none = none == Err(ReadHomeFault::OutOfRange);
-        let is_short = short == Err(ReadHomeFault::Length);
-        check(rt, is_none, "a read of no home into half a block");
-        check(rt, is_short, "a read of a home into half a block");
-    }
+/// Takes all steps at a new desk, and then reads into half a block.
+fn stepped<R: Abort + Wait, H: Origin, N: Ledger>(
+    rt: &R,
+    alloc: Global,
+    handles: Stops,
+    changes: Blank,
+    marks: Opened<Deck<MemoryDisk>>,
+)
+    requires blind { H.begun.is_known → ⊥ }
+    requires any { (words : WordMap) → H.begun.stops words }
+    requires handles { (handles.tickets.name ≡ H.name) × (handles.tickets.parts ≡ H.parts) × (H.parts ≡ 2 ^ 61 + 1) }
+    requires histories { (history_in handles ≡ H.history) × (history_id marks ≡ H.marks) }
+    requires changes { (changes.name ≡ N.name) × (changes.parts ≡ N.parts) × (N.parts ≡ 2 ^ 61 + 1) }
+{
+    let desk: Small<H, N> = small(rt, alloc, handles, changes, marks);
+    check_steps(rt, &desk);
+    let none = desk.read(rt, &mut desk.sights(rt), 16, &mut [0; 512]);
+    let short = desk.read(rt, &mut desk.sights(rt), 15, &mut [0; 512]);
+    check(
+        rt,
+        none == Err(ReadHomeFault::OutOfRange),
+        "a read of no home into half a block",
+    );
+    check(
+        rt,
+        short == Err(ReadHomeFault::Length),
+        "a read of a home into half a block",
+    );
 }
 
 #[test]
 fn homes_are_read_as_they_are_committed(rt: HostRuntime) {
-    run_each(&rt, &[Steps]);
+    stepped::<HostRuntime, Brand, Brand>(
+        &rt,
+        rt.alloc(),
+        stops(&rt, rt.alloc()),
+        Blank::new(PARTS),
+        marks(&rt, rt.alloc()),
+    );
 }
 
-/// A read fails, a handle is committed after it, and the home is read again.
-struct Read;
+/// A desk whose disk fails once.
+type Failing<H, N> = Still<OneFaultDisk<MemoryDisk>, H, N>;
 
-impl<D: SharedDisk> Case<D, Fails> for Read {
-    fn run<R: Host, H: SharedOrigin, N: SharedLedger>(
-        &self,
-        rt: &R,
-        desk: Still<D, H, N>,
-        _at: u64,
-    ) -> Fails
-        requires any { (words : WordMap) → H.begun.stops words }
-    {
-        let read = desk.read(rt, &mut desk.sights(rt), 2, &mut [0; 1024]);
-        if read.is_ok() {
-            return Fails::Never;
+/// A read fails, a handle is committed after it, and the home is read again.
+fn check_read<R: Abort + Wait, D: Disk + Drop, H: Origin, N: Ledger>(rt: &R, desk: Still<D, H, N>)
+    requires any { (words : WordMap) → H.begun.stops words }
+{
+    let read = desk.read(rt, &mut desk.sights(rt), 2, &mut [0; 1024]);
+    check(
+        rt,
+        read == Err(ReadHomeFault::DeviceFault),
+        "the read that fails",
+    );
+    take(rt, &desk, 0, Step::Fill(1, 11));
+    take(rt, &desk, 1, Step::Round);
+    check(rt, filled(rt, &desk, 2) == 0, "the home that is read again");
+}
+
+/// Reads where this call of the disk fails; says whether the journal could be opened then.
+fn failing<R: Abort + Wait, H: Origin, N: Ledger>(
+    rt: &R,
+    alloc: Global,
+    call: u64,
+    handles: Stops,
+    changes: Blank,
+    marks: Opened<Deck<OneFaultDisk<MemoryDisk>>>,
+) -> bool
+    requires blind { H.begun.is_known → ⊥ }
+    requires any { (words : WordMap) → H.begun.stops words }
+    requires handles { (handles.tickets.name ≡ H.name) × (handles.tickets.parts ≡ H.parts) × (H.parts ≡ 2 ^ 61 + 1) }
+    requires histories { (history_in handles ≡ H.history) × (history_id marks ≡ H.marks) }
+    requires changes { (changes.name ≡ N.name) × (changes.parts ≡ N.parts) × (N.parts ≡ 2 ^ 61 + 1) }
+{
+    match opened(alloc, OneFaultDisk::of(formatted(rt, alloc), call)) {
+        Some(deck) => {
+            let desk: Failing<H, N> = start(rt, alloc, handles, changes, marks, deck);
+            check_read(rt, desk);
+            true
         }
-        let is_fault = read == Err(ReadHomeFault::DeviceFault);
-        check(rt, is_fault, "the read that fails");
-        take(rt, &desk, 0, Step::Fill(1, 11));
-        take(rt, &desk, 1, Step::Round);
-        check(rt, filled(rt, &desk, 2) == 0, "the home that is read again");
-        Fails::Here
+        None => false,
     }
 }
 
 #[test]
 fn a_read_that_fails_fails_nothing_else(rt: HostRuntime) {
-    run_each_fault(&rt, &Read);
+    for call in 0..200 {
+        let is_opened = failing::<HostRuntime, Brand, Brand>(
+            &rt,
+            rt.alloc(),
+            call,
+            stops(&rt, rt.alloc()),
+            Blank::new(PARTS),
+            marks(&rt, rt.alloc()),
+        );
+        if is_opened {
+            return;
+        }
+    }
+    fail(&rt, "the journal is never opened")
 }

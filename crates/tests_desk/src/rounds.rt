@@ -1,26 +1,37 @@
 //! Rounds of a committer over the small journal, with the answers that its limits give by hand.
 ghost use Rattle.std.specs.Prelude.{◌≡◌, ◌+◌, ◌^◌};
 ghost use Rattle.jb_desk.specs.Desks.{desk_id};
+ghost use Rattle.jb_desk.specs.History.{history_in};
+ghost use Rattle.jb_board.specs.History.{history_id};
 ghost use Rattle.jb_desk.specs.Seats.{desk_of};
 ghost use Rattle.jb_handle.specs.Word.{WordMap};
 
-use crate::bounds::{Host, SharedDisk, SharedLedger, SharedOrigin};
-use crate::cases::{Case, run_case};
+use crate::blind::{marks, start, stops};
 use crate::checks::check;
 use crate::closing::{check_close, check_close_twice, left, over_at};
 use crate::journal::{
-    Came, STOPPED, Still, formatted, is_one, refused, retired, round_of, seated, with_one_number,
+    Came, PARTS, Small, formatted, is_one, numbered, opened, refused, retired, round_of, seated,
     write,
 };
-use jb_board::Front;
-use jb_deck::{Checked, CheckpointFault};
-use jb_desk::{BeginFault, Origin, RoundFault, Seat, WaitFault};
-use jb_disk::Disk;
+use jb_board::{Front, Opened};
+use jb_deck::{Checked, CheckpointFault, Deck};
+use jb_desk::{BeginFault, Origin, RoundFault, Seat, Stops, WaitFault};
+use jb_disk::MemoryDisk;
+use std::alloc::Global;
+use std::marker::Brand;
 use std::process::Abort;
 use std::sync::Wait;
-use std::sync::ledger::Ledger;
+use std::sync::ledger::{Blank, Ledger};
+use std::time::Clock;
 
-/// The only handle is settled.
+/// A handle has stopped.
+const STOPPED: Front = Front {
+    settled: 0,
+    taken: 0,
+    stopped: 1,
+};
+
+/// It is settled.
 const SETTLED: Front = Front {
     settled: 1,
     taken: 1,
@@ -41,9 +52,9 @@ const HOME: Checked = Checked {
 };
 
 /// A seat commits after a round that has nothing to commit, since its handle was dropped.
-fn check_idle<R: Abort + Wait, D: Disk, H: Origin, N: Ledger>(
+fn check_idle<R: Abort + Wait, H: Origin, N: Ledger>(
     rt: &R,
-    desk: &Still<D, H, N>,
+    desk: &Small<H, N>,
     seat: Seat<H, N>,
 ) -> Seat<H, N>
     requires desk { desk_of seat ≡ desk_id desk.now }
@@ -51,15 +62,18 @@ fn check_idle<R: Abort + Wait, D: Disk, H: Origin, N: Ledger>(
 {
     let (seat, _) = refused(rt, desk, seat, 2);
     let (seat, came, _) = round_of(rt, desk, seat);
-    let is_idle = matches!(came, Came::Idle);
-    check(rt, is_idle, "a round with nothing to commit");
+    check(
+        rt,
+        matches!(came, Came::Idle),
+        "a round with nothing to commit",
+    );
     seat
 }
 
 /// A seat commits its own handle.
-fn check_commit<R: Abort + Wait, D: Disk, H: Origin, N: Ledger>(
+fn check_commit<R: Abort + Wait, H: Origin, N: Ledger>(
     rt: &R,
-    desk: &Still<D, H, N>,
+    desk: &Small<H, N>,
     seat: Seat<H, N>,
 ) -> Seat<H, N>
     requires any { (words : WordMap) → H.begun.stops words }
@@ -79,9 +93,9 @@ fn check_commit<R: Abort + Wait, D: Disk, H: Origin, N: Ledger>(
 }
 
 /// The group is brought home, and its ticket is asked for beside one that nobody has.
-fn check_settled<R: Abort + Wait, D: Disk, H: Origin, N: Ledger>(
+fn check_settled<R: Abort + Wait, H: Origin, N: Ledger>(
     rt: &R,
-    desk: &Still<D, H, N>,
+    desk: &Small<H, N>,
     seat: &mut Seat<H, N>,
 )
     requires desk { desk_of seat.old ≡ desk_id desk.now }
@@ -90,19 +104,25 @@ fn check_settled<R: Abort + Wait, D: Disk, H: Origin, N: Ledger>(
     let first = desk.checkpoint_round(rt);
     let second = desk.checkpoint_round(rt);
     check(rt, first == Ok(HOME), "the first checkpoint");
-    let is_nothing = second == Err(CheckpointFault::Nothing);
-    check(rt, is_nothing, "the second checkpoint");
+    check(
+        rt,
+        second == Err(CheckpointFault::Nothing),
+        "the second checkpoint",
+    );
     let settled = desk.wait(rt, seat, &mut desk.sights(rt), 0);
     let unknown = desk.wait(rt, seat, &mut desk.sights(rt), 1);
     check(rt, settled == Ok(2), "the number of the ticket");
-    let is_unknown = unknown == Err(WaitFault::Unknown);
-    check(rt, is_unknown, "the number of a ticket that nobody has");
+    check(
+        rt,
+        unknown == Err(WaitFault::Unknown),
+        "the number of a ticket that nobody has",
+    );
 }
 
 /// The desk is shut, and a committer ends.
-fn check_shut<R: Host, D: Disk, H: Origin, N: Ledger>(
+fn check_shut<R: Abort + Wait + Clock, H: Origin, N: Ledger>(
     rt: &R,
-    desk: &Still<D, H, N>,
+    desk: &Small<H, N>,
     seat: Seat<H, N>,
 ) -> Seat<H, N>
     requires desk { desk_of seat ≡ desk_id desk.now }
@@ -111,33 +131,36 @@ fn check_shut<R: Host, D: Disk, H: Origin, N: Ledger>(
     let (seat, begun) = refused(rt, desk, seat, 1);
     let (committer, ended) = desk.run_committer(rt, desk.committer(seat));
     let (seat, _) = retired(rt, desk, committer);
-    let is_closed = begun == Some(BeginFault::Closed);
-    check(rt, is_closed, "a begin at a desk that is shut");
+    check(
+        rt,
+        begun == Some(BeginFault::Closed),
+        "a begin at a desk that is shut",
+    );
     check(rt, over_at(ended) == Some(1), "how the committer ends");
     seat
 }
 
 /// What a seat finds that commits its own handle, and what is counted at the end: handles, changes and groups.
-struct OneRound;
-
-impl<D: SharedDisk> Case<D, ()> for OneRound {
-    fn run<R: Host, H: SharedOrigin, N: SharedLedger>(&self, rt: &R, desk: Still<D, H, N>, _at: u64)
-        requires any { (words : WordMap) → H.begun.stops words }
-        requires parts { (H.parts ≡ 2 ^ 61 + 1) × (N.parts ≡ 2 ^ 61 + 1) }
-    {
-        let seat = check_idle(rt, &desk, seated(rt, &desk));
-        let mut seat = check_commit(rt, &desk, seat);
-        check_settled(rt, &desk, &mut seat);
-        let seat = check_shut(rt, &desk, seat);
-        let lefts = left(rt, &desk, seat);
-        check_close(rt, "one round", desk, lefts, (1, 1, 1))
-    }
+fn one_round<R: Abort + Wait + Clock, H: Origin, N: Ledger>(
+    rt: &R,
+    alloc: Global,
+    desk: Small<H, N>,
+)
+    requires any { (words : WordMap) → H.begun.stops words }
+    requires parts { (H.parts ≡ 2 ^ 61 + 1) × (N.parts ≡ 2 ^ 61 + 1) }
+{
+    let seat = check_idle(rt, &desk, seated(rt, &desk));
+    let mut seat = check_commit(rt, &desk, seat);
+    check_settled(rt, &desk, &mut seat);
+    let seat = check_shut(rt, &desk, seat);
+    let lefts = left(rt, alloc, &desk, seat);
+    check_close(rt, "one round", desk, lefts, (1, 1, 1))
 }
 
 /// A round in which two handles take a group each, where the journal has one number left.
-fn check_refused<R: Abort + Wait, D: Disk, H: Origin, N: Ledger>(
+fn check_refused<R: Abort + Wait, H: Origin, N: Ledger>(
     rt: &R,
-    desk: &Still<D, H, N>,
+    desk: &Small<H, N>,
     seat: Seat<H, N>,
 ) -> Seat<H, N>
     requires desk { desk_of seat ≡ desk_id desk.now }
@@ -148,39 +171,74 @@ fn check_refused<R: Abort + Wait, D: Disk, H: Origin, N: Ledger>(
     let is_refused = matches!(came, Came::Failed(RoundFault::Refused));
     check(rt, is_refused, "the round without a number");
     check(rt, !is_retired, "the committer retires with a batch");
-    check(rt, front == TAKEN, "the front after a refused round");
-    let is_aborted = begun == Some(BeginFault::Aborted);
-    check(rt, is_aborted, "a begin after a committer has given up");
+    check(
+        rt,
+        front == TAKEN,
+        "the front after the round without a number",
+    );
+    check(
+        rt,
+        begun == Some(BeginFault::Aborted),
+        "a begin after a committer has given up",
+    );
     seat
 }
 
 /// What two handles find of which each takes a group, where the journal has one number left: tickets, how the round
 /// ends, whether the committer retires then, and how the desk is closed.
-struct NoNumber;
-
-impl<D: SharedDisk> Case<D, ()> for NoNumber {
-    fn run<R: Host, H: SharedOrigin, N: SharedLedger>(&self, rt: &R, desk: Still<D, H, N>, _at: u64)
-        requires any { (words : WordMap) → H.begun.stops words }
-        requires parts { (H.parts ≡ 2 ^ 61 + 1) × (N.parts ≡ 2 ^ 61 + 1) }
-    {
-        let (seat, first) = write(rt, &desk, seated(rt, &desk), 6, &[0, 1, 2, 3, 4, 5]);
-        let last = desk.leave(rt, seat);
-        let (seat, second) = write(rt, &desk, seated(rt, &desk), 6, &[6, 7, 8, 9, 10, 11]);
-        check(rt, first == Some(0), "the first ticket");
-        check(rt, second == Some(1), "the second ticket");
-        let seat = check_refused(rt, &desk, seat);
-        let lefts = left(rt, &desk, seat);
-        check_close_twice(rt, "no number", desk, lefts, last, (2, 12, 0))
-    }
+fn no_number<R: Abort + Wait, H: Origin, N: Ledger>(rt: &R, alloc: Global, desk: Small<H, N>)
+    requires any { (words : WordMap) → H.begun.stops words }
+    requires parts { (H.parts ≡ 2 ^ 61 + 1) × (N.parts ≡ 2 ^ 61 + 1) }
+{
+    let (seat, first) = write(rt, &desk, seated(rt, &desk), 6, &[0, 1, 2, 3, 4, 5]);
+    let last = desk.leave(rt, seat);
+    let (seat, second) = write(rt, &desk, seated(rt, &desk), 6, &[6, 7, 8, 9, 10, 11]);
+    check(rt, first == Some(0), "the first ticket");
+    check(rt, second == Some(1), "the second ticket");
+    let seat = check_refused(rt, &desk, seat);
+    let lefts = left(rt, alloc, &desk, seat);
+    check_close_twice(rt, "no number", desk, lefts, last, (2, 12, 0))
 }
 
-/// A round over a new journal, and one over a journal with one number left.
-fn check_rounds(rt: &impl Host) {
-    run_case(rt, formatted(rt), &OneRound, 0);
-    run_case(rt, with_one_number(rt), &NoNumber, 1);
+/// A new desk over a new journal, or over one with one number left.
+fn rows<R: Abort + Wait + Clock, H: Origin, N: Ledger>(
+    rt: &R,
+    alloc: Global,
+    is_last: bool,
+    handles: Stops,
+    changes: Blank,
+    marks: Opened<Deck<MemoryDisk>>,
+)
+    requires blind { H.begun.is_known → ⊥ }
+    requires any { (words : WordMap) → H.begun.stops words }
+    requires handles { (handles.tickets.name ≡ H.name) × (handles.tickets.parts ≡ H.parts) × (H.parts ≡ 2 ^ 61 + 1) }
+    requires histories { (history_in handles ≡ H.history) × (history_id marks ≡ H.marks) }
+    requires changes { (changes.name ≡ N.name) × (changes.parts ≡ N.parts) × (N.parts ≡ 2 ^ 61 + 1) }
+{
+    let disk = if is_last {
+        numbered(rt, alloc, 4294967294)
+    } else {
+        formatted(rt, alloc)
+    };
+    let deck = opened(alloc, disk).expect(rt, "the journal is not opened");
+    let desk: Small<H, N> = start(rt, alloc, handles, changes, marks, deck);
+    if is_last {
+        no_number(rt, alloc, desk)
+    } else {
+        one_round(rt, alloc, desk)
+    }
 }
 
 #[test]
 fn rounds_answer_as_worked_by_hand(rt: HostRuntime) {
-    check_rounds(&rt);
+    for is_last in [false, true] {
+        rows::<HostRuntime, Brand, Brand>(
+            &rt,
+            rt.alloc(),
+            is_last,
+            stops(&rt, rt.alloc()),
+            Blank::new(PARTS),
+            marks(&rt, rt.alloc()),
+        );
+    }
 }

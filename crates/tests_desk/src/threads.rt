@@ -6,7 +6,6 @@ ghost use Rattle.jb_desk.specs.Seats.{desk_of};
 ghost use Rattle.jb_handle.specs.Handle.{holder};
 ghost use Rattle.jb_handle.specs.Word.{WordMap};
 
-use crate::bounds::{Host, SharedDisk, SharedLedger, SharedOrigin};
 use crate::checks::check;
 use crate::homes::Stop;
 use crate::journal::{Still, retired, seated, stop};
@@ -15,10 +14,13 @@ use crate::report::Report;
 use jb_desk::{Ended, EnqueueFault, Left, Origin, Seat, StopFault};
 use jb_disk::Disk;
 use jb_handle::{Handle, TouchFault};
+use std::alloc::Global;
 use std::process::Abort;
 use std::sync::Wait;
 use std::sync::ledger::Ledger;
 use std::thread;
+use std::thread::Threads;
+use std::time::Clock;
 
 /// How often a thread tries to begin a handle, in all.
 const TURNS: u32 = 1_000_000;
@@ -148,7 +150,7 @@ fn run<R: Abort + Wait, D: Disk, H: Origin, N: Ledger>(
 }
 
 /// Begins a handle and stops it, or drops it; says whether one was begun.
-fn once<R: Host, D: Disk, H: Origin, N: Ledger>(
+fn once<R: Abort + Wait + Clock, D: Disk, H: Origin, N: Ledger>(
     rt: &R,
     desk: &Still<D, H, N>,
     seat: Seat<H, N>,
@@ -176,15 +178,16 @@ pub struct Worked<H: Origin, N: Ledger> {
 }
 
 /// Takes a seat, begins so many handles, and leaves after the last one is settled.
-fn work<R: Host, D: Disk, H: Origin, N: Ledger>(
+fn work<R: Abort + Wait + Clock, D: Disk, H: Origin, N: Ledger>(
     rt: &R,
+    alloc: Global,
     desk: &Still<D, H, N>,
     draws: Draws,
     handles: u32,
 ) -> Worked<H, N>
     requires any { (words : WordMap) → H.begun.stops words }
 {
-    let mut report = Report::new(rt.alloc());
+    let mut report = Report::new(alloc);
     let mut draws = draws;
     let mut seat = seated(rt, desk);
     let mut begun: u32 = 0;
@@ -207,7 +210,7 @@ fn work<R: Host, D: Disk, H: Origin, N: Ledger>(
 
 /// Commits until the desk is shut; where a round is out of memory, the next one takes its batch up. Gives what its seat
 /// left, and how it ended.
-fn commit<R: Host, D: Disk, H: Origin, N: Ledger>(
+fn commit<R: Abort + Wait + Clock, D: Disk, H: Origin, N: Ledger>(
     rt: &R,
     desk: &Still<D, H, N>,
 ) -> (Left<H, N>, Ended) {
@@ -230,23 +233,28 @@ pub struct Reports<H: Origin, N: Ledger> {
 }
 
 /// Eight threads begin so many handles each; then the desk is shut.
-fn work_eight<R: Host, D: SharedDisk, H: SharedOrigin, N: SharedLedger>(
-    rt: &R,
-    desk: &Still<D, H, N>,
-    seed: u64,
-    handles: u32,
-) -> Vec<Worked<H, N>>
+fn work_eight<
+    R: Abort + Threads + Wait + Clock + Sync,
+    D: Disk + Send,
+    H: Origin + Send + Sync,
+    N: Ledger + Send + Sync,
+>(rt: &R, alloc: Global, desk: &Still<D, H, N>, seed: u64, handles: u32) -> Vec<Worked<H, N>>
     requires { (words : WordMap) → H.begun.stops words }
 {
     let reports = thread::map_indices(
         rt,
-        rt.alloc(),
+        alloc,
         8,
         &|k: usize| -> Worked<H, N>
             requires { (words : WordMap) → H.begun.stops words }
         {
-            let draws = Draws::of(seed.wrapping_add(k as u64));
-            work(rt, desk, draws, handles)
+            work(
+                rt,
+                alloc,
+                desk,
+                Draws::of(seed.wrapping_add(k as u64)),
+                handles,
+            )
         },
     );
     desk.shut(rt);
@@ -254,19 +262,19 @@ fn work_eight<R: Host, D: SharedDisk, H: SharedOrigin, N: SharedLedger>(
 }
 
 /// Eight threads begin so many handles each, while one commits and one brings groups home.
-pub fn work_all<R: Host, D: SharedDisk, H: SharedOrigin, N: SharedLedger>(
-    rt: &R,
-    desk: &Still<D, H, N>,
-    seed: u64,
-    handles: u32,
-) -> Reports<H, N>
+pub fn work_all<
+    R: Abort + Threads + Wait + Clock + Sync,
+    D: Disk + Send,
+    H: Origin + Send + Sync,
+    N: Ledger + Send + Sync,
+>(rt: &R, alloc: Global, desk: &Still<D, H, N>, seed: u64, handles: u32) -> Reports<H, N>
     requires any { (words : WordMap) → H.begun.stops words }
 {
     let (of_threads, ((left, ended), checkpointed)) = thread::join(
         rt,
         || -> Vec<Worked<H, N>>
             requires { (words : WordMap) → H.begun.stops words }
-        { work_eight(rt, desk, seed, handles) },
+        { work_eight(rt, alloc, desk, seed, handles) },
         || thread::join(rt, || commit(rt, desk), || desk.run_checkpointer(rt)),
     );
     Reports {

@@ -1,15 +1,23 @@
 //! Handles that wait for room are begun in the order in which they came.
-use crate::bounds::{Host, SharedDisk, SharedLedger, SharedOrigin};
+ghost use Rattle.std.specs.Prelude.{◌≡◌, ◌+◌, ◌^◌};
+ghost use Rattle.jb_desk.specs.History.{history_in};
+ghost use Rattle.jb_board.specs.History.{history_id};
+
+use crate::blind::{marks, small, stops};
 use crate::checks::check_at;
-use crate::crews::{Crew, run_crews};
-use crate::journal::{Still, seated};
-use jb_desk::Origin;
-use jb_disk::Disk;
+use crate::journal::{PARTS, Small, seated};
+use jb_board::Opened;
+use jb_deck::Deck;
+use jb_desk::{Origin, Stops};
+use jb_disk::MemoryDisk;
+use std::alloc::Global;
+use std::marker::Brand;
 use std::process::Abort;
-use std::sync::Mutex;
-use std::sync::ledger::Ledger;
+use std::sync::ledger::{Blank, Ledger};
+use std::sync::{Mutex, Wait};
 use std::thread;
-use std::time::Duration;
+use std::thread::Threads;
+use std::time::{Clock, Duration};
 
 /// How many threads there are. Five handles of six credits fit the log of 32 blocks at a time.
 const THREADS: usize = 12;
@@ -17,26 +25,21 @@ const THREADS: usize = 12;
 /// How long after one thread the next one comes, in milliseconds.
 const APART: u64 = 50;
 
-/// Naps so many times as long as one thread comes after another.
-fn nap(rt: &impl Host, times: usize) {
-    thread::sleep(
-        rt,
-        Duration::from_millis(APART.saturating_mul(times as u64)),
-    );
-}
-
 /// Begins a handle of six credits, notes that it is begun, and drops it once all threads have come.
-fn come<R: Host, D: Disk, H: Origin, N: Ledger>(
+fn come<R: Abort + Wait + Clock, H: Origin, N: Ledger>(
     rt: &R,
-    desk: &Still<D, H, N>,
+    desk: &Small<H, N>,
     k: usize,
     begun: &Mutex<Vec<usize>>,
 ) {
-    nap(rt, k);
+    thread::sleep(rt, Duration::from_millis(APART.saturating_mul(k as u64)));
     match desk.begin_waiting(rt, seated(rt, desk), 6) {
         Ok(handle) => {
             begun.lock(rt).push(k).expect(rt, "memory");
-            nap(rt, THREADS);
+            thread::sleep(
+                rt,
+                Duration::from_millis(APART.saturating_mul(THREADS as u64)),
+            );
             let seat = desk.abandon(rt, handle);
             let _left = desk.leave(rt, seat);
         }
@@ -44,27 +47,54 @@ fn come<R: Host, D: Disk, H: Origin, N: Ledger>(
     }
 }
 
-/// Checks that the handles are begun in the order in which the threads come.
-fn check_order(rt: &impl Abort, begun: &[usize]) {
-    let count = begun.len();
-    check_at(rt, count == THREADS, "handles begun:", count as u64);
-    for (place, &k) in begun.iter().enumerate() {
-        check_at(rt, k == place, "the handle begun in place", place as u64);
-    }
+/// The order in which the threads begin their handles.
+fn order<
+    R: Abort + Threads + Wait + Clock + Sync,
+    H: Origin + Send + Sync,
+    N: Ledger + Send + Sync,
+>(
+    rt: &R,
+    alloc: Global,
+    handles: Stops,
+    changes: Blank,
+    marks: Opened<Deck<MemoryDisk>>,
+) -> Vec<usize>
+    requires blind { H.begun.is_known → ⊥ }
+    requires handles { (handles.tickets.name ≡ H.name) × (handles.tickets.parts ≡ H.parts) × (H.parts ≡ 2 ^ 61 + 1) }
+    requires histories { (history_in handles ≡ H.history) × (history_id marks ≡ H.marks) }
+    requires changes { (changes.name ≡ N.name) × (changes.parts ≡ N.parts) × (N.parts ≡ 2 ^ 61 + 1) }
+{
+    let desk: Small<H, N> = small(rt, alloc, handles, changes, marks);
+    let begun = Mutex::new(Vec::new(alloc));
+    thread::map_indices(rt, alloc, THREADS, &|k| come(rt, &desk, k, &begun)).expect(rt, "memory");
+    begun.into_inner()
 }
 
-/// Threads come one after the other.
-pub fn arrive<R: Host, D: SharedDisk, H: SharedOrigin, N: SharedLedger>(
-    rt: &R,
-    desk: Still<D, H, N>,
-) {
-    let begun = Mutex::new(Vec::new(rt.alloc()));
-    let ended = thread::map_indices(rt, rt.alloc(), THREADS, &|k| come(rt, &desk, k, &begun));
-    ended.expect(rt, "memory");
-    check_order(rt, &begun.into_inner());
+/// The order in which the threads come.
+static ORDER: [usize; THREADS] = [0, 1, 2, 3, 4, 5, 6, 7, 8, 9, 10, 11];
+
+/// Checks that the handles are begun in the order in which the threads come.
+fn check_order(rt: &impl Abort, begun: &[usize]) {
+    check_at(
+        rt,
+        begun.len() == THREADS,
+        "handles that are begun:",
+        begun.len() as u64,
+    );
+    for (place, wanted) in ORDER.iter().enumerate() {
+        let is_so = begun.get(place) == Some(wanted);
+        check_at(rt, is_so, "the handle that is begun in place", place as u64);
+    }
 }
 
 #[test]
 fn handles_that_wait_for_room_are_begun_in_the_order_of_arrival(rt: HostRuntime) {
-    run_crews(&rt, Crew::Arrivals, 1);
+    let begun = order::<HostRuntime, Brand, Brand>(
+        &rt,
+        rt.alloc(),
+        stops(&rt, rt.alloc()),
+        Blank::new(PARTS),
+        marks(&rt, rt.alloc()),
+    );
+    check_order(&rt, &begun);
 }

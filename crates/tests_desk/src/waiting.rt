@@ -1,22 +1,28 @@
 //! A thread that waits for a ticket goes on once the ticket is settled, or cannot be any more.
-ghost use Rattle.std.specs.Prelude.{◌≡◌};
+ghost use Rattle.std.specs.Prelude.{◌≡◌, ◌+◌, ◌^◌};
 ghost use Rattle.jb_desk.specs.Desks.{desk_id};
+ghost use Rattle.jb_desk.specs.History.{history_in};
 ghost use Rattle.jb_desk.specs.Seats.{desk_of};
+ghost use Rattle.jb_board.specs.History.{history_id};
 ghost use Rattle.jb_handle.specs.Word.{WordMap};
 
-use crate::bounds::{Host, SharedDisk, SharedLedger, SharedOrigin};
+use crate::blind::{marks, start, stops};
 use crate::checks::check;
-use crate::crews::{Crew, run_crew};
 use crate::gate::{await_flag, has_come};
-use crate::journal::{Still, formatted, retired, round, seated, with_one_number, write};
-use jb_desk::{Origin, Seat, WaitFault};
-use jb_disk::Disk;
+use crate::journal::{PARTS, Small, formatted, numbered, opened, retired, round, seated, write};
+use jb_board::Opened;
+use jb_deck::Deck;
+use jb_desk::{Origin, Seat, Stops, WaitFault};
+use jb_disk::MemoryDisk;
+use std::alloc::Global;
+use std::marker::Brand;
 use std::process::Abort;
 use std::sync::Wait;
 use std::sync::atomic::{AtomicBool, Ordering};
-use std::sync::ledger::Ledger;
+use std::sync::ledger::{Blank, Ledger};
 use std::thread;
-use std::time::Duration;
+use std::thread::Threads;
+use std::time::{Clock, Duration};
 
 /// How long after a thread says that it will wait a handle is committed, in milliseconds.
 const APART: u64 = 100;
@@ -33,9 +39,9 @@ struct Told {
 }
 
 /// Waits for the first ticket, which is committed or lost, and reads what it wrote.
-fn wait<R: Host, D: Disk, H: Origin, N: Ledger>(
+fn wait<R: Abort + Wait + Clock, H: Origin, N: Ledger>(
     rt: &R,
-    desk: &Still<D, H, N>,
+    desk: &Small<H, N>,
     told: &Told,
     is_lost: bool,
 ) {
@@ -59,14 +65,17 @@ fn wait<R: Host, D: Disk, H: Origin, N: Ledger>(
     desk.inform(&mut informed, &mut seen);
     let mut block = [0; 1024];
     let read = desk.read(rt, &mut informed, 1, &mut block);
-    let is_read = read.is_ok() && block == [7; 1024];
-    check(rt, is_read, "what is read after the wait");
+    check(
+        rt,
+        read.is_ok() && block == [7; 1024],
+        "what is read after the wait",
+    );
 }
 
 /// One handle stops; or two, of which each takes a transaction.
-fn stopped<R: Abort + Wait, D: Disk, H: Origin, N: Ledger>(
+fn stopped<R: Abort + Wait, H: Origin, N: Ledger>(
     rt: &R,
-    desk: &Still<D, H, N>,
+    desk: &Small<H, N>,
     are_two: bool,
 ) -> Seat<H, N>
     requires { (words : WordMap) → H.begun.stops words }
@@ -84,9 +93,9 @@ fn stopped<R: Abort + Wait, D: Disk, H: Origin, N: Ledger>(
 
 /// Commits a handle that another thread waits for, whose wait ends before anything else happens; or gives it up, where
 /// the journal has one number for two transactions.
-fn commit<R: Host, D: Disk, H: Origin, N: Ledger>(
+fn commit<R: Abort + Wait + Clock, H: Origin, N: Ledger>(
     rt: &R,
-    desk: &Still<D, H, N>,
+    desk: &Small<H, N>,
     told: &Told,
     is_lost: bool,
 )
@@ -106,13 +115,31 @@ fn commit<R: Host, D: Disk, H: Origin, N: Ledger>(
 }
 
 /// A thread waits for the ticket of a handle that another one commits, or gives up.
-pub fn wait_and_commit<R: Host, D: SharedDisk, H: SharedOrigin, N: SharedLedger>(
+fn waited<
+    R: Abort + Threads + Wait + Clock + Sync,
+    H: Origin + Send + Sync,
+    N: Ledger + Send + Sync,
+>(
     rt: &R,
-    desk: Still<D, H, N>,
+    alloc: Global,
     is_lost: bool,
+    handles: Stops,
+    changes: Blank,
+    marks: Opened<Deck<MemoryDisk>>,
 )
+    requires blind { H.begun.is_known → ⊥ }
     requires any { (words : WordMap) → H.begun.stops words }
+    requires handles { (handles.tickets.name ≡ H.name) × (handles.tickets.parts ≡ H.parts) × (H.parts ≡ 2 ^ 61 + 1) }
+    requires histories { (history_in handles ≡ H.history) × (history_id marks ≡ H.marks) }
+    requires changes { (changes.name ≡ N.name) × (changes.parts ≡ N.parts) × (N.parts ≡ 2 ^ 61 + 1) }
 {
+    let disk = if is_lost {
+        numbered(rt, alloc, 4294967294)
+    } else {
+        formatted(rt, alloc)
+    };
+    let deck = opened(alloc, disk).expect(rt, "the journal is not opened");
+    let desk: Small<H, N> = start(rt, alloc, handles, changes, marks, deck);
     let told = Told {
         has_stopped: AtomicBool::new(false),
         is_awaited: AtomicBool::new(false),
@@ -125,13 +152,16 @@ pub fn wait_and_commit<R: Host, D: SharedDisk, H: SharedOrigin, N: SharedLedger>
     );
 }
 
-/// Waits over a new journal, and over a journal with one number left.
-fn check_waits(rt: &impl Host) {
-    run_crew(rt, formatted(rt), Crew::Waiting(false), 0);
-    run_crew(rt, with_one_number(rt), Crew::Waiting(true), 1);
-}
-
 #[test]
 fn a_commit_ends_the_wait_for_its_ticket(rt: HostRuntime) {
-    check_waits(&rt);
+    for is_lost in [false, true] {
+        waited::<HostRuntime, Brand, Brand>(
+            &rt,
+            rt.alloc(),
+            is_lost,
+            stops(&rt, rt.alloc()),
+            Blank::new(PARTS),
+            marks(&rt, rt.alloc()),
+        );
+    }
 }

@@ -3,7 +3,7 @@ use Rattle.std.proofs.lemmas.List.Elements.{All-nil}
 use Rattle.jb_handle.specs.declared.stopped.Stopped.{Stopped}
 use Rattle.jb_deck.specs.Done.{past_after}
 use Rattle.jb_book.specs.Since.{IsCosted, NumberedFrom}
-use Rattle.tests_desk.proofs.cases.started.Goals as goal
+use Rattle.tests_desk.proofs.blind.start.Goals as goal
 
 -- no handle was given to a journal that has settled none
 pub start-requires-clause-begun : goal.start-requires-clause-begun

@@ -1,0 +1,63 @@
+//! Desks of which nothing is said since they were started.
+ghost use Rattle.std.specs.Prelude.{◌≡◌, ◌+◌, ◌^◌, [], false};
+ghost use Rattle.jb_desk.specs.History.{history_in};
+ghost use Rattle.jb_board.specs.History.{history_id};
+
+use crate::journal::{CLOCK, PARTS, Small, Still, formatted, opened};
+use jb_board::Opened;
+use jb_deck::Deck;
+use jb_desk::{Desk, Origin, Stops};
+use jb_disk::{Disk, MemoryDisk};
+use std::alloc::Global;
+use std::process::Abort;
+use std::sync::ledger::{Blank, Ledger};
+
+/// A new ledger for the handles that will stop, and a new history of them.
+pub fn stops(rt: &impl Abort, alloc: Global) -> Stops
+    ensures { result.tickets.parts ≡ 2 ^ 61 + 1 }
+{
+    Stops::new(alloc, PARTS).expect(rt, "memory")
+}
+
+/// A new history of a journal's marks.
+pub fn marks<D: Disk>(rt: &impl Abort, alloc: Global) -> Opened<Deck<D>> {
+    Opened::new(alloc).expect(rt, "memory")
+}
+
+/// Starts a desk over a journal, where nothing is known of the disk at the start, so that any disk will do.
+pub fn start<D: Disk + Drop, H: Origin, N: Ledger>(
+    rt: &impl Abort,
+    alloc: Global,
+    handles: Stops,
+    changes: Blank,
+    marks: Opened<Deck<D>>,
+    deck: Deck<D>,
+) -> Still<D, H, N>
+    requires blind { H.begun.is_known → ⊥ }
+    requires handles { (handles.tickets.name ≡ H.name) × (handles.tickets.parts ≡ H.parts) × (H.parts ≡ 2 ^ 61 + 1) }
+    requires histories { (history_in handles ≡ H.history) × (history_id marks ≡ H.marks) }
+    requires changes { (changes.name ≡ N.name) × (changes.parts ≡ N.parts) × (N.parts ≡ 2 ^ 61 + 1) }
+    requires fresh { deck.trail ≡ [] }
+    requires running { deck.aborted ≡ false }
+{
+    Desk::start(alloc, handles, changes, marks, deck, CLOCK)
+        .ok()
+        .expect(rt, "the desk is not started")
+}
+
+/// Starts a desk over the small journal.
+pub fn small<H: Origin, N: Ledger>(
+    rt: &impl Abort,
+    alloc: Global,
+    handles: Stops,
+    changes: Blank,
+    marks: Opened<Deck<MemoryDisk>>,
+) -> Small<H, N>
+    requires blind { H.begun.is_known → ⊥ }
+    requires handles { (handles.tickets.name ≡ H.name) × (handles.tickets.parts ≡ H.parts) × (H.parts ≡ 2 ^ 61 + 1) }
+    requires histories { (history_in handles ≡ H.history) × (history_id marks ≡ H.marks) }
+    requires changes { (changes.name ≡ N.name) × (changes.parts ≡ N.parts) × (N.parts ≡ 2 ^ 61 + 1) }
+{
+    let deck = opened(alloc, formatted(rt, alloc)).expect(rt, "the journal is not opened");
+    start(rt, alloc, handles, changes, marks, deck)
+}
