@@ -102,7 +102,10 @@ fn tag_width(test: &impl Test, disk: &mut MemoryDisk) -> Width {
 
 /// Whether six copies are committed as one group of this number, and the next number is the one after it.
 fn is_six(test: &impl Bench, deck: &mut Deck<MemoryDisk>, number: u64) -> bool {
-    let group = [(0, 1, number as u32, 8)];
+    let Ok(narrow) = u32::try_from(number) else {
+        return false;
+    };
+    let group = [(0, 1, narrow, 8)];
     let is_committed = commits(test, deck, SIX, &group) && are(deck.trail(), &group);
     is_committed && deck.next_number() == number.saturating_add(1)
 }
