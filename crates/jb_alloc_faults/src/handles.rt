@@ -59,14 +59,21 @@ pub fn prepare_row(rt: &impl Files<File = File>, alloc: Global) -> Option<Met> {
     ample(rt);
     match first {
         Ok(prepared) => planned(prepared, Met::Ample),
-        Err((batch, PrepareFault::Memory)) if batch.len() == 3 && batch.first() == 0 => {
-            planned(prepared(alloc, batch)?, Met::Memory)
-        }
-        Err((batch, _)) => {
+        Err((batch, PrepareFault::Memory)) => prepare_again(alloc, batch),
+        Err((batch, PrepareFault::NoCut(_))) => {
             let _handles = batch.end();
             None
         }
     }
+}
+
+/// Prepares a batch that was handed back, whole.
+fn prepare_again(alloc: Global, batch: Batch) -> Option<Met> {
+    if batch.len() != 3 || batch.first() != 0 {
+        let _handles = batch.end();
+        return None;
+    }
+    planned(prepared(alloc, batch)?, Met::Memory)
 }
 
 /// A batch with its plan; none where it is refused.

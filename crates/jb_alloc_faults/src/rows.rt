@@ -63,19 +63,51 @@ fn shared_row<R: Files<File = File> + Threads + Wait + Clock + Sync>(
         "Book::enqueue" => books::enqueue_row(rt, alloc),
         "Stops::new" => desks::stops_row(rt, alloc),
         "load_on" => loads::load_row(rt, alloc),
-        _ => desk_row(rt, alloc, name),
+        _ => desk_row(rt, alloc, of_desk(name)?),
     }
 }
 
-/// Runs the row of this name, of a board or of a desk, whose ledgers are named here.
+/// A row of a board or of a desk.
+#[derive(Clone, Copy)]
+enum OfDesk {
+    Board,
+    Start,
+    Seat,
+    Begin,
+    Stop,
+    StopBesideStop,
+    CommitRound,
+    RunCommitter,
+    CheckpointRound,
+    TakeTrail,
+}
+
+/// The row of this name, of a board or of a desk. A call that picks what its ledgers are named passes no text.
+fn of_desk(name: &str) -> Option<OfDesk> {
+    match name {
+        "Board::new" => Some(OfDesk::Board),
+        "Desk::start" => Some(OfDesk::Start),
+        "Desk::seat" | "Desk::close" => Some(OfDesk::Seat),
+        "Desk::begin" => Some(OfDesk::Begin),
+        "Desk::stop" => Some(OfDesk::Stop),
+        "stop_beside_stop" => Some(OfDesk::StopBesideStop),
+        "commit_round" => Some(OfDesk::CommitRound),
+        "run_committer" => Some(OfDesk::RunCommitter),
+        "checkpoint_round" => Some(OfDesk::CheckpointRound),
+        "Desk::take_trail" => Some(OfDesk::TakeTrail),
+        _ => None,
+    }
+}
+
+/// Runs a row of a board or of a desk, whose ledgers are named here.
 fn desk_row<R: Files<File = File> + Threads + Wait + Clock + Sync>(
     rt: &R,
     alloc: Global,
-    name: &str,
+    row: OfDesk,
 ) -> Option<Met> {
     let (handles, changes) = (Stops::new(alloc, PARTS).ok()?, Blank::new(PARTS));
     let marks = Opened::new(alloc).ok()?;
-    run_row::<R, Brand, Brand>(rt, alloc, name, handles, changes, marks)
+    run_row::<R, Brand, Brand>(rt, alloc, row, handles, changes, marks)
 }
 
 /// Starts a desk and runs a row of it.
@@ -86,7 +118,7 @@ fn run_row<
 >(
     rt: &R,
     alloc: Global,
-    name: &str,
+    row: OfDesk,
     handles: Stops,
     changes: Blank,
     marks: Opened<Deck<MemoryDisk>>,
@@ -103,19 +135,18 @@ fn run_row<
         handles,
         changes,
         marks,
-        name == "Desk::start",
+        matches!(row, OfDesk::Start),
     )?;
-    let found = match name {
-        "Board::new" => books::board_row::<R, N>(rt, alloc),
-        "Desk::start" | "Desk::seat" | "Desk::close" => desks::seat_row(rt, alloc, desk),
-        "Desk::begin" => stopping::begin_row(rt, alloc, desk),
-        "Desk::stop" => stopping::stop_row(rt, alloc, desk),
-        "stop_beside_stop" => stopping::stop_beside_stop_row(rt, alloc, desk),
-        "commit_round" => rounds::commit_round_row(rt, alloc, desk),
-        "run_committer" => rounds::run_committer_row(rt, alloc, desk),
-        "checkpoint_round" => rounds::checkpoint_round_row(rt, alloc, desk),
-        "Desk::take_trail" => rounds::take_trail_row(rt, alloc, desk),
-        _ => None,
+    let found = match row {
+        OfDesk::Board => books::board_row::<R, N>(rt, alloc),
+        OfDesk::Start | OfDesk::Seat => desks::seat_row(rt, alloc, desk),
+        OfDesk::Begin => stopping::begin_row(rt, alloc, desk),
+        OfDesk::Stop => stopping::stop_row(rt, alloc, desk),
+        OfDesk::StopBesideStop => stopping::stop_beside_stop_row(rt, alloc, desk),
+        OfDesk::CommitRound => rounds::commit_round_row(rt, alloc, desk),
+        OfDesk::RunCommitter => rounds::run_committer_row(rt, alloc, desk),
+        OfDesk::CheckpointRound => rounds::checkpoint_round_row(rt, alloc, desk),
+        OfDesk::TakeTrail => rounds::take_trail_row(rt, alloc, desk),
     };
     match found {
         Some(Met::Ample) => Some(met),
