@@ -9,7 +9,7 @@ use Rattle.proof_clients.specs.Examples.{three, six, four, best, greedy, prices,
 use Rattle.proof_clients.proofs.ExampleCosts.{cost-wrote}
 use Rattle.jb_cost.proofs.Bounds.{lower, hold-fewer, price-exact}
 
-some-same : (x y : ℕ) → Some x ≡ Some y → x ≡ y
+pub some-same : (x y : ℕ) → Some x ≡ Some y → x ≡ y
 some-same x y same = cc
 
 -- what holds of the six groups of three handles holds of each
@@ -50,10 +50,10 @@ pub record Costs (c : ℕ → ℕ → ℕ) : Type 0 where
 
 module _ (c : ℕ → ℕ → ℕ) (limit : ℕ) (ps : List (Option ℕ)) where
   -- the piece does not undercut the price of its end
-  abbrev Step : ℕ → ℕ → Type 0
+  abbrev pub Step : ℕ → ℕ → Type 0
   Step i j = (p : ℕ) → price ps i ≡ Some p → c i j ≤ limit → (q : ℕ) × (price ps j ≡ Some q) × (q ≤ p + c i j)
 
-  within : (i j p q : ℕ) → price ps i ≡ Some p → price ps j ≡ Some q → q ≤ p + c i j → Step i j
+  pub within : (i j p q : ℕ) → price ps i ≡ Some p → price ps j ≡ Some q → q ≤ p + c i j → Step i j
   within i j p q from to less r is fits = (q, to, let same : p ≡ r = some-same p r (sym from ∙ is) in omega (arith, same, less))
 
   over : (i j : ℕ) → limit < c i j → Step i j

@@ -4,6 +4,7 @@ pub mod ExampleCosts
 pub mod ExampleCrashes
 pub mod ExampleCuts
 pub mod ExampleEnds
+pub mod ExampleIdle
 pub mod ExampleMarks
 pub mod Journal
 pub mod Living

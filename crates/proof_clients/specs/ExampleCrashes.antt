@@ -26,8 +26,8 @@ three_groups = 0 ∷ 1 ∷ 2 ∷ 3 ∷ []
 abbrev pub with_new : List ℕ → List ℕ → List ℕ → ℕ → List ℕ
 with_new bs old new home = cond (list_any (eq_by_cmp nat_cmp home) bs) new old
 
--- what a crash may leave while the three groups are committed, of which so many are settled, where all homes had the old
--- bytes
+-- what a crash may leave while the three groups are committed, of which so many are settled, where all homes had the
+-- old bytes
 abbrev pub MayBeLeft : Superblock → ℕ → ℕ → ℕ → ℕ → List ℕ → List ℕ → Image → Type 0
 MayBeLeft own next size count settled old new c =
     FollowsSome own next size count (λ home. old) (three_writes new) three_groups settled 3 c

@@ -42,3 +42,11 @@ with_entries trail d = record d { trail = trail }
 -- three handles that two seats have stopped: the first and the third one by one seat, the second by the other
 abbrev pub by_two_seats : List (List (ℕ × WordMap))
 by_two_seats = ((0, first) ∷ (2, third) ∷ []) ∷ ((1, second) ∷ []) ∷ []
+
+-- three handles that changed nothing: the first and the third one stopped by one seat, the second by the other
+abbrev pub idle_stops : List (List (ℕ × WordMap))
+idle_stops = ((0, homes.empty) ∷ (2, homes.empty) ∷ []) ∷ ((1, homes.empty) ∷ []) ∷ []
+
+-- the first two of them as one transaction, which is a commit block alone
+abbrev pub idle_group : Entry
+idle_group = record { first = 0; past = 2; number = 7; blocks = 1 }

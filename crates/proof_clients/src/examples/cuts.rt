@@ -15,8 +15,8 @@ ghost use Rattle.jb_price.specs.declared.certificate.CertAnswer.TheVariants.{Cut
 ghost use Rattle.proof_clients.specs.Examples.{three, six, four, batch, best, greedy, prices, low_prices, high_prices};
 ghost use Rattle.proof_clients.specs.Examples.{four_prices, late_prices, short_prices, first_two};
 
-/// The handles have a cut into groups of six log blocks at most, and none into groups of four: the third one alone takes
-/// five. A book takes them where they are its queue, all at once, and not without the last one.
+/// The handles have a cut into groups of six log blocks at most, and none into groups of four: the third one alone
+/// takes five. A book takes them where they are its queue, all at once, and not without the last one.
 pub fn has_cut()
     ensures meets { HasCut six three }
     ensures not_within_four { HasCut four three → ⊥ }
@@ -58,8 +58,8 @@ pub fn are_prices()
 {}
 
 /// The answer of a certificate is right that claims the cut with the fewest blocks and its total; so is that no cut
-/// fits groups of at most four blocks. Not right are: the greedy cut with its own total; the best cut with a total of one
-/// block less; a group over the limit; that no cut fits groups of six; and any cut into groups of four.
+/// fits groups of at most four blocks. Not right are: the greedy cut with its own total; the best cut with a total of
+/// one block less; a group over the limit; that no cut fits groups of six; and any cut into groups of four.
 pub fn is_right()
     ensures meets { (bounds : Vec ℕ Global) → bounds.items ≡ best → IsRight (cost_in six three) 6 3 (Cut bounds 9) }
     ensures meets_none { IsRight (cost_in four three) 4 3 NoCut }

@@ -7,7 +7,11 @@ use Rattle.jb_deck.specs.Done.{past_after}
 use Rattle.proof_clients.specs.ExampleMarks.{first, second, third}
 use Rattle.proof_clients.proofs.ExampleEnds.{at_first, one-first, ones, four-stand}
 use Rattle.proof_clients.proofs.ExampleMarks.{first-third}
+use Rattle.proof_clients.proofs.ExampleIdle.{ends-idle}
 use Rattle.proof_clients.proofs.examples.closing.ends_marked.Goals as goal
+
+pub returns-clause-meets : goal.returns-clause-meets
+returns-clause-meets g c d bounds are = ends-idle bounds are g.D.Disk d
 
 pub returns-clause-not_twice : goal.returns-clause-not_twice
 returns-clause-not_twice g c handles shape disk trail known marks is =
