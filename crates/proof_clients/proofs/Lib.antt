@@ -1,5 +1,11 @@
 mod Heard
 pub mod Cut
+pub mod ExampleCosts
+pub mod ExampleCrashes
+pub mod ExampleCuts
+pub mod ExampleEnds
+pub mod ExampleIdle
+pub mod ExampleMarks
 pub mod Journal
 pub mod Living
 pub mod Programs

@@ -1,5 +1,8 @@
 pub mod BookClient
 pub mod Client
+pub mod ExampleCrashes
+pub mod ExampleMarks
+pub mod Examples
 pub mod Files
 pub mod Lives
 pub mod Programs

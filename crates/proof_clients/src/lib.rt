@@ -5,6 +5,7 @@
 mod calls;
 mod closed;
 mod commit;
+pub mod examples;
 mod life;
 mod lives;
 mod prefix;

@@ -1,0 +1,254 @@
+-- Three handles that changed nothing, of which two are settled: the events, and how a desk ends with them.
+use Rattle.std.proofs.Common.{◌≡◌, ℕ, zero, suc, ◌<◌, ◌≤◌, true, false, List, [], ◌∷◌, length, Option, Some, Ok, Vec, Global, inl, inr, refl, sym, ap, ◌∙◌, subst, arith}
+use Rattle.std.specs.Ordering.{nat_cmp}
+use Rattle.std.specs.Int.{div_ceil}
+use Rattle.std.specs.FinMap as map
+use Rattle.std.proofs.lemmas.Bool.{cases_lt}
+use Rattle.std.proofs.lemmas.List.Elements.{All-nil, All-cons}
+use Rattle.jb_disk.specs.declared.disk.Disk.{Ghosts}
+use Rattle.jb_handle.specs.Word.{WordMap}
+use Rattle.jb_handle.specs.declared.stopped.Stopped.{Stopped}
+use Rattle.jb_cost.specs.declared.geometry.Geometry.{Geometry}
+use Rattle.jb_cost.specs.Cost.{cost}
+use Rattle.jb_cost.specs.Credits.{IsMost}
+use Rattle.jb_cost.specs.Cut.{IsLeastCut, Hold, piece_cost}
+use Rattle.jb_cost.proofs.Bounds.{lower}
+use Rattle.jb_cost.proofs.Ceilings.{ceil-mono}
+use Rattle.jb_plan.specs.Costs.{geometry_of}
+use Rattle.jb_core.specs.declared.event.Event.TheVariants.{Open, Stop, Take, Settle}
+use Rattle.jb_core.specs.declared.event.Reply.TheVariants.{Plain, Ticket}
+use Rattle.jb_core.specs.Lives.{Log}
+use Rattle.jb_core.specs.Machine.{Machine, after, after_take}
+use Rattle.jb_core.specs.Ran.{Ran}
+use Rattle.jb_deck.specs.Deck.{OpenDeck}
+use Rattle.jb_board.specs.HistoryRule.{StandsIn}
+use Rattle.jb_book.specs.Origin.{unknown}
+use Rattle.jb_book.specs.Led.{IsMachineRun}
+use Rattle.jb_book.specs.History.{IsStop, AreAllStops}
+use Rattle.jb_book.specs.Since.{IsCosted, WasGiven}
+use Rattle.jb_book.specs.SinceMark.{EndsMarked, Lasts}
+use Rattle.proof_clients.specs.Examples.{six, copies_at}
+use Rattle.proof_clients.specs.ExampleMarks.{idle_stops, idle_group}
+use Rattle.proof_clients.proofs.ExampleCosts.{cost-wrote}
+use Rattle.proof_clients.proofs.ExampleCuts.{some-same, Step, within}
+
+-- a handle that changed nothing
+abbrev idle : ℕ → Stopped
+idle ticket = record { ticket = ticket; words = map.empty }
+
+abbrev g : Geometry
+g = geometry_of six
+
+no-words : map.from_sorted {R = nat_cmp} (copies_at [] []) ≡ map.empty
+no-words = map.empty_of_len _ (map.len-entries (map.from_sorted {R = nat_cmp} (copies_at [] [])) ∙ ap length (map.entries-from_sorted nat_cmp (copies_at [] []) tt))
+
+one-idle : (t : ℕ) → cost g (idle t ∷ []) ≡ 1
+one-idle t = subst (λ (w : WordMap). cost g (record { ticket = t; words = w } ∷ []) ≡ 1) no-words (cost-wrote [] g t ([] ∷ []) (tt, tt))
+
+two-idle : cost g (idle 0 ∷ idle 1 ∷ []) ≡ 1
+two-idle = subst (λ (w : WordMap). cost g (record { ticket = 0; words = w } ∷ record { ticket = 1; words = w } ∷ []) ≡ 1) no-words (cost-wrote [] g 0 ([] ∷ [] ∷ []) (tt, (tt, tt)))
+
+-- ---- both in one group is a least cut
+
+abbrev c : ℕ → ℕ → ℕ
+c = piece_cost g (idle 0 ∷ idle 1 ∷ [])
+
+abbrev prices : List (Option ℕ)
+prices = Some 0 ∷ Some 1 ∷ Some 1 ∷ []
+
+three-ends : (P : ℕ → ℕ → Type 0) → P 0 1 → P 1 2 → P 0 2 → (i j : ℕ) → i < j → j ≤ 2 → P i j
+three-ends P p01 p12 p02 zero zero less most = absurd (omega arith)
+three-ends P p01 p12 p02 zero (suc zero) less most = p01
+three-ends P p01 p12 p02 zero (suc (suc zero)) less most = p02
+three-ends P p01 p12 p02 zero (suc (suc (suc j))) less most = absurd (omega arith)
+three-ends P p01 p12 p02 (suc zero) zero less most = absurd (omega arith)
+three-ends P p01 p12 p02 (suc zero) (suc zero) less most = absurd (omega arith)
+three-ends P p01 p12 p02 (suc zero) (suc (suc zero)) less most = p12
+three-ends P p01 p12 p02 (suc zero) (suc (suc (suc j))) less most = absurd (omega arith)
+three-ends P p01 p12 p02 (suc (suc i)) j less most = absurd (omega arith)
+
+hold : Hold c 6 2 prices
+hold =
+    let first : c 0 1 ≡ 1 = one-idle 0 in
+    let second : c 1 2 ≡ 1 = one-idle 1 in
+    let both : c 0 2 ≡ 1 = two-idle in
+    record {
+      start = refl;
+      step = λ i j p less most. three-ends (Step c 6 prices)
+          (within c 6 prices 0 1 0 1 refl refl (omega (arith, first)))
+          (within c 6 prices 1 2 1 1 refl refl (omega (arith, second)))
+          (within c 6 prices 0 2 0 1 refl refl (omega (arith, both)))
+          i j less most p;
+    }
+
+least : IsLeastCut c 6 2 (0 ∷ 2 ∷ [])
+least =
+    let both : c 0 2 ≡ 1 = two-idle in
+    record {
+      fitting = record { cut = (refl, (omega arith, refl)); fits = (omega (arith, both), tt) };
+      least = λ other fitting.
+          let low = lower c 6 2 prices hold other fitting in
+          let same : 1 ≡ low.0 = some-same 1 low.0 low.1 in
+          omega (arith, both, same, low.2);
+    }
+
+-- ---- the machine, after each event
+
+most-four : IsMost g 6 4
+most-four = record {
+  within = omega arith;
+  greatest = λ credits few. elim (cases_lt 4 credits) [
+    | inl more ↦ absurd (let five : 1 ≤ div_ceil credits g.t = ceil-mono 5 credits g.t g.tags (omega arith) in omega (arith, five, few, more))
+    | inr most ↦ most
+  ];
+}
+
+abbrev m0 : Machine
+m0 = record {
+  shape = six;
+  geometry = geometry_of six;
+  most = 4;
+  up = true;
+  handles = [];
+  queue = [];
+  taken = [];
+  settled = [];
+  earlier = 0;
+  checkpointed = 0;
+  next = 0;
+  credits = [];
+}
+
+abbrev m1 : Machine
+m1 = after m0 (Open 0 0)
+
+abbrev m2 : Machine
+m2 = after m1 (Stop 0)
+
+abbrev m3 : Machine
+m3 = after m2 (Open 1 0)
+
+abbrev m4 : Machine
+m4 = after m3 (Stop 1)
+
+abbrev m5 : Machine
+m5 = after_take m4 (0 ∷ 2 ∷ [])
+
+abbrev m6 : Machine
+m6 = after m5 (Settle 1)
+
+abbrev m7 : Machine
+m7 = after m6 (Open 0 0)
+
+abbrev m8 : Machine
+m8 = after m7 (Stop 0)
+
+-- the history: three handles without a change
+abbrev history : List WordMap
+history = map.empty ∷ map.empty ∷ map.empty ∷ []
+
+module _ (bounds : Vec ℕ Global) (are : bounds.items ≡ (0 ∷ 2 ∷ [])) where
+  abbrev opened : Log
+  opened = (Stop 1, Ok (Ticket 1)) ∷ (Open 1 0, Ok Plain) ∷ (Stop 0, Ok (Ticket 0)) ∷ (Open 0 0, Ok Plain) ∷ []
+
+  abbrev events : Log
+  events = (Stop 0, Ok (Ticket 2)) ∷ (Open 0 0, Ok Plain) ∷ (Settle 1, Ok Plain) ∷ (Take bounds, Ok Plain) ∷ opened
+
+  ran4 : Ran six opened m4
+  ran4 = (
+    m3,
+    (
+      m2,
+      (
+        m1,
+        (
+          m0,
+          record {
+            same_shape = refl;
+            tags = refl;
+            entries = refl;
+            most = most-four;
+            up = refl;
+            handles = refl;
+            queue = refl;
+            taken = refl;
+            settled = refl;
+            earlier = refl;
+            checkpointed = refl;
+            next = refl;
+            credits = refl;
+          },
+          (refl, tt, refl, refl),
+        ),
+        (refl, tt, refl, refl),
+      ),
+      (refl, tt, refl, refl),
+    ),
+    (refl, tt, refl, refl),
+  )
+
+  ran5 : Ran six ((Take bounds, Ok Plain) ∷ opened) m5
+  ran5 = (m4, ran4, (refl, subst (IsLeastCut c 6 2) (sym are) least, ap (after_take m4) (sym are), refl))
+
+  ran : Ran six events m8
+  ran = (m7, (m6, (m5, ran5, (refl, tt, refl, refl)), (refl, tt, refl, refl)), (refl, tt, refl, refl))
+
+  run : IsMachineRun six history (idle_group ∷ [])
+  run = record {
+    events = events;
+    machine = m8;
+    ran = ran;
+    accepted = tt;
+    one_life = refl;
+    stops = refl;
+    full = idle_group ∷ [];
+    left = record { front = []; is = refl; last = λ none. none };
+    settled = refl;
+  }
+
+  -- ---- the desk
+
+  stopped : AreAllStops history ((0, map.empty) ∷ (2, map.empty) ∷ (1, map.empty) ∷ [])
+  stopped = record {
+    stand = All-cons (StandsIn history) (0, map.empty) ((2, map.empty) ∷ (1, map.empty) ∷ []) refl (All-cons (StandsIn history) (2, map.empty) ((1, map.empty) ∷ []) refl (All-cons (StandsIn history) (1, map.empty) [] refl (All-nil (StandsIn history))));
+    once = λ weight. omega arith;
+  }
+
+  module _ {D : Type 0} (G : Ghosts D) (d : OpenDeck D) where
+    abbrev ended : OpenDeck D
+    ended = record { disk = d.disk; log = record d.log { next = 8 }; groups = d.groups; shape = six; trail = idle_group ∷ []; aborted = false }
+
+    abbrev given : List Stopped
+    given = idle 0 ∷ idle 1 ∷ []
+
+    was : WasGiven (IsStop unknown history) given ended
+    was = record {
+      stopped = All-cons (IsStop unknown history) (idle 0) (idle 1 ∷ []) (tt, refl) (All-cons (IsStop unknown history) (idle 1) [] (tt, refl) (All-nil (IsStop unknown history)));
+      tickets = (refl, (refl, tt));
+      settled = omega arith;
+      all = λ up. refl;
+      costs = All-cons (IsCosted six given) idle_group [] (record { some = omega arith; within = omega arith; blocks = sym two-idle }) (All-nil (IsCosted six given));
+      first = 7;
+      numbers = (refl, tt);
+      next = refl;
+    }
+
+    pub ends-idle : EndsMarked G unknown idle_stops 3 six d.disk (idle_group ∷ []) [] []
+    ends-idle = record {
+      ends = record {
+        log = history;
+        number = refl;
+        stopped = stopped;
+        deck = ended;
+        same_disk = refl;
+        same_shape = refl;
+        same_trail = refl;
+        since = record { given = given; has = was; since = λ known honest. absurd known };
+        run_shape = six;
+        run = run;
+        runs_as = λ known honest. absurd known;
+        journal = λ known honest. absurd known;
+      };
+      knows = (history, refl);
+      last = All-nil (Lasts G unknown given ended);
+    }

@@ -1,0 +1,22 @@
+use Rattle.std.proofs.Common.{◌≡◌, [], ◌∷◌, Some, refl, ap, ◌∙◌, arith}
+use Rattle.jb_handle.specs.declared.stopped.Stopped.{Stopped}
+use Rattle.proof_clients.specs.Examples.{wrote}
+use Rattle.proof_clients.proofs.ExampleMarks.{second-third}
+use Rattle.proof_clients.proofs.examples.marks.is_given.Goals as goal
+
+pub returns-clause-meets : goal.returns-clause-meets
+returns-clause-meets c d = record {
+  handle = wrote [] 1 (2 ∷ []);
+  stands = refl;
+  same_ticket = refl;
+  same_words = refl;
+  settled = omega arith;
+}
+
+some-handle : (x y : Stopped) → Some x ≡ Some y → x ≡ y
+some-handle x y same = cc
+
+pub returns-clause-not_other_words : goal.returns-clause-not_other_words
+returns-clause-not_other_words c d given =
+    let same : wrote [] 1 (2 ∷ []) ≡ given.handle = some-handle (wrote [] 1 (2 ∷ [])) given.handle given.stands in
+    second-third (ap (λ (h : Stopped). h.words) same ∙ given.same_words)

@@ -1,0 +1,8 @@
+//! Examples of the definitions that docs/HEADLINE.md stands on: small values that meet one (clauses `meets`), and some
+//! that do not (clauses `not_..`). A definition that says too little would let these in. The functions do nothing: each
+//! example is a clause. The values are in specs/.
+
+pub mod closing;
+pub mod crashes;
+pub mod cuts;
+pub mod marks;

@@ -1,0 +1,37 @@
+//! Examples of how a desk ends: what its clause says of the handles that stopped and of those that are settled.
+ghost use Rattle.std.specs.Prelude.{◌≡◌, ℕ, List, [], ◌∷◌};
+ghost use Rattle.jb_handle.specs.declared.shape.Shape.{Shape};
+ghost use Rattle.jb_handle.specs.Word.{WordMap};
+ghost use Rattle.jb_deck.specs.Deck.{OpenDeck};
+ghost use Rattle.jb_deck.specs.declared.done.Entry.{Entry};
+ghost use Rattle.std.proofs.Common.{Vec, Global};
+ghost use Rattle.jb_book.specs.Origin.{unknown};
+ghost use Rattle.jb_book.specs.SinceMark.{EndsMarked};
+ghost use Rattle.proof_clients.specs.ExampleMarks.{first, second, third, entry, by_two_seats};
+ghost use Rattle.proof_clients.specs.ExampleMarks.{idle_stops, idle_group};
+ghost use Rattle.proof_clients.specs.Examples.{six};
+
+use jb_book::Origin;
+use jb_disk::Disk;
+
+/// A desk may end with three handles of which two are settled, as one transaction.
+/// No desk ends so: the same handle stands for two seats; only two of three handles stand for a seat; the history that
+/// was seen has other words at a ticket; four handles are settled of the three that stopped; the numbers of the
+/// transactions leave one out.
+pub fn ends_marked<D: Disk, H: Origin>()
+    ensures meets { (d : OpenDeck D) (bounds : Vec ℕ Global) → bounds.items ≡ (0 ∷ 2 ∷ [])
+        → EndsMarked D.Disk unknown idle_stops 3 six d.disk (idle_group ∷ []) [] [] }
+    ensures not_twice { (handles : ℕ) (shape : Shape) (disk : D) (trail : List Entry) (known : List WordMap)
+        (marks : List (OpenDeck D))
+        → EndsMarked D.Disk H.begun (((0, first) ∷ []) ∷ ((0, first) ∷ []) ∷ []) handles shape disk trail known marks
+        → ⊥ }
+    ensures not_missing { (shape : Shape) (disk : D) (trail : List Entry) (known : List WordMap)
+        (marks : List (OpenDeck D))
+        → EndsMarked D.Disk H.begun (((0, first) ∷ []) ∷ ((1, second) ∷ []) ∷ []) 3 shape disk trail known marks → ⊥ }
+    ensures not_other_words { (shape : Shape) (disk : D) (trail : List Entry) (marks : List (OpenDeck D))
+        → EndsMarked D.Disk H.begun by_two_seats 3 shape disk trail (third ∷ []) marks → ⊥ }
+    ensures not_settled { (shape : Shape) (disk : D) (known : List WordMap) (marks : List (OpenDeck D))
+        → EndsMarked D.Disk H.begun by_two_seats 3 shape disk (entry 7 0 4 ∷ []) known marks → ⊥ }
+    ensures not_numbered { (shape : Shape) (disk : D) (known : List WordMap) (marks : List (OpenDeck D))
+        → EndsMarked D.Disk H.begun by_two_seats 3 shape disk (entry 7 0 1 ∷ entry 9 1 3 ∷ []) known marks → ⊥ }
+{}
