@@ -22,4 +22,5 @@ pub mod Steps
 pub mod Throughout
 pub mod Time
 pub mod Versions
+pub mod WriteBehind
 pub mod Writes

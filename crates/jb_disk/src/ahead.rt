@@ -7,11 +7,9 @@ ghost use Rattle.jb_disk.specs.Image.{Image, block, Same};
 ghost use Rattle.jb_disk.specs.KeptOn.{KeptOn};
 ghost use Rattle.jb_disk.specs.Time.{Goes};
 
+use crate::run::RUN_BYTES;
 use crate::{Disk, Fault};
 use jb_block::BlockSize;
-
-/// How many bytes are read ahead: 16 blocks of the largest size.
-const RUN_BYTES: usize = 65536;
 
 /// A buffer for a walk over blocks in a row: it reads as many of them by one call as it has room for. It is
 /// not told of writes: no block may be written that it still has to give.

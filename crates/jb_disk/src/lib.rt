@@ -12,8 +12,10 @@ pub mod laws;
 mod memory;
 mod one_fault;
 mod record;
+mod run;
 mod sector;
 mod start;
+mod write_behind;
 
 pub use ahead::Ahead;
 pub use clock::{Clock, FixedClock};
@@ -25,3 +27,4 @@ pub use memory::MemoryDisk;
 pub use one_fault::OneFaultDisk;
 pub use sector::SECTOR;
 pub use start::{Start, Unknown};
+pub use write_behind::WriteBehind;
