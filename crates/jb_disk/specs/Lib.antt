@@ -1,5 +1,4 @@
 pub mod Agreeing
-pub mod Ahead
 pub mod Called
 pub mod Calls
 pub mod Events
@@ -16,6 +15,7 @@ pub mod Memory
 pub mod Mixing
 pub mod Once
 pub mod OneFault
+pub mod ReadAhead
 pub mod Runs
 pub mod Stays
 pub mod Steps

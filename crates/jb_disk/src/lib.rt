@@ -1,7 +1,6 @@
 //! Disks of whole blocks: what a read gives, what a crash may leave, and disks for tests.
 #![tactic(auto)]
 
-mod ahead;
 mod clock;
 mod disk;
 mod fault;
@@ -11,13 +10,13 @@ mod host;
 pub mod laws;
 mod memory;
 mod one_fault;
+mod read_ahead;
 mod record;
 mod run;
 mod sector;
 mod start;
 mod write_behind;
 
-pub use ahead::Ahead;
 pub use clock::{Clock, FixedClock};
 pub use disk::Disk;
 pub use fault::Fault;
@@ -25,6 +24,7 @@ pub use file::FileDisk;
 pub use fuse::FuseDisk;
 pub use memory::MemoryDisk;
 pub use one_fault::OneFaultDisk;
+pub use read_ahead::ReadAhead;
 pub use sector::SECTOR;
 pub use start::{Start, Unknown};
 pub use write_behind::WriteBehind;

@@ -3,7 +3,7 @@ use borrow.Rule.Slice.PartMut.{post_of}
 use Rattle.jb_disk.specs.Image.{block}
 use Rattle.jb_disk.specs.Runs.{part}
 use Rattle.jb_disk.proofs.Running.{part-append}
-use Rattle.jb_disk.proofs.ahead.Ahead.fetch.Goals as goal
+use Rattle.jb_disk.proofs.read_ahead.ReadAhead.fetch.Goals as goal
 
 pub returns-clause-ahead : goal.returns-clause-ahead
 returns-clause-ahead g c =

@@ -1,10 +1,10 @@
 //! Blocks that are read ahead of a walk over a disk.
 ghost use Rattle.std.specs.Prelude.{◌≡◌, ◌<◌, ◌≤◌, ℕ, length, OnOk};
 ghost use Rattle.jb_block.specs.Size.{bytes_of};
-ghost use Rattle.jb_disk.specs.Ahead.{size_ahead, AreAhead, FitsAhead, IsAhead, IsAheadOf};
 ghost use Rattle.jb_disk.specs.Faults.{CountsFault};
 ghost use Rattle.jb_disk.specs.Image.{Image, block, Same};
 ghost use Rattle.jb_disk.specs.KeptOn.{KeptOn};
+ghost use Rattle.jb_disk.specs.ReadAhead.{size_ahead, AreAhead, FitsAhead, IsAhead, IsAheadOf};
 ghost use Rattle.jb_disk.specs.Time.{Goes};
 
 use crate::run::RUN_BYTES;
@@ -14,21 +14,21 @@ use jb_block::BlockSize;
 /// A buffer for a walk over blocks in a row: it reads as many of them by one call as it has room for. It is
 /// not told of writes: no block may be written that it still has to give.
 #[derive(Drop)]
-pub struct Ahead {
+pub struct ReadAhead {
     run: [u8; RUN_BYTES],
     size: BlockSize,
     first: u64,
     count: usize,
 }
 
-impl Ahead {
+impl ReadAhead {
     /// A buffer for blocks of this size, which holds none.
-    pub fn of(size: BlockSize) -> Ahead
+    pub fn of(size: BlockSize) -> ReadAhead
         ensures size { size_ahead result ≡ bytes_of size }
         ensures fits { FitsAhead result }
         ensures none { (place : ℕ) (c : Image) → AreAhead place c result }
     {
-        Ahead {
+        ReadAhead {
             run: [0; RUN_BYTES],
             size,
             first: 0,
