@@ -10,6 +10,7 @@ pub mod Mixes
 pub mod Moments
 pub mod Noted
 pub mod Outcomes
+pub mod Owing
 pub mod Reached
 pub mod Replays
 pub mod Running

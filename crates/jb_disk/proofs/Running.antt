@@ -1,7 +1,7 @@
 -- Blocks in a row, read one after the other.
 use Rattle.std.proofs.Common.{◌≡◌, ◌<◌, ◌≤◌, ℕ, zero, suc, ◌+◌, ◌-◌, ◌*◌, Bool, true, false, IsTrue, List, ◌++◌, length, take, drop, ⊎_elim, ap, refl, sym, ◌∙◌, subst, arith}
 use Rattle.std.proofs.lemmas.Bool.{cases_lt}
-use Rattle.std.proofs.lemmas.List.{drop-take, take-append-le}
+use Rattle.std.proofs.lemmas.List.{drop-take, take-append-le, take-take}
 use Rattle.std.proofs.lemmas.Slice.{take-put_mid_below, between-put_mid}
 use borrow.Rule.Slice.PartMut.{put_mid}
 use Rattle.jb_disk.specs.Called.{AllMade, AreMade, Called, Reads}
@@ -33,6 +33,14 @@ part-before size j k m to ys below within =
     part-front size j (put_mid (size * k) m to ys)
     ∙ ap (drop (size * j)) (take-put_mid_below (size * k) m to ys (size * j + size) up within)
     ∙ sym (part-front size j to)
+
+-- the blocks of a buffer's front are those of the buffer
+pub part-front_of : (size n k : ℕ) (bytes : List ℕ) → k < n → part size k bytes ≡ part size k (take (size * n) bytes)
+part-front_of size n k bytes below =
+    let up : size * k + size ≤ size * n = grind (arith, below) in
+    part-front size k bytes
+    ∙ ap (drop (size * k)) (sym (take-take (size * k + size) (size * n) bytes up))
+    ∙ sym (part-front size k (take (size * n) bytes))
 
 -- what is behind the blocks does not matter
 pub part-append : (size k : ℕ) (xs ys : List ℕ) → size * k + size ≤ length xs → part size k (xs ++ ys) ≡ part size k xs
