@@ -16,6 +16,7 @@ import sys
 import tempfile
 
 SIZE, HOMES, HANDLES, SECTOR = 1024, 64, 24, 512
+MOST = 65536  # bytes of one call: blocks in a row are written together
 CALL = re.compile(r'(?:\d+ +)?(pwrite64|fdatasync)\(\d+(?:, "([^"]*)"(?:\.\.\.)?, (\d+), (\d+))?')
 
 # blocks of the journal, most blocks of a group, threads, and further words: a held batch needs room for all its credits
@@ -122,7 +123,7 @@ class Loads:
         with open(self.image, "rb") as file:
             new = file.read()
         log = os.path.join(self.folder, "log")
-        self.load(threads, words, ["-xx", "-s", str(SIZE), "-o", log])
+        self.load(threads, words, ["-xx", "-s", str(MOST), "-o", log])
         with open(log, encoding="ascii") as file:
             calls = [call.groups() for call in map(CALL.match, file) if call]
         found, kept, since, safe = [], bytearray(new), {}, 0
