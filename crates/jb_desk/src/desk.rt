@@ -270,11 +270,10 @@ impl<D: Disk, C: Clock, H: Origin, N: Ledger> Desk<D, C, H, N> {
     {
         self.waits.come(rt);
         let counter = self.counter.lock(rt);
-        let mut counter = self.waits.settled(counter.is_odd_for(ticket)).wait_while(
-            rt,
-            counter,
-            |counter| counter.is_awaited(ticket),
-        );
+        let mut counter = self
+            .waits
+            .settled(counter.is_odd_for(ticket))
+            .wait_while(rt, counter, |counter| counter.is_awaited(ticket));
         self.waits.go(rt);
         let number = counter.number_of(&self.histories, seen, ticket)?;
         let (tickets, settled) = (counter.tickets(), counter.seen());

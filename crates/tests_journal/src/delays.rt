@@ -9,10 +9,9 @@ use jb_journal::{
 use std::sync::Wait;
 use std::sync::ledger::Ledger;
 use std::test::Fail;
-use std::thread;
 use std::thread::Threads;
-use std::time;
 use std::time::{Duration, Instant};
+use std::{thread, time};
 
 /// A delay that no test waits for to its end, in milliseconds.
 const LONG: u64 = 20_000;
@@ -52,9 +51,7 @@ impl Worker<Result<(), JournalFault>> for Stopping {
         for _ in 0..self.handles {
             let (_, ticket) = client.change(
                 self.credits,
-                |handle: &mut Handle<()>| -> Result<(), TouchFault> {
-                    handle.write(1, &[7; 1024])
-                },
+                |handle: &mut Handle<()>| -> Result<(), TouchFault> { handle.write(1, &[7; 1024]) },
             )?;
             if self.is_awaited {
                 client.wait(ticket)?;
