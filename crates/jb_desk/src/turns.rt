@@ -3,16 +3,13 @@
 use std::array;
 use std::sync::{Condvar, Mutex, Wait};
 
-/// How many conditions those in a line wait on.
-const WAYS: usize = 16;
-
 /// The line of those that are about to begin a handle, in the order in which they came.
 #[derive(Drop)]
 pub(crate) struct Turns {
     line: Mutex<Line>,
     /// the line has moved on to one of the places that leave this remainder: so the one whose turn it is, is woken, and few
     /// others
-    moved: [Condvar; WAYS],
+    moved: [Condvar; 16],
 }
 
 /// How far a line has come.
@@ -69,6 +66,6 @@ impl Turns {
 
     /// What the one at this place waits on.
     fn moved_to(&self, place: u64) -> &Condvar {
-        &self.moved[(place % WAYS as u64) as usize]
+        &self.moved[place as usize % self.moved.len()]
     }
 }
