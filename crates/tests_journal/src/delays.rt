@@ -73,7 +73,7 @@ struct Came {
 }
 
 /// Runs so many workers, whose commits are put off until so many handles wait, for so many milliseconds at most.
-fn came<R: AllocGlobal + Threads + Wait + time::Clock + Sync>(
+fn run_delayed<R: AllocGlobal + Threads + Wait + time::Clock + Sync>(
     rt: &R,
     workers: usize,
     stopping: Stopping,
@@ -108,7 +108,7 @@ fn came<R: AllocGlobal + Threads + Wait + time::Clock + Sync>(
 
 #[test]
 fn a_round_takes_as_many_handles_as_it_is_put_off_for(rt: HostRuntime) -> Result<(), Fail> {
-    let four = came(&rt, 4, ONE, LONG, 4)?;
+    let four = run_delayed(&rt, 4, ONE, LONG, 4)?;
     assert_eq!(rt; (four.handles, four.transactions), (4, 1));
     assert!(rt; four.took < LONG / 2);
     Ok(())
@@ -116,7 +116,7 @@ fn a_round_takes_as_many_handles_as_it_is_put_off_for(rt: HostRuntime) -> Result
 
 #[test]
 fn a_handle_is_committed_after_the_delay(rt: HostRuntime) -> Result<(), Fail> {
-    let one = came(&rt, 1, ONE, 200, 4)?;
+    let one = run_delayed(&rt, 1, ONE, 200, 4)?;
     assert_eq!(rt; one.handles, 1);
     assert!(rt; one.took >= 200 && one.took < LONG / 2);
     Ok(())
@@ -128,7 +128,7 @@ fn a_shut_ends_the_delay(rt: HostRuntime) -> Result<(), Fail> {
         is_awaited: false,
         ..ONE
     };
-    let one = came(&rt, 1, stopping, LONG, 4)?;
+    let one = run_delayed(&rt, 1, stopping, LONG, 4)?;
     assert_eq!(rt; one.handles, 1);
     assert!(rt; one.took < LONG / 2);
     Ok(())
@@ -143,7 +143,7 @@ fn a_handle_that_waits_for_room_ends_the_delay(rt: HostRuntime) -> Result<(), Fa
         is_awaited: false,
         ..ONE
     };
-    let many = came(&rt, 1, stopping, LONG, 100)?;
+    let many = run_delayed(&rt, 1, stopping, LONG, 100)?;
     assert_eq!(rt; many.handles, 12);
     assert!(rt; many.took < LONG / 4);
     Ok(())
