@@ -88,10 +88,15 @@ impl<D: Disk, C: Clock, H: Origin, N: Ledger> Desk<D, C, H, N> {
         }
     }
 
-    /// Waits until so many handles have stopped, or for so long where fewer do. The time is asked before and after each
-    /// sleep: where the clock cannot be read there is none.
+    /// Waits until there is a batch to take, and then until so many handles have stopped, or for so long where fewer do. The
+    /// lock is held between the two: else one that stops meanwhile would be taken at once. The time is asked before and
+    /// after each sleep: where the clock cannot be read there is none.
     fn await_handles<R: Wait + time::Clock>(&self, rt: &R, delay: Delay) {
-        let mut counter = self.counter.lock(rt);
+        let counter = self.counter.lock(rt);
+        let mut counter = self
+            .signals
+            .stopped
+            .wait_while(rt, counter, |counter| counter.rests());
         counter.want_handles(delay.handles);
         let _gathered = self
             .signals
