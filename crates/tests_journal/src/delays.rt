@@ -23,7 +23,7 @@ struct Stopping {
     handles: u64,
     /// how many credits each of them has
     credits: u32,
-    /// how long after one worker the next one begins, in milliseconds
+    /// how long the first one sleeps before each handle and at its end, in milliseconds; the second one twice as long
     apart: u64,
     /// whether each is waited for
     is_awaited: bool,
@@ -46,9 +46,10 @@ impl Worker<Result<(), JournalFault>> for Stopping {
     ) -> Result<(), JournalFault>
         requires client { IsClient H.begun client.old }
     {
-        let wait = Duration::from_millis(self.apart.saturating_mul(at as u64));
-        thread::sleep(client.runtime(), wait);
+        let rt = client.runtime();
+        let apart = (at as u64).saturating_add(1).saturating_mul(self.apart);
         for _ in 0..self.handles {
+            thread::sleep(rt, Duration::from_millis(apart));
             let (_, ticket) = client.change(
                 self.credits,
                 |handle: &mut Handle<()>| -> Result<(), TouchFault> { handle.write(1, &[7; 1024]) },
@@ -57,6 +58,7 @@ impl Worker<Result<(), JournalFault>> for Stopping {
                 client.wait(ticket)?;
             }
         }
+        thread::sleep(rt, Duration::from_millis(apart));
         Ok(())
     }
 }
