@@ -1,5 +1,5 @@
 #!/usr/bin/env python3
-"""durable.py EXAMPLE_DURABLE [SECONDS [FOLDER]]: how many handles a second are durable, beside SQLite, and beside the limit of the disk.
+"""durable.py [--delay] EXAMPLE_DURABLE [SECONDS [FOLDER]]: how many handles a second are durable, beside SQLite, and beside the limit of the disk.
 
 So many threads (1, 2, 4, .., 64) each change two home blocks by a handle and wait until it is durable, again and again; then as many
 threads each change two rows by a transaction of SQLite and commit it (a connection each, a log, synchronous=FULL). Each for so many
@@ -10,7 +10,10 @@ is measured before each row, by a program that writes a block and syncs it.
 
 A line for each: handles a second, how many times the limit that is, syncs a handle, handles a transaction, and milliseconds until a handle
 is durable, the median and 99 of 100. The syncs are those from the first handle to the program's end, at which all is written home. Needs a
-C compiler and SQLite's library (libsqlite3-dev)."""
+C compiler and SQLite's library (libsqlite3-dev).
+
+With --delay only what a delay before each commit changes: 8 and 64 threads, with the disk's own sync and with syncs of 4 ms in memory; no
+delay, and then at most 100, 500, 2,000 and 8,000 microseconds, until as many handles wait as there are threads, and until half as many do."""
 import os
 import re
 import subprocess
@@ -63,20 +66,37 @@ def measure(program, sqlite, shim, seconds, micros):
         print(ROW % ("the limit", threads, "%.0f" % limit, "", "", "", "", ""), flush=True)
 
 
+def measure_delays(program, sqlite, shim, seconds, micros):
+    """Rows without a delay and with several, with syncs that take so much longer."""
+    for threads in (8, 64):
+        fresh("probe")
+        (syncs, whole, *_), _ = run(shim, micros, [sqlite, "probe", "0", "1"])
+        limit = threads * syncs * 1e6 / whole / 2
+        for delay, handles in [(0, 0)] + [(delay, part) for delay in (100, 500, 2000, 8000) for part in (threads, threads // 2)]:
+            fresh("image")
+            run(shim, 0, [program, "image", "1", "0"])
+            words = [program, "image", str(threads), str(seconds), "512", str(delay), str(handles)]
+            row("%d us, %d" % (delay, handles) if delay else "no delay", threads, run(shim, micros, words), limit)
+
+
 def main():
-    program = os.path.realpath(sys.argv[1])
-    seconds = int(sys.argv[2]) if len(sys.argv) > 2 else 2
-    folder = os.path.realpath(sys.argv[3] if len(sys.argv) > 3 else ".")
+    words = sys.argv[1:]
+    is_delayed = words[:1] == ["--delay"]
+    words = words[is_delayed:]
+    program = os.path.realpath(words[0])
+    seconds = int(words[1]) if len(words) > 1 else 2
+    folder = os.path.realpath(words[2] if len(words) > 2 else ".")
     with tempfile.TemporaryDirectory() as made:
         shim, sqlite = os.path.join(made, "slow_sync.so"), os.path.join(made, "sqlite")
         subprocess.run(["cc", "-shared", "-fPIC", "-O2", "-o", shim, os.path.join(HERE, "slow_sync.c"), "-ldl"], check=True)
         subprocess.run(["cc", "-O2", "-o", sqlite, os.path.join(HERE, "sqlite.c"), "-lsqlite3", "-lpthread"], check=True)
-        for micros, where in ((0, folder), (1000, "/dev/shm"), (4000, "/dev/shm"), (10000, "/dev/shm")):
+        slow = (4000,) if is_delayed else (1000, 4000, 10000)
+        for micros, where in [(0, folder)] + [(micros, "/dev/shm") for micros in slow]:
             with tempfile.TemporaryDirectory(dir=where) as at:
                 os.chdir(at)
                 print("\n%s, load %.1f" % ("syncs of %d ms" % (micros // 1000) if micros else "the disk's own sync", os.getloadavg()[0]))
                 print(ROW % ("", "threads", "handles/s", "limit", "syncs", "a group", "median", "99th"))
-                measure(program, sqlite, shim, seconds, micros)
+                (measure_delays if is_delayed else measure)(program, sqlite, shim, seconds, micros)
                 os.chdir("/")
 
 

@@ -2,12 +2,13 @@
 //! handles took.
 //!
 //! ```sh
-//! example_durable [IMAGE THREADS SECONDS [LEVEL]]
+//! example_durable [IMAGE THREADS SECONDS [LEVEL [MICROS HANDLES]]]
 //! ```
 //!
 //! `IMAGE` is made where there is no such file. Each of `THREADS` threads, 1 to 64, makes handles for so many seconds.
-//! `LEVEL` is how many blocks of the log are in use until committed transactions are written home. Without words the disk
-//! is in memory, each of four threads makes 250 handles, and no time is printed.
+//! `LEVEL` is how many blocks of the log are in use until committed transactions are written home. Each commit is put off
+//! until `HANDLES` handles wait for it, but for `MICROS` microseconds at most. Without words the disk is in memory, each of
+//! four threads makes 250 handles, and no time is printed.
 #![tactic(auto)]
 
 ghost use Rattle.std.specs.Prelude.{◌≤◌};
@@ -18,8 +19,8 @@ mod times;
 use crate::handles::{Durable, HOMES, SIZE};
 use crate::times::{Times, Waited};
 use jb_journal::{
-    Disk, Geometry, JournalFault, MemoryDisk, Options, SystemClock, Width, format, open_or_create,
-    run,
+    Delay, Disk, Geometry, JournalFault, MemoryDisk, Options, SystemClock, Width, format,
+    open_or_create, run,
 };
 use std::env;
 use std::fs::File;
@@ -28,7 +29,7 @@ use std::process::ExitCode;
 use std::rt::Files;
 use std::sync::Wait;
 use std::thread::Threads;
-use std::time::{Clock, Instant};
+use std::time::{Clock, Duration, Instant};
 
 /// How many blocks the journal has.
 const JOURNAL: u32 = 1024;
@@ -40,6 +41,7 @@ struct Load {
     handles: u64,
     time: u64,
     level: u32,
+    delay: Delay,
 }
 
 /// As many workers as a run may have: so many, but from 1 to 64.
@@ -67,6 +69,7 @@ fn run_handles<D: Disk + Drop + Send, R: AllocGlobal + Threads + Wait + Clock + 
     };
     let mut options = Options::new(workers(load.threads));
     options.level = load.level;
+    options.delay = load.delay;
     let ran = run(rt, disk, SystemClock::new(rt), options, &durable)?;
     let mut times = Times::new(rt.alloc(), ran.trail.len());
     let (_disk, answers) = ran.durable()?;
@@ -86,11 +89,19 @@ fn words_of(rt: &HostRuntime) -> Option<(String, Load)> {
         Some(level) => level.parse().ok()?,
         None => 0,
     };
+    let delay = match words.next() {
+        Some(micros) => Delay {
+            time: Duration::from_micros(micros.parse().ok()?),
+            handles: words.next()?.parse().ok()?,
+        },
+        None => Delay::none(),
+    };
     let load = Load {
         threads,
         handles: u64::MAX,
         time: seconds.saturating_mul(1_000_000),
         level,
+        delay,
     };
     Some((image, load))
 }
@@ -117,6 +128,7 @@ fn run_in_memory<R: AllocGlobal + Threads + Wait + Clock + Sync>(
         handles: 250,
         time: u64::MAX,
         level: 0,
+        delay: Delay::none(),
     };
     run_handles(rt, disk, load)
 }

@@ -1,4 +1,5 @@
 pub mod Closing
+pub mod Delays
 pub mod Desks
 pub mod Ends
 pub mod History

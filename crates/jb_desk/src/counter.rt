@@ -9,6 +9,7 @@ mod progress;
 mod rounds;
 mod seen;
 mod taking;
+mod waiting;
 
 use crate::fault::WaitFault;
 use crate::seat::{Left, Seat};
@@ -38,6 +39,12 @@ pub(crate) struct Counter<D: Disk, H: Origin, N: Ledger> {
     spare_changes: Share<N>,
     /// how many seats were given
     given: u64,
+    /// how many handles a committer puts its round off for
+    wanted: u64,
+    /// whether a handle waits for room
+    is_room_wanted: bool,
+    /// whether an odd number of batches was taken
+    is_odd: bool,
     ghost handles_counted: { handles.total ≡ register.book.shadow.next },
     ghost changes_counted: { changes.total ≡ register.book.changes },
     ghost handles_left: { spare_handles.parts + given ≡ 2305843009213693953 },
@@ -71,6 +78,9 @@ impl<D: Disk, H: Origin, N: Ledger> Counter<D, H, N> {
             spare_handles,
             spare_changes,
             given: 0,
+            wanted: 0,
+            is_room_wanted: false,
+            is_odd: false,
         }
     }
 

@@ -20,6 +20,7 @@ use crate::counter::Counter;
 use crate::fault::{SeatFault, StopFault, WaitFault};
 use crate::seat::{Left, Seat};
 use crate::shown::Shown;
+use crate::signals::Signals;
 use crate::stops::Stops;
 use crate::turns::Turns;
 use crate::waits::Waits;
@@ -31,7 +32,7 @@ use jb_disk::{Clock, Disk};
 use jb_handle::{Handle, Shape};
 use std::alloc::Global;
 use std::sync::ledger::{Blank, Ledger};
-use std::sync::{Condvar, Mutex, Wait};
+use std::sync::{Mutex, Wait};
 
 /// The desk of a journal (`journal_t` as threads share it), at which any number of threads begin, change and
 /// stop handles while one commits what has stopped (kjournald2) and one writes committed groups home. It has
@@ -41,8 +42,7 @@ use std::sync::{Condvar, Mutex, Wait};
 pub struct Desk<D: Disk, C: Clock, H: Origin, N: Ledger> {
     counter: Mutex<Counter<D, H, N>>,
     works: Mutex<Works<D, C, H>>,
-    /// the book has changed
-    moved: Condvar,
+    signals: Signals,
     turns: Turns,
     waits: Waits,
     board: Shown<H>,
@@ -103,7 +103,7 @@ impl<D: Disk, C: Clock, H: Origin, N: Ledger> Desk<D, C, H, N> {
         Ok(Desk {
             counter: Mutex::new(Counter::new(register, tickets, changes)),
             works: Mutex::new(Works::new(deck, clock, sight, marking)),
-            moved: Condvar::new(),
+            signals: Signals::new(),
             turns: Turns::new(),
             waits: Waits::new(),
             board: Shown::new(board),
@@ -133,14 +133,14 @@ impl<D: Disk, C: Clock, H: Origin, N: Ledger> Desk<D, C, H, N> {
             × (made_left result ≡ made_by seat) }
     {
         let left = self.counter.lock(rt).leave(seat);
-        self.moved.notify_all();
+        self.signals.tell();
         left
     }
 
     /// From now on no seat is given and no handle is begun. Open handles may still stop.
     pub fn shut<R: Wait>(&self, rt: &R) {
         self.counter.lock(rt).shut();
-        self.moved.notify_all();
+        self.signals.tell();
     }
 
     /// A seat begins a handle of so many credits (`jbd2_journal_start`). It does not stand in the line of
@@ -198,8 +198,9 @@ impl<D: Disk, C: Clock, H: Origin, N: Ledger> Desk<D, C, H, N> {
         let mut counter = self.counter.lock(rt);
         let (mut seat, ticket) = counter.stop(&self.histories, seen, handle)?;
         let tickets = counter.tickets();
+        let is_enough = counter.is_enough();
         drop(counter);
-        self.moved.notify_all();
+        self.signals.tell_stop(is_enough);
         self.board
             .raise_stopped(&mut seat.board, ticket + 1, &tickets);
         Ok((seat, ticket))
@@ -210,7 +211,7 @@ impl<D: Disk, C: Clock, H: Origin, N: Ledger> Desk<D, C, H, N> {
         ensures { result ≡ holder handle }
     {
         let seat = self.counter.lock(rt).abandon(handle);
-        self.moved.notify_all();
+        self.signals.tell();
         seat
     }
 
@@ -268,11 +269,11 @@ impl<D: Disk, C: Clock, H: Origin, N: Ledger> Desk<D, C, H, N> {
         ensures counted { KeepsStops seat.old seat.new }
     {
         self.waits.come(rt);
-        let mut counter = self.waits.settled.wait_while(
-            rt,
-            self.counter.lock(rt),
-            |counter| counter.is_awaited(ticket),
-        );
+        let counter = self.counter.lock(rt);
+        let mut counter = self
+            .waits
+            .settled(counter.is_odd_for(ticket))
+            .wait_while(rt, counter, |counter| counter.is_awaited(ticket));
         self.waits.go(rt);
         let number = counter.number_of(&self.histories, seen, ticket)?;
         let (tickets, settled) = (counter.tickets(), counter.seen());

@@ -3,6 +3,7 @@
 
 mod committer;
 mod counter;
+mod delay;
 mod desk;
 mod ended;
 mod fault;
@@ -11,12 +12,14 @@ mod held;
 pub mod laws;
 mod seat;
 mod shown;
+mod signals;
 mod stops;
 mod turns;
 mod waits;
 
 pub use committer::{Committer, Round, RoundFault};
 pub use counter::{NoBatch, Over};
+pub use delay::Delay;
 pub use desk::{CloseFault, Closed, Desk};
 pub use ended::Ended;
 pub use fault::{SeatFault, StopFault, WaitFault};

@@ -1,13 +1,15 @@
 //! The line in which handles are begun.
 
+use std::array;
 use std::sync::{Condvar, Mutex, Wait};
 
 /// The line of those that are about to begin a handle, in the order in which they came.
 #[derive(Drop)]
 pub(crate) struct Turns {
     line: Mutex<Line>,
-    /// the line has moved on
-    moved: Condvar,
+    /// the line has moved on; each is for the places of one remainder, so that the one whose turn it is, is woken, and few
+    /// others
+    moved: [Condvar; 16],
 }
 
 /// How far a line has come.
@@ -30,7 +32,7 @@ impl Turns {
                 gone: 0,
                 in_vain: None,
             }),
-            moved: Condvar::new(),
+            moved: array::from_fn(|_| Condvar::new()),
         }
     }
 
@@ -46,7 +48,9 @@ impl Turns {
         let mut line = self.line.lock(rt);
         let place = line.came;
         line.came = place.wrapping_add(1);
-        let line = self.moved.wait_while(rt, line, |line| line.gone != place);
+        let line = self
+            .moved_to(place)
+            .wait_while(rt, line, |line| line.gone != place);
         line.in_vain
     }
 
@@ -55,8 +59,13 @@ impl Turns {
         let mut line = self.line.lock(rt);
         line.gone = line.gone.wrapping_add(1);
         line.in_vain = in_vain;
-        if line.gone != line.came {
-            self.moved.notify_all();
-        }
+        let next = line.gone;
+        drop(line);
+        self.moved_to(next).notify_all();
+    }
+
+    /// What the one at this place waits on.
+    fn moved_to(&self, place: u64) -> &Condvar {
+        &self.moved[place as usize % self.moved.len()]
     }
 }

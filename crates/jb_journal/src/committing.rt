@@ -5,23 +5,24 @@ ghost use Rattle.jb_desk.specs.Seats.{made_by, made_left, desk_of};
 ghost use Rattle.jb_journal.specs.Running.{HasLeft};
 
 use crate::gate::Gate;
-use jb_desk::{Desk, Ended, Left, Origin, Seat};
+use jb_desk::{Delay, Desk, Ended, Left, Origin, Seat};
 use jb_disk::{Clock, Disk};
 use std::sync::Wait;
 use std::sync::ledger::Ledger;
 use std::time;
 
-/// Commits until the desk is over or a round does not end well, and then leaves; a batch that could not be committed is
-/// given up at once, so that nobody waits for it.
+/// Commits, each round after the delay, until the desk is over or a round does not end well, and then leaves; a batch
+/// that could not be committed is given up at once, so that nobody waits for it.
 fn commit_all<D: Disk, C: Clock, R: Wait + time::Clock, H: Origin, N: Ledger>(
     rt: &R,
     desk: &Desk<D, C, H, N>,
+    delay: Delay,
     seat: Seat<H, N>,
 ) -> (Left<H, N>, Ended)
     requires { desk_of seat ≡ desk_id desk.now }
     ensures { made_left result.0 ≡ made_by seat }
 {
-    let (committer, ended) = desk.run_committer(rt, desk.committer(seat));
+    let (committer, ended) = desk.run_committer_after(rt, desk.committer(seat), delay);
     let seat = match desk.retire(rt, committer) {
         Ok(seat) => seat,
         Err(committer) => desk.give_up(rt, committer),
@@ -35,6 +36,7 @@ pub(crate) fn commit_from<D: Disk, C: Clock, R: Wait + time::Clock, H: Origin, N
     rt: &R,
     desk: &Desk<D, C, H, N>,
     gate: &Gate,
+    delay: Delay,
     place: &mut Option<Seat<H, N>>,
 ) -> Option<(Left<H, N>, Ended)>
     requires { IfSome place.old (λ seat. desk_of seat ≡ desk_id desk.now) }
@@ -43,7 +45,7 @@ pub(crate) fn commit_from<D: Disk, C: Clock, R: Wait + time::Clock, H: Origin, N
 {
     gate.pass(rt);
     match place.take() {
-        Some(seat) => Some(commit_all(rt, desk, seat)),
+        Some(seat) => Some(commit_all(rt, desk, delay, seat)),
         None => None,
     }
 }

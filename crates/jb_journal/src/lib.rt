@@ -22,7 +22,7 @@ pub use fault::{HandleFault, HomeFault, NotSettled, RunFault};
 pub use image::{open, open_holding, open_or_create, open_or_create_holding, read_home};
 pub use jb_block::{BlockSize, Memory, Stamp, Width};
 pub use jb_deck::{Entry, OpenFault, ReadHomeFault};
-pub use jb_desk::{BeginFault, Ended, Origin, WaitFault};
+pub use jb_desk::{BeginFault, Delay, Ended, Origin, WaitFault};
 pub use jb_disk::{Clock, Disk, Fault, FileDisk, FixedClock, MemoryDisk, Start, Unknown};
 pub use jb_format::{FormatFault, format};
 pub use jb_handle::{Handle, Payload, Shape, TouchFault, Word, Words};

@@ -1,5 +1,8 @@
 //! How a journal is run.
 ghost use Rattle.std.specs.Prelude.{◌≡◌, true};
+ghost use Rattle.std.specs.Duration.{as_nanos};
+
+use jb_desk::Delay;
 
 /// How a journal is run.
 #[derive(Clone, Copy, Debug, PartialEq, Eq)]
@@ -14,17 +17,22 @@ pub struct Options {
     /// transactions of the most blocks lets a home that changes often be written less often, and a commit still finds
     /// room. At the end all are written home. Without `checkpoint` it means nothing.
     pub level: u32,
+    /// How long each commit is put off, so that it takes more handles. It is not once as many wait as the delay names,
+    /// where a handle waits for room in the log, or where all workers have ended.
+    pub delay: Delay,
 }
 
 impl Options {
-    /// So many workers, and each committed transaction is written home at once.
+    /// So many workers; no commit is put off, and each committed transaction is written home at once.
     pub fn new(workers: usize) -> Options
-        ensures { (result.workers ≡ workers) × (result.checkpoint ≡ true) × (result.level ≡ 0) }
+        ensures threads { (result.workers ≡ workers) × (result.checkpoint ≡ true) × (result.level ≡ 0) }
+        ensures delay { (as_nanos result.delay.time ≡ 0) × (result.delay.handles ≡ 0) }
     {
         Options {
             workers,
             checkpoint: true,
             level: 0,
+            delay: Delay::none(),
         }
     }
 }

@@ -71,7 +71,7 @@ pub(crate) fn run_all<
 {
     let gate = Gate::new(threads_of(options));
     if !options.checkpoint {
-        let ran = run_workers(rt, alloc, desk, shape, &gate, options.workers, worker);
+        let ran = run_workers(rt, alloc, desk, shape, &gate, options, worker);
         return (ran, None);
     }
     // the checkpointer is first, since the first closure runs last where no thread can be made
@@ -80,7 +80,7 @@ pub(crate) fn run_all<
         || check_home(rt, desk, &gate, options.level),
         || -> Result<Threaded<T, D, H, N>, RunFault>
             requires { (shape ≡ shape_in desk.now) × ((words : WordMap) → H.begun.stops words) }
-        { run_workers(rt, alloc, desk, shape, &gate, options.workers, worker) },
+        { run_workers(rt, alloc, desk, shape, &gate, options, worker) },
     );
     (ran, Some(checkpoint))
 }
@@ -119,12 +119,12 @@ fn run_workers<
     desk: &Desk<D, C, H, N>,
     shape: Shape,
     gate: &Gate,
-    workers: usize,
+    options: Options,
     worker: &W,
 ) -> Result<Threaded<T, D, H, N>, RunFault>
     requires shape { shape ≡ shape_in desk.now }
     requires any { (words : WordMap) → H.begun.stops words }
-    ensures ran { IfOk result (HasThreaded D.Disk (W.answers worker.now H.begun) workers) }
+    ensures ran { IfOk result (HasThreaded D.Disk (W.answers worker.now H.begun) options.workers) }
     ensures faults { IfErr result (λ fault. (fault ≡ OutOfMemory) ⊎ ((fault ≡ Accounts) ⊎ (fault ≡ NoThread))) }
 {
     let Ok(seat) = desk.seat(rt) else {
@@ -132,9 +132,10 @@ fn run_workers<
         return Err(RunFault::Accounts);
     };
     let mut place = Some(seat);
+    let Options { workers, delay, .. } = options;
     let (committed, ran) = thread::join(
         rt,
-        || commit_from(rt, desk, gate, &mut place),
+        || commit_from(rt, desk, gate, delay, &mut place),
         || -> Result<Vec<Worked<T, D, H, N>>, Memory>
             requires { (shape ≡ shape_in desk.now) × ((words : WordMap) → H.begun.stops words) }
         { work(rt, alloc, desk, shape, gate, workers, worker) },

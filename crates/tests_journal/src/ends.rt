@@ -1,6 +1,6 @@
 //! What a run gives at its end, and what a client tells of its journal.
 use jb_journal::{
-    BlockSize, Client, Clock, Disk, Ended, FixedClock, JournalFault, MemoryDisk, NotSettled,
+    BlockSize, Client, Clock, Delay, Disk, Ended, FixedClock, JournalFault, MemoryDisk, NotSettled,
     Options, Origin, Ran, Stamp, SystemClock, WaitFault, Width, Worker, format, run,
 };
 use std::alloc::Global;
@@ -70,6 +70,7 @@ fn a_client_tells_the_sizes_of_its_journal(rt: HostRuntime) -> Result<(), Fail> 
         workers: 1,
         checkpoint: false,
         level: 0,
+        delay: Delay::none(),
     };
     let ran = run(&rt, disk, SystemClock::new(&rt), options, &Asking)?;
     // a quarter of the 32 blocks of the log, without a descriptor and a commit block

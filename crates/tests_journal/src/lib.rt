@@ -2,6 +2,8 @@
 #![tactic(auto)]
 
 #[cfg(test)]
+mod delays;
+#[cfg(test)]
 mod ends;
 #[cfg(test)]
 mod images;

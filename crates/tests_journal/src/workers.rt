@@ -3,9 +3,9 @@ ghost use Rattle.std.specs.Prelude.{◌≤◌};
 ghost use Rattle.jb_journal.specs.Client.{IsClient};
 
 use jb_journal::{
-    BlockSize, Client, Clock, Disk, Ended, FixedClock, Handle, HandleFault, MemoryDisk, OpenFault,
-    Options, Origin, Ran, RunFault, Stamp, TouchFault, WaitFault, Width, Worker, format, recover,
-    run,
+    BlockSize, Client, Clock, Delay, Disk, Ended, FixedClock, Handle, HandleFault, MemoryDisk,
+    OpenFault, Options, Origin, Ran, RunFault, Stamp, TouchFault, WaitFault, Width, Worker, format,
+    recover, run,
 };
 use std::alloc::Global;
 use std::sync::Wait;
@@ -49,6 +49,7 @@ fn by(workers: usize) -> Options
         workers: workers.clamp(1, 64),
         checkpoint: false,
         level: 0,
+        delay: Delay::none(),
     }
 }
 

@@ -80,7 +80,7 @@ impl<D: Disk, H: Origin, N: Ledger> Counter<D, H, N> {
             mut changes,
             spare_handles,
             spare_changes,
-            given: _,
+            ..
         } = self;
         let (mut spare_handles, mut spare_changes, all) = merged(
             history,

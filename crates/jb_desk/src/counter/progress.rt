@@ -1,5 +1,5 @@
 //! How far the book of a desk has come.
-ghost use Rattle.std.specs.Prelude.{◌≡◌, ◌-◌};
+ghost use Rattle.std.specs.Prelude.{◌≡◌};
 
 use crate::counter::{Counter, Over};
 use jb_book::Origin;
@@ -29,13 +29,5 @@ impl<D: Disk, H: Origin, N: Ledger> Counter<D, H, N> {
             over: self.over(),
             is_aborted: self.register.book().is_aborted(),
         }
-    }
-
-    /// How many handles have stopped and are not taken.
-    pub fn queued(&self) -> u64
-        ensures { result ≡ self.now.register.book.shadow.next - self.now.register.book.shadow.taken }
-    {
-        let book = self.register.book();
-        book.next().saturating_sub(book.taken())
     }
 }

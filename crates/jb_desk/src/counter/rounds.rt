@@ -42,6 +42,7 @@ impl<D: Disk, H: Origin, N: Ledger> Counter<D, H, N> {
             Some(batch) => Ok(Some(batch)),
             None => match self.register.take(history) {
                 Some((batch, sight)) => {
+                    self.is_odd = !self.is_odd;
                     let (tickets, seen) = (self.tickets(), self.seen());
                     Ok(Some(Held::of(batch, tickets, sight, seen)))
                 }

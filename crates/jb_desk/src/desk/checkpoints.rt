@@ -87,6 +87,7 @@ impl<D: Disk, C: Clock, H: Origin, N: Ledger> Desk<D, C, H, N> {
     fn await_progress<R: Wait>(&self, rt: &R, before: Progress) {
         let counter = self.counter.lock(rt);
         let _moved = self
+            .signals
             .moved
             .wait_while(rt, counter, |counter| counter.progress() == before);
     }

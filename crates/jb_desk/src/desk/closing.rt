@@ -102,7 +102,7 @@ impl<D: Disk + Drop, C: Clock, H: Origin, N: Ledger> Desk<D, C, H, N> {
         let Desk {
             counter,
             works,
-            moved,
+            signals,
             turns,
             waits,
             board,
@@ -115,7 +115,7 @@ impl<D: Disk + Drop, C: Clock, H: Origin, N: Ledger> Desk<D, C, H, N> {
             let desk = Desk {
                 counter: Mutex::new(counter),
                 works,
-                moved,
+                signals,
                 turns,
                 waits,
                 board,

@@ -54,8 +54,8 @@ impl<D: Disk, C: Clock, H: Origin, N: Ledger> Desk<D, C, H, N> {
     {
         let Committer { seat, batch } = committer;
         self.counter.lock(rt).give_up(&self.histories.stops, batch);
-        self.moved.notify_all();
-        self.waits.wake(rt);
+        self.signals.tell();
+        self.waits.wake_all();
         seat
     }
 
@@ -65,7 +65,7 @@ impl<D: Disk, C: Clock, H: Origin, N: Ledger> Desk<D, C, H, N> {
         ensures { SeesSame seen.old seen.new }
     {
         self.counter.lock(rt).fail(&self.histories, seen);
-        self.moved.notify_all();
-        self.waits.wake(rt);
+        self.signals.tell();
+        self.waits.wake_all();
     }
 }

@@ -3,6 +3,7 @@ ghost use Rattle.std.specs.Prelude.{◌≡◌};
 
 use crate::committer::{Committer, Round, RoundFault};
 use crate::counter::Over;
+use crate::delay::Delay;
 use crate::desk::Desk;
 use crate::desk::gathering::Pace;
 use crate::ended::Ended;
@@ -32,9 +33,26 @@ impl<D: Disk, C: Clock, H: Origin, N: Ledger> Desk<D, C, H, N> {
         ensures held { EndsHolding result.1 (held_by result.0) }
         ensures counted { KeepsStops (seat_of committer) (seat_of result.0) }
     {
-        let (mut committer, mut pace) = (committer, Pace::new());
+        self.run_committer_after(rt, committer, Delay::none())
+    }
+
+    /// The same, where each round is put off by a delay.
+    pub fn run_committer_after<R: Wait + time::Clock>(
+        &self,
+        rt: &R,
+        committer: Committer<H, N>,
+        delay: Delay,
+    ) -> (Committer<H, N>, Ended)
+        requires { desk_of (seat_of committer) ≡ desk_id self.now }
+        ensures desk { (desk_of (seat_of result.0) ≡ desk_of (seat_of committer))
+            × (seat_number (seat_of result.0) ≡ seat_number (seat_of committer)) }
+        ensures rises { IsWithin (view_of (seat_of committer)) (view_of (seat_of result.0)) }
+        ensures held { EndsHolding result.1 (held_by result.0) }
+        ensures counted { KeepsStops (seat_of committer) (seat_of result.0) }
+    {
+        let (mut committer, mut pace) = (committer, Pace::new(delay));
         for _ in rt.forever() {
-            self.gather(rt, &mut pace);
+            self.gather(rt, &committer, &mut pace);
             match self.commit_round(rt, &mut committer) {
                 Ok(Round::Committed(_)) => pace.end(rt),
                 Ok(Round::Idle(_)) => {
@@ -57,7 +75,8 @@ impl<D: Disk, C: Clock, H: Origin, N: Ledger> Desk<D, C, H, N> {
     fn await_work<R: Wait>(&self, rt: &R) -> Option<Over> {
         let counter = self.counter.lock(rt);
         let counter = self
-            .moved
+            .signals
+            .stopped
             .wait_while(rt, counter, |counter| counter.rests());
         counter.over()
     }

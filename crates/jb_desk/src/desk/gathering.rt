@@ -1,5 +1,8 @@
-//! A committer waits a little while for handles that are about to stop, as jbd2 does (`j_min_batch_time`).
+//! A committer waits before a round for handles that are about to stop: for as long as it is told to (jbd2's commit
+//! interval), or else a little while, by what the last round took (`j_min_batch_time`).
 
+use crate::committer::Committer;
+use crate::delay::Delay;
 use crate::desk::Desk;
 use jb_book::Origin;
 use jb_disk::{Clock, Disk};
@@ -18,17 +21,19 @@ const PART: u32 = 32;
 /// part of it.
 const LEAST: u64 = 300;
 
-/// What a committer's last round took.
+/// How long a committer puts its rounds off, and what the last one took.
 #[derive(Drop)]
 pub(crate) struct Pace {
+    delay: Delay,
     start: Option<Instant>,
     took: Duration,
 }
 
 impl Pace {
     /// There was no round.
-    pub(crate) fn new() -> Pace {
+    pub(crate) fn new(delay: Delay) -> Pace {
         Pace {
+            delay,
             start: None,
             took: Duration::ZERO,
         }
@@ -57,15 +62,46 @@ impl Pace {
 }
 
 impl<D: Disk, C: Clock, H: Origin, N: Ledger> Desk<D, C, H, N> {
-    /// Begins a round. Where handles have stopped, waits for those of the threads that the last round has woken: they
-    /// begin their next handles at about the same time, and one that stops too late for a round is committed a whole
-    /// round later.
-    pub(crate) fn gather<R: Wait + time::Clock>(&self, rt: &R, pace: &mut Pace) {
+    /// Begins a round, and waits before it where handles have stopped, unless the committer holds a batch, to which none
+    /// can be added.
+    pub(crate) fn gather<R: Wait + time::Clock>(
+        &self,
+        rt: &R,
+        committer: &Committer<H, N>,
+        pace: &mut Pace,
+    ) {
+        if committer.batch.is_none() {
+            self.put_off(rt, pace);
+        }
+        pace.begin(rt)
+    }
+
+    /// Puts a round off by its delay; where there is none, for the threads that the last round has woken: they begin their
+    /// next handles at about the same time, and one that stops too late for a round is committed a whole round later.
+    fn put_off<R: Wait + time::Clock>(&self, rt: &R, pace: &Pace) {
+        if !pace.delay.time.is_zero() {
+            return self.await_handles(rt, pace.delay);
+        }
         let patience = pace.patience();
         if !patience.is_zero() {
             self.await_stops(rt, patience);
         }
-        pace.begin(rt)
+    }
+
+    /// Waits until there is a batch to take, and then until so many handles have stopped, or for so long where fewer do. The
+    /// lock is held between the two: else one that stops meanwhile would be taken at once. The time is asked before and
+    /// after each sleep: where the clock cannot be read there is none.
+    fn await_handles<R: Wait + time::Clock>(&self, rt: &R, delay: Delay) {
+        let counter = self.counter.lock(rt);
+        let mut counter = self
+            .signals
+            .stopped
+            .wait_while(rt, counter, |counter| counter.rests());
+        counter.want_handles(delay.handles);
+        let _gathered = self
+            .signals
+            .gathered
+            .wait_timeout_while(rt, counter, delay.time, |counter| counter.is_put_off());
     }
 
     /// Waits so long, a few times, until as many handles have stopped as were waited for when the last round ended, or
@@ -73,15 +109,17 @@ impl<D: Disk, C: Clock, H: Origin, N: Ledger> Desk<D, C, H, N> {
     fn await_stops<R: Wait + time::Clock>(&self, rt: &R, patience: Duration) {
         let wanted = self.waits.woken(rt);
         let mut counter = self.counter.lock(rt);
+        counter.want_handles(wanted);
         let mut queued = counter.queued();
         for _ in 0..TIMES {
             let before = queued;
-            if before == 0 || before >= wanted {
+            if !counter.is_put_off() {
                 break;
             }
             let (back, _) = self
-                .moved
-                .wait_timeout_while(rt, counter, patience, |counter| counter.queued() < wanted);
+                .signals
+                .gathered
+                .wait_timeout_while(rt, counter, patience, |counter| counter.is_put_off());
             counter = back;
             queued = counter.queued();
             if queued == before {

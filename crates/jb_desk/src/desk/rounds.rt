@@ -166,13 +166,14 @@ impl<D: Disk, C: Clock, H: Origin, N: Ledger> Desk<D, C, H, N> {
     {
         let mut counter = self.counter.lock(rt);
         let settled = counter.settle(&self.histories, seen, done, end, shape);
-        let counts = counter.seen();
+        let (counts, is_odd) = (counter.seen(), counter.is_odd());
         drop(counter);
-        self.moved.notify_all();
-        self.waits.wake(rt);
+        self.signals.tell();
         let Ok(()) = settled else {
+            self.waits.wake_all();
             return Err(RoundFault::Aborted);
         };
+        self.waits.wake(rt, is_odd);
         self.board
             .raise_settled(&mut seat.board, end_of(done), &counts);
         Ok(())
@@ -205,8 +206,8 @@ impl<D: Disk, C: Clock, H: Origin, N: Ledger> Desk<D, C, H, N> {
         let settled = counter.settle_last(&self.histories, seen, done, end, shape);
         let counts = counter.seen();
         drop(counter);
-        self.moved.notify_all();
-        self.waits.wake(rt);
+        self.signals.tell();
+        self.waits.wake_all();
         let Ok(()) = settled else {
             return Err(RoundFault::Aborted);
         };

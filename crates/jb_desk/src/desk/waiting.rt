@@ -99,6 +99,7 @@ impl<D: Disk, C: Clock, H: Origin, N: Ledger> Desk<D, C, H, N> {
         let (mut seat, mut since) = (seat, Since::new());
         for _ in rt.forever() {
             let mut counter = self.counter.lock(rt);
+            counter.want_room(false);
             let settled = counter.progress().settled;
             let (back, fault) = match counter.begin(self.alloc, self.shape, seat, credits) {
                 Ok(handle) => return (Ok(handle), in_vain),
@@ -112,7 +113,9 @@ impl<D: Disk, C: Clock, H: Origin, N: Ledger> Desk<D, C, H, N> {
                 return (Err((back, fault)), Some(settled));
             }
             seat = back;
-            self.moved.wait_timeout(rt, counter, left);
+            counter.want_room(true);
+            self.signals.tell_full();
+            self.signals.moved.wait_timeout(rt, counter, left);
         }
         unreachable!()
     }

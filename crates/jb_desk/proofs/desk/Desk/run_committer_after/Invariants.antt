@@ -2,7 +2,7 @@ use Rattle.std.proofs.Common.{◌≡◌}
 use Rattle.jb_board.specs.Front.{IsWithin}
 use Rattle.jb_desk.specs.Rounds.{seat_of}
 use Rattle.jb_desk.specs.Seats.{KeepsStops, seat_number, desk_of, view_of}
-use Rattle.jb_desk.proofs.desk.Desk.run_committer.Given as goal
+use Rattle.jb_desk.proofs.desk.Desk.run_committer_after.Given as goal
 
 abbrev pub invariant-loop : goal.invariant-loop
 invariant-loop g l =
