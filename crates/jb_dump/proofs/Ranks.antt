@@ -1,7 +1,7 @@
 -- The first rows by their rank.
 use Rattle.std.proofs.Common.{◌≡◌, ℕ, zero, suc, Bool, true, false, List, [], ◌∷◌, take, refl, sym, ap, ◌∙◌}
 use Rattle.std.specs.Prelude.{nat_lt, if◌then◌else◌}
-use Rattle.jb_dump.specs.Summary.{ranked, ranked_among}
+use Rattle.jb_dump.specs.Written.{ranked, ranked_among}
 
 take-less : {A : Type 0} (n : ℕ) (xs : List A) → take n (take (suc n) xs) ≡ take n xs
 take-less zero xs = refl

@@ -1,9 +1,5 @@
 -- A journal at a glance: what its log holds, and the text of that.
-use Rattle.std.specs.Prelude.{ℕ, zero, suc, ◌+◌, ◌-◌, ◌/◌, List, [], ◌∷◌, ◌++◌, length, map, max, min, take, codes, decimal, nat_lt, if◌then◌else◌}
-use Rattle.std.specs.BTreeMap.{insert_entry, is_at}
-use Rattle.std.specs.Map.{lookup}
-use Rattle.std.specs.Option.{unwrap_or}
-use Rattle.std.specs.Ordering.{nat_cmp}
+use Rattle.std.specs.Prelude.{ℕ, zero, suc, ◌+◌, ◌-◌, ◌/◌, List, [], ◌∷◌, ◌++◌, length, map, max, min, codes, decimal}
 use Rattle.jb_block.specs.declared.stamp.Stamp.{Stamp}
 use Rattle.jb_super.specs.Geometry.{place, usable_of}
 use Rattle.jb_super.specs.Superblock.{Superblock}
@@ -14,6 +10,7 @@ use Rattle.jb_scan.specs.declared.transaction.Piece.TheVariants.{Revokes, Run}
 use Rattle.jb_scan.specs.declared.transaction.Transaction.{Transaction}
 use Rattle.jb_dump.specs.Dates.{date_text}
 use Rattle.jb_dump.specs.Lines.{clean_line, home_in}
+use Rattle.jb_dump.specs.Written.{foremost, written_rows}
 
 -- what the committed transactions of a log come to: how many blocks each takes, the homes of all their copies, how many
 -- homes their revoke blocks name, and when each was committed, in seconds since 1970; all in the order of the log
@@ -105,34 +102,6 @@ last_with n (m ∷ ms) = last_with m ms
 abbrev pub last_of_all : List ℕ → ℕ
 last_of_all ns = last_with 0 ns
 
--- how often a home is written, by rows of homes and numbers
-abbrev pub writes_of : List (ℕ × ℕ) → ℕ → ℕ
-writes_of rows home = unwrap_or (lookup (is_at (nat_cmp home)) rows) 0
-
--- the rows with a home that is written once more, in the order of the homes
-abbrev pub once_more : List (ℕ × ℕ) → ℕ → List (ℕ × ℕ)
-once_more rows home = insert_entry nat_cmp rows home (writes_of rows home + 1)
-
--- these rows, with homes that are written once more each
-abbrev pub counted_up : List (ℕ × ℕ) → List ℕ → List (ℕ × ℕ)
-counted_up rows [] = rows
-counted_up rows (home ∷ homes) = counted_up (once_more rows home) homes
-
--- a row among others that are in the order of their rank: it stands before the first that is written less often
-abbrev pub ranked_among : ℕ × ℕ → List (ℕ × ℕ) → List (ℕ × ℕ)
-ranked_among row [] = row ∷ []
-ranked_among row (other ∷ rows) = if nat_lt other.1 row.1 then row ∷ other ∷ rows else other ∷ ranked_among row rows
-
--- rows in the order of their rank, and after them, where they are written as often, the rows of a second list
-abbrev pub ranked : List (ℕ × ℕ) → List (ℕ × ℕ) → List (ℕ × ℕ)
-ranked rows [] = rows
-ranked rows (row ∷ more) = ranked (ranked_among row rows) more
-
--- the first ten of the rows by their rank: those that are written most, most first, and of those that are written as often the
--- lowest homes, which stand first in the rows
-abbrev pub foremost : List (ℕ × ℕ) → List (ℕ × ℕ)
-foremost rows = take 10 (ranked [] rows)
-
 -- ---- the text
 
 -- how much of the log's room is used: how many transactions there are, and the used, all and the free blocks
@@ -178,7 +147,7 @@ times_line first last = spelled (codes "commits first=" ∷ date_text first ∷ 
 -- what is said of some transactions beside their room and ends
 abbrev pub contents_text : Summary → List ℕ
 contents_text sum =
-    let rows = counted_up [] sum.homes in
+    let rows = written_rows sum.homes in
     spelled (
     sizes_line (least_of sum.sizes) (sum_of sum.sizes / length sum.sizes) (greatest_of sum.sizes)
     ∷ copies_line (length sum.homes) (length rows) ∷ written_lines (foremost rows) ∷ revokes_line sum.revokes

@@ -161,5 +161,6 @@ pub(crate) fn put_clean_summary(text: &mut String, sb: &Super) -> Result<(), Mem
     ensures { OnOk result (string_bytes text.new ≡ string_bytes text.old ++ clean_said sb.now) }
 {
     put_room(text, sb, 0, 0)?;
-    put_clean(text, sb)
+    put_clean(text, sb)?;
+    Ok(())
 }

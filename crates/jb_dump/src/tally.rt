@@ -86,8 +86,9 @@ pub(crate) fn add_to(tally: &mut Option<Tally>, transaction: &Transaction) -> Re
         → AreTallied (ts ++ transaction.now ∷ []) tally.new) }
     ensures same { OnOk result (is_some tally.new ≡ is_some tally.old) }
 {
-    match tally {
-        Some(tally) => tally.add(transaction),
-        None => Ok(()),
-    }
+    let Some(tally) = tally else {
+        return Ok(());
+    };
+    tally.add(transaction)?;
+    Ok(())
 }
