@@ -2,7 +2,7 @@
 use Rattle.std.proofs.Common.{◌≡◌, ◌⊎◌, ℕ, zero, suc, ◌+◌, ◌-◌, ◌*◌, ◌/◌, ◌%◌, ◌<◌, ◌≤◌, Bool, true, false, List, [], ◌∷◌, ◌++◌, None, inl, inr, refl, sym, ap, ap₂, ◌∙◌, subst, arith, ℤ, pos, negsuc}
 use Rattle.std.specs.Prelude.{not, ◌&&◌, codes, decimal, nat_eq, nat_lt, if◌then◌else◌}
 use Rattle.std.proofs.lemmas.Bool.{and_from, and_parts, cases_order, eq-eqb, eqb-true, le-ltb, lt-ltb, ltb-false, not-true, not_from_false, true≢false}
-use Rattle.jiff_core.specs.Calendar.{IsCivilDate, day_count, days_in_month}
+use Rattle.jiff_core.specs.Calendar.{IsCivilDate, day_count, days_from_civil, days_in_month}
 use Rattle.jiff_core.specs.DateTime.{civil_nanos}
 use Rattle.jiff_core.specs.declared.civil.datetime.DateTime.{DateTime}
 use Rattle.jiff_core.specs.declared.timestamp.Timestamp.{Timestamp}
@@ -13,7 +13,7 @@ use Rattle.jiff_core.proofs.SignedLemmas.{signed_arith}
 use Rattle.jiff_fmt.specs.Printer.{IsTimestampText, options}
 use Rattle.jiff_fmt.specs.Text.{datetime_text, fraction_part, pad2, year_text, zulu_text}
 use Rattle.jiff_fmt.specs.declared.temporal.printer.DateTimePrinter.{DateTimePrinter}
-use Rattle.jb_dump.specs.Dates.{DayOf, clock_text, date_of, date_text, day_at, day_before, day_text, is_day}
+use Rattle.jb_dump.specs.Dates.{DayOf, clock_text, date_of, date_text, day_at, day_before, day_text, is_day, utc_text}
 
 -- a day by its parts
 abbrev made : ℕ → ℕ → ℕ → DayOf
@@ -24,7 +24,7 @@ made-same y y' m m' d d' a b c = ap₂ (λ i j. made i j d) a b ∙ ap (made y' 
 
 -- a day that the calendar has, so many days after 1970-01-01
 record IsReal (days y m d : ℕ) : Type 0 where
-  civil : IsCivilDate (pos y) m d
+  has : IsCivilDate (pos y) m d
   count : day_count (pos y) m d ≡ day_count (pos 1970) 1 1 + days
 
 real : (days y m d : ℕ) → y ≤ 9999 → 1 ≤ m → m ≤ 12 → 1 ≤ d → is_day days (made y m d) ≡ true → IsReal days y m d
@@ -32,13 +32,13 @@ real days y m d year first last low is =
     let (here, count) = and_parts (not (nat_lt (days_in_month (pos y) m) d)) (nat_eq (day_count (pos y) m d) (day_count (pos 1970) 1 1 + days)) is in
     let within : d ≤ days_in_month (pos y) m = ltb-false _ _ (not-true _ here) in
     record {
-      civil = (omega (arith, signed_arith, year), (first, last), (low, within));
+      has = (omega (arith, signed_arith, year), (first, last), (low, within));
       count = eqb-true _ _ count;
     }
 
 is-real : (days y m d : ℕ) → IsReal days y m d → is_day days (made y m d) ≡ true
 is-real days y m d r =
-    and_from _ _ (not_from_false _ (le-ltb (days_in_month (pos y) m) d r.civil.2.1)) (eq-eqb _ _ r.count)
+    and_from _ _ (not_from_false _ (le-ltb (days_in_month (pos y) m) d r.has.2.1)) (eq-eqb _ _ r.count)
 
 -- ---- there is one such day
 
@@ -52,9 +52,9 @@ count-lt y m d y₂ m₂ d₂ is low (inr (year, inr (month, day))) =
     omega (arith, same, day, day_count-day (pos y) m d d₂ is.2.0 low)
 
 -- numbers go with days
-parts-lt : (k n : ℕ) → k < n → (k / 372 < n / 372) ⊎ ((k / 372 ≡ n / 372) × ((k / 31 % 12 + 1 < n / 31 % 12 + 1) ⊎ ((k / 31 % 12 + 1 ≡ n / 31 % 12 + 1) × (k % 31 + 1 < n % 31 + 1))))
+parts-lt : (k n : ℕ) → k < n → (k / 31 / 12 < n / 31 / 12) ⊎ ((k / 31 / 12 ≡ n / 31 / 12) × ((k / 31 % 12 + 1 < n / 31 % 12 + 1) ⊎ ((k / 31 % 12 + 1 ≡ n / 31 % 12 + 1) × (k % 31 + 1 < n % 31 + 1))))
 parts-lt k n lt =
-    elim (cases_order (k / 372) (n / 372)) [
+    elim (cases_order (k / 31 / 12) (n / 31 / 12)) [
       | inr (inl year) ↦ inl year
       | inr (inr year) ↦ absurd (omega (arith, lt, year))
       | inl year ↦ elim (cases_order (k / 31 % 12 + 1) (n / 31 % 12 + 1)) [
@@ -64,14 +64,14 @@ parts-lt k n lt =
       ]
     ]
 
-real-at : (days n : ℕ) → n < 3_720_000 → is_day days (day_at n) ≡ true → IsReal days (n / 372) (n / 31 % 12 + 1) (n % 31 + 1)
-real-at days n few is = real days (n / 372) (n / 31 % 12 + 1) (n % 31 + 1) (omega (arith, few)) (omega arith) (omega arith) (omega arith) is
+real-at : (days n : ℕ) → n < 3_720_000 → is_day days (day_at n) ≡ true → IsReal days (n / 31 / 12) (n / 31 % 12 + 1) (n % 31 + 1)
+real-at days n few is = real days (n / 31 / 12) (n / 31 % 12 + 1) (n % 31 + 1) (omega (arith, few)) (omega arith) (omega arith) (omega arith) is
 
 never-before : (days k n : ℕ) → k < n → n < 3_720_000 → is_day days (day_at k) ≡ true → is_day days (day_at n) ≡ true → ⊥
 never-before days k n lt few one other =
     let a = real-at days k (omega (arith, lt, few)) one in
     let b = real-at days n few other in
-    let below = count-lt (k / 372) (k / 31 % 12 + 1) (k % 31 + 1) (n / 372) (n / 31 % 12 + 1) (n % 31 + 1) a.civil b.civil.2.0 (parts-lt k n lt) in
+    let below = count-lt (k / 31 / 12) (k / 31 % 12 + 1) (k % 31 + 1) (n / 31 / 12) (n / 31 % 12 + 1) (n % 31 + 1) a.has b.has.2.0 (parts-lt k n lt) in
     omega (arith, below, a.count, b.count)
 
 one-day : (days k n : ℕ) → k < 3_720_000 → n < 3_720_000 → is_day days (day_at k) ≡ true → is_day days (day_at n) ≡ true → n ≡ k
@@ -100,12 +100,12 @@ found days k (suc n) lt few is = by (λ below. found days k n below (omega (arit
 date-is : (days y m d : ℕ) → y ≤ 9999 → IsReal days y m d → date_of days ≡ made y m d
 unfolding date_of
 date-is days y m d year r =
-    let most : d ≤ 31 = omega (arith, r.civil.2.1, days_in_month_bounds (pos y) m) in
-    let first : 1 ≤ m = r.civil.1.0 in
-    let last : m ≤ 12 = r.civil.1.1 in
-    let low : 1 ≤ d = r.civil.2.0 in
-    let k = y * 372 + (m - 1) * 31 + (d - 1) in
-    let same : day_at k ≡ made y m d = made-same _ _ _ _ _ _ (omega (arith, first, last, low, most)) (omega (arith, first, last, low, most)) (omega (arith, first, last, low, most)) in
+    let most : d ≤ 31 = omega (arith, r.has.2.1, days_in_month_bounds (pos y) m) in
+    let first : 1 ≤ m = r.has.1.0 in
+    let last : m ≤ 12 = r.has.1.1 in
+    let low : 1 ≤ d = r.has.2.0 in
+    let k = (y * 12 + (m - 1)) * 31 + (d - 1) in
+    let same : day_at k ≡ made y m d = made-same (k / 31 / 12) y (k / 31 % 12 + 1) m (k % 31 + 1) d (omega (arith, first, last, low, most)) (omega (arith, first, last, low, most)) (omega (arith, first, last, low, most)) in
     found days k 3_720_000 (omega (arith, year, first, last, low, most)) (omega arith) (ap (is_day days) same ∙ is-real days y m d r) ∙ same
 
 -- ---- its text
@@ -114,27 +114,36 @@ day-written : (days : ℕ) (y : ℤ) (m d : ℕ) → IsCivilDate y m d → day_c
     → year_text y ++ 45 ∷ [] ++ pad2 m ++ 45 ∷ [] ++ pad2 d ≡ day_text (date_of days)
 day-written days (pos y) m d is count =
     let year : y ≤ 9999 = omega (arith, signed_arith, is.0) in
-    let same : date_of days ≡ made y m d = date-is days y m d year (record { civil = is; count = count }) in
+    let same : date_of days ≡ made y m d = date-is days y m d year (record { has = is; count = count }) in
     ap day_text (sym same)
 day-written days (negsuc n) m d is count =
     absurd (omega (arith, count, day_count-lt_year (negsuc n) m d (pos 1970) 1 1 is (omega arith) (omega (arith, signed_arith))))
 
 -- a clock that shows a second shows no fraction of it
-clock-written : (hour minute second part seconds : ℕ) → hour ≡ seconds / 3600 % 24 → minute ≡ seconds / 60 % 60 → second ≡ seconds % 60 → part ≡ 0
+clock-written : (hour minute second part seconds : ℕ) → hour ≡ seconds / 3600 → minute ≡ seconds / 60 % 60 → second ≡ seconds % 60 → part ≡ 0
     → pad2 hour ++ 58 ∷ pad2 minute ++ 58 ∷ pad2 second ++ fraction_part None part ≡ clock_text seconds
 clock-written hour minute second part seconds h m s none = rw (h, m, s, none) refl
 
-written : (dt : DateTime) (seconds : ℕ) → civil_nanos dt ≡ pos (seconds * 1_000_000_000) → datetime_text false 84 None dt ≡ day_text (date_of (seconds / 86_400)) ++ codes "T" ++ clock_text seconds
+written : (dt : DateTime) (seconds : ℕ) → civil_nanos dt ≡ pos (seconds * 1_000_000_000) → datetime_text false 84 None dt ≡ utc_text seconds
 written dt seconds at =
-    let day : day_count dt.date.year dt.date.month dt.date.day ≡ day_count (pos 1970) 1 1 + seconds / 86_400 =
-    omega (arith, signed_arith, at, civil_nanos-parts dt, time_nanos_bound dt.time, day_count-epoch, days_from_civil-day_count dt.date.year dt.date.month dt.date.day) in
-    let clock : dt.time.hour * 3600 + dt.time.minute * 60 + dt.time.second ≡ seconds % 86_400 =
+    let y = dt.date.year in
+    let m = dt.date.month in
+    let d = dt.date.day in
+    let hour = dt.time.hour in
+    let minute = dt.time.minute in
+    let second = dt.time.second in
+    let part = dt.time.subsec_nanosecond in
+    let day : days_from_civil y m d ≡ pos (seconds / 86_400) =
     omega (arith, signed_arith, at, civil_nanos-parts dt, time_nanos_bound dt.time) in
-    let part : dt.time.subsec_nanosecond ≡ 0 =
-    omega (arith, signed_arith, at, civil_nanos-parts dt, time_nanos_bound dt.time) in
-    ap₂ (λ a b. a ++ 84 ∷ b)
-    (day-written (seconds / 86_400) dt.date.year dt.date.month dt.date.day (civil dt.date) day)
-    (clock-written dt.time.hour dt.time.minute dt.time.second dt.time.subsec_nanosecond seconds (omega (arith, clock)) (omega (arith, clock)) (omega (arith, clock)) part)
+    let nanos : (hour * 3600 + minute * 60 + second) * 1_000_000_000 + part ≡ seconds % 86_400 * 1_000_000_000 =
+    omega (arith, signed_arith, at, day, civil_nanos-parts dt) in
+    let none : part ≡ 0 = omega (arith, nanos, dt.time.subsec_in) in
+    let clock : hour * 3600 + minute * 60 + second ≡ seconds % 86_400 = omega (arith, nanos, none) in
+    let count : day_count y m d ≡ day_count (pos 1970) 1 1 + seconds / 86_400 =
+    omega (arith, signed_arith, day, day_count-epoch, days_from_civil-day_count y m d) in
+    ap₂ (λ a b. a ++ 84 ∷ b) (day-written (seconds / 86_400) y m d (civil dt.date) count)
+    (clock-written hour minute second part (seconds % 86_400) (omega (arith, clock, dt.time.minute_in, dt.time.second_in)) (omega (arith, clock, dt.time.minute_in, dt.time.second_in))
+    (omega (arith, clock, dt.time.minute_in, dt.time.second_in)) none)
 
 -- what a printer writes of the instant of a second that has a date
 pub date-written : (p : DateTimePrinter) (t : Timestamp) (seconds : ℕ) (text : List ℕ) → options p ≡ (false, 84, None) → t.nanosecond ≡ pos (seconds * 1_000_000_000)
@@ -143,13 +152,12 @@ date-written p t seconds text plain at few h =
     let lower : p.lowercase ≡ false = ap (λ x. x.0) plain in
     let separator : p.separator ≡ 84 = ap (λ x. x.1) plain in
     let precision : p.precision ≡ None = ap (λ x. x.2) plain in
-    let date : datetime_text false 84 None h.0 ++ zulu_text false ≡ (day_text (date_of (seconds / 86_400)) ++ codes "T" ++ clock_text seconds) ++ codes "Z" =
-    ap (λ shown. shown ++ codes "Z") (written h.0 seconds (h.1 ∙ at)) in
-    let there : date_text seconds ≡ (day_text (date_of (seconds / 86_400)) ++ codes "T" ++ clock_text seconds) ++ codes "Z" =
-    ap (λ test. if test then decimal seconds else (day_text (date_of (seconds / 86_400)) ++ codes "T" ++ clock_text seconds) ++ codes "Z") (le-ltb 253_402_207_200 seconds few) in
+    let date : datetime_text false 84 None h.0 ++ zulu_text false ≡ utc_text seconds ++ codes "Z" = ap (λ shown. shown ++ codes "Z") (written h.0 seconds (h.1 ∙ at)) in
+    let there : date_text seconds ≡ utc_text seconds ++ codes "Z" =
+    ap (λ test. if test then decimal seconds else utc_text seconds ++ codes "Z") (le-ltb 253_402_207_200 seconds few) in
     rw (h.2, lower, separator, precision) (date ∙ sym there)
 
 -- a later second has none
 pub no-date : (seconds : ℕ) → 253_402_207_200 < seconds → date_text seconds ≡ decimal seconds
 no-date seconds late =
-    ap (λ test. if test then decimal seconds else (day_text (date_of (seconds / 86_400)) ++ codes "T" ++ clock_text seconds) ++ codes "Z") (lt-ltb 253_402_207_200 seconds late)
+    ap (λ test. if test then decimal seconds else utc_text seconds ++ codes "Z") (lt-ltb 253_402_207_200 seconds late)

@@ -1,5 +1,5 @@
 -- Rows that are made copy by copy: each home with how many copies it has.
-use Rattle.std.proofs.Common.{◌≡◌, ◌≢◌, ℕ, ◌+◌, ◌<◌, ◌≤◌, Bool, true, false, List, [], ◌∷◌, ◌++◌, map, Option, Some, inl, inr, refl, sym, ap, ap₂, ◌∙◌, subst, arith, append_assoc, append-nil}
+use Rattle.std.proofs.Common.{◌≡◌, ◌≢◌, ◌⊎◌, ℕ, ◌+◌, ◌<◌, ◌≤◌, Bool, true, false, List, [], ◌∷◌, ◌++◌, map, Option, Some, inl, inr, refl, sym, ap, ap₂, ◌∙◌, subst, arith, append_assoc, append-nil}
 use Rattle.std.specs.Prelude.{⊤, cond, nat_eq, nat_lt, if◌then◌else◌}
 use Rattle.std.specs.BTreeMap.{insert_entry, is_at}
 use Rattle.std.specs.Cmp.{nat_cmp_is}
@@ -8,7 +8,7 @@ use Rattle.std.specs.Option.{unwrap_or}
 use Rattle.std.specs.Ordering.{Ordering, Equal, Greater, Less, is_eq, match_ordering, nat_cmp}
 use Rattle.std.proofs.lemmas.Bool.{cases_eq, cases_order, eq-eqb, eqb-true, le-ltb, lt-ltb, ne_eqb, true≢false}
 use Rattle.std.proofs.lemmas.List.Sums.{sum_by_push}
-use Rattle.jb_dump.specs.Written.{copies_of, counted_up, home_among, homes_among, once_more, written_rows, writes_of}
+use Rattle.jb_dump.specs.Written.{copies_to, counted_up, home_among, homes_among, once_more, written_rows, writes_of}
 
 -- ---- a home among others
 
@@ -84,18 +84,21 @@ module _ (f g : ℕ → ℕ) (home : ℕ) (others : (k : ℕ) → k ≢ home →
   -- a number that is set is one more row, or the row's own
   sets : (v : ℕ) (ks : List ℕ) → Ascends ks → g home ≡ v → insert_entry nat_cmp (rows_by f ks) home v ≡ rows_by g (home_among home ks)
   sets v [] up new = ap (λ x. (home, x) ∷ []) (sym new)
-  sets v (k ∷ ks) up new =
-      elim (cases_order home k) [
-        | inl same ↦ insert-same home v (k, f k) (rows_by f ks) same
-            ∙ ap₂ (λ x rest. (k, x) ∷ rest) (sym new ∙ ap g same) (rest-same k ks (omega (arith, same)) up)
-            ∙ ap (rows_by g) (sym (among-same home k ks same))
-        | inr (inl below) ↦ insert-below home v (k, f k) (rows_by f ks) below
-            ∙ ap₂ (λ x rest. (home, x) ∷ rest) (sym new) (rest-same home (k ∷ ks) (omega arith) (below, up))
-            ∙ ap (rows_by g) (sym (among-below home k ks below))
-        | inr (inr above) ↦ insert-above home v (k, f k) (rows_by f ks) above
-            ∙ ap₂ (λ x rest. (k, x) ∷ rest) (sym (others k (omega (arith, above)))) (sets v ks (ascends-behind k ks up) new)
-            ∙ ap (rows_by g) (sym (among-above home k ks above))
-      ]
+  sets v (k ∷ ks) up new = by (sets v ks (ascends-behind k ks up) new) (cases_order home k)
+    where
+      by : insert_entry nat_cmp (rows_by f ks) home v ≡ rows_by g (home_among home ks) → (home ≡ k) ⊎ ((home < k) ⊎ (k < home)) → insert_entry nat_cmp (rows_by f (k ∷ ks)) home v ≡ rows_by g (home_among home (k ∷ ks))
+      by rest (inl same) =
+          insert-same home v (k, f k) (rows_by f ks) same
+          ∙ ap₂ (λ x more. (k, x) ∷ more) (sym new ∙ ap g same) (rest-same k ks (omega (arith, same)) up)
+          ∙ ap (rows_by g) (sym (among-same home k ks same))
+      by rest (inr (inl below)) =
+          insert-below home v (k, f k) (rows_by f ks) below
+          ∙ ap₂ (λ x more. (home, x) ∷ more) (sym new) (rest-same home (k ∷ ks) (omega arith) (below, up))
+          ∙ ap (rows_by g) (sym (among-below home k ks below))
+      by rest (inr (inr above)) =
+          insert-above home v (k, f k) (rows_by f ks) above
+          ∙ ap₂ (λ x more. (k, x) ∷ more) (sym (others k (omega (arith, above)))) rest
+          ∙ ap (rows_by g) (sym (among-above home k ks above))
 
 -- ---- what is looked up in rows
 
@@ -127,61 +130,70 @@ swapped false t a b c other = refl
 
 writes-insert : (es : List (ℕ × ℕ)) (home v h : ℕ) → writes_of (insert_entry nat_cmp es home v) h ≡ (if nat_eq h home then v else writes_of es h)
 writes-insert [] home v h = writes-first (home, v) [] h
-writes-insert (e ∷ es) home v h =
-    elim (cases_order home e.0) [
-      | inl same ↦ ap (λ rows. writes_of rows h) (insert-same home v e es same)
-          ∙ writes-first (e.0, v) es h
-          ∙ twice (nat_eq h e.0) v e.1 (writes_of es h)
-          ∙ ap (λ n. if nat_eq h n then v else (if nat_eq h e.0 then e.1 else writes_of es h)) (sym same)
-          ∙ ap (λ rest. if nat_eq h home then v else rest) (sym (writes-first e es h))
-      | inr (inl below) ↦ ap (λ rows. writes_of rows h) (insert-below home v e es below) ∙ writes-first (home, v) (e ∷ es) h
-      | inr (inr above) ↦ ap (λ rows. writes_of rows h) (insert-above home v e es above)
-          ∙ writes-first e (insert_entry nat_cmp es home v) h
-          ∙ ap (λ rest. if nat_eq h e.0 then e.1 else rest) (writes-insert es home v h)
-          ∙ swapped (nat_eq h home) (nat_eq h e.0) e.1 v (writes_of es h) (λ is. ne_eqb h e.0 (omega (arith, eqb-true h home is, above)))
-          ∙ ap (λ rest. if nat_eq h home then v else rest) (sym (writes-first e es h))
-    ]
+writes-insert (e ∷ es) home v h = by (writes-insert es home v h) (cases_order home e.0)
+  where
+    by : writes_of (insert_entry nat_cmp es home v) h ≡ (if nat_eq h home then v else writes_of es h) → (home ≡ e.0) ⊎ ((home < e.0) ⊎ (e.0 < home))
+        → writes_of (insert_entry nat_cmp (e ∷ es) home v) h ≡ (if nat_eq h home then v else writes_of (e ∷ es) h)
+    by more (inl same) =
+        ap (λ rows. writes_of rows h) (insert-same home v e es same)
+        ∙ writes-first (e.0, v) es h
+        ∙ twice (nat_eq h e.0) v e.1 (writes_of es h)
+        ∙ ap (λ n. if nat_eq h n then v else (if nat_eq h e.0 then e.1 else writes_of es h)) (sym same)
+        ∙ ap (λ rest. if nat_eq h home then v else rest) (sym (writes-first e es h))
+    by more (inr (inl below)) = ap (λ rows. writes_of rows h) (insert-below home v e es below) ∙ writes-first (home, v) (e ∷ es) h
+    by more (inr (inr above)) =
+        ap (λ rows. writes_of rows h) (insert-above home v e es above)
+        ∙ writes-first e (insert_entry nat_cmp es home v) h
+        ∙ ap (λ rest. if nat_eq h e.0 then e.1 else rest) more
+        ∙ swapped (nat_eq h home) (nat_eq h e.0) e.1 v (writes_of es h) (λ is. ne_eqb h e.0 (omega (arith, eqb-true h home is, above)))
+        ∙ ap (λ rest. if nat_eq h home then v else rest) (sym (writes-first e es h))
 
 -- ---- copies that are counted
 
-more-same : (done : List ℕ) (home : ℕ) → copies_of (done ++ home ∷ []) home ≡ copies_of done home + 1
+more-same : (done : List ℕ) (home : ℕ) → copies_to (done ++ home ∷ []) home ≡ copies_to done home + 1
 more-same done home =
-    sum_by_push (λ x. cond (nat_eq x home) 1 0) done home ∙ ap (λ test. copies_of done home + cond test 1 0) (eq-eqb home home refl)
+    sum_by_push (λ x. cond (nat_eq x home) 1 0) done home ∙ ap (λ test. copies_to done home + cond test 1 0) (eq-eqb home home refl)
 
-more-other : (done : List ℕ) (home k : ℕ) → k ≢ home → copies_of (done ++ home ∷ []) k ≡ copies_of done k
+more-other : (done : List ℕ) (home k : ℕ) → k ≢ home → copies_to (done ++ home ∷ []) k ≡ copies_to done k
 more-other done home k other =
-    let none : copies_of done k + 0 ≡ copies_of done k = omega arith in
+    let none : copies_to done k + 0 ≡ copies_to done k = omega arith in
     sum_by_push (λ x. cond (nat_eq x k) 1 0) done home
-    ∙ ap (λ test. copies_of done k + cond test 1 0) (ne_eqb home k (λ same. other (sym same)))
+    ∙ ap (λ test. copies_to done k + cond test 1 0) (ne_eqb home k (λ same. other (sym same)))
     ∙ none
 
 -- the rows say of each home how many of these copies it has
 abbrev Says : List ℕ → List ℕ → Type 0
-Says done ks = (h : ℕ) → writes_of (rows_by (copies_of done) ks) h ≡ copies_of done h
+Says done ks = (h : ℕ) → writes_of (rows_by (copies_to done) ks) h ≡ copies_to done h
 
 module _ (done ks : List ℕ) (home : ℕ) (up : Ascends ks) (says : Says done ks) where
-  one-more : once_more (rows_by (copies_of done) ks) home ≡ rows_by (copies_of (done ++ home ∷ [])) (home_among home ks)
-  one-more = sets (copies_of done) (copies_of (done ++ home ∷ [])) home (more-other done home) (writes_of (rows_by (copies_of done) ks) home + 1) ks up
+  one-more : once_more (rows_by (copies_to done) ks) home ≡ rows_by (copies_to (done ++ home ∷ [])) (home_among home ks)
+  one-more = sets (copies_to done) (copies_to (done ++ home ∷ [])) home (more-other done home) (writes_of (rows_by (copies_to done) ks) home + 1) ks up
       (more-same done home ∙ ap (λ n. n + 1) (sym (says home)))
+
+  abbrev was : ℕ → ℕ
+  was h = writes_of (rows_by (copies_to done) ks) h
+
+  said-by : (h : ℕ) → (h ≡ home) ⊎ (h ≡ home → ⊥) → (if nat_eq h home then was home + 1 else was h) ≡ copies_to (done ++ home ∷ []) h
+  said-by h (inl same) =
+      ap (λ test. if test then was home + 1 else was h) (eq-eqb h home same)
+      ∙ ap (λ n. n + 1) (says home)
+      ∙ sym (more-same done home)
+      ∙ ap (copies_to (done ++ home ∷ [])) (sym same)
+  said-by h (inr other) =
+      ap (λ test. if test then was home + 1 else was h) (ne_eqb h home other) ∙ says h ∙ sym (more-other done home h other)
 
   says-more : Says (done ++ home ∷ []) (home_among home ks)
   says-more h =
-      let was = writes_of (rows_by (copies_of done) ks) in
-      let now = copies_of (done ++ home ∷ []) in
       ap (λ rows. writes_of rows h) (sym one-more)
-      ∙ writes-insert (rows_by (copies_of done) ks) home (was home + 1) h
-      ∙ elim (cases_eq h home) [
-        | inl same ↦ ap (λ test. if test then was home + 1 else was h) (eq-eqb h home same)
-            ∙ ap (λ n. n + 1) (says home) ∙ sym (more-same done home) ∙ ap now (sym same)
-        | inr other ↦ ap (λ test. if test then was home + 1 else was h) (ne_eqb h home other) ∙ says h ∙ sym (more-other done home h other)
-      ]
+      ∙ writes-insert (rows_by (copies_to done) ks) home (was home + 1) h
+      ∙ said-by h (cases_eq h home)
 
-counted : (done ks homes : List ℕ) → Ascends ks → Says done ks → counted_up (rows_by (copies_of done) ks) homes ≡ rows_by (copies_of (done ++ homes)) (homes_among ks homes)
-counted done ks [] up says = ap (λ all. rows_by (copies_of all) ks) (sym (append-nil done))
+counted : (done ks homes : List ℕ) → Ascends ks → Says done ks → counted_up (rows_by (copies_to done) ks) homes ≡ rows_by (copies_to (done ++ homes)) (homes_among ks homes)
+counted done ks [] up says = ap (λ all. rows_by (copies_to all) ks) (sym (append-nil done))
 counted done ks (home ∷ homes) up says =
     ap (λ rows. counted_up rows homes) (one-more done ks home up says)
     ∙ counted (done ++ home ∷ []) (home_among home ks) homes (ascends-among home ks up) (says-more done ks home up says)
-    ∙ ap (λ all. rows_by (copies_of all) (homes_among (home_among home ks) homes)) (append_assoc done (home ∷ []) homes)
+    ∙ ap (λ all. rows_by (copies_to all) (homes_among (home_among home ks) homes)) (append_assoc done (home ∷ []) homes)
 
 pub rows-written : (homes : List ℕ) → counted_up [] homes ≡ written_rows homes
 rows-written homes = counted [] [] homes tt (λ h. refl)

@@ -11,7 +11,7 @@ pub record DayOf : Type 0 where
 
 -- the days of all years by a number, in their order, as if each month had 31 of them
 abbrev pub day_at : ℕ → DayOf
-day_at n = record { year = n / 372; month = n / 31 % 12 + 1; day = n % 31 + 1 }
+day_at n = record { year = n / 31 / 12; month = n / 31 % 12 + 1; day = n % 31 + 1 }
 
 -- the month has this day, and it is the one so many days after 1970-01-01
 abbrev pub is_day : ℕ → DayOf → Bool
@@ -30,10 +30,14 @@ date_of days = day_before days 3_720_000
 abbrev pub day_text : DayOf → List ℕ
 day_text d = pad4 d.year ++ codes "-" ++ pad2 d.month ++ codes "-" ++ pad2 d.day
 
--- the time of day of a second
+-- the time of a second of a day
 abbrev pub clock_text : ℕ → List ℕ
-clock_text seconds = pad2 (seconds / 3600 % 24) ++ codes ":" ++ pad2 (seconds / 60 % 60) ++ codes ":" ++ pad2 (seconds % 60)
+clock_text second = pad2 (second / 3600) ++ codes ":" ++ pad2 (second / 60 % 60) ++ codes ":" ++ pad2 (second % 60)
+
+-- the day and the time of it, in UTC
+abbrev pub utc_text : ℕ → List ℕ
+utc_text seconds = day_text (date_of (seconds / 86_400)) ++ codes "T" ++ clock_text (seconds % 86_400)
 
 -- a date in UTC and ISO 8601; or the seconds, where they are more than the crate `jiff` has a date for
 abbrev pub date_text : ℕ → List ℕ
-date_text seconds = if nat_lt 253_402_207_200 seconds then decimal seconds else (day_text (date_of (seconds / 86_400)) ++ codes "T" ++ clock_text seconds) ++ codes "Z"
+date_text seconds = if nat_lt 253_402_207_200 seconds then decimal seconds else utc_text seconds ++ codes "Z"

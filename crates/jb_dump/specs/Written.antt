@@ -17,12 +17,12 @@ homes_among others [] = others
 homes_among others (home ∷ homes) = homes_among (home_among home others) homes
 
 -- how many copies a home has, where these are the homes of all copies
-abbrev pub copies_of : List ℕ → ℕ → ℕ
-copies_of homes home = count_by (λ other. nat_eq other home) homes
+abbrev pub copies_to : List ℕ → ℕ → ℕ
+copies_to homes home = count_by (λ other. nat_eq other home) homes
 
 -- each home of these copies once, the lowest first, with how many copies it has
 abbrev pub written_rows : List ℕ → List (ℕ × ℕ)
-written_rows homes = map (λ home. (home, copies_of homes home)) (homes_among [] homes)
+written_rows homes = map (λ home. (home, copies_to homes home)) (homes_among [] homes)
 
 -- a row among others that are in the order of their rank: it stands before the first that is written less often
 abbrev pub ranked_among : ℕ × ℕ → List (ℕ × ℕ) → List (ℕ × ℕ)
