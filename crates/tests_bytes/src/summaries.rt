@@ -36,6 +36,28 @@ revokes total=0
 commits first=1970-01-01T00:00:00Z last=1970-01-01T00:00:00Z
 ";
 
+/// A transaction with copies of eleven home blocks, of one of them twice.
+const ELEVEN: &str = "400:c03b3998 1 2 5 0 424:6 2 7 2 8 2 9 2 a 2 b 2 c 2 d 2 e 2 f 2 5 a
+3800:c03b3998 2 2 0";
+
+const TEN_OF_ELEVEN: &str = "log transactions=1 used=14 usable=32 free=18
+ends tail=1 head=15
+blocks least=14 mean=14 most=14
+copies total=12 homes=11
+home number=5 copies=2
+home number=6 copies=1
+home number=7 copies=1
+home number=8 copies=1
+home number=9 copies=1
+home number=10 copies=1
+home number=11 copies=1
+home number=12 copies=1
+home number=13 copies=1
+home number=14 copies=1
+revokes total=0
+commits first=1970-01-01T00:00:00Z last=1970-01-01T00:00:00Z
+";
+
 /// The lines of SESSION before the one of its dates: debugfs wrote its seconds in the upper half of their field.
 const SEVERAL: &str = "log transactions=4 used=15 usable=1023 free=1008
 ends tail=1 head=16
@@ -70,10 +92,11 @@ static DATES: [(&str, &str); 4] = [
 ];
 
 /// Words of a journal made by hand, and the journal at a glance, or why it is refused.
-static BY_HAND: [(&str, Result<&str, DumpFault>); 5] = [
+static BY_HAND: [(&str, Result<&str, DumpFault>); 6] = [
     ("10:21 1 2 0", Ok(CLEAN)),
     ("10:21 1 9 1", Ok(EMPTY)),
     (WRAPPED, Ok(WRAPS)),
+    (ELEVEN, Ok(TEN_OF_ELEVEN)),
     ("400:c03b3998 5 2 401", Err(DumpFault::BadRevoke(1))),
     (
         "10:7fffffff 1 2 1",
