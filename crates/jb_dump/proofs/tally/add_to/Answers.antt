@@ -7,7 +7,7 @@ use Rattle.jb_dump.proofs.tally.add_to.Goals as goal
 pub add-requires : goal.add-requires
 add-requires c =
     let (ts, tallied, few) = c.requires.room in
-    let is : IsTallyOf (summary_of ts) c.in-Some.tally.now = subst (AreTallied ts) c.in-Some.is tallied in
+    let is : IsTallyOf (summary_of ts) c.in-Some.tally = subst (AreTallied ts) c.in-Some.is tallied in
     record {
       low = is.low;
       few = omega (arith, is.count, is.few, few);
@@ -16,5 +16,5 @@ add-requires c =
 
 pub returns-clause-tallied : goal.returns-clause-tallied
 returns-clause-tallied c ts tallied =
-    let is : IsTallyOf (summary_of ts) c.in-Some.tally.now = subst (AreTallied ts) c.in-Some.is tallied in
-    tally-more ts c.args.transaction.now c.in-Some.tally.now c.add.new.self is c.in_ok-add.ensures
+    let is : IsTallyOf (summary_of ts) c.in-Some.tally = subst (AreTallied ts) c.in-Some.is tallied in
+    tally-more ts c.args.transaction.now c.in-Some.tally c.add.new.self is c.in_ok-add.ensures
