@@ -1,11 +1,11 @@
 -- Rows that are made copy by copy: each home with how many copies it has.
-use Rattle.std.proofs.Common.{◌≡◌, ◌≢◌, ◌⊎◌, ℕ, ◌+◌, ◌<◌, ◌≤◌, Bool, true, false, List, [], ◌∷◌, ◌++◌, map, Option, Ordering, Some, inl, inr, refl, sym, ap, ap₂, ◌∙◌, subst, arith, append_assoc, append-nil}
+use Rattle.std.proofs.Common.{◌≡◌, ◌≢◌, ◌⊎◌, ℕ, ◌+◌, ◌<◌, ◌≤◌, Bool, true, false, List, [], ◌∷◌, ◌++◌, map, Option, Some, Ordering, Less, Equal, Greater, inl, inr, refl, sym, ap, ap₂, ◌∙◌, subst, arith, append_assoc, append-nil}
 use Rattle.std.specs.Prelude.{⊤, cond, nat_eq, nat_lt, if◌then◌else◌}
 use Rattle.std.specs.BTreeMap.{insert_entry, is_at}
 use Rattle.std.specs.Cmp.{nat_cmp_is}
 use Rattle.std.specs.Map.{lookup}
 use Rattle.std.specs.Option.{unwrap_or}
-use Rattle.std.specs.Ordering.{Equal, Greater, Less, is_eq, match_ordering, nat_cmp}
+use Rattle.std.specs.Ordering.{is_eq, match_ordering, nat_cmp}
 use Rattle.std.proofs.lemmas.Bool.{cases_eq, cases_order, eq-eqb, eqb-true, le-ltb, lt-ltb, ne_eqb, true≢false}
 use Rattle.std.proofs.lemmas.List.Sums.{sum_by_push}
 use Rattle.jb_dump.specs.Written.{copies_to, counted_up, home_among, homes_among, once_more, written_rows, writes_of}
@@ -43,7 +43,7 @@ above-among n home [] lt up = (lt, tt)
 above-among n home (k ∷ ks) lt up =
     elim (cases_order home k) [
       | inl same ↦ subst (Above n) (sym (among-same home k ks same)) up
-      | inr (inl below) ↦ subst (Above n) (sym (among-below home k ks below)) (lt, below, up.1)
+      | inr (inl below) ↦ subst (Above n) (sym (among-below home k ks below)) (lt, (below, up.1))
       | inr (inr above) ↦ subst (Above n) (sym (among-above home k ks above)) (up.0, above-among k home ks above up.1)
     ]
 

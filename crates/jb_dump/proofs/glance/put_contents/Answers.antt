@@ -18,12 +18,13 @@ returns c sum t =
     let kept : tally.contents.homes.entries ≡ rows = t.homes ∙ rows-written sum.homes in
     let sizes : a ≡ old ++ sizes_line (least_of sum.sizes) (sum_of sum.sizes / length sum.sizes) (greatest_of sum.sizes) =
     c.in_ok-put_sizes.ensures
+    ∙ ap (λ n. old ++ sizes_line tally.least (n / tally.count) tally.most) c.from.ensures
     ∙ ap₂ (λ l m. old ++ sizes_line l (tally.contents.blocks / tally.count) m) t.least t.most
     ∙ ap₂ (λ n k. old ++ sizes_line (least_of sum.sizes) (n / k) (greatest_of sum.sizes)) t.blocks t.count in
     let copies : b ≡ a ++ copies_line (length sum.homes) (length rows) =
-    c.in_ok-put_copies.ensures ∙ ap₂ (λ n es. a ++ copies_line n (length es)) t.copies kept in
+    c.in_ok-put_copies.ensures ∙ ap (λ n. a ++ copies_line tally.contents.copies n) c.len.ensures.len ∙ ap₂ (λ n es. a ++ copies_line n (length es)) t.copies kept in
     let homes : d ≡ b ++ written_lines (foremost rows) =
-    c.in_ok-put_homes.ensures ∙ ap (λ es. b ++ written_lines es) (c.in_ok-foremost_of.ensures ∙ ap foremost kept) in
+    c.in_ok-put_homes.ensures ∙ ap (λ es. b ++ written_lines es) (c.deref.ensures.value ∙ c.in_ok-rows.ensures ∙ ap foremost kept) in
     let revokes : e ≡ d ++ revokes_line sum.revokes = c.in_ok-put_revoked.ensures ∙ ap (λ n. d ++ revokes_line n) t.revokes in
     let times : all ≡ e ++ times_line (first_of_all sum.times) (last_of_all sum.times) =
     c.in_ok-put_times.ensures ∙ ap₂ (λ m n. e ++ times_line m n) t.first t.last in
