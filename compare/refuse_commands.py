@@ -36,6 +36,7 @@ ROWS = [
     ("check", "check q c", {"q": QUEUE, "c": CERT}, b""),
     ("format", "format n --bs 1024 --journal 33 --homes 16", {}, b""),
     ("dump", "dump a", {"a": FULL}, b""),
+    ("dump, at a glance", "dump a --summary", {"a": FULL}, b""),
     ("recover", "recover a", {"a": FULL}, b""),
     ("cat, in rows", "cat a 5 --hex", {"a": FULL}, b""),
     ("cat, of two files", "cat h 5 --journal j", {"j": FULL[:33 * BS], "h": FULL[33 * BS:]}, b""),

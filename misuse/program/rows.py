@@ -150,6 +150,21 @@ end transactions=2 expected=4
 for words, numbers in [("", range(8)), (" --home 5", [2, 3, 5]), (" --home=7", []), (" --last 1", [0, 1, 5, 6, 7]), (" --last 0", [0, 1, 7]), (" --super", [0, 1]),
                        (" --last 1 --home 5", [5]), (" --super --last 1", [0, 1])]:
     row("dump a" + words, 0, "".join(TOLD.splitlines(True)[n] for n in numbers), files={"a": image(superblock(2, 1), TWO_AND_REVOKED)})
+# at a glance, whatever the other options say
+GLANCE = """log transactions=2 used=5 usable=32 free=27
+ends tail=1 head=6
+blocks least=2 mean=2 most=3
+copies total=1 homes=1
+home number=5 copies=1
+revokes total=1
+commits first=1970-01-01T00:00:00Z last=1970-01-01T00:00:00Z
+"""
+for words in ["", " --home 7", " --last 0", " --super"]:
+    row("dump a --summary" + words, 0, GLANCE, files={"a": image(superblock(2, 1), TWO_AND_REVOKED)})
+row("dump - --summary", 0, "log transactions=0 used=0 usable=32 free=32\nclean next=2\n", stdin=image(SMALL, homes=0))
+row("dump a --summary", 0, "log transactions=0 used=0 usable=32 free=32\nends tail=1 head=1\n", files={"a": image(superblock(2, 1), ONE[:3])})
+row("dump a --summary", 1, err="jb: BadRevoke 1\n", files={"a": image(superblock(2, 1), [revoke(2, [], 1025), commit(2)])})
+row("dump a --summary", 1, err="jb: WriteFault\n", files={"a": FULL}, to="full")
 row("dump - --home 7", 0, DUMPED.splitlines(True)[2], stdin=FULL)
 row("dump a --super", 1, err="jb: BadRevoke 1\n", files={"a": image(superblock(2, 1), [revoke(2, [], 1025), commit(2)])})
 row("dump a --last 1", 1, err="jb: WriteFault\n", files={"a": FULL}, to="full")

@@ -77,11 +77,11 @@ format_app =
     let parts = with_rule (with_rule sized (required_number (codes "journal"))) (required_number (codes "homes")) in
     with_rule (with_rule (with_rule parts (number_or (codes "max") (codes "0"))) uuid_option) (flag (codes "wide"))
 
--- `dump FILE [--home N] [--last N] [--super]`
+-- `dump FILE [--home N] [--last N] [--super] [--summary]`
 abbrev pub dump_app : App
 dump_app =
     let numbered = with_rule (with_rule (file_app (codes "dump")) (number_option (codes "home"))) (number_option (codes "last")) in
-    with_rule numbered (flag (codes "super"))
+    with_rule (with_rule numbered (flag (codes "super"))) (flag (codes "summary"))
 
 -- `cat IMAGE HOME [-n N] [--hex] [--journal FILE] [--extents LIST]`
 abbrev pub cat_app : App

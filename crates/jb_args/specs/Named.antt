@@ -106,8 +106,8 @@ flag_in name rows = option_map (λ text. bytes_eq text (codes "true")) (first_of
 -- `dump FILE ..`
 abbrev pub dump_in : List Row → Option Asked
 dump_in rows =
-    option_and_then (λ file. option_map (λ alone. AsksDump file (record { home = number_in (codes "home") rows; last = number_in (codes "last") rows; superblock = alone }))
-    (flag_in (codes "super") rows)) (file_in rows)
+    option_and_then (λ file. option_and_then (λ alone. option_map (λ sum. AsksDump file (record { home = number_in (codes "home") rows; last = number_in (codes "last") rows; superblock = alone; summary = sum }))
+    (flag_in (codes "summary") rows)) (flag_in (codes "super") rows)) (file_in rows)
 
 -- the options of `format`
 abbrev pub options_in : List Row → Option Options

@@ -94,10 +94,10 @@ fn dump<'a>(alloc: Global) -> Result<Command<'a>, AllocError>
     let command = with(command, number_option(alloc, "home", "N", help))?;
     let help = "Of the transactions only the last N";
     let command = with(command, number_option(alloc, "last", "N", help))?;
-    with(
-        command,
-        flag(alloc, "super", "Only the lines of the superblock"),
-    )
+    let help = "Only the lines of the superblock";
+    let command = with(command, flag(alloc, "super", help))?;
+    let help = "The journal at a glance, in place of its lines";
+    with(command, flag(alloc, "summary", help))
 }
 
 /// `jb cat`.

@@ -67,6 +67,8 @@ pub struct DumpOptions {
     pub last: Option<u64>,
     /// `--super`: whether the lines of the superblock alone are printed.
     pub superblock: bool,
+    /// `--summary`: whether the journal at a glance is printed in place of all lines.
+    pub summary: bool,
 }
 
 /// The words and options of `jb cat` after the image, as they were given, not checked yet.

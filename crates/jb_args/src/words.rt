@@ -139,6 +139,7 @@ fn dump_of<'a>(found: &ArgMatches<'a>) -> Option<Plain<'a>>
             home: number_of(found, "home"),
             last: number_of(found, "last"),
             superblock: flag_of(found, "super")?,
+            summary: flag_of(found, "summary")?,
         },
     })
 }

@@ -11,7 +11,7 @@ use Rattle.jb_commands.specs.declared.fault.CommandFault.TheVariants.{CannotRead
 
 -- the lines that the options ask for
 abbrev pub choice_of : DumpOptions → Choice
-choice_of o = record { home = o.home; last = o.last; superblock = o.superblock }
+choice_of o = record { home = o.home; last = o.last; superblock = o.superblock; summary = o.summary }
 
 -- how a command ends by what a dump answers: a text that was written has status 0
 abbrev pub end_by : Result Unit DumpFault → Result ℕ CommandFault

@@ -77,6 +77,7 @@ fn told(alloc: Global, journal: &[u8], taken: &Taken) -> (Result<(), DumpFault>,
         home,
         last,
         superblock,
+        summary: false,
     };
     let (mut rest, mut text) = (journal, Vec::new(alloc));
     let answer = dump_chosen(alloc, &mut rest, &mut text, choice);

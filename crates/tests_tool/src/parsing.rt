@@ -14,7 +14,8 @@ fn asked(alloc: Global, words: &[&str]) -> Option<String> {
         Words::Plain(Plain::Check { file, cert }) => format!(in alloc; "check {file} {cert}"),
         Words::Plain(Plain::Dump { file, options: of }) => {
             let (home, last, superblock) = (of.home, of.last, of.superblock);
-            format!(in alloc; "dump {file} {home:?} {last:?} {superblock}")
+            let summary = of.summary;
+            format!(in alloc; "dump {file} {home:?} {last:?} {superblock} {summary}")
         }
         Words::Plain(Plain::Format { image, options: of }) => {
             let (bs, journal, homes, max) = (of.bs, of.journal, of.homes, of.max);
@@ -43,7 +44,7 @@ fn asked(alloc: Global, words: &[&str]) -> Option<String> {
 }
 
 /// Command lines, and what they ask for.
-static ROWS: [(&str, &str); 24] = [
+static ROWS: [(&str, &str); 26] = [
     ("cost queue.txt", "cost queue.txt"),
     ("cost -", "cost -"),
     ("cost -- -x", "cost -x"),
@@ -59,16 +60,21 @@ static ROWS: [(&str, &str); 24] = [
         "format a.img --bs +1024 --journal 033 --homes 16",
         "format a.img 1024 33 16 0 00000000000000000000000000000000 false",
     ),
-    ("dump a", "dump a None None false"),
-    ("dump --home 5 a", "dump a Some(5) None false"),
+    ("dump a", "dump a None None false false"),
+    ("dump --home 5 a", "dump a Some(5) None false false"),
     (
         "dump a --last=18446744073709551615",
-        "dump a None Some(18446744073709551615) false",
+        "dump a None Some(18446744073709551615) false false",
     ),
-    ("dump --super a", "dump a None None true"),
+    ("dump --super a", "dump a None None true false"),
+    ("dump --summary a", "dump a None None false true"),
+    (
+        "dump a --summary --last 2",
+        "dump a None Some(2) false true",
+    ),
     (
         "dump --last 0 --super a --home=+07",
-        "dump a Some(7) Some(0) true",
+        "dump a Some(7) Some(0) true false",
     ),
     ("cat a.img 5", "cat a.img 5 1 false - -"),
     (

@@ -75,6 +75,7 @@ static SHOWN: [(&str, &str); 9] = [
          Arguments:\n  <FILE>  A file with the whole journal at its front, or - for standard input\n\nOptions:\
          \n      --home <N>  Only the lines that speak of home block N\
          \n      --last <N>  Of the transactions only the last N\n      --super     Only the lines of the superblock\
+         \n      --summary   The journal at a glance, in place of its lines\
          \n  -h, --help      Print help (see more with '--help')\n",
     ),
     (

@@ -90,12 +90,17 @@ it, and each revoke block that names it; the last two say the transaction's numb
 of all transactions before the last N are left out, with --super all lines but the first two. Of several
 options each leaves out its lines. The whole journal is read, and refused, whatever is printed.
 
+With --summary the journal at a glance is printed in place of the lines, whatever the other options say: how
+much of the log is used, the blocks of a transaction, the copies and the homes that are written most, the
+revokes, and when the first and the last transaction were committed.
+
 Status: 0 where they are printed, 1 where the journal is refused, by the name of its fault, or a read
 fails, 2 where the file cannot be opened.
 
 Examples:
   jb dump journal.bin
-  jb dump journal.bin --home 5 --last 2     # what the last two transactions do to home block 5";
+  jb dump journal.bin --home 5 --last 2     # what the last two transactions do to home block 5
+  jb dump journal.bin --summary";
 
 const CAT: &str =
     "The image is opened for reading, and nothing is written to it. Each block is what the last copy of it that

@@ -18,6 +18,7 @@ pub(crate) fn choice_of(options: DumpOptions) -> Choice
         home: options.home,
         last: options.last,
         superblock: options.superblock,
+        summary: options.summary,
     }
 }
 
