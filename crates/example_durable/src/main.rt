@@ -6,9 +6,9 @@
 //! ```
 //!
 //! `IMAGE` is made where there is no such file. Each of `THREADS` threads, 1 to 64, makes handles for so many seconds.
-//! `LEVEL` is how many blocks of the log are in use until committed transactions are written home. Each commit is put off
-//! until `HANDLES` handles wait for it, but for `MICROS` microseconds at most. Without words the disk is in memory, each of
-//! four threads makes 250 handles, and no time is printed.
+//! `LEVEL` is how many blocks of the log are in use until committed transactions are written home. Each commit is put
+//! off until `HANDLES` handles wait for it, but for `MICROS` microseconds at most. Without words the disk is in memory,
+//! each of four threads makes 250 handles, and no time is printed.
 #![tactic(auto)]
 
 ghost use Rattle.std.specs.Prelude.{◌≤◌};

@@ -43,8 +43,8 @@ pub struct Times {
     groups: usize,
 }
 
-/// How many microseconds it was from the first begin to the last end, how many half of the handles took at most, and how
-/// many 99 of 100.
+/// How many microseconds it was from the first begin to the last end, how many half of the handles took at most, and
+/// how many 99 of 100.
 pub struct Waited {
     pub whole: u64,
     pub median: u64,

@@ -1,5 +1,5 @@
 -- What the store keeps, from what is said of its run.
-use Rattle.std.proofs.Common.{◌≡◌, ◌⊎◌, ℕ, suc, ◌+◌, ◌≤◌, All, List, [], ◌∷◌, ◌++◌, length, Some, Result, Ok, Err, slice_get, get_or, inl, inr, refl, sym, ap, subst, ◌∙◌, arith, append-nil}
+use Rattle.std.proofs.Common.{◌≡◌, ℕ, ◌+◌, List, [], ◌∷◌, ◌++◌, length, Result, Ok, Err, slice_get, get_or, inl, inr, refl, sym, ap, subst, ◌∙◌, arith, append-nil}
 use Rattle.std.proofs.lemmas.List.Elements.{All-push}
 use Rattle.jb_journal.specs.Client.{one_block}
 use Rattle.jb_journal.specs.Names.{Ghosts}

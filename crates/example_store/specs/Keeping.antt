@@ -1,5 +1,5 @@
 -- What the store keeps of what it has acknowledged.
-use Rattle.std.specs.Prelude.{◌≡◌, ◌⊎◌, ℕ, ◌≤◌, All, List, [], ◌∷◌, ◌++◌, length, Some, Result, Ok, Err, slice_get}
+use Rattle.std.specs.Prelude.{◌≡◌, ◌⊎◌, ℕ, ◌≤◌, All, List, [], ◌∷◌, ◌++◌, length, Result, Ok, Err}
 use Rattle.jb_journal.specs.Client.{one_block}
 use Rattle.jb_journal.specs.Notes.{Note, AreInNotes, IsInNotes, Known, Stop}
 use Rattle.jb_journal.specs.Running.{RanAll}

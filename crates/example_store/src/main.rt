@@ -40,8 +40,8 @@ const JOURNAL: u32 = 256;
 ghost use Rattle.std.specs.Prelude.{IfOk};
 ghost use Rattle.example_store.specs.Keeping.{Keeps};
 
-/// Runs the worker on a journal. What it has acknowledged stays, whenever a crash comes, where the disk that is given back
-/// is honest.
+/// Runs the worker on a journal. What it has acknowledged stays, whenever a crash comes, where the disk that is given
+/// back is honest.
 fn serve<D: Disk + Drop + Send, R: AllocGlobal + Threads + Wait + Clock + Sync>(
     rt: &R,
     disk: D,

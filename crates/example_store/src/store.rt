@@ -26,7 +26,8 @@ pub fn put<'a, D: Disk, C: Clock, R: Wait + time::Clock, H: Origin, N: Ledger>(
     requires { IsClient H.begun client.old }
     ensures client { IsClient H.begun client.new }
     ensures begins { KnowsMore (client_known client.old) (client_known client.new) }
-    ensures puts { PutsHome (key % 32) (client_stops client.old) (client_stops client.new) (client_known client.new).notes
+    ensures puts { PutsHome (key % 32) (client_stops client.old) (client_stops client.new)
+        (client_known client.new).notes
         result }
 {
     let mut table = table_of(client, key)?;
@@ -63,7 +64,8 @@ pub fn delete<'a, D: Disk, C: Clock, R: Wait + time::Clock, H: Origin, N: Ledger
     requires { IsClient H.begun client.old }
     ensures client { IsClient H.begun client.new }
     ensures begins { KnowsMore (client_known client.old) (client_known client.new) }
-    ensures puts { PutsHome (key % 32) (client_stops client.old) (client_stops client.new) (client_known client.new).notes
+    ensures puts { PutsHome (key % 32) (client_stops client.old) (client_stops client.new)
+        (client_known client.new).notes
         result }
 {
     let mut table = table_of(client, key)?;

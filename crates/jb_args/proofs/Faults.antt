@@ -33,8 +33,3 @@ finds_by app words (Ok m) is has =
     let as_jb : HasMatchesOf jb_app words m = subst (λ (a : App). HasMatchesOf a words m) is has in
     (as_jb jb-simple).1
 finds_by app words (Err e) is has = tt
-
--- the last of three facts of a result
-pub third : {A E : Type 0} (P Q R : A → Type 0) (r : Result A E) → IfOk r (λ x. P x × Q x × R x) → IfOk r R
-third P Q R (Ok x) held = held.2
-third P Q R (Err e) held = tt

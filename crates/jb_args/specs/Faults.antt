@@ -7,5 +7,5 @@ pub use Rattle.clap.specs.Values.{kind_of}
 use Rattle.jb_args.specs.App.{jb_app}
 
 -- the kinds of the first fault; none where clap takes the words
-abbrev pub faults_in : List Text → Kinds
-faults_in words = fault_of jb_app words
+abbrev pub fault_kinds : List Text → Kinds
+fault_kinds words = fault_of jb_app words

@@ -8,65 +8,118 @@ macro_rules! diagnostics {
         $form! {
             $($of)?
             lines {
-                QueueBlockSizeLine, "queue line #: BlockSizeLine", "", "the first line is bs 1024, bs 2048 or bs 4096, with or without the word wide after it";
-                QueueLimitLine, "queue line #: LimitLine", "", "the second line is limit and a number from 3 to 2147483646";
-                QueueHandleLine, "queue line #: HandleLine", "", "a handle's line is h, or begins with h and one space; no line is empty";
-                QueueOpWord, "queue line #: OpWord", "", "a handle's words are w or r and a number, as w5 or r7, each after one space";
-                QueueDataWord, "queue line #: DataWord", "", "w5= has two hexadecimal digits for each byte after it, of one byte at least and of a block at most";
-                CertificateSyntax, "certificate: Syntax ", "#", "this line of the certificate is not as jb plan prints it";
-                CertificateLength, "certificate: Length", "", "the certificate is of another queue: it has one price more than its queue has handles";
+                QueueBlockSizeLine, "queue line #: BlockSizeLine", "",
+                    "the first line is bs 1024, bs 2048 or bs 4096, with or without the word wide after it";
+                QueueLimitLine, "queue line #: LimitLine", "",
+                    "the second line is limit and a number from 3 to 2147483646";
+                QueueHandleLine, "queue line #: HandleLine", "",
+                    "a handle's line is h, or begins with h and one space; no line is empty";
+                QueueOpWord, "queue line #: OpWord", "",
+                    "a handle's words are w or r and a number, as w5 or r7, each after one space";
+                QueueDataWord, "queue line #: DataWord", "",
+                    "w5= has two hexadecimal digits for each byte after it, of one byte at least and of a block at \
+                     most";
+                CertificateSyntax, "certificate: Syntax ", "#",
+                    "this line of the certificate is not as jb plan prints it";
+                CertificateLength, "certificate: Length", "",
+                    "the certificate is of another queue: it has one price more than its queue has handles";
                 BadOption, "bad option", "", "what the first bad option may be": "OPTION is VALUES";
-                CannotMake, "cannot make ", "NAME", "take another name, or see to its folder, the permission and the room": "REASON";
-                CannotRead, "cannot read ", "NAME", "it is to be a file that may be read; an image is a regular file or block device, and may be written too": "REASON";
-                InUse, "in use ", "NAME", "another jb works on the image: run the command again when that one has ended";
+                CannotMake, "cannot make ", "NAME",
+                    "take another name, or see to its folder, the permission and the room": "REASON";
+                CannotRead, "cannot read ", "NAME",
+                    "it is to be a file that may be read; an image is a regular file or block device, and may be \
+                     written too": "REASON";
+                InUse, "in use ", "NAME",
+                    "another jb works on the image: run the command again when that one has ended";
                 SameFile, "same file ", "NAME", "the image and the journal are to be two files";
                 TooLong, "too long ", "NAME", "a queue text has at most 16777216 bytes, and a certificate 150994944";
-                ReadFault, "ReadFault", "", "the file cannot be read to the end of its journal: it is a folder, or its device fails";
-                SuperShortBlock, "Super ShortBlock", "", "a journal begins with a superblock of 1024 bytes, and the file is shorter";
-                SuperNoMagic, "Super NoMagic", "", "the file does not begin with a journal; that of a file system is copied out by debugfs -R 'dump <8> FILE' DEVICE";
+                ReadFault, "ReadFault", "",
+                    "the file cannot be read to the end of its journal: it is a folder, or its device fails";
+                SuperShortBlock, "Super ShortBlock", "",
+                    "a journal begins with a superblock of 1024 bytes, and the file is shorter";
+                SuperNoMagic, "Super NoMagic", "",
+                    "the file does not begin with a journal; that of a file system is copied out by debugfs -R 'dump \
+                     <8> FILE' DEVICE";
                 SuperNotVersion2, "Super NotVersion2 ", "#", "jb takes superblocks of version 2 alone";
                 SuperBlockSize, "Super BlockSize ", "#", "a block has 1024, 2048 or 4096 bytes";
-                SuperGeometry, "Super Geometry", "", "the file has not all blocks of its journal, or the superblock's numbers make none";
-                JournalLength, "JournalLength ", "# #", "the file of --journal has more blocks, the first number, than its superblock says, the second: copy it out again as it is, by debugfs -R 'dump <8> FILE' DEVICE; the image is as it was";
-                SuperFeature, "Super Feature ", "# #", "the journal has features that jb has not, as checksums (2 16, from the first mount on since 2016) or fast commits (2 32): run e2fsck, or mount the file system; it is as it was";
-                FileSystemBlockSize, "FileSystem BlockSize ", "#", "the file system has blocks of so many bytes, and the journal others: it is not its own; it is as it was";
-                FileSystemUuid, "FileSystem Uuid", "", "the journal is that of another file system, or tune2fs -U has changed the UUID since: --force writes to it then; it is as it was";
-                FileSystemClean, "FileSystem Clean", "", "the file system needs no recovery (needs_recovery is clear), so the journal is an old copy; it is as it was; --force writes to it all the same";
-                ExtentsOverlap, "Extents Overlap ", "#", "this block is in two of the extents: give the list as debugfs -R 'stat <8>' prints it";
-                ExtentsPastEnd, "Extents PastEnd ", "#", "this block of the extents is not in the image: give the list of this image";
-                ExtentsShort, "Extents Short ", "#", "the extents have so many blocks, and the journal more: give all of them";
-                ExtentsNoJournal, "Extents NoJournal", "", "no journal begins at the first of the extents: give the list as debugfs -R 'stat <8>' prints it";
-                ExtentsHome, "Extents Home ", "#", "a copy is for this home block, which holds the journal itself: the extents are not the journal's, or it is damaged; the image is as it was";
+                SuperGeometry, "Super Geometry", "",
+                    "the file has not all blocks of its journal, or the superblock's numbers make none";
+                JournalLength, "JournalLength ", "# #",
+                    "the file of --journal has more blocks, the first number, than its superblock says, the second: \
+                     copy it out again as it is, by debugfs -R 'dump <8> FILE' DEVICE; the image is as it was";
+                SuperFeature, "Super Feature ", "# #",
+                    "the journal has features that jb has not, as checksums (2 16, from the first mount on since 2016) \
+                     or fast commits (2 32): run e2fsck, or mount the file system; it is as it was";
+                FileSystemBlockSize, "FileSystem BlockSize ", "#",
+                    "the file system has blocks of so many bytes, and the journal others: it is not its own; it is as \
+                     it was";
+                FileSystemUuid, "FileSystem Uuid", "",
+                    "the journal is that of another file system, or tune2fs -U has changed the UUID since: --force \
+                     writes to it then; it is as it was";
+                FileSystemClean, "FileSystem Clean", "",
+                    "the file system needs no recovery (needs_recovery is clear), so the journal is an old copy; it is \
+                     as it was; --force writes to it all the same";
+                ExtentsOverlap, "Extents Overlap ", "#",
+                    "this block is in two of the extents: give the list as debugfs -R 'stat <8>' prints it";
+                ExtentsPastEnd, "Extents PastEnd ", "#",
+                    "this block of the extents is not in the image: give the list of this image";
+                ExtentsShort, "Extents Short ", "#",
+                    "the extents have so many blocks, and the journal more: give all of them";
+                ExtentsNoJournal, "Extents NoJournal", "",
+                    "no journal begins at the first of the extents: give the list as debugfs -R 'stat <8>' prints it";
+                ExtentsHome, "Extents Home ", "#",
+                    "a copy is for this home block, which holds the journal itself: the extents are not the journal's, \
+                     or it is damaged; the image is as it was";
                 Geometry, "Geometry", "", "--journal is 9 at least and 2147483647 at most";
                 BadRevoke, "BadRevoke ", "#", "this block of the journal is damaged; the image is as it was";
-                HomeOutOfRange, "HomeOutOfRange ", "# #", "the image is as it was; it is to be made whole, or its journal given by --journal, and now has so many home blocks": "#";
-                NoHome, "NoHome ", "#", "home blocks are numbered from 0; jb widen gives numbers past 4294967295; the image has so many": "#";
+                HomeOutOfRange, "HomeOutOfRange ", "# #",
+                    "the image is as it was; it is to be made whole, or its journal given by --journal, and now has so \
+                     many home blocks": "#";
+                NoHome, "NoHome ", "#",
+                    "home blocks are numbered from 0; jb widen gives numbers past 4294967295; the image has so \
+                     many": "#";
                 NeedsRecovery, "NeedsRecovery", "", "run jb recover on the image first";
                 NumbersSpent, "NumbersSpent", "", "run jb renumber on the image first";
                 BlockSize, "BlockSize", "", "the first line of the queue text is to have the image's block size";
-                HandleTooManyCredits, "handle #: TooManyCredits ", "#", "a handle of this journal may touch so many blocks: part it, or format a longer journal";
-                HandleOutOfRange, "handle #: OutOfRange ", "#", "home blocks are numbered from 0, and the image has so many": "#";
-                HandleFull, "handle #: Full ", "#", "the log had no room for ten seconds: leave out --hold, or format a longer journal";
-                HandleMemory, "handle #: Memory", "", "out of memory: run jb recover on the image, and load the handles from this one on with fewer threads";
-                HandleAborted, "handle #: Aborted", "", "a read, write or sync of the image failed: run jb recover on it, and see what it holds";
-                CommitRefused, "commit Refused", "", "the transactions have no number left: run jb recover and jb renumber on the image";
+                HandleTooManyCredits, "handle #: TooManyCredits ", "#",
+                    "a handle of this journal may touch so many blocks: part it, or format a longer journal";
+                HandleOutOfRange, "handle #: OutOfRange ", "#",
+                    "home blocks are numbered from 0, and the image has so many": "#";
+                HandleFull, "handle #: Full ", "#",
+                    "the log had no room for ten seconds: leave out --hold, or format a longer journal";
+                HandleMemory, "handle #: Memory", "",
+                    "out of memory: run jb recover on the image, and load the handles from this one on with fewer \
+                     threads";
+                HandleAborted, "handle #: Aborted", "",
+                    "a read, write or sync of the image failed: run jb recover on it, and see what it holds";
+                CommitRefused, "commit Refused", "",
+                    "the transactions have no number left: run jb recover and jb renumber on the image";
                 CommitMemory, "commit Memory", "", "out of memory: run jb recover on the image, and see what it holds";
-                CommitAborted, "commit Aborted", "", "a read, write or sync of the image failed: run jb recover on it, and see what it holds";
-                CheckpointMemory, "checkpoint Memory", "", "out of memory: run jb recover on the image, which writes home what is committed";
-                CheckpointStopped, "checkpoint Stopped", "", "the commits ended early, as the line before says: run jb recover on the image, which writes home what is committed";
-                CheckpointAborted, "checkpoint Aborted", "", "a read, write or sync of the image failed: run jb recover on it, and see what it holds";
+                CommitAborted, "commit Aborted", "",
+                    "a read, write or sync of the image failed: run jb recover on it, and see what it holds";
+                CheckpointMemory, "checkpoint Memory", "",
+                    "out of memory: run jb recover on the image, which writes home what is committed";
+                CheckpointStopped, "checkpoint Stopped", "",
+                    "the commits ended early, as the line before says: run jb recover on the image, which writes home \
+                     what is committed";
+                CheckpointAborted, "checkpoint Aborted", "",
+                    "a read, write or sync of the image failed: run jb recover on it, and see what it holds";
                 Accounts, "Accounts", "", "this cannot happen: the program is wrong";
-                DeviceFault, "DeviceFault", "", "a read, write or sync of the image failed: run the command again once its device is well";
+                DeviceFault, "DeviceFault", "",
+                    "a read, write or sync of the image failed: run the command again once its device is well";
                 Memory, "Memory", "", "out of memory: the command needs more";
-                WriteFault, "WriteFault", "", "standard output is closed or full; what the command does to an image may be done";
+                WriteFault, "WriteFault", "",
+                    "standard output is closed or full; what the command does to an image may be done";
             }
             options {
                 Bs, "--bs", "1024, 2048 or 4096";
                 Journal, "--journal", "4294967295 at most";
                 Max, "--max", "4294967295 at most";
                 Uuid, "--uuid", "32 hexadecimal digits";
-                Homes, "--homes", "a number with which the image has less than 2^63 bytes; without --wide 4294967296 at most";
-                Extents, "--extents", "a list as debugfs prints it, as (0-1023):8193-9216, (1024):9300; not with --journal";
+                Homes, "--homes",
+                    "a number with which the image has less than 2^63 bytes; without --wide 4294967296 at most";
+                Extents, "--extents",
+                    "a list as debugfs prints it, as (0-1023):8193-9216, (1024):9300; not with --journal";
                 List, "--list", "for --dry-run alone";
                 Threads, "--threads", "1 to 64";
             }

@@ -2,7 +2,7 @@ ghost use Rattle.std.specs.Prelude.{◌≡◌, ◌⊎◌, IfErr, IfOk, IsErr, No
 ghost use Rattle.clap.specs.Kinds.{FailsBy};
 ghost use Rattle.clap.specs.Words.{app_of, first_of, found_of, rows_of, subcommand_of, subcommand_rows_of};
 ghost use Rattle.jb_args.specs.App.{jb_app};
-ghost use Rattle.jb_args.specs.Faults.{HasKind, faults_in};
+ghost use Rattle.jb_args.specs.Faults.{HasKind, fault_kinds};
 ghost use Rattle.jb_args.specs.Named.{asked, asks, cat_in, check_in, dump_in};
 ghost use Rattle.jb_args.specs.Named.{flag_in, format_in, number_in, options_in, options_said, recover_in};
 ghost use Rattle.jb_args.specs.Wanted.{load_in, load_said, wanted_in, wanted_of, wants};
@@ -22,9 +22,9 @@ use std::io::Write;
 /// What clap says of the words: help and the version too, and out of memory as `ErrorKind::OutOfMemory`.
 pub fn parse<'a, S: AsStr>(alloc: Global, words: &'a [S]) -> Result<Words<'a>, Error>
     ensures asked { IfOk result (λ found. wanted_in (map S.text words.entry.now) ≡ Some (wants found)) }
-    ensures taken { IfOk result (λ _. faults_in (map S.text words.entry.now) ≡ []) }
-    ensures refused { IfErr result (λ error. HasKind (faults_in (map S.text words.entry.now)) error
-        ⊎ ((faults_in (map S.text words.entry.now) ≡ []) × (wanted_in (map S.text words.entry.now) ≡ None))) }
+    ensures taken { IfOk result (λ _. fault_kinds (map S.text words.entry.now) ≡ []) }
+    ensures refused { IfErr result (λ error. HasKind (fault_kinds (map S.text words.entry.now)) error
+        ⊎ ((fault_kinds (map S.text words.entry.now) ≡ []) × (wanted_in (map S.text words.entry.now) ≡ None))) }
 {
     let matches = matches_of(jb_command(alloc)?, words)?;
     match words_of(&matches) {
@@ -61,7 +61,7 @@ fn no_command(alloc: Global) -> Result<Error, AllocError> {
 fn matches_of<'a, S: AsStr>(command: Command<'a>, words: &'a [S]) -> Result<ArgMatches<'a>, Error>
     requires { app_of command ≡ jb_app }
     ensures found { IfOk result (λ m. subcommand_rows_of m ≡ subcommand_of jb_app (map S.text words.entry.now)) }
-    ensures faults { FailsBy (faults_in (map S.text words.entry.now)) result }
+    ensures faults { FailsBy (fault_kinds (map S.text words.entry.now)) result }
 {
     command.try_get_matches_from(words)
 }

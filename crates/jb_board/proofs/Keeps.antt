@@ -7,22 +7,22 @@ use Rattle.atomic_table.specs.Table.{State, Me, keeps, step, Allows, Splits, Joi
 use Rattle.atomic_table.proofs.Lists.{at_set, at_snoc, set_again}
 use Rattle.jb_board.specs.declared.front.Front.{Front}
 use Rattle.jb_board.specs.Front.{front, InOrder, IsWithin}
-use Rattle.jb_board.specs.Rule.{words_of, IsKept}
+use Rattle.jb_board.specs.Rule.{words_of_counts, AreCountsKept}
 use Rattle.jb_board.specs.Steps.{saw_settled, saw_taken, saw_stopped, raised_settled, raised_taken, raised_stopped, SeesSettled, SeesTaken, SeesStopped, RaisesSettled, RaisesTaken, RaisesStopped}
 
 -- the rule, as the table has it
 abbrev pub Holds : State (Unit {0}) Front → Type 0
-Holds s = IsKept s.words s.views
+Holds s = AreCountsKept s.words s.views
 
 -- what a step makes of the counts and of the seat's view, and what it answers
 record Goes (now : Front) (word : ℕ) (f : ℕ → ℕ) (told : ℕ → Front → Type 0) : Type 0 where
   next : Front
   view : Front
-  counts : slice_set (words_of now) word (f (slice_index (words_of now) word)) ≡ words_of next
+  counts : slice_set (words_of_counts now) word (f (slice_index (words_of_counts now) word)) ≡ words_of_counts next
   ordered : InOrder next
   rises : IsWithin now next
   within : IsWithin view next
-  tells : told (slice_index (words_of now) word) view
+  tells : told (slice_index (words_of_counts now) word) view
 
 within_all : {v now next : Front} → IsWithin v now → IsWithin now next → IsWithin v next
 within_all a b = (omega (arith, a.0, b.0), omega (arith, a.1, b.1), omega (arith, a.2, b.2))
@@ -34,13 +34,13 @@ allows : (slots id : ℕ) (me : Me (Unit {0}) Front) (word : ℕ) (f : ℕ → �
 allows slots id me word f told goes s kept len at small =
     let now = kept.now in
     let g = goes now kept.ordered (kept.within id me.0 at) in
-    let same : words_of now ≡ s.words = sym kept.counts in (
+    let same : words_of_counts now ≡ s.words = sym kept.counts in (
       g.view,
       keeps,
       tt,
       record {
         now = g.next;
-        counts = subst (λ ws. slice_set ws word (f (slice_index ws word)) ≡ words_of g.next) same g.counts;
+        counts = subst (λ ws. slice_set ws word (f (slice_index ws word)) ≡ words_of_counts g.next) same g.counts;
         ordered = g.ordered;
         within = λ j u e.
             ⊎_elim (λ (t : (j ≡ id) × (g.view ≡ u)). subst (λ v. IsWithin v g.next) t.1 g.within) (λ (t : (j ≢ id) × (get_elem? s.views j ≡ some u)). within_all (kept.within j u t.1) g.rises)
@@ -124,7 +124,7 @@ nothing_within : (now : Front) → IsWithin (front 0 0 0) now
 nothing_within now = (omega arith, omega arith, omega arith)
 
 -- one more view, within the counts, keeps the rule
-one_more : (words : List ℕ) (views : List Front) (v : Front) (kept : IsKept words views) → IsWithin v kept.now → IsKept words (views ++ v ∷ [])
+one_more : (words : List ℕ) (views : List Front) (v : Front) (kept : AreCountsKept words views) → IsWithin v kept.now → AreCountsKept words (views ++ v ∷ [])
 one_more words views v kept in_bounds = record {
   now = kept.now;
   counts = kept.counts;
@@ -136,7 +136,7 @@ pub enters : (slots : ℕ) → Arrivals Holds slots 0 (λ n w. w ≡ front 0 0 0
 enters slots s kept len small = (front 0 0 0, one_more s.words s.views (front 0 0 0) kept (nothing_within kept.now), refl)
 
 pub splits : (id : ℕ) (v : Front) → Splits Holds id v v v
-splits id v s kept at = subst (λ views. IsKept s.words (views ++ v ∷ [])) (sym (set_again s.views id v at)) (one_more s.words s.views v kept (kept.within id v at))
+splits id v s kept at = subst (λ views. AreCountsKept s.words (views ++ v ∷ [])) (sym (set_again s.views id v at)) (one_more s.words s.views v kept (kept.within id v at))
 
 pub joins : (id : ℕ) (v : Front) (other : ℕ) (w : Front) → Joins Holds id v other w v (front 0 0 0)
 joins id v other w s kept at apart there = record {
@@ -149,5 +149,5 @@ joins id v other w s kept at apart there = record {
       (at_set (slice_set s.views id v) other j (front 0 0 0) u e);
 }
 
-pub starts : IsKept (0 ∷ 0 ∷ 0 ∷ []) (front 0 0 0 ∷ [])
+pub starts : AreCountsKept (0 ∷ 0 ∷ 0 ∷ []) (front 0 0 0 ∷ [])
 starts = one_more (0 ∷ 0 ∷ 0 ∷ []) [] (front 0 0 0) record { now = front 0 0 0; counts = refl; ordered = (omega arith, omega arith); within = λ j u e. absurd (some-ne-none u (sym e)) } (nothing_within (front 0 0 0))

@@ -1,5 +1,5 @@
 -- Each kind of step keeps the rule of a history.
-use Rattle.std.proofs.Common.{All, Some, slice_get, ◌≡◌, ℕ, zero, suc, ◌+◌, ◌≤◌, ◌≢◌, ◌==◌, Bool, true, false, true≢false, List, [], ◌∷◌, ◌++◌, length, slice_set, set, sym, refl, ap, ◌∙◌, subst, ⊎_elim, arith, length-append, append_assoc, append-nil}
+use Rattle.std.proofs.Common.{All, Some, slice_get, ◌≡◌, ℕ, zero, suc, ◌+◌, ◌≢◌, ◌==◌, true, false, true≢false, List, [], ◌∷◌, ◌++◌, length, set, sym, refl, ap, ◌∙◌, subst, ⊎_elim, arith, length-append}
 use Rattle.std.specs.List.{sum_by}
 use Rattle.std.proofs.lemmas.List.Sums.{sum_by-append, sum_by-cons}
 use mathlib.Core.List.{IsPrefix}
@@ -12,7 +12,7 @@ use Rattle.jb_board.specs.declared.view.View.{View}
 use Rattle.jb_board.specs.HistoryRule.{with_places, StandsIn, Knows, HasOneHistory}
 use Rattle.jb_board.proofs.Placed.{get_last, placed_end, placed_on, prefix_longer, prefix_nil, prefix_same}
 use Rattle.std.proofs.lemmas.List.Elements.{All-append, All-nil, All-push, All-weaker}
-use Rattle.jb_board.specs.HistorySteps.{AddsEntry, Looks, Sees, EntersNew}
+use Rattle.jb_board.specs.HistorySteps.{AddsEntry, Looks, Sees}
 use Rattle.jb_board.specs.View.{view, writer, nobody, added, saw, without_mine, only_mine, only_seen, told_by}
 
 -- a sum over views of which one is another

@@ -16,9 +16,9 @@ pub struct Counts;
 
 impl TableRule<(), Front, ()> for Counts {
     ghost use Rattle.jb_board.specs.Front.{front};
-    ghost use Rattle.jb_board.specs.Rule.{IsKept};
+    ghost use Rattle.jb_board.specs.Rule.{AreCountsKept};
 
-    ghost holds = { λ _ table. IsKept table.words table.views };
+    ghost holds = { λ _ table. AreCountsKept table.words table.views };
 
     ghost first = { λ _. front 0 0 0 };
 }

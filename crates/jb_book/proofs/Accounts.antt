@@ -25,32 +25,32 @@ use Rattle.jb_core.proofs.Entries.{sum-insert, length-insert_entry, length-remov
 use Rattle.jb_deck.specs.declared.done.Entry.{Entry}
 use Rattle.jb_deck.specs.Done.{Follow, start_of}
 use Rattle.jb_book.specs.declared.fault.BeginFault.TheVariants.{Aborted, Closed, Busy, TooManyCredits, Full}
-use Rattle.jb_book.specs.Account.{Account, IsSound, granted_to, dropped_of, queued, taken_all, settled_to, failed_of, is_full, refusal, IsOpenFor, CanTake, Settles}
-use Rattle.jb_book.specs.Shadow.{credits_at, reserved}
+use Rattle.jb_book.specs.Account.{Account, IsAccountSound, granted_to, dropped_of, queued, taken_all, settled_to, failed_of, has_no_room, begin_refusal, IsOpenFor, CanTake, Settles}
+use Rattle.jb_book.specs.Shadow.{credits_at, reserved_in}
 use Rattle.jb_book.proofs.Follows.{follow-length, follow-on}
 use Rattle.jb_book.proofs.SeatCredits.{length-less, sum-gone, sum-less}
 
 -- ---- the calls
 
 -- what the five tests of a new handle let pass
-pub passed : (a : Account) (seat credits : ℕ) → refusal a seat credits ≡ None
-    → (a.aborted ≡ false) × (a.shut ≡ false) × (credits_at a.shadow seat ≡ None) × (credits ≤ a.most) × (reserved a.shadow + credits ≤ a.usable) × (a.shadow.next + length a.shadow.seats < 2 ^ 61) × (a.granted + credits ≤ 2 ^ 61)
+pub passed : (a : Account) (seat credits : ℕ) → begin_refusal a seat credits ≡ None
+    → (a.aborted ≡ false) × (a.shut ≡ false) × (credits_at a.shadow seat ≡ None) × (credits ≤ a.most) × (reserved_in a.shadow + credits ≤ a.usable) × (a.shadow.next + length a.shadow.seats < 2 ^ 61) × (a.granted + credits ≤ 2 ^ 61)
 passed a seat credits none =
     let one = first-false a.aborted Aborted _ none in
     let two = first-false a.shut Closed _ one.1 in
     let three = first-false (is_some (credits_at a.shadow seat)) Busy _ two.1 in
     let four = first-false (nat_lt a.most credits) (TooManyCredits a.most) _ three.1 in
-    let five = first-false (is_full a credits) (Full (reserved a.shadow)) [] four.1 in
-    let full = or_parts (nat_lt a.usable (reserved a.shadow + credits) || nat_le (2 ^ 61) (a.shadow.next + length a.shadow.seats)) (nat_lt (2 ^ 61) (a.granted + credits)) five.0 in
-    let both = or_parts (nat_lt a.usable (reserved a.shadow + credits)) (nat_le (2 ^ 61) (a.shadow.next + length a.shadow.seats)) full.0 in
+    let five = first-false (has_no_room a credits) (Full (reserved_in a.shadow)) [] four.1 in
+    let full = or_parts (nat_lt a.usable (reserved_in a.shadow + credits) || nat_le (2 ^ 61) (a.shadow.next + length a.shadow.seats)) (nat_lt (2 ^ 61) (a.granted + credits)) five.0 in
+    let both = or_parts (nat_lt a.usable (reserved_in a.shadow + credits)) (nat_le (2 ^ 61) (a.shadow.next + length a.shadow.seats)) full.0 in
     let few : nat_lt a.most credits ≡ false = four.0 in
-    let room : nat_lt a.usable (reserved a.shadow + credits) ≡ false = both.0 in
+    let room : nat_lt a.usable (reserved_in a.shadow + credits) ≡ false = both.0 in
     let left : nat_le (2 ^ 61) (a.shadow.next + length a.shadow.seats) ≡ false = both.1 in
     let grants : nat_lt (2 ^ 61) (a.granted + credits) ≡ false = full.1 in
     (one.0, two.0, found-none (credits_at a.shadow seat) three.0, grind (arith, nat_tests), grind (arith, nat_tests), grind (arith, nat_tests), grind (arith, nat_tests))
 
-module _ (a : Account) (sound : IsSound a) where
-  pub begun-sound : (seat credits : ℕ) → refusal a seat credits ≡ None → IsSound (granted_to seat credits a)
+module _ (a : Account) (sound : IsAccountSound a) where
+  pub begun-sound : (seat credits : ℕ) → begin_refusal a seat credits ≡ None → IsAccountSound (granted_to seat credits a)
   begun-sound seat credits none =
       let (running, open_yet, free, few, room, left, grants) = passed a seat credits none in
       let more = sum-insert (λ (x : ℕ). x) a.shadow.seats seat credits free in
@@ -74,7 +74,7 @@ module _ (a : Account) (sound : IsSound a) where
         trail = sound.trail;
       }
 
-  pub dropped-sound : (seat : ℕ) → IsSound (dropped_of seat a)
+  pub dropped-sound : (seat : ℕ) → IsAccountSound (dropped_of seat a)
   dropped-sound seat =
       let less = sum-less a.shadow.seats seat in
       let shorter = length-less (is_at (nat_cmp seat)) a.shadow.seats in
@@ -99,7 +99,7 @@ module _ (a : Account) (sound : IsSound a) where
         trail = sound.trail;
       }
 
-  pub queued-sound : (seat credits : ℕ) (words : WordMap) → a.aborted ≡ false → IsOpenFor a seat words credits → IsSound (queued seat words a)
+  pub queued-sound : (seat credits : ℕ) (words : WordMap) → a.aborted ≡ false → IsOpenFor a seat words credits → IsAccountSound (queued seat words a)
   queued-sound seat credits words running is =
       let s = a.shadow in
       let stop : Stopped = record { ticket = a.shadow.next; words = words } in
@@ -150,7 +150,7 @@ module _ (a : Account) (sound : IsSound a) where
       still-up-not : {A : Type 0} (b : Bool) → b ≡ false → b ≡ true → A
       still-up-not b lacks held = still-up b held lacks
 
-  pub taken-sound : CanTake a → IsSound (taken_all a)
+  pub taken-sound : CanTake a → IsAccountSound (taken_all a)
   taken-sound can =
       let line = sound.running can.running in
       let queued_up = line.queued in
@@ -176,7 +176,7 @@ module _ (a : Account) (sound : IsSound a) where
         trail = sound.trail;
       }
 
-  pub settled-sound : (past : ℕ) (entries : List Entry) → Settles a past entries → IsSound (settled_to past entries a)
+  pub settled-sound : (past : ℕ) (entries : List Entry) → Settles a past entries → IsAccountSound (settled_to past entries a)
   settled-sound past entries is =
       let up = follow-length a.shadow.settled _ past entries is.follow in
       let inside = is.within in
@@ -229,7 +229,7 @@ module _ (a : Account) (sound : IsSound a) where
       let upto : past ≡ a.shadow.settled + (past - a.shadow.settled) = omega arith in
       λ i. record a { shadow = record a.shadow { settled = upto i; credits = left i }; trail = more i }
 
-  pub failed-sound : IsSound (failed_of a)
+  pub failed-sound : IsAccountSound (failed_of a)
   failed-sound =
       let order = sound.order in
       let within = sound.within in
@@ -252,7 +252,7 @@ module _ (a : Account) (sound : IsSound a) where
         trail = sound.trail;
       }
 
-  pub shut-sound : IsSound (record a { shut = true })
+  pub shut-sound : IsAccountSound (record a { shut = true })
   shut-sound = record {
     most = sound.most;
     order = sound.order;

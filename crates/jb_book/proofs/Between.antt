@@ -10,10 +10,10 @@ use Rattle.jb_cost.specs.Pieces.{joined}
 use Rattle.jb_deck.specs.Done.{start_of}
 use Rattle.jb_core.specs.declared.event.Event.TheVariants as event
 use Rattle.jb_core.specs.declared.event.Reply.TheVariants.{Plain, Ticket}
-use Rattle.jb_core.specs.Lives.{Log, settled_now, handles_of, stop_order}
-use Rattle.jb_core.specs.Machine.{Machine, after}
+use Rattle.jb_core.specs.Lives.{Log, settled_now, handles_of_order, stop_order}
+use Rattle.jb_core.specs.Machine.{Machine, after_event}
 use Rattle.jb_core.proofs.Wholes.{whole}
-use Rattle.jb_book.specs.Account.{Account, IsSound, granted_to, dropped_of, queued, refusal, CanStop}
+use Rattle.jb_book.specs.Account.{Account, IsAccountSound, granted_to, dropped_of, queued, begin_refusal, CanStop}
 use Rattle.jb_book.specs.Calls.{Call, Opened, Enqueued, Dropped, Shut, stops_of, out_of, settled_of, handles_in}
 use Rattle.jb_book.specs.Shadow.{Shadow, credits_at}
 use Rattle.jb_book.specs.Tied.{Tied, touches_of}
@@ -27,11 +27,11 @@ use Rattle.jb_book.proofs.Grouped.{more-stops}
 -- the events, and how the calls tell the stops and the groups
 pub record Stands (shape : Shape) (calls : List Call) (a : Account) : Type 0 where
   pub same_shape : a.shape ≡ shape
-  pub sound : IsSound a
+  pub sound : IsAccountSound a
   pub log : Log
   pub machine : Machine
   pub tied : Tied a log machine
-  pub stops : handles_of (stop_order log) ≡ stops_of calls
+  pub stops : handles_of_order (stop_order log) ≡ stops_of calls
   pub settled : machine.settled ≡ settled_of calls
   pub out : machine.taken ≡ out_of calls
   pub numbered : TicketsFrom 0 (stops_of calls)
@@ -39,7 +39,7 @@ pub record Stands (shape : Shape) (calls : List Call) (a : Account) : Type 0 whe
   pub trail : settled_of calls ≡ map (handles_in (stops_of calls)) a.trail
 
 -- while the machine is up, what it has of the life are its stops
-all-of : (a : Account) (log : Log) (m : Machine) → Tied a log m → a.aborted ≡ false → joined m.settled ++ (joined m.taken ++ a.shadow.queue) ≡ handles_of (stop_order log)
+all-of : (a : Account) (log : Log) (m : Machine) → Tied a log m → a.aborted ≡ false → joined m.settled ++ (joined m.taken ++ a.shadow.queue) ≡ handles_of_order (stop_order log)
 all-of a log m t running =
     let is = t.running running in
     ap (λ n. joined (drop n m.settled) ++ (joined m.taken ++ a.shadow.queue)) (sym t.one_life)
@@ -66,12 +66,12 @@ module _ (shape : Shape) (calls : List Call) (a : Account) (s : Stands shape cal
 
   -- ---- each call
 
-  pub call-opened : (seat credits : ℕ) → refusal a seat credits ≡ None → Stands shape (Opened seat credits (Ok tt) ∷ calls) (granted_to seat credits a)
+  pub call-opened : (seat credits : ℕ) → begin_refusal a seat credits ≡ None → Stands shape (Opened seat credits (Ok tt) ∷ calls) (granted_to seat credits a)
   call-opened seat credits none = record {
     same_shape = s.same_shape;
     sound = begun-sound a s.sound seat credits none;
     log = (event.Open seat credits, Ok Plain) ∷ s.log;
-    machine = after s.machine (event.Open seat credits);
+    machine = after_event s.machine (event.Open seat credits);
     tied = tied-opens a s.log s.machine s.tied s.sound seat credits none;
     stops = s.stops;
     settled = s.settled;
@@ -134,7 +134,7 @@ module _ (shape : Shape) (calls : List Call) (a : Account) (s : Stands shape cal
         same_shape = s.same_shape;
         sound = dropped-sound a s.sound seat;
         log = (event.Abandon seat, Ok Plain) ∷ s.log;
-        machine = after s.machine (event.Abandon seat);
+        machine = after_event s.machine (event.Abandon seat);
         tied = tied-drops a s.log s.machine s.tied running seat credits is;
         stops = s.stops;
         settled = s.settled;

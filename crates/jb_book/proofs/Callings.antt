@@ -9,11 +9,11 @@ use Rattle.jb_plan.specs.Batch.{gathered}
 use Rattle.jb_deck.specs.declared.done.Entry.{Entry}
 use Rattle.jb_core.specs.declared.event.Event.TheVariants as event
 use Rattle.jb_core.specs.declared.event.Reply.TheVariants.{Plain}
-use Rattle.jb_core.specs.Machine.{after}
+use Rattle.jb_core.specs.Machine.{after_event}
 use Rattle.jb_core.proofs.Runs.{sounds}
 use Rattle.jb_core.proofs.Wholes.{whole}
-use Rattle.jb_book.specs.Account.{Account, IsStart, taken_all, settled_to, failed_of, CanTake, Settles}
-use Rattle.jb_book.specs.Calls.{Call, Opened, Enqueued, Dropped, Took, TookNone, Settled, Failed, Shut, stops_of, out_of, settled_of, AreOfFirst, IsCutOf, Does, Called, handles_in, KeepsWhole}
+use Rattle.jb_book.specs.Account.{Account, IsNewBook, taken_all, settled_to, failed_of, CanTake, Settles}
+use Rattle.jb_book.specs.Calls.{Call, Opened, Enqueued, Dropped, Took, TookNone, Settled, Failed, Shut, stops_of, out_of, settled_of, AreOfFirst, IsCutOf, Does, CallsMake, handles_in, KeepsWhole}
 use Rattle.jb_book.specs.Shadow.{Shadow}
 use Rattle.jb_book.specs.Tied.{EveryRun}
 use Rattle.jb_book.proofs.Accounts.{taken-sound, settled-sound, failed-sound}
@@ -35,7 +35,7 @@ module _ (shape : Shape) (calls : List Call) (a : Account) (s : Stands shape cal
         same_shape = s.same_shape;
         sound = taken-sound a s.sound can;
         log = (event.Take bounds, Ok Plain) ∷ s.log;
-        machine = after s.machine (event.Take bounds);
+        machine = after_event s.machine (event.Take bounds);
         tied = tied-takes a s.log s.machine s.tied can bounds least;
         stops = s.stops;
         settled = s.settled;
@@ -71,7 +71,7 @@ module _ (shape : Shape) (calls : List Call) (a : Account) (s : Stands shape cal
             same_shape = s.same_shape;
             sound = settled-sound a s.sound past entries is;
             log = (event.Settle (length entries), Ok Plain) ∷ s.log;
-            machine = after s.machine (event.Settle (length entries));
+            machine = after_event s.machine (event.Settle (length entries));
             tied = tied-settles a s.log s.machine s.tied running past entries is (subst (λ gs. AreOfFirst gs entries) (sym s.out) are);
             stops = s.stops;
             settled = λ i. s.settled i ++ take (length entries) (s.out i);
@@ -104,7 +104,7 @@ module _ (shape : Shape) (calls : List Call) (a : Account) (s : Stands shape cal
         same_shape = s.same_shape;
         sound = failed-sound a s.sound;
         log = (event.Crash 0, Ok Plain) ∷ s.log;
-        machine = after s.machine (event.Crash 0);
+        machine = after_event s.machine (event.Crash 0);
         tied = tied-fails a s.log s.machine s.tied running;
         stops = s.stops;
         settled = append-nil s.machine.settled ∙ s.settled;
@@ -143,7 +143,7 @@ step any shape (Settled entries (Err wrong)) calls old new s does = subst (Stand
 step any shape Failed calls old new s does = subst (Stands shape _) (sym does) (call-failed shape calls old s)
 step any shape Shut calls old new s does = subst (Stands shape _) (sym does) (call-shut shape calls old s)
 
-begun : (shape : Shape) (usable : ℕ) (a : Account) → usable ≤ 2147483646 → IsStart shape usable a → Stands shape [] a
+begun : (shape : Shape) (usable : ℕ) (a : Account) → usable ≤ 2147483646 → IsNewBook shape usable a → Stands shape [] a
 begun shape usable a small start =
     let (m, tied) = tied-starts shape usable a start in
     let is = tied.ran in
@@ -161,7 +161,7 @@ begun shape usable a small start =
       trail = ap (map (handles_in [])) (sym start.trail);
     }
 
-stands : Vec Entry → (shape : Shape) (usable : ℕ) (calls : List Call) (a : Account) → usable ≤ 2147483646 → Called shape usable calls a → Stands shape calls a
+stands : Vec Entry → (shape : Shape) (usable : ℕ) (calls : List Call) (a : Account) → usable ≤ 2147483646 → CallsMake shape usable calls a → Stands shape calls a
 stands any shape usable [] a small called = begun shape usable a small called
 stands any shape usable (last ∷ earlier) a small (before, called, does) = step any shape last earlier before a (stands any shape usable earlier before small called) does
 

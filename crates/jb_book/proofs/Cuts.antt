@@ -11,7 +11,7 @@ use Rattle.jb_cost.specs.Cut.{RisesTo, EachFrom, piece_cost}
 use Rattle.jb_cost.proofs.Pieces.{piece-left, piece-none}
 use Rattle.jb_cost.proofs.Worst.{worst-bound}
 use Rattle.jb_plan.specs.Costs.{geometry_of, HasCut}
-use Rattle.jb_book.specs.Account.{Account, IsSound}
+use Rattle.jb_book.specs.Account.{Account, IsAccountSound}
 
 -- the k bounds after a, one by one
 abbrev singles : ℕ → ℕ → List ℕ
@@ -55,7 +55,7 @@ has-cut shape most is cs hs covers few = (
 )
 
 -- so the queue of a book has one
-pub cut-of : (a : Account) → IsSound a → a.aborted ≡ false → HasCut a.shape a.shadow.queue
+pub cut-of : (a : Account) → IsAccountSound a → a.aborted ≡ false → HasCut a.shape a.shadow.queue
 cut-of a sound running =
     let line = sound.running running in
     has-cut a.shape a.most sound.most (drop (a.shadow.taken - a.shadow.settled) a.shadow.credits) a.shadow.queue line.covered (All-drop (λ c. c ≤ a.most) (a.shadow.taken - a.shadow.settled) a.shadow.credits sound.few)

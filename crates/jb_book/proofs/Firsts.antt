@@ -1,5 +1,5 @@
 -- Images with a first part of the handles that a journal was given.
-use Rattle.std.proofs.Common.{◌≡◌, ℕ, ◌+◌, ◌<◌, ◌≤◌, None, List, [], ◌++◌, length, take, slice_index, sym, subst, arith}
+use Rattle.std.proofs.Common.{◌≡◌, ℕ, ◌+◌, ◌≤◌, List, [], ◌++◌, length, take, slice_index, sym, subst, arith}
 use Rattle.std.proofs.lemmas.List.{length-append, take-append-le}
 use Rattle.std.proofs.Math.Seq.{take-append-add, take-length}
 use mathlib.Core.List.{append-nil}
@@ -16,9 +16,7 @@ use Rattle.jb_deck.proofs.Stood.{Stood, stood-recovered}
 use Rattle.jb_book.specs.Origin.{Begun}
 use Rattle.jb_book.specs.Since.{HasFirst}
 use Rattle.jb_book.proofs.Bounds.{cut-high, cut-rise, cut-many}
-use Rattle.jb_recover.specs.Outcomes.{recovered, RecoversAs}
-use Rattle.jb_deck.specs.Opening.{open_refusal}
-use Rattle.jb_deck.proofs.Recovered.{interrupted-recovered, recovered-opens}
+use Rattle.jb_recover.specs.Outcomes.{recovered}
 
 module _ (b : Begun) where
   -- the image is recovered to the homes of the start with these handles
@@ -56,23 +54,6 @@ module _ (b : Begun) where
     number = is.number;
     recovered = subst (λ hs. Recovered is.next hs c) (sym (take-append-le is.many given more is.to)) is.recovered;
   }
-
-  -- what a recovery of such an image leaves, wherever it is interrupted, is one
-  pub first-interrupted : (given : List Stopped) (least : ℕ) (c left : Image) → HasFirst b given least c → RecoversAs b.size b.count c left → HasFirst b given least left
-  first-interrupted given least c left is goes = record {
-    many = is.many;
-    from = is.from;
-    to = is.to;
-    next = is.next;
-    number = is.number;
-    recovered = interrupted-recovered b.own is.next b.size b.count b.homes (take is.many given) c left is.recovered goes;
-  }
-
-  -- once it is recovered the journal can be opened, as long as there is a number for each handle and one more
-  pub first-opens : (given : List Stopped) (least : ℕ) (c : Image) → HasFirst b given least c → b.own.sequence + 1 + length given < 4294967295 → open_refusal b.size b.count (recovered b.size b.count c) ≡ None
-  first-opens given least c is few =
-      recovered-opens b.own is.next b.size b.count b.homes (take is.many given) c is.recovered
-      (let number = is.number in let to = is.to in omega (arith, number, to, few))
 
   -- ---- where the homes stand as the handles say, an image that follows with further ones
 

@@ -1,6 +1,5 @@
 -- Entries one after the other.
 use Rattle.std.proofs.Common.{◌≡◌, ℕ, zero, suc, ◌+◌, ◌<◌, ◌≤◌, ◌==◌, ◌&&◌, List, [], ◌∷◌, ◌++◌, length, drop, get_or, subst, sym, ap, refl, inl, inr, ◌∙◌, arith}
-use Rattle.std.proofs.Math.ListN.{drop_of_length-le}
 use Rattle.std.proofs.Math.Seq.{drop-cons}
 use Rattle.std.proofs.lemmas.Bool.Decides.{Decides-and, Decides-eqb}
 use Rattle.std.specs.Bool.{Decides}
@@ -46,15 +45,6 @@ module _ (es : List Entry) (i : ℕ) (e : Entry) (there : i < length es) (is : e
 
   pub least-entry : (least : ℕ) → least_after least (drop i es) ≡ least_after (e.number + 1) (drop (i + 1) es)
   least-entry least = ap (least_after least) rest-is
-
-pub at-end : (first least past : ℕ) (es : List Entry) (i : ℕ) → length es ≤ i → Follow first least past (drop i es) → first ≡ past
-at-end first least past es i over on = subst (Follow first least past) (drop_of_length-le es over) on
-
-pub from-end : (first least : ℕ) (es : List Entry) (i : ℕ) → length es ≤ i → Follow first least first (drop i es)
-from-end first least es i over = subst (Follow first least first) (sym (drop_of_length-le es over)) refl
-
-pub least-end : (least : ℕ) (es : List Entry) (i : ℕ) → length es ≤ i → least_after least (drop i es) ≡ least
-least-end least es i over = ap (least_after least) (drop_of_length-le es over)
 
 -- ---- the group of a ticket
 

@@ -1,9 +1,9 @@
 -- The front of a trail, and what is left once entries were taken from it.
-use Rattle.std.proofs.Common.{◌≡◌, ℕ, zero, suc, ◌+◌, ◌-◌, ◌<◌, ◌≤◌, Bool, if◌then◌else◌, List, [], ◌∷◌, length, drop, get_or, Some, slice_get, inl, inr, refl, sym, ap, subst, ◌∙◌, arith}
+use Rattle.std.proofs.Common.{◌≡◌, ℕ, zero, suc, ◌+◌, ◌-◌, ◌<◌, ◌≤◌, Bool, if◌then◌else◌, List, [], ◌∷◌, length, drop, Some, slice_get, inl, inr, refl, sym, ap, subst, ◌∙◌, arith}
 use Rattle.std.proofs.lemmas.Bool.{le-leb, lt-leb, cases_lt}
 use Rattle.jb_deck.specs.declared.done.Entry.{Entry}
 use Rattle.jb_deck.specs.Done.{Follow, least_after, start_of}
-use Rattle.jb_book.specs.Account.{Account, IsSound, last_start, shortened, trail_from}
+use Rattle.jb_book.specs.Account.{Account, IsAccountSound, last_start, shortened, trail_from}
 use Rattle.jb_book.proofs.Follows.{follow-length}
 
 -- ---- what is left
@@ -14,20 +14,6 @@ from-taken past e f es less = ap (λ (b : Bool). if b then trail_from past (f �
 
 from-kept : (past : ℕ) (e f : Entry) (es : List Entry) → past < e.past → trail_from past (e ∷ f ∷ es) ≡ e ∷ f ∷ es
 from-kept past e f es more = ap (λ (b : Bool). if b then trail_from past (f ∷ es) else e ∷ f ∷ es) (lt-leb e.past past more)
-
--- one entry more is taken
-pub front-more : (past : ℕ) (es : List Entry) (i : ℕ) (d : Entry) → suc i < length es → (get_or es i d).past ≤ past → trail_from past (drop i es) ≡ trail_from past (drop (suc i) es)
-front-more past [] i d there less = absurd (let h : ⊥ = omega (arith, there) in h)
-front-more past (e ∷ []) i d there less = absurd (let h : ⊥ = omega (arith, there) in h)
-front-more past (e ∷ f ∷ es) zero d there less = from-taken past e f es less
-front-more past (e ∷ f ∷ es) (suc i) d there less = front-more past (f ∷ es) i d (omega (arith, there)) less
-
--- the next one stays
-pub front-stays : (past : ℕ) (es : List Entry) (i : ℕ) (d : Entry) → suc i < length es → past < (get_or es i d).past → trail_from past (drop i es) ≡ drop i es
-front-stays past [] i d there more = absurd (let h : ⊥ = omega (arith, there) in h)
-front-stays past (e ∷ []) i d there more = absurd (let h : ⊥ = omega (arith, there) in h)
-front-stays past (e ∷ f ∷ es) zero d there more = from-kept past e f es more
-front-stays past (e ∷ f ∷ es) (suc i) d there more = front-stays past (f ∷ es) i d (omega (arith, there)) more
 
 -- the last one stays
 pub front-last : (past : ℕ) (es : List Entry) (i : ℕ) → length es ≤ suc i → trail_from past (drop i es) ≡ drop i es
@@ -64,7 +50,7 @@ from-least past least (e ∷ f ∷ es) = elim (cases_lt past e.past) [
   | inr less ↦ ap (least_after least) (from-taken past e f es less) ∙ from-least past least (f ∷ es)
 ]
 
-pub shortened-sound : (past : ℕ) (a : Account) → IsSound a → IsSound (shortened past a)
+pub shortened-sound : (past : ℕ) (a : Account) → IsAccountSound a → IsAccountSound (shortened past a)
 shortened-sound past a sound = record {
   most = sound.most;
   order = sound.order;

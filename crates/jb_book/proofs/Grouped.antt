@@ -16,21 +16,21 @@ use Rattle.jb_plan.specs.Costs.{geometry_of}
 use Rattle.jb_deck.specs.declared.done.Entry.{Entry}
 use Rattle.jb_deck.specs.Done.{Follow, start_of}
 use Rattle.jb_core.proofs.Accepted.{still-up}
-use Rattle.jb_book.specs.Account.{Account, IsSound, IsStart, InLine, touched_in}
+use Rattle.jb_book.specs.Account.{Account, IsAccountSound, IsNewBook, InLine, touched_in}
 use Rattle.jb_book.specs.Calls.{AreOfFirst, handles_in}
-use Rattle.jb_book.specs.Shadow.{Shadow, reserved}
+use Rattle.jb_book.specs.Shadow.{Shadow, reserved_in}
 use Rattle.jb_book.proofs.Follows.{follow-length}
 
 -- ---- the start
 
-pub started : (shape : Shape) (usable : ℕ) (a : Account) → usable ≤ 2147483646 → IsStart shape usable a → IsSound a
+pub started : (shape : Shape) (usable : ℕ) (a : Account) → usable ≤ 2147483646 → IsNewBook shape usable a → IsAccountSound a
 started shape usable a small start =
     let settled : a.shadow.settled ≡ 0 = ap (λ (s : Shadow). s.settled) start.shadow in
     let taken : a.shadow.taken ≡ 0 = ap (λ (s : Shadow). s.taken) start.shadow in
     let next : a.shadow.next ≡ 0 = ap (λ (s : Shadow). s.next) start.shadow in
     let seats : length a.shadow.seats ≡ 0 = ap (λ (s : Shadow). length s.seats) start.shadow in
     let sums : sum (values_of a.shadow.seats) ≡ 0 = ap (λ (s : Shadow). sum (values_of s.seats)) start.shadow in
-    let all : reserved a.shadow ≡ 0 = ap reserved start.shadow in
+    let all : reserved_in a.shadow ≡ 0 = ap reserved_in start.shadow in
     let touched : touched_in a.shadow.queue ≡ 0 = ap (λ (s : Shadow). touched_in s.queue) start.shadow in
     let granted = start.granted in
     let changes = start.changes in

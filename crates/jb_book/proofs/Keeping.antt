@@ -8,16 +8,16 @@ use Rattle.std.specs.Ordering.{nat_cmp}
 use Rattle.std.specs.BTreeMap.{IsOrdered}
 use Rattle.std.specs.Map.{values_of}
 use Rattle.jb_deck.specs.Done.{least_after}
-use Rattle.jb_book.specs.Account.{Account, IsSound}
-use Rattle.jb_book.specs.Book.{account_of, IsKept}
+use Rattle.jb_book.specs.Account.{Account, IsAccountSound}
+use Rattle.jb_book.specs.Book.{account_of, IsBookKept}
 use Rattle.jb_book.specs.Origin.{Begun}
 use Rattle.jb_book.specs.Origin.{AreStops}
 use Rattle.jb_book.specs.declared.book.Book.TheInside.{Inside}
 
-pub kept-by : {S : Type 0} (begun : Begun) (t : Inside S) (a : Account) → account_of t ≡ a → IsSound a → t.open_sum ≡ sum (values_of a.shadow.seats) → t.line_sum ≡ sum a.shadow.credits → t.least ≡ least_after 0 a.trail → t.least ≤ 2 ^ 32
-    → vec_len t.trail + (t.next - t.settled) ≤ vec_capacity t.trail → IsOrdered nat_cmp t.seats → AreStops begun a.shadow.queue → IsKept begun t
+pub kept-by : {S : Type 0} (begun : Begun) (t : Inside S) (a : Account) → account_of t ≡ a → IsAccountSound a → t.open_sum ≡ sum (values_of a.shadow.seats) → t.line_sum ≡ sum a.shadow.credits → t.least ≡ least_after 0 a.trail → t.least ≤ 2 ^ 32
+    → vec_len t.trail + (t.next - t.settled) ≤ vec_capacity t.trail → IsOrdered nat_cmp t.seats → AreStops begun a.shadow.queue → IsBookKept begun t
 kept-by begun t a is sound open_sum line_sum least narrow room ordered stops = record {
-  sound = subst IsSound (sym is) sound;
+  sound = subst IsAccountSound (sym is) sound;
   open_sum = open_sum ∙ ap (λ (b : Account). sum (values_of b.shadow.seats)) (sym is);
   line_sum = line_sum ∙ ap (λ (b : Account). sum b.shadow.credits) (sym is);
   least = least ∙ ap (λ (b : Account). least_after 0 b.trail) (sym is);

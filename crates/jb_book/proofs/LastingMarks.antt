@@ -19,7 +19,7 @@ use Rattle.jb_deck.specs.Done.{Follow, entries_of, past_after, start_of}
 use Rattle.jb_deck.specs.Gathering.{groups_in}
 use Rattle.jb_deck.specs.Reading.{AnswersRead, IsAsBefore}
 use Rattle.jb_deck.specs.Since.{deck_homes}
-use Rattle.jb_deck.specs.Taking.{CanTake, TakesTrail, oldest_number}
+use Rattle.jb_deck.specs.Taking.{MayTakeFirst, TakesTrail, oldest_number}
 use Rattle.jb_deck.specs.Trailing.{FollowsSome}
 use Rattle.jb_deck.specs.declared.batched.BatchFault.{BatchFault}
 use Rattle.jb_deck.specs.declared.batched.BatchFault.TheVariants as batch
@@ -202,7 +202,7 @@ module _ {D : Type 0} (G : Ghosts D) (b : Begun) (known less : Stopped → Type 
     leaves = λ known_start held c left. l.leaves known_start (subst G.honest disk held) c (subst (λ x. G.left_since x (G.moment m.disk) c) disk left);
   }
 
-  pub take-marked : (plain : (h : Stopped) → known h → b.stops h.words) (past : ℕ) (ms : List (OpenDeck D)) (old new : OpenDeck D) (r : Result (Vec Entry) AllocError) → Follow (start_of old.trail) 0 (past_after 0 old.trail) old.trail → IfOk r (λ taken. TakesTrail past old new taken.items) → OnErr r ((new ≡ old) × CanTake (oldest_number old) past old.trail) → Are known ms old → Are known ms new
+  pub take-marked : (plain : (h : Stopped) → known h → b.stops h.words) (past : ℕ) (ms : List (OpenDeck D)) (old new : OpenDeck D) (r : Result (Vec Entry) AllocError) → Follow (start_of old.trail) 0 (past_after 0 old.trail) old.trail → IfOk r (λ taken. TakesTrail past old new taken.items) → OnErr r ((new ≡ old) × MayTakeFirst (oldest_number old) past old.trail) → Are known ms old → Are known ms new
   take-marked plain past ms old new (Ok taken) tiles takes keeps is =
       let since = taken-since G b known plain past old new taken.items takes tiles is.since in
       record {

@@ -3,7 +3,7 @@ use Rattle.std.proofs.Common.{◌≡◌, ◌⊎◌, inl, inr, ℕ, zero, suc, �
 use Rattle.std.proofs.lemmas.Bool.{cases_lt}
 use Rattle.std.proofs.Math.Nat.{eq-or-lt_of_le}
 use Rattle.jb_cost.specs.Cut.{price, FitsCut, IsLeastCut, IsPrice}
-use Rattle.jb_plan.specs.Step.{Step, BestFrom, AreSteps, price_of, from_of}
+use Rattle.jb_plan.specs.Step.{LastGroup, BestFrom, AreSteps, price_of, from_of}
 use Rattle.jb_plan.proofs.Steps.{steps-start, steps-more, prices-steps}
 use Rattle.jb_plan.specs.Batch.{Gathered}
 use Rattle.jb_plan.specs.Costs.{cost_in, HasCut}
@@ -11,7 +11,7 @@ use Rattle.jb_book.specs.Calls.{IsCutOf}
 
 module _ (c : ℕ → ℕ → ℕ) (limit : ℕ) (ps : List (Option ℕ)) (end : ℕ) where
   -- one start more, which does not lead to the end
-  pass : (low : ℕ) → ((p : ℕ) → c low end ≤ limit → price ps low ≡ Some p → ⊥) → (best : Option Step) → BestFrom c limit ps (low + 1) end best → BestFrom c limit ps low end best
+  pass : (low : ℕ) → ((p : ℕ) → c low end ≤ limit → price ps low ≡ Some p → ⊥) → (best : Option LastGroup) → BestFrom c limit ps (low + 1) end best → BestFrom c limit ps low end best
   pass low never None tried = λ i p above below fits is. elim (eq-or-lt_of_le above) [
     | inl same ↦ never p (subst (λ k. c k end ≤ limit) (sym same) fits) (ap (price ps) same ∙ is)
     | inr less ↦ tried i p (omega (arith, less)) below fits is
@@ -36,7 +36,7 @@ module _ (c : ℕ → ℕ → ℕ) (limit : ℕ) (ps : List (Option ℕ)) (end :
         ap (λ k. k + c i end) one ∙ ap (λ k. q + c k end) (sym same)
 
     -- it is the best one
-    found : ((i p : ℕ) → low + 1 ≤ i → i < end → c i end ≤ limit → price ps i ≡ Some p → q + c low end ≤ p + c i end) → (best : Option Step) × BestFrom c limit ps low end best
+    found : ((i p : ℕ) → low + 1 ≤ i → i < end → c i end ≤ limit → price ps i ≡ Some p → q + c low end ≤ p + c i end) → (best : Option LastGroup) × BestFrom c limit ps low end best
     found least = (
       Some (record { from = low; price = q + c low end }),
       record {
@@ -50,7 +50,7 @@ module _ (c : ℕ → ℕ → ℕ) (limit : ℕ) (ps : List (Option ℕ)) (end :
     )
 
     -- or another one is
-    one-more : (best : Option Step) → BestFrom c limit ps (low + 1) end best → (best : Option Step) × BestFrom c limit ps low end best
+    one-more : (best : Option LastGroup) → BestFrom c limit ps (low + 1) end best → (best : Option LastGroup) × BestFrom c limit ps low end best
     one-more None tried = found (λ i p above below fits is. absurd (tried i p above below fits is))
     one-more (Some s) tried = elim (cases_lt s.price (q + c low end)) [
       | inl less ↦ (
@@ -71,11 +71,11 @@ module _ (c : ℕ → ℕ → ℕ) (limit : ℕ) (ps : List (Option ℕ)) (end :
     ]
 
   -- the best start of k, from low on
-  best-from : (k low : ℕ) → low + k ≡ end → (best : Option Step) × BestFrom c limit ps low end best
+  best-from : (k low : ℕ) → low + k ≡ end → (best : Option LastGroup) × BestFrom c limit ps low end best
   best-from zero low all = (None, λ i p above below fits is. omega (arith, all, above, below))
   best-from (suc k) low all = at (cases_lt limit (c low end)) (price ps low) refl (best-from k (low + 1) (omega (arith, all)))
     where
-      at : (limit < c low end) ⊎ (c low end ≤ limit) → (found : Option ℕ) → price ps low ≡ found → (best : Option Step) × BestFrom c limit ps (low + 1) end best → (best : Option Step) × BestFrom c limit ps low end best
+      at : (limit < c low end) ⊎ (c low end ≤ limit) → (found : Option ℕ) → price ps low ≡ found → (best : Option LastGroup) × BestFrom c limit ps (low + 1) end best → (best : Option LastGroup) × BestFrom c limit ps low end best
       at (inl more) found is rest = (rest.0, pass low (λ p fits there. omega (arith, more, fits)) rest.0 rest.1)
       at (inr fits) None is rest = (rest.0, pass low (λ p fit there. let both : None ≡ Some p = sym is ∙ there in (let h : ⊥ = cc in h)) rest.0 rest.1)
       at (inr fits) (Some q) is rest = one-more low q (omega (arith, all)) fits is rest.0 rest.1

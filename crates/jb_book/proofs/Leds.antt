@@ -16,7 +16,7 @@ use Rattle.jb_handle.specs.Word.{WordMap}
 use Rattle.jb_cost.specs.Credits.{IsMost}
 use Rattle.jb_plan.specs.Costs.{geometry_of}
 use Rattle.jb_board.proofs.Placed.{placed_on}
-use Rattle.jb_book.specs.Account.{Account, IsStart, IsSound, granted_to, dropped_of, queued, taken_all, settled_to, failed_of, shortened, trail_from, refusal, CanStop, CanTake, Settles}
+use Rattle.jb_book.specs.Account.{Account, IsNewBook, IsAccountSound, granted_to, dropped_of, queued, taken_all, settled_to, failed_of, shortened, trail_from, begin_refusal, CanStop, CanTake, Settles}
 use Rattle.jb_book.specs.Calls.{Opened, Enqueued, Dropped, Took, Settled, Failed, Shut, stops_of, out_of, AreOfFirst, IsCutOf}
 use Rattle.jb_book.specs.Led.{IsInHistory, with_trail, Led, AreCut, IsLed}
 use Rattle.jb_cost.proofs.Joined.{cut-joined}
@@ -29,7 +29,7 @@ use Rattle.jb_book.proofs.Remains.{least-same, none-are, none-out, none-pieces, 
 
 -- ---- the start
 
-pub led_start : (shape : Shape) (usable : ℕ) (a : Account) → IsStart shape usable a → IsLed [] a
+pub led_start : (shape : Shape) (usable : ℕ) (a : Account) → IsNewBook shape usable a → IsLed [] a
 led_start shape usable a start =
     let settled : a.shadow.settled ≡ 0 = ap (λ s. s.settled) start.shadow in
     let taken : a.shadow.taken ≡ 0 = ap (λ s. s.taken) start.shadow in
@@ -61,7 +61,7 @@ led_start shape usable a start =
 -- ---- the calls
 
 module _ (log : List WordMap) (a : Account) (is : IsLed log a) where
-  pub led-opened : (seat credits : ℕ) → refusal a seat credits ≡ None → IsLed log (granted_to seat credits a)
+  pub led-opened : (seat credits : ℕ) → begin_refusal a seat credits ≡ None → IsLed log (granted_to seat credits a)
   led-opened seat credits none = record {
     some = λ up. let s = is.some up in record { handles = s.handles; cut = s.cut; are = s.are };
     led = λ hs cut p. (let l = is.led hs cut p in record {
@@ -132,7 +132,7 @@ module _ (log : List WordMap) (a : Account) (is : IsLed log a) where
     });
   }
 
-  pub led-stopped : IsSound a → (seat : ℕ) (ws : WordMap) → CanStop a seat ws → length log ≡ a.shadow.next → IsLed (log ++ ws ∷ []) (queued seat ws a)
+  pub led-stopped : IsAccountSound a → (seat : ℕ) (ws : WordMap) → CanStop a seat ws → length log ≡ a.shadow.next → IsLed (log ++ ws ∷ []) (queued seat ws a)
   led-stopped sound seat ws can long =
       let within = sound.within in
       record {
@@ -166,7 +166,7 @@ module _ (log : List WordMap) (a : Account) (is : IsLed log a) where
             });
       }
 
-  pub led-taken : IsSound a → CanTake a → All (IsInHistory log) a.shadow.queue → HasCut a.shape a.shadow.queue → IsLed log (taken_all a)
+  pub led-taken : IsAccountSound a → CanTake a → All (IsInHistory log) a.shadow.queue → HasCut a.shape a.shadow.queue → IsLed log (taken_all a)
   led-taken sound can recorded cuts =
       let free = can.free in
       let tickets : TicketsFrom a.shadow.settled a.shadow.queue = subst (λ n. TicketsFrom n a.shadow.queue) free (sound.running can.running).tickets in
@@ -197,7 +197,7 @@ module _ (log : List WordMap) (a : Account) (is : IsLed log a) where
     settles-whole : (l : Led log a hs cut) → Settles (with_trail l.full a) past entries
     settles-whole l = record { follow = subst (λ n. Follow a.shadow.settled n past entries) (least-same a.trail l.full l.left) settles.follow; within = settles.within }
 
-    of-out : IsSound a → (b : Bool) → a.aborted ≡ b → (l : Led log a hs cut) → AreOfFirst (out_of l.calls) entries
+    of-out : IsAccountSound a → (b : Bool) → a.aborted ≡ b → (l : Led log a hs cut) → AreOfFirst (out_of l.calls) entries
     of-out sound false up l = subst (λ gs. AreOfFirst gs entries) (sym (l.out up)) first
     of-out sound true fell l =
         let gone = (sound.failed fell).taken in
@@ -219,7 +219,7 @@ module _ (log : List WordMap) (a : Account) (is : IsLed log a) where
         let total : length (joined (pieces cut hs)) ≡ length hs = ap length (cut-joined cut hs are.1.fitting.cut) in
         none-filled (drop (length entries) (pieces cut hs)) filled (omega (arith, all, total, upto, number, whole)) ∙ sym (none-pieces hs' cut' none are'.1.fitting.cut)
 
-    pub led-settled : IsSound a → past ≡ a.shadow.taken → IsLed log (settled_to past entries a)
+    pub led-settled : IsAccountSound a → past ≡ a.shadow.taken → IsLed log (settled_to past entries a)
     led-settled sound whole =
         let long = follow-length a.shadow.settled _ past entries settles.follow in
         record {
@@ -235,7 +235,7 @@ module _ (log : List WordMap) (a : Account) (is : IsLed log a) where
         }
 
     -- settled in part, and failed under the same lock
-    pub led-settled-last : IsSound a → IsLed log (failed_of (settled_to past entries a))
+    pub led-settled-last : IsAccountSound a → IsLed log (failed_of (settled_to past entries a))
     led-settled-last sound = record {
       some = λ up. still-up true refl up;
       led = λ hs' cut' p. (let l = is.led hs cut (λ _. are) in record {

@@ -22,17 +22,17 @@ use Rattle.jb_core.specs.declared.event.Event.{Event}
 use Rattle.jb_core.specs.declared.event.Event.TheVariants.{Open, Touch, Stop, Abandon, Take, Settle, Checkpoint, Crash, Restart}
 use Rattle.jb_core.specs.Line.{count}
 use Rattle.jb_core.specs.Lives.{Log}
-use Rattle.jb_core.specs.Machine.{Machine, reserved, after}
+use Rattle.jb_core.specs.Machine.{Machine, reserved, after_event}
 use Rattle.jb_core.specs.Ran.{Ran}
 use Rattle.jb_book.specs.Calls.{AreOfFirst}
 use Rattle.jb_book.specs.Events.{granted_in, shadow_of}
-use Rattle.jb_book.specs.Shadow.{Shadow, credits_at, begun, dropped, stopped, took, settled_by, lost, crashed}
+use Rattle.jb_book.specs.Shadow.{Shadow}
 use Rattle.jb_book.specs.Shadow as shadow
 use Rattle.jb_book.specs.Tied.{HasHandle}
 
 -- ---- the limits of a machine
 
-after-limits : (m : Machine) (e : Event) → ((after m e).shape ≡ m.shape) × ((after m e).geometry ≡ m.geometry)
+after-limits : (m : Machine) (e : Event) → ((after_event m e).shape ≡ m.shape) × ((after_event m e).geometry ≡ m.geometry)
 after-limits m (Open seat credits) = (refl, refl)
 after-limits m (Touch seat op) = (refl, refl)
 after-limits m (Stop seat) = (refl, refl)
@@ -72,7 +72,7 @@ seats-sum (e ∷ es) =
     let rest = seats-sum es in
     omega (arith, these, those, rest)
 
-pub same-reserved : (m : Machine) → shadow.reserved (shadow_of m) ≡ reserved m
+pub same-reserved : (m : Machine) → shadow.reserved_in (shadow_of m) ≡ reserved m
 same-reserved m = ap (λ n. n + sum m.credits) (seats-sum m.handles)
 
 pub no-handle : (found : Option Held) → option_map (λ (h : Held). h.credits) found ≡ None → found ≡ None

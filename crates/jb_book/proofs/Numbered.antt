@@ -1,7 +1,6 @@
 -- The entries of a trail have consecutive numbers.
-use Rattle.std.proofs.Common.{◌≡◌, ℕ, zero, suc, ◌+◌, ◌<◌, ◌≤◌, List, [], ◌∷◌, ◌++◌, length, take, refl, sym, ap, subst, ◌∙◌, arith}
-use Rattle.std.proofs.lemmas.List.{length-append}
-use Rattle.jb_deck.specs.Done.{Follow, past_after, start_of}
+use Rattle.std.proofs.Common.{◌≡◌, ℕ, zero, suc, ◌+◌, ◌≤◌, List, [], ◌∷◌, ◌++◌, length, take, refl, ap, subst, arith}
+use Rattle.jb_deck.specs.Done.{Follow, start_of}
 use Rattle.jb_deck.specs.Gathering.{entries_for, entries_from}
 use Rattle.jb_deck.specs.Taking.{StopsAt}
 use Rattle.jb_deck.specs.declared.done.Entry.{Entry}

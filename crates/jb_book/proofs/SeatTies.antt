@@ -19,11 +19,11 @@ use Rattle.jb_plan.specs.Costs.{geometry_of}
 use Rattle.jb_core.specs.declared.event.Event.TheVariants.{Open, Stop, Abandon}
 use Rattle.jb_core.specs.declared.event.Reply.TheVariants.{Plain, Ticket}
 use Rattle.jb_core.specs.Lives.{Log}
-use Rattle.jb_core.specs.Machine.{Machine, handle_at, held_at, reserved, is_full, refusal, after}
+use Rattle.jb_core.specs.Machine.{Machine, handle_at, held_at, reserved, is_full, event_refusal, after_event}
 use Rattle.jb_core.proofs.Accepted.{still-up, there-at}
 use Rattle.jb_core.proofs.Runs.{sounds}
 use Rattle.jb_core.proofs.Sounds.{granted-at}
-use Rattle.jb_book.specs.Account.{Account, IsSound as IsSoundBook, IsStart as IsStartBook, granted_to, dropped_of, queued, CanStop}
+use Rattle.jb_book.specs.Account.{Account, IsAccountSound, IsNewBook, granted_to, dropped_of, queued, CanStop}
 use Rattle.jb_book.specs.Account as book
 use Rattle.jb_book.specs.Events.{granted_in, shadow_of}
 use Rattle.jb_book.specs.Shadow.{Shadow, credits_at, begun, dropped, stopped}
@@ -53,7 +53,7 @@ begun_as shape geometry most = record {
   credits = [];
 }
 
-pub tied-starts : (shape : Shape) (usable : ℕ) (a : Account) → IsStartBook shape usable a → TiedBy a []
+pub tied-starts : (shape : Shape) (usable : ℕ) (a : Account) → IsNewBook shape usable a → TiedBy a []
 tied-starts shape usable a start =
     let m = begun_as a.shape (geometry_of a.shape) a.most in (
       m,
@@ -108,7 +108,7 @@ module _ (a : Account) (log : Log) (m : Machine) (t : Tied a log m) where
         let shaped : h.shape ≡ a.shape = granted.same_shape ∙ lim.same_shape in
         is ∙ ap Some (λ i. record { credits = same i; shape = shaped i; words = untouched i })
 
-  pub tied-opens : IsSoundBook a → (seat credits : ℕ) → book.refusal a seat credits ≡ None → Tied (granted_to seat credits a) ((Open seat credits, Ok Plain) ∷ log) (after m (Open seat credits))
+  pub tied-opens : IsAccountSound a → (seat credits : ℕ) → book.begin_refusal a seat credits ≡ None → Tied (granted_to seat credits a) ((Open seat credits, Ok Plain) ∷ log) (after_event m (Open seat credits))
   tied-opens sound seat credits free_at =
       let (running, shut, free, few, room, left, grants) = passed a seat credits free_at in
       let lim = limits a.shape log m t.ran in
@@ -121,13 +121,13 @@ module _ (a : Account) (log : Log) (m : Machine) (t : Tied a log m) where
       let most = own.most.greatest a.most costs in
       let many : nat_lt m.most credits ≡ false = grind (arith, nat_tests) in
       let small = sound.small in
-      let sums : reserved m ≡ shadow.reserved a.shadow = sym (same-reserved m) ∙ ap shadow.reserved same in
+      let sums : reserved m ≡ shadow.reserved_in a.shadow = sym (same-reserved m) ∙ ap shadow.reserved_in same in
       let over : nat_lt 2147483646 (reserved m + credits) ≡ false = (let le : reserved m + credits ≤ 2147483646 = omega (arith, sums, room, small) in grind (arith, nat_tests)) in
       let seats : length m.handles ≡ length a.shadow.seats = sym (length-map m.handles granted_in) ∙ ap (λ (s : Shadow). length s.seats) same in
       let next : m.next ≡ a.shadow.next = ap (λ (s : Shadow). s.next) same in
       let late : nat_le (2 ^ 61) (m.next + length m.handles) ≡ false = (let lt : m.next + length m.handles < 2 ^ 61 = omega (arith, seats, next, left) in grind (arith, nat_tests)) in
       let full : is_full m credits ≡ false = rw (over, late) refl in
-      let granted : refusal m (Open seat credits) ≡ None = rw (up, none, many, full) refl in
+      let granted : event_refusal m (Open seat credits) ≡ None = rw (up, none, many, full) refl in
       record {
         ran = (m, t.ran, (granted, tt, refl, refl));
         accepted = t.accepted;
@@ -138,11 +138,11 @@ module _ (a : Account) (log : Log) (m : Machine) (t : Tied a log m) where
         failed = λ is. still-up a.aborted is running;
       }
 
-  pub tied-drops : a.aborted ≡ false → (seat credits : ℕ) → credits_at a.shadow seat ≡ Some credits → Tied (dropped_of seat a) ((Abandon seat, Ok Plain) ∷ log) (after m (Abandon seat))
+  pub tied-drops : a.aborted ≡ false → (seat credits : ℕ) → credits_at a.shadow seat ≡ Some credits → Tied (dropped_of seat a) ((Abandon seat, Ok Plain) ∷ log) (after_event m (Abandon seat))
   tied-drops running seat credits listed =
       let up = tied-up running in
       let there = (some-at running seat credits listed).1 in
-      let granted : refusal m (Abandon seat) ≡ None = rw (up, there) refl in
+      let granted : event_refusal m (Abandon seat) ≡ None = rw (up, there) refl in
       record {
         ran = (m, t.ran, (granted, tt, refl, refl));
         accepted = t.accepted;
@@ -184,10 +184,10 @@ module _ (a : Account) (log : Log) (m : Machine) (t : Tied a log m) where
       let (n, u) = touched a.shape log m seat credits t.ran t.accepted (tied-up running) (open-at running seat credits is.listed) (words.entries ws) (omega (arith, within, size)) (entries-fit a.shape ws is.fits) in
       let still : n.up ≡ true = ap (λ (k : Machine). k.up) u.same ∙ tied-up running in
       let same : shadow_of n ≡ a.shadow = u.shadow ∙ tied-shadow running in
-      let granted : refusal n (Stop seat) ≡ None = rw (still, u.there) refl in
+      let granted : event_refusal n (Stop seat) ≡ None = rw (still, u.there) refl in
       let has : (held_at n seat).words ≡ ws = ap (λ (h : Held). h.words) (there-at n seat _ u.there) ∙ words-all ws in
       let ticket : a.shadow.next ≡ n.next = ap (λ (s : Shadow). s.next) (sym same) in (
-        after n (Stop seat),
+        after_event n (Stop seat),
         record {
           ran = (n, u.ran, (granted, tt, refl, ap Ticket ticket));
           accepted = u.accepted;

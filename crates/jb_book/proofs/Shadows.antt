@@ -8,7 +8,7 @@ use Rattle.std.specs.BTreeMap.{insert_entry, is_at}
 use Rattle.std.specs.Map.{lookup, set_value, remove_entry}
 use Rattle.std.specs.FinMap as map_of
 use Rattle.jb_handle.specs.declared.shape.Shape.{Shape}
-use Rattle.jb_handle.specs.Held.{Held, held, first_of}
+use Rattle.jb_handle.specs.Held.{Held, held}
 use Rattle.jb_handle.specs.Held as handle
 use Rattle.jb_cost.specs.Pieces.{joined, pieces}
 use Rattle.jb_cost.proofs.Joined.{joined-append, cut-joined}
@@ -19,9 +19,9 @@ use Rattle.jb_core.specs.declared.event.CoreFault.{CoreFault}
 use Rattle.jb_core.specs.declared.event.CoreFault.TheVariants.{NoHandle}
 use Rattle.jb_core.specs.Line.{count}
 use Rattle.jb_core.specs.Lives.{settled_now}
-use Rattle.jb_core.specs.Machine.{Machine, handle_at, held_at, refusal, after}
-use Rattle.jb_core.specs.Sound.{IsSound}
-use Rattle.jb_core.specs.Steps.{Steps, IsLeast}
+use Rattle.jb_core.specs.Machine.{Machine, handle_at, held_at, event_refusal, after_event}
+use Rattle.jb_core.specs.Sound.{IsMachineSound}
+use Rattle.jb_core.specs.Steps.{MachineSteps, IsLeast}
 use Rattle.jb_core.proofs.Accepted.{found-some, first-false, none-taken, accepted, restarted, there-at}
 use Rattle.jb_core.proofs.Groups.{more-settled}
 use Rattle.jb_book.specs.Events.{granted_in, shadow_of, after_shadow, StepsShadow}
@@ -73,12 +73,12 @@ found-credits shape (Some h) = refl
 pub count-parts : {A : Type 0} (n : ℕ) (gs : List (List A)) → length (joined (take n gs)) + length (joined (drop n gs)) ≡ length (joined gs)
 count-parts n gs = sym (length-append (joined (take n gs)) (joined (drop n gs))) ∙ ap length (sym (joined-append (take n gs) (drop n gs)) ∙ ap joined (take-append-drop n gs))
 
-settled-count : (m : Machine) → IsSound m → (n : ℕ) → length (joined (drop m.earlier (m.settled ++ take n m.taken))) ≡ length (settled_now m) + count (take n m.taken)
+settled-count : (m : Machine) → IsMachineSound m → (n : ℕ) → length (joined (drop m.earlier (m.settled ++ take n m.taken))) ≡ length (settled_now m) + count (take n m.taken)
 settled-count m sound n = ap length (more-settled m sound.lives n) ∙ length-append (settled_now m) (joined (take n m.taken))
 
 -- ---- the events
 
-pub shadowed : (m : Machine) → IsSound m → (e : Event) → refusal m e ≡ None → IsLeast m e → shadow_of (after m e) ≡ after_shadow m e (shadow_of m)
+pub shadowed : (m : Machine) → IsMachineSound m → (e : Event) → event_refusal m e ≡ None → IsLeast m e → shadow_of (after_event m e) ≡ after_shadow m e (shadow_of m)
 shadowed m sound (Open seat credits) none least = ap (λ es. record (shadow_of m) { seats = es }) (map-insert m.handles seat (held credits m.shape map_of.empty))
 shadowed m sound (Touch seat op) none least =
     let is = accepted m (Touch seat op) refl none in
@@ -89,7 +89,7 @@ shadowed m sound (Stop seat) none least =
     sym (ap (λ found. unwrap_or found 0) (lookup-map (is_at (nat_cmp seat)) m.handles) ∙ found-credits m.shape (handle_at m seat)) in
     λ i. record {
       seats = map-remove (is_at (nat_cmp seat)) m.handles i;
-      queue = (after m (Stop seat)).queue;
+      queue = (after_event m (Stop seat)).queue;
       credits = m.credits ++ credits i ∷ [];
       settled = length (settled_now m);
       taken = length (settled_now m) + count m.taken;
@@ -107,17 +107,17 @@ shadowed m sound (Settle n) none least =
     let parts = count-parts n m.taken in
     let done = settled-count m sound n in
     let same : length (joined (drop m.earlier (m.settled ++ take n m.taken))) + count (drop n m.taken) ≡ length (settled_now m) + count m.taken = omega (arith, parts, done) in
-    λ i. record (shadow_of (after m (Settle n))) { settled = done i; taken = same i }
+    λ i. record (shadow_of (after_event m (Settle n))) { settled = done i; taken = same i }
 shadowed m sound Checkpoint none least = refl
 shadowed m sound (Crash n) none least =
     let done = settled-count m sound n in
     let same : length (joined (drop m.earlier (m.settled ++ take n m.taken))) + 0 ≡ length (settled_now m) + count (take n m.taken) = omega (arith, done) in
-    λ i. record (shadow_of (after m (Crash n))) { settled = done i; taken = same i }
+    λ i. record (shadow_of (after_event m (Crash n))) { settled = done i; taken = same i }
 shadowed m sound Restart none least =
     let bare = sound.down (restarted m none) in
     rw (drop-length m.settled, bare.handles, bare.taken, bare.queue, bare.credits) refl
 
 -- so does a step
-pub stepped : (e : Event) (m n : Machine) (answer : Result Reply CoreFault) → IsSound m → Steps e m answer n → StepsShadow e m answer n
+pub stepped : (e : Event) (m n : Machine) (answer : Result Reply CoreFault) → IsMachineSound m → MachineSteps e m answer n → StepsShadow e m answer n
 stepped e m n (Ok reply) sound step = ap shadow_of step.2 ∙ shadowed m sound e step.0 step.1
 stepped e m n (Err fault) sound step = ap shadow_of step.1

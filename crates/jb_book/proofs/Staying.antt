@@ -1,7 +1,6 @@
 -- What follows for a ticket that some mark has shown: a later crash leaves its handle, and a later read sees it.
-use Rattle.std.proofs.Common.{◌≡◌, ◌⊎◌, ℕ, zero, suc, ◌+◌, ◌<◌, ◌≤◌, List, [], ◌∷◌, length, All, Option, Some, None, get_or, slice_get, inl, inr, ⊎_elim, ap, sym, subst, ◌∙◌, arith}
+use Rattle.std.proofs.Common.{◌≡◌, ℕ, zero, suc, ◌+◌, ◌<◌, ◌≤◌, List, [], ◌∷◌, length, All, Option, Some, None, get_or, slice_get, inl, inr, ap, sym, subst, ◌∙◌, arith}
 use Rattle.std.proofs.lemmas.Option.{get_or_from_slice_get, slice_get-get_or, slice_get_within}
-use mathlib.Core.List.{IsPrefix}
 use Rattle.jb_disk.specs.declared.disk.Disk.{Ghosts}
 use Rattle.jb_handle.specs.Tickets.{TicketsFrom}
 use Rattle.jb_handle.specs.Word.{WordMap}
@@ -10,11 +9,8 @@ use Rattle.jb_board.proofs.Placed.{placed_on}
 use Rattle.jb_board.specs.HistoryRule.{StandsIn}
 use Rattle.jb_deck.specs.Deck.{OpenDeck}
 use Rattle.jb_deck.specs.Done.{past_after}
-use Rattle.jb_book.specs.Marks.{HasEntry, IsMarked, Shows, ShowsAfter}
 use Rattle.jb_book.specs.Origin.{Begun}
-use Rattle.jb_book.specs.History.{IsStop}
-use Rattle.jb_book.specs.SinceMark.{HasSettledOf, IsGiven, IsShown, Lasts, ShownIsGiven, ShownStays, Within}
-use Rattle.jb_book.specs.Since.{HasFirst, IsSinceOf}
+use Rattle.jb_book.specs.SinceMark.{HasSettledOf, IsShown, Lasts, ShownIsGiven, ShownStays, Within}
 
 -- ---- the mark that shows a ticket
 

@@ -9,7 +9,7 @@ use Rattle.jb_disk.specs.declared.disk.Disk.{Ghosts}
 use Rattle.jb_handle.specs.declared.stopped.Stopped.{Stopped}
 use Rattle.jb_deck.specs.Deck.{OpenDeck}
 use Rattle.jb_deck.specs.Done.{Follow, past_after, start_of}
-use Rattle.jb_deck.specs.Taking.{CanTake, TakesTrail, oldest_number}
+use Rattle.jb_deck.specs.Taking.{MayTakeFirst, TakesTrail, oldest_number}
 use Rattle.jb_deck.specs.declared.done.Entry.{Entry}
 use Rattle.jb_deck.proofs.Takings.{next-rest}
 use Rattle.jb_book.specs.Journal.{GivesTrail}
@@ -102,11 +102,7 @@ module _ {D : Type 0} (G : Ghosts D) (b : Begun) (known : Stopped → Type 0) (p
   Takes r = IfOk r (λ taken. TakesTrail past old new taken.items)
 
   abbrev Keeps : Result (Vec Entry) AllocError → Type 0
-  Keeps r = OnErr r ((new ≡ old) × CanTake (oldest_number old) past old.trail)
-
-  pub take-since : (r : Result (Vec Entry) AllocError) → Tiles → Takes r → Keeps r → Is old → Is new
-  take-since (Ok taken) tiles takes keeps is = taken-since taken.items takes tiles is
-  take-since (Err memory) tiles takes keeps is = subst (λ (d : OpenDeck D). Is d) (sym keeps.0) is
+  Keeps r = OnErr r ((new ≡ old) × MayTakeFirst (oldest_number old) past old.trail)
 
   pub gives-trail : (r : Result (Vec Entry) AllocError) → Tiles → Takes r → Keeps r → Is old → GivesTrail G b r
   unfolding taken-since plain-is

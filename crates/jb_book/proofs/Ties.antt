@@ -13,11 +13,11 @@ use Rattle.jb_core.specs.declared.event.Event.TheVariants.{Take, Settle, Crash}
 use Rattle.jb_core.specs.declared.event.Reply.TheVariants.{Plain}
 use Rattle.jb_core.specs.Line.{count}
 use Rattle.jb_core.specs.Lives.{Log, settled_now}
-use Rattle.jb_core.specs.Machine.{Machine, refusal, after}
+use Rattle.jb_core.specs.Machine.{Machine, event_refusal, after_event}
 use Rattle.jb_core.specs.Steps.{IsLeastOf}
 use Rattle.jb_core.proofs.Accepted.{none-left, still-up}
 use Rattle.jb_core.proofs.Runs.{sounds}
-use Rattle.jb_book.specs.Account.{Account, IsSound as IsSoundBook, taken_all, settled_to, failed_of, CanTake, Settles}
+use Rattle.jb_book.specs.Account.{Account, IsAccountSound, taken_all, settled_to, failed_of, CanTake, Settles}
 use Rattle.jb_book.specs.Calls.{AreOfFirst, IsCutOf}
 use Rattle.jb_book.specs.Shadow.{Shadow, took, settled_by, crashed}
 use Rattle.jb_book.specs.Shadow as shadow
@@ -30,7 +30,7 @@ use Rattle.jb_book.proofs.SeatTies.{tied-drops, tied-drops-none, tied-opens, tie
 -- ---- the calls
 
 module _ (a : Account) (log : Log) (m : Machine) (t : Tied a log m) where
-  pub tied-takes : CanTake a → (bounds : Vec ℕ) → IsCutOf (gathered a.shadow.taken a.shadow.queue a.shape) bounds.items → Tied (taken_all a) ((Take bounds, Ok Plain) ∷ log) (after m (Take bounds))
+  pub tied-takes : CanTake a → (bounds : Vec ℕ) → IsCutOf (gathered a.shadow.taken a.shadow.queue a.shape) bounds.items → Tied (taken_all a) ((Take bounds, Ok Plain) ∷ log) (after_event m (Take bounds))
   tied-takes can bounds cut =
       let lim = limits a.shape log m t.ran in
       let own = sounds a.shape log m t.ran in
@@ -45,7 +45,7 @@ module _ (a : Account) (log : Log) (m : Machine) (t : Tied a log m) where
       let settled : length (settled_now m) ≡ a.shadow.settled = ap (λ (s : Shadow). s.settled) same in
       let none = none-filled m.taken t.filled (omega (arith, taken, settled, free)) in
       let out : not (length m.taken == 0) ≡ false = rw none refl in
-      let granted : refusal m (Take bounds) ≡ None = rw (up, some, out) refl in
+      let granted : event_refusal m (Take bounds) ≡ None = rw (up, some, out) refl in
       let least : IsLeastOf m bounds.items =
       subst (λ (s : Shape). IsLeastCut (piece_cost m.geometry m.queue) s.limit (length m.queue) bounds.items) (sym lim.same_shape)
       (subst (λ c. IsLeastCut c a.shape.limit (length m.queue) bounds.items) (sym (same-costs a.shape m.geometry m.queue lim.tags lim.entries))
@@ -61,7 +61,7 @@ module _ (a : Account) (log : Log) (m : Machine) (t : Tied a log m) where
       }
 
   pub tied-settles : a.aborted ≡ false → (past : ℕ) (entries : List Entry) → Settles a past entries → AreOfFirst m.taken entries
-      → Tied (settled_to past entries a) ((Settle (length entries), Ok Plain) ∷ log) (after m (Settle (length entries)))
+      → Tied (settled_to past entries a) ((Settle (length entries), Ok Plain) ∷ log) (after_event m (Settle (length entries)))
   tied-settles running past entries is are =
       let own = sounds a.shape log m t.ran in
       let up = tied-up a log m t running in
@@ -70,7 +70,7 @@ module _ (a : Account) (log : Log) (m : Machine) (t : Tied a log m) where
       let few = both.0 in
       let upto = both.1 in
       let enough : nat_lt (length m.taken) (length entries) ≡ false = grind (arith, nat_tests) in
-      let granted : refusal m (Settle (length entries)) ≡ None = rw (up, enough) refl in
+      let granted : event_refusal m (Settle (length entries)) ≡ None = rw (up, enough) refl in
       let handles : count (take (length entries) m.taken) ≡ past - a.shadow.settled = omega (arith, upto) in
       record {
         ran = (m, t.ran, (granted, tt, refl, refl));
@@ -82,7 +82,7 @@ module _ (a : Account) (log : Log) (m : Machine) (t : Tied a log m) where
         failed = λ fell. still-up a.aborted fell running;
       }
 
-  pub tied-settles-none : IsSoundBook a → a.aborted ≡ true → (past : ℕ) (entries : List Entry) → Settles a past entries → (entries ≡ []) × Tied (settled_to past entries a) log m
+  pub tied-settles-none : IsAccountSound a → a.aborted ≡ true → (past : ℕ) (entries : List Entry) → Settles a past entries → (entries ≡ []) × Tied (settled_to past entries a) log m
   tied-settles-none sound fell past entries is =
       let gone = (sound.failed fell).taken in
       let long = follow-length a.shadow.settled _ past entries is.follow in
@@ -100,11 +100,11 @@ module _ (a : Account) (log : Log) (m : Machine) (t : Tied a log m) where
         },
       )
 
-  pub tied-fails : a.aborted ≡ false → Tied (failed_of a) ((Crash 0, Ok Plain) ∷ log) (after m (Crash 0))
+  pub tied-fails : a.aborted ≡ false → Tied (failed_of a) ((Crash 0, Ok Plain) ∷ log) (after_event m (Crash 0))
   tied-fails running =
       let up = tied-up a log m t running in
       let enough : nat_lt (length m.taken) 0 ≡ false = grind (arith, nat_tests) in
-      let granted : refusal m (Crash 0) ≡ None = rw (up, enough) refl in
+      let granted : event_refusal m (Crash 0) ≡ None = rw (up, enough) refl in
       let all : a.shadow.settled + 0 ≡ a.shadow.settled = omega arith in
       record {
         ran = (m, t.ran, (granted, tt, refl, refl));
@@ -119,7 +119,7 @@ module _ (a : Account) (log : Log) (m : Machine) (t : Tied a log m) where
         };
       }
 
-  pub tied-fails-again : IsSoundBook a → a.aborted ≡ true → Tied (failed_of a) log m
+  pub tied-fails-again : IsAccountSound a → a.aborted ≡ true → Tied (failed_of a) log m
   tied-fails-again sound fell = record {
     ran = t.ran;
     accepted = t.accepted;

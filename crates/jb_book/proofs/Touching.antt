@@ -12,14 +12,14 @@ use Rattle.jb_handle.specs.declared.changes.TouchFault.TheVariants.{NoCredit, Ou
 use Rattle.jb_handle.specs.declared.shape.Shape.{Shape}
 use Rattle.jb_handle.specs.declared.word.Word.{Word}
 use Rattle.jb_handle.specs.declared.word.Word.TheVariants.{Copy, Free}
-use Rattle.jb_handle.specs.Held.{Held, held, FitsWord, Fits, first_of, is_spent, is_misfit, home_of, len_in, word_of}
+use Rattle.jb_handle.specs.Held.{Held, held, FitsWord, Fits, first_of, is_spent, is_misfit, home_of, word_of}
 use Rattle.jb_handle.specs.Held as handle
 use Rattle.jb_handle.specs.Word.{WordMap}
 use Rattle.jb_handle.proofs.Listed.{each-entry}
 use Rattle.jb_core.specs.declared.event.Event.TheVariants.{Touch}
 use Rattle.jb_core.specs.declared.event.Reply.TheVariants.{Plain}
 use Rattle.jb_core.specs.Lives.{Log}
-use Rattle.jb_core.specs.Machine.{Machine, handle_at, held_at, refusal, after}
+use Rattle.jb_core.specs.Machine.{Machine, handle_at, held_at, event_refusal, after_event}
 use Rattle.jb_core.specs.Ran.{Ran}
 use Rattle.jb_core.proofs.Accepted.{there-at}
 use Rattle.jb_core.proofs.Runs.{sounds}
@@ -109,16 +109,16 @@ module _ (shape : Shape) (log : Log) (m : Machine) (seat credits : ℕ) (ran : R
       let still : n.up ≡ true = ap (λ (k : Machine). k.up) t.same ∙ up in
       let few_yet = few-words es in
       let free : handle.refusal (held credits shape (words_in es)) (op_for e) ≡ None = fits-in (held credits shape (words_in es)) (omega (arith, few, few_yet)) e (fits 0 e (omega arith)) in
-      let none : refusal n (Touch seat (op_for e)) ≡ None = rw (still, t.there) (rw free refl) in
+      let none : event_refusal n (Touch seat (op_for e)) ≡ None = rw (still, t.there) (rw free refl) in
       let holds : held_at n seat ≡ held credits shape (words_in es) = there-at n seat (held credits shape (words_in es)) t.there in
       let next = handle.after (held_at n seat) (op_for e) in
       let is : handle.after (held_at n seat) (op_for e) ≡ held credits shape (words.insert (words_in es) e.0 e.1)
       = ap (λ (k : Held). handle.after k (op_for e)) holds ∙ same-put (λ home word. held credits shape (words.insert (words_in es) home word)) e in (
-        after n (Touch seat (op_for e)),
+        after_event n (Touch seat (op_for e)),
         record {
           ran = (n, t.ran, (none, tt, refl, refl));
           accepted = t.accepted;
-          same = ap (λ (k : Machine). let changed : Machine = record k { handles = (after n (Touch seat (op_for e))).handles } in changed) t.same;
+          same = ap (λ (k : Machine). let changed : Machine = record k { handles = (after_event n (Touch seat (op_for e))).handles } in changed) t.same;
           shadow = shadowed n (sounds shape _ n t.ran) (Touch seat (op_for e)) none tt ∙ t.shadow;
           there = found-set (is_at (nat_cmp seat)) (handle.after (held_at n seat) (op_for e)) n.handles (held credits shape (words_in es)) t.there ∙ ap Some is;
           rest = gone-set (is_at (nat_cmp seat)) (handle.after (held_at n seat) (op_for e)) n.handles ∙ t.rest;

@@ -16,7 +16,7 @@ use Rattle.jb_book.specs.declared.fault.BeginFault.{BeginFault}
 use Rattle.jb_book.specs.declared.fault.BeginFault.TheVariants.{Aborted, Closed, Busy, TooManyCredits, Full, Memory}
 use Rattle.jb_book.specs.declared.fault.EnqueueFault.{EnqueueFault}
 use Rattle.jb_book.specs.declared.fault.EnqueueFault.TheVariants as stop
-use Rattle.jb_book.specs.Shadow.{Shadow, credits_at, reserved, fresh, begun, dropped, stopped, took, settled_by, lost}
+use Rattle.jb_book.specs.Shadow.{Shadow, credits_at, reserved_in, fresh, begun, dropped, stopped, took, settled_by, lost}
 
 -- what a book keeps, as a value: its seats and tickets, what it may grant, the trail, and whether it has failed
 pub record Account : Type 0 where
@@ -56,7 +56,7 @@ pub record IsLost (s : Shadow) : Type 0 where
   pub taken : s.taken ≡ s.settled
 
 -- what holds of an account between calls: the counts are in order, what waits is in line while it runs, and nothing waits once it has failed
-pub record IsSound (a : Account) : Type 0 where
+pub record IsAccountSound (a : Account) : Type 0 where
   pub most : IsMost (geometry_of a.shape) a.shape.limit a.most
   pub order : a.shadow.settled ≤ a.shadow.taken
   pub within : a.shadow.taken ≤ a.shadow.next
@@ -65,7 +65,7 @@ pub record IsSound (a : Account) : Type 0 where
   pub seats_few : All (λ credits. credits ≤ a.most) (values_of a.shadow.seats)
   pub few : All (λ credits. credits ≤ a.most) a.shadow.credits
   pub fits : All (λ h. Fits a.shape h.words) a.shadow.queue
-  pub room : reserved a.shadow ≤ a.usable
+  pub room : reserved_in a.shadow ≤ a.usable
   pub small : a.usable ≤ 2147483646
   pub tickets : a.shadow.next + length a.shadow.seats ≤ 2 ^ 61
   pub changed : a.changes + sum (values_of a.shadow.seats) ≤ a.granted
@@ -77,7 +77,7 @@ pub record IsSound (a : Account) : Type 0 where
 -- ---- what each call makes of it
 
 -- a book of which nobody has asked anything
-pub record IsStart (shape : Shape) (usable : ℕ) (a : Account) : Type 0 where
+pub record IsNewBook (shape : Shape) (usable : ℕ) (a : Account) : Type 0 where
   pub shadow : a.shadow ≡ fresh
   pub same_shape : a.shape ≡ shape
   pub same_usable : a.usable ≡ usable
@@ -131,17 +131,17 @@ last_start (e ∷ f ∷ es) = last_start (f ∷ es)
 -- ---- what each call refuses
 
 -- no room for so many credits more, no ticket left, or too many credits granted in all
-abbrev pub is_full : Account → ℕ → Bool
-is_full a credits = nat_lt a.usable (reserved a.shadow + credits) || nat_le (2 ^ 61) (a.shadow.next + length a.shadow.seats) || nat_lt (2 ^ 61) (a.granted + credits)
+abbrev pub has_no_room : Account → ℕ → Bool
+has_no_room a credits = nat_lt a.usable (reserved_in a.shadow + credits) || nat_le (2 ^ 61) (a.shadow.next + length a.shadow.seats) || nat_lt (2 ^ 61) (a.granted + credits)
 
 -- the first reason against a new handle
-abbrev pub refusal : Account → ℕ → ℕ → Option BeginFault
-refusal a seat credits = first_of ((a.aborted, Aborted) ∷ (a.shut, Closed) ∷ (is_some (credits_at a.shadow seat), Busy) ∷ (nat_lt a.most credits, TooManyCredits a.most) ∷ (is_full a credits, Full (reserved a.shadow)) ∷ [])
+abbrev pub begin_refusal : Account → ℕ → ℕ → Option BeginFault
+begin_refusal a seat credits = first_of ((a.aborted, Aborted) ∷ (a.shut, Closed) ∷ (is_some (credits_at a.shadow seat), Busy) ∷ (nat_lt a.most credits, TooManyCredits a.most) ∷ (has_no_room a credits, Full (reserved_in a.shadow)) ∷ [])
 
 -- the fault is the first whose fact holds; memory may be refused where nothing else is
 abbrev pub RefusesBegin : Account → ℕ → ℕ → BeginFault → Type 0
-RefusesBegin a seat credits Memory = refusal a seat credits ≡ None
-RefusesBegin a seat credits fault = refusal a seat credits ≡ Some fault
+RefusesBegin a seat credits Memory = begin_refusal a seat credits ≡ None
+RefusesBegin a seat credits fault = begin_refusal a seat credits ≡ Some fault
 
 -- the seat has an open handle of so many credits, and the words are within them and fit the shape
 pub record IsOpenFor (a : Account) (seat : ℕ) (words : WordMap) (credits : ℕ) : Type 0 where

@@ -4,7 +4,7 @@ use Rattle.std.specs.Ordering.{nat_cmp}
 use Rattle.std.specs.BTreeMap.{IsOrdered}
 use Rattle.std.specs.Map.{values_of}
 use Rattle.jb_deck.specs.Done.{least_after}
-use Rattle.jb_book.specs.Account.{Account, IsSound}
+use Rattle.jb_book.specs.Account.{Account, IsAccountSound}
 use Rattle.jb_book.specs.Origin.{Begun}
 use Rattle.jb_book.specs.Origin.{AreStops}
 use Rattle.jb_book.specs.declared.book.Book.TheInside.{Inside}
@@ -25,8 +25,8 @@ account_of b = record {
 
 -- the account is sound, its sums are counted, the trail has room for a group of each handle that may be settled, and the handles in
 -- the queue stopped with words that a handle may stop with
-pub record IsKept {S : Type 0} (begun : Begun) (b : Inside S) : Type 0 where
-  pub sound : IsSound (account_of b)
+pub record IsBookKept {S : Type 0} (begun : Begun) (b : Inside S) : Type 0 where
+  pub sound : IsAccountSound (account_of b)
   pub open_sum : b.open_sum ≡ sum (values_of b.seats.entries)
   pub line_sum : b.line_sum ≡ sum b.credits.items
   pub least : b.least ≡ least_after 0 b.trail.items

@@ -12,7 +12,7 @@ use Rattle.jb_deck.specs.declared.done.Entry.{Entry}
 use Rattle.jb_book.specs.declared.fault.BeginFault.{BeginFault}
 use Rattle.jb_book.specs.declared.fault.EnqueueFault.{EnqueueFault}
 use Rattle.jb_book.specs.declared.fault.WrongBatch.{WrongBatch}
-use Rattle.jb_book.specs.Account.{Account, IsStart, granted_to, dropped_of, queued, taken_all, settled_to, failed_of, refusal, RefusesBegin, CanStop, RefusesStop, CanTake, Settles}
+use Rattle.jb_book.specs.Account.{Account, IsNewBook, granted_to, dropped_of, queued, taken_all, settled_to, failed_of, begin_refusal, RefusesBegin, CanStop, RefusesStop, CanTake, Settles}
 
 -- A call of a book with its answer: `open` of a seat and credits; `enqueue` of a seat and words, which answers a ticket;
 -- `drop_open` of a seat; `take`, with the batch and the bounds of the cut by which it is committed, or without one;
@@ -73,7 +73,7 @@ TakesLeast = (b : Gathered) → HasCut b.shape b.handles → (cut : List ℕ) ×
 -- What the call does to the account, as a clause of its method says (`does`). Of `settle` the clause says it where the entries are those of the
 -- groups that are out, which its caller has to know
 abbrev pub Does : Call → List Call → Account → Account → Type 0
-Does (Opened seat credits (Ok unit)) earlier old new = (refusal old seat credits ≡ None) × (new ≡ granted_to seat credits old)
+Does (Opened seat credits (Ok unit)) earlier old new = (begin_refusal old seat credits ≡ None) × (new ≡ granted_to seat credits old)
 Does (Opened seat credits (Err fault)) earlier old new = RefusesBegin old seat credits fault × (new ≡ old)
 Does (Enqueued seat words (Ok ticket)) earlier old new = CanStop old seat words × (ticket ≡ old.shadow.next) × (new ≡ queued seat words old)
 Does (Enqueued seat words (Err fault)) earlier old new = RefusesStop old seat words fault × (new ≡ old)
@@ -86,9 +86,9 @@ Does Failed earlier old new = new ≡ failed_of old
 Does Shut earlier old new = new ≡ record old { shut = true }
 
 -- a new book, of which these calls have made this account
-abbrev pub Called : Shape → ℕ → List Call → Account → Type 0
-Called shape usable [] a = IsStart shape usable a
-Called shape usable (last ∷ earlier) a = (before : Account) × Called shape usable earlier before × Does last earlier before a
+abbrev pub CallsMake : Shape → ℕ → List Call → Account → Type 0
+CallsMake shape usable [] a = IsNewBook shape usable a
+CallsMake shape usable (last ∷ earlier) a = (before : Account) × CallsMake shape usable earlier before × Does last earlier before a
 
 -- ---- what is promised of any list of calls
 

@@ -7,8 +7,8 @@ use Rattle.jb_core.specs.declared.event.Reply.{Reply}
 use Rattle.jb_core.specs.declared.event.CoreFault.{CoreFault}
 use Rattle.jb_core.specs.Line.{count}
 use Rattle.jb_core.specs.Lives.{settled_now}
-use Rattle.jb_core.specs.Machine.{Machine, held_at, refusal, after}
-use Rattle.jb_core.specs.Sound.{IsSound}
+use Rattle.jb_core.specs.Machine.{Machine, held_at, event_refusal, after_event}
+use Rattle.jb_core.specs.Sound.{IsMachineSound}
 use Rattle.jb_core.specs.Steps.{IsLeast}
 use Rattle.jb_book.specs.Shadow.{Shadow, fresh, begun, dropped, stopped, took, settled_by, crashed}
 
@@ -41,7 +41,7 @@ after_shadow m Restart s = fresh
 
 -- an event that nothing refuses moves the shadow of a sound machine by its function
 abbrev pub Shadowed : Type 0
-Shadowed = (m : Machine) → IsSound m → (e : Event) → refusal m e ≡ None → IsLeast m e → shadow_of (after m e) ≡ after_shadow m e (shadow_of m)
+Shadowed = (m : Machine) → IsMachineSound m → (e : Event) → event_refusal m e ≡ None → IsLeast m e → shadow_of (after_event m e) ≡ after_shadow m e (shadow_of m)
 
 -- a step that nothing refuses moves the shadow of a sound machine by its function, and one that is refused leaves it
 abbrev pub StepsShadow : Event → Machine → Result Reply CoreFault → Machine → Type 0

@@ -14,7 +14,7 @@ use Rattle.jb_deck.specs.Deck.{OpenDeck}
 use Rattle.jb_deck.specs.Done.{Follow, past_after, start_of}
 use Rattle.jb_log.specs.Log.{standing, transactions}
 use Rattle.jb_deck.specs.Reading.{AnswersRead}
-use Rattle.jb_deck.specs.Taking.{CanTake, TakesTrail, oldest_number}
+use Rattle.jb_deck.specs.Taking.{MayTakeFirst, TakesTrail, oldest_number}
 use Rattle.jb_deck.specs.declared.batched.BatchFault.{BatchFault}
 use Rattle.jb_deck.specs.declared.batched.BatchFault.TheVariants as batch
 use Rattle.jb_deck.specs.declared.checked.Checked.{Checked}
@@ -112,7 +112,7 @@ module _ {D : Type 0} (G : Ghosts D) (b : Begun) where
     pub past : ℕ
     pub deck : OpenDeck D
     pub since : IsSince G b deck
-    pub some : CanTake (oldest_number deck) past deck.trail
+    pub some : MayTakeFirst (oldest_number deck) past deck.trail
 
   -- entries of the desk's journal were taken; or there was no memory for some that may be
   abbrev pub GivesTrail : Result (Vec Entry) AllocError → Type 0

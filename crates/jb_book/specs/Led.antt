@@ -7,14 +7,14 @@ use Rattle.jb_handle.specs.Tickets.{TicketsFrom}
 use Rattle.jb_handle.specs.Word.{WordMap}
 use Rattle.jb_handle.specs.declared.stopped.Stopped.{Stopped}
 use Rattle.jb_plan.specs.Prepared.{Planned, IsPlanned}
-use Rattle.jb_deck.specs.Done.{first_of, entries_of}
+use Rattle.jb_deck.specs.Done.{first_ticket, entries_of}
 use Rattle.jb_deck.specs.declared.done.Done.{Done}
 use Rattle.jb_handle.specs.declared.shape.Shape.{Shape}
-use Rattle.jb_core.specs.Lives.{Log, handles_of, stop_order}
+use Rattle.jb_core.specs.Lives.{Log, handles_of_order, stop_order}
 use Rattle.jb_core.specs.Machine.{Machine}
 use Rattle.jb_core.specs.Ran.{Ran}
 use Rattle.jb_book.specs.Account.{Account, CanStop, Settles, failed_of, queued, settled_to}
-use Rattle.jb_book.specs.Calls.{Call, Called, AreOfFirst, IsCutOf, handles_in, out_of, stops_of}
+use Rattle.jb_book.specs.Calls.{Call, CallsMake, AreOfFirst, IsCutOf, handles_in, out_of, stops_of}
 use Rattle.jb_book.specs.Tied.{AreAccepted}
 use Rattle.jb_book.specs.declared.fault.WrongBatch.{WrongBatch}
 use Rattle.jb_board.specs.HistoryRule.{StandsIn}
@@ -48,7 +48,7 @@ pub record Led (log : List WordMap) (a : Account) (hs : List Stopped) (cut : Lis
   pub calls : List Call
   pub full : List Entry
   pub left : IsRestOf a.trail full
-  pub called : Called a.shape a.usable calls (with_trail full a)
+  pub called : CallsMake a.shape a.usable calls (with_trail full a)
   pub stops : words_stopped (stops_of calls) ≡ log
   pub out : a.aborted ≡ false → out_of calls ≡ pieces cut hs
 
@@ -102,7 +102,7 @@ pub record IsSettling (sight : List WordMap) (end : ℕ) (shape : Shape) (done :
   pub shape_is : planned.batch.shape ≡ shape
   pub tickets : TicketsFrom planned.batch.first planned.batch.handles
   pub recorded : All (IsInHistory sight) planned.batch.handles
-  pub first : first_of done ≡ planned.batch.first
+  pub first : first_ticket done ≡ planned.batch.first
   pub past : end ≡ planned.batch.first + length planned.batch.handles
   pub tells : AreOfFirst (pieces planned.groups planned.batch.handles) (entries_of done)
 
@@ -114,13 +114,13 @@ pub record IsOutAs (a : Account) (first end : ℕ) (shape : Shape) : Type 0 wher
 
 -- the batch that is out is settled whole; where these groups are not all of it, the book has failed
 abbrev pub SettlesOrFails : ℕ → Shape → Done → Account → Result (Unit {0}) WrongBatch → Account → Type 0
-SettlesOrFails end shape done old (Ok unit) new = IsOutAs old (first_of done) end shape × Settles old end (entries_of done) × (new ≡ settled_to end (entries_of done) old)
-SettlesOrFails end shape done old (Err wrong) new = (IsOutAs old (first_of done) end shape → Settles old end (entries_of done) → ⊥) × (new ≡ failed_of old)
+SettlesOrFails end shape done old (Ok unit) new = IsOutAs old (first_ticket done) end shape × Settles old end (entries_of done) × (new ≡ settled_to end (entries_of done) old)
+SettlesOrFails end shape done old (Err wrong) new = (IsOutAs old (first_ticket done) end shape → Settles old end (entries_of done) → ⊥) × (new ≡ failed_of old)
 
 -- these groups of the batch that is out are settled, where they are its first ones, and then the book has failed
 abbrev pub FailsAfter : ℕ → Shape → Done → Account → Result (Unit {0}) WrongBatch → Account → Type 0
-FailsAfter end shape done old (Ok unit) new = IsOutAs old (first_of done) end shape × ((past : ℕ) × Settles old past (entries_of done) × (new ≡ failed_of (settled_to past (entries_of done) old)))
-FailsAfter end shape done old (Err wrong) new = (IsOutAs old (first_of done) end shape → (past : ℕ) → Settles old past (entries_of done) → ⊥) × (new ≡ failed_of old)
+FailsAfter end shape done old (Ok unit) new = IsOutAs old (first_ticket done) end shape × ((past : ℕ) × Settles old past (entries_of done) × (new ≡ failed_of (settled_to past (entries_of done) old)))
+FailsAfter end shape done old (Err wrong) new = (IsOutAs old (first_ticket done) end shape → (past : ℕ) → Settles old past (entries_of done) → ⊥) × (new ≡ failed_of old)
 
 -- ---- what is known of a book once it ends
 
@@ -132,7 +132,7 @@ pub record IsMachineRun (shape : Shape) (log : List WordMap) (trail : List Entry
   pub ran : Ran shape events machine
   pub accepted : AreAccepted events
   pub one_life : machine.earlier ≡ 0
-  pub stops : words_stopped (handles_of (stop_order events)) ≡ log
+  pub stops : words_stopped (handles_of_order (stop_order events)) ≡ log
   pub full : List Entry
   pub left : IsRestOf trail full
-  pub settled : machine.settled ≡ map (handles_in (handles_of (stop_order events))) full
+  pub settled : machine.settled ≡ map (handles_in (handles_of_order (stop_order events))) full

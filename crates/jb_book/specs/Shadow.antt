@@ -25,8 +25,8 @@ abbrev pub credits_at : Shadow → ℕ → Option ℕ
 credits_at s seat = seats.get s.seats seat
 
 -- the credits granted to open, taken and queued handles
-abbrev pub reserved : Shadow → ℕ
-reserved s = sum (values_of s.seats) + sum s.credits
+abbrev pub reserved_in : Shadow → ℕ
+reserved_in s = sum (values_of s.seats) + sum s.credits
 
 -- nothing has happened
 abbrev pub fresh : Shadow

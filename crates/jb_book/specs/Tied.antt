@@ -24,11 +24,11 @@ use Rattle.jb_deck.specs.declared.done.Done.{Done}
 use Rattle.jb_deck.specs.declared.done.Entry.{Entry}
 use Rattle.jb_core.specs.declared.event.Event.TheVariants as event
 use Rattle.jb_core.specs.declared.event.Reply.TheVariants.{Plain, Ticket}
-use Rattle.jb_core.specs.Lives.{Log, handles_of, stop_order}
-use Rattle.jb_core.specs.Machine.{Machine, after}
+use Rattle.jb_core.specs.Lives.{Log, handles_of_order, stop_order}
+use Rattle.jb_core.specs.Machine.{Machine, after_event}
 use Rattle.jb_core.specs.Ran.{Ran}
-use Rattle.jb_book.specs.Account.{Account, IsSound, IsStart, granted_to, dropped_of, queued, taken_all, settled_to, failed_of, refusal, CanStop, CanTake, Settles}
-use Rattle.jb_book.specs.Calls.{Call, Called, AreOfFirst, IsCutOf, KeepsWhole, stops_of, out_of, settled_of}
+use Rattle.jb_book.specs.Account.{Account, IsAccountSound, IsNewBook, granted_to, dropped_of, queued, taken_all, settled_to, failed_of, begin_refusal, CanStop, CanTake, Settles}
+use Rattle.jb_book.specs.Calls.{Call, CallsMake, AreOfFirst, IsCutOf, KeepsWhole, stops_of, out_of, settled_of}
 use Rattle.jb_book.specs.Events.{shadow_of}
 use Rattle.jb_book.specs.Shadow.{Shadow, credits_at, crashed}
 
@@ -88,26 +88,26 @@ TiedBy a log = (m : Machine) × Tied a log m
 -- What a book accepts, the machine accepts: each call of a sound book, by the condition that its contract gives, is an event or more,
 -- and the account after it is tied again
 pub record BookIsTied : Type 0 where
-  pub starts : (shape : Shape) (usable : ℕ) (a : Account) → IsStart shape usable a → TiedBy a []
-  pub opens : (a : Account) (log : Log) (m : Machine) → IsSound a → Tied a log m → (seat credits : ℕ) → refusal a seat credits ≡ None
-      → Tied (granted_to seat credits a) ((event.Open seat credits, Ok Plain) ∷ log) (after m (event.Open seat credits))
-  pub stops : (a : Account) (log : Log) (m : Machine) → IsSound a → Tied a log m → (seat : ℕ) (ws : WordMap) → CanStop a seat ws
+  pub starts : (shape : Shape) (usable : ℕ) (a : Account) → IsNewBook shape usable a → TiedBy a []
+  pub opens : (a : Account) (log : Log) (m : Machine) → IsAccountSound a → Tied a log m → (seat credits : ℕ) → begin_refusal a seat credits ≡ None
+      → Tied (granted_to seat credits a) ((event.Open seat credits, Ok Plain) ∷ log) (after_event m (event.Open seat credits))
+  pub stops : (a : Account) (log : Log) (m : Machine) → IsAccountSound a → Tied a log m → (seat : ℕ) (ws : WordMap) → CanStop a seat ws
       → TiedBy (queued seat ws a) ((event.Stop seat, Ok (Ticket a.shadow.next)) ∷ touches_of seat ws ++ log)
   -- a dropped handle of a book that runs is an Abandon; where the seat has none, or the book has failed, nothing happens to the machine
   pub drops : (a : Account) (log : Log) (m : Machine) → Tied a log m → a.aborted ≡ false → (seat credits : ℕ) → credits_at a.shadow seat ≡ Some credits
-      → Tied (dropped_of seat a) ((event.Abandon seat, Ok Plain) ∷ log) (after m (event.Abandon seat))
+      → Tied (dropped_of seat a) ((event.Abandon seat, Ok Plain) ∷ log) (after_event m (event.Abandon seat))
   pub drops_none : (a : Account) (log : Log) (m : Machine) → Tied a log m → (seat : ℕ) → (a.aborted ≡ true) ⊎ (credits_at a.shadow seat ≡ None)
       → Tied (dropped_of seat a) log m
   pub takes : (a : Account) (log : Log) (m : Machine) → Tied a log m → CanTake a → (bounds : Vec ℕ) → IsCutOf (gathered a.shadow.taken a.shadow.queue a.shape) bounds.items
-      → Tied (taken_all a) ((event.Take bounds, Ok Plain) ∷ log) (after m (event.Take bounds))
+      → Tied (taken_all a) ((event.Take bounds, Ok Plain) ∷ log) (after_event m (event.Take bounds))
   -- entries of the first taken groups are the Settle of as many groups; of a book that has failed there are none
   pub settles : (a : Account) (log : Log) (m : Machine) → Tied a log m → a.aborted ≡ false → (past : ℕ) (entries : List Entry) → Settles a past entries → AreOfFirst m.taken entries
-      → Tied (settled_to past entries a) ((event.Settle (length entries), Ok Plain) ∷ log) (after m (event.Settle (length entries)))
-  pub settles_none : (a : Account) (log : Log) (m : Machine) → IsSound a → Tied a log m → a.aborted ≡ true → (past : ℕ) (entries : List Entry) → Settles a past entries
+      → Tied (settled_to past entries a) ((event.Settle (length entries), Ok Plain) ∷ log) (after_event m (event.Settle (length entries)))
+  pub settles_none : (a : Account) (log : Log) (m : Machine) → IsAccountSound a → Tied a log m → a.aborted ≡ true → (past : ℕ) (entries : List Entry) → Settles a past entries
       → (entries ≡ []) × Tied (settled_to past entries a) log m
   pub fails : (a : Account) (log : Log) (m : Machine) → Tied a log m → a.aborted ≡ false
-      → Tied (failed_of a) ((event.Crash 0, Ok Plain) ∷ log) (after m (event.Crash 0))
-  pub fails_again : (a : Account) (log : Log) (m : Machine) → IsSound a → Tied a log m → a.aborted ≡ true → Tied (failed_of a) log m
+      → Tied (failed_of a) ((event.Crash 0, Ok Plain) ∷ log) (after_event m (event.Crash 0))
+  pub fails_again : (a : Account) (log : Log) (m : Machine) → IsAccountSound a → Tied a log m → a.aborted ≡ true → Tied (failed_of a) log m
   pub shuts : (a : Account) (log : Log) (m : Machine) → Tied a log m → Tied (record a { shut = true }) log m
 
 -- ---- a list of calls
@@ -115,14 +115,14 @@ pub record BookIsTied : Type 0 where
 -- The machine's list of events for these calls: its account, its stop order, its groups are those of the calls
 pub record IsInterleaving (calls : List Call) (a : Account) (log : Log) (m : Machine) : Type 0 where
   pub tied : Tied a log m
-  pub stops : handles_of (stop_order log) ≡ stops_of calls
+  pub stops : handles_of_order (stop_order log) ≡ stops_of calls
   pub settled : m.settled ≡ settled_of calls
   pub out : m.taken ≡ out_of calls
 
 -- Any list of calls of a new book is a list of events that the machine accepts, and keeps each handle whole in one group or in none.
 -- An event holds the bounds of its cut in a Vec, and there is one where there is any
 abbrev pub EveryRun : Type 0
-EveryRun = (any : Vec Entry) (shape : Shape) (usable : ℕ) (calls : List Call) (a : Account) → usable ≤ 2147483646 → Called shape usable calls a
+EveryRun = (any : Vec Entry) (shape : Shape) (usable : ℕ) (calls : List Call) (a : Account) → usable ≤ 2147483646 → CallsMake shape usable calls a
     → KeepsWhole shape calls a × ((log : Log) × (m : Machine) × IsInterleaving calls a log m)
 
 -- ---- what a commit tells

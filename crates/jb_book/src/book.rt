@@ -55,7 +55,7 @@ impl<S: Origin> Model for Book<S> {
     ghost use Rattle.std.specs.Coded.{codes};
     ghost use Rattle.jb_handle.specs.Word.{words_code};
     ghost use Rattle.jb_book.specs.Account.{Account};
-    ghost use Rattle.jb_book.specs.Book.{account_of, IsKept};
+    ghost use Rattle.jb_book.specs.Book.{account_of, IsBookKept};
 
     ghost Value = { Account };
 
@@ -63,13 +63,13 @@ impl<S: Origin> Model for Book<S> {
 
     ghost view = { account_of };
 
-    ghost invariant = { IsKept S.begun };
+    ghost invariant = { IsBookKept S.begun };
 }
 
 impl<S: Origin> Book<S> {
     ghost use Rattle.jb_book.specs.Origin.{AreStops};
-    ghost use Rattle.jb_book.specs.Account.{IsStart, granted_to, dropped_of, queued, taken_all};
-    ghost use Rattle.jb_book.specs.Account.{settled_to, failed_of, is_full, refusal, RefusesBegin};
+    ghost use Rattle.jb_book.specs.Account.{IsNewBook, granted_to, dropped_of, queued, taken_all};
+    ghost use Rattle.jb_book.specs.Account.{settled_to, failed_of, has_no_room, begin_refusal, RefusesBegin};
     ghost use Rattle.jb_book.specs.Account.{IsOpenFor, CanStop, RefusesStop, CanTake, Settles};
     ghost use Rattle.jb_book.specs.Calls.{Call, Does, Opened, Enqueued, Dropped, Took, TookNone, Settled, Failed, Shut};
     ghost use Rattle.jb_book.specs.Calls.{AreOfFirst, IsCutOf, out_of, ticket_answered};
@@ -78,7 +78,7 @@ impl<S: Origin> Book<S> {
     /// takes no memory.
     pub fn new(alloc: Global, shape: Shape, usable: u64) -> Book<S>
         requires { usable ≤ 2147483646 }
-        ensures { IsStart shape usable result }
+        ensures { IsNewBook shape usable result }
     {
         Book {
             shape,
@@ -111,7 +111,7 @@ impl<S: Origin> Book<S> {
     /// `Memory` where there is none for the seat.
     pub fn open(&mut self, seat: u64, credits: u32) -> Result<(), BeginFault>
         ensures ok { OnOk result (self.new ≡ granted_to seat credits self.old) }
-        ensures granted { OnOk result (refusal self.old seat credits ≡ None) }
+        ensures granted { OnOk result (begin_refusal self.old seat credits ≡ None) }
         ensures err { OnErr result (self.new ≡ self.old) }
         ensures refused { IfErr result (RefusesBegin self.old seat credits) }
         ensures does { (earlier : List Call) → Does (Opened seat credits result) earlier self.old self.new }
@@ -143,7 +143,7 @@ impl<S: Origin> Book<S> {
 
     /// Whether there is no room for so many credits more, no ticket left, or too much granted in all.
     fn is_full(&self, credits: u32) -> bool
-        ensures { result ≡ is_full self.now credits }
+        ensures { result ≡ has_no_room self.now credits }
     {
         let tickets = self.next + self.seats.len() as u64;
         let credits = u64::from(credits);

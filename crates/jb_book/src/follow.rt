@@ -1,5 +1,5 @@
 ghost use Rattle.std.specs.Prelude.{◌≡◌, ℕ, ◌+◌, ◌^◌, ◌<◌, ◌≤◌, drop, length, IfSome, IfNone};
-ghost use Rattle.jb_deck.specs.Done.{Follow, least_after, past_after, start_of, first_of, entries_of};
+ghost use Rattle.jb_deck.specs.Done.{Follow, least_after, past_after, start_of, first_ticket, entries_of};
 ghost use Rattle.jb_book.specs.Account.{IsSettledBy, last_start, trail_from};
 
 use jb_deck::{Done, Entry};
@@ -87,7 +87,7 @@ pub fn count_to(entries: &[Entry], past: u64) -> usize
 
 /// The ticket after those of the groups that are settled.
 pub fn end_of(done: &Done) -> u64
-    ensures { result ≡ past_after (first_of done.now) (entries_of done.now) }
+    ensures { result ≡ past_after (first_ticket done.now) (entries_of done.now) }
 {
     match done.entries().last() {
         Some(entry) => entry.past,

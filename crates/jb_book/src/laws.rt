@@ -1,5 +1,5 @@
 //! Laws over the definitions alone, and a step of the machine as its shadow shows it.
-ghost use Rattle.jb_core.specs.Steps.{Steps};
+ghost use Rattle.jb_core.specs.Steps.{MachineSteps};
 ghost use Rattle.jb_book.specs.Calls.{TakesLeast};
 ghost use Rattle.jb_book.specs.Events.{Shadowed, StepsShadow};
 ghost use Rattle.jb_book.specs.Tied.{BookIsTied, CommitTells, EveryRun};
@@ -21,7 +21,7 @@ pub fn shadowed()
 /// Those of [`jb_core::step`]; the shadow is as it was.
 #[tactic(auto, using(crate::proofs::Shadows::stepped))]
 pub fn step_shadowed(state: &mut State, event: Event) -> Result<Reply, CoreFault>
-    ensures step { Steps event state.old result state.new }
+    ensures step { MachineSteps event state.old result state.new }
     ensures shadow { StepsShadow event state.old result state.new }
 {
     let _up = state.is_up(); // for the proof alone: only methods say that a state is sound

@@ -46,15 +46,15 @@ impl<D: Disk, S: Origin> Model for Register<D, S> {
 }
 
 impl<D: Disk, S: Origin> Register<D, S> {
-    ghost use Rattle.jb_book.specs.Account.{IsStart, granted_to, dropped_of, taken_all, shortened};
-    ghost use Rattle.jb_book.specs.Account.{failed_of, refusal, RefusesBegin, RefusesStop, CanTake};
+    ghost use Rattle.jb_book.specs.Account.{IsNewBook, granted_to, dropped_of, taken_all, shortened};
+    ghost use Rattle.jb_book.specs.Account.{failed_of, begin_refusal, RefusesBegin, RefusesStop, CanTake};
     ghost use Rattle.jb_book.specs.Led.{IsInHistory, IsLed};
     ghost use Rattle.jb_book.specs.Led.{IsMachineRun, Queues};
     ghost use Rattle.jb_book.specs.Marks.{HasFailedMark, HasShapeMark, IsMarked, SeesSame, SeesStop};
     ghost use Rattle.jb_book.specs.Origin.{AreStops};
 
-    /// A book in which nothing has happened yet, for a journal of this shape with so many usable log blocks, as was seen
-    /// at a mark, and a history without an entry. Takes no memory.
+    /// A book in which nothing has happened yet, for a journal of this shape with so many usable log blocks, as was
+    /// seen at a mark, and a history without an entry. Takes no memory.
     pub fn new(
         alloc: Global,
         shape: Shape,
@@ -65,7 +65,7 @@ impl<D: Disk, S: Origin> Register<D, S> {
         requires few { usable ≤ 2147483646 }
         requires journal { HasShapeMark seen shape }
         requires fresh { scribe ≡ [] }
-        ensures book { IsStart shape usable result.book }
+        ensures book { IsNewBook shape usable result.book }
         ensures log { result.log ≡ [] }
     {
         let book = Book::new(alloc, shape, usable);
@@ -79,7 +79,7 @@ impl<D: Disk, S: Origin> Register<D, S> {
     /// Those of [`Book::open`], and nothing has changed.
     pub fn open(&mut self, seat: u64, credits: u32) -> Result<(), BeginFault>
         ensures ok { OnOk result (self.new.book ≡ granted_to seat credits self.old.book) }
-        ensures granted { OnOk result (refusal self.old.book seat credits ≡ None) }
+        ensures granted { OnOk result (begin_refusal self.old.book seat credits ≡ None) }
         ensures err { OnErr result (self.new ≡ self.old) }
         ensures refused { IfErr result (RefusesBegin self.old.book seat credits) }
         ensures log { self.new.log ≡ self.old.log }

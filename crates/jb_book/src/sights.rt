@@ -8,9 +8,9 @@ use jb_deck::Deck;
 use jb_disk::Disk;
 use jb_handle::Words;
 
-/// The two histories of a desk: the words of each handle that stopped, at its ticket, and its marks, which are the journal
-/// as it was when the desk was started, after each round of a committer and after each read. Neither has bytes for what
-/// is in it.
+/// The two histories of a desk: the words of each handle that stopped, at its ticket, and its marks, which are the
+/// journal as it was when the desk was started, after each round of a committer and after each read. Neither has bytes
+/// for what is in it.
 #[derive(Drop)]
 pub struct Histories<D: Disk, S: Origin> {
     /// The handles that stopped.

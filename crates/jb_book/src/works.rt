@@ -46,7 +46,7 @@ impl<D: Disk, C: Clock, S: Origin> Works<D, C, S> {
     ghost use Rattle.jb_deck.specs.Committing.{AnswersBatch};
     ghost use Rattle.jb_plan.specs.Prepared.{IsPlanned};
     ghost use Rattle.jb_deck.specs.Reading.{AnswersRead};
-    ghost use Rattle.jb_deck.specs.Taking.{CanTake, TakesTrail, oldest_number};
+    ghost use Rattle.jb_deck.specs.Taking.{MayTakeFirst, TakesTrail, oldest_number};
     ghost use Rattle.jb_book.specs.Journal.{AnswersAt, ChecksAt, ChecksRound, FailsAs, GivesTrail, IsRound, ReadsHome};
     ghost use Rattle.jb_book.specs.Rounds.{CommitsAs};
     ghost use Rattle.jb_book.specs.Tied.{TellsFirst};
@@ -82,8 +82,8 @@ impl<D: Disk, C: Clock, S: Origin> Works<D, C, S> {
         }
     }
 
-    /// Commits a batch with the clock's stamp. Its handles are those of the history, as was seen. Whatever came of it, the
-    /// journal is marked then, and the marks are seen.
+    /// Commits a batch with the clock's stamp. Its handles are those of the history, as was seen. Whatever came of it,
+    /// the journal is marked then, and the marks are seen.
     ///
     /// # Errors
     ///
@@ -159,9 +159,9 @@ impl<D: Disk, C: Clock, S: Origin> Works<D, C, S> {
         }
     }
 
-    /// Reads a home block as it stands. All that the journal was given is seen then; what was settled at the marks that were
-    /// seen is settled in it. The journal is marked then, whatever came of the read, and the mark is seen: a disk that is
-    /// honest later was so in the read.
+    /// Reads a home block as it stands. All that the journal was given is seen then; what was settled at the marks that
+    /// were seen is settled in it. The journal is marked then, whatever came of the read, and the mark is seen: a disk
+    /// that is honest later was so in the read.
     ///
     /// # Errors
     ///
@@ -200,7 +200,7 @@ impl<D: Disk, C: Clock, S: Origin> Works<D, C, S> {
     pub fn take_trail(&mut self, past: u64) -> Result<Vec<Entry>, Memory>
         ensures taken { IfOk result (λ taken. TakesTrail past self.old.deck self.new.deck taken.items) }
         ensures refused { OnErr result ((self.new.deck ≡ self.old.deck)
-            × CanTake (oldest_number self.old.deck) past self.old.deck.trail) }
+            × MayTakeFirst (oldest_number self.old.deck) past self.old.deck.trail) }
         ensures gives { GivesTrail D.Disk S.begun result }
         ensures clock { self.new.clock ≡ self.old.clock }
     {

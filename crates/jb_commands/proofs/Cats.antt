@@ -1,5 +1,5 @@
 -- Home blocks that are peeked at and written, one after the other, for any disk.
-use Rattle.std.proofs.Common.{◌≡◌, suc, ◌+◌, ◌<◌, ◌≤◌, ℕ, Bool, true, List, [], ◌∷◌, ◌++◌, length, get_or, Option, Some, None, Result, Ok, Err, refl, ap, sym, ◌∙◌, subst, inl, inr, arith, length-append, append_assoc, append-nil}
+use Rattle.std.proofs.Common.{◌≡◌, suc, ◌+◌, ◌<◌, ◌≤◌, ℕ, Bool, true, List, [], ◌∷◌, ◌++◌, length, get_or, Option, Some, None, Result, Err, refl, ap, sym, ◌∙◌, subst, inl, inr, arith, length-append, append_assoc, append-nil}
 use Rattle.std.proofs.Math.Decide.{ℕ_discrete}
 use Rattle.std.proofs.Math.Seq.{get_or-append_seam}
 use Rattle.std.proofs.lemmas.List.{get_or_append_left}
@@ -9,7 +9,7 @@ use Rattle.jb_disk.specs.Faults.{CountsNone, MoreFaults}
 use Rattle.jb_disk.specs.Image.{Image, Same}
 use Rattle.jb_disk.specs.KeptOn.{KeptOn}
 use Rattle.jb_disk.specs.Time.{Goes}
-use Rattle.jb_disk.proofs.Counts.{kept_as, kept_on, kept_same}
+use Rattle.jb_disk.proofs.Counts.{kept_on, kept_same}
 use Rattle.jb_disk.proofs.Stepping.{goes-none, goes-on}
 use Rattle.jb_text.specs.Puts.{PutsPart}
 use Rattle.jb_text.proofs.PartByPart.{part_after}
@@ -177,17 +177,6 @@ module _ {D : Type 0} (G : Disks D) (first : ℕ) (hex : Bool) where
       peeked = peeked-still;
       told = inr (inr (stop, refl, let done = state.done in omega (arith, more, done), λ held. subst (λ k. IsUnpeeked (G.size old) (G.count old) (G.newest old) (home_at first k) stop) (sym state.done) (as-before (λ s c b. IsUnpeeked s c b (home_at first i) stop) told held), state.text));
     }
-
-  -- all blocks are written
-  pub cats-done : (homes : Option ℕ) (n at : ℕ) (old now : D) (out_old out_now : Option (List ℕ)) → Catting old now out_old out_now n at → CatsOn G homes first n hex old now out_old out_now (Ok 0)
-  cats-done homes n at old now out_old out_now state = record {
-    blocks = state.blocks;
-    kept = state.kept;
-    same = state.same;
-    idle = state.idle;
-    peeked = state.peeked;
-    told = (refl, state.done, state.text);
-  }
 
 -- ---- rows
 

@@ -19,7 +19,7 @@ use Rattle.jb_price.specs.declared.certificate.CertAnswer.TheVariants.{Cut, NoCu
 use Rattle.jb_queue.specs.declared.fault.QueueFault.{QueueFault}
 use Rattle.jb_commands.specs.Faulty.{cause_told, fault_line, queue_fault}
 use Rattle.jb_commands.specs.Limits.{PlansAreReadable, PlansAreWithin}
-use Rattle.jb_commands.specs.Plan.{IsBest, IsBestOf, SaysPlan}
+use Rattle.jb_commands.specs.Plan.{IsBestCert, IsBestCertOf, SaysPlan}
 use Rattle.jb_commands.specs.AnswerSaid.{Said}
 use Rattle.jb_commands.proofs.Light.{queue-light}
 
@@ -61,7 +61,7 @@ module _ (g : Geometry) (hs : List Stopped) where
       let light = total-light i a bs (omega (arith, within, below)) fitting.cut.1 in
       omega (arith, light, sum, weight-take hs i)
 
-  module _ (limit : ℕ) (cert : Cert) (best : IsBest (piece_cost g hs) limit (length hs) cert) (small : 2 * weight hs < 100000000) where
+  module _ (limit : ℕ) (cert : Cert) (best : IsBestCert (piece_cost g hs) limit (length hs) cert) (small : 2 * weight hs < 100000000) where
     few-enough : length hs < 100000000
     few-enough = omega (arith, small, few hs)
 
@@ -103,7 +103,7 @@ module _ (g : Geometry) (hs : List Stopped) where
     cert-long = omega (arith, line-long, answer-long cert.answer best.right, length-append (prices_line cert.prices.items) (answer_lines cert.answer))
 
 -- and that of the best certificate of a queue, where its text has less than 10^8 bytes
-best-long : (text : List ℕ) (q : Queue) (cert : Cert) → length text < 100000000 → queue_of text ≡ Ok q → IsBestOf q cert → length (cert_text cert) ≤ 9 * length text
+best-long : (text : List ℕ) (q : Queue) (cert : Cert) → length text < 100000000 → queue_of text ≡ Ok q → IsBestCertOf q cert → length (cert_text cert) ≤ 9 * length text
 best-long text q cert small reads best =
     let light = queue-light text q reads in
     let few' = few q.handles in

@@ -1,5 +1,5 @@
 -- How `jb renumber` and `jb widen` end on a disk.
-use Rattle.std.specs.Prelude.{◌⊎◌, ◌≡◌, ℕ, if◌then◌else◌, List, [], ◌∷◌, Option, Result, Ok, Err, OnOk, codes, decimal}
+use Rattle.std.specs.Prelude.{◌⊎◌, ◌≡◌, ℕ, if◌then◌else◌, List, [], ◌∷◌, Result, Ok, Err, OnOk, codes, decimal}
 use Rattle.jb_disk.specs.Image.{Image, Only}
 use Rattle.jb_disk.specs.KeptOn.{KeptOn}
 use Rattle.jb_disk.specs.Time.{LeavesOnly}

@@ -12,18 +12,18 @@ use Rattle.jb_commands.specs.Faulty.{queue_fault}
 use Rattle.jb_commands.specs.AnswerSaid.{Said}
 
 -- how many tags a full descriptor of the queue's journal holds
-abbrev pub tags_of : Queue → ℕ
-tags_of q = tags_in (is_wide q.width) (bytes_of q.size)
+abbrev pub full_tags : Queue → ℕ
+full_tags q = tags_in (is_wide q.width) (bytes_of q.size)
 
 -- how many entries a full revoke block of the queue's journal holds
-abbrev pub entries_of : Queue → ℕ
-entries_of q = entries_in (is_wide q.width) (bytes_of q.size)
+abbrev pub full_entries : Queue → ℕ
+full_entries q = entries_in (is_wide q.width) (bytes_of q.size)
 
 -- the log blocks of the whole queue as one group: the commit block, the copies, the descriptors, the revoke blocks
 abbrev pub queue_cost : Queue → ℕ
 queue_cost q =
-    1 + set.len (copies q.handles) + div_ceil (set.len (copies q.handles)) (tags_of q)
-    + div_ceil (set.len (frees q.handles)) (entries_of q)
+    1 + set.len (copies q.handles) + div_ceil (set.len (copies q.handles)) (full_tags q)
+    + div_ceil (set.len (frees q.handles)) (full_entries q)
 
 -- the word for a cost against a limit
 abbrev pub verdict : ℕ → ℕ → List ℕ
@@ -39,10 +39,10 @@ cost_line cost limit = record {
 }
 
 -- what `jb cost` says of a queue, or of its first fault
-abbrev pub cost_of : Result Queue QueueFault → Option Said
-cost_of (Ok queue) = Some (cost_line (queue_cost queue) queue.limit)
-cost_of (Err fault) = queue_fault fault
+abbrev pub cost_told : Result Queue QueueFault → Option Said
+cost_told (Ok queue) = Some (cost_line (queue_cost queue) queue.limit)
+cost_told (Err fault) = queue_fault fault
 
 -- what `jb cost` says of the bytes of a text
 abbrev pub cost_said : List ℕ → Option Said
-cost_said text = cost_of (queue_of text)
+cost_said text = cost_told (queue_of text)

@@ -1,6 +1,6 @@
 -- How the commands over images end over files.
 use Rattle.std.specs.Prelude.{◌≡◌, ◌⊎◌, ◌<◌, ℕ, ⊤, List, [], Option, Some, None, Result, Ok, Err}
-use Rattle.jb_disk.specs.File.{IsMeasured, count_of, size_of}
+use Rattle.jb_disk.specs.File.{IsMeasured, count_of, size_of_blocks}
 use Rattle.jb_disk.specs.Image.{Image}
 use Rattle.jb_disk.specs.declared.file.FileDisk.{FileDisk}
 use Rattle.jb_disk.specs.declared.start.Start.{Ghosts as Starts}
@@ -58,7 +58,7 @@ module _ {S T : Type 0} {start : Starts S} {other : Starts T} where
   -- a journal of exactly its superblock's blocks, and a file of blocks of the same size; they were asked their lengths and nothing else
   pub record AreTwoFiles (pair : PairDisk (FileDisk T other) (FileDisk S start)) (sb : Superblock) : Type 0 where
     pub count : count_of (front_disk pair) ≡ sb.maxlen
-    pub size : size_of (back_disk pair) ≡ size_of (front_disk pair)
+    pub size : size_of_blocks (back_disk pair) ≡ size_of_blocks (front_disk pair)
     pub front : IsMeasured (front_disk pair)
     pub back : IsMeasured (back_disk pair)
     pub fresh : past_states pair ≡ []
@@ -74,8 +74,8 @@ module _ {S T : Type 0} {start : Starts S} {other : Starts T} where
 
   -- some first bytes are a superblock, which says the image's block size; so many home blocks are after the journal that it says, and
   -- can be named in it
-  abbrev pub IsOpened : Option (List ℕ) → ImageDisk (FileDisk S start) (FileDisk T other) → ℕ → Type 0
-  IsOpened journal disk homes =
+  abbrev pub IsImageOpened : Option (List ℕ) → ImageDisk (FileDisk S start) (FileDisk T other) → ℕ → Type 0
+  IsImageOpened journal disk homes =
       (front : List ℕ) × (sb : Superblock) × (super_in front ≡ Ok sb) × (as_files.size disk ≡ sb.block_size) × (homes ≡ homes_in sb (as_files.count disk)) × IsHeldBy journal disk sb
 
   -- the image was not read, and nothing was done; or its clean journal was changed, in blocks of the size that its first bytes say, since
@@ -84,7 +84,7 @@ module _ {S T : Type 0} {start : Starts S} {other : Starts T} where
       → (R → Report) → List ℕ → Option (ImageDisk (FileDisk S start) (FileDisk T other)) → Result Report CommandFault → Type 0
   EndsOfChange Does IsMidst EndsAlike report name None end = (fault : CommandFault) × (end ≡ Err fault) × IsUnread name fault
   EndsOfChange Does IsMidst EndsAlike report name (Some new) end =
-      (old : ImageDisk (FileDisk S start) (FileDisk T other)) × (homes : ℕ) × IsOpened None old homes × ChangesOn as_files Does IsMidst EndsAlike report old new end
+      (old : ImageDisk (FileDisk S start) (FileDisk T other)) × (homes : ℕ) × IsImageOpened None old homes × ChangesOn as_files Does IsMidst EndsAlike report old new end
 
 -- ---- images that are made
 

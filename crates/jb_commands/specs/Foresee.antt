@@ -1,5 +1,5 @@
 -- How `jb recover --dry-run` ends on a disk.
-use Rattle.std.specs.Prelude.{◌≡◌, ℕ, Bool, if◌then◌else◌, List, [], ◌∷◌, ◌++◌, map, Option, Some, None, Result, Ok, Err, codes, decimal}
+use Rattle.std.specs.Prelude.{ℕ, Bool, if◌then◌else◌, List, [], ◌∷◌, ◌++◌, map, Option, Some, None, Result, Ok, Err, codes, decimal}
 use Rattle.jb_image.specs.declared.extents_fault.ExtentsFault.TheVariants.{Home}
 use Rattle.jb_text.specs.TextParts.{spelled}
 use Rattle.jb_image.specs.Images.{own_home}

@@ -1,5 +1,5 @@
 -- An image with its journal at its front, in a file of its own or within it: how it is opened, read and recovered.
-use Rattle.std.specs.Prelude.{◌≡◌, ◌⊎◌, ◌<◌, ◌≤◌, ℕ, Bool, true, false, ⊤, List, [], Option, Some, None, Result, Ok, Err}
+use Rattle.std.specs.Prelude.{◌≡◌, ◌⊎◌, ◌<◌, ◌≤◌, ℕ, Bool, true, false, ⊤, List, Option, Some, None, Result, Ok, Err}
 use Rattle.jb_block.specs.Size.{bytes_of}
 use Rattle.jb_block.specs.declared.size.BlockSize.{BlockSize}
 use Rattle.jb_args.specs.declared.option_name.OptionName.{OptionName}
@@ -23,7 +23,7 @@ use Rattle.jb_image.specs.declared.image.ImageDisk.TheVariants.{One, Two, Within
 use Rattle.jb_recover.specs.declared.fault.RecoverFault.{RecoverFault}
 use Rattle.jb_recover.specs.declared.recovered.Foreseen.{Foreseen}
 use Rattle.jb_commands.specs.Cat.{CatsOn}
-use Rattle.jb_commands.specs.Files.{IsOpened, IsShut, IsUnread, SaysSuper}
+use Rattle.jb_commands.specs.Files.{IsImageOpened, IsShut, IsUnread, SaysSuper}
 use Rattle.jb_commands.specs.Foresee.{Foretells, foreseen_end, own_checked}
 use Rattle.jb_commands.specs.Judge.{JudgesOn}
 use Rattle.jb_commands.specs.Recover.{RecoversOn}
@@ -92,7 +92,7 @@ module _ {S T : Type 0} {start : Starts S} {other : Starts T} where
 
   -- it is open, wherever its journal is
   abbrev pub IsOpenedAt : Option (List ℕ) → Option (List ℕ) → ImageDisk (FileDisk S start) (FileDisk T other) → ℕ → Type 0
-  IsOpenedAt journal None disk homes = IsOpened journal disk homes
+  IsOpenedAt journal None disk homes = IsImageOpened journal disk homes
   IsOpenedAt None (Some list) disk homes = IsOpenedWithin list disk homes
   IsOpenedAt (Some journal) (Some list) disk homes = ⊥
 

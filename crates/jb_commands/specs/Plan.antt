@@ -11,25 +11,25 @@ use Rattle.jb_price.specs.Verdict.{IsRight}
 use Rattle.jb_price.specs.declared.certificate.Cert.{Cert}
 use Rattle.jb_price.specs.declared.certificate.CertAnswer.{CertAnswer}
 use Rattle.jb_price.specs.declared.certificate.CertAnswer.TheVariants.{Cut, NoCut}
-use Rattle.jb_commands.specs.Cost.{entries_of, tags_of}
+use Rattle.jb_commands.specs.Cost.{full_entries, full_tags}
 use Rattle.jb_commands.specs.Faulty.{queue_fault}
 use Rattle.jb_commands.specs.AnswerSaid.{Said}
 
 -- the geometry is that of the queue's blocks
 abbrev pub IsGeometryOf : Queue → Geometry → Type 0
-IsGeometryOf q g = (g.t ≡ tags_of q) × (g.r ≡ entries_of q)
+IsGeometryOf q g = (g.t ≡ full_tags q) × (g.r ≡ full_entries q)
 
 -- each bound of the cut but the first comes after the least one that can come before it
-abbrev pub IsChosen : (ℕ → ℕ → ℕ) → ℕ → List (Option ℕ) → CertAnswer → Type 0
-IsChosen c limit ps (Cut bounds sum) = EachPiece (IsFirstToAttain c limit ps) bounds.items
-IsChosen c limit ps NoCut = Unit {0}
+abbrev pub IsEarliestCut : (ℕ → ℕ → ℕ) → ℕ → List (Option ℕ) → CertAnswer → Type 0
+IsEarliestCut c limit ps (Cut bounds sum) = EachPiece (IsFirstToAttain c limit ps) bounds.items
+IsEarliestCut c limit ps NoCut = Unit {0}
 
 -- the best certificate of n handles: price i is the least total over the cuts of the first i of them that fit, and no cut
 -- that fits takes fewer blocks than its cut; or it says that none fits, and none does
-pub record IsBest (c : ℕ → ℕ → ℕ) (limit n : ℕ) (cert : Cert) : Type 0 where
+pub record IsBestCert (c : ℕ → ℕ → ℕ) (limit n : ℕ) (cert : Cert) : Type 0 where
   pub prices : ArePrices c limit n cert.prices.items
   pub right : IsRight c limit n cert.answer
-  pub chosen : IsChosen c limit cert.prices.items cert.answer
+  pub chosen : IsEarliestCut c limit cert.prices.items cert.answer
 
 -- the answer of a certificate of this plan
 abbrev pub told_as : PlanAnswer → CertAnswer
@@ -42,8 +42,8 @@ status_of_plan (Cut bounds sum) = 0
 status_of_plan NoCut = 1
 
 -- the best certificate of a queue
-abbrev pub IsBestOf : Queue → Cert → Type 0
-IsBestOf q cert = (g : Geometry) × IsGeometryOf q g × IsBest (piece_cost g q.handles) q.limit (length q.handles) cert
+abbrev pub IsBestCertOf : Queue → Cert → Type 0
+IsBestCertOf q cert = (g : Geometry) × IsGeometryOf q g × IsBestCert (piece_cost g q.handles) q.limit (length q.handles) cert
 
 -- what `jb plan` says of a certificate
 abbrev pub plan_text : Cert → Said
@@ -51,7 +51,7 @@ plan_text cert = record { status = status_of_plan cert.answer; out = cert_text c
 
 -- what `jb plan` says of a queue, or of its first fault: the text of its best certificate
 abbrev pub SaysPlan : Result Queue QueueFault → Said → Type 0
-SaysPlan (Ok q) words = (cert : Cert) × IsBestOf q cert × (words ≡ plan_text cert)
+SaysPlan (Ok q) words = (cert : Cert) × IsBestCertOf q cert × (words ≡ plan_text cert)
 SaysPlan (Err fault) words = queue_fault fault ≡ Some words
 
 -- what `jb plan` says of the bytes of a text

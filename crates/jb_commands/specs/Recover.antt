@@ -1,6 +1,6 @@
 -- How a recovery of a disk ends, and its line.
 use Rattle.std.specs.Prelude.{◌≡◌, ◌⊎◌, ℕ, List, [], ◌∷◌, Option, Result, Ok, Err, OnOk, codes, decimal}
-use Rattle.jb_disk.specs.Image.{Image, Only}
+use Rattle.jb_disk.specs.Image.{Only}
 use Rattle.jb_disk.specs.KeptOn.{KeptOn}
 use Rattle.jb_disk.specs.Time.{LeavesOnly}
 use Rattle.jb_text.specs.TextParts.{spelled}

@@ -32,7 +32,8 @@ pub enum CommandFault<'a> {
     ReadFault,
     /// Journal block 0 is refused for this; `Geometry` also where there are fewer blocks than `s_maxlen`.
     Super(SuperFault),
-    /// The journal's own file has so many blocks, more than its superblock says (`s_maxlen`), which is the second number.
+    /// The journal's own file has so many blocks, more than its superblock says (`s_maxlen`), which is the second
+    /// number.
     JournalLength(u64, u32),
     /// The journal is not recovered into this file system.
     FileSystem(FileSystemFault),

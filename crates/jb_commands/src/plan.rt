@@ -2,7 +2,7 @@ ghost use Rattle.std.specs.Prelude.{◌≡◌, ◌^◌, ◌<◌, IfOk, Ok, lengt
 ghost use Rattle.jb_queue.specs.QueueText.{value_of};
 ghost use Rattle.jb_handle.specs.Size.{IsWithinSize};
 ghost use Rattle.jb_commands.specs.AnswerSaid.{said};
-ghost use Rattle.jb_commands.specs.Plan.{IsBestOf, PlanSays, SaysPlan, status_of_plan, told_as};
+ghost use Rattle.jb_commands.specs.Plan.{IsBestCertOf, PlanSays, SaysPlan, status_of_plan, told_as};
 
 use crate::answer::Answer;
 use crate::queue_fault::fault_answer;
@@ -56,7 +56,7 @@ fn status_of(answer: &CertAnswer) -> u8
 /// The best certificate of a queue.
 fn best_cert(alloc: Global, queue: &QueueText) -> Result<Cert, Memory>
     requires { IsWithinSize queue.now.handles.items }
-    ensures best { IfOk result (IsBestOf (value_of queue.now)) }
+    ensures best { IfOk result (IsBestCertOf (value_of queue.now)) }
 {
     let geometry = Geometry::of(queue.bs, queue.width);
     let planned = plan(alloc, queue.handles.as_slice(), geometry, queue.limit)?;

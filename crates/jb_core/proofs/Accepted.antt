@@ -8,7 +8,7 @@ use Rattle.jb_core.specs.declared.event.Event.{Event}
 use Rattle.jb_core.specs.declared.event.Event.TheVariants.{Restart}
 use Rattle.jb_core.specs.declared.event.CoreFault.{CoreFault}
 use Rattle.jb_core.specs.declared.event.CoreFault.TheVariants.{Down, Empty, BatchOut}
-use Rattle.jb_core.specs.Machine.{Machine, handle_at, held_at, refusal, refusal_by, refusal_up, refusal_down, refusal_take}
+use Rattle.jb_core.specs.Machine.{Machine, handle_at, held_at, event_refusal, refusal_by, refusal_up, refusal_down, refusal_take}
 
 pub found-none : {A : Type 0} (found : Option A) → is_some found ≡ false → found ≡ None
 found-none None is = refl
@@ -42,7 +42,7 @@ none-taken m none =
     none-left m.taken (let empty : length m.taken ≡ 0 = grind (arith, nat_tests) in omega arith)
 
 -- only a machine that is up accepts an event other than Restart
-pub accepted : (m : Machine) (e : Event) → refusal_down e ≡ Some Down → refusal m e ≡ None → (m.up ≡ true) × (refusal_up m e ≡ None)
+pub accepted : (m : Machine) (e : Event) → refusal_down e ≡ Some Down → event_refusal m e ≡ None → (m.up ≡ true) × (refusal_up m e ≡ None)
 accepted m e other none = at m.up refl none
   where
     at : (b : Bool) → m.up ≡ b → refusal_by b m e ≡ None → (m.up ≡ true) × (refusal_up m e ≡ None)
@@ -50,7 +50,7 @@ accepted m e other none = at m.up refl none
     at false down is = let both : Some Down ≡ None = sym other ∙ is in absurd (let h : ⊥ = cc in h)
 
 -- only one that is down accepts Restart
-pub restarted : (m : Machine) → refusal m Restart ≡ None → m.up ≡ false
+pub restarted : (m : Machine) → event_refusal m Restart ≡ None → m.up ≡ false
 restarted m none = at m.up refl none
   where
     at : (b : Bool) → m.up ≡ b → refusal_by b m Restart ≡ None → m.up ≡ false

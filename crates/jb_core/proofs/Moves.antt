@@ -7,7 +7,7 @@ use Rattle.jb_cost.specs.Cut.{RisesTo, IsCut}
 use Rattle.jb_cost.proofs.Cuts.{rises-le}
 use Rattle.jb_cost.specs.Pieces.{joined, pieces_from, pieces}
 use Rattle.jb_core.specs.Line.{Line, count, IsSettled, IsTaken, IsPushed}
-use Rattle.jb_core.specs.Stops.{line_of, IsInLine}
+use Rattle.jb_core.specs.Stops.{line_of_stops, IsInLine}
 use Rattle.jb_core.specs.declared.stops.Stops.TheInside.{Inside}
 use Rattle.jb_core.specs.Parted.{IsParted}
 use Rattle.jb_cost.proofs.Joined.{rises-append, pieces-append, take-pieces, drop-pieces, length-pieces, joined-pieces, pieces-take, pieces-shift, rises-shift}
@@ -57,9 +57,9 @@ abbrev pub taken_ends : Inside → List ℕ
 taken_ends s = drop s.settled s.ends.items
 
 -- as many groups are taken as there are ends of taken groups
-pub groups-there : (s : Inside) (l : Line) (n : ℕ) → line_of s ≡ l → n ≤ length l.taken → n ≤ length (taken_ends s)
+pub groups-there : (s : Inside) (l : Line) (n : ℕ) → line_of_stops s ≡ l → n ≤ length l.taken → n ≤ length (taken_ends s)
 groups-there s l n is there =
-    let groups : n ≤ length (line_of s).taken = subst (λ (k : Line). n ≤ length k.taken) (sym is) there in
+    let groups : n ≤ length (line_of_stops s).taken = subst (λ (k : Line). n ≤ length k.taken) (sym is) there in
     let same = length-pieces s.settled_end (taken_ends s) s.handles.items in
     omega (arith, groups, same)
 
@@ -80,18 +80,18 @@ module _ (s : Inside) (kept : IsInLine s) (n end : ℕ) (there : n ≤ length (t
     paired = kept.paired;
   }
 
-  taken_count : count (take n (line_of s).taken) ≡ end - s.settled_end
+  taken_count : count (take n (line_of_stops s).taken) ≡ end - s.settled_end
   taken_count = settled-count s.ends.items s.settled s.settled_end s.taken_end n end kept.settled parts s.handles.items kept.inside
 
-  pub settled-line : IsSettled n (line_of s) (line_of (settled_to s n end))
+  pub settled-line : IsSettled n (line_of_stops s) (line_of_stops (settled_to s n end))
   settled-line = record {
     settled = settled-pieces s.ends.items s.settled s.settled_end s.taken_end n end kept.settled parts s.handles.items;
     taken = taken-pieces s.ends.items s.settled s.settled_end s.taken_end n end kept.settled parts s.handles.items;
     queue = refl;
-    credits = drop-between s.settled_end end (count (take n (line_of s).taken)) s.granted.items parts.low taken_count;
+    credits = drop-between s.settled_end end (count (take n (line_of_stops s).taken)) s.granted.items parts.low taken_count;
   }
 
-  pub settled-credits : slice_range s.granted.items s.settled_end end ≡ take (count (take n (line_of s).taken)) (line_of s).credits
+  pub settled-credits : slice_range s.granted.items s.settled_end end ≡ take (count (take n (line_of_stops s).taken)) (line_of_stops s).credits
   settled-credits = ap (λ k. take k (drop s.settled_end s.granted.items)) (sym taken_count)
 
 length-first : {A : Type 0} (n : ℕ) (xs : List A) → n ≤ length xs → length (take n xs) ≡ n
@@ -109,7 +109,7 @@ module _ (s : Inside) (kept : IsInLine s) (t : Inside) (handles : t.handles.item
   same-ends : take t.settled t.ends.items ≡ take s.settled s.ends.items
   same-ends = ap (λ n. take n t.ends.items) settled ∙ ap (take s.settled) ends ∙ take-take s.settled s.settled s.ends.items (le_refl s.settled)
 
-  pub cut-settled : (line_of t).settled ≡ (line_of s).settled
+  pub cut-settled : (line_of_stops t).settled ≡ (line_of_stops s).settled
   cut-settled = ap (λ es. pieces_from 0 es t.handles.items) same-ends ∙ ap (pieces_from 0 (take s.settled s.ends.items)) handles ∙ pieces-take s.settled_end 0 (take s.settled s.ends.items) s.handles.items kept.settled
 
   settled-inside : s.settled_end ≤ length s.handles.items
@@ -140,7 +140,7 @@ longer-pieces e a es xs ys rises inside = sym (pieces-take e a es (xs ++ ys) ris
 pub push-line : (s : Inside) → IsInLine s → (t : Inside) (handle : Stopped) (credits : ℕ)
     → t.handles.items ≡ s.handles.items ++ handle ∷ [] → t.granted.items ≡ s.granted.items ++ credits ∷ []
     → t.ends.items ≡ s.ends.items → t.taken_end ≡ s.taken_end → t.settled ≡ s.settled → t.settled_end ≡ s.settled_end
-    → IsPushed handle credits (line_of s) (line_of t)
+    → IsPushed handle credits (line_of_stops s) (line_of_stops t)
 push-line s kept t handle credits handles granted ends taken_end settled settled_end =
     let before : s.settled_end ≤ s.taken_end = rises-le s.taken_end s.settled_end (taken_ends s) kept.taken in
     let inside = kept.inside in
@@ -168,7 +168,7 @@ cut-pieces : {A : Type 0} (n : ℕ) (bounds : List ℕ) (xs : List A) → IsCut 
 cut-pieces n [] xs cut = absurd cut
 cut-pieces n (a ∷ bs) xs cut = ap (λ x. pieces_from x bs xs) (sym cut.0)
 
-module _ (s : Inside) (kept : IsInLine s) (bounds : List ℕ) (cut : IsCut (length (line_of s).queue) bounds) (none : (line_of s).taken ≡ []) (t : Inside)
+module _ (s : Inside) (kept : IsInLine s) (bounds : List ℕ) (cut : IsCut (length (line_of_stops s).queue) bounds) (none : (line_of_stops s).taken ≡ []) (t : Inside)
     (handles : t.handles.items ≡ s.handles.items) (granted : t.granted.items ≡ s.granted.items) (ends : t.ends.items ≡ s.ends.items ++ map (λ end. s.taken_end + end) (drop 1 bounds))
     (taken_end : t.taken_end ≡ length s.handles.items) (settled : t.settled ≡ s.settled) (settled_end : t.settled_end ≡ s.settled_end) where
   no-ends : length (taken_ends s) ≡ 0
@@ -184,16 +184,13 @@ module _ (s : Inside) (kept : IsInLine s) (bounds : List ℕ) (cut : IsCut (leng
   all-end : s.settled_end ≡ s.taken_end
   all-end = end-settled (taken_ends s) no-ends kept.taken
 
-  more : List ℕ
-  more = map (λ end. s.taken_end + end) (drop 1 bounds)
-
   new-ends : drop t.settled t.ends.items ≡ map (λ end. s.taken_end + end) (drop 1 bounds)
   new-ends = rw (ends, settled, all-settled) (drop-append_seam s.ends.items (map (λ end. s.taken_end + end) (drop 1 bounds)))
 
   old-ends : take t.settled t.ends.items ≡ take s.settled s.ends.items
   old-ends = rw (ends, settled) (take-append-le s.settled s.ends.items (map (λ end. s.taken_end + end) (drop 1 bounds)) kept.counted)
 
-  behind : s.taken_end + length (line_of s).queue ≡ length s.handles.items
+  behind : s.taken_end + length (line_of_stops s).queue ≡ length s.handles.items
   behind = let left = length-drop s.taken_end s.handles.items in let inside = kept.inside in omega arith
 
   from-end : s.taken_end + 0 ≡ t.settled_end
@@ -204,12 +201,12 @@ module _ (s : Inside) (kept : IsInLine s) (bounds : List ℕ) (cut : IsCut (leng
     counted = let counted = kept.counted in let longer = ap length ends ∙ length-append s.ends.items (map (λ end. s.taken_end + end) (drop 1 bounds)) in omega (arith, settled);
     settled = subst (λ es. RisesTo t.settled_end 0 es) (sym old-ends) (subst (λ m. RisesTo m 0 (take s.settled s.ends.items)) (sym settled_end) kept.settled);
     taken = subst (λ es. RisesTo t.taken_end t.settled_end es) (sym new-ends) (subst (λ a. RisesTo t.taken_end a (map (λ end. s.taken_end + end) (drop 1 bounds))) from-end
-        (subst (λ n. RisesTo n (s.taken_end + 0) (map (λ end. s.taken_end + end) (drop 1 bounds))) (behind ∙ sym taken_end) (rises-shift s.taken_end (length (line_of s).queue) 0 (drop 1 bounds) (cut-rises (length (line_of s).queue) bounds cut))));
+        (subst (λ n. RisesTo n (s.taken_end + 0) (map (λ end. s.taken_end + end) (drop 1 bounds))) (behind ∙ sym taken_end) (rises-shift s.taken_end (length (line_of_stops s).queue) 0 (drop 1 bounds) (cut-rises (length (line_of_stops s).queue) bounds cut))));
     inside = let same = ap length handles in omega (arith, taken_end);
     paired = ap length granted ∙ kept.paired ∙ sym (ap length handles);
   }
 
-  pub take-line : IsTaken bounds (line_of s) (line_of t)
+  pub take-line : IsTaken bounds (line_of_stops s) (line_of_stops t)
   take-line = record {
     settled = ap (λ es. pieces_from 0 es t.handles.items) old-ends ∙ ap (pieces_from 0 (take s.settled s.ends.items)) handles;
     taken =
@@ -217,7 +214,7 @@ module _ (s : Inside) (kept : IsInLine s) (bounds : List ℕ) (cut : IsCut (leng
         ∙ ap (λ a. pieces_from a (map (λ end. s.taken_end + end) (drop 1 bounds)) t.handles.items) (sym from-end)
         ∙ ap (pieces_from (s.taken_end + 0) (map (λ end. s.taken_end + end) (drop 1 bounds))) handles
         ∙ pieces-shift s.taken_end 0 (drop 1 bounds) s.handles.items
-        ∙ cut-pieces (length (line_of s).queue) bounds (drop s.taken_end s.handles.items) cut;
+        ∙ cut-pieces (length (line_of_stops s).queue) bounds (drop s.taken_end s.handles.items) cut;
     queue = ap (λ xs. drop t.taken_end xs) handles ∙ ap (λ n. drop n s.handles.items) taken_end ∙ drop-length s.handles.items;
     credits = ap (λ xs. drop t.settled_end xs) granted ∙ ap (λ n. drop n s.granted.items) settled_end;
   }
@@ -239,10 +236,10 @@ module _ (s : Inside) (kept : IsInLine s) where
   all-rise : RisesTo s.taken_end 0 s.ends.items
   all-rise = subst (RisesTo s.taken_end 0) (take-append-drop s.settled s.ends.items) (rises-append s.settled_end s.taken_end 0 (take s.settled s.ends.items) (taken_ends s) kept.settled kept.taken)
 
-  all-pieces : pieces_from 0 s.ends.items s.handles.items ≡ (line_of s).settled ++ (line_of s).taken
+  all-pieces : pieces_from 0 s.ends.items s.handles.items ≡ (line_of_stops s).settled ++ (line_of_stops s).taken
   all-pieces = ap (λ es. pieces_from 0 es s.handles.items) (sym (take-append-drop s.settled s.ends.items)) ∙ pieces-append s.settled_end 0 (take s.settled s.ends.items) (taken_ends s) s.handles.items kept.settled
 
-  pub no-group : (i : ℕ) → length s.ends.items ≤ i → slice_get ((line_of s).settled ++ (line_of s).taken) i ≡ None
+  pub no-group : (i : ℕ) → length s.ends.items ≤ i → slice_get ((line_of_stops s).settled ++ (line_of_stops s).taken) i ≡ None
   no-group i over = let same = length-pieces 0 s.ends.items s.handles.items in rw (sym all-pieces) (get-over (pieces_from 0 s.ends.items s.handles.items) i (omega arith))
 
   module _ (i start : ℕ) (there : i < length s.ends.items) (found : (last : ℕ) → RisesTo last 0 s.ends.items → IsParted last 0 i s.ends.items start) where
@@ -259,6 +256,6 @@ module _ (s : Inside) (kept : IsInLine s) where
         let inside = kept.inside in
         (omega arith, omega arith)
 
-    pub group-is : slice_get ((line_of s).settled ++ (line_of s).taken) i ≡ Some (slice_range s.handles.items start (get_or s.ends.items i 0))
+    pub group-is : slice_get ((line_of_stops s).settled ++ (line_of_stops s).taken) i ≡ Some (slice_range s.handles.items start (get_or s.ends.items i 0))
     group-is = rw (sym all-pieces) (get-first (pieces_from 0 s.ends.items s.handles.items) i _ _
         (drop-pieces i start 0 s.ends.items s.handles.items (found s.taken_end all-rise).first ∙ ap (λ es. pieces_from start es s.handles.items) group-ends))

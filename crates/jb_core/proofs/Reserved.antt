@@ -11,7 +11,7 @@ use Rattle.std.specs.FinMap as map
 use Rattle.jb_handle.specs.Held.{Held, held}
 use Rattle.jb_core.specs.declared.event.Event.TheVariants.{Open, Stop, Settle}
 use Rattle.jb_core.specs.Line.{count}
-use Rattle.jb_core.specs.Machine.{Machine, handle_at, held_at, reserved, after}
+use Rattle.jb_core.specs.Machine.{Machine, handle_at, held_at, reserved, after_event}
 use Rattle.jb_core.proofs.Accepted.{there-at}
 use Rattle.jb_core.proofs.Entries.{sum-insert}
 
@@ -20,7 +20,7 @@ credits_of h = h.credits
 
 module _ (m : Machine) where
   -- the credits of a new handle are reserved
-  pub open-reserved : (seat credits : ℕ) → handle_at m seat ≡ None → reserved (after m (Open seat credits)) ≡ reserved m + credits
+  pub open-reserved : (seat credits : ℕ) → handle_at m seat ≡ None → reserved (after_event m (Open seat credits)) ≡ reserved m + credits
   open-reserved seat credits none = let all = sum-insert credits_of m.handles seat (held credits m.shape map.empty) none in omega (arith, all)
 
   -- a change leaves the credits of its handle
@@ -35,7 +35,7 @@ module _ (m : Machine) where
       omega (arith, all, before)
 
   -- a handle that stops keeps its credits
-  pub stop-reserved : (seat : ℕ) (h : Held) → handle_at m seat ≡ Some h → reserved (after m (Stop seat)) ≡ reserved m
+  pub stop-reserved : (seat : ℕ) (h : Held) → handle_at m seat ≡ Some h → reserved (after_event m (Stop seat)) ≡ reserved m
   stop-reserved seat h there =
       let all = gone-reserved seat h there in
       let more = sum_by-append (λ (x : ℕ). x) m.credits ((held_at m seat).credits ∷ []) in
@@ -44,5 +44,5 @@ module _ (m : Machine) where
       omega (arith, all, more, same, one)
 
   -- the credits of settled handles are left over
-  pub settle-reserved : (n : ℕ) → reserved (after m (Settle n)) + sum (take (count (take n m.taken)) m.credits) ≡ reserved m
+  pub settle-reserved : (n : ℕ) → reserved (after_event m (Settle n)) + sum (take (count (take n m.taken)) m.credits) ≡ reserved m
   settle-reserved n = let parts = sum_by-take-drop (λ (x : ℕ). x) m.credits (count (take n m.taken)) in omega arith

@@ -19,16 +19,16 @@ use Rattle.jb_core.specs.declared.event.Event.{Event}
 use Rattle.jb_core.specs.declared.event.Event.TheVariants.{Open, Touch, Stop, Abandon, Take, Settle, Checkpoint, Crash, Restart}
 use Rattle.jb_core.specs.declared.state.State.TheInside.{Inside}
 use Rattle.jb_core.specs.Lives.{Log, settled_now}
-use Rattle.jb_core.specs.Machine.{Machine, reserved, refusal, after}
-use Rattle.jb_core.specs.Ran.{IsStart, Ran}
-use Rattle.jb_core.specs.Sound.{waiting, stopped_now, IsGranted, IsSound}
-use Rattle.jb_core.specs.State.{machine_of, IsKept as IsStateKept}
+use Rattle.jb_core.specs.Machine.{Machine, reserved, event_refusal, after_event}
+use Rattle.jb_core.specs.Ran.{IsNewMachine, Ran}
+use Rattle.jb_core.specs.Sound.{waiting, stopped_now, IsGranted, IsMachineSound}
+use Rattle.jb_core.specs.State.{machine_of, IsMachineKept}
 use Rattle.jb_core.specs.Steps.{IsLeast}
 use Rattle.jb_core.proofs.Accepted.{none-taken, accepted, restarted, still-up}
 use Rattle.jb_core.proofs.Sounds.{open-sound, touch-sound, stop-sound, abandon-sound, take-sound, settle-sound, checkpoint-sound, crash-sound, restart-sound}
 
 -- the planner takes any queue of a machine
-pub queue-size : (m : Machine) → IsSound m → m.up ≡ true → IsWithinSize m.queue
+pub queue-size : (m : Machine) → IsMachineSound m → m.up ≡ true → IsWithinSize m.queue
 queue-size m sound up =
     let all = covers-weight m.credits (waiting m) sound.covered in
     let parts = sum_by-append (λ (g : Stopped). map.len g.words + 1) (joined m.taken) m.queue in
@@ -39,7 +39,7 @@ queue-size m sound up =
     omega arith
 
 -- an event that nothing refuses leaves a sound machine sound
-pub after-sound : (m : Machine) → IsSound m → (e : Event) → refusal m e ≡ None → IsLeast m e → IsSound (after m e)
+pub after-sound : (m : Machine) → IsMachineSound m → (e : Event) → event_refusal m e ≡ None → IsLeast m e → IsMachineSound (after_event m e)
 after-sound m sound (Open seat credits) none least = let is = accepted m (Open seat credits) refl none in open-sound m sound is.0 seat credits is.1
 after-sound m sound (Touch seat op) none least = let is = accepted m (Touch seat op) refl none in touch-sound m sound is.0 seat op is.1
 after-sound m sound (Stop seat) none least = let is = accepted m (Stop seat) refl none in stop-sound m sound is.0 seat is.1
@@ -50,7 +50,7 @@ after-sound m sound Checkpoint none least = let is = accepted m Checkpoint refl 
 after-sound m sound (Crash n) none least = crash-sound m sound n
 after-sound m sound Restart none least = restart-sound m sound (restarted m none)
 
-started : (shape : Shape) (m : Machine) → IsStart shape m → IsSound m
+started : (shape : Shape) (m : Machine) → IsNewMachine shape m → IsMachineSound m
 started shape m start =
     let none : stopped_now m ≡ [] = rw (start.settled, start.earlier, start.taken, start.queue) refl in
     let idle : waiting m ≡ [] = rw (start.taken, start.queue) refl in
@@ -70,11 +70,11 @@ started shape m start =
     }
 
 -- so is each machine of a run
-pub sounds : (shape : Shape) (log : Log) (m : Machine) → Ran shape log m → IsSound m
+pub sounds : (shape : Shape) (log : Log) (m : Machine) → Ran shape log m → IsMachineSound m
 sounds shape [] m start = started shape m start
-sounds shape ((e, Ok reply) ∷ earlier) m (before, ran, step) = subst IsSound (sym step.2) (after-sound before (sounds shape earlier before ran) e step.0 step.1)
-sounds shape ((e, Err fault) ∷ earlier) m (before, ran, step) = subst IsSound (sym step.1) (sounds shape earlier before ran)
+sounds shape ((e, Ok reply) ∷ earlier) m (before, ran, step) = subst IsMachineSound (sym step.2) (after-sound before (sounds shape earlier before ran) e step.0 step.1)
+sounds shape ((e, Err fault) ∷ earlier) m (before, ran, step) = subst IsMachineSound (sym step.1) (sounds shape earlier before ran)
 
 -- how a state is kept, said of its machine
-pub kept-by : (t : Inside) (m : Machine) → machine_of t ≡ m → IsSound m → t.reserved ≡ reserved m → IsOrdered nat_cmp t.handles → IsStateKept t
-kept-by t m is sound counted ordered = record { sound = subst IsSound (sym is) sound; counted = counted ∙ ap reserved (sym is); ordered = ordered }
+pub kept-by : (t : Inside) (m : Machine) → machine_of t ≡ m → IsMachineSound m → t.reserved ≡ reserved m → IsOrdered nat_cmp t.handles → IsMachineKept t
+kept-by t m is sound counted ordered = record { sound = subst IsMachineSound (sym is) sound; counted = counted ∙ ap reserved (sym is); ordered = ordered }

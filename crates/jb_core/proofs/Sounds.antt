@@ -27,8 +27,8 @@ use Rattle.jb_core.specs.declared.event.Event.TheVariants.{Open, Touch, Stop, Ab
 use Rattle.jb_core.specs.declared.event.CoreFault.TheVariants.{Busy, NoHandle, TooManyCredits, Full, Nothing}
 use Rattle.jb_core.specs.Line.{count}
 use Rattle.jb_core.specs.Lives.{settled_now}
-use Rattle.jb_core.specs.Machine.{Machine, handle_at, held_at, reserved, is_full, refusal_up, stopped_at, after, after_take}
-use Rattle.jb_core.specs.Sound.{waiting, stopped_now, IsGranted, IsSound}
+use Rattle.jb_core.specs.Machine.{Machine, handle_at, held_at, reserved, is_full, refusal_up, stopped_at, after_event, after_take}
+use Rattle.jb_core.specs.Sound.{waiting, stopped_now, IsGranted, IsMachineSound}
 use Rattle.jb_core.proofs.Accepted.{found-none, found-some, first-false, opens, still-up, there-at}
 use Rattle.jb_core.proofs.Groups.{more-settled, parts-joined}
 use Rattle.jb_core.proofs.Entries.{length-insert_entry, length-remove_entry}
@@ -39,7 +39,7 @@ after-kept : (h : Held) (op : Op) → IsKept h → handle.refusal h op ≡ None 
 after-kept h (Write home bytes) kept none = copy-kept h home bytes kept none
 after-kept h (Revoke home) kept none = free-kept h home kept none
 
-module _ (m : Machine) (sound : IsSound m) where
+module _ (m : Machine) (sound : IsMachineSound m) where
   -- what a seat holds is within what was granted
   pub granted-at : (seat : ℕ) (h : Held) → handle_at m seat ≡ Some h → IsGranted m.shape m.most h
   granted-at seat h there = subst (λ found. IfSome found (IsGranted m.shape m.most)) there (IfSome-lookup_from_All (IsGranted m.shape m.most) (is_at (nat_cmp seat)) m.handles sound.granted)
@@ -48,7 +48,7 @@ module _ (m : Machine) (sound : IsSound m) where
   granted-held seat h there = subst (IsGranted m.shape m.most) (sym (there-at m seat h there)) (granted-at seat h there)
 
   module _ (up : m.up ≡ true) where
-    pub open-sound : (seat credits : ℕ) → refusal_up m (Open seat credits) ≡ None → IsSound (after m (Open seat credits))
+    pub open-sound : (seat credits : ℕ) → refusal_up m (Open seat credits) ≡ None → IsMachineSound (after_event m (Open seat credits))
     open-sound seat credits passed =
         let tests = opens (is_some (handle_at m seat)) (nat_lt m.most credits) (is_full m credits) Busy (TooManyCredits m.most) (Full (reserved m)) passed in
         let full = or_parts (nat_lt 2147483646 (reserved m + credits)) (nat_le (2 ^ 61) (m.next + length m.handles)) tests.2 in
@@ -77,7 +77,7 @@ module _ (m : Machine) (sound : IsSound m) where
           down = still-up m.up up;
         }
 
-    pub touch-sound : (seat : ℕ) (op : Op) → refusal_up m (Touch seat op) ≡ None → IsSound (after m (Touch seat op))
+    pub touch-sound : (seat : ℕ) (op : Op) → refusal_up m (Touch seat op) ≡ None → IsMachineSound (after_event m (Touch seat op))
     touch-sound seat op passed =
         let first = first-false (is_none (handle_at m seat)) NoHandle _ passed in
         let found = found-some (handle_at m seat) first.0 in
@@ -99,10 +99,10 @@ module _ (m : Machine) (sound : IsSound m) where
           down = still-up m.up up;
         }
 
-    gone-granted : (seat : ℕ) → All (IsGranted m.shape m.most) (values_of (after m (Abandon seat)).handles)
+    gone-granted : (seat : ℕ) → All (IsGranted m.shape m.most) (values_of (after_event m (Abandon seat)).handles)
     gone-granted seat = All-map-remove_entry (is_at (nat_cmp seat)) (λ (e : ℕ × Held). e.1) (IsGranted m.shape m.most) m.handles sound.granted
 
-    pub abandon-sound : (seat : ℕ) → refusal_up m (Abandon seat) ≡ None → IsSound (after m (Abandon seat))
+    pub abandon-sound : (seat : ℕ) → refusal_up m (Abandon seat) ≡ None → IsMachineSound (after_event m (Abandon seat))
     abandon-sound seat passed =
         let found = found-some (handle_at m seat) (first-false (is_none (handle_at m seat)) NoHandle [] passed).0 in
         record {
@@ -120,12 +120,12 @@ module _ (m : Machine) (sound : IsSound m) where
           down = still-up m.up up;
         }
 
-    pub stop-sound : (seat : ℕ) → refusal_up m (Stop seat) ≡ None → IsSound (after m (Stop seat))
+    pub stop-sound : (seat : ℕ) → refusal_up m (Stop seat) ≡ None → IsMachineSound (after_event m (Stop seat))
     stop-sound seat passed =
         let found = found-some (handle_at m seat) (first-false (is_none (handle_at m seat)) NoHandle [] passed).0 in
         let granted = granted-held seat found.0 found.1 in
         let line : waiting m ++ stopped_at m seat ∷ [] ≡ joined m.taken ++ (m.queue ++ stopped_at m seat ∷ []) = append_assoc (joined m.taken) m.queue (stopped_at m seat ∷ []) in
-        let all : stopped_now m ++ stopped_at m seat ∷ [] ≡ stopped_now (after m (Stop seat)) = append_assoc (settled_now m) (waiting m) (stopped_at m seat ∷ []) ∙ ap (λ hs. settled_now m ++ hs) line in
+        let all : stopped_now m ++ stopped_at m seat ∷ [] ≡ stopped_now (after_event m (Stop seat)) = append_assoc (settled_now m) (waiting m) (stopped_at m seat ∷ []) ∙ ap (λ hs. settled_now m ++ hs) line in
         let counted = sound.counted up in
         let longer = length-append (stopped_now m) (stopped_at m seat ∷ []) in
         record {
@@ -145,7 +145,7 @@ module _ (m : Machine) (sound : IsSound m) where
           down = still-up m.up up;
         }
 
-    pub take-sound : (bounds : List ℕ) → m.taken ≡ [] → IsCut (length m.queue) bounds → IsSound (after_take m bounds)
+    pub take-sound : (bounds : List ℕ) → m.taken ≡ [] → IsCut (length m.queue) bounds → IsMachineSound (after_take m bounds)
     take-sound bounds none cut =
         let line : waiting m ≡ joined (pieces bounds m.queue) ++ [] = ap (λ gs. joined gs ++ m.queue) none ∙ sym (cut-joined bounds m.queue cut) ∙ sym (append-nil (joined (pieces bounds m.queue))) in
         let all : stopped_now m ≡ stopped_now (after_take m bounds) = ap (λ hs. settled_now m ++ hs) line in
@@ -164,10 +164,10 @@ module _ (m : Machine) (sound : IsSound m) where
           down = still-up m.up up;
         }
 
-    pub settle-sound : (n : ℕ) → IsSound (after m (Settle n))
+    pub settle-sound : (n : ℕ) → IsMachineSound (after_event m (Settle n))
     settle-sound n =
         let line : drop (count (take n m.taken)) (waiting m) ≡ joined (drop n m.taken) ++ m.queue = drop-joined n m.taken m.queue in
-        let all : stopped_now m ≡ stopped_now (after m (Settle n)) = sym (parts-joined m sound.lives n) ∙ ap (λ xs. xs ++ (joined (drop n m.taken) ++ m.queue)) (sym (more-settled m sound.lives n)) in
+        let all : stopped_now m ≡ stopped_now (after_event m (Settle n)) = sym (parts-joined m sound.lives n) ∙ ap (λ xs. xs ++ (joined (drop n m.taken) ++ m.queue)) (sym (more-settled m sound.lives n)) in
         let longer = length-append m.settled (take n m.taken) in
         record {
           most = sound.most;
@@ -184,7 +184,7 @@ module _ (m : Machine) (sound : IsSound m) where
           down = still-up m.up up;
         }
 
-    pub checkpoint-sound : refusal_up m Checkpoint ≡ None → IsSound (after m Checkpoint)
+    pub checkpoint-sound : refusal_up m Checkpoint ≡ None → IsMachineSound (after_event m Checkpoint)
     checkpoint-sound passed =
         let test : nat_le (length m.settled) m.checkpointed ≡ false = (first-false (nat_le (length m.settled) m.checkpointed) Nothing [] passed).0 in
         let more : m.checkpointed < length m.settled = grind (arith, nat_tests) in
@@ -203,10 +203,10 @@ module _ (m : Machine) (sound : IsSound m) where
           down = still-up m.up up;
         }
 
-  pub crash-sound : (n : ℕ) → IsSound (after m (Crash n))
+  pub crash-sound : (n : ℕ) → IsMachineSound (after_event m (Crash n))
   crash-sound n =
       let longer = length-append m.settled (take n m.taken) in
-      let kept : settled_now m ++ joined (take n m.taken) ≡ stopped_now (after m (Crash n)) = sym (more-settled m sound.lives n) ∙ sym (append-nil _) in
+      let kept : settled_now m ++ joined (take n m.taken) ≡ stopped_now (after_event m (Crash n)) = sym (more-settled m sound.lives n) ∙ sym (append-nil _) in
       record {
         most = sound.most;
         granted = All-nil (IsGranted m.shape m.most);
@@ -222,10 +222,10 @@ module _ (m : Machine) (sound : IsSound m) where
         down = λ down. record { handles = refl; taken = refl; queue = refl; credits = refl };
       }
 
-  pub restart-sound : m.up ≡ false → IsSound (after m Restart)
+  pub restart-sound : m.up ≡ false → IsMachineSound (after_event m Restart)
   restart-sound down =
       let bare = sound.down down in
-      let none : stopped_now (after m Restart) ≡ [] = rw (drop-length m.settled, bare.taken, bare.queue) refl in
+      let none : stopped_now (after_event m Restart) ≡ [] = rw (drop-length m.settled, bare.taken, bare.queue) refl in
       record {
         most = sound.most;
         granted = sound.granted;

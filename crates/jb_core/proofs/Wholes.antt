@@ -18,11 +18,11 @@ use Rattle.jb_core.specs.declared.event.CoreFault.{CoreFault}
 use Rattle.jb_core.specs.declared.event.CoreFault.TheVariants.{Busy, NoHandle, TooManyCredits, Full}
 use Rattle.jb_cost.specs.Pieces.{joined, pieces}
 use Rattle.jb_cost.proofs.Joined.{cut-joined}
-use Rattle.jb_core.specs.Machine.{Machine, handle_at, held_at, reserved, is_full, refusal, stopped_at, after, reply_of}
-use Rattle.jb_core.specs.Sound.{IsBare}
-use Rattle.jb_core.specs.Steps.{Steps, IsLeast}
-use Rattle.jb_core.specs.Lives.{Log, Answer, ops_of, ticket_in, stop_order, past_orders, stopped_by, handles_of, settled_now, PastKept, IsWhole, log_from}
-use Rattle.jb_core.specs.Ran.{IsStart, Ran}
+use Rattle.jb_core.specs.Machine.{Machine, handle_at, held_at, reserved, is_full, event_refusal, stopped_at, after_event, reply_of}
+use Rattle.jb_core.specs.Sound.{HasOnlySettled}
+use Rattle.jb_core.specs.Steps.{MachineSteps, IsLeast}
+use Rattle.jb_core.specs.Lives.{Log, Answer, ops_of, ticket_in, stop_order, past_orders, stopped_by, handles_of_order, settled_now, PastKept, IsWhole, log_from}
+use Rattle.jb_core.specs.Ran.{IsNewMachine, Ran}
 use Rattle.jb_core.proofs.Accepted.{found-none, found-some, first-false, opens, none-taken, accepted, restarted, still-up, there-at}
 use Rattle.jb_core.proofs.Groups.{more-settled, parts-joined}
 use Rattle.jb_core.specs.Seats.{Once}
@@ -33,7 +33,7 @@ record Stands (log : Log) (m : Machine) : Type 0 where
   handles : AreBy log m.handles
   once : Once m.handles
   lives : m.earlier ≤ length m.settled
-  bare : m.up ≡ false → IsBare m
+  bare : m.up ≡ false → HasOnlySettled m
   whole : IsWhole log m
 
 -- the words of a seat's handle are those of its changes
@@ -52,7 +52,7 @@ module _ (log : Log) (m : Machine) (s : Stands log m) where
     whole = record { up = s.whole.up; crashed = s.whole.crashed; past = s.whole.past };
   }
 
-  opened : (seat credits : ℕ) (reply : Reply) → refusal m (Open seat credits) ≡ None → Stands ((Open seat credits, Ok reply) ∷ log) (after m (Open seat credits))
+  opened : (seat credits : ℕ) (reply : Reply) → event_refusal m (Open seat credits) ≡ None → Stands ((Open seat credits, Ok reply) ∷ log) (after_event m (Open seat credits))
   opened seat credits reply none =
       let granted = accepted m (Open seat credits) refl none in
       let tests = opens (is_some (handle_at m seat)) (nat_lt m.most credits) (is_full m credits) Busy (TooManyCredits m.most) (Full (reserved m)) granted.1 in
@@ -65,7 +65,7 @@ module _ (log : Log) (m : Machine) (s : Stands log m) where
         whole = record { up = s.whole.up; crashed = s.whole.crashed; past = s.whole.past };
       }
 
-  touched : (seat : ℕ) (op : Op) (reply : Reply) → refusal m (Touch seat op) ≡ None → Stands ((Touch seat op, Ok reply) ∷ log) (after m (Touch seat op))
+  touched : (seat : ℕ) (op : Op) (reply : Reply) → event_refusal m (Touch seat op) ≡ None → Stands ((Touch seat op, Ok reply) ∷ log) (after_event m (Touch seat op))
   touched seat op reply none =
       let granted = accepted m (Touch seat op) refl none in
       let found = found-some (handle_at m seat) (first-false (is_none (handle_at m seat)) NoHandle _ granted.1).0 in
@@ -79,7 +79,7 @@ module _ (log : Log) (m : Machine) (s : Stands log m) where
         whole = record { up = s.whole.up; crashed = s.whole.crashed; past = s.whole.past };
       }
 
-  stopped : (seat : ℕ) (reply : Reply) → refusal m (Stop seat) ≡ None → reply ≡ Ticket m.next → Stands ((Stop seat, Ok reply) ∷ log) (after m (Stop seat))
+  stopped : (seat : ℕ) (reply : Reply) → event_refusal m (Stop seat) ≡ None → reply ≡ Ticket m.next → Stands ((Stop seat, Ok reply) ∷ log) (after_event m (Stop seat))
   stopped seat reply none is =
       let granted = accepted m (Stop seat) refl none in
       let found = found-some (handle_at m seat) (first-false (is_none (handle_at m seat)) NoHandle _ granted.1).0 in
@@ -96,14 +96,14 @@ module _ (log : Log) (m : Machine) (s : Stands log m) where
               ap (λ xs. settled_now m ++ xs) (sym (append_assoc (joined m.taken) m.queue (stopped_at m seat ∷ [])))
               ∙ sym (append_assoc (settled_now m) (joined m.taken ++ m.queue) (stopped_at m seat ∷ []))
               ∙ ap (λ xs. xs ++ stopped_at m seat ∷ []) (s.whole.up up)
-              ∙ ap (λ x. handles_of (stop_order log) ++ x ∷ []) one
+              ∙ ap (λ x. handles_of_order (stop_order log) ++ x ∷ []) one
               ∙ sym (map-append stopped_by (stop_order log) ((ticket_in reply, ops_of seat log) ∷ []));
           crashed = still-up m.up granted.0;
           past = s.whole.past;
         };
       }
 
-  abandoned : (seat : ℕ) (reply : Reply) → refusal m (Abandon seat) ≡ None → Stands ((Abandon seat, Ok reply) ∷ log) (after m (Abandon seat))
+  abandoned : (seat : ℕ) (reply : Reply) → event_refusal m (Abandon seat) ≡ None → Stands ((Abandon seat, Ok reply) ∷ log) (after_event m (Abandon seat))
   abandoned seat reply none =
       let granted = accepted m (Abandon seat) refl none in
       record {
@@ -114,7 +114,7 @@ module _ (log : Log) (m : Machine) (s : Stands log m) where
         whole = record { up = s.whole.up; crashed = s.whole.crashed; past = s.whole.past };
       }
 
-  taken : (bounds : _) (reply : Reply) → refusal m (Take bounds) ≡ None → IsLeast m (Take bounds) → Stands ((Take bounds, Ok reply) ∷ log) (after m (Take bounds))
+  taken : (bounds : _) (reply : Reply) → event_refusal m (Take bounds) ≡ None → IsLeast m (Take bounds) → Stands ((Take bounds, Ok reply) ∷ log) (after_event m (Take bounds))
   taken bounds reply none least =
       let granted = accepted m (Take bounds) refl none in
       let free = none-taken m granted.1 in
@@ -138,7 +138,7 @@ module _ (log : Log) (m : Machine) (s : Stands log m) where
   same-past : (n : ℕ) → PastKept (past_orders log) (take m.earlier (m.settled ++ take n m.taken))
   same-past n = subst (PastKept (past_orders log)) (sym (take-append-le m.earlier m.settled (take n m.taken) s.lives)) s.whole.past
 
-  settled : (n : ℕ) (reply : Reply) → refusal m (Settle n) ≡ None → Stands ((Settle n, Ok reply) ∷ log) (after m (Settle n))
+  settled : (n : ℕ) (reply : Reply) → event_refusal m (Settle n) ≡ None → Stands ((Settle n, Ok reply) ∷ log) (after_event m (Settle n))
   settled n reply none =
       let granted = accepted m (Settle n) refl none in
       record {
@@ -153,7 +153,7 @@ module _ (log : Log) (m : Machine) (s : Stands log m) where
         };
       }
 
-  checkpointed : (reply : Reply) → refusal m Checkpoint ≡ None → Stands ((Checkpoint, Ok reply) ∷ log) (after m Checkpoint)
+  checkpointed : (reply : Reply) → event_refusal m Checkpoint ≡ None → Stands ((Checkpoint, Ok reply) ∷ log) (after_event m Checkpoint)
   checkpointed reply none =
       let granted = accepted m Checkpoint refl none in
       record {
@@ -164,7 +164,7 @@ module _ (log : Log) (m : Machine) (s : Stands log m) where
         whole = record { up = s.whole.up; crashed = s.whole.crashed; past = s.whole.past };
       }
 
-  crashed : (n : ℕ) (reply : Reply) → refusal m (Crash n) ≡ None → Stands ((Crash n, Ok reply) ∷ log) (after m (Crash n))
+  crashed : (n : ℕ) (reply : Reply) → event_refusal m (Crash n) ≡ None → Stands ((Crash n, Ok reply) ∷ log) (after_event m (Crash n))
   crashed n reply none =
       let granted = accepted m (Crash n) refl none in
       record {
@@ -179,7 +179,7 @@ module _ (log : Log) (m : Machine) (s : Stands log m) where
         };
       }
 
-  back : (reply : Reply) → refusal m Restart ≡ None → Stands ((Restart, Ok reply) ∷ log) (after m Restart)
+  back : (reply : Reply) → event_refusal m Restart ≡ None → Stands ((Restart, Ok reply) ∷ log) (after_event m Restart)
   back reply none =
       let down = restarted m none in
       let bare = s.bare down in
@@ -196,7 +196,7 @@ module _ (log : Log) (m : Machine) (s : Stands log m) where
         };
       }
 
-  happens : (e : Event) (reply : Reply) → refusal m e ≡ None → IsLeast m e → reply ≡ reply_of m e → Stands ((e, Ok reply) ∷ log) (after m e)
+  happens : (e : Event) (reply : Reply) → event_refusal m e ≡ None → IsLeast m e → reply ≡ reply_of m e → Stands ((e, Ok reply) ∷ log) (after_event m e)
   happens (Open seat credits) reply none least is = opened seat credits reply none
   happens (Touch seat op) reply none least is = touched seat op reply none
   happens (Stop seat) reply none least is = stopped seat reply none is
@@ -207,13 +207,13 @@ module _ (log : Log) (m : Machine) (s : Stands log m) where
   happens (Crash n) reply none least is = crashed n reply none
   happens Restart reply none least is = back reply none
 
-  stepped : (e : Event) (answer : Answer) (n : Machine) → Steps e m answer n → Stands ((e, answer) ∷ log) n
+  stepped : (e : Event) (answer : Answer) (n : Machine) → MachineSteps e m answer n → Stands ((e, answer) ∷ log) n
   stepped e (Ok reply) n step = subst (Stands ((e, Ok reply) ∷ log)) (sym step.2) (happens e reply step.0 step.1 step.3)
   stepped e (Err fault) n step = subst (Stands ((e, Err fault) ∷ log)) (sym step.1) (refused e fault)
 
 -- ---- runs
 
-begun : (shape : Shape) (m : Machine) → IsStart shape m → Stands [] m
+begun : (shape : Shape) (m : Machine) → IsNewMachine shape m → Stands [] m
 begun shape m start = record {
   handles = subst (AreBy []) (sym start.handles) tt;
   once = subst Once (sym start.handles) tt;

@@ -70,8 +70,8 @@ abbrev pub stopped_by : ℕ × List Op → Stopped
 stopped_by entry = record { ticket = entry.0; words = words_by entry.1 }
 
 -- the handles of a stop order
-abbrev pub handles_of : List (ℕ × List Op) → List Stopped
-handles_of order = map stopped_by order
+abbrev pub handles_of_order : List (ℕ × List Op) → List Stopped
+handles_of_order order = map stopped_by order
 
 -- the handles of the current life that are settled
 abbrev pub settled_now : Machine → List Stopped
@@ -80,11 +80,11 @@ settled_now m = joined (drop m.earlier m.settled)
 -- the settled groups, life by life: each life settled some first handles of its stop order
 abbrev pub PastKept : List (List (ℕ × List Op)) → List (List Stopped) → Type 0
 PastKept [] groups = groups ≡ []
-PastKept (order ∷ orders) groups = (n : ℕ) × (rest : List Stopped) × (joined (drop n groups) ++ rest ≡ handles_of order) × PastKept orders (take n groups)
+PastKept (order ∷ orders) groups = (n : ℕ) × (rest : List Stopped) × (joined (drop n groups) ++ rest ≡ handles_of_order order) × PastKept orders (take n groups)
 
 -- What a machine has kept of its lives. While it is up, the groups that this life settled, the taken groups and the queue, joined in order, are
 -- the life's stop order, each handle whole and once; once it has crashed, the settled ones are a first part of it. So it was in each life before
 pub record IsWhole (log : Log) (m : Machine) : Type 0 where
-  pub up : m.up ≡ true → settled_now m ++ (joined m.taken ++ m.queue) ≡ handles_of (stop_order log)
-  pub crashed : m.up ≡ false → (rest : List Stopped) × (settled_now m ++ rest ≡ handles_of (stop_order log))
+  pub up : m.up ≡ true → settled_now m ++ (joined m.taken ++ m.queue) ≡ handles_of_order (stop_order log)
+  pub crashed : m.up ≡ false → (rest : List Stopped) × (settled_now m ++ rest ≡ handles_of_order (stop_order log))
   pub past : PastKept (past_orders log) (take m.earlier m.settled)

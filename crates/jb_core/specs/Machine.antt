@@ -91,8 +91,8 @@ refusal_by true m event = refusal_up m event
 refusal_by false m event = refusal_down event
 
 -- the first refusal of an event by a machine, but for that of a cut that is not least
-abbrev pub refusal : Machine → Event → Option CoreFault
-refusal m event = refusal_by m.up m event
+abbrev pub event_refusal : Machine → Event → Option CoreFault
+event_refusal m event = refusal_by m.up m event
 
 -- the handle of a seat as it joins the queue
 abbrev pub stopped_at : Machine → ℕ → Stopped
@@ -103,21 +103,21 @@ abbrev pub after_take : Machine → List ℕ → Machine
 after_take m bounds = record m { queue = []; taken = pieces bounds m.queue }
 
 -- what an event that is not refused makes of the machine
-abbrev pub after : Machine → Event → Machine
-after m (Open seat credits) = record m { handles = seats.set m.handles seat (held credits m.shape map.empty) }
-after m (Touch seat op) = record m { handles = seats.change m.handles seat (handle.after (held_at m seat) op) }
-after m (Stop seat) = record m {
+abbrev pub after_event : Machine → Event → Machine
+after_event m (Open seat credits) = record m { handles = seats.set m.handles seat (held credits m.shape map.empty) }
+after_event m (Touch seat op) = record m { handles = seats.change m.handles seat (handle.after (held_at m seat) op) }
+after_event m (Stop seat) = record m {
   handles = seats.drop m.handles seat;
   queue = m.queue ++ stopped_at m seat ∷ [];
   credits = m.credits ++ (held_at m seat).credits ∷ [];
   next = m.next + 1;
 }
-after m (Abandon seat) = record m { handles = seats.drop m.handles seat }
-after m (Take bounds) = after_take m bounds.items
-after m (Settle n) = record m { taken = drop n m.taken; settled = m.settled ++ take n m.taken; credits = drop (count (take n m.taken)) m.credits }
-after m Checkpoint = record m { checkpointed = m.checkpointed + 1 }
-after m (Crash n) = record m { up = false; handles = []; queue = []; taken = []; settled = m.settled ++ take n m.taken; credits = [] }
-after m Restart = record m { up = true; next = 0; earlier = length m.settled; checkpointed = length m.settled }
+after_event m (Abandon seat) = record m { handles = seats.drop m.handles seat }
+after_event m (Take bounds) = after_take m bounds.items
+after_event m (Settle n) = record m { taken = drop n m.taken; settled = m.settled ++ take n m.taken; credits = drop (count (take n m.taken)) m.credits }
+after_event m Checkpoint = record m { checkpointed = m.checkpointed + 1 }
+after_event m (Crash n) = record m { up = false; handles = []; queue = []; taken = []; settled = m.settled ++ take n m.taken; credits = [] }
+after_event m Restart = record m { up = true; next = 0; earlier = length m.settled; checkpointed = length m.settled }
 
 -- what it answers
 abbrev pub reply_of : Machine → Event → Reply

@@ -6,11 +6,11 @@ use Rattle.jb_block.specs.Width.{is_wide}
 use Rattle.jb_handle.specs.declared.shape.Shape.{Shape}
 use Rattle.jb_core.specs.Machine.{Machine}
 use Rattle.jb_cost.specs.Credits.{IsMost}
-use Rattle.jb_core.specs.Steps.{Steps}
+use Rattle.jb_core.specs.Steps.{MachineSteps}
 use Rattle.jb_core.specs.Lives.{Log}
 
 -- a machine that is up and has done nothing, in the journal of a shape
-pub record IsStart (shape : Shape) (m : Machine) : Type 0 where
+pub record IsNewMachine (shape : Shape) (m : Machine) : Type 0 where
   pub same_shape : m.shape ≡ shape
   pub tags : m.geometry.t ≡ tags_in (is_wide shape.width) (bytes_of shape.bs)
   pub entries : m.geometry.r ≡ entries_in (is_wide shape.width) (bytes_of shape.bs)
@@ -27,5 +27,5 @@ pub record IsStart (shape : Shape) (m : Machine) : Type 0 where
 
 -- these events, with these answers, lead from the machine's start to it; the newest is first
 abbrev pub Ran : Shape → Log → Machine → Type 0
-Ran shape [] m = IsStart shape m
-Ran shape (last ∷ earlier) m = (before : Machine) × Ran shape earlier before × Steps last.0 before last.1 m
+Ran shape [] m = IsNewMachine shape m
+Ran shape (last ∷ earlier) m = (before : Machine) × Ran shape earlier before × MachineSteps last.0 before last.1 m

@@ -25,14 +25,14 @@ pub record IsGranted (shape : Shape) (most : ℕ) (h : Held) : Type 0 where
   pub kept : IsKept h
 
 -- a machine that is down has only settled groups
-pub record IsBare (m : Machine) : Type 0 where
+pub record HasOnlySettled (m : Machine) : Type 0 where
   pub handles : m.handles ≡ []
   pub taken : m.taken ≡ []
   pub queue : m.queue ≡ []
   pub credits : m.credits ≡ []
 
 -- what holds of a machine between events: credits within its most and its shape, tickets that count up, and nothing that waits while it is down
-pub record IsSound (m : Machine) : Type 0 where
+pub record IsMachineSound (m : Machine) : Type 0 where
   pub most : IsMost m.geometry m.shape.limit m.most
   pub granted : All (IsGranted m.shape m.most) (values_of m.handles)
   -- the same of the taken and of the queued handles
@@ -46,4 +46,4 @@ pub record IsSound (m : Machine) : Type 0 where
   pub counted : m.up ≡ true → length (stopped_now m) ≡ m.next
   pub lives : m.earlier ≤ length m.settled
   pub home : m.checkpointed ≤ length m.settled
-  pub down : m.up ≡ false → IsBare m
+  pub down : m.up ≡ false → HasOnlySettled m

@@ -3,7 +3,7 @@ use Rattle.std.specs.Prelude.{◌≡◌}
 use Rattle.std.specs.Ordering.{nat_cmp}
 use Rattle.std.specs.BTreeMap.{IsOrdered}
 use Rattle.jb_core.specs.Machine.{Machine, reserved}
-use Rattle.jb_core.specs.Sound.{IsSound}
+use Rattle.jb_core.specs.Sound.{IsMachineSound}
 use Rattle.jb_core.specs.declared.state.State.TheInside.{Inside}
 
 -- the machine that a state keeps
@@ -24,7 +24,7 @@ machine_of s = record {
 }
 
 -- the machine is sound, and what is reserved is counted
-pub record IsKept (s : Inside) : Type 0 where
-  pub sound : IsSound (machine_of s)
+pub record IsMachineKept (s : Inside) : Type 0 where
+  pub sound : IsMachineSound (machine_of s)
   pub counted : s.reserved ≡ reserved (machine_of s)
   pub ordered : IsOrdered nat_cmp s.handles

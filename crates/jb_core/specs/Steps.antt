@@ -9,7 +9,7 @@ use Rattle.jb_core.specs.declared.event.Reply.{Reply}
 use Rattle.jb_core.specs.declared.event.Reply.TheVariants.{Plain}
 use Rattle.jb_core.specs.declared.event.CoreFault.{CoreFault}
 use Rattle.jb_core.specs.declared.event.CoreFault.TheVariants.{NotLeast, Memory}
-use Rattle.jb_core.specs.Machine.{Machine, held_at, refusal, refusal_take, after, after_take, reply_of}
+use Rattle.jb_core.specs.Machine.{Machine, held_at, event_refusal, refusal_take, after_event, after_take, reply_of}
 
 -- the bounds are a cut of the queue that fits the limit, and no other that fits takes fewer log blocks
 abbrev pub IsLeastOf : Machine → List ℕ → Type 0
@@ -30,15 +30,15 @@ Grows m other = ⊥
 
 -- The fault is the first whose fact holds. Memory is no fact of the machine: it may be answered where nothing but a
 -- cut that is not least refuses an event that takes memory
-abbrev pub Refuses : Machine → Event → CoreFault → Type 0
-Refuses m event Memory = Grows m event × (refusal m event ≡ None)
-Refuses m event NotLeast = (refusal m event ≡ None) × (IsLeast m event → ⊥)
-Refuses m event fault = refusal m event ≡ Some fault
+abbrev pub RefusesEvent : Machine → Event → CoreFault → Type 0
+RefusesEvent m event Memory = Grows m event × (event_refusal m event ≡ None)
+RefusesEvent m event NotLeast = (event_refusal m event ≡ None) × (IsLeast m event → ⊥)
+RefusesEvent m event fault = event_refusal m event ≡ Some fault
 
 -- an event that nothing refuses changes the machine as it does, and one that is refused leaves it
-abbrev pub Steps : Event → Machine → Result Reply CoreFault → Machine → Type 0
-Steps event old (Ok reply) new = (refusal old event ≡ None) × IsLeast old event × (new ≡ after old event) × (reply ≡ reply_of old event)
-Steps event old (Err fault) new = Refuses old event fault × (new ≡ old)
+abbrev pub MachineSteps : Event → Machine → Result Reply CoreFault → Machine → Type 0
+MachineSteps event old (Ok reply) new = (event_refusal old event ≡ None) × IsLeast old event × (new ≡ after_event old event) × (reply ≡ reply_of old event)
+MachineSteps event old (Err fault) new = RefusesEvent old event fault × (new ≡ old)
 
 -- the same of a Take, by its bounds
 abbrev pub StepsTake : List ℕ → Machine → Result Reply CoreFault → Machine → Type 0

@@ -6,8 +6,8 @@ use Rattle.jb_core.specs.Line.{Line}
 use Rattle.jb_core.specs.declared.stops.Stops.TheInside.{Inside}
 
 -- the line of handles that the stops keep: settled, taken and queued ones, with the credits of those that wait
-abbrev pub line_of : Inside → Line
-line_of s = record {
+abbrev pub line_of_stops : Inside → Line
+line_of_stops s = record {
   settled = pieces_from 0 (take s.settled s.ends.items) s.handles.items;
   taken = pieces_from s.settled_end (drop s.settled s.ends.items) s.handles.items;
   queue = drop s.taken_end s.handles.items;

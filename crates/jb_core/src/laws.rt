@@ -4,13 +4,13 @@ ghost use Rattle.jb_core.specs.Machine.{Machine};
 ghost use Rattle.jb_core.specs.Lives.{Log};
 ghost use Rattle.jb_core.specs.Ran.{Ran};
 ghost use Rattle.jb_core.specs.SeatLaw.{SeatsAreMap};
-ghost use Rattle.jb_core.specs.Sound.{IsSound};
+ghost use Rattle.jb_core.specs.Sound.{IsMachineSound};
 
 /// Every machine that a run reaches is sound: each handle is within the most credits and the shape, what is reserved
 /// is within the largest log, and the tickets of the current life are 0 up to the next one.
 #[tactic(auto, using(crate::proofs::Runs::sounds))]
 pub fn sound()
-    ensures { (shape : Shape) (log : Log) (m : Machine) → Ran shape log m → IsSound m }
+    ensures { (shape : Shape) (log : Log) (m : Machine) → Ran shape log m → IsMachineSound m }
 {}
 
 /// The words on seats are those of a finite map: after a seat was set, changed or dropped it holds that, and every

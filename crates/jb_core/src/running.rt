@@ -1,5 +1,5 @@
 ghost use Rattle.std.specs.Prelude.{◌≡◌, ◌<◌, [], length, All, IfOk, OnErr};
-ghost use Rattle.jb_core.specs.Steps.{Steps};
+ghost use Rattle.jb_core.specs.Steps.{MachineSteps};
 ghost use Rattle.jb_core.specs.Lives.{log_from, IsKnown, IsWhole};
 ghost use Rattle.jb_core.specs.Ran.{Ran};
 
@@ -16,7 +16,7 @@ use std::alloc::Global;
 /// The first refusal of the event, in the order of `CoreFault`, and the machine is as it was. `Memory`
 /// where there is none for a handle that begins, changes a block or joins the queue, or for a Take.
 pub fn step(state: &mut State, event: Event) -> Result<Reply, CoreFault>
-    ensures { Steps event state.old result state.new }
+    ensures { MachineSteps event state.old result state.new }
 {
     if !state.is_up() {
         return match event {

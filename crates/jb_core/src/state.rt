@@ -37,7 +37,7 @@ impl Model for State {
     ghost use Rattle.std.specs.Coded.{codes};
     ghost use Rattle.jb_handle.specs.Word.{words_code};
     ghost use Rattle.jb_core.specs.Machine.{Machine};
-    ghost use Rattle.jb_core.specs.State.{machine_of, IsKept};
+    ghost use Rattle.jb_core.specs.State.{machine_of, IsMachineKept};
 
     ghost Value = { Machine };
 
@@ -45,20 +45,20 @@ impl Model for State {
 
     ghost view = { machine_of };
 
-    ghost invariant = { IsKept };
+    ghost invariant = { IsMachineKept };
 }
 
 impl State {
     ghost use Rattle.jb_core.specs.Machine.{is_full};
-    ghost use Rattle.jb_core.specs.Steps.{Steps, StepsTake};
-    ghost use Rattle.jb_core.specs.Ran.{IsStart};
-    ghost use Rattle.jb_core.specs.Sound.{IsSound};
+    ghost use Rattle.jb_core.specs.Steps.{MachineSteps, StepsTake};
+    ghost use Rattle.jb_core.specs.Ran.{IsNewMachine};
+    ghost use Rattle.jb_core.specs.Sound.{IsMachineSound};
     ghost use Rattle.jb_core.specs.declared.event.Event.TheVariants.{Open, Touch, Stop, Abandon};
     ghost use Rattle.jb_core.specs.declared.event.Event.TheVariants.{Settle, Checkpoint, Crash, Restart};
 
     /// A machine that is up, with nothing open, queued, taken or settled. Takes no memory.
     pub fn new(alloc: Global, shape: Shape) -> State
-        ensures { IsStart shape result }
+        ensures { IsNewMachine shape result }
     {
         let geometry = Geometry::of(shape.bs, shape.width);
         State {
@@ -79,7 +79,7 @@ impl State {
     /// Whether the machine is up. A state is sound.
     pub fn is_up(&self) -> bool
         ensures up { result ≡ self.now.up }
-        ensures sound { IsSound self.now }
+        ensures sound { IsMachineSound self.now }
     {
         self.up
     }
@@ -122,7 +122,7 @@ impl State {
 
     pub(crate) fn open(&mut self, seat: u64, credits: u32) -> Result<Reply, CoreFault>
         requires { self.old.up ≡ true }
-        ensures { Steps (Open seat credits) self.old result self.new }
+        ensures { MachineSteps (Open seat credits) self.old result self.new }
     {
         if self.handles.contains_key(&seat) {
             return Err(CoreFault::Busy);
@@ -155,7 +155,7 @@ impl State {
 
     pub(crate) fn touch(&mut self, seat: u64, op: Op) -> Result<Reply, CoreFault>
         requires { self.old.up ≡ true }
-        ensures { Steps (Touch seat op) self.old result self.new }
+        ensures { MachineSteps (Touch seat op) self.old result self.new }
     {
         let Some(changes) = self.handles.get_mut(&seat) else {
             return Err(CoreFault::NoHandle);
@@ -166,7 +166,7 @@ impl State {
 
     pub(crate) fn stop(&mut self, seat: u64) -> Result<Reply, CoreFault>
         requires { self.old.up ≡ true }
-        ensures { Steps (Stop seat) self.old result self.new }
+        ensures { MachineSteps (Stop seat) self.old result self.new }
     {
         if !self.handles.contains_key(&seat) {
             return Err(CoreFault::NoHandle);
@@ -209,7 +209,7 @@ impl State {
 
     pub(crate) fn checkpoint(&mut self) -> Result<Reply, CoreFault>
         requires { self.old.up ≡ true }
-        ensures { Steps Checkpoint self.old result self.new }
+        ensures { MachineSteps Checkpoint self.old result self.new }
     {
         if self.checkpointed >= self.stops.settled() {
             return Err(CoreFault::Nothing);
@@ -219,7 +219,7 @@ impl State {
     }
 
     pub(crate) fn restart(&mut self) -> Result<Reply, CoreFault>
-        ensures { Steps Restart self.old result self.new }
+        ensures { MachineSteps Restart self.old result self.new }
     {
         if self.up {
             return Err(CoreFault::Up);
@@ -233,7 +233,7 @@ impl State {
 
     pub(crate) fn abandon(&mut self, seat: u64) -> Result<Reply, CoreFault>
         requires { self.old.up ≡ true }
-        ensures { Steps (Abandon seat) self.old result self.new }
+        ensures { MachineSteps (Abandon seat) self.old result self.new }
     {
         match self.handles.remove(&seat) {
             Some(changes) => {
@@ -246,7 +246,7 @@ impl State {
 
     pub(crate) fn settle(&mut self, n: usize) -> Result<Reply, CoreFault>
         requires { self.old.up ≡ true }
-        ensures { Steps (Settle n) self.old result self.new }
+        ensures { MachineSteps (Settle n) self.old result self.new }
     {
         if n > self.stops.taken() {
             return Err(CoreFault::Amount);
@@ -257,7 +257,7 @@ impl State {
 
     pub(crate) fn crash(&mut self, n: usize) -> Result<Reply, CoreFault>
         requires { self.old.up ≡ true }
-        ensures { Steps (Crash n) self.old result self.new }
+        ensures { MachineSteps (Crash n) self.old result self.new }
     {
         if n > self.stops.taken() {
             return Err(CoreFault::Amount);

@@ -29,13 +29,13 @@ impl Model for Stops {
     ghost use Rattle.std.specs.Coded.{codes};
     ghost use Rattle.jb_handle.specs.Word.{words_code};
     ghost use Rattle.jb_core.specs.Line.{Line};
-    ghost use Rattle.jb_core.specs.Stops.{line_of, IsInLine};
+    ghost use Rattle.jb_core.specs.Stops.{line_of_stops, IsInLine};
 
     ghost Value = { Line };
 
     ghost coded = { Prim.hlevel (codes, words_code) };
 
-    ghost view = { line_of };
+    ghost view = { line_of_stops };
 
     ghost invariant = { IsInLine };
 }

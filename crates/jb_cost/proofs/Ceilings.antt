@@ -30,6 +30,3 @@ ceil-self a t one = ceil-least a a t one (le-mul_of_pos_right a one)
 -- as many as there were, where these have room
 pub ceil-same : (a b t : ℕ) → 1 ≤ t → a ≤ b → b ≤ div_ceil a t * t → div_ceil a t ≡ div_ceil b t
 ceil-same a b t one more room = omega (arith, ceil-mono a b t one more, ceil-least b (div_ceil a t) t one room)
-
-pub ceil-none : (t : ℕ) → 1 ≤ t → 0 ≡ div_ceil 0 t
-ceil-none t one = omega (arith, ceil-self 0 t one)

@@ -22,10 +22,10 @@ use Rattle.jb_cost.specs.declared.stretch.Stretch.{Stretch}
 use Rattle.jb_cost.specs.declared.last_touches.LastTouches.{LastTouches}
 use Rattle.jb_cost.specs.Cost.{blocks_of}
 use Rattle.jb_cost.specs.Cut.{price, piece_cost}
-use Rattle.jb_cost.specs.Owned.{later_touch, left_since, is_since, kept, copies_of, frees_of, owned_from, owned_cost}
+use Rattle.jb_cost.specs.Owned.{later_touch, left_since, is_since, left_copy, copies_of, frees_of, owned_from, owned_cost}
 use Rattle.jb_cost.specs.Starts.{LeastPrice, stretch_at, AreLeast, priced_of}
 use Rattle.jb_cost.specs.Spans.{copies_until}
-use Rattle.jb_cost.specs.LastTouches.{IsSound, Tells, homes_of}
+use Rattle.jb_cost.specs.LastTouches.{PartsFit, TellsQueue, homes_owned}
 use Rattle.jb_cost.proofs.Left.{few}
 use Rattle.jb_cost.proofs.Picked.{passes, len-of_kind}
 use Rattle.jb_cost.proofs.Pieces.{piece-none, weight-part}
@@ -93,7 +93,7 @@ unfolding holds
 holds-since kind i None = refl
 holds-since kind i (Some t) = elim (nat_le i t.handle) as (λ b. holds kind (cond b (Some t.copy) None) ≡ (b && kind t.copy)) [ true ↦ refl | false ↦ refl ]
 
-copied-holds : (w : Option Word) → is_copied w ≡ holds kept (option_map is_copy w)
+copied-holds : (w : Option Word) → is_copied w ≡ holds left_copy (option_map is_copy w)
 unfolding holds
 copied-holds None = refl
 copied-holds (Some (Copy bytes)) = refl
@@ -105,12 +105,12 @@ freed-holds None = refl
 freed-holds (Some (Copy bytes)) = refl
 freed-holds (Some Free) = refl
 
-module _ (g : Geometry) (hs : List Stopped) (n : ℕ) (ps : List (Option ℕ)) (t : LastTouches) (sound : IsSound t) (tells : Tells g hs n ps t) where
+module _ (g : Geometry) (hs : List Stopped) (n : ℕ) (ps : List (Option ℕ)) (t : LastTouches) (sound : PartsFit t) (tells : TellsQueue g hs n ps t) where
   -- the homes that the handles of a piece copy, and those that they free
   pub copies-piece : (i : ℕ) → i ≤ n → set.len (copies (slice_range hs i n)) ≡ owned_from copies_of t.owned.items i
   copies-piece i inside =
-      len-of_kind (is_since kept i) t.last.entries sound.ordered (copies (slice_range hs i n))
-      (λ q. contains-copies (slice_range hs i n) q ∙ copied-holds (word (slice_range hs i n) q) ∙ ap (holds kept) (sym (tells.follows i q inside)) ∙ holds-since kept i (get nat_cmp t.last q))
+      len-of_kind (is_since left_copy i) t.last.entries sound.ordered (copies (slice_range hs i n))
+      (λ q. contains-copies (slice_range hs i n) q ∙ copied-holds (word (slice_range hs i n) q) ∙ ap (holds left_copy) (sym (tells.follows i q inside)) ∙ holds-since left_copy i (get nat_cmp t.last q))
       ∙ sym (sound.copies i)
 
   pub frees-piece : (i : ℕ) → i ≤ n → set.len (frees (slice_range hs i n)) ≡ owned_from frees_of t.owned.items i
@@ -124,11 +124,11 @@ module _ (g : Geometry) (hs : List Stopped) (n : ℕ) (ps : List (Option ℕ)) (
   cost-piece i inside = λ k. blocks_of g (copies-piece i inside k) (frees-piece i inside k)
 
   -- handles within the size own no more homes
-  pub homes-few : IsWithinSize hs → homes_of t ≤ 2 ^ 62
+  pub homes-few : IsWithinSize hs → homes_owned t ≤ 2 ^ 62
   homes-few size = omega (arith, size, few (slice_range hs 0 n), weight-part hs 0 n (omega arith), copies-piece 0 (omega arith), frees-piece 0 (omega arith))
 
 -- the prices of the starts that were put in are all that counts
-pub tells-as : (g : Geometry) (hs : List Stopped) (n : ℕ) (ps qs : List (Option ℕ)) (t : LastTouches) → IsSound t → ((i : ℕ) → i < n → price qs i ≡ price ps i) → Tells g hs n ps t → Tells g hs n qs t
+pub tells-as : (g : Geometry) (hs : List Stopped) (n : ℕ) (ps qs : List (Option ℕ)) (t : LastTouches) → PartsFit t → ((i : ℕ) → i < n → price qs i ≡ price ps i) → TellsQueue g hs n ps t → TellsQueue g hs n qs t
 tells-as g hs n ps qs t sound same tells = record {
   geometry = tells.geometry;
   number = tells.number;

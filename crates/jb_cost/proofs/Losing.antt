@@ -14,7 +14,7 @@ use Rattle.jb_cost.specs.declared.stretch.Priced.{Priced}
 use Rattle.jb_cost.specs.declared.stretch.Stretch.{Stretch}
 use Rattle.jb_cost.specs.declared.span.Span.{Span}
 use Rattle.jb_cost.specs.declared.shortcuts.Shortcuts.{Shortcuts}
-use Rattle.jb_cost.specs.Owned.{owned_at, owned_from, copies_of, frees_of, counts_since, kept, later_touch, IsIdle}
+use Rattle.jb_cost.specs.Owned.{owned_at, owned_from, copies_of, frees_of, counts_since, left_copy, later_touch, IsIdle}
 use Rattle.jb_cost.specs.Starts.{AreIdle, stretch_at}
 use Rattle.jb_cost.specs.Spans.{IsSpan, span_at, AreSpans, AreBest, FitOwned}
 use Rattle.jb_cost.proofs.Owning.{since-early, since-late}
@@ -36,7 +36,7 @@ idle-lost os h new owner k idle = elim (cases_eq k h) [
 ]
 
 module _ (os now : List Owned) (t : Touch) (owner : IsIdle (owned_at os t.handle) → ⊥) (idle : (k : ℕ) → IsIdle (owned_at os k) → IsIdle (owned_at now k)) (number : length now ≡ length os)
-    (copies : (i : ℕ) → owned_from copies_of now i + counts_since kept i t ≡ owned_from copies_of os i) (frees : (i : ℕ) → owned_from frees_of now i + counts_since not i t ≡ owned_from frees_of os i) where
+    (copies : (i : ℕ) → owned_from copies_of now i + counts_since left_copy i t ≡ owned_from copies_of os i) (frees : (i : ℕ) → owned_from frees_of now i + counts_since not i t ≡ owned_from frees_of os i) where
   -- a span without the handle has the same sums
   outside : (k : ℕ) (s : Span) → k ≢ t.handle / 8 → IsSpan os (8 * k + 8) s → (kind : Bool → Bool) (i : ℕ) → s.from ≤ i → i ≤ 8 * k + 8 → counts_since kind i t ≡ counts_since kind (8 * k + 8) t
   outside k s apart is kind i above below = elim (cases_lt t.handle s.from) [
@@ -54,7 +54,7 @@ module _ (os now : List Owned) (t : Touch) (owner : IsIdle (owned_at os t.handle
     same-copies : (k : ℕ) (s : Span) → span_at ys k ≡ Some s → (i : ℕ) → s.from ≤ i → i ≤ 8 * k + 8 → owned_from copies_of now i + owned_from copies_of os (8 * k + 8) ≡ owned_from copies_of os i + owned_from copies_of now (8 * k + 8)
     same-copies k s is i above below =
         let was = others k s is in
-        omega (arith, copies i, copies (8 * k + 8), outside k s was.1 (spans k s was.0) kept i above below)
+        omega (arith, copies i, copies (8 * k + 8), outside k s was.1 (spans k s was.0) left_copy i above below)
 
     same-frees : (k : ℕ) (s : Span) → span_at ys k ≡ Some s → (i : ℕ) → s.from ≤ i → i ≤ 8 * k + 8 → owned_from frees_of now i + owned_from frees_of os (8 * k + 8) ≡ owned_from frees_of os i + owned_from frees_of now (8 * k + 8)
     same-frees k s is i above below =

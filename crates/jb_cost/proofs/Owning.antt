@@ -101,10 +101,3 @@ module _ (count : Owned → ℕ) (kind : Bool → Bool) where
         let longer : drop i (os ++ new ∷ []) ≡ drop i os ++ new ∷ [] = drop-append-le i os (new ∷ []) early in
         omega (arith, ap (sum_by count) longer, sum_by_push count (drop i os) new, so_far i, cond-early i (length os) (count new) early)
   ]
-
-  -- no handle has taken over a home yet
-  pub counts-begin : (n : ℕ) (os : List Owned) (last : BTreeMap ℕ Touch) → Counts count kind os last → CountsBut count kind n 0 os last
-  counts-begin n os last so_far i = elim (cases_lt n i) [
-    | inl late ↦ omega (arith, so_far i, cond-late i n 0 late)
-    | inr early ↦ omega (arith, so_far i, cond-early i n 0 early)
-  ]

@@ -6,7 +6,7 @@ use Rattle.jb_cost.specs.declared.stretch.Priced.{Priced}
 use Rattle.jb_cost.specs.declared.found.Found.{Found}
 use Rattle.jb_cost.specs.Cost.{blocks_of}
 use Rattle.jb_cost.specs.Owned.{owned_at, owned_from, copies_of, frees_of, owned_cost}
-use Rattle.jb_cost.specs.Starts.{LeastPrice, BestStart, AreIdle, found_from, better_of}
+use Rattle.jb_cost.specs.Starts.{LeastPrice, BestStart, AreIdle, found_start, better_of}
 use Rattle.jb_cost.proofs.Starts.{best-joined, best-alike}
 use Rattle.jb_cost.proofs.Spans.{owned-one, owned-later}
 use Rattle.jb_cost.proofs.Walking.{owned-dearer, idle-copies, idle-frees}
@@ -50,11 +50,11 @@ module _ (g : Geometry) (os : List Owned) (low copies frees : ℕ) (within : low
 
       -- the best start with those of the stretch
       pub stretch-best : (limit cost end : ℕ) → cost ≡ blocks_of g copies_now frees_now → cost ≤ limit → low ≤ end → (ps : List (Option ℕ)) (best : Option Found) (least : Option Priced) → LeastPrice ps from (low - 1 + 1) least
-          → BestStart (owned_cost g os) limit ps low end best → BestStart (owned_cost g os) limit ps from end (better_of best (found_from least cost))
+          → BestStart (owned_cost g os) limit ps low end best → BestStart (owned_cost g os) limit ps from end (better_of best (found_start least cost))
       stretch-best limit cost end is fits inside ps best least lowest tried =
           let back : low - 1 + 1 ≡ low = omega arith in
           let short : low - 1 ≤ length os = omega (arith, within) in
-          best-joined (owned_cost g os) limit ps from low low end (omega (arith, before)) (omega arith) inside best (found_from least cost)
+          best-joined (owned_cost g os) limit ps from low low end (omega (arith, before)) (omega arith) inside best (found_start least cost)
           (best-alike (owned_cost g os) limit ps from low cost fits
           (λ i above below.
           let until : AreIdle os i (low - 1) = λ j late early. idle j (omega arith) early in

@@ -8,7 +8,7 @@ use Rattle.jb_cost.specs.declared.stretch.Priced.{Priced}
 use Rattle.jb_cost.specs.declared.found.Found.{Found}
 use Rattle.jb_cost.specs.declared.span.Span.{Span}
 use Rattle.jb_cost.specs.Owned.{owned_at, owned_from, copies_of, frees_of, owned_cost, IsIdle}
-use Rattle.jb_cost.specs.Starts.{LeastPrice, BestStart, AreIdle, found_from, dearer_by, better_of}
+use Rattle.jb_cost.specs.Starts.{LeastPrice, BestStart, AreIdle, found_start, dearer_by, better_of}
 use Rattle.jb_cost.specs.Spans.{CostsWithin, copies_until, IsSpan, IsBestOf}
 use Rattle.jb_cost.proofs.Ceilings.{ceil-mono}
 use Rattle.jb_cost.proofs.Starts.{best-joined, best-alike, best-dearer, best-as}
@@ -31,7 +31,7 @@ within-better most (Some b) (Some s) one other = elim (nat_lt (b.price + b.cost)
 within-more : (low high : ℕ) (found : Option Found) → low ≤ high → CostsWithin low found → CostsWithin high found
 within-more low high found more within f is = omega (arith, more, within f is)
 
-within-from : (most : ℕ) (least : Option Priced) → CostsWithin most (found_from least most)
+within-from : (most : ℕ) (least : Option Priced) → CostsWithin most (found_start least most)
 within-from most None f is = cc
 within-from most (Some s) f is = let same : Some (record { from = s.from; price = s.price; cost = most }) ≡ Some f = is in let cost : most ≡ f.cost = cc in omega (arith, cost)
 
@@ -61,7 +61,7 @@ module _ (os : List Owned) (end low copies frees : ℕ) (best : Option Found) (c
 
   -- one stretch more
   module _ (from copies_now frees_now : ℕ) (copied : copies_now ≡ copies + (owned_at os (low - 1)).copies) (freed : frees_now ≡ frees + (owned_at os (low - 1)).frees) (before : from ≤ low - 1) (idle : AreIdle os from (low - 1)) where
-    pub counted-more : (least : Option Priced) → Counted os end from copies_now frees_now (better_of best (found_from least copies_now))
+    pub counted-more : (least : Option Priced) → Counted os end from copies_now frees_now (better_of best (found_start least copies_now))
     counted-more least =
         let short : low - 1 ≤ length os = omega (arith, counted.within) in
         record {
@@ -69,41 +69,22 @@ module _ (os : List Owned) (end low copies frees : ℕ) (best : Option Found) (c
           frees_are = omega (arith, freed, counted.frees_are, owned-one frees_of os low (omega arith) (omega (arith, counted.within)), idle-frees os from (low - 1) before short idle);
           within = omega (arith, before, counted.within);
           idle = λ j above below. idle j above (omega arith);
-          small = within-better copies_now best (found_from least copies_now) (within-more copies copies_now best (omega (arith, copied)) counted.small) (within-from copies_now least);
+          small = within-better copies_now best (found_start least copies_now) (within-more copies copies_now best (omega (arith, copied)) counted.small) (within-from copies_now least);
         }
 
     pub counted-best : owned_from copies_of os 0 ≤ 2 ^ 62 → (ps : List (Option ℕ)) (least : Option Priced) → LeastPrice ps from (low - 1 + 1) least → BestStart (copies_until os end) (2 ^ 62) ps low end best
-        → BestStart (copies_until os end) (2 ^ 62) ps from end (better_of best (found_from least copies_now))
+        → BestStart (copies_until os end) (2 ^ 62) ps from end (better_of best (found_start least copies_now))
     counted-best few ps least lowest tried =
         let back : low - 1 + 1 ≡ low = omega arith in
         let short : low - 1 ≤ length os = omega (arith, counted.within) in
         let now = counted-more least in
-        best-joined (copies_until os end) (2 ^ 62) ps from low low end (omega (arith, before)) (omega arith) counted.within best (found_from least copies_now)
+        best-joined (copies_until os end) (2 ^ 62) ps from low low end (omega (arith, before)) (omega arith) counted.within best (found_start least copies_now)
         (best-alike (copies_until os end) (2 ^ 62) ps from low copies_now (omega (arith, few, now.copies_are, owned-later copies_of os 0 from (omega arith)))
         (λ i above below.
         let until : AreIdle os i (low - 1) = λ j late early. idle j (omega arith) early in
         omega (arith, idle-copies os i (low - 1) (omega arith) short until, idle-copies os from (low - 1) before short idle, now.copies_are))
         least (subst (λ n. LeastPrice ps from n least) back lowest))
         tried
-
-pub counted-start : (os : List Owned) (end : ℕ) → Counted os end end 0 0 None
-counted-start os end = record {
-  copies_are = omega arith;
-  frees_are = omega arith;
-  within = omega arith;
-  idle = λ j above below. absurd (let h : ⊥ = omega arith in h);
-  small = λ f is. cc;
-}
-
-pub counted-span : (os : List Owned) (end : ℕ) (s : Span) → 8 ≤ end → end ≤ length os → Counted os end s.from s.copies s.frees s.least → s.from ≤ end - 8 → IsSpan os end s
-counted-span os end s eight inside counted passed = record {
-  back = omega (arith, passed);
-  within = inside;
-  idle = counted.idle;
-  copies = counted.copies_are;
-  frees = counted.frees_are;
-  small = counted.small;
-}
 
 -- what a search over a span takes in
 module _ (g : Geometry) (os : List Owned) (low : ℕ) (s : Span) (is : IsSpan os low s) where

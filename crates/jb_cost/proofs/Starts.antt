@@ -4,7 +4,7 @@ use Rattle.std.proofs.lemmas.Bool.{ltb-true, ltb-false, cases_lt}
 use Rattle.jb_cost.specs.declared.stretch.Priced.{Priced}
 use Rattle.jb_cost.specs.declared.found.Found.{Found}
 use Rattle.jb_cost.specs.Cut.{price}
-use Rattle.jb_cost.specs.Starts.{priced_of, lesser_of, found_from, dearer_by, better_of, LeastPrice, BestStart}
+use Rattle.jb_cost.specs.Starts.{priced_of, found_start, dearer_by, better_of, LeastPrice, BestStart}
 
 same-price : (ps : List (Option ℕ)) (i j p q : ℕ) → i ≡ j → price ps i ≡ Some p → price ps j ≡ Some q → p ≡ q
 same-price ps i j p q same is also = let both : Some p ≡ Some q = sym is ∙ ap (price ps) same ∙ also in cc
@@ -22,51 +22,7 @@ least-one ps k (Some q) is = record {
   first = λ i p above before also. absurd (let h : ⊥ = omega arith in h);
 }
 
--- the starts up to mid, and those from mid on
-module _ (ps : List (Option ℕ)) (low mid high : ℕ) (first_part : low ≤ mid) (last_part : mid ≤ high) where
-  pub least-joined : (first later : Option Priced) → LeastPrice ps low mid first → LeastPrice ps mid high later → LeastPrice ps low high (lesser_of first later)
-  least-joined None None none also = λ i p above below is. elim (cases_lt i mid) [ inl less ↦ none i p above less is | inr more ↦ also i p more below is ]
-  least-joined None (Some t) none least = record {
-    above = omega (arith, least.above);
-    below = least.below;
-    is = least.is;
-    least = λ i p above below is. elim (cases_lt i mid) [ inl less ↦ absurd (none i p above less is) | inr more ↦ least.least i p more below is ];
-    first = λ i p above before is. elim (cases_lt i mid) [ inl less ↦ absurd (none i p above less is) | inr more ↦ least.first i p more before is ];
-  }
-  least-joined (Some s) None least none = record {
-    above = least.above;
-    below = omega (arith, least.below);
-    is = least.is;
-    least = λ i p above below is. elim (cases_lt i mid) [ inl less ↦ least.least i p above less is | inr more ↦ absurd (none i p more below is) ];
-    first = least.first;
-  }
-  least-joined (Some s) (Some t) one other = pick (nat_lt t.price s.price) refl
-    where
-      pick : (test : Bool) → nat_lt t.price s.price ≡ test → LeastPrice ps low high (if test then Some t else Some s)
-      pick true e =
-          let less : t.price < s.price = ltb-true t.price s.price e in
-          record {
-            above = omega (arith, other.above);
-            below = other.below;
-            is = other.is;
-            least = λ i p above below is. elim (cases_lt i mid) [ inl before ↦ (let most = one.least i p above before is in omega arith) | inr more ↦ other.least i p more below is ];
-            first = λ i p above before is. elim (cases_lt i mid) [ inl sooner ↦ (let most = one.least i p above sooner is in omega arith) | inr more ↦ other.first i p more before is ];
-          }
-      pick false e =
-          let most : s.price ≤ t.price = ltb-false t.price s.price e in
-          record {
-            above = one.above;
-            below = omega (arith, one.below);
-            is = one.is;
-            least = λ i p above below is. elim (cases_lt i mid) [ inl before ↦ one.least i p above before is | inr more ↦ (let least = other.least i p more below is in omega arith) ];
-            first = one.first;
-          }
-
 module _ (c : ℕ → ℕ) (limit : ℕ) (ps : List (Option ℕ)) where
-  -- no start has been looked at
-  pub best-none : (end : ℕ) → BestStart c limit ps end end None
-  best-none end i p above below fits is = omega arith
-
   -- the starts from an earlier one up to mid, and those from low on: where the two overlap, they speak of the same starts
   module _ (from low mid end : ℕ) (back : from ≤ low) (overlap : low ≤ mid) (within : mid ≤ end) where
     pub best-joined : (best earlier : Option Found) → BestStart c limit ps from mid earlier → BestStart c limit ps low end best → BestStart c limit ps from end (better_of best earlier)
@@ -116,7 +72,7 @@ module _ (c : ℕ → ℕ) (limit : ℕ) (ps : List (Option ℕ)) where
             }
 
   -- the starts of a stretch, which cost the same
-  pub best-alike : (from low cost : ℕ) → cost ≤ limit → ((i : ℕ) → from ≤ i → i < low → c i ≡ cost) → (earlier : Option Priced) → LeastPrice ps from low earlier → BestStart c limit ps from low (found_from earlier cost)
+  pub best-alike : (from low cost : ℕ) → cost ≤ limit → ((i : ℕ) → from ≤ i → i < low → c i ≡ cost) → (earlier : Option Priced) → LeastPrice ps from low earlier → BestStart c limit ps from low (found_start earlier cost)
   best-alike from low cost fits same None none = λ i p above below fit is. none i p above below is
   best-alike from low cost fits same (Some s) least =
       let here = same s.from least.above least.below in

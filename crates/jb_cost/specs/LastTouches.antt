@@ -9,23 +9,23 @@ use Rattle.jb_handle.specs.Words.{word}
 use Rattle.jb_cost.specs.declared.geometry.Geometry.{Geometry}
 use Rattle.jb_cost.specs.declared.owned.Touch.{Touch}
 use Rattle.jb_cost.specs.declared.last_touches.LastTouches.{LastTouches}
-use Rattle.jb_cost.specs.Owned.{Counts, copies_of, frees_of, kept, owned_from, left_since}
+use Rattle.jb_cost.specs.Owned.{Counts, copies_of, frees_of, left_copy, owned_from, left_since}
 use Rattle.jb_cost.specs.Spans.{FitOwned, FitPrices}
 
 -- the homes that all handles own
-abbrev pub homes_of : LastTouches → ℕ
-homes_of t = owned_from copies_of t.owned.items 0 + owned_from frees_of t.owned.items 0
+abbrev pub homes_owned : LastTouches → ℕ
+homes_owned t = owned_from copies_of t.owned.items 0 + owned_from frees_of t.owned.items 0
 
 -- the parts fit one another: each handle's homes are counted, and the shortcuts fit what the handles own
-pub record IsSound (t : LastTouches) : Type 0 where
+pub record PartsFit (t : LastTouches) : Type 0 where
   pub ordered : IsOrdered nat_cmp t.last
   pub below : (q : ℕ) (touch : Touch) → get nat_cmp t.last q ≡ Some touch → touch.handle < length t.owned.items
-  pub copies : Counts copies_of kept t.owned.items t.last
+  pub copies : Counts copies_of left_copy t.owned.items t.last
   pub frees : Counts frees_of not t.owned.items t.last
   pub shortcuts : FitOwned t.owned.items t.shortcuts
 
 -- the touches are those of the first n handles of a queue, and the prices those of a list
-pub record Tells (g : Geometry) (hs : List Stopped) (n : ℕ) (ps : List (Option ℕ)) (t : LastTouches) : Type 0 where
+pub record TellsQueue (g : Geometry) (hs : List Stopped) (n : ℕ) (ps : List (Option ℕ)) (t : LastTouches) : Type 0 where
   pub geometry : t.geometry ≡ g
   pub number : length t.owned.items ≡ n
   pub within : n ≤ length hs

@@ -42,8 +42,8 @@ abbrev pub counts_since : (Bool → Bool) → ℕ → Touch → ℕ
 counts_since kind i t = cond (is_since kind i t) 1 0
 
 -- the kind of a touch that left a copy
-abbrev pub kept : Bool → Bool
-kept copy = copy
+abbrev pub left_copy : Bool → Bool
+left_copy copy = copy
 
 -- for each i, the handles from i on own the homes that one of them touched last
 abbrev pub Counts : (Owned → ℕ) → (Bool → Bool) → List Owned → BTreeMap ℕ Touch → Type 0
@@ -55,7 +55,7 @@ CountsBut count kind n extra os last = (i : ℕ) → owned_from count os i + con
 
 -- both counts of the homes that the handles own, where handle n has gained these and is not in the list
 pub record Gains (n : ℕ) (gained : Owned) (os : List Owned) (last : BTreeMap ℕ Touch) : Type 0 where
-  pub copies : CountsBut copies_of kept n gained.copies os last
+  pub copies : CountsBut copies_of left_copy n gained.copies os last
   pub frees : CountsBut frees_of not n gained.frees os last
 
 -- the last touch of a home, once handle n has this word there

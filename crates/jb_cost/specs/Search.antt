@@ -15,7 +15,7 @@ pub record IsWalk (os : List Owned) (w : Walk) : Type 0 where
   pub idle : AreIdle os w.low w.until
 
 -- a search has gone on to an earlier handle
-pub record Goes (os : List Owned) (w next : Walk) : Type 0 where
+pub record GoesEarlier (os : List Owned) (w next : Walk) : Type 0 where
   pub walk : IsWalk os next
   pub earlier : next.low < w.low
   pub geometry : next.tally.geometry ≡ w.tally.geometry
@@ -25,5 +25,5 @@ abbrev pub BestSoFar : Geometry → List Owned → ℕ → List (Option ℕ) →
 BestSoFar g os limit ps w = BestStart (owned_cost g os) limit ps w.low (length os) w.best
 
 -- no group from a start before low is within the limit
-abbrev pub IsOver : Geometry → List Owned → ℕ → ℕ → Type 0
-IsOver g os limit low = (i : ℕ) → i < low → limit < owned_cost g os i
+abbrev pub AreBeyondLimit : Geometry → List Owned → ℕ → ℕ → Type 0
+AreBeyondLimit g os limit low = (i : ℕ) → i < low → limit < owned_cost g os i

@@ -20,9 +20,9 @@ lesser_of (Some first) None = Some first
 lesser_of (Some first) (Some later) = if nat_lt later.price first.price then Some later else Some first
 
 -- a start whose group costs so much, if there is one
-abbrev pub found_from : Option Priced → ℕ → Option Found
-found_from None cost = None
-found_from (Some s) cost = Some (record { from = s.from; price = s.price; cost = cost })
+abbrev pub found_start : Option Priced → ℕ → Option Found
+found_start None cost = None
+found_start (Some s) cost = Some (record { from = s.from; price = s.price; cost = cost })
 
 -- the same start, where the group costs so much more
 abbrev pub dearer_by : ℕ → Option Found → Option Found

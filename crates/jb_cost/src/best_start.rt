@@ -2,7 +2,7 @@ ghost use Rattle.std.specs.Prelude.{◌≡◌, ℕ, ◌+◌, ◌^◌, ◌<◌, �
 ghost use Rattle.jb_cost.specs.Owned.{owned_from, copies_of, frees_of, owned_cost};
 ghost use Rattle.jb_cost.specs.Starts.{BestStart};
 ghost use Rattle.jb_cost.specs.Spans.{FitOwned, FitPrices};
-ghost use Rattle.jb_cost.specs.Search.{IsWalk, Goes, BestSoFar, IsOver};
+ghost use Rattle.jb_cost.specs.Search.{IsWalk, GoesEarlier, BestSoFar, AreBeyondLimit};
 
 use crate::found::Found;
 use crate::geometry::Geometry;
@@ -59,12 +59,12 @@ fn further(walk: Walk, owned: &[Owned], shortcuts: &mut Shortcuts, limit: u32) -
     requires fit { FitOwned owned.now shortcuts.old }
     requires walk { IsWalk owned.now walk × (0 < walk.low) }
     ensures fit { FitOwned owned.now shortcuts.new }
-    ensures next { IfSome result (Goes owned.now walk) }
+    ensures next { IfSome result (GoesEarlier owned.now walk) }
     ensures best { (ps : List (Option ℕ)) → FitPrices ps owned.now shortcuts.old →
         FitPrices ps owned.now shortcuts.new
         × (BestSoFar walk.tally.geometry owned.now limit ps walk →
         IfSome result (BestSoFar walk.tally.geometry owned.now limit ps)) }
-    ensures over { IfNone result (IsOver walk.tally.geometry owned.now limit walk.low) }
+    ensures over { IfNone result (AreBeyondLimit walk.tally.geometry owned.now limit walk.low) }
 {
     if let Some(next) = over_span(walk, owned, shortcuts, limit) {
         return Some(next);
@@ -80,7 +80,7 @@ fn over_span(walk: Walk, owned: &[Owned], shortcuts: &mut Shortcuts, limit: u32)
     requires fit { FitOwned owned.now shortcuts.old }
     requires walk { IsWalk owned.now walk × (0 < walk.low) }
     ensures fit { FitOwned owned.now shortcuts.new }
-    ensures next { IfSome result (Goes owned.now walk) }
+    ensures next { IfSome result (GoesEarlier owned.now walk) }
     ensures best { (ps : List (Option ℕ)) → FitPrices ps owned.now shortcuts.old →
         FitPrices ps owned.now shortcuts.new
         × (BestSoFar walk.tally.geometry owned.now limit ps walk →
@@ -115,12 +115,12 @@ fn over_stretch(walk: Walk, owned: &[Owned], shortcuts: &mut Shortcuts, limit: u
     requires fit { FitOwned owned.now shortcuts.old }
     requires walk { IsWalk owned.now walk × (0 < walk.low) }
     ensures fit { FitOwned owned.now shortcuts.new }
-    ensures next { IfSome result (Goes owned.now walk) }
+    ensures next { IfSome result (GoesEarlier owned.now walk) }
     ensures best { (ps : List (Option ℕ)) → FitPrices ps owned.now shortcuts.old →
         FitPrices ps owned.now shortcuts.new
         × (BestSoFar walk.tally.geometry owned.now limit ps walk →
         IfSome result (BestSoFar walk.tally.geometry owned.now limit ps)) }
-    ensures over { IfNone result (IsOver walk.tally.geometry owned.now limit walk.low) }
+    ensures over { IfNone result (AreBeyondLimit walk.tally.geometry owned.now limit walk.low) }
 {
     let start = walk.low - 1;
     let tally = walk.tally.plus(owned[start]);

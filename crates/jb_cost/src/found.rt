@@ -13,11 +13,11 @@ pub struct Found {
 
 impl Found {
     ghost use Rattle.std.specs.Prelude.{◌≡◌, ◌+◌, ◌^◌, ◌<◌, Option, Some};
-    ghost use Rattle.jb_cost.specs.Starts.{better_of, dearer_by, found_from};
+    ghost use Rattle.jb_cost.specs.Starts.{better_of, dearer_by, found_start};
 
     /// A start whose group costs so much, if there is one.
     pub(crate) fn of(start: Option<Priced>, cost: u64) -> Option<Found>
-        ensures { result ≡ found_from start cost }
+        ensures { result ≡ found_start start cost }
     {
         let Some(start) = start else { return None };
         Some(Found {

@@ -31,12 +31,12 @@ impl LastTouches {
     ghost use Rattle.jb_cost.specs.declared.geometry.Geometry.{Geometry as GeometryValue};
     ghost use Rattle.jb_cost.specs.Cut.{price, piece_cost};
     ghost use Rattle.jb_cost.specs.Starts.{BestStart};
-    ghost use Rattle.jb_cost.specs.LastTouches.{IsSound, Tells, homes_of};
+    ghost use Rattle.jb_cost.specs.LastTouches.{PartsFit, TellsQueue, homes_owned};
 
     /// The last touches of no handles. Takes no memory.
     pub fn new(alloc: Global, geometry: Geometry) -> LastTouches
-        ensures sound { IsSound result }
-        ensures tells { (hs : List StoppedValue) (ps : List (Option ℕ)) → Tells geometry hs 0 ps result }
+        ensures sound { PartsFit result }
+        ensures tells { (hs : List StoppedValue) (ps : List (Option ℕ)) → TellsQueue geometry hs 0 ps result }
     {
         LastTouches {
             geometry,
@@ -54,11 +54,11 @@ impl LastTouches {
     /// `Memory` where there is none for a home block or for the handle. Nothing is promised of the
     /// touches then, and no other call of them is allowed.
     pub fn add(&mut self, handle: &Stopped, start: Option<u64>) -> Result<(), Memory>
-        requires sound { IsSound self.old }
-        ensures sound { OnOk result (IsSound self.new) }
+        requires sound { PartsFit self.old }
+        ensures sound { OnOk result (PartsFit self.new) }
         ensures tells { OnOk result ((g : GeometryValue) (hs : List StoppedValue) (n : ℕ) (ps : List (Option ℕ))
-            → Tells g hs n ps self.old → n < length hs → handle.now ≡ get_or hs n handle.now → price ps n ≡ start
-            → Tells g hs (n + 1) ps self.new) }
+            → TellsQueue g hs n ps self.old → n < length hs → handle.now ≡ get_or hs n handle.now → price ps n ≡ start
+            → TellsQueue g hs (n + 1) ps self.new) }
     {
         let from = self.owned.len();
         let spans = &mut self.shortcuts.spans;
@@ -73,11 +73,11 @@ impl LastTouches {
     /// the group takes at most `limit` log blocks, the one with the least sum of price and cost. Of
     /// several with the same sum it is the first.
     pub fn best(&mut self, limit: u32) -> Option<Found>
-        requires sound { IsSound self.old }
-        requires few { homes_of self.old ≤ 2 ^ 62 }
-        ensures sound { IsSound self.new }
+        requires sound { PartsFit self.old }
+        requires few { homes_owned self.old ≤ 2 ^ 62 }
+        ensures sound { PartsFit self.new }
         ensures tells { (g : GeometryValue) (hs : List StoppedValue) (n : ℕ) (ps : List (Option ℕ))
-            → Tells g hs n ps self.old → Tells g hs n ps self.new
+            → TellsQueue g hs n ps self.old → TellsQueue g hs n ps self.new
             × BestStart (λ i. piece_cost g hs i n) limit ps 0 n result }
     {
         best_start(self.geometry, &self.owned, &mut self.shortcuts, limit)

@@ -4,7 +4,7 @@ ghost use Rattle.std.specs.Ordering.{nat_cmp};
 ghost use Rattle.std.specs.BTreeMap.{IsOrdered, get};
 ghost use Rattle.std.specs.FinMap as map;
 ghost use Rattle.jb_cost.specs.declared.owned.Touch.{Touch as TouchValue};
-ghost use Rattle.jb_cost.specs.Owned.{IsIdle, owned_at, owned_from, copies_of, frees_of, kept, counts_since};
+ghost use Rattle.jb_cost.specs.Owned.{IsIdle, owned_at, owned_from, copies_of, frees_of, left_copy, counts_since};
 ghost use Rattle.jb_cost.specs.Owned.{Counts, Gains, later_touch};
 ghost use Rattle.jb_cost.specs.Spans.{AreSpans, AreBest};
 
@@ -23,7 +23,7 @@ pub(crate) fn take_over(
     words: &Words,
 ) -> Result<Owned, Memory>
     requires below { (q : ℕ) (t : TouchValue) → get nat_cmp last.old q ≡ Some t → t.handle < length owned.old.items }
-    requires copies { Counts copies_of kept owned.old.items last.old }
+    requires copies { Counts copies_of left_copy owned.old.items last.old }
     requires frees { Counts frees_of not owned.old.items last.old }
     requires spans { AreSpans owned.old.items spans.old.items }
     ensures spans { AreSpans owned.new.items spans.new.items }
@@ -64,7 +64,7 @@ fn lose(owned: &mut Vec<Owned>, spans: &mut Vec<Option<Span>>, before: Option<To
     ensures number { length owned.new.items ≡ length owned.old.items }
     ensures idle { (k : ℕ) → IsIdle (owned_at owned.old.items k) → IsIdle (owned_at owned.new.items k) }
     ensures copies { (i : ℕ) → owned_from copies_of owned.new.items i + unwrap_or
-        (option_map (counts_since kept i) before) 0 ≡ owned_from copies_of owned.old.items i }
+        (option_map (counts_since left_copy i) before) 0 ≡ owned_from copies_of owned.old.items i }
     ensures frees { (i : ℕ) → owned_from frees_of owned.new.items i + unwrap_or
         (option_map (counts_since not i) before) 0 ≡ owned_from frees_of owned.old.items i }
 {

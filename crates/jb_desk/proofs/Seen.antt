@@ -1,54 +1,21 @@
 -- What a round makes of the counts that its seat is sure of, and which credits are too many.
-use Rattle.std.proofs.Common.{◌≡◌, ◌⊎◌, ℕ, length, Bool, true, false, nat_lt, is_some, [], ◌∷◌, Option, Some, None, Result, Ok, Err, inl, inr, refl, ap, sym, subst, ◌∙◌, arith}
-use Rattle.std.proofs.lemmas.Bool.{cases_lt}
-use Rattle.std.proofs.lemmas.Bool.Decides.{nat_tests}
+use Rattle.std.proofs.Common.{◌≡◌, ◌⊎◌, ℕ, is_some, Option, Some, None, Result, Ok, Err, inl, inr, refl, ap, sym, subst, ◌∙◌}
 use Rattle.jb_plan.specs.Batch.{Gathered}
-use Rattle.jb_board.specs.Front.{IsWithin}
-use Rattle.jb_board.specs.Steps.{raised_settled}
 use Rattle.jb_board.specs.declared.front.Front.{Front}
 use Rattle.jb_disk.specs.declared.disk.Disk.{Ghosts}
-use Rattle.jb_handle.specs.Held.{first_of}
-use Rattle.jb_book.specs.Account.{Account, IsSound, CanTake, is_full, RefusesBegin}
+use Rattle.jb_book.specs.Account.{Account}
 use Rattle.jb_desk.specs.Journal.{CommitsRound}
 use Rattle.jb_book.specs.Origin.{Begun}
-use Rattle.jb_desk.specs.Refusals.{IsTooMany}
 use Rattle.jb_book.specs.Rounds.{end_of}
 use Rattle.jb_desk.specs.Rounds.{AnswersRound, GivesBatch}
-use Rattle.jb_book.specs.Shadow.{credits_at, reserved}
 use Rattle.jb_desk.specs.Views.{SeesCommit, SeesRound, TakesUp, with_taken}
 use Rattle.jb_desk.specs.declared.committer.Round.{Round}
 use Rattle.jb_desk.specs.declared.committer.Round.TheVariants.{Idle, Committed}
 use Rattle.jb_desk.specs.declared.committer.RoundFault.{RoundFault}
 use Rattle.jb_desk.specs.declared.committer.RoundFault.TheVariants as round
-use Rattle.jb_book.specs.declared.fault.BeginFault.{BeginFault}
-use Rattle.jb_book.specs.declared.fault.BeginFault.TheVariants.{Aborted, Closed, Busy, TooManyCredits, Full, Memory}
+use Rattle.jb_book.specs.declared.fault.BeginFault.TheVariants.{Aborted, Memory}
 
 -- ---- the counts
-
-within-same : (v w : Front) → w ≡ v → IsWithin v w
-within-same v w is = subst (IsWithin v) (sym is) (omega arith, omega arith, omega arith)
-
-within-raised : (v w : Front) (n : ℕ) → w ≡ raised_settled v n → IsWithin v w
-within-raised v w n is = subst (IsWithin v) (sym is) (omega arith, omega arith, omega arith)
-
-within-commit : (b : Gathered) (v w : Front) (r : Result Round RoundFault) → SeesCommit b v w r → IsWithin v w
-within-commit b v w (Ok (Idle seen)) is = absurd is
-within-commit b v w (Ok (Committed done)) is = within-raised v w (end_of b) is
-within-commit b v w (Err round.Aborted) is = within-same v w is
-within-commit b v w (Err round.DeviceFault) (lost, more, less, is) = within-raised v w lost is
-within-commit b v w (Err round.Memory) is = within-same v w is
-within-commit b v w (Err round.Refused) is = within-same v w is
-
--- no count falls in a round
-pub within-round : (held after : Option Gathered) (v w : Front) (r : Result Round RoundFault) → SeesRound held after v w r → IsWithin v w
-within-round held after v w r (inl (none, is)) = within-same v w is
-within-round held after v w r (inr (b, up, answers, is)) =
-    let rest = within-commit b (with_taken (end_of b) v) w r is in
-    (omega (arith, rest.0), omega (arith, rest.1), omega (arith, rest.2))
-
--- nor over several
-pub within-more : (u v w : Front) → IsWithin u v → IsWithin v w → IsWithin u w
-within-more u v w one two = (omega (arith, one.0, two.0), omega (arith, one.1, two.1), omega (arith, one.2, two.2))
 
 -- after a batch was taken, its commit is the round's
 pub sees-taken : (held after : Option Gathered) (b : Gathered) (v u w : Front) (r : Result Round RoundFault) → TakesUp held b → u ≡ with_taken (end_of b) v → AnswersRound (Some b) after w.settled r → SeesCommit b u w r → SeesRound held after v w r
@@ -101,37 +68,3 @@ round-up G begun held b reached (Err round.Aborted) up is = tt
 round-up G begun held b reached (Err round.DeviceFault) up is = (is.0, is.1, subst (TakesUp held) (sym is.2) up, is.3, is.4)
 round-up G begun held b reached (Err round.Memory) up is = tt
 round-up G begun held b reached (Err round.Refused) up is = tt
-
--- ---- the credits
-
--- the first reason, where it is that there are too many credits
-first-many : (a b c d e : Bool) (most reserved_now n : ℕ) → first_of ((a, Aborted) ∷ (b, Closed) ∷ (c, Busy) ∷ (d, TooManyCredits most) ∷ (e, Full reserved_now) ∷ []) ≡ Some (TooManyCredits n) → (d ≡ true) × (most ≡ n)
-first-many true b c d e most reserved_now n is = absurd (let h : ⊥ = cc in h)
-first-many false true c d e most reserved_now n is = absurd (let h : ⊥ = cc in h)
-first-many false false true d e most reserved_now n is = absurd (let h : ⊥ = cc in h)
-first-many false false false true e most reserved_now n is = (refl, (let same : ◌≡◌ {A = Option BeginFault} (Some (TooManyCredits most)) (Some (TooManyCredits n)) = is in let eq : most ≡ n = cc in eq))
-first-many false false false false true most reserved_now n is = absurd (let h : ⊥ = cc in h)
-first-many false false false false false most reserved_now n is = absurd (let h : ⊥ = cc in h)
-
--- what a book refuses as too many is more than the most
-pub too-many : (a : Account) (seat credits : ℕ) (fault : BeginFault) → RefusesBegin a seat credits fault → IsTooMany credits fault
-too-many a seat credits Aborted is = tt
-too-many a seat credits Closed is = tt
-too-many a seat credits Busy is = tt
-too-many a seat credits (TooManyCredits n) is =
-    let (over, same) = first-many a.aborted a.shut (is_some (credits_at a.shadow seat)) (nat_lt a.most credits) (is_full a credits) a.most (reserved a.shadow) n is in
-    let more : nat_lt a.most credits ≡ true = over in
-    grind (arith, nat_tests, same)
-too-many a seat credits (Full n) is = tt
-too-many a seat credits Memory is = tt
-
--- ---- nothing to take
-
--- where no batch is out, and none can be taken, no handle waits
-pub none-waits : (a : Account) → IsSound a → a.aborted ≡ false → (CanTake a → ⊥) → a.shadow.taken ≡ a.shadow.settled → a.shadow.next ≡ a.shadow.taken
-none-waits a sound running none free =
-    let all = (sound.running running).queued in
-    elim (cases_lt 0 (length a.shadow.queue)) [
-      | inl some ↦ absurd (none (record { running = running; free = free; some = some }))
-      | inr few ↦ omega (arith, few, all)
-    ]

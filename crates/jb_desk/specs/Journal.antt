@@ -3,7 +3,7 @@ use Rattle.std.specs.Prelude.{◌≤◌, ℕ, Option, Result, Ok, Err}
 use Rattle.jb_plan.specs.Batch.{Gathered}
 use Rattle.jb_plan.specs.Prepared.{Planned}
 use Rattle.jb_disk.specs.declared.disk.Disk.{Ghosts}
-use Rattle.jb_deck.specs.Done.{entries_of, first_of, past_after}
+use Rattle.jb_deck.specs.Done.{entries_of, first_ticket, past_after}
 use Rattle.jb_deck.specs.declared.done.Done.{Done}
 use Rattle.jb_book.specs.Origin.{Begun}
 use Rattle.jb_book.specs.Journal.{FailsRound, IsRound}
@@ -20,6 +20,6 @@ module _ {D : Type 0} (G : Ghosts D) (b : Begun) where
   CommitsRound held reached (Ok (Idle seen)) = Unit {0}
   CommitsRound held reached (Ok (Committed done)) = (p : Planned) × TakesUp held p.batch × IsRound G b p done
   CommitsRound held reached (Err Aborted) = Unit {0}
-  CommitsRound held reached (Err DeviceFault) = (p : Planned) × (settled : Done) × TakesUp held p.batch × FailsRound G b p settled × (past_after (first_of settled) (entries_of settled) ≤ reached)
+  CommitsRound held reached (Err DeviceFault) = (p : Planned) × (settled : Done) × TakesUp held p.batch × FailsRound G b p settled × (past_after (first_ticket settled) (entries_of settled) ≤ reached)
   CommitsRound held reached (Err Memory) = Unit {0}
   CommitsRound held reached (Err Refused) = Unit {0}

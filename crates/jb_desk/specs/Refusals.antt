@@ -30,5 +30,5 @@ IsTooMany credits (begin.Full reserved) = Unit {0}
 IsTooMany credits begin.Memory = Unit {0}
 
 -- what is answered of a ticket that is not settled and that nobody waits for any more
-abbrev pub fault_of : Account → WaitFault
-fault_of a = if a.aborted then wait.Aborted else wait.Unknown
+abbrev pub unsettled_fault : Account → WaitFault
+unsettled_fault a = if a.aborted then wait.Aborted else wait.Unknown

@@ -2,7 +2,7 @@
 use Rattle.std.specs.Prelude.{◌≡◌, ℕ, ◌≤◌, true, false, Option, Some, None, is_some, Result, Ok, Err}
 use Rattle.jb_plan.specs.Batch.{Gathered, gathered}
 use Rattle.jb_plan.specs.Costs.{HasCut}
-use Rattle.jb_deck.specs.Done.{Follow, first_of, entries_of}
+use Rattle.jb_deck.specs.Done.{Follow, first_ticket, entries_of}
 use Rattle.jb_book.specs.Account.{Account, taken_all, failed_of, CanTake, IsOver}
 use Rattle.jb_book.specs.Rounds.{end_of}
 use Rattle.jb_desk.specs.declared.committer.Committer.{Committer}
@@ -61,7 +61,7 @@ StaysHeld (Some b) new = new ≡ Some b
 -- committed, and only there.
 abbrev pub AnswersRound : Option Gathered → Option Gathered → ℕ → Result Round RoundFault → Type 0
 AnswersRound old new settled (Ok (Idle seen)) = (old ≡ None) × (new ≡ None)
-AnswersRound old new settled (Ok (Committed done)) = (new ≡ None) × ((past : ℕ) × Follow (first_of done) 0 past (entries_of done) × (past ≤ settled) × IsOfHeld old (first_of done) past)
+AnswersRound old new settled (Ok (Committed done)) = (new ≡ None) × ((past : ℕ) × Follow (first_ticket done) 0 past (entries_of done) × (past ≤ settled) × IsOfHeld old (first_ticket done) past)
 AnswersRound old new settled (Err Aborted) = new ≡ None
 AnswersRound old new settled (Err DeviceFault) = new ≡ None
 AnswersRound old new settled (Err Memory) = StaysHeld old new

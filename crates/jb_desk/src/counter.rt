@@ -28,8 +28,8 @@ use std::sync::ledger::{Blank, Ledger, Share};
 const MOST: u64 = 1 << 61;
 
 /// What the first lock of a desk guards: the book with the history of its stops and what was seen of the marks, and the
-/// ledgers in which the handles that stopped and the blocks that they touched are counted. Of each ledger the parts that
-/// no seat has are spare.
+/// ledgers in which the handles that stopped and the blocks that they touched are counted. Of each ledger the parts
+/// that no seat has are spare.
 #[derive(Drop)]
 pub(crate) struct Counter<D: Disk, H: Origin, N: Ledger> {
     register: Register<D, H>,
@@ -56,7 +56,7 @@ pub(crate) struct Counter<D: Disk, H: Origin, N: Ledger> {
 
 impl<D: Disk, H: Origin, N: Ledger> Counter<D, H, N> {
     ghost use Rattle.jb_book.specs.Account.{dropped_of};
-    ghost use Rattle.jb_desk.specs.Refusals.{fault_of};
+    ghost use Rattle.jb_desk.specs.Refusals.{unsettled_fault};
     ghost use Rattle.jb_book.specs.Account.{AnswersNumber, IsAwaited};
     ghost use Rattle.jb_book.specs.Marks.{AreShown, SeesMore};
     ghost use Rattle.jb_desk.specs.Seats.{stops, changes, made_by, stops_left, changes_left, made_left};
@@ -173,7 +173,7 @@ impl<D: Disk, H: Origin, N: Ledger> Counter<D, H, N> {
         ensures settled { OnOk result ((ticket < 2 ^ 61) × (ticket < self.old.register.book.shadow.settled)
             × (ticket < self.old.register.book.shadow.next)) }
         ensures err { IfErr result (λ fault. (self.old.register.book.shadow.settled ≤ ticket)
-            × (fault ≡ fault_of self.old.register.book)) }
+            × (fault ≡ unsettled_fault self.old.register.book)) }
         ensures book { self.new.register.book ≡ self.old.register.book }
     {
         let mut all = self.register.sights(histories);

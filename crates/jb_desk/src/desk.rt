@@ -1,7 +1,7 @@
 ghost use Rattle.std.specs.Prelude.{◌≡◌, ◌+◌, ◌<◌, ◌^◌, [], ◌∷◌, ◌++◌, false, IfOk, IfErr, OnOk};
 ghost use Rattle.std.specs.FinMap as map;
 ghost use Rattle.jb_handle.specs.Handle.{holder, changes_of};
-ghost use Rattle.jb_handle.specs.Held.{held, touched};
+ghost use Rattle.jb_handle.specs.Held.{held, touched_count};
 ghost use Rattle.jb_board.specs.Front.{front, InOrder, IsWithin};
 ghost use Rattle.jb_board.specs.Steps.{raised_stopped};
 ghost use Rattle.jb_board.specs.History.{history_id};
@@ -64,8 +64,8 @@ impl<D: Disk, C: Clock, H: Origin, N: Ledger> Desk<D, C, H, N> {
 
     /// A desk over a journal that has committed nothing yet and has not failed. `handles` is a new ledger,
     /// in which the handles that stop are counted, with a new history of them, and `changes` a new ledger,
-    /// in which the blocks that they touched are; `marks` is a new history of the journal as it is now, after each round
-    /// of a committer and after each read.
+    /// in which the blocks that they touched are; `marks` is a new history of the journal as it is now, after each
+    /// round of a committer and after each read.
     /// What is promised of the disk from now on is said of the start that the caller picks (`H.begun`).
     ///
     /// # Errors
@@ -168,8 +168,8 @@ impl<D: Disk, C: Clock, H: Origin, N: Ledger> Desk<D, C, H, N> {
 
     /// A handle stops (`jbd2_journal_stop`): its changes wait to be committed, under the ticket that is
     /// given with its seat. The seat's shares count it, and the blocks that it touched. Its words are some
-    /// with which a handle may stop (`H.begun`). The ticket is higher than those of all handles that were seen, and this one
-    /// is seen then.
+    /// with which a handle may stop (`H.begun`). The ticket is higher than those of all handles that were seen, and
+    /// this one is seen then.
     ///
     /// # Errors
     ///
@@ -186,7 +186,7 @@ impl<D: Disk, C: Clock, H: Origin, N: Ledger> Desk<D, C, H, N> {
         ensures seat { IfOk result (λ given. (desk_of given.0 ≡ desk_id self.now)
             × (seat_number given.0 ≡ seat_number (holder handle))) }
         ensures counted { IfOk result (λ given. (stops given.0 ≡ stops (holder handle) + 1)
-            × (changes given.0 ≡ changes (holder handle) + touched (changes_of handle))) }
+            × (changes given.0 ≡ changes (holder handle) + touched_count (changes_of handle))) }
         ensures made { IfOk result (λ given. made_by given.0 ≡ made_by (holder handle)
             ++ (given.1, (changes_of handle).words) ∷ []) }
         ensures sees { IfOk result (λ given. SeesStop seen.old.stops seen.new.stops given.1 (changes_of handle).words) }
@@ -227,8 +227,8 @@ impl<D: Disk, C: Clock, H: Origin, N: Ledger> Desk<D, C, H, N> {
         self.board.look(&mut seat.board)
     }
 
-    /// What can be seen now of the handles that stopped and of the journal's marks, with which a thread stops, waits and
-    /// reads.
+    /// What can be seen now of the handles that stopped and of the journal's marks, with which a thread stops, waits
+    /// and reads.
     pub fn sights<R: Wait>(&self, rt: &R) -> Sights<D, H> {
         self.counter.lock(rt).sights(&self.histories)
     }

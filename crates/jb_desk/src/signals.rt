@@ -25,9 +25,9 @@ impl Signals {
         }
     }
 
-    /// A handle has stopped; as many wait now as a committer puts its round off for, or fewer. That makes no room, since
-    /// the handle keeps its credits until it is settled; and a checkpointer finds no more to do, since nothing is settled
-    /// by it and a desk with a handle to commit is not over.
+    /// A handle has stopped; as many wait now as a committer puts its round off for, or fewer. That makes no room,
+    /// since the handle keeps its credits until it is settled; and a checkpointer finds no more to do, since nothing is
+    /// settled by it and a desk with a handle to commit is not over.
     pub(crate) fn tell_stop(&self, is_enough: bool) {
         self.stopped.notify_all();
         if is_enough {

@@ -7,8 +7,8 @@ use std::sync::{Condvar, Mutex, Wait};
 #[derive(Drop)]
 pub(crate) struct Turns {
     line: Mutex<Line>,
-    /// the line has moved on; each is for the places of one remainder, so that the one whose turn it is, is woken, and few
-    /// others
+    /// the line has moved on; each is for the places of one remainder, so that the one whose turn it is, is woken, and
+    /// few others
     moved: [Condvar; 16],
 }
 

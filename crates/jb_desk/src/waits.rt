@@ -3,8 +3,8 @@
 use std::sync::{Condvar, Mutex, Wait};
 
 /// Those that wait until a handle is committed, apart from those that wait for something else: they are woken where
-/// theirs is settled, and not each time that one stops. One batch at a time is out, and the handles that wait are of the
-/// next one; so those of two batches are awaited at a time, and what is awaited of one is apart from the other.
+/// theirs is settled, and not each time that one stops. One batch at a time is out, and the handles that wait are of
+/// the next one; so those of two batches are awaited at a time, and what is awaited of one is apart from the other.
 #[derive(Drop)]
 pub(crate) struct Waits {
     waiting: Mutex<Waiting>,

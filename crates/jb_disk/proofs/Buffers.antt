@@ -4,9 +4,9 @@ use Rattle.std.proofs.lemmas.List.{length-map, get_or-map, map-set}
 use Rattle.jb_block.specs.Size.{bytes_of}
 use Rattle.jb_disk.specs.Image.{Image, block, HasShape}
 use Rattle.jb_disk.specs.Calls.{image_of, steps_of}
-use Rattle.jb_disk.specs.History.{History, Wrote, IsSound, newest_of}
+use Rattle.jb_disk.specs.History.{History, Wrote, IsHistorySound, newest_of}
 use Rattle.jb_disk.specs.Lives.{replay_shape}
-use Rattle.jb_disk.specs.Memory.{history_of, IsKept}
+use Rattle.jb_disk.specs.Memory.{history_of, IsHistoryKept}
 use Rattle.jb_disk.specs.declared.memory.MemoryDisk.TheInside.{Inside}
 use Rattle.jb_disk.specs.declared.memory.Call.{Call}
 use Rattle.std.specs.Vec.{with_item}
@@ -22,12 +22,12 @@ buffer_at count size c buffers place b shape is inside here =
     ap (λ v. v.items) here ∙ sym (get_or-map (λ v. v.items) buffers place b [] within) ∙ ap (λ image. block image place) is
 
 -- the newest content has the disk's shape
-newest_shape : (h : History) → IsSound h → HasShape h.count (bytes_of h.size) (newest_of h)
+newest_shape : (h : History) → IsHistorySound h → HasShape h.count (bytes_of h.size) (newest_of h)
 newest_shape h sound = replay_shape h.count (bytes_of h.size) h.first h.steps sound.shape sound.whole
 
-module _ (a : Inside) (kept : IsKept a) (h : History) (view : history_of a ≡ h) where
-  pub kept_sound : IsSound h
-  kept_sound = subst IsSound view kept.sound
+module _ (a : Inside) (kept : IsHistoryKept a) (h : History) (view : history_of a ≡ h) where
+  pub kept_sound : IsHistorySound h
+  kept_sound = subst IsHistorySound view kept.sound
 
   pub kept_count : vec_len a.newest ≡ h.count
   kept_count =
@@ -42,9 +42,9 @@ module _ (a : Inside) (kept : IsKept a) (h : History) (view : history_of a ≡ h
       buffer_at h.count (bytes_of h.size) (newest_of h) a.newest.items place b (newest_shape h kept_sound) (kept.newest ∙ ap newest_of view) inside here
 
 -- a write kept in both lists
-pub kept_written : (a : Inside) → IsKept a → (h : History) → history_of a ≡ h → (place : ℕ) (bytes : List ℕ) (new : Vec ℕ Global) (calls : Vec Call Global) →
+pub kept_written : (a : Inside) → IsHistoryKept a → (h : History) → history_of a ≡ h → (place : ℕ) (bytes : List ℕ) (new : Vec ℕ Global) (calls : Vec Call Global) →
     place < h.count → length bytes ≡ bytes_of h.size → new.items ≡ bytes → steps_of calls.items ≡ Wrote place bytes ∷ steps_of a.calls.items →
-    IsKept (record a { newest = with_item a.newest place new; calls = calls })
+    IsHistoryKept (record a { newest = with_item a.newest place new; calls = calls })
 kept_written a kept h view place bytes new calls inside whole is noted = record {
   sound = record {
     shape = kept.sound.shape;

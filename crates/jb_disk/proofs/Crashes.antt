@@ -6,7 +6,7 @@ use Rattle.jb_block.specs.declared.size.BlockSize.{BlockSize}
 use Rattle.jb_block.specs.declared.size.BlockSize.TheVariants.{OneKib, TwoKib, FourKib}
 use Rattle.jb_block.specs.Size.{bytes_of}
 use Rattle.jb_disk.specs.declared.memory.Call.{Call}
-use Rattle.jb_disk.specs.History.{History, Step, Wrote, Synced, AreWhole, IsSound, MayLeave}
+use Rattle.jb_disk.specs.History.{History, HistoryStep, Wrote, Synced, AreWhole, IsHistorySound, MayLeave}
 use Rattle.jb_disk.specs.Mixing.{writes_at, any_below}
 use Rattle.jb_disk.specs.Image.{Image, block, sector, HasShape}
 use Rattle.jb_disk.specs.Versions.{IsChosen, synced, written, written_below, version, versions, one_if_any}
@@ -20,21 +20,21 @@ whole_sectors TwoKib = refl
 whole_sectors FourKib = refl
 
 -- what was written has the size of a block
-pub written_whole : (count size : ℕ) (steps : List Step) (place : ℕ) → AreWhole count size steps → All (λ b. length b ≡ size) (written steps place)
+pub written_whole : (count size : ℕ) (steps : List HistoryStep) (place : ℕ) → AreWhole count size steps → All (λ b. length b ≡ size) (written steps place)
 written_whole count size [] place whole = λ k d below. absurd (let h : ⊥ = omega (arith, below) in h)
 written_whole count size (Synced ∷ older) place whole = λ k d below. absurd (let h : ⊥ = omega (arith, below) in h)
 written_whole count size (Wrote p bytes ∷ older) place whole =
     all_more size (eqb p place) (written older place) bytes (written_whole count size older place whole.2) whole.1
 
 -- the table counts the blocks that have been written
-pub any_below-is : (count : ℕ) (table : List (List (List ℕ))) (steps : List Step) → ((p : ℕ) → p < count → writes_at table p ≡ written steps p) → (place : ℕ) → place ≤ count → any_below table place ≡ written_below steps place
+pub any_below-is : (count : ℕ) (table : List (List (List ℕ))) (steps : List HistoryStep) → ((p : ℕ) → p < count → writes_at table p ≡ written steps p) → (place : ℕ) → place ≤ count → any_below table place ≡ written_below steps place
 any_below-is count table steps each zero below = refl
 any_below-is count table steps each (suc place) below =
     ap (λ n. n + one_if_any (writes_at table place)) (any_below-is count table steps each place (omega (arith, below)))
     ∙ ap (λ ws. written_below steps place + one_if_any ws) (each place (omega (arith, below)))
 
 -- the image by the parts is the image by the history
-pub chosen_by_history : (count sectors : ℕ) (first stable now : Image) (steps : List Step) (table : List (List (List ℕ))) (choice : List ℕ) → synced first steps ≡ stable
+pub chosen_by_history : (count sectors : ℕ) (first stable now : Image) (steps : List HistoryStep) (table : List (List (List ℕ))) (choice : List ℕ) → synced first steps ≡ stable
     → ((p : ℕ) → p < count → writes_at table p ≡ written steps p)
     → ((place k : ℕ) → place < count → k < sectors → sector k (block now place) ≡ sector k (version (block stable place ∷ writes_at table place) (get_or choice (any_below table place * sectors + k) 0)))
     → (place k : ℕ) → place < count → k < sectors → sector k (block now place) ≡ sector k (version (versions first steps place) (get_or choice (written_below steps place * sectors + k) 0))
@@ -49,7 +49,7 @@ pub rest_of_calls : (calls : List Call) (n : ℕ) → take (length calls - n) (d
 rest_of_calls calls n = take_all (length calls - n) (drop n calls) (omega (arith, length-drop n calls))
 
 -- an image that a choice names is one that a crash may leave
-pub chosen_left : (h : History) (choice : List ℕ) (c : Image) → IsSound h → IsChosen h choice c → MayLeave h.first h.steps c
+pub chosen_left : (h : History) (choice : List ℕ) (c : Image) → IsHistorySound h → IsChosen h choice c → MayLeave h.first h.steps c
 chosen_left h choice c sound is =
     choice_left h.count (bytes_of h.size / 512) h.first h.steps c
     (subst (λ s. HasShape h.count s h.first) (whole_sectors h.size) sound.shape)

@@ -3,7 +3,7 @@ use Rattle.std.proofs.Common.{◌≡◌, ◌<◌, ℕ, ◌*◌, Bool, true, fals
 use Rattle.std.specs.Prelude.{Result, Ok, Err, is_ok, OnOk}
 use Rattle.jb_disk.specs.Image.{Image, block, Torn, HasShape}
 use Rattle.jb_disk.specs.Runs.{ReadsRun, WroteRun, TornRun}
-use Rattle.jb_disk.specs.Events.{Event, InBlocks, Makes, Agree, LeftBy, Leaves, IsHonestFile, read, written, synced}
+use Rattle.jb_disk.specs.Events.{Event, InBlocks, Makes, Agree, LeftBy, Leaves, IsHonestFile, read, write_event, sync_event}
 use Rattle.jb_disk.specs.Agreeing.{torn_of_wrote, newest_left}
 use Rattle.jb_disk.proofs.Noted.{read_one, torn_one, wrote_one}
 use Rattle.jb_disk.specs.declared.fault.Fault.{Fault}
@@ -34,10 +34,6 @@ module _ (size count : ℕ) (content : ℕ → Image) (older events : List Event
   reads at true bytes is makes = makes.1
   reads at false bytes is makes = absurd (let h : ⊥ = cc in h)
 
-  idle : (at : ℕ) (ok : Bool) (bytes : List ℕ) → Makes size 0 at ok bytes old new → new ≡ old
-  idle at true bytes makes = makes.0
-  idle at false bytes makes = makes
-
   writes : (at : ℕ) (ok : Bool) (bytes : List ℕ) → ok ≡ true → Makes size 1 at ok bytes old new → InBlocks size at bytes (λ place n. WroteRun size n place bytes old new)
   writes at true bytes is makes = makes
   writes at false bytes is makes = absurd (let h : ⊥ = cc in h)
@@ -45,10 +41,6 @@ module _ (size count : ℕ) (content : ℕ → Image) (older events : List Event
   tears : (at : ℕ) (ok : Bool) (bytes : List ℕ) → ((t : ℕ) → HasShape count size (content t)) → Makes size 1 at ok bytes old new → InBlocks size at bytes (λ place n. TornRun size n place bytes old new)
   tears at true bytes shapes makes = λ place n here long. torn_of_wrote count size n place bytes old new (shapes (length older)) (shapes (length events)) (makes place n here long)
   tears at false bytes shapes makes = makes
-
-  -- a read changes nothing
-  pub read_same : (at : ℕ) (ok : Bool) (bytes : List ℕ) → events ≡ read at ok bytes ∷ older → IsHonestFile size count content events → new ≡ old
-  read_same at ok bytes are honest = idle at ok bytes (made 0 at ok bytes are honest)
 
   pub found_run : (place n at : ℕ) (ok : Bool) (bytes : List ℕ) (r : Result Unit Fault) → is_ok r ≡ ok → at ≡ place * size → length bytes ≡ size * n
       → events ≡ read at ok bytes ∷ older → IsHonestFile size count content events → OnOk r (ReadsRun size n place old bytes)
@@ -60,21 +52,16 @@ module _ (size count : ℕ) (content : ℕ → Image) (older events : List Event
   found_block place at ok bytes r is here long are honest = on_ok (bytes ≡ block old place) r ok is
       (λ yes. read_one size place old bytes long (reads at ok bytes yes (made 0 at ok bytes are honest) place 1 here (omega (arith, long))))
 
-  pub written_run : (place n at : ℕ) (ok : Bool) (bytes : List ℕ) (r : Result Unit Fault) → is_ok r ≡ ok → at ≡ place * size → length bytes ≡ size * n
-      → events ≡ written at ok bytes ∷ older → IsHonestFile size count content events → OnOk r (WroteRun size n place bytes old new)
-  written_run place n at ok bytes r is here long are honest = on_ok (WroteRun size n place bytes old new) r ok is
-      (λ yes. writes at ok bytes yes (made 1 at ok bytes are honest) place n here long)
-
   pub written_block : (place at : ℕ) (ok : Bool) (bytes : List ℕ) (r : Result Unit Fault) → is_ok r ≡ ok → at ≡ place * size → length bytes ≡ size → place < count
-      → events ≡ written at ok bytes ∷ older → IsHonestFile size count content events → OnOk r (new ≡ set old place bytes)
+      → events ≡ write_event at ok bytes ∷ older → IsHonestFile size count content events → OnOk r (new ≡ set old place bytes)
   written_block place at ok bytes r is here long inside are honest = on_ok (new ≡ set old place bytes) r ok is
       (λ yes. wrote_one size place bytes old new long (omega (arith, inside, (honest.0 (length older)).blocks)) (writes at ok bytes yes (made 1 at ok bytes are honest) place 1 here (omega (arith, long))))
 
-  pub torn_file : (place n at : ℕ) (ok : Bool) (bytes : List ℕ) → at ≡ place * size → length bytes ≡ size * n → events ≡ written at ok bytes ∷ older
+  pub torn_file : (place n at : ℕ) (ok : Bool) (bytes : List ℕ) → at ≡ place * size → length bytes ≡ size * n → events ≡ write_event at ok bytes ∷ older
       → IsHonestFile size count content events → TornRun size n place bytes old new
   torn_file place n at ok bytes here long are honest = tears at ok bytes honest.0 (made 1 at ok bytes are honest) place n here long
 
-  pub torn_block : (place at : ℕ) (ok : Bool) (bytes : List ℕ) → at ≡ place * size → length bytes ≡ size → events ≡ written at ok bytes ∷ older
+  pub torn_block : (place at : ℕ) (ok : Bool) (bytes : List ℕ) → at ≡ place * size → length bytes ≡ size → events ≡ write_event at ok bytes ∷ older
       → IsHonestFile size count content events → Torn place bytes old new
   torn_block place at ok bytes here long are honest = torn_one size place bytes old new long (torn_file place 1 at ok bytes here (omega (arith, long)) are honest)
 
@@ -83,7 +70,7 @@ module _ (size count : ℕ) (content : ℕ → Image) (older events : List Event
   comes_synced true before c stays left = (old, stays, left)
   comes_synced false before c stays left = (c, left, refl)
 
-  pub synced_from : (ok : Bool) (c : Image) → events ≡ synced ok ∷ older → IsHonestFile size count content events
+  pub synced_from : (ok : Bool) (c : Image) → events ≡ sync_event ok ∷ older → IsHonestFile size count content events
       → LeftBy size 2 0 ok [] old (Leaves size content older) c → (d : Image) × Leaves size content older d × (c ≡ d)
   synced_from ok c are honest left =
-      comes_synced ok (Leaves size content older) c (newest_left count size content honest.0 older (agreed (synced ok) are honest)) left
+      comes_synced ok (Leaves size content older) c (newest_left count size content honest.0 older (agreed (sync_event ok) are honest)) left

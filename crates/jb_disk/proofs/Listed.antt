@@ -1,24 +1,24 @@
 -- The steps of a list of calls, call by call.
 use Rattle.std.proofs.Common.{◌≡◌, ◌<◌, ℕ, ◌+◌, List, [], ◌∷◌, ◌++◌, length, get_or, take, drop, map, reverse, sym, ◌∙◌, ap, subst}
 use Rattle.std.proofs.lemmas.List.{take_more, take-append-drop, map-append, reverse-append}
-use Rattle.jb_disk.specs.Calls.{step_of, steps_of}
-use Rattle.jb_disk.specs.History.{Step, Wrote, Synced, AreWhole}
+use Rattle.jb_disk.specs.Calls.{history_step, steps_of}
+use Rattle.jb_disk.specs.History.{HistoryStep, Wrote, Synced, AreWhole}
 use Rattle.jb_disk.specs.declared.memory.Call.{Call}
 
 pub steps_of-append : (a b : List Call) → steps_of (a ++ b) ≡ steps_of b ++ steps_of a
-steps_of-append a b = ap reverse (map-append step_of a b) ∙ reverse-append (map step_of a) (map step_of b)
+steps_of-append a b = ap reverse (map-append history_step a b) ∙ reverse-append (map history_step a) (map history_step b)
 
 -- one call more
-pub steps_of-more : (calls : List Call) (i : ℕ) (call : Call) → i < length calls → call ≡ get_or calls i call → steps_of (take (i + 1) calls) ≡ step_of call ∷ steps_of (take i calls)
+pub steps_of-more : (calls : List Call) (i : ℕ) (call : Call) → i < length calls → call ≡ get_or calls i call → steps_of (take (i + 1) calls) ≡ history_step call ∷ steps_of (take i calls)
 steps_of-more calls i call inside is =
     ap steps_of (take_more calls i call inside ∙ ap (λ x. take i calls ++ x ∷ []) (sym is)) ∙ steps_of-append (take i calls) (call ∷ [])
 
-pub whole-older : (count size : ℕ) (newer older : List Step) → AreWhole count size (newer ++ older) → AreWhole count size older
+pub whole-older : (count size : ℕ) (newer older : List HistoryStep) → AreWhole count size (newer ++ older) → AreWhole count size older
 whole-older count size [] older whole = whole
 whole-older count size (Wrote place bytes ∷ newer) older whole = whole-older count size newer older whole.2
 whole-older count size (Synced ∷ newer) older whole = whole-older count size newer older whole
 
-pub whole-newer : (count size : ℕ) (newer older : List Step) → AreWhole count size (newer ++ older) → AreWhole count size newer
+pub whole-newer : (count size : ℕ) (newer older : List HistoryStep) → AreWhole count size (newer ++ older) → AreWhole count size newer
 whole-newer count size [] older whole = tt
 whole-newer count size (Wrote place bytes ∷ newer) older whole = (whole.0, whole.1, whole-newer count size newer older whole.2)
 whole-newer count size (Synced ∷ newer) older whole = whole-newer count size newer older whole
@@ -36,7 +36,7 @@ whole-drop count size calls i whole =
     whole-newer count size (steps_of (drop i calls)) (steps_of (take i calls)) (subst (AreWhole count size) (steps_of-split calls i) whole)
 
 -- the step of each call is one of them
-pub whole-at : (count size : ℕ) (calls : List Call) (i : ℕ) (call : Call) → AreWhole count size (steps_of calls) → i < length calls → call ≡ get_or calls i call → AreWhole count size (step_of call ∷ [])
+pub whole-at : (count size : ℕ) (calls : List Call) (i : ℕ) (call : Call) → AreWhole count size (steps_of calls) → i < length calls → call ≡ get_or calls i call → AreWhole count size (history_step call ∷ [])
 whole-at count size calls i call whole inside is =
-    whole-newer count size (step_of call ∷ []) (steps_of (take i calls))
+    whole-newer count size (history_step call ∷ []) (steps_of (take i calls))
     (subst (AreWhole count size) (steps_of-more calls i call inside is) (whole-take count size calls (i + 1) whole))

@@ -5,7 +5,7 @@ use Rattle.std.proofs.lemmas.List.{get_or_append_left, ext_get_or}
 use Rattle.std.proofs.Math.Seq.{get_or-append_seam}
 use Rattle.std.proofs.Math.Decide.{ℕ_discrete}
 use Rattle.jb_disk.specs.Image.{Image, block, sector, Torn, HasShape}
-use Rattle.jb_disk.specs.History.{Step, Wrote, Synced, replay, MayLeave, AreWhole}
+use Rattle.jb_disk.specs.History.{HistoryStep, Wrote, Synced, replay, MayLeave, AreWhole}
 use Rattle.jb_disk.specs.Lives.{replay_shape}
 use Rattle.jb_disk.specs.Versions.{synced, written, versions, IsAmong}
 use Rattle.jb_disk.specs.Writes.{shape_set}
@@ -20,11 +20,11 @@ same_images count sectors c d shape other each =
     (λ p below. let inside : p < count = omega (arith, shape.blocks, below) in
     same_sectors sectors (block c p) (block d p) (omega (arith, shape.bytes p inside)) (shape.bytes p inside ∙ sym (other.bytes p inside)) (λ k less. each p k inside less))
 
-pub versions-same : (first : Image) (older : List Step) (place : ℕ) (bytes : List ℕ) → versions first (Wrote place bytes ∷ older) place ≡ versions first older place ++ bytes ∷ []
+pub versions-same : (first : Image) (older : List HistoryStep) (place : ℕ) (bytes : List ℕ) → versions first (Wrote place bytes ∷ older) place ≡ versions first older place ++ bytes ∷ []
 versions-same first older place bytes =
     ap (λ b. block (synced first older) place ∷ cond b (written older place ++ bytes ∷ []) (written older place)) (eq-eqb place place refl)
 
-pub versions-other : (first : Image) (older : List Step) (p place : ℕ) (bytes : List ℕ) → p ≢ place → versions first (Wrote p bytes ∷ older) place ≡ versions first older place
+pub versions-other : (first : Image) (older : List HistoryStep) (p place : ℕ) (bytes : List ℕ) → p ≢ place → versions first (Wrote p bytes ∷ older) place ≡ versions first older place
 versions-other first older p place bytes other =
     ap (λ b. block (synced first older) place ∷ cond b (written older place ++ bytes ∷ []) (written older place)) (ne_eqb p place other)
 
@@ -42,7 +42,7 @@ takes_written contents k bytes x old among (inl same) = older_version contents k
 takes_written contents k bytes x old among (inr new) = subst (IsAmong (contents ++ bytes ∷ []) k) (sym new) (last_version contents k bytes)
 
 -- each image takes one version for each sector
-pub image_takes : (first : Image) (steps : List Step) (c : Image) → MayLeave first steps c → (p k : ℕ) → IsAmong (versions first steps p) k (sector k (block c p))
+pub image_takes : (first : Image) (steps : List HistoryStep) (c : Image) → MayLeave first steps c → (p k : ℕ) → IsAmong (versions first steps p) k (sector k (block c p))
 image_takes first [] c left p k = (0, omega arith, ap (λ image. sector k (block image p)) left)
 image_takes first (Synced ∷ older) c left p k = (0, omega arith, ap (λ image. sector k (block image p)) left)
 image_takes first (Wrote place bytes ∷ older) c (d, left, torn) p k = elim (ℕ_discrete place p) [
@@ -56,7 +56,7 @@ image_takes first (Wrote place bytes ∷ older) c (d, left, torn) p k = elim (�
 ]
 
 -- the image of the last sync has the disk's shape
-pub synced_shape : (count size : ℕ) (first : Image) (steps : List Step) → HasShape count size first → AreWhole count size steps → HasShape count size (synced first steps)
+pub synced_shape : (count size : ℕ) (first : Image) (steps : List HistoryStep) → HasShape count size first → AreWhole count size steps → HasShape count size (synced first steps)
 synced_shape count size first [] shape whole = shape
 synced_shape count size first (Wrote place bytes ∷ older) shape whole = synced_shape count size first older shape whole.2
 synced_shape count size first (Synced ∷ older) shape whole = replay_shape count size first older shape whole
@@ -81,7 +81,7 @@ torn_back sectors count place contents bytes c x inside size undone =
     }
 
 -- each choice of one version for each sector is an image
-pub choice_left : (count sectors : ℕ) (first : Image) (steps : List Step) (c : Image) → HasShape count (512 * sectors) first → AreWhole count (512 * sectors) steps → HasShape count (512 * sectors) c
+pub choice_left : (count sectors : ℕ) (first : Image) (steps : List HistoryStep) (c : Image) → HasShape count (512 * sectors) first → AreWhole count (512 * sectors) steps → HasShape count (512 * sectors) c
     → ((p k : ℕ) → p < count → k < sectors → IsAmong (versions first steps p) k (sector k (block c p))) → MayLeave first steps c
 choice_left count sectors first [] c shape whole chosen each = same_images count sectors c first chosen shape (λ p k inside less. only_version (block first p) k (sector k (block c p)) (each p k inside less))
 choice_left count sectors first (Synced ∷ older) c shape whole chosen each =

@@ -6,7 +6,7 @@ use Rattle.std.proofs.Math.Seq.{get_or-append_seam}
 use Rattle.std.proofs.Math.Nat.{add-mul, mod-eq_of_lt, mul-le-mul_right}
 use Rattle.jb_block.specs.Size.{bytes_of}
 use Rattle.jb_disk.specs.Image.{Image, block, sector, HasShape}
-use Rattle.jb_disk.specs.History.{History, Step, IsSound, MayLeave, AreWhole}
+use Rattle.jb_disk.specs.History.{History, HistoryStep, IsHistorySound, MayLeave, AreWhole}
 use Rattle.jb_disk.specs.Laws.{TakesVersions}
 use Rattle.jb_disk.specs.Lives.{left_has_shape}
 use Rattle.jb_disk.specs.Versions.{IsAmong, IsChosen, one_if_any, synced, version, versions, written, written_below}
@@ -46,7 +46,7 @@ get_or-of_block : (writes : List (List ℕ)) (f : ℕ → ℕ) (sectors k : ℕ)
 get_or-of_block [] f sectors k any within = absurd (let h : ⊥ = omega (arith, any) in h)
 get_or-of_block (_ ∷ _) f sectors k any within = get_or-row f sectors k within
 
-module _ (pick : ℕ → ℕ → ℕ) (steps : List Step) (sectors : ℕ) where
+module _ (pick : ℕ → ℕ → ℕ) (steps : List HistoryStep) (sectors : ℕ) where
   -- those of the blocks below a place
   abbrev numbers : ℕ → List ℕ
   numbers zero = []
@@ -93,10 +93,10 @@ named base (w ∷ writes) k number x among is =
     ∙ ap (λ n. sector k (get_or (base ∷ w ∷ writes) n [])) (sym (mod-eq_of_lt among.1))
     ∙ ap (λ n. sector k (version (base ∷ w ∷ writes) n)) (sym (is refl))
 
-left_shape : (h : History) (c : Image) → IsSound h → MayLeave h.first h.steps c → HasShape h.count (bytes_of h.size) c
+left_shape : (h : History) (c : Image) → IsHistorySound h → MayLeave h.first h.steps c → HasShape h.count (bytes_of h.size) c
 left_shape h c sound left = left_has_shape h.count (bytes_of h.size) h.first h.steps c sound.shape sound.whole left
 
-chosen : (h : History) (c : Image) → IsSound h → MayLeave h.first h.steps c → (choice : List ℕ) × IsChosen h choice c
+chosen : (h : History) (c : Image) → IsHistorySound h → MayLeave h.first h.steps c → (choice : List ℕ) × IsChosen h choice c
 chosen h c sound left =
     let sectors : ℕ = bytes_of h.size / 512 in
     let among : (p k : ℕ) → IsAmong (versions h.first h.steps p) k (sector k (block c p)) = image_takes h.first h.steps c left in
@@ -110,7 +110,7 @@ chosen h c sound left =
       },
     )
 
-pub left-versions : (h : History) (c : Image) → IsSound h → MayLeave h.first h.steps c ↔ TakesVersions h c
+pub left-versions : (h : History) (c : Image) → IsHistorySound h → MayLeave h.first h.steps c ↔ TakesVersions h c
 left-versions h c sound = (
   λ left. record { shape = left_shape h c sound left; each = λ place k inside less. image_takes h.first h.steps c left place k },
   λ takes.
@@ -121,5 +121,5 @@ left-versions h c sound = (
       takes.each,
 )
 
-pub left-chosen : (h : History) (c : Image) → IsSound h → MayLeave h.first h.steps c ↔ ((choice : List ℕ) × IsChosen h choice c)
+pub left-chosen : (h : History) (c : Image) → IsHistorySound h → MayLeave h.first h.steps c ↔ ((choice : List ℕ) × IsChosen h choice c)
 left-chosen h c sound = (chosen h c sound, λ is. chosen_left h is.0 c sound is.1)

@@ -3,8 +3,8 @@ use Rattle.std.proofs.Common.{◌≡◌, ◌<◌, ℕ, ◌+◌, List, [], ◌∷
 use Rattle.std.proofs.lemmas.Bool.{eq-eqb, ne_eqb}
 use Rattle.std.proofs.lemmas.List.{length-map, get_or-map, map-set, map-append}
 use Rattle.std.proofs.Math.Decide.{ℕ_discrete}
-use Rattle.jb_disk.specs.Calls.{step_of, steps_of}
-use Rattle.jb_disk.specs.History.{Step, Wrote, Synced}
+use Rattle.jb_disk.specs.Calls.{history_step, steps_of}
+use Rattle.jb_disk.specs.History.{HistoryStep, Wrote, Synced}
 use Rattle.jb_disk.specs.Mixing.{bytes_of_writes, table_of, writes_at, AreWrites}
 use Rattle.jb_disk.specs.Versions.{written}
 use Rattle.jb_disk.specs.declared.memory.Call.{Call}
@@ -12,12 +12,12 @@ use Rattle.jb_disk.specs.declared.memory.Call.TheVariants.{Sync}
 use Rattle.jb_disk.proofs.Listed.{steps_of-more, steps_of-split}
 
 -- the table says for each block what has been written to it
-pub record IsTable (count : ℕ) (table : List (Vec (Bor (List ℕ)) Global)) (steps : List Step) : Type 0 where
+pub record IsTable (count : ℕ) (table : List (Vec (Bor (List ℕ)) Global)) (steps : List HistoryStep) : Type 0 where
   pub places : length table ≡ count
   pub writes : (p : ℕ) → p < count → writes_at (table_of table) p ≡ written steps p
 
 -- one write more
-pub table-write : (count : ℕ) (table : List (Vec (Bor (List ℕ)) Global)) (older : List Step) (place : ℕ) (old new : Vec (Bor (List ℕ)) Global) (w : Bor (List ℕ)) → IsTable count table older
+pub table-write : (count : ℕ) (table : List (Vec (Bor (List ℕ)) Global)) (older : List HistoryStep) (place : ℕ) (old new : Vec (Bor (List ℕ)) Global) (w : Bor (List ℕ)) → IsTable count table older
     → place < count → old ≡ get_or table place old → new.items ≡ old.items ++ w ∷ [] → IsTable count (set table place new) (Wrote place w.now ∷ older)
 table-write count table older place old new w is inside here pushed =
     let within : place < length (table_of table) = omega (arith, length-map table (λ v. bytes_of_writes v.items), is.places, inside) in
@@ -39,7 +39,7 @@ table-write count table older place old new w is inside here pushed =
       ];
     }
 
-writes-older : (newer older : List Step) → AreWrites (newer ++ older) → AreWrites older
+writes-older : (newer older : List HistoryStep) → AreWrites (newer ++ older) → AreWrites older
 writes-older [] older are = are
 writes-older (Wrote place bytes ∷ newer) older are = writes-older newer older are
 writes-older (Synced ∷ newer) older are = absurd are
@@ -48,4 +48,4 @@ writes-older (Synced ∷ newer) older are = absurd are
 pub no_sync : (calls : List Call) (i : ℕ) (call : Call) → AreWrites (steps_of calls) → i < length calls → call ≡ get_or calls i call → call ≡ Sync → ⊥
 no_sync calls i call are inside is sync =
     let part : AreWrites (steps_of (take (i + 1) calls)) = writes-older (steps_of (drop (i + 1) calls)) (steps_of (take (i + 1) calls)) (subst AreWrites (steps_of-split calls (i + 1)) are) in
-    subst AreWrites (steps_of-more calls i call inside is ∙ ap (λ c. step_of c ∷ steps_of (take i calls)) sync) part
+    subst AreWrites (steps_of-more calls i call inside is ∙ ap (λ c. history_step c ∷ steps_of (take i calls)) sync) part

@@ -12,12 +12,12 @@ abbrev pub read : ℕ → Bool → List ℕ → Event
 read at ok bytes = (0, at, ok, bytes)
 
 -- these bytes were given, and all were taken or not
-abbrev pub written : ℕ → Bool → List ℕ → Event
-written at ok bytes = (1, at, ok, bytes)
+abbrev pub write_event : ℕ → Bool → List ℕ → Event
+write_event at ok bytes = (1, at, ok, bytes)
 
 -- a sync, which succeeded or not
-abbrev pub synced : Bool → Event
-synced ok = (2, 0, ok, [])
+abbrev pub sync_event : Bool → Event
+sync_event ok = (2, 0, ok, [])
 
 -- the place of the file's end
 abbrev pub measured : ℕ → Event

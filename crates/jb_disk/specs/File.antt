@@ -15,8 +15,8 @@ UnknownFile = FileDisk Unknown unknown
 
 module _ {S : Type 0} {start : Ghosts S} where
   -- the size of its blocks
-  abbrev pub size_of : FileDisk S start → BlockSize
-  size_of f = f.size
+  abbrev pub size_of_blocks : FileDisk S start → BlockSize
+  size_of_blocks f = f.size
 
   -- how many blocks it has
   abbrev pub count_of : FileDisk S start → ℕ
@@ -32,11 +32,11 @@ module _ {S : Type 0} {start : Ghosts S} where
 
   -- the file was asked its length and nothing else, and the disk has the whole blocks of it
   abbrev pub IsMeasured : FileDisk S start → Type 0
-  IsMeasured f = (len : ℕ) × (events_of f ≡ measured len ∷ []) × (count_of f ≡ len / bytes_of (size_of f))
+  IsMeasured f = (len : ℕ) × (events_of f ≡ measured len ∷ []) × (count_of f ≡ len / bytes_of (size_of_blocks f))
 
   -- its answers so far are those of an honest file that had the contents of `S`, and it was asked nothing after a sync that failed
   abbrev pub IsHonest : FileDisk S start → Type 0
-  IsHonest f = IsHonestFile (bytes_of (size_of f)) (count_of f) start.content (events_of f)
+  IsHonest f = IsHonestFile (bytes_of (size_of_blocks f)) (count_of f) start.content (events_of f)
 
   -- what it holds after the calls so far, if it is honest
   abbrev pub content_of : FileDisk S start → Image
@@ -44,8 +44,8 @@ module _ {S : Type 0} {start : Ghosts S} where
 
   -- what a crash may leave of it, if it is honest
   abbrev pub FileLeaves : FileDisk S start → Image → Type 0
-  FileLeaves f = Leaves (bytes_of (size_of f)) start.content (events_of f)
+  FileLeaves f = Leaves (bytes_of (size_of_blocks f)) start.content (events_of f)
 
   -- what a crash may have left of it when so many calls had been made, or later, if it is honest
   abbrev pub FileLeft : FileDisk S start → ℕ → Image → Type 0
-  FileLeft f = LeftFrom (bytes_of (size_of f)) start.content (events_of f)
+  FileLeft f = LeftFrom (bytes_of (size_of_blocks f)) start.content (events_of f)

@@ -13,8 +13,8 @@ abbrev pub left_of : {D : Type 0} → FuseDisk D → ℕ
 left_of f = f.left
 
 -- how many calls the fuse itself has failed
-abbrev pub failed_of : {D : Type 0} → FuseDisk D → ℕ
-failed_of f = f.failed
+abbrev pub failed_calls : {D : Type 0} → FuseDisk D → ℕ
+failed_calls f = f.failed
 
 -- A call: one fewer is left. While any was left, it is passed on, once: it makes of the disk inside the fuse what that
 -- disk says of one call, fails where that disk counts a fault, and the fuse counts none of its own. When none was left,
@@ -23,6 +23,6 @@ pub record Burns {D : Type 0} (faults : D → ℕ) (own : Called → D → D →
   pub left : left_of new ≡ left_of old - 1
   pub once : left_of old ≢ 0 → own call (disk_of old) (disk_of new) ok
   pub passed : left_of old ≢ 0 → CountsCall ok (faults (disk_of old)) (faults (disk_of new))
-  pub unfailed : left_of old ≢ 0 → failed_of new ≡ failed_of old
+  pub unfailed : left_of old ≢ 0 → failed_calls new ≡ failed_calls old
   pub blown : left_of old ≡ 0 → disk_of new ≡ disk_of old
-  pub counted : left_of old ≡ 0 → CountsOne false (failed_of old) (failed_of new)
+  pub counted : left_of old ≡ 0 → CountsOne false (failed_calls old) (failed_calls new)

@@ -2,7 +2,7 @@
 use Rattle.std.specs.Prelude.{◌<◌, ◌↔◌, ℕ, ◌/◌, List}
 use Rattle.jb_block.specs.Size.{bytes_of}
 use Rattle.jb_disk.specs.Image.{Image, block, sector, HasShape}
-use Rattle.jb_disk.specs.History.{History, IsSound, MayLeave}
+use Rattle.jb_disk.specs.History.{History, IsHistorySound, MayLeave}
 use Rattle.jb_disk.specs.Versions.{IsAmong, IsChosen, versions}
 
 -- an image of the disk's shape, each sector of which is one of its versions
@@ -12,8 +12,8 @@ pub record TakesVersions (h : History) (c : Image) : Type 0 where
 
 -- a crash may leave an image exactly where each of its sectors is one of its versions
 abbrev pub ImagesTakeVersions : Type 0
-ImagesTakeVersions = (h : History) (c : Image) → IsSound h → MayLeave h.first h.steps c ↔ TakesVersions h c
+ImagesTakeVersions = (h : History) (c : Image) → IsHistorySound h → MayLeave h.first h.steps c ↔ TakesVersions h c
 
 -- a crash may leave an image exactly where some choice of numbers names it
 abbrev pub ImagesAreChosen : Type 0
-ImagesAreChosen = (h : History) (c : Image) → IsSound h → MayLeave h.first h.steps c ↔ ((choice : List ℕ) × IsChosen h choice c)
+ImagesAreChosen = (h : History) (c : Image) → IsHistorySound h → MayLeave h.first h.steps c ↔ ((choice : List ℕ) × IsChosen h choice c)

@@ -1,6 +1,6 @@
 -- What a disk in memory keeps of its fields.
 use Rattle.std.specs.Prelude.{◌≡◌, length}
-use Rattle.jb_disk.specs.History.{History, IsSound, replay}
+use Rattle.jb_disk.specs.History.{History, IsHistorySound, replay}
 use Rattle.jb_disk.specs.Calls.{steps_of, image_of}
 use Rattle.jb_disk.specs.declared.memory.MemoryDisk.TheInside.{Inside}
 
@@ -15,6 +15,6 @@ history_of a = record {
 }
 
 -- the history is sound, and the blocks kept with it are those that it leads to
-pub record IsKept (a : Inside) : Type 0 where
-  pub sound : IsSound (history_of a)
+pub record IsHistoryKept (a : Inside) : Type 0 where
+  pub sound : IsHistorySound (history_of a)
   pub newest : image_of a.newest.items ≡ replay (image_of a.first.items) (steps_of a.calls.items)

@@ -2,7 +2,7 @@
 use Rattle.std.specs.Prelude.{ℕ, zero, suc, ◌+◌, ◌*◌, List, [], ◌∷◌, ◌++◌, take, drop, map, get_or, Vec}
 use Rattle.std.proofs.Common.{Bor}
 use Rattle.std.specs.declared.alloc.Global.{Global}
-use Rattle.jb_disk.specs.History.{Step, Wrote, Synced}
+use Rattle.jb_disk.specs.History.{HistoryStep, Wrote, Synced}
 use Rattle.jb_disk.specs.Image.{sector}
 use Rattle.jb_disk.specs.Versions.{one_if_any}
 
@@ -24,7 +24,7 @@ any_below table zero = 0
 any_below table (suc place) = any_below table place + one_if_any (writes_at table place)
 
 -- no sync is among these steps
-abbrev pub AreWrites : List Step → Type 0
+abbrev pub AreWrites : List HistoryStep → Type 0
 AreWrites [] = Unit {0}
 AreWrites (Wrote place bytes ∷ older) = AreWrites older
 AreWrites (Synced ∷ older) = ⊥

@@ -6,8 +6,8 @@ use Rattle.jb_disk.specs.Once.{is_next, next_of}
 use Rattle.jb_disk.specs.declared.one_fault.OneFaultDisk.{OneFaultDisk}
 
 -- the disk that calls are passed on to
-abbrev pub disk_of : {D : Type 0} → OneFaultDisk D → D
-disk_of f = f.disk
+abbrev pub disk_within : {D : Type 0} → OneFaultDisk D → D
+disk_within f = f.disk
 
 -- how many calls pass before the one that fails, or none once it has failed
 abbrev pub before_of : {D : Type 0} → OneFaultDisk D → Option ℕ
@@ -17,6 +17,6 @@ before_of f = f.before
 -- passed on once: it makes of the inner disk what that disk says of one call, and fails where that disk counts a fault.
 pub record Spends {D : Type 0} (faults : D → ℕ) (own : Called → D → D → Bool → Type 0) (call : Called) (old new : OneFaultDisk D) (ok : Bool) : Type 0 where
   pub next : before_of new ≡ next_of (before_of old)
-  pub once : is_next (before_of old) ≡ false → own call (disk_of old) (disk_of new) ok
-  pub passed : is_next (before_of old) ≡ false → CountsCall ok (faults (disk_of old)) (faults (disk_of new))
-  pub failed : is_next (before_of old) ≡ true → disk_of new ≡ disk_of old
+  pub once : is_next (before_of old) ≡ false → own call (disk_within old) (disk_within new) ok
+  pub passed : is_next (before_of old) ≡ false → CountsCall ok (faults (disk_within old)) (faults (disk_within new))
+  pub failed : is_next (before_of old) ≡ true → disk_within new ≡ disk_within old

@@ -2,22 +2,22 @@
 use Rattle.std.specs.Prelude.{◌≡◌, ◌<◌, ℕ, zero, suc, ◌+◌, ◌*◌, ◌/◌, ◌%◌, cond, eqb, List, [], ◌∷◌, ◌++◌, length, get_or}
 use Rattle.jb_block.specs.Size.{bytes_of}
 use Rattle.jb_disk.specs.Image.{Image, block, sector, HasShape}
-use Rattle.jb_disk.specs.History.{History, Step, Wrote, Synced, replay}
+use Rattle.jb_disk.specs.History.{History, HistoryStep, Wrote, Synced, replay}
 
 -- the image at the last sync that succeeded, or the first image where there was none
-abbrev pub synced : Image → List Step → Image
+abbrev pub synced : Image → List HistoryStep → Image
 synced first [] = first
 synced first (Wrote place bytes ∷ older) = synced first older
 synced first (Synced ∷ older) = replay first older
 
 -- what has been written to a block since then, in order
-abbrev pub written : List Step → ℕ → List (List ℕ)
+abbrev pub written : List HistoryStep → ℕ → List (List ℕ)
 written [] place = []
 written (Wrote p bytes ∷ older) place = cond (eqb p place) (written older place ++ bytes ∷ []) (written older place)
 written (Synced ∷ older) place = []
 
 -- the versions of a block, and so of each of its sectors: number 0 is that of the sync, the last is the newest
-abbrev pub versions : Image → List Step → ℕ → List (List ℕ)
+abbrev pub versions : Image → List HistoryStep → ℕ → List (List ℕ)
 versions first steps place = block (synced first steps) place ∷ written steps place
 
 -- one for a block that has been written
@@ -26,7 +26,7 @@ one_if_any [] = 0
 one_if_any (_ ∷ _) = 1
 
 -- how many blocks below a place have been written since the last sync
-abbrev pub written_below : List Step → ℕ → ℕ
+abbrev pub written_below : List HistoryStep → ℕ → ℕ
 written_below steps zero = 0
 written_below steps (suc place) = written_below steps place + one_if_any (written steps place)
 

@@ -11,13 +11,13 @@ abbrev pub size_behind : WriteBehind → ℕ
 size_behind b = bytes_of b.size
 
 -- the buffer holds no block
-abbrev pub HoldsNone : WriteBehind → Type 0
-HoldsNone b = b.count ≡ 0
+abbrev pub HoldsNoBlock : WriteBehind → Type 0
+HoldsNoBlock b = b.count ≡ 0
 
 -- the buffer is a new one, for blocks of so many bytes
 pub record IsNewFor (size : ℕ) (b : WriteBehind) : Type 0 where
   pub same_size : size_behind b ≡ size
-  pub none : HoldsNone b
+  pub none : HoldsNoBlock b
   pub first : b.first ≡ 0
 
 -- the buffer holds a block for this place

@@ -2,7 +2,7 @@
 ghost use Rattle.std.specs.Prelude.{◌≡◌, ◌<◌, ◌*◌, ◌/◌, ◌^◌, [], ◌∷◌, length, is_ok, IfOk};
 ghost use Rattle.jb_block.specs.Size.{bytes_of};
 ghost use Rattle.jb_disk.specs.Faults.{CountsFault, CountsOne};
-ghost use Rattle.jb_disk.specs.Lives.{is_block_size};
+ghost use Rattle.jb_disk.specs.Lives.{bytes_are_block_size};
 
 use crate::host::Host;
 use crate::{Disk, Fault, Start, Unknown};
@@ -30,7 +30,7 @@ pub struct FileDisk<S: Start = Unknown> {
 }
 
 impl FileDisk {
-    ghost use Rattle.jb_disk.specs.File.{size_of, faults_of, IsMeasured};
+    ghost use Rattle.jb_disk.specs.File.{size_of_blocks, faults_of, IsMeasured};
 
     /// The disk that `file` is, in blocks of this size; a part of a block at its end is left out.
     /// Its length is the place of its end: of a block device the metadata say 0.
@@ -39,7 +39,7 @@ impl FileDisk {
     ///
     /// A fault where the system does not give the file's end.
     pub fn of(file: File, size: BlockSize) -> Result<FileDisk, Fault>
-        ensures size { IfOk result (λ disk. size_of disk ≡ size) }
+        ensures size { IfOk result (λ disk. size_of_blocks disk ≡ size) }
         ensures fresh { IfOk result (λ disk. faults_of disk ≡ 0) }
         ensures opened { IfOk result IsMeasured }
     {
@@ -48,7 +48,7 @@ impl FileDisk {
 }
 
 impl<S: Start> FileDisk<S> {
-    ghost use Rattle.jb_disk.specs.File.{size_of, faults_of, IsMeasured};
+    ghost use Rattle.jb_disk.specs.File.{size_of_blocks, faults_of, IsMeasured};
 
     /// The same, of a file that is supposed to hold what `S` says.
     ///
@@ -56,7 +56,7 @@ impl<S: Start> FileDisk<S> {
     ///
     /// A fault where the system does not give the file's end.
     pub fn holding(file: File, size: BlockSize) -> Result<FileDisk<S>, Fault>
-        ensures size { IfOk result (λ disk. size_of disk ≡ size) }
+        ensures size { IfOk result (λ disk. size_of_blocks disk ≡ size) }
         ensures fresh { IfOk result (λ disk. faults_of disk ≡ 0) }
         ensures opened { IfOk result IsMeasured }
     {
@@ -97,7 +97,7 @@ impl<S: Start> Disk for FileDisk<S> {
 
     ghost own = { λ _ old new ok. CountsOne ok old.faults new.faults };
 
-    ghost has_size = { λ f. is_block_size f.size };
+    ghost has_size = { λ f. bytes_are_block_size f.size };
 
     ghost newest_may_stay = { λ f honest.
         newest_left f.blocks (bytes_of f.size) S.content honest.0 f.host.log.events honest.1 };

@@ -15,13 +15,13 @@ pub struct FuseDisk<D: Disk> {
 }
 
 impl<D: Disk> FuseDisk<D> {
-    ghost use Rattle.jb_disk.specs.Fuse.{disk_of, left_of, failed_of};
+    ghost use Rattle.jb_disk.specs.Fuse.{disk_of, left_of, failed_calls};
 
     /// A disk that passes `calls` calls on to `disk`.
     pub fn of(disk: D, calls: u64) -> FuseDisk<D>
         ensures disk { disk_of result ≡ disk }
         ensures calls { left_of result ≡ calls }
-        ensures fresh { failed_of result ≡ 0 }
+        ensures fresh { failed_calls result ≡ 0 }
     {
         FuseDisk {
             disk,

@@ -1,6 +1,6 @@
 //! Each method makes one call of the system, and then notes it with its answer.
 ghost use Rattle.std.specs.Prelude.{◌≡◌, ◌↔◌, ◌==◌, [], ◌∷◌, IsTrue, Ok, IfOk};
-ghost use Rattle.jb_disk.specs.Events.{read, written, synced, measured};
+ghost use Rattle.jb_disk.specs.Events.{read, write_event, sync_event, measured};
 
 use crate::record::Record;
 use std::fs::File;
@@ -47,7 +47,7 @@ impl Host {
 
     /// Writes the bytes from offset `at` on; tells whether all of them were written.
     pub(crate) fn write_at(&mut self, at: u64, bytes: &[u8]) -> bool
-        ensures { self.new.log.events ≡ written at result bytes.now ∷ self.old.log.events }
+        ensures { self.new.log.events ≡ write_event at result bytes.now ∷ self.old.log.events }
     {
         let answer = self.file.write_at(bytes, at);
         let whole = is_whole(&answer, bytes.len());
@@ -57,7 +57,7 @@ impl Host {
 
     /// Syncs the file; tells whether that succeeded.
     pub(crate) fn sync(&mut self) -> bool
-        ensures { self.new.log.events ≡ synced result ∷ self.old.log.events }
+        ensures { self.new.log.events ≡ sync_event result ∷ self.old.log.events }
     {
         let answer = self.file.sync_data();
         let succeeded = answer.is_ok();

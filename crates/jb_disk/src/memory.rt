@@ -2,9 +2,9 @@
 ghost use Rattle.std.specs.Prelude.{◌≡◌, ◌<◌, ◌∷◌, [], length, replicate, IfOk, OnOk, OnErr};
 ghost use Rattle.jb_block.specs.Size.{bytes_of};
 ghost use Rattle.jb_disk.specs.Calls.{steps_of, image_of};
-ghost use Rattle.jb_disk.specs.History.{Wrote, Synced, newest_of, MayLeave, LeftSince, IsSound};
+ghost use Rattle.jb_disk.specs.History.{Wrote, Synced, newest_of, MayLeave, LeftSince, IsHistorySound};
 ghost use Rattle.jb_disk.specs.Versions.{IsChosen};
-ghost use Rattle.jb_disk.specs.Lives.{is_block_size, newest_stays, left_has_shape};
+ghost use Rattle.jb_disk.specs.Lives.{bytes_are_block_size, newest_stays, left_has_shape};
 ghost use Rattle.jb_disk.specs.Lives.{since_has_shape, left_since_now, left_only_now};
 
 use crate::sector::{copy_of, crash_image};
@@ -36,11 +36,11 @@ impl Model for MemoryDisk {
 
     ghost Value = { History };
 
-    ghost use Rattle.jb_disk.specs.Memory.{history_of, IsKept};
+    ghost use Rattle.jb_disk.specs.Memory.{history_of, IsHistoryKept};
 
     ghost view = { history_of };
 
-    ghost invariant = { IsKept };
+    ghost invariant = { IsHistoryKept };
 }
 
 impl MemoryDisk {
@@ -50,7 +50,7 @@ impl MemoryDisk {
     ///
     /// `Memory` where there is none for its blocks.
     pub fn new(alloc: Global, size: BlockSize, blocks: u64) -> Result<MemoryDisk, Memory>
-        ensures sound { IfOk result IsSound }
+        ensures sound { IfOk result IsHistorySound }
         ensures size { IfOk result (λ disk. disk.size ≡ size) }
         ensures count { IfOk result (λ disk. disk.count ≡ blocks) }
         ensures grows { OnErr result (0 < blocks) }
@@ -70,7 +70,7 @@ impl MemoryDisk {
     /// This disk is honest, whatever it was called for: its first content and each of its writes have its shape. Does
     /// nothing when it runs.
     pub fn always_sound(&self)
-        ensures sound { IsSound self.now }
+        ensures sound { IsHistorySound self.now }
     {
         let _count = self.first.len();
     }
@@ -84,7 +84,7 @@ impl MemoryDisk {
     ///
     /// `Memory` where there is none for the blocks of the new disk.
     pub fn crash(&self, choice: &[u32]) -> Result<MemoryDisk, Memory>
-        ensures sound { IfOk result IsSound }
+        ensures sound { IfOk result IsHistorySound }
         ensures size { IfOk result (λ disk. disk.size ≡ self.now.size) }
         ensures count { IfOk result (λ disk. disk.count ≡ self.now.count) }
         ensures grows { OnErr result (0 < self.now.count) }
@@ -112,7 +112,7 @@ impl Disk for MemoryDisk {
 
     ghost faults = { λ h. h.faults };
 
-    ghost honest = { IsSound };
+    ghost honest = { IsHistorySound };
 
     ghost newest = { newest_of };
 
@@ -126,7 +126,7 @@ impl Disk for MemoryDisk {
 
     ghost own = { CallMakes };
 
-    ghost has_size = { λ h. is_block_size h.size };
+    ghost has_size = { λ h. bytes_are_block_size h.size };
 
     ghost newest_may_stay = { λ h sound.
         newest_stays h.count (bytes_of h.size) h.first h.steps sound.shape sound.whole };

@@ -16,11 +16,11 @@ pub struct OneFaultDisk<D: Disk> {
 }
 
 impl<D: Disk> OneFaultDisk<D> {
-    ghost use Rattle.jb_disk.specs.OneFault.{disk_of, before_of};
+    ghost use Rattle.jb_disk.specs.OneFault.{disk_within, before_of};
 
     /// A disk that passes all calls on to `disk` but the one of this number, counted from 0.
     pub fn of(disk: D, call: u64) -> OneFaultDisk<D>
-        ensures disk { disk_of result ≡ disk }
+        ensures disk { disk_within result ≡ disk }
         ensures call { before_of result ≡ Some call }
     {
         OneFaultDisk {
@@ -31,7 +31,7 @@ impl<D: Disk> OneFaultDisk<D> {
 
     /// The disk that calls are passed on to.
     pub fn into_inner(self) -> D
-        ensures { result ≡ disk_of self }
+        ensures { result ≡ disk_within self }
     {
         self.disk
     }

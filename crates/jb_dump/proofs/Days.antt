@@ -1,7 +1,7 @@
 -- The date of a second, as `jiff` writes it.
 use Rattle.std.proofs.Common.{◌≡◌, ◌⊎◌, ℕ, zero, suc, ◌+◌, ◌-◌, ◌*◌, ◌/◌, ◌%◌, ◌<◌, ◌≤◌, Bool, true, false, List, [], ◌∷◌, ◌++◌, None, inl, inr, refl, sym, ap, ap₂, ◌∙◌, subst, arith, ℤ, pos, negsuc}
-use Rattle.std.specs.Prelude.{not, ◌&&◌, codes, decimal, nat_eq, nat_lt, if◌then◌else◌}
-use Rattle.std.proofs.lemmas.Bool.{and_from, and_parts, cases_order, eq-eqb, eqb-true, le-ltb, lt-ltb, ltb-false, not-true, not_from_false, true≢false}
+use Rattle.std.specs.Prelude.{not, codes, decimal, nat_eq, nat_lt, if◌then◌else◌}
+use Rattle.std.proofs.lemmas.Bool.{and_from, and_parts, cases_order, eq-eqb, eqb-true, le-ltb, ltb-false, not-true, not_from_false, true≢false}
 use Rattle.jiff_core.specs.Calendar.{IsCivilDate, day_count, days_from_civil, days_in_month}
 use Rattle.jiff_core.specs.DateTime.{civil_nanos}
 use Rattle.jiff_core.specs.declared.civil.datetime.DateTime.{DateTime}
@@ -156,8 +156,3 @@ date-written p t seconds text plain at few h =
     let there : date_text seconds ≡ utc_text seconds ++ codes "Z" =
     ap (λ test. if test then decimal seconds else utc_text seconds ++ codes "Z") (le-ltb 253_402_207_200 seconds few) in
     rw (h.2, lower, separator, precision) (date ∙ sym there)
-
--- a later second has none
-pub no-date : (seconds : ℕ) → 253_402_207_200 < seconds → date_text seconds ≡ decimal seconds
-no-date seconds late =
-    ap (λ test. if test then decimal seconds else utc_text seconds ++ codes "Z") (lt-ltb 253_402_207_200 seconds late)

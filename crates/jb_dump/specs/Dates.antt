@@ -1,5 +1,5 @@
 -- Dates in UTC, of seconds since 1970.
-use Rattle.std.specs.Prelude.{ℕ, zero, suc, ◌+◌, ◌/◌, ◌%◌, Bool, not, ◌&&◌, List, [], ◌∷◌, ◌++◌, codes, decimal, nat_eq, nat_lt, if◌then◌else◌, pos}
+use Rattle.std.specs.Prelude.{ℕ, zero, suc, ◌+◌, ◌/◌, ◌%◌, Bool, not, ◌&&◌, List, ◌++◌, codes, decimal, nat_eq, nat_lt, if◌then◌else◌, pos}
 use Rattle.jiff_core.specs.Calendar.{day_count, days_in_month}
 use Rattle.jiff_fmt.specs.Text.{pad2, pad4}
 

@@ -1,6 +1,5 @@
 -- A journal at a glance: what its log holds, and the text of that.
 use Rattle.std.specs.Prelude.{ℕ, zero, suc, ◌+◌, ◌-◌, ◌/◌, List, [], ◌∷◌, ◌++◌, length, map, max, min, codes, decimal}
-use Rattle.jb_block.specs.declared.stamp.Stamp.{Stamp}
 use Rattle.jb_super.specs.Geometry.{place, usable_of}
 use Rattle.jb_super.specs.Superblock.{Superblock}
 use Rattle.jb_text.specs.TextParts.{spelled}

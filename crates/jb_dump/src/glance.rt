@@ -1,7 +1,9 @@
 //! The text of a journal at a glance.
 ghost use Rattle.std.specs.Prelude.{◌≡◌, ◌<◌, ◌-◌, ◌++◌, string_bytes, OnOk, IfOk};
 ghost use Rattle.jb_dump.specs.Dates.{date_text};
-ghost use Rattle.jb_dump.specs.Summary.{Summary, clean_said, contents_text, copies_line, ends_line, written_line, written_lines, revokes_line, room_line, room_text, glance_text, sizes_line, times_line};
+ghost use Rattle.jb_dump.specs.Summary.{Summary, clean_said, contents_text, copies_line, ends_line, written_line};
+ghost use Rattle.jb_dump.specs.Summary.{written_lines, revokes_line, room_line, room_text, glance_text, sizes_line};
+ghost use Rattle.jb_dump.specs.Summary.{times_line};
 ghost use Rattle.jb_dump.specs.Tallies.{IsTallyOf};
 
 use crate::contents::Contents;

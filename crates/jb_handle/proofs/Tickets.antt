@@ -1,5 +1,5 @@
 -- Tickets of lists one after the other.
-use Rattle.std.proofs.Common.{◌≡◌, ℕ, zero, suc, ◌+◌, List, [], ◌∷◌, ◌++◌, length, drop, subst, arith}
+use Rattle.std.proofs.Common.{◌≡◌, ℕ, suc, ◌+◌, List, [], ◌∷◌, ◌++◌, length, subst, arith}
 use Rattle.jb_handle.specs.declared.stopped.Stopped.{Stopped}
 use Rattle.jb_handle.specs.Tickets.{TicketsFrom}
 
@@ -10,8 +10,3 @@ tickets-append n (h ∷ hs) ks first rest = (first.0, tickets-append (n + 1) hs 
 pub tickets-first : (n : ℕ) (hs ks : List Stopped) → TicketsFrom n (hs ++ ks) → TicketsFrom n hs
 tickets-first n [] ks all = tt
 tickets-first n (h ∷ hs) ks all = (all.0, tickets-first (n + 1) hs ks all.1)
-
-pub tickets-drop : (k n : ℕ) (hs : List Stopped) → TicketsFrom n hs → TicketsFrom (n + k) (drop k hs)
-tickets-drop zero n hs all = subst (λ m. TicketsFrom m hs) (let same : n ≡ n + 0 = omega arith in same) all
-tickets-drop (suc k) n [] all = tt
-tickets-drop (suc k) n (h ∷ hs) all = subst (λ m. TicketsFrom m (drop k hs)) (let same : n + 1 + k ≡ n + suc k = omega arith in same) (tickets-drop k (n + 1) hs all.1)

@@ -22,8 +22,8 @@ abbrev pub held : ℕ → Shape → WordMap → Held
 held credits shape words = record { credits = credits; shape = shape; words = words }
 
 -- how many homes were touched
-abbrev pub touched : Held → ℕ
-touched h = map.len h.words
+abbrev pub touched_count : Held → ℕ
+touched_count h = map.len h.words
 
 -- a word that the shape has room for: its home is there, and a copy has the bytes of a block
 abbrev pub FitsWord : Shape → ℕ → Word → Type 0
@@ -37,7 +37,7 @@ Fits shape words = (home : ℕ) (word : Word) → map.get words home ≡ Some wo
 -- the homes touched are within the credits, which 32 bits hold, and the words fit the shape
 pub record IsKept (h : Held) : Type 0 where
   pub narrow : h.credits < 2 ^ 32
-  pub within : touched h ≤ h.credits
+  pub within : touched_count h ≤ h.credits
   pub fits : Fits h.shape h.words
 
 -- the home that a change is of
@@ -63,7 +63,7 @@ first_of ((false, fault) ∷ rest) = first_of rest
 
 -- the home is new, and all credits are used
 abbrev pub is_spent : Held → ℕ → Bool
-is_spent h home = not (map.contains_key h.words home) && nat_le h.credits (touched h)
+is_spent h home = not (map.contains_key h.words home) && nat_le h.credits (touched_count h)
 
 -- a write has other than a block's bytes
 abbrev pub is_misfit : Shape → Option ℕ → Bool

@@ -63,7 +63,8 @@ impl Model for Changes {
 }
 
 impl Changes {
-    ghost use Rattle.jb_handle.specs.Held.{Held, held, touched, IsKept, len_in, put_at, after, home_of, refusal, refusal_at};
+    ghost use Rattle.jb_handle.specs.Held.{Held, held, touched_count, IsKept, len_in, put_at, after, home_of, refusal};
+    ghost use Rattle.jb_handle.specs.Held.{refusal_at};
     ghost use Rattle.jb_handle.specs.Word.{is_copy};
     ghost use Rattle.jb_handle.specs.declared.op.Op.TheVariants.{Write, Revoke};
     ghost use Rattle.jb_handle.specs.declared.changes.TouchFault.TheVariants.{Memory as OutOfMemory};
@@ -96,7 +97,7 @@ impl Changes {
 
     /// How many home blocks were touched.
     pub fn touched(&self) -> u32
-        ensures value { result ≡ touched self.now }
+        ensures value { result ≡ touched_count self.now }
         ensures kept { IsKept self.now }
     {
         self.words.len() as u32

@@ -18,7 +18,7 @@ pub struct Handle<S> {
 
 impl<S> Handle<S> {
     ghost use Rattle.jb_handle.specs.Handle.{holder, changes_of};
-    ghost use Rattle.jb_handle.specs.Held.{held, touched, len_in, put_at, after, refusal, refusal_at, IsKept};
+    ghost use Rattle.jb_handle.specs.Held.{held, touched_count, len_in, put_at, after, refusal, refusal_at, IsKept};
     ghost use Rattle.jb_handle.specs.Word.{is_copy};
     ghost use Rattle.jb_handle.specs.declared.op.Op.TheVariants.{Write, Revoke};
     ghost use Rattle.jb_handle.specs.declared.changes.TouchFault.TheVariants.{Memory};
@@ -50,7 +50,7 @@ impl<S> Handle<S> {
 
     /// How many home blocks the handle has touched.
     pub fn touched(&self) -> u32
-        ensures value { result ≡ touched (changes_of self.now) }
+        ensures value { result ≡ touched_count (changes_of self.now) }
         ensures kept { IsKept (changes_of self.now) }
     {
         self.changes.touched()

@@ -203,15 +203,6 @@ wrote-then size n m place first rest c d e long begun ended =
 
 -- ---- a run that is read
 
-pub reads-front : (size n place : ℕ) (x y : Image) (bytes : List ℕ) → place + n ≤ length x → ReadsRun size n place x bytes → ReadsRun size n place (x ++ y) bytes
-reads-front size n place x y bytes within reads k below =
-    reads k below ∙ sym (get_or_append_left x y [] (place + k) (omega (arith, within, below)))
-
-pub reads-back : (size n q place : ℕ) (x y : Image) (bytes : List ℕ) → place ≡ length x + q → ReadsRun size n q y bytes → ReadsRun size n place (x ++ y) bytes
-reads-back size n q place x y bytes is reads k below =
-    reads k below ∙ ap (block y) (let h : q + k ≡ place + k - length x = omega (arith, is) in h)
-    ∙ sym (get_or-append_right x y (length x) (place + k) [] refl (omega (arith, is)))
-
 pub reads-both : (size n m place : ℕ) (x y : Image) (first rest : List ℕ) → place + n ≡ length x → length first ≡ size * n
     → ReadsRun size n place x first → ReadsRun size m 0 y rest → ReadsRun size (n + m) place (x ++ y) (first ++ rest)
 reads-both size n m place x y first rest end long front back k below =

@@ -10,9 +10,9 @@ use Rattle.jb_disk.specs.Image.{Image, block, sector, Torn}
 use Rattle.jb_disk.specs.Time.{Goes}
 use Rattle.jb_disk.specs.declared.disk.Disk.{Ghosts}
 use Rattle.jb_image.specs.Blocks.{extent_count, has_block}
-use Rattle.jb_image.specs.Disks.{at_block, extents_of, journal_blocks, spread_count, whole_disk}
+use Rattle.jb_image.specs.Disks.{at_block, spread_count, whole_disk}
 use Rattle.jb_image.specs.Lists.{holds_in, list_of, meets_in, or_else, place_within, shared_in}
-use Rattle.jb_image.specs.Spread.{AreApart, IsBlock, at_block-is, block_given, block-spread, length-spread, spread, within, WithinLeaves, WithinLeft}
+use Rattle.jb_image.specs.Spread.{AreApart, at_block-is, block_given, block-spread, length-spread, spread, within, WithinLeaves, WithinLeft}
 use Rattle.jb_image.specs.declared.extents_disk.ExtentsDisk.{ExtentsDisk}
 use Rattle.jb_image.specs.declared.extent.Extent.{Extent}
 use Rattle.jb_image.specs.declared.extents.Extents.{Extents}

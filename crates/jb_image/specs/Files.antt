@@ -2,7 +2,7 @@
 use Rattle.std.specs.Prelude.{true, false, length}
 use Rattle.jb_block.specs.Size.{bytes_of}
 use Rattle.jb_disk.specs.Faults.{CountsOne}
-use Rattle.jb_disk.specs.File.{UnknownFile, IsHonest, FileLeaves, FileLeft, content_of, count_of, events_of, faults_of, size_of}
+use Rattle.jb_disk.specs.File.{UnknownFile, IsHonest, FileLeaves, FileLeft, content_of, count_of, events_of, faults_of, size_of_blocks}
 use Rattle.jb_disk.specs.declared.disk.Disk.{Ghosts}
 use Rattle.jb_disk.specs.declared.file.FileDisk.{FileDisk}
 use Rattle.jb_disk.specs.declared.start.Start.{Ghosts as Starts}
@@ -12,7 +12,7 @@ use Rattle.jb_image.specs.declared.image.ImageDisk.{ImageDisk}
 -- what a file is as a disk
 abbrev pub as_file : {S : Type 0} {start : Starts S} → Ghosts (FileDisk S start)
 as_file = record {
-  size = λ f. bytes_of (size_of f);
+  size = λ f. bytes_of (size_of_blocks f);
   count = count_of;
   faults = faults_of;
   honest = IsHonest;

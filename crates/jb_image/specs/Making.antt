@@ -2,7 +2,7 @@
 use Rattle.std.specs.Prelude.{◌≡◌, ◌+◌, ◌*◌, ◌^◌, ◌<◌, ◌≤◌, ℕ, List, Result, Ok, Err, OnOk, set}
 use Rattle.jb_block.specs.Size.{bytes_of}
 use Rattle.jb_block.specs.Width.{is_wide}
-use Rattle.jb_disk.specs.File.{IsMeasured, count_of, size_of}
+use Rattle.jb_disk.specs.File.{IsMeasured, count_of, size_of_blocks}
 use Rattle.jb_disk.specs.Image.{Only, Torn}
 use Rattle.jb_disk.specs.KeptOn.{KeptOn}
 use Rattle.jb_disk.specs.Steps.{Steps}
@@ -36,7 +36,7 @@ pub record FormatsOn {D : Type 0} (G : Disks D) (g : Geometry) (old new : D) (an
 
 -- the same of a file of the blocks that were asked for, which was asked its length and nothing else before
 pub record IsFormatted {S : Type 0} {start : Starts S} (g : Geometry) (old new : FileDisk S start) (answer : Result Unit FormatFault) : Type 0 where
-  pub size : size_of old ≡ g.block_size
+  pub size : size_of_blocks old ≡ g.block_size
   pub count : count_of old ≡ g.journal + g.homes
   pub measured : IsMeasured old
   pub formatted : FormatsOn as_file g old new answer

@@ -18,7 +18,8 @@ pub struct Extents {
 
 impl Extents {
     ghost use Rattle.std.specs.Prelude.{◌≡◌};
-    ghost use Rattle.jb_image.specs.Lists.{ReadsList, extents_count, holds_in, list_of, past_in, place_within, shared_in};
+    ghost use Rattle.jb_image.specs.Lists.{ReadsList, extents_count, holds_in, list_of, past_in, place_within};
+    ghost use Rattle.jb_image.specs.Lists.{shared_in};
 
     /// The extents that a text lists, as `stat` of debugfs does: `(0-1023):8193-9216, (1024):9300, (IND):8192`. Words
     /// are separated by spaces, commas or both. A stretch without a place, as `8193-9216`, has the next blocks of the

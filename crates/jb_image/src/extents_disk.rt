@@ -86,10 +86,13 @@ impl<D: Disk> Disk for ExtentsDisk<D> {
 
     ghost newest_may_stay = { λ d honest. (D.newest d.disk, D.newest_may_stay d.disk honest.whole, refl) };
 
-    ghost has_shape = { λ d c honest left. within-shape d.extents d.journal (D.size d.disk) (D.count d.disk) c left.0 (D.has_shape d.disk left.0 honest.whole left.1) left.2 };
+    ghost has_shape = { λ d c honest left.
+        within-shape d.extents d.journal (D.size d.disk) (D.count d.disk) c left.0
+        (D.has_shape d.disk left.0 honest.whole left.1) left.2 };
 
     ghost has_shape_since = { λ d t c honest left.
-        within-shape d.extents d.journal (D.size d.disk) (D.count d.disk) c left.0 (D.has_shape_since d.disk t left.0 honest.whole left.1) left.2 };
+        within-shape d.extents d.journal (D.size d.disk) (D.count d.disk) c left.0
+        (D.has_shape_since d.disk t left.0 honest.whole left.1) left.2 };
 
     ghost counts_now = { λ d t c honest earlier left.
         (left.0, D.counts_now d.disk t left.0 honest.whole earlier left.1, left.2) };

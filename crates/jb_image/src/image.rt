@@ -69,16 +69,21 @@ impl<D: Disk, E: Disk> Disk for ImageDisk<D, E> {
 
     ghost has_size = { λ d. images.has_image_size (members D.Disk) (members E.Disk) D.has_size E.has_size d };
 
-    ghost newest_may_stay = { λ d honest. images.newest_may_stay (members D.Disk) (members E.Disk) D.newest_may_stay E.newest_may_stay d honest };
+    ghost newest_may_stay = { λ d honest.
+        images.newest_may_stay (members D.Disk) (members E.Disk) D.newest_may_stay E.newest_may_stay d honest };
 
-    ghost has_shape = { λ d c honest left. images.has_image_shape (members D.Disk) (members E.Disk) D.has_shape E.has_shape d c honest left };
+    ghost has_shape = { λ d c honest left.
+        images.has_image_shape (members D.Disk) (members E.Disk) D.has_shape E.has_shape d c honest left };
 
-    ghost has_shape_since = { λ d t c honest left. images.has_shape_since (members D.Disk) (members E.Disk) D.has_shape_since d t c honest left };
+    ghost has_shape_since = { λ d t c honest left.
+        images.has_shape_since (members D.Disk) (members E.Disk) D.has_shape_since d t c honest left };
 
     ghost counts_now = { λ d t c honest earlier left.
-        images.counts_now (members D.Disk) (members E.Disk) D.counts_now D.has_shape E.has_shape d t c honest earlier left };
+        images.counts_now (members D.Disk) (members E.Disk) D.counts_now D.has_shape E.has_shape d t c honest
+        earlier left };
 
-    ghost only_now = { λ d c honest left. images.only_now (members D.Disk) (members E.Disk) D.only_now d c honest left };
+    ghost only_now = { λ d c honest left.
+        images.only_now (members D.Disk) (members E.Disk) D.only_now d c honest left };
 
     fn block_size(&self) -> BlockSize {
         match self {

@@ -1,7 +1,7 @@
 //! Images that are made.
 ghost use Rattle.std.specs.Prelude.{◌≡◌, ◌↔◌, ◌+◌, ◌*◌, IfOk, IsTrue, Err};
 ghost use Rattle.jb_block.specs.Size.{bytes_of};
-ghost use Rattle.jb_disk.specs.File.{IsMeasured, count_of, size_of};
+ghost use Rattle.jb_disk.specs.File.{IsMeasured, count_of, size_of_blocks};
 ghost use Rattle.jb_image.specs.Making.{MakingFailed, MakesImage, WasMade};
 ghost use Rattle.jb_image.specs.declared.fault.MakeFault.TheVariants.{DeviceFault, Geometry as NoGeometry};
 
@@ -119,7 +119,7 @@ fn fill<S: Start>(draft: &Draft<'_>, len: u64, geometry: Geometry) -> Result<Fil
 /// `System` where the system refuses a call, or another length is found.
 fn disk_of<S: Start>(file: File, len: u64, geometry: Geometry) -> Result<FileDisk<S>, ImageFault>
     requires { len ≡ (geometry.journal + geometry.homes) * bytes_of geometry.block_size }
-    ensures size { IfOk result (λ disk. size_of disk ≡ geometry.block_size) }
+    ensures size { IfOk result (λ disk. size_of_blocks disk ≡ geometry.block_size) }
     ensures count { IfOk result (λ disk. count_of disk ≡ geometry.journal + geometry.homes) }
     ensures measured { IfOk result IsMeasured }
 {

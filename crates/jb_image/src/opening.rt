@@ -1,6 +1,6 @@
 //! Images that are there: opened, and locked for as long as they are open.
 ghost use Rattle.std.specs.Prelude.{◌≡◌, IfOk};
-ghost use Rattle.jb_disk.specs.File.{IsMeasured, faults_of, size_of};
+ghost use Rattle.jb_disk.specs.File.{IsMeasured, faults_of, size_of_blocks};
 
 use crate::fault::{ImageFault, SystemFault};
 use crate::mounted::is_mounted;
@@ -30,7 +30,7 @@ pub fn open_image<R: Files<File = File> + AllocGlobal>(
     size: BlockSize,
     opening: Opening,
 ) -> Result<FileDisk, ImageFault>
-    ensures size { IfOk result (λ disk. size_of disk ≡ size) }
+    ensures size { IfOk result (λ disk. size_of_blocks disk ≡ size) }
     ensures fresh { IfOk result (λ disk. faults_of disk ≡ 0) }
     ensures opened { IfOk result IsMeasured }
 {
@@ -47,7 +47,7 @@ pub fn open_holding<S: Start, R: Files<File = File> + AllocGlobal>(
     size: BlockSize,
     opening: Opening,
 ) -> Result<FileDisk<S>, ImageFault>
-    ensures size { IfOk result (λ disk. size_of disk ≡ size) }
+    ensures size { IfOk result (λ disk. size_of_blocks disk ≡ size) }
     ensures fresh { IfOk result (λ disk. faults_of disk ≡ 0) }
     ensures opened { IfOk result IsMeasured }
 {

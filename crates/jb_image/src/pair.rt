@@ -49,7 +49,8 @@ impl<A: Disk, B: Disk> PairDisk<A, B> {
 /// order the calls of the two came tell the states that were noted, and so what a crash in between left of both.
 impl<A: Disk, B: Disk> Disk for PairDisk<A, B> {
     ghost use Rattle.jb_image.specs.Bound.{members};
-    ghost use Rattle.jb_image.specs.Laws.{counts_both, has_both_shapes, leaves_newest, only_both, since_has_both_shapes};
+    ghost use Rattle.jb_image.specs.Laws.{counts_both, has_both_shapes, leaves_newest, only_both};
+    ghost use Rattle.jb_image.specs.Laws.{since_has_both_shapes};
     ghost use Rattle.jb_image.specs.Pair.{IsHonestPair, PairLeaves, PairLeftSince};
 
     ghost size = { λ p. A.size p.front };
@@ -74,15 +75,19 @@ impl<A: Disk, B: Disk> Disk for PairDisk<A, B> {
 
     ghost has_size = { λ p. A.has_size p.front };
 
-    ghost newest_may_stay = { λ p honest. leaves_newest (members A.Disk) (members B.Disk) p (A.newest_may_stay p.front honest.first) (B.newest_may_stay p.back honest.second) };
+    ghost newest_may_stay = { λ p honest.
+        leaves_newest (members A.Disk) (members B.Disk) p (A.newest_may_stay p.front honest.first)
+        (B.newest_may_stay p.back honest.second) };
 
     ghost has_shape = { λ p c honest left.
-        has_both_shapes (members A.Disk) (members B.Disk) p c honest (λ x. A.has_shape p.front x honest.first) (λ y. B.has_shape p.back y honest.second) left };
+        has_both_shapes (members A.Disk) (members B.Disk) p c honest (λ x. A.has_shape p.front x honest.first)
+        (λ y. B.has_shape p.back y honest.second) left };
 
     ghost has_shape_since = { λ p t c _ left. since_has_both_shapes (members A.Disk) (members B.Disk) p t c left };
 
     ghost counts_now = { λ p t c honest earlier left.
-        counts_both (members A.Disk) (members B.Disk) p t c honest (λ x. A.has_shape p.front x honest.first) (λ y. B.has_shape p.back y honest.second) earlier left };
+        counts_both (members A.Disk) (members B.Disk) p t c honest (λ x. A.has_shape p.front x honest.first)
+        (λ y. B.has_shape p.back y honest.second) earlier left };
 
     ghost only_now = { λ p c _ left. only_both (members A.Disk) (members B.Disk) p c left };
 

@@ -3,7 +3,8 @@ ghost use Rattle.std.specs.Prelude.{◌≡◌, ◌∷◌};
 
 use std::snapshot::Snapshot;
 
-/// The states that two disks were in before each call of one of them, for clauses to read. It keeps none of their bytes.
+/// The states that two disks were in before each call of one of them, for clauses to read. It keeps none of their
+/// bytes.
 #[derive(Drop)]
 #[cycle(past)]
 pub(crate) enum Past<A, B> {

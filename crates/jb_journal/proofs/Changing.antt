@@ -31,14 +31,6 @@ module _ {F T E : Type 0} (g : Once F (MutBor (Handle (Unit {0})) × Unit {0}) (
   stopped-as words old new same (Err NotOpen) kept = (record { answer = answer; called = called }, kept)
   stopped-as words old new same (Err Memory) kept = (record { answer = answer; called = called }, kept)
 
--- where no handle stopped, the client has stopped none
-pub not-changed : {F T E : Type 0} (g : Once F (MutBor (Handle (Unit {0})) × Unit {0}) (Result T E × (MutBor (Handle (Unit {0})) × Unit {0}))) (f : F) (fresh : Held) (old new : List Stop) (fault : HandleFault E) → AnswersChange g f fresh old new (Err fault) → new ≡ old
-not-changed g f fresh old new (Begin fault) is = is
-not-changed g f fresh old new (Refused fault) is = is.1
-not-changed g f fresh old new Aborted is = is.1
-not-changed g f fresh old new NotOpen is = is.1
-not-changed g f fresh old new Memory is = is.1
-
 -- a handle that stopped is seen
 pub sees-stop : {D H T E : Type 0} (before after : List Stop) (old new : Sights D H) (answer : T) (ticket : ℕ) (words : WordMap) → after ≡ before ++ (ticket, words) ∷ [] → SeesStop old.stops new.stops ticket words → new.marks ≡ old.marks
     → SeesChange {D = D} {H = H} {T = T} {E = E} before after old new (Ok (answer, ticket))

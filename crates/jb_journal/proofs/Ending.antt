@@ -14,7 +14,7 @@ use Rattle.jb_book.specs.Origin.{Begun}
 use Rattle.jb_book.specs.Marks.{SeesMore}
 use Rattle.jb_book.specs.declared.sights.Sights.{Sights}
 use Rattle.jb_journal.specs.Client.{AreHonest, known_in}
-use Rattle.jb_journal.specs.Notes.{Known, KnownLasts}
+use Rattle.jb_journal.specs.Notes.{KnownLasts}
 use Rattle.jb_journal.proofs.Noting.{first-trans, known-lasts, were-honest}
 
 -- where a trail ends

@@ -1,11 +1,10 @@
 -- What a client knows of its journal, from what the desk shows it.
-use Rattle.std.proofs.Common.{◌≡◌, ℕ, suc, ◌<◌, ◌≤◌, List, [], ◌∷◌, ◌++◌, All, map, Option, Some, None, slice_get, get_or, option_map, length, Result, Ok, Err, IfOk, IfErr, OnOk, sym, ap, subst, ◌∙◌, arith, append_assoc}
+use Rattle.std.proofs.Common.{◌≡◌, ℕ, ◌≤◌, List, ◌++◌, All, map, option_map, length, Result, Ok, Err, IfOk, IfErr, OnOk, sym, ap, subst, ◌∙◌, arith, append_assoc}
 use Rattle.std.proofs.Math.Seq.{take-append_seam}
 use Rattle.std.proofs.lemmas.List.{map-append}
 use Rattle.std.proofs.lemmas.List.Elements.{All-map, All-take, All-weaker}
 use Rattle.std.proofs.lemmas.Option.{slice_get-map, slice_get_within, get_or_from_slice_get}
 use mathlib.Core.List.{IsPrefix}
-use Rattle.jb_disk.specs.Image.{Image}
 use Rattle.jb_disk.specs.declared.disk.Disk.{Ghosts}
 use Rattle.jb_handle.specs.Word.{WordMap}
 use Rattle.jb_handle.specs.Words.{word}
@@ -28,7 +27,7 @@ use Rattle.jb_desk.specs.Marks.{ShowsTaken}
 use Rattle.jb_desk.specs.declared.fault.WaitFault.{WaitFault}
 use Rattle.jb_desk.specs.declared.fault.WaitFault.TheVariants as wait
 use Rattle.jb_journal.specs.Client.{AreHonest}
-use Rattle.jb_journal.specs.Notes.{Note, IsInNotes, IsPastInNotes, Known, KnownLasts, KnowsMore, NoteLasts, NotesTaken, ReadsAs, StaysSince, Stop, committed_by, note_of}
+use Rattle.jb_journal.specs.Notes.{Note, IsInNotes, IsPastInNotes, KnownLasts, NoteLasts, NotesTaken, ReadsAs, StaysSince, Stop, committed_by, note_of}
 
 -- ---- first parts
 

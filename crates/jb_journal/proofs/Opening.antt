@@ -4,7 +4,7 @@ use Rattle.jb_block.specs.Size.{bytes_of}
 use Rattle.jb_block.specs.declared.size.BlockSize.{BlockSize}
 use Rattle.jb_disk.specs.Agreeing.{left_from_now}
 use Rattle.jb_disk.specs.Faults.{CountsNone}
-use Rattle.jb_disk.specs.File.{content_of, count_of, events_of, faults_of, size_of, FileLeaves, FileLeft, IsHonest, IsMeasured}
+use Rattle.jb_disk.specs.File.{content_of, count_of, events_of, faults_of, size_of_blocks, FileLeaves, FileLeft, IsHonest, IsMeasured}
 use Rattle.jb_disk.specs.Image.{Image, Only, Same}
 use Rattle.jb_disk.specs.Kept.{Kept}
 use Rattle.jb_disk.specs.Time.{Goes, LeavesOnly}
@@ -25,42 +25,42 @@ module _ {S : Type 0} {start : Starts S} where
 
   -- what a call keeps of a file, with this of its counts of faults
   abbrev pub Keeps : (ℕ → ℕ → Type 0) → FileDisk S start → FileDisk S start → Type 0
-  Keeps counts old new = Kept (λ f. bytes_of (size_of f)) count_of faults_of IsHonest counts old new
+  Keeps counts old new = Kept (λ f. bytes_of (size_of_blocks f)) count_of faults_of IsHonest counts old new
 
   module _ (size : BlockSize) (old new : FileDisk S start) where
     -- what a recovery says of the files is said of what the file held when it was opened
-    pub recovers-held : (answer : Result Recovered RecoverFault) → bytes_of (size_of old) ≡ bytes_of size → count_of new ≡ count_of old → content_of old ≡ start.content 0
-        → Recovers (bytes_of (size_of old)) (count_of old) (content_of old) (content_of new) answer
+    pub recovers-held : (answer : Result Recovered RecoverFault) → bytes_of (size_of_blocks old) ≡ bytes_of size → count_of new ≡ count_of old → content_of old ≡ start.content 0
+        → Recovers (bytes_of (size_of_blocks old)) (count_of old) (content_of old) (content_of new) answer
         → Recovers (bytes_of size) (count_of new) (start.content 0) (content_of new) answer
     recovers-held answer sized same held done =
         subst (λ s. Recovers s (count_of new) (start.content 0) (content_of new) answer) sized
-        (subst (λ n. Recovers (bytes_of (size_of old)) n (start.content 0) (content_of new) answer) (sym same)
-        (subst (λ c. Recovers (bytes_of (size_of old)) (count_of old) c (content_of new) answer) held done))
+        (subst (λ n. Recovers (bytes_of (size_of_blocks old)) n (start.content 0) (content_of new) answer) (sym same)
+        (subst (λ c. Recovers (bytes_of (size_of_blocks old)) (count_of old) c (content_of new) answer) held done))
 
     -- the same of what recovers as it does
-    pub as-held : (c : Image) → bytes_of (size_of old) ≡ bytes_of size → count_of new ≡ count_of old → content_of old ≡ start.content 0
-        → RecoversAs (bytes_of (size_of old)) (count_of old) (content_of old) c
+    pub as-held : (c : Image) → bytes_of (size_of_blocks old) ≡ bytes_of size → count_of new ≡ count_of old → content_of old ≡ start.content 0
+        → RecoversAs (bytes_of (size_of_blocks old)) (count_of old) (content_of old) c
         → RecoversAs (bytes_of size) (count_of new) (start.content 0) c
     as-held c sized same held is =
         subst (λ s. RecoversAs s (count_of new) (start.content 0) c) sized
-        (subst (λ n. RecoversAs (bytes_of (size_of old)) n (start.content 0) c) (sym same)
-        (subst (λ d. RecoversAs (bytes_of (size_of old)) (count_of old) d c) held is))
+        (subst (λ n. RecoversAs (bytes_of (size_of_blocks old)) n (start.content 0) c) (sym same)
+        (subst (λ d. RecoversAs (bytes_of (size_of_blocks old)) (count_of old) d c) held is))
 
     -- nothing is pending in a file that was asked its length and nothing else
     pub measured-only : IsMeasured old → IsHonest old → Only (content_of old) (FileLeaves old)
     measured-only asked honest = λ c left. opened-leaves old asked.0 asked.1 c left ∙ sym (opened-holds old asked.0 asked.1 honest)
 
     -- a file that was asked its length and nothing else, and then recovered
-    pub was-recovered : (done : Recovered) → size_of old ≡ size → faults_of old ≡ 0 → IsMeasured old → Keeps CountsNone old new
-        → (IsHonest new → Recovers (bytes_of (size_of old)) (count_of old) (content_of old) (content_of new) (Ok done))
+    pub was-recovered : (done : Recovered) → size_of_blocks old ≡ size → faults_of old ≡ 0 → IsMeasured old → Keeps CountsNone old new
+        → (IsHonest new → Recovers (bytes_of (size_of_blocks old)) (count_of old) (content_of old) (content_of new) (Ok done))
         → (IsHonest new → Only (content_of old) (FileLeaves old)
-        → LeavesOnly moment FileLeft old new (RecoversAs (bytes_of (size_of old)) (count_of old) (content_of old)))
+        → LeavesOnly moment FileLeft old new (RecoversAs (bytes_of (size_of_blocks old)) (count_of old) (content_of old)))
         → (IsHonest new → Only (content_of new) (FileLeaves new)) → WasRecovered size new
     was-recovered done sized fresh asked kept recovers settled durable =
         let once : length (events_of old) ≡ 1 = ap length asked.1 in
-        let same : bytes_of (size_of old) ≡ bytes_of size = ap bytes_of sized in
+        let same : bytes_of (size_of_blocks old) ≡ bytes_of size = ap bytes_of sized in
         let held : IsHonest new → content_of old ≡ start.content 0 = λ honest. opened-holds old asked.0 asked.1 (kept.was_honest honest) in
-        let run : IsHonest new → LeavesOnly moment FileLeft old new (RecoversAs (bytes_of (size_of old)) (count_of old) (content_of old))
+        let run : IsHonest new → LeavesOnly moment FileLeft old new (RecoversAs (bytes_of (size_of_blocks old)) (count_of old) (content_of old))
         = λ honest. settled honest (measured-only asked (kept.was_honest honest)) in
         record {
           sized = kept.same_size ∙ same;
@@ -81,7 +81,7 @@ module _ {S : Type 0} {start : Starts S} where
         = λ honest c left. let from = (reads honest).crash c left in subst (FileLeaves old) (sym from.2) from.1 in
         let left_then : (honest : IsHonest new) → (c : Image) → FileLeft new 1 c → FileLeft old 1 c
         = λ honest c left. ⊎_elim (λ then. then)
-        (λ now. left_from_now (bytes_of (size_of old)) start.content (events_of old) 1 c (was.asked (before honest)) (left_before honest c now))
+        (λ now. left_from_now (bytes_of (size_of_blocks old)) start.content (events_of old) 1 c (was.asked (before honest)) (left_before honest c now))
         ((reads honest).nothing_else 1 c (was.asked (before honest)) left) in
         record {
           sized = kept.same_size ∙ was.sized;

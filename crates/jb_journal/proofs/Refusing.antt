@@ -1,5 +1,5 @@
 -- Why a journal that was opened has no answer.
-use Rattle.std.proofs.Common.{◌≡◌, ℕ, ◌⊎◌, Result, Ok, Err, IfErr, inl, inr, sym, subst}
+use Rattle.std.proofs.Common.{◌≡◌, ◌⊎◌, Result, Ok, Err, IfErr, inl, inr, sym, subst}
 use Rattle.jb_book.specs.Opened.{WasOpened}
 use Rattle.jb_disk.specs.declared.disk.Disk.{Ghosts}
 use Rattle.jb_handle.specs.declared.shape.Shape.{Shape}

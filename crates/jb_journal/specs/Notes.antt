@@ -1,5 +1,5 @@
 -- What a client knows of its journal: the handles that have stopped, and what was committed when.
-use Rattle.std.specs.Prelude.{◌≡◌, ℕ, suc, ◌<◌, ◌≤◌, All, List, map, length}
+use Rattle.std.specs.Prelude.{◌≡◌, ℕ, suc, ◌<◌, ◌≤◌, All, List, length}
 use Rattle.jb_disk.specs.Image.{Image}
 use Rattle.jb_disk.specs.declared.disk.Disk.{Ghosts}
 use Rattle.jb_handle.specs.Tickets.{TicketsFrom}

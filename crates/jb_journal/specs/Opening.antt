@@ -1,8 +1,8 @@
 -- What a file is that is opened for a program: recovered since it was opened, or made.
-use Rattle.std.specs.Prelude.{◌≡◌, ◌⊎◌, ◌≤◌, ℕ, Result, Ok, Err, length}
+use Rattle.std.specs.Prelude.{◌≡◌, ◌⊎◌, ◌≤◌, Ok, Err, length}
 use Rattle.jb_block.specs.Size.{bytes_of}
 use Rattle.jb_block.specs.declared.size.BlockSize.{BlockSize}
-use Rattle.jb_disk.specs.File.{content_of, count_of, events_of, faults_of, size_of, FileLeaves, FileLeft, IsHonest}
+use Rattle.jb_disk.specs.File.{content_of, count_of, events_of, faults_of, size_of_blocks, FileLeaves, FileLeft, IsHonest}
 use Rattle.jb_disk.specs.Image.{Image, Only}
 use Rattle.jb_disk.specs.declared.file.FileDisk.{FileDisk}
 use Rattle.jb_disk.specs.declared.start.Start.{Ghosts as Starts}
@@ -20,7 +20,7 @@ use Rattle.jb_journal.specs.declared.journal_fault.JournalFault.TheVariants.{Rec
 -- image of what it held when it was opened, nothing is pending, and a crash at any moment since it was asked its length leaves
 -- what recovers to the same.
 pub record WasRecovered {S : Type 0} {start : Starts S} (size : BlockSize) (f : FileDisk S start) : Type 0 where
-  pub sized : bytes_of (size_of f) ≡ bytes_of size
+  pub sized : bytes_of (size_of_blocks f) ≡ bytes_of size
   pub fresh : faults_of f ≡ 0
   pub asked : IsHonest f → 1 ≤ length (events_of f)
   pub recovers : IsHonest f → (done : Recovered) × Recovers (bytes_of size) (count_of f) (start.content 0) (content_of f) (Ok done)

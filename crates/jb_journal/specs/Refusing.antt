@@ -1,5 +1,4 @@
 -- Why a journal was not run.
-use Rattle.std.specs.Prelude.{ℕ}
 use Rattle.jb_book.specs.Opened.{NotOpened, WasOpened}
 use Rattle.jb_disk.specs.declared.disk.Disk.{Ghosts}
 use Rattle.jb_handle.specs.declared.shape.Shape.{Shape}

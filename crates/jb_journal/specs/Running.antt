@@ -1,8 +1,7 @@
 -- What the threads of a journal leave.
-use Rattle.std.specs.Prelude.{◌≡◌, ℕ, ◌<◌, ◌≤◌, Bool, true, false, All, List, [], length, map, slice_index_or, Option, Some, None, IfSome}
+use Rattle.std.specs.Prelude.{◌≡◌, ℕ, ◌<◌, ◌≤◌, Bool, true, false, All, List, [], length, slice_index_or, Option, Some, None, IfSome}
 use Rattle.std.specs.Bool.{OnTrue}
 use Rattle.jb_disk.specs.declared.disk.Disk.{Ghosts as Disks}
-use Rattle.jb_handle.specs.Word.{WordMap}
 use Rattle.jb_handle.specs.declared.shape.Shape.{Shape}
 use Rattle.jb_deck.specs.Deck.{OpenDeck}
 use Rattle.jb_deck.specs.Done.{Follow, start_of}

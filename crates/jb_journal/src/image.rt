@@ -1,7 +1,7 @@
 //! Images that are opened for a program, and homes that are read without a run.
 ghost use Rattle.std.specs.Prelude.{◌≡◌, ◌↔◌, IfErr, IfOk, OnOk, Err, length};
 ghost use Rattle.jb_block.specs.Size.{bytes_of};
-ghost use Rattle.jb_disk.specs.File.{size_of};
+ghost use Rattle.jb_disk.specs.File.{size_of_blocks};
 ghost use Rattle.jb_disk.specs.Image.{Same};
 ghost use Rattle.jb_disk.specs.KeptOn.{KeptOn};
 ghost use Rattle.jb_disk.specs.Time.{Goes};
@@ -31,7 +31,7 @@ pub fn open<R: Files<File = File> + AllocGlobal>(
     name: &str,
     size: BlockSize,
 ) -> Result<FileDisk, JournalFault>
-    ensures size { IfOk result (λ disk. bytes_of (size_of disk) ≡ bytes_of size) }
+    ensures size { IfOk result (λ disk. bytes_of (size_of_blocks disk) ≡ bytes_of size) }
     ensures opened { IfOk result (WasRecovered size) }
 {
     open_holding(rt, name, size)
@@ -72,7 +72,7 @@ pub fn open_or_create<R: Files<File = File> + AllocGlobal>(
     name: &str,
     geometry: Geometry,
 ) -> Result<FileDisk, JournalFault>
-    ensures size { IfOk result (λ disk. bytes_of (size_of disk) ≡ bytes_of geometry.block_size) }
+    ensures size { IfOk result (λ disk. bytes_of (size_of_blocks disk) ≡ bytes_of geometry.block_size) }
     ensures ready { IfOk result (WasRecoveredOrMade geometry) }
 {
     open_or_create_holding(rt, name, geometry)
@@ -87,7 +87,7 @@ pub fn open_or_create_holding<S: Start, R: Files<File = File> + AllocGlobal>(
     name: &str,
     geometry: Geometry,
 ) -> Result<FileDisk<S>, JournalFault>
-    ensures size { IfOk result (λ disk. bytes_of (size_of disk) ≡ bytes_of geometry.block_size) }
+    ensures size { IfOk result (λ disk. bytes_of (size_of_blocks disk) ≡ bytes_of geometry.block_size) }
     ensures ready { IfOk result (WasRecoveredOrMade geometry) }
 {
     match open_whole(rt, name, geometry) {

@@ -185,7 +185,8 @@ fn work<
         workers,
         &|at: usize| -> Worked<T, D, H, N>
             requires { (shape ≡ shape_in desk.now) × ((words : WordMap) → H.begun.stops words) }
-            ensures { IfSome result.answer (W.answers worker.entry.now H.begun (AreHonest D.Disk (marks_of_worked result))
+            ensures { IfSome result.answer
+                (W.answers worker.entry.now H.begun (AreHonest D.Disk (marks_of_worked result))
                 workers at (stops_of_worked result) (known_of_worked D.moment result)) }
         { work_at(rt, desk, shape, gate, workers, worker, at) },
     );

@@ -16,8 +16,10 @@ pub trait Worker<T> {
 
     /// What a worker may answer: where the journal began so, and what a read's content rests on is this (that the disk
     /// was honest at all that the client has seen), of so many workers, at this place, whose client has stopped these
-    /// handles, each with its ticket and its words, and knows this of the journal. Anything, where a worker does not say.
-    ghost answers: { Self → Begun → Type 0 → ℕ → ℕ → List (ℕ × WordMap) → Known → T → Type 0 } = { λ _ _ _ _ _ _ _ _. Unit {0} };
+    /// handles, each with its ticket and its words, and knows this of the journal. Anything, where a worker does not
+    /// say.
+    ghost answers: { Self → Begun → Type 0 → ℕ → ℕ → List (ℕ × WordMap) → Known → T → Type 0 } = { λ _ _ _ _ _ _ _ _.
+        Unit {0} };
 
     /// Works with the journal through a client of its own, as the worker at the place `at` of so many.
     fn work<'a, D: Disk, C: Clock, R: Wait + time::Clock, H: Origin, N: Ledger>(

@@ -7,7 +7,7 @@ use Rattle.std.proofs.lemmas.Bool.{cases_lt}
 use Rattle.jb_cost.specs.Cut.{RisesTo, EachFrom, total_from, IsCut, EachPiece, total, price, FitsCut, IsLeastCut, IsReached, ArePrices, Hold, IsFirstToAttain}
 use Rattle.jb_cost.proofs.Cuts.{rises-le, reached-push, reached-none}
 use Rattle.jb_cost.proofs.Bounds.{hold-fewer, lower, price-exact}
-use Rattle.jb_plan.specs.Step.{Step, IsBest, BestFrom, step_of, AreSteps, price_of, from_of, AreBefore, AreWithin, IsTable}
+use Rattle.jb_plan.specs.Step.{LastGroup, IsBest, BestFrom, step_of, AreSteps, price_of, from_of, AreBefore, AreWithin, IsTable}
 
 price-kept : (ps more : List (Option ℕ)) (i : ℕ) → i < length ps → price (ps ++ more) i ≡ price ps i
 price-kept ps more i less = get_or-append ps more None i less
@@ -24,7 +24,7 @@ step-same froms starts j same (Some p) = ap (λ from. Some (record { from = from
 
 module _ (c : ℕ → ℕ → ℕ) (limit : ℕ) where
   -- the best step looks only at the prices before its end
-  best-same : (ps qs : List (Option ℕ)) (low end : ℕ) (best : Option Step) → ((i : ℕ) → i < end → price qs i ≡ price ps i) → BestFrom c limit ps low end best → BestFrom c limit qs low end best
+  best-same : (ps qs : List (Option ℕ)) (low end : ℕ) (best : Option LastGroup) → ((i : ℕ) → i < end → price qs i ≡ price ps i) → BestFrom c limit ps low end best → BestFrom c limit qs low end best
   best-same ps qs low end None same tried = λ i p above below fits is. tried i p above below fits (sym (same i below) ∙ is)
   best-same ps qs low end (Some s) same tried = record {
     leads = record { before = tried.leads.before; fits = tried.leads.fits; sum = (tried.leads.sum.0, same s.from tried.leads.before ∙ tried.leads.sum.1, tried.leads.sum.2) };
@@ -41,11 +41,11 @@ module _ (c : ℕ → ℕ → ℕ) (limit : ℕ) where
   steps-start = record { start = refl; each = λ j above within. absurd (let h : ⊥ = omega arith in h) }
 
   -- the table of one handle more
-  pub steps-more : (ps : List (Option ℕ)) (froms : List ℕ) (n : ℕ) (best : Option Step) → AreSteps c limit ps froms n → length ps ≡ n + 1 → length froms ≡ n + 1 → BestFrom c limit ps 0 (n + 1) best → AreSteps c limit (ps ++ (price_of best ∷ [])) (froms ++ (from_of best ∷ [])) (n + 1)
+  pub steps-more : (ps : List (Option ℕ)) (froms : List ℕ) (n : ℕ) (best : Option LastGroup) → AreSteps c limit ps froms n → length ps ≡ n + 1 → length froms ≡ n + 1 → BestFrom c limit ps 0 (n + 1) best → AreSteps c limit (ps ++ (price_of best ∷ [])) (froms ++ (from_of best ∷ [])) (n + 1)
   steps-more ps froms n best steps prices starts found =
       record { start = price-kept ps (price_of best ∷ []) 0 (omega arith) ∙ steps.start; each = each }
     where
-      now : (best : Option Step) → BestFrom c limit ps 0 (n + 1) best → BestFrom c limit ps 0 (n + 1) (step_of (froms ++ (from_of best ∷ [])) (n + 1) (price_of best))
+      now : (best : Option LastGroup) → BestFrom c limit ps 0 (n + 1) best → BestFrom c limit ps 0 (n + 1) (step_of (froms ++ (from_of best ∷ [])) (n + 1) (price_of best))
       now None found = found
       now (Some s) found = subst (λ from. IsBest c limit ps 0 (n + 1) (record { from = from; price = s.price })) (sym (from-new froms (n + 1) s.from starts)) found
 
@@ -157,10 +157,10 @@ module _ (c : ℕ → ℕ → ℕ) (limit : ℕ) where
   answers-none ps froms n steps is other fitting = let low = lower c limit n ps (hold-steps ps froms n steps) other fitting in let e : None ≡ Some low.0 = sym is ∙ low.1 in cc
 
   -- the start of one step more is before its end
-  pub back-more : (ps : List (Option ℕ)) (froms : List ℕ) (n : ℕ) (best : Option Step) → AreBefore froms → length froms ≡ n + 1 → BestFrom c limit ps 0 (n + 1) best → AreBefore (froms ++ (from_of best ∷ []))
+  pub back-more : (ps : List (Option ℕ)) (froms : List ℕ) (n : ℕ) (best : Option LastGroup) → AreBefore froms → length froms ≡ n + 1 → BestFrom c limit ps 0 (n + 1) best → AreBefore (froms ++ (from_of best ∷ []))
   back-more ps froms n best back starts found j above within = elim (cases_lt j (n + 1)) [ inl less ↦ earlier less | inr more ↦ last (omega (arith, more, simp length-append at within)) ]
     where
-      now : (best : Option Step) → BestFrom c limit ps 0 (n + 1) best → from_of best < n + 1
+      now : (best : Option LastGroup) → BestFrom c limit ps 0 (n + 1) best → from_of best < n + 1
       now None found = omega arith
       now (Some s) found = found.leads.before
 
@@ -171,10 +171,10 @@ module _ (c : ℕ → ℕ → ℕ) (limit : ℕ) where
       last same = subst (λ k. slice_index (froms ++ (from_of best ∷ [])) k < k) (sym same) (rw (from-new froms (n + 1) (from_of best) starts) (now best found))
 
   -- one price more is at most what the handles before it weigh
-  pub within-more : (w : ℕ → ℕ) (ps : List (Option ℕ)) (n : ℕ) (best : Option Step) → AreWithin w ps → length ps ≡ n + 1 → ((i : ℕ) → i < n + 1 → c i (n + 1) + w i ≤ w (n + 1)) → BestFrom c limit ps 0 (n + 1) best → AreWithin w (ps ++ (price_of best ∷ []))
+  pub within-more : (w : ℕ → ℕ) (ps : List (Option ℕ)) (n : ℕ) (best : Option LastGroup) → AreWithin w ps → length ps ≡ n + 1 → ((i : ℕ) → i < n + 1 → c i (n + 1) + w i ≤ w (n + 1)) → BestFrom c limit ps 0 (n + 1) best → AreWithin w (ps ++ (price_of best ∷ []))
   within-more w ps n best within prices grows found j p below is = elim (cases_lt j (n + 1)) [ inl less ↦ earlier less | inr more ↦ last (omega (arith, more, simp length-append at below)) ]
     where
-      now : (best : Option Step) → BestFrom c limit ps 0 (n + 1) best → price_of best ≡ Some p → p ≤ w (n + 1)
+      now : (best : Option LastGroup) → BestFrom c limit ps 0 (n + 1) best → price_of best ≡ Some p → p ≤ w (n + 1)
       now None found e = let absurdity : None ≡ Some p = e in absurd (cc)
       now (Some s) found e =
           let same : s.price ≡ p = cc in
@@ -205,7 +205,7 @@ module _ (c : ℕ → ℕ → ℕ) (limit : ℕ) where
           omega arith
 
   -- the table of one handle more
-  pub table-more : (w : ℕ → ℕ) (n : ℕ) (ps : List (Option ℕ)) (froms : List ℕ) (best : Option Step) → IsTable c limit w n ps froms → BestFrom c limit ps 0 (n + 1) best → ((i : ℕ) → i < n + 1 → c i (n + 1) + w i ≤ w (n + 1)) → IsTable c limit w (n + 1) (ps ++ (price_of best ∷ [])) (froms ++ (from_of best ∷ []))
+  pub table-more : (w : ℕ → ℕ) (n : ℕ) (ps : List (Option ℕ)) (froms : List ℕ) (best : Option LastGroup) → IsTable c limit w n ps froms → BestFrom c limit ps 0 (n + 1) best → ((i : ℕ) → i < n + 1 → c i (n + 1) + w i ≤ w (n + 1)) → IsTable c limit w (n + 1) (ps ++ (price_of best ∷ [])) (froms ++ (from_of best ∷ []))
   table-more w n ps froms best table found grows = record {
     steps = steps-more ps froms n best table.steps table.number table.starts found;
     number = simp length-append (omega (arith, table.number));

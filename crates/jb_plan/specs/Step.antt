@@ -6,34 +6,34 @@ use Rattle.jb_cost.specs.Cut.{price}
 use Rattle.jb_cost.specs.declared.found.Found.{Found}
 
 -- the last group of a cut: where it begins, and what the whole cut takes
-pub record Step : Type 0 where
+pub record LastGroup : Type 0 where
   pub from : ℕ
   pub price : ℕ
 
 -- s goes to the end from its own start, at the start's price and the group's cost
-pub record Leads (c : ℕ → ℕ → ℕ) (limit : ℕ) (ps : List (Option ℕ)) (end : ℕ) (s : Step) : Type 0 where
+pub record Leads (c : ℕ → ℕ → ℕ) (limit : ℕ) (ps : List (Option ℕ)) (end : ℕ) (s : LastGroup) : Type 0 where
   pub before : s.from < end
   pub fits : c s.from end ≤ limit
   pub sum : (p : ℕ) × (price ps s.from ≡ Some p) × (s.price ≡ p + c s.from end)
 
 -- no start from low on has a smaller sum, and none before its own has the same
-pub record IsBest (c : ℕ → ℕ → ℕ) (limit : ℕ) (ps : List (Option ℕ)) (low end : ℕ) (s : Step) : Type 0 where
+pub record IsBest (c : ℕ → ℕ → ℕ) (limit : ℕ) (ps : List (Option ℕ)) (low end : ℕ) (s : LastGroup) : Type 0 where
   pub leads : Leads c limit ps end s
   pub least : (i p : ℕ) → low ≤ i → i < end → c i end ≤ limit → price ps i ≡ Some p → s.price ≤ p + c i end
   pub first : (i p : ℕ) → low ≤ i → i < s.from → c i end ≤ limit → price ps i ≡ Some p → s.price < p + c i end
 
 -- the best step to the end from low on, or that no start from there leads to it
-abbrev pub BestFrom : (ℕ → ℕ → ℕ) → ℕ → List (Option ℕ) → ℕ → ℕ → Option Step → Type 0
+abbrev pub BestFrom : (ℕ → ℕ → ℕ) → ℕ → List (Option ℕ) → ℕ → ℕ → Option LastGroup → Type 0
 BestFrom c limit ps low end None = (i p : ℕ) → low ≤ i → i < end → c i end ≤ limit → price ps i ≡ Some p → ⊥
 BestFrom c limit ps low end (Some s) = IsBest c limit ps low end s
 
 -- the step from a start that was found
-abbrev pub step_from : Option Found → Option Step
+abbrev pub step_from : Option Found → Option LastGroup
 step_from None = None
 step_from (Some s) = Some (record { from = s.from; price = s.price + s.cost })
 
 -- the step to j, by its price and by the list of starts
-abbrev pub step_of : List ℕ → ℕ → Option ℕ → Option Step
+abbrev pub step_of : List ℕ → ℕ → Option ℕ → Option LastGroup
 step_of froms j None = None
 step_of froms j (Some p) = Some (record { from = slice_index froms j; price = p })
 
@@ -43,12 +43,12 @@ pub record AreSteps (c : ℕ → ℕ → ℕ) (limit : ℕ) (ps : List (Option �
   pub each : (j : ℕ) → 0 < j → j ≤ n → BestFrom c limit ps 0 j (step_of froms j (price ps j))
 
 -- the price of a step, if there is one
-abbrev pub price_of : Option Step → Option ℕ
+abbrev pub price_of : Option LastGroup → Option ℕ
 price_of None = None
 price_of (Some s) = Some s.price
 
 -- where a step begins, and 0 where there is none
-abbrev pub from_of : Option Step → ℕ
+abbrev pub from_of : Option LastGroup → ℕ
 from_of None = 0
 from_of (Some s) = s.from
 

@@ -3,7 +3,7 @@ use Rattle.std.proofs.Common.{◌≡◌, ◌∙◌, sym, ap, subst, ℕ, ◌+◌
 use Rattle.std.specs.Borrow.{Bor}
 use Rattle.std.specs.Option.{option_copied}
 use Rattle.std.proofs.lemmas.Bool.{cases_lt}
-use Rattle.jb_text.specs.Parts.{words, words_in, first_of, grow}
+use Rattle.jb_text.specs.Parts.{words, words_in, read_first, grow}
 use Rattle.jb_price.specs.declared.fault.CertFault.TheVariants.{Syntax}
 use Rattle.jb_price.specs.Claims.{after_each, on_line}
 
@@ -42,11 +42,8 @@ module _ {A : Type 0} (read : List ℕ → Option A) (had : List A) where
 
 -- the first word was read, or no word was looked at yet
 pub record Begun {A : Type 0} (read : List ℕ → Option A) (had : List A) (all left : List (List ℕ)) : Type 0 where
-  pub some : 0 < length had → IsSome (first_of read all)
+  pub some : 0 < length had → IsSome (read_first read all)
   pub fresh : length had ≡ 0 → left ≡ all
-
-pub begun-start : {A : Type 0} (read : List ℕ → Option A) (had : List A) (all : List (List ℕ)) → had ≡ [] → Begun read had all all
-begun-start read had all none = record { some = λ more. absurd (let long : length had ≡ 0 = ap length none in let h : ⊥ = omega arith in h); fresh = λ _. refl }
 
 no-words : (text : List ℕ) → words text ≡ [] → ⊥
 unfolding words
@@ -60,10 +57,10 @@ no-words (b ∷ bs) none = go (b == 32) (words bs) none
 
 module _ {A : Type 0} (read : List ℕ → Option A) (had : List A) (all left : List (List ℕ)) (begun : Begun read had all left) where
   -- a word is read
-  pub begun-some : (word : List ℕ) (behind : List (List ℕ)) (x : A) → left ≡ word ∷ behind → read word ≡ Some x → IsSome (first_of read all)
+  pub begun-some : (word : List ℕ) (behind : List (List ℕ)) (x : A) → left ≡ word ∷ behind → read word ≡ Some x → IsSome (read_first read all)
   begun-some word behind x parts is = elim (cases_lt 0 (length had)) [
     | inl more ↦ begun.some more
-    | inr none ↦ subst (λ ws. IsSome (first_of read ws)) (sym parts ∙ begun.fresh (omega (arith, none))) (rw is refl)
+    | inr none ↦ subst (λ ws. IsSome (read_first read ws)) (sym parts ∙ begun.fresh (omega (arith, none))) (rw is refl)
   ]
 
   pub begun-goes : (word : List ℕ) (behind : List (List ℕ)) (x : A) (now : List A) (rest : List (List ℕ)) → left ≡ word ∷ behind → read word ≡ Some x → now ≡ had ++ x ∷ [] → Begun read now all rest
@@ -73,7 +70,7 @@ module _ {A : Type 0} (read : List ℕ → Option A) (had : List A) (all left : 
   }
 
   -- all words were read
-  pub begun-ends : (text : List ℕ) (rest : Option (Bor (List ℕ))) → all ≡ words text → left ≡ words_in (option_copied rest) → ((text : Bor (List ℕ)) → rest ≡ Some text → ⊥) → IsSome (first_of read all)
+  pub begun-ends : (text : List ℕ) (rest : Option (Bor (List ℕ))) → all ≡ words text → left ≡ words_in (option_copied rest) → ((text : Bor (List ℕ)) → rest ≡ Some text → ⊥) → IsSome (read_first read all)
   begun-ends text rest whole is ended = elim (cases_lt 0 (length had)) [
     | inl more ↦ begun.some more
     | inr none ↦ absurd (no-words text (sym whole ∙ sym (begun.fresh (omega (arith, none))) ∙ is ∙ over rest ended))

@@ -1,19 +1,19 @@
 -- The first fault of a certificate's text is the one at which reading ends.
 use Rattle.std.proofs.Common.{◌≡◌, ◌↔◌, ◌∙◌, sym, ap, ℕ, ◌+◌, ◌<◌, ◌==◌, Bool, true, false, if◌then◌else◌, List, [], ◌∷◌, ◌++◌, length, map, refl, arith, Option, option_map, Some, None, Result, Ok, Err, inl, inr}
-use Rattle.std.specs.Prelude.{codes, decimal, ◌⊎◌}
+use Rattle.std.specs.Prelude.{codes, decimal}
 use Rattle.std.specs.List.{AllByRecursion}
 use Rattle.std.specs.Str.{bytes_eq}
 use Rattle.std.proofs.lemmas.Bool.{eq-eqb, ne_eqb}
-use Rattle.jb_text.specs.Parts.{◌>>=◌, lines, words, spaced, behind_word, first_of, number_of}
+use Rattle.jb_text.specs.Parts.{◌>>=◌, lines, words, spaced, behind_word, number_of}
 use Rattle.jb_text.proofs.Grammar.{behind-is}
 use Rattle.jb_price.specs.declared.fault.CertFault.{CertFault}
 use Rattle.jb_price.specs.declared.fault.CertFault.TheVariants.{Syntax, Length}
 use Rattle.jb_price.specs.Claims.{Claim, after_each, prices_in, bounds_in, cut_in, total_in, on_line, at_end, with_total, claim_in, for_handles, read_of}
-use Rattle.jb_price.specs.ReadBack.{Fits64, PriceFits}
-use Rattle.jb_price.specs.Spelling.{first_line, cut_lines, CutFits}
-use Rattle.jb_price.specs.Faults.{AfterPrices, AfterBounds, AfterTotal, GoesOnAfterNone, GoesOnAfterTotal, HasNoPrices, HasNoCut, HasNoTotal, TotalFault, BoundsFault, CutFault, PricesFault, SyntaxFault, LengthFault, FirstFault}
+use Rattle.jb_price.specs.ReadBack.{Fits64}
+use Rattle.jb_price.specs.Spelling.{first_line, cut_lines}
+use Rattle.jb_price.specs.Faults.{AfterPrices, AfterBounds, AfterTotal, HasNoPrices, HasNoCut, HasNoTotal, TotalFault, CutFault, SyntaxFault, LengthFault, FirstCertFault}
 use Rattle.jb_price.proofs.ReadBack.{prices-back, bounds-back, total-back}
-use Rattle.jb_price.proofs.SpelledCert.{SayClaim, BoundsAre, behind-case, prices-are, bounds-case, total-is, behind_cut, behind_prices, claim-is, claim-from}
+use Rattle.jb_price.proofs.SpelledCert.{BoundsAre, behind-case, prices-are, bounds-case, total-is, behind_cut, behind_prices, claim-is, claim-from}
 
 -- a line of prices has one
 some-prices : (line : List ℕ) (prices : List (Option ℕ)) → prices_in line ≡ Some prices → 0 < length prices
@@ -157,7 +157,7 @@ length-fault handles all claim is other =
       other = λ same. let never : true ≡ false = sym (eq-eqb (length claim.prices) (handles + 1) same) ∙ other in cc;
     }
 
-read-fault : (handles : ℕ) (text : List ℕ) (fault : CertFault) (said : Result Claim CertFault) → claim_in (lines text) ≡ said → (said >>= for_handles handles) ≡ Err fault → FirstFault handles text fault
+read-fault : (handles : ℕ) (text : List ℕ) (fault : CertFault) (said : Result Claim CertFault) → claim_in (lines text) ≡ said → (said >>= for_handles handles) ≡ Err fault → FirstCertFault handles text fault
 read-fault handles text fault (Err other) is gives =
     let same : other ≡ fault = cc in
     inl (claim-fault (lines text) fault (is ∙ ap Err same))
@@ -217,9 +217,9 @@ length-read handles all at =
     ap (λ ls. claim_in ls >>= for_handles handles) at.parts
     ∙ rw (claim-from at.claim.prices at.claim.cut at.some at.fit at.cut_fits, wrong) refl
 
-read-wrong : (handles : ℕ) (text : List ℕ) (fault : CertFault) → FirstFault handles text fault → read_of handles text ≡ Err fault
+read-wrong : (handles : ℕ) (text : List ℕ) (fault : CertFault) → FirstCertFault handles text fault → read_of handles text ≡ Err fault
 read-wrong handles text fault (inl wrong) = ap (λ said. said >>= for_handles handles) (syntax-read (lines text) fault wrong)
 read-wrong handles text fault (inr wrong) = length-read handles (lines text) wrong.1 ∙ ap Err (sym wrong.0)
 
-pub first_faults : (handles : ℕ) (text : List ℕ) (fault : CertFault) → (read_of handles text ≡ Err fault) ↔ FirstFault handles text fault
+pub first_faults : (handles : ℕ) (text : List ℕ) (fault : CertFault) → (read_of handles text ≡ Err fault) ↔ FirstCertFault handles text fault
 first_faults handles text fault = (read-fault handles text fault (claim_in (lines text)) refl, read-wrong handles text fault)

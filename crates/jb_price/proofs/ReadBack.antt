@@ -16,7 +16,7 @@ use Rattle.jb_price.specs.declared.certificate.CertAnswer.{CertAnswer}
 use Rattle.jb_price.specs.declared.certificate.CertAnswer.TheVariants.{Cut, NoCut}
 use Rattle.jb_text.specs.Parts.{spaced}
 use Rattle.jb_price.specs.Certificate.{price_text, prices_line, answer_lines, cert_text}
-use Rattle.jb_price.specs.Claims.{after_each, price_of, prices_in, cut_in, total_in, claim_in, claim_of, cut_of, read_of}
+use Rattle.jb_price.specs.Claims.{after_each, price_in_word, prices_in, cut_in, total_in, claim_in, claim_of, cut_of, read_of}
 use Rattle.jb_price.specs.ReadBack.{Fits64, PriceFits, HasBound, AnswerFits, HasText}
 use Rattle.jb_price.proofs.Each.{each-goes, each-end}
 
@@ -42,7 +42,7 @@ digits-not_none (digit ∷ digits) rest are some =
 decimal-not_none : (n : ℕ) (rest : List ℕ) → Fits64 n → bytes_eq (decimal n ++ rest) (codes "none") ≡ false
 decimal-not_none n rest fits = digits-not_none (decimal n) rest (digits_decimal numerals n fits) (decimal_nonempty n fits)
 
-price-back : (price : Option ℕ) → PriceFits price → price_of (price_text price) ≡ Some price
+price-back : (price : Option ℕ) → PriceFits price → price_in_word (price_text price) ≡ Some price
 price-back None fits = refl
 price-back (Some n) fits =
     let other : bytes_eq (decimal n) (codes "none") ≡ false = ap (λ bs. bytes_eq bs (codes "none")) (sym (append-nil (decimal n))) ∙ decimal-not_none n [] fits in
@@ -56,9 +56,9 @@ price-without delimiter other clear (Some n) fits = decimal-without delimiter n 
 pub prices-back : (prices : List (Option ℕ)) → 0 < length prices → AllByRecursion PriceFits prices → prices_in (codes "prices" ++ spaced (map price_text prices)) ≡ Some prices
 prices-back [] some fits = let never : ⊥ = omega arith in absurd never
 prices-back (price ∷ prices) some fits =
-    ap (after_each price_of []) (words-spaced (price_text price) (map price_text prices)
+    ap (after_each price_in_word []) (words-spaced (price_text price) (map price_text prices)
     (each-clear 32 price_text PriceFits (price-without 32 refl (literal-without 32 (codes "none") refl)) (price ∷ prices) fits))
-    ∙ each-back price_of price_text PriceFits price-back [] (price ∷ prices) fits
+    ∙ each-back price_in_word price_text PriceFits price-back [] (price ∷ prices) fits
 
 pub bounds-back : (bounds : List ℕ) → 0 < length bounds → AllByRecursion Fits64 bounds → cut_in (codes "cut" ++ spaced (map decimal bounds)) ≡ Some (Some bounds)
 bounds-back [] some fits = let never : ⊥ = omega arith in absurd never

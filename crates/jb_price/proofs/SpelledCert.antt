@@ -7,7 +7,7 @@ use Rattle.std.specs.Str.{bytes_eq}
 use Rattle.std.proofs.lemmas.Bool.{eq-eqb, eqb-true}
 use Rattle.std.proofs.lemmas.List.{append-nil}
 use Rattle.std.proofs.lemmas.Slice.Eq.{bytes_eq-Decides}
-use Rattle.jb_text.specs.Parts.{◌>>=◌, lines, words, spaced, behind_word, first_of, number_of}
+use Rattle.jb_text.specs.Parts.{◌>>=◌, lines, words, spaced, behind_word, read_first, number_of}
 use Rattle.jb_text.specs.Lines.{AreLines}
 use Rattle.jb_text.proofs.Joins.{literal-without}
 use Rattle.jb_text.proofs.Numerals.{number-is_decimal}
@@ -16,7 +16,7 @@ use Rattle.jb_text.proofs.Grammar.{behind-is, lines-are, are-lines, IsLine}
 use Rattle.jb_price.specs.declared.fault.CertFault.{CertFault}
 use Rattle.jb_price.specs.declared.fault.CertFault.TheVariants.{Length}
 use Rattle.jb_price.specs.Certificate.{price_text}
-use Rattle.jb_price.specs.Claims.{Claim, after_each, price_of, prices_in, bounds_in, cut_in, total_in, on_line, at_end, with_total, claim_in, for_handles, read_of}
+use Rattle.jb_price.specs.Claims.{Claim, after_each, price_in_word, prices_in, bounds_in, cut_in, total_in, on_line, at_end, with_total, claim_in, for_handles, read_of}
 use Rattle.jb_price.specs.ReadBack.{Fits64, PriceFits}
 use Rattle.jb_price.specs.Spelling.{first_line, cut_lines, CutFits, SpellsClaim}
 use Rattle.jb_price.proofs.Each.{each-goes, each-fails, each-end}
@@ -57,7 +57,7 @@ module _ {A : Type 0} (read : List ℕ → Option A) (show : A → List ℕ) (P 
       let are = each-is [] now (words text) reads in
       (sym (spaced-words text) ∙ ap spaced are.shown ∙ ap (λ xs. spaced (map show xs)) (sym are.whole), subst (AllByRecursion P) (sym are.whole) are.fit)
 
-price-shows : (w : List ℕ) (p : Option ℕ) → price_of w ≡ Some p → (w ≡ price_text p) × PriceFits p
+price-shows : (w : List ℕ) (p : Option ℕ) → price_in_word w ≡ Some p → (w ≡ price_text p) × PriceFits p
 price-shows w p is = from (bytes_eq w (codes "none")) (number_of w) refl refl is
   where
     from : (test : Bool) (n : Option ℕ) → bytes_eq w (codes "none") ≡ test → number_of w ≡ n → ◌≡◌ {A = Option (Option ℕ)} (if test then Some None else option_map Some n) (Some p) → (w ≡ price_text p) × PriceFits p
@@ -76,8 +76,8 @@ behind-case (Some text) f x is = (text, refl, is)
 
 pub prices-are : (line : List ℕ) (prices : List (Option ℕ)) → prices_in line ≡ Some prices → (line ≡ first_line prices) × AllByRecursion PriceFits prices
 prices-are line prices is =
-    let found = behind-case (behind_word (codes "prices ") line) (λ text. after_each price_of [] (words text)) prices is in
-    let are = words-is price_of price_text PriceFits price-shows found.0 prices found.2 in
+    let found = behind-case (behind_word (codes "prices ") line) (λ text. after_each price_in_word [] (words text)) prices is in
+    let are = words-is price_in_word price_text PriceFits price-shows found.0 prices found.2 in
     (behind-is (codes "prices ") line found.0 found.1 ∙ ap (λ bs. codes "prices" ++ bs) are.0, are.1)
 
 some-words : (read : List ℕ → Option ℕ) (text : List ℕ) (now : List ℕ) → 32 ∷ text ≡ spaced (map decimal now) → 0 < length now
@@ -149,7 +149,7 @@ abbrev pub behind_cut : List (Option ℕ) → Option (List ℕ) → List (List �
 behind_cut prices bounds more = with_total bounds more >>= λ cut. Ok (record { prices = prices; cut = cut })
 
 abbrev pub behind_prices : List (Option ℕ) → List (List ℕ) → Result Claim CertFault
-behind_prices prices rest = on_line 2 (first_of cut_in rest) >>= λ bounds. behind_cut prices bounds.0 bounds.1
+behind_prices prices rest = on_line 2 (read_first cut_in rest) >>= λ bounds. behind_cut prices bounds.0 bounds.1
 
 bounds-step : (prices : List (Option ℕ)) (line : List ℕ) (more : List (List ℕ)) (claim : Claim) (bounds : Option (Option (List ℕ))) → AllByRecursion PriceFits prices → cut_in line ≡ bounds
     → ◌>>=◌ {A = Option (List ℕ) × List (List ℕ)} (on_line 2 (option_map (λ b. (b, more)) bounds)) (λ found. behind_cut prices found.0 found.1) ≡ Ok claim → SayClaim (first_line prices ∷ line ∷ more) claim

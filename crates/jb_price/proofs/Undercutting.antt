@@ -25,10 +25,6 @@ module _ (c : ℕ → ℕ → ℕ) (limit n : ℕ) (ps : List (Option ℕ)) wher
     λ a above below _. omega arith,
   )
 
-  -- no start has been looked at
-  pub least-start : (end : ℕ) → LeastTo c limit n ps end end None
-  least-start end i above u = let before : i < end = u.before in omega arith
-
   -- one more start: not the least one, where it is not cheaper
   pub least-kept : (from k end cost : ℕ) (least : Option ℕ) → k ≡ from + 1 → LeastTo c limit n ps k end least → cost ≡ c from end → (IsCheaper from end cost → ⊥) → LeastTo c limit n ps from end least
   least-kept from k end cost least next looked is fair = go least looked

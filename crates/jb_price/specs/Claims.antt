@@ -2,7 +2,7 @@
 use Rattle.std.specs.Prelude.{◌≡◌, ℕ, ◌+◌, ◌==◌, if◌then◌else◌, List, [], ◌∷◌, ◌++◌, length, codes, Option, option_map, IsSome, Some, None, Result, Ok, Err}
 use Rattle.std.specs.Option.{option_and_then}
 use Rattle.std.specs.Str.{bytes_eq}
-use Rattle.jb_text.specs.Parts.{◌>>=◌, lines, words, behind_word, first_of, number_of}
+use Rattle.jb_text.specs.Parts.{◌>>=◌, lines, words, behind_word, read_first, number_of}
 use Rattle.jb_price.specs.declared.certificate.Cert.{Cert}
 use Rattle.jb_price.specs.declared.certificate.CertAnswer.{CertAnswer}
 use Rattle.jb_price.specs.declared.certificate.CertAnswer.TheVariants.{Cut, NoCut}
@@ -24,8 +24,8 @@ abbrev pub claim_of : Cert → Claim
 claim_of cert = record { prices = cert.prices.items; cut = cut_of cert.answer }
 
 -- the price that a word gives
-abbrev pub price_of : List ℕ → Option (Option ℕ)
-price_of word = if bytes_eq word (codes "none") then Some None else option_map Some (number_of word)
+abbrev pub price_in_word : List ℕ → Option (Option ℕ)
+price_in_word word = if bytes_eq word (codes "none") then Some None else option_map Some (number_of word)
 
 -- what some words say one by one, after what the words before them said
 unfoldable pub after_each : {A : Type 0} → (List ℕ → Option A) → List A → List (List ℕ) → Option (List A)
@@ -34,7 +34,7 @@ after_each read had (word ∷ more) = option_and_then (λ x. after_each read (ha
 
 -- the line of the prices
 abbrev pub prices_in : List ℕ → Option (List (Option ℕ))
-prices_in line = option_and_then (λ text. after_each price_of [] (words text)) (behind_word (codes "prices ") line)
+prices_in line = option_and_then (λ text. after_each price_in_word [] (words text)) (behind_word (codes "prices ") line)
 
 -- the bounds that a text says, or `none`
 abbrev pub bounds_in : List ℕ → Option (Option (List ℕ))
@@ -62,14 +62,14 @@ at_end at x (line ∷ more) = Err (Syntax at)
 abbrev pub with_total : Option (List ℕ) → List (List ℕ) → Result (Option (List ℕ × ℕ)) CertFault
 with_total None more = at_end 3 None more
 with_total (Some bounds) more = do
-  total ← on_line 3 (first_of total_in more)
+  total ← on_line 3 (read_first total_in more)
   at_end 4 (Some (bounds, total.0)) total.1
 
 -- the claim that lines say
 abbrev pub claim_in : List (List ℕ) → Result Claim CertFault
 claim_in all = do
-  prices ← on_line 1 (first_of prices_in all)
-  bounds ← on_line 2 (first_of cut_in prices.1)
+  prices ← on_line 1 (read_first prices_in all)
+  bounds ← on_line 2 (read_first cut_in prices.1)
   cut ← with_total bounds.0 bounds.1
   Ok (record { prices = prices.0; cut = cut })
 
@@ -85,11 +85,11 @@ read_of handles text = do
 
 -- what the first word of a line of prices says, and the words after it
 abbrev pub first_price : List ℕ → Option (Option ℕ × List (List ℕ))
-first_price line = option_and_then (λ text. first_of price_of (words text)) (behind_word (codes "prices ") line)
+first_price line = option_and_then (λ text. read_first price_in_word (words text)) (behind_word (codes "prices ") line)
 
 -- the first line of a text begins with a price, the first thing that is kept
 abbrev pub BeginsWithPrice : List ℕ → Type 0
-BeginsWithPrice text = IsSome (first_of first_price (lines text))
+BeginsWithPrice text = IsSome (read_first first_price (lines text))
 
 -- a fault is the first one of a text; `Memory` says only that something is kept
 abbrev pub Refuses : {A : Type 0} → Type 0 → Result A CertFault → CertFault → Type 0

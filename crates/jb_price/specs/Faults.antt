@@ -87,5 +87,5 @@ pub record LengthFault (handles : ℕ) (all : List (List ℕ)) : Type 0 where
   pub other : length claim.prices ≡ handles + 1 → ⊥
 
 -- the first fault of a certificate's text for so many handles
-abbrev pub FirstFault : ℕ → List ℕ → CertFault → Type 0
-FirstFault handles text fault = SyntaxFault (lines text) fault ⊎ ((fault ≡ Length) × LengthFault handles (lines text))
+abbrev pub FirstCertFault : ℕ → List ℕ → CertFault → Type 0
+FirstCertFault handles text fault = SyntaxFault (lines text) fault ⊎ ((fault ≡ Length) × LengthFault handles (lines text))

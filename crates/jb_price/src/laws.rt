@@ -5,7 +5,7 @@ ghost use Rattle.jb_price.specs.declared.certificate.Cert.{Cert};
 ghost use Rattle.jb_price.specs.Certificate.{cert_text};
 ghost use Rattle.jb_price.specs.Claims.{Claim, read_of, claim_of};
 ghost use Rattle.jb_price.specs.Spelling.{SpellsClaim};
-ghost use Rattle.jb_price.specs.Faults.{FirstFault};
+ghost use Rattle.jb_price.specs.Faults.{FirstCertFault};
 ghost use Rattle.jb_price.specs.declared.fault.CertFault.{CertFault};
 ghost use Rattle.jb_price.specs.ReadBack.{HasText};
 ghost use Rattle.jb_price.specs.Verdict.{PlannedIsAccepted};
@@ -30,7 +30,7 @@ pub fn spelled()
 /// comes after `cut none`; a fourth line; or, of a text of the form, that there is not one price more than handles.
 pub fn first_fault()
     ensures { (handles : ℕ) (text : List ℕ) (fault : CertFault) → (read_of handles text ≡ Err fault)
-        ↔ FirstFault handles text fault }
+        ↔ FirstCertFault handles text fault }
 {}
 
 /// A least cut, or the answer that none fits, is accepted with prices that are least

@@ -1,6 +1,6 @@
 ghost use Rattle.std.specs.Prelude.{◌≡◌, [], IfOk, OnOk, IfErr, IsSome, Some, None, Ok, option_map};
-ghost use Rattle.jb_text.specs.Parts.{lines, words, first_of, number_of};
-ghost use Rattle.jb_price.specs.Claims.{read_of, claim_of, claim_in, cut_of, price_of as price_of_word};
+ghost use Rattle.jb_text.specs.Parts.{lines, words, read_first, number_of};
+ghost use Rattle.jb_price.specs.Claims.{read_of, claim_of, claim_in, cut_of, price_in_word};
 ghost use Rattle.jb_price.specs.Claims.{prices_in, cut_in, total_in, after_each, on_line};
 ghost use Rattle.jb_price.specs.Claims.{with_total, first_price, BeginsWithPrice, Refuses};
 
@@ -59,10 +59,10 @@ fn read_prices(alloc: Global, line: &[u8]) -> Result<Vec<Option<u64>>, CertFault
 
 /// The prices that words say.
 fn price_list(alloc: Global, text: &[u8]) -> Result<Vec<Option<u64>>, CertFault>
-    ensures ok { IfOk result (λ prices. after_each price_of_word [] (words text.now) ≡ Some prices.items) }
-    ensures begun { OnOk result (IsSome (first_of price_of_word (words text.now))) }
-    ensures err { IfErr result (Refuses (IsSome (first_of price_of_word (words text.now)))
-        (on_line 1 (after_each price_of_word [] (words text.now)))) }
+    ensures ok { IfOk result (λ prices. after_each price_in_word [] (words text.now) ≡ Some prices.items) }
+    ensures begun { OnOk result (IsSome (read_first price_in_word (words text.now))) }
+    ensures err { IfErr result (Refuses (IsSome (read_first price_in_word (words text.now)))
+        (on_line 1 (after_each price_in_word [] (words text.now)))) }
 {
     let mut prices = Vec::new(alloc);
     let mut rest = Some(text);
@@ -81,7 +81,7 @@ fn price_list(alloc: Global, text: &[u8]) -> Result<Vec<Option<u64>>, CertFault>
 
 /// The price that a word says.
 fn price_of(word: &[u8]) -> Option<Option<u64>>
-    ensures { result ≡ price_of_word word.now }
+    ensures { result ≡ price_in_word word.now }
 {
     if word == b"none".as_slice() {
         return Some(None);

@@ -6,7 +6,7 @@ use Rattle.hex.specs.declared.error.FromHexError.{FromHexError}
 use Rattle.jb_queue.specs.declared.fault.Cause.{Cause}
 use Rattle.jb_queue.specs.declared.fault.Cause.TheVariants.{HandleLine, OpWord, DataWord}
 use Rattle.jb_text.specs.Parts.{◌>>=◌, before, onward, number_of}
-use Rattle.jb_queue.specs.Queue.{or_cause, home_named, fitting, data_of, op_of, after_ops}
+use Rattle.jb_queue.specs.Queue.{or_cause, home_named, decoded_block, data_in_word, op_of, after_ops}
 use Rattle.jb_handle.specs.Word.{WordMap}
 use Rattle.jb_handle.specs.declared.word.Word.{Word}
 use Rattle.jb_handle.specs.declared.word.Word.TheVariants.{Copy, Free}
@@ -35,17 +35,17 @@ then-clear : {A B : Type 0} (first : Result A Cause) (next : A → Result B Caus
 then-clear (Ok x) next one each = each x
 then-clear (Err cause) next one each = one
 
-fitting-clear : (size : ℕ) (read : Result (List ℕ) FromHexError) → Clear (fitting size read)
+fitting-clear : (size : ℕ) (read : Result (List ℕ) FromHexError) → Clear (decoded_block size read)
 fitting-clear size (Ok bytes) = if-clear {A = List ℕ} (nat_lt 0 (length bytes) && nat_le (length bytes) size) (Ok (padded size bytes)) (Err DataWord) tt data-word
 fitting-clear size (Err fault) = data-word
 
-data-clear : (size : ℕ) (text : List ℕ) → Clear (data_of size text)
+data-clear : (size : ℕ) (text : List ℕ) → Clear (data_in_word size text)
 data-clear size [] = tt
 data-clear size (equals ∷ digits) = fitting-clear size (decode_of digits)
 
 -- what `w` is followed by
 abbrev written : ℕ → List ℕ → Result (ℕ × Word) Cause
-written size rest = home_named (before 61 rest) >>= (λ home. data_of size (onward 61 rest) >>= (λ bytes. Ok (home, Copy bytes)))
+written size rest = home_named (before 61 rest) >>= (λ home. data_in_word size (onward 61 rest) >>= (λ bytes. Ok (home, Copy bytes)))
 
 -- what `r` is followed by
 abbrev freed : List ℕ → Result (ℕ × Word) Cause
@@ -53,8 +53,8 @@ freed rest = home_named rest >>= (λ home. Ok (home, Free))
 
 written-clear : (size : ℕ) (rest : List ℕ) → Clear (written size rest)
 written-clear size rest =
-    then-clear {A = ℕ} {B = ℕ × Word} (home_named (before 61 rest)) (λ home. data_of size (onward 61 rest) >>= (λ bytes. Ok (home, Copy bytes))) (or-clear {A = ℕ} (number_of (before 61 rest)))
-    (λ home. then-clear {A = List ℕ} {B = ℕ × Word} (data_of size (onward 61 rest)) (λ bytes. Ok (home, Copy bytes)) (data-clear size (onward 61 rest)) (λ bytes. tt))
+    then-clear {A = ℕ} {B = ℕ × Word} (home_named (before 61 rest)) (λ home. data_in_word size (onward 61 rest) >>= (λ bytes. Ok (home, Copy bytes))) (or-clear {A = ℕ} (number_of (before 61 rest)))
+    (λ home. then-clear {A = List ℕ} {B = ℕ × Word} (data_in_word size (onward 61 rest)) (λ bytes. Ok (home, Copy bytes)) (data-clear size (onward 61 rest)) (λ bytes. tt))
 
 freed-clear : (rest : List ℕ) → Clear (freed rest)
 freed-clear rest = then-clear {A = ℕ} {B = ℕ × Word} (home_named rest) (λ home. Ok (home, Free)) (or-clear {A = ℕ} (number_of rest)) (λ home. tt)

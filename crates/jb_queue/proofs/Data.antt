@@ -6,7 +6,7 @@ use Rattle.hex.specs.declared.error.FromHexError.{FromHexError}
 use Rattle.hex.proofs.HexLemmas.{decode_of-ok}
 use Rattle.jb_text.proofs.Splits.{tail-is}
 use Rattle.jb_queue.specs.declared.fault.Cause.TheVariants.{DataWord}
-use Rattle.jb_queue.specs.Queue.{data_of, fitting}
+use Rattle.jb_queue.specs.Queue.{data_in_word, decoded_block}
 
 -- no pair of digits, or more pairs than a block has bytes
 abbrev AreOut : ℕ → ℕ → Type 0
@@ -16,11 +16,11 @@ out-false : (size count digits : ℕ) → digits ≡ 2 * count → AreOut size d
 out-false size count digits twice (inl none) = grind (arith, nat_tests, twice, none)
 out-false size count digits twice (inr more) = grind (arith, nat_tests, twice, more.1)
 
-unfit : (size : ℕ) (digits : List ℕ) (read : Result (List ℕ) FromHexError) → decode_of digits ≡ read → AreOut size (length digits) → fitting size read ≡ Err DataWord
+unfit : (size : ℕ) (digits : List ℕ) (read : Result (List ℕ) FromHexError) → decode_of digits ≡ read → AreOut size (length digits) → decoded_block size read ≡ Err DataWord
 unfit size digits (Err fault) is out = refl
 unfit size digits (Ok bytes) is out = rw (out-false size (length bytes) (length digits) (decode_of-ok digits bytes is).2 out) refl
 
-pub no_data : (size most : ℕ) → size ≡ most → (text : List ℕ) → 1 ≤ length text → AreOut size (length (take (length text - 1) (drop 1 text))) → data_of most text ≡ Err DataWord
+pub no_data : (size most : ℕ) → size ≡ most → (text : List ℕ) → 1 ≤ length text → AreOut size (length (take (length text - 1) (drop 1 text))) → data_in_word most text ≡ Err DataWord
 no_data size most same [] some out = let never : ⊥ = omega arith in absurd never
 no_data size most same (equals ∷ digits) some out =
-    ap (λ n. fitting n (decode_of digits)) (sym same) ∙ unfit size digits (decode_of digits) refl (rw (← ap length (tail-is (equals ∷ digits))) out)
+    ap (λ n. decoded_block n (decode_of digits)) (sym same) ∙ unfit size digits (decode_of digits) refl (rw (← ap length (tail-is (equals ∷ digits))) out)

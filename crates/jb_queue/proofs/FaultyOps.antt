@@ -14,7 +14,7 @@ use Rattle.jb_block.specs.Fields.{padded}
 use Rattle.jb_text.specs.Parts.{◌>>=◌, before, onward, number_of}
 use Rattle.jb_text.proofs.Joins.{before-put, onward-put, decimal-without}
 use Rattle.jb_text.proofs.Splits.{parted}
-use Rattle.jb_queue.specs.Queue.{home_named, or_cause, data_of, fitting, op_of, after_ops}
+use Rattle.jb_queue.specs.Queue.{home_named, or_cause, data_in_word, decoded_block, op_of, after_ops}
 use Rattle.jb_queue.specs.Spelling.{Each, Entry, SpellsOp}
 use Rattle.jb_queue.specs.Faults.{IsNoOp, HasNoData, IsWrongWord, FirstWrongWord}
 use Rattle.jb_queue.proofs.Ops.{ops-goes, ops-fails, ops-end}
@@ -51,7 +51,7 @@ unfitted false block cause is = (refl, cc)
 abbrev NoBytes : ℕ → Result (List ℕ) FromHexError → Type 0
 NoBytes size decoded = (bytes : List ℕ) → decoded ≡ Ok bytes → 0 < length bytes → length bytes ≤ size → ⊥
 
-fitting-fault : (size : ℕ) (decoded : Result (List ℕ) FromHexError) (cause : Cause) → fitting size decoded ≡ Err cause → (cause ≡ DataWord) × NoBytes size decoded
+fitting-fault : (size : ℕ) (decoded : Result (List ℕ) FromHexError) (cause : Cause) → decoded_block size decoded ≡ Err cause → (cause ≡ DataWord) × NoBytes size decoded
 fitting-fault size (Err fault) cause is = (cc, λ bytes never some within. cc)
 fitting-fault size (Ok raw) cause is =
     let both = unfitted (nat_lt 0 (length raw) && nat_le (length raw) size) (padded size raw) cause is in (
@@ -63,7 +63,7 @@ fitting-fault size (Ok raw) cause is =
           cc,
     )
 
-fitting-none : (size : ℕ) (decoded : Result (List ℕ) FromHexError) → NoBytes size decoded → (read : Result (List ℕ) Cause) → fitting size decoded ≡ read → read ≡ Err DataWord
+fitting-none : (size : ℕ) (decoded : Result (List ℕ) FromHexError) → NoBytes size decoded → (read : Result (List ℕ) Cause) → decoded_block size decoded ≡ read → read ≡ Err DataWord
 fitting-none size decoded none (Err cause) is = ap Err (fitting-fault size decoded cause is).0
 fitting-none size (Err fault) none (Ok block) is = cc
 fitting-none size (Ok raw) none (Ok block) is = absurd (never (nat_lt 0 (length raw) && nat_le (length raw) size) refl is)
@@ -73,18 +73,18 @@ fitting-none size (Ok raw) none (Ok block) is = absurd (never (nat_lt 0 (length 
     never true holds gives = none raw refl (grind (arith, nat_tests, holds)) (grind (arith, nat_tests, holds))
 
 -- a `w` word with an `=` after its number is read as the digits after it say
-reads-data : (size home : ℕ) (digits : List ℕ) → home < 2 ^ 64 → op_of size (codes "w" ++ (decimal home ++ (codes "=" ++ digits))) ≡ (fitting size (decode_of digits) >>= λ bytes. Ok (home, Copy bytes))
+reads-data : (size home : ℕ) (digits : List ℕ) → home < 2 ^ 64 → op_of size (codes "w" ++ (decimal home ++ (codes "=" ++ digits))) ≡ (decoded_block size (decode_of digits) >>= λ bytes. Ok (home, Copy bytes))
 reads-data size home digits fits =
     let clear = decimal-without 61 home refl fits in
     rw (before-put 61 (decimal home) digits clear, onward-put 61 (decimal home) digits clear, home-from home fits) refl
 
-data-fault : (size : ℕ) (rest : List ℕ) (home : ℕ) (cause : Cause) → home_named (before 61 rest) ≡ Ok home → data_of size (onward 61 rest) ≡ Err cause → (cause ≡ DataWord) × HasNoData size (119 ∷ rest)
+data-fault : (size : ℕ) (rest : List ℕ) (home : ℕ) (cause : Cause) → home_named (before 61 rest) ≡ Ok home → data_in_word size (onward 61 rest) ≡ Err cause → (cause ≡ DataWord) × HasNoData size (119 ∷ rest)
 data-fault size rest home cause named read =
     let found = home-is (before 61 rest) home named in
     elim (onward-case 61 rest) [
-      | inl none ↦ let never : ◌≡◌ {A = Result (List ℕ) Cause} (Ok (padded size [])) (Err cause) = ap (data_of size) (sym none) ∙ read in cc
+      | inl none ↦ let never : ◌≡◌ {A = Result (List ℕ) Cause} (Ok (padded size [])) (Err cause) = ap (data_in_word size) (sym none) ∙ read in cc
       | inr some ↦
-          let raw = fitting-fault size (decode_of some.0) cause (ap (data_of size) (sym some.1) ∙ read) in (
+          let raw = fitting-fault size (decode_of some.0) cause (ap (data_in_word size) (sym some.1) ∙ read) in (
             raw.0,
             record {
               home = home;
@@ -101,9 +101,9 @@ cause-of : (size : ℕ) (text : List ℕ) (cause : Cause) → op_of size text �
 cause-of size [] cause is = inl cc
 cause-of size (letter ∷ rest) cause is =
     elim (picked-fault (letter == 119) (letter == 114)
-    (home_named (before 61 rest) >>= λ b. data_of size (onward 61 rest) >>= λ bytes. Ok (b, Copy bytes))
+    (home_named (before 61 rest) >>= λ b. data_in_word size (onward 61 rest) >>= λ bytes. Ok (b, Copy bytes))
     (home_named rest >>= λ b. Ok (b, Free)) cause is) [
-      | inl write ↦ elim (write-fault (home_named (before 61 rest)) (data_of size (onward 61 rest)) cause write.1) [
+      | inl write ↦ elim (write-fault (home_named (before 61 rest)) (data_in_word size (onward 61 rest)) cause write.1) [
         | inl none ↦ inl (named-fault (number_of (before 61 rest)) cause none)
         | inr some ↦
             let same : letter ≡ 119 = eqb-true letter 119 write.0 in
@@ -117,7 +117,7 @@ no-op : (size : ℕ) (text : List ℕ) → op_of size text ≡ Err OpWord → Is
 no-op size text is = record {
   zeros = λ home fits same. let never : ◌≡◌ {A = Result Entry Cause} (Ok (home, Copy (padded size []))) (Err OpWord) = sym (zeros-from size home fits) ∙ ap (op_of size) (sym same) ∙ is in cc;
   bytes = λ home digits fits same.
-      let read = fitting-fault size (decode_of digits) OpWord (block-fault home (fitting size (decode_of digits)) OpWord (sym (reads-data size home digits fits) ∙ ap (op_of size) (sym same) ∙ is)) in
+      let read = fitting-fault size (decode_of digits) OpWord (block-fault home (decoded_block size (decode_of digits)) OpWord (sym (reads-data size home digits fits) ∙ ap (op_of size) (sym same) ∙ is)) in
       let never : OpWord ≡ DataWord = read.0 in
       cc;
   free = λ home fits same. let never : ◌≡◌ {A = Result Entry Cause} (Ok (home, Free)) (Err OpWord) = sym (free-from size home fits) ∙ ap (op_of size) (sym same) ∙ is in cc;
@@ -147,7 +147,7 @@ no-op-wrong size text none (Err cause) is = elim (cause-of size text cause is) [
 no-data-wrong : (size : ℕ) (text : List ℕ) → HasNoData size text → op_of size text ≡ Err DataWord
 no-data-wrong size text none =
     ap (op_of size) none.spelled ∙ reads-data size none.home none.digits none.fits
-    ∙ rw (fitting-none size (decode_of none.digits) none.none (fitting size (decode_of none.digits)) refl) refl
+    ∙ rw (fitting-none size (decode_of none.digits) none.none (decoded_block size (decode_of none.digits)) refl) refl
 
 op-wrong : (size : ℕ) (text : List ℕ) (cause : Cause) → IsWrongWord size text cause → op_of size text ≡ Err cause
 op-wrong size text cause wrong = elim wrong [

@@ -7,8 +7,8 @@ use Rattle.jb_block.specs.Size.{bytes_of}
 use Rattle.jb_queue.specs.declared.fault.Cause.TheVariants.{BlockSizeLine, LimitLine}
 use Rattle.jb_queue.specs.declared.fault.QueueFault.{QueueFault}
 use Rattle.jb_handle.specs.declared.stopped.Stopped.{Stopped}
-use Rattle.jb_text.specs.Parts.{◌>>=◌, lines, first_of}
-use Rattle.jb_queue.specs.Queue.{Queue, at_line, or_cause, format_of, limit_of, after_lines, queue_of}
+use Rattle.jb_text.specs.Parts.{◌>>=◌, lines, read_first}
+use Rattle.jb_queue.specs.Queue.{Queue, at_line, or_cause, format_of, limit_in_line, after_lines, queue_of}
 use Rattle.jb_queue.specs.Spelling.{format_line}
 use Rattle.jb_queue.specs.Faults.{HasNoFormat, HasNoLimit, HandleFault, FirstFaultOf, FirstFault}
 use Rattle.jb_queue.proofs.FaultyLines.{lines-fault, lines-wrong}
@@ -16,7 +16,7 @@ use Rattle.jb_queue.proofs.SpelledText.{behind_limit, behind_format, format-is, 
 
 -- the queue of some lines, or their first fault
 abbrev read : List (List ℕ) → Result Queue QueueFault
-read all = at_line 1 (or_cause BlockSizeLine (first_of format_of all)) >>= λ found. behind_format found.0 found.1
+read all = at_line 1 (or_cause BlockSizeLine (read_first format_of all)) >>= λ found. behind_format found.0 found.1
 
 -- a line that gives nothing is none that does
 no-format : (one : List ℕ) (rest : List (List ℕ)) → format_of one ≡ None → HasNoFormat (one ∷ rest)
@@ -25,15 +25,15 @@ no-format one rest none size width more is =
     let never : ◌≡◌ {A = Option (BlockSize × Width)} None (Some (size, width)) = sym none ∙ ap format_of same ∙ format-from size width in
     cc
 
-no-limit : (two : List ℕ) (rest : List (List ℕ)) → limit_of two ≡ None → HasNoLimit (two ∷ rest)
+no-limit : (two : List ℕ) (rest : List (List ℕ)) → limit_in_line two ≡ None → HasNoLimit (two ∷ rest)
 no-limit two rest none limit more least most is =
     let same : two ≡ codes "limit " ++ decimal limit = cc in
-    let never : ◌≡◌ {A = Option ℕ} None (Some limit) = sym none ∙ ap limit_of same ∙ limit-from limit least most in
+    let never : ◌≡◌ {A = Option ℕ} None (Some limit) = sym none ∙ ap limit_in_line same ∙ limit-from limit least most in
     cc
 
 -- the fault at which reading ends
 third : (one two : List ℕ) (more : List (List ℕ)) (format : BlockSize × Width) (limit : ℕ) (fault : QueueFault) (handles : Result (List Stopped) QueueFault)
-    → format_of one ≡ Some format → limit_of two ≡ Some limit → after_lines (bytes_of format.0) [] more ≡ handles
+    → format_of one ≡ Some format → limit_in_line two ≡ Some limit → after_lines (bytes_of format.0) [] more ≡ handles
     → ◌≡◌ {A = Result Queue QueueFault} (handles >>= λ hs. Ok (record { size = format.0; limit = limit; width = format.1; handles = hs })) (Err fault) → HandleFault (one ∷ two ∷ more) fault
 third one two more format limit fault (Ok handles) first second reads is = cc
 third one two more format limit fault (Err other) first second reads is =
@@ -50,7 +50,7 @@ third one two more format limit fault (Err other) first second reads is =
       wrong = lines-fault (bytes_of format.0) [] more fault (reads ∙ ap Err same);
     }
 
-second : (one two : List ℕ) (more : List (List ℕ)) (format : BlockSize × Width) (fault : QueueFault) (limit : Option ℕ) → format_of one ≡ Some format → limit_of two ≡ limit
+second : (one two : List ℕ) (more : List (List ℕ)) (format : BlockSize × Width) (fault : QueueFault) (limit : Option ℕ) → format_of one ≡ Some format → limit_in_line two ≡ limit
     → ◌>>=◌ {A = ℕ × List (List ℕ)} {B = Queue} (at_line 2 (or_cause LimitLine (option_map (λ n. (n, more)) limit))) (λ found. behind_limit format found.0 found.1) ≡ Err fault → FirstFaultOf (one ∷ two ∷ more) fault
 second one two more format fault None first none is =
     let same : ◌≡◌ {A = QueueFault} fault (record { line = 2; cause = LimitLine }) = cc in
@@ -81,7 +81,7 @@ first one [] fault (Some format) found is =
         none = λ limit more least most never. cc;
       },
     ))
-first one (two ∷ more) fault (Some format) found is = second one two more format fault (limit_of two) found refl is
+first one (two ∷ more) fault (Some format) found is = second one two more format fault (limit_in_line two) found refl is
 
 read-fault : (all : List (List ℕ)) (fault : QueueFault) → read all ≡ Err fault → FirstFaultOf all fault
 read-fault [] fault is = let same : ◌≡◌ {A = QueueFault} fault (record { line = 1; cause = BlockSizeLine }) = cc in inl (same, λ size width more never. cc)
@@ -98,9 +98,9 @@ format-wrong (one ∷ rest) none = by (format_of one) refl
 
 limit-wrong : (format : BlockSize × Width) (rest : List (List ℕ)) → HasNoLimit rest → behind_format format rest ≡ Err (record { line = 2; cause = LimitLine })
 limit-wrong format [] none = refl
-limit-wrong format (two ∷ more) none = by (limit_of two) refl
+limit-wrong format (two ∷ more) none = by (limit_in_line two) refl
   where
-    by : (limit : Option ℕ) → limit_of two ≡ limit → behind_format format (two ∷ more) ≡ Err (record { line = 2; cause = LimitLine })
+    by : (limit : Option ℕ) → limit_in_line two ≡ limit → behind_format format (two ∷ more) ≡ Err (record { line = 2; cause = LimitLine })
     by None is = rw is refl
     by (Some limit) is =
         let found = limit-is two limit is in

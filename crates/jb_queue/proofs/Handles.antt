@@ -21,9 +21,6 @@ pub lines-end : (size : ℕ) (had : List Stopped) → after_lines size had [] �
 unfolding after_lines
 lines-end size had = refl
 
-line-of : QueueFault → ℕ
-line-of fault = fault.line
-
 -- a fault of further lines is not before them
 fails-later : (size : ℕ) (had : List Stopped) (line : List ℕ) (more : List (List ℕ)) (other : QueueFault) (h : Result WordMap Cause) → handle_of size line ≡ h → after_lines size had (line ∷ more) ≡ Err other
     → ((had' : List Stopped) → after_lines size had' more ≡ Err other → length had' + 3 ≤ other.line) → length had + 3 ≤ other.line

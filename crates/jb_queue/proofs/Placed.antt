@@ -7,7 +7,7 @@ use Rattle.jb_queue.specs.declared.fault.QueueFault.{QueueFault}
 use Rattle.jb_handle.specs.declared.stopped.Stopped.{Stopped}
 use Rattle.jb_handle.specs.Word.{WordMap}
 use Rattle.jb_queue.specs.Queue.{IsCount, after_lines, handle_of, handles_or_none}
-use Rattle.jb_text.specs.Parts.{first_of}
+use Rattle.jb_text.specs.Parts.{read_first}
 use Rattle.jb_queue.proofs.Weights.{after-first}
 use Rattle.jb_queue.proofs.Handles.{lines-goes, lines-fails, lines-end}
 
@@ -121,13 +121,13 @@ pub count-all : (size : ℕ) (had : List Stopped) (ls : List (List ℕ)) (whole 
 count-all size had ls whole count none so_far is = subst (λ read. IsCount read count) (sym (lines-end size had) ∙ ap (after_lines size had) (sym none) ∙ so_far) is
 
 -- what is left of some lines after the first one, which was read
-first-off : {A : Type 0} (read : List ℕ → Option A) (ls : List (List ℕ)) (x : A) (more : List (List ℕ)) → ◌≡◌ {A = Option (A × List (List ℕ))} (Some (x, more)) (first_of read ls) → more ≡ drop 1 ls
+first-off : {A : Type 0} (read : List ℕ → Option A) (ls : List (List ℕ)) (x : A) (more : List (List ℕ)) → ◌≡◌ {A = Option (A × List (List ℕ))} (Some (x, more)) (read_first read ls) → more ≡ drop 1 ls
 first-off read [] x more is = cc
 first-off read (line ∷ rest) x more is = after-first rest (read line) x more is
 
 -- and after the second one
 pub second-off : {A B : Type 0} (one : List ℕ → Option A) (other : List ℕ → Option B) (ls second third : List (List ℕ)) (x : A) (y : B)
-    → ◌≡◌ {A = Option (A × List (List ℕ))} (Some (x, second)) (first_of one ls) → ◌≡◌ {A = Option (B × List (List ℕ))} (Some (y, third)) (first_of other second) → third ≡ drop 2 ls
+    → ◌≡◌ {A = Option (A × List (List ℕ))} (Some (x, second)) (read_first one ls) → ◌≡◌ {A = Option (B × List (List ℕ))} (Some (y, third)) (read_first other second) → third ≡ drop 2 ls
 second-off one other ls second third x y is also = first-off other second y third also ∙ ap (drop 1) (first-off one ls x second is) ∙ drop-drop 1 1 ls
 
 -- the handles that were counted

@@ -15,7 +15,7 @@ use Rattle.jb_queue.specs.declared.fault.Cause.TheVariants.{OpWord, DataWord}
 use Rattle.jb_handle.specs.declared.word.Word.TheVariants.{Copy, Free}
 use Rattle.jb_block.specs.Fields.{padded}
 use Rattle.jb_text.specs.Parts.{◌>>=◌, before, onward, number_of}
-use Rattle.jb_queue.specs.Queue.{home_named, or_cause, data_of, fitting, op_of}
+use Rattle.jb_queue.specs.Queue.{home_named, or_cause, data_in_word, decoded_block, op_of}
 use Rattle.jb_queue.specs.Spelling.{Entry, SpellsOp}
 use Rattle.jb_text.proofs.Joins.{Without, is_clear, literal-without, without-append, before-put, onward-put, before-whole, onward-none, decimal-without}
 use Rattle.jb_text.proofs.Numerals.{number-is_decimal, decimal-is_number}
@@ -89,27 +89,27 @@ fitted : (test : Bool) (size : ℕ) (raw bytes : List ℕ) → ◌≡◌ {A = Re
 fitted true size raw bytes is = (refl, cc)
 fitted false size raw bytes is = cc
 
-bytes-case : (size : ℕ) (decoded : Result (List ℕ) FromHexError) (bytes : List ℕ) → fitting size decoded ≡ Ok bytes → (raw : List ℕ) × (decoded ≡ Ok raw) × (0 < length raw) × (length raw ≤ size) × (bytes ≡ padded size raw)
+bytes-case : (size : ℕ) (decoded : Result (List ℕ) FromHexError) (bytes : List ℕ) → decoded_block size decoded ≡ Ok bytes → (raw : List ℕ) × (decoded ≡ Ok raw) × (0 < length raw) × (length raw ≤ size) × (bytes ≡ padded size raw)
 bytes-case size (Err fault) bytes is = cc
 bytes-case size (Ok raw) bytes is =
     let both = fitted (nat_lt 0 (length raw) && nat_le (length raw) size) size raw bytes is in
     (raw, refl, grind (arith, nat_tests, both.0), grind (arith, nat_tests, both.0), both.1)
 
 -- a word with no `=` after its number writes zeros, and one with it its bytes
-write-is : (size : ℕ) (rest : List ℕ) (op : Entry) (block : List ℕ) → home_named (before 61 rest) ≡ Ok op.0 → data_of size (onward 61 rest) ≡ Ok block → op.1 ≡ Copy block → SpellsOp size (119 ∷ rest) op
+write-is : (size : ℕ) (rest : List ℕ) (op : Entry) (block : List ℕ) → home_named (before 61 rest) ≡ Ok op.0 → data_in_word size (onward 61 rest) ≡ Ok block → op.1 ≡ Copy block → SpellsOp size (119 ∷ rest) op
 write-is size rest op block home read left =
     let found = home-is (before 61 rest) op.0 home in
     let whole = parted 61 rest in
     elim (onward-case 61 rest) [
       | inl none ↦
-          let zeros : Ok (padded size []) ≡ Ok block = ap (data_of size) (sym none) ∙ read in
+          let zeros : Ok (padded size []) ≡ Ok block = ap (data_in_word size) (sym none) ∙ read in
           let same : padded size [] ≡ block = cc in
           record {
             home = found.1;
             form = inl (ap (λ bs. 119 ∷ bs) (sym whole ∙ ap (λ bs. before 61 rest ++ bs) none ∙ append-nil (before 61 rest) ∙ found.0), left ∙ ap Copy (sym same));
           }
       | inr some ↦
-          let raw = bytes-case size (decode_of some.0) block (ap (data_of size) (sym some.1) ∙ read) in
+          let raw = bytes-case size (decode_of some.0) block (ap (data_in_word size) (sym some.1) ∙ read) in
           record {
             home = found.1;
             form = inr (inl (record {
@@ -128,10 +128,10 @@ pub op-is : (size : ℕ) (text : List ℕ) (op : Entry) → op_of size text ≡ 
 op-is size [] op is = cc
 op-is size (letter ∷ rest) op is =
     elim (picked (letter == 119) (letter == 114)
-    (home_named (before 61 rest) >>= λ b. data_of size (onward 61 rest) >>= λ bytes. Ok (b, Copy bytes))
+    (home_named (before 61 rest) >>= λ b. data_in_word size (onward 61 rest) >>= λ bytes. Ok (b, Copy bytes))
     (home_named rest >>= λ b. Ok (b, Free)) op is) [
       | inl write ↦
-          let parts = write-case (home_named (before 61 rest)) (data_of size (onward 61 rest)) op write.1 in
+          let parts = write-case (home_named (before 61 rest)) (data_in_word size (onward 61 rest)) op write.1 in
           let same : letter ≡ 119 = eqb-true letter 119 write.0 in
           rw same (write-is size rest op parts.1 parts.0 parts.2 parts.3)
       | inr free ↦

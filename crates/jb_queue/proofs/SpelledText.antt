@@ -17,8 +17,8 @@ use Rattle.jb_queue.specs.declared.fault.Cause.{Cause}
 use Rattle.jb_queue.specs.declared.fault.Cause.TheVariants.{BlockSizeLine, LimitLine}
 use Rattle.jb_queue.specs.declared.fault.QueueFault.{QueueFault}
 use Rattle.jb_handle.specs.declared.stopped.Stopped.{Stopped}
-use Rattle.jb_text.specs.Parts.{◌>>=◌, before, onward, lines, spaced, first_of, behind_word, number_of, and_then}
-use Rattle.jb_queue.specs.Queue.{Queue, at_line, both_of, or_cause, where_true, format_behind, format_of, limit_of, size_of_bytes, width_behind, handle_of, after_lines, queue_of}
+use Rattle.jb_text.specs.Parts.{◌>>=◌, before, onward, lines, spaced, read_first, behind_word, number_of, and_then}
+use Rattle.jb_queue.specs.Queue.{Queue, at_line, both_of, or_cause, where_true, format_behind, format_of, limit_in_line, size_of_bytes, width_behind, handle_of, after_lines, queue_of}
 use Rattle.jb_text.specs.Lines.{AreLines}
 use Rattle.jb_queue.specs.Spelling.{width_text, format_line, Each, SpellsHandle, Spells}
 use Rattle.jb_handle.specs.Tickets.{TicketsFrom}
@@ -120,13 +120,13 @@ limit-case (Some m) limit is = from (nat_le 3 m && nat_le m 2147483646) refl is
         let same : m ≡ limit = cc in
         (gives, grind (arith, nat_tests, holds, same), grind (arith, nat_tests, holds, same))
 
-pub limit-is : (line : List ℕ) (limit : ℕ) → limit_of line ≡ Some limit → (line ≡ codes "limit " ++ decimal limit) × (3 ≤ limit) × (limit ≤ 2147483646)
+pub limit-is : (line : List ℕ) (limit : ℕ) → limit_in_line line ≡ Some limit → (line ≡ codes "limit " ++ decimal limit) × (3 ≤ limit) × (limit ≤ 2147483646)
 limit-is line limit is =
     let number = limit-case (option_and_then number_of (behind_word (codes "limit ") line)) limit is in
     let found = number-case (behind_word (codes "limit ") line) limit number.0 in
     (behind-is (codes "limit ") line (decimal limit) found.0, number.1, number.2)
 
-pub limit-from : (limit : ℕ) → 3 ≤ limit → limit ≤ 2147483646 → limit_of (codes "limit " ++ decimal limit) ≡ Some limit
+pub limit-from : (limit : ℕ) → 3 ≤ limit → limit ≤ 2147483646 → limit_in_line (codes "limit " ++ decimal limit) ≡ Some limit
 limit-from limit least most =
     let holds : (nat_le 3 limit && nat_le limit 2147483646) ≡ true = grind (arith, nat_tests, least, most) in
     rw (decimal-is_number limit (omega arith), holds) refl
@@ -175,10 +175,10 @@ abbrev pub behind_limit : BlockSize × Width → ℕ → List (List ℕ) → Res
 behind_limit format limit more = after_lines (bytes_of format.0) [] more >>= λ handles. Ok (record { size = format.0; limit = limit; width = format.1; handles = handles })
 
 abbrev pub behind_format : BlockSize × Width → List (List ℕ) → Result Queue QueueFault
-behind_format format rest = at_line 2 (or_cause LimitLine (first_of limit_of rest)) >>= λ limit. behind_limit format limit.0 limit.1
+behind_format format rest = at_line 2 (or_cause LimitLine (read_first limit_in_line rest)) >>= λ limit. behind_limit format limit.0 limit.1
 
 third : (text : List ℕ) (queue : Queue) (one two : List ℕ) (more : List (List ℕ)) (format : BlockSize × Width) (limit : ℕ) (handles : Result (List Stopped) QueueFault)
-    → lines text ≡ one ∷ two ∷ more → format_of one ≡ Some format → limit_of two ≡ Some limit → after_lines (bytes_of format.0) [] more ≡ handles
+    → lines text ≡ one ∷ two ∷ more → format_of one ≡ Some format → limit_in_line two ≡ Some limit → after_lines (bytes_of format.0) [] more ≡ handles
     → (handles >>= λ hs. Ok (record { size = format.0; limit = limit; width = format.1; handles = hs })) ≡ Ok queue → Spells text queue
 third text queue one two more format limit (Err fault) parts first second reads is = cc
 third text queue one two more format limit (Ok handles) parts first second reads is =
@@ -196,7 +196,7 @@ third text queue one two more format limit (Ok handles) parts first second reads
     })
 
 second : (text : List ℕ) (queue : Queue) (one two : List ℕ) (more : List (List ℕ)) (format : BlockSize × Width) (limit : Option ℕ)
-    → lines text ≡ one ∷ two ∷ more → format_of one ≡ Some format → limit_of two ≡ limit
+    → lines text ≡ one ∷ two ∷ more → format_of one ≡ Some format → limit_in_line two ≡ limit
     → ◌>>=◌ {A = ℕ × List (List ℕ)} (at_line 2 (or_cause LimitLine (option_map (λ n. (n, more)) limit))) (λ found. behind_limit format found.0 found.1) ≡ Ok queue → Spells text queue
 second text queue one two more format None parts first is reads = cc
 second text queue one two more format (Some limit) parts first is reads = third text queue one two more format limit (after_lines (bytes_of format.0) [] more) parts first is refl reads
@@ -206,9 +206,9 @@ first : (text : List ℕ) (queue : Queue) (one : List ℕ) (rest : List (List �
     → ◌>>=◌ {A = (BlockSize × Width) × List (List ℕ)} (at_line 1 (or_cause BlockSizeLine (option_map (λ n. (n, rest)) format))) (λ found. behind_format found.0 found.1) ≡ Ok queue → Spells text queue
 first text queue one rest None parts is reads = cc
 first text queue one [] (Some format) parts is reads = cc
-first text queue one (two ∷ more) (Some format) parts is reads = second text queue one two more format (limit_of two) parts is refl reads
+first text queue one (two ∷ more) (Some format) parts is reads = second text queue one two more format (limit_in_line two) parts is refl reads
 
-by-lines : (text : List ℕ) (queue : Queue) (all : List (List ℕ)) → lines text ≡ all → (at_line 1 (or_cause BlockSizeLine (first_of format_of all)) >>= λ found. behind_format found.0 found.1) ≡ Ok queue → Spells text queue
+by-lines : (text : List ℕ) (queue : Queue) (all : List (List ℕ)) → lines text ≡ all → (at_line 1 (or_cause BlockSizeLine (read_first format_of all)) >>= λ found. behind_format found.0 found.1) ≡ Ok queue → Spells text queue
 by-lines text queue [] parts reads = cc
 by-lines text queue (one ∷ rest) parts reads = first text queue one rest (format_of one) parts refl reads
 
@@ -249,7 +249,7 @@ queue-from text queue spells =
         handle-lines (bytes_of queue.size) spells.handle_lines queue.handles spells.each,
       ),
     ) in
-    ap (λ ls. at_line 1 (or_cause BlockSizeLine (first_of format_of ls)) >>= λ found. behind_format found.0 found.1) parts
+    ap (λ ls. at_line 1 (or_cause BlockSizeLine (read_first format_of ls)) >>= λ found. behind_format found.0 found.1) parts
     ∙ rw (format-from queue.size queue.width, limit-from queue.limit spells.least spells.most, handles-from (bytes_of queue.size) [] spells.handle_lines queue.handles spells.each spells.tickets) refl
 
 pub spelled : (text : List ℕ) (queue : Queue) → (queue_of text ≡ Ok queue) ↔ Spells text queue

@@ -34,13 +34,6 @@ digit-some c v within is small = some-below (hex_digit_value c) v (is ∙ table-
 pub digit-none : (c v : ℕ) → c < 256 → v ≡ get_or VALUES c 0 → 16 ≤ v → None ≡ hex_digit_value c
 digit-none c v within is big = none-above c (hex_digit_value c) v refl (is ∙ table-at c within) big
 
--- a pair of digits, of which one is none, and of which both are
-pub pair-first : (h l i : ℕ) → hex_digit_value h ≡ None → IsErr (pair_value h l i)
-pair-first h l i none = rw none refl
-
-pub pair-second : (h l a i : ℕ) → hex_digit_value h ≡ Some a → hex_digit_value l ≡ None → IsErr (pair_value h l i)
-pair-second h l a i first none = rw (first, none) refl
-
 pub pair-both : (h l a b i : ℕ) → hex_digit_value h ≡ Some a → hex_digit_value l ≡ Some b → pair_value h l i ≡ Ok (a * 16 + b)
 pair-both h l a b i first second = rw (first, second) refl
 

@@ -11,7 +11,7 @@ use Rattle.jb_queue.specs.declared.fault.QueueFault.{QueueFault}
 use Rattle.jb_handle.specs.declared.stopped.Stopped.{Stopped}
 use Rattle.jb_handle.specs.declared.word.Word.{Word}
 use Rattle.jb_text.specs.Parts.{grow, lines, words}
-use Rattle.jb_text.specs.Parts.{first_of}
+use Rattle.jb_text.specs.Parts.{read_first}
 use Rattle.jb_queue.specs.Queue.{op_of, after_ops, handle_of, behind_h, after_lines}
 use Rattle.jb_handle.specs.Size.{weight}
 use Rattle.jb_handle.specs.Word.{WordMap}
@@ -116,7 +116,7 @@ after-first {A = A} rest (Some y) x more is =
     ap (λ (p : A × List (List ℕ)). p.1) pair
 
 -- they are no longer than all
-pub first-total : {A : Type 0} (read : List ℕ → Option A) (pieces : List (List ℕ)) (x : A) (more : List (List ℕ)) → ◌≡◌ {A = Option (A × List (List ℕ))} (Some (x, more)) (first_of read pieces) → total more ≤ total pieces
+pub first-total : {A : Type 0} (read : List ℕ → Option A) (pieces : List (List ℕ)) (x : A) (more : List (List ℕ)) → ◌≡◌ {A = Option (A × List (List ℕ))} (Some (x, more)) (read_first read pieces) → total more ≤ total pieces
 first-total read [] x more is = cc
 first-total read (line ∷ rest) x more is = omega (arith, ap total (after-first rest (read line) x more is))
 

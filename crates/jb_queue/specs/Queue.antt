@@ -17,7 +17,7 @@ use Rattle.jb_handle.specs.declared.stopped.Stopped.{Stopped}
 use Rattle.jb_handle.specs.declared.word.Word.{Word}
 use Rattle.jb_handle.specs.declared.word.Word.TheVariants.{Copy, Free}
 use Rattle.jb_block.specs.Fields.{padded}
-use Rattle.jb_text.specs.Parts.{◌>>=◌, before, onward, lines, words, behind_word, first_of, and_then, number_of}
+use Rattle.jb_text.specs.Parts.{◌>>=◌, before, onward, lines, words, behind_word, read_first, and_then, number_of}
 use Rattle.jb_handle.specs.Word.{WordMap}
 
 -- a value, or the cause of a fault in its place
@@ -39,14 +39,14 @@ abbrev pub home_named : List ℕ → Result ℕ Cause
 home_named digits = or_cause OpWord (number_of digits)
 
 -- a block that begins with decoded bytes: one at least, and no more than a block has
-abbrev pub fitting : ℕ → Result (List ℕ) FromHexError → Result (List ℕ) Cause
-fitting size (Ok bytes) = if nat_lt 0 (length bytes) && nat_le (length bytes) size then Ok (padded size bytes) else Err DataWord
-fitting size (Err fault) = Err DataWord
+abbrev pub decoded_block : ℕ → Result (List ℕ) FromHexError → Result (List ℕ) Cause
+decoded_block size (Ok bytes) = if nat_lt 0 (length bytes) && nat_le (length bytes) size then Ok (padded size bytes) else Err DataWord
+decoded_block size (Err fault) = Err DataWord
 
 -- the block that a word writes, from its `=` on; zeros where there is none
-abbrev pub data_of : ℕ → List ℕ → Result (List ℕ) Cause
-data_of size [] = Ok (padded size [])
-data_of size (equals ∷ digits) = fitting size (decode_of digits)
+abbrev pub data_in_word : ℕ → List ℕ → Result (List ℕ) Cause
+data_in_word size [] = Ok (padded size [])
+data_in_word size (equals ∷ digits) = decoded_block size (decode_of digits)
 
 -- a home block, and the word that is left at it: after a `w` (119) a copy, with its bytes from `=` (61) on, and
 -- after an `r` (114) the block is free
@@ -55,7 +55,7 @@ op_of size [] = Err OpWord
 op_of size (letter ∷ rest) =
     if letter == 119 then (do
       home ← home_named (before 61 rest)
-      bytes ← data_of size (onward 61 rest)
+      bytes ← data_in_word size (onward 61 rest)
       Ok (home, Copy bytes))
     else if letter == 114 then (do
       home ← home_named rest
@@ -93,8 +93,8 @@ handles_or_none (Ok handles) = handles
 handles_or_none (Err fault) = []
 
 -- the handles of a queue text, whose first is on its third line
-abbrev pub handles_in : ℕ → List ℕ → List Stopped
-handles_in size text = handles_or_none (after_lines size [] (drop 2 (lines text)))
+abbrev pub handles_of_text : ℕ → List ℕ → List Stopped
+handles_of_text size text = handles_or_none (after_lines size [] (drop 2 (lines text)))
 
 -- there are handles, so many
 abbrev pub IsCount : Result (List Stopped) QueueFault → ℕ → Type 0
@@ -106,8 +106,8 @@ abbrev pub size_of_bytes : ℕ → Option BlockSize
 size_of_bytes n = if n == 1024 then Some OneKib else if n == 2048 then Some TwoKib else if n == 4096 then Some FourKib else None
 
 -- the number after a word that a line begins with
-abbrev pub number_behind : List ℕ → List ℕ → Option ℕ
-number_behind word line = option_and_then number_of (behind_word word line)
+abbrev pub number_behind_word : List ℕ → List ℕ → Option ℕ
+number_behind_word word line = option_and_then number_of (behind_word word line)
 
 -- the width after a block size: 32 bits where nothing follows
 abbrev pub width_behind : List ℕ → Option Width
@@ -129,8 +129,8 @@ abbrev pub format_of : List ℕ → Option (BlockSize × Width)
 format_of line = option_and_then format_behind (behind_word (codes "bs ") line)
 
 -- the limit that a line gives: the most log blocks that a group may take
-abbrev pub limit_of : List ℕ → Option ℕ
-limit_of line = and_then (number_behind (codes "limit ") line) (λ limit. where_true (nat_le 3 limit && nat_le limit 2147483646) limit)
+abbrev pub limit_in_line : List ℕ → Option ℕ
+limit_in_line line = and_then (number_behind_word (codes "limit ") line) (λ limit. where_true (nat_le 3 limit && nat_le limit 2147483646) limit)
 
 -- a queue as a value
 pub record Queue : Type 0 where
@@ -142,8 +142,8 @@ pub record Queue : Type 0 where
 -- the queue that a text says, or its first fault
 abbrev pub queue_of : List ℕ → Result Queue QueueFault
 queue_of text = do
-  format ← at_line 1 (or_cause BlockSizeLine (first_of format_of (lines text)))
-  limit ← at_line 2 (or_cause LimitLine (first_of limit_of format.1))
+  format ← at_line 1 (or_cause BlockSizeLine (read_first format_of (lines text)))
+  limit ← at_line 2 (or_cause LimitLine (read_first limit_in_line format.1))
   handles ← after_lines (bytes_of format.0.0) [] limit.1
   Ok (record { size = format.0.0; limit = limit.0; width = format.0.1; handles = handles })
 
@@ -188,8 +188,8 @@ pub record MayGrowAt (text : List ℕ) (at : ℕ) : Type 0 where
   pub limit : ℕ
   pub second : List (List ℕ)
   pub third : List (List ℕ)
-  pub formatted : first_of format_of (lines text) ≡ Some (format, second)
-  pub limited : first_of limit_of second ≡ Some (limit, third)
+  pub formatted : read_first format_of (lines text) ≡ Some (format, second)
+  pub limited : read_first limit_in_line second ≡ Some (limit, third)
   pub grows : MayGrow (bytes_of format.0) third at
 
 -- a fault is the first one of a text; `Memory` at a line says that no line before it has a fault

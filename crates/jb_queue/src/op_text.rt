@@ -4,7 +4,7 @@ ghost use Rattle.std.specs.Prelude.{◌≡◌, ◌<◌, ◌≤◌, ◌/◌, leng
 ghost use Rattle.hex.specs.Hex.{decode_of};
 ghost use Rattle.jb_block.specs.Size.{bytes_of};
 ghost use Rattle.jb_queue.specs.declared.fault.Cause.TheVariants.{Memory as OutOfMemory};
-ghost use Rattle.jb_queue.specs.Queue.{Gives, home_named, data_of, fitting, op_of};
+ghost use Rattle.jb_queue.specs.Queue.{Gives, home_named, data_in_word, decoded_block, op_of};
 
 use crate::digits::decode;
 use crate::fault::Cause;
@@ -46,8 +46,8 @@ fn read_home(digits: &[u8]) -> Result<u64, Cause>
 
 /// The block that the part of a word from its `=` on writes; zeros where the word has none.
 fn read_payload(alloc: Global, text: &[u8], bs: BlockSize) -> Result<Payload, Cause>
-    ensures gives { Gives result (data_of (bytes_of bs) text.now) }
-    ensures judged { result ≡ Err OutOfMemory → IsOk (data_of (bytes_of bs) text.now) }
+    ensures gives { Gives result (data_in_word (bytes_of bs) text.now) }
+    ensures judged { result ≡ Err OutOfMemory → IsOk (data_in_word (bytes_of bs) text.now) }
 {
     let size = bs.bytes() as usize;
     let [_, digits @ ..] = text else {
@@ -72,8 +72,8 @@ fn read_digits(
     requires some { 0 < length front.old }
     requires within { length front.old ≤ size }
     requires half { length digits.now / 2 ≡ length front.old }
-    ensures gives { Gives result (fitting size (decode_of digits.now)) }
-    ensures judged { result ≡ Err OutOfMemory → IsOk (fitting size (decode_of digits.now)) }
+    ensures gives { Gives result (decoded_block size (decode_of digits.now)) }
+    ensures judged { result ≡ Err OutOfMemory → IsOk (decoded_block size (decode_of digits.now)) }
 {
     if !decode(digits, front) {
         return Err(Cause::DataWord);

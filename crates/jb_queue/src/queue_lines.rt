@@ -6,7 +6,7 @@ ghost use Rattle.jb_queue.specs.declared.fault.Cause.TheVariants.{Memory as OutO
 ghost use Rattle.std.specs.FinMap as map;
 ghost use Rattle.jb_text.specs.Parts.{lines, words};
 ghost use Rattle.jb_queue.specs.Queue.{BeginsHandle, FirstReads, JudgesText, Reports, IsCount, MayGrow};
-ghost use Rattle.jb_queue.specs.Queue.{after_lines, after_ops, handle_of, handles_in};
+ghost use Rattle.jb_queue.specs.Queue.{after_lines, after_ops, handle_of, handles_of_text};
 
 use crate::fault::{Cause, QueueFault};
 use crate::op_text::read_op;
@@ -31,13 +31,13 @@ pub struct QueueLines {
     /// How many handles it lists.
     pub(crate) count: usize,
     ghost reads: { IsOk (after_lines (bytes_of bs) [] (drop 2 (lines text.items))) },
-    ghost counted: { count ≡ length (handles_in (bytes_of bs) text.items) },
+    ghost counted: { count ≡ length (handles_of_text (bytes_of bs) text.items) },
     ghost few: { count ≤ length text.items },
 }
 
 impl QueueLines {
     ghost use Rattle.std.specs.Prelude.{IsTrue, ◌↔◌, ◌<◌, ◌^◌};
-    ghost use Rattle.jb_queue.specs.QueueLines.{handles_of, IsPlaced};
+    ghost use Rattle.jb_queue.specs.QueueLines.{handles_of, StandsAfter};
 
     /// How many handles there are.
     #[tactic(auto, unfolding(crate::specs::QueueLines::handles_of))]
@@ -59,7 +59,7 @@ impl QueueLines {
     /// A reader that stands at the first handle.
     #[tactic(auto, unfolding(crate::specs::QueueLines::handles_of))]
     pub fn reader(&self) -> HandleReader<'_>
-        ensures { IsPlaced result (handles_of self.now) 0 }
+        ensures { StandsAfter result (handles_of self.now) 0 }
     {
         HandleReader {
             bs: self.bs,
@@ -79,7 +79,7 @@ pub struct HandleReader<'a> {
 impl HandleReader<'_> {
     ghost use Rattle.std.specs.Prelude.{ℕ, List};
     ghost use Rattle.jb_handle.specs.declared.stopped.Stopped.{Stopped as StoppedValue};
-    ghost use Rattle.jb_queue.specs.QueueLines.{HasRead, IsPlaced};
+    ghost use Rattle.jb_queue.specs.QueueLines.{HasRead, StandsAfter};
 
     /// Passes over so many handles, and reads the words of the next one; `None` where none is left. The reader then
     /// stands after it. What is passed over takes no memory.
@@ -88,7 +88,7 @@ impl HandleReader<'_> {
     ///
     /// `Memory` where there is none for the words of the handle; the reader stands after it then, too.
     pub fn read(&mut self, alloc: Global, passed: usize) -> Result<Option<Words>, Memory>
-        ensures { (all : List StoppedValue) (at : ℕ) → IsPlaced self.old all at
+        ensures { (all : List StoppedValue) (at : ℕ) → StandsAfter self.old all at
             → HasRead all (at + passed) self.new result }
     {
         self.rest = pass_lines(self.rest, passed);

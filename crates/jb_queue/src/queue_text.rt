@@ -5,13 +5,13 @@ ghost use Rattle.std.specs.FinMap as map;
 ghost use Rattle.std.specs.Option.{option_and_then};
 ghost use Rattle.jb_block.specs.Size.{bytes_of};
 ghost use Rattle.jb_queue.specs.declared.fault.Cause.TheVariants.{Memory as OutOfMemory};
-ghost use Rattle.jb_text.specs.Parts.{first_of, lines, number_of, words};
+ghost use Rattle.jb_text.specs.Parts.{read_first, lines, number_of, words};
 ghost use Rattle.jb_handle.specs.Size.{weight};
 ghost use Rattle.jb_queue.specs.QueueText.{value_of};
 ghost use Rattle.jb_queue.specs.QueueLines.{handles_of, queue_in};
 ghost use Rattle.jb_queue.specs.Queue.{Gives, Reports, BeginsHandle, FirstReads, MayGrow};
 ghost use Rattle.jb_queue.specs.Queue.{MayGrowAt, after_ops, handle_of, queue_of, after_lines};
-ghost use Rattle.jb_queue.specs.Queue.{format_behind, format_of, limit_of, size_of_bytes, width_behind};
+ghost use Rattle.jb_queue.specs.Queue.{format_behind, format_of, limit_in_line, size_of_bytes, width_behind};
 
 use crate::fault::{Cause, QueueFault};
 use crate::op_text::read_op;
@@ -107,7 +107,7 @@ pub fn read_lines(alloc: Global, text: Vec<u8>) -> Result<QueueLines, QueueFault
 
 /// The block size and the width on the first line of a text, and the text after that line.
 fn first_format(text: &[u8]) -> Option<((BlockSize, Width), &[u8])>
-    ensures { option_map (λ p. (p.0, lines p.1.now)) result ≡ first_of format_of (lines text.now) }
+    ensures { option_map (λ p. (p.0, lines p.1.now)) result ≡ read_first format_of (lines text.now) }
 {
     let (line, rest) = next_line(text)?;
     Some((read_format(line)?, rest))
@@ -115,7 +115,7 @@ fn first_format(text: &[u8]) -> Option<((BlockSize, Width), &[u8])>
 
 /// The limit on the first line of a text, and the text after that line.
 fn first_limit(text: &[u8]) -> Option<(u32, &[u8])>
-    ensures { option_map (λ p. (p.0, lines p.1.now)) result ≡ first_of limit_of (lines text.now) }
+    ensures { option_map (λ p. (p.0, lines p.1.now)) result ≡ read_first limit_in_line (lines text.now) }
 {
     let (line, rest) = next_line(text)?;
     Some((read_limit(line)?, rest))
@@ -161,7 +161,7 @@ fn read_size(digits: &[u8]) -> Option<BlockSize>
 
 /// The limit that a line gives.
 fn read_limit(line: &[u8]) -> Option<u32>
-    ensures { result ≡ limit_of line.now }
+    ensures { result ≡ limit_in_line line.now }
 {
     match number(line.strip_prefix(b"limit ")?)? {
         limit @ 3..=2147483646 => Some(limit as u32),

@@ -5,7 +5,7 @@ use Rattle.std.specs.Str.{bytes_eq}
 use Rattle.std.proofs.lemmas.Bool.{cases_eq}
 use Rattle.std.proofs.lemmas.List.{take-append-drop}
 use Rattle.std.proofs.lemmas.Slice.Eq.{bytes_eq-Decides}
-use Rattle.jb_text.specs.Lines.{ended, joined, AreLines}
+use Rattle.jb_text.specs.Lines.{ended, joined_lines, AreLines}
 use Rattle.jb_text.specs.Parts.{lines, words, grow, spaced, behind_word}
 use Rattle.jb_text.proofs.Joins.{Without, lines-put, lines-one}
 use Rattle.jb_text.proofs.Splits.{lines-nil, lines-feed, lines-goes, words-nil, words-space, words-goes}
@@ -52,11 +52,11 @@ ended-lines : (all : List (List ℕ)) → AllByRecursion IsLine all → lines (e
 ended-lines [] are = lines-nil
 ended-lines (line ∷ more) are = lines-put line (ended more) are.0.1 ∙ ap (λ ls. line ∷ ls) (ended-lines more are.1)
 
-joined-lines : (all : List (List ℕ)) → AllByRecursion IsLine all → lines (joined all) ≡ all
+joined-lines : (all : List (List ℕ)) → AllByRecursion IsLine all → lines (joined_lines all) ≡ all
 joined-lines [] are = lines-nil
 joined-lines ([] ∷ []) are = let never : ⊥ = omega (arith, are.0.0) in absurd never
 joined-lines ((b ∷ line) ∷ []) are = lines-one b line are.0.1
-joined-lines (line ∷ next ∷ more) are = lines-put line (joined (next ∷ more)) are.0.1 ∙ ap (λ ls. line ∷ ls) (joined-lines (next ∷ more) are.1)
+joined-lines (line ∷ next ∷ more) are = lines-put line (joined_lines (next ∷ more)) are.0.1 ∙ ap (λ ls. line ∷ ls) (joined-lines (next ∷ more) are.1)
 
 pub are-lines : (all : List (List ℕ)) (text : List ℕ) → AreLines all text → AllByRecursion IsLine all → lines text ≡ all
 are-lines all text (inl whole) are = ap lines whole ∙ ended-lines all are

@@ -7,11 +7,11 @@ ended [] = []
 ended (line ∷ more) = line ++ 10 ∷ ended more
 
 -- lines with an LF between each two
-abbrev pub joined : List (List ℕ) → List ℕ
-joined [] = []
-joined (line ∷ []) = line
-joined (line ∷ next ∷ more) = line ++ 10 ∷ joined (next ∷ more)
+abbrev pub joined_lines : List (List ℕ) → List ℕ
+joined_lines [] = []
+joined_lines (line ∷ []) = line
+joined_lines (line ∷ next ∷ more) = line ++ 10 ∷ joined_lines (next ∷ more)
 
 -- lines make a text, whose last LF may be missing
 abbrev pub AreLines : List (List ℕ) → List ℕ → Type 0
-AreLines all text = (text ≡ ended all) ⊎ (text ≡ joined all)
+AreLines all text = (text ≡ ended all) ⊎ (text ≡ joined_lines all)

@@ -55,9 +55,9 @@ abbrev pub behind_word : List ℕ → List ℕ → Option (List ℕ)
 behind_word word line = if bytes_eq (take (length word) line) word then Some (drop (length word) line) else None
 
 -- what the first of some lines gives, and the lines after it
-abbrev pub first_of : {A : Type 0} → (List ℕ → Option A) → List (List ℕ) → Option (A × List (List ℕ))
-first_of read [] = None
-first_of read (line ∷ more) = option_map (λ x. (x, more)) (read line)
+abbrev pub read_first : {A : Type 0} → (List ℕ → Option A) → List (List ℕ) → Option (A × List (List ℕ))
+read_first read [] = None
+read_first read (line ∷ more) = option_map (λ x. (x, more)) (read line)
 
 -- a number of at most 64 bits with one more digit after it
 abbrev pub with_digit : ℕ → ℕ → Option ℕ

@@ -6,7 +6,7 @@ use Rattle.jb_handle.specs.declared.shape.Shape.{Shape}
 use Rattle.jb_deck.specs.Deck.{OpenDeck, IsShapeOf}
 use Rattle.jb_deck.specs.Opening.{CountsOpen, IsNew, Opens, RefusesOpen, disk_in}
 use Rattle.jb_deck.specs.declared.fault.OpenFault.{OpenFault}
-use Rattle.jb_tool.specs.Loads.{IsOpened, NotOpened}
+use Rattle.jb_book.specs.Opened.{NotOpened, WasOpened}
 
 module _ {D : Type 0} (G : Ghosts D) (disk : D) where
   abbrev Answer : Type 0
@@ -16,7 +16,7 @@ module _ {D : Type 0} (G : Ghosts D) (disk : D) where
   AnswersOpen r = MatchResult r (λ deck. Opens (G.size disk) (G.count disk) (G.newest disk) (G.newest deck.disk) deck.log) (λ refused. RefusesOpen (G.size disk) (G.count disk) (G.newest disk) (G.newest refused.0) refused.1)
 
   pub opened-as : (r : Answer) → KeptOn G (CountsOpen r) disk (disk_in r) → (G.honest (disk_in r) → AnswersOpen r)
-      → IfOk r (λ deck. (shape : Shape) → IsShapeOf deck.log.sb (G.count deck.disk) shape → IsOpened G disk shape)
+      → IfOk r (λ deck. (shape : Shape) → IsShapeOf deck.log.sb (G.count deck.disk) shape → WasOpened G disk shape)
   opened-as (Ok deck) kept answers = λ shape journal. record { deck = deck; kept = kept; opens = answers; journal = journal }
   opened-as (Err refused) kept answers = tt
 

@@ -12,20 +12,10 @@ use Rattle.jb_handle.specs.declared.changes.TouchFault.TheVariants as touch
 use Rattle.jb_handle.specs.declared.shape.Shape.{Shape}
 use Rattle.jb_handle.specs.declared.word.Word.{Word}
 use Rattle.jb_handle.specs.declared.word.Word.TheVariants.{Copy, Free}
-use Rattle.jb_desk.specs.Refusals.{IsTooMany}
 use Rattle.jb_book.specs.declared.fault.BeginFault.{BeginFault}
 use Rattle.jb_book.specs.declared.fault.BeginFault.TheVariants as begin
-use Rattle.jb_tool.specs.Faults.{not_begun, not_touched}
+use Rattle.jb_tool.specs.Faults.{not_touched}
 use Rattle.jb_tool.specs.Refusing.{IsMisfit, IsRefusedFor}
-
--- why the desk does not begin a handle that is to have a credit for each of its words, or fewer
-pub not-begun : (shape : Shape) (words : WordMap) (credits : ℕ) (fault : BeginFault) → credits ≤ map.len words → IsTooMany credits fault → IsRefusedFor shape words (not_begun fault)
-not-begun shape words credits begin.Aborted few is = tt
-not-begun shape words credits begin.Closed few is = tt
-not-begun shape words credits begin.Busy few is = tt
-not-begun shape words credits (begin.TooManyCredits most) few is = omega (arith, few, is)
-not-begun shape words credits (begin.Full reserved) few is = tt
-not-begun shape words credits begin.Memory few is = tt
 
 -- one word more is at most one home more
 pub few-more : (words : WordMap) (home n : ℕ) (word : Word) → map.len words ≤ n → map.len (map.insert words home word) ≤ n + 1

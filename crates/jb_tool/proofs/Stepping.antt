@@ -1,5 +1,5 @@
 -- One handle more of a worker.
-use Rattle.std.proofs.Common.{◌≡◌, ℕ, suc, ◌+◌, ◌*◌, ◌<◌, ◌≤◌, List, [], ◌∷◌, ◌++◌, length, get_or, Result, Ok, Err, IfOk, IfErr, Some, None, sym, ap, subst, ◌∙◌, arith}
+use Rattle.std.proofs.Common.{◌≡◌, ℕ, suc, ◌+◌, ◌*◌, ◌<◌, ◌≤◌, List, [], ◌∷◌, ◌++◌, length, get_or, Some, None, sym, ap, subst, ◌∙◌, arith}
 use Rattle.std.specs.FinMap as map
 use Rattle.std.proofs.Math.Nat.{mul-suc}
 use Rattle.std.proofs.lemmas.List.{length-append, get_or_default}
@@ -7,7 +7,7 @@ use Rattle.std.proofs.lemmas.List.Sums.{sum_by_push}
 use Rattle.jb_handle.specs.Word.{WordMap}
 use Rattle.jb_handle.specs.declared.shape.Shape.{Shape}
 use Rattle.jb_handle.specs.declared.stopped.Stopped.{Stopped}
-use Rattle.jb_tool.specs.Runs.{IsRun, StepsBy, handle_at, touched_by}
+use Rattle.jb_tool.specs.Runs.{IsRun, StepsBy, queued_at, touched_by}
 use Rattle.jb_tool.specs.Refusing.{IsRefusedFor}
 use Rattle.jb_tool.specs.declared.loading.fault.HandleFault.{HandleFault}
 
@@ -18,13 +18,13 @@ length-more xs x = let both = length-append xs (x ∷ []) in omega (arith, both)
 pub place-more : (step from : ℕ) (ss : List (ℕ × WordMap)) (s : ℕ × WordMap) → from + step * length (ss ++ s ∷ []) ≡ from + step * length ss + step
 place-more step from ss s = let one = ap (λ n. step * n) (length-more ss s) ∙ mul-suc step (length ss) in omega (arith, one)
 
-pub steps-more : (queue : List Stopped) (step from : ℕ) (ss : List (ℕ × WordMap)) (s : ℕ × WordMap) → StepsBy queue step from ss → from + step * length ss < length queue → s.1 ≡ (handle_at queue (from + step * length ss)).words → StepsBy queue step from (ss ++ s ∷ [])
+pub steps-more : (queue : List Stopped) (step from : ℕ) (ss : List (ℕ × WordMap)) (s : ℕ × WordMap) → StepsBy queue step from ss → from + step * length ss < length queue → s.1 ≡ (queued_at queue (from + step * length ss)).words → StepsBy queue step from (ss ++ s ∷ [])
 steps-more queue step from [] s steps there is =
     let none : from + step * 0 ≡ from = (let z = mul-suc step 0 in omega (arith, z)) in
-    (omega (arith, there, none), is ∙ ap (λ n. (handle_at queue n).words) none, tt)
+    (omega (arith, there, none), is ∙ ap (λ n. (queued_at queue n).words) none, tt)
 steps-more queue step from (x ∷ xs) s steps there is =
     let one : from + step * suc (length xs) ≡ from + step + step * length xs = (let m = mul-suc step (length xs) in omega (arith, m)) in
-    (steps.0, steps.1, steps-more queue step (from + step) xs s steps.2 (omega (arith, there, one)) (is ∙ ap (λ n. (handle_at queue n).words) one))
+    (steps.0, steps.1, steps-more queue step (from + step) xs s steps.2 (omega (arith, there, one)) (is ∙ ap (λ n. (queued_at queue n).words) one))
 
 -- what a worker's loop keeps: the first handles have stopped, up to the next one
 pub record Stepped (queue : List Stopped) (step at next : ℕ) (ss : List (ℕ × WordMap)) : Type 0 where
@@ -37,11 +37,11 @@ stepped-none queue step at ss none = subst (Stepped queue step at at) (sym none)
 
 pub stepped-more : (queue : List Stopped) (step at next : ℕ) (ss ts : List (ℕ × WordMap)) (s : ℕ × WordMap) (h : Stopped) → s.1 ≡ (get_or queue next h).words → next < length queue → ts ≡ ss ++ s ∷ [] → Stepped queue step at next ss → Stepped queue step at (next + step) ts
 stepped-more queue step at next ss ts s h is there more so_far =
-    let here : get_or queue next h ≡ handle_at queue next = get_or_default queue next h (record { ticket = 0; words = map.empty }) there in
+    let here : get_or queue next h ≡ queued_at queue next = get_or_default queue next h (record { ticket = 0; words = map.empty }) there in
     subst (Stepped queue step at (next + step)) (sym more) (
     record {
       place = omega (arith, so_far.place, place-more step at ss s);
-      steps = steps-more queue step at ss s so_far.steps (omega (arith, there, so_far.place)) (is ∙ ap (λ (x : Stopped). x.words) here ∙ ap (λ n. (handle_at queue n).words) so_far.place);
+      steps = steps-more queue step at ss s so_far.steps (omega (arith, there, so_far.place)) (is ∙ ap (λ (x : Stopped). x.words) here ∙ ap (λ n. (queued_at queue n).words) so_far.place);
     })
 
 -- the blocks that one handle more touches
@@ -50,14 +50,6 @@ touched-more ss ts s n m more before one =
     let pushed = sum_by_push (λ (x : ℕ × WordMap). map.len x.1) ss s in
     let all = ap touched_by more in
     omega (arith, pushed, all, before, one)
-
--- what holds of each success holds of this one
-pub of-ok : {T E : Type 0} (P : T → Type 0) (r : Result T E) (x : T) → r ≡ Ok x → IfOk r P → P x
-of-ok {T} {E} P r x is holds = subst (λ (s : Result T E). IfOk s P) is holds
-
--- what holds of each fault holds of this one
-pub of-err : {T E : Type 0} (P : E → Type 0) (r : Result T E) (e : E) → r ≡ Err e → IfErr r P → P e
-of-err {T} {E} P r e is holds = subst (λ (s : Result T E). IfErr s P) is holds
 
 module _ (shape : Shape) (queue : List Stopped) (step at next : ℕ) (ss : List (ℕ × WordMap)) (stepped : Stepped queue step at next ss) where
   -- no handle is left

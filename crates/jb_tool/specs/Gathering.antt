@@ -9,15 +9,15 @@ earlier_if true one other = other
 earlier_if false one other = one
 
 -- the one of two refused handles that is earlier in the queue
-abbrev pub earlier_of : Option Refused → Option Refused → Option Refused
-earlier_of None other = other
-earlier_of (Some one) None = Some one
-earlier_of (Some one) (Some other) = Some (earlier_if (nat_lt other.handle one.handle) one other)
+abbrev pub earlier_refused : Option Refused → Option Refused → Option Refused
+earlier_refused None other = other
+earlier_refused (Some one) None = Some one
+earlier_refused (Some one) (Some other) = Some (earlier_if (nat_lt other.handle one.handle) one other)
 
 -- after those of the first workers: the handle that is refused and earliest in the queue
 abbrev pub first_after : Option Refused → List Run → Option Refused
 first_after had [] = had
-first_after had (run ∷ runs) = first_after (earlier_of had run.refused) runs
+first_after had (run ∷ runs) = first_after (earlier_refused had run.refused) runs
 
 -- the refused handle that is earliest in the queue
 abbrev pub first_refused : List Run → Option Refused

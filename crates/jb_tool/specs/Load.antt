@@ -1,5 +1,5 @@
 -- How `jb load` ends over files.
-use Rattle.std.specs.Prelude.{◌≡◌, ◌⊎◌, ◌≤◌, ℕ, ⊤, List, [], Option, None, Result, Ok, Err, Some}
+use Rattle.std.specs.Prelude.{◌≡◌, ◌⊎◌, ◌≤◌, ℕ, List, Option, None, Result, Ok, Err, Some}
 use Rattle.jb_args.specs.declared.hint.Hint.{Hint}
 use Rattle.jb_args.specs.declared.option_name.OptionName.TheVariants.{Threads}
 use Rattle.jb_commands.specs.Faulty.{queue_fault}
@@ -26,7 +26,7 @@ use Rattle.jb_tool.specs.declared.loading.options.LoadOptions.{LoadOptions}
 use Rattle.jb_queue.specs.Queue.{Queue, queue_of}
 use Rattle.jb_queue.specs.declared.fault.QueueFault.{QueueFault}
 use Rattle.jb_args.specs.Wanted.{Loading}
-use Rattle.jb_commands.specs.Files.{IsOpened, IsShut}
+use Rattle.jb_commands.specs.Files.{IsImageOpened, IsShut}
 use Rattle.jb_commands.specs.Lines.{names_with}
 use Rattle.jb_commands.specs.Runs.{Closes}
 use Rattle.jb_commands.specs.Said.{Outputs, Tells}
@@ -43,7 +43,7 @@ abbrev pub HasThreads : Loading → Type 0
 HasThreads load = (1 ≤ load.threads) × (load.threads ≤ 64)
 
 -- the options that were asked for
-pub record IsAskedBy (load : Loading) (options : LoadOptions) : Type 0 where
+pub record AreOptionsOf (load : Loading) (options : LoadOptions) : Type 0 where
   pub threads : options.threads ≡ load.threads
   pub hold : options.hold ≡ load.hold
   pub checkpoint : options.checkpoint ≡ load.checkpoint
@@ -64,14 +64,14 @@ load_fault loading.Memory = Memory
 load_fault loading.Accounts = Accounts
 
 -- how a command ends by what the telling of a load answers, and with this hint
-abbrev pub end_by : Option Hint → Result ℕ WriteFault → Result Ended CommandFault
-end_by hint (Ok status) = Ok (record { status = status; hint = hint })
-end_by hint (Err fault) = Err CommandWriteFault
+abbrev pub end_with_hint : Option Hint → Result ℕ WriteFault → Result Ended CommandFault
+end_with_hint hint (Ok status) = Ok (record { status = status; hint = hint })
+end_with_hint hint (Err fault) = Err CommandWriteFault
 
 -- what a load has to say is told: its lines, or the line of its text's first fault
 abbrev pub TellsLoadReport : LoadReport → Outputs → Outputs → Result Ended CommandFault → Type 0
 TellsLoadReport (ReportsLoaded loaded homes) old new end =
-    (told : Result ℕ WriteFault) × (end ≡ end_by (load_hint homes loaded) told) × TellsLoad loaded old.out new.out old.err new.err told
+    (told : Result ℕ WriteFault) × (end ≡ end_with_hint (load_hint homes loaded) told) × TellsLoad loaded old.out new.out old.err new.err told
 TellsLoadReport (ReportsText answer) old new end = Tells (said answer) old new end
 
 -- what a load ended with is told, or it ended with a fault, and then nothing is written
@@ -123,18 +123,18 @@ module _ {S T : Type 0} {start : Starts S} {other : Starts T} where
       ⊎ ((text : List ℕ) × IsText None text × LoadsRead options homes disk (queue_of text) image end)
 
 -- the image was not opened: the number of threads is bad, or it is not and the image was not read
-abbrev pub IsUnopened : Loading → CommandFault → Type 0
-IsUnopened load (BadOption option) = (option ≡ Threads) × (HasThreads load → ⊥)
-IsUnopened load fault = HasThreads load × IsShut load.image load.journal fault
+abbrev pub IsLoadUnopened : Loading → CommandFault → Type 0
+IsLoadUnopened load (BadOption option) = (option ≡ Threads) × (HasThreads load → ⊥)
+IsLoadUnopened load fault = HasThreads load × IsShut load.image load.journal fault
 
 module _ {S T : Type 0} {start : Starts S} {other : Starts T} where
   -- the image was not opened, and nothing was done; or it was, in blocks of the size that its first bytes say, with so many home blocks
   -- after the journal that they say, and the text came next
   abbrev pub EndsOfLoad : Loading → Option (ImageDisk (FileDisk S start) (FileDisk T other)) → Result LoadReport CommandFault → Type 0
   EndsOfLoad load image end =
-      ((fault : CommandFault) × (image ≡ None) × (end ≡ Err fault) × IsUnopened load fault)
-      ⊎ (HasThreads load × ((disk : ImageDisk (FileDisk S start) (FileDisk T other)) × (homes : ℕ) × IsOpened load.journal disk homes
-      × ((options : LoadOptions) × IsAskedBy load options × LoadsText load.file options homes disk image end)))
+      ((fault : CommandFault) × (image ≡ None) × (end ≡ Err fault) × IsLoadUnopened load fault)
+      ⊎ (HasThreads load × ((disk : ImageDisk (FileDisk S start) (FileDisk T other)) × (homes : ℕ) × IsImageOpened load.journal disk homes
+      × ((options : LoadOptions) × AreOptionsOf load options × LoadsText load.file options homes disk image end)))
 
 -- the whole run of a load
 abbrev pub RunsLoad : Loading → Outputs → Outputs → Ended → Type 0

@@ -4,19 +4,15 @@ use Rattle.std.specs.List.{flat_map, sum_by}
 use Rattle.jb_block.specs.Size.{bytes_of}
 use Rattle.jb_block.specs.declared.size.BlockSize.{BlockSize}
 use Rattle.jb_disk.specs.declared.disk.Disk.{Ghosts}
-use Rattle.jb_disk.specs.Faults.{CountsNone}
-use Rattle.jb_disk.specs.KeptOn.{KeptOn}
 use Rattle.jb_handle.specs.declared.shape.Shape.{Shape}
 use Rattle.jb_handle.specs.declared.stopped.Stopped.{Stopped}
 use Rattle.jb_handle.specs.Word.{WordMap}
 use Rattle.jb_board.specs.HistoryRule.{with_places}
 use Rattle.jb_plan.specs.Costs.{cost_in}
-use Rattle.jb_deck.specs.Deck.{OpenDeck, IsShapeOf}
 use Rattle.jb_deck.specs.Done.{Follow}
-use Rattle.jb_deck.specs.Opening.{OpenFaults, Opens, RefusesOpen}
 use Rattle.jb_deck.specs.declared.done.Entry.{Entry}
-use Rattle.jb_deck.specs.declared.fault.OpenFault.{OpenFault}
 use Rattle.jb_book.specs.History.{AreAllStops}
+use Rattle.jb_book.specs.Opened.{NotOpened, WasOpened}
 use Rattle.jb_desk.specs.declared.ended.Ended.{Ended}
 use Rattle.jb_desk.specs.declared.ended.Ended.TheVariants as ended
 use Rattle.jb_tool.specs.Gathering.{first_refused}
@@ -31,7 +27,7 @@ abbrev pub with_tickets : List WordMap → List Stopped
 with_tickets log = map (λ s. record { ticket = s.0; words = s.1 }) (with_places 0 log)
 
 -- the counts are those of the handles that stopped, each under a ticket of its own, and of the groups that settled them
-pub record Counts (queue : List Stopped) (shape : Shape) (stops : List (ℕ × WordMap)) (trail : List Entry) (loaded : Loaded) : Type 0 where
+pub record CountsStops (queue : List Stopped) (shape : Shape) (stops : List (ℕ × WordMap)) (trail : List Entry) (loaded : Loaded) : Type 0 where
   -- the words of the handles that stopped, in the order of their tickets
   pub log : List WordMap
   pub stopped : AreAllStops log stops
@@ -65,28 +61,16 @@ pub record Loads (shape : Shape) (queue : List Stopped) (threads : ℕ) (loaded 
   -- the groups that settled handles
   pub trail : List Entry
   pub worked : AreRuns shape queue threads runs
-  pub counts : Counts queue shape (flat_map (λ (r : Run). r.stops) runs) trail loaded
+  pub counts : CountsStops queue shape (flat_map (λ (r : Run). r.stops) runs) trail loaded
   pub refused : loaded.refused ≡ first_refused runs
 
 module _ {D : Type 0} (G : Ghosts D) (disk : D) where
-  -- the journal on the disk, which is this one after that, was not opened, for this
-  pub record NotOpened (after : D) (fault : OpenFault) : Type 0 where
-    pub kept : KeptOn G (OpenFaults fault) disk after
-    pub refuses : G.honest after → RefusesOpen (G.size disk) (G.count disk) (G.newest disk) (G.newest after) fault
-
-  -- the journal on the disk was opened, and its handles have to fit this shape
-  pub record IsOpened (shape : Shape) : Type 0 where
-    pub deck : OpenDeck D
-    pub kept : KeptOn G CountsNone disk deck.disk
-    pub opens : G.honest deck.disk → Opens (G.size disk) (G.count disk) (G.newest disk) (G.newest deck.disk) deck.log
-    pub journal : IsShapeOf deck.log.sb (G.count deck.disk) shape
-
   -- What a load answers to a queue of blocks of this size. Only where the size is not the disk's does it answer so. Where the journal was not opened, some disk that this one has
   -- become is lost
   abbrev pub AnswersLoad : BlockSize → List Stopped → LoadOptions → Result (Loaded × D) LoadFault → Type 0
   AnswersLoad bs queue options (Err fault.BlockSize) = bytes_of bs ≢ G.size disk
-  AnswersLoad bs queue options (Err (fault.Open why)) = (bytes_of bs ≡ G.size disk) × ((after : D) × NotOpened after why)
-  AnswersLoad bs queue options (Err fault.Memory) = (bytes_of bs ≡ G.size disk) × ((shape : Shape) × IsOpened shape)
-  AnswersLoad bs queue options (Err fault.Accounts) = (bytes_of bs ≡ G.size disk) × ((shape : Shape) × IsOpened shape)
+  AnswersLoad bs queue options (Err (fault.Open why)) = (bytes_of bs ≡ G.size disk) × ((after : D) × NotOpened G disk after why)
+  AnswersLoad bs queue options (Err fault.Memory) = (bytes_of bs ≡ G.size disk) × ((shape : Shape) × WasOpened G disk shape)
+  AnswersLoad bs queue options (Err fault.Accounts) = (bytes_of bs ≡ G.size disk) × ((shape : Shape) × WasOpened G disk shape)
   AnswersLoad bs queue options (Ok ended) =
-      (bytes_of bs ≡ G.size disk) × ((shape : Shape) × IsOpened shape × Loads shape queue options.threads ended.0) × EndsCheckpoint options.checkpoint ended.0.checkpoint
+      (bytes_of bs ≡ G.size disk) × ((shape : Shape) × WasOpened G disk shape × Loads shape queue options.threads ended.0) × EndsCheckpoint options.checkpoint ended.0.checkpoint

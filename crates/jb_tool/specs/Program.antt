@@ -5,7 +5,7 @@ use Rattle.std.specs.declared.io.ErrorKind.TheVariants.{InvalidData}
 use Rattle.jb_args.specs.Advice.{hint_line}
 use Rattle.jb_args.specs.declared.hint.Hint.{Hint}
 use Rattle.jb_text.specs.Puts.{PutsPart}
-use Rattle.jb_args.specs.Faults.{faults_in}
+use Rattle.jb_args.specs.Faults.{fault_kinds}
 use Rattle.jb_args.specs.Named.Asked.{AsksCost}
 use Rattle.jb_args.specs.Wanted.{wanted_in}
 use Rattle.jb_commands.specs.Ends.{of_fault, with_status}
@@ -20,10 +20,10 @@ use Rattle.jb_tool.specs.Wanted.{RunsWanted}
 -- what `run` says of a run with these words
 pub record RunsWords {S : Type 0} (text : S → List ℕ) (words : List S) (input : Option (List ℕ)) (old new : Outputs) (ended : Ended) : Type 0 where
   pub bare : words ≡ [] → Runs (AsksCost (codes "-")) input old new ended
-  pub asked : words ≢ [] → faults_in (map text words) ≡ []
+  pub asked : words ≢ [] → fault_kinds (map text words) ≡ []
       → IfSome (wanted_in (map text words)) (λ wanted. RunsWanted wanted input old new ended ⊎ Closes None (Err Memory) old new ended)
-  pub refused : words ≢ [] → (faults_in (map text words) ≢ []) ⊎ (wanted_in (map text words) ≡ None)
-      → RefusesWords (faults_in (map text words)) (wanted_in (map text words)) old new ended
+  pub refused : words ≢ [] → (fault_kinds (map text words) ≢ []) ⊎ (wanted_in (map text words) ≡ None)
+      → RefusesWords (fault_kinds (map text words)) (wanted_in (map text words)) old new ended
 
 -- the help is on standard error, with status 2, or there was no memory for it
 abbrev pub Helps : Option (List ℕ) → Option (List ℕ) → Ended → Type 0

@@ -17,7 +17,7 @@ use Rattle.jb_handle.specs.declared.stopped.Stopped.{Stopped}
 use Rattle.jb_tool.specs.Gathering.{first_refused}
 use Rattle.jb_tool.specs.Loads.{AreRuns}
 use Rattle.jb_tool.specs.Refusing.{IsRefusedFor}
-use Rattle.jb_tool.specs.Runs.{Run, IsRun, IsCounted, handle_at, run_of, touched_by}
+use Rattle.jb_tool.specs.Runs.{Run, IsRun, IsCounted, queued_at, run_of, touched_by}
 use Rattle.jb_tool.specs.declared.loading.fault.HandleFault.{HandleFault}
 use Rattle.jb_tool.specs.declared.loading.gather.Gathered.{Gathered}
 use Rattle.jb_tool.specs.declared.loading.loaded.Loaded.{Loaded}
@@ -30,8 +30,8 @@ StopsOne old ticket words new = (stops new ≡ stops old + 1) × (changes new �
 
 -- the handle at a place of the queue was run: it stopped with its words, or it was refused for what its fault says and the seat is as it was
 abbrev pub RunsAt : {H N : Type 0} {O : Ghosts H} {P : Places H} → Shape → List Stopped → ℕ → Seat H N O P → Seat H N O P → Result ℕ HandleFault → Type 0
-RunsAt shape queue at old new (Ok ticket) = StopsOne old ticket (handle_at queue at).words new
-RunsAt shape queue at old new (Err fault) = KeepsStops old new × IsRefusedFor shape (handle_at queue at).words fault
+RunsAt shape queue at old new (Ok ticket) = StopsOne old ticket (queued_at queue at).words new
+RunsAt shape queue at old new (Err fault) = KeepsStops old new × IsRefusedFor shape (queued_at queue at).words fault
 
 -- each worker has run its handles, and its seat has counted them
 pub record AreWorked {H N : Type 0} {O : Ghosts H} {P : Places H} (shape : Shape) (queue : List Stopped) (threads : ℕ) (workers : List (Worked H N O P)) : Type 0 where

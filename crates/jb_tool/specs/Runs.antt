@@ -31,13 +31,13 @@ abbrev pub run_of : {H N : Type 0} {O : Ghosts H} {P : Places H} → Worked H N 
 run_of w = record { stops = made_in w.left; refused = w.refused }
 
 -- the handle at a place of the queue
-abbrev pub handle_at : List Stopped → ℕ → Stopped
-handle_at queue place = get_or queue place (record { ticket = 0; words = map.empty })
+abbrev pub queued_at : List Stopped → ℕ → Stopped
+queued_at queue place = get_or queue place (record { ticket = 0; words = map.empty })
 
 -- stops with the words of handles of the queue: of the one at this place, and of others each so many places after the one before
 abbrev pub StepsBy : List Stopped → ℕ → ℕ → List (ℕ × WordMap) → Type 0
 StepsBy queue step from [] = Unit {0}
-StepsBy queue step from (s ∷ ss) = (from < length queue) × (s.1 ≡ (handle_at queue from).words) × StepsBy queue step (from + step) ss
+StepsBy queue step from (s ∷ ss) = (from < length queue) × (s.1 ≡ (queued_at queue from).words) × StepsBy queue step (from + step) ss
 
 -- of a queue of so many handles, that of this place was refused; or there is none at this place
 abbrev pub EndsAt : ℕ → ℕ → Option Refused → Type 0
@@ -48,7 +48,7 @@ EndsAt count place (Some r) = (r.handle ≡ place) × (place < count)
 pub record IsRun (shape : Shape) (queue : List Stopped) (step from : ℕ) (run : Run) : Type 0 where
   pub steps : StepsBy queue step from run.stops
   pub ends : EndsAt (length queue) (from + step * length run.stops) run.refused
-  pub why : IfSome run.refused (λ r. IsRefusedFor shape (handle_at queue r.handle).words r.fault)
+  pub why : IfSome run.refused (λ r. IsRefusedFor shape (queued_at queue r.handle).words r.fault)
 
 -- how many home blocks these handles touched, added up
 abbrev pub touched_by : List (ℕ × WordMap) → ℕ

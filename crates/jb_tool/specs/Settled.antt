@@ -10,17 +10,18 @@ use Rattle.jb_book.specs.History.{IsStop}
 use Rattle.jb_book.specs.Since.{IsSinceOf}
 use Rattle.jb_deck.specs.Deck.{OpenDeck}
 use Rattle.jb_deck.specs.declared.done.Entry.{Entry}
-use Rattle.jb_tool.specs.Loads.{IsOpened, Loads}
-use Rattle.jb_tool.specs.Runs.{handle_at}
+use Rattle.jb_book.specs.Opened.{WasOpened}
+use Rattle.jb_tool.specs.Loads.{Loads}
+use Rattle.jb_tool.specs.Runs.{queued_at}
 use Rattle.jb_tool.specs.declared.loading.loaded.Loaded.{Loaded}
 
 -- the words are those of a handle of the queue
 abbrev pub IsOfQueue : List Stopped → WordMap → Type 0
-IsOfQueue queue words = (at : ℕ) × (at < length queue) × (words ≡ (handle_at queue at).words)
+IsOfQueue queue words = (at : ℕ) × (at < length queue) × (words ≡ (queued_at queue at).words)
 
 -- each handle of the queue may stop
 abbrev pub MayStop : Begun → List Stopped → Type 0
-MayStop b queue = (at : ℕ) → at < length queue → b.stops (handle_at queue at).words
+MayStop b queue = (at : ℕ) → at < length queue → b.stops (queued_at queue at).words
 
 module _ {D : Type 0} (G : Ghosts D) (b : Begun) where
   -- The disk and the trail are those of a journal that stands as it must since the start, and that was given handles with these words and no
@@ -44,4 +45,4 @@ module _ {D : Type 0} (G : Ghosts D) (b : Begun) where
 
   -- the journal on the disk of before was opened, and the handles had to fit its shape
   abbrev pub LoadsSince : D → List Stopped → ℕ → Loaded → D → Type 0
-  LoadsSince before queue threads loaded disk = (shape : Shape) × IsOpened G before shape × LoadedSince shape queue threads loaded disk
+  LoadsSince before queue threads loaded disk = (shape : Shape) × WasOpened G before shape × LoadedSince shape queue threads loaded disk

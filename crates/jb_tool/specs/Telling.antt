@@ -32,17 +32,17 @@ name_of NotOpen = codes "NotOpen"
 name_of Memory = codes "Memory"
 
 -- the number that a fault names, where it names one
-abbrev pub number_in : HandleFault → Option ℕ
-number_in Aborted = None
-number_in Closed = None
-number_in Busy = None
-number_in (TooManyCredits most) = Some most
-number_in (Full reserved) = Some reserved
-number_in (NoCredit credits) = Some credits
-number_in (OutOfRange home) = Some home
-number_in Length = None
-number_in NotOpen = None
-number_in Memory = None
+abbrev pub number_named : HandleFault → Option ℕ
+number_named Aborted = None
+number_named Closed = None
+number_named Busy = None
+number_named (TooManyCredits most) = Some most
+number_named (Full reserved) = Some reserved
+number_named (NoCredit credits) = Some credits
+number_named (OutOfRange home) = Some home
+number_named Length = None
+number_named NotOpen = None
+number_named Memory = None
 
 -- the line of a refused handle, from its place, the name of the fault and its number, where it has one
 abbrev pub refused_parts : List ℕ → List ℕ → Option ℕ → List ℕ
@@ -51,7 +51,7 @@ refused_parts place name (Some n) = spelled (codes "jb: handle " ∷ place ∷ c
 
 -- the line of a handle that was refused: its place in the queue, and the fault's name and number
 abbrev pub refused_line : Refused → List ℕ
-refused_line r = refused_parts (decimal r.handle) (name_of r.fault) (number_in r.fault)
+refused_line r = refused_parts (decimal r.handle) (name_of r.fault) (number_named r.fault)
 
 -- the word of a checkpointer that ended Aborted, by how the committer did: it stopped where that one gave up
 abbrev pub aborted_word : Ended → List ℕ
@@ -61,12 +61,12 @@ aborted_word ended.Memory = codes "Stopped\n"
 aborted_word ended.Refused = codes "Stopped\n"
 
 -- the line of a thread that did not end Shut, with this word where it ended Aborted
-abbrev pub end_line : List ℕ → List ℕ → Option Ended → List ℕ
-end_line thread aborted None = []
-end_line thread aborted (Some (ended.Shut over)) = []
-end_line thread aborted (Some ended.Aborted) = spelled (thread ∷ aborted ∷ [])
-end_line thread aborted (Some ended.Memory) = spelled (thread ∷ codes "Memory\n" ∷ [])
-end_line thread aborted (Some ended.Refused) = spelled (thread ∷ codes "Refused\n" ∷ [])
+abbrev pub thread_end_line : List ℕ → List ℕ → Option Ended → List ℕ
+thread_end_line thread aborted None = []
+thread_end_line thread aborted (Some (ended.Shut over)) = []
+thread_end_line thread aborted (Some ended.Aborted) = spelled (thread ∷ aborted ∷ [])
+thread_end_line thread aborted (Some ended.Memory) = spelled (thread ∷ codes "Memory\n" ∷ [])
+thread_end_line thread aborted (Some ended.Refused) = spelled (thread ∷ codes "Refused\n" ∷ [])
 
 -- its line, where one was refused
 abbrev pub refused_text : Option Refused → List ℕ
@@ -75,7 +75,7 @@ refused_text (Some r) = refused_line r
 
 -- the lines of the threads that did not end Shut
 unfoldable pub ends_text : Loaded → List ℕ
-ends_text l = end_line (codes "jb: commit ") (codes "Aborted\n") (Some l.commit) ++ end_line (codes "jb: checkpoint ") (aborted_word l.commit) l.checkpoint
+ends_text l = thread_end_line (codes "jb: commit ") (codes "Aborted\n") (Some l.commit) ++ thread_end_line (codes "jb: checkpoint ") (aborted_word l.commit) l.checkpoint
 
 -- the lines of what did not end well
 unfoldable pub faults_text : Loaded → List ℕ

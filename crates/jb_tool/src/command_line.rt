@@ -1,5 +1,5 @@
 ghost use Rattle.std.specs.Prelude.{◌≡◌, ◌≢◌, ◌⊎◌, Err, None, IfSome, [], codes, false, map};
-ghost use Rattle.jb_args.specs.Faults.{faults_in, kind_of};
+ghost use Rattle.jb_args.specs.Faults.{fault_kinds, kind_of};
 ghost use Rattle.jb_args.specs.Named.Asked.{AsksCost};
 ghost use Rattle.jb_args.specs.Wanted.{wanted_in};
 ghost use Rattle.jb_text.specs.Puts.{PutsPart};
@@ -34,15 +34,15 @@ pub fn run<
     ensures bare { words.now ≡ [] → Runs (AsksCost (codes "-")) (I.remaining input.old)
         (record { out = O.contents out.old; err = E.contents err.old })
         (record { out = O.contents out.new; err = E.contents err.new }) result }
-    ensures asked { words.now ≢ [] → faults_in (map S.text words.now) ≡ []
+    ensures asked { words.now ≢ [] → fault_kinds (map S.text words.now) ≡ []
         → IfSome (wanted_in (map S.text words.now)) (λ wanted. RunsWanted wanted (I.remaining input.old)
         (record { out = O.contents out.old; err = E.contents err.old })
         (record { out = O.contents out.new; err = E.contents err.new }) result
         ⊎ Closes None (Err CommandMemory) (record { out = O.contents out.old; err = E.contents err.old })
         (record { out = O.contents out.new; err = E.contents err.new }) result) }
-    ensures refused { words.now ≢ [] → (faults_in (map S.text words.now) ≢ [])
+    ensures refused { words.now ≢ [] → (fault_kinds (map S.text words.now) ≢ [])
         ⊎ (wanted_in (map S.text words.now) ≡ None)
-        → RefusesWords (faults_in (map S.text words.now)) (wanted_in (map S.text words.now))
+        → RefusesWords (fault_kinds (map S.text words.now)) (wanted_in (map S.text words.now))
         (record { out = O.contents out.old; err = E.contents err.old })
         (record { out = O.contents out.new; err = E.contents err.new }) result }
     ensures unread { words.now ≢ [] → IfSome (wanted_in (map S.text words.now)) (λ wanted. wants_input wanted ≡ false)
@@ -65,7 +65,8 @@ fn tell_refusal<O: Write, E: Write>(error: &Error, out: &mut O, err: &mut E) -> 
         (record { out = O.contents out.new; err = E.contents err.new }) result }
     ensures shown { (kind_of error.now ≡ ErrorKind.DisplayHelp) ⊎ (kind_of error.now ≡ ErrorKind.DisplayVersion)
         → ((result ≡ with_status 0) × (E.contents err.new ≡ E.contents err.old))
-        ⊎ ((result ≡ of_fault WriteFault) × PutsPart (E.contents err.old) (E.contents err.new) (line_of None WriteFault)) }
+        ⊎ ((result ≡ of_fault WriteFault)
+        × PutsPart (E.contents err.old) (E.contents err.new) (line_of None WriteFault)) }
     ensures mistake { kind_of error.now ≢ ErrorKind.OutOfMemory → kind_of error.now ≢ ErrorKind.DisplayHelp
         → kind_of error.now ≢ ErrorKind.DisplayVersion
         → (result ≡ with_status 2) × (O.contents out.new ≡ O.contents out.old) }

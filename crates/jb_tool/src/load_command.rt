@@ -2,7 +2,7 @@
 ghost use Rattle.std.specs.Prelude.{◌≡◌, ◌≤◌, ◌↔◌, IsSome, IfSome};
 ghost use Rattle.jb_queue.specs.QueueLines.{queue_in};
 ghost use Rattle.jb_args.specs.Wanted.{load_said};
-ghost use Rattle.jb_tool.specs.Load.{EndsOfLoad, HasThreads, IsAskedBy, LoadsQueue, LoadsText};
+ghost use Rattle.jb_tool.specs.Load.{EndsOfLoad, HasThreads, AreOptionsOf, LoadsQueue, LoadsText};
 ghost use Rattle.jb_tool.specs.Load.{RunsLoad, load_fault};
 
 use crate::load_report::{LoadDone, LoadReport};
@@ -159,7 +159,7 @@ fn load_queue<'a, S: Start + Send, T: Start + Send, R: AllocGlobal + Threads + W
 /// How the queue is to be loaded, or `None` where the number of threads is not from 1 to 64.
 fn load_options(load: LoadWords<'_>) -> Option<LoadOptions>
     ensures good { IsSome result ↔ HasThreads (load_said load.entry) }
-    ensures asked { IfSome result (IsAskedBy (load_said load.entry)) }
+    ensures asked { IfSome result (AreOptionsOf (load_said load.entry)) }
 {
     if load.threads == 0 || load.threads > MOST_THREADS {
         return None;

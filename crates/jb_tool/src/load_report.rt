@@ -17,8 +17,8 @@ pub enum LoadReport {
     Text(Answer),
 }
 
-/// How a load has ended. `S` and `T` are what is supposed of the image's files, of that with the home blocks and of that
-/// with the journal alone.
+/// How a load has ended. `S` and `T` are what is supposed of the image's files, of that with the home blocks and of
+/// that with the journal alone.
 #[derive(Drop)]
 pub struct LoadDone<'a, S: Start = Unknown, T: Start = Unknown> {
     /// The image, as the load has left it; `None` where it was not opened, or was lost with the journal on it.

@@ -12,9 +12,9 @@ use Rattle.jb_plan.specs.Batch.{gathered}
 use Rattle.jb_deck.specs.declared.done.Entry.{Entry}
 use Rattle.jb_book.specs.declared.fault.BeginFault.{BeginFault}
 use Rattle.jb_book.specs.Account.{Account, failed_of}
-use Rattle.jb_book.specs.Calls.{Call, Opened, Enqueued, Took, Settled, Failed, Called, IsCutOf, handles_in, stops_of}
+use Rattle.jb_book.specs.Calls.{Call, Opened, Enqueued, Took, Settled, Failed, CallsMake, IsCutOf, handles_in, stops_of}
 use Rattle.jb_book.specs.Tied.{EveryRun}
-use Rattle.proof_clients.specs.BookClient.{Have, Settles, Stand, two_stops}
+use Rattle.proof_clients.specs.BookClient.{Have, SettlesQueue, Stand, two_stops}
 
 -- ---- the groups of a cut of two
 
@@ -80,7 +80,7 @@ abbrev pub settled : List Entry → Account → List ℕ → List Call → List 
 settled entries a cut calls = Settled entries (Ok tt) ∷ Took (gathered a.shadow.taken a.shadow.queue a.shape) cut ∷ calls
 
 module _ (any : Vec Entry) (run : EveryRun) (shape : Shape) (usable : ℕ) (small : usable ≤ 2147483646) (first second : WordMap) (c d t u : ℕ) (r s : Result (Unit {0}) BeginFault) (mid after last : Account) (before later : List Entry)
-    (called : Called shape usable (begun c d r s first second t u) mid) (settles : Settles mid after before later) where
+    (called : CallsMake shape usable (begun c d r s first second t u) mid) (settles : SettlesQueue mid after before later) where
   -- the book's trail has the groups that the journal has settled
   pub told : last ≡ failed_of after → (trail : List Entry) → trail ≡ last.trail → later ≡ before ++ trail
   told fails trail is =

@@ -5,7 +5,7 @@ use Rattle.jb_cost.specs.declared.geometry.Geometry.{Geometry}
 use Rattle.jb_cost.specs.Cost.{blocks_of}
 use Rattle.jb_cost.specs.Cut.{piece_cost}
 use Rattle.jb_plan.specs.Costs.{cost_in, geometry_of}
-use Rattle.proof_clients.specs.Examples.{three, six, four, best, greedy, prices, low_prices, high_prices, short_prices, four_prices, late_prices}
+use Rattle.proof_clients.specs.Examples.{three, six, four, best, greedy, prices, low_prices, high_prices, four_prices, late_prices}
 use Rattle.proof_clients.proofs.ExampleCosts.{cost-wrote}
 use Rattle.jb_cost.proofs.Bounds.{lower, hold-fewer, price-exact}
 
@@ -166,9 +166,6 @@ module _ (c : ℕ → ℕ → ℕ) (costs : Costs c) where
 
   pub not-none : ArePrices c 6 3 four_prices → ⊥
   not-none are = are.each 3 (omega arith) best fits-best
-
-  pub not-short : ArePrices c 6 3 short_prices → ⊥
-  not-short are = let same : 3 ≡ 4 = are.number in omega (arith, same)
 
   pub not-late : ArePrices c 4 3 late_prices → ⊥
   not-late are = let is : IsReached c 4 3 13 = (are.each 3 (omega arith)).0 in none-fits is.0 is.1

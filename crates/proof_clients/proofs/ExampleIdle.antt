@@ -18,7 +18,7 @@ use Rattle.jb_plan.specs.Costs.{geometry_of}
 use Rattle.jb_core.specs.declared.event.Event.TheVariants.{Open, Stop, Take, Settle}
 use Rattle.jb_core.specs.declared.event.Reply.TheVariants.{Plain, Ticket}
 use Rattle.jb_core.specs.Lives.{Log}
-use Rattle.jb_core.specs.Machine.{Machine, after, after_take}
+use Rattle.jb_core.specs.Machine.{Machine, after_event, after_take}
 use Rattle.jb_core.specs.Ran.{Ran}
 use Rattle.jb_deck.specs.Deck.{OpenDeck}
 use Rattle.jb_board.specs.HistoryRule.{StandsIn}
@@ -120,28 +120,28 @@ m0 = record {
 }
 
 abbrev m1 : Machine
-m1 = after m0 (Open 0 0)
+m1 = after_event m0 (Open 0 0)
 
 abbrev m2 : Machine
-m2 = after m1 (Stop 0)
+m2 = after_event m1 (Stop 0)
 
 abbrev m3 : Machine
-m3 = after m2 (Open 1 0)
+m3 = after_event m2 (Open 1 0)
 
 abbrev m4 : Machine
-m4 = after m3 (Stop 1)
+m4 = after_event m3 (Stop 1)
 
 abbrev m5 : Machine
 m5 = after_take m4 (0 ∷ 2 ∷ [])
 
 abbrev m6 : Machine
-m6 = after m5 (Settle 1)
+m6 = after_event m5 (Settle 1)
 
 abbrev m7 : Machine
-m7 = after m6 (Open 0 0)
+m7 = after_event m6 (Open 0 0)
 
 abbrev m8 : Machine
-m8 = after m7 (Stop 0)
+m8 = after_event m7 (Stop 0)
 
 -- the history: three handles without a change
 abbrev history : List WordMap

@@ -1,14 +1,14 @@
 -- What one worker has written stays, and is what the other one has read.
-use Rattle.std.proofs.Common.{◌≡◌, ℕ, zero, suc, ◌+◌, ◌<◌, ◌≤◌, List, [], ◌∷◌, ◌++◌, All, Option, Some, None, slice_get, get_or, length, Result, Ok, Err, IfOk, refl, sym, ap, subst, ◌∙◌, arith}
+use Rattle.std.proofs.Common.{◌≡◌, ℕ, zero, suc, ◌+◌, ◌<◌, List, [], ◌∷◌, ◌++◌, All, Option, Some, None, slice_get, get_or, length, Result, Ok, Err, IfOk, refl, sym, ap, subst, ◌∙◌, arith}
 use Rattle.std.specs.FinMap as map
 use Rattle.std.specs.List.{sum_by}
 use Rattle.std.specs.Cmp.{nat_cmp_total}
 use Rattle.std.proofs.lemmas.List.Elements.{All-weaker}
 use Rattle.std.proofs.lemmas.List.Sums.{sum_by-cons}
-use Rattle.std.proofs.lemmas.Option.{get_or_from_slice_get, slice_get-get_or, slice_get_within}
+use Rattle.std.proofs.lemmas.Option.{get_or_from_slice_get, slice_get_within}
 use Rattle.jb_journal.specs.Client.{AreHonest, one_block}
-use Rattle.jb_journal.specs.Names.{AreAllStops, Begun, Copy, Ghosts, IsFirstPart, IsInHistory, OpenDeck, StandsBy, StandsIn, Stopped, TicketsFrom, Word, WordMap, joined, with_places, word}
-use Rattle.jb_journal.specs.Notes.{IsInNotes, Known, Stop}
+use Rattle.jb_journal.specs.Names.{AreAllStops, Begun, Copy, Ghosts, IsFirstPart, IsInHistory, OpenDeck, StandsBy, StandsIn, Stopped, TicketsFrom, WordMap, joined, with_places, word}
+use Rattle.jb_journal.specs.Notes.{Known, Stop}
 use Rattle.jb_journal.specs.Running.{RanAll}
 use Rattle.jb_journal.specs.Starting.{started_on}
 use Rattle.jb_journal.specs.declared.ran.Ran.{Ran}
@@ -16,7 +16,7 @@ use Rattle.jb_journal.proofs.Noting.{stands-on}
 use Rattle.jb_journal.proofs.Staying.{lasts-at, stays-noted}
 use Rattle.proof_clients.specs.Telling.{HasFound, HasReadThen, HasWritten, TwoHaveWorked, home}
 use Rattle.proof_clients.specs.declared.telling.Found.{Found}
-use Rattle.proof_clients.specs.declared.telling.Found.TheVariants.{Wrote, Read, Failed}
+use Rattle.proof_clients.specs.declared.telling.Found.TheVariants.{Wrote, Read}
 
 -- ---- a history of one handle
 

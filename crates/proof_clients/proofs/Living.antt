@@ -1,6 +1,5 @@
 -- One life of a journal: from what stands before it to what is recovered after it.
-use Rattle.std.specs.Prelude.{IfOk}
-use Rattle.std.proofs.Common.{◌≡◌, ℕ, ◌+◌, ◌%◌, ◌^◌, ◌⊎◌, Bool, true, false, nat_eq, List, [], ◌∷◌, ◌++◌, Result, Ok, Err, inl, inr, ⊎_elim, refl, ap, sym, subst, ◌∙◌, arith}
+use Rattle.std.proofs.Common.{◌≡◌, ℕ, ◌+◌, ◌%◌, ◌^◌, ◌⊎◌, Bool, true, false, nat_eq, List, [], ◌∷◌, ◌++◌, Ok, inl, inr, ⊎_elim, refl, ap, sym, subst, ◌∙◌, arith}
 use Rattle.jb_disk.specs.History.{History, MayLeave, newest_of, replay}
 use Rattle.jb_disk.specs.declared.disk.Disk.{Ghosts}
 use Rattle.jb_disk.specs.Image.{Image, Only, block}
@@ -9,7 +8,6 @@ use Rattle.jb_disk.proofs.Moments.{weaken}
 use Rattle.jb_super.specs.Journal.{SameJournal}
 use Rattle.jb_super.specs.Superblock.{Superblock}
 use Rattle.jb_plan.specs.Prepared.{IsPlanned, Planned}
-use Rattle.jb_handle.specs.declared.shape.Shape.{Shape}
 use Rattle.jb_handle.specs.declared.stopped.Stopped.{Stopped}
 use Rattle.jb_format.specs.Front.{homes_in, super_on}
 use Rattle.jb_format.specs.Ready.{revoking}
@@ -26,14 +24,9 @@ use Rattle.jb_deck.specs.Opening.{home_by, opened_log, recovered_home}
 use Rattle.jb_deck.specs.Since.{HoldsOn}
 use Rattle.jb_deck.proofs.Lives.{one-super, revoking-twice, same-revoking}
 use Rattle.jb_deck.proofs.Opened.{revoking-same}
-use Rattle.proof_clients.specs.Lives.{AreLives, HasLives, HoldsChanges, HoldsLife, IsBatchOf, IsPartOfLife, IsWholeLife, LeftByLife, no_life, nothing, of_batch, one_life}
+use Rattle.proof_clients.specs.Lives.{HasLives, HoldsChanges, HoldsLife, IsBatchOf, IsPartOfLife, IsWholeLife, LeftByLife, no_life, nothing, of_batch, one_life}
 use Rattle.proof_clients.proofs.Programs.{Left, Runs}
 use Rattle.proof_clients.specs.Programs.{HasChanges, IsPartOf, LeftByProgram, after_batch, all_changes, commits, no_more}
-
--- what holds of the value that was given holds in another form too
-pub ok-then : {A E : Type 0} {P Q : A → Type 0} → ((x : A) → P x → Q x) → (r : Result A E) → IfOk r P → IfOk r Q
-ok-then gives (Ok x) has = gives x has
-ok-then gives (Err e) has = tt
 
 -- a disk on which nothing is pending
 pub fresh-only : (h : History) → h.steps ≡ [] → Only (newest_of h) (MayLeave h.first h.steps)

@@ -11,7 +11,6 @@ use Rattle.jb_handle.specs.declared.shape.Shape.{Shape}
 use Rattle.jb_disk.specs.Time.{LeavesOnly}
 use Rattle.jb_disk.proofs.Moments.{after, weaken}
 use Rattle.jb_super.specs.Superblock.{Superblock}
-use Rattle.jb_format.specs.Front.{super_on}
 use Rattle.jb_format.specs.Ready.{revoking}
 use Rattle.jb_recover.specs.Outcomes.{recovered}
 use Rattle.jb_deck.specs.Calls.{IsRecoveredTo, OpeningIsRecovered, Reaches, at_first, one_more}

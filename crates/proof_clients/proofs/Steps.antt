@@ -8,7 +8,7 @@ use Rattle.jb_deck.specs.declared.done.Done.{Done}
 use Rattle.jb_deck.specs.declared.done.Entry.{Entry}
 use Rattle.jb_book.specs.Account.{Account, CanTake, Settles as SettlesTo, settled_to, taken_all}
 use Rattle.jb_book.specs.Calls.{AreOfFirst, IsCutOf}
-use Rattle.proof_clients.specs.BookClient.{IsPlanOf, Settles, Tells}
+use Rattle.proof_clients.specs.BookClient.{IsPlanOf, SettlesQueue, TellsFirstGroups}
 
 -- the batch of a book
 abbrev pub batch_of : Account → Gathered
@@ -21,11 +21,11 @@ module _ (old mid new : Account) (b : Gathered) (p : Planned) (done : Done) (tak
   least-cut : IsCutOf (batch_of old) p.groups
   least-cut = subst (λ g. IsCutOf g p.groups) whole plan.planned.least
 
-  first-of : Tells p done → AreOfFirst (pieces p.groups old.shadow.queue) (entries_of done)
+  first-of : TellsFirstGroups p done → AreOfFirst (pieces p.groups old.shadow.queue) (entries_of done)
   first-of tells = subst (λ g. AreOfFirst (pieces p.groups g.handles) (entries_of done)) whole tells
 
   -- the queue is taken, committed and settled
-  pub settled : (before after : List Entry) → after ≡ before ++ entries_of done → CanTake old × (mid ≡ taken_all old) → Tells p done → (past : ℕ) × SettlesTo mid past (entries_of done) × (new ≡ settled_to past (entries_of done) mid) → Settles old new before after
+  pub settled : (before after : List Entry) → after ≡ before ++ entries_of done → CanTake old × (mid ≡ taken_all old) → TellsFirstGroups p done → (past : ℕ) × SettlesTo mid past (entries_of done) × (new ≡ settled_to past (entries_of done) mid) → SettlesQueue old new before after
   settled before after told can tells settles = record {
     could = can.0;
     cut = p.groups;

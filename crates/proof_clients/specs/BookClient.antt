@@ -10,11 +10,11 @@ use Rattle.jb_deck.specs.Done.{entries_of}
 use Rattle.jb_deck.specs.declared.done.Done.{Done}
 use Rattle.jb_deck.specs.declared.done.Entry.{Entry}
 use Rattle.jb_book.specs.Account.{Account, CanTake}
-use Rattle.jb_book.specs.Calls.{Call, Took, Settled, Called, AreOfFirst, IsCutOf, handles_in}
+use Rattle.jb_book.specs.Calls.{Call, Took, Settled, CallsMake, AreOfFirst, IsCutOf, handles_in}
 
 -- where some calls of a new book led to the account before, these calls and this one lead to the account after
-abbrev pub Goes : Call → Account → Account → Type 0
-Goes call old new = (shape : Shape) (usable : ℕ) (calls : List Call) → Called shape usable calls old → Called shape usable (call ∷ calls) new
+abbrev pub CallLeads : Call → Account → Account → Type 0
+CallLeads call old new = (shape : Shape) (usable : ℕ) (calls : List Call) → CallsMake shape usable calls old → CallsMake shape usable (call ∷ calls) new
 
 -- the plan is of the batch
 pub record IsPlanOf (b : Gathered) (p : Planned) : Type 0 where
@@ -22,20 +22,20 @@ pub record IsPlanOf (b : Gathered) (p : Planned) : Type 0 where
   pub planned : IsPlanned p
 
 -- the entries are those of the first groups of the batch's cut
-abbrev pub Tells : Planned → Done → Type 0
-Tells p done = AreOfFirst (pieces p.groups p.batch.handles) (entries_of done)
+abbrev pub TellsFirstGroups : Planned → Done → Type 0
+TellsFirstGroups p done = AreOfFirst (pieces p.groups p.batch.handles) (entries_of done)
 
 -- the whole queue was taken and committed by a least cut, and the groups that the journal has settled are settled in the book;
 -- the journal's trail was such before and after
-pub record Settles (old new : Account) (before after : List Entry) : Type 0 where
+pub record SettlesQueue (old new : Account) (before after : List Entry) : Type 0 where
   pub could : CanTake old
   pub cut : List ℕ
   pub entries : List Entry
   pub least : IsCutOf (gathered old.shadow.taken old.shadow.queue old.shape) cut
   pub told : after ≡ before ++ entries
   pub trail : new.trail ≡ old.trail ++ entries
-  pub goes : (shape : Shape) (usable : ℕ) (calls : List Call) → Called shape usable calls old
-      → Called shape usable (Settled entries (Ok tt) ∷ Took (gathered old.shadow.taken old.shadow.queue old.shape) cut ∷ calls) new
+  pub goes : (shape : Shape) (usable : ℕ) (calls : List Call) → CallsMake shape usable calls old
+      → CallsMake shape usable (Settled entries (Ok tt) ∷ Took (gathered old.shadow.taken old.shadow.queue old.shape) cut ∷ calls) new
 
 -- ---- two handles
 

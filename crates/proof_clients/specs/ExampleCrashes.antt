@@ -9,7 +9,7 @@ use Rattle.jb_scan.specs.declared.transaction.Piece.{Piece}
 use Rattle.jb_scan.specs.declared.transaction.Piece.TheVariants.{Revokes, Run}
 use Rattle.jb_scan.specs.declared.transaction.Transaction.{Transaction}
 use Rattle.jb_format.specs.Front.{homes_in, super_on, wide_in}
-use Rattle.jb_recover.specs.Refusals.{refusal}
+use Rattle.jb_recover.specs.Refusals.{image_refusal}
 use Rattle.jb_recover.specs.Window.{found_on}
 use Rattle.jb_deck.specs.Trailing.{FollowsSome}
 use Rattle.proof_clients.specs.Examples.{wrote_from}
@@ -55,6 +55,6 @@ copied_and_revoked bytes = transaction 7 (copy_of_five bytes ∷ []) ∷ transac
 pub record HasLog (size count : ℕ) (sb : Superblock) (ts : List Transaction) (c : Image) : Type 0 where
   pub blocks : length c ≡ count
   pub taken : super_on size count c ≡ Ok sb
-  pub not_refused : refusal size count c ≡ None
+  pub not_refused : image_refusal size count c ≡ None
   pub found : found_on (wide_in sb) sb c ≡ ts
   pub homes : 5 < homes_in sb count

@@ -2,7 +2,7 @@
 use Rattle.std.specs.Prelude.{ℕ, ◌++◌}
 use Rattle.jb_block.specs.Size.{bytes_of}
 use Rattle.jb_disk.specs.Faults.{counted}
-use Rattle.jb_disk.specs.File.{content_of, count_of, faults_of, size_of}
+use Rattle.jb_disk.specs.File.{content_of, count_of, faults_of, size_of_blocks}
 use Rattle.jb_disk.specs.Image.{Image}
 use Rattle.jb_disk.specs.declared.file.FileDisk.{FileDisk}
 use Rattle.jb_disk.specs.declared.start.Start.{Ghosts}
@@ -12,7 +12,7 @@ use Rattle.jb_image.specs.declared.pair.PairDisk.{PairDisk}
 
 -- how many blocks two files have together
 abbrev pub files_count : {S T : Type 0} {start : Ghosts S} {other : Ghosts T} → PairDisk (FileDisk S start) (FileDisk T other) → ℕ
-files_count p = joined_count (bytes_of (size_of (front_disk p))) (count_of (front_disk p)) (bytes_of (size_of (back_disk p))) (count_of (back_disk p))
+files_count p = joined_count (bytes_of (size_of_blocks (front_disk p))) (count_of (front_disk p)) (bytes_of (size_of_blocks (back_disk p))) (count_of (back_disk p))
 
 -- how many calls of them have failed
 abbrev pub files_faults : {S T : Type 0} {start : Ghosts S} {other : Ghosts T} → PairDisk (FileDisk S start) (FileDisk T other) → ℕ

@@ -2,7 +2,7 @@
 -- crash and a recovery.
 use Rattle.std.specs.Prelude.{◌≡◌, ◌⊎◌, ℕ, ◌+◌, ◌%◌, ◌^◌, Bool, true, List, [], ◌∷◌, ◌++◌, Ok}
 use Rattle.jb_block.specs.Size.{bytes_of}
-use Rattle.jb_disk.specs.History.{History, IsSound, MayLeave, newest_of}
+use Rattle.jb_disk.specs.History.{History, IsHistorySound, MayLeave, newest_of}
 use Rattle.jb_disk.specs.Image.{Image, Only, block}
 use Rattle.jb_super.specs.Journal.{SameJournal}
 use Rattle.jb_super.specs.Superblock.{Superblock}
@@ -111,6 +111,6 @@ pub record HasLives (size count : ℕ) (lives : List (List Stopped)) (reported :
 
 -- a disk in memory that was recovered: a crash leaves its newest content alone, which recovery leaves as it is
 pub record IsAtRest (disk : History) : Type 0 where
-  pub sound : IsSound disk
+  pub sound : IsHistorySound disk
   pub only : Only (newest_of disk) (MayLeave disk.first disk.steps)
   pub still : recovered (bytes_of disk.size) disk.count (newest_of disk) ≡ newest_of disk

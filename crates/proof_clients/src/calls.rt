@@ -4,7 +4,7 @@ ghost use Rattle.jb_handle.specs.Handle.{changes_of};
 ghost use Rattle.jb_plan.specs.Prepared.{IsPlanned};
 ghost use Rattle.jb_deck.specs.Done.{entries_of};
 ghost use Rattle.jb_book.specs.Calls.{Enqueued};
-ghost use Rattle.proof_clients.specs.BookClient.{Goes, Settles, Tells, IsPlanOf};
+ghost use Rattle.proof_clients.specs.BookClient.{CallLeads, SettlesQueue, TellsFirstGroups, IsPlanOf};
 
 use jb_block::Stamp;
 use jb_book::Book;
@@ -18,7 +18,8 @@ use std::marker::Brand;
 
 /// The handle of a seat stops. `None` where the book refuses it.
 pub fn stop(book: &mut Book<Brand>, seat: u64, handle: Handle<()>) -> Option<u64>
-    ensures { IfSome result (λ ticket. Goes (Enqueued seat (changes_of handle).words (Ok ticket)) book.old book.new) }
+    ensures { IfSome result
+        (λ ticket. CallLeads (Enqueued seat (changes_of handle).words (Ok ticket)) book.old book.new) }
 {
     match book.enqueue(seat, handle) {
         Ok((_, ticket)) => Some(ticket),
@@ -37,7 +38,7 @@ pub fn settle<D: Disk>(
     deck: &mut Deck<D>,
     stamp: Stamp,
 ) -> Option<()>
-    ensures { IfSome result (λ _. Settles book.old book.new deck.old.trail deck.new.trail) }
+    ensures { IfSome result (λ _. SettlesQueue book.old book.new deck.old.trail deck.new.trail) }
 {
     let batch = book.take()?;
     let prepared = plan(alloc, batch)?;
@@ -64,7 +65,7 @@ fn plan(alloc: Global, batch: Batch) -> Option<Prepared>
 /// Commits a batch. `None` where the deck refuses it; after a fault of the disk, the groups that are settled.
 fn commit<D: Disk>(deck: &mut Deck<D>, prepared: Prepared, stamp: Stamp) -> Option<Done>
     requires { IsPlanned prepared }
-    ensures tells { IfSome result (Tells prepared) }
+    ensures tells { IfSome result (TellsFirstGroups prepared) }
     ensures trail { IfSome result (λ done. deck.new.trail ≡ deck.old.trail ++ entries_of done) }
 {
     commit_tells::<D>();

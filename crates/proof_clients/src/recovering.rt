@@ -1,7 +1,7 @@
 //! A file that is opened as a disk and recovered.
 ghost use Rattle.std.specs.Prelude.{◌≡◌, ◌⊎◌, IfOk, OnOk};
 ghost use Rattle.jb_block.specs.Size.{bytes_of};
-ghost use Rattle.jb_disk.specs.File.{content_of, count_of, faults_of, size_of};
+ghost use Rattle.jb_disk.specs.File.{content_of, count_of, faults_of, size_of_blocks};
 ghost use Rattle.jb_disk.specs.File.{FileLeaves, FileLeft, IsHonest};
 ghost use Rattle.jb_disk.specs.Image.{Image, Only};
 ghost use Rattle.jb_recover.specs.Outcomes.{RecoversAs};
@@ -26,7 +26,7 @@ pub fn recover_file<S: Start>(
     file: File,
     size: BlockSize,
 ) -> Result<(FileDisk<S>, Result<Recovered, RecoverFault>), Fault>
-    ensures size { IfOk result (λ ran. size_of ran.0 ≡ size) }
+    ensures size { IfOk result (λ ran. size_of_blocks ran.0 ≡ size) }
     ensures faults { IfOk result (λ ran. PassFaults ran.1 0 (faults_of ran.0)) }
     ensures recovers { IfOk result (λ ran. IsHonest ran.0
         → Recovers (bytes_of size) (count_of ran.0) (S.content 0) (content_of ran.0) ran.1) }

@@ -2,7 +2,8 @@
 ghost use Rattle.std.specs.Prelude.{◌++◌, IfOk, OnOk};
 ghost use Rattle.jb_block.specs.Size.{bytes_of};
 ghost use Rattle.jb_disk.specs.Image.{Image, Only};
-ghost use Rattle.proof_clients.specs.Files.{files_content, files_count, files_faults, AreHonestFiles, FilesLeave, FilesLeft};
+ghost use Rattle.proof_clients.specs.Files.{files_content, files_count, files_faults, AreHonestFiles, FilesLeave};
+ghost use Rattle.proof_clients.specs.Files.{FilesLeft};
 ghost use Rattle.jb_recover.specs.Outcomes.{RecoversAs};
 ghost use Rattle.jb_recover.specs.Passes.{PassFaults};
 ghost use Rattle.jb_recover.specs.Recovers.{Recovers};

@@ -9,8 +9,8 @@ use std::thread::Threads;
 use std::time;
 
 /// Runs the journal on a disk with two workers: the first one writes these bytes to a home and waits, and tells the
-/// second one, which reads the home. Where the disk that is given back is honest, what the first has written stays after
-/// a crash, and is what the second has read.
+/// second one, which reads the home. Where the disk that is given back is honest, what the first has written stays
+/// after a crash, and is what the second has read.
 ///
 /// # Errors
 /// Those of [`run`].

@@ -1,5 +1,4 @@
-//! Eight threads stop handles while one thread commits and one brings groups home; also where the disk stops at some
-//! call, and the image that a crash leaves is recovered.
+//! Eight threads stop handles, one commits, and one brings groups home; also where the disk stops, up to a recovery.
 ghost use Rattle.std.specs.Prelude.{◌≡◌, ◌+◌, ◌^◌};
 ghost use Rattle.jb_desk.specs.History.{history_in};
 ghost use Rattle.jb_board.specs.History.{history_id};

@@ -2,7 +2,7 @@
 ghost use Rattle.std.specs.Prelude.{[]};
 ghost use Rattle.jb_block.specs.Size.{bytes_of};
 ghost use Rattle.jb_disk.specs.Faults.{CountsFault};
-ghost use Rattle.jb_disk.specs.Lives.{is_block_size};
+ghost use Rattle.jb_disk.specs.Lives.{bytes_are_block_size};
 
 use jb_block::BlockSize;
 use jb_disk::{Disk, Fault, MemoryDisk};
@@ -58,7 +58,7 @@ impl<'a, R: Wait + Clock> Disk for LentDisk<'a, R> {
 
     ghost left_since = { λ _ _ _. ⊥ };
 
-    ghost has_size = { λ d. is_block_size d.size };
+    ghost has_size = { λ d. bytes_are_block_size d.size };
 
     ghost newest_may_stay = { λ _ honest. absurd honest };
 

@@ -11,8 +11,8 @@ impl<S: Origin> Book<S> {
     ghost use Rattle.std.specs.Prelude.{[], ◌∷◌, ◌++◌, length, IfSome, IfNone, IsTrue};
     ghost use Rattle.jb_handle.specs.declared.stopped.Stopped.{Stopped};
     ghost use Rattle.jb_board.specs.HistoryRule.{with_last};
-    ghost use Rattle.jb_book.specs.Account.{IsSound, IsOver, IsSettledBy, CanTake};
-    ghost use Rattle.jb_book.specs.Shadow.{reserved};
+    ghost use Rattle.jb_book.specs.Account.{IsAccountSound, IsOver, IsSettledBy, CanTake};
+    ghost use Rattle.jb_book.specs.Shadow.{reserved_in};
     ghost use Rattle.jb_deck.specs.Done.{Follow, start_of};
 
     /// The shape of the journal that its handles are for.
@@ -54,8 +54,8 @@ impl<S: Origin> Book<S> {
 
     /// The credits of the open, the queued and the taken handles. A book is sound.
     pub fn reserved(&self) -> u64
-        ensures value { result ≡ reserved self.now.shadow }
-        ensures sound { IsSound self.now }
+        ensures value { result ≡ reserved_in self.now.shadow }
+        ensures sound { IsAccountSound self.now }
     {
         self.open_sum + self.line_sum
     }

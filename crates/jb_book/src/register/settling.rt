@@ -1,6 +1,6 @@
 //! The batch that is out is settled.
 ghost use Rattle.std.specs.Prelude.{◌≡◌, ◌↔◌, All, IsTrue};
-ghost use Rattle.jb_deck.specs.Done.{entries_of, first_of, past_after};
+ghost use Rattle.jb_deck.specs.Done.{entries_of, first_ticket, past_after};
 
 use super::{Register, look};
 use crate::fault::WrongBatch;
@@ -15,8 +15,8 @@ impl<D: Disk, S: Origin> Register<D, S> {
     ghost use Rattle.jb_book.specs.Led.{FailsAfter, IsOutAs, IsSettling, SettlesOrFails};
     ghost use Rattle.jb_book.specs.Marks.{HasFailedMark, IsMarked, SeesSame};
 
-    /// Settles the batch that is out, whole: a batch of this shape that ends at this ticket, whose handles were seen, and
-    /// its groups at a mark. Of any other batch the book fails.
+    /// Settles the batch that is out, whole: a batch of this shape that ends at this ticket, whose handles were seen,
+    /// and its groups at a mark. Of any other batch the book fails.
     ///
     /// # Errors
     ///
@@ -95,8 +95,8 @@ impl<D: Disk, S: Origin> Register<D, S> {
 
     /// Whether these are groups of the batch that is out, up to its end.
     fn is_whole(&self, done: &Done, end: u64, shape: Shape) -> bool
-        ensures { IsTrue result ↔ (IsOutAs self.now.book (first_of done.now) end shape
-            × (past_after (first_of done.now) (entries_of done.now) ≡ end)) }
+        ensures { IsTrue result ↔ (IsOutAs self.now.book (first_ticket done.now) end shape
+            × (past_after (first_ticket done.now) (entries_of done.now) ≡ end)) }
     {
         self.is_out(done.first(), end, shape) && end_of(done) == end
     }

@@ -1,8 +1,8 @@
 //! Images that are there: opened, locked, and used as disks.
 ghost use Rattle.std.specs.Prelude.{◌≡◌, take, option_map, Some, None, IfErr, IfOk, IfSome};
-ghost use Rattle.jb_disk.specs.File.{IsMeasured, size_of};
+ghost use Rattle.jb_disk.specs.File.{IsMeasured, size_of_blocks};
 ghost use Rattle.jb_format.specs.Front.{homes_in};
-ghost use Rattle.jb_commands.specs.Files.{IsOpened, IsShut, IsUnread, SaysSuper};
+ghost use Rattle.jb_commands.specs.Files.{IsImageOpened, IsShut, IsUnread, SaysSuper};
 
 use crate::fault::CommandFault;
 use jb_block::BlockSize;
@@ -38,7 +38,8 @@ pub fn open_counted<'a, S: Start, T: Start, R: Files<File = File> + AllocGlobal>
     opening: Opening,
 ) -> Result<(ImageDisk<FileDisk<S>, FileDisk<T>>, u64), CommandFault<'a>>
     ensures shut { IfErr result (IsShut name.entry.now (option_map (λ word. word.now) journal.entry)) }
-    ensures opened { IfOk result (λ opened. IsOpened (option_map (λ word. word.now) journal.entry) opened.0 opened.1) }
+    ensures opened { IfOk result
+        (λ opened. IsImageOpened (option_map (λ word. word.now) journal.entry) opened.0 opened.1) }
 {
     match journal {
         None => open_one(rt, name, opening),
@@ -56,7 +57,7 @@ fn open_one<'a, S: Start, T: Start, R: Files<File = File> + AllocGlobal>(
     opening: Opening,
 ) -> Result<(ImageDisk<FileDisk<S>, FileDisk<T>>, u64), CommandFault<'a>>
     ensures unread { IfErr result (IsUnread name.entry.now) }
-    ensures opened { IfOk result (λ opened. IsOpened None opened.0 opened.1) }
+    ensures opened { IfOk result (λ opened. IsImageOpened None opened.0 opened.1) }
 {
     let mut file = open_image(rt, name, opening)?;
     let sb = match super_of(rt.alloc(), &mut file, name) {
@@ -79,7 +80,7 @@ fn open_two<'a, S: Start, T: Start, R: Files<File = File> + AllocGlobal>(
     opening: Opening,
 ) -> Result<(ImageDisk<FileDisk<S>, FileDisk<T>>, u64), CommandFault<'a>>
     ensures shut { IfErr result (IsShut name.entry.now (Some journal.entry.now)) }
-    ensures opened { IfOk result (λ opened. IsOpened (Some journal.entry.now) opened.0 opened.1) }
+    ensures opened { IfOk result (λ opened. IsImageOpened (Some journal.entry.now) opened.0 opened.1) }
 {
     if are_one(fs::metadata(rt, journal), fs::metadata(rt, name)) {
         return Err(CommandFault::SameFile(name));
@@ -155,7 +156,7 @@ pub(crate) fn disk_of<'a, S: Start>(
     name: &'a str,
 ) -> Result<FileDisk<S>, CommandFault<'a>>
     ensures unread { IfErr result (IsUnread name.entry.now) }
-    ensures size { IfOk result (λ disk. size_of disk ≡ size) }
+    ensures size { IfOk result (λ disk. size_of_blocks disk ≡ size) }
     ensures measured { IfOk result IsMeasured }
 {
     match FileDisk::<S>::holding(file, size) {

@@ -1,6 +1,6 @@
 //! Images whose journal stands at the front, in a file of its own, or within the home blocks.
 ghost use Rattle.std.specs.Prelude.{◌≡◌, option_map, None, IfErr, IfOk, IfSome};
-ghost use Rattle.jb_disk.specs.File.{IsMeasured, size_of};
+ghost use Rattle.jb_disk.specs.File.{IsMeasured, size_of_blocks};
 ghost use Rattle.jb_image.specs.Lists.{list_of, shared_in};
 ghost use Rattle.jb_commands.specs.Files.{IsUnread, SaysSuper};
 ghost use Rattle.jb_commands.specs.Placed.{IsNoPlaceFor, IsOpenedAt, IsOpenedWithin, IsShutAt, IsShutWithin, JoinsFile};
@@ -92,7 +92,7 @@ fn joined<S: Start, T: Start>(
 ) -> Result<ImageDisk<FileDisk<S>, FileDisk<T>>, ExtentsFault>
     requires apart { shared_in (list_of extents) ≡ None }
     requires measured { IsMeasured disk }
-    ensures joined { IfOk result (λ whole. JoinsFile (list_of extents) sb.now (size_of disk) whole) }
+    ensures joined { IfOk result (λ whole. JoinsFile (list_of extents) sb.now (size_of_blocks disk) whole) }
     ensures apart { IfErr result (IsNoPlaceFor (list_of extents) sb.now) }
 {
     if let Some(block) = extents.past(disk.blocks()) {

@@ -2,7 +2,8 @@
 ghost use Rattle.std.specs.Prelude.{◌≡◌, ◌<◌, ◌++◌, IfSome, length, map, option_map};
 ghost use Rattle.jb_text.specs.TextParts.{spelled};
 ghost use Rattle.jb_text.specs.Puts.{Puts, PutsPart};
-ghost use Rattle.jb_commands.specs.Lines.{after_words, is_control_at, is_second as is_second_byte, line_naming, shown_at};
+ghost use Rattle.jb_commands.specs.Lines.{after_words, is_control_at, is_second as is_second_byte, line_naming};
+ghost use Rattle.jb_commands.specs.Lines.{shown_at};
 ghost use Rattle.jb_commands.specs.Lines.{shown_name};
 
 use arrayvec::ArrayVec;

@@ -14,7 +14,7 @@ use std::alloc::Global;
 use std::sync::ledger::Ledger;
 
 impl<D: Disk, H: Origin, N: Ledger> Counter<D, H, N> {
-    ghost use Rattle.jb_book.specs.Account.{granted_to, dropped_of, refusal, RefusesBegin};
+    ghost use Rattle.jb_book.specs.Account.{granted_to, dropped_of, begin_refusal, RefusesBegin};
     ghost use Rattle.jb_book.specs.Marks.{SeesStop};
     ghost use Rattle.jb_desk.specs.Stops.{IsStopped, RefusesStopOf};
 
@@ -33,7 +33,7 @@ impl<D: Disk, H: Origin, N: Ledger> Counter<D, H, N> {
         ensures ok { IfOk result (λ handle. (holder handle ≡ seat)
             × (changes_of handle ≡ held credits shape map.empty)) }
         ensures book { OnOk result (self.new.register.book ≡ granted_to seat.number credits self.old.register.book) }
-        ensures granted { OnOk result (refusal self.old.register.book seat.number credits ≡ None) }
+        ensures granted { OnOk result (begin_refusal self.old.register.book seat.number credits ≡ None) }
         ensures back { IfErr result (λ back. back.0 ≡ seat) }
         ensures refused { IfErr result (λ back. RefusesBegin self.old.register.book seat.number credits back.1) }
         ensures err { OnErr result (self.new.register.book ≡ self.old.register.book) }

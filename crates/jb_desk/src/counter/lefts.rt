@@ -49,9 +49,9 @@ impl<D: Disk, H: Origin, N: Ledger> Counter<D, H, N> {
     ghost use Rattle.jb_book.specs.History.{AreAllStops};
 
     /// Takes it apart where every seat that was given has left: into the book's trail, how many handles
-    /// stopped and how many blocks they had touched, which are the sums over what the seats left, the history, which has
-    /// all stops of the seats and no others, and the marks that were seen, at one of which the journal had the book's
-    /// shape. The history and the trail are those of events that the machine of handles accepts.
+    /// stopped and how many blocks they had touched, which are the sums over what the seats left, the history, which
+    /// has all stops of the seats and no others, and the marks that were seen, at one of which the journal had the
+    /// book's shape. The history and the trail are those of events that the machine of handles accepts.
     pub fn totals(
         self,
         history: &History<Words, H>,

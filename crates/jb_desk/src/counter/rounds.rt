@@ -51,8 +51,8 @@ impl<D: Disk, H: Origin, N: Ledger> Counter<D, H, N> {
         }
     }
 
-    /// Settles a batch that is committed whole: one of this shape that ends at this ticket, whose handles were seen, and
-    /// its groups at a mark.
+    /// Settles a batch that is committed whole: one of this shape that ends at this ticket, whose handles were seen,
+    /// and its groups at a mark.
     ///
     /// # Errors
     ///

@@ -24,7 +24,8 @@ impl<D: Disk, H: Origin, N: Ledger> Counter<D, H, N> {
         self.is_odd
     }
 
-    /// Whether the batch is one of odd number that has a ticket which is not settled: the last one, or else the next one.
+    /// Whether the batch is one of odd number that has a ticket which is not settled: the last one, or else the next
+    /// one.
     pub fn is_odd_for(&self, ticket: u64) -> bool
         ensures { result ≡ (if nat_lt ticket self.now.register.book.shadow.taken then self.now.is_odd
             else not self.now.is_odd) }

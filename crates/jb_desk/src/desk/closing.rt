@@ -76,8 +76,8 @@ impl<D: Disk + Drop, C: Clock, H: Origin, N: Ledger> Desk<D, C, H, N> {
     ghost use Rattle.jb_desk.specs.Closing.{IsNotClosed};
     ghost use Rattle.jb_book.specs.Since.{EndsSince};
 
-    /// Closes the desk, where every seat that it gave has left. It writes nothing. Of the marks that were seen it says that
-    /// each lasts: what a crash since then leaves has all that was settled at the mark.
+    /// Closes the desk, where every seat that it gave has left. It writes nothing. Of the marks that were seen it says
+    /// that each lasts: what a crash since then leaves has all that was settled at the mark.
     ///
     /// # Errors
     ///

@@ -62,8 +62,8 @@ impl Pace {
 }
 
 impl<D: Disk, C: Clock, H: Origin, N: Ledger> Desk<D, C, H, N> {
-    /// Begins a round, and waits before it where handles have stopped, unless the committer holds a batch, to which none
-    /// can be added.
+    /// Begins a round, and waits before it where handles have stopped, unless the committer holds a batch, to which
+    /// none can be added.
     pub(crate) fn gather<R: Wait + time::Clock>(
         &self,
         rt: &R,
@@ -76,8 +76,9 @@ impl<D: Disk, C: Clock, H: Origin, N: Ledger> Desk<D, C, H, N> {
         pace.begin(rt)
     }
 
-    /// Puts a round off by its delay; where there is none, for the threads that the last round has woken: they begin their
-    /// next handles at about the same time, and one that stops too late for a round is committed a whole round later.
+    /// Puts a round off by its delay; where there is none, for the threads that the last round has woken: they begin
+    /// their next handles at about the same time, and one that stops too late for a round is committed a whole round
+    /// later.
     fn put_off<R: Wait + time::Clock>(&self, rt: &R, pace: &Pace) {
         if !pace.delay.time.is_zero() {
             return self.await_handles(rt, pace.delay);
@@ -88,9 +89,9 @@ impl<D: Disk, C: Clock, H: Origin, N: Ledger> Desk<D, C, H, N> {
         }
     }
 
-    /// Waits until there is a batch to take, and then until so many handles have stopped, or for so long where fewer do. The
-    /// lock is held between the two: else one that stops meanwhile would be taken at once. The time is asked before and
-    /// after each sleep: where the clock cannot be read there is none.
+    /// Waits until there is a batch to take, and then until so many handles have stopped, or for so long where fewer
+    /// do. The lock is held between the two: else one that stops meanwhile would be taken at once. The time is asked
+    /// before and after each sleep: where the clock cannot be read there is none.
     fn await_handles<R: Wait + time::Clock>(&self, rt: &R, delay: Delay) {
         let counter = self.counter.lock(rt);
         let mut counter = self

@@ -15,10 +15,11 @@ impl<D: Disk, C: Clock, H: Origin, N: Ledger> Desk<D, C, H, N> {
     /// Reads a home block as it is committed: the copy that is its last live word, which may not be in its place
     /// yet, or else what the disk holds there. What no round has committed is not in it. Waits while the
     /// disk is at work for another thread; the book is not locked. Takes no memory, and changes nothing. After
-    /// a fault of the disk `buf` may hold anything. What was settled at the marks that were seen is settled in the journal
-    /// that is read: a read after a [`wait`](Desk::wait) sees the handle that was waited for
-    /// ([`laws::shown_is_given`](crate::laws::shown_is_given)). The journal as it is after the read is a mark that is seen
-    /// then: where the disk is honest as the desk is [closed](Desk::close) with what was seen, it was honest in the read.
+    /// a fault of the disk `buf` may hold anything. What was settled at the marks that were seen is settled in the
+    /// journal that is read: a read after a [`wait`](Desk::wait) sees the handle that was waited for
+    /// ([`laws::shown_is_given`](crate::laws::shown_is_given)). The journal as it is after the read is a mark that is
+    /// seen then: where the disk is honest as the desk is [closed](Desk::close) with what was seen, it was honest in
+    /// the read.
     ///
     /// # Errors
     ///

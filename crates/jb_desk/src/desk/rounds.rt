@@ -1,6 +1,6 @@
 //! Batches are committed, one in each round of a committer.
 ghost use Rattle.std.specs.Prelude.{◌≡◌, ◌+◌, ◌≤◌, length, None, Some, All, IfErr, OnOk};
-ghost use Rattle.jb_deck.specs.Done.{first_of, entries_of, past_after};
+ghost use Rattle.jb_deck.specs.Done.{first_ticket, entries_of, past_after};
 ghost use Rattle.jb_plan.specs.Prepared.{IsPlanned};
 ghost use Rattle.jb_desk.specs.Seats.{view_of};
 
@@ -155,12 +155,12 @@ impl<D: Disk, C: Clock, H: Origin, N: Ledger> Desk<D, C, H, N> {
         requires desk { desk_of seat.old ≡ desk_id self.now }
         requires settling { IsSettling seen.old.stops end shape done.now }
         requires marked { All (IsMarked seen.old.marks) (entries_of done.now) }
-        requires taken { past_after (first_of done.now) (entries_of done.now) ≤ (view_of seat.old).taken }
+        requires taken { past_after (first_ticket done.now) (entries_of done.now) ≤ (view_of seat.old).taken }
         ensures desk { (desk_of seat.new ≡ desk_of seat.old) × (seat_number seat.new ≡ seat_number seat.old) }
-        ensures settled { OnOk result (past_after (first_of done.now)
+        ensures settled { OnOk result (past_after (first_ticket done.now)
             (entries_of done.now) ≤ (view_of seat.new).settled) }
         ensures view { OnOk result (view_of seat.new ≡ raised_settled (view_of seat.old)
-            (past_after (first_of done.now) (entries_of done.now))) }
+            (past_after (first_ticket done.now) (entries_of done.now))) }
         ensures failed { IfErr result (λ fault. (fault ≡ Aborted) × (seat.new ≡ seat.old)) }
         ensures counted { KeepsStops seat.old seat.new }
     {
@@ -193,12 +193,12 @@ impl<D: Disk, C: Clock, H: Origin, N: Ledger> Desk<D, C, H, N> {
         requires settling { IsSettling seen.old.stops end shape done.now }
         requires marked { All (IsMarked seen.old.marks) (entries_of done.now) }
         requires failed { HasFailedMark seen.old.marks }
-        requires taken { past_after (first_of done.now) (entries_of done.now) ≤ (view_of seat.old).taken }
+        requires taken { past_after (first_ticket done.now) (entries_of done.now) ≤ (view_of seat.old).taken }
         ensures desk { (desk_of seat.new ≡ desk_of seat.old) × (seat_number seat.new ≡ seat_number seat.old) }
-        ensures settled { OnOk result (past_after (first_of done.now)
+        ensures settled { OnOk result (past_after (first_ticket done.now)
             (entries_of done.now) ≤ (view_of seat.new).settled) }
         ensures view { OnOk result (view_of seat.new ≡ raised_settled (view_of seat.old)
-            (past_after (first_of done.now) (entries_of done.now))) }
+            (past_after (first_ticket done.now) (entries_of done.now))) }
         ensures failed { IfErr result (λ fault. (fault ≡ Aborted) × (seat.new ≡ seat.old)) }
         ensures counted { KeepsStops seat.old seat.new }
     {

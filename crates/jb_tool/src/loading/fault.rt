@@ -101,7 +101,7 @@ impl From<SeatFault> for HandleFault {
 
 impl HandleFault {
     ghost use Rattle.std.specs.Prelude.{◌≡◌};
-    ghost use Rattle.jb_tool.specs.Telling.{name_of, number_in};
+    ghost use Rattle.jb_tool.specs.Telling.{name_of, number_named};
 
     /// Its name.
     pub fn name(self) -> &'static str
@@ -123,7 +123,7 @@ impl HandleFault {
 
     /// Its number, where it has one.
     pub fn number(self) -> Option<u64>
-        ensures { result ≡ number_in self }
+        ensures { result ≡ number_named self }
     {
         match self {
             HandleFault::TooManyCredits(credits) | HandleFault::NoCredit(credits) => {

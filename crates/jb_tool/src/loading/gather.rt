@@ -1,6 +1,6 @@
 //! What the workers leave is put together.
 ghost use Rattle.std.specs.Prelude.{◌≡◌};
-ghost use Rattle.jb_tool.specs.Gathering.{earlier_of};
+ghost use Rattle.jb_tool.specs.Gathering.{earlier_refused};
 
 use crate::loading::loaded::Refused;
 use crate::loading::running::Ran;
@@ -24,7 +24,7 @@ impl<H: Origin, N: Ledger> Gathered<H, N> {
     ghost use Rattle.std.specs.List.{flat_map, sum_by};
     ghost use Rattle.std.specs.Option.{option_to_list};
     ghost use Rattle.jb_desk.specs.Seats.{changes_left};
-    ghost use Rattle.jb_tool.specs.Gathering.{earlier_of, first_refused};
+    ghost use Rattle.jb_tool.specs.Gathering.{earlier_refused, first_refused};
     ghost use Rattle.jb_tool.specs.Runs.{run_of, changes_in};
     ghost use Rattle.jb_tool.specs.Running.{HasRun, IsGathered};
     ghost use Rattle.jb_handle.specs.declared.shape.Shape.{Shape as ShapeValue};
@@ -63,7 +63,7 @@ impl<H: Origin, N: Ledger> Gathered<H, N> {
     /// `Memory` where there is none for that.
     fn add(&mut self, worked: Worked<H, N>) -> Result<(), Memory>
         ensures lefts { OnOk result (self.new.lefts.items ≡ self.old.lefts.items ++ option_to_list worked.left) }
-        ensures refused { OnOk result (self.new.refused ≡ earlier_of self.old.refused worked.refused) }
+        ensures refused { OnOk result (self.new.refused ≡ earlier_refused self.old.refused worked.refused) }
         ensures changed { OnOk result (sum_by changes_left self.new.lefts.items ≡ sum_by changes_left
             self.old.lefts.items + changes_in worked.left) }
     {
@@ -113,7 +113,7 @@ impl<H: Origin, N: Ledger> Gathered<H, N> {
 
 /// The one of two refused handles that is earlier in the queue.
 fn earlier(one: Option<Refused>, other: Option<Refused>) -> Option<Refused>
-    ensures { result ≡ earlier_of one other }
+    ensures { result ≡ earlier_refused one other }
 {
     match (one, other) {
         (Some(one), Some(other)) if other.handle < one.handle => Some(other),

@@ -1,6 +1,7 @@
 ghost use Rattle.std.specs.Prelude.{◌≡◌, ◌+◌, ◌^◌, ◌≤◌, ◌⊎◌, [], false, IfErr, IfOk};
 ghost use Rattle.jb_desk.specs.Desks.{shape_in};
-ghost use Rattle.jb_tool.specs.Loads.{AnswersLoad, EndsCheckpoint, IsOpened, NotOpened};
+ghost use Rattle.jb_book.specs.Opened.{NotOpened, WasOpened};
+ghost use Rattle.jb_tool.specs.Loads.{AnswersLoad, EndsCheckpoint};
 ghost use Rattle.jb_tool.specs.Settled.{LoadedSince, LoadsSince, MayStop};
 ghost use Rattle.jb_desk.specs.History.{history_in};
 ghost use Rattle.jb_board.specs.History.{history_id};
@@ -90,7 +91,7 @@ pub fn load_on<
 fn open<D: Disk, H: Origin>(alloc: Global, disk: D) -> Result<Deck<D>, (D, OpenFault)>
     requires { IsBegunOn D.Disk H.begun disk }
     ensures opened { IfOk result (λ deck. (shape : ShapeValue) → IsShapeOf deck.log.sb (D.count deck.disk) shape
-        → IsOpened D.Disk disk shape) }
+        → WasOpened D.Disk disk shape) }
     ensures new { IfOk result (λ deck. (deck.trail ≡ []) × (deck.aborted ≡ false)) }
     ensures since { IfOk result (λ deck. IsSince D.Disk H.begun deck) }
     ensures refused { IfErr result (λ back. NotOpened D.Disk disk back.0 back.1) }

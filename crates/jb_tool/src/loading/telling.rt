@@ -1,6 +1,6 @@
 ghost use Rattle.jb_text.specs.Puts.{Puts};
 ghost use Rattle.std.specs.Prelude.{◌≡◌};
-ghost use Rattle.jb_tool.specs.Telling.{TellsLoad, aborted_word as aborted_said, counts_line, end_line};
+ghost use Rattle.jb_tool.specs.Telling.{TellsLoad, aborted_word as aborted_said, counts_line, thread_end_line};
 ghost use Rattle.jb_tool.specs.Telling.{ends_text, faults_text, refused_text};
 
 use crate::loading::loaded::{Loaded, Refused};
@@ -112,7 +112,7 @@ fn put_end<E: Write>(
     ended: Option<Ended>,
     err: &mut E,
 ) -> Result<(), WriteFault>
-    ensures { Puts (E.contents err.old) (E.contents err.new) (end_line thread.now aborted.now ended) result }
+    ensures { Puts (E.contents err.old) (E.contents err.new) (thread_end_line thread.now aborted.now ended) result }
 {
     match ended {
         None | Some(Ended::Shut(_)) => Ok(()),

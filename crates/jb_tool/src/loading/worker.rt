@@ -6,7 +6,7 @@ ghost use Rattle.jb_tool.specs.Settled.{MayStop};
 ghost use Rattle.jb_tool.specs.Runs.{IsAt, IsRun, IsCounted, run_of};
 ghost use Rattle.jb_tool.specs.Running.{RunsAt};
 ghost use Rattle.jb_handle.specs.declared.stopped.Stopped.{Stopped as StoppedValue};
-ghost use Rattle.jb_queue.specs.QueueLines.{IsPlaced, handles_of};
+ghost use Rattle.jb_queue.specs.QueueLines.{StandsAfter, handles_of};
 
 use crate::loading::fault::HandleFault;
 use crate::loading::handle::run_handle;
@@ -107,12 +107,12 @@ fn run_next<D: Disk, C: Clock, R: Wait + time::Clock, H: Origin, N: Ledger>(
     passed: usize,
 ) -> (Seat<H, N>, Result<u64, HandleFault>)
     requires desk { desk_of seat ≡ desk_id desk.now }
-    requires words { (queue : List StoppedValue) × (at : ℕ) × IsPlaced reader.old queue at × MayStop H.begun queue }
+    requires words { (queue : List StoppedValue) × (at : ℕ) × StandsAfter reader.old queue at × MayStop H.begun queue }
     ensures desk { desk_of result.0 ≡ desk_id desk.now }
-    ensures ran { (queue : List StoppedValue) (at : ℕ) → IsPlaced reader.old queue at → at + passed < length queue
+    ensures ran { (queue : List StoppedValue) (at : ℕ) → StandsAfter reader.old queue at → at + passed < length queue
         → RunsAt (shape_in desk.now) queue (at + passed) seat result.0 result.1 }
-    ensures placed { (queue : List StoppedValue) (at : ℕ) → IsPlaced reader.old queue at → at + passed < length queue
-        → IsPlaced reader.new queue (at + passed + 1) }
+    ensures placed { (queue : List StoppedValue) (at : ℕ) → StandsAfter reader.old queue at → at + passed < length queue
+        → StandsAfter reader.new queue (at + passed + 1) }
 {
     match reader.read(alloc, passed) {
         Ok(Some(words)) => run_handle(rt, desk, seen, seat, &words),

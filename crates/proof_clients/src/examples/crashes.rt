@@ -7,7 +7,7 @@ ghost use Rattle.jb_disk.specs.Image.{block};
 ghost use Rattle.jb_super.specs.Sound.{FitsFields};
 ghost use Rattle.jb_scan.specs.declared.transaction.Transaction.{Transaction};
 ghost use Rattle.jb_recover.specs.Outcomes.{RecoversAs, recovered};
-ghost use Rattle.jb_recover.specs.Refusals.{refusal};
+ghost use Rattle.jb_recover.specs.Refusals.{image_refusal};
 ghost use Rattle.jb_recover.specs.declared.fault.RecoverFault.{RecoverFault};
 ghost use Rattle.proof_clients.specs.ExampleCrashes.{with_new, MayBeLeft, HasLog, copied_twice, copied_and_revoked};
 
@@ -58,6 +58,6 @@ pub fn recovers_as()
         → block base (sb.maxlen + 5) ≢ bytes → HasLog size count sb (copied_and_revoked bytes) base
         → block (recovered size count c) (sb.maxlen + 5) ≡ bytes → RecoversAs size count base c → ⊥ }
     ensures not_refused { (size count : ℕ) (sb : Superblock) (ts : List Transaction) (fault : RecoverFault)
-        (base c : Image) → HasLog size count sb ts base → refusal size count c ≡ Some fault
+        (base c : Image) → HasLog size count sb ts base → image_refusal size count c ≡ Some fault
         → RecoversAs size count base c → ⊥ }
 {}

@@ -1,7 +1,7 @@
 use Rattle.std.proofs.Common.{◌≡◌, length, subst, ◌∙◌, arith}
 use Rattle.jb_cost.specs.declared.geometry.Geometry.{Geometry}
 use Rattle.jb_cost.specs.Owned.{owned_cost}
-use Rattle.jb_cost.specs.Search.{BestSoFar, IsOver}
+use Rattle.jb_cost.specs.Search.{BestSoFar, AreBeyondLimit}
 use Rattle.jb_cost.specs.Starts.{BestStart}
 use Rattle.jb_cost.proofs.Starts.{best-all}
 use Rattle.jb_cost.proofs.best_start.best_start.Goals as goal
@@ -25,7 +25,7 @@ pub returns-in-None-clause-best : goal.returns-in-None-clause-best
 returns-in-None-clause-best c ps fit =
     let so_far = c.loop-walk.invariant in
     let tried = so_far.best ps fit in
-    let over = subst (λ (g : Geometry). IsOver g c.args.owned.now c.args.limit c.loop-walk.walk.low) so_far.geometry c.in-None.ensures.over in
+    let over = subst (λ (g : Geometry). AreBeyondLimit g c.args.owned.now c.args.limit c.loop-walk.walk.low) so_far.geometry c.in-None.ensures.over in
     ((c.in-None.ensures.best ps tried.0).0, best-all (owned_cost c.args.geometry c.args.owned.now) c.args.limit ps c.loop-walk.walk.low (length c.args.owned.now) c.loop-walk.walk.best tried.1 over)
 
 pub returns-after-loop-walk-clause-best : goal.returns-after-loop-walk-clause-best

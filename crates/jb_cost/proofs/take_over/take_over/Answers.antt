@@ -2,7 +2,7 @@ use Rattle.std.proofs.Common.{◌+◌, ◌<◌, not, T, length, sym, ap, subst, 
 use Rattle.std.specs.Ordering.{nat_cmp}
 use Rattle.std.specs.BTreeMap.{get}
 use Rattle.std.specs.FinMap as map
-use Rattle.jb_cost.specs.Owned.{copies_of, frees_of, kept, later_touch}
+use Rattle.jb_cost.specs.Owned.{copies_of, frees_of, left_copy, later_touch}
 use Rattle.jb_cost.proofs.Fresh.{one-kind}
 use Rattle.jb_cost.proofs.Owning.{owns, counts-more}
 use Rattle.jb_cost.proofs.Fresh.{turned}
@@ -19,7 +19,7 @@ lose-requires-clause-inside c t is =
 pub lose-requires-clause-copies : goal.lose-requires-clause-copies
 lose-requires-clause-copies c t is =
     let inside = lose-requires-clause-inside c t is in
-    owns copies_of kept _ _ c.loop-home.owned.items c.loop-home.last _ t c.loop-home.invariant.copies c.in_ok-before.ensures.was_ordered (sym c.in_ok-before.ensures.old ∙ is) (omega (arith, inside, c.loop-home.invariant.number)) (sym c.loop-home.invariant.number)
+    owns copies_of left_copy _ _ c.loop-home.owned.items c.loop-home.last _ t c.loop-home.invariant.copies c.in_ok-before.ensures.was_ordered (sym c.in_ok-before.ensures.old ∙ is) (omega (arith, inside, c.loop-home.invariant.number)) (sym c.loop-home.invariant.number)
 
 pub lose-requires-clause-frees : goal.lose-requires-clause-frees
 lose-requires-clause-frees c t is =
@@ -37,7 +37,7 @@ loop-home-preserved c =
       idle = λ k none. c.lose.ensures.idle k (c.loop-home.invariant.idle k none);
       ordered = λ _. put.ordered;
       follows = follows-next _ rising _ _ c.loop-home-item.is inside _ c.args.last.now c.loop-home.last c.loop-home.invariant.follows c.insert.new.self c.is_copy-copy.result c.is_copy-copy.ensures put.updates.0;
-      copies = counts-more copies_of kept _ _ _ _ _ c.loop-home.last c.insert.new.self _ _ _ c.loop-home.invariant.copies put.was_ordered put.entries put.old c.lose.ensures.copies c.with-gained.ensures.copies;
+      copies = counts-more copies_of left_copy _ _ _ _ _ c.loop-home.last c.insert.new.self _ _ _ c.loop-home.invariant.copies put.was_ordered put.entries put.old c.lose.ensures.copies c.with-gained.ensures.copies;
       frees = counts-more frees_of not _ _ _ _ _ c.loop-home.last c.insert.new.self _ _ _ c.loop-home.invariant.frees put.was_ordered put.entries put.old c.lose.ensures.frees (c.with-gained.ensures.frees ∙ ap (λ n. c.loop-home.gained.frees + n) (sym (turned c.is_copy-copy.result)));
       spans = c.lose.ensures.spans;
       places = c.lose.ensures.places ∙ c.loop-home.invariant.places;

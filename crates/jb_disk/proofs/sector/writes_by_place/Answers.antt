@@ -1,5 +1,5 @@
 use Rattle.std.proofs.Common.{◌≡◌, ◌+◌, ◌∷◌, arith, take, set, sym, ◌∙◌, ap, subst}
-use Rattle.jb_disk.specs.Calls.{step_of, steps_of}
+use Rattle.jb_disk.specs.Calls.{history_step, steps_of}
 use Rattle.jb_disk.specs.History.{Wrote}
 use Rattle.jb_disk.proofs.Listed.{steps_of-more}
 use Rattle.jb_block.proofs.Refusals.{on-refusal}
@@ -25,7 +25,7 @@ loop-call-preserved c = elim c.match-call.branch [
       let steps : Wrote w.in-Write.place w.as_slice.result.now ∷ steps_of (take c.loop-call.call-index c.args.calls.now) ≡ steps_of (take (c.loop-call.call-index + 1) c.args.calls.now)
       = ap (λ b. Wrote w.in-Write.place b ∷ steps_of (take c.loop-call.call-index c.args.calls.now)) w.as_slice.ensures.value
       ∙ sym (steps_of-more c.args.calls.now c.loop-call.call-index c.call-item.result c.loop-call-test.true c.call-item.is
-      ∙ ap (λ x. step_of x ∷ steps_of (take c.loop-call.call-index c.args.calls.now)) w.in-Write.is) in
+      ∙ ap (λ x. history_step x ∷ steps_of (take c.loop-call.call-index c.args.calls.now)) w.in-Write.is) in
       rw w.table-is (subst (IsTable c.args.count (set c.loop-call.table.items w.in-Write.place w.push.new.self)) steps
       (table-write c.args.count c.loop-call.table.items (steps_of (take c.loop-call.call-index c.args.calls.now)) w.in-Write.place w.index_mut.result.now w.push.new.self w.as_slice.result
       c.loop-call.invariant at.0 w.index_mut.ensures.value w.in_ok-push.ensures.items))

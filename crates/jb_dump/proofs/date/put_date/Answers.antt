@@ -1,8 +1,5 @@
-use Rattle.std.proofs.Common.{◌≡◌, ◌++◌, ap, ◌∙◌, sym, arith, string_bytes}
-use Rattle.std.specs.Prelude.{decimal, nat_lt, if◌then◌else◌}
-use Rattle.std.proofs.lemmas.Bool.{lt-ltb}
-use Rattle.jb_dump.specs.Dates.{date_text}
-use Rattle.jb_dump.proofs.Days.{date-written, no-date}
+use Rattle.std.proofs.Common.{◌++◌, ap, ◌∙◌, arith, string_bytes}
+use Rattle.jb_dump.proofs.Days.{date-written}
 use Rattle.jb_dump.proofs.date.put_date.Goals as goal
 
 pub returns : goal.returns

@@ -1,4 +1,4 @@
-use Rattle.std.proofs.Common.{◌≡◌, ◌/◌, ◌++◌, [], length, ap, ap₂, ◌∙◌, string_bytes}
+use Rattle.std.proofs.Common.{◌≡◌, ◌/◌, ◌++◌, length, ap, ap₂, ◌∙◌, string_bytes}
 use Rattle.jb_dump.specs.Summary.{copies_line, first_of_all, written_lines, last_of_all, least_of, greatest_of, revokes_line, sizes_line, sum_of, times_line}
 use Rattle.jb_dump.specs.Written.{foremost, written_rows}
 use Rattle.jb_dump.proofs.Rows.{rows-written}

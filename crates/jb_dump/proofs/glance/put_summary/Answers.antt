@@ -1,4 +1,4 @@
-use Rattle.std.proofs.Common.{◌≡◌, ◌++◌, zero, suc, ℕ, List, length, [], sym, ap, ap₂, ◌∙◌, ◌≢◌, refl, arith, append-nil, string_bytes}
+use Rattle.std.proofs.Common.{◌≡◌, ◌++◌, length, sym, ap, ap₂, ◌∙◌, arith, append-nil, string_bytes}
 use Rattle.jb_dump.specs.Summary.{contents_said, contents_text, ends_line, room_line, sum_of}
 use Rattle.jb_dump.proofs.Summing.{none-said, some-said, three-parts}
 use Rattle.jb_dump.proofs.glance.put_summary.Goals as goal

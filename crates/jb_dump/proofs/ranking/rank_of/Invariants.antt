@@ -1,4 +1,4 @@
-use Rattle.std.proofs.Common.{ℕ, List, length, ◌-◌, ◌≡◌, ◌≤◌, ◌++◌, ◌∷◌, take, drop}
+use Rattle.std.proofs.Common.{length, ◌-◌, ◌≡◌, ◌≤◌, ◌++◌, take, drop}
 use Rattle.jb_dump.specs.Written.{ranked_among}
 use Rattle.jb_dump.proofs.ranking.rank_of.Given as goal
 

@@ -1,4 +1,4 @@
-use Rattle.std.proofs.Common.{◌≡◌, Some, subst, arith}
+use Rattle.std.proofs.Common.{subst, arith}
 use Rattle.jb_dump.specs.Summary.{summary_of}
 use Rattle.jb_dump.specs.Tallies.{AreTallied, IsTallyOf}
 use Rattle.jb_dump.proofs.Summing.{tally-more}

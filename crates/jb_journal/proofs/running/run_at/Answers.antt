@@ -1,4 +1,4 @@
-use Rattle.std.proofs.Common.{◌≡◌, List, [], ◌∷◌, ◌++◌, map, IfOk, ap, subst, ◌∙◌, arith}
+use Rattle.std.proofs.Common.{◌≡◌, [], ◌∷◌, ◌++◌, map, IfOk, ap, subst, ◌∙◌, arith}
 use Rattle.std.proofs.lemmas.Bool.{OnTrue_from}
 use Rattle.std.proofs.lemmas.Grind.{common_steps}
 use Rattle.jb_deck.specs.Done.{past_after}

@@ -1,6 +1,6 @@
 use Rattle.std.proofs.Common.{◌≡◌, ◌⊎◌, false, length, ap, sym, subst, ◌∙◌, inl, inr, ⊎_elim}
 use Rattle.jb_block.specs.Size.{bytes_of}
-use Rattle.jb_disk.specs.History.{History, IsSound, MayLeave, newest_of, replay}
+use Rattle.jb_disk.specs.History.{History, IsHistorySound, MayLeave, newest_of, replay}
 use Rattle.jb_disk.specs.Image.{Only}
 use Rattle.jb_disk.specs.Lives.{left_since_now}
 use Rattle.jb_format.proofs.Entering.{entry-as}
@@ -39,7 +39,7 @@ returns-clause-lives c = λ rest own last_number before done entry.
     let kept = c.run-last.ensures.kept in
     let at_rest : IsAtRest first = subst IsAtRest (sym is) rest in
     let holds : HoldsChanges own last_number size count before done base = subst (λ (h : History). HoldsChanges own last_number (bytes_of h.size) h.count before done (newest_of h)) (sym is) entry in
-    let sound_last : IsSound last = subst IsSound c.into_inner-last.ensures c.always_sound.ensures.sound in
+    let sound_last : IsHistorySound last = subst IsHistorySound c.into_inner-last.ensures c.always_sound.ensures.sound in
     let leaves = c.run-last.ensures.leaves sound_last in
     let allowed : MayLeave last.first last.steps crashed.first = subst (λ (h : History). MayLeave h.first h.steps crashed.first) c.into_inner-last.ensures c.in_ok-crashed.ensures.allowed in
     let left : (crashed.first ≡ base) ⊎ LeftByLife size count base handles false crashed.first = ⊎_elim (λ stays. inl (at_rest.only crashed.first stays)) inr (leaves.each crashed.first (left_since_now last.first last.steps (length first.steps) crashed.first leaves.later allowed)) in
@@ -50,7 +50,7 @@ returns-clause-lives c = λ rest own last_number before done entry.
     let cut = c.of-2.result.disk in
     let part = c.recover_in_part.result.disk in
     let kept_cut = c.recover_in_part.ensures.kept in
-    let sound_part : IsSound part = subst IsSound c.into_inner-cut.ensures c.always_sound-2.ensures.sound in
+    let sound_part : IsHistorySound part = subst IsHistorySound c.into_inner-cut.ensures c.always_sound-2.ensures.sound in
     let only_cut : Only (newest_of cut) (MayLeave cut.first cut.steps) = subst (λ (h : History). Only (newest_of h) (MayLeave h.first h.steps)) (sym is_cut) (fresh-only crashed c.in_ok-crashed.ensures.fresh.0) in
     let leaves_cut = c.recover_in_part.ensures.leaves sound_part only_cut in
     let allowed_cut : MayLeave part.first part.steps again.first = subst (λ (h : History). MayLeave h.first h.steps again.first) c.into_inner-cut.ensures c.in_ok-disk.ensures.allowed in

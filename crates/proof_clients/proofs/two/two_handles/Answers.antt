@@ -1,6 +1,6 @@
 use Rattle.std.proofs.Common.{◌≡◌, ◌≤◌, [], ◌∷◌, ◌++◌, Ok, subst, arith}
 use Rattle.jb_handle.specs.Handle.{changes_of}
-use Rattle.jb_book.specs.Calls.{Opened, Enqueued, Called}
+use Rattle.jb_book.specs.Calls.{Opened, Enqueued, CallsMake}
 use Rattle.proof_clients.specs.BookClient.{Stand}
 use Rattle.proof_clients.proofs.Cut.{begun, stand, told}
 use Rattle.proof_clients.proofs.two.two_handles.Given.{Over}
@@ -13,7 +13,7 @@ both g c =
     let one = Opened 1 c.credits.result c.open-first.result in
     let two = Opened 2 c.credits-2.result c.open-second.result in
     let stopped = Enqueued 1 (changes_of c.args.first).words (Ok c.in_ok-_one._one) in
-    let called : Called c.shape.result c.from.result (begun c.credits.result c.credits-2.result c.open-first.result c.open-second.result (changes_of c.args.first).words (changes_of c.args.second).words c.in_ok-_one._one c.in_ok-_two._two) c.stop-two.new.book =
+    let called : CallsMake c.shape.result c.from.result (begun c.credits.result c.credits-2.result c.open-first.result c.open-second.result (changes_of c.args.first).words (changes_of c.args.second).words c.in_ok-_one._one c.in_ok-_two._two) c.stop-two.new.book =
     c.in_ok-_two.ensures c.shape.result c.from.result (stopped ∷ two ∷ one ∷ [])
     (c.in_ok-_one.ensures c.shape.result c.from.result (two ∷ one ∷ []) (c.open-first.new.self, (c.new-book.result, c.new-book.ensures, c.open-first.ensures.does []), c.open-second.ensures.does (one ∷ []))) in (
       told c.into_trail.result c.every_run.ensures c.shape.result c.from.result small (changes_of c.args.first).words (changes_of c.args.second).words c.credits.result c.credits-2.result c.in_ok-_one._one c.in_ok-_two._two c.open-first.result c.open-second.result

@@ -1,6 +1,6 @@
 use Rattle.std.proofs.Common.{◌≡◌, ◌++◌, length, sym, ◌∙◌, ap, ap₂, subst}
 use Rattle.jb_block.specs.Size.{bytes_of}
-use Rattle.jb_disk.specs.File.{FileLeaves, IsHonest, content_of, size_of}
+use Rattle.jb_disk.specs.File.{FileLeaves, IsHonest, content_of, size_of_blocks}
 use Rattle.jb_disk.specs.Image.{Only}
 use Rattle.jb_image.specs.Pair.{front_disk, past_states}
 use Rattle.proof_clients.specs.Files.{FilesLeave, FilesLeft, files_content, files_count}
@@ -20,7 +20,7 @@ returns-clause-crash g c honest d left =
     let S = g.S.Start.content 0 in
     let T = g.T.Start.content 0 in
     let was = done.kept.was_honest honest in
-    let size : bytes_of (size_of (front_disk old)) ≡ bytes_of c.args.size = ap bytes_of (ap size_of is_front ∙ c.in_ok-front.ensures.size) in
+    let size : bytes_of (size_of_blocks (front_disk old)) ≡ bytes_of c.args.size = ap bytes_of (ap size_of_blocks is_front ∙ c.in_ok-front.ensures.size) in
     let asked_front = c.in_ok-front.ensures.opened in
     let asked_back = c.in_ok-back.ensures.opened in
     let held : files_content old ≡ S ++ T

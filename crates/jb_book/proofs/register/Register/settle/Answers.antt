@@ -1,4 +1,4 @@
-use Rattle.std.proofs.Common.{rules, ap, subst, sym, ◌∙◌, ◌≡◌, false, All, Err, Ok}
+use Rattle.std.proofs.Common.{rules, ap, subst, sym, ◌∙◌, ◌≡◌, false, Ok}
 use Rattle.jb_deck.specs.Done.{entries_of}
 use Rattle.jb_book.specs.Account.{failed_of}
 use Rattle.jb_book.specs.Led.{IsRegistered, Registered, SettlesOrFails}

@@ -1,4 +1,4 @@
-use Rattle.std.proofs.Common.{◌≡◌, ◌++◌, ◌∷◌, [], length, ap, sym, subst, ◌∙◌}
+use Rattle.std.proofs.Common.{◌++◌, ◌∷◌, [], length, ap, sym, subst, ◌∙◌}
 use Rattle.jb_handle.specs.Handle.{changes_of, holder}
 use Rattle.jb_board.specs.HistoryRule.{IsFirstPart}
 use Rattle.jb_book.specs.Account.{Account, RefusesStop}

@@ -1,4 +1,4 @@
-use Rattle.std.proofs.Common.{refl, ap, Ok}
+use Rattle.std.proofs.Common.{ap, Ok}
 use Rattle.jb_commands.specs.declared.report.Report.TheVariants.{Formatted}
 use Rattle.jb_commands.proofs.files.making.make_file.Goals as goal
 

@@ -1,5 +1,5 @@
 use Rattle.std.proofs.Common.{rules, ◌≡◌, true, Some, Err, sym, ap, ◌∙◌, arith}
-use Rattle.jb_core.specs.Machine.{Machine, fault_of, handle_at, held_at, reserved, after}
+use Rattle.jb_core.specs.Machine.{Machine, fault_of, handle_at, held_at, reserved, after_event}
 use Rattle.jb_core.specs.State.{machine_of}
 use Rattle.std.specs.Ordering.{nat_cmp}
 use Rattle.std.specs.Option.{unwrap_or}
@@ -37,5 +37,5 @@ invariant_of-self-2 c =
     let there : handle_at (machine_of c.self.inside) c.args.seat ≡ Some c.in-Some.changes.now = search rules in
     let written = c.get_mut.follows.holds c.apply.new.self in
     let same = touch-reserved (machine_of c.self.inside) c.args.seat c.in-Some.changes.now (held_after (held_at (machine_of c.self.inside) c.args.seat) c.args.op) there (ap (λ found. (unwrap_or found (held 0 c.self.inside.shape map.empty)).credits) there) in
-    let counted : c.self.inside.reserved ≡ reserved (after (machine_of c.self.inside) (Touch c.args.seat c.args.op)) = omega (arith, same, c.self.invariant.counted) in
-    kept-by _ (after (machine_of c.self.inside) (Touch c.args.seat c.args.op)) (search rules) (touch-sound (machine_of c.self.inside) c.self.invariant.sound up c.args.seat c.args.op (search rules)) counted written.4
+    let counted : c.self.inside.reserved ≡ reserved (after_event (machine_of c.self.inside) (Touch c.args.seat c.args.op)) = omega (arith, same, c.self.invariant.counted) in
+    kept-by _ (after_event (machine_of c.self.inside) (Touch c.args.seat c.args.op)) (search rules) (touch-sound (machine_of c.self.inside) c.self.invariant.sound up c.args.seat c.args.op (search rules)) counted written.4

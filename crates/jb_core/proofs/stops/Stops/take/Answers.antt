@@ -2,15 +2,15 @@ use Rattle.std.proofs.Common.{rules, ◌≡◌, ◌+◌, ◌++◌, map, refl, sy
 use Rattle.std.proofs.lemmas.List.{length-drop}
 use Rattle.jb_cost.specs.Cut.{IsCut}
 use Rattle.jb_core.specs.Line.{Line, IsTaken}
-use Rattle.jb_core.specs.Stops.{line_of}
+use Rattle.jb_core.specs.Stops.{line_of_stops}
 use Rattle.jb_core.specs.declared.stops.Stops.TheInside.{Inside}
 use Rattle.jb_core.proofs.Moves.{rest-is, rises-below, cut-rises, take-kept, take-line}
 use Rattle.jb_core.proofs.stops.Stops.take.Goals as goal
 
 pub push_ends-requires : goal.push_ends-requires
 push_ends-requires c = rw (rest-is 1 c.args.bounds.now) (λ k d there.
-    let cut : IsCut (length (line_of c.self.inside).queue) c.args.bounds.now = subst (λ (l : Line). IsCut (length l.queue) c.args.bounds.now) (sym c.self.view_is) c.requires.cut in
-    let below = rises-below (length (line_of c.self.inside).queue) 0 (drop 1 c.args.bounds.now) (cut-rises _ c.args.bounds.now cut) k d there in
+    let cut : IsCut (length (line_of_stops c.self.inside).queue) c.args.bounds.now = subst (λ (l : Line). IsCut (length l.queue) c.args.bounds.now) (sym c.self.view_is) c.requires.cut in
+    let below = rises-below (length (line_of_stops c.self.inside).queue) 0 (drop 1 c.args.bounds.now) (cut-rises _ c.args.bounds.now cut) k d there in
     let left = length-drop c.self.inside.taken_end c.self.inside.handles.items in
     let inside = c.self.invariant.inside in
     omega arith)
@@ -29,7 +29,7 @@ pub returns-clause-ok : goal.returns-clause-ok
 returns-clause-ok c =
     let end : c.len-end.result ≡ length c.self.inside.handles.items = search rules in
     let after : Inside = record { handles = c.self.inside.handles; granted = c.self.inside.granted; ends = c.push_ends.new.ends; taken_end = c.len-end.result; settled = c.self.inside.settled; settled_end = c.self.inside.settled_end } in
-    subst (λ (l : Line). IsTaken c.args.bounds.now l (line_of after)) c.self.view_is
+    subst (λ (l : Line). IsTaken c.args.bounds.now l (line_of_stops after)) c.self.view_is
     (take-line c.self.inside c.self.invariant c.args.bounds.now
     (subst (λ (l : Line). IsCut (length l.queue) c.args.bounds.now) (sym c.self.view_is) c.requires.cut)
     (ap (λ (l : Line). l.taken) c.self.view_is ∙ c.requires.none)

@@ -2,7 +2,7 @@ use Rattle.std.proofs.Common.{◌≡◌, ◌+◌, ◌∷◌, ◌++◌, not, [], 
 use Rattle.std.specs.Ordering.{nat_cmp}
 use Rattle.std.specs.BTreeMap.{get}
 use Rattle.std.specs.FinMap as map
-use Rattle.jb_cost.specs.Owned.{later_touch, copies_of, frees_of, kept}
+use Rattle.jb_cost.specs.Owned.{later_touch, copies_of, frees_of, left_copy}
 use Rattle.jb_cost.specs.Starts.{AreLeast, priced_of}
 use Rattle.jb_cost.specs.Spans.{AreBest, FitOwned}
 use Rattle.jb_cost.proofs.Following.{follows-more, leasts-more}
@@ -24,7 +24,7 @@ returns-clause-sound c =
           let n = length os in
           let less = touch-below n (map.get c.args.handle.now.words q) (get nat_cmp c.args.self.now.last q) touch (sym (taken.follows q) ∙ is) (sound.below q) in
           omega (arith, less, taken.number, ap length owned, length-append now (gained ∷ []));
-      copies = rw owned (counts-joined copies_of kept now gained c.take_over.new.last (rw taken.number taken.gained.copies));
+      copies = rw owned (counts-joined copies_of left_copy now gained c.take_over.new.last (rw taken.number taken.gained.copies));
       frees = rw owned (counts-joined frees_of not now gained c.take_over.new.last (rw taken.number taken.gained.frees));
       shortcuts =
           let at : c.len-from.result ≡ length os = omega arith in

@@ -1,4 +1,4 @@
-use Rattle.std.proofs.Common.{rules, ◌≡◌, IfOk, Ok, Err, Result, refl, ap, subst, ◌∙◌, arith}
+use Rattle.std.proofs.Common.{rules, ◌≡◌, IfOk, Err, Result, refl, ap, subst, ◌∙◌, arith}
 use Rattle.jb_board.specs.Steps.{raised_settled}
 use Rattle.jb_deck.specs.declared.batched.BatchFault.{BatchFault}
 use Rattle.jb_deck.specs.declared.batched.BatchFault.TheVariants.{DeviceFault}

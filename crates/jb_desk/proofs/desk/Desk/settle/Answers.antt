@@ -1,4 +1,4 @@
-use Rattle.std.proofs.Common.{rules, ◌≡◌, ap, arith}
+use Rattle.std.proofs.Common.{rules, ◌≡◌, arith}
 use Rattle.jb_desk.proofs.Rounds.{settled-seen}
 use Rattle.jb_desk.proofs.desk.Desk.settle.Goals as goal
 

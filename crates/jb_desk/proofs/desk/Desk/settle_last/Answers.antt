@@ -1,4 +1,4 @@
-use Rattle.std.proofs.Common.{rules, ◌≡◌, ap, arith}
+use Rattle.std.proofs.Common.{rules, ◌≡◌, arith}
 use Rattle.jb_desk.proofs.Rounds.{failed-seen}
 use Rattle.jb_desk.proofs.desk.Desk.settle_last.Goals as goal
 

@@ -1,7 +1,7 @@
 use Rattle.std.proofs.Common.{◌≡◌, ◌*◌, length, refl, arith}
 use Rattle.jb_block.specs.Size.{bytes_of}
-use Rattle.jb_disk.specs.Events.{written}
-use Rattle.jb_disk.specs.File.{size_of, events_of}
+use Rattle.jb_disk.specs.Events.{write_event}
+use Rattle.jb_disk.specs.File.{size_of_blocks, events_of}
 use Rattle.jb_disk.specs.Image.{Torn}
 use Rattle.jb_disk.proofs.FileCalls.{written_block, torn_block}
 use Rattle.jb_disk.proofs.Noted.{goes_event, torn_one}
@@ -26,6 +26,6 @@ returns-clause-goes g c = λ honest.
     let f = c.args.self.now in
     let here = c.offset_of-at.ensures in
     let one : length c.args.bytes.now ≡ bytes_of f.size * 1 = omega (arith, c.requires.block) in
-    goes_event (λ d. bytes_of (size_of d)) g.S.Start.content events_of (Torn c.args.place c.args.bytes.now) f _
-    (written c.offset_of-at.result c.write_at-succeeded.result c.args.bytes.now) refl c.write_at-succeeded.ensures
+    goes_event (λ d. bytes_of (size_of_blocks d)) g.S.Start.content events_of (Torn c.args.place c.args.bytes.now) f _
+    (write_event c.offset_of-at.result c.write_at-succeeded.result c.args.bytes.now) refl c.write_at-succeeded.ensures
     (λ d left. (left.0, left.1, torn_one (bytes_of f.size) c.args.place c.args.bytes.now left.0 d c.requires.block (left.3 c.args.place 1 here one)))

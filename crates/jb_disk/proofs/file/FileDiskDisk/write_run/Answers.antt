@@ -3,9 +3,9 @@ use Rattle.std.specs.Prelude.{is_ok}
 use Rattle.jb_block.specs.Size.{bytes_of}
 use Rattle.jb_disk.specs.Agreeing.{left_from_only}
 use Rattle.jb_disk.specs.Called.{Writes}
-use Rattle.jb_disk.specs.Events.{Leaves, LeftFrom, written}
+use Rattle.jb_disk.specs.Events.{Leaves, LeftFrom, write_event}
 use Rattle.jb_disk.specs.Faults.{CountsOne}
-use Rattle.jb_disk.specs.File.{faults_of, size_of, events_of}
+use Rattle.jb_disk.specs.File.{faults_of, size_of_blocks, events_of}
 use Rattle.jb_disk.specs.Runs.{part, TornRun}
 use Rattle.jb_disk.proofs.FileCalls.{torn_file}
 use Rattle.jb_disk.proofs.RunWrites.{torn_run-same}
@@ -23,12 +23,12 @@ returns-clause-steps g c = λ honest.
     let bytes = c.args.bytes.now in
     let place = c.args.place in
     let here = c.offset_of-at.ensures in
-    steps-goes (λ d. Leaves (bytes_of (size_of d)) content (events_of d)) (λ d. length (events_of d)) (λ d. LeftFrom (bytes_of (size_of d)) content (events_of d))
+    steps-goes (λ d. Leaves (bytes_of (size_of_blocks d)) content (events_of d)) (λ d. length (events_of d)) (λ d. LeftFrom (bytes_of (size_of_blocks d)) content (events_of d))
     (TornRun size n place bytes) f _
     (λ d. torn_run-same size n place bytes d)
     (λ d left. left_from_only size content f.host.log.events d left)
-    (goes_event (λ d. bytes_of (size_of d)) content events_of (TornRun size n place bytes) f _
-    (written c.offset_of-at.result c.write_at-succeeded.result bytes) refl c.write_at-succeeded.ensures
+    (goes_event (λ d. bytes_of (size_of_blocks d)) content events_of (TornRun size n place bytes) f _
+    (write_event c.offset_of-at.result c.write_at-succeeded.result bytes) refl c.write_at-succeeded.ensures
     (λ d left. (left.0, left.1, left.3 place n here c.requires.block)))
 
 pub returns-clause-torn : goal.returns-clause-torn

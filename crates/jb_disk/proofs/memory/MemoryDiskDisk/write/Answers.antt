@@ -1,7 +1,7 @@
 use Rattle.std.proofs.Common.{length, arith, sym, ◌∙◌, ap}
 use Rattle.jb_disk.proofs.Buffers.{kept_count, kept_size, kept_buffer, kept_written}
 use Rattle.std.specs.Prelude.{map, reverse}
-use Rattle.jb_disk.specs.Calls.{step_of}
+use Rattle.jb_disk.specs.Calls.{history_step}
 use Rattle.jb_disk.proofs.Goings.{goes_refused}
 use Rattle.jb_disk.proofs.memory.MemoryDiskDisk.write.Goals as goal
 
@@ -23,4 +23,4 @@ invariant_of-self c =
 pub returns-in-Err-clause-goes : goal.returns-in-Err-clause-goes
 returns-in-Err-clause-goes c = λ _.
     goes_refused c.args.self.now _ c.args.place c.args.bytes.now (ap (λ h. h.first) c.self.view_is)
-    (ap (λ items. reverse (map step_of items)) c.in-Err.ensures.err ∙ ap (λ h. h.steps) c.self.view_is)
+    (ap (λ items. reverse (map history_step items)) c.in-Err.ensures.err ∙ ap (λ h. h.steps) c.self.view_is)

@@ -9,7 +9,7 @@ use Rattle.jb_desk.specs.Desks.{shape_in}
 use Rattle.jb_desk.specs.Seats.{changes, made_by}
 use Rattle.jb_tool.specs.Refusing.{IsRefusedFor}
 use Rattle.jb_tool.specs.Running.{RunsAt, StopsOne}
-use Rattle.jb_tool.specs.Runs.{IsRun, handle_at, touched_by}
+use Rattle.jb_tool.specs.Runs.{IsRun, queued_at, touched_by}
 use Rattle.jb_tool.specs.declared.loading.loaded.Refused.{Refused}
 use Rattle.jb_tool.proofs.loading.worker.run_all.Goals.{else-loop-next-test, then-loop-next-test+in-Err}
 use Rattle.jb_tool.proofs.loading.worker.run_all.Goals as goal
@@ -28,10 +28,10 @@ loop-next-preserved g c =
     let queue = handles_of c.args.queue.now in
     let next = c.loop-next.next in
     let placed = c.loop-next.invariant.placed in
-    let s : ℕ × WordMap = (c.in-Ok._ticket, (handle_at queue next).words) in
+    let s : ℕ × WordMap = (c.in-Ok._ticket, (queued_at queue next).words) in
     let inside : placed.0 + c.loop-next.passed < length queue = omega (arith, placed.1, c.loop-next-test.true, c.len.ensures.value) in
     let ran = subst (RunsAt (shape_in c.args.desk.now) queue (placed.0 + c.loop-next.passed) c.loop-next.seat c.run_next-back.result.0) c.in-Ok.is (c.run_next-back.ensures.ran queue placed.0 placed.2 inside) in
-    let one = subst (λ n. StopsOne c.loop-next.seat c.in-Ok._ticket (handle_at queue n).words c.run_next-back.result.0) placed.1 ran in
+    let one = subst (λ n. StopsOne c.loop-next.seat c.in-Ok._ticket (queued_at queue n).words c.run_next-back.result.0) placed.1 ran in
     record {
       desk = c.run_next-back.ensures.desk;
       stepped = stepped-more queue c.args.step c.args.at next (made_by c.loop-next.seat) (made_by c.run_next-back.result.0) s (record { ticket = 0; words = map.empty }) refl (omega (arith, inside, placed.1)) one.2 c.loop-next.invariant.stepped;
@@ -63,7 +63,7 @@ returns-clause-run g c =
           other-run shape queue c.args.step c.args.at _ ss _ (Some (record { handle = c.loop-next.next; fault = w.in-Err.fault }))
           (c.leave.ensures.2 ∙ ap (made_by {H = g.row.H.Denot} {N = g.row.N.Denot} {O = g.H.Origin} {P = g.H.Place}) w.seat-is ∙ keeps.2) w.refused-is
           (ran-until shape queue c.args.step c.args.at c.loop-next.next ss stepped (record { ticket = 0; words = map.empty }) w.in-Err.fault (omega (arith, inside, placed.1))
-          (subst (λ n. IsRefusedFor shape (handle_at queue n).words w.in-Err.fault) placed.1 ran.1))
+          (subst (λ n. IsRefusedFor shape (queued_at queue n).words w.in-Err.fault) placed.1 ran.1))
     ]
 
 pub returns-clause-counted : goal.returns-clause-counted

@@ -1,7 +1,7 @@
 use Rattle.std.proofs.Common.{◌≡◌, ℕ, ◌+◌, ◌-◌, length, None}
 use Rattle.jb_desk.specs.Desks.{desk_id}
 use Rattle.jb_desk.specs.Seats.{changes, made_by, desk_of}
-use Rattle.jb_queue.specs.QueueLines.{IsPlaced, handles_of}
+use Rattle.jb_queue.specs.QueueLines.{StandsAfter, handles_of}
 use Rattle.jb_tool.specs.Runs.{touched_by}
 use Rattle.jb_tool.proofs.Stepping.{Stepped}
 use Rattle.jb_tool.proofs.loading.worker.run_all.Given as goal
@@ -13,7 +13,7 @@ invariant-loop-next g l = record {
   stepped : Stepped (handles_of l.queue) l.step l.at l.next (made_by l.seat);
   changed : changes l.seat ≡ touched_by (made_by l.seat);
   refused : l.refused ≡ None;
-  placed : (from : ℕ) × (from + l.passed ≡ l.next) × IsPlaced l.reader (handles_of l.queue) from;
+  placed : (from : ℕ) × (from + l.passed ≡ l.next) × StandsAfter l.reader (handles_of l.queue) from;
 }
 
 abbrev pub decreases-loop-next : goal.decreases-loop-next
