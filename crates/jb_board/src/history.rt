@@ -162,6 +162,7 @@ impl<E, L: Place> History<E, L> {
         let shared = &self.table.shared;
         shared.join_seat::<Tell>(&mut scribe.seat, seat);
         shared.load::<Look>(&mut scribe.seat, 0);
+        // for the proof alone: what was joined is split off again, so that the token is as it was
         let _entries = shared.split_seat::<Entries>(&mut scribe.seat);
     }
 }

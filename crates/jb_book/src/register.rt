@@ -109,7 +109,7 @@ impl<D: Disk, S: Origin> Register<D, S> {
         ensures back { IfErr result (λ back. back.0 ≡ handle) }
         ensures refused { IfErr result (λ back. RefusesStop self.old.book seat (changes_of handle).words back.1) }
     {
-        // that the book is sound is known by looking at it
+        // for the proof alone: only the clause of a method says that the book is sound
         let _reserved = self.book.reserved();
         look(history, &mut self.scribe, sight);
         match self.book.enqueue(seat, handle) {
@@ -143,7 +143,7 @@ impl<D: Disk, S: Origin> Register<D, S> {
         ensures none { IfNone result ((CanTake self.old.book → ⊥) × (self.new ≡ self.old)) }
         ensures log { self.new.log ≡ self.old.log }
     {
-        // that the book is sound is known by looking at it
+        // for the proof alone: only the clause of a method says that the book is sound
         let _reserved = self.book.reserved();
         let sight = history.show(&mut self.scribe);
         match self.book.take() {
@@ -223,7 +223,7 @@ impl<D: Disk, S: Origin> Register<D, S> {
         ensures run { IsMachineRun self.book.shape self.log result.0.items }
         ensures journal { HasShapeMark result.2 self.book.shape }
     {
-        // that the book is sound is known by looking at it
+        // for the proof alone: only the clause of a method says that the book is sound
         let _reserved = self.book.reserved();
         let Register { book, scribe, seen } = self;
         (book.into_trail(), scribe, seen)

@@ -109,11 +109,11 @@ impl<D: Disk, C: Clock, S: Origin> Works<D, C, S> {
         ensures marked { MarksSettled result.1.marks result.0 }
     {
         histories.stops.learn(&mut self.sight, &mut sight);
-        // their tickets are known by looking at the handles
+        // for the proof alone: only the clause of this method says that the handles' tickets count up
         let _handles = prepared.batch().handles();
         let stamp = self.clock.now();
         let result = self.deck.commit_batch(prepared, stamp);
-        // that its entries leave no gap is known by looking at them
+        // for the proof alone: only the clause of this method says that the entries leave no gap
         let _trail = self.deck.trail();
         let marks = histories.mark(&mut self.scribe, &self.deck);
         (
@@ -184,7 +184,7 @@ impl<D: Disk, C: Clock, S: Origin> Works<D, C, S> {
         let marks = histories.marks.again(&mut seen.marks);
         histories.marks.check(&mut self.scribe, marks);
         let result = self.deck.read_home(home, buf);
-        // that its entries leave no gap is known by looking at them
+        // for the proof alone: only the clause of this method says that the entries leave no gap
         let _trail = self.deck.trail();
         let mut shown = histories.mark(&mut self.scribe, &self.deck);
         histories.marks.learn(&mut seen.marks, &mut shown);
@@ -204,7 +204,7 @@ impl<D: Disk, C: Clock, S: Origin> Works<D, C, S> {
         ensures gives { GivesTrail D.Disk S.begun result }
         ensures clock { self.new.clock ≡ self.old.clock }
     {
-        // that its entries leave no gap is known by looking at them
+        // for the proof alone: only the clause of this method says that the entries leave no gap
         let _trail = self.deck.trail();
         self.deck.take_trail(past)
     }

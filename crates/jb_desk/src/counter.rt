@@ -193,7 +193,7 @@ impl<D: Disk, H: Origin, N: Ledger> Counter<D, H, N> {
         ensures given { given_by result ≡ self.now.register.book.shadow.next }
         ensures taken { self.now.register.book.shadow.taken ≤ given_by result }
     {
-        // that the book is sound is known by looking at it
+        // for the proof alone: only the clause of a method says that the book is sound
         let _reserved = self.register.book().reserved();
         Tickets::of(&self.handles, self.register.book().next())
     }

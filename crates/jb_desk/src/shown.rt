@@ -60,6 +60,7 @@ impl<H: Origin> Shown<H> {
         ensures board { seat_board seat.new ≡ seat_board seat.old }
         ensures view { seat_view seat.new ≡ raised_taken (seat_view seat.old) count }
     {
+        // for the proof alone: who has it has looked at the book under its lock; the code needs no more of it
         let _seen = seen;
         self.board.raise_taken(seat, count);
     }
@@ -72,6 +73,7 @@ impl<H: Origin> Shown<H> {
         ensures board { seat_board seat.new ≡ seat_board seat.old }
         ensures view { seat_view seat.new ≡ raised_settled (seat_view seat.old) count }
     {
+        // for the proof alone: who has it has looked at the book under its lock; the code needs no more of it
         let _seen = seen;
         self.board.raise_settled(seat, count);
     }

@@ -72,6 +72,7 @@ impl MemoryDisk {
     pub fn always_sound(&self)
         ensures sound { IsHistorySound self.now }
     {
+        // for the proof alone: what a value keeps is known once the body reads of it
         let _count = self.first.len();
     }
 

@@ -87,6 +87,7 @@ impl Words {
     pub fn hold_bytes(&self)
         ensures { All EntryHasBytes (map.entries self.now) }
     {
+        // for the proof alone: what a value keeps is known once the body reads of it
         let _entries = &self.entries;
     }
 

@@ -49,7 +49,7 @@ pub fn commit_and_close<D: Disk>(
             return Err(disk);
         }
     };
-    let _shape = deck.shape(); // it is that of the journal
+    let _shape = deck.shape(); // for the proof alone: only this method says that it is the journal's
     match commit(&mut deck, batch, stamp) {
         Ok(()) => Ok(deck.close()),
         Err(_) => Err(deck.close()),

@@ -24,7 +24,7 @@ pub(crate) struct Refused;
 pub(crate) fn give_up(batch: Prepared)
     ensures planned { IsPlanned batch }
 {
-    let _bounds = batch.groups().len(); // they are those of a least cut
+    let _bounds = batch.groups().len(); // for the proof alone: only this method says that the cut is a least one
     let _handles = batch.back().end();
 }
 
@@ -61,7 +61,7 @@ pub(crate) fn commit<D: Disk>(
         (standing deck.old.log deck.old.groups (D.newest deck.old.disk)) batch.batch.handles batch.groups
         (groups_in batch.groups) (groups_in batch.groups))) }
 {
-    let _bounds = batch.groups().len(); // they are those of a least cut
+    let _bounds = batch.groups().len(); // for the proof alone: only this method says that the cut is a least one
     match deck.commit_batch(batch, stamp) {
         Ok(_) => Ok(()),
         Err(fault) => {

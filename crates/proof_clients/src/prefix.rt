@@ -50,7 +50,7 @@ pub fn commit_three<D: Disk + Drop>(
             return Err(disk);
         }
     };
-    let _shape = deck.shape(); // it is that of the journal
+    let _shape = deck.shape(); // for the proof alone: only this method says that it is the journal's
     let Ok(()) = commit(&mut deck, first, stamp) else {
         give_up(second);
         give_up(third);

@@ -52,7 +52,7 @@ pub fn reuse_home<D: Disk>(
             return Err(disk);
         }
     };
-    let _shape = deck.shape(); // it is that of the journal
+    let _shape = deck.shape(); // for the proof alone: only this method says that it is the journal's
     let Ok(()) = commit(&mut deck, first, stamp) else {
         give_up(second);
         return Err(deck.close());

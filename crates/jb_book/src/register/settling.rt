@@ -35,7 +35,7 @@ impl<D: Disk, S: Origin> Register<D, S> {
         ensures log { self.new.log ≡ self.old.log }
         ensures kept { SeesSame seen.old seen.new }
     {
-        // that the book is sound is known by looking at it
+        // for the proof alone: only the clause of a method says that the book is sound
         let _reserved = self.book.reserved();
         look(&histories.stops, &mut self.scribe, &mut seen.stops);
         histories.marks.learn(&mut self.seen, &mut seen.marks);
@@ -73,7 +73,7 @@ impl<D: Disk, S: Origin> Register<D, S> {
         ensures log { self.new.log ≡ self.old.log }
         ensures kept { SeesSame seen.old seen.new }
     {
-        // that the book is sound is known by looking at it
+        // for the proof alone: only the clause of a method says that the book is sound
         let _reserved = self.book.reserved();
         look(&histories.stops, &mut self.scribe, &mut seen.stops);
         histories.marks.learn(&mut self.seen, &mut seen.marks);

@@ -36,7 +36,7 @@ impl<D: Disk, H: Origin, N: Ledger> Counter<D, H, N> {
         ensures { result.seen ≡ front self.now.register.book.shadow.settled self.now.register.book.shadow.taken
             self.now.register.book.shadow.next }
     {
-        // that the book is sound is known by looking at it
+        // for the proof alone: only the clause of a method says that the book is sound
         let _reserved = self.register.book().reserved();
         NoBatch {
             seen: Front {

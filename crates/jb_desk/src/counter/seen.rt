@@ -20,7 +20,7 @@ impl<D: Disk, H: Origin, N: Ledger> Counter<D, H, N> {
             × (result.settled ≡ self.now.register.book.shadow.settled) }
         ensures ordered { result.settled ≤ result.taken }
     {
-        // that the book is sound is known by looking at it
+        // for the proof alone: only the clause of a method says that the book is sound
         let _reserved = self.register.book().reserved();
         Seen {
             taken: self.register.book().taken(),

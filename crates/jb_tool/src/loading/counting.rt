@@ -58,10 +58,11 @@ fn add_up(trail: &[Entry]) -> (u64, u64)
     (settled, blocks)
 }
 
-/// A group's blocks in 64 bits. They have 32, as the group's number has, which is not looked at.
+/// A group's blocks in 64 bits. They have 32, as the group's number has.
 fn widened(blocks: u32, _number: u32) -> u64
     ensures value { result ≡ blocks }
     ensures narrow { (blocks < 2 ^ 32) × (_number < 2 ^ 32) }
 {
+    // `_number` is for the proof alone: that it has 32 bits is known of a parameter, and not of an entry's field
     u64::from(blocks)
 }
