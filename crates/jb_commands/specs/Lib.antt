@@ -5,6 +5,7 @@ pub mod Check
 pub mod Cost
 pub mod Dump
 pub mod Ends
+pub mod FaultLines
 pub mod Faults
 pub mod Faulty
 pub mod Files

@@ -14,7 +14,7 @@ use Rattle.jb_desk.specs.declared.desk.Desk.{Desk}
 use Rattle.jb_desk.specs.declared.desk.closing.CloseFault.{CloseFault}
 use Rattle.jb_desk.specs.declared.desk.closing.CloseFault.TheVariants.{SeatsOut, TrailsDiffer}
 
--- the same desk, all that the seats left and what was seen; or a journal and a book that have settled different groups
+-- the same desk, all that the seats left and what was seen; or a journal and entries that are not its trail
 abbrev pub IsNotClosed : {D C H N : Type 0} {Q : Disks D} {O : Ghosts H} {P : Places H} → Desk D C H N Q O P → Vec (Left H N O P) → Sights D H → CloseFault D C H N Q O P → Type 0
 IsNotClosed desk lefts seen (SeatsOut back kept sights) = (desk_id back ≡ desk_id desk) × (shape_in back ≡ shape_in desk) × (kept ≡ lefts) × SeesSame seen sights
 IsNotClosed desk lefts seen (TrailsDiffer deck clock book) = deck.trail ≢ book.items

@@ -14,7 +14,7 @@ use Rattle.jb_desk.specs.declared.committer.RoundFault.{RoundFault}
 use Rattle.jb_desk.specs.declared.committer.RoundFault.TheVariants.{Aborted, Memory, DeviceFault, Refused}
 
 module _ {D : Type 0} (G : Ghosts D) (b : Begun) where
-  -- what a round of a committer that held such a batch, and whose seat is then sure of so many settled tickets, has done: a batch is committed; or the journal
+  -- what a round of a committer that held such a batch, and whose seat is then sure of so many settled tickets, has done: a batch is committed, maybe of no handle; or the journal
   -- has failed, and the seat is sure of what is settled in it
   abbrev pub CommitsRound : Option Gathered → ℕ → Result Round RoundFault → Type 0
   CommitsRound held reached (Ok (Idle seen)) = Unit {0}

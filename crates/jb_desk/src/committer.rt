@@ -37,7 +37,7 @@ impl<H: Origin, N: Ledger> Committer<H, N> {
 /// What a round of a committer came to.
 #[derive(Debug, Drop)]
 pub enum Round {
-    /// There was nothing to commit when the book was looked at.
+    /// There was nothing to commit when a book was looked at.
     Idle(NoBatch),
     /// A batch is committed, and its handles are settled.
     Committed(Done),

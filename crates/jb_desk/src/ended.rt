@@ -3,7 +3,7 @@ use crate::counter::Over;
 /// Why a committer or a checkpointer has ended.
 #[derive(Clone, Copy, Debug, PartialEq, Eq)]
 pub enum Ended {
-    /// The desk is shut, and all that stopped is done: it was over when its book was looked at.
+    /// A desk was over when its book was looked at: shut, with all that stopped done. It does not say which desk.
     Shut(Over),
     /// The journal has failed.
     Aborted,

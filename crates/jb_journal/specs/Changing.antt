@@ -30,7 +30,7 @@ module _ {F T E : Type 0} (g : Once F (MutBor (Handle (Unit {0})) × Unit {0}) (
     pub called : IsCalled (Ok answer)
     pub stopped : new ≡ old ++ (ticket, (changes_of called.after).words) ∷ []
 
-  -- What f gave is given where its handle stopped, and is the refusal where it refused; it was not called where the handle was not begun. Only a handle
+  -- What f gave is given where its handle stopped, and is the refusal where it refused; of a handle that was not begun nothing is said of f. Only a handle
   -- that stopped is one more of those that the client has stopped
   abbrev pub AnswersChange : List Stop → List Stop → Result (T × ℕ) (HandleFault E) → Type 0
   AnswersChange old new (Ok given) = IsChanged given.0 given.1 old new

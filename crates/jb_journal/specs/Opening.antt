@@ -27,13 +27,13 @@ pub record WasRecovered {S : Type 0} {start : Starts S} (size : BlockSize) (f : 
   pub crash : IsHonest f → (c : Image) → FileLeft f 1 c → RecoversAs (bytes_of size) (count_of f) (start.content 0) c
   pub durable : IsHonest f → Only (content_of f) (FileLeaves f)
 
--- the recovery of a file in blocks of this size had this fault: one of what it held when it was opened, if it is honest
+-- the recovery of some file in blocks of this size had this fault: one of what it held when it was opened, if it is honest
 pub record WasRefused {S : Type 0} (start : Starts S) (size : BlockSize) (fault : RecoverFault) : Type 0 where
   pub file : FileDisk S start
   pub counted : PassFaults {T = Recovered} (Err fault) 0 (faults_of file)
   pub refuses : IsHonest file → Recovers (bytes_of size) (count_of file) (start.content 0) (content_of file) (Err fault)
 
--- why a file was not opened for a program: where that is a fault of a recovery, its journal was refused
+-- why a file was not opened for a program: where that is a fault of a recovery, some file's journal was refused
 abbrev pub RefusesImage : {S : Type 0} → Starts S → BlockSize → JournalFault → Type 0
 RefusesImage start size (Recover fault) = WasRefused start size fault
 RefusesImage start size _ = Unit {0}

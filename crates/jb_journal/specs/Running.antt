@@ -77,7 +77,7 @@ HasLeft None left = left ≡ None
 HasLeft (Some seat) None = ⊥
 HasLeft (Some seat) (Some left) = made_left left.0 ≡ made_by seat
 
--- how a checkpointer ends, where one was asked for: as the desk is over, or as the journal has failed
+-- what is told of a checkpointer, where one was asked for: that the desk is over, or that the journal has failed
 abbrev pub EndsChecked : Bool → Option Ended → Type 0
 EndsChecked false None = Unit {0}
 EndsChecked false (Some ended) = ⊥

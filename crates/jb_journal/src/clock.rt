@@ -6,7 +6,7 @@ use jb_disk::Clock;
 use std::time;
 
 /// The clock of the system, whose time of day is written into each commit block (`h_commit_sec`, `h_commit_nsec`).
-/// Where it cannot be read, or is before 1970, the stamp is 0.
+/// Where it cannot be read, or is before 1970, the stamp is 0. That it is the time of day is tested.
 #[derive(Clone, Copy)]
 pub struct SystemClock<'a, R> {
     rt: &'a R,

@@ -15,7 +15,7 @@ pub struct Options {
     /// How many blocks of the log have to be in use until committed transactions are written home, while workers or
     /// their commits are at work; with 0 each is as soon as it is committed. A level that leaves room for some
     /// transactions of the most blocks lets a home that changes often be written less often, and a commit still finds
-    /// room. At the end all are written home. Without `checkpoint` it means nothing.
+    /// room. At the end all are written home (tested). Without `checkpoint` it means nothing.
     pub level: u32,
     /// How long each commit is put off, so that it takes more handles. It is not once as many wait as the delay names,
     /// where a handle waits for room in the log, or where all workers have ended.

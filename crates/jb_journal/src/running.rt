@@ -33,9 +33,9 @@ use std::time;
 const PARTS: u64 = (1 << 61) + 1;
 
 /// Opens the journal on a disk, runs the workers, commits what they stopped, and closes the journal. The disk is
-/// given back with what the workers answered. With `Options::checkpoint` all that is committed is written home;
-/// otherwise what is still in the log is left to [`recover`](crate::recover), which is called before the journal is
-/// opened again.
+/// given back with what the workers answered. With `Options::checkpoint` all that is committed is written home
+/// (tested); otherwise what is still in the log is left to [`recover`](crate::recover), which is called before the
+/// journal is opened again.
 ///
 /// # Errors
 /// - `Open` where the journal was not opened, and nothing ran. The disk is lost: what is said of it holds of some disk

@@ -44,7 +44,7 @@ pub record AreRuns (shape : Shape) (queue : List Stopped) (threads : ℕ) (runs 
   pub workers : length runs ≡ threads
   pub each : (at : ℕ) (d : Run) → at < threads → IsRun shape queue threads at (slice_index_or runs at d)
 
--- how a checkpointer ends, where one was asked for: as the desk is over, or as the journal has failed
+-- what is told of a checkpointer, where one was asked for: that the desk is over, or that the journal has failed
 abbrev pub EndsCheckpoint : Bool → Option Ended → Type 0
 EndsCheckpoint false None = Unit {0}
 EndsCheckpoint false (Some ended) = ⊥

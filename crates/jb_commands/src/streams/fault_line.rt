@@ -1,8 +1,9 @@
 //! The line of each `CommandFault`.
-ghost use Rattle.std.specs.Prelude.{[], ◌∷◌, None, decimal, option_map};
+ghost use Rattle.std.specs.Prelude.{◌≡◌, List, ℕ, None, Option, option_map};
 ghost use Rattle.jb_text.specs.Puts.{PutsPart};
-ghost use Rattle.jb_commands.specs.Faults.{extents_line, super_line, system_line};
-ghost use Rattle.jb_commands.specs.Lines.{line_naming};
+ghost use Rattle.jb_commands.specs.FaultLines.{parts_of, named};
+ghost use Rattle.jb_commands.specs.Faults.{extents_line, line_of, super_line, system_line};
+ghost use Rattle.jb_commands.specs.Lines.{Names, line_naming, names_said};
 
 use crate::fault::CommandFault;
 use crate::names::{TwoFiles, image_of, journal_of};
@@ -11,6 +12,14 @@ use itoa::Buffer;
 use jb_image::{ExtentsFault, FileSystemFault};
 use jb_super::SuperFault;
 use std::io::Write;
+
+/// The numbers of a line, which stand after its words.
+#[derive(Clone, Copy)]
+enum Numbers {
+    None,
+    One(u64),
+    Two(u64, u64),
+}
 
 impl<'a> CommandFault<'a> {
     ghost use Rattle.jb_text.specs.Puts.{PutsPart};
@@ -23,106 +32,130 @@ impl<'a> CommandFault<'a> {
     pub fn tell<E: Write>(self, files: Option<TwoFiles<'_>>, err: &mut E)
         ensures { PutsPart (E.contents err.old) (E.contents err.new) (line_of (names_said files.entry) self.entry) }
     {
-        let (mut first, mut second) = (Buffer::new(), Buffer::new());
-        let image = image_of(files);
-        let journal = journal_of(files);
-        match self {
-            CommandFault::CannotRead(name, _) => put_line(err, &["jb: cannot read"], Some(name)),
-            CommandFault::TooLong(name) => put_line(err, &["jb: too long"], Some(name)),
-            CommandFault::InUse(name) => put_line(err, &["jb: in use"], Some(name)),
-            CommandFault::SameFile(name) => put_line(err, &["jb: same file"], Some(name)),
-            CommandFault::CannotMake(name, _) => put_line(err, &["jb: cannot make"], Some(name)),
-            CommandFault::BadOption(_) => put_line(err, &["jb: bad option"], None),
-            CommandFault::ReadFault => put_line(err, &["jb: ReadFault"], None),
-            CommandFault::Super(fault) => put_super_line(err, fault, journal),
-            CommandFault::JournalLength(blocks, maxlen) => {
-                let (blocks, maxlen) = (first.format(blocks), second.format(maxlen));
-                put_line(err, &["jb: JournalLength ", blocks, " ", maxlen], journal);
-            }
-            CommandFault::FileSystem(fault) => put_system_line(err, fault, image),
-            CommandFault::Extents(fault) => put_extents_line(err, fault),
-            CommandFault::BadRevoke(place) => {
-                put_numbered(err, "jb: BadRevoke ", place, journal);
-            }
-            CommandFault::HomeOutOfRange(home, number, _) => {
-                let (home, number) = (first.format(home), second.format(number));
-                put_line(err, &["jb: HomeOutOfRange ", home, " ", number], image);
-            }
-            CommandFault::NoHome(home, _) => put_numbered(err, "jb: NoHome ", home, image),
-            CommandFault::NeedsRecovery => put_line(err, &["jb: NeedsRecovery"], journal),
-            CommandFault::NumbersSpent => put_line(err, &["jb: NumbersSpent"], journal),
-            CommandFault::BlockSize => put_line(err, &["jb: BlockSize"], None),
-            CommandFault::Accounts => put_line(err, &["jb: Accounts"], None),
-            CommandFault::Geometry => put_line(err, &["jb: Geometry"], None),
-            CommandFault::DeviceFault => put_line(err, &["jb: DeviceFault"], None),
-            CommandFault::Memory => put_line(err, &["jb: Memory"], None),
-            CommandFault::WriteFault => put_line(err, &["jb: WriteFault"], None),
-        }
+        let (words, numbers) = words_of(self);
+        put_numbers(err, words, numbers, name_after(self, files));
     }
 }
 
-/// Writes the line of a superblock that is refused, with the name of its file where there is one to say.
-fn put_super_line<W: Write>(writer: &mut W, fault: SuperFault, name: Option<&str>)
-    ensures puts { PutsPart (W.contents writer.old) (W.contents writer.new)
-        (super_line (option_map (λ name. name.now) name.entry) fault) }
+/// The words of a fault's line, and its numbers.
+fn words_of(fault: CommandFault<'_>) -> (&'static str, Numbers)
+    ensures { (names : Option Names) → line_of names fault.entry
+        ≡ line_naming (parts_of result.0.now result.1) (named names fault.entry) }
 {
-    let (mut first, mut second) = (Buffer::new(), Buffer::new());
     match fault {
-        SuperFault::ShortBlock => put_line(writer, &["jb: Super ShortBlock"], name),
-        SuperFault::NoMagic => put_line(writer, &["jb: Super NoMagic"], name),
+        CommandFault::CannotRead(_, _) => ("jb: cannot read", Numbers::None),
+        CommandFault::TooLong(_) => ("jb: too long", Numbers::None),
+        CommandFault::InUse(_) => ("jb: in use", Numbers::None),
+        CommandFault::SameFile(_) => ("jb: same file", Numbers::None),
+        CommandFault::CannotMake(_, _) => ("jb: cannot make", Numbers::None),
+        CommandFault::BadOption(_) => ("jb: bad option", Numbers::None),
+        CommandFault::ReadFault => ("jb: ReadFault", Numbers::None),
+        CommandFault::Super(fault) => words_of_super(fault),
+        CommandFault::JournalLength(blocks, maxlen) => {
+            (
+                "jb: JournalLength ",
+                Numbers::Two(blocks, u64::from(maxlen)),
+            )
+        }
+        CommandFault::FileSystem(fault) => words_of_system(fault),
+        CommandFault::Extents(fault) => words_of_extents(fault),
+        CommandFault::BadRevoke(place) => ("jb: BadRevoke ", Numbers::One(place)),
+        CommandFault::HomeOutOfRange(home, number, _) => {
+            ("jb: HomeOutOfRange ", Numbers::Two(home, u64::from(number)))
+        }
+        CommandFault::NoHome(home, _) => ("jb: NoHome ", Numbers::One(home)),
+        CommandFault::NeedsRecovery => ("jb: NeedsRecovery", Numbers::None),
+        CommandFault::NumbersSpent => ("jb: NumbersSpent", Numbers::None),
+        CommandFault::BlockSize => ("jb: BlockSize", Numbers::None),
+        CommandFault::Accounts => ("jb: Accounts", Numbers::None),
+        CommandFault::Geometry => ("jb: Geometry", Numbers::None),
+        CommandFault::DeviceFault => ("jb: DeviceFault", Numbers::None),
+        CommandFault::Memory => ("jb: Memory", Numbers::None),
+        CommandFault::WriteFault => ("jb: WriteFault", Numbers::None),
+    }
+}
+
+/// The same of a superblock that is refused.
+fn words_of_super(fault: SuperFault) -> (&'static str, Numbers)
+    ensures { (name : Option (List ℕ)) → super_line name fault ≡ line_naming (parts_of result.0.now result.1) name }
+{
+    match fault {
+        SuperFault::ShortBlock => ("jb: Super ShortBlock", Numbers::None),
+        SuperFault::NoMagic => ("jb: Super NoMagic", Numbers::None),
         SuperFault::NotVersion2(kind) => {
-            put_line(
-                writer,
-                &["jb: Super NotVersion2 ", first.format(kind)],
-                name,
-            );
+            ("jb: Super NotVersion2 ", Numbers::One(u64::from(kind)))
         }
-        SuperFault::BlockSize(size) => {
-            put_line(writer, &["jb: Super BlockSize ", first.format(size)], name);
-        }
-        SuperFault::Geometry => put_line(writer, &["jb: Super Geometry"], name),
+        SuperFault::BlockSize(size) => ("jb: Super BlockSize ", Numbers::One(u64::from(size))),
+        SuperFault::Geometry => ("jb: Super Geometry", Numbers::None),
         SuperFault::Feature(word, bits) => {
-            let (word, bits) = (first.format(word), second.format(bits));
-            put_line(writer, &["jb: Super Feature ", word, " ", bits], name);
+            (
+                "jb: Super Feature ",
+                Numbers::Two(u64::from(word), u64::from(bits)),
+            )
         }
     }
 }
 
-/// Writes the line of a journal that is not recovered into a file system, with that one's name where there is one to
-/// say.
-fn put_system_line<W: Write>(writer: &mut W, fault: FileSystemFault, name: Option<&str>)
-    ensures puts { PutsPart (W.contents writer.old) (W.contents writer.new)
-        (system_line (option_map (λ name. name.now) name.entry) fault) }
+/// The same of a journal that is not recovered into a file system.
+fn words_of_system(fault: FileSystemFault) -> (&'static str, Numbers)
+    ensures { (name : Option (List ℕ)) → system_line name fault ≡ line_naming (parts_of result.0.now result.1) name }
 {
-    let mut digits = Buffer::new();
     match fault {
         FileSystemFault::BlockSize(size) => {
-            let size = digits.format(size);
-            put_line(writer, &["jb: FileSystem BlockSize ", size], name);
+            ("jb: FileSystem BlockSize ", Numbers::One(u64::from(size)))
         }
-        FileSystemFault::Uuid => put_line(writer, &["jb: FileSystem Uuid"], name),
-        FileSystemFault::Clean => put_line(writer, &["jb: FileSystem Clean"], name),
+        FileSystemFault::Uuid => ("jb: FileSystem Uuid", Numbers::None),
+        FileSystemFault::Clean => ("jb: FileSystem Clean", Numbers::None),
     }
 }
 
-/// Writes the line of extents that do not hold the journal.
-fn put_extents_line<W: Write>(writer: &mut W, fault: ExtentsFault)
-    ensures puts { PutsPart (W.contents writer.old) (W.contents writer.new) (extents_line fault) }
+/// The same of extents that do not hold the journal.
+fn words_of_extents(fault: ExtentsFault) -> (&'static str, Numbers)
+    ensures { extents_line fault ≡ line_naming (parts_of result.0.now result.1) None }
 {
     match fault {
-        ExtentsFault::Overlap(block) => put_numbered(writer, "jb: Extents Overlap ", block, None),
-        ExtentsFault::PastEnd(block) => put_numbered(writer, "jb: Extents PastEnd ", block, None),
-        ExtentsFault::Short(blocks) => put_numbered(writer, "jb: Extents Short ", blocks, None),
-        ExtentsFault::NoJournal => put_line(writer, &["jb: Extents NoJournal"], None),
-        ExtentsFault::Home(home) => put_numbered(writer, "jb: Extents Home ", home, None),
+        ExtentsFault::Overlap(block) => ("jb: Extents Overlap ", Numbers::One(block)),
+        ExtentsFault::PastEnd(block) => ("jb: Extents PastEnd ", Numbers::One(block)),
+        ExtentsFault::Short(blocks) => ("jb: Extents Short ", Numbers::One(blocks)),
+        ExtentsFault::NoJournal => ("jb: Extents NoJournal", Numbers::None),
+        ExtentsFault::Home(home) => ("jb: Extents Home ", Numbers::One(home)),
     }
 }
 
-/// Writes a line of a word and a number, with the name of a file after them where there is one.
-fn put_numbered<W: Write>(writer: &mut W, begin: &str, number: u64, name: Option<&str>)
-    ensures puts { PutsPart (W.contents writer.old) (W.contents writer.new)
-        (line_naming (begin.now ∷ decimal number ∷ []) (option_map (λ name. name.now) name.entry)) }
+/// The name at the end of a fault's line: of the file that it is about, where that is known.
+fn name_after<'a>(fault: CommandFault<'a>, files: Option<TwoFiles<'a>>) -> Option<&'a str>
+    ensures { option_map (λ name. name.now) result ≡ named (names_said files.entry) fault.entry }
 {
-    let mut digits = Buffer::new();
-    put_line(writer, &[begin, digits.format(number)], name);
+    match fault {
+        CommandFault::CannotRead(name, _)
+        | CommandFault::InUse(name)
+        | CommandFault::SameFile(name)
+        | CommandFault::CannotMake(name, _)
+        | CommandFault::TooLong(name) => Some(name),
+        CommandFault::Super(_)
+        | CommandFault::JournalLength(_, _)
+        | CommandFault::BadRevoke(_)
+        | CommandFault::NeedsRecovery
+        | CommandFault::NumbersSpent => journal_of(files),
+        CommandFault::FileSystem(_)
+        | CommandFault::HomeOutOfRange(_, _, _)
+        | CommandFault::NoHome(_, _) => image_of(files),
+        _ => None,
+    }
+}
+
+/// Writes a line of words and numbers, with the name of a file after them where there is one.
+fn put_numbers<W: Write>(writer: &mut W, words: &str, numbers: Numbers, name: Option<&str>)
+    ensures puts { PutsPart (W.contents writer.old) (W.contents writer.new)
+        (line_naming (parts_of words.now numbers) (option_map (λ name. name.now) name.entry)) }
+{
+    let (mut first, mut second) = (Buffer::new(), Buffer::new());
+    match numbers {
+        Numbers::None => put_line(writer, &[words], name),
+        Numbers::One(number) => put_line(writer, &[words, first.format(number)], name),
+        Numbers::Two(one, two) => {
+            let (one, two) = (first.format(one), second.format(two));
+            put_line(writer, &[words, one, " ", two], name);
+        }
+    }
 }

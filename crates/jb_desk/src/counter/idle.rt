@@ -8,7 +8,7 @@ use jb_disk::Disk;
 use std::sync::ledger::Ledger;
 
 /// There was nothing to take: the journal had not failed, and no handle waited or a batch was out. Only a look at a
-/// desk's book under its lock gives one.
+/// desk's book under its lock gives one; it says neither of which desk nor when.
 #[derive(Clone, Copy, Debug, PartialEq, Eq)]
 pub struct NoBatch {
     seen: Front,

@@ -7,7 +7,8 @@ use jb_disk::Disk;
 use std::sync::ledger::Ledger;
 
 /// A desk is over: it is shut, no handle is open, queued or taken, and the journal has not failed. Only a look
-/// at the desk's book under its lock gives one, and a desk that is over stays so until its journal fails.
+/// at a desk's book under its lock gives one; it says neither of which desk nor when. A desk that is over stays so
+/// until its journal fails.
 #[derive(Clone, Copy, Debug, PartialEq, Eq)]
 pub struct Over {
     settled: u64,

@@ -13,7 +13,7 @@ impl<D: Disk, C: Clock, H: Origin, N: Ledger> Desk<D, C, H, N> {
     ghost use Rattle.jb_book.specs.Journal.{ChecksAt, ChecksRound};
 
     /// Writes the oldest committed group home (`jbd2_log_do_checkpoint`). The book is not locked
-    /// while the disk is at work.
+    /// while the disk is at work. No clause says that it made one round alone.
     ///
     /// # Errors
     ///
@@ -27,7 +27,7 @@ impl<D: Disk, C: Clock, H: Origin, N: Ledger> Desk<D, C, H, N> {
 
     /// Writes the committed groups home together, at most 64 of them, where so many blocks of the log are in use
     /// ([`Deck::in_use`](jb_deck::Deck::in_use)). At the level 0 it always does. The book is not locked while the disk
-    /// is at work, but no batch is committed.
+    /// is at work, but no batch is committed. No clause says that it made one round alone.
     ///
     /// # Errors
     ///
@@ -44,7 +44,8 @@ impl<D: Disk, C: Clock, H: Origin, N: Ledger> Desk<D, C, H, N> {
     }
 
     /// Writes committed groups home, the oldest first, until the desk is over and no group is left, or until
-    /// the journal has failed.
+    /// the journal has failed. Where it ends `Shut`, no group was live at some time since the start; that none is left
+    /// is tested.
     pub fn run_checkpointer<R: Wait>(&self, rt: &R) -> Ended
         ensures { EndsChecking D.Disk H.begun result }
     {

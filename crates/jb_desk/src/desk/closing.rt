@@ -82,7 +82,7 @@ impl<D: Disk + Drop, C: Clock, H: Origin, N: Ledger> Desk<D, C, H, N> {
     /// # Errors
     ///
     /// `SeatsOut` where a seat's `Left` is missing, with all that was given; `TrailsDiffer` where the journal has
-    /// settled other groups than the book.
+    /// settled other groups than the book (tested; the clause says only that `book` is not the journal's trail).
     pub fn close(
         self,
         lefts: Vec<Left<H, N>>,

@@ -1,0 +1,30 @@
+-- The parts of a fault's line: its words, its numbers, and the name of a file.
+use Rattle.std.specs.Prelude.{ℕ, List, [], ◌∷◌, Option, None, Some, codes, decimal}
+use Rattle.jb_commands.specs.Lines.{Names, image_named, journal_named}
+use Rattle.jb_commands.specs.declared.fault.CommandFault.{CommandFault}
+use Rattle.jb_commands.specs.declared.fault.CommandFault.TheVariants.{CannotRead, InUse, SameFile, CannotMake, TooLong, Super, JournalLength, FileSystem, BadRevoke, HomeOutOfRange, NoHome, NeedsRecovery, NumbersSpent}
+use Rattle.jb_commands.specs.declared.streams.fault_line.Numbers.{Numbers}
+use Rattle.jb_commands.specs.declared.streams.fault_line.Numbers.TheVariants as numbers
+
+-- what a line has before the name of a file: its words, and its numbers with a space between them
+abbrev pub parts_of : List ℕ → Numbers → List (List ℕ)
+parts_of words numbers.None = words ∷ []
+parts_of words (numbers.One number) = words ∷ decimal number ∷ []
+parts_of words (numbers.Two one two) = words ∷ decimal one ∷ codes " " ∷ decimal two ∷ []
+
+-- the name at the end of a fault's line: of the file that it is about, where that is known
+abbrev pub named : Option Names → CommandFault → Option (List ℕ)
+named names (CannotRead name code) = Some name.now
+named names (InUse name) = Some name.now
+named names (SameFile name) = Some name.now
+named names (CannotMake name code) = Some name.now
+named names (TooLong name) = Some name.now
+named names (Super fault) = journal_named names
+named names (JournalLength blocks maxlen) = journal_named names
+named names (BadRevoke place) = journal_named names
+named names NeedsRecovery = journal_named names
+named names NumbersSpent = journal_named names
+named names (FileSystem fault) = image_named names
+named names (HomeOutOfRange home number homes) = image_named names
+named names (NoHome home homes) = image_named names
+named names _ = None
