@@ -10,8 +10,6 @@ mod history_steps;
 mod place;
 mod rule;
 mod steps;
-#[cfg(test)]
-mod tests;
 mod tickets;
 mod tokens;
 mod view;

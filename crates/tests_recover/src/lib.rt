@@ -4,6 +4,8 @@
 #[cfg(test)]
 mod blocks;
 #[cfg(test)]
+mod boards;
+#[cfg(test)]
 mod cases;
 #[cfg(test)]
 mod checks;

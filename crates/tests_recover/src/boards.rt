@@ -1,7 +1,8 @@
+//! What a seat of a board sees of the raises of another, one after the other and at once.
 ghost use Rattle.std.specs.Prelude.{◌≡◌, ◌≤◌};
 ghost use Rattle.jb_board.specs.Seats.{given_by};
 
-use crate::{Board, Front, Tickets};
+use jb_board::{Board, Front, Tickets};
 use std::alloc::Global;
 use std::marker::Brand;
 use std::sync::ledger::{Blank, Book, Ledger};
