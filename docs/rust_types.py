@@ -208,6 +208,8 @@ class Declared:
     def __init__(self, source, at, kind, name):
         self.source, self.at, self.name, self.path = source, at, name, source.path
         self.meaning = said_over(source.lines, at)
+        # of a type that is another one by name, or that clauses see as another value: that one
+        self.stands_for = None
         self.constructors = []
         self.head = source.lines[at].partition("{")[0].strip().rstrip(";")
         self.generics = generics_of(source.lines[at])
@@ -216,6 +218,9 @@ class Declared:
             self.of_trait()
         elif value:
             self.of_value(*value)
+        elif kind == "type":
+            self.of_code()
+            self.stands_for = source.lines[at].partition("=")[2].strip(" ;")
         else:
             self.of_code()
 
@@ -233,10 +238,10 @@ class Declared:
         while not source.lines[end].endswith("};"):
             end += 1
         generics = generics_of(source.block_at(at)[0])
-        self.path, self.blocks = source.path, [source.lines[at:end + 1]]
-        self.note = "The fields of `%s` are its own. Clauses see it as this value:" % bare(self.head)
-        self.meant = []
-        self.read_ghosts(source, at, "\n".join(self.blocks[0]), set(generics), generics)
+        text = "\n".join(source.lines[at:end + 1])
+        self.path, self.blocks, self.note, self.meant = source.path, [], "", []
+        self.stands_for = " ".join(text.partition("{")[2].rpartition("}")[0].split())
+        self.read_ghosts(source, at, text, set(generics), generics)
 
     def of_code(self):
         lines, end = self.source.lines, self.at
@@ -267,7 +272,7 @@ class Declared:
 def bare(head):
     """The name of a type with its generics, without their bounds."""
     names = list(generics_of(head))
-    return re.findall(r"(?:struct|enum) (\w+)", head)[0] + ("<%s>" % ", ".join(names) if names else "")
+    return re.findall(r"(?:struct|enum|type) (\w+)", head)[0] + ("<%s>" % ", ".join(names) if names else "")
 
 
 def said_over(lines, at):

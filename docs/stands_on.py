@@ -1,7 +1,7 @@
 """What a clause or a definition stands on: the definitions of its words, in an order in which each comes after those that it uses."""
 import functools
 
-from rust_types import Declared, declared
+from rust_types import Declared, bare, declared
 from specs import meant, spec_file
 
 
@@ -29,8 +29,22 @@ def words_of(node):
     return [Word(meant(spec, name)) for name in node.free(spec.is_word)]
 
 
+def is_in_place(node):
+    """Whether a page has, in place of a type, what this stands for."""
+    return isinstance(node, Declared) and node.stands_for is not None
+
+
+def in_place(words):
+    """The words, and those of what some of them stand for."""
+    for word in words:
+        yield word
+        if is_in_place(word.definition):
+            yield from in_place(words_of(word.definition))
+
+
 def definitions_of(words):
-    return list(dict.fromkeys(word.definition for word in words if word.definition))
+    """The definitions of some words: of a type that stands for something those of that."""
+    return list(dict.fromkeys(word.definition for word in in_place(words) if word.definition and not is_in_place(word.definition)))
 
 
 def in_order(starts):
@@ -96,3 +110,10 @@ def remarks(words, twice, without=None):
             by_what.setdefault(said[1], {})["`%s`" % said[0]] = True
     said = ["%s %s %s" % (", ".join(names), "are" if len(names) > 1 else "is", what) for what, names in by_what.items()]
     return "Here %s.\n\n" % "; ".join(said) if said else ""
+
+
+def seen_as(words):
+    """The sentence on the types that some words name and that stand for something, or nothing."""
+    placed = list(dict.fromkeys(word.definition for word in in_place(words) if is_in_place(word.definition)))
+    seen = ["[`%s`](../../%s) as `%s`" % (bare(one.head), one.path, one.stands_for) for one in placed]
+    return "Clauses see %s.\n\n" % ", ".join(seen) if seen else ""
