@@ -16,7 +16,7 @@ use Rattle.jb_handle.specs.Tickets.{TicketsFrom}
 use Rattle.jb_handle.specs.declared.shape.Shape.{Shape}
 use Rattle.jb_handle.specs.declared.stopped.Stopped.{Stopped}
 use Rattle.jb_handle.proofs.Tickets.{tickets-append}
-use Rattle.jb_deck.specs.Committing.{AnswersBatch, CommitsBatch, CommitsOnDisk, FindsLive, LeavesGroups, SettlesSome, TakesBatch}
+use Rattle.jb_deck.specs.Committing.{AnswersBatch, CommitsBatch, CommitsOnDisk, FindsLive, LeavesGroups, RefusesBatch, SettlesSome, TakesBatch}
 use Rattle.jb_deck.specs.Deck.{OpenDeck}
 use Rattle.jb_deck.specs.Done.{entries_of, past_after, start_of}
 use Rattle.jb_deck.specs.Gathering.{groups_in, entries_for}
@@ -29,7 +29,7 @@ use Rattle.jb_log.proofs.Owning.{same-then}
 use Rattle.jb_deck.specs.Since.{committed, deck_homes}
 use Rattle.jb_deck.proofs.Sinces.{ended-is-call}
 use Rattle.jb_deck.proofs.Stood.{call-stood}
-use Rattle.jb_book.specs.Journal.{FailsAs, IsRound}
+use Rattle.jb_book.specs.Journal.{FailsAs, IsRound, RefusesRound}
 use Rattle.jb_book.specs.Origin.{Begun}
 use Rattle.jb_book.specs.Since.{NumberedFrom, HasFirst, IsCosted, IsSinceOf, Since, WasGiven}
 use Rattle.jb_book.proofs.Bounds.{cut-high, cut-last, for-length, for-past, past-append, cut-many}
@@ -265,13 +265,17 @@ module _ {D : Type 0} (G : Ghosts D) (counts_now : (disk : D) (t : ℕ) (c : Ima
     }
     commit-round (Err fault) answers on_disk finds leaves now is = tt
 
+    -- the journal that refuses a batch is as it was
+    refuses-round : (fault : BatchFault) → old.aborted ≡ false → RefusesBatch old p fault → Is old → RefusesRound G b p fault
+    refuses-round fault up refuses is = record { planned = planned; deck = old; since = plain-is G counts_now b known plain old is; up = up; refuses = refuses }
+
     pub commit-fails : (r : Result Done BatchFault) → AnswersBatch (G.faults old.disk) (G.faults new.disk) p stamp old new r → (G.honest new.disk → OnOk r (CommitsOnDisk G.newest p stamp old new)) → Leaves → Now r → Is old → FailsAs G b p r
     unfolding commit-since plain-is is-weaker
     commit-fails (Ok done) answers on_disk leaves now is = tt
     commit-fails (Err (batch.Aborted back)) answers on_disk leaves now is = record { deck = old; since = plain-is G counts_now b known plain old is; failed = answers.0 }
-    commit-fails (Err (batch.WrongTicket back expected)) answers on_disk leaves now is = tt
-    commit-fails (Err (batch.OtherShape back)) answers on_disk leaves now is = tt
-    commit-fails (Err (batch.NumbersSpent back)) answers on_disk leaves now is = tt
+    commit-fails (Err (batch.WrongTicket back expected)) answers on_disk leaves now is = refuses-round (batch.WrongTicket back expected) answers.0 (answers.0, answers.1, answers.2, answers.3) is
+    commit-fails (Err (batch.OtherShape back)) answers on_disk leaves now is = refuses-round (batch.OtherShape back) answers.0 (answers.0, answers.1, answers.2, answers.3) is
+    commit-fails (Err (batch.NumbersSpent back)) answers on_disk leaves now is = refuses-round (batch.NumbersSpent back) answers.0 (answers.0, answers.1, answers.2, answers.3, answers.4) is
     commit-fails (Err (batch.Memory back)) answers on_disk leaves now is = tt
     commit-fails (Err (batch.DeviceFault settled)) answers on_disk leaves now is = record {
       planned = planned;

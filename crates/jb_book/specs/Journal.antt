@@ -9,7 +9,7 @@ use Rattle.jb_disk.specs.KeptOn.{KeptOn}
 use Rattle.jb_disk.specs.declared.disk.Disk.{Ghosts}
 use Rattle.jb_scan.specs.Found.{log_blocks}
 use Rattle.jb_deck.specs.Checkpoints.{AnswersRun, Checkpoints, TakesOldest, TakesRun}
-use Rattle.jb_deck.specs.Committing.{CommitsBatch, CommitsOnDisk, FindsLive, SettlesSome, TakesBatch}
+use Rattle.jb_deck.specs.Committing.{CommitsBatch, CommitsOnDisk, FindsLive, RefusesBatch, SettlesSome, TakesBatch}
 use Rattle.jb_deck.specs.Deck.{OpenDeck}
 use Rattle.jb_deck.specs.Done.{Follow, past_after, start_of}
 use Rattle.jb_log.specs.Log.{standing, transactions}
@@ -78,6 +78,15 @@ module _ {D : Type 0} (G : Ghosts D) (b : Begun) where
     pub after : IsSince G b new
     pub adds : after.given ≡ before.given ++ p.batch.handles
 
+  -- The desk's journal, which has not failed, before and after it refused a batch for this fault: it begins at another ticket than is expected, is for another
+  -- shape, or needs numbers that are spent. Nothing has changed
+  pub record RefusesRound (p : Planned) (fault : BatchFault) : Type 0 where
+    pub planned : IsPlanned p
+    pub deck : OpenDeck D
+    pub since : IsSince G b deck
+    pub up : deck.aborted ≡ false
+    pub refuses : RefusesBatch deck p fault
+
   -- the desk's journal has failed
   pub record HasFailed : Type 0 where
     pub deck : OpenDeck D
@@ -143,13 +152,13 @@ module _ {D : Type 0} (G : Ghosts D) (b : Begun) where
     pub at : ℕ
     pub marked : StandsIn marks_after (at, new)
 
-  -- a commit of this batch after which the journal has failed
+  -- a commit of this batch that is not all done: the journal does not take the batch, or it has failed
   abbrev pub FailsAs : Planned → Result Done BatchFault → Type 0
   FailsAs p (Ok done) = Unit {0}
   FailsAs p (Err (batch.Aborted back)) = HasFailed
-  FailsAs p (Err (batch.WrongTicket back expected)) = Unit {0}
-  FailsAs p (Err (batch.OtherShape back)) = Unit {0}
-  FailsAs p (Err (batch.NumbersSpent back)) = Unit {0}
+  FailsAs p (Err (batch.WrongTicket back expected)) = RefusesRound p (batch.WrongTicket back expected)
+  FailsAs p (Err (batch.OtherShape back)) = RefusesRound p (batch.OtherShape back)
+  FailsAs p (Err (batch.NumbersSpent back)) = RefusesRound p (batch.NumbersSpent back)
   FailsAs p (Err (batch.Memory back)) = Unit {0}
   FailsAs p (Err (batch.DeviceFault settled)) = FailsRound p settled
 

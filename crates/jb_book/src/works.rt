@@ -43,6 +43,7 @@ impl<D: Disk, C: Clock, S: Origin> Model for Works<D, C, S> {
 
 impl<D: Disk, C: Clock, S: Origin> Works<D, C, S> {
     ghost use Rattle.jb_block.specs.declared.stamp.Stamp.{Stamp};
+    ghost use Rattle.jb_deck.specs.Checkpoints.{AnswersCheckpoint};
     ghost use Rattle.jb_deck.specs.Committing.{AnswersBatch};
     ghost use Rattle.jb_plan.specs.Prepared.{IsPlanned};
     ghost use Rattle.jb_deck.specs.Reading.{AnswersRead};
@@ -131,6 +132,8 @@ impl<D: Disk, C: Clock, S: Origin> Works<D, C, S> {
     ///
     /// Those of the journal's own checkpoint.
     pub fn checkpoint(&mut self) -> Result<Checked, CheckpointFault>
+        ensures answers { AnswersCheckpoint (D.faults self.old.deck.disk) (D.faults self.new.deck.disk) self.old.deck
+            self.new.deck result }
         ensures round { ChecksRound D.Disk S.begun result }
         ensures clock { self.new.clock ≡ self.old.clock }
     {

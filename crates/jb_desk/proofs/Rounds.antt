@@ -1,5 +1,5 @@
 -- What is settled of a batch that was committed.
-use Rattle.std.proofs.Common.{◌≡◌, ℕ, ◌+◌, ◌-◌, ◌≤◌, Some, Ok, refl, sym, ap, subst, ◌∙◌, arith}
+use Rattle.std.proofs.Common.{◌≡◌, ℕ, ◌+◌, ◌-◌, ◌<◌, ◌≤◌, length, Some, Ok, refl, sym, ap, subst, ◌∙◌, arith}
 use Rattle.jb_plan.specs.Prepared.{Planned}
 use Rattle.jb_deck.specs.Done.{Follow, first_ticket, entries_of, past_after}
 use Rattle.jb_deck.specs.declared.done.Done.{Done}
@@ -34,7 +34,8 @@ module _ (end : ℕ) (shape : Shape) (done : Done) (old new : Account) where
 pub whole-past : (p : Planned) (done : Done) → CommitsAs p (Ok done) → past_after (first_ticket done) (entries_of done) ≡ end_of p.batch
 whole-past p done told = ap (λ f. past_after f (entries_of done)) told.0 ∙ follow-past p.batch.first 0 (end_of p.batch) (entries_of done) told.1
 
-pub settles-whole : (p : Planned) (done : Done) (settled : ℕ) → CommitsAs p (Ok done) → past_after (first_ticket done) (entries_of done) ≤ settled
-    → (past : ℕ) × Follow (first_ticket done) 0 past (entries_of done) × (past ≤ settled) × IsOfHeld (Some p.batch) (first_ticket done) past
-settles-whole p done settled told reached =
-    (end_of p.batch, subst (λ f. Follow f 0 (end_of p.batch) (entries_of done)) (sym told.0) told.1, subst (λ k. k ≤ settled) (whole-past p done told) reached, (told.0, refl))
+pub settles-whole : (p : Planned) (done : Done) (settled : ℕ) → 0 < length p.batch.handles → CommitsAs p (Ok done) → past_after (first_ticket done) (entries_of done) ≤ settled
+    → (past : ℕ) × Follow (first_ticket done) 0 past (entries_of done) × (first_ticket done < past) × (past ≤ settled) × IsOfHeld (Some p.batch) (first_ticket done) past
+settles-whole p done settled some told reached =
+    let first = told.0 in
+    (end_of p.batch, subst (λ f. Follow f 0 (end_of p.batch) (entries_of done)) (sym told.0) told.1, omega (arith, first, some), subst (λ k. k ≤ settled) (whole-past p done told) reached, (told.0, refl))

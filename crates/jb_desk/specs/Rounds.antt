@@ -1,5 +1,5 @@
 -- What a round of a committer makes of a book and of the committer.
-use Rattle.std.specs.Prelude.{◌≡◌, ℕ, ◌≤◌, true, false, Option, Some, None, is_some, Result, Ok, Err}
+use Rattle.std.specs.Prelude.{◌≡◌, ℕ, ◌<◌, ◌≤◌, true, false, Option, Some, None, is_some, Result, Ok, Err}
 use Rattle.jb_plan.specs.Batch.{Gathered, gathered}
 use Rattle.jb_plan.specs.Costs.{HasCut}
 use Rattle.jb_deck.specs.Done.{Follow, first_ticket, entries_of}
@@ -57,11 +57,11 @@ StaysHeld None new = is_some new ≡ true
 StaysHeld (Some b) new = new ≡ Some b
 
 -- What a round answers, where the committer held such a batch before and after it, and its seat is sure of so many settled
--- tickets: a batch that is committed is settled whole, and the seat is sure of it; a batch stays held where it may still be
--- committed, and only there.
+-- tickets: a batch that is committed is settled whole, one handle at least, and the seat is sure of it; a batch stays held where it
+-- may still be committed, and only there.
 abbrev pub AnswersRound : Option Gathered → Option Gathered → ℕ → Result Round RoundFault → Type 0
 AnswersRound old new settled (Ok (Idle seen)) = (old ≡ None) × (new ≡ None)
-AnswersRound old new settled (Ok (Committed done)) = (new ≡ None) × ((past : ℕ) × Follow (first_ticket done) 0 past (entries_of done) × (past ≤ settled) × IsOfHeld old (first_ticket done) past)
+AnswersRound old new settled (Ok (Committed done)) = (new ≡ None) × ((past : ℕ) × Follow (first_ticket done) 0 past (entries_of done) × (first_ticket done < past) × (past ≤ settled) × IsOfHeld old (first_ticket done) past)
 AnswersRound old new settled (Err Aborted) = new ≡ None
 AnswersRound old new settled (Err DeviceFault) = new ≡ None
 AnswersRound old new settled (Err Memory) = StaysHeld old new

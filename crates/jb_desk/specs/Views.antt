@@ -1,5 +1,5 @@
 -- What a call makes of the counts that its seat is sure of.
-use Rattle.std.specs.Prelude.{◌≡◌, ◌⊎◌, ℕ, ◌+◌, ◌<◌, ◌≤◌, max, Option, Some, None, Result, Ok, Err}
+use Rattle.std.specs.Prelude.{◌≡◌, ◌⊎◌, ℕ, ◌+◌, ◌<◌, ◌≤◌, max, length, Option, Some, None, Result, Ok, Err}
 use Rattle.jb_plan.specs.Batch.{Gathered}
 use Rattle.jb_board.specs.Front.{front}
 use Rattle.jb_board.specs.Steps.{raised_settled}
@@ -51,10 +51,15 @@ TakesNone (Err DeviceFault) = ⊥
 TakesNone (Err Memory) = ⊥
 TakesNone (Err Refused) = ⊥
 
--- a batch that is held is the one that is taken up
-abbrev pub TakesUp : Option Gathered → Gathered → Type 0
-TakesUp None b = Unit {0}
-TakesUp (Some held) b = b ≡ held
+-- a batch that is held is this one
+abbrev pub IsOneHeld : Option Gathered → Gathered → Type 0
+IsOneHeld None b = Unit {0}
+IsOneHeld (Some held) b = b ≡ held
+
+-- the batch that a round takes up: the one that is held, where one is; it has a handle at least
+pub record TakesUp (held : Option Gathered) (b : Gathered) : Type 0 where
+  pub same : IsOneHeld held b
+  pub some : 0 < length b.handles
 
 -- What a round makes of them, where the committer held such a batch before and after it: nothing where it takes up no batch;
 -- otherwise its batch is taken, and then committed

@@ -55,7 +55,7 @@ pub enum RoundFault {
     /// A call of the disk failed. The groups that were committed are settled, and the rest of the batch is lost.
     #[error("the disk failed; recover the journal and open it again")]
     DeviceFault,
-    /// The journal does not take the batch. The committer holds it.
+    /// The journal does not take the batch: it has no numbers left for its groups, for example. The committer holds it.
     #[error("the journal does not take the batch")]
     Refused,
 }

@@ -1,5 +1,6 @@
 ghost use Rattle.std.specs.Prelude.{◌≡◌, ◌+◌, ◌<◌, ◌≤◌, ◌^◌, ◌⊎◌, true, None, IsTrue, ◌↔◌};
 ghost use Rattle.std.specs.Prelude.{OnOk, IfOk, IfErr, IfSome, IfNone, []};
+ghost use Rattle.jb_desk.specs.Parts.{ledger_parts};
 
 mod handling;
 mod idle;
@@ -47,11 +48,11 @@ pub(crate) struct Counter<D: Disk, H: Origin, N: Ledger> {
     is_odd: bool,
     ghost handles_counted: { handles.total ≡ register.book.shadow.next },
     ghost changes_counted: { changes.total ≡ register.book.changes },
-    ghost handles_left: { spare_handles.parts + given ≡ 2305843009213693953 },
-    ghost changes_left: { spare_changes.parts + given ≡ 2305843009213693953 },
+    ghost handles_left: { spare_handles.parts + given ≡ ledger_parts },
+    ghost changes_left: { spare_changes.parts + given ≡ ledger_parts },
     ghost no_handles: { spare_handles.amount ≡ 0 },
     ghost no_changes: { spare_changes.amount ≡ 0 },
-    ghost few: { given ≤ 2305843009213693952 },
+    ghost few: { given < ledger_parts },
 }
 
 impl<D: Disk, H: Origin, N: Ledger> Counter<D, H, N> {
@@ -64,8 +65,8 @@ impl<D: Disk, H: Origin, N: Ledger> Counter<D, H, N> {
 
     /// A book of which nobody has asked anything, with its history, and two ledgers in which nothing is counted.
     pub fn new(register: Register<D, H>, handles: Blank, changes: Blank) -> Counter<D, H, N>
-        requires handles { (handles.name ≡ H.name) × (handles.parts ≡ H.parts) × (H.parts ≡ 2305843009213693953) }
-        requires changes { (changes.name ≡ N.name) × (changes.parts ≡ N.parts) × (N.parts ≡ 2305843009213693953) }
+        requires handles { (handles.name ≡ H.name) × (handles.parts ≡ H.parts) × (H.parts ≡ ledger_parts) }
+        requires changes { (changes.name ≡ N.name) × (changes.parts ≡ N.parts) × (N.parts ≡ ledger_parts) }
         requires fresh { (register.book.shadow.next ≡ 0) × (register.book.changes ≡ 0) }
         ensures { result.register ≡ register }
     {

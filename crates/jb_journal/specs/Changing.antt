@@ -8,6 +8,7 @@ use Rattle.jb_handle.specs.Word.{WordMap}
 use Rattle.jb_handle.specs.declared.handle.Handle.{Handle}
 use Rattle.jb_board.specs.HistoryRule.{IsFirstPart, StandsIn}
 use Rattle.jb_book.specs.declared.sights.Sights.{Sights}
+use Rattle.jb_desk.specs.Refusals.{IsTooMany}
 use Rattle.jb_journal.specs.Notes.{Stop}
 use Rattle.jb_journal.specs.declared.fault.HandleFault.{HandleFault}
 use Rattle.jb_journal.specs.declared.fault.HandleFault.TheVariants.{Begin, Refused, Aborted, NotOpen, Memory}
@@ -30,11 +31,11 @@ module _ {F T E : Type 0} (g : Once F (MutBor (Handle (Unit {0})) × Unit {0}) (
     pub called : IsCalled (Ok answer)
     pub stopped : new ≡ old ++ (ticket, (changes_of called.after).words) ∷ []
 
-  -- What f gave is given where its handle stopped, and is the refusal where it refused; of a handle that was not begun nothing is said of f. Only a handle
-  -- that stopped is one more of those that the client has stopped
+  -- What f gave is given where its handle stopped, and is the refusal where it refused. Of a handle that was not begun nothing is said of f; where its credits were
+  -- too many, they are more than the number that is named. Only a handle that stopped is one more of those that the client has stopped
   abbrev pub AnswersChange : List Stop → List Stop → Result (T × ℕ) (HandleFault E) → Type 0
   AnswersChange old new (Ok given) = IsChanged given.0 given.1 old new
-  AnswersChange old new (Err (Begin fault)) = new ≡ old
+  AnswersChange old new (Err (Begin fault)) = IsTooMany fresh.credits fault × (new ≡ old)
   AnswersChange old new (Err (Refused fault)) = IsCalled (Err fault) × (new ≡ old)
   AnswersChange old new (Err Aborted) = IsCalledWell × (new ≡ old)
   AnswersChange old new (Err NotOpen) = IsCalledWell × (new ≡ old)

@@ -119,8 +119,9 @@ impl<'a, D: Disk, C: Clock, R: Wait + time::Clock, H: Origin, N: Ledger> Client<
     /// waited for.
     ///
     /// # Errors
-    /// `Begin` where the handle is not begun (that `change` is not called then, no clause says); `Refused` with what
-    /// `change` gave; `Aborted`, `NotOpen` or `Memory` where the handle does not stop. Nothing is changed by it.
+    /// `Begin` where the handle is not begun, for `TooManyCredits` only with fewer credits than were asked for (that
+    /// `change` is not called then, no clause says); `Refused` with what `change` gave; `Aborted`, `NotOpen` or
+    /// `Memory` where the handle does not stop. Nothing is changed by it.
     pub fn change<T: Drop, E, F: FnOnce(&mut Handle<()>) -> Result<T, E>>(
         &mut self,
         credits: u32,

@@ -47,6 +47,7 @@ impl<D: Disk, H: Origin, N: Ledger> Counter<D, H, N> {
     ghost use Rattle.jb_book.specs.Led.{IsMachineRun};
     ghost use Rattle.jb_book.specs.Marks.{HasShapeMark};
     ghost use Rattle.jb_book.specs.History.{AreAllStops};
+    ghost use Rattle.jb_desk.specs.Parts.{ledger_parts};
 
     /// Takes it apart where every seat that was given has left: into the book's trail, how many handles
     /// stopped and how many blocks they had touched, which are the sums over what the seats left, the history, which
@@ -63,7 +64,7 @@ impl<D: Disk, H: Origin, N: Ledger> Counter<D, H, N> {
         Scribe<Words, H>,
         Sight<Deck<D>, Marks<H>>,
     )
-        requires parts { (H.parts ≡ 2305843009213693953) × (N.parts ≡ 2305843009213693953) }
+        requires parts { (H.parts ≡ ledger_parts) × (N.parts ≡ ledger_parts) }
         requires all { vec_len lefts ≡ self.given }
         ensures trail { result.0.items ≡ self.register.book.trail }
         ensures tiles { (past : ℕ) × Follow (start_of result.0.items) 0 past result.0.items × (past ≤ result.1) }

@@ -5,6 +5,7 @@ ghost use Rattle.jb_deck.specs.Done.{Follow, start_of};
 ghost use Rattle.jb_desk.specs.Seats.{stops_left, changes_left, made_left};
 ghost use Rattle.jb_book.specs.SinceMark.{EndsMarked};
 ghost use Rattle.jb_desk.specs.Closing.{DiffersAs};
+ghost use Rattle.jb_desk.specs.Parts.{ledger_parts};
 ghost use Rattle.jb_book.specs.Since.{EndsSince};
 
 use crate::counter::Counter;
@@ -137,7 +138,7 @@ fn close_parts<D: Disk + Drop, C: Clock, H: Origin, N: Ledger>(
     lefts: Vec<Left<H, N>>,
     seen: Sights<D, H>,
 ) -> Result<Closed<D, C>, CloseFault<D, C, H, N>>
-    requires parts { (H.parts ≡ 2305843009213693953) × (N.parts ≡ 2305843009213693953) }
+    requires parts { (H.parts ≡ ledger_parts) × (N.parts ≡ ledger_parts) }
     requires all { vec_len lefts ≡ counter.given }
     ensures handles { IfOk result (λ closed. (closed.handles ≡ sum_by stops_left lefts.items)
         × (closed.handles ≡ counter.register.book.shadow.next)) }

@@ -1,5 +1,5 @@
 //! Batches are committed, one in each round of a committer.
-ghost use Rattle.std.specs.Prelude.{◌≡◌, ◌+◌, ◌≤◌, length, None, Some, All, IfErr, OnOk};
+ghost use Rattle.std.specs.Prelude.{◌≡◌, ◌+◌, ◌<◌, ◌≤◌, length, None, Some, All, IfErr, OnOk};
 ghost use Rattle.jb_deck.specs.Done.{first_ticket, entries_of, past_after};
 ghost use Rattle.jb_plan.specs.Prepared.{IsPlanned};
 ghost use Rattle.jb_desk.specs.Seats.{view_of};
@@ -39,7 +39,7 @@ impl<D: Disk, C: Clock, H: Origin, N: Ledger> Desk<D, C, H, N> {
     ///
     /// `Aborted` where the journal has failed before, `DeviceFault` where it fails now: what is queued and the
     /// rest of the batch are lost. `Memory` where there is none for the batch, and `Refused` where the journal
-    /// does not take it; the committer holds it then.
+    /// does not take it, for example where no numbers are left for its groups; the committer holds it then.
     pub fn commit_round<R: Wait>(
         &self,
         rt: &R,
@@ -54,8 +54,8 @@ impl<D: Disk, C: Clock, H: Origin, N: Ledger> Desk<D, C, H, N> {
         ensures view { SeesRound (held_by committer.old) (held_by committer.new) (view_of (seat_of committer.old))
             (view_of (seat_of committer.new)) result }
         ensures counted { KeepsStops (seat_of committer.old) (seat_of committer.new) }
-        ensures round { CommitsRound D.Disk H.begun (held_by committer.old) (view_of (seat_of committer.new)).settled
-            result }
+        ensures round { CommitsRound D.Disk H.begun (held_by committer.old) (held_by committer.new)
+            (view_of (seat_of committer.new)).settled result }
     {
         let held = committer.batch.take();
         let mut counter = self.counter.lock(rt);
@@ -73,10 +73,11 @@ impl<D: Disk, C: Clock, H: Origin, N: Ledger> Desk<D, C, H, N> {
             Ok(prepared) => self.commit(rt, committer, prepared, (tickets, sight, seen)),
             Err((batch, fault)) => {
                 committer.hold(Held::of(batch, tickets, sight, seen));
-                Err(match fault {
-                    PrepareFault::Memory => RoundFault::Memory,
-                    PrepareFault::NoCut(_) => RoundFault::Refused,
-                })
+                match fault {
+                    PrepareFault::Memory => Err(RoundFault::Memory),
+                    // a batch of a book has a cut
+                    PrepareFault::NoCut(_) => unreachable!(),
+                }
             }
         }
     }
@@ -93,6 +94,7 @@ impl<D: Disk, C: Clock, H: Origin, N: Ledger> Desk<D, C, H, N> {
         requires free { held_by committer.old ≡ None }
         requires planned { IsPlanned prepared }
         requires stops { AreStops H.begun prepared.batch.handles }
+        requires some { 0 < length prepared.batch.handles }
         requires taken { end_in prepared.batch ≤ (view_of (seat_of committer.old)).taken }
         requires given { end_in prepared.batch ≤ given_by held.0 }
         requires was_taken { end_in prepared.batch ≤ held.2.taken }
@@ -104,8 +106,8 @@ impl<D: Disk, C: Clock, H: Origin, N: Ledger> Desk<D, C, H, N> {
         ensures view { SeesCommit prepared.batch (view_of (seat_of committer.old)) (view_of (seat_of committer.new))
             result }
         ensures counted { KeepsStops (seat_of committer.old) (seat_of committer.new) }
-        ensures round { CommitsRound D.Disk H.begun (Some prepared.batch) (view_of (seat_of committer.new)).settled
-            result }
+        ensures round { CommitsRound D.Disk H.begun (Some prepared.batch) (held_by committer.new)
+            (view_of (seat_of committer.new)).settled result }
     {
         let (tickets, sight, taken) = held;
         let end = past(prepared.batch());

@@ -55,7 +55,7 @@ settle_last-requires-clause-settling g c =
 pub returns-in_ok-settle-in-Ok-clause-answers : goal.returns-in_ok-settle-in-Ok-clause-answers
 returns-in_ok-settle-in-Ok-clause-answers g c =
     let told = subst (CommitsAs c.args.prepared) c.in-Ok.is c.commit-result.ensures.tells.0 in
-    (c.requires.free, settles-whole c.args.prepared c.in-Ok.done (view_of c.settle.new.seat).settled told c.in_ok-settle-in-Ok.ensures.settled)
+    (c.requires.free, settles-whole c.args.prepared c.in-Ok.done (view_of c.settle.new.seat).settled c.requires.some told c.in_ok-settle-in-Ok.ensures.settled)
 
 pub returns-in_ok-settle-in-Ok-clause-view : goal.returns-in_ok-settle-in-Ok-clause-view
 returns-in_ok-settle-in-Ok-clause-view g c =
@@ -65,7 +65,7 @@ returns-in_ok-settle-in-Ok-clause-view g c =
 pub returns-in_ok-settle-in-Ok-clause-round : goal.returns-in_ok-settle-in-Ok-clause-round
 returns-in_ok-settle-in-Ok-clause-round g c =
     let p = c.args.prepared in
-    (p, refl, subst (λ (r : Result Done BatchFault). IfOk r (IsRound g.D.Disk g.H.Origin.begun p)) c.in-Ok.is c.commit-result.ensures.round)
+    (p, record { same = refl; some = c.requires.some }, subst (λ (r : Result Done BatchFault). IfOk r (IsRound g.D.Disk g.H.Origin.begun p)) c.in-Ok.is c.commit-result.ensures.round)
 
 pub returns-in_ok-settle_last-in-Err-DeviceFault-clause-round : goal.returns-in_ok-settle_last-in-Err-DeviceFault-clause-round
 returns-in_ok-settle_last-in-Err-DeviceFault-clause-round g c =
@@ -74,7 +74,7 @@ returns-in_ok-settle_last-in-Err-DeviceFault-clause-round g c =
     let is : c.in-Err-DeviceFault.field-0 ≡ DeviceFault c.in-Err-DeviceFault.settled = search rules in (
       p,
       c.in-Err-DeviceFault.settled,
-      refl,
+      record { same = refl; some = c.requires.some },
       subst (λ (f : BatchFault). Fails (Err f)) is (subst Fails c.in-Err-DeviceFault.is c.commit-result.ensures.failed),
       c.in_ok-settle_last-in-Err-DeviceFault.ensures.settled,
     )
