@@ -6,8 +6,8 @@
 Each of `jb format`, example_store and example_accounts is started KILLS times (40, if no number is given) in a folder without the image, with what the start
 before has left of one, and is killed at a random moment. Where strace is there, each is also killed at each of its calls of the system from the
 first that names the image to the last that makes it, and each of these calls is refused in turn: the program may end well or with a fault then, and with
-a fault `jb format` leaves no image. After each the program is started once more and has to end well, with what it must print. Prints how many starts there were, how often the killed one had left a file
-that was not finished, and how often the image; ends with 1 where a start went wrong."""
+a fault `jb format` leaves no image. After each the program is started once more and has to end well, with what it must print. Prints how many starts
+there were, how often the killed one had left a file that was not finished, and how often the image; ends with 1 where a start went wrong."""
 import os
 import random
 import re
