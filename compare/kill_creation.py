@@ -5,9 +5,9 @@
 
 Each of `jb format`, example_store and example_accounts is started KILLS times (40, if no number is given) in a folder without the image, with what the start
 before has left of one, and is killed at a random moment. Where strace is there, each is also killed at each of its calls of the system from the
-first that names the image to the last that makes it, and each of these calls is refused in turn: the program may end well or with a fault then. After
-each the program is started once more and has to end well, with what it must print. Prints how many starts there were, how often the killed one had left a file
-that was not finished, and how often the image; ends with 1 where a start went wrong."""
+first that names the image to the last that makes it, and each of these calls is refused in turn: the program may end well or with a fault then, and with
+a fault `jb format` leaves no image. After each the program is started once more and has to end well, with what it must print. Prints how many starts
+there were, how often the killed one had left a file that was not finished, and how often the image; ends with 1 where a start went wrong."""
 import os
 import random
 import re
@@ -66,6 +66,12 @@ def after(program, what, jb, image, counts):
     expect(f"{program.name} after {what}", good, found)
     if os.path.exists(image):
         os.remove(image)
+
+
+def unmade(program, what, found, image):
+    """A `jb format` that had a call refused, and ended with a fault, leaves no image; only one whose line was not written is whole."""
+    if program.name == "jb format" and found and found[0] != 0 and b"WriteFault" not in found[1]:
+        expect(f"the image after {what}", not os.path.exists(image), found)
 
 
 def calls_of(program, image):
@@ -142,7 +148,9 @@ def main():
             for name, number in calls_of(program, image):
                 for how in ["signal=SIGKILL", "error=EIO", "error=EPERM"]:
                     words = ["strace", "-f", "-o", "/dev/null", "-e", f"inject={name}:{how}:when={number}", *program.words]
-                    program.start(words, 60)
+                    ended = program.start(words, 60)
+                    if how.startswith("error"):
+                        unmade(program, f"{how} at {name} {number}", ended, image)
                     after(program, f"{how} at {name} {number}", jb, image, counts)
         os.chdir(here)
     print("%(starts)d starts after one that was stopped: %(unfinished)d found a file that was not finished, %(image)d an image" % counts, end="")

@@ -47,13 +47,13 @@ pub enum Round {
 #[derive(Clone, Copy, Debug, PartialEq, Eq, Error)]
 pub enum RoundFault {
     /// The journal has failed before. The batch is lost.
-    #[error("the journal has failed; recover it and open it again")]
+    #[error("the journal has failed; start the program anew and recover it")]
     Aborted,
     /// There was no memory. The committer holds the batch for its next round.
     #[error("out of memory; the next round commits the batch")]
     Memory,
     /// A call of the disk failed. The groups that were committed are settled, and the rest of the batch is lost.
-    #[error("the disk failed; recover the journal and open it again")]
+    #[error("the disk failed; start the program anew and recover the journal")]
     DeviceFault,
     /// The journal does not take the batch: it has no numbers left for its groups, for example. The committer holds it.
     #[error("the journal does not take the batch")]

@@ -95,14 +95,31 @@ with_words es (word ∷ more) = option_and_then (λ now. with_words now more) (w
 abbrev pub extents_in : List ℕ → Option (List Extent)
 extents_in text = with_words [] (listed text)
 
+-- memory may run out at a word: it says blocks of the journal, and they come next
+pub record MayKeep (es : List Extent) (word : List ℕ) : Type 0 where
+  pub at : Option ℕ
+  pub blocks : Extent
+  pub says : named_in word ≡ Some (Blocks at blocks)
+  pub next : follows_at es at ≡ true
+
 -- a word was taken up: the extents are those with it; or they cannot be
 abbrev pub TakesWord : List ℕ → List Extent → List Extent → Result Unit ListFault → Type 0
 TakesWord word old new (Ok done) = with_word old word ≡ Some new
 TakesWord word old new (Err Syntax) = with_word old word ≡ None
-TakesWord word old new (Err Memory) = Unit {0}
+TakesWord word old new (Err Memory) = MayKeep old word
+
+-- memory may run out at such a word of a text: the words before it are of the form
+pub record MayKeepIn (text : List ℕ) : Type 0 where
+  pub earlier : List (List ℕ)
+  pub word : List ℕ
+  pub later : List (List ℕ)
+  pub had : List Extent
+  pub parts : listed text ≡ earlier ++ word ∷ later
+  pub reads : with_words [] earlier ≡ Some had
+  pub keeps : MayKeep had word
 
 -- the extents that a text lists were read, or it lists none; or memory ran out
 abbrev pub ReadsList : List ℕ → Result Extents ListFault → Type 0
 ReadsList text (Ok extents) = extents_in text ≡ Some (list_of extents)
 ReadsList text (Err Syntax) = extents_in text ≡ None
-ReadsList text (Err Memory) = Unit {0}
+ReadsList text (Err Memory) = MayKeepIn text

@@ -27,7 +27,7 @@ impl Extents {
     ///
     /// # Errors
     /// `ListFault::Syntax` where a word is of another form, or the stretches are not in the journal's order;
-    /// `ListFault::Memory` where memory ran out.
+    /// `ListFault::Memory` where memory ran out for a stretch: the words up to it are of the form.
     pub fn read(alloc: Global, text: &[u8]) -> Result<Extents, ListFault>
         ensures { ReadsList text.now result }
     {

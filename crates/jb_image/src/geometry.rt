@@ -1,6 +1,7 @@
 //! How many blocks an image has, and which.
-ghost use Rattle.std.specs.Prelude.{◌≡◌, ◌+◌, ◌*◌, ◌↔◌, IfSome, IsSome};
+ghost use Rattle.std.specs.Prelude.{◌≡◌, ◌+◌, ◌*◌, ◌↔◌, replicate, IfSome, IsSome};
 ghost use Rattle.jb_block.specs.Size.{bytes_of};
+ghost use Rattle.jb_block.specs.declared.width.Width.TheVariants.{Narrow};
 ghost use Rattle.jb_image.specs.Making.{MakesImage};
 
 use jb_block::{BlockSize, Width};
@@ -31,7 +32,14 @@ impl Geometry {
     /// So many blocks of this size, with transactions of a quarter of the log at most, block numbers of 32 bits, and
     /// zeros for a UUID.
     pub fn new(block_size: BlockSize, journal: u32, homes: u64) -> Geometry
-        ensures { (result.block_size ≡ block_size) × (result.journal ≡ journal) × (result.homes ≡ homes) }
+        ensures { result ≡ record {
+          block_size = block_size;
+          journal = journal;
+          homes = homes;
+          max_transaction = 0;
+          uuid = replicate 16 0;
+          width = Narrow;
+        } }
     {
         Geometry {
             block_size,

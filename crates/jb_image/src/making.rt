@@ -2,6 +2,7 @@
 ghost use Rattle.std.specs.Prelude.{◌≡◌, ◌↔◌, ◌+◌, ◌*◌, IfOk, IsTrue, Err};
 ghost use Rattle.jb_block.specs.Size.{bytes_of};
 ghost use Rattle.jb_disk.specs.File.{IsMeasured, count_of, size_of_blocks};
+ghost use Rattle.jb_disk.specs.contracts.start.UnknownStart.TheImpl.{ghosts as unknown};
 ghost use Rattle.jb_image.specs.Making.{MakingFailed, MakesImage, WasMade};
 ghost use Rattle.jb_image.specs.declared.fault.MakeFault.TheVariants.{DeviceFault, Geometry as NoGeometry};
 
@@ -31,6 +32,7 @@ pub fn create_image<R: Files<File = File> + AllocGlobal>(
 ) -> Result<FileDisk, MakeFault>
     ensures geometry { (result ≡ Err NoGeometry) ↔ (MakesImage geometry → ⊥) }
     ensures made { IfOk result (WasMade geometry) }
+    ensures failed { result ≡ Err DeviceFault → MakingFailed unknown geometry }
 {
     create_holding(rt, name, geometry)
 }

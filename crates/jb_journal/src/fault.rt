@@ -16,8 +16,9 @@ pub enum HandleFault<E> {
     /// What changes it gave this answer.
     #[error("{0}")]
     Refused(E),
-    /// The journal has failed: the worker ends, and the journal is to be recovered.
-    #[error("the journal has failed; recover it and run it again")]
+    /// The journal has failed: the worker ends, and so does the program, to recover the journal when it is started
+    /// anew.
+    #[error("the journal has failed; start the program anew and recover it")]
     Aborted,
     /// The handle has other words than the one that was begun may have: it was exchanged for another one.
     #[error("the handle is not the one that was begun; change that one in its place")]
@@ -33,9 +34,9 @@ pub enum RunFault {
     /// The journal was not opened, for this.
     #[error("{0}")]
     Open(OpenFault),
-    /// There was no memory for the desk, a thread's answer or what the threads leave; handles may have been committed
-    /// then, and the journal is to be recovered.
-    #[error("out of memory; recover the journal and run it again")]
+    /// There was no memory for the desk, a thread's answer or what the threads leave. Handles may have been committed
+    /// then, or the disk may have failed: the program is to end, and to recover the journal when it is started anew.
+    #[error("out of memory; start the program anew and recover the journal")]
     Memory,
     /// The system makes no thread more, so that each worker had one of its own: no worker was called.
     #[error("the system makes no thread more; run with fewer workers")]
@@ -56,9 +57,10 @@ impl From<Memory> for RunFault {
     }
 }
 
-/// Handles that stopped were not all settled: the others may be lost, and the journal is to be recovered.
+/// Handles that stopped were not all settled: the others may be lost. The disk may have failed: the program is to end,
+/// and to recover the journal when it is started anew.
 #[derive(Clone, Copy, Debug, PartialEq, Eq, Error)]
-#[error("{settled} of {handles} handles are settled, the others may be lost; recover the journal and run it again")]
+#[error("only {settled} of {handles} handles are settled; start the program anew and recover the journal")]
 pub struct NotSettled {
     /// How many handles stopped.
     pub handles: u64,

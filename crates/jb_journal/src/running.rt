@@ -41,7 +41,7 @@ const PARTS: u64 = (1 << 61) + 1;
 /// - `Open` where the journal was not opened, and nothing ran. The disk is lost: what is said of it holds of some disk
 ///   that this one has become.
 /// - `Memory` where there was none for the desk, a thread's answer or what the threads leave; handles may have been
-///   committed then.
+///   committed then, or the disk may have failed.
 /// - `NoThread` where the system makes no thread for each worker, for what commits and for what writes home within ten
 ///   seconds: no worker was called.
 /// - `Accounts` where the desk's sums do not agree, which cannot happen.

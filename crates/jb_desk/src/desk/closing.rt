@@ -64,7 +64,7 @@ impl<D: Disk, C: Clock, H: Origin, N: Ledger> fmt::Display for CloseFault<D, C, 
             CloseFault::TrailsDiffer { .. } => {
                 write!(
                     f,
-                    "the journal has settled other groups than the book; recover it and open it again"
+                    "the journal has settled other groups than the book; start the program anew and recover it"
                 )
             }
         }
