@@ -8,6 +8,7 @@ pub mod Judged
 pub mod Laws
 pub mod Lists
 pub mod Making
+pub mod Mounts
 pub mod Pair
 pub mod Past
 pub mod Spread

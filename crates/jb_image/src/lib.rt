@@ -15,6 +15,7 @@ mod image;
 mod judging;
 mod list_word;
 mod making;
+mod mount_line;
 mod mounted;
 mod opening;
 mod pair;
