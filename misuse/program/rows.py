@@ -14,7 +14,8 @@ def row(words, status, out="", err="", files=(), stdin=b"", after=(), how="", to
     words     its words, as one text; in a word `~` stands for a space and `^` for an LF, and a NUL is never needed
     files     the files that are there before, by their names; None makes a folder, a number a file of so many zeros, a text that kind
               of file
-    after     the files that differ afterwards, or are new; all others must be as they were, and there may be no other
+    after     the files that differ afterwards, or are new, or `...` for one that is gone; all others must be as they were, and there may
+              be no other
     how       a shell's `ulimit`, `trap` and `exec` before it starts
     locked    the file that is locked meanwhile
     to        standard output: a pipe, a pipe that nobody reads (`gone`), or a full device (`full`)
@@ -39,6 +40,7 @@ FOUR = "w1 w2/w3 w4/w3 w4/w3 w4 w5"
 # the system's texts
 MISSING, THERE, NO_FOLDER, FOLDER, LARGE = ("No such file or directory (os error 2)", "File exists (os error 17)", "Not a directory (os error 20)",
                                             "Is a directory (os error 21)", "File too large (os error 27)")
+LONG_NAME = "File name too long (os error 36)"
 # the most bytes of a queue text, and of a certificate
 LONG = 16_777_216
 LONGEST = 9 * LONG
@@ -198,6 +200,18 @@ row("format a --bs 4096 --journal 9 --homes 0", 0, "formatted limit 3\n",
 row(BASIC, 2, err="jb: cannot make a\n", files={"a": FULL}, beside=THERE)
 row(BASIC, 2, err="jb: cannot make a\n", files={"a": b""}, beside=THERE)
 row(BASIC, 2, err="jb: cannot make a\n", files={"a": None}, beside=THERE)
+# what a killed run leaves under the other name goes, and nothing else does
+OTHER = "a.jb-unfinished"
+for left in (b"", bytes(9 * BS), 1 << 20, MADE, image(SMALL), image(superblock(incompat=3, maxlen=9), homes=100, maxlen=9)):
+    row(BASIC, 0, "formatted limit 8\n", files={OTHER: left}, after={OTHER: ..., "a": MADE})
+for kept in (b"mine\n", bytes(1023), bytes(40000) + b"x", FULL, image(CLEAN), image(SMALL, ONE), image(SMALL, written={15: data(b"x")}),
+             padded(SMALL[:80], 81) + b"x" + bytes(48 * BS), None, "fifo"):
+    row(BASIC, 2, err="jb: cannot make a\n", files={OTHER: kept}, beside=THERE)
+row(BASIC, 2, err="jb: cannot make a\n", files={OTHER: b""}, locked=OTHER)
+row(BASIC, 2, err="jb: cannot make a\n", files={"a": FULL, OTHER: b""}, beside=THERE)
+# a name that has room for the other name, and one that has none
+row(BASIC.replace(" a ", " %s " % ("n" * 241)), 0, "formatted limit 8\n", after={"n" * 241: MADE})
+row(BASIC.replace(" a ", " %s " % ("n" * 242)), 2, err="jb: cannot make %s\n" % ("n" * 242), beside=LONG_NAME)
 row("format f/a --bs 1024 --journal 33 --homes 16", 2, err="jb: cannot make f/a\n", beside=MISSING)
 row("format f/a --bs 1024 --journal 33 --homes 16", 2, err="jb: cannot make f/a\n", files={"f": b"no folder"}, beside=NO_FOLDER)
 for words, bad in (("--bs 512 --journal 33 --homes 16", "--bs"), ("--bs 1024 --journal 4294967296 --homes 16", "--journal"),

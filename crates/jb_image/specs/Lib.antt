@@ -6,6 +6,7 @@ pub mod Files
 pub mod Images
 pub mod Judged
 pub mod Laws
+pub mod Left
 pub mod Lists
 pub mod Making
 pub mod Mounts

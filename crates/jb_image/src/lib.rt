@@ -13,6 +13,7 @@ mod field;
 mod geometry;
 mod image;
 mod judging;
+mod left;
 mod list_word;
 mod making;
 mod mount_line;
@@ -21,6 +22,7 @@ mod opening;
 mod pair;
 mod past;
 mod system;
+mod unfinished;
 
 pub use extent::Extent;
 pub use extents::Extents;
