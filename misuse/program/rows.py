@@ -293,8 +293,12 @@ row("cat a 5 -n 2", 0, data(b"five").decode() + data(b"six").decode(), files={"a
 row("cat a 5", 0, data(b"X").decode(), files={"a": image(superblock(2, 1), TWO_AND_REVOKED, written={5: data(b"X")})})
 row("cat a 9", 0, NINE, files={"a": RECOVERED})
 row("cat a 9", 0, ZEROS, files={"a": image(superblock(2, 1), OUT_OF_RANGE)})
-row("cat a 9", 1, err="jb: BadRevoke 1\n", files={"a": image(superblock(2, 1), [revoke(2, [], 1025), commit(2)])})
-row("cat a 0", 1, err="jb: NoHome 0\n", files={"a": image(SMALL, homes=0)}, beside="0")
+# where no block is asked for the image is judged all the same
+row("cat a 9 -n 0", 0, files={"a": RECOVERED})
+for asked in ("", " -n 0"):
+    row("cat a 9" + asked, 1, err="jb: BadRevoke 1\n", files={"a": image(superblock(2, 1), [revoke(2, [], 1025), commit(2)])})
+    row("cat a 9" + asked, 1, err="jb: Super Geometry\n", files={"a": image(SMALL)[:20 * BS]})
+    row("cat a 0" + asked, 1, err="jb: NoHome 0\n", files={"a": image(SMALL, homes=0)}, beside="0")
 # after a journal of its own the other file has no superblock, and is whatever it is
 SPLIT = {"j": RECOVERED[:33 * BS], "a": RECOVERED[33 * BS:]}
 row("recover a --journal j", 0, "transactions 1 copies 1 revoked 0 next 4\n", files=parted(FULL), after=SPLIT)

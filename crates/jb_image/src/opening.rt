@@ -61,8 +61,8 @@ pub fn open_holding<S: Start, R: Files<File = File> + AllocGlobal>(
 
 /// The regular file or block device of this name, opened for reading, or for writing too, and locked for as long as it
 /// is open: for who changes it alone, or shared by all that read it. A file that the system cannot lock is used without
-/// a lock. The lock is one of `flock`: a program that takes none is not kept out. A file that is opened for change loses
-/// its other name, of the [making](crate::create_image), which a killed process has left.
+/// a lock. The lock is one of `flock`: a program that takes none is not kept out. A file that is opened for change
+/// loses its other name, of the [making](crate::create_image), which a killed process has left.
 ///
 /// # Errors
 /// In this order: `OtherKind` where it is of another kind; `System` where the system does not open it; `Mounted` where

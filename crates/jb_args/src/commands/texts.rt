@@ -108,7 +108,8 @@ is not revoked makes of it, or the block as it stands. For each block the log is
 of an image with a long log are read faster after jb recover. A copy for another home block that the image
 does not have is not looked at, though recover refuses it.
 
-With --hex a block is lines as xxd prints them, with offsets from 0 on over all the blocks, of 32 bits.
+With --hex a block is lines as xxd prints them, with offsets from 0 on over all the blocks, of 32 bits. With
+-n 0 nothing is written, but the image is read, and refused, as for one block.
 
 Status: 0 where they are written, 1 where the image is refused, by the name of its fault, or does not have
 the block: the blocks before it are written then, 2 where the file cannot be opened or read, or is in use.
