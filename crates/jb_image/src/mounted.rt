@@ -17,6 +17,11 @@ use std::{fs, io, str};
 /// The system's list of the mounts that this process sees, a line each.
 const MOUNTS: &str = "/proc/self/mountinfo";
 
+/// The first number of a loop device, and of a partition of one.
+const LOOP: u64 = 7;
+
+const PARTITION: u64 = 259;
+
 /// What the system appends to the name of a file that has been removed.
 const REMOVED: &str = " (deleted)";
 
@@ -49,12 +54,11 @@ fn is_mount_of<R: Files<File = File> + AllocGlobal>(
     let Some((major, minor)) = device_of(line) else {
         return Ok(false);
     };
-    // a file system on no device
-    if major == 0 {
-        return Ok(false);
-    }
     if metadata.file_type().is_block_device() && numbers_of(metadata.rdev()) == (major, minor) {
         return Ok(true);
+    }
+    if major != LOOP && major != PARTITION {
+        return Ok(false);
     }
     let device = format!(in rt.alloc(); "/sys/dev/block/{major}:{minor}/loop/backing_file")?;
     // a partition of a loop device is in that one's folder
