@@ -157,8 +157,10 @@ def device():
 
 
 def mounted(loaded):
-    """A device that is mounted is read, and not changed."""
+    """A device that is mounted is read, and not changed; the same of the file that its loop device is over, by each of its names. A file
+    within what is mounted is changed, and so is that file once it is not mounted any more, though the loop device has it."""
     fresh({"backing": bytes(4 << 20), "journal": loaded[: 33 * 1024]})
+    os.link("backing", "linked")
     name = subprocess.run(["losetup", "--find", "--show", "backing"], stdout=subprocess.PIPE).stdout.decode().strip()
     try:
         with tempfile.TemporaryDirectory() as room:
@@ -168,17 +170,25 @@ def mounted(loaded):
                 return
             try:
                 before = open(name, "rb").read()
-                for words in [["recover", name], ["recover", name, "--journal", "journal"], ["renumber", name], ["widen", name]]:
-                    got = run(words)
-                    expect("mounted: %s" % words, got == (2, b"", b"jb: in use %s\n" % name.encode()), got)
-                got = run(["cat", name, "1", "--journal", "journal"])
-                expect("mounted: cat", got[0] == 0 and len(got[1]) == 1024, got)
+                for image in [name, "backing", "linked"]:
+                    for words in [["recover", image], ["recover", image, "--journal", "journal"], ["renumber", image], ["widen", image]]:
+                        got = run(words)
+                        expect("mounted: %s" % words, got == (2, b"", b"jb: in use %s\n" % image.encode()), got)
+                    got = run(["cat", image, "1", "--journal", "journal"])
+                    expect("mounted: cat %s" % image, got[0] == 0 and len(got[1]) == 1024, got)
                 expect("a mounted device is as it was", open(name, "rb").read() == before)
+                inside = os.path.join(room, "inside")
+                with open(inside, "wb") as file:
+                    file.write(loaded)
+                got = run(["recover", inside])
+                expect("a file within what is mounted", got[0] == 0, got)
             finally:
                 subprocess.run(["umount", room])
+            got = run(["widen", "backing"])
+            expect("not mounted any more", got == (1, b"", b"jb: Super NoMagic\n"), got)
     finally:
         subprocess.run(["losetup", "--detach", name])
-    print("a mounted device: 5 runs")
+    print("a mounted device, and its file: 17 runs")
 
 
 def making():

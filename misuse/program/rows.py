@@ -14,7 +14,8 @@ def row(words, status, out="", err="", files=(), stdin=b"", after=(), how="", to
     words     its words, as one text; in a word `~` stands for a space and `^` for an LF, and a NUL is never needed
     files     the files that are there before, by their names; None makes a folder, a number a file of so many zeros, a text that kind
               of file
-    after     the files that differ afterwards, or are new; all others must be as they were, and there may be no other
+    after     the files that differ afterwards, or are new, or `...` for one that is gone; all others must be as they were, and there may
+              be no other
     how       a shell's `ulimit`, `trap` and `exec` before it starts
     locked    the file that is locked meanwhile
     to        standard output: a pipe, a pipe that nobody reads (`gone`), or a full device (`full`)
@@ -39,6 +40,7 @@ FOUR = "w1 w2/w3 w4/w3 w4/w3 w4 w5"
 # the system's texts
 MISSING, THERE, NO_FOLDER, FOLDER, LARGE = ("No such file or directory (os error 2)", "File exists (os error 17)", "Not a directory (os error 20)",
                                             "Is a directory (os error 21)", "File too large (os error 27)")
+LONG_NAME = "File name too long (os error 36)"
 # the most bytes of a queue text, and of a certificate
 LONG = 16_777_216
 LONGEST = 9 * LONG
@@ -198,6 +200,18 @@ row("format a --bs 4096 --journal 9 --homes 0", 0, "formatted limit 3\n",
 row(BASIC, 2, err="jb: cannot make a\n", files={"a": FULL}, beside=THERE)
 row(BASIC, 2, err="jb: cannot make a\n", files={"a": b""}, beside=THERE)
 row(BASIC, 2, err="jb: cannot make a\n", files={"a": None}, beside=THERE)
+# what a killed run leaves under the other name goes, and nothing else does
+OTHER = "a.jb-unfinished"
+for left in (b"", bytes(9 * BS), 1 << 20, MADE, image(SMALL), image(superblock(incompat=3, maxlen=9), homes=100, maxlen=9)):
+    row(BASIC, 0, "formatted limit 8\n", files={OTHER: left}, after={OTHER: ..., "a": MADE})
+for kept in (b"mine\n", bytes(1023), bytes(40000) + b"x", FULL, image(CLEAN), image(SMALL, ONE), image(SMALL, written={15: data(b"x")}),
+             padded(SMALL[:80], 81) + b"x" + bytes(48 * BS), None, "fifo"):
+    row(BASIC, 2, err="jb: cannot make a\n", files={OTHER: kept}, beside=THERE)
+row(BASIC, 2, err="jb: cannot make a\n", files={OTHER: b""}, locked=OTHER)
+row(BASIC, 2, err="jb: cannot make a\n", files={"a": FULL, OTHER: b""}, beside=THERE)
+# a name that has room for the other name, and one that has none
+row(BASIC.replace(" a ", " %s " % ("n" * 241)), 0, "formatted limit 8\n", after={"n" * 241: MADE})
+row(BASIC.replace(" a ", " %s " % ("n" * 242)), 2, err="jb: cannot make %s\n" % ("n" * 242), beside=LONG_NAME)
 row("format f/a --bs 1024 --journal 33 --homes 16", 2, err="jb: cannot make f/a\n", beside=MISSING)
 row("format f/a --bs 1024 --journal 33 --homes 16", 2, err="jb: cannot make f/a\n", files={"f": b"no folder"}, beside=NO_FOLDER)
 for words, bad in (("--bs 512 --journal 33 --homes 16", "--bs"), ("--bs 1024 --journal 4294967296 --homes 16", "--journal"),
@@ -279,8 +293,12 @@ row("cat a 5 -n 2", 0, data(b"five").decode() + data(b"six").decode(), files={"a
 row("cat a 5", 0, data(b"X").decode(), files={"a": image(superblock(2, 1), TWO_AND_REVOKED, written={5: data(b"X")})})
 row("cat a 9", 0, NINE, files={"a": RECOVERED})
 row("cat a 9", 0, ZEROS, files={"a": image(superblock(2, 1), OUT_OF_RANGE)})
-row("cat a 9", 1, err="jb: BadRevoke 1\n", files={"a": image(superblock(2, 1), [revoke(2, [], 1025), commit(2)])})
-row("cat a 0", 1, err="jb: NoHome 0\n", files={"a": image(SMALL, homes=0)}, beside="0")
+# where no block is asked for the image is judged all the same
+row("cat a 9 -n 0", 0, files={"a": RECOVERED})
+for asked in ("", " -n 0"):
+    row("cat a 9" + asked, 1, err="jb: BadRevoke 1\n", files={"a": image(superblock(2, 1), [revoke(2, [], 1025), commit(2)])})
+    row("cat a 9" + asked, 1, err="jb: Super Geometry\n", files={"a": image(SMALL)[:20 * BS]})
+    row("cat a 0" + asked, 1, err="jb: NoHome 0\n", files={"a": image(SMALL, homes=0)}, beside="0")
 # after a journal of its own the other file has no superblock, and is whatever it is
 SPLIT = {"j": RECOVERED[:33 * BS], "a": RECOVERED[33 * BS:]}
 row("recover a --journal j", 0, "transactions 1 copies 1 revoked 0 next 4\n", files=parted(FULL), after=SPLIT)

@@ -28,7 +28,7 @@ pub enum Hint {
     CannotMake(Option<i32>),
     /// A file was not opened or read; the number of the system's error, where it has one.
     CannotRead(Option<i32>),
-    /// A file is locked by another program.
+    /// A file is locked by another program, or mounted.
     InUse,
     /// The image is the file of the journal, too.
     SameFile,

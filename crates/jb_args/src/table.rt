@@ -25,12 +25,14 @@ macro_rules! diagnostics {
                     "the certificate is of another queue: it has one price more than its queue has handles";
                 BadOption, "bad option", "", "what the first bad option may be": "OPTION is VALUES";
                 CannotMake, "cannot make ", "NAME",
-                    "take another name, or see to its folder, the permission and the room": "REASON";
+                    "take another name, or see to its folder, the permission and the room, and to a file of the name \
+                     with .jb-unfinished after it": "REASON";
                 CannotRead, "cannot read ", "NAME",
                     "it is to be a file that may be read; an image is a regular file or block device, and may be \
                      written too": "REASON";
                 InUse, "in use ", "NAME",
-                    "another jb works on the image: run the command again when that one has ended";
+                    "it is mounted, or another jb works on it: unmount it, or run the command again when that one has \
+                     ended";
                 SameFile, "same file ", "NAME", "the image and the journal are to be two files";
                 TooLong, "too long ", "NAME", "a queue text has at most 16777216 bytes, and a certificate 150994944";
                 ReadFault, "ReadFault", "",

@@ -1,5 +1,5 @@
 -- Home blocks that are peeked at and written, one after the other, for any disk.
-use Rattle.std.proofs.Common.{◌≡◌, suc, ◌+◌, ◌<◌, ◌≤◌, ℕ, Bool, true, List, [], ◌∷◌, ◌++◌, length, get_or, Option, Some, None, Result, Err, refl, ap, sym, ◌∙◌, subst, inl, inr, arith, length-append, append_assoc, append-nil}
+use Rattle.std.proofs.Common.{◌≡◌, suc, ◌+◌, ◌<◌, ◌≤◌, ℕ, Bool, true, List, [], ◌∷◌, ◌++◌, length, get_or, Option, Some, None, Result, Ok, Err, refl, ap, sym, ◌∙◌, subst, inl, inr, arith, length-append, append_assoc, append-nil}
 use Rattle.std.proofs.Math.Decide.{ℕ_discrete}
 use Rattle.std.proofs.Math.Seq.{get_or-append_seam}
 use Rattle.std.proofs.lemmas.List.{get_or_append_left}
@@ -9,14 +9,14 @@ use Rattle.jb_disk.specs.Faults.{CountsNone, MoreFaults}
 use Rattle.jb_disk.specs.Image.{Image, Same}
 use Rattle.jb_disk.specs.KeptOn.{KeptOn}
 use Rattle.jb_disk.specs.Time.{Goes}
-use Rattle.jb_disk.proofs.Counts.{kept_on, kept_same}
+use Rattle.jb_disk.proofs.Counts.{kept_as, kept_on, kept_same}
 use Rattle.jb_disk.proofs.Stepping.{goes-none, goes-on}
 use Rattle.jb_text.specs.Puts.{PutsPart}
 use Rattle.jb_text.proofs.PartByPart.{part_after}
 use Rattle.jb_recover.specs.Peeks.{IsPeeked, Peeks, PeekFaults, peek_refusal}
 use Rattle.jb_recover.specs.declared.fault.PeekFault.{PeekFault}
 use Rattle.jb_recover.specs.declared.fault.PeekFault.TheVariants as peeking
-use Rattle.jb_commands.specs.Cat.{ArePeeked, block_text, blocks_text, CatFaults, CatsOn, home_at, IsUnpeeked, offset_after, offset_behind, PutsText}
+use Rattle.jb_commands.specs.Cat.{ArePeeked, block_text, blocks_text, CatFaults, CatsOn, LooksOn, home_at, IsUnpeeked, offset_after, offset_behind, PutsText}
 use Rattle.jb_commands.specs.Lines.{upto}
 use Rattle.jb_commands.specs.Faults.{peek_fault}
 use Rattle.jb_commands.specs.declared.fault.CommandFault.{CommandFault}
@@ -177,6 +177,28 @@ module _ {D : Type 0} (G : Disks D) (first : ℕ) (hex : Bool) where
       peeked = peeked-still;
       told = inr (inr (stop, refl, let done = state.done in omega (arith, more, done), λ held. subst (λ k. IsUnpeeked (G.size old) (G.count old) (G.newest old) (home_at first k) stop) (sym state.done) (as-before (λ s c b. IsUnpeeked s c b (home_at first i) stop) told held), state.text));
     }
+
+-- ---- no block is asked for
+
+module _ {D : Type 0} (G : Disks D) (homes : Option ℕ) (home : ℕ) (old new : D) (before after : List ℕ)
+    (same : G.honest new → G.newest new ≡ G.newest old) (idle : G.honest new → Goes G.may_leave G.moment G.left_since Same old new) where
+  -- the peek was not refused
+  pub looks-well : KeptOn G CountsNone old new → (G.honest new → Peeks (G.size old) (G.count old) (G.newest old) home before after (Ok tt)) → LooksOn G homes home old new (Ok 0)
+  looks-well kept told = record {
+    kept = kept_as kept kept.counted;
+    same = same;
+    idle = idle;
+    looked = (refl, λ held. (told held).0);
+  }
+
+  -- the peek was refused
+  pub looks-refused : (stop : PeekFault) → KeptOn G (PeekFaults {T = Unit} (Err stop)) old new → (G.honest new → Peeks (G.size old) (G.count old) (G.newest old) home before after (Err stop)) → LooksOn G homes home old new (Err (peek_fault homes stop))
+  looks-refused stop kept told = record {
+    kept = kept_as kept (peek-counted homes stop (G.faults old) (G.faults old) (G.faults new) refl kept.counted);
+    same = same;
+    idle = idle;
+    looked = (stop, refl, λ held. unpeeked-by (G.size old) (G.count old) (G.newest old) home before after stop (told held));
+  }
 
 -- ---- rows
 

@@ -104,3 +104,27 @@ pub record CatsOn {D : Type 0} (G : Disks D) (homes : Option ℕ) (first n : ℕ
   pub peeked : G.honest new → ArePeeked (G.size old) (G.count old) (G.newest old) first blocks
   pub told : TellsHomes (λ stop. G.honest new → IsUnpeeked (G.size old) (G.count old) (G.newest old) (home_at first (length blocks)) stop) homes hex n (length blocks)
       (blocks_text hex 0 blocks) out_old out_new end
+
+-- ---- no block is asked for
+
+-- a home was peeked at, and that is not refused, or is refused for this
+abbrev pub LooksAs : (PeekFault → Type 0) → Type 0 → Option ℕ → Result ℕ CommandFault → Type 0
+LooksAs IsRefused IsPassed homes (Ok status) = (status ≡ 0) × IsPassed
+LooksAs IsRefused IsPassed homes (Err fault) = (stop : PeekFault) × (fault ≡ peek_fault homes stop) × IsRefused stop
+
+-- a home of a disk was peeked at, and nothing more: it ends well where that is not refused; the disk's content stays, and a crash leaves
+-- what it could leave before
+pub record LooksOn {D : Type 0} (G : Disks D) (homes : Option ℕ) (home : ℕ) (old new : D) (end : Result ℕ CommandFault) : Type 0 where
+  pub kept : KeptOn G (CatFaults end) old new
+  pub same : G.honest new → G.newest new ≡ G.newest old
+  pub idle : G.honest new → Goes G.may_leave G.moment G.left_since Same old new
+  pub looked : LooksAs (λ stop. G.honest new → IsUnpeeked (G.size old) (G.count old) (G.newest old) home stop)
+      (G.honest new → peek_refusal (G.size old) (G.count old) (G.newest old) home ≡ None) homes end
+
+-- the homes of a disk from the first one on were shown, as many as were asked for; where none was, the first was peeked at, and nothing
+-- written
+pub record ShowsOn {D : Type 0} (G : Disks D) (homes : Option ℕ) (first n : ℕ) (hex : Bool) (old new : D)
+    (out_old out_new : Option (List ℕ)) (end : Result ℕ CommandFault) : Type 0 where
+  pub cats : 0 < n → CatsOn G homes first n hex old new out_old out_new end
+  pub looks : n ≡ 0 → LooksOn G homes first old new end
+  pub silent : n ≡ 0 → out_new ≡ out_old

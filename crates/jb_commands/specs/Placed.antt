@@ -22,7 +22,7 @@ use Rattle.jb_image.specs.declared.image.ImageDisk.{ImageDisk}
 use Rattle.jb_image.specs.declared.image.ImageDisk.TheVariants.{One, Two, Within}
 use Rattle.jb_recover.specs.declared.fault.RecoverFault.{RecoverFault}
 use Rattle.jb_recover.specs.declared.recovered.Foreseen.{Foreseen}
-use Rattle.jb_commands.specs.Cat.{CatsOn}
+use Rattle.jb_commands.specs.Cat.{ShowsOn}
 use Rattle.jb_commands.specs.Files.{IsImageOpened, IsShut, IsUnread, SaysSuper}
 use Rattle.jb_commands.specs.Foresee.{Foretells, foreseen_end, own_checked}
 use Rattle.jb_commands.specs.Judge.{JudgesOn}
@@ -97,12 +97,12 @@ module _ {S T : Type 0} {start : Starts S} {other : Starts T} where
   IsOpenedAt (Some journal) (Some list) disk homes = ⊥
 
   -- the image was not opened, and nothing was done; or home blocks of it were written as their peeks gave them, in blocks of the size that
-  -- its first bytes say, as many as asked for from one on, since it was opened
+  -- its first bytes say, as many as asked for from one on, since it was opened; the first is peeked at where none is asked for
   abbrev pub EndsOfCat : List ℕ → CatWords → Option (List ℕ) → Option (List ℕ) → Option (ImageDisk (FileDisk S start) (FileDisk T other)) → Result Report CommandFault → Type 0
   EndsOfCat name words out_old out_new None end = (fault : CommandFault) × (end ≡ Err fault) × IsShutAt name words.journal words.extents fault × (out_new ≡ out_old)
   EndsOfCat name words out_old out_new (Some new) end =
       (old : ImageDisk (FileDisk S start) (FileDisk T other)) × (homes : ℕ) × IsOpenedAt words.journal words.extents old homes
-      × ((told : Result ℕ CommandFault) × CatsOn as_files (Some homes) words.home words.count words.hex old new out_old out_new told × (end ≡ status_end told))
+      × ((told : Result ℕ CommandFault) × ShowsOn as_files (Some homes) words.home words.count words.hex old new out_old out_new told × (end ≡ status_end told))
 
 -- ---- a recovery
 

@@ -17,7 +17,7 @@ pub enum CommandFault<'a> {
     /// The file of this name, or standard input for `-`, could not be opened or read; with the number of the system's
     /// error, where it has one.
     CannotRead(&'a str, Option<i32>),
-    /// Another program has locked the image of this name.
+    /// Another program has locked the image of this name, or it would be changed and is mounted.
     InUse(&'a str),
     /// The image of this name is the file of the journal, too.
     SameFile(&'a str),

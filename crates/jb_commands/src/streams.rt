@@ -12,6 +12,7 @@ mod putting;
 mod reading;
 mod recovering;
 mod refusal;
+mod showing;
 mod telling;
 
 pub use catting::cat_on;
@@ -26,4 +27,5 @@ pub use reading::{CERT_LIMIT, TEXT_LIMIT};
 pub use recovering::recover_on;
 pub(crate) use recovering::tell_recovered;
 pub use refusal::refuse_words;
+pub(crate) use showing::show_on;
 pub use telling::tell;

@@ -6,8 +6,10 @@ pub mod Files
 pub mod Images
 pub mod Judged
 pub mod Laws
+pub mod Left
 pub mod Lists
 pub mod Making
+pub mod Mounts
 pub mod Pair
 pub mod Past
 pub mod Spread

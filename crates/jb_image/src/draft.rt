@@ -1,17 +1,16 @@
 //! Files that are made under another name, and get their own when they are whole.
 //!
 //! Whoever has the lock of the file that has the other name may remove it, give it the image's name, or leave it; so of
-//! several that make one image at a time one goes on.
+//! several that make one image at a time one goes on. A file of the other name with more in it than a killed process
+//! may leave is another one's, and stays.
 use crate::fault::{ImageFault, MakeFault, SystemFault};
+use crate::left::is_left;
 use crate::opening::{Opening, lock};
-use std::fs::{File, Metadata, OpenOptions};
+use crate::unfinished::{draft_name, is_named, remove};
+use std::fs;
+use std::fs::{File, OpenOptions};
 use std::io::ErrorKind;
-use std::os::unix::fs::MetadataExt;
 use std::rt::Files;
-use std::{fs, io};
-
-/// What the other name has after the image's own.
-const SUFFIX: &str = ".jb-unfinished";
 
 /// How often a file that a killed process has left is removed, before another one is taken to be at work.
 const TRIES: usize = 8;
@@ -135,60 +134,58 @@ fn folder_of(name: &str) -> &str {
     }
 }
 
-/// The name under which a file is made.
-fn draft_name<R: AllocGlobal>(rt: &R, name: &str) -> Result<String, ImageFault> {
-    let mut draft = String::from_str(rt.alloc(), name)?;
-    draft.push_str(SUFFIX)?;
-    Ok(draft)
-}
-
 /// A new file of this name, locked. One that a killed process has left is removed first.
+///
+/// # Errors
+/// `InUse` where another process has locked a file of the name; `System` where the system refuses a call, and with its
+/// number for a file that is there already (`EEXIST`) where one of the name is none that a killed process leaves.
 fn make_draft<R: Files<File = File>>(rt: &R, draft: &str) -> Result<File, ImageFault> {
     for _ in 0..TRIES {
         match File::create_new(rt, draft) {
             Ok(file) if is_locked_as(rt, &file, draft) => return Ok(file),
             Ok(_) => return Err(ImageFault::InUse),
-            Err(error) if error.kind() == ErrorKind::AlreadyExists => remove_left(rt, draft)?,
+            Err(error) if error.kind() == ErrorKind::AlreadyExists => {
+                if !remove_left(rt, draft)? {
+                    return Err(error.into());
+                }
+            }
             Err(error) => return Err(error.into()),
         }
     }
     Err(ImageFault::InUse)
 }
 
-/// Removes what a killed process has left.
+/// Removes what a killed process has left, and says whether there was nothing else of the name. Any other file stays.
 ///
 /// # Errors
-/// `InUse` where a process has locked it: it is at work.
-fn remove_left<R: Files<File = File>>(rt: &R, draft: &str) -> Result<(), ImageFault> {
+/// `InUse` where a process has locked it: it is at work; `System` where the system refuses a call.
+fn remove_left<R: Files<File = File>>(rt: &R, draft: &str) -> Result<bool, ImageFault> {
+    match fs::symlink_metadata(rt, draft) {
+        Ok(found) if found.is_file() => {}
+        // one of another kind is not even opened: that may wait, or wake another program
+        Ok(_) => return Ok(false),
+        // its maker has given it its name
+        Err(error) if error.kind() == ErrorKind::NotFound => return Ok(true),
+        Err(error) => return Err(error.into()),
+    }
     let file = match OpenOptions::new().read(true).write(true).open(rt, draft) {
         Ok(file) => file,
-        // its maker has given it its name
-        Err(error) if error.kind() == ErrorKind::NotFound => return Ok(()),
+        Err(error) if error.kind() == ErrorKind::NotFound => return Ok(true),
         Err(error) => return Err(error.into()),
     };
     if !lock(&file, Opening::Change) {
         return Err(ImageFault::InUse);
     }
-    remove(rt, draft, &file.metadata());
-    Ok(())
+    if !is_left(&file) {
+        return Ok(false);
+    }
+    if is_named(rt, draft, &file.metadata()) {
+        fs::remove_file(rt, draft)?;
+    }
+    Ok(true)
 }
 
 /// Locks a file, and says whether it is locked and has this name still.
 fn is_locked_as<R: Files>(rt: &R, file: &File, name: &str) -> bool {
     lock(file, Opening::Change) && is_named(rt, name, &file.metadata())
-}
-
-/// Removes the file of this name, where it is still this one.
-fn remove<R: Files>(rt: &R, name: &str, made: &io::Result<Metadata>) {
-    if is_named(rt, name, made) {
-        let _ignored = fs::remove_file(rt, name);
-    }
-}
-
-/// Whether a file has this name.
-fn is_named<R: Files>(rt: &R, name: &str, made: &io::Result<Metadata>) -> bool {
-    let (Ok(made), Ok(named)) = (made, fs::symlink_metadata(rt, name)) else {
-        return false;
-    };
-    made.dev() == named.dev() && made.ino() == named.ino()
 }

@@ -36,13 +36,13 @@ pub enum ImageFault {
     /// Another process has locked it, or makes it at this moment.
     #[error("another process has the image open")]
     InUse,
-    /// It is a block device that is mounted.
-    #[error("the device is mounted")]
+    /// It is mounted: a block device, or the file of a loop device.
+    #[error("the image is mounted")]
     Mounted,
     /// It is neither a regular file nor a block device.
     #[error("the image is neither a regular file nor a block device")]
     OtherKind,
-    /// The system refused a call.
+    /// The system refused a call; where the image is made, also since a file of the other name is there.
     #[error("the image cannot be opened: {0}")]
     System(SystemFault),
     /// There was no memory.

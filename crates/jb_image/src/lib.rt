@@ -13,13 +13,16 @@ mod field;
 mod geometry;
 mod image;
 mod judging;
+mod left;
 mod list_word;
 mod making;
+mod mount_line;
 mod mounted;
 mod opening;
 mod pair;
 mod past;
 mod system;
+mod unfinished;
 
 pub use extent::Extent;
 pub use extents::Extents;

@@ -17,14 +17,17 @@ use std::rt::Files;
 
 /// Makes an image with a new journal and home blocks of zeros, whole or not at all: under another name in the same
 /// folder (`.jb-unfinished` after its own), formatted and synced, and then by its own name, which stands after a crash.
-/// What a killed process has left of one is removed. The disk is locked as one that is [opened](crate::open_image) for
-/// change.
+/// What a killed process has left of one is removed: a file of the other name that is empty, or has zeros alone, or
+/// zeros after the superblock of a journal without a transaction. The disk is locked as one that is
+/// [opened](crate::open_image) for change.
 ///
 /// # Errors
 /// In this order: `Geometry` where a journal may not have so many blocks, or a file so many bytes, before any file is
 /// looked at; `Exists` where there is a file of this name; `Image` with `InUse` where another process makes one, and
 /// with `System` or `Memory` where the system refuses a call or memory ran out; `DeviceFault` where the journal was not
-/// written. There is no new file of this name then.
+/// written. There is no new file of this name then. `System` has the number `EEXIST` where any other file has the other
+/// name, which stays as it is, and `ENAMETOOLONG` where that name is too long: where the file system takes 255 bytes,
+/// this one may have 241.
 pub fn create_image<R: Files<File = File> + AllocGlobal>(
     rt: &R,
     name: &str,

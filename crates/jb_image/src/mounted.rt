@@ -1,44 +1,111 @@
-//! Whether a device is mounted.
+//! Whether a device is mounted, or a file by a loop device.
 //!
 //! A device that is opened with `O_EXCL` is refused by the system where it is mounted; std has no such flag, so the
-//! list of mounts is read. A device that holds a part of a larger one, as of a RAID, and a mount that this process does
-//! not see, are not found.
+//! list of mounts is read. A file is mounted by a loop device (`mount -o loop`), and the system says by which name that
+//! one has it. Files are compared by device and inode, so another name of the file is found too, and a file within the
+//! file system that is mounted is none. A loop device that is not mounted, as `losetup` makes one, keeps nobody out.
+//!
+//! Not found are a mount that this process does not see; one of a device that stands on this one, as a RAID or an
+//! encrypted device does; and one by a loop device whose file has got another file's name, or none that is UTF-8.
 use crate::fault::ImageFault;
-use std::fs;
+use crate::mount_line::device_of;
 use std::fs::{File, Metadata};
 use std::os::unix::fs::{FileTypeExt, MetadataExt};
 use std::rt::Files;
+use std::{fs, io, str};
 
-/// The system's list of the mounts that this process sees, a line each; the third word is the device.
+/// The system's list of the mounts that this process sees, a line each.
 const MOUNTS: &str = "/proc/self/mountinfo";
 
-/// Whether a file is a block device that is mounted. Where the list cannot be read, none is.
+/// The first number of a loop device, and of a partition of one.
+const LOOP: u64 = 7;
+
+const PARTITION: u64 = 259;
+
+/// What the system appends to the name of a file that has been removed.
+const REMOVED: &str = " (deleted)";
+
+/// Whether a file is mounted: a block device itself, or the file or device that a loop device is over. What cannot be
+/// read is not mounted.
 ///
 /// # Errors
-/// `Memory` where there is none for the list.
+/// `Memory` where there is none for what the system says.
 pub(crate) fn is_mounted<R: Files<File = File> + AllocGlobal>(
     rt: &R,
     metadata: &Metadata,
 ) -> Result<bool, ImageFault> {
-    if !metadata.file_type().is_block_device() {
+    let Some(mounts) = given(fs::read(rt, MOUNTS))? else {
         return Ok(false);
-    }
-    let (major, minor) = numbers_of(metadata.rdev());
-    let device = format!(in rt.alloc(); "{major}:{minor}")?;
-    let mounts = match fs::read(rt, MOUNTS) {
-        Ok(mounts) => mounts,
-        Err(error) => match ImageFault::from(error) {
-            ImageFault::Memory => return Err(ImageFault::Memory),
-            _ => return Ok(false),
-        },
     };
-    let mut lines = mounts.split(|byte| *byte == b'\n');
-    Ok(lines.any(|line| device_of(line) == Some(device.as_bytes())))
+    for line in mounts.split(|byte| *byte == b'\n') {
+        if is_mount_of(rt, line, metadata)? {
+            return Ok(true);
+        }
+    }
+    Ok(false)
 }
 
-/// The third word of a line.
-fn device_of(line: &[u8]) -> Option<&[u8]> {
-    line.split(|byte| *byte == b' ').nth(2)
+/// Whether the mount of a line is one of this file.
+fn is_mount_of<R: Files<File = File> + AllocGlobal>(
+    rt: &R,
+    line: &[u8],
+    metadata: &Metadata,
+) -> Result<bool, ImageFault> {
+    let Some((major, minor)) = device_of(line) else {
+        return Ok(false);
+    };
+    if metadata.file_type().is_block_device() && numbers_of(metadata.rdev()) == (major, minor) {
+        return Ok(true);
+    }
+    if major != LOOP && major != PARTITION {
+        return Ok(false);
+    }
+    let device = format!(in rt.alloc(); "/sys/dev/block/{major}:{minor}/loop/backing_file")?;
+    // a partition of a loop device is in that one's folder
+    let part = format!(in rt.alloc(); "/sys/dev/block/{major}:{minor}/../loop/backing_file")?;
+    Ok(is_backed(rt, &device, metadata)? || is_backed(rt, &part, metadata)?)
+}
+
+/// Whether the name that the system has written here, with an LF after it, is one of this file.
+fn is_backed<R: Files<File = File> + AllocGlobal>(
+    rt: &R,
+    said: &str,
+    metadata: &Metadata,
+) -> Result<bool, ImageFault> {
+    let Some(text) = given(fs::read(rt, said))? else {
+        return Ok(false);
+    };
+    let Ok(text) = str::from_utf8(text.as_slice()) else {
+        return Ok(false);
+    };
+    let name = text.strip_suffix('\n').unwrap_or(text);
+    // one that was removed may have been linked to its name again
+    let removed = name.strip_suffix(REMOVED).unwrap_or(name);
+    Ok(is_name_of(rt, name, metadata)? || is_name_of(rt, removed, metadata)?)
+}
+
+/// Whether this is a name of the file, or of the same block device.
+fn is_name_of<R: Files>(rt: &R, name: &str, metadata: &Metadata) -> Result<bool, ImageFault> {
+    let Some(named) = given(fs::metadata(rt, name))? else {
+        return Ok(false);
+    };
+    let devices = metadata.file_type().is_block_device() && named.file_type().is_block_device();
+    let is_device = devices && metadata.rdev() == named.rdev();
+    Ok(is_device || (metadata.dev() == named.dev() && metadata.ino() == named.ino()))
+}
+
+/// What the system gave; `None` where it refused the call.
+///
+/// # Errors
+/// `Memory` where memory ran out.
+fn given<T>(answer: io::Result<T>) -> Result<Option<T>, ImageFault> {
+    match answer {
+        Ok(value) => Ok(Some(value)),
+        Err(error) => match ImageFault::from(error) {
+            ImageFault::Memory => Err(ImageFault::Memory),
+            _ => Ok(None),
+        },
+    }
 }
 
 /// The two numbers of a device, of the one number that `stat` gives.

@@ -4,10 +4,11 @@ ghost use Rattle.jb_disk.specs.File.{IsMeasured, faults_of, size_of_blocks};
 
 use crate::fault::{ImageFault, SystemFault};
 use crate::mounted::is_mounted;
+use crate::unfinished::forget;
 use jb_block::BlockSize;
 use jb_disk::{FileDisk, Start};
 use std::fs::{File, Metadata, OpenOptions, TryLockError};
-use std::os::unix::fs::FileTypeExt;
+use std::os::unix::fs::{FileTypeExt, MetadataExt};
 use std::rt::Files;
 use std::{fs, io};
 
@@ -60,11 +61,12 @@ pub fn open_holding<S: Start, R: Files<File = File> + AllocGlobal>(
 
 /// The regular file or block device of this name, opened for reading, or for writing too, and locked for as long as it
 /// is open: for who changes it alone, or shared by all that read it. A file that the system cannot lock is used without
-/// a lock. The lock is one of `flock`: a program that takes none is not kept out.
+/// a lock. The lock is one of `flock`: a program that takes none is not kept out. A file that is opened for change
+/// loses its other name, of the [making](crate::create_image), which a killed process has left.
 ///
 /// # Errors
 /// In this order: `OtherKind` where it is of another kind; `System` where the system does not open it; `Mounted` where
-/// it is a block device that is mounted, and is opened for change; `InUse` where another process has locked it.
+/// it is mounted, a file by a loop device, and is opened for change; `InUse` where another process has locked it.
 /// `Memory` where memory ran out.
 pub fn open_file<R: Files<File = File> + AllocGlobal>(
     rt: &R,
@@ -82,6 +84,9 @@ pub fn open_file<R: Files<File = File> + AllocGlobal>(
     }
     if !lock(&file, opening) {
         return Err(ImageFault::InUse);
+    }
+    if writes && metadata.nlink() > 1 {
+        forget(rt, name, &file)?;
     }
     Ok(file)
 }

@@ -1,4 +1,4 @@
--- What a second line is about after the lines of a load on standard error: the first of them.
+-- What a second line is about after the lines of a load on standard error: the first of them that says why.
 use Rattle.std.specs.Prelude.{ℕ, Option, Some, None}
 use Rattle.jb_args.specs.declared.hint.Hint.{Hint}
 use Rattle.jb_args.specs.declared.hint.Hint.TheVariants as hint
@@ -9,18 +9,26 @@ use Rattle.jb_tool.specs.declared.loading.fault.HandleFault.TheVariants.{Aborted
 use Rattle.jb_tool.specs.declared.loading.loaded.Loaded.{Loaded}
 use Rattle.jb_tool.specs.declared.loading.loaded.Refused.{Refused}
 
--- a handle that was refused, in an image of so many home blocks; the table has no row for a fault that no text has
-abbrev pub handle_hint : ℕ → HandleFault → Option Hint
-handle_hint homes (TooManyCredits most) = Some hint.HandleTooManyCredits
-handle_hint homes (OutOfRange home) = Some (hint.HandleOutOfRange homes)
-handle_hint homes (Full reserved) = Some hint.HandleFull
-handle_hint homes Memory = Some hint.HandleMemory
-handle_hint homes Aborted = Some hint.HandleAborted
-handle_hint homes Closed = None
-handle_hint homes Busy = None
-handle_hint homes (NoCredit credits) = None
-handle_hint homes Length = None
-handle_hint homes NotOpen = None
+-- a handle that found the journal stopped: a committer that had no number or no memory says why
+abbrev pub aborted_hint : Ended → Hint
+aborted_hint ended.Refused = hint.CommitRefused
+aborted_hint ended.Memory = hint.CommitMemory
+aborted_hint ended.Aborted = hint.HandleAborted
+aborted_hint (ended.Shut over) = hint.HandleAborted
+
+-- a handle that was refused, in an image of so many home blocks, where the committer ended so; the table has no row for a fault that
+-- no text has
+abbrev pub handle_hint : ℕ → Ended → HandleFault → Option Hint
+handle_hint homes commit (TooManyCredits most) = Some hint.HandleTooManyCredits
+handle_hint homes commit (OutOfRange home) = Some (hint.HandleOutOfRange homes)
+handle_hint homes commit (Full reserved) = Some hint.HandleFull
+handle_hint homes commit Memory = Some hint.HandleMemory
+handle_hint homes commit Aborted = Some (aborted_hint commit)
+handle_hint homes commit Closed = None
+handle_hint homes commit Busy = None
+handle_hint homes commit (NoCredit credits) = None
+handle_hint homes commit Length = None
+handle_hint homes commit NotOpen = None
 
 -- a checkpointer that did not end Shut, and that no commit has stopped
 abbrev pub checkpoint_hint : Option Ended → Option Hint
@@ -38,10 +46,11 @@ commit_hint ended.Memory checkpoint = Some hint.CommitMemory
 commit_hint ended.Refused checkpoint = Some hint.CommitRefused
 
 -- the handle that was refused, where there is one, and else the two threads
-abbrev pub first_hint : ℕ → Option Refused → Option Hint → Option Hint
-first_hint homes None ends = ends
-first_hint homes (Some refused) ends = handle_hint homes refused.fault
+abbrev pub first_hint : ℕ → Ended → Option Refused → Option Hint → Option Hint
+first_hint homes commit None ends = ends
+first_hint homes commit (Some refused) ends = handle_hint homes commit refused.fault
 
--- what a second line is about after a load into an image of so many home blocks: the first of its lines, where the table has a row for it
+-- what a second line is about after a load into an image of so many home blocks: the first of its lines that says why, where the table
+-- has a row for it
 abbrev pub load_hint : ℕ → Loaded → Option Hint
-load_hint homes l = first_hint homes l.refused (commit_hint l.commit l.checkpoint)
+load_hint homes l = first_hint homes l.commit l.refused (commit_hint l.commit l.checkpoint)

@@ -1,5 +1,6 @@
-//! What a second line is about after the lines of a load on standard error: the first of them.
+//! What a second line is about after the lines of a load on standard error: the first of them that says why.
 ghost use Rattle.std.specs.Prelude.{◌≡◌};
+ghost use Rattle.jb_tool.specs.Hints.{aborted_hint as aborted_hinted};
 ghost use Rattle.jb_tool.specs.Hints.{checkpoint_hint as checkpoint_hinted, commit_hint as commit_hinted};
 ghost use Rattle.jb_tool.specs.Hints.{handle_hint as handle_hinted, load_hint as load_hinted};
 
@@ -8,28 +9,42 @@ use jb_args::Hint;
 use jb_desk::Ended;
 
 /// What a second line is about after a load into an image of so many home blocks: the line of the handle that was
-/// refused, or of the committer, or of the checkpointer, whichever is the first.
+/// refused, or of the committer, or of the checkpointer, whichever is the first. Of a handle that the commits have
+/// stopped it is their line.
 pub(crate) fn load_hint(loaded: &Loaded, homes: u64) -> Option<Hint>
     ensures { result ≡ load_hinted homes loaded.now }
 {
     match loaded.refused {
-        Some(refused) => handle_hint(refused.fault, homes),
+        Some(refused) => handle_hint(refused.fault, loaded.commit, homes),
         None => commit_hint(loaded.commit, loaded.checkpoint),
     }
 }
 
-/// The same of a handle that was refused; the table has no row for a fault that no text has.
-fn handle_hint(fault: HandleFault, homes: u64) -> Option<Hint>
-    ensures { result ≡ handle_hinted homes fault }
+/// The same of a handle that was refused, where the committer ended so; the table has no row for a fault that no text
+/// has.
+fn handle_hint(fault: HandleFault, commit: Ended, homes: u64) -> Option<Hint>
+    ensures { result ≡ handle_hinted homes commit fault }
 {
     match fault {
         HandleFault::TooManyCredits(_) => Some(Hint::HandleTooManyCredits),
         HandleFault::OutOfRange(_) => Some(Hint::HandleOutOfRange(homes)),
         HandleFault::Full(_) => Some(Hint::HandleFull),
         HandleFault::Memory => Some(Hint::HandleMemory),
-        HandleFault::Aborted => Some(Hint::HandleAborted),
+        HandleFault::Aborted => Some(aborted_hint(commit)),
         HandleFault::Closed | HandleFault::Busy | HandleFault::NoCredit(_) => None,
         HandleFault::Length | HandleFault::NotOpen => None,
+    }
+}
+
+/// The same of a handle that found the journal stopped: by a failed call of the disk, or by a committer that gave up
+/// before one.
+fn aborted_hint(commit: Ended) -> Hint
+    ensures { result ≡ aborted_hinted commit }
+{
+    match commit {
+        Ended::Refused => Hint::CommitRefused,
+        Ended::Memory => Hint::CommitMemory,
+        Ended::Aborted | Ended::Shut(_) => Hint::HandleAborted,
     }
 }
 

@@ -1,5 +1,5 @@
 //! Images in files: opened, locked, made whole, and read while no journal runs.
-use jb_image::{ImageFault, MakeFault, Opening, create_image, open_image};
+use jb_image::{ImageFault, MakeFault, Opening, SystemFault, create_image, open_image};
 use jb_journal::{
     BlockSize, Disk, Geometry, HomeFault, JournalFault, PeekFault, RecoverFault, Unknown, open,
     open_holding, open_or_create, open_or_create_holding, read_home,
@@ -61,6 +61,12 @@ fn an_image_is_opened_by_one_process_at_a_time(rt: HostRuntime) -> Result<(), Fa
         |disk| disk.blocks(),
     );
     assert_eq!(rt; opened, Ok(49));
+    // its maker was killed when it had both names
+    fs::hard_link(&rt, NAME, UNFINISHED)?;
+    drop(open_image(&rt, NAME, BlockSize::OneKib, Opening::Read)?);
+    assert!(rt; fs::exists(&rt, UNFINISHED)?);
+    drop(open_image(&rt, NAME, BlockSize::OneKib, Opening::Change)?);
+    assert!(rt; !fs::exists(&rt, UNFINISHED)?);
     fresh(&rt);
     Ok(())
 }
@@ -129,6 +135,14 @@ fn an_image_is_made_whole_or_not_at_all(rt: HostRuntime) -> Result<(), Fail> {
     assert_eq!(rt; create_image(&rt, NAME, geometry())?.blocks(), 49);
     assert!(rt; !fs::exists(&rt, UNFINISHED)?);
     assert!(rt; fs::exists(&rt, NAME)?);
+    fresh(&rt);
+    // a file with anything in it is not what such a process leaves
+    fs::write(&rt, UNFINISHED, "mine")?;
+    let there = ImageFault::System(SystemFault { code: Some(17) });
+    let made = create_image(&rt, NAME, geometry()).map(|disk| disk.blocks());
+    assert_eq!(rt; made, Err(MakeFault::Image(there)));
+    assert_eq!(rt; fs::read(&rt, UNFINISHED)?.as_slice(), b"mine");
+    assert!(rt; !fs::exists(&rt, NAME)?);
     fresh(&rt);
     Ok(())
 }

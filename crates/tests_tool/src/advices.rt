@@ -33,15 +33,18 @@ static ROWS: [Row; 9] = [
     ),
     (
         Hint::CannotMake(Some(17)),
-        "jb:  take another name, or see to its folder, the permission and the room: File exists (os error 17)\n",
+        "jb:  take another name, or see to its folder, the permission and the room, and to a file of the \
+         name with .jb-unfinished after it: File exists (os error 17)\n",
     ),
     (
         Hint::CannotMake(Some(-1)),
-        "jb:  take another name, or see to its folder, the permission and the room: Unknown error -1 (os error -1)\n",
+        "jb:  take another name, or see to its folder, the permission and the room, and to a file of the \
+         name with .jb-unfinished after it: Unknown error -1 (os error -1)\n",
     ),
     (
         Hint::CannotMake(None),
-        "jb:  take another name, or see to its folder, the permission and the room\n",
+        "jb:  take another name, or see to its folder, the permission and the room, and to a file of the \
+         name with .jb-unfinished after it\n",
     ),
 ];
 

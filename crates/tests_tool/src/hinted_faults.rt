@@ -76,7 +76,7 @@ type Load = (
     Option<&'static str>,
 );
 
-static LOADS: [Load; 16] = [
+static LOADS: [Load; 17] = [
     (
         Some(HandleFault::TooManyCredits(8)),
         Ended::Refused,
@@ -97,6 +97,7 @@ static LOADS: [Load; 16] = [
         Some(Ended::Aborted),
         Some(""),
     ),
+    (Some(HandleFault::Full(8)), Ended::Refused, None, Some("")),
     (Some(HandleFault::Closed), Ended::Aborted, None, None),
     (Some(HandleFault::Busy), Ended::Aborted, None, None),
     (Some(HandleFault::NoCredit(8)), Ended::Aborted, None, None),
@@ -108,6 +109,18 @@ static LOADS: [Load; 16] = [
     (None, Ended::Memory, Some(Ended::Aborted), Some("")),
     (None, Ended::Refused, None, Some("")),
     (None, Ended::Refused, Some(Ended::Aborted), Some("")),
+];
+
+/// The same of loads in which the commits had stopped the handle that was refused: it is about their line.
+static STOPPED: [Load; 3] = [
+    (Some(HandleFault::Aborted), Ended::Refused, None, Some("")),
+    (Some(HandleFault::Aborted), Ended::Memory, None, Some("")),
+    (
+        Some(HandleFault::Aborted),
+        Ended::Refused,
+        Some(Ended::Refused),
+        Some(""),
+    ),
 ];
 
 /// Checks what a second line is about after the line of a fault.
@@ -136,8 +149,19 @@ fn loaded(refused: Option<HandleFault>, commit: Ended, checkpoint: Option<Ended>
     }
 }
 
-/// Checks what a second line is about after the lines of a load into an image of 16 home blocks.
-fn check_load(rt: &impl Host, load: &Load, row: usize) {
+/// The lines of a text without the first one.
+fn more_lines(text: &[u8]) -> &[u8] {
+    for at in 0..text.len() {
+        if text[at] == b'\n' {
+            return text.split_at(at + 1).1;
+        }
+    }
+    text
+}
+
+/// Checks what a second line is about after the lines of a load into an image of 16 home blocks: the first of them, or
+/// the one after it.
+fn check_load(rt: &impl Host, load: &Load, stopped: bool, row: usize) {
     let (refused, commit, checkpoint, beside) = *load;
     let (mut out, mut err) = (Vec::new(rt.alloc()), Vec::new(rt.alloc()));
     let done = LoadDone::<Unknown, Unknown> {
@@ -148,7 +172,12 @@ fn check_load(rt: &impl Host, load: &Load, row: usize) {
         Ok(ended) => ended.hint,
         Err(_) => return fail(rt, "a load is told"),
     };
-    check_hint(rt, hint, &err, beside, "the hint of load", row)
+    let lines = if stopped {
+        more_lines(&err)
+    } else {
+        err.as_slice()
+    };
+    check_hint(rt, hint, lines, beside, "the hint of load", row)
 }
 
 #[test]
@@ -161,6 +190,9 @@ fn a_hint_is_about_the_line_of_its_fault(rt: HostRuntime) {
 #[test]
 fn a_hint_is_about_the_lines_of_its_load(rt: HostRuntime) {
     for (row, load) in LOADS.iter().enumerate() {
-        check_load(&rt, load, row);
+        check_load(&rt, load, false, row);
+    }
+    for (row, load) in STOPPED.iter().enumerate() {
+        check_load(&rt, load, true, row);
     }
 }

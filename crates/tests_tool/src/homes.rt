@@ -27,7 +27,7 @@ const FARTHEST: [&str; 2] = [
     "jb: NoHome 18446744073709551615 cat_homes.img\n",
 ];
 
-static CATS: [Cat; 9] = [
+static CATS: [Cat; 10] = [
     ("5", 0, FIVE, 1024, NOTHING),
     ("6", 0, ZEROS, 1024, NOTHING),
     ("5 -n 2", 0, FIVE, 2048, NOTHING),
@@ -35,6 +35,7 @@ static CATS: [Cat; 9] = [
     ("5 --hex", 0, LINE, 4352, NOTHING),
     ("--hex -n2 5", 0, LINE, 8704, NOTHING),
     ("16", 1, b"", 0, SIXTEEN),
+    ("16 -n 0", 1, b"", 0, SIXTEEN),
     ("15 -n 3", 1, ZEROS, 1024, SIXTEEN),
     ("18446744073709551615 -n 2", 1, b"", 0, FARTHEST),
 ];

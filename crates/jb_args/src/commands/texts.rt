@@ -108,7 +108,8 @@ is not revoked makes of it, or the block as it stands. For each block the log is
 of an image with a long log are read faster after jb recover. A copy for another home block that the image
 does not have is not looked at, though recover refuses it.
 
-With --hex a block is lines as xxd prints them, with offsets from 0 on over all the blocks, of 32 bits.
+With --hex a block is lines as xxd prints them, with offsets from 0 on over all the blocks, of 32 bits. With
+-n 0 nothing is written, but the image is read, and refused, as for one block.
 
 Status: 0 where they are written, 1 where the image is refused, by the name of its fault, or does not have
 the block: the blocks before it are written then, 2 where the file cannot be opened or read, or is in use.
@@ -117,7 +118,11 @@ Example:
   jb cat a.img 5 --hex -n 2";
 
 const FORMAT: &str =
-    "Status: 0 where the image is made, 1 where the numbers make no journal, 2 where an option is bad or the
+    "The image is made under another name, with .jb-unfinished after its own, and gets its own when it is whole.
+What a killed run has left under that name is removed, any other file stays, and nothing is made then. So
+a name has 241 bytes at most where the file system takes 255.
+
+Status: 0 where the image is made, 1 where the numbers make no journal, 2 where an option is bad or the
 file cannot be made.
 
 Example:
@@ -140,9 +145,10 @@ Example:
   jb load a.img queue.txt --hold     # handles 3 changes 8 settled 3 groups 1 blocks 7";
 
 const RECOVER: &str =
-    "IMAGE is not to be mounted. A block device that is mounted, as far as /proc/self/mountinfo says so, is
-refused (jb: in use NAME); a mount that this process does not see, or of a device that stands on it, is not
-found, and jb cannot keep a device from being mounted while it writes. So unmount it first.
+    "IMAGE is not to be mounted. A block device that is mounted, as far as /proc/self/mountinfo says so, or a
+file that is by a loop device (mount -o loop), is refused (jb: in use NAME); a mount that this process does
+not see, or of another device that stands on it, is not found, and jb cannot keep it from being mounted
+while it writes. So unmount it first.
 
 The journal of an ext3 or ext4 file system that is not mounted is recovered where it stands:
   debugfs -R 'stat <8>' fs.img      # lists its blocks after EXTENTS: or BLOCKS:

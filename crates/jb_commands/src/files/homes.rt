@@ -6,7 +6,7 @@ use crate::done::Done;
 use crate::files::opening::Opening;
 use crate::files::placed::open_placed;
 use crate::report::status_end;
-use crate::streams::cat_on;
+use crate::streams::show_on;
 use jb_args::CatOptions;
 use jb_disk::Start;
 use std::fs::File;
@@ -16,7 +16,7 @@ use std::rt::Files;
 /// Writes home blocks of the image of this name as recovery would leave them; the image is opened for reading alone.
 ///
 /// # Errors
-/// Those of `open_placed`, and those of `cat_on`.
+/// Those of `open_placed`, and those of `cat_on`, which come also where no block is asked for.
 pub fn cat_file<'a, S: Start, T: Start, R: Files<File = File> + AllocGlobal, O: Write>(
     rt: &R,
     image: &'a str,
@@ -29,7 +29,7 @@ pub fn cat_file<'a, S: Start, T: Start, R: Files<File = File> + AllocGlobal, O: 
     let (home, count, hex) = (options.home, options.count, options.hex);
     match open_placed(rt, image, options.journal, options.extents, Opening::Read) {
         Ok((mut disk, homes)) => {
-            let told = cat_on(rt.alloc(), &mut disk, home, count, hex, Some(homes), out);
+            let told = show_on(rt.alloc(), &mut disk, home, count, hex, Some(homes), out);
             Done {
                 image: Some(disk),
                 end: status_end(told),

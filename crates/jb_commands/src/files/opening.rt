@@ -169,8 +169,8 @@ pub(crate) fn disk_of<'a, S: Start>(
 ///
 /// # Errors
 /// `CommandFault::CannotRead` where it is of another kind, or cannot be opened so; `CommandFault::InUse` where another
-/// program has locked it, or it is a block device that is mounted and would be changed; `CommandFault::Memory` where
-/// memory ran out.
+/// program has locked it, or it would be changed and is mounted, a block device or the file of a loop device;
+/// `CommandFault::Memory` where memory ran out.
 pub(crate) fn open_image<'a, R: Files<File = File> + AllocGlobal>(
     rt: &R,
     name: &'a str,

@@ -1,0 +1,15 @@
+-- One line of the system's list of mounts.
+use Rattle.std.specs.Prelude.{ℕ, List, drop, Option, Some, option_and_then, option_map}
+use Rattle.jb_text.specs.Parts.{before, number_of, onward}
+
+-- the bytes behind the first `delimiter`
+abbrev pub behind_first : ℕ → List ℕ → List ℕ
+behind_first delimiter bytes = drop 1 (onward delimiter bytes)
+
+-- the two numbers of a device that is written `A:B`
+abbrev pub numbers_in : List ℕ → Option (ℕ × ℕ)
+numbers_in device = option_and_then (λ major. option_map (λ minor. (major, minor)) (number_of (behind_first 58 device))) (number_of (before 58 device))
+
+-- the numbers of the device that is mounted: the third word of a line
+abbrev pub device_in : List ℕ → Option (ℕ × ℕ)
+device_in line = numbers_in (before 32 (behind_first 32 (behind_first 32 line)))
