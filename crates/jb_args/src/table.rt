@@ -59,6 +59,9 @@ macro_rules! diagnostics {
                 FileSystemClean, "FileSystem Clean", "",
                     "the file system needs no recovery (needs_recovery is clear), so the journal is an old copy; it is \
                      as it was; --force writes to it all the same";
+                FileSystemNewer, "FileSystem Newer", "",
+                    "the file system was mounted after the last commit of the journal, so that is an old copy: copy \
+                     it out again; it is as it was; --force writes to it all the same, as where a clock was set back";
                 ExtentsOverlap, "Extents Overlap ", "#",
                     "this block is in two of the extents: give the list as debugfs -R 'stat <8>' prints it";
                 ExtentsPastEnd, "Extents PastEnd ", "#",
