@@ -105,10 +105,7 @@ fn load_opened<
 ///
 /// # Errors
 /// Those of `judge_on`.
-fn judge_load<'a, D: Disk>(
-    disk: &mut D,
-    journal: Option<&str>,
-) -> Result<(), CommandFault<'a>>
+fn judge_load<'a, D: Disk>(disk: &mut D, journal: Option<&str>) -> Result<(), CommandFault<'a>>
     ensures judges { JudgesLoad D.Disk (option_map (λ word. word.now) journal.entry) disk.old disk.new result }
 {
     match journal {
