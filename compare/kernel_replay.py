@@ -6,6 +6,8 @@
     is then mounted too, and so recovered by the kernel once more.
   - the kernel writes, jb reads: files are made and removed in a mounted file system, and its image is copied while it is mounted,
     as a crash would leave it; `e2fsck -E journal_only` recovers a copy, and `JB recover` the image.
+  - a file system crashes, is recovered by the kernel and crashes again: `JB recover --journal` refuses a copy of the journal of the first
+    crash, and takes one of the second.
 `JB recover` does it twice: the image after its journal, and with `--journal` the image where it stands. Each time all blocks outside
 the journal are compared. The block of the ext4 superblock may differ: the others write times and flags into it. Needs e2fsprogs, and to be root, since it mounts files. Prints a line for each file system."""
 import os
@@ -14,6 +16,7 @@ import re
 import subprocess
 import sys
 import tempfile
+import time
 
 # block size, feature, MiB of journal; whether the journal is widened
 KINDS = [(1024, "^64bit", 4, False), (1024, "64bit", 4, True), (2048, "64bit", 8, False), (4096, "64bit", 8, True)]
@@ -141,6 +144,27 @@ def kernel_writes(jb, size, feature, mib):
     return line, [differing(one, read("copy"), size, places) for one in mine]
 
 
+def crashes_twice(jb, size, feature, mib):
+    """What `jb recover --journal` says after the second crash of copies of the journal of both."""
+    make("fs", size, feature, mib)
+    said = []
+    for turn in range(2):
+        run("mount", "-o", "loop", "fs", "mnt")
+        try:
+            churn(turn)
+            run("cp", "fs", "copy")
+        finally:
+            run("umount", "mnt")
+        journal_of("copy")
+        os.rename("journal", "journal%d" % turn)
+        run("cp", "copy", "fs")
+        time.sleep(1.1)  # the times of mounts and commits are whole seconds
+    for turn in range(2):
+        words = [jb, "recover", "copy", "--journal", "journal%d" % turn, "--dry-run"]
+        said.append(subprocess.run(words, capture_output=True, text=True))
+    return [(ran.returncode, ran.stderr.strip()) for ran in said]
+
+
 def main():
     jb, wrong = os.path.abspath(sys.argv[1]), 0
     random.seed(1)
@@ -153,6 +177,10 @@ def main():
                 wrong += any(differs)
                 print("%s wrote, -b %d -O %s%s: %s: %s" % (who, size, feature, " widened" if wide and who == "jb" else "", line,
                                                         "differs in blocks %s" % differs if any(differs) else "the same"))
+            older, own = crashes_twice(jb, size, feature, mib)
+            is_right = older == (1, "jb: FileSystem Newer copy") and own == (0, "")
+            wrong += not is_right
+            print("two crashes, -b %d -O %s: %s" % (size, feature, "the older copy is refused" if is_right else "%s, %s" % (older, own)))
         os.chdir("/")
     return 1 if wrong else 0
 

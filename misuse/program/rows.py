@@ -329,12 +329,14 @@ def within(content, parts, blocks=60):
     return {"a": bytes(whole)}
 
 
-def system(log=0, uuid=UUID, incompat=4, magic=0xEF53):
+def system(log=0, uuid=UUID, incompat=4, magic=0xEF53, mounted=0):
     """Home block 1, as the superblock of a file system."""
     raw = bytearray(BS)
     struct.pack_into("<I", raw, 0x18, log)
     struct.pack_into("<H", raw, 0x38, magic)
+    struct.pack_into("<I", raw, 0x2C, mounted % 2**32)
     struct.pack_into("<I", raw, 0x60, incompat)
+    raw[0x275] = mounted >> 32
     raw[0x68:0x78] = uuid
     return bytes(raw)
 
@@ -393,6 +395,35 @@ for home, err in ((system(), ""), (system(log=2), "BlockSize 4096"), (system(log
         else:
             row(words + " --force", 0, LINE, files=lay(before), after=lay(after))
             row(words, 0, "transactions 0 copies 0 revoked 0 next 4\n", files=lay(after))
+# a copy of a journal that is older than the last mount of its file system: of two commits the later one counts, and 0 is no time
+def dated(*secs):
+    """The log of a transaction with a copy, and of others that change nothing, committed at these seconds."""
+    return ONE[:3] + [commit(2 + k, sec) for k, sec in enumerate(secs)]
+
+
+def dated_image(front, secs, mounted, written=()):
+    return over(image(front, dated(*secs), written=written), system(mounted=mounted))
+
+
+for secs, mounted, is_older in (((7,), 7, False), ((7,), 8, True), ((9, 7), 9, False), ((9, 7), 10, True), ((0,), 8, False), ((7,), 2**32 + 7, True),
+                                ((2**32 + 7,), 2**32 + 7, False), ((7 << 32,), 8, False), ((0, 7), 8, True)):
+    said = "transactions %d copies 1 revoked 0 next %d\n" % (len(secs), 3 + len(secs))
+    before, after = (dated_image(front, secs, mounted, written) for front, written in ((superblock(2, 1), {}), (superblock(2 + len(secs)), {5: BLOCK_5})))
+    for words in ("recover a --journal j", "recover a --journal j --dry-run"):
+        if is_older:
+            row(words, 1, err="jb: FileSystem Newer a\n", files=parted(before))
+            row(words + " --force", 0, said, files=parted(before), after=parted(before if "dry" in words else after))
+        else:
+            row(words, 0, said, files=parted(before), after=parted(before if "dry" in words else after))
+    # in its place a journal is no copy
+    row("recover a --extents 20-52", 0, said, files=within(before, [(20, 33)]), after=within(after, [(20, 33)]))
+# no commit, and a clean journal
+for front in superblock(5, 1), superblock(2):
+    row("recover a --journal j --dry-run", 0, "transactions 0 copies 0 revoked 0 next %d\n" % (6 if front == superblock(5, 1) else 3),
+        files=parted(dated_image(front, (7,), 8)))
+# the first fault
+row("recover a --journal j", 1, err="jb: FileSystem Clean a\n", files=parted(over(image(superblock(2, 1), dated(7)), system(incompat=0, mounted=8))))
+row("recover a --journal j", 1, err="jb: FileSystem Newer a\n", files=parted(over(image(superblock(2, 1), [revoke(2, [], 1025), commit(2, 7)]), system(mounted=8))))
 # a journal without a UUID may be any file system's
 NAMELESS = over(image(superblock(2, 1, uuid=bytes(16)), ONE), system())
 row("recover a --journal j", 0, LINE, files=parted(NAMELESS), after=parted(over(image(superblock(3, uuid=bytes(16)), ONE, written={5: BLOCK_5}), system())))
@@ -427,6 +458,17 @@ row("load a q --hold --threads 64", 0, "handles 1 changes 2 settled 1 groups 1 b
 row("load a q --journal j --hold", 0, "handles 1 changes 2 settled 1 groups 1 blocks 4\n", files={**parted(image(SMALL)), "q": queue(HANDLE)},
     after={"j": LOADED[:33 * BS]})
 row("load a q", 0, "handles 0 changes 0 settled 0 groups 0 blocks 0\n", files={"a": image(SMALL), "q": queue("")})
+# the file system of a load, before its text is read; of a clean journal its block size alone, and of one that is not, as of a recovery
+for front, home, err in ((SMALL, system(log=2), "FileSystem BlockSize 4096 a"), (SMALL, system(log=9, uuid=bytes(16)), "FileSystem BlockSize 0 a"), (SMALL, system(uuid=bytes(16), incompat=0), ""),
+                         (superblock(2, 1), system(), "NeedsRecovery j"), (superblock(2, 1), system(incompat=0), "FileSystem Clean a"), (superblock(2, 1), system(uuid=bytes(16)), "FileSystem Uuid a")):
+    if err:
+        row("load a q --journal j --checkpoint", 1, err="jb: %s\n" % err, files={**parted(over(image(front, ONE), home)), "q": queue(HANDLE)})
+    else:
+        row("load a q --journal j --hold --checkpoint", 0, "handles 1 changes 2 settled 1 groups 1 blocks 4\n", files={**parted(over(image(front), home)), "q": queue(HANDLE)},
+            after=parted(over(image(superblock(2), ONE, written={5: BLOCK_5}), home)))
+row("load a q --journal j", 1, err="jb: FileSystem BlockSize 4096 a\n", files=parted(over(image(SMALL), system(log=2))))
+row("load a q", 0, "handles 1 changes 2 settled 1 groups 1 blocks 4\n", files={"a": over(image(SMALL), system(log=2)), "q": queue(HANDLE)},
+    after={"a": over(LOADED, system(log=2))})
 for threads in (0, 65):
     row("load a q --threads %d" % threads, 2, err="jb: bad option\n", beside="--threads")
 row("load a q", 1, err="jb: BlockSize\n", files={"a": image(SMALL), "q": queue(HANDLE, first="bs 2048")})

@@ -56,6 +56,8 @@ pub enum Hint {
     FileSystemUuid,
     /// A file system needs no recovery.
     FileSystemClean,
+    /// A file system was mounted after the latest commit of a copy of its journal.
+    FileSystemNewer,
     /// A block is in two extents.
     ExtentsOverlap,
     /// An extent is not in the image.

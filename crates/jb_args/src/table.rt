@@ -56,11 +56,15 @@ macro_rules! diagnostics {
                     "the file system has blocks of so many bytes, and the journal others: it is not its own; it is as \
                      it was";
                 FileSystemUuid, "FileSystem Uuid", "",
-                    "the journal is that of another file system, or tune2fs -U has changed the UUID since: --force \
-                     writes to it then; it is as it was";
+                    "the journal is that of another file system, or tune2fs -U has changed the UUID since: recover \
+                     --force writes to it then; it is as it was";
                 FileSystemClean, "FileSystem Clean", "",
                     "the file system needs no recovery (needs_recovery is clear), so the journal is an old copy; it is \
-                     as it was; --force writes to it all the same";
+                     as it was; recover --force writes to it all the same";
+                FileSystemNewer, "FileSystem Newer", "",
+                    "the file system was mounted after the last commit of the journal, so that is an old copy: copy \
+                     it out again; it is as it was; recover --force writes to it all the same, as where a clock was \
+                     set back";
                 ExtentsOverlap, "Extents Overlap ", "#",
                     "this block is in two of the extents: give the list as debugfs -R 'stat <8>' prints it";
                 ExtentsPastEnd, "Extents PastEnd ", "#",

@@ -62,6 +62,7 @@ abbrev pub system_line : Option (List ℕ) → FileSystemFault → List ℕ
 system_line name (system.BlockSize size) = line_naming (codes "jb: FileSystem BlockSize " ∷ decimal size ∷ []) name
 system_line name system.Uuid = line_naming (codes "jb: FileSystem Uuid" ∷ []) name
 system_line name system.Clean = line_naming (codes "jb: FileSystem Clean" ∷ []) name
+system_line name system.Newer = line_naming (codes "jb: FileSystem Newer" ∷ []) name
 
 -- the line of extents that do not hold the journal: the fault's name, and a block or how many they have
 abbrev pub extents_line : ExtentsFault → List ℕ
@@ -112,6 +113,7 @@ abbrev pub system_hint : FileSystemFault → Hint
 system_hint (system.BlockSize size) = hint.FileSystemBlockSize
 system_hint system.Uuid = hint.FileSystemUuid
 system_hint system.Clean = hint.FileSystemClean
+system_hint system.Newer = hint.FileSystemNewer
 
 -- the same of extents that do not hold the journal
 abbrev pub extents_hint : ExtentsFault → Hint

@@ -112,10 +112,15 @@ is_beside None None = false
 is_beside None (Some list) = true
 is_beside (Some journal) extents = true
 
--- a journal that is beside its home blocks was judged by them
-abbrev pub JudgesBeside : {D : Type 0} → Disks D → Bool → Bool → D → D → Result Unit CommandFault → Type 0
-JudgesBeside G true force old new judged = JudgesOn G force old new judged
-JudgesBeside G false force old new judged = (new ≡ old) × (judged ≡ Ok tt)
+-- the journal is in a file of its own: it was copied out of the image
+abbrev pub is_apart : Option (List ℕ) → Bool
+is_apart None = false
+is_apart (Some journal) = true
+
+-- a journal that is beside its home blocks was judged by them, as a copy where it is one
+abbrev pub JudgesBeside : {D : Type 0} → Disks D → Bool → Bool → Bool → D → D → Result Unit CommandFault → Type 0
+JudgesBeside G true copied force old new judged = JudgesOn G copied force old new judged
+JudgesBeside G false copied force old new judged = (new ≡ old) × (judged ≡ Ok tt)
 
 module _ {D E : Type 0} (G : Disks (ImageDisk D E)) where
   -- it was foreseen what a recovery of an image would do, and that is the end, unless a copy is for a home block that is the journal's own
@@ -150,7 +155,7 @@ module _ {D E : Type 0} (G : Disks (ImageDisk D E)) where
   -- an image with so many home blocks was judged, where its journal is beside them, and then what was asked for was done
   abbrev pub RecoversOpened : RecoverWords → ℕ → ImageDisk D E → ImageDisk D E → Result Report CommandFault → Type 0
   RecoversOpened words homes old new end =
-      (mid : ImageDisk D E) × (judged : Result Unit CommandFault) × JudgesBeside G (is_beside words.journal words.extents) words.force old mid judged × RecoversJudged words homes judged mid new end
+      (mid : ImageDisk D E) × (judged : Result Unit CommandFault) × JudgesBeside G (is_beside words.journal words.extents) (is_apart words.journal) words.force old mid judged × RecoversJudged words homes judged mid new end
 
 -- the words do not go together, or the image was not opened
 abbrev pub IsNotOpenedToRecover : List ℕ → RecoverWords → CommandFault → Type 0

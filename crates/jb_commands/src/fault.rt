@@ -237,6 +237,7 @@ fn system_hint(fault: FileSystemFault) -> Hint
         FileSystemFault::BlockSize(_) => Hint::FileSystemBlockSize,
         FileSystemFault::Uuid => Hint::FileSystemUuid,
         FileSystemFault::Clean => Hint::FileSystemClean,
+        FileSystemFault::Newer => Hint::FileSystemNewer,
     }
 }
 

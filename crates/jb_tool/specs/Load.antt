@@ -1,5 +1,5 @@
 -- How `jb load` ends over files.
-use Rattle.std.specs.Prelude.{◌≡◌, ◌⊎◌, ◌≤◌, ℕ, List, Option, None, Result, Ok, Err, Some}
+use Rattle.std.specs.Prelude.{◌≡◌, ◌⊎◌, ◌≤◌, ℕ, false, List, Option, None, Result, Ok, Err, Some}
 use Rattle.jb_args.specs.declared.hint.Hint.{Hint}
 use Rattle.jb_args.specs.declared.option_name.OptionName.TheVariants.{Threads}
 use Rattle.jb_commands.specs.Faulty.{queue_fault}
@@ -28,6 +28,7 @@ use Rattle.jb_queue.specs.declared.fault.QueueFault.{QueueFault}
 use Rattle.jb_args.specs.Wanted.{Loading}
 use Rattle.jb_commands.specs.Files.{IsImageOpened, IsShut}
 use Rattle.jb_commands.specs.Lines.{names_with}
+use Rattle.jb_commands.specs.Placed.{JudgesBeside, is_apart}
 use Rattle.jb_commands.specs.Runs.{Closes}
 use Rattle.jb_commands.specs.Said.{Outputs, Tells}
 use Rattle.jb_commands.specs.Texts.{HasNoText, IsText}
@@ -127,14 +128,28 @@ abbrev pub IsLoadUnopened : Loading → CommandFault → Type 0
 IsLoadUnopened load (BadOption option) = (option ≡ Threads) × (HasThreads load → ⊥)
 IsLoadUnopened load fault = HasThreads load × IsShut load.image load.journal fault
 
+-- a journal that was copied out of the image was judged by the image, and no other
+abbrev pub JudgesLoad : {D : Type 0} → Disks D → Option (List ℕ) → D → D → Result Unit CommandFault → Type 0
+JudgesLoad G journal old new judged = JudgesBeside G (is_apart journal) (is_apart journal) false old new judged
+
 module _ {S T : Type 0} {start : Starts S} {other : Starts T} where
+  -- the text came next; or the image is not the journal's own, and stays as it was judged
+  abbrev pub LoadsJudged : Loading → LoadOptions → ℕ → Result Unit CommandFault → ImageDisk (FileDisk S start) (FileDisk T other) → Option (ImageDisk (FileDisk S start) (FileDisk T other)) → Result LoadReport CommandFault → Type 0
+  LoadsJudged load options homes (Ok done) disk image end = LoadsText load.file options homes disk image end
+  LoadsJudged load options homes (Err fault) disk image end = (image ≡ Some disk) × (end ≡ Err fault)
+
+  -- an open image was judged, and then loaded
+  abbrev pub LoadsOpened : Loading → LoadOptions → ℕ → ImageDisk (FileDisk S start) (FileDisk T other) → Option (ImageDisk (FileDisk S start) (FileDisk T other)) → Result LoadReport CommandFault → Type 0
+  LoadsOpened load options homes disk image end =
+      (mid : ImageDisk (FileDisk S start) (FileDisk T other)) × (judged : Result Unit CommandFault) × JudgesLoad as_files load.journal disk mid judged × LoadsJudged load options homes judged mid image end
+
   -- the image was not opened, and nothing was done; or it was, in blocks of the size that its first bytes say, with so many home blocks
-  -- after the journal that they say, and the text came next
+  -- after the journal that they say, and it was judged, and then the text came
   abbrev pub EndsOfLoad : Loading → Option (ImageDisk (FileDisk S start) (FileDisk T other)) → Result LoadReport CommandFault → Type 0
   EndsOfLoad load image end =
       ((fault : CommandFault) × (image ≡ None) × (end ≡ Err fault) × IsLoadUnopened load fault)
       ⊎ (HasThreads load × ((disk : ImageDisk (FileDisk S start) (FileDisk T other)) × (homes : ℕ) × IsImageOpened load.journal disk homes
-      × ((options : LoadOptions) × AreOptionsOf load options × LoadsText load.file options homes disk image end)))
+      × ((options : LoadOptions) × AreOptionsOf load options × LoadsOpened load options homes disk image end)))
 
 -- the whole run of a load
 abbrev pub RunsLoad : Loading → Outputs → Outputs → Ended → Type 0

@@ -1,19 +1,19 @@
 //! `jb load`: the handles of a queue text, run by threads and committed to an image.
-ghost use Rattle.std.specs.Prelude.{◌≡◌, ◌≤◌, ◌↔◌, IsSome, IfSome};
+ghost use Rattle.std.specs.Prelude.{◌≡◌, ◌≤◌, ◌↔◌, IsSome, IfSome, option_map};
 ghost use Rattle.jb_queue.specs.QueueLines.{queue_in};
 ghost use Rattle.jb_args.specs.Wanted.{load_said};
 ghost use Rattle.jb_tool.specs.Load.{EndsOfLoad, HasThreads, AreOptionsOf, LoadsQueue, LoadsText};
-ghost use Rattle.jb_tool.specs.Load.{RunsLoad, load_fault};
+ghost use Rattle.jb_tool.specs.Load.{JudgesLoad, LoadsOpened, RunsLoad, load_fault};
 
 use crate::load_report::{LoadDone, LoadReport};
 use crate::{LoadFault, LoadOptions, load_on};
 use jb_args::{LoadWords, OptionName};
 use jb_block::Stamp;
 use jb_commands::{
-    CommandFault, Ended, Opening, TwoFiles, close, fault_answer, open_counted, read_file,
+    CommandFault, Ended, Opening, TwoFiles, close, fault_answer, judge_on, open_counted, read_file,
 };
 use jb_deck::OpenFault;
-use jb_disk::{FileDisk, FixedClock, Start, Unknown};
+use jb_disk::{Disk, FileDisk, FixedClock, Start, Unknown};
 use jb_image::ImageDisk;
 use jb_queue::{QueueLines, read_lines};
 use std::fs::File;
@@ -41,11 +41,12 @@ pub(crate) fn run_load<
     close(told, TwoFiles::of(load.image, load.journal), err)
 }
 
-/// Loads the queue text of one file into the image that another one is.
+/// Loads the queue text of one file into the image that another one is. Where the journal is in a file of its own, the
+/// image may be a file system, which has to be the journal's own.
 ///
 /// # Errors
 /// `CommandFault::BadOption` where `--threads` is not from 1 to 64, before any file is looked at; those of
-/// `open_counted` and of `read_file`; and those of `load_on`, after which the image is lost.
+/// `open_counted`, of `judge_on` and of `read_file`; and those of `load_on`, after which the image is lost.
 pub fn load_files<
     'a,
     S: Start + Send,
@@ -69,7 +70,48 @@ pub fn load_files<
             };
         }
     };
-    load_text(rt, load, disk, homes, options)
+    load_opened(rt, load, disk, homes, options)
+}
+
+/// The same of an image that is open, with so many home blocks.
+///
+/// # Errors
+/// Those of `judge_on` and of `load_text`.
+fn load_opened<
+    'a,
+    S: Start + Send,
+    T: Start + Send,
+    R: Files<File = File> + AllocGlobal + Threads + Wait + Clock + Sync,
+>(
+    rt: &R,
+    load: LoadWords<'a>,
+    mut disk: ImageDisk<FileDisk<S>, FileDisk<T>>,
+    homes: u64,
+    options: LoadOptions,
+) -> LoadDone<'a, S, T>
+    requires threads { (1 ≤ options.threads) × (options.threads ≤ 64) }
+    ensures loads { LoadsOpened (load_said load.entry) options homes disk result.image result.end }
+{
+    match judge_load(&mut disk, load.journal) {
+        Ok(()) => load_text(rt, load, disk, homes, options),
+        Err(fault) => LoadDone {
+            image: Some(disk),
+            end: Err(fault),
+        },
+    }
+}
+
+/// Whether the journal of an image may have home blocks of this image in it; one at its front may.
+///
+/// # Errors
+/// Those of `judge_on`.
+fn judge_load<'a, D: Disk>(disk: &mut D, journal: Option<&str>) -> Result<(), CommandFault<'a>>
+    ensures judges { JudgesLoad D.Disk (option_map (λ word. word.now) journal.entry) disk.old disk.new result }
+{
+    match journal {
+        None => Ok(()),
+        Some(_) => judge_on(disk, true, false),
+    }
 }
 
 /// Loads the queue text of a file into an open image of so many home blocks.

@@ -12,6 +12,8 @@ mod checks;
 #[cfg(test)]
 mod crashes;
 #[cfg(test)]
+mod dates;
+#[cfg(test)]
 mod disk_checks;
 #[cfg(test)]
 mod disk_rows;

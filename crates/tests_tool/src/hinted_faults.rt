@@ -11,7 +11,7 @@ use jb_super::SuperFault;
 use jb_tool::{CommandFault, HandleFault, LoadDone, LoadReport, Loaded, Refused};
 
 /// Each fault of a command, with what the second line says beside the words of its row.
-static FAULTS: [(CommandFault<'static>, &str); 38] = [
+static FAULTS: [(CommandFault<'static>, &str); 39] = [
     (
         CommandFault::CannotRead("a", Some(2)),
         ": No such file or directory (os error 2)",
@@ -47,6 +47,7 @@ static FAULTS: [(CommandFault<'static>, &str); 38] = [
     ),
     (CommandFault::FileSystem(FileSystemFault::Uuid), ""),
     (CommandFault::FileSystem(FileSystemFault::Clean), ""),
+    (CommandFault::FileSystem(FileSystemFault::Newer), ""),
     (CommandFault::Extents(ExtentsFault::Overlap(9)), ""),
     (CommandFault::Extents(ExtentsFault::PastEnd(9)), ""),
     (CommandFault::Extents(ExtentsFault::Short(9)), ""),

@@ -10,6 +10,8 @@ mod changes;
 #[cfg(test)]
 mod checks;
 #[cfg(test)]
+mod copies;
+#[cfg(test)]
 mod files;
 #[cfg(test)]
 mod given_back;

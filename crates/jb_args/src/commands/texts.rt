@@ -134,6 +134,9 @@ and log blocks of these. Thread K of T runs handles K, K+T, K+2T and so on, up t
 refused; the text's limit is not used, the image's is. Without --checkpoint what is committed waits in the
 log for jb recover.
 
+With --journal FILE, where IMAGE has the superblock of ext2, ext3 or ext4, the journal is refused as jb
+recover refuses it: so its block size has to be the file system's.
+
 A journal that is put back into its file system with a log is thrown away at the next mount, and e2fsck -p
 stops at it, where the flag needs_recovery is clear: set it by debugfs -w -R 'feature needs_recovery' fs.img
 before, and run e2fsck or mount. OCFS2 has the flag dirty of the journal's inode in its place.
@@ -164,7 +167,9 @@ once, and write nothing before, or it replays the log once more over what was wr
 Where IMAGE has the superblock of ext2, ext3 or ext4 and the journal is not at its front, the journal has
 to be the file system's own: its block size has to be the same, and unless --force is given its UUID
 (where the journal has one; tune2fs -U changes the file system's alone) and the flag needs_recovery, which
-e2fsck and a mount take away.
+e2fsck and an unmount take away. The journal of --journal is an old copy where the file system was mounted
+after its last commit, by the times that both say: then it is refused too, unless --force is given. So copy
+it out after the crash that is to be recovered. A clock that was set back meanwhile may need --force.
 
 With --dry-run nothing is written, the image is opened for reading, and the line is that of the recovery;
 with --list the home block of each copy that would be written follows, as home N, in the log's order.

@@ -3,7 +3,7 @@ ghost use Rattle.std.specs.Prelude.{◌≡◌, option_map};
 ghost use Rattle.jb_image.specs.Files.{as_disks};
 ghost use Rattle.jb_args.specs.Named.{recover_said};
 ghost use Rattle.jb_commands.specs.Foresee.{foreseen_end as foreseen_so, own_checked};
-ghost use Rattle.jb_commands.specs.Placed.{EndsOfRecover, is_beside as stands_beside};
+ghost use Rattle.jb_commands.specs.Placed.{EndsOfRecover, is_apart as stands_apart, is_beside as stands_beside};
 ghost use Rattle.jb_commands.specs.Placed.{ChecksOwn, ForeseesImage, JudgesBeside, RecoversImage, RecoversOpened};
 
 use crate::done::Done;
@@ -75,8 +75,9 @@ fn recover_opened<'a, D: Disk, E: Disk>(
         result }
 {
     let beside = is_beside(options.journal, options.extents);
+    let copied = is_apart(options.journal);
     let (list, dry_run) = (options.list, options.dry_run);
-    match judge_beside(disk, beside, options.force) {
+    match judge_beside(disk, beside, copied, options.force) {
         Ok(()) => {}
         Err(fault) => return Err(fault),
     }
@@ -99,19 +100,31 @@ fn is_beside(journal: Option<&str>, extents: Option<&str>) -> bool
     }
 }
 
-/// Whether the journal of an image may be recovered into its home blocks; one that is not beside them may.
+/// Whether the journal is in a file of its own: a copy of that within the image.
+fn is_apart(journal: Option<&str>) -> bool
+    ensures { result ≡ stands_apart (option_map (λ word. word.now) journal.entry) }
+{
+    match journal {
+        None => false,
+        Some(_) => true,
+    }
+}
+
+/// Whether the journal of an image, which may be a copy, may be recovered into its home blocks; one that is not beside
+/// them may.
 ///
 /// # Errors
 /// Those of `judge_on`.
 fn judge_beside<'a, D: Disk>(
     disk: &mut D,
     beside: bool,
+    copied: bool,
     force: bool,
 ) -> Result<(), CommandFault<'a>>
-    ensures judges { JudgesBeside D.Disk beside force disk.old disk.new result }
+    ensures judges { JudgesBeside D.Disk beside copied force disk.old disk.new result }
 {
     if beside {
-        judge_on(disk, force)
+        judge_on(disk, copied, force)
     } else {
         Ok(())
     }

@@ -5,6 +5,6 @@ pub returns : goal.returns
 returns g c = record {
   ends = inr (
     c.in-Some.ensures.good.0 refl,
-    (c.in-Ok.opened.0, c.in-Ok.opened.1, c.in-Ok.ensures.opened, (c.in-Some.options, c.in-Some.ensures.asked, c.load_text.ensures.loads)),
+    (c.in-Ok.opened.0, c.in-Ok.opened.1, c.in-Ok.ensures.opened, (c.in-Some.options, c.in-Some.ensures.asked, c.load_opened.ensures.loads)),
   );
 }

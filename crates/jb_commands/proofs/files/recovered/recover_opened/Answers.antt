@@ -3,15 +3,15 @@ use Rattle.jb_commands.proofs.files.recovered.recover_opened.Goals as goal
 
 pub returns-in-Err : goal.returns-in-Err
 returns-in-Err g c = record {
-  recovers = (c.judge_beside.new.disk, Err c.in-Err.fault, rw c.is_beside-beside.ensures at c.in-Err.ensures.judges, (refl, refl));
+  recovers = (c.judge_beside.new.disk, Err c.in-Err.fault, rw (c.is_beside-beside.ensures, c.is_apart-copied.ensures) at c.in-Err.ensures.judges, (refl, refl));
 }
 
 pub returns-then-dry_run : goal.returns-then-dry_run
 returns-then-dry_run g c = record {
-  recovers = (c.judge_beside.new.disk, Ok tt, rw c.is_beside-beside.ensures at c.in-Ok.ensures.judges, rw c.if-dry_run.true c.foresee_image.ensures.foresees);
+  recovers = (c.judge_beside.new.disk, Ok tt, rw (c.is_beside-beside.ensures, c.is_apart-copied.ensures) at c.in-Ok.ensures.judges, rw c.if-dry_run.true c.foresee_image.ensures.foresees);
 }
 
 pub returns-else-dry_run : goal.returns-else-dry_run
 returns-else-dry_run g c = record {
-  recovers = (c.judge_beside.new.disk, Ok tt, rw c.is_beside-beside.ensures at c.in-Ok.ensures.judges, rw c.if-dry_run.false c.recover_image.ensures.recovers);
+  recovers = (c.judge_beside.new.disk, Ok tt, rw (c.is_beside-beside.ensures, c.is_apart-copied.ensures) at c.in-Ok.ensures.judges, rw c.if-dry_run.false c.recover_image.ensures.recovers);
 }
