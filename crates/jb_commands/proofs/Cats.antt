@@ -180,24 +180,24 @@ module _ {D : Type 0} (G : Disks D) (first : ℕ) (hex : Bool) where
 
 -- ---- no block is asked for
 
-module _ {D : Type 0} (G : Disks D) (homes : Option ℕ) (home : ℕ) (old new : D) (before after : List ℕ)
+module _ {D : Type 0} (G : Disks D) (homes : Option ℕ) (home : ℕ) (old new : D)
     (same : G.honest new → G.newest new ≡ G.newest old) (idle : G.honest new → Goes G.may_leave G.moment G.left_since Same old new) where
   -- the peek was not refused
-  pub looks-well : KeptOn G CountsNone old new → (G.honest new → Peeks (G.size old) (G.count old) (G.newest old) home before after (Ok tt)) → LooksOn G homes home old new (Ok 0)
+  pub looks-well : KeptOn G CountsNone old new → (G.honest new → peek_refusal (G.size old) (G.count old) (G.newest old) home ≡ None) → LooksOn G homes home old new (Ok 0)
   looks-well kept told = record {
     kept = kept_as kept kept.counted;
     same = same;
     idle = idle;
-    looked = (refl, λ held. (told held).0);
+    looked = (refl, told);
   }
 
   -- the peek was refused
-  pub looks-refused : (stop : PeekFault) → KeptOn G (PeekFaults {T = Unit} (Err stop)) old new → (G.honest new → Peeks (G.size old) (G.count old) (G.newest old) home before after (Err stop)) → LooksOn G homes home old new (Err (peek_fault homes stop))
+  pub looks-refused : (stop : PeekFault) → KeptOn G (PeekFaults {T = Unit} (Err stop)) old new → (G.honest new → IsUnpeeked (G.size old) (G.count old) (G.newest old) home stop) → LooksOn G homes home old new (Err (peek_fault homes stop))
   looks-refused stop kept told = record {
     kept = kept_as kept (peek-counted homes stop (G.faults old) (G.faults old) (G.faults new) refl kept.counted);
     same = same;
     idle = idle;
-    looked = (stop, refl, λ held. unpeeked-by (G.size old) (G.count old) (G.newest old) home before after stop (told held));
+    looked = (stop, refl, told);
   }
 
 -- ---- rows
