@@ -18,7 +18,7 @@ pub returns-in_err-take_word : goal.returns-in_err-take_word
 returns-in_err-take_word c =
     let gave : c.from_residual.result ≡ Err c.in_err-take_word.field-0.0 = search rules in
     let first = ap (λ left. listed_in (option_copied left)) c.in-Some.is ∙ c.next_listed.ensures.words in
-    rw gave (taken-fails _ _ c.loop-left.list.items c.loop-left.invariant c.next_listed.result.0.now _ first _ _ c.in_err-take_word.ensures)
+    rw gave (taken-fails _ _ c.loop-left.list.items c.loop-left.invariant c.next_listed.result.0.now _ first c.take_word.new.list.items _ c.in_err-take_word.ensures)
 
 pub returns : goal.returns
 returns c = taken-ends _ c.loop-left.list.items c.loop-left.left c.loop-left.invariant c.in_default.not-Some
