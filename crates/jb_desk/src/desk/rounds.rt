@@ -132,11 +132,15 @@ impl<D: Disk, C: Clock, H: Origin, N: Ledger> Desk<D, C, H, N> {
                 committer.hold(Held::of(prepared.back(), tickets, seen.stops, taken));
                 Err(RoundFault::Memory)
             }
-            Err(
-                BatchFault::WrongTicket(prepared, _)
-                | BatchFault::OtherShape(prepared)
-                | BatchFault::NumbersSpent(prepared),
-            ) => {
+            Err(BatchFault::WrongTicket(prepared, _)) => {
+                committer.hold(Held::of(prepared.back(), tickets, seen.stops, taken));
+                Err(RoundFault::Refused)
+            }
+            Err(BatchFault::OtherShape(prepared)) => {
+                committer.hold(Held::of(prepared.back(), tickets, seen.stops, taken));
+                Err(RoundFault::Refused)
+            }
+            Err(BatchFault::NumbersSpent(prepared)) => {
                 committer.hold(Held::of(prepared.back(), tickets, seen.stops, taken));
                 Err(RoundFault::Refused)
             }

@@ -1,13 +1,13 @@
-use Rattle.std.proofs.Common.{rules, ◌≡◌, IfOk, Err, Result, refl, ap, subst, ◌∙◌, arith}
+use Rattle.std.proofs.Common.{rules, ◌≡◌, IfOk, Err, Some, Result, refl, ap, subst, ◌∙◌, arith}
 use Rattle.jb_board.specs.Steps.{raised_settled}
 use Rattle.jb_deck.specs.declared.batched.BatchFault.{BatchFault}
-use Rattle.jb_deck.specs.declared.batched.BatchFault.TheVariants.{DeviceFault}
+use Rattle.jb_deck.specs.declared.batched.BatchFault.TheVariants.{DeviceFault, WrongTicket, OtherShape, NumbersSpent}
 use Rattle.jb_deck.specs.declared.done.Done.{Done}
 use Rattle.jb_book.specs.Tied.{TellsFirst}
 use Rattle.jb_book.specs.Journal.{FailsAs, IsRound}
 use Rattle.jb_book.specs.SinceMark.{MarksSettled}
 use Rattle.jb_book.specs.Rounds.{CommitsAs}
-use Rattle.jb_desk.specs.Rounds.{seat_of}
+use Rattle.jb_desk.specs.Rounds.{held_by, seat_of}
 use Rattle.jb_desk.specs.Seats.{view_of}
 use Rattle.jb_desk.proofs.Rounds.{settles-whole, whole-past}
 use Rattle.jb_desk.proofs.desk.Desk.commit.Goals as goal
@@ -78,3 +78,30 @@ returns-in_ok-settle_last-in-Err-DeviceFault-clause-round g c =
       subst (λ (f : BatchFault). Fails (Err f)) is (subst Fails c.in-Err-DeviceFault.is c.commit-result.ensures.failed),
       c.in_ok-settle_last-in-Err-DeviceFault.ensures.settled,
     )
+
+pub returns-in-Err-WrongTicket-clause-round : goal.returns-in-Err-WrongTicket-clause-round
+returns-in-Err-WrongTicket-clause-round g c =
+    let p = c.args.prepared in
+    let Fails = λ (r : Result Done BatchFault). FailsAs g.D.Disk g.H.Origin.begun p r in
+    let fault : BatchFault = WrongTicket c.in-Err-WrongTicket.prepared c.in-Err-WrongTicket.field-0-1 in
+    let is : c.in-Err-WrongTicket.field-0 ≡ fault = search rules in
+    let held : held_by c.hold-in-Err-WrongTicket.new.self ≡ Some p.batch = search rules in
+    (p, fault, record { same = refl; some = c.requires.some }, held, subst (λ (f : BatchFault). Fails (Err f)) is (subst Fails c.in-Err-WrongTicket.is c.commit-result.ensures.failed))
+
+pub returns-in-Err-OtherShape-clause-round : goal.returns-in-Err-OtherShape-clause-round
+returns-in-Err-OtherShape-clause-round g c =
+    let p = c.args.prepared in
+    let Fails = λ (r : Result Done BatchFault). FailsAs g.D.Disk g.H.Origin.begun p r in
+    let fault : BatchFault = OtherShape c.in-Err-OtherShape.prepared in
+    let is : c.in-Err-OtherShape.field-0 ≡ fault = search rules in
+    let held : held_by c.hold-in-Err-OtherShape.new.self ≡ Some p.batch = search rules in
+    (p, fault, record { same = refl; some = c.requires.some }, held, subst (λ (f : BatchFault). Fails (Err f)) is (subst Fails c.in-Err-OtherShape.is c.commit-result.ensures.failed))
+
+pub returns-in-Err-NumbersSpent-clause-round : goal.returns-in-Err-NumbersSpent-clause-round
+returns-in-Err-NumbersSpent-clause-round g c =
+    let p = c.args.prepared in
+    let Fails = λ (r : Result Done BatchFault). FailsAs g.D.Disk g.H.Origin.begun p r in
+    let fault : BatchFault = NumbersSpent c.in-Err-NumbersSpent.prepared in
+    let is : c.in-Err-NumbersSpent.field-0 ≡ fault = search rules in
+    let held : held_by c.hold-in-Err-NumbersSpent.new.self ≡ Some p.batch = search rules in
+    (p, fault, record { same = refl; some = c.requires.some }, held, subst (λ (f : BatchFault). Fails (Err f)) is (subst Fails c.in-Err-NumbersSpent.is c.commit-result.ensures.failed))
