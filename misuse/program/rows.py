@@ -375,6 +375,9 @@ for home, err in ((system(), ""), (system(log=2), "BlockSize 4096"), (system(log
         else:
             row(words + " --force", 0, LINE, files=lay(before), after=lay(after))
             row(words, 0, "transactions 0 copies 0 revoked 0 next 4\n", files=lay(after))
+# with blocks of 4096 bytes the file system's superblock is in home block 0
+FOUR_KIB = {"j": image(superblock(maxlen=9, said=4096, size=4096), homes=0, maxlen=9, size=4096), "a": data() + system() + bytes(14 * BS)}
+row("recover a --journal j", 1, err="jb: FileSystem BlockSize 1024 a\n", files=FOUR_KIB)
 # a journal without a UUID may be any file system's
 NAMELESS = over(image(superblock(2, 1, uuid=bytes(16)), ONE), system())
 row("recover a --journal j", 0, LINE, files=parted(NAMELESS), after=parted(over(image(superblock(3, uuid=bytes(16)), ONE, written={5: BLOCK_5}), system())))
