@@ -424,6 +424,9 @@ for front in superblock(5, 1), superblock(2):
 # the first fault
 row("recover a --journal j", 1, err="jb: FileSystem Clean a\n", files=parted(over(image(superblock(2, 1), dated(7)), system(incompat=0, mounted=8))))
 row("recover a --journal j", 1, err="jb: FileSystem Newer a\n", files=parted(over(image(superblock(2, 1), [revoke(2, [], 1025), commit(2, 7)]), system(mounted=8))))
+# with blocks of 4096 bytes the file system's superblock is in home block 0
+FOUR_KIB = {"j": image(superblock(maxlen=9, said=4096, size=4096), homes=0, maxlen=9, size=4096), "a": data() + system() + bytes(14 * BS)}
+row("recover a --journal j", 1, err="jb: FileSystem BlockSize 1024 a\n", files=FOUR_KIB)
 # a journal without a UUID may be any file system's
 NAMELESS = over(image(superblock(2, 1, uuid=bytes(16)), ONE), system())
 row("recover a --journal j", 0, LINE, files=parted(NAMELESS), after=parted(over(image(superblock(3, uuid=bytes(16)), ONE, written={5: BLOCK_5}), system())))

@@ -1,11 +1,18 @@
 //! Home blocks that are shown, and journals in a file of their own.
 
-use crate::checks::{check_at, check_number, check_text};
+use crate::checks::{check, check_at, check_number, check_text};
 use crate::files::{
     COPY, Front, JOURNAL, WHOLE, add_block, check_file, check_front, pad, remove, write,
     write_front,
 };
 use crate::runs::{End, Host, check_run, check_status, joined, ran};
+use jb_block::{BlockSize, Width};
+use jb_commands::cat_on;
+use jb_disk::MemoryDisk;
+use jb_format::format;
+use std::alloc::Global;
+use std::process::Abort;
+use tests_support::{read_block, write_block};
 
 /// A run of `jb cat`: the words after the image, the status, how what is written begins, how many bytes that has, and
 /// the line of a refusal, of an image and of two files.
@@ -73,7 +80,24 @@ fn check_cats(rt: &impl Host) {
     }
 }
 
-/// Checks each row of the table, and that the images stay.
+/// Checks that a home block is shown as it was written last, and that a crash still leaves what it held before: nothing
+/// was synced.
+fn check_unsynced(rt: &impl Abort, alloc: Global) {
+    let mut disk = MemoryDisk::new(alloc, BlockSize::OneKib, 49).expect(rt, "memory");
+    let made = format(&mut disk, 33, 0, [0; 16], Width::Narrow);
+    check(rt, made.is_ok(), "it is not made");
+    let written = write_block(&mut disk, 36, &[7; 1024]);
+    check(rt, written.is_ok(), "it is not written");
+    let mut out = Vec::new(alloc);
+    let shown = cat_on(alloc, &mut disk, 3, 1, false, None, &mut out);
+    let is_shown = shown.is_ok() && out.as_slice() == [7; 1024].as_slice();
+    check(rt, is_shown, "it is not shown");
+    let (mut left, mut block) = (disk.crash(&[]).expect(rt, "memory"), [7; 1024]);
+    let is_read = read_block(&mut left, 36, &mut block).is_ok();
+    check(rt, is_read && block == [0; 1024], "it is synced")
+}
+
+/// Checks each row of the table, that the images stay, and that nothing is synced.
 fn check_shown(rt: &impl Host) {
     let homes = homes(rt, &[]);
     write_front(rt, "cat.img", used(WHOLE));
@@ -85,7 +109,8 @@ fn check_shown(rt: &impl Host) {
     check_file(rt, "cat_homes.img", &homes, 0);
     remove(rt, "cat.img");
     remove(rt, "cat.bin");
-    remove(rt, "cat_homes.img")
+    remove(rt, "cat_homes.img");
+    check_unsynced(rt, rt.alloc())
 }
 
 #[test]

@@ -2,7 +2,7 @@
 
 use crate::checks::check;
 use crate::files::{JOURNAL, MAGIC, UUID, add_block, pad, remove, superblock, write};
-use crate::runs::{End, Host, check_over, check_run, ran_from};
+use crate::runs::{End, Host, check_over, check_run, joined, ran_from};
 use std::process::Abort;
 
 /// A transaction of one copy, of a block that begins with the magic, and one revoke; its commit stamp is zero.
@@ -167,15 +167,24 @@ fn the_options_of_a_dump_leave_some_lines(rt: HostRuntime) {
     check_options(&rt)
 }
 
-/// Checks a dump of standard input that goes on after the journal: the rest of it is not read.
+/// Checks that a dump of this file leaves these bytes of this input.
+fn check_left(rt: &impl Host, file: &str, input: &[u8], left: &[u8]) {
+    let mut rest = input;
+    let ran = ran_from(rt, joined(rt, "dump", file).as_str(), &mut rest);
+    let is_dumped = ran.ended.status == 0 && ran.err.is_empty();
+    check(rt, is_dumped, "it is not dumped");
+    check(rt, rest == left, "another rest is not read")
+}
+
+/// Checks a dump of standard input that goes on after the journal, whose rest is not read, and one of a file, for which
+/// nothing of standard input is.
 fn check_input(rt: &impl Host) {
     let mut bytes = journal(rt, [0, 0], LOG, &[]);
     bytes.extend_from_slice(b"next").expect(rt, "memory");
-    let mut rest = bytes.as_slice();
-    let ran = ran_from(rt, "dump -", &mut rest);
-    let is_dumped = ran.ended.status == 0 && ran.err.is_empty();
-    check(rt, is_dumped, "it is not dumped");
-    check(rt, rest == b"next".as_slice(), "another rest is not read")
+    check_left(rt, "-", &bytes, b"next");
+    write(rt, "dumped.journal", &bytes);
+    check_left(rt, "dumped.journal", b"next", b"next");
+    remove(rt, "dumped.journal")
 }
 
 #[test]

@@ -1,10 +1,12 @@
-//! Inputs and outputs that fail.
+//! Inputs and outputs that fail, and in how many writes a text is written.
 
 use crate::checks::{check_at, check_text};
 use crate::files::{WHOLE, remove, write, write_front};
 use crate::runs::{Host, check_status, words_of};
+use jb_text::put_parts;
 use jb_tool::run;
 use std::io::{self, Error, ErrorKind, Read, Write};
+use std::process::Abort;
 
 const QUEUE: &[u8] = b"bs 1024\nlimit 7\nh w1\n";
 
@@ -109,9 +111,32 @@ fn check_lines(rt: &impl Host) {
     remove(rt, "line.img")
 }
 
+/// How many parts of ten bytes a text has, and in how many writes it is written: a text of more than 4096 bytes part
+/// by part.
+static PARTS: [(usize, usize); 3] = [(0, 0), (409, 1), (410, 410)];
+
+/// Checks how many writes each text in parts takes, and that all its bytes are written.
+fn check_parts(rt: &impl Abort) {
+    let parts = ["ten bytes\n"; 410];
+    for (row, (count, writes)) in PARTS.iter().enumerate() {
+        let mut out = Counting::new();
+        let is_put = put_parts(&mut out, &parts[..(*count).min(410)]).is_ok();
+        check_at(rt, is_put, "a text in parts is written, row", row);
+        check_at(rt, out.writes == *writes, "the writes of parts, row", row);
+        let is_whole = out.bytes == count.saturating_mul(10);
+        check_at(rt, is_whole, "the bytes of parts, row", row)
+    }
+}
+
+/// Checks the lines of runs, and texts in parts.
+fn check_writes(rt: &impl Host) {
+    check_lines(rt);
+    check_parts(rt)
+}
+
 #[test]
 fn each_line_is_one_write(rt: HostRuntime) {
-    check_lines(&rt)
+    check_writes(&rt)
 }
 
 /// An output that takes nothing, one that takes three bytes, and one that takes all and loses it when it is flushed.
