@@ -21,8 +21,8 @@ pub struct Ran<T, D> {
     /// The transactions that were committed, in the order of their tickets, without those that a worker has taken from
     /// the trail. They begin at the ticket 0 where none was.
     pub trail: Vec<Entry>,
-    /// How the committer ended. Where it is `Shut`, every handle that stopped is settled. Otherwise the handles
-    /// after the settled ones may be lost, and the program is to end, and to recover the journal when it is started anew.
+    /// How the committer ended. Where it is `Shut`, every handle that stopped is settled. Otherwise the handles after
+    /// the settled ones may be lost: the program is to end, and to recover the journal when it is started anew.
     pub commit: Ended,
     /// How the checkpointer ended; `None` where there was none.
     pub checkpoint: Option<Ended>,
