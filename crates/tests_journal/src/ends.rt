@@ -36,7 +36,7 @@ fn a_run_that_has_lost_handles_is_an_error(rt: HostRuntime) -> Result<(), Fail> 
     let answered = ran(rt.alloc(), 1)?.durable().map(|(disk, _)| disk);
     assert_eq!(rt; answered, Err(lost));
     let told = format!(in rt.alloc(); "{lost}")?;
-    assert!(rt; told.as_str().starts_with("1 of 2 handles are settled"));
+    assert!(rt; told.as_str().starts_with("only 1 of 2 handles are settled"));
     Ok(())
 }
 
