@@ -141,7 +141,7 @@ fn an_image_is_made_whole_or_not_at_all(rt: HostRuntime) -> Result<(), Fail> {
     let there = ImageFault::System(SystemFault { code: Some(17) });
     let made = create_image(&rt, NAME, geometry()).map(|disk| disk.blocks());
     assert_eq!(rt; made, Err(MakeFault::Image(there)));
-    assert_eq!(rt; fs::read(&rt, UNFINISHED)?.as_slice(), b"mine");
+    assert_eq!(rt; fs::read(&rt, UNFINISHED)?.as_slice(), b"mine".as_slice());
     assert!(rt; !fs::exists(&rt, NAME)?);
     fresh(&rt);
     Ok(())
