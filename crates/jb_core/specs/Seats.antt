@@ -12,7 +12,7 @@ get es seat = lookup (is_at (nat_cmp seat)) es
 abbrev pub set : {V : Type 0} → List (ℕ × V) → ℕ → V → List (ℕ × V)
 set es seat v = insert_entry nat_cmp es seat v
 
--- the same, where the seat holds something; else nothing changes
+-- the seat holds this, if it held something; else nothing changes
 abbrev pub change : {V : Type 0} → List (ℕ × V) → ℕ → V → List (ℕ × V)
 change es seat v = set_value (is_at (nat_cmp seat)) es v
 
