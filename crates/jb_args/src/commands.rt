@@ -1,7 +1,7 @@
-ghost use Rattle.std.specs.Prelude.{◌≡◌, IfOk, codes, false};
-ghost use Rattle.clap.specs.Words.{App, app_of, with_subcommand};
+ghost use Rattle.std.specs.Prelude.{◌≡◌, IfOk, false};
+ghost use Rattle.clap.specs.Words.{app_of};
 ghost use Rattle.clap.specs.declared.builder.command.Command.TheViews.{out-Command as fields_of};
-ghost use Rattle.jb_args.specs.App.{cat_app, check_app, dump_app, file_app, format_app, image_app};
+ghost use Rattle.jb_args.specs.App.{cat_app, check_app, dump_app, format_app};
 ghost use Rattle.jb_args.specs.App.{jb_app, jb_top, load_app, recover_app};
 
 mod options;
@@ -174,59 +174,27 @@ fn jb_alone<'a>(alloc: Global) -> Result<Command<'a>, AllocError>
         .bin_name("jb")
 }
 
-/// `jb` with the commands over texts and those that only read.
-fn with_readers<'a>(
-    alloc: Global,
-    jb: Result<Command<'a>, AllocError>,
-) -> Result<Command<'a>, AllocError>
-    requires own { IfOk jb (λ c. (fields_of c).has_globals ≡ false) }
-    ensures app { (a : App) → IfOk jb.entry (λ c. app_of c ≡ a) → IfOk result (λ c. app_of c ≡
-        (let texts = with_subcommand (with_subcommand a (file_app (codes "cost")).top) (file_app (codes "plan")).top in
-        with_subcommand (with_subcommand (with_subcommand texts check_app.top) dump_app.top) cat_app.top)) }
+/// The command line of `jb`, as clap reads it.
+pub fn jb_command<'a>(alloc: Global) -> Result<Command<'a>, AllocError>
+    ensures app { IfOk result (λ c. app_of c ≡ jb_app) }
     ensures own { IfOk result (λ c. (fields_of c).has_globals ≡ false) }
 {
     let cost = "Prints the log blocks that the queue takes as one group";
     let plan = "Prints a least cut of the queue into groups, with its prices";
+    let renumber = "Restarts the transaction numbers of a clean journal at 1";
+    let widen = "Gives a clean journal block numbers of 64 bits";
     in_turn!(
         also,
-        jb,
+        jb_alone(alloc),
         over_queue(alloc, "cost", cost, texts::COST),
         over_queue(alloc, "plan", plan, texts::PLAN),
         check(alloc),
         dump(alloc),
         cat(alloc),
-    )
-}
-
-/// `jb` with the commands that write an image.
-fn with_writers<'a>(
-    alloc: Global,
-    jb: Result<Command<'a>, AllocError>,
-) -> Result<Command<'a>, AllocError>
-    requires own { IfOk jb (λ c. (fields_of c).has_globals ≡ false) }
-    ensures app { (a : App) → IfOk jb.entry (λ c. app_of c ≡ a) → IfOk result (λ c. app_of c ≡
-        (let loaded = with_subcommand (with_subcommand a format_app.top) load_app.top in
-        let written = with_subcommand loaded recover_app.top in
-        with_subcommand (with_subcommand written (image_app (codes "renumber")).top) (image_app (codes "widen")).top)) }
-    ensures own { IfOk result (λ c. (fields_of c).has_globals ≡ false) }
-{
-    let renumber = "Restarts the transaction numbers of a clean journal at 1";
-    let widen = "Gives a clean journal block numbers of 64 bits";
-    in_turn!(
-        also,
-        jb,
         format(alloc),
         load(alloc),
         recover(alloc),
         over_image(alloc, "renumber", renumber, texts::RENUMBER),
         over_image(alloc, "widen", widen, texts::WIDEN),
     )
-}
-
-/// The command line of `jb`, as clap reads it.
-pub fn jb_command<'a>(alloc: Global) -> Result<Command<'a>, AllocError>
-    ensures app { IfOk result (λ c. app_of c ≡ jb_app) }
-    ensures own { IfOk result (λ c. (fields_of c).has_globals ≡ false) }
-{
-    with_writers(alloc, with_readers(alloc, jb_alone(alloc)))
 }
