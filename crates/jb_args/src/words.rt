@@ -28,7 +28,7 @@ pub fn parse<'a, S: AsStr>(alloc: Global, words: &'a [S]) -> Result<Words<'a>, E
 {
     let matches = matches_of(jb_command(alloc)?, words)?;
     let found = words_of(&matches);
-    // Here, once, and not on both ways out.
+    // Dropped once, and not on both ways out.
     drop(matches);
     match found {
         Some(found) => Ok(found),

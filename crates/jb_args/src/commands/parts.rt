@@ -15,6 +15,8 @@ pub(crate) fn required_word<'a>(alloc: Global, name: &'a str, help: &'a str) -> 
     Arg::new(alloc, name).required(true).help(help)
 }
 
+// What an error leaves over is dropped by a call: at the end of a scope each field is a step of its own to prove.
+
 /// The command with one more argument, where it could be made.
 pub(crate) fn with<'a>(
     command: Result<Command<'a>, AllocError>,
