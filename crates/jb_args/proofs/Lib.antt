@@ -1,3 +1,2 @@
-pub mod Apps
 pub mod Faults
 pub mod Numerals

@@ -1,74 +1,28 @@
 ghost use Rattle.std.specs.Prelude.{◌≡◌, IfOk, false};
-ghost use Rattle.clap.specs.Words.{App, app_of, new_app, rule_of, with_rule, with_subcommand};
+ghost use Rattle.clap.specs.Words.{app_of};
 ghost use Rattle.clap.specs.declared.builder.command.Command.TheViews.{out-Command as fields_of};
-ghost use Rattle.jb_args.specs.App.{cat_app, check_app, dump_app, file_app, format_app, image_app};
-ghost use Rattle.jb_args.specs.App.{jb_app, jb_top, load_app, recover_app, required_word as word_rule};
+ghost use Rattle.jb_args.specs.App.{cat_app, check_app, dump_app, format_app};
+ghost use Rattle.jb_args.specs.App.{jb_app, jb_top, load_app, recover_app};
 
 mod options;
+mod parts;
 mod texts;
 
-use clap::{Arg, Command};
+use clap::Command;
 use options::{
     count_option, extents_option, flag, journal_option, number_option, number_or, number_word,
     required_number, uuid_option,
 };
+use parts::{also, bare, over, over_image, over_queue, required_word, with};
 use std::alloc::{AllocError, Global};
 
-/// A word that has to be there, by the name that usage shows.
-fn required_word<'a>(alloc: Global, name: &'a str, help: &'a str) -> Arg<'a>
-    ensures rule { rule_of result ≡ word_rule name.entry.now }
-    ensures own { result.global ≡ false }
-{
-    Arg::new(alloc, name).required(true).help(help)
-}
-
-/// The command with one more argument.
-fn with<'a>(command: Command<'a>, arg: Arg<'a>) -> Result<Command<'a>, AllocError>
-    requires own { (fields_of command).has_globals ≡ false }
-    requires here { arg.global ≡ false }
-    ensures app { IfOk result (λ c. app_of c ≡ with_rule (app_of command.entry) (rule_of arg.entry)) }
-    ensures own { IfOk result (λ c. (fields_of c).has_globals ≡ false) }
-{
-    command.arg(arg)
-}
-
-/// `jb` with one more command, where both could be made.
-fn also<'a>(
-    jb: Result<Command<'a>, AllocError>,
-    command: Result<Command<'a>, AllocError>,
-) -> Result<Command<'a>, AllocError>
-    requires jb { IfOk jb (λ c. (fields_of c).has_globals ≡ false) }
-    requires command { IfOk command (λ c. (fields_of c).has_globals ≡ false) }
-    ensures app { (a more : App) → IfOk jb.entry (λ c. app_of c ≡ a) → IfOk command.entry (λ c. app_of c ≡ more)
-        → IfOk result (λ c. app_of c ≡ with_subcommand a more.top) }
-    ensures own { IfOk result (λ c. (fields_of c).has_globals ≡ false) }
-{
-    let jb = jb?;
-    jb.subcommand(command?)
-}
-
-/// A command without words.
-fn bare<'a>(alloc: Global, name: &'a str, about: &'a str) -> Command<'a>
-    ensures app { app_of result ≡ new_app name.entry.now }
-    ensures own { (fields_of result).has_globals ≡ false }
-{
-    Command::new(alloc, name)
-        .about(about)
-        .after_long_help(texts::more_of(name))
-}
-
-/// A command with one word.
-fn over<'a>(
-    alloc: Global,
-    name: &'a str,
-    about: &'a str,
-    word: &'a str,
-    help: &'a str,
-) -> Result<Command<'a>, AllocError>
-    ensures app { IfOk result (λ c. app_of c ≡ with_rule (new_app name.entry.now) (word_rule word.entry.now)) }
-    ensures own { IfOk result (λ c. (fields_of c).has_globals ≡ false) }
-{
-    with(bare(alloc, name, about), required_word(alloc, word, help))
+/// Puts together a command step by step, of one part after the other. The calls stand in one another: each
+/// command that a name held between them would make the proof longer.
+macro_rules! in_turn {
+    ($step:ident, $made:expr $(,)?) => { $made };
+    ($step:ident, $made:expr, $next:expr $(, $more:expr)* $(,)?) => {
+        in_turn!($step, $step($made, $next) $(, $more)*)
+    };
 }
 
 /// `jb check`.
@@ -77,9 +31,9 @@ fn check<'a>(alloc: Global) -> Result<Command<'a>, AllocError>
     ensures own { IfOk result (λ c. (fields_of c).has_globals ≡ false) }
 {
     let about = "Checks a certificate of the queue, whoever made it";
-    let command = over(alloc, "check", about, "FILE", "A queue text")?;
+    let queue = over(alloc, "check", about, texts::CHECK, "FILE", "A queue text");
     let help = "A certificate, as jb plan prints it";
-    with(command, required_word(alloc, "CERT", help))
+    with(queue, required_word(alloc, "CERT", help))
 }
 
 /// `jb dump`.
@@ -89,15 +43,23 @@ fn dump<'a>(alloc: Global) -> Result<Command<'a>, AllocError>
 {
     let about = "Prints the committed transactions of a journal, block by block";
     let help = "A file with the whole journal at its front, or - for standard input";
-    let command = over(alloc, "dump", about, "FILE", help)?;
-    let help = "Only the lines that speak of home block N";
-    let command = with(command, number_option(alloc, "home", "N", help))?;
-    let help = "Of the transactions only the last N";
-    let command = with(command, number_option(alloc, "last", "N", help))?;
-    let help = "Only the lines of the superblock";
-    let command = with(command, flag(alloc, "super", help))?;
-    let help = "The journal at a glance, in place of its lines";
-    with(command, flag(alloc, "summary", help))
+    in_turn!(
+        with,
+        over(alloc, "dump", about, texts::DUMP, "FILE", help),
+        number_option(
+            alloc,
+            "home",
+            "N",
+            "Only the lines that speak of home block N"
+        ),
+        number_option(alloc, "last", "N", "Of the transactions only the last N"),
+        flag(alloc, "super", "Only the lines of the superblock"),
+        flag(
+            alloc,
+            "summary",
+            "The journal at a glance, in place of its lines"
+        ),
+    )
 }
 
 /// `jb cat`.
@@ -106,16 +68,19 @@ fn cat<'a>(alloc: Global) -> Result<Command<'a>, AllocError>
     ensures own { IfOk result (λ c. (fields_of c).has_globals ≡ false) }
 {
     let about = "Writes home blocks of an image as recovery would leave them";
-    let command = over_image(alloc, "cat", about)?;
-    let command = with(
-        command,
+    in_turn!(
+        with,
+        over_image(alloc, "cat", about, texts::CAT),
         number_word(alloc, "HOME", "The number of the first home block"),
-    )?;
-    let command = with(command, count_option(alloc, "How many home blocks"))?;
-    let help = "Writes lines of hexadecimal digits, as xxd does";
-    let command = with(command, flag(alloc, "hex", help))?;
-    let command = with(command, journal_option(alloc))?;
-    with(command, extents_option(alloc))
+        count_option(alloc, "How many home blocks"),
+        flag(
+            alloc,
+            "hex",
+            "Writes lines of hexadecimal digits, as xxd does"
+        ),
+        journal_option(alloc),
+        extents_option(alloc),
+    )
 }
 
 /// `jb recover`.
@@ -124,15 +89,24 @@ fn recover<'a>(alloc: Global) -> Result<Command<'a>, AllocError>
     ensures own { IfOk result (λ c. (fields_of c).has_globals ≡ false) }
 {
     let about = "Writes home what an image's journal has committed, and empties its log";
-    let command = over_image(alloc, "recover", about)?;
-    let command = with(command, extents_option(alloc))?;
-    let command = with(command, journal_option(alloc))?;
     let help = "Recovers though the journal seems not to be the file system's own";
-    let command = with(command, flag(alloc, "force", help))?;
-    let help = "Says what would be done, and writes nothing";
-    let command = with(command, flag(alloc, "dry-run", help))?;
-    let help = "With --dry-run: lists the home blocks that would be written";
-    with(command, flag(alloc, "list", help))
+    in_turn!(
+        with,
+        over_image(alloc, "recover", about, texts::RECOVER),
+        extents_option(alloc),
+        journal_option(alloc),
+        flag(alloc, "force", help),
+        flag(
+            alloc,
+            "dry-run",
+            "Says what would be done, and writes nothing"
+        ),
+        flag(
+            alloc,
+            "list",
+            "With --dry-run: lists the home blocks that would be written"
+        ),
+    )
 }
 
 /// `jb format`.
@@ -142,17 +116,21 @@ fn format<'a>(alloc: Global) -> Result<Command<'a>, AllocError>
 {
     let about = "Makes an image: a new journal, and home blocks of zeros after it";
     let help = "The file to make; an existing file is not overwritten";
-    let command = over(alloc, "format", about, "IMAGE", help)?;
-    let help = "Bytes of a block: 1024, 2048 or 4096";
-    let command = with(command, required_number(alloc, "bs", help))?;
-    let help = "Blocks of the journal, its superblock counted";
-    let command = with(command, required_number(alloc, "journal", help))?;
-    let help = "Home blocks after the journal";
-    let command = with(command, required_number(alloc, "homes", help))?;
-    let help = "The most log blocks of a transaction; 0 for a quarter of the log";
-    let command = with(command, number_or(alloc, "max", "N", "0", help))?;
-    let command = with(command, uuid_option(alloc))?;
-    with(command, flag(alloc, "wide", "Block numbers of 64 bits"))
+    let most = "The most log blocks of a transaction; 0 for a quarter of the log";
+    in_turn!(
+        with,
+        over(alloc, "format", about, texts::FORMAT, "IMAGE", help),
+        required_number(alloc, "bs", "Bytes of a block: 1024, 2048 or 4096"),
+        required_number(
+            alloc,
+            "journal",
+            "Blocks of the journal, its superblock counted"
+        ),
+        required_number(alloc, "homes", "Home blocks after the journal"),
+        number_or(alloc, "max", "N", "0", most),
+        uuid_option(alloc),
+        flag(alloc, "wide", "Block numbers of 64 bits"),
+    )
 }
 
 /// `jb load`.
@@ -161,18 +139,27 @@ fn load<'a>(alloc: Global) -> Result<Command<'a>, AllocError>
     ensures own { IfOk result (λ c. (fields_of c).has_globals ≡ false) }
 {
     let about = "Commits the handles of a queue text to an image, run by threads";
-    let command = over_image(alloc, "load", about)?;
-    let help = "A queue text of the image's block size";
-    let command = with(command, required_word(alloc, "FILE", help))?;
-    let command = with(command, journal_option(alloc))?;
-    let help = "How many threads run the handles, 1 to 64";
-    let command = with(command, number_or(alloc, "threads", "N", "1", help))?;
-    let help = "Commits once all handles have run, as one batch";
-    let command = with(command, flag(alloc, "hold", help))?;
-    let help = "The time of the commit blocks, in seconds since 1970";
-    let command = with(command, number_or(alloc, "stamp", "SEC", "0", help))?;
-    let help = "Writes home what is committed, too";
-    with(command, flag(alloc, "checkpoint", help))
+    let stamp = "The time of the commit blocks, in seconds since 1970";
+    in_turn!(
+        with,
+        over_image(alloc, "load", about, texts::LOAD),
+        required_word(alloc, "FILE", "A queue text of the image's block size"),
+        journal_option(alloc),
+        number_or(
+            alloc,
+            "threads",
+            "N",
+            "1",
+            "How many threads run the handles, 1 to 64"
+        ),
+        flag(
+            alloc,
+            "hold",
+            "Commits once all handles have run, as one batch"
+        ),
+        number_or(alloc, "stamp", "SEC", "0", stamp),
+        flag(alloc, "checkpoint", "Writes home what is committed, too"),
+    )
 }
 
 /// `jb` without its commands.
@@ -180,33 +167,11 @@ fn jb_alone<'a>(alloc: Global) -> Result<Command<'a>, AllocError>
     ensures app { IfOk result (λ c. app_of c ≡ jb_top) }
     ensures own { IfOk result (λ c. (fields_of c).has_globals ≡ false) }
 {
-    let command = Command::new(alloc, "jb").bin_name("jb")?;
-    Ok(
-        command
-            .no_binary_name(true)
-            .version("0.1.0")
-            .about("A block journal in jbd2's format")
-            .after_long_help(texts::JB)
-            .subcommand_required(true),
-    )
-}
-
-/// A command over one queue text.
-fn over_queue<'a>(alloc: Global, name: &'a str, about: &'a str) -> Result<Command<'a>, AllocError>
-    ensures app { IfOk result (λ c. app_of c ≡ file_app name.entry.now) }
-    ensures own { IfOk result (λ c. (fields_of c).has_globals ≡ false) }
-{
-    let help = "A queue text, or - for standard input";
-    over(alloc, name, about, "FILE", help)
-}
-
-/// A command over one image that is there.
-fn over_image<'a>(alloc: Global, name: &'a str, about: &'a str) -> Result<Command<'a>, AllocError>
-    ensures app { IfOk result (λ c. app_of c ≡ image_app name.entry.now) }
-    ensures own { IfOk result (λ c. (fields_of c).has_globals ≡ false) }
-{
-    let help = "A file or block device with a journal at its front, and the home blocks after it";
-    over(alloc, name, about, "IMAGE", help)
+    bare(alloc, "jb", "A block journal in jbd2's format", texts::JB)
+        .no_binary_name(true)
+        .version("0.1.0")
+        .subcommand_required(true)
+        .bin_name("jb")
 }
 
 /// The command line of `jb`, as clap reads it.
@@ -214,18 +179,22 @@ pub fn jb_command<'a>(alloc: Global) -> Result<Command<'a>, AllocError>
     ensures app { IfOk result (λ c. app_of c ≡ jb_app) }
     ensures own { IfOk result (λ c. (fields_of c).has_globals ≡ false) }
 {
-    let about = "Prints the log blocks that the queue takes as one group";
-    let with_cost = also(jb_alone(alloc), over_queue(alloc, "cost", about));
-    let about = "Prints a least cut of the queue into groups, with its prices";
-    let with_plan = also(with_cost, over_queue(alloc, "plan", about));
-    let with_check = also(with_plan, check(alloc));
-    let with_dump = also(with_check, dump(alloc));
-    let with_cat = also(with_dump, cat(alloc));
-    let with_format = also(with_cat, format(alloc));
-    let with_load = also(with_format, load(alloc));
-    let with_recover = also(with_load, recover(alloc));
-    let about = "Restarts the transaction numbers of a clean journal at 1";
-    let with_renumber = also(with_recover, over_image(alloc, "renumber", about));
-    let about = "Gives a clean journal block numbers of 64 bits";
-    also(with_renumber, over_image(alloc, "widen", about))
+    let cost = "Prints the log blocks that the queue takes as one group";
+    let plan = "Prints a least cut of the queue into groups, with its prices";
+    let renumber = "Restarts the transaction numbers of a clean journal at 1";
+    let widen = "Gives a clean journal block numbers of 64 bits";
+    in_turn!(
+        also,
+        jb_alone(alloc),
+        over_queue(alloc, "cost", cost, texts::COST),
+        over_queue(alloc, "plan", plan, texts::PLAN),
+        check(alloc),
+        dump(alloc),
+        cat(alloc),
+        format(alloc),
+        load(alloc),
+        recover(alloc),
+        over_image(alloc, "renumber", renumber, texts::RENUMBER),
+        over_image(alloc, "widen", widen, texts::WIDEN),
+    )
 }

@@ -27,7 +27,10 @@ pub fn parse<'a, S: AsStr>(alloc: Global, words: &'a [S]) -> Result<Words<'a>, E
         ⊎ ((fault_kinds (map S.text words.entry.now) ≡ []) × (wanted_in (map S.text words.entry.now) ≡ None))) }
 {
     let matches = matches_of(jb_command(alloc)?, words)?;
-    match words_of(&matches) {
+    let found = words_of(&matches);
+    // Dropped once, and not on both ways out.
+    drop(matches);
+    match found {
         Some(found) => Ok(found),
         None => Err(no_command(alloc)?),
     }
@@ -54,7 +57,9 @@ pub fn show_help<W: Write>(alloc: Global, writer: &mut W) -> Result<(), AllocErr
 /// What is said where clap found no command: it lets no such words through, but its contracts do not say so.
 fn no_command(alloc: Global) -> Result<Error, AllocError> {
     let mut command = jb_command(alloc)?;
-    command.error(ErrorKind::MissingSubcommand, "no command was given")
+    let error = command.error(ErrorKind::MissingSubcommand, "no command was given");
+    drop(command);
+    error
 }
 
 /// What clap makes of the words.

@@ -1,6 +1,6 @@
 //! The options of the commands.
-ghost use Rattle.std.specs.Prelude.{◌≡◌, false};
-ghost use Rattle.clap.specs.Words.{rule_of};
+ghost use Rattle.std.specs.Prelude.{◌≡◌, Some, false};
+ghost use Rattle.clap.specs.Words.{new_rule, rule_of};
 ghost use Rattle.jb_args.specs.App.{count_option as count_rule, flag as flag_rule};
 ghost use Rattle.jb_args.specs.App.{extents_option as extents_rule, journal_option as journal_rule};
 ghost use Rattle.jb_args.specs.App.{number_word as number_word_rule};
@@ -13,6 +13,17 @@ use std::alloc::Global;
 /// What `--uuid` is where it is not given.
 const NO_UUID: &str = "00000000000000000000000000000000";
 
+/// An option with a value, which usage shows by this name.
+fn valued<'a>(alloc: Global, name: &'a str, value: &'a str, help: &'a str) -> Arg<'a>
+    ensures rule { rule_of result ≡ record (new_rule name.entry.now) { long = Some name.entry.now; value_names = 1 } }
+    ensures own { result.global ≡ false }
+{
+    Arg::new(alloc, name)
+        .long(name)
+        .value_name(value)
+        .help(help)
+}
+
 /// An option with a number, which usage shows by this name.
 pub(crate) fn number_option<'a>(
     alloc: Global,
@@ -23,11 +34,7 @@ pub(crate) fn number_option<'a>(
     ensures rule { rule_of result ≡ number_rule name.entry.now }
     ensures own { result.global ≡ false }
 {
-    Arg::new(alloc, name)
-        .long(name)
-        .value_name(value)
-        .value_parser(value_parser!(u64))
-        .help(help)
+    valued(alloc, name, value, help).value_parser(value_parser!(u64))
 }
 
 /// An option with a number N that has to be there.
@@ -81,10 +88,8 @@ pub(crate) fn journal_option<'a>(alloc: Global) -> Arg<'a>
     ensures rule { rule_of result ≡ journal_rule }
     ensures own { result.global ≡ false }
 {
-    Arg::new(alloc, "journal")
-        .long("journal")
-        .value_name("FILE")
-        .help("The file with the journal; IMAGE has the home blocks alone then")
+    let help = "The file with the journal; IMAGE has the home blocks alone then";
+    valued(alloc, "journal", "FILE", help)
 }
 
 /// The option for where the journal stands within the image.
@@ -92,10 +97,8 @@ pub(crate) fn extents_option<'a>(alloc: Global) -> Arg<'a>
     ensures rule { rule_of result ≡ extents_rule }
     ensures own { result.global ≡ false }
 {
-    Arg::new(alloc, "extents")
-        .long("extents")
-        .value_name("LIST")
-        .help("Where the journal stands within IMAGE, as debugfs lists its blocks")
+    let help = "Where the journal stands within IMAGE, as debugfs lists its blocks";
+    valued(alloc, "extents", "LIST", help)
 }
 
 /// The option for the UUID of a journal.
@@ -103,11 +106,8 @@ pub(crate) fn uuid_option<'a>(alloc: Global) -> Arg<'a>
     ensures rule { rule_of result ≡ uuid_rule }
     ensures own { result.global ≡ false }
 {
-    Arg::new(alloc, "uuid")
-        .long("uuid")
-        .value_name("HEX")
-        .default_value(NO_UUID)
-        .help("The journal's UUID, as 32 hexadecimal digits")
+    let help = "The journal's UUID, as 32 hexadecimal digits";
+    valued(alloc, "uuid", "HEX", help).default_value(NO_UUID)
 }
 
 /// An option that takes no value.

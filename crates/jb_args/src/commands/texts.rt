@@ -47,44 +47,31 @@ DeviceFault, which is of either. A control character of a name is \\x and two di
 /// Of `jb` itself: the files that its commands are about, its statuses, and its lines on standard error.
 pub(crate) const JB: &str = diagnostics!(long_help_end);
 
-/// What stands at the end of the long help of the command of this name.
-pub(crate) fn more_of(command: &str) -> &'static str {
-    match command {
-        "cost" => COST,
-        "plan" => PLAN,
-        "check" => CHECK,
-        "dump" => DUMP,
-        "cat" => CAT,
-        "format" => FORMAT,
-        "load" => LOAD,
-        "recover" => RECOVER,
-        "renumber" => RENUMBER,
-        "widen" => WIDEN,
-        _ => "",
-    }
-}
-
-const COST: &str =
+/// Of `jb cost`.
+pub(crate) const COST: &str =
     "Status: 0 where they fit the text's limit, 1 where they do not, 2 where the text cannot be read or
 breaks its form.
 
 Example:
   printf 'bs 1024\\nlimit 7\\nh w1 w2 w3\\n' | jb cost -     # cost 5 limit 7 fits";
 
-const PLAN: &str =
+/// Of `jb plan`.
+pub(crate) const PLAN: &str =
     "Status: 0 with a cut, 1 where none fits the limit, 2 where the text cannot be read or breaks its form.
 
 Example:
   jb plan queue.txt > queue.cert";
 
-const CHECK: &str =
+/// Of `jb check`.
+pub(crate) const CHECK: &str =
     "Status: 0 where it is accepted, 1 where it is refused, by the name of its first fault, 2 where a text
 cannot be read or breaks its form.
 
 Example:
   jb check queue.txt queue.cert     # accepted";
 
-const DUMP: &str =
+/// Of `jb dump`.
+pub(crate) const DUMP: &str =
     "With --home N these lines alone are printed: each copy of home block N, each descriptor block with a tag of
 it, and each revoke block that names it; the last two say the transaction's number. With --last N the lines
 of all transactions before the last N are left out, with --super all lines but the first two. Of several
@@ -102,7 +89,8 @@ Examples:
   jb dump journal.bin --home 5 --last 2     # what the last two transactions do to home block 5
   jb dump journal.bin --summary";
 
-const CAT: &str =
+/// Of `jb cat`.
+pub(crate) const CAT: &str =
     "The image is opened for reading, and nothing is written to it. Each block is what the last copy of it that
 is not revoked makes of it, or the block as it stands. For each block the log is read once, so many blocks
 of an image with a long log are read faster after jb recover. A copy for another home block that the image
@@ -117,7 +105,8 @@ the block: the blocks before it are written then, 2 where the file cannot be ope
 Example:
   jb cat a.img 5 --hex -n 2";
 
-const FORMAT: &str =
+/// Of `jb format`.
+pub(crate) const FORMAT: &str =
     "The image is made under another name, with .jb-unfinished after its own, and gets its own when it is whole.
 What a killed run has left under that name is removed, any other file stays, and nothing is made then. So
 a name has 241 bytes at most where the file system takes 255.
@@ -128,7 +117,8 @@ file cannot be made.
 Example:
   jb format a.img --bs 1024 --journal 33 --homes 16     # formatted limit 8";
 
-const LOAD: &str =
+/// Of `jb load`.
+pub(crate) const LOAD: &str =
     "Prints how many handles ran, the blocks that they touch, how many of them are committed, and the groups
 and log blocks of these. Thread K of T runs handles K, K+T, K+2T and so on, up to its first one that is
 refused; the text's limit is not used, the image's is. Without --checkpoint what is committed waits in the
@@ -147,7 +137,8 @@ early, or the image is refused, by the name of its fault, 2 where a file or the 
 Example:
   jb load a.img queue.txt --hold     # handles 3 changes 8 settled 3 groups 1 blocks 7";
 
-const RECOVER: &str =
+/// Of `jb recover`.
+pub(crate) const RECOVER: &str =
     "IMAGE is not to be mounted. A block device that is mounted, as far as /proc/self/mountinfo says so, or a
 file that is by a loop device (mount -o loop), is refused (jb: in use NAME); a mount that this process does
 not see, or of another device that stands on it, is not found, and jb cannot keep it from being mounted
@@ -182,7 +173,8 @@ Examples:
   jb recover fs.img --extents '(0-4095):32801-36896' --dry-run --list
   jb recover fs.img --journal journal.bin";
 
-const RENUMBER: &str =
+/// Of `jb renumber`.
+pub(crate) const RENUMBER: &str =
     "Status: 0 where the journal is renumbered, 1 where it is refused, by the name of its fault, and stays as
 it is, 2 where the file cannot be opened or read. After jb: NeedsRecovery it is to be recovered first; after
 jb: DeviceFault, status 1, the command is to be called again.
@@ -190,7 +182,8 @@ jb: DeviceFault, status 1, the command is to be called again.
 Example:
   jb renumber a.img     # renumbered blocks 2 next 1";
 
-const WIDEN: &str =
+/// Of `jb widen`.
+pub(crate) const WIDEN: &str =
     "Status: 0 where the journal has block numbers of 64 bits now, 1 where it is refused, by the name of its
 fault, and stays as it is, 2 where the file cannot be opened or read. After jb: NeedsRecovery it is to be
 recovered first; after jb: DeviceFault, status 1, the command is to be called again.

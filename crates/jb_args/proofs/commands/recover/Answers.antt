@@ -1,12 +1,9 @@
-use Rattle.std.proofs.Common.{ap₂, ◌∙◌}
-use Rattle.clap.specs.Words.{with_rule}
-use Rattle.jb_args.proofs.Apps.{rule-last}
 use Rattle.jb_args.proofs.commands.recover.Goals as goal
 
 pub returns-clause-app : goal.returns-clause-app
 returns-clause-app c =
-    let extents = c.in_ok-command-2.ensures.app ∙ ap₂ with_rule c.in_ok-command.ensures.app c.extents_option.ensures.rule in
-    let journal = c.in_ok-command-3.ensures.app ∙ ap₂ with_rule extents c.journal_option.ensures.rule in
-    let force = c.in_ok-command-4.ensures.app ∙ ap₂ with_rule journal c.flag.ensures.rule in
-    let dry = c.in_ok-command-5.ensures.app ∙ ap₂ with_rule force c.flag-2.ensures.rule in
-    rule-last c.with-5.result dry c.flag-3.ensures.rule c.with-5.ensures.app
+    let extents = c.with.ensures.app _ _ c.over_image.ensures.app c.extents_option.ensures.rule in
+    let journal = c.with-2.ensures.app _ _ extents c.journal_option.ensures.rule in
+    let force = c.with-3.ensures.app _ _ journal c.flag.ensures.rule in
+    let dry = c.with-4.ensures.app _ _ force c.flag-2.ensures.rule in
+    c.with-5.ensures.app _ _ dry c.flag-3.ensures.rule
