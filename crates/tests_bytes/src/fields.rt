@@ -1,15 +1,33 @@
-//! Fields and headers of blocks.
+//! Sizes, fields and headers of blocks.
 
 use crate::blocks::REVOKE;
 use crate::checks::By;
 use jb_block::*;
-use tests_support::{Test, check};
+use tests_support::{Test, check, check_at};
 
 /// A block with a header of no type.
 static UNKNOWN: [u8; 12] = [0xc0, 0x3b, 0x39, 0x98, 0, 0, 0, 6, 0, 0, 1, 0];
 
 /// The front of a superblock with the bytes of its magic turned round.
 static TURNED: [u8; 12] = [0x98, 0x39, 0x3b, 0xc0, 4, 0, 0, 0, 1, 0, 0, 0];
+
+/// Each kind of block, with the number of its type in a header.
+static KINDS: [(Kind, u8); 5] = [
+    (Kind::Descriptor, 1),
+    (Kind::Commit, 2),
+    (Kind::Super1, 3),
+    (Kind::Super2, 4),
+    (Kind::Revoke, 5),
+];
+
+/// How many bytes are asked for, and how many a block of that size then has, if there is one.
+static SIZES: [(u32, Option<u32>); 5] = [
+    (512, None),
+    (1024, Some(1024)),
+    (2048, Some(2048)),
+    (4096, Some(4096)),
+    (8192, None),
+];
 
 /// Checks what is read of the front of a revoke block.
 fn check_read(test: &impl Test) {
@@ -47,7 +65,34 @@ fn check_headless(test: &impl Test) {
     check(test, number.is_none(), "a turned magic")
 }
 
+/// Checks the header of each kind of block, of which the number is 7.
+fn check_kinds(test: &impl Test) {
+    for (kind, number) in &KINDS {
+        let at = u64::from(*number);
+        let mut block = [0xEE; 12];
+        put_header(&mut block, *kind, 7);
+        let wanted = [0xc0, 0x3b, 0x39, 0x98, 0, 0, 0, *number, 0, 0, 0, 7];
+        check_at(test, block == wanted, "what is written of type", at);
+        let header = Header {
+            kind: *kind,
+            number: 7,
+        };
+        let is_read = header_of(&block) == Some(header) && begins_with_magic(&block) == Some(7);
+        check_at(test, is_read, "what is read of type", at)
+    }
+}
+
+/// Checks which numbers of bytes a block may have.
+fn check_sizes(test: &impl Test) {
+    for (bytes, wanted) in &SIZES {
+        let found = BlockSize::of(*bytes).map(BlockSize::bytes);
+        check_at(test, found == *wanted, "a block size", u64::from(*bytes))
+    }
+}
+
 fn check_each(test: &impl Test) {
+    check_kinds(test);
+    check_sizes(test);
     check_read(test);
     check_written(test);
     check_headless(test)

@@ -23,6 +23,8 @@ mod readers;
 #[cfg(test)]
 mod revokes;
 #[cfg(test)]
+mod stepped;
+#[cfg(test)]
 mod summaries;
 #[cfg(test)]
 mod superblocks;

@@ -3,8 +3,10 @@ ghost use Rattle.std.specs.Prelude.{◌≡◌, All, length};
 
 use crate::blocks::{COMMIT, DATA, DESCRIPTOR, REVOKE, WIDE_DESCRIPTOR, WIDE_REVOKE};
 use crate::checks::By;
+use crate::stepped::found_stepwise;
 use jb_block::{BlockSize, Stamp, Width};
-use jb_scan::{Block, Piece, ReadFault, Transaction, read_transactions};
+use jb_group::{Piece, ReadFault, Seen, Transaction, read_transactions};
+use jb_scan::Block;
 use jb_tags::Tag;
 use std::alloc::Global;
 use tests_support::{Must, Test, block_of, check, check_at};
@@ -228,7 +230,13 @@ fn same_transactions(found: &[Transaction], wanted: &[Wanted]) -> bool {
     true
 }
 
-/// Whether just this is found in a log.
+fn is_seen(seen: &Seen, wanted: (&[Wanted], u32)) -> bool {
+    let (transactions, expected) = wanted;
+    seen.expected == expected && same_transactions(seen.transactions.as_slice(), transactions)
+}
+
+/// Whether just this is found in a log, which is read at once and block by block. Of a bad count the reader of blocks
+/// says nothing.
 fn finds(
     test: &impl Test,
     alloc: Global,
@@ -240,9 +248,9 @@ fn finds(
     let log = log_of(test, alloc, blocks);
     let found = read_transactions(alloc, &log, BlockSize::OneKib, number, width);
     match (found, wanted) {
-        (Ok(seen), Ok((transactions, expected))) => {
-            seen.expected == *expected
-                && same_transactions(seen.transactions.as_slice(), transactions)
+        (Ok(seen), Ok(wanted)) => {
+            let stepped = found_stepwise(test, alloc, blocks, number, width);
+            is_seen(&seen, *wanted) && is_seen(&stepped, *wanted)
         }
         (Err(found), Err(fault)) => found == *fault,
         _ => false,

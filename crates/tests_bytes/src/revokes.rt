@@ -53,7 +53,7 @@ fn reads(
     wanted: Result<&[u64], RevokeFault>,
 ) -> bool {
     match (read_revokes(alloc, block, width), wanted) {
-        (Ok(found), Ok(homes)) => found.as_slice() == homes,
+        (Ok(found), Ok(homes)) => found.into_vec().as_slice() == homes,
         (Err(found), Err(fault)) => found == fault,
         _ => false,
     }

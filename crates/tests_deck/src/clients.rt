@@ -7,7 +7,7 @@ use crate::groups::STAMP;
 use crate::images::HOMES;
 use crate::scripts::{handles_of, prepared};
 use jb_block::{BlockSize, Width};
-use jb_deck::{Deck, Prepared};
+use jb_deck::{Deck, Prepared, laws};
 use jb_disk::MemoryDisk;
 use jb_handle::Shape;
 use jb_recover::recover;
@@ -163,6 +163,7 @@ fn after_lives(test: &impl Bench, rows: &[LifeRow]) -> Lived {
 }
 
 fn check_lives(test: &impl Bench) {
+    laws::chained();
     for (row, (rows, committed, wanted)) in (0..).zip(&LIVES) {
         let mut lived = after_lives(test, rows);
         check_homes(test, &mut lived.disk, *wanted, row);

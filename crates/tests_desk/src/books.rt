@@ -1,9 +1,10 @@
 //! Calls of a book, with the answers that its limits give by hand.
 
-use crate::checks::check_in;
-use jb_block::{BlockSize, Width};
-use jb_desk::{BeginFault, Book, EnqueueFault};
-use jb_handle::{Handle, Shape};
+use crate::checks::{check, check_in};
+use crate::journal::{CLOCK, SHAPE, formatted, opened};
+use jb_deck::{Batch, Done, prepare};
+use jb_desk::{BeginFault, Book, EnqueueFault, WrongBatch};
+use jb_handle::Handle;
 use std::alloc::Global;
 use std::marker::Brand;
 use std::process::Abort;
@@ -18,12 +19,14 @@ enum Call {
     Drop(u64),
     /// gives a batch: its first ticket, and how many handles it has
     Take(Option<(u64, usize)>),
+    /// gives a batch that begins with ticket 0: once a journal has committed it, it is settled, and not a second time
+    Settle,
     Fail,
     Shut,
 }
 
 /// The calls of a new book of a journal with 32 usable log blocks, of which a group takes 8 at most.
-static ROWS: [&[Call]; 3] = [
+static ROWS: [&[Call]; 4] = [
     // five handles of 6 credits leave room for 2 credits more
     &[
         Call::Open(1, 6, Ok(())),
@@ -54,6 +57,16 @@ static ROWS: [&[Call]; 3] = [
         Call::Stop(1, 1, &[], Ok(2)),
         Call::Take(None),
     ],
+    // a batch is out until it is settled
+    &[
+        Call::Open(1, 1, Ok(())),
+        Call::Stop(1, 1, &[1], Ok(0)),
+        Call::Settle,
+        Call::Take(None),
+        Call::Open(1, 1, Ok(())),
+        Call::Stop(1, 1, &[2], Ok(1)),
+        Call::Take(Some((1, 1))),
+    ],
     // after a failure nothing waits, and open seats stay listed until they are dropped
     &[
         Call::Open(1, 1, Ok(())),
@@ -69,19 +82,22 @@ static ROWS: [&[Call]; 3] = [
 
 /// A seat stops a handle with so many credits that revokes these home blocks.
 fn stop(
+    rt: &impl Abort,
     alloc: Global,
     book: &mut Book<Brand>,
-    shape: Shape,
     seat: u64,
     credits: u32,
     homes: &[u64],
 ) -> Result<u64, EnqueueFault> {
-    let mut handle = Handle::new(alloc, (), credits, shape);
+    let mut handle = Handle::new(alloc, seat, credits, SHAPE);
     for &home in homes {
         let _refused = handle.revoke(home);
     }
     match book.enqueue(seat, handle) {
-        Ok((_, ticket)) => Ok(ticket),
+        Ok((holder, ticket)) => {
+            check(rt, holder == seat, "another seat stops");
+            Ok(ticket)
+        }
         Err((handle, fault)) => {
             let (_, _words) = handle.end();
             Err(fault)
@@ -100,14 +116,36 @@ fn taken(book: &mut Book<Brand>) -> Option<(u64, usize)> {
     }
 }
 
+/// What a new journal makes of a batch.
+fn committed(rt: &impl Abort, alloc: Global, batch: Batch) -> Done {
+    let mut deck = opened(alloc, formatted(rt, alloc)).expect(rt, "the journal is not opened");
+    match prepare(alloc, batch) {
+        Ok(prepared) => match deck.commit_batch(prepared, CLOCK.stamp) {
+            Ok(done) => done,
+            Err(_) => panic!(rt; "the batch is not committed"),
+        },
+        Err(_) => panic!(rt; "the batch has no plan"),
+    }
+}
+
+/// Whether a batch that is taken is settled once it is committed, and not a second time.
+fn is_settled(rt: &impl Abort, alloc: Global, book: &mut Book<Brand>) -> bool {
+    let Some(batch) = book.take() else {
+        return false;
+    };
+    let done = committed(rt, alloc, batch);
+    book.settle(&done) == Ok(()) && book.settle(&done) == Err(WrongBatch)
+}
+
 /// Calls a book; says whether it answers so.
-fn is_answered(alloc: Global, book: &mut Book<Brand>, shape: Shape, call: Call) -> bool {
+fn is_answered(rt: &impl Abort, alloc: Global, book: &mut Book<Brand>, call: Call) -> bool {
     match call {
         Call::Open(seat, credits, wanted) => book.open(seat, credits) == wanted,
         Call::Stop(seat, credits, homes, wanted) => {
-            stop(alloc, book, shape, seat, credits, homes) == wanted
+            stop(rt, alloc, book, seat, credits, homes) == wanted
         }
         Call::Take(wanted) => taken(book) == wanted,
+        Call::Settle => is_settled(rt, alloc, book),
         Call::Drop(seat) => {
             book.drop_open(seat);
             true
@@ -124,30 +162,17 @@ fn is_answered(alloc: Global, book: &mut Book<Brand>, shape: Shape, call: Call) 
 }
 
 /// Checks the answers of a new book to the calls of a row.
-fn check_calls(
-    rt: &impl Abort,
-    alloc: Global,
-    book: &mut Book<Brand>,
-    shape: Shape,
-    row: u64,
-    calls: &[Call],
-) {
+fn check_calls(rt: &impl Abort, alloc: Global, book: &mut Book<Brand>, row: u64, calls: &[Call]) {
     for (number, &call) in calls.iter().enumerate() {
-        let is_so = is_answered(alloc, book, shape, call);
+        let is_so = is_answered(rt, alloc, book, call);
         check_in(rt, is_so, row, "the answer to call", number as u64);
     }
 }
 
 #[test]
 fn books_answer_as_worked_by_hand(rt: HostRuntime) {
-    let shape = Shape {
-        bs: BlockSize::OneKib,
-        homes: 16,
-        limit: 8,
-        width: Width::Narrow,
-    };
     for (row, calls) in ROWS.iter().enumerate() {
-        let mut book = Book::<Brand>::new(rt.alloc(), shape, 32);
-        check_calls(&rt, rt.alloc(), &mut book, shape, row as u64, calls);
+        let mut book = Book::<Brand>::new(rt.alloc(), SHAPE, 32);
+        check_calls(&rt, rt.alloc(), &mut book, row as u64, calls);
     }
 }

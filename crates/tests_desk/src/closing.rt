@@ -2,7 +2,7 @@
 ghost use Rattle.std.specs.Prelude.{◌≡◌, ◌+◌, ◌^◌};
 
 use crate::checks::check_of;
-use crate::journal::Still;
+use crate::journal::{CLOCK, Still};
 use jb_desk::{CloseFault, Closed, Ended, Left, Origin, Seat, SeatFault};
 use jb_disk::{Disk, FixedClock};
 use std::alloc::Global;
@@ -56,7 +56,7 @@ pub fn closed<R: Abort + Wait, D: Disk + Drop, H: Origin, N: Ledger>(
 }
 
 /// Closes a desk of which all seats have left, and checks how many handles and changes it has counted, and how many
-/// groups its trail has. Where that is wrong, it gives the desk this name.
+/// groups its trail has, and that its clock comes back. Where that is wrong, it gives the desk this name.
 pub fn check_close<R: Abort + Wait, D: Disk + Drop, H: Origin, N: Ledger>(
     rt: &R,
     name: &'static str,
@@ -73,6 +73,14 @@ pub fn check_close<R: Abort + Wait, D: Disk + Drop, H: Origin, N: Ledger>(
     check_of(rt, handles == counts.0, name, "handles:", handles);
     check_of(rt, changes == counts.1, name, "changes:", changes);
     check_of(rt, groups == counts.2, name, "groups:", groups as u64);
+    let stamp = closed.clock.stamp;
+    check_of(
+        rt,
+        stamp == CLOCK.stamp,
+        name,
+        "the clock's seconds:",
+        stamp.sec,
+    );
 }
 
 /// Checks that closing a desk is refused while a seat is out, and what is counted once the last one has left.

@@ -10,7 +10,7 @@ use crate::checks::{read_at, write_at};
 use jb_block::{BlockSize, Width, put32};
 use jb_deck::{Deck, Entry};
 use jb_desk::{
-    BeginFault, Committer, Desk, EnqueueFault, Origin, Round, RoundFault, Seat, StopFault,
+    BeginFault, Committer, Desk, EnqueueFault, Origin, Round, RoundFault, Seat, StopFault, Ticket,
 };
 use jb_disk::{Disk, FixedClock, MemoryDisk};
 use jb_format::format;
@@ -32,7 +32,7 @@ pub const PARTS: u64 = (1 << 61) + 1;
 
 /// The clock of all desks.
 pub const CLOCK: FixedClock = FixedClock {
-    stamp: Stamp { sec: 0, nsec: 0 },
+    stamp: Stamp { sec: 3, nsec: 4 },
 };
 
 /// What the handles of the small journal have to fit.
@@ -120,7 +120,7 @@ pub fn stop<R: Wait, D: Disk, H: Origin, N: Ledger>(
     rt: &R,
     desk: &Still<D, H, N>,
     handle: Handle<Seat<H, N>>,
-) -> (Seat<H, N>, Result<u64, EnqueueFault>)
+) -> (Seat<H, N>, Result<Ticket, EnqueueFault>)
     requires any { (words : WordMap) → H.begun.stops words }
     requires desk { desk_of (holder handle) ≡ desk_id desk.now }
     ensures { desk_of result.0 ≡ desk_id desk.now }

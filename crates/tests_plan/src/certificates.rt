@@ -7,7 +7,7 @@ use crate::texts::{ALONE, FREEING, GROWING, MIDDLE, check_said, check_told, queu
 use jb_commands::fault_answer;
 use jb_cost::Geometry;
 use jb_price::{
-    Cert, CertAnswer, CertFault, Reason, Verdict, check as judge, print_cert, read_cert,
+    Cert, CertAnswer, CertFault, Reason, Verdict, check as judge, laws, print_cert, read_cert,
 };
 use jb_queue::{QueueText, read_queue};
 use std::alloc::{AllocError, Global};
@@ -252,6 +252,8 @@ fn check_faults(test: &impl Test, alloc: Global) {
 }
 
 fn check_certificates(test: &impl Test, alloc: Global) {
+    laws::read_back();
+    laws::planned();
     check_verdicts(test, alloc);
     check_unread(test, alloc);
     check_texts(test, alloc);

@@ -5,7 +5,7 @@ use crate::checks::By;
 use crate::texts::{bytes_of, check_told, queue_of};
 use jb_block::{BlockSize, Memory, Width};
 use jb_commands::cost_answer;
-use jb_cost::{Footprint, Geometry, group_cost, most_credits, worst_cost};
+use jb_cost::{Footprint, Geometry, LastTouches, group_cost, most_credits, worst_cost};
 use jb_handle::{Payload, Stopped, Word, Words, is_within_size};
 use std::alloc::Global;
 use tests_support::{Must, Test, check, check_at};
@@ -22,6 +22,15 @@ fn by_footprint(alloc: Global, handles: &[Stopped], geometry: Geometry) -> Resul
     Ok(cost)
 }
 
+/// Whether the first handle of a queue is added to the last touches of none.
+fn is_added(alloc: Global, handles: &[Stopped], geometry: Geometry) -> bool {
+    let mut touches = LastTouches::new(alloc, geometry);
+    match handles.first() {
+        Some(handle) => touches.add(handle, Some(0)).is_ok(),
+        None => true,
+    }
+}
+
 /// Checks the cost of the handles of a text, and what `jb cost` says of it.
 fn check_cost(test: &impl Test, alloc: Global, text: &[u8], cost: u64, status: u8, row: u64) {
     let queue = queue_of(test, alloc, text);
@@ -30,6 +39,8 @@ fn check_cost(test: &impl Test, alloc: Global, text: &[u8], cost: u64, status: u
     check_at(test, whole == cost, "the cost of row", row);
     let footprint = by_footprint(alloc, &queue.handles, geometry).must(test, "memory");
     check_at(test, footprint == cost, "the footprint of row", row);
+    let is_added = is_added(alloc, &queue.handles, geometry);
+    check_at(test, is_added, "the last touches of row", row);
     let (limit, fits) = (queue.limit, if status == 0 { "fits" } else { "over" });
     let out = format!(in alloc; "cost {cost} limit {limit} {fits}\n").must(test, "memory");
     let answer = cost_answer(alloc, bytes_of(test, text)).must(test, "memory");

@@ -2,7 +2,7 @@
 
 use crate::checks::By;
 use jb_block::{BlockSize, Memory, Width};
-use jb_handle::{Gathered, Handle, Payload, Shape, Stopped, TouchFault, Word, Words};
+use jb_handle::{Changes, Gathered, Handle, Op, Payload, Shape, Stopped, TouchFault, Word, Words};
 use std::alloc::Global;
 use tests_support::{Must, Test, check, check_at};
 
@@ -75,11 +75,40 @@ fn check_changes(test: &impl Test, alloc: Global, by_word: bool) {
         check_at(test, answer.err() == *fault, "home block", *home)
     }
     check(test, handle.touched() == 2, "how many blocks are touched");
+    let is_told = *handle.seat() == 3 && handle.credits() == 2 && handle.words().len() == 2;
+    check(test, is_told, "what the handle tells");
     let (seat, words) = handle.end();
     let is_left = seat == 3 && words.len() == 2 && words.fit(SMALL);
     check(test, is_left, "what is left");
     check(test, is_free(words.get(5)), "home block 5");
     check(test, is_copy(words.get(6), 1024, [7, 7, 0, 0]), "block 6")
+}
+
+/// A change by its value.
+fn op_of(alloc: Global, home: u64, len: Option<usize>) -> Result<Op, Memory> {
+    Ok(match word_of(alloc, len)? {
+        Word::Copy(payload) => Op::Write(home, payload),
+        Word::Free => Op::Revoke(home),
+    })
+}
+
+/// Checks the same changes of each row, by their values.
+fn check_applied(test: &impl Test, alloc: Global) {
+    let mut changes = Changes::new(alloc, 2, SMALL);
+    for (home, len, fault) in &ROWS {
+        let op = op_of(alloc, *home, *len).must(test, "memory");
+        check_at(
+            test,
+            changes.apply(op).err() == *fault,
+            "home block, by value",
+            *home,
+        )
+    }
+    check(
+        test,
+        changes.touched() == 2,
+        "how many blocks are touched by value",
+    )
 }
 
 /// The words of two handles.
@@ -102,6 +131,27 @@ fn two_handles(alloc: Global) -> Result<[Stopped; 2], Memory> {
     ])
 }
 
+/// Whether a copy of a word is a copy of 4 bytes, which are these.
+fn is_copied(test: &impl Test, word: &Word, bytes: [u8; 4]) -> bool {
+    let copy = word.try_clone().must(test, "memory");
+    if let Word::Copy(payload) = &copy {
+        let again = payload.try_clone().must(test, "memory");
+        return is_copy(Some(&copy), 4, bytes) && again.len() == 4 && again.front() == bytes;
+    }
+    false
+}
+
+/// Checks copies of words, which go to home blocks that have none.
+fn check_gathered(test: &impl Test, alloc: Global, words: &Words) {
+    let mut gathered = Gathered::new(alloc);
+    gathered.put(5, Word::Free).must(test, "memory");
+    gathered.add_all(words).must(test, "memory");
+    let all = gathered.into_words(alloc).must(test, "memory");
+    check(test, all.len() == 4 && is_free(all.get(5)), "what is added");
+    let word = all.get(7).must(test, "home block 7");
+    check(test, is_copied(test, word, *b"abcd"), "a copy of a word")
+}
+
 /// Checks the words of two handles as those of one.
 fn check_joined(test: &impl Test, alloc: Global) {
     let handles = two_handles(alloc).must(test, "memory");
@@ -111,7 +161,8 @@ fn check_joined(test: &impl Test, alloc: Global) {
     for (home, bytes) in [(3, [1, 0, 0, 0]), (5, *b"efgh"), (7, *b"abcd")] {
         check_at(test, is_copy(words.get(home), 4, bytes), "home block", home)
     }
-    check(test, is_free(words.get(9)), "home block 9")
+    check(test, is_free(words.get(9)), "home block 9");
+    check_gathered(test, alloc, &words)
 }
 
 /// Credits bound the blocks that a handle touches, and of several faults the first is answered, by each call of a
@@ -119,6 +170,7 @@ fn check_joined(test: &impl Test, alloc: Global) {
 fn check_handles(test: &impl Test, alloc: Global) {
     check_changes(test, alloc, false);
     check_changes(test, alloc, true);
+    check_applied(test, alloc);
     check_joined(test, alloc)
 }
 

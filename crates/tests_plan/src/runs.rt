@@ -2,7 +2,7 @@
 
 use crate::checks::By;
 use jb_block::{BlockSize, Width};
-use jb_core::{CoreFault, Event, Reply, State, run};
+use jb_core::{CoreFault, Event, Reply, State, run, step};
 use jb_handle::{Op, Payload, Shape};
 use std::alloc::{AllocError, Global};
 use tests_support::{Must, Test, check_at};
@@ -177,7 +177,38 @@ fn check_run(test: &impl Test, alloc: Global, wanted: &Row) {
     check_at(test, is_left, "what is left, limit", at)
 }
 
+/// What is answered to the events of a handle that frees a home block.
+fn answers_of_one(state: &mut State, seat: u64) -> [Answer; 3] {
+    let opened = step(state, Event::Open { seat, credits: 1 });
+    let touched = step(
+        state,
+        Event::Touch {
+            seat,
+            op: Op::Revoke(5),
+        },
+    );
+    let stopped = step(state, Event::Stop { seat });
+    [opened, touched, stopped]
+}
+
+/// Checks the events of two handles, one after the other.
+fn check_steps(test: &impl Test, alloc: Global) {
+    let mut state = State::new(alloc, shape(8).must(test, "a limit"));
+    for ticket in 0..2 {
+        let answers = answers_of_one(&mut state, ticket);
+        let wanted = [DONE, DONE, Ok(Reply::Ticket(ticket))];
+        check_at(test, answers == wanted, "the answers to handle", ticket)
+    }
+    check_at(
+        test,
+        left(&state) == [0, 0, 0, 2, 0],
+        "what is left, limit",
+        8,
+    )
+}
+
 fn check_runs(test: &impl Test, alloc: Global) {
+    check_steps(test, alloc);
     for wanted in &ROWS {
         check_run(test, alloc, wanted)
     }

@@ -5,8 +5,7 @@ use crate::frames::same_frame;
 use crate::images::{Row, headed};
 use crate::small::{HOMES, MAGIC, clean, journal, small};
 use jb_disk::{FuseDisk, MemoryDisk, OneFaultDisk};
-use jb_format::{ChangeFault, Renumbered, renumber};
-use jb_recover::recover;
+use jb_recover::{ChangeFault, Renumbered, recover, renumber};
 use jb_super::SuperFault;
 use tests_support::{
     Bench, Must, Test, check, check_at, check_none, check_row, crashed, difference, fail,

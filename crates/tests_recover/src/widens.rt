@@ -5,8 +5,7 @@ use crate::frames::same_frame;
 use crate::images::Row;
 use crate::small::{Counts, HOMES, MAGIC, reports, small};
 use jb_disk::{FuseDisk, MemoryDisk, OneFaultDisk};
-use jb_format::{ChangeFault, Widened, widen};
-use jb_recover::recover;
+use jb_recover::{ChangeFault, Widened, recover, widen};
 use jb_super::SuperFault;
 use tests_support::{Bench, Must, check_at, check_none, check_row, crashed, difference, fail};
 

@@ -1,6 +1,6 @@
 use crate::checks::{check_at, check_text};
 use crate::runs::{Host, words_of};
-use jb_args::parse;
+use jb_args::{parse, show_help};
 use std::alloc::Global;
 
 /// What clap says of words that it does not take: whether that goes to standard error, and its text.
@@ -59,6 +59,21 @@ static MISTAKES: [(&str, &str); 7] = [
          Usage: jb <COMMAND>",
     ),
 ];
+
+/// The short help of `jb`.
+const HELP: &str = "A block journal in jbd2's format\n\nUsage: jb <COMMAND>\n\nCommands:\
+     \n  cost      Prints the log blocks that the queue takes as one group\
+     \n  plan      Prints a least cut of the queue into groups, with its prices\
+     \n  check     Checks a certificate of the queue, whoever made it\
+     \n  dump      Prints the committed transactions of a journal, block by block\
+     \n  cat       Writes home blocks of an image as recovery would leave them\
+     \n  format    Makes an image: a new journal, and home blocks of zeros after it\
+     \n  load      Commits the handles of a queue text to an image, run by threads\
+     \n  recover   Writes home what an image's journal has committed, and empties its log\
+     \n  renumber  Restarts the transaction numbers of a clean journal at 1\
+     \n  widen     Gives a clean journal block numbers of 64 bits\
+     \n  help      Print this message or the help of the given subcommand(s)\n\nOptions:\
+     \n  -h, --help     Print help (see more with '--help')\n  -V, --version  Print version\n";
 
 /// Words that ask for a text, and the text.
 static SHOWN: [(&str, &str); 9] = [
@@ -136,22 +151,7 @@ static SHOWN: [(&str, &str); 9] = [
          jb: DeviceFault, status 1, the command is to be called again.\n\nExample:\
          \n  jb renumber a.img     # renumbered blocks 2 next 1\n",
     ),
-    (
-        "-h",
-        "A block journal in jbd2's format\n\nUsage: jb <COMMAND>\n\nCommands:\
-         \n  cost      Prints the log blocks that the queue takes as one group\
-         \n  plan      Prints a least cut of the queue into groups, with its prices\
-         \n  check     Checks a certificate of the queue, whoever made it\
-         \n  dump      Prints the committed transactions of a journal, block by block\
-         \n  cat       Writes home blocks of an image as recovery would leave them\
-         \n  format    Makes an image: a new journal, and home blocks of zeros after it\
-         \n  load      Commits the handles of a queue text to an image, run by threads\
-         \n  recover   Writes home what an image's journal has committed, and empties its log\
-         \n  renumber  Restarts the transaction numbers of a clean journal at 1\
-         \n  widen     Gives a clean journal block numbers of 64 bits\
-         \n  help      Print this message or the help of the given subcommand(s)\n\nOptions:\
-         \n  -h, --help     Print help (see more with '--help')\n  -V, --version  Print version\n",
-    ),
+    ("-h", HELP),
 ];
 
 /// Checks what clap says of the words of a row, and whether it goes to standard error.
@@ -186,9 +186,17 @@ fn what_is_no_command_is_answered_by_clap(rt: HostRuntime) {
     }
 }
 
+/// Checks the help that is shown where there are no words.
+fn check_short_help(rt: &impl Host) {
+    let mut help = Vec::new(rt.alloc());
+    show_help(rt.alloc(), &mut help).expect(rt, "memory");
+    check_text(rt, &help, HELP, "the help", 0)
+}
+
 #[test]
 fn help_is_shown_by_clap(rt: HostRuntime) {
     for (row, (line, wanted)) in SHOWN.iter().enumerate() {
         check_said(&rt, line, false, wanted, row);
     }
+    check_short_help(&rt)
 }

@@ -1,9 +1,9 @@
 //! Runs over texts: the words, the input, and what each must answer.
 
 use crate::checks::{check, check_number, check_text};
-use crate::runs::{End, Host, check_over, check_ran, ran_from};
+use crate::runs::{End, Host, Outcome, check_over, check_ran, ran_from};
 use jb_text::{ReadFault, read_within};
-use jb_tool::{TEXT_LIMIT, refuse_words};
+use jb_tool::{Plain, TEXT_LIMIT, refuse_words, run_plain};
 use std::alloc::Global;
 use std::io::{self, ErrorKind, Read};
 use std::process::Abort;
@@ -100,11 +100,28 @@ static ROWS: [Row; 21] = [
     ),
 ];
 
+/// Checks the first row, whose command is given by its value.
+fn check_plain(rt: &impl Host) {
+    let (_, text, end) = ROWS[0];
+    let mut input = text;
+    let (mut out, mut err) = (Vec::new(rt.alloc()), Vec::new(rt.alloc()));
+    let cost = Plain::Cost { file: "-" };
+    let ended = run_plain(rt, cost, &mut input, &mut out, &mut err);
+    check_ran(
+        rt,
+        &Outcome { ended, out, err },
+        end,
+        "cost by its value",
+        0,
+    )
+}
+
 #[test]
 fn each_run_answers_its_row(rt: HostRuntime) {
     for (row, (line, input, end)) in ROWS.iter().enumerate() {
         check_over(&rt, line, input, *end, row);
     }
+    check_plain(&rt)
 }
 
 /// Checks an input that is so many bytes longer than a text may be: all of them but one are left.

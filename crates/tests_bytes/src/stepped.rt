@@ -1,0 +1,30 @@
+//! Logs that are read a block at a time.
+
+use jb_block::{Items, Width};
+use jb_group::Seen;
+use jb_scan::{Reader, Taken};
+use std::alloc::Global;
+use tests_support::{Must, Test, block_of};
+
+/// What a reader finds in a log of blocks that begin with these bytes.
+pub fn found_stepwise(
+    test: &impl Test,
+    alloc: Global,
+    blocks: &[&[u8]],
+    number: u32,
+    width: Width,
+) -> Seen {
+    let mut reader = Reader::new(alloc, number, width);
+    let mut transactions = Items::new(alloc);
+    for bytes in blocks {
+        match reader.take(&block_of(bytes)).must(test, "memory") {
+            Taken::Ends => break,
+            Taken::Goes => {}
+            Taken::Commits(transaction) => transactions.push(transaction).must(test, "memory"),
+        }
+    }
+    Seen {
+        transactions,
+        expected: reader.number(),
+    }
+}
