@@ -58,7 +58,7 @@ module _ {D : Type 0} (marks : List (OpenDeck D)) where
     pub stands : StandsIn marks (at, mark)
     pub failed : mark.aborted ≡ true
 
-  -- some mark shows the number of the ticket: its trail has an entry with both
+  -- some mark shows the number of the ticket: its trail has an entry with this number that covers the ticket
   pub record Shows (ticket number : ℕ) : Type 0 where
     pub entry : Entry
     pub marked : IsMarked entry

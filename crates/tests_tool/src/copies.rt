@@ -1,14 +1,15 @@
 //! Copies of a journal that are older than their file system, and file systems of another block size.
 
-use crate::files::{JOURNAL, MAGIC, UUID, add_block, check_file, pad, remove, superblock, write};
+use crate::files::{MAGIC, UUID, add_block, check_file, pad, remove, superblock, write};
 use crate::runs::{End, Host, check_run, joined};
 
 /// A file system that needs recovery: the logarithm of its block size less ten, the second of its last mount, and the
 /// highest byte of that time.
 type System = (u8, u8, u8);
 
-/// A copy of a journal: the number and the place at which its log begins, and the second of its commit.
-type Copied = ([u32; 2], u32);
+/// A copy of a journal: the number and the place at which its log begins, the second of its commit, and the bytes of a
+/// block.
+type Copied = ([u32; 2], u32, u16);
 
 const FULL: [u32; 2] = [2, 1];
 
@@ -31,22 +32,33 @@ const RECOVER: &str = "recover old.img";
 const LOAD: &str = "load old.img old.txt --hold --checkpoint";
 
 /// File systems and copies of a journal, and how a run over each ends.
-static COPIES: [(System, Copied, &str, End); 12] = [
-    ((0, 7, 0), (FULL, 7), RECOVER, COPIED),
-    ((0, 8, 0), (FULL, 7), RECOVER, NEWER),
-    ((0, 8, 0), (FULL, 7), "recover old.img --dry-run", NEWER),
-    ((0, 8, 0), (FULL, 7), "recover old.img --force", COPIED),
-    ((0, 7, 1), (FULL, 7), RECOVER, NEWER),
-    ((0, 8, 0), (FULL, 0), RECOVER, COPIED),
-    ((0, 8, 0), (EMPTY, 7), RECOVER, NOTHING),
-    ((0, 8, 0), (CLEAN, 7), RECOVER, NOTHING),
-    ((2, 8, 0), (FULL, 7), RECOVER, OTHER),
-    ((2, 8, 0), (CLEAN, 7), LOAD, OTHER),
-    ((0, 8, 0), (FULL, 7), LOAD, NEWER),
-    ((0, 8, 0), (CLEAN, 7), LOAD, LOADED),
+static COPIES: [(System, Copied, &str, End); 13] = [
+    ((0, 7, 0), (FULL, 7, 1024), RECOVER, COPIED),
+    ((0, 8, 0), (FULL, 7, 1024), RECOVER, NEWER),
+    (
+        (0, 8, 0),
+        (FULL, 7, 1024),
+        "recover old.img --dry-run",
+        NEWER,
+    ),
+    (
+        (0, 8, 0),
+        (FULL, 7, 1024),
+        "recover old.img --force",
+        COPIED,
+    ),
+    ((0, 7, 1), (FULL, 7, 1024), RECOVER, NEWER),
+    ((1, 8, 0), (FULL, 7, 2048), RECOVER, NEWER),
+    ((0, 8, 0), (FULL, 0, 1024), RECOVER, COPIED),
+    ((0, 8, 0), (EMPTY, 7, 1024), RECOVER, NOTHING),
+    ((0, 8, 0), (CLEAN, 7, 1024), RECOVER, NOTHING),
+    ((2, 8, 0), (FULL, 7, 1024), RECOVER, OTHER),
+    ((2, 8, 0), (CLEAN, 7, 1024), LOAD, OTHER),
+    ((0, 8, 0), (FULL, 7, 1024), LOAD, NEWER),
+    ((0, 8, 0), (CLEAN, 7, 1024), LOAD, LOADED),
 ];
 
-/// Sixteen home blocks, of which number 1 is the superblock of this file system.
+/// The home blocks, 16 KiB in all, with the superblock of this file system at byte 1024.
 fn system(rt: &impl Host, of: System) -> Vec<u8> {
     let (log, mounted, high) = of;
     let mut words = [0; 158];
@@ -68,15 +80,18 @@ fn system(rt: &impl Host, of: System) -> Vec<u8> {
 
 /// A journal whose log has a transaction of number 2, with a copy of home 5.
 fn journal(rt: &impl Host, of: Copied) -> Vec<u8> {
-    let (log, sec) = of;
+    let (log, sec, size) = of;
+    let len = usize::from(size);
     let mut journal = Vec::new(rt.alloc());
     let tag = [MAGIC, 1, 2, 5, 8, UUID[0], UUID[1], UUID[2], UUID[3]];
     let commit = [MAGIC, 2, 2, 0, 0, 0, 0, 0, 0, 0, 0, 0, 0, sec];
-    add_block(rt, &mut journal, 1024, &superblock(log, 1));
-    add_block(rt, &mut journal, 1024, &tag);
-    add_block(rt, &mut journal, 1024, &[7]);
-    add_block(rt, &mut journal, 1024, &commit);
-    pad(rt, &mut journal, JOURNAL);
+    let mut front = superblock(log, 1);
+    front[3] = u32::from(size);
+    add_block(rt, &mut journal, len, &front);
+    add_block(rt, &mut journal, len, &tag);
+    add_block(rt, &mut journal, len, &[7]);
+    add_block(rt, &mut journal, len, &commit);
+    pad(rt, &mut journal, 33 * len);
     journal
 }
 
