@@ -74,13 +74,22 @@ fn check_recovery(rt: &impl Host, of: Image, end: End, row: usize) {
     }
 }
 
+/// Checks an image whose journal has a copy for one of its own blocks, as it stands within the image.
+fn check_own(rt: &impl Host) {
+    let bytes = image(rt, [2, 1], 1, 20, 5, &[]);
+    write(rt, "log.img", &bytes);
+    let own = (1, "", "jb: Extents Home 5\n");
+    let line = "recover log.img --extents (0-32):0-32";
+    check_left(rt, line, own, &bytes, RECOVERIES.len())
+}
+
 /// Checks an image that is shorter than the blocks of its journal.
 fn check_short(rt: &impl Host) {
     let mut short = Vec::new(rt.alloc());
     let words = [MAGIC, 4, 0, 4096, 33, 1, 2, 0, 0, 0, 1, 0];
     add_block(rt, &mut short, 1024, &words);
     write(rt, "log.img", &short);
-    check_left(rt, "recover log.img", SHORT, &short, RECOVERIES.len());
+    check_left(rt, "recover log.img", SHORT, &short, RECOVERIES.len() + 1);
     remove(rt, "log.img")
 }
 
@@ -89,5 +98,6 @@ fn each_recovery_answers_its_row_and_a_refused_image_stays(rt: HostRuntime) {
     for (row, (of, end)) in RECOVERIES.iter().enumerate() {
         check_recovery(&rt, *of, *end, row);
     }
+    check_own(&rt);
     check_short(&rt)
 }
