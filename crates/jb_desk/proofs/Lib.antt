@@ -1,5 +1,6 @@
 pub mod Closings
 pub mod Histories
+pub mod Rising
 pub mod Rounds
 pub mod Seen
 pub mod Stopping

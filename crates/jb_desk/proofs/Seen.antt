@@ -1,14 +1,17 @@
 -- What a round makes of the counts that its seat is sure of.
-use Rattle.std.proofs.Common.{◌≡◌, ℕ, ◌<◌, length, is_some, Option, Some, None, Result, Ok, Err, inr, refl, ap, sym, subst, ◌∙◌}
+use Rattle.std.proofs.Common.{◌≡◌, ℕ, ◌<◌, ◌≤◌, max, length, is_some, Option, Some, None, Result, Ok, Err, inl, inr, refl, ap, sym, subst, ◌∙◌, arith}
 use Rattle.jb_plan.specs.Batch.{Gathered}
 use Rattle.jb_board.specs.declared.front.Front.{Front}
-use Rattle.jb_disk.specs.declared.disk.Disk.{Ghosts}
+use Rattle.jb_disk.specs.declared.disk.Disk.{Ghosts as Disks}
 use Rattle.jb_book.specs.Account.{Account}
 use Rattle.jb_desk.specs.Journal.{CommitsRound}
 use Rattle.jb_book.specs.Origin.{Begun}
 use Rattle.jb_book.specs.Rounds.{end_of}
-use Rattle.jb_desk.specs.Rounds.{AnswersRound, GivesBatch}
+use Rattle.jb_desk.specs.Rounds.{AnswersRound, GivesBatch, IdleKeeps}
 use Rattle.jb_desk.specs.Views.{IsOneHeld, SeesCommit, SeesRound, TakesUp, with_taken}
+use Rattle.jb_board.specs.declared.place.Place.{Ghosts as Places}
+use Rattle.jb_book.specs.declared.origin.Origin.{Ghosts}
+use Rattle.jb_desk.specs.declared.seat.Seat.{Seat}
 use Rattle.jb_desk.specs.declared.committer.Round.{Round}
 use Rattle.jb_desk.specs.declared.committer.Round.TheVariants.{Idle, Committed}
 use Rattle.jb_desk.specs.declared.committer.RoundFault.{RoundFault}
@@ -60,7 +63,7 @@ answers-up None after b n (Err round.Refused) up is = ap is_some is
 up-again : (held : Option Gathered) (b x : Gathered) → TakesUp held b → TakesUp (Some b) x → TakesUp held x
 up-again held b x up again = record { same = subst (IsOneHeld held) (sym again.same) up.same; some = again.some }
 
-pub round-up : {D : Type 0} (G : Ghosts D) (begun : Begun) (held after : Option Gathered) (b : Gathered) (reached : ℕ) (r : Result Round RoundFault)
+pub round-up : {D : Type 0} (G : Disks D) (begun : Begun) (held after : Option Gathered) (b : Gathered) (reached : ℕ) (r : Result Round RoundFault)
     → TakesUp held b → CommitsRound G begun (Some b) after reached r → CommitsRound G begun held after reached r
 round-up G begun held after b reached (Ok (Idle seen)) up is = tt
 round-up G begun held after b reached (Ok (Committed done)) up is = (is.0, up-again held b is.0.batch up is.1, is.2)
@@ -68,3 +71,29 @@ round-up G begun held after b reached (Err round.Aborted) up is = tt
 round-up G begun held after b reached (Err round.DeviceFault) up is = (is.0, is.1, up-again held b is.0.batch up is.2, is.3, is.4)
 round-up G begun held after b reached (Err round.Memory) up is = tt
 round-up G begun held after b reached (Err round.Refused) up is = (is.0, is.1, up-again held b is.0.batch up is.2, is.3, is.4)
+
+-- a batch that was taken up is committed, so the round is not idle
+pub never-idle : {H N : Type 0} {O : Ghosts H} {P : Places H} (b : Gathered) (u w : Front) (old new : Seat H N O P) (r : Result Round RoundFault) → SeesCommit b u w r → IdleKeeps old new r
+never-idle b u w old new (Ok (Idle seen)) is = absurd is
+never-idle b u w old new (Ok (Committed done)) is = tt
+never-idle b u w old new (Err fault) is = tt
+
+-- ---- where the journal has failed before
+
+pub lost-by : (r : Result Round RoundFault) (f : RoundFault) → r ≡ Err f → f ≡ round.Aborted → r ≡ Err round.Aborted
+lost-by r f is aborted = cc
+
+pub lost-answers : (held after : Option Gathered) (n : ℕ) (r : Result Round RoundFault) → r ≡ Err round.Aborted → after ≡ None → AnswersRound held after n r
+lost-answers held after n r is none = subst (λ (x : Result Round RoundFault). AnswersRound held after n x) (sym is) none
+
+pub lost-sees : (held after : Option Gathered) (v w : Front) (r : Result Round RoundFault) → r ≡ Err round.Aborted → w ≡ v → SeesRound held after v w r
+lost-sees held after v w r is same = subst (λ (x : Result Round RoundFault). SeesRound held after v w x) (sym is) (inl (tt, same))
+
+pub lost-round : {D : Type 0} (G : Disks D) (begun : Begun) (held after : Option Gathered) (n : ℕ) (r : Result Round RoundFault) → r ≡ Err round.Aborted → CommitsRound G begun held after n r
+lost-round G begun held after n r is = subst (λ (x : Result Round RoundFault). CommitsRound G begun held after n x) (sym is) tt
+
+-- ---- a raise
+
+-- a count that was raised is at least so high
+pub reached : (old count : ℕ) → count ≤ max old count
+reached old count = omega arith

@@ -1,14 +1,16 @@
-use Rattle.std.proofs.Common.{All, ◌≡◌, ◌<◌, length, Some, sym, ap, subst, ◌∙◌}
+use Rattle.std.proofs.Common.{rules, All, ◌≡◌, ◌<◌, ◌≤◌, length, Some, Err, inl, refl, sym, ap, subst, ◌∙◌}
 use Rattle.jb_plan.specs.Batch.{Gathered}
 use Rattle.jb_plan.specs.Costs.{HasCut}
+use Rattle.jb_board.specs.Seats.{given_by, seat_view}
 use Rattle.jb_board.specs.Steps.{raised_taken}
+use Rattle.jb_board.specs.declared.front.Front.{Front}
 use Rattle.jb_book.specs.Led.{IsInHistory}
 use Rattle.jb_book.specs.Origin.{AreStops}
 use Rattle.jb_desk.specs.Rounds.{held_by, seat_of}
 use Rattle.jb_book.specs.Rounds.{end_of as end_in}
-use Rattle.jb_desk.specs.Seats.{view_of}
+use Rattle.jb_desk.specs.Seats.{changes, desk_of, made_by, seat_number, stops, view_of}
 use Rattle.jb_desk.specs.Views.{TakesUp, with_taken}
-use Rattle.jb_desk.proofs.Seen.{answers-held, answers-up, gives-none, round-up, sees-held, sees-taken, takes-up}
+use Rattle.jb_desk.proofs.Seen.{answers-held, answers-up, gives-none, lost-answers, lost-by, lost-round, lost-sees, never-idle, reached, round-up, sees-held, sees-taken, takes-up}
 use Rattle.jb_desk.proofs.desk.Desk.commit_round.Goals as goal
 
 pub returns-in-Ok-clause-answers : goal.returns-in-Ok-clause-answers
@@ -88,3 +90,102 @@ returns-in-Memory-clause-answers g c =
     answers-held held (held_by c.hold.new.self) c.in-Err.batch (view_of (seat_of c.hold.new.self)).settled
     (subst (TakesUp held) (sym same) up)
     (c.hold.ensures.1 ∙ ap (λ (x : Gathered). Some x) c.of.ensures)
+
+pub returns-in-Ok-clause-desk : goal.returns-in-Ok-clause-desk
+returns-in-Ok-clause-desk g c = (c.commit.ensures.desk.0 ∙ c.raise_taken.ensures.board ∙ c.raise_stopped.ensures.board, c.commit.ensures.desk.1)
+
+pub returns-in-Ok-clause-idle : goal.returns-in-Ok-clause-idle
+returns-in-Ok-clause-idle g c = never-idle c.in-Ok.prepared.batch _ (view_of (seat_of c.commit.new.committer)) _ _ c.commit.result c.commit.ensures.view
+
+pub returns-in-Ok-clause-counted : goal.returns-in-Ok-clause-counted
+returns-in-Ok-clause-counted g c = c.commit.ensures.counted
+
+pub returns-in-Memory-clause-desk : goal.returns-in-Memory-clause-desk
+returns-in-Memory-clause-desk g c = (ap (λ s. desk_of s) c.hold.ensures.0 ∙ c.raise_taken.ensures.board ∙ c.raise_stopped.ensures.board, ap (λ s. seat_number s) c.hold.ensures.0)
+
+pub returns-in-Memory-clause-idle : goal.returns-in-Memory-clause-idle
+returns-in-Memory-clause-idle g c = tt
+
+pub returns-in-Memory-clause-counted : goal.returns-in-Memory-clause-counted
+returns-in-Memory-clause-counted g c = (ap (λ s. stops s) c.hold.ensures.0, ap (λ s. changes s) c.hold.ensures.0, ap (λ s. made_by s) c.hold.ensures.0)
+
+pub returns-in-Memory-clause-round : goal.returns-in-Memory-clause-round
+returns-in-Memory-clause-round g c = tt
+
+pub returns-in_default-clause-desk : goal.returns-in_default-clause-desk
+returns-in_default-clause-desk g c = (refl, refl)
+
+pub returns-in_default-clause-idle : goal.returns-in_default-clause-idle
+returns-in_default-clause-idle g c = refl
+
+pub returns-in_default-clause-view : goal.returns-in_default-clause-view
+returns-in_default-clause-view g c = inl (tt, refl)
+
+pub returns-in_default-clause-counted : goal.returns-in_default-clause-counted
+returns-in_default-clause-counted g c = (refl, refl, refl)
+
+pub returns-in_default-clause-round : goal.returns-in_default-clause-round
+returns-in_default-clause-round g c = tt
+
+pub returns-in_err-held-clause-desk : goal.returns-in_err-held-clause-desk
+returns-in_err-held-clause-desk g c = (refl, refl)
+
+pub returns-in_err-held-clause-counted : goal.returns-in_err-held-clause-counted
+returns-in_err-held-clause-counted g c = (refl, refl, refl)
+
+pub raise_taken-requires-clause-here : goal.raise_taken-requires-clause-here
+raise_taken-requires-clause-here g c = c.raise_stopped.ensures.board ∙ c.requires
+
+pub raise_stopped-requires-clause-here : goal.raise_stopped-requires-clause-here
+raise_stopped-requires-clause-here g c = c.requires
+
+pub raise_stopped-requires-clause-given : goal.raise_stopped-requires-clause-given
+raise_stopped-requires-clause-given g c = subst (λ k. k ≤ given_by c.end-batch.result.1) (sym c.past-end.ensures) c.end-batch.ensures.given
+
+pub raise_taken-requires-clause-stopped : goal.raise_taken-requires-clause-stopped
+raise_taken-requires-clause-stopped g c = subst (λ (f : Front). c.past-end.result ≤ f.stopped) (sym c.raise_stopped.ensures.view) (reached _ c.past-end.result)
+
+pub raise_taken-requires-clause-seen : goal.raise_taken-requires-clause-seen
+raise_taken-requires-clause-seen g c = subst (λ k. k ≤ c.end-batch.result.3.taken) (sym c.past-end.ensures) c.end-batch.ensures.taken
+
+pub commit-requires-clause-desk : goal.commit-requires-clause-desk
+commit-requires-clause-desk g c = c.raise_taken.ensures.board ∙ c.raise_stopped.ensures.board ∙ c.requires
+
+pub commit-requires-clause-free : goal.commit-requires-clause-free
+commit-requires-clause-free g c = c.take-held.ensures.after
+
+pub commit-requires-clause-taken : goal.commit-requires-clause-taken
+commit-requires-clause-taken g c =
+    let now = seat_view c.raise_taken.new.seat in
+    let upto = subst (λ (f : Front). c.past-end.result ≤ f.taken) (sym c.raise_taken.ensures.view) (reached _ c.past-end.result) in
+    subst (λ (x : Gathered). end_in x ≤ now.taken) (sym c.in-Ok.ensures.batch) (subst (λ k. k ≤ now.taken) c.past-end.ensures upto)
+
+pub commit-requires-clause-given : goal.commit-requires-clause-given
+commit-requires-clause-given g c = subst (λ (x : Gathered). end_in x ≤ given_by c.end-batch.result.1) (sym c.in-Ok.ensures.batch) c.end-batch.ensures.given
+
+pub commit-requires-clause-was_taken : goal.commit-requires-clause-was_taken
+commit-requires-clause-was_taken g c = subst (λ (x : Gathered). end_in x ≤ c.end-batch.result.3.taken) (sym c.in-Ok.ensures.batch) c.end-batch.ensures.taken
+
+pub of-requires-clause-given : goal.of-requires-clause-given
+of-requires-clause-given g c = subst (λ (x : Gathered). end_in x ≤ given_by c.end-batch.result.1) (sym c.in-Err.ensures.back) c.end-batch.ensures.given
+
+pub of-requires-clause-taken : goal.of-requires-clause-taken
+of-requires-clause-taken g c = subst (λ (x : Gathered). end_in x ≤ c.end-batch.result.3.taken) (sym c.in-Err.ensures.back) c.end-batch.ensures.taken
+
+pub hold-requires : goal.hold-requires
+hold-requires g c = c.take-held.ensures.after
+
+pub returns-in_err-held-clause-answers : goal.returns-in_err-held-clause-answers
+returns-in_err-held-clause-answers g c =
+    let fails : c.from_residual.result ≡ Err c.in_err-held.field-0.0 = search rules in
+    lost-answers _ _ _ c.from_residual.result (lost-by c.from_residual.result c.in_err-held.field-0.0 fails c.in_err-held.ensures.batch.0) c.take-held.ensures.after
+
+pub returns-in_err-held-clause-view : goal.returns-in_err-held-clause-view
+returns-in_err-held-clause-view g c =
+    let fails : c.from_residual.result ≡ Err c.in_err-held.field-0.0 = search rules in
+    lost-sees _ _ _ _ c.from_residual.result (lost-by c.from_residual.result c.in_err-held.field-0.0 fails c.in_err-held.ensures.batch.0) refl
+
+pub returns-in_err-held-clause-round : goal.returns-in_err-held-clause-round
+returns-in_err-held-clause-round g c =
+    let fails : c.from_residual.result ≡ Err c.in_err-held.field-0.0 = search rules in
+    lost-round g.D.Disk g.H.Origin.begun _ _ _ c.from_residual.result (lost-by c.from_residual.result c.in_err-held.field-0.0 fails c.in_err-held.ensures.batch.0)
