@@ -21,4 +21,5 @@ pub mod Recover
 pub mod Reports
 pub mod Runs
 pub mod Said
+pub mod Shut
 pub mod Texts

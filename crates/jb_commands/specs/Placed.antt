@@ -1,7 +1,5 @@
 -- An image with its journal at its front, in a file of its own or within it: how it is opened, read and recovered.
 use Rattle.std.specs.Prelude.{◌≡◌, ◌⊎◌, ◌<◌, ◌≤◌, ℕ, Bool, true, false, ⊤, List, Option, Some, None, Result, Ok, Err}
-use Rattle.jb_block.specs.Size.{bytes_of}
-use Rattle.jb_block.specs.declared.size.BlockSize.{BlockSize}
 use Rattle.jb_args.specs.declared.option_name.OptionName.{OptionName}
 use Rattle.jb_args.specs.declared.option_name.OptionName.TheVariants as option
 use Rattle.jb_disk.specs.File.{IsMeasured, count_of}
@@ -80,10 +78,6 @@ module _ {S T : Type 0} {start : Starts S} {other : Starts T} where
   IsJournalWithin es sb (Two pair) = ⊥
   IsJournalWithin es sb (Within disk) =
       (list_of (extents_of disk) ≡ es) × (journal_blocks disk ≡ sb.maxlen) × IsHeldWithin es sb (count_of (whole_disk disk)) × IsMeasured (whole_disk disk)
-
-  -- a file of this block size, with a journal within it
-  abbrev pub JoinsFile : List Extent → Superblock → BlockSize → ImageDisk (FileDisk S start) (FileDisk T other) → Type 0
-  JoinsFile es sb size disk = IsJournalWithin es sb disk × (as_files.size disk ≡ bytes_of size)
 
   -- the list was read, and the journal is there, in blocks of the size that its superblock says
   abbrev pub IsOpenedWithin : List ℕ → ImageDisk (FileDisk S start) (FileDisk T other) → ℕ → Type 0

@@ -42,6 +42,12 @@ EndsOfTwo Says name other old new end =
     ((text text' : List ℕ) × (words : Said) × IsText None text × IsTextWithin cert_limit None text' × Says text text' words × Tells words old new end)
     ⊎ ((fault : CommandFault) × (end ≡ Err fault) × (HasNoText name None fault ⊎ HasNoTextWithin cert_limit other None fault) × (new ≡ old))
 
+-- the part of that which comes after the queue text: what is said is said of the certificate
+abbrev pub EndsOfClaim : (List ℕ → Said → Type 0) → List ℕ → Outputs → Outputs → Result Ended CommandFault → Type 0
+EndsOfClaim Says other old new end =
+    ((claim : List ℕ) × (words : Said) × IsTextWithin cert_limit None claim × Says claim words × Tells words old new end)
+    ⊎ ((fault : CommandFault) × (end ≡ Err fault) × HasNoTextWithin cert_limit other None fault × (new ≡ old))
+
 -- the program's end, and the line of a command that ended without an answer, over the files of these names where they are two
 abbrev pub Closes : Option Names → Result Ended CommandFault → Outputs → Outputs → Ended → Type 0
 Closes names (Ok told) old new ended = (ended ≡ told) × (new ≡ old)

@@ -6,7 +6,7 @@ use Rattle.jb_text.specs.Puts.{PutsPart}
 use Rattle.jb_commands.specs.Ends.{with_status}
 use Rattle.jb_commands.specs.declared.ended.Ended.{Ended}
 use Rattle.jb_commands.specs.declared.fault.CommandFault.{CommandFault}
-use Rattle.jb_commands.specs.declared.fault.CommandFault.TheVariants.{WriteFault}
+use Rattle.jb_commands.specs.declared.fault.CommandFault.TheVariants.{Memory, WriteFault}
 
 -- the bytes that standard output and standard error hold, each where they are known
 pub record Outputs : Type 0 where
@@ -20,6 +20,15 @@ Tells words old new (Ok ended) =
     (ended ≡ record { status = words.status; hint = words.hint }) × Appends old.out new.out words.out × PutsPart old.err new.err words.err
 Tells words old new (Err WriteFault) = (words.out ≢ []) × PutsPart old.out new.out words.out × (new.err ≡ old.err)
 Tells words old new (Err _) = ⊥
+
+-- there was no memory for what was to be said
+abbrev pub TellsNone : Outputs → Outputs → Result Ended CommandFault → Type 0
+TellsNone old new end = (end ≡ Err Memory) × (new ≡ old)
+
+-- how a command ends that only writes, by what the writing answers
+abbrev pub line_end : {F : Type 0} → Result Ended F → Result Ended CommandFault
+line_end (Ok ended) = Ok ended
+line_end (Err fault) = Err WriteFault
 
 -- the line is on standard output, with status 0; or standard output failed part of the way
 abbrev pub TellsLine : List ℕ → Option (List ℕ) → Option (List ℕ) → Result Ended CommandFault → Type 0

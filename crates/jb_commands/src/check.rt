@@ -1,7 +1,8 @@
-ghost use Rattle.std.specs.Prelude.{◌≡◌, ◌+◌, IfOk, Some, length};
+ghost use Rattle.std.specs.Prelude.{◌≡◌, ◌+◌, ◌++◌, IfOk, Some, codes, length, string_bytes};
 ghost use Rattle.jb_queue.specs.QueueText.{value_of};
 ghost use Rattle.jb_handle.specs.Size.{IsWithinSize};
-ghost use Rattle.jb_commands.specs.Check.{IsVerdictOn, SaysCheck, cert_fault, verdict_text};
+ghost use Rattle.jb_price.specs.declared.verdict.Verdict.TheVariants.{Accepted, Refused};
+ghost use Rattle.jb_commands.specs.Check.{IsVerdictOn, SaysCheck, cert_fault, reason_text, verdict_text};
 ghost use Rattle.jb_commands.specs.AnswerSaid.{said};
 
 use crate::answer::Answer;
@@ -44,32 +45,50 @@ fn verdict_on(alloc: Global, queue: &QueueText, cert: &Cert) -> Result<Verdict, 
 fn verdict_told(alloc: Global, verdict: Verdict) -> Result<Answer, Memory>
     ensures said { IfOk result (λ answer. said answer ≡ verdict_text verdict) }
 {
-    let reason = match verdict {
-        Verdict::Accepted => {
-            let out = format!(in alloc; "accepted\n")?;
-            return Ok(Answer {
-                status: 0,
-                out,
-                err: String::new(alloc),
-                hint: None,
-            });
-        }
-        Verdict::Refused(reason) => reason,
-    };
-    let out = match reason {
-        Reason::OpeningPrice => format!(in alloc; "refused OpeningPrice\n")?,
-        Reason::Undercut(from, to) => format!(in alloc; "refused Undercut {from} {to}\n")?,
-        Reason::NotACut => format!(in alloc; "refused NotACut\n")?,
-        Reason::OverLimit(from, to) => format!(in alloc; "refused OverLimit {from} {to}\n")?,
-        Reason::TotalDiffers => format!(in alloc; "refused TotalDiffers\n")?,
-        Reason::EndPrice => format!(in alloc; "refused EndPrice\n")?,
-    };
+    match verdict {
+        Verdict::Accepted => accepted(alloc),
+        Verdict::Refused(reason) => refused(alloc, reason),
+    }
+}
+
+/// The line of a certificate that is accepted.
+fn accepted(alloc: Global) -> Result<Answer, Memory>
+    ensures said { IfOk result (λ answer. said answer ≡ verdict_text Accepted) }
+{
+    let out = format!(in alloc; "accepted\n")?;
+    Ok(Answer {
+        status: 0,
+        out,
+        err: String::new(alloc),
+        hint: None,
+    })
+}
+
+/// The line of one that is refused for this.
+fn refused(alloc: Global, reason: Reason) -> Result<Answer, Memory>
+    ensures said { IfOk result (λ answer. said answer ≡ verdict_text (Refused reason)) }
+{
+    let out = reason_line(alloc, reason)?;
     Ok(Answer {
         status: 1,
         out,
         err: String::new(alloc),
         hint: None,
     })
+}
+
+/// The text of that line.
+fn reason_line(alloc: Global, reason: Reason) -> Result<String, Memory>
+    ensures { IfOk result (λ line. string_bytes line ≡ codes "refused " ++ reason_text reason) }
+{
+    match reason {
+        Reason::OpeningPrice => format!(in alloc; "refused OpeningPrice\n"),
+        Reason::Undercut(from, to) => format!(in alloc; "refused Undercut {from} {to}\n"),
+        Reason::NotACut => format!(in alloc; "refused NotACut\n"),
+        Reason::OverLimit(from, to) => format!(in alloc; "refused OverLimit {from} {to}\n"),
+        Reason::TotalDiffers => format!(in alloc; "refused TotalDiffers\n"),
+        Reason::EndPrice => format!(in alloc; "refused EndPrice\n"),
+    }
 }
 
 /// The line for a text that is no certificate of the queue.

@@ -3,7 +3,7 @@ ghost use Rattle.std.specs.Prelude.{◌≡◌, None};
 
 use crate::ended::Ended;
 use crate::fault::CommandFault;
-use crate::report::Report;
+use crate::report::{Report, said_end, status_end};
 use jb_disk::{FileDisk, Start, Unknown};
 use jb_image::ImageDisk;
 use std::io::Write;
@@ -20,14 +20,28 @@ pub struct Done<'a, S: Start = Unknown, T: Start = Unknown> {
 
 impl<'a, S: Start, T: Start> Done<'a, S, T> {
     ghost use Rattle.std.specs.Prelude.{◌≡◌, None};
-    ghost use Rattle.jb_commands.specs.Reports.{TellsEnd};
+    ghost use Rattle.jb_commands.specs.Reports.{TellsEnd, said_end as ends_saying, status_end as ends_so};
 
-    /// The end of a command that has no image open.
-    pub(crate) fn alone(end: Result<Report, CommandFault<'a>>) -> Done<'a, S, T>
+    /// The end of a command that has no image open and has written all that it had to say, and ends so.
+    pub(crate) fn said(end: Result<Ended, CommandFault<'a>>) -> Done<'a, S, T>
         ensures image { result.image ≡ None }
-        ensures end { result.end ≡ end.entry }
+        ensures end { result.end ≡ ends_saying end.entry }
     {
-        Done { image: None, end }
+        Done {
+            image: None,
+            end: said_end(end),
+        }
+    }
+
+    /// The same of one that ends with this status.
+    pub(crate) fn status(end: Result<u8, CommandFault<'a>>) -> Done<'a, S, T>
+        ensures image { result.image ≡ None }
+        ensures end { result.end ≡ ends_so end.entry }
+    {
+        Done {
+            image: None,
+            end: status_end(end),
+        }
     }
 
     /// Closes the image, and then writes what there is to say, and gives the end of the program.

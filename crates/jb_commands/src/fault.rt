@@ -12,7 +12,7 @@ use jb_text::WriteFault;
 use std::alloc::AllocError;
 
 /// Why a command ends without an answer of its own.
-#[derive(Clone, Copy, Debug)]
+#[derive(Clone, Copy)]
 pub enum CommandFault<'a> {
     /// The file of this name, or standard input for `-`, could not be opened or read; with the number of the system's
     /// error, where it has one.

@@ -7,6 +7,7 @@ mod making;
 mod opening;
 mod placed;
 mod recovered;
+mod shut;
 mod texts;
 
 pub use changes::{renumber_file, widen_file};

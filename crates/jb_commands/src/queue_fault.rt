@@ -1,5 +1,5 @@
-ghost use Rattle.std.specs.Prelude.{◌≡◌, IfOk, Some};
-ghost use Rattle.jb_commands.specs.Faulty.{queue_fault};
+ghost use Rattle.std.specs.Prelude.{◌≡◌, IfOk, Some, option_map};
+ghost use Rattle.jb_commands.specs.Faulty.{cause_told, queue_fault};
 ghost use Rattle.jb_commands.specs.AnswerSaid.{said};
 
 use crate::answer::Answer;
@@ -16,18 +16,28 @@ pub fn fault_answer(alloc: Global, fault: QueueFault) -> Result<Answer, Memory>
     ensures said { IfOk result (λ answer. queue_fault fault ≡ Some (said answer)) }
 {
     let line = fault.line;
-    let (cause, hint) = match fault.cause {
-        Cause::BlockSizeLine => ("BlockSizeLine", Hint::QueueBlockSizeLine),
-        Cause::LimitLine => ("LimitLine", Hint::QueueLimitLine),
-        Cause::HandleLine => ("HandleLine", Hint::QueueHandleLine),
-        Cause::OpWord => ("OpWord", Hint::QueueOpWord),
-        Cause::DataWord => ("DataWord", Hint::QueueDataWord),
-        Cause::Memory => return Err(Memory),
+    let Some((cause, hint)) = told_as(fault.cause) else {
+        return Err(Memory);
     };
+    let err = format!(in alloc; "jb: queue line {line}: {cause}\n")?;
     Ok(Answer {
         status: 2,
         out: String::new(alloc),
-        err: format!(in alloc; "jb: queue line {line}: {cause}\n")?,
+        err,
         hint: Some(hint),
     })
+}
+
+/// The name of what is wrong with a line, and its hint; of memory that ran out there is none.
+fn told_as(cause: Cause) -> Option<(&'static str, Hint)>
+    ensures { option_map (λ told. (told.0.now, told.1)) result ≡ cause_told cause }
+{
+    match cause {
+        Cause::BlockSizeLine => Some(("BlockSizeLine", Hint::QueueBlockSizeLine)),
+        Cause::LimitLine => Some(("LimitLine", Hint::QueueLimitLine)),
+        Cause::HandleLine => Some(("HandleLine", Hint::QueueHandleLine)),
+        Cause::OpWord => Some(("OpWord", Hint::QueueOpWord)),
+        Cause::DataWord => Some(("DataWord", Hint::QueueDataWord)),
+        Cause::Memory => None,
+    }
 }

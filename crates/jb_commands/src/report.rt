@@ -9,6 +9,7 @@ use crate::streams::{
 };
 use jb_format::{Renumbered, Widened};
 use jb_recover::{Foreseen, Recovered};
+use jb_text::WriteFault;
 use std::io::Write;
 
 /// What a command has done, for a line that is written once its image is closed.
@@ -30,6 +31,7 @@ pub enum Report {
 
 impl Report {
     ghost use Rattle.jb_commands.specs.Reports.{TellsReport};
+    ghost use Rattle.jb_commands.specs.Said.{line_end};
 
     /// Writes its line, or its lines, and gives the end of the program.
     ///
@@ -37,6 +39,16 @@ impl Report {
     /// `CommandFault::WriteFault` where `out` took only the beginning of the text.
     pub fn tell<'a, O: Write>(&self, out: &mut O) -> Result<Ended, CommandFault<'a>>
         ensures { TellsReport self.now (O.contents out.old) (O.contents out.new) result }
+    {
+        match self.put(out) {
+            Ok(ended) => Ok(ended),
+            Err(_) => Err(CommandFault::WriteFault),
+        }
+    }
+
+    /// The same as a writer's answer.
+    fn put<O: Write>(&self, out: &mut O) -> Result<Ended, WriteFault>
+        ensures { TellsReport self.now (O.contents out.old) (O.contents out.new) (line_end result) }
     {
         match self {
             Report::Said(ended) => Ok(*ended),

@@ -1,11 +1,13 @@
-ghost use Rattle.std.specs.Prelude.{◌≡◌, ℕ, List, Option, Some, codes, false};
+ghost use Rattle.std.specs.Prelude.{◌≡◌, ◌<◌, ◌^◌, ℕ, List, Option, Some, codes, false, length};
 ghost use Rattle.std.specs.Str.{bytes_eq};
 ghost use Rattle.jb_args.specs.Named.{asks};
-ghost use Rattle.jb_commands.specs.Check.{CheckSays};
+ghost use Rattle.jb_handle.specs.Size.{IsWithinSize};
+ghost use Rattle.jb_queue.specs.QueueText.{value_of};
+ghost use Rattle.jb_commands.specs.Check.{CheckSays, SaysCheck};
 ghost use Rattle.jb_commands.specs.Cost.{cost_said};
 ghost use Rattle.jb_commands.specs.Plan.{PlanSays};
 ghost use Rattle.jb_commands.specs.Lines.{names_said};
-ghost use Rattle.jb_commands.specs.Runs.{Closes, Ends, EndsAsked, EndsOfTwo, Runs, reads_input};
+ghost use Rattle.jb_commands.specs.Runs.{Closes, Ends, EndsAsked, EndsOfClaim, EndsOfTwo, Runs, reads_input};
 
 use crate::done::Done;
 use crate::ended::Ended;
@@ -15,12 +17,11 @@ use crate::files::{
     recover_file, renumber_file, widen_file,
 };
 use crate::names::{TwoFiles, files_of};
-use crate::report::{said_end, status_end};
-use crate::streams::{CERT_LIMIT, tell};
+use crate::streams::{CERT_LIMIT, told};
 use crate::{check_answer, cost_answer, fault_answer, plan_answer};
 use jb_args::Plain;
 use jb_disk::{Start, Unknown};
-use jb_queue::read_queue;
+use jb_queue::{QueueText, read_queue};
 use std::fs::File;
 use std::io::{Read, Write};
 use std::rt::Files;
@@ -44,13 +45,11 @@ pub fn perform<
     ensures unread { reads_input (asks plain.entry) ≡ false → input.new ≡ input.old }
 {
     match plain {
-        Plain::Cost { file } => Done::alone(said_end(perform_cost(rt, file, input, out, err))),
-        Plain::Plan { file } => Done::alone(said_end(perform_plan(rt, file, input, out, err))),
-        Plain::Check { file, cert } => Done::alone(said_end(perform_check(
-            rt, file, cert, out, err,
-        ))),
+        Plain::Cost { file } => Done::said(perform_cost(rt, file, input, out, err)),
+        Plain::Plan { file } => Done::said(perform_plan(rt, file, input, out, err)),
+        Plain::Check { file, cert } => Done::said(perform_check(rt, file, cert, out, err)),
         Plain::Dump { file, options } => {
-            Done::alone(status_end(dump_named(rt, file, choice_of(options), input, out)))
+            Done::status(dump_named(rt, file, choice_of(options), input, out))
         }
         Plain::Format { image, options } => format_file(rt, image, options),
         Plain::Cat { image, options } => cat_file(rt, image, options, out),
@@ -73,9 +72,10 @@ fn perform_cost<'a, R: Files + AllocGlobal, I: Read, O: Write, E: Write>(
         (record { out = O.contents out.new; err = E.contents err.new }) result }
     ensures unread { bytes_eq file.entry.now (codes "-") ≡ false → input.new ≡ input.old }
 {
-    let text = read_text(rt, file, input)?;
-    let answer = cost_answer(rt.alloc(), text.as_slice())?;
-    tell(&answer, out, err)
+    match read_text(rt, file, input) {
+        Ok(text) => told(cost_answer(rt.alloc(), text.as_slice()), out, err),
+        Err(fault) => Err(fault),
+    }
 }
 
 /// Runs `jb plan`.
@@ -91,9 +91,10 @@ fn perform_plan<'a, R: Files + AllocGlobal, I: Read, O: Write, E: Write>(
         (record { out = O.contents out.new; err = E.contents err.new }) result }
     ensures unread { bytes_eq file.entry.now (codes "-") ≡ false → input.new ≡ input.old }
 {
-    let text = read_text(rt, file, input)?;
-    let answer = plan_answer(rt.alloc(), text.as_slice())?;
-    tell(&answer, out, err)
+    match read_text(rt, file, input) {
+        Ok(text) => told(plan_answer(rt.alloc(), text.as_slice()), out, err),
+        Err(fault) => Err(fault),
+    }
 }
 
 /// Runs `jb check`: the second file is opened where the first is the text of a queue.
@@ -108,17 +109,47 @@ fn perform_check<'a, R: Files + AllocGlobal, O: Write, E: Write>(
         (record { out = O.contents out.old; err = E.contents err.old })
         (record { out = O.contents out.new; err = E.contents err.new }) result }
 {
-    let text = read_file(rt, file)?;
-    match read_queue(rt.alloc(), text.as_slice()) {
-        Ok(queue) => {
-            let claim = read_file_within(rt, cert, CERT_LIMIT)?;
-            let answer = check_answer(rt.alloc(), &queue, claim.as_slice())?;
-            tell(&answer, out, err)
-        }
-        Err(fault) => {
-            let answer = fault_answer(rt.alloc(), fault)?;
-            tell(&answer, out, err)
-        }
+    match read_file(rt, file) {
+        Ok(text) => check_texts(rt, text.as_slice(), cert, out, err),
+        Err(fault) => Err(fault),
+    }
+}
+
+/// The same of a queue text that has been read.
+fn check_texts<'a, R: Files + AllocGlobal, O: Write, E: Write>(
+    rt: &R,
+    text: &[u8],
+    cert: &'a str,
+    out: &mut O,
+    err: &mut E,
+) -> Result<Ended, CommandFault<'a>>
+    requires { length text.now < 2 ^ 63 }
+    ensures ends { EndsOfClaim (CheckSays text.now) cert.entry.now
+        (record { out = O.contents out.old; err = E.contents err.old })
+        (record { out = O.contents out.new; err = E.contents err.new }) result }
+{
+    match read_queue(rt.alloc(), text) {
+        Ok(queue) => check_file(rt, &queue, cert, out, err),
+        Err(fault) => told(fault_answer(rt.alloc(), fault), out, err),
+    }
+}
+
+/// Checks the certificate in the file of this name, of a queue.
+fn check_file<'a, R: Files + AllocGlobal, O: Write, E: Write>(
+    rt: &R,
+    queue: &QueueText,
+    cert: &'a str,
+    out: &mut O,
+    err: &mut E,
+) -> Result<Ended, CommandFault<'a>>
+    requires { IsWithinSize queue.now.handles.items }
+    ensures ends { EndsOfClaim (SaysCheck (value_of queue.now)) cert.entry.now
+        (record { out = O.contents out.old; err = E.contents err.old })
+        (record { out = O.contents out.new; err = E.contents err.new }) result }
+{
+    match read_file_within(rt, cert, CERT_LIMIT) {
+        Ok(claim) => told(check_answer(rt.alloc(), queue, claim.as_slice()), out, err),
+        Err(fault) => Err(fault),
     }
 }
 

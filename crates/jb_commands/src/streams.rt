@@ -29,3 +29,4 @@ pub(crate) use recovering::tell_recovered;
 pub use refusal::refuse_words;
 pub(crate) use showing::show_on;
 pub use telling::tell;
+pub(crate) use telling::told;

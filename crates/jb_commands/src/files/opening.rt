@@ -1,16 +1,18 @@
 //! Images that are there: opened, locked, and used as disks.
 ghost use Rattle.std.specs.Prelude.{◌≡◌, take, option_map, Some, None, IfErr, IfOk, IfSome};
-ghost use Rattle.jb_disk.specs.File.{IsMeasured, size_of_blocks};
+ghost use Rattle.jb_disk.specs.File.{IsMeasured, count_of, size_of_blocks};
 ghost use Rattle.jb_format.specs.Front.{homes_in};
-ghost use Rattle.jb_commands.specs.Files.{IsImageOpened, IsShut, IsUnread, SaysSuper};
+ghost use Rattle.jb_commands.specs.Files.{IsImageOpened, IsShut, SaysSuper};
+ghost use Rattle.jb_commands.specs.Shut.{IsFileShut, IsFront, IsPairShut};
 
 use crate::fault::CommandFault;
+use crate::files::shut::{FileFault, PairFault, named, named_pair};
 use jb_block::BlockSize;
 use jb_disk::{Disk, FileDisk, Start};
 use jb_format::homes_behind;
 pub use jb_image::Opening;
 use jb_image::{ImageDisk, ImageFault, PairDisk, open_file};
-use jb_super::{Super, SuperFault};
+use jb_super::Super;
 use jb_text::{ReadFault, read_front};
 use std::alloc::Global;
 use std::fs::{File, Metadata};
@@ -27,7 +29,8 @@ const FRONT: usize = 1024;
 /// that file, or a file of its own.
 ///
 /// # Errors
-/// Those of `open_image` for each file; `CommandFault::CannotRead` where the file cannot be read; `CommandFault::Super`
+/// `CommandFault::CannotRead` where a file is of another kind, or cannot be opened or read; `CommandFault::InUse` where
+/// another program has locked it, or it would be changed and is mounted; `CommandFault::Super`
 /// where its first bytes are no superblock; `CommandFault::Memory` where memory ran out; `CommandFault::SameFile` where
 /// the two are one file; where the journal's own file has fewer blocks than the journal, `CommandFault::Super` with
 /// `Geometry`, and where it has more, `CommandFault::JournalLength`.
@@ -42,71 +45,132 @@ pub fn open_counted<'a, S: Start, T: Start, R: Files<File = File> + AllocGlobal>
         (λ opened. IsImageOpened (option_map (λ word. word.now) journal.entry) opened.0 opened.1) }
 {
     match journal {
-        None => open_one(rt, name, opening),
-        Some(journal) => open_two(rt, name, journal, opening),
+        None => named(open_one(rt, name, opening), name),
+        Some(journal) => named_pair(open_two(rt, name, journal, opening), name, journal),
     }
 }
 
 /// The file of this name as a disk with a journal at its front, and the number of its home blocks.
-///
-/// # Errors
-/// As those of `open_counted`.
-fn open_one<'a, S: Start, T: Start, R: Files<File = File> + AllocGlobal>(
+fn open_one<S: Start, T: Start, R: Files<File = File> + AllocGlobal>(
     rt: &R,
-    name: &'a str,
+    name: &str,
     opening: Opening,
-) -> Result<(ImageDisk<FileDisk<S>, FileDisk<T>>, u64), CommandFault<'a>>
-    ensures unread { IfErr result (IsUnread name.entry.now) }
+) -> Result<(ImageDisk<FileDisk<S>, FileDisk<T>>, u64), FileFault>
+    ensures shut { IfErr result IsFileShut }
     ensures opened { IfOk result (λ opened. IsImageOpened None opened.0 opened.1) }
 {
-    let mut file = open_image(rt, name, opening)?;
-    let sb = match super_of(rt.alloc(), &mut file, name) {
-        Ok(sb) => sb,
-        Err(fault) => return Err(fault),
-    };
-    let disk = ImageDisk::One(disk_of(file, sb.block_size(), name)?);
-    let homes = homes_after(&sb, disk.blocks());
-    Ok((disk, homes))
+    match open_front(rt, name, opening) {
+        Ok((disk, sb)) => {
+            let (disk, homes) = counted(disk, &sb);
+            Ok((ImageDisk::One(disk), homes))
+        }
+        Err(fault) => Err(fault),
+    }
 }
 
 /// The file of this name as a disk behind a journal in the file of the other name, and the number of its home blocks.
-///
-/// # Errors
-/// Those of `open_counted`.
-fn open_two<'a, S: Start, T: Start, R: Files<File = File> + AllocGlobal>(
+fn open_two<S: Start, T: Start, R: Files<File = File> + AllocGlobal>(
     rt: &R,
-    name: &'a str,
-    journal: &'a str,
+    name: &str,
+    journal: &str,
     opening: Opening,
-) -> Result<(ImageDisk<FileDisk<S>, FileDisk<T>>, u64), CommandFault<'a>>
-    ensures shut { IfErr result (IsShut name.entry.now (Some journal.entry.now)) }
-    ensures opened { IfOk result (λ opened. IsImageOpened (Some journal.entry.now) opened.0 opened.1) }
+) -> Result<(ImageDisk<FileDisk<S>, FileDisk<T>>, u64), PairFault>
+    ensures shut { IfErr result IsPairShut }
+    ensures opened { IfOk result (λ opened. IsImageOpened (Some journal.now) opened.0 opened.1) }
 {
-    if are_one(fs::metadata(rt, journal), fs::metadata(rt, name)) {
-        return Err(CommandFault::SameFile(name));
+    if are_same(rt, name, journal) {
+        return Err(PairFault::SameFile);
     }
-    let mut file = open_image(rt, journal, opening)?;
-    let sb = match super_of(rt.alloc(), &mut file, journal) {
-        Ok(sb) => sb,
-        Err(fault) => return Err(fault),
-    };
-    let log = disk_of(file, sb.block_size(), journal)?;
-    let (blocks, maxlen) = (log.blocks(), sb.maxlen());
+    match open_log(rt, journal, opening) {
+        Ok((log, sb)) => match open_sized(rt, name, sb.block_size(), opening) {
+            Ok(rest) => {
+                let (pair, homes) = counted(PairDisk::of(log, rest), &sb);
+                Ok((ImageDisk::Two(pair), homes))
+            }
+            Err(fault) => Err(PairFault::Homes(fault)),
+        },
+        Err(fault) => Err(fault),
+    }
+}
+
+/// The file of this name as a disk that is a journal and nothing more, and its superblock.
+fn open_log<S: Start, R: Files<File = File> + AllocGlobal>(
+    rt: &R,
+    name: &str,
+    opening: Opening,
+) -> Result<(FileDisk<S>, Super), PairFault>
+    ensures shut { IfErr result IsPairShut }
+    ensures front { IfOk result (λ log. IsFront log.0 log.1) }
+    ensures count { IfOk result (λ log. count_of log.0 ≡ log.1.maxlen) }
+{
+    match open_front(rt, name, opening) {
+        Ok((log, sb)) => match judge_length(log.blocks(), &sb) {
+            Ok(()) => Ok((log, sb)),
+            Err(fault) => Err(fault),
+        },
+        Err(fault) => Err(PairFault::Journal(fault)),
+    }
+}
+
+/// Whether a file of so many blocks is a journal with this superblock and nothing more.
+fn judge_length(blocks: u64, sb: &Super) -> Result<(), PairFault>
+    requires { SaysSuper sb.now }
+    ensures shut { IfErr result IsPairShut }
+    ensures count { IfOk result (λ _. blocks ≡ sb.now.maxlen) }
+{
+    let maxlen = sb.maxlen();
     if blocks < u64::from(maxlen) {
-        return Err(CommandFault::Super(SuperFault::Geometry));
+        return Err(PairFault::Short);
     }
     if blocks > u64::from(maxlen) {
-        return Err(CommandFault::JournalLength(blocks, maxlen));
+        return Err(PairFault::Long(blocks, maxlen));
     }
-    let rest = open_image(rt, name, opening)?;
-    let rest = disk_of(rest, sb.block_size(), name)?;
-    let disk = ImageDisk::Two(PairDisk::of(log, rest));
-    let homes = homes_after(&sb, disk.blocks());
-    Ok((disk, homes))
+    Ok(())
+}
+
+/// The file of this name as a disk with a journal at its front, and the journal's superblock.
+fn open_front<S: Start, R: Files<File = File> + AllocGlobal>(
+    rt: &R,
+    name: &str,
+    opening: Opening,
+) -> Result<(FileDisk<S>, Super), FileFault>
+    ensures shut { IfErr result IsFileShut }
+    ensures front { IfOk result (λ front. IsFront front.0 front.1) }
+{
+    let mut file = open_image(rt, name, opening)?;
+    let sb = super_of(rt.alloc(), &mut file)?;
+    let disk = disk_of(file, sb.block_size())?;
+    Ok((disk, sb))
+}
+
+/// The file of this name as a disk of blocks of this size.
+fn open_sized<S: Start, R: Files<File = File> + AllocGlobal>(
+    rt: &R,
+    name: &str,
+    size: BlockSize,
+    opening: Opening,
+) -> Result<FileDisk<S>, FileFault>
+    ensures shut { IfErr result IsFileShut }
+    ensures size { IfOk result (λ disk. size_of_blocks disk ≡ size) }
+    ensures measured { IfOk result IsMeasured }
+{
+    match open_image(rt, name, opening) {
+        Ok(file) => disk_of(file, size),
+        Err(fault) => Err(fault),
+    }
+}
+
+/// A disk behind a journal, or with one, and the number of its home blocks.
+pub(crate) fn counted<D: Disk>(disk: D, sb: &Super) -> (D, u64)
+    ensures disk { result.0 ≡ disk }
+    ensures homes { result.1 ≡ homes_in sb.now (D.count disk) }
+{
+    let homes = homes_after(sb, disk.blocks());
+    (disk, homes)
 }
 
 /// How many home blocks are after the journal on a disk of so many blocks, and can be named in it.
-pub(crate) fn homes_after(sb: &Super, blocks: u64) -> u64
+fn homes_after(sb: &Super, blocks: u64) -> u64
     ensures { result ≡ homes_in sb.now blocks }
 {
     if blocks < u64::from(sb.maxlen()) {
@@ -117,6 +181,11 @@ pub(crate) fn homes_after(sb: &Super, blocks: u64) -> u64
 
 /// Whether two names are of one file, or of one block device. Files that overlap otherwise, as a partition and its
 /// disk, are not found.
+fn are_same<R: Files>(rt: &R, name: &str, other: &str) -> bool {
+    are_one(fs::metadata(rt, name), fs::metadata(rt, other))
+}
+
+/// Whether this is said of one file, or of one block device.
 fn are_one(one: io::Result<Metadata>, other: io::Result<Metadata>) -> bool {
     let (Ok(one), Ok(other)) = (one, other) else {
         return false;
@@ -126,80 +195,74 @@ fn are_one(one: io::Result<Metadata>, other: io::Result<Metadata>) -> bool {
         || (devices && one.rdev() == other.rdev())
 }
 
-/// The superblock that a file of this name begins with.
-///
-/// # Errors
-/// `CommandFault::CannotRead` where the file cannot be read; `CommandFault::Super` where its first bytes are no
-/// superblock; `CommandFault::Memory` where memory ran out.
-fn super_of<'a, R: Read>(
-    alloc: Global,
-    file: &mut R,
-    name: &'a str,
-) -> Result<Super, CommandFault<'a>>
-    ensures unread { IfErr result (IsUnread name.entry.now) }
+/// The superblock that a file begins with.
+fn super_of<R: Read>(alloc: Global, file: &mut R) -> Result<Super, FileFault>
+    ensures shut { IfErr result IsFileShut }
     ensures says { IfOk result SaysSuper }
 {
-    let front = front_of(alloc, file, name)?;
-    match Super::read(front.as_slice()) {
-        Ok(sb) => Ok(sb),
-        Err(fault) => Err(CommandFault::Super(fault)),
+    match front_of(alloc, file) {
+        Ok(front) => super_in(front.as_slice()),
+        Err(fault) => Err(fault),
     }
 }
 
-/// An open file of this name as a disk of blocks of this size.
+/// The superblock that these bytes are.
+fn super_in(front: &[u8]) -> Result<Super, FileFault>
+    ensures shut { IfErr result IsFileShut }
+    ensures says { IfOk result SaysSuper }
+{
+    match Super::read(front) {
+        Ok(sb) => Ok(sb),
+        Err(fault) => Err(FileFault::Super(fault)),
+    }
+}
+
+/// An open file as a disk of blocks of this size.
 ///
 /// # Errors
-/// `CommandFault::CannotRead` where the system does not give the file's end.
-pub(crate) fn disk_of<'a, S: Start>(
-    file: File,
-    size: BlockSize,
-    name: &'a str,
-) -> Result<FileDisk<S>, CommandFault<'a>>
-    ensures unread { IfErr result (IsUnread name.entry.now) }
+/// `FileFault::Unread` where the system does not give the file's end.
+pub(crate) fn disk_of<S: Start>(file: File, size: BlockSize) -> Result<FileDisk<S>, FileFault>
+    ensures shut { IfErr result IsFileShut }
     ensures size { IfOk result (λ disk. size_of_blocks disk ≡ size) }
     ensures measured { IfOk result IsMeasured }
 {
     match FileDisk::<S>::holding(file, size) {
         Ok(disk) => Ok(disk),
-        Err(_) => Err(CommandFault::CannotRead(name, None)),
+        Err(_) => Err(FileFault::Unread(None)),
     }
 }
 
 /// The regular file or block device of this name, opened for reading, or for writing too, and locked.
 ///
 /// # Errors
-/// `CommandFault::CannotRead` where it is of another kind, or cannot be opened so; `CommandFault::InUse` where another
-/// program has locked it, or it would be changed and is mounted, a block device or the file of a loop device;
-/// `CommandFault::Memory` where memory ran out.
-pub(crate) fn open_image<'a, R: Files<File = File> + AllocGlobal>(
+/// `FileFault::Unread` where it is of another kind, or cannot be opened so; `FileFault::InUse` where another program
+/// has locked it, or it would be changed and is mounted, a block device or the file of a loop device;
+/// `FileFault::Memory` where memory ran out.
+pub(crate) fn open_image<R: Files<File = File> + AllocGlobal>(
     rt: &R,
-    name: &'a str,
+    name: &str,
     opening: Opening,
-) -> Result<File, CommandFault<'a>>
-    ensures unread { IfErr result (IsUnread name.entry.now) }
+) -> Result<File, FileFault>
+    ensures shut { IfErr result IsFileShut }
 {
     match open_file(rt, name, opening) {
         Ok(file) => Ok(file),
-        Err(ImageFault::InUse | ImageFault::Mounted) => Err(CommandFault::InUse(name)),
-        Err(ImageFault::OtherKind) => Err(CommandFault::CannotRead(name, None)),
-        Err(ImageFault::System(fault)) => Err(CommandFault::CannotRead(name, fault.code)),
-        Err(ImageFault::Memory) => Err(CommandFault::Memory),
+        Err(ImageFault::InUse | ImageFault::Mounted) => Err(FileFault::InUse),
+        Err(ImageFault::OtherKind) => Err(FileFault::Unread(None)),
+        Err(ImageFault::System(fault)) => Err(FileFault::Unread(fault.code)),
+        Err(ImageFault::Memory) => Err(FileFault::Memory),
     }
 }
 
 /// The first bytes of an image, as many as a superblock has or fewer.
-pub(crate) fn front_of<'a, R: Read>(
-    alloc: Global,
-    image: &mut R,
-    name: &'a str,
-) -> Result<Vec<u8>, CommandFault<'a>>
-    ensures unread { IfErr result (IsUnread name.entry.now) }
+pub(crate) fn front_of<R: Read>(alloc: Global, image: &mut R) -> Result<Vec<u8>, FileFault>
+    ensures shut { IfErr result IsFileShut }
     ensures front { IfOk result (λ front. IfSome (R.remaining image.old) (λ bytes. front.items ≡ take 1024 bytes)) }
 {
     match read_front(alloc, image, FRONT) {
         Ok(front) => Ok(front),
-        Err(ReadFault::Memory) => Err(CommandFault::Memory),
-        Err(ReadFault::Reader(code)) => Err(CommandFault::CannotRead(name, code)),
-        Err(ReadFault::TooLong) => Err(CommandFault::CannotRead(name, None)),
+        Err(ReadFault::Memory) => Err(FileFault::Memory),
+        Err(ReadFault::Reader(code)) => Err(FileFault::Unread(code)),
+        Err(ReadFault::TooLong) => Err(FileFault::Unread(None)),
     }
 }

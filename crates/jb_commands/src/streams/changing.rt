@@ -2,7 +2,7 @@ ghost use Rattle.std.specs.Prelude.{◌≡◌};
 ghost use Rattle.jb_format.specs.Renumbering.{IsRenumbering, Renumbers, RenumbersAs};
 ghost use Rattle.jb_format.specs.Widening.{IsWidened, Widens, WidensAs};
 ghost use Rattle.jb_commands.specs.Change.{ChangesOn, change_end, renumbered_line, widened_line};
-ghost use Rattle.jb_commands.specs.Said.{TellsLine};
+ghost use Rattle.jb_commands.specs.Said.{TellsLine, line_end};
 ghost use Rattle.jb_commands.specs.declared.report.Report.TheVariants.{Renumbered as ReportsRenumbered};
 ghost use Rattle.jb_commands.specs.declared.report.Report.TheVariants.{Widened as ReportsWidened};
 
@@ -13,6 +13,7 @@ use crate::streams::telling::tell_line;
 use itoa::Buffer;
 use jb_disk::Disk;
 use jb_format::{ChangeFault, Renumbered, Widened, renumber, widen};
+use jb_text::WriteFault;
 use std::io::Write;
 
 /// Gives the clean journal at the front of a disk its first number again. Reports how many blocks of its log became
@@ -63,11 +64,8 @@ fn widening_end<'a>(answer: Result<Widened, ChangeFault>) -> Result<Report, Comm
 }
 
 /// Writes the line of a renumbering.
-pub(crate) fn tell_renumbered<'a, O: Write>(
-    done: Renumbered,
-    out: &mut O,
-) -> Result<Ended, CommandFault<'a>>
-    ensures { TellsLine (renumbered_line done) (O.contents out.old) (O.contents out.new) result }
+pub(crate) fn tell_renumbered<O: Write>(done: Renumbered, out: &mut O) -> Result<Ended, WriteFault>
+    ensures { TellsLine (renumbered_line done) (O.contents out.old) (O.contents out.new) (line_end result) }
 {
     let (mut blocks, mut next) = (Buffer::new(), Buffer::new());
     let (blocks, next) = (blocks.format(done.blocks), next.format(done.next));
@@ -75,11 +73,8 @@ pub(crate) fn tell_renumbered<'a, O: Write>(
 }
 
 /// Writes the line of a widening.
-pub(crate) fn tell_widened<'a, O: Write>(
-    done: Widened,
-    out: &mut O,
-) -> Result<Ended, CommandFault<'a>>
-    ensures { TellsLine (widened_line done) (O.contents out.old) (O.contents out.new) result }
+pub(crate) fn tell_widened<O: Write>(done: Widened, out: &mut O) -> Result<Ended, WriteFault>
+    ensures { TellsLine (widened_line done) (O.contents out.old) (O.contents out.new) (line_end result) }
 {
     let mut digits = Buffer::new();
     let limit = digits.format(done.limit);

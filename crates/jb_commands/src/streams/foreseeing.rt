@@ -1,21 +1,21 @@
 ghost use Rattle.jb_commands.specs.Foresee.{foreseen_text, homes_lines};
-ghost use Rattle.jb_commands.specs.Said.{TellsLine};
+ghost use Rattle.jb_commands.specs.Said.{TellsLine, line_end};
 
 use crate::ended::Ended;
-use crate::fault::CommandFault;
 use crate::streams::recovering::tell_recovered;
 use crate::streams::telling::tell_line;
 use itoa::Buffer;
 use jb_recover::Foreseen;
+use jb_text::WriteFault;
 use std::io::Write;
 
 /// Writes the line of a recovery, and with `list` the home blocks that it would write.
-pub(crate) fn tell_foreseen<'a, O: Write>(
+pub(crate) fn tell_foreseen<O: Write>(
     told: &Foreseen,
     list: bool,
     out: &mut O,
-) -> Result<Ended, CommandFault<'a>>
-    ensures { TellsLine (foreseen_text list told.now) (O.contents out.old) (O.contents out.new) result }
+) -> Result<Ended, WriteFault>
+    ensures { TellsLine (foreseen_text list told.now) (O.contents out.old) (O.contents out.new) (line_end result) }
 {
     let ended = tell_recovered(told.counts, out)?;
     if list {
@@ -25,8 +25,8 @@ pub(crate) fn tell_foreseen<'a, O: Write>(
 }
 
 /// Writes home blocks, a line each.
-fn tell_homes<'a, O: Write>(homes: &[u64], out: &mut O) -> Result<Ended, CommandFault<'a>>
-    ensures { TellsLine (homes_lines homes.now) (O.contents out.old) (O.contents out.new) result }
+fn tell_homes<O: Write>(homes: &[u64], out: &mut O) -> Result<Ended, WriteFault>
+    ensures { TellsLine (homes_lines homes.now) (O.contents out.old) (O.contents out.new) (line_end result) }
 {
     for home in homes {
         let mut digits = Buffer::new();

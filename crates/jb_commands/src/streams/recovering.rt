@@ -1,6 +1,6 @@
 ghost use Rattle.std.specs.Prelude.{◌≡◌};
 ghost use Rattle.jb_commands.specs.Recover.{RecoversOn, recovered_line, recovery_end as ends_so};
-ghost use Rattle.jb_commands.specs.Said.{TellsLine};
+ghost use Rattle.jb_commands.specs.Said.{TellsLine, line_end};
 
 use crate::ended::Ended;
 use crate::fault::CommandFault;
@@ -9,6 +9,7 @@ use crate::streams::telling::tell_line;
 use itoa::Buffer;
 use jb_disk::Disk;
 use jb_recover::{RecoverFault, Recovered, recover};
+use jb_text::WriteFault;
 use std::alloc::Global;
 use std::io::Write;
 
@@ -45,11 +46,8 @@ fn recovery_end<'a>(
 }
 
 /// Writes the line of a recovery.
-pub(crate) fn tell_recovered<'a, O: Write>(
-    done: Recovered,
-    out: &mut O,
-) -> Result<Ended, CommandFault<'a>>
-    ensures { TellsLine (recovered_line done) (O.contents out.old) (O.contents out.new) result }
+pub(crate) fn tell_recovered<O: Write>(done: Recovered, out: &mut O) -> Result<Ended, WriteFault>
+    ensures { TellsLine (recovered_line done) (O.contents out.old) (O.contents out.new) (line_end result) }
 {
     let (mut transactions, mut copies) = (Buffer::new(), Buffer::new());
     let (mut revoked, mut next) = (Buffer::new(), Buffer::new());

@@ -1,12 +1,13 @@
-ghost use Rattle.std.specs.Prelude.{map};
+ghost use Rattle.std.specs.Prelude.{IfErr, IfOk, map};
 ghost use Rattle.jb_text.specs.TextParts.{spelled};
 ghost use Rattle.jb_commands.specs.AnswerSaid.{said};
-ghost use Rattle.jb_commands.specs.Said.{Tells, TellsLine};
+ghost use Rattle.jb_commands.specs.Said.{Tells, TellsLine, TellsNone, line_end};
 
 use crate::Answer;
 use crate::ended::Ended;
 use crate::fault::CommandFault;
-use jb_text::{put, put_parts};
+use jb_block::Memory;
+use jb_text::{WriteFault, put, put_parts};
 use std::io::Write;
 
 /// Writes an answer and gives its end. A fault of standard error is ignored.
@@ -34,18 +35,38 @@ pub fn tell<'a, O: Write, E: Write>(
     }
 }
 
+/// Writes an answer and gives its end, where there was memory for one.
+///
+/// # Errors
+/// `CommandFault::Memory` where there was none, and those of `tell`.
+pub(crate) fn told<'a, O: Write, E: Write>(
+    answer: Result<Answer, Memory>,
+    out: &mut O,
+    err: &mut E,
+) -> Result<Ended, CommandFault<'a>>
+    ensures tells { IfOk answer (λ answer. Tells (said answer)
+        (record { out = O.contents out.old; err = E.contents err.old })
+        (record { out = O.contents out.new; err = E.contents err.new }) result) }
+    ensures none { IfErr answer (λ _. TellsNone
+        (record { out = O.contents out.old; err = E.contents err.old })
+        (record { out = O.contents out.new; err = E.contents err.new }) result) }
+{
+    match answer {
+        Ok(answer) => tell(&answer, out, err),
+        Err(_) => Err(CommandFault::Memory),
+    }
+}
+
 /// Writes the line of a command that has done its work, part by part and without memory, and gives status 0.
 ///
 /// # Errors
-/// `CommandFault::WriteFault` where the writer took only the beginning of the line.
-pub(crate) fn tell_line<'a, O: Write>(
-    out: &mut O,
-    parts: &[&str],
-) -> Result<Ended, CommandFault<'a>>
-    ensures { TellsLine (spelled (map (λ part. part.now) parts.now)) (O.contents out.old) (O.contents out.new) result }
+/// `WriteFault` where the writer took only the beginning of the line.
+pub(crate) fn tell_line<O: Write>(out: &mut O, parts: &[&str]) -> Result<Ended, WriteFault>
+    ensures { TellsLine (spelled (map (λ part. part.now) parts.now)) (O.contents out.old) (O.contents out.new)
+        (line_end result) }
 {
     match put_parts(out, parts) {
         Ok(()) => Ok(Ended::with_status(0)),
-        Err(_) => Err(CommandFault::WriteFault),
+        Err(fault) => Err(fault),
     }
 }

@@ -1,17 +1,17 @@
-use Rattle.std.proofs.Common.{refl, ◌∙◌}
+use Rattle.std.proofs.Common.{refl}
 use Rattle.jb_commands.proofs.running.perform.Goals as goal
 
 pub returns-in-Cost-clause-ends : goal.returns-in-Cost-clause-ends
-returns-in-Cost-clause-ends g c = rw c.in-Cost.is (c.perform_cost.result, c.perform_cost.ensures.ends, c.alone.ensures.image, c.alone.ensures.end ∙ c.said_end.ensures)
+returns-in-Cost-clause-ends g c = rw c.in-Cost.is (c.perform_cost.result, c.perform_cost.ensures.ends, c.said.ensures.image, c.said.ensures.end)
 
 pub returns-in-Plan-clause-ends : goal.returns-in-Plan-clause-ends
-returns-in-Plan-clause-ends g c = rw c.in-Plan.is (c.perform_plan.result, c.perform_plan.ensures.ends, c.alone-in-Plan.ensures.image, c.alone-in-Plan.ensures.end ∙ c.said_end-in-Plan.ensures)
+returns-in-Plan-clause-ends g c = rw c.in-Plan.is (c.perform_plan.result, c.perform_plan.ensures.ends, c.said-in-Plan.ensures.image, c.said-in-Plan.ensures.end)
 
 pub returns-in-Check-clause-ends : goal.returns-in-Check-clause-ends
-returns-in-Check-clause-ends g c = rw c.in-Check.is (c.perform_check.result, c.perform_check.ensures.ends, c.alone-in-Check.ensures.image, c.alone-in-Check.ensures.end ∙ c.said_end-in-Check.ensures)
+returns-in-Check-clause-ends g c = rw c.in-Check.is (c.perform_check.result, c.perform_check.ensures.ends, c.said-in-Check.ensures.image, c.said-in-Check.ensures.end)
 
 pub returns-in-Dump-clause-ends : goal.returns-in-Dump-clause-ends
-returns-in-Dump-clause-ends g c = rw c.in-Dump.is ((c.dump_named.result, (g.I.Read.remaining c.dump_named.new.input, rw c.choice_of.ensures at c.dump_named.ensures.ends), c.alone-in-Dump.ensures.image, c.alone-in-Dump.ensures.end ∙ c.status_end.ensures), refl)
+returns-in-Dump-clause-ends g c = rw c.in-Dump.is ((c.dump_named.result, (g.I.Read.remaining c.dump_named.new.input, rw c.choice_of.ensures at c.dump_named.ensures.ends), c.status.ensures.image, c.status.ensures.end), refl)
 
 pub returns-in-Format-clause-ends : goal.returns-in-Format-clause-ends
 returns-in-Format-clause-ends g c = rw c.in-Format.is (c.format_file.ensures.ends, refl)

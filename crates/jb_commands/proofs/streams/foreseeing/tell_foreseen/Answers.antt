@@ -1,20 +1,23 @@
-use Rattle.std.proofs.Common.{◌≡◌, rules, [], Ok, Err}
+use Rattle.std.proofs.Common.{◌≡◌, ap, rules, [], Ok, Err}
 use Rattle.std.specs.Prelude.{if◌then◌else◌}
 use Rattle.jb_commands.specs.Foresee.{homes_lines}
 use Rattle.jb_commands.specs.Recover.{recovered_line}
+use Rattle.jb_commands.specs.Said.{line_end}
+use Rattle.jb_commands.specs.declared.fault.CommandFault.TheVariants.{WriteFault}
 use Rattle.jb_commands.proofs.Written.{tells_after, tells_alone, tells_first}
 use Rattle.jb_commands.proofs.streams.foreseeing.tell_foreseen.Goals as goal
 
 pub returns-in_err-ended : goal.returns-in_err-ended
 returns-in_err-ended g c =
     let told = c.args.told.now in
-    let fails : c.from_residual.result ≡ Err c.in_err-ended.field-0.0 = search rules in
-    tells_first (g.O.Write.contents c.args.out.now) (g.O.Write.contents c.tell_recovered.new.out) (recovered_line told.counts) (if c.args.list then homes_lines told.homes.items else []) c.in_err-ended.field-0.0 c.from_residual.result fails c.in_err-ended.ensures
+    let is : c.from_residual.result ≡ Err c.in_err-ended.field-0.0 = search rules in
+    let fails : line_end c.from_residual.result ≡ Err WriteFault = ap line_end is in
+    tells_first (g.O.Write.contents c.args.out.now) (g.O.Write.contents c.tell_recovered.new.out) (recovered_line told.counts) (if c.args.list then homes_lines told.homes.items else []) WriteFault (line_end c.from_residual.result) fails c.in_err-ended.ensures
 
 pub returns-then-list : goal.returns-then-list
 returns-then-list g c =
     let told = c.args.told.now in
-    rw c.if-list.true (tells_after (g.O.Write.contents c.args.out.now) (g.O.Write.contents c.tell_recovered.new.out) (g.O.Write.contents c.tell_homes.new.out) (recovered_line told.counts) (homes_lines told.homes.items) c.tell_homes.result
+    rw c.if-list.true (tells_after (g.O.Write.contents c.args.out.now) (g.O.Write.contents c.tell_recovered.new.out) (g.O.Write.contents c.tell_homes.new.out) (recovered_line told.counts) (homes_lines told.homes.items) (line_end c.tell_homes.result)
     (c.in_ok-ended.ensures).1 (rw c.as_slice.ensures.value at c.tell_homes.ensures))
 
 pub returns : goal.returns

@@ -1,8 +1,9 @@
-use Rattle.std.proofs.Common.{◌≡◌, ◌+◌, rules, refl, codes, [], ◌∷◌, map, drop, get_or, Ok, Err, subst, arith}
+use Rattle.std.proofs.Common.{◌≡◌, ◌+◌, ap, rules, refl, codes, [], ◌∷◌, map, drop, get_or, Ok, Err, subst, arith}
 use Rattle.jb_text.specs.TextParts.{spelled}
 use Rattle.jb_text.proofs.PartByPart.{spelled_next, spelled_none}
 use Rattle.jb_commands.specs.Foresee.{home_line}
-use Rattle.jb_commands.specs.Said.{TellsLine}
+use Rattle.jb_commands.specs.Said.{TellsLine, line_end}
+use Rattle.jb_commands.specs.declared.fault.CommandFault.TheVariants.{WriteFault}
 use Rattle.jb_commands.proofs.Written.{tells_after, tells_first, tells_none}
 use Rattle.jb_commands.proofs.streams.foreseeing.tell_homes.Goals as goal
 
@@ -14,9 +15,11 @@ returns-in_err-_ended g c =
     let line = home_line (get_or homes c.loop-home.home-index 0) in
     let rest = spelled (map home_line (drop (c.loop-home.home-index + 1) homes)) in
     let next = spelled_next home_line homes c.loop-home.home-index 0 line c.loop-home-test.true refl in
-    let fails : c.from_residual.result ≡ Err c.in_err-_ended.field-0.0 = search rules in
-    c.loop-home.invariant end c.from_residual.result (subst (λ text. TellsLine text now end c.from_residual.result) next
-    (tells_first now end line rest c.in_err-_ended.field-0.0 c.from_residual.result fails (subst (λ digits. TellsLine (spelled (codes "home " ∷ digits ∷ codes "\n" ∷ [])) now end (Err c.in_err-_ended.field-0.0)) c.format.ensures.text c.in_err-_ended.ensures)))
+    let told = line_end c.from_residual.result in
+    let is : c.from_residual.result ≡ Err c.in_err-_ended.field-0.0 = search rules in
+    let fails : told ≡ Err WriteFault = ap line_end is in
+    c.loop-home.invariant end told (subst (λ text. TellsLine text now end told) next
+    (tells_first now end line rest WriteFault told fails (subst (λ digits. TellsLine (spelled (codes "home " ∷ digits ∷ codes "\n" ∷ [])) now end (Err WriteFault)) c.format.ensures.text c.in_err-_ended.ensures)))
 
 pub loop-home-preserved : goal.loop-home-preserved
 loop-home-preserved g c =

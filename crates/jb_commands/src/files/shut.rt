@@ -1,0 +1,130 @@
+//! Why an image is not opened. These faults name no file, so that what only passes them on borrows nothing; they become
+//! a `CommandFault` where the words of the command are.
+ghost use Rattle.std.specs.Prelude.{◌≡◌, IfErr, IfOk, List, Some, ℕ};
+ghost use Rattle.jb_commands.specs.Files.{IsShut, IsUnread};
+ghost use Rattle.jb_commands.specs.Placed.{IsShutWithin};
+ghost use Rattle.jb_commands.specs.Shut.{IsFileShut, IsListShut, IsPairShut};
+
+use crate::fault::CommandFault;
+use jb_args::OptionName;
+use jb_image::ExtentsFault;
+use jb_super::SuperFault;
+
+/// Why a file is not opened as an image, or has no journal at its front.
+#[derive(Clone, Copy)]
+pub(crate) enum FileFault {
+    /// It could not be opened or read; with the number of the system's error, where it has one.
+    Unread(Option<i32>),
+    /// Another program has locked it, or it would be changed and is mounted.
+    InUse,
+    /// Bytes of it are refused as a superblock.
+    Super(SuperFault),
+    /// Memory ran out.
+    Memory,
+}
+
+/// Why an image in two files is not opened.
+#[derive(Clone, Copy)]
+pub(crate) enum PairFault {
+    /// The two are one file.
+    SameFile,
+    /// The journal's file is not opened.
+    Journal(FileFault),
+    /// The journal's file has fewer blocks than the journal.
+    Short,
+    /// The journal's file has so many blocks, more than its superblock says, which is the second number.
+    Long(u64, u32),
+    /// The file of the home blocks is not opened.
+    Homes(FileFault),
+}
+
+/// Why an image with its journal within the home blocks is not opened.
+#[derive(Clone, Copy)]
+pub(crate) enum WithinFault {
+    /// The list is none of extents.
+    List,
+    /// The image's file is not opened.
+    File(FileFault),
+    /// The extents do not hold the journal.
+    Extents(ExtentsFault),
+}
+
+/// What was opened, or the fault of the file of this name.
+pub(crate) fn named<'a, V>(
+    opened: Result<V, FileFault>,
+    name: &'a str,
+) -> Result<V, CommandFault<'a>>
+    ensures opened { IfOk result (λ value. opened ≡ Ok value) }
+    ensures shut { IfErr opened IsFileShut → IfErr result (IsUnread name.entry.now) }
+{
+    match opened {
+        Ok(value) => Ok(value),
+        Err(fault) => Err(fault_of(fault, name)),
+    }
+}
+
+/// The same of an image in two files: the home blocks in that of the first name.
+pub(crate) fn named_pair<'a, V>(
+    opened: Result<V, PairFault>,
+    name: &'a str,
+    journal: &'a str,
+) -> Result<V, CommandFault<'a>>
+    ensures opened { IfOk result (λ value. opened ≡ Ok value) }
+    ensures shut { IfErr opened IsPairShut → IfErr result (IsShut name.entry.now (Some journal.entry.now)) }
+{
+    match opened {
+        Ok(value) => Ok(value),
+        Err(fault) => Err(fault_of_pair(fault, name, journal)),
+    }
+}
+
+/// The same of an image with its journal within the home blocks.
+pub(crate) fn named_within<'a, V>(
+    opened: Result<V, WithinFault>,
+    name: &'a str,
+) -> Result<V, CommandFault<'a>>
+    ensures opened { IfOk result (λ value. opened ≡ Ok value) }
+    ensures shut { (list : List ℕ) → IfErr opened (IsListShut list)
+        → IfErr result (IsShutWithin name.entry.now list) }
+{
+    match opened {
+        Ok(value) => Ok(value),
+        Err(fault) => Err(fault_within(fault, name)),
+    }
+}
+
+/// The fault of a command over the file of this name.
+fn fault_of<'a>(fault: FileFault, name: &'a str) -> CommandFault<'a>
+    ensures { IsFileShut fault → IsUnread name.entry.now result }
+{
+    match fault {
+        FileFault::Unread(code) => CommandFault::CannotRead(name, code),
+        FileFault::InUse => CommandFault::InUse(name),
+        FileFault::Super(fault) => CommandFault::Super(fault),
+        FileFault::Memory => CommandFault::Memory,
+    }
+}
+
+/// The fault of a command over two files.
+fn fault_of_pair<'a>(fault: PairFault, name: &'a str, journal: &'a str) -> CommandFault<'a>
+    ensures { IsPairShut fault → IsShut name.entry.now (Some journal.entry.now) result }
+{
+    match fault {
+        PairFault::SameFile => CommandFault::SameFile(name),
+        PairFault::Journal(fault) => fault_of(fault, journal),
+        PairFault::Short => CommandFault::Super(SuperFault::Geometry),
+        PairFault::Long(blocks, maxlen) => CommandFault::JournalLength(blocks, maxlen),
+        PairFault::Homes(fault) => fault_of(fault, name),
+    }
+}
+
+/// The fault of a command over a file with its journal within the home blocks.
+fn fault_within<'a>(fault: WithinFault, name: &'a str) -> CommandFault<'a>
+    ensures { (list : List ℕ) → IsListShut list fault → IsShutWithin name.entry.now list result }
+{
+    match fault {
+        WithinFault::List => CommandFault::BadOption(OptionName::Extents),
+        WithinFault::File(fault) => fault_of(fault, name),
+        WithinFault::Extents(fault) => CommandFault::Extents(fault),
+    }
+}
