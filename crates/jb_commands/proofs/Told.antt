@@ -1,5 +1,5 @@
 -- How a command over texts ends, by what it answers and what was told of that.
-use Rattle.std.proofs.Common.{◌≡◌, ℕ, List, Option, None, Result, Ok, Err, IfOk, IfErr, inl, inr}
+use Rattle.std.proofs.Common.{ℕ, List, Option, None, Result, Ok, Err, IfOk, IfErr, inl, inr}
 use Rattle.jb_commands.specs.AnswerSaid.{Said, said}
 use Rattle.jb_commands.specs.Limits.{cert_limit}
 use Rattle.jb_commands.specs.Runs.{Ends, EndsOfClaim, EndsOfTwo}

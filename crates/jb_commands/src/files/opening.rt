@@ -1,7 +1,8 @@
 //! Images that are there: opened, locked, and used as disks.
-ghost use Rattle.std.specs.Prelude.{◌≡◌, take, option_map, Some, None, IfErr, IfOk, IfSome};
+ghost use Rattle.std.specs.Prelude.{◌≡◌, [], take, option_map, Some, None, IfErr, IfOk, IfSome};
 ghost use Rattle.jb_disk.specs.File.{IsMeasured, count_of, size_of_blocks};
 ghost use Rattle.jb_format.specs.Front.{homes_in};
+ghost use Rattle.jb_image.specs.Pair.{back_disk, front_disk, joined_count, past_states};
 ghost use Rattle.jb_commands.specs.Files.{IsImageOpened, IsShut, SaysSuper};
 ghost use Rattle.jb_commands.specs.Shut.{IsFileShut, IsFront, IsPairShut};
 
@@ -84,7 +85,7 @@ fn open_two<S: Start, T: Start, R: Files<File = File> + AllocGlobal>(
     match open_log(rt, journal, opening) {
         Ok((log, sb)) => match open_sized(rt, name, sb.block_size(), opening) {
             Ok(rest) => {
-                let (pair, homes) = counted(PairDisk::of(log, rest), &sb);
+                let (pair, homes) = paired(log, rest, &sb);
                 Ok((ImageDisk::Two(pair), homes))
             }
             Err(fault) => Err(PairFault::Homes(fault)),
@@ -158,6 +159,16 @@ fn open_sized<S: Start, R: Files<File = File> + AllocGlobal>(
         Ok(file) => disk_of(file, size),
         Err(fault) => Err(fault),
     }
+}
+
+/// A journal's disk and that of its home blocks as one disk, and the number of the home blocks.
+fn paired<A: Disk, B: Disk>(log: A, rest: B, sb: &Super) -> (PairDisk<A, B>, u64)
+    ensures front { front_disk result.0 ≡ log }
+    ensures back { back_disk result.0 ≡ rest }
+    ensures fresh { past_states result.0 ≡ [] }
+    ensures homes { result.1 ≡ homes_in sb.now (joined_count (A.size log) (A.count log) (B.size rest) (B.count rest)) }
+{
+    counted(PairDisk::of(log, rest), sb)
 }
 
 /// A disk behind a journal, or with one, and the number of its home blocks.
