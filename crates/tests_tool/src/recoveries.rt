@@ -1,6 +1,6 @@
 //! Images that are recovered.
 
-use crate::files::{COPY, MAGIC, WHOLE, add_block, check_file, image, remove, write};
+use crate::files::{COPY, JOURNAL, MAGIC, WHOLE, add_block, check_file, image, pad, remove, write};
 use crate::runs::{End, Host, check_run};
 
 /// An image: its incompatible features, what its revoke block says of its length, the home of its copy, and how many of
@@ -74,12 +74,16 @@ fn check_recovery(rt: &impl Host, of: Image, end: End, row: usize) {
     }
 }
 
-/// Checks an image whose journal has a copy for one of its own blocks, as it stands within the image.
+/// Checks an image that has its journal in the blocks 16 to 48, with a copy for block 20.
 fn check_own(rt: &impl Host) {
-    let bytes = image(rt, [2, 1], 1, 20, 5, &[]);
+    let mut log = image(rt, [2, 1], 1, 20, 20, &[]);
+    log.truncate(JOURNAL);
+    let mut bytes = Vec::new(rt.alloc());
+    pad(rt, &mut bytes, 16 * 1024);
+    bytes.extend_from_slice(&log).expect(rt, "memory");
     write(rt, "log.img", &bytes);
-    let own = (1, "", "jb: Extents Home 5\n");
-    let line = "recover log.img --extents (0-32):0-32";
+    let own = (1, "", "jb: Extents Home 20\n");
+    let line = "recover log.img --extents (0-32):16-48";
     check_left(rt, line, own, &bytes, RECOVERIES.len())
 }
 
