@@ -1,5 +1,5 @@
 -- What a run leaves, from what its threads left and how its desk was closed.
-use Rattle.std.proofs.Common.{◌≡◌, ℕ, List, [], ◌∷◌, map, Some, Result, IfOk, sym, ap, subst, ◌∙◌}
+use Rattle.std.proofs.Common.{◌≡◌, ℕ, List, ◌∷◌, map, Some, Result, IfOk, sym, ap, subst, ◌∙◌}
 use Rattle.std.proofs.lemmas.Result.{IfOk-at_ok}
 use Rattle.jb_disk.specs.declared.disk.Disk.{Ghosts as Disks}
 use Rattle.jb_deck.specs.declared.done.Entry.{Entry}

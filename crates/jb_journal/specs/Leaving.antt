@@ -18,7 +18,6 @@ use Rattle.jb_journal.specs.declared.fault.RunFault.{RunFault}
 use Rattle.jb_journal.specs.declared.gather.Gathered.{Gathered}
 use Rattle.jb_journal.specs.declared.ran.Ran.{Ran}
 use Rattle.jb_journal.specs.declared.threads.Threaded.{Threaded}
-use Rattle.jb_journal.specs.declared.threads.Worked.{Worked}
 
 module _ {D H N : Type 0} {O : Ghosts H} {P : Places H} where
   -- a desk was closed with what its seats left and the marks that were seen
