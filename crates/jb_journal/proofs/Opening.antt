@@ -1,5 +1,5 @@
 -- A file that was recovered, and then read.
-use Rattle.std.proofs.Common.{◌≡◌, ◌≤◌, ℕ, length, Ok, sym, ◌∙◌, ap, subst, ⊎_elim, arith}
+use Rattle.std.proofs.Common.{◌≡◌, ◌≤◌, ℕ, length, Ok, Err, IfOk, inl, sym, ◌∙◌, ap, subst, ⊎_elim, arith}
 use Rattle.jb_block.specs.Size.{bytes_of}
 use Rattle.jb_block.specs.declared.size.BlockSize.{BlockSize}
 use Rattle.jb_disk.specs.Agreeing.{left_from_now}
@@ -11,12 +11,13 @@ use Rattle.jb_disk.specs.Time.{Goes, LeavesOnly}
 use Rattle.jb_disk.specs.declared.file.FileDisk.{FileDisk}
 use Rattle.jb_disk.specs.declared.start.Start.{Ghosts as Starts}
 use Rattle.jb_image.proofs.Opened.{opened-holds, opened-leaves}
+use Rattle.jb_image.specs.declared.geometry.Geometry.{Geometry}
 use Rattle.jb_recover.specs.Outcomes.{RecoversAs}
 use Rattle.jb_recover.specs.Recovers.{Recovers}
 use Rattle.jb_recover.specs.declared.fault.RecoverFault.{RecoverFault}
 use Rattle.jb_recover.specs.declared.recovered.Recovered.{Recovered}
 use Rattle.std.specs.Prelude.{Result}
-use Rattle.jb_journal.specs.Opening.{WasRecovered}
+use Rattle.jb_journal.specs.Opening.{WasRecovered, WasRecoveredOrMade}
 
 module _ {S : Type 0} {start : Starts S} where
   -- how many calls of a file were made
@@ -96,3 +97,13 @@ module _ {S : Type 0} {start : Starts S} where
               (was.crash (before honest) c (left_then honest c left));
           durable = λ honest c left. was.durable (before honest) c (left_before honest c left) ∙ sym (same honest);
         }
+
+-- where an image was opened, its blocks have the size that was asked for
+pub sized-as : {S E : Type 0} {start : Starts S} (size : BlockSize) (r : Result (FileDisk S start) E) → IfOk r (WasRecovered size) → IfOk r (λ f. bytes_of (size_of_blocks f) ≡ bytes_of size)
+sized-as size (Ok f) was = was.sized
+sized-as size (Err e) was = tt
+
+-- and it was recovered, or made
+pub ready-as : {S E : Type 0} {start : Starts S} (g : Geometry) (r : Result (FileDisk S start) E) → IfOk r (WasRecovered g.block_size) → IfOk r (WasRecoveredOrMade g)
+ready-as g (Ok f) was = inl was
+ready-as g (Err e) was = tt

@@ -1,6 +1,7 @@
 pub mod Changing
 pub mod Client
 pub mod Homes
+pub mod Leaving
 pub mod Names
 pub mod Notes
 pub mod Opening

@@ -11,10 +11,10 @@ use thiserror::Error;
 #[error_bound(E: fmt::Display)]
 pub enum HandleFault<E> {
     /// It was not begun, for this.
-    #[error("{0}")]
+    #[error(transparent)]
     Begin(BeginFault),
     /// What changes it gave this answer.
-    #[error("{0}")]
+    #[error(transparent)]
     Refused(E),
     /// The journal has failed: the worker ends, and so does the program, to recover the journal when it is started
     /// anew.
@@ -32,7 +32,7 @@ pub enum HandleFault<E> {
 #[derive(Clone, Copy, Debug, PartialEq, Eq, Error)]
 pub enum RunFault {
     /// The journal was not opened, for this.
-    #[error("{0}")]
+    #[error(transparent)]
     Open(OpenFault),
     /// There was no memory for the desk, a thread's answer or what the threads leave. Handles may have been committed
     /// then, or the disk may have failed: the program is to end, and to recover the journal when it is started anew.
@@ -75,6 +75,6 @@ pub enum HomeFault {
     #[error("the buffer has not the length of one block")]
     Length,
     /// It was not read, for this.
-    #[error("{0}")]
+    #[error(transparent)]
     Peek(PeekFault),
 }

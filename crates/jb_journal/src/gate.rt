@@ -49,21 +49,13 @@ impl Gate {
     /// waited so long in vain.
     pub(crate) fn wait<R: Wait + time::Clock>(&self, rt: &R) -> bool {
         self.pass(rt);
-        let start = Instant::now(rt);
+        let start = Instant::now(rt).ok();
         for _ in rt.forever() {
+            let left = left_since(rt, start);
             let mut came = self.came.lock(rt);
-            if came.given_up || came.missing == 0 {
-                return !came.given_up;
-            }
-            let gone = match &start {
-                Ok(start) => start.elapsed(rt).unwrap_or(Duration::MAX),
-                Err(_) => Duration::MAX,
-            };
-            let left = Duration::from_secs(PATIENCE).saturating_sub(gone);
-            if left.is_zero() {
-                came.given_up = true;
+            if let Some(all) = came.have_all(left) {
                 self.moved.notify_all();
-                return false;
+                return all;
             }
             self.moved.wait_timeout(rt, came, left);
         }
@@ -74,4 +66,23 @@ impl Gate {
     pub(crate) fn is_given_up<R: Wait>(&self, rt: &R) -> bool {
         self.came.lock(rt).given_up
     }
+}
+
+impl Came {
+    /// Whether all have come; `None` while that is waited for. Where no time is left they are given up.
+    fn have_all(&mut self, left: Duration) -> Option<bool> {
+        if self.missing > 0 && left.is_zero() {
+            self.given_up = true;
+        }
+        (self.given_up || self.missing == 0).then_some(!self.given_up)
+    }
+}
+
+/// How long to wait yet, where it was waited since then; not at all where the clock cannot be read.
+fn left_since<R: time::Clock>(rt: &R, start: Option<Instant>) -> Duration {
+    let gone = match start {
+        Some(start) => start.elapsed(rt).unwrap_or(Duration::MAX),
+        None => Duration::MAX,
+    };
+    Duration::from_secs(PATIENCE).saturating_sub(gone)
 }

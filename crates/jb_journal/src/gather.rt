@@ -1,12 +1,14 @@
 //! What the workers leave is put together.
-ghost use Rattle.std.specs.Prelude.{◌≡◌};
+ghost use Rattle.std.specs.Prelude.{◌≡◌, ◌⊎◌, IfErr, IfOk};
+ghost use Rattle.jb_journal.specs.Leaving.{IsGatheredFrom};
+ghost use Rattle.jb_journal.specs.declared.fault.RunFault.TheVariants.{Accounts, NoThread, Memory as OutOfMemory};
 
 use crate::fault::RunFault;
-use crate::threads::Worked;
-use jb_block::Memory;
-use jb_desk::{Desk, Left, Origin, Sights};
+use crate::threads::{Threaded, Worked};
+use jb_desk::{Desk, Ended, Left, Origin, Sights};
 use jb_disk::{Clock, Disk};
 use std::alloc::Global;
+use std::sync::Wait;
 use std::sync::ledger::Ledger;
 
 /// What all threads leave.
@@ -24,11 +26,11 @@ impl<T: Drop, D: Disk, H: Origin, N: Ledger> Gathered<T, D, H, N> {
     ghost use Rattle.std.specs.Prelude.{◌≡◌, ◌++◌, ◌∷◌, [], map, All, Some, IfOk, OnOk, IfErr, ◌⊎◌};
     ghost use Rattle.jb_book.specs.Marks.{SeesMore};
     ghost use Rattle.jb_desk.specs.Seats.{made_left};
-    ghost use Rattle.jb_journal.specs.Running.{HasAllSeen, answer_of, stops_of_worked};
+    ghost use Rattle.jb_journal.specs.Running.{HasAllSeen, answer_of, stops_left_by, stops_of_worked};
     ghost use Rattle.jb_journal.specs.declared.fault.RunFault.TheVariants.{Accounts, Memory as OutOfMemory};
 
     /// Nothing but what is seen by now. Takes no memory.
-    pub fn new(alloc: Global, seen: Sights<D, H>) -> Gathered<T, D, H, N>
+    fn new(alloc: Global, seen: Sights<D, H>) -> Gathered<T, D, H, N>
         ensures { (result.lefts.items ≡ []) × (result.answers.items ≡ []) }
     {
         Gathered {
@@ -41,25 +43,41 @@ impl<T: Drop, D: Disk, H: Origin, N: Ledger> Gathered<T, D, H, N> {
     /// Adds what a seat left.
     ///
     /// # Errors
-    /// `Memory` where there is none for that.
-    pub fn add_left(&mut self, left: Left<H, N>) -> Result<(), Memory>
+    /// `Accounts` where there was no seat, `Memory` where there is none for that.
+    fn add_left(&mut self, left: Option<Left<H, N>>) -> Result<(), RunFault>
         ensures answers { self.new.answers ≡ self.old.answers }
         ensures seen { self.new.seen ≡ self.old.seen }
-        ensures lefts { OnOk result (self.new.lefts.items ≡ self.old.lefts.items ++ left ∷ []) }
+        ensures stops { OnOk result (map made_left self.new.lefts.items ≡ map made_left self.old.lefts.items
+            ++ stops_left_by left ∷ []) }
+        ensures faults { IfErr result (λ fault. (fault ≡ OutOfMemory) ⊎ (fault ≡ Accounts)) }
     {
-        Ok(self.lefts.push(left)?)
+        let Some(left) = left else {
+            return Err(RunFault::Accounts);
+        };
+        match self.lefts.push(left) {
+            Ok(()) => Ok(()),
+            Err(_) => Err(RunFault::Memory),
+        }
     }
 
     /// Adds what a worker answered.
     ///
     /// # Errors
-    /// `Memory` where there is none for that.
-    fn add_answer(&mut self, answer: T) -> Result<(), Memory>
-        ensures answers { OnOk result (self.new.answers.items ≡ self.old.answers.items ++ answer ∷ []) }
+    /// `Accounts` where it did not, `Memory` where there is none for that.
+    fn add_answer(&mut self, answer: Option<T>) -> Result<(), RunFault>
+        ensures answers { OnOk result (map Some self.new.answers.items ≡ map Some self.old.answers.items
+            ++ answer ∷ []) }
         ensures lefts { self.new.lefts ≡ self.old.lefts }
         ensures seen { self.new.seen ≡ self.old.seen }
+        ensures faults { IfErr result (λ fault. (fault ≡ OutOfMemory) ⊎ (fault ≡ Accounts)) }
     {
-        Ok(self.answers.push(answer)?)
+        let Some(answer) = answer else {
+            return Err(RunFault::Accounts);
+        };
+        match self.answers.push(answer) {
+            Ok(()) => Ok(()),
+            Err(_) => Err(RunFault::Memory),
+        }
     }
 
     /// Adds what a worker leaves.
@@ -83,20 +101,16 @@ impl<T: Drop, D: Disk, H: Origin, N: Ledger> Gathered<T, D, H, N> {
             mut seen,
             answer,
         } = worked;
-        let (Some(left), Some(answer)) = (left, answer) else {
-            return Err(RunFault::Accounts);
-        };
         desk.inform(&mut self.seen, &mut seen);
         self.add_left(left)?;
-        self.add_answer(answer)?;
-        Ok(())
+        self.add_answer(answer)
     }
 
     /// Adds what all workers leave.
     ///
     /// # Errors
     /// `Accounts` where one had no seat, `Memory` where there is none for that.
-    pub fn add_all<C: Clock>(
+    fn add_all<C: Clock>(
         &mut self,
         desk: &Desk<D, C, H, N>,
         workers: Vec<Worked<T, D, H, N>>,
@@ -113,4 +127,29 @@ impl<T: Drop, D: Disk, H: Origin, N: Ledger> Gathered<T, D, H, N> {
         }
         Ok(())
     }
+}
+
+/// Puts together what the threads of a run leave; says how the committer ended, too.
+///
+/// # Errors
+/// That of the threads; `Accounts` where a worker had no seat, `Memory` where there is none for that.
+pub(crate) fn gather<T: Drop, D: Disk, C: Clock, R: Wait, H: Origin, N: Ledger>(
+    rt: &R,
+    alloc: Global,
+    desk: &Desk<D, C, H, N>,
+    ran: Result<Threaded<T, D, H, N>, RunFault>,
+) -> Result<(Gathered<T, D, H, N>, Ended), RunFault>
+    requires { IfErr ran (λ fault. (fault ≡ OutOfMemory) ⊎ ((fault ≡ Accounts) ⊎ (fault ≡ NoThread))) }
+    ensures gathered { IfOk result (IsGatheredFrom ran) }
+    ensures faults { IfErr result (λ fault. (fault ≡ OutOfMemory) ⊎ ((fault ≡ Accounts) ⊎ (fault ≡ NoThread))) }
+{
+    let Threaded {
+        workers,
+        committer,
+        commit,
+    } = ran?;
+    let mut gathered = Gathered::new(alloc, desk.sights(rt));
+    gathered.add_left(Some(committer))?;
+    gathered.add_all(desk, workers)?;
+    Ok((gathered, commit))
 }

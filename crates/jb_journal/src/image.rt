@@ -92,14 +92,23 @@ pub fn open_or_create_holding<S: Start, R: Files<File = File> + AllocGlobal>(
     ensures ready { IfOk result (WasRecoveredOrMade geometry) }
 {
     match open_whole(rt, name, geometry) {
-        Err(JournalFault::Image(ImageFault::System(fault))) if fault.is_not_found() => {}
-        opened => return opened,
+        Ok(disk) => return Ok(disk),
+        Err(fault) if is_missing(fault) => {}
+        Err(fault) => return Err(fault),
     }
     match create_holding(rt, name, geometry) {
         Ok(disk) => Ok(disk),
         // another process has made it meanwhile
         Err(MakeFault::Exists) => open_whole(rt, name, geometry),
         Err(fault) => Err(JournalFault::Make(fault)),
+    }
+}
+
+/// Whether an image was not opened because there is none of that name.
+fn is_missing(fault: JournalFault) -> bool {
+    match fault {
+        JournalFault::Image(ImageFault::System(fault)) => fault.is_not_found(),
+        _ => false,
     }
 }
 

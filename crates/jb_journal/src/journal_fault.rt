@@ -14,42 +14,42 @@ use thiserror::Error;
 #[derive(Clone, Copy, Debug, PartialEq, Eq, Error)]
 pub enum JournalFault {
     /// An image was not opened.
-    #[error("{0}")]
+    #[error(transparent)]
     Image(#[from] ImageFault),
     /// An image was not made.
-    #[error("{0}")]
+    #[error(transparent)]
     Make(#[from] MakeFault),
     /// The image has fewer home blocks than were asked for.
     #[error("the image has fewer home blocks than this program needs")]
     FewerHomes,
     /// No journal was made on a disk.
-    #[error("{0}")]
+    #[error(transparent)]
     Format(#[from] FormatFault),
     /// A journal was not recovered.
-    #[error("{0}")]
+    #[error(transparent)]
     Recover(#[from] RecoverFault),
     /// A journal was not run.
-    #[error("{0}")]
+    #[error(transparent)]
     Run(#[from] RunFault),
     /// Handles that stopped may be lost.
-    #[error("{0}")]
+    #[error(transparent)]
     NotSettled(#[from] NotSettled),
     /// A handle did not stop.
-    #[error("{0}")]
+    #[error(transparent)]
     Change(#[from] HandleFault<TouchFault>),
     /// A handle does not take a change.
-    #[error("{0}")]
+    #[error(transparent)]
     Touch(#[from] TouchFault),
     /// A handle was not committed.
-    #[error("{0}")]
+    #[error(transparent)]
     Wait(#[from] WaitFault),
     /// A home block was not read by a worker.
-    #[error("{0}")]
+    #[error(transparent)]
     Read(#[from] ReadHomeFault),
     /// A home block was not read from a journal that is not open.
-    #[error("{0}")]
+    #[error(transparent)]
     ReadHome(#[from] HomeFault),
     /// There was no memory.
-    #[error("{0}")]
+    #[error(transparent)]
     Memory(#[from] Memory),
 }

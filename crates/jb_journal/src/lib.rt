@@ -4,6 +4,7 @@
 
 mod client;
 mod clock;
+mod closing;
 mod committing;
 mod fault;
 mod gate;

@@ -1,6 +1,5 @@
 //! A journal is run.
-ghost use Rattle.std.specs.Prelude.{◌≡◌, ◌+◌, ◌^◌, ◌≤◌, ◌⊎◌, [], false, IfErr, IfOk};
-ghost use Rattle.jb_deck.specs.Done.{past_after};
+ghost use Rattle.std.specs.Prelude.{◌≡◌, ◌+◌, ◌^◌, ◌≤◌, ◌⊎◌, [], false, IfErr, IfOk, IfSome};
 ghost use Rattle.jb_desk.specs.Desks.{shape_in};
 ghost use Rattle.jb_desk.specs.History.{history_in};
 ghost use Rattle.jb_book.specs.Since.{EndsSince, IsBegunOn, IsSince};
@@ -11,15 +10,16 @@ ghost use Rattle.jb_journal.specs.Running.{EndsRun, RanAll};
 ghost use Rattle.jb_journal.specs.Starting.{started_on};
 ghost use Rattle.jb_journal.specs.declared.fault.RunFault.TheVariants.{Accounts, NoThread, Memory as OutOfMemory};
 
+use crate::closing::close;
 use crate::fault::RunFault;
-use crate::gather::Gathered;
+use crate::gather::gather;
 use crate::options::Options;
 use crate::ran::Ran;
-use crate::threads::{Threaded, run_all};
+use crate::threads::run_all;
 use crate::worker::Worker;
 use jb_board::Opened;
-use jb_deck::{Deck, Entry};
-use jb_desk::{Closed, Desk, Origin, Stops};
+use jb_deck::Deck;
+use jb_desk::{Desk, Origin, Stops};
 use jb_disk::{Clock, Disk};
 use jb_handle::Shape;
 use std::alloc::Global;
@@ -89,21 +89,55 @@ pub fn run_on<
     ensures since { IfOk result (λ ran. EndsSince D.Disk H.begun ran.disk ran.trail.items) }
     ensures refused { IfErr result (RefusesRun D.Disk disk) }
 {
-    let deck = match jb_desk::open::<D, H>(alloc, disk) {
-        Ok(deck) => deck,
-        Err((_, fault)) => return Err(RunFault::Open(fault)),
-    };
-    let _shape = deck.shape(); // for the proof alone: what its handles have to fit
-    let Ok(handles) = Stops::new(alloc, PARTS) else {
-        return Err(RunFault::Memory);
-    };
+    match jb_desk::open::<D, H>(alloc, disk) {
+        Ok(deck) => {
+            let _shape = deck.shape(); // for the proof alone: what its handles have to fit
+            run_deck::<T, W, D, C, R, H>(rt, alloc, deck, clock, options, worker)
+        }
+        Err((_, fault)) => Err(RunFault::Open(fault)),
+    }
+}
+
+/// Runs the workers on a journal that was just opened.
+fn run_deck<
+    T: Drop + Send,
+    W: Worker<T> + Sync,
+    D: Disk + Drop + Send,
+    C: Clock + Drop + Send,
+    R: Threads + Wait + time::Clock + Sync,
+    H: Origin,
+>(
+    rt: &R,
+    alloc: Global,
+    deck: Deck<D>,
+    clock: C,
+    options: Options,
+    worker: &W,
+) -> Result<Ran<T, D>, RunFault>
+    requires deck { (deck.trail ≡ []) × (deck.aborted ≡ false) × IsSince D.Disk H.begun deck }
+    requires any { (words : WordMap) → H.begun.stops words }
+    ensures ran { IfOk result (RanAll D.Disk H.begun (W.answers worker.now H.begun) options.workers) }
+    ensures ends { IfOk result (EndsRun options.checkpoint) }
+    ensures since { IfOk result (λ ran. EndsSince D.Disk H.begun ran.disk ran.trail.items) }
+    ensures faults { IfErr result (λ fault. (fault ≡ OutOfMemory) ⊎ ((fault ≡ Accounts) ⊎ (fault ≡ NoThread))) }
+{
     let changes = Blank::new(PARTS);
-    let Ok(marks) = Opened::new(alloc) else {
+    let Some((handles, marks)) = histories(alloc) else {
         return Err(RunFault::Memory);
     };
     run_open::<T, W, D, C, R, Brand, Brand>(
         rt, alloc, handles, changes, marks, deck, clock, options, worker,
     )
+}
+
+/// A new ledger of handles, with its history, and a new history of a journal's commits; `None` where there is no memory
+/// for them.
+fn histories<D: Disk>(alloc: Global) -> Option<(Stops, Opened<Deck<D>>)>
+    ensures { IfSome result (λ made. made.0.tickets.parts ≡ 2 ^ 61 + 1) }
+{
+    let handles = Stops::new(alloc, PARTS).ok()?;
+    let marks = Opened::new(alloc).ok()?;
+    Some((handles, marks))
 }
 
 /// Runs the workers at a desk over a journal that was just opened. The desk's ledgers are `handles`, with its history,
@@ -139,10 +173,29 @@ fn run_open<
     ensures faults { IfErr result (λ fault. (fault ≡ OutOfMemory) ⊎ ((fault ≡ Accounts) ⊎ (fault ≡ NoThread))) }
 {
     let shape = deck.shape();
-    let Ok(desk) = Desk::<D, C, H, N>::start(alloc, handles, changes, marks, deck, clock) else {
+    let Some(desk) = start::<D, C, H, N>(alloc, handles, changes, marks, deck, clock) else {
         return Err(RunFault::Memory);
     };
     run_at(rt, alloc, desk, shape, options, worker)
+}
+
+/// A desk over a journal that was just opened; `None` where there is no memory for it.
+fn start<D: Disk + Drop, C: Clock + Drop, H: Origin, N: Ledger>(
+    alloc: Global,
+    handles: Stops,
+    changes: Blank,
+    marks: Opened<Deck<D>>,
+    deck: Deck<D>,
+    clock: C,
+) -> Option<Desk<D, C, H, N>>
+    requires handles { (handles.tickets.name ≡ H.name) × (handles.tickets.parts ≡ H.parts) × (H.parts ≡ 2 ^ 61 + 1)
+        × (history_in handles ≡ H.history) }
+    requires changes { (changes.name ≡ N.name) × (changes.parts ≡ N.parts) × (N.parts ≡ 2 ^ 61 + 1) }
+    requires marks { history_id marks ≡ H.marks }
+    requires deck { (deck.trail ≡ []) × (deck.aborted ≡ false) × IsSince D.Disk H.begun deck }
+    ensures { IfSome result (λ desk. shape_in desk ≡ deck.shape) }
+{
+    Desk::start(alloc, handles, changes, marks, deck, clock).ok()
 }
 
 /// Runs the workers at a new desk, and closes it.
@@ -171,51 +224,6 @@ fn run_at<
     ensures faults { IfErr result (λ fault. (fault ≡ OutOfMemory) ⊎ ((fault ≡ Accounts) ⊎ (fault ≡ NoThread))) }
 {
     let (ran, checkpoint) = run_all(rt, alloc, &desk, shape, options, worker);
-    let Threaded {
-        workers,
-        committer,
-        commit,
-    } = ran?;
-    let mut gathered = Gathered::new(alloc, desk.sights(rt));
-    gathered.add_left(committer)?;
-    gathered.add_all(&desk, workers)?;
-    let Gathered {
-        lefts,
-        seen,
-        answers,
-    } = gathered;
-    let Ok(closed) = desk.close(lefts, seen) else {
-        return Err(RunFault::Accounts);
-    };
-    let Closed {
-        disk,
-        handles,
-        changes,
-        trail,
-        ..
-    } = closed;
-    let settled = settled_handles(&trail);
-    if commit.is_shut() && settled != handles {
-        return Err(RunFault::Accounts);
-    }
-    Ok(Ran {
-        disk,
-        answers,
-        handles,
-        settled,
-        changes,
-        trail,
-        commit,
-        checkpoint,
-    })
-}
-
-/// How many handles the groups of a trail have settled.
-fn settled_handles(trail: &[Entry]) -> u64
-    ensures { result ≡ past_after 0 trail.now }
-{
-    match trail.last() {
-        Some(entry) => entry.past,
-        None => 0,
-    }
+    let (gathered, commit) = gather(rt, alloc, &desk, ran)?;
+    close(desk, gathered, commit, checkpoint)
 }

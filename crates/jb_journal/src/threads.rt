@@ -1,5 +1,5 @@
 //! The threads of a journal: its workers, its committer and its checkpointer.
-ghost use Rattle.std.specs.Prelude.{◌≡◌, ◌<◌, ◌≤◌, ◌⊎◌, true, IfErr, IfOk, IfSome, Some};
+ghost use Rattle.std.specs.Prelude.{◌≡◌, ◌<◌, ◌≤◌, ◌⊎◌, true, IfErr, IfOk, IfSome, Ok, Some};
 ghost use Rattle.jb_handle.specs.Word.{WordMap};
 ghost use Rattle.jb_journal.specs.declared.fault.RunFault.TheVariants.{Accounts, NoThread, Memory as OutOfMemory};
 ghost use Rattle.jb_desk.specs.Desks.{shape_in};
@@ -140,14 +140,28 @@ fn run_workers<
             requires { (shape ≡ shape_in desk.now) × ((words : WordMap) → H.begun.stops words) }
         { work(rt, alloc, desk, shape, gate, workers, worker) },
     );
-    if let Some(seat) = place {
-        let _left = desk.leave(rt, seat);
-        return Err(RunFault::Accounts);
+    match place {
+        Some(seat) => {
+            let _left = desk.leave(rt, seat);
+            Err(RunFault::Accounts)
+        }
+        None => put_threads(committed, ran, gate.is_given_up(rt)),
     }
+}
+
+/// What the threads leave, where the committer had a seat and the gate was not given up.
+fn put_threads<T: Drop, D: Disk, H: Origin, N: Ledger>(
+    committed: Option<(Left<H, N>, Ended)>,
+    ran: Result<Vec<Worked<T, D, H, N>>, Memory>,
+    given_up: bool,
+) -> Result<Threaded<T, D, H, N>, RunFault>
+    ensures ran { IfOk result (λ left. (ran ≡ Ok left.workers) × (committed ≡ Some (left.committer, left.commit))) }
+    ensures faults { IfErr result (λ fault. (fault ≡ OutOfMemory) ⊎ ((fault ≡ Accounts) ⊎ (fault ≡ NoThread))) }
+{
     let Some((committer, commit)) = committed else {
         return Err(RunFault::Accounts);
     };
-    if gate.is_given_up(rt) {
+    if given_up {
         return Err(RunFault::NoThread);
     }
     Ok(Threaded {

@@ -31,3 +31,15 @@ returns-in-Err-answer-clause-changed g c = (
   },
   search rules,
 )
+
+pub returns-in-Err-clause-stopped : goal.returns-in-Err-clause-stopped
+returns-in-Err-clause-stopped g c = tt
+
+pub returns-in-Ok-answer-clause-desk : goal.returns-in-Ok-answer-clause-desk
+returns-in-Ok-answer-clause-desk g c = c.stop.ensures.desk
+
+pub returns-in-Ok-answer-clause-stopped : goal.returns-in-Ok-answer-clause-stopped
+returns-in-Ok-answer-clause-stopped g c = c.stop.ensures.stopped
+
+pub returns-in-Err-answer-clause-stopped : goal.returns-in-Err-answer-clause-stopped
+returns-in-Err-answer-clause-stopped g c = tt

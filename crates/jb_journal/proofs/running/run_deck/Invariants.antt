@@ -1,6 +1,6 @@
 use Rattle.jb_desk.specs.History.{history_in}
 use Rattle.jb_board.specs.History.{history_id}
-use Rattle.jb_journal.proofs.running.run_on.Given as goal
+use Rattle.jb_journal.proofs.running.run_deck.Given as goal
 
 abbrev pub ghosts-run_open-H-Ledger : goal.ghosts-run_open-H-Ledger
 ghosts-run_open-H-Ledger g a = record { name = a.handles.tickets.name; parts = a.handles.tickets.parts }

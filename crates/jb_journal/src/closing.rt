@@ -1,0 +1,100 @@
+//! The desk of a run is closed.
+ghost use Rattle.std.specs.Prelude.{◌≡◌, ◌+◌, ◌^◌, ◌≤◌, Bool, ℕ, IfErr, IfOk, IfSome};
+ghost use Rattle.jb_deck.specs.Done.{Follow, past_after, start_of};
+ghost use Rattle.jb_book.specs.Since.{EndsSince};
+ghost use Rattle.jb_journal.specs.Leaving.{HasEnded, IsClosed};
+ghost use Rattle.jb_journal.specs.Running.{EndsChecked, EndsRun};
+ghost use Rattle.jb_journal.specs.declared.fault.RunFault.TheVariants.{Accounts};
+
+use crate::fault::RunFault;
+use crate::gather::Gathered;
+use crate::ran::Ran;
+use jb_deck::Entry;
+use jb_desk::{Closed, Desk, Ended, Left, Origin, Sights};
+use jb_disk::{Clock, Disk};
+use std::sync::ledger::Ledger;
+
+/// Closes the desk of a run, and tells what that leaves.
+pub(crate) fn close<T: Drop, D: Disk + Drop, C: Clock + Drop, H: Origin, N: Ledger>(
+    desk: Desk<D, C, H, N>,
+    gathered: Gathered<T, D, H, N>,
+    commit: Ended,
+    checkpoint: Option<Ended>,
+) -> Result<Ran<T, D>, RunFault>
+    requires parts { (H.parts ≡ 2 ^ 61 + 1) × (N.parts ≡ 2 ^ 61 + 1) }
+    ensures closed { IfOk result (IsClosed D.Disk H.begun gathered) }
+    ensures ends { IfOk result (λ ran. (asked : Bool) → EndsChecked asked checkpoint → EndsRun asked ran) }
+    ensures since { IfOk result (λ ran. EndsSince D.Disk H.begun ran.disk ran.trail.items) }
+    ensures faults { IfErr result (λ fault. fault ≡ Accounts) }
+{
+    let Gathered {
+        lefts,
+        seen,
+        answers,
+    } = gathered;
+    match closed_by(desk, lefts, seen) {
+        Some(closed) => tell(closed, answers, commit, checkpoint),
+        None => Err(RunFault::Accounts),
+    }
+}
+
+/// The parts of a desk that is closed; `None` where its sums do not agree.
+fn closed_by<D: Disk + Drop, C: Clock + Drop, H: Origin, N: Ledger>(
+    desk: Desk<D, C, H, N>,
+    lefts: Vec<Left<H, N>>,
+    seen: Sights<D, H>,
+) -> Option<Closed<D, C>>
+    requires parts { (H.parts ≡ 2 ^ 61 + 1) × (N.parts ≡ 2 ^ 61 + 1) }
+    ensures { IfSome result (HasEnded D.Disk H.begun lefts.items seen) }
+{
+    match desk.close(lefts, seen) {
+        Ok(closed) => Some(closed),
+        Err(_) => None,
+    }
+}
+
+/// Tells what a desk that was closed leaves.
+fn tell<T: Drop, D: Disk + Drop, C: Clock + Drop>(
+    closed: Closed<D, C>,
+    answers: Vec<T>,
+    commit: Ended,
+    checkpoint: Option<Ended>,
+) -> Result<Ran<T, D>, RunFault>
+    requires { (past : ℕ) × Follow (start_of closed.trail.items) 0 past closed.trail.items × (past ≤ closed.handles) }
+    ensures told { IfOk result (λ ran. (ran.disk ≡ closed.disk) × (ran.answers ≡ answers)
+        × (ran.handles ≡ closed.handles) × (ran.trail ≡ closed.trail)) }
+    ensures ends { IfOk result (λ ran. (asked : Bool) → EndsChecked asked checkpoint → EndsRun asked ran) }
+    ensures faults { IfErr result (λ fault. fault ≡ Accounts) }
+{
+    let Closed {
+        disk,
+        handles,
+        changes,
+        trail,
+        ..
+    } = closed;
+    let settled = settled_handles(&trail);
+    if commit.is_shut() && settled != handles {
+        return Err(RunFault::Accounts);
+    }
+    Ok(Ran {
+        disk,
+        answers,
+        handles,
+        settled,
+        changes,
+        trail,
+        commit,
+        checkpoint,
+    })
+}
+
+/// How many handles the groups of a trail have settled.
+fn settled_handles(trail: &[Entry]) -> u64
+    ensures { result ≡ past_after 0 trail.now }
+{
+    match trail.last() {
+        Some(entry) => entry.past,
+        None => 0,
+    }
+}
