@@ -14,10 +14,10 @@ pub enum Failed {
     #[error("there are {0} keys in the home block already")]
     NoRoom(usize),
     /// Nothing can be read from standard input or written to standard output.
-    #[error("{0}")]
+    #[error(transparent)]
     Io(#[from] io::Error),
     /// A call of the journal did not do what it was called for.
-    #[error("{0}")]
+    #[error(transparent)]
     Journal(#[from] JournalFault),
     /// There was no memory.
     #[error("out of memory")]

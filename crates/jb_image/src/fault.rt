@@ -77,7 +77,7 @@ pub enum MakeFault {
     #[error("there is a file of this name already")]
     Exists,
     /// A file was not opened, made or named.
-    #[error("{0}")]
+    #[error(transparent)]
     Image(ImageFault),
     /// A call of the disk failed.
     #[error("the disk failed; make the image again")]

@@ -15,6 +15,31 @@ pub(crate) struct Table {
     pub(crate) froms: Vec<usize>,
 }
 
+impl Table {
+    ghost use Rattle.std.specs.Prelude.{◌≡◌, ◌++◌, [], ◌∷◌, Some, OnOk};
+
+    /// The table of no handles: the cut of no group takes no blocks.
+    fn new(alloc: Global) -> Result<Table, Memory>
+        ensures prices { IfOk result (λ table. table.prices.items ≡ Some 0 ∷ []) }
+        ensures froms { IfOk result (λ table. table.froms.items ≡ 0 ∷ []) }
+    {
+        Ok(Table {
+            prices: vec![in alloc; Some(0)]?,
+            froms: vec![in alloc; 0]?,
+        })
+    }
+
+    /// Adds the price of the next end, and where its last group begins.
+    fn push(&mut self, price: Option<u64>, from: usize) -> Result<(), Memory>
+        ensures prices { OnOk result (self.new.prices.items ≡ self.old.prices.items ++ price ∷ []) }
+        ensures froms { OnOk result (self.new.froms.items ≡ self.old.froms.items ++ from ∷ []) }
+    {
+        self.prices.push(price)?;
+        self.froms.push(from)?;
+        Ok(())
+    }
+}
+
 /// The table of a whole queue, from its front on: each end needs the prices before it.
 pub(crate) fn table_of(
     alloc: Global,
@@ -27,16 +52,14 @@ pub(crate) fn table_of(
         (length handles.now) table.prices.items table.froms.items) }
 {
     let mut touches = LastTouches::new(alloc, geometry);
-    let mut prices = vec![in alloc; Some(0)]?;
-    let mut froms = vec![in alloc; 0]?;
+    let mut table = Table::new(alloc)?;
     for last in 0..handles.len() {
-        touches.add(&handles[last], prices[last])?;
+        touches.add(&handles[last], table.prices[last])?;
         let (price, from) = match touches.best(limit) {
             Some(found) => (Some(found.price + found.cost), found.from),
             None => (None, 0),
         };
-        prices.push(price)?;
-        froms.push(from)?;
+        table.push(price, from)?;
     }
-    Ok(Table { prices, froms })
+    Ok(table)
 }

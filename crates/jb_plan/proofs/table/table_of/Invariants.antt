@@ -5,7 +5,7 @@ use Rattle.jb_plan.proofs.table.table_of.Given as goal
 
 abbrev pub invariant-loop-last : goal.invariant-loop-last
 invariant-loop-last l = record {
-  table : IsTable (piece_cost l.fn.geometry l.handles) l.limit (most_of l.handles) l.last l.prices.items l.froms.items;
+  table : IsTable (piece_cost l.fn.geometry l.handles) l.limit (most_of l.handles) l.last l.table.prices.items l.table.froms.items;
   sound : PartsFit l.touches;
-  tells : TellsQueue l.fn.geometry l.handles l.last l.prices.items l.touches;
+  tells : TellsQueue l.fn.geometry l.handles l.last l.table.prices.items l.touches;
 }
