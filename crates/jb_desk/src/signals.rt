@@ -3,8 +3,8 @@
 use std::sync::Condvar;
 
 /// The conditions on which threads wait for the book, apart by what they wait for, so that a change wakes none that it
-/// cannot concern. None is missed: each thread tests under the book's lock what it waits for, and each change is made
-/// under that lock before it is told here.
+/// cannot concern. That none is missed is no clause; it is so since each thread tests under the book's lock what it
+/// waits for, and each change is made under that lock before it is told here.
 #[derive(Drop)]
 pub(crate) struct Signals {
     /// for a committer that has nothing to commit: anything has changed

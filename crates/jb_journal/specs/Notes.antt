@@ -46,7 +46,7 @@ pub record Known : Type 0 where
 abbrev pub KnowsMore : Known → Known → Type 0
 KnowsMore old new = IsFirstPart old.log new.log × IsFirstPart old.notes new.notes
 
--- the handle with the ticket was committed when this was noted, in the transaction of this number
+-- the handle with the ticket was committed when some note was made, in the transaction of this number
 pub record IsInNotes (notes : List Note) (ticket number : ℕ) : Type 0 where
   pub at : ℕ
   pub note : Note
