@@ -1,6 +1,7 @@
 /* Refuses one allocation of a program: the one of number REFUSE, counted from 0, between an open of "/refuse/on" and one of
  * "/refuse/off", or from the start where REFUSE_FROM_START is set. At the end it says on descriptor REFUSE_TO whether one was
- * refused. It is preloaded with LD_PRELOAD. */
+ * refused. Where REFUSE_WRITES is set, no block of a file is written; where REFUSE_LENGTH is set, a file gets so many bytes more than
+ * are asked for. It is preloaded with LD_PRELOAD. */
 #define _GNU_SOURCE
 #include <dlfcn.h>
 #include <errno.h>
@@ -116,3 +117,21 @@ int open64(const char *path, int flags, ...)
 	va_end(more);
 	return marked(path) ? -1 : opened("open64", path, flags, mode);
 }
+
+ssize_t pwrite64(int file, const void *from, size_t count, off64_t at)
+{
+	if (getenv("REFUSE_WRITES") == NULL)
+		return syscall(SYS_pwrite64, file, from, count, at);
+	errno = EIO;
+	return -1;
+}
+
+ssize_t pwrite(int file, const void *from, size_t count, off_t at) { return pwrite64(file, from, count, at); }
+
+int ftruncate64(int file, off64_t length)
+{
+	const char *more = getenv("REFUSE_LENGTH");
+	return syscall(SYS_ftruncate, file, length + (more == NULL ? 0 : atol(more)));
+}
+
+int ftruncate(int file, off_t length) { return ftruncate64(file, length); }

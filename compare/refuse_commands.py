@@ -4,8 +4,9 @@
 compare/refuse.c is loaded before the C library and refuses one allocation of a run, counted from its start. The answer has to be
 `jb: Memory` with status 1 and nothing else, or that with ample memory, byte for byte; of a load also its counts, with a line for
 what ran out of memory. After `jb: Memory` each file is as it was, and none is made; what a load left is recovered, and each home block
-is as it was or as a handle wrote it. Then the same command answers as with ample memory, and leaves the same files. Prints a line
-for each command, and each run that is not as it must be. It needs Linux and a C compiler."""
+is as it was or as a handle wrote it. Then the same command answers as with ample memory, and leaves the same files. Where refuse.c has
+an image's blocks not written, or its file one block too long, `format` has to say so and to leave none. Prints a line for each command,
+and each run that is not as it must be. It needs Linux and a C compiler."""
 import concurrent.futures
 import os
 import re
@@ -27,6 +28,9 @@ FULL = image(superblock(2, 1), LOG)
 CLEAN = image(superblock(2))
 SPENT = image(superblock(4294967295))
 MEMORY = (1, b"", b"jb: Memory\n")
+FORMAT = "format n --bs 1024 --journal 33 --homes 16"
+# a variable with which refuse.c does something else while an image is made, and what is answered then; there is no file
+UNMADE = [("REFUSE_WRITES", (1, b"", b"jb: DeviceFault\n")), ("REFUSE_LENGTH", (2, b"", b"jb: cannot make n\n"))]
 
 # the name of a row, its words, the files that are there, and what standard input gives
 ROWS = [
@@ -34,7 +38,7 @@ ROWS = [
     ("cost, of standard input", "", {}, QUEUE),
     ("plan", "plan q", {"q": QUEUE}, b""),
     ("check", "check q c", {"q": QUEUE, "c": CERT}, b""),
-    ("format", "format n --bs 1024 --journal 33 --homes 16", {}, b""),
+    ("format", FORMAT, {}, b""),
     ("dump", "dump a", {"a": FULL}, b""),
     ("dump, at a glance", "dump a --summary", {"a": FULL}, b""),
     ("recover", "recover a", {"a": FULL}, b""),
@@ -168,6 +172,15 @@ def tried(shim, name, words, files, stdin):
     return line + (", %4d said beside the counts" % counts["threads"] if row.is_load else ""), wrong
 
 
+def made(shim, variable, wanted):
+    """What is wrong of an image that is made where no block is written, or where its file is one block longer; or nothing."""
+    with tempfile.TemporaryDirectory() as room:
+        env = dict(os.environ, LD_PRELOAD=shim, **{variable: str(BS)})
+        p = subprocess.run([JB, *FORMAT.split()], cwd=room, capture_output=True, timeout=120, env=env)
+        answer, left = (p.returncode, p.stdout, p.stderr), sorted(os.listdir(room))
+    return [] if answer == wanted and not left else ["format, %s: it answers %r, and leaves %r" % (variable, answer, left)]
+
+
 def main():
     with tempfile.TemporaryDirectory() as built:
         shim = os.path.join(built, "refuse.so")
@@ -179,6 +192,10 @@ def main():
                 for one in wrong:
                     print("WRONG:", one)
                 bad += len(wrong)
+        for variable, answer in UNMADE:
+            for one in made(shim, variable, answer):
+                print("WRONG:", one)
+                bad += 1
     sys.exit(1 if bad else 0)
 
 

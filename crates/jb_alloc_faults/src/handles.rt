@@ -6,7 +6,7 @@ use crate::texts::THREE;
 use crate::values::PRICES;
 use jb_block::{BlockSize, Memory, Width};
 use jb_deck::{Batch, PrepareFault, Prepared, is_batch, prepare};
-use jb_handle::{Handle, Shape, Stopped, TouchFault};
+use jb_handle::{Handle, Payload, Shape, Stopped, TouchFault, Word};
 use jb_queue::read_queue;
 use std::alloc::Global;
 use std::fs::File;
@@ -33,6 +33,18 @@ pub fn touch_row(rt: &impl Files<File = File>, alloc: Global, is_write: bool) ->
     let (_, words) = handle.end();
     must(words.len() == 1 && words.get(5)?.is_copy() == is_write)?;
     met
+}
+
+/// A copy that a handle refuses, as it has no credits, takes no memory.
+pub fn refused_row(rt: &impl Files<File = File>, alloc: Global) -> Option<Met> {
+    let word = Word::Copy(Payload::of(alloc, &[7; 1024]).ok()?);
+    let mut handle = Handle::new(alloc, (), 0, SHAPE);
+    refusing(rt);
+    let put = handle.put(5, &word);
+    ample(rt);
+    let (_, words) = handle.end();
+    must(put.err() == Some(TouchFault::NoCredit(0)) && words.is_empty())?;
+    Some(Met::Ample)
 }
 
 /// The journal that the three handles are for: a group takes seven log blocks at most.

@@ -36,6 +36,7 @@ pub fn row<R: Files<File = File> + Threads + Wait + Clock + Sync>(
         "read_transactions" => logs::row(rt, alloc),
         "Handle::write" => handles::touch_row(rt, alloc, true),
         "Handle::revoke" => handles::touch_row(rt, alloc, false),
+        "Handle::put" => handles::refused_row(rt, alloc),
         "prepare" => handles::prepare_row(rt, alloc),
         "step:Open" | "step:Touch" | "step:Stop" | "step:Take" => {
             machines::step_row(rt, alloc, name)

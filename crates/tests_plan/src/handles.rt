@@ -120,6 +120,7 @@ fn two_handles(alloc: Global) -> Result<[Stopped; 2], Memory> {
     let mut second = Gathered::new(alloc);
     second.put(9, Word::Free)?;
     second.put(3, Word::Copy(Payload::padded(vec![in alloc; 1]?, 4)))?;
+    second.put(5, Word::Free)?;
     second.put(5, Word::Copy(Payload::of(alloc, b"efgh")?))?;
     let words = second.into_words(alloc)?;
     Ok([

@@ -3,7 +3,7 @@
 use crate::checks::By;
 use jb_block::BlockSize;
 use jb_disk::{Disk, Fault, MemoryDisk, OneFaultDisk};
-use jb_image::PairDisk;
+use jb_image::{ImageDisk, PairDisk};
 use tests_support::{Bench, Test, check, check_at, crashed, read_block, write_block, zeros};
 
 /// Fills a block with one byte.
@@ -131,9 +131,22 @@ fn check_calls(test: &impl Bench) {
     }
 }
 
+/// The calls of an image of one disk are those of that disk.
+fn check_image(test: &impl Bench) {
+    let disk = OneFaultDisk::of(zeros(test, test.alloc(), BlockSize::OneKib, 4), 4);
+    let mut image: ImageDisk<OneFaultDisk<MemoryDisk>, MemoryDisk> = ImageDisk::One(disk);
+    check(test, five_calls(&mut image) == NO_SYNC, "an image's sync");
+    check(test, look(&mut image, 2) == Ok(3), "an image's block")
+}
+
+fn check_each(test: &impl Bench) {
+    check_calls(test);
+    check_image(test)
+}
+
 #[test]
 fn each_call_reaches_its_disk(rt: HostRuntime) {
-    check_calls(&By(&rt, rt.alloc()))
+    check_each(&By(&rt, rt.alloc()))
 }
 
 /// A place and how many blocks, their first bytes, and whether their read is one of the first disk, and of the second.
