@@ -30,12 +30,19 @@ const OVER: Option<Reason> = Some(Reason::OverLimit(0, 4));
 
 const TOTAL: Option<Reason> = Some(Reason::TotalDiffers);
 
-static VERDICTS: [Row; 17] = [
+/// A handle that does not fit alone, and one that does.
+const BEHIND: &str = "bs 1024\nlimit 3\nh w1 w2\nh w3\n";
+
+const WRAPPING: &str = "0 18446744073709551615 5";
+
+static VERDICTS: [Row; 18] = [
     ("bs 1024\nlimit 8\n", "0", "0", "0", None),
     (GROWING, "0 4 6 6 9", "0 1 4", "9", None),
     (FREEING, "0 none 2", "0 2", "2", None),
     // a price that no sum may wrap
     (FREEING, "0 18446744073709551615 2", "0 2", "2", None),
+    // such a price before a group that fits
+    (BEHIND, WRAPPING, "none", "", Some(Reason::EndPrice)),
     (ALONE, "0 none", "none", "", None),
     (GROWING, "1 4 6 6 9", "0 1 4", "9", OPENING),
     (GROWING, "none 4 6 6 9", "0 1 4", "9", OPENING),
@@ -119,7 +126,7 @@ fn check_verdicts(test: &impl Test, alloc: Global) {
     let wide = one_handle(test, alloc, "1024 wide", 87, "w", 84);
     let text = "prices 0 86\ncut 0 1\ntotal 86\n";
     let reason = Some(Reason::TotalDiffers);
-    check_verdict(test, alloc, &wide, text, reason, 17);
+    check_verdict(test, alloc, &wide, text, reason, 18);
     check_no_bounds(test, alloc)
 }
 
@@ -204,7 +211,7 @@ static BROKEN_LINES: [u64; 34] = [
 ];
 
 /// Texts that are no certificate of no handle, and the first line that breaks the form.
-static FAULTY: [(&str, CertFault); 25] = [
+static FAULTY: [(&str, CertFault); 26] = [
     ("", CertFault::Syntax(1)),
     ("\n", CertFault::Syntax(1)),
     ("prices\ncut 0\ntotal 0\n", CertFault::Syntax(1)),
@@ -230,6 +237,7 @@ static FAULTY: [(&str, CertFault); 25] = [
     ("prices 0\ncut none\ntotal 0\n", CertFault::Syntax(3)),
     ("prices 0\ncut none\n\n", CertFault::Syntax(3)),
     ("prices 0\ncut 0\ntotal 0\n\n", CertFault::Syntax(4)),
+    ("prices 0\ncut 0\ntotal 00\nmore", CertFault::Syntax(3)),
     ("prices 0\ncut 0\ntotal 0\nmore", CertFault::Syntax(4)),
     ("prices 0 4\ncut 0\ntotal 00\n", CertFault::Syntax(3)),
     ("prices 0 4\ncut 0\ntotal 0\n", CertFault::Length),

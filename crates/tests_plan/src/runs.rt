@@ -29,7 +29,7 @@ const DONE: Answer = Ok(Reply::Plain);
 /// them that earlier lives settled, the taken groups, the queued handles, and the handles of the first group.
 type Row = (u32, &'static [(Step, Answer)], [usize; 5]);
 
-static ROWS: [Row; 6] = [
+static ROWS: [Row; 8] = [
     // a crash keeps what was settled
     (
         8,
@@ -52,6 +52,41 @@ static ROWS: [Row; 6] = [
             (Step::Restart, Err(CoreFault::Up)),
         ],
         [1, 1, 0, 0, 2],
+    ),
+    // a life begins with no handle, and its tickets with 0
+    (
+        8,
+        &[
+            (Step::Open(1, 1), DONE),
+            (Step::Stop(1), Ok(Reply::Ticket(0))),
+            (Step::Open(2, 1), DONE),
+            (Step::Crash(0), DONE),
+            (Step::Restart, DONE),
+            (Step::Open(2, 1), DONE),
+            (Step::Stop(2), Ok(Reply::Ticket(0))),
+        ],
+        [0, 0, 0, 1, 0],
+    ),
+    // groups are of handles in the order of their stops: the first two of these do not fit together
+    (
+        5,
+        &[
+            (Step::Open(1, 3), DONE),
+            (Step::Write(1, 1, 1024), DONE),
+            (Step::Write(1, 2, 1024), DONE),
+            (Step::Write(1, 3, 1024), DONE),
+            (Step::Open(2, 2), DONE),
+            (Step::Write(2, 4, 1024), DONE),
+            (Step::Write(2, 5, 1024), DONE),
+            (Step::Open(3, 1), DONE),
+            (Step::Write(3, 6, 1024), DONE),
+            (Step::Stop(1), Ok(Reply::Ticket(0))),
+            (Step::Stop(2), Ok(Reply::Ticket(1))),
+            (Step::Stop(3), Ok(Reply::Ticket(2))),
+            (Step::Take(&[0, 2, 3]), Err(CoreFault::NotLeast)),
+            (Step::Take(&[0, 1, 3]), DONE),
+        ],
+        [0, 0, 2, 0, 1],
     ),
     // credits are granted up to the largest log
     (
