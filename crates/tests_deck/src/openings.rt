@@ -8,7 +8,7 @@ use jb_deck::{CheckpointFault, Deck, FreeFault, OpenFault};
 use jb_disk::{Disk, MemoryDisk};
 use jb_super::SuperFault;
 use std::alloc::Global;
-use tests_support::{Bench, Must, check_in, check_none, check_row, difference};
+use tests_support::{Bench, Must, check_in, check_none, check_row, crashed, difference};
 
 const ZEROS: [u32; 4] = [0, 0, 0, 0];
 
@@ -180,11 +180,13 @@ fn check_blocks(test: &impl Bench, row: Label, disk: &mut MemoryDisk, rows: &[Ro
     check_none(test, row, "block", difference(test, disk, &mut wanted, 0))
 }
 
-/// Checks the journal of an image, and what opening it changes.
+/// Checks the journal of an image, what opening it changes, and that nothing is pending then.
 fn check_opened(test: &impl Bench, of: &Opened) {
     let (row, rows, told, after) = *of;
     let mut disk = closed(test, row, small(test, BLOCKS, rows, &[]), told);
-    check_blocks(test, row, &mut disk, rows, after)
+    check_blocks(test, row, &mut disk, rows, after);
+    let mut left = crashed(test, &disk, &[]);
+    check_blocks(test, row, &mut left, rows, after)
 }
 
 #[test]

@@ -122,7 +122,14 @@ fn check_calls(rt: &impl Host) {
     remove(rt, BLOCKS)
 }
 
+/// Checks that a sync asks the system: one of a file that it can not sync is a fault.
+fn check_sync(rt: &impl Host) {
+    let mut disk = opened(rt, "/dev/null");
+    check(&By(rt), disk.sync() == Err(Fault), "a sync of /dev/null")
+}
+
 fn check_files(rt: &impl Host) {
+    check_sync(rt);
     check_read(rt);
     check_written(rt);
     check_calls(rt)

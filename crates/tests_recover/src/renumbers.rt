@@ -4,11 +4,12 @@ use crate::checks::By;
 use crate::frames::same_frame;
 use crate::images::{Row, headed};
 use crate::small::{HOMES, MAGIC, clean, journal, small};
+use jb_block::get32;
 use jb_disk::{FuseDisk, MemoryDisk, OneFaultDisk};
 use jb_recover::{ChangeFault, Renumbered, recover, renumber};
 use jb_super::SuperFault;
 use tests_support::{
-    Bench, Must, Test, check, check_at, check_none, check_row, crashed, difference, fail,
+    Bench, Must, Test, check, check_at, check_none, check_row, crashed, difference, fail, read_at,
 };
 
 /// More calls than a renumbering of the small image makes.
@@ -152,9 +153,20 @@ fn is_kept(test: &impl Test, left: &mut MemoryDisk, old: &mut MemoryDisk) -> boo
     same_frame(test, left, old) && difference(test, left, old, HOMES).is_none()
 }
 
-/// Whether an image that a crash leaves is the old one before the log, and keeps that and the homes in a recovery.
+/// Whether an image has a header of an old number together with the new one, 0 (`s_sequence`).
+fn is_mixed(test: &impl Test, left: &mut MemoryDisk) -> bool {
+    let mut front = [0; 1024];
+    read_at(test, left, 0, &mut front);
+    get32(&front, 0x18) == 0 && headed(test, left, 1, HOMES).is_some()
+}
+
+/// Whether an image that a crash leaves is the old one before the log, has no old header with the new number, and keeps
+/// what is before the log and the homes in a recovery.
 fn recovers(test: &impl Bench, left: &mut MemoryDisk, old: &mut MemoryDisk) -> bool {
-    same_frame(test, left, old) && recover(test.alloc(), left).is_ok() && is_kept(test, left, old)
+    if is_mixed(test, left) || !same_frame(test, left, old) {
+        return false;
+    }
+    recover(test.alloc(), left).is_ok() && is_kept(test, left, old)
 }
 
 /// Whether an image that a crash leaves keeps what is before the log and the homes where a renumbering is begun again,
@@ -193,7 +205,12 @@ fn broken_off(test: &impl Bench, call: u64, answer: Result<Renumbered, ChangeFau
     check_at(test, is_alike, "all calls fail from call", call);
     let disk = fuse.into_inner();
     let mixture = losing(test, &disk, &mut spent(test));
-    check_at(test, mixture.is_none(), "homes lost after call", call);
+    check_at(
+        test,
+        mixture.is_none(),
+        "homes lost, or a header left, after call",
+        call,
+    );
     disk
 }
 
@@ -223,7 +240,21 @@ fn check_call(test: &impl Bench, call: u64) -> bool {
     false
 }
 
+/// What the first write of a renumbering leaves of the image of the last number: a header that the next one finds.
+static HALF: [Row; 1] = [(1, 63, [0, 0, 0, 0])];
+
+/// Checks a renumbering of which all calls fail after its first write: a sync, 33 reads, and the write.
+fn check_half(test: &impl Bench) {
+    let mut fuse = FuseDisk::of(spent(test), 35);
+    let is_fault = renumber(&mut fuse) == Err(ChangeFault::DeviceFault);
+    check(test, is_fault, "what it answers after its first write");
+    let mut wanted = small(test, SPENT.rows, &HALF);
+    let place = difference(test, &mut fuse.into_inner(), &mut wanted, 0);
+    check_none(test, "the first write", "block", place)
+}
+
 fn check_calls(test: &impl Bench) {
+    check_half(test);
     for call in 0..MOST {
         if check_call(test, call) {
             return;

@@ -37,7 +37,7 @@ static NARROW: Case = Case {
     }),
 };
 
-static CASES: [Case; 6] = [
+static CASES: [Case; 7] = [
     Case {
         name: "quarter",
         rows: &[(0, 1, [33, 1, 2, 0])],
@@ -77,6 +77,12 @@ static CASES: [Case; 6] = [
     Case {
         name: "dirty",
         rows: &[(1, 0, [MAGIC, 2, 2, 0])],
+        after: &[],
+        answer: Err(ChangeFault::NeedsRecovery),
+    },
+    Case {
+        name: "dirty at its end",
+        rows: &[(0, 1, [33, 1, 2, 32])],
         after: &[],
         answer: Err(ChangeFault::NeedsRecovery),
     },
