@@ -85,12 +85,14 @@ fn escaped(test: &impl Bench, after: &[Row]) -> MemoryDisk {
     small(test, &ESCAPED, after)
 }
 
-/// Checks a peek at a home of a clean journal whose log holds a copy of it: it makes two calls.
+/// Checks a peek at each of these homes of a clean journal whose log holds a copy of the first: it makes two calls.
 fn check_stale(test: &impl Bench) {
-    let mut fuse = FuseDisk::of(escaped(test, &[clean(2)]), 2);
-    let (answer, word) = word_peeked(&mut fuse, 5);
-    check(test, answer == Ok(()), "a peek over a stale copy");
-    check(test, word == [0, 0, 0, 5], "a home with a stale copy")
+    for (home, wanted) in [(5, [0, 0, 0, 5]), (0, NONE)] {
+        let mut fuse = FuseDisk::of(escaped(test, &[clean(2)]), 2);
+        let (answer, word) = word_peeked(&mut fuse, home);
+        check_at(test, answer == Ok(()), "a peek over a stale log at", home);
+        check_at(test, word == wanted, "the bytes over a stale log of", home);
+    }
 }
 
 /// Checks a peek of which this call fails, and the next one.
@@ -103,7 +105,7 @@ fn check_call(test: &impl Bench, call: u64) {
     check_at(test, again == Ok(()), "the next peek after call", call)
 }
 
-/// A clean journal's home whose log holds a copy of it, and a peek of which each call fails in turn: it reads and
+/// A clean journal's homes whose log holds a copy of one, and a peek of which each call fails in turn: it reads and
 /// does not sync, so six calls are enough.
 #[test]
 fn calls_of_a_peek_fail(rt: HostRuntime) {

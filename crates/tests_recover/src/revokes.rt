@@ -5,7 +5,7 @@ use crate::checks::By;
 use crate::logs::{COUNT_ABOVE, REVOKED_LATER};
 use crate::small::{Counts, HOMES, MAGIC};
 
-static CASES: [Case; 11] = [
+static CASES: [Case; 12] = [
     // Block numbers of 64 bits, and a count that ends in the first entry.
     Case {
         name: "wide, no entry",
@@ -46,6 +46,21 @@ static CASES: [Case; 11] = [
             (2, 0, [1, 2, 3, 4]),
             (3, 0, [MAGIC, 5, 2, 20]),
             (3, 1, [5, 0, 0, 0]),
+            (4, 0, [MAGIC, 2, 2, 0]),
+        ],
+        cut: 0,
+        told: Counts(1, 0, 1, 4),
+        after: &[(0, 1, [33, 1, 3, 0])],
+    },
+    // The same of the first home that is not there.
+    Case {
+        name: "outside, revoked at once",
+        rows: &[
+            (1, 0, [MAGIC, 1, 2, 16]),
+            (1, 1, [8, 0, 0, 0]),
+            (2, 0, [1, 2, 3, 4]),
+            (3, 0, [MAGIC, 5, 2, 20]),
+            (3, 1, [16, 0, 0, 0]),
             (4, 0, [MAGIC, 2, 2, 0]),
         ],
         cut: 0,
