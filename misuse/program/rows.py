@@ -1,5 +1,4 @@
-"""The table: what is run, and what it must say and leave. The texts are those of docs/TEXTS.md."""
-import re
+"""The table: what is run, and what it must say and leave. The texts are those of docs/TEXTS.md. Further rows: rows_images.py and rows_words.py."""
 import struct
 
 from images import BS, COMMIT, ESCAPE, LAST_TAG, MAGIC, SAME_UUID, SUPER1
@@ -11,12 +10,12 @@ ROWS = []
 def row(words, status, out="", err="", files=(), stdin=b"", after=(), how="", to="pipe", terminal="", locked="", beside=""):
     """One run of the program in an empty folder.
 
-    words     its words, as one text; in a word `~` stands for a space and `^` for an LF, and a NUL is never needed
+    words     its words, as one text; in a word `~` stands for a space and `^` for an LF, '' is an empty one, and a NUL is never needed
     files     the files that are there before, by their names; None makes a folder, a number a file of so many zeros, a text that kind
               of file
     after     the files that differ afterwards, or are new, or `...` for one that is gone; all others must be as they were, and there may
-              be no other
-    how       a shell's `ulimit`, `trap` and `exec` before it starts
+              be no other; a function judges the bytes instead
+    how       a shell's `ulimit`, `trap` and `exec` before it starts, or a run before it, as `"$1" WORDS`
     locked    the file that is locked meanwhile
     to        standard output: a pipe, a pipe that nobody reads (`gone`), or a full device (`full`)
     terminal  which of standard input (`in`) and standard error (`err`) is a terminal; on that one the line of `err` has a second one
@@ -98,6 +97,16 @@ for words, name in [("cost q", "q"), ("plan q", "q"), ("check q c", "q"), ("chec
         row(words, 2, err="jb: cannot read q\n", files={**some, "q": None}, beside=FOLDER)
         row(words, 2, err="jb: too long q\n", files={**some, "q": (LONG if words != "check ok q" else LONGEST) + 1})
 row("cost -", 2, err="jb: too long -\n", stdin=bytes(LONG + 1))
+row("cost -", 2, err="jb: queue line 1: BlockSizeLine\n")
+row("cost -", 2, err="jb: queue line 1: BlockSizeLine\n", stdin=b"x" * LONG)
+row("", 1, "cost 7 limit 6 over\n", stdin=queue(THREE, 6))
+for words, name, beside in ("cost ''", "", MISSING), ("cost .", ".", FOLDER), ("cost q/a", "q/a", NO_FOLDER):
+    row(words, 2, err="jb: cannot read %s\n" % name, files={"q": queue(THREE, 7)}, stdin=b"bs 1024\nlimit 7\n", beside=beside)
+# of two texts the queue is read first; a certificate may be longer than a queue text, and not without an end
+for cert in b"", PLANS[4][2].encode():
+    row("check q c", 2, err="jb: queue line 3: OpWord\n", files={"q": queue("x", 6), "c": cert})
+row("check q c", 2, err="jb: certificate: Syntax 1\n", files={"q": queue(FOUR, 6), "c": b"x" * (LONG + 1)})
+row("check q /dev/zero", 2, err="jb: too long /dev/zero\n", files={"q": queue(FOUR, 6)})
 for words in ("cost q", "plan q", "check q c"):
     some = {"q": queue(FOUR, 7), "c": PLANS[4][2].encode()}
     row(words, 1, err="jb: WriteFault\n", files=some, to="full")
@@ -501,38 +510,3 @@ for closed in ("exec >&-", "exec <&- >&-", "exec >&- 2>&-", "exec <&- >&- 2>&-")
     row("dump a", 1, err=said, files={"a": FULL}, how=closed)
 row("recover a", 1, files={"a": image(superblock(2, 1), OUT_OF_RANGE)}, how="exec 2>&-")
 row("cost -", 2, err="jb: queue line 1: BlockSizeLine\n", how="exec <&-")
-
-# ---- words -------------------------------------------------------------------------------------------------------------------
-
-
-def begins(*starts):
-    """A text that begins so, and ends with an LF."""
-    return lambda text: text.startswith(starts) and text.endswith("\n")
-
-
-row("--version", 0, "jb 0.1.0\n")
-for words in ("--help", "help", "-h", "help format", "cost --help", "load -h"):
-    row(words, 0, begins("A block journal", "Makes an image", "Prints the log blocks", "Commits the handles"), files={"a": FULL})
-row("--help", 1, err="jb: WriteFault\n", to="full")
-for words in ("mount a", "cost", "cost a b", "check a", "recover", "recover a b", "format a --bs x --journal 33 --homes 16", "format a --bs 1024 --journal 33",
-              "format a --bs 1024 --journal 33 --homes -1", "cat a", "cat a x", "cat a 5 -n x", "cat a 5 --journal", "dump a --journal a", "dump a --home", "dump a --home x", "dump a --last -1", "dump a --super=1", "dump a --super --super", "load a", "load a q --threads 18446744073709551616", "--limit 7", "cost --hold a"):
-    row(words, 2, err=begins("error: "), files={"a": FULL, "q": queue(HANDLE)})
-row("cost \udcff", 2, err="error: invalid UTF-8 was detected in one or more arguments\n")
-
-# ---- terminals ---------------------------------------------------------------------------------------------------------------
-
-row("", 2, err=begins("A block journal in jbd2's format\n\nUsage: jb <COMMAND>\n"), terminal="in")
-row("", 2, err=begins("A block journal in jbd2's format\n\nUsage: jb <COMMAND>\n"), terminal="in err")
-row("", 0, "cost 7 limit 7 fits\n", stdin=queue(THREE, 7), terminal="err")
-row("cost", 2, err=begins("error: "), terminal="err")
-row("recover a", 0, "transactions 1 copies 1 revoked 0 next 4\n", files={"a": FULL}, after={"a": RECOVERED}, terminal="err")
-# where nobody reads standard output any more, nothing is said on a terminal
-for words, files, after in (("dump a", {"a": FULL}, {}), ("cat a 5", {"a": FULL}, {}), ("recover a", {"a": FULL}, {"a": RECOVERED}), ("--help", {}, {})):
-    row(words, 1, files=files, after=after, to="gone", terminal="err")
-# each kind of line on standard error once more, on a terminal, with each thing that is said beside it
-told = set()
-for some in [some for some in ROWS if isinstance(some["err"], str) and some["err"].startswith("jb: ")]:
-    kind = re.sub(r"\d+", "#", some["err"]), some["beside"]
-    if kind not in told and "ulimit -v" not in some["how"]:
-        told.add(kind)
-        ROWS.append({**some, "terminal": "err"})

@@ -1,8 +1,8 @@
-//! Words that are a command, and what they ask for.
+//! Words that are a command, and what they ask for; and the help that is shown where there are none.
 
 use crate::checks::check_text;
 use crate::runs::{Host, words_of};
-use jb_args::{Plain, Words, parse};
+use jb_args::{Plain, Words, parse, show_help};
 use std::alloc::Global;
 
 /// What these words ask for, if they are taken: the command, its words and its options, in the order of `Plain` and
@@ -128,4 +128,31 @@ fn check_rows(rt: &impl Host) {
 #[test]
 fn commands_with_their_words_are_taken(rt: HostRuntime) {
     check_rows(&rt)
+}
+
+/// The short help of `jb`.
+const HELP: &str = "A block journal in jbd2's format\n\nUsage: jb <COMMAND>\n\nCommands:\
+     \n  cost      Prints the log blocks that the queue takes as one group\
+     \n  plan      Prints a least cut of the queue into groups, with its prices\
+     \n  check     Checks a certificate of the queue, whoever made it\
+     \n  dump      Prints the committed transactions of a journal, block by block\
+     \n  cat       Writes home blocks of an image as recovery would leave them\
+     \n  format    Makes an image: a new journal, and home blocks of zeros after it\
+     \n  load      Commits the handles of a queue text to an image, run by threads\
+     \n  recover   Writes home what an image's journal has committed, and empties its log\
+     \n  renumber  Restarts the transaction numbers of a clean journal at 1\
+     \n  widen     Gives a clean journal block numbers of 64 bits\
+     \n  help      Print this message or the help of the given subcommand(s)\n\nOptions:\
+     \n  -h, --help     Print help (see more with '--help')\n  -V, --version  Print version\n";
+
+/// Checks the help that is shown where there are no words.
+fn check_short_help(rt: &impl Host) {
+    let mut help = Vec::new(rt.alloc());
+    show_help(rt.alloc(), &mut help).expect(rt, "memory");
+    check_text(rt, &help, HELP, "the help", 0)
+}
+
+#[test]
+fn help_is_shown_by_clap(rt: HostRuntime) {
+    check_short_help(&rt)
 }

@@ -39,23 +39,12 @@ pub fn words_of<'a>(rt: &impl Host, line: &'a str) -> Vec<&'a str> {
     words
 }
 
-/// A command line with these words after it.
-pub fn joined(rt: &impl Host, line: &str, more: &str) -> String {
-    format!(in rt.alloc(); "{line} {more}").expect(rt, "memory")
-}
-
 /// A run of this command line, which reads from this input.
 pub fn ran_from<I: Read>(rt: &impl Host, line: &str, input: &mut I) -> Outcome {
     let mut out = Vec::new(rt.alloc());
     let mut err = Vec::new(rt.alloc());
     let ended = run(rt, &words_of(rt, line), input, &mut out, &mut err);
     Outcome { ended, out, err }
-}
-
-/// A run of this command line over this input.
-pub fn ran(rt: &impl Host, line: &str, input: &[u8]) -> Outcome {
-    let mut rest = input;
-    ran_from(rt, line, &mut rest)
 }
 
 /// Checks the status with which a run ended. `at` is which run it is, as the row of a table.
@@ -77,10 +66,6 @@ pub fn check_ran(rt: &impl Abort, ran: &Outcome, end: End, what: &str, at: usize
 
 /// Checks how a run of this command line over this input ends, and what it writes.
 pub fn check_over(rt: &impl Host, line: &str, input: &[u8], end: End, at: usize) {
-    check_ran(rt, &ran(rt, line, input), end, line, at)
-}
-
-/// The same with no input.
-pub fn check_run(rt: &impl Host, line: &str, end: End, at: usize) {
-    check_over(rt, line, b"", end, at)
+    let mut rest = input;
+    check_ran(rt, &ran_from(rt, line, &mut rest), end, line, at)
 }

@@ -1,7 +1,7 @@
 //! Inputs and outputs that fail, and in how many writes a text is written.
 
 use crate::checks::{check_at, check_text};
-use crate::files::{WHOLE, remove, write, write_front};
+use crate::files::{remove, write};
 use crate::runs::{Host, check_status, words_of};
 use jb_text::put_parts;
 use jb_tool::run;
@@ -25,12 +25,6 @@ impl Read for Closed {
 struct Torn {
     left: usize,
     stuck: bool,
-}
-
-impl Torn {
-    fn of(left: usize, stuck: bool) -> Torn {
-        Torn { left, stuck }
-    }
 }
 
 impl Write for Torn {
@@ -80,14 +74,19 @@ impl Write for Counting {
 }
 
 /// Runs that write a line, in their order on one image, how many writes each takes on each output, and how many bytes.
-static LINES: [(&str, [usize; 2], [usize; 2]); 7] = [
+static LINES: [(&str, [usize; 2], [usize; 2]); 8] = [
+    (
+        "format line.img --bs 1024 --journal 33 --homes 16",
+        [1, 0],
+        [18, 0],
+    ),
+    ("load line.img line.txt", [1, 1], [48, 28]),
+    ("widen line.img", [0, 1], [0, 18]),
     ("recover line.img", [1, 0], [41, 0]),
     ("renumber line.img", [1, 0], [27, 0]),
     ("widen line.img", [1, 0], [16, 0]),
     ("widen line.img", [1, 0], [21, 0]),
-    ("load line.img line.txt", [1, 1], [48, 28]),
     ("recover no-such.img", [0, 1], [0, 28]),
-    ("widen line.img", [0, 1], [0, 18]),
 ];
 
 /// Checks how many writes a run takes on each output, and how many bytes.
@@ -103,12 +102,12 @@ fn check_line(rt: &impl Host, line: &str, writes: [usize; 2], sizes: [usize; 2],
 
 /// Checks each row of the table, on one image.
 fn check_lines(rt: &impl Host) {
-    write_front(rt, "line.img", ([2, 1], 1, WHOLE));
     write(rt, "line.txt", b"bs 1024\nlimit 8\nh w1\nh w16\n");
     for (row, (line, writes, sizes)) in LINES.iter().enumerate() {
         check_line(rt, line, *writes, *sizes, row);
     }
-    remove(rt, "line.img")
+    remove(rt, "line.img");
+    remove(rt, "line.txt")
 }
 
 /// How many parts of ten bytes a text has, and in how many writes it is written: a text of more than 4096 bytes part
@@ -145,7 +144,8 @@ const TORN: [(usize, bool); 3] = [(0, false), (3, false), (1000, true)];
 /// Checks that a run reports each standard output that fails.
 fn check_torn_outputs(rt: &impl Host, line: &str) {
     for (at, (left, stuck)) in TORN.iter().enumerate() {
-        let mut out = Torn::of(*left, *stuck);
+        let (left, stuck) = (*left, *stuck);
+        let mut out = Torn { left, stuck };
         let mut err = Vec::new(rt.alloc());
         let mut rest = QUEUE;
         let ended = run(rt, &words_of(rt, line), &mut rest, &mut out, &mut err);
@@ -175,7 +175,7 @@ static QUIETS: [Quiet; 3] = [
 fn check_torn_errors(rt: &impl Host, of: &Quiet, row: usize) {
     let (line, input, status, out) = *of;
     for (left, stuck) in TORN {
-        let mut err = Torn::of(left, stuck);
+        let mut err = Torn { left, stuck };
         let mut told = Vec::new(rt.alloc());
         let mut rest = input;
         let ended = run(rt, &words_of(rt, line), &mut rest, &mut told, &mut err);
@@ -193,7 +193,10 @@ fn a_failing_standard_error_changes_no_status(rt: HostRuntime) {
 
 /// Checks that a run over this input writes this line, and does not flush an output to which it writes nothing.
 fn check_unwritten<I: Read>(rt: &impl Host, input: &mut I, line: &str, at: usize) {
-    let mut out = Torn::of(0, true);
+    let mut out = Torn {
+        left: 0,
+        stuck: true,
+    };
     let mut err = Vec::new(rt.alloc());
     let ended = run(rt, &["cost", "-"], input, &mut out, &mut err);
     check_status(rt, ended, 2, "cost", at);

@@ -1,6 +1,7 @@
-//! Runs over texts: the words, the input, and what each must answer.
+//! Whole runs: the words, the input, and what each must answer; and texts of any length.
 
 use crate::checks::{check, check_number, check_text};
+use crate::files::{read, remove, write};
 use crate::runs::{End, Host, Outcome, check_over, check_ran, ran_from};
 use jb_text::{ReadFault, read_within};
 use jb_tool::{Plain, TEXT_LIMIT, refuse_words, run_plain};
@@ -11,82 +12,86 @@ use std::process::Abort;
 /// The command line and the input of a run, and how it ends.
 type Row = (&'static str, &'static [u8], End);
 
-static ROWS: [Row; 21] = [
+/// A queue of one handle, which writes home block 5 and frees home block 7.
+const QUEUE: &[u8] = b"bs 1024\nlimit 7\nh w5=c03b399801020304 r7\n";
+
+const CERT: &[u8] = b"prices 0 4\ncut 0 1\ntotal 4\n";
+
+const LOADED: &str = "handles 1 changes 2 settled 1 groups 1 blocks 4\n";
+
+/// The dump of the image after the first load.
+const DUMPED: &str = "super bs=1024 maxlen=33 first=1 sequence=2 start=1 errno=0 compat=00000000 \
+     incompat=00000001 rocompat=00000000 max=6 limit=6\nuuid 000102030405060708090a0b0c0d0e0f\n\
+     1 revoke number=2 count=20 homes=7\n2 descriptor number=2 tags=1\n\
+     3 copy home=5 flags=9 head=0000000001020304\n4 commit number=2 sec=18446744073709551615 nsec=0\n\
+     end transactions=1 expected=3\n";
+
+const BAD_OPTION: End = (2, "", "jb: bad option\n");
+
+/// The runs, in their order on one image, with at least one of each command.
+static ROWS: [Row; 24] = [
     (
         "cost -",
         b"bs 1024\nlimit 7\nh w1 w2 w3\nh w3 w4 w5\nh w1 w2\n",
         (0, "cost 7 limit 7 fits\n", ""),
     ),
     ("cost -", b"", (2, "", "jb: queue line 1: BlockSizeLine\n")),
+    ("cost run.txt", b"", (0, "cost 4 limit 7 fits\n", "")),
     (
         "plan -",
         b"bs 1024\nlimit 6\nh w1 w2\nh w3 w4\nh w3 w4\nh w3 w4 w5\n",
         (0, "prices 0 4 6 6 9\ncut 0 1 4\ntotal 9\n", ""),
     ),
-    (
-        "plan -",
-        b"bs 1024\nlimit 3\nh w1 w2\n",
-        (1, "prices 0 none\ncut none\n", ""),
-    ),
-    (
-        "",
-        b"bs 1024\nlimit 7\nh w1 w2 w3\nh w3 w4 w5\nh w1 w2\n",
-        (0, "cost 7 limit 7 fits\n", ""),
-    ),
+    ("", QUEUE, (0, "cost 4 limit 7 fits\n", "")),
     (
         "",
         b"bs 1024\nlimit 6\nh w1 w2 w3\nh w3 w4 w5\nh w1 w2\n",
         (1, "cost 7 limit 6 over\n", ""),
     ),
+    ("check run.txt run.cert", b"", (0, "accepted\n", "")),
     (
-        "plan -",
-        b"bs 1024\nlimit 7\nh x\n",
-        (2, "", "jb: queue line 3: OpWord\n"),
-    ),
-    (
-        "cost no-such-queue.txt",
-        b"bs 1024\nlimit 7\n",
-        (2, "", "jb: cannot read no-such-queue.txt\n"),
-    ),
-    (
-        "cost .",
-        b"bs 1024\nlimit 7\n",
-        (2, "", "jb: cannot read .\n"),
-    ),
-    (
-        "cost ''",
-        b"bs 1024\nlimit 7\n",
-        (2, "", "jb: cannot read \n"),
-    ),
-    ("dump .", b"", (1, "", "jb: ReadFault\n")),
-    (
-        "dump no-such.journal",
+        "format run.img --bs 1024 --journal 33 --homes 16 --max 6 --uuid 000102030405060708090a0b0c0d0e0f",
         b"",
-        (2, "", "jb: cannot read no-such.journal\n"),
+        (0, "formatted limit 6\n", ""),
+    ),
+    ("load run.img run.txt --threads 65", b"", BAD_OPTION),
+    (
+        "load run.img run.txt --stamp 18446744073709551615",
+        b"",
+        (0, LOADED, ""),
+    ),
+    ("dump run.img", b"", (0, DUMPED, "")),
+    ("dump .", b"", (1, "", "jb: ReadFault\n")),
+    ("cat run.img 16", b"", (1, "", "jb: NoHome 16\n")),
+    ("widen run.img", b"", (1, "", "jb: NeedsRecovery\n")),
+    (
+        "recover run.img",
+        b"",
+        (0, "transactions 1 copies 1 revoked 0 next 4\n", ""),
+    ),
+    (
+        "renumber run.img",
+        b"",
+        (0, "renumbered blocks 3 next 1\n", ""),
+    ),
+    ("widen run.img", b"", (0, "widened limit 6\n", "")),
+    ("widen run.img", b"", (0, "already wide limit 6\n", "")),
+    (
+        "load run.img run.txt --hold --threads 64 --checkpoint",
+        b"",
+        (0, LOADED, ""),
+    ),
+    (
+        "recover run.img",
+        b"",
+        (0, "transactions 0 copies 0 revoked 0 next 2\n", ""),
     ),
     (
         "recover no-such.img",
         b"",
         (2, "", "jb: cannot read no-such.img\n"),
     ),
-    ("recover .", b"", (2, "", "jb: cannot read .\n")),
-    ("recover ''", b"", (2, "", "jb: cannot read \n")),
-    (
-        "renumber no-such.img",
-        b"",
-        (2, "", "jb: cannot read no-such.img\n"),
-    ),
-    ("widen .", b"", (2, "", "jb: cannot read .\n")),
-    (
-        "recover /dev/zero",
-        b"",
-        (2, "", "jb: cannot read /dev/zero\n"),
-    ),
-    (
-        "load /dev/null no-such-queue.txt",
-        b"",
-        (2, "", "jb: cannot read /dev/null\n"),
-    ),
+    ("cost ''", QUEUE, (2, "", "jb: cannot read \n")),
     ("--version", b"", (0, "jb 0.1.0\n", "")),
     (
         "cost",
@@ -116,12 +121,22 @@ fn check_plain(rt: &impl Host) {
     )
 }
 
+/// Checks each row of the table, with its files, and the first one by its value.
+fn check_rows(rt: &impl Host) {
+    write(rt, "run.txt", QUEUE);
+    write(rt, "run.cert", CERT);
+    for (row, (line, input, end)) in ROWS.iter().enumerate() {
+        check_over(rt, line, input, *end, row);
+    }
+    remove(rt, "run.txt");
+    remove(rt, "run.cert");
+    remove(rt, "run.img");
+    check_plain(rt)
+}
+
 #[test]
 fn each_run_answers_its_row(rt: HostRuntime) {
-    for (row, (line, input, end)) in ROWS.iter().enumerate() {
-        check_over(&rt, line, input, *end, row);
-    }
-    check_plain(&rt)
+    check_rows(&rt)
 }
 
 /// Checks an input that is so many bytes longer than a text may be: all of them but one are left.
@@ -169,4 +184,30 @@ fn words_that_the_system_cannot_hand_over_are_refused(rt: HostRuntime) {
     let no_text = "error: invalid UTF-8 was detected in one or more arguments\n";
     check_refusal(&rt, rt.alloc(), ErrorKind::InvalidData, 2, no_text);
     check_refusal(&rt, rt.alloc(), ErrorKind::OutOfMemory, 1, "jb: Memory\n")
+}
+
+/// Checks that a dump of this file leaves these bytes of this input.
+fn check_left(rt: &impl Host, line: &str, input: &[u8], left: &[u8]) {
+    let mut rest = input;
+    let ran = ran_from(rt, line, &mut rest);
+    let is_dumped = ran.ended.status == 0 && ran.err.is_empty();
+    check(rt, is_dumped, "it is not dumped");
+    check(rt, rest == left, "another rest is not read")
+}
+
+/// Checks a dump of standard input that goes on after the journal, whose rest is not read, and one of a file, for which
+/// nothing of standard input is.
+fn check_input(rt: &impl Host) {
+    let line = "format dumped.journal --bs 1024 --journal 33 --homes 0";
+    check_over(rt, line, b"", (0, "formatted limit 8\n", ""), 0);
+    let mut bytes = read(rt, "dumped.journal");
+    bytes.extend_from_slice(b"next").expect(rt, "memory");
+    check_left(rt, "dump -", &bytes, b"next");
+    check_left(rt, "dump dumped.journal", b"next", b"next");
+    remove(rt, "dumped.journal")
+}
+
+#[test]
+fn standard_input_is_dumped_and_read_no_further(rt: HostRuntime) {
+    check_input(&rt)
 }

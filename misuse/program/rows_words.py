@@ -1,0 +1,198 @@
+"""Rows over the words of a command line, and over terminals: what clap says, and the second line of what the program says."""
+import re
+
+from rows import FULL, HANDLE, RECOVERED, ROWS, THREE, queue, row
+import rows_images  # noqa: F401  (its rows are in the table, too)
+
+# ---- words -------------------------------------------------------------------------------------------------------------------
+
+
+def begins(*starts):
+    """A text that begins so, and ends with an LF."""
+    return lambda text: text.startswith(starts) and text.endswith("\n")
+
+
+row("--version", 0, "jb 0.1.0\n")
+for words in ("--help", "help", "-h", "help format", "cost --help", "load -h"):
+    row(words, 0, begins("A block journal", "Makes an image", "Prints the log blocks", "Commits the handles"), files={"a": FULL})
+row("--help", 1, err="jb: WriteFault\n", to="full")
+for words in ("mount a", "cost", "cost a b", "check a", "recover", "recover a b", "format a --bs x --journal 33 --homes 16", "format a --bs 1024 --journal 33",
+              "format a --bs 1024 --journal 33 --homes -1", "cat a", "cat a x", "cat a 5 -n x", "cat a 5 --journal",
+              "dump a --journal a", "dump a --home", "dump a --home x", "dump a --last -1", "dump a --super=1", "dump a --super --super",
+              "load a", "load a q --threads 18446744073709551616", "--limit 7", "cost --hold a"):
+    row(words, 2, err=begins("error: "), files={"a": FULL, "q": queue(HANDLE)})
+row("cost \udcff", 2, err="error: invalid UTF-8 was detected in one or more arguments\n")
+
+# words that lack one: that word, and what is said of their use
+for words, lacks, use in [("cost", "<FILE>", "cost <FILE>"),
+                          ("check a", "<CERT>", "check <FILE> <CERT>"),
+                          ("format a --bs 1024 --journal 33", "--homes <N>", "format --bs <N> --journal <N> --homes <N> <IMAGE>"),
+                          ("recover", "<IMAGE>", "recover <IMAGE>"),
+                          ("cat a.img", "<HOME>", "cat <IMAGE> <HOME>"),
+                          ("load a.img", "<FILE>", "load <IMAGE> <FILE>"),
+                          ("renumber", "<IMAGE>", "renumber <IMAGE>")]:
+    said = "the following required arguments were not provided:\n  %s\n\nUsage: jb %s" % (lacks, use)
+    row(words, 2, err="error: %s\n\nFor more information, try '--help'.\n" % said)
+# other mistakes, and what is said of them before the help is named
+for words, said in [("format a --bs 18446744073709551616", "invalid value '18446744073709551616' for '--bs <N>': number too large to fit in target type"),
+                    ("format a --bs x", "invalid value 'x' for '--bs <N>': invalid digit found in string"),
+                    ("load a.img a --threads -1",
+                     "unexpected argument '-1' found\n\n  tip: to pass '-1' as a value, use '-- -1'\n\nUsage: jb load [OPTIONS] <IMAGE> <FILE>"),
+                    ("load a.img a --hold=yes", "unexpected value 'yes' for '--hold' found; no more were expected\n\nUsage: jb load --hold <IMAGE> <FILE>"),
+                    ("widen a b", "unexpected argument 'b' found\n\nUsage: jb widen <IMAGE>"),
+                    ("cost a b", "unexpected argument 'b' found\n\nUsage: jb cost <FILE>"),
+                    ("coast a", "unrecognized subcommand 'coast'\n\n  tip: some similar subcommands exist: 'format', 'cost'\n\nUsage: jb <COMMAND>")]:
+    row(words, 2, err="error: %s\n\nFor more information, try '--help'.\n" % said)
+# words that ask for a text, and the text
+HELP = """A block journal in jbd2's format
+
+Usage: jb <COMMAND>
+
+Commands:
+  cost      Prints the log blocks that the queue takes as one group
+  plan      Prints a least cut of the queue into groups, with its prices
+  check     Checks a certificate of the queue, whoever made it
+  dump      Prints the committed transactions of a journal, block by block
+  cat       Writes home blocks of an image as recovery would leave them
+  format    Makes an image: a new journal, and home blocks of zeros after it
+  load      Commits the handles of a queue text to an image, run by threads
+  recover   Writes home what an image's journal has committed, and empties its log
+  renumber  Restarts the transaction numbers of a clean journal at 1
+  widen     Gives a clean journal block numbers of 64 bits
+  help      Print this message or the help of the given subcommand(s)
+
+Options:
+  -h, --help     Print help (see more with '--help')
+  -V, --version  Print version
+"""
+SHOWN = {
+    "--version": "jb 0.1.0\n",
+    "cost -h": """Prints the log blocks that the queue takes as one group
+
+Usage: jb cost <FILE>
+
+Arguments:
+  <FILE>  A queue text, or - for standard input
+
+Options:
+  -h, --help  Print help (see more with '--help')
+""",
+    "dump -h": """Prints the committed transactions of a journal, block by block
+
+Usage: jb dump [OPTIONS] <FILE>
+
+Arguments:
+  <FILE>  A file with the whole journal at its front, or - for standard input
+
+Options:
+      --home <N>  Only the lines that speak of home block N
+      --last <N>  Of the transactions only the last N
+      --super     Only the lines of the superblock
+      --summary   The journal at a glance, in place of its lines
+  -h, --help      Print help (see more with '--help')
+""",
+    "cat -h": """Writes home blocks of an image as recovery would leave them
+
+Usage: jb cat [OPTIONS] <IMAGE> <HOME>
+
+Arguments:
+  <IMAGE>  A file or block device with a journal at its front, and the home blocks after it
+  <HOME>   The number of the first home block
+
+Options:
+  -n <N>                How many home blocks [default: 1]
+      --hex             Writes lines of hexadecimal digits, as xxd does
+      --journal <FILE>  The file with the journal; IMAGE has the home blocks alone then
+      --extents <LIST>  Where the journal stands within IMAGE, as debugfs lists its blocks
+  -h, --help            Print help (see more with '--help')
+""",
+    "format -h": """Makes an image: a new journal, and home blocks of zeros after it
+
+Usage: jb format [OPTIONS] --bs <N> --journal <N> --homes <N> <IMAGE>
+
+Arguments:
+  <IMAGE>  The file to make; an existing file is not overwritten
+
+Options:
+      --bs <N>       Bytes of a block: 1024, 2048 or 4096
+      --journal <N>  Blocks of the journal, its superblock counted
+      --homes <N>    Home blocks after the journal
+      --max <N>      The most log blocks of a transaction; 0 for a quarter of the log [default: 0]
+      --uuid <HEX>   The journal's UUID, as 32 hexadecimal digits [default: 00000000000000000000000000000000]
+      --wide         Block numbers of 64 bits
+  -h, --help         Print help (see more with '--help')
+""",
+    "load -h": """Commits the handles of a queue text to an image, run by threads
+
+Usage: jb load [OPTIONS] <IMAGE> <FILE>
+
+Arguments:
+  <IMAGE>  A file or block device with a journal at its front, and the home blocks after it
+  <FILE>   A queue text of the image's block size
+
+Options:
+      --journal <FILE>  The file with the journal; IMAGE has the home blocks alone then
+      --threads <N>     How many threads run the handles, 1 to 64 [default: 1]
+      --hold            Commits once all handles have run, as one batch
+      --stamp <SEC>     The time of the commit blocks, in seconds since 1970 [default: 0]
+      --checkpoint      Writes home what is committed, too
+  -h, --help            Print help (see more with '--help')
+""",
+    "recover -h": """Writes home what an image's journal has committed, and empties its log
+
+Usage: jb recover [OPTIONS] <IMAGE>
+
+Arguments:
+  <IMAGE>  A file or block device with a journal at its front, and the home blocks after it
+
+Options:
+      --extents <LIST>  Where the journal stands within IMAGE, as debugfs lists its blocks
+      --journal <FILE>  The file with the journal; IMAGE has the home blocks alone then
+      --force           Recovers though the journal seems not to be the file system's own
+      --dry-run         Says what would be done, and writes nothing
+      --list            With --dry-run: lists the home blocks that would be written
+  -h, --help            Print help (see more with '--help')
+""",
+    "help renumber": """Restarts the transaction numbers of a clean journal at 1
+
+Usage: jb renumber <IMAGE>
+
+Arguments:
+  <IMAGE>
+          A file or block device with a journal at its front, and the home blocks after it
+
+Options:
+  -h, --help
+          Print help (see a summary with '-h')
+
+Status: 0 where the journal is renumbered, 1 where it is refused, by the name of its fault, and stays as
+it is, 2 where the file cannot be opened or read. After jb: NeedsRecovery it is to be recovered first; after
+jb: DeviceFault, status 1, the command is to be called again.
+
+Example:
+  jb renumber a.img     # renumbered blocks 2 next 1
+""",
+    "-h": HELP,
+}
+for words, text in SHOWN.items():
+    row(words, 0, text)
+for terminal in "in", "in err":
+    row("", 2, err=HELP.__eq__, terminal=terminal)
+
+# ---- terminals ---------------------------------------------------------------------------------------------------------------
+
+row("", 0, "cost 7 limit 7 fits\n", stdin=queue(THREE, 7), terminal="err")
+row("cost", 2, err=begins("error: "), terminal="err")
+row("--version", 0, "jb 0.1.0\n", terminal="err")
+row("cost q", 0, "cost 3 limit 8 fits\n", files={"q": queue("w16")}, terminal="err")
+row("recover a", 0, "transactions 1 copies 1 revoked 0 next 4\n", files={"a": FULL}, after={"a": RECOVERED}, terminal="err")
+# where nobody reads standard output any more, nothing is said on a terminal
+for words, files, after in (("dump a", {"a": FULL}, {}), ("cat a 5", {"a": FULL}, {}), ("recover a", {"a": FULL}, {"a": RECOVERED}), ("--help", {}, {})):
+    row(words, 1, files=files, after=after, to="gone", terminal="err")
+# each kind of line on standard error once more, on a terminal, with each thing that is said beside it
+told = set()
+for some in [some for some in ROWS if isinstance(some["err"], str) and some["err"].startswith("jb: ")]:
+    kind = re.sub(r"\d+", "#", some["err"]), some["beside"]
+    if kind not in told and "ulimit -v" not in some["how"]:
+        told.add(kind)
+        ROWS.append({**some, "terminal": "err"})
