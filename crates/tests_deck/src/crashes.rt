@@ -1,6 +1,7 @@
 //! A journal that is opened on a disk of which a call fails, or every call from one on; and what a crash then
 //! leaves of it.
 
+use crate::cases::report;
 use crate::checks::By;
 use crate::frames::Frame;
 use crate::images::{BLOCKS, HOMES, MAGIC, Row, small};
@@ -87,10 +88,11 @@ fn make_wanted(test: &impl Bench, of: &Case) -> Wanted {
     }
 }
 
-/// Whether what a crash left has the blocks before the log, recovers, and then is as wanted from a place on.
+/// Whether what a crash left has the blocks before the log, recovers with the number that it had, and then is as wanted
+/// from a place on.
 fn mends(test: &impl Bench, left: &mut MemoryDisk, wanted: &mut Wanted, from: u64) -> bool {
     let is_kept = wanted.was.is_kept(test, left) || wanted.becomes.is_kept(test, left);
-    if !is_kept || recover(test.alloc(), left).is_err() {
+    if !is_kept || recover(test.alloc(), left) != Ok(report((0, 0, 0, 2))) {
         return false;
     }
     difference(test, left, &mut wanted.whole, from).is_none()

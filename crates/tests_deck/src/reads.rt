@@ -96,15 +96,16 @@ const OPENED: u64 = 34;
 
 static FIVE: [Row; 1] = [(HOMES + 5, 0, [5, 5, 5, 5])];
 
-/// How a read of so many bytes ends.
+/// How a read of so many bytes ends, and whether they stay as they were.
 fn read_into<D: Disk>(
     test: &impl Bench,
     deck: &mut Deck<D>,
     home: u64,
     len: usize,
-) -> Result<(), ReadHomeFault> {
+) -> (Result<(), ReadHomeFault>, bool) {
     let mut bytes = vec![in test.alloc(); 3; len].must(test, "memory");
-    deck.read_home(home, &mut bytes)
+    let told = deck.read_home(home, &mut bytes);
+    (told, bytes.iter().all(|byte| *byte == 3))
 }
 
 /// Two reads of home 5, of which the first meets a fault: the journal has not failed, and the second one has its bytes.
@@ -119,12 +120,12 @@ fn read_twice<D: Disk>(test: &impl Test, deck: &mut Deck<D>) {
     check(test, second == Ok(()) && has_bytes, "the read after it")
 }
 
-/// Each of these reads of a journal on this disk is refused so; then home 5 is read twice.
+/// Each of these reads of a journal on this disk is refused so, and fills no buffer; then home 5 is read twice.
 fn refuse_on<D: Disk + Drop>(test: &impl Bench, disk: D) {
     let mut deck = opening(test, disk);
     for (row, home, len, fault) in &REFUSALS {
-        let told = read_into(test, &mut deck, *home, *len);
-        check(test, told == Err(*fault), row);
+        let (told, is_kept) = read_into(test, &mut deck, *home, *len);
+        check(test, told == Err(*fault) && is_kept, row);
     }
     read_twice(test, &mut deck)
 }

@@ -19,7 +19,8 @@ enum Call {
     Drop(u64),
     /// gives a batch: its first ticket, and how many handles it has
     Take(Option<(u64, usize)>),
-    /// gives a batch that begins with ticket 0: once a journal has committed it, it is settled, and not a second time
+    /// gives a batch that begins with ticket 0: once a journal has committed it, it is settled, and not a second time,
+    /// nor by a book that has not taken it
     Settle,
     Fail,
     Shut,
@@ -34,6 +35,7 @@ static ROWS: [&[Call]; 4] = [
         Call::Open(3, 6, Ok(())),
         Call::Open(4, 6, Ok(())),
         Call::Open(5, 6, Ok(())),
+        Call::Open(6, 7, Err(BeginFault::TooManyCredits(6))),
         Call::Open(6, 3, Err(BeginFault::Full(30))),
         Call::Open(6, 2, Ok(())),
     ],
@@ -128,13 +130,23 @@ fn committed(rt: &impl Abort, alloc: Global, batch: Batch) -> Done {
     }
 }
 
-/// Whether a batch that is taken is settled once it is committed, and not a second time.
+/// Whether another book, in whose queue a handle has ticket 0, settles no batch that begins with it.
+fn is_refused(rt: &impl Abort, alloc: Global, done: &Done) -> bool {
+    let mut book = Book::<Brand>::new(alloc, SHAPE, 32);
+    let is_open = book.open(1, 1) == Ok(());
+    let is_queued = stop(rt, alloc, &mut book, 1, 1, &[1]) == Ok(0);
+    is_open && is_queued && book.settle(done) == Err(WrongBatch)
+}
+
+/// Whether a batch that is taken is settled once it is committed, and neither a second time nor by another book.
 fn is_settled(rt: &impl Abort, alloc: Global, book: &mut Book<Brand>) -> bool {
     let Some(batch) = book.take() else {
         return false;
     };
     let done = committed(rt, alloc, batch);
-    book.settle(&done) == Ok(()) && book.settle(&done) == Err(WrongBatch)
+    is_refused(rt, alloc, &done)
+        && book.settle(&done) == Ok(())
+        && book.settle(&done) == Err(WrongBatch)
 }
 
 /// Calls a book; says whether it answers so.
