@@ -113,8 +113,8 @@ fn take<R: Abort + Wait, D: Disk, H: Origin, N: Ledger>(
 }
 
 /// A home has a copy in the log alone, then at home too, then a newer one in the log beside the older one at home, and
-/// is written twice in a batch. Others are written at the first and last place.
-static STEPS: [Step; 15] = [
+/// is written twice in a batch, also by its first two handles. Others are written at the first and last place.
+static STEPS: [Step; 16] = [
     Step::Fill(1, 11),
     Step::Round,
     Step::Fill(1, 12),
@@ -126,6 +126,7 @@ static STEPS: [Step; 15] = [
     Step::Fill(1, 16),
     Step::Checkpoint,
     Step::Round,
+    Step::Fill(0, 18),
     Step::Fill(0, 17),
     Step::Checkpoint,
     Step::Round,
