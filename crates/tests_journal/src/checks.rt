@@ -9,13 +9,18 @@ use std::thread::Threads;
 use std::time::Clock;
 use tests_support::{Bench, Ended, Test, Wrong};
 
-/// What a journal that is run needs of its runtime: files, memory, threads, and a clock; and what a test needs to fail.
+/// What a journal that is run needs of its runtime: memory, threads, and a clock; and what a test needs to fail.
 ///
 /// A test calls one function, which takes any such runtime: of the runtime of a test, each call proves anew that it has
 /// all of these.
-pub trait Host: Files<File = File> + AllocGlobal + Threads + Wait + Clock + Sync + Abort {}
+pub trait Host: AllocGlobal + Threads + Wait + Clock + Sync + Abort {}
 
-impl<R: Files<File = File> + AllocGlobal + Threads + Wait + Clock + Sync + Abort> Host for R {}
+impl<R: AllocGlobal + Threads + Wait + Clock + Sync + Abort> Host for R {}
+
+/// What an image in a file needs: files and memory.
+pub trait FileHost: Files<File = File> + AllocGlobal + Abort {}
+
+impl<R: Files<File = File> + AllocGlobal + Abort> FileHost for R {}
 
 /// A test, by the runtime that it is run with, and its memory.
 #[derive(Drop)]

@@ -12,7 +12,7 @@ use std::sync::Wait;
 use std::sync::ledger::Ledger;
 use std::time::{Duration, Instant};
 use std::{thread, time};
-use tests_support::{Must, Test, check_at, check_in, check_row};
+use tests_support::{Must, Test, check_in};
 
 /// A delay that no test waits for to its end, in milliseconds.
 const LONG: u64 = 20_000;
@@ -137,37 +137,39 @@ static ROWS: [Row; 4] = [
     },
 ];
 
-/// Checks that what a run stopped is settled, and that each worker could do its work.
-fn check_settled<D: Disk + Drop>(
-    test: &impl Test,
-    row: &Row,
-    ran: Ran<Result<(), JournalFault>, D>,
-) {
-    check_in(
-        test,
-        ran.settled == row.handles,
-        row.name,
-        "how many handles: not",
-        row.handles,
-    );
-    if let Some(transactions) = row.transactions {
-        check_row(
-            test,
-            ran.trail.len() == transactions,
-            row.name,
-            "how many transactions",
-        );
-    }
-    let (_disk, answers) = ran.durable().must(test, row.name);
+/// What a run of such workers leaves of a journal on a disk.
+type Left<D> = Ran<Result<(), JournalFault>, D>;
+
+/// Checks how many handles a run has committed, and by how many transactions.
+fn check_counts<D>(test: &impl Test, row: &Row, left: &Left<D>) {
+    let is_so = left.settled == row.handles;
+    check_in(test, is_so, row.name, "handles:", left.settled);
+    let Some(wanted) = row.transactions else {
+        return;
+    };
+    let count = left.trail.len();
+    let is_so = count == wanted;
+    check_in(test, is_so, row.name, "transactions:", count as u64);
+}
+
+/// Checks that no worker was refused.
+fn check_answers(test: &impl Test, row: &Row, answers: &[Result<(), JournalFault>]) {
     for (at, answer) in answers.iter().enumerate() {
         check_in(
             test,
             answer.is_ok(),
             row.name,
-            "what is answered to worker",
+            "the answer of worker",
             at as u64,
         );
     }
+}
+
+/// Checks that all that a run stopped is settled, and no worker was refused.
+fn check_settled<D: Disk + Drop>(test: &impl Test, row: &Row, left: Left<D>) {
+    check_counts(test, row, &left);
+    let (_disk, answers) = left.durable().must(test, row.name);
+    check_answers(test, row, &answers)
 }
 
 /// The milliseconds of a time.
@@ -177,8 +179,8 @@ fn millis(time: Duration) -> u64 {
         .saturating_add(u64::from(time.subsec_millis()))
 }
 
-/// Checks a run whose commits are put off.
-fn check_delayed(rt: &impl Host, row: &Row) {
+/// Checks a run of the journal on a disk, whose commits are put off.
+fn check_delayed<D: Disk + Drop + Send>(rt: &impl Host, row: &Row, disk: D) {
     let test = By(rt, rt.alloc());
     let mut options = by(row.workers);
     options.checkpoint = true;
@@ -186,24 +188,19 @@ fn check_delayed(rt: &impl Host, row: &Row) {
         time: Duration::from_millis(row.millis),
         handles: row.waiting,
     };
-    let disk = formatted(&test, BlockSize::OneKib);
     let start = Instant::now(rt).must(&test, "the time");
     let ran = run(rt, disk, CLOCK, options, &row.stopping).must(&test, row.name);
     let took = millis(start.elapsed(rt).must(&test, "the time"));
     check_settled(&test, row, ran);
     let (least, below) = row.took;
-    check_in(
-        &test,
-        took >= least && took < below,
-        row.name,
-        "milliseconds:",
-        took,
-    );
+    let is_within = took >= least && took < below;
+    check_in(&test, is_within, row.name, "milliseconds:", took);
 }
 
 fn check_rows(rt: &impl Host) {
     for row in &ROWS {
-        check_delayed(rt, row);
+        let disk = formatted(&By(rt, rt.alloc()), BlockSize::OneKib);
+        check_delayed(rt, row, disk);
     }
 }
 

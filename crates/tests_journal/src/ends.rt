@@ -5,10 +5,12 @@ use jb_journal::{
     BlockSize, Client, Clock, Disk, Ended, FixedClock, JournalFault, NotSettled, Origin, Ran,
     Stamp, SystemClock, WaitFault, Worker, run,
 };
+use std::alloc::Global;
+use std::process::Abort;
 use std::sync::Wait;
 use std::sync::ledger::Ledger;
 use std::time;
-use tests_support::{Bench, Must, Test, check, fail};
+use tests_support::{Bench, Must, Test, check};
 
 /// What a run leaves where so many of two handles are settled.
 fn left(test: &impl Bench, settled: u64) -> Ran<u8, u8> {
@@ -26,23 +28,33 @@ fn left(test: &impl Bench, settled: u64) -> Ran<u8, u8> {
     }
 }
 
-/// Checks that a run that has lost handles is an error.
-fn check_lost(test: &impl Bench) {
-    let (disk, answers) = left(test, 2).durable().must(test, "no handle is lost");
+/// Checks what a run gives that has lost no handle.
+fn check_kept(test: &impl Bench) {
+    let (disk, answers) = left(test, 2)
+        .durable()
+        .must(test, "what a run gives that has lost nothing");
     check(test, disk == 1, "the disk");
     check(test, answers.len() == 1, "the answers");
-    let lost = NotSettled {
-        handles: 2,
-        settled: 1,
-    };
-    check(
-        test,
-        left(test, 1).durable().err() == Some(lost),
-        "a lost handle",
-    );
-    let told = format!(in test.alloc(); "{lost}").must(test, "memory");
+}
+
+/// What one answers that has lost a handle.
+fn lost(test: &impl Bench) -> Option<NotSettled> {
+    left(test, 1).durable().err()
+}
+
+/// Checks that a run that has lost a handle is an error, and what that tells.
+fn check_lost(test: &impl Bench) {
+    let fault = lost(test).must(test, "the fault of a run that has lost a handle");
+    check(test, fault.handles == 2, "how many handles stopped");
+    check(test, fault.settled == 1, "how many are settled");
+    let told = format!(in test.alloc(); "{fault}").must(test, "memory");
     let is_told = told.as_str().starts_with("only 1 of 2 handles are settled");
     check(test, is_told, "what is told of a lost handle");
+}
+
+fn check_ends(test: &impl Bench) {
+    check_kept(test);
+    check_lost(test)
 }
 
 /// What a client tells of its journal.
@@ -67,15 +79,19 @@ impl Worker<Sizes> for Asking {
     }
 }
 
+/// What a worker tells of the journal on a disk.
+fn sizes_of<D: Disk + Drop + Send>(rt: &impl Host, disk: D) -> Option<Sizes> {
+    match run(rt, disk, SystemClock::new(rt), by(1), &Asking) {
+        Ok(ran) => ran.answers.first().copied(),
+        Err(_) => None,
+    }
+}
+
 /// Checks the sizes that a client tells.
 fn check_sizes(rt: &impl Host) {
     let test = By(rt, rt.alloc());
     let disk = formatted(&test, BlockSize::TwoKib);
-    let ran = run(rt, disk, SystemClock::new(rt), by(1), &Asking);
-    let ran = ran.must(&test, "the journal is not run");
-    let Some((size, homes, most)) = ran.answers.first().copied() else {
-        return fail(&test, "the worker answers nothing");
-    };
+    let (size, homes, most) = sizes_of(rt, disk).must(&test, "a worker tells nothing");
     check(&test, size == BlockSize::TwoKib, "the size of a block");
     check(&test, homes == 16, "how many homes there are");
     // a quarter of the 32 blocks of the log, without a descriptor and a commit block
@@ -83,8 +99,8 @@ fn check_sizes(rt: &impl Host) {
 }
 
 /// Checks the time that the clocks tell.
-fn check_clocks(rt: &impl Host) {
-    let test = By(rt, rt.alloc());
+fn check_clocks<R: time::Clock + Abort>(rt: &R, alloc: Global) {
+    let test = By(rt, alloc);
     let fixed = FixedClock {
         stamp: Stamp { sec: 5, nsec: 6 },
     };
@@ -106,7 +122,7 @@ fn check_fault(test: &impl Test) {
 
 #[test]
 fn a_run_that_has_lost_handles_is_an_error(rt: HostRuntime) {
-    check_lost(&By(&rt, rt.alloc()))
+    check_ends(&By(&rt, rt.alloc()))
 }
 
 #[test]
@@ -116,7 +132,7 @@ fn a_client_tells_the_sizes_of_its_journal(rt: HostRuntime) {
 
 #[test]
 fn the_clock_of_the_system_tells_the_time(rt: HostRuntime) {
-    check_clocks(&rt)
+    check_clocks(&rt, rt.alloc())
 }
 
 #[test]

@@ -1,5 +1,5 @@
 //! The file of an image, and how many blocks it has once it is opened or made.
-use crate::checks::{By, Host};
+use crate::checks::{By, FileHost};
 use jb_image::{ImageFault, MakeFault, Opening, create_image, open_image};
 use jb_journal::{BlockSize, Disk, FileDisk, Geometry, JournalFault, open, open_or_create};
 use std::fs;
@@ -16,13 +16,13 @@ pub fn geometry() -> Geometry {
 }
 
 /// Removes what a test before may have left.
-pub fn fresh(rt: &impl Host) {
+pub fn fresh(rt: &impl FileHost) {
     let _none = fs::remove_file(rt, NAME);
     let _none = fs::remove_file(rt, UNFINISHED);
 }
 
 /// Whether there is a file of this name.
-pub fn exists(rt: &impl Host, name: &str) -> bool {
+pub fn exists(rt: &impl FileHost, name: &str) -> bool {
     fs::exists(rt, name).must(
         &By(rt, rt.alloc()),
         "the system does not say which files there are",
@@ -38,21 +38,21 @@ pub fn blocks_of<E>(disk: Result<FileDisk, E>) -> Result<u64, E> {
 }
 
 /// Opens the image for a journal.
-pub fn opened(rt: &impl Host) -> Result<u64, JournalFault> {
+pub fn opened(rt: &impl FileHost) -> Result<u64, JournalFault> {
     blocks_of(open(rt, NAME, BlockSize::OneKib))
 }
 
 /// Opens the image for a journal, or makes it.
-pub fn opened_or_made(rt: &impl Host, geometry: Geometry) -> Result<u64, JournalFault> {
+pub fn opened_or_made(rt: &impl FileHost, geometry: Geometry) -> Result<u64, JournalFault> {
     blocks_of(open_or_create(rt, NAME, geometry))
 }
 
 /// Opens the image as a disk.
-pub fn looked_at(rt: &impl Host, opening: Opening) -> Result<u64, ImageFault> {
+pub fn looked_at(rt: &impl FileHost, opening: Opening) -> Result<u64, ImageFault> {
     blocks_of(open_image(rt, NAME, BlockSize::OneKib, opening))
 }
 
 /// Makes the image.
-pub fn made(rt: &impl Host, geometry: Geometry) -> Result<u64, MakeFault> {
+pub fn made(rt: &impl FileHost, geometry: Geometry) -> Result<u64, MakeFault> {
     blocks_of(create_image(rt, NAME, geometry))
 }

@@ -1,5 +1,5 @@
 //! Images in files: opened, locked, and read while no journal runs.
-use crate::checks::{By, Host};
+use crate::checks::{By, FileHost};
 use crate::files::{
     NAME, UNFINISHED, blocks_of, exists, fresh, geometry, looked_at, made, opened, opened_or_made,
 };
@@ -17,7 +17,7 @@ static IN_USE: Result<u64, JournalFault> = Err(JournalFault::Image(ImageFault::I
 
 /// Checks an image that is made once there is none, and held: the lock lies on the open file, so that a second open in
 /// this process is one of another.
-fn check_held<R: Host>(rt: &R) {
+fn check_held<R: FileHost>(rt: &R) {
     let test = By(rt, rt.alloc());
     let is_missing = matches!(
         opened(rt),
@@ -48,7 +48,7 @@ fn check_held<R: Host>(rt: &R) {
 }
 
 /// Checks an image that is read, by more than one, and then opened for change.
-fn check_read<R: Host>(rt: &R) {
+fn check_read<R: FileHost>(rt: &R) {
     let test = By(rt, rt.alloc());
     let reader = open_image(rt, NAME, BlockSize::OneKib, Opening::Read).must(&test, "a reader");
     check(
@@ -63,7 +63,7 @@ fn check_read<R: Host>(rt: &R) {
 }
 
 /// Checks the other name of an image whose maker was killed when it had both.
-fn check_names(rt: &impl Host) {
+fn check_names(rt: &impl FileHost) {
     let test = By(rt, rt.alloc());
     fs::hard_link(rt, NAME, UNFINISHED).must(&test, "a second name");
     check(
@@ -88,7 +88,7 @@ fn check_names(rt: &impl Host) {
     );
 }
 
-fn check_opened(rt: &impl Host) {
+fn check_opened(rt: &impl FileHost) {
     fresh(rt);
     check_held(rt);
     check_read(rt);
@@ -108,7 +108,7 @@ static UNFIT: [(BlockSize, u64, JournalFault); 2] = [
 ];
 
 /// Checks that an image that does not fit is refused.
-fn check_unfit(rt: &impl Host) {
+fn check_unfit(rt: &impl FileHost) {
     fresh(rt);
     let test = By(rt, rt.alloc());
     check(
@@ -151,15 +151,19 @@ static READS: [(u64, usize, Result<u8, HomeFault>); 4] = [
     (16, 1023, Err(HomeFault::Length)),
 ];
 
-/// Checks what is read of an image while no journal runs.
-fn check_reads(rt: &impl Host) {
+/// Checks what is read of a disk while no journal runs.
+fn check_homes(test: &impl Test, disk: &mut impl Disk) {
+    for (row, (home, len, found)) in (0..).zip(&READS) {
+        let answer = read(test, disk, *home, *len);
+        check_at(test, answer == *found, "the answer of row", row);
+    }
+}
+
+fn check_reads(rt: &impl FileHost) {
     fresh(rt);
     let test = By(rt, rt.alloc());
     let mut disk = create_image(rt, NAME, geometry()).must(&test, "an image is not made");
-    for (row, (home, len, found)) in (0..).zip(&READS) {
-        let answer = read(&test, &mut disk, *home, *len);
-        check_at(&test, answer == *found, "the answer of row", row);
-    }
+    check_homes(&test, &mut disk);
     fresh(rt)
 }
 

@@ -1,5 +1,5 @@
 //! Images that are made, whole or not at all.
-use crate::checks::{By, Host};
+use crate::checks::{By, FileHost};
 use crate::files::{NAME, UNFINISHED, exists, fresh, geometry, made};
 use jb_image::{ImageFault, MakeFault, SystemFault};
 use jb_journal::{BlockSize, Geometry};
@@ -12,7 +12,7 @@ static UNMADE: [(u32, u64); 2] = [(8, 16), (33, u64::MAX)];
 
 /// Checks that numbers that make no image are refused, and that one that is too large for the file system leaves
 /// nothing.
-fn check_unmade(rt: &impl Host) {
+fn check_unmade(rt: &impl FileHost) {
     let test = By(rt, rt.alloc());
     for (row, (journal, homes)) in (0..).zip(&UNMADE) {
         let answer = made(rt, Geometry::new(BlockSize::OneKib, *journal, *homes));
@@ -35,7 +35,7 @@ fn check_unmade(rt: &impl Host) {
 }
 
 /// Checks that an image that another process makes is not made, and what that leaves when it is killed.
-fn check_two_makers(rt: &impl Host) {
+fn check_two_makers(rt: &impl FileHost) {
     let test = By(rt, rt.alloc());
     // one that makes it has locked what it makes
     let maker = File::create_new(rt, UNFINISHED).must(&test, "a maker");
@@ -60,7 +60,7 @@ fn check_two_makers(rt: &impl Host) {
 }
 
 /// Checks that a file with anything in it is not what such a process leaves.
-fn check_mine(rt: &impl Host) {
+fn check_mine(rt: &impl FileHost) {
     let test = By(rt, rt.alloc());
     fs::write(rt, UNFINISHED, "mine").must(&test, "a file");
     let there = ImageFault::System(SystemFault { code: Some(17) });
@@ -80,7 +80,7 @@ fn check_mine(rt: &impl Host) {
     fresh(rt)
 }
 
-fn check_made(rt: &impl Host) {
+fn check_made(rt: &impl FileHost) {
     fresh(rt);
     check_unmade(rt);
     check_two_makers(rt);

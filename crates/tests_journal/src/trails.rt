@@ -4,12 +4,12 @@ ghost use Rattle.jb_journal.specs.Client.{IsClient};
 use crate::checks::{By, Host};
 use crate::journals::{CLOCK, by, formatted};
 use jb_journal::{
-    BlockSize, Client, Clock, Disk, Handle, Origin, TouchFault, WaitFault, Worker, run,
+    BlockSize, Client, Clock, Disk, Handle, Origin, Ran, TouchFault, WaitFault, Worker, run,
 };
 use std::sync::Wait;
 use std::sync::ledger::Ledger;
 use std::time;
-use tests_support::{Must, check, fail};
+use tests_support::{Must, Test, check};
 
 /// What a worker found that took the trail: how many entries it took, the ticket after theirs, and what is answered of
 /// the first ticket then.
@@ -56,28 +56,35 @@ impl Worker<Taken> for Long {
     }
 }
 
-/// Checks a trail that a worker takes the entries from.
-fn check_taken(rt: &impl Host) {
+/// Checks what the worker found.
+fn check_found(test: &impl Test, taken: &Taken) {
+    // the 32 blocks of the log have room for ten transactions of one home; all before them are home
+    check(test, taken.entries == 50, "how many entries are taken");
+    check(test, taken.past == 50, "the ticket after the taken ones");
+    let is_taken = taken.first == Err(WaitFault::Taken);
+    check(test, is_taken, "the first ticket");
+}
+
+/// Checks what such a run leaves.
+fn check_left<D>(test: &impl Test, left: &Ran<Taken, D>) {
+    check_found(test, left.answers.first().must(test, "an answer"));
+    check(test, left.handles == 60, "how many handles stop");
+    check(test, left.settled == 60, "how many handles are settled");
+    check(test, left.trail.len() == 10, "how long the trail is");
+    let first = left.trail.first().must(test, "a trail").first;
+    check(test, first == 50, "where the trail begins");
+}
+
+/// Checks a run of the journal on a disk by the worker.
+fn check_run<D: Disk + Drop + Send>(rt: &impl Host, disk: D) {
     let test = By(rt, rt.alloc());
     let long = Long { rounds: 60 };
-    let disk = formatted(&test, BlockSize::OneKib);
-    let ran = run(rt, disk, CLOCK, by(1), &long).must(&test, "the journal is not run");
-    let Some(taken) = ran.answers.first() else {
-        return fail(&test, "the worker answers nothing");
-    };
-    // the 32 blocks of the log have room for ten transactions of one home; all before them are home
-    check(&test, taken.entries == 50, "how many entries are taken");
-    check(&test, taken.past == 50, "the ticket after the taken ones");
-    check(
-        &test,
-        taken.first == Err(WaitFault::Taken),
-        "the first ticket",
-    );
-    check(&test, ran.handles == 60, "how many handles stop");
-    check(&test, ran.settled == 60, "how many handles are settled");
-    check(&test, ran.trail.len() == 10, "how long the trail is");
-    let first = ran.trail.first().map(|entry| entry.first);
-    check(&test, first == Some(50), "where the trail begins");
+    let left = run(rt, disk, CLOCK, by(1), &long).must(&test, "the journal is not run");
+    check_left(&test, &left)
+}
+
+fn check_taken(rt: &impl Host) {
+    check_run(rt, formatted(&By(rt, rt.alloc()), BlockSize::OneKib))
 }
 
 #[test]

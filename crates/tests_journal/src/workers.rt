@@ -11,7 +11,7 @@ use jb_journal::{
 use std::sync::Wait;
 use std::sync::ledger::Ledger;
 use std::time;
-use tests_support::{Bench, Must, Test, check, check_at, crashed, fail};
+use tests_support::{Must, Test, check, check_at, crashed};
 
 /// What a worker found: what its change answered, how its ticket was waited for, and what its home held then.
 type Found = (
@@ -65,23 +65,20 @@ static PAIRS: Pairs = Pairs {
     apart: 1,
 };
 
-/// What a run of such workers leaves.
-type Left = Ran<Found, MemoryDisk>;
-
-/// A journal on a disk is run by them.
-fn run_on(
+/// A journal on a disk is run by such workers.
+fn run_on<D: Disk + Drop + Send>(
     rt: &impl Host,
-    disk: MemoryDisk,
+    disk: D,
     options: Options,
     pairs: &Pairs,
-) -> Result<Left, RunFault>
+) -> Result<Ran<Found, D>, RunFault>
     requires { (1 ≤ options.workers) × (options.workers ≤ 64) }
 {
     run(rt, disk, CLOCK, options, pairs)
 }
 
 /// A new journal is run by them.
-fn run_new(rt: &impl Host, options: Options, pairs: &Pairs) -> Left
+fn run_new(rt: &impl Host, options: Options, pairs: &Pairs) -> Ran<Found, MemoryDisk>
     requires { (1 ≤ options.workers) × (options.workers ≤ 64) }
 {
     let test = By(rt, rt.alloc());
@@ -90,7 +87,11 @@ fn run_new(rt: &impl Host, options: Options, pairs: &Pairs) -> Left
 }
 
 /// How many handles stop where the journal on a disk is run.
-fn run_again(rt: &impl Host, disk: MemoryDisk, options: Options) -> Result<u64, RunFault>
+fn run_again<D: Disk + Drop + Send>(
+    rt: &impl Host,
+    disk: D,
+    options: Options,
+) -> Result<u64, RunFault>
     requires { (1 ≤ options.workers) × (options.workers ≤ 64) }
 {
     match run_on(rt, disk, options, &PAIRS) {
@@ -152,9 +153,7 @@ static REFUSED: [(u32, u64, TouchFault); 2] = [
 fn check_refused(rt: &impl Host, pairs: &Pairs, fault: TouchFault, at: u64) {
     let test = By(rt, rt.alloc());
     let ran = run_new(rt, by(2), pairs);
-    let Some((changed, _, _)) = ran.answers.get(1) else {
-        return fail(&test, "the second worker answers nothing");
-    };
+    let (changed, _, _) = ran.answers.get(1).must(&test, "a second answer");
     check_at(
         &test,
         *changed == Err(HandleFault::Refused(fault)),
