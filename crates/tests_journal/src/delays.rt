@@ -2,16 +2,17 @@
 ghost use Rattle.std.specs.Prelude.{◌≤◌};
 ghost use Rattle.jb_journal.specs.Client.{IsClient};
 
-use crate::workers::{CLOCK, formatted};
+use crate::checks::{By, Host};
+use crate::journals::{CLOCK, by, formatted};
 use jb_journal::{
-    Client, Clock, Delay, Disk, Handle, JournalFault, Options, Origin, TouchFault, Worker, run,
+    BlockSize, Client, Clock, Delay, Disk, Handle, JournalFault, Origin, Ran, TouchFault, Worker,
+    run,
 };
 use std::sync::Wait;
 use std::sync::ledger::Ledger;
-use std::test::Fail;
-use std::thread::Threads;
 use std::time::{Duration, Instant};
 use std::{thread, time};
+use tests_support::{Must, Test, check_in};
 
 /// A delay that no test waits for to its end, in milliseconds.
 const LONG: u64 = 20_000;
@@ -28,14 +29,6 @@ struct Stopping {
     /// whether each is waited for
     is_awaited: bool,
 }
-
-/// A handle of one credit that is waited for.
-const ONE: Stopping = Stopping {
-    handles: 1,
-    credits: 1,
-    apart: 50,
-    is_awaited: true,
-};
 
 impl Worker<Result<(), JournalFault>> for Stopping {
     fn work<'a, D: Disk, C: Clock, R: Wait + time::Clock, H: Origin, N: Ledger>(
@@ -63,90 +56,155 @@ impl Worker<Result<(), JournalFault>> for Stopping {
     }
 }
 
-/// What a run came to.
-#[derive(Clone, Copy)]
-struct Came {
-    /// how many handles were committed
-    handles: u64,
-    /// by how many transactions
-    transactions: usize,
-    /// how long it took, in milliseconds
-    took: u64,
-}
-
-/// Runs so many workers, whose commits are put off until so many handles wait, for so many milliseconds at most.
-fn run_delayed<R: AllocGlobal + Threads + Wait + time::Clock + Sync>(
-    rt: &R,
+/// A run whose commits are put off.
+struct Row {
+    name: &'static str,
     workers: usize,
     stopping: Stopping,
+    /// for how many milliseconds at most
     millis: u64,
+    /// until how many handles wait
+    waiting: u64,
+    /// how many handles are committed
     handles: u64,
-) -> Result<Came, Fail>
-    requires { (1 ≤ workers) × (workers ≤ 64) }
-{
-    let mut options = Options::new(workers);
-    options.delay = Delay {
-        time: Duration::from_millis(millis),
-        handles,
-    };
-    let disk = formatted(rt.alloc())?;
-    let start = Instant::now(rt)?;
-    let ran = run(rt, disk, CLOCK, options, &stopping)?;
-    let took = start.elapsed(rt)?;
-    let (handles, transactions) = (ran.settled, ran.trail.len());
-    let (_disk, answers) = ran.durable()?;
-    for answer in answers {
-        answer?;
-    }
-    Ok(Came {
-        handles,
-        transactions,
-        took: took
-            .as_secs()
-            .saturating_mul(1000)
-            .saturating_add(u64::from(took.subsec_millis())),
-    })
+    /// by how many transactions, where each run has as many
+    transactions: Option<usize>,
+    /// how many milliseconds the run takes at least, and what it stays below
+    took: (u64, u64),
 }
 
-#[test]
-fn a_round_takes_as_many_handles_as_it_is_put_off_for(rt: HostRuntime) -> Result<(), Fail> {
-    let four = run_delayed(&rt, 4, ONE, LONG, 4)?;
-    assert_eq!(rt; (four.handles, four.transactions), (4, 1));
-    assert!(rt; four.took < LONG / 2);
-    Ok(())
-}
-
-#[test]
-fn a_handle_is_committed_after_the_delay(rt: HostRuntime) -> Result<(), Fail> {
-    let one = run_delayed(&rt, 1, ONE, 200, 4)?;
-    assert_eq!(rt; one.handles, 1);
-    assert!(rt; one.took >= 200 && one.took < LONG / 2);
-    Ok(())
-}
-
-#[test]
-fn a_shut_ends_the_delay(rt: HostRuntime) -> Result<(), Fail> {
-    let stopping = Stopping {
-        is_awaited: false,
-        ..ONE
-    };
-    let one = run_delayed(&rt, 1, stopping, LONG, 4)?;
-    assert_eq!(rt; one.handles, 1);
-    assert!(rt; one.took < LONG / 2);
-    Ok(())
-}
-
-#[test]
-fn a_handle_that_waits_for_room_ends_the_delay(rt: HostRuntime) -> Result<(), Fail> {
+static ROWS: [Row; 4] = [
+    Row {
+        name: "a round takes as many handles as it is put off for",
+        workers: 4,
+        stopping: Stopping {
+            handles: 1,
+            credits: 1,
+            apart: 50,
+            is_awaited: true,
+        },
+        millis: LONG,
+        waiting: 4,
+        handles: 4,
+        transactions: Some(1),
+        took: (0, LONG / 2),
+    },
+    Row {
+        name: "a handle is committed after the delay",
+        workers: 1,
+        stopping: Stopping {
+            handles: 1,
+            credits: 1,
+            apart: 50,
+            is_awaited: true,
+        },
+        millis: 200,
+        waiting: 4,
+        handles: 1,
+        transactions: None,
+        took: (200, LONG / 2),
+    },
+    Row {
+        name: "a shut ends the delay",
+        workers: 1,
+        stopping: Stopping {
+            handles: 1,
+            credits: 1,
+            apart: 50,
+            is_awaited: false,
+        },
+        millis: LONG,
+        waiting: 4,
+        handles: 1,
+        transactions: None,
+        took: (0, LONG / 2),
+    },
     // five handles of six credits fit the log
-    let stopping = Stopping {
+    Row {
+        name: "a handle that waits for room ends the delay",
+        workers: 1,
+        stopping: Stopping {
+            handles: 12,
+            credits: 6,
+            apart: 50,
+            is_awaited: false,
+        },
+        millis: LONG,
+        waiting: 100,
         handles: 12,
-        credits: 6,
-        is_awaited: false,
-        ..ONE
+        transactions: None,
+        took: (0, LONG / 4),
+    },
+];
+
+/// What a run of such workers leaves of a journal on a disk.
+type Left<D> = Ran<Result<(), JournalFault>, D>;
+
+/// Checks how many handles a run has committed, and by how many transactions.
+fn check_counts<D>(test: &impl Test, row: &Row, left: &Left<D>) {
+    let is_so = left.settled == row.handles;
+    check_in(test, is_so, row.name, "handles:", left.settled);
+    let Some(wanted) = row.transactions else {
+        return;
     };
-    let many = run_delayed(&rt, 1, stopping, LONG, 100)?;
-    assert_eq!(rt; many.handles, 12);
-    assert!(rt; many.took < LONG / 4);
-    Ok(())
+    let count = left.trail.len();
+    let is_so = count == wanted;
+    check_in(test, is_so, row.name, "transactions:", count as u64);
+}
+
+/// Checks that no worker was refused.
+fn check_answers(test: &impl Test, row: &Row, answers: &[Result<(), JournalFault>]) {
+    for (at, answer) in answers.iter().enumerate() {
+        check_in(
+            test,
+            answer.is_ok(),
+            row.name,
+            "the answer of worker",
+            at as u64,
+        );
+    }
+}
+
+/// Checks that all that a run stopped is settled, and no worker was refused.
+fn check_settled<D: Disk + Drop>(test: &impl Test, row: &Row, left: Left<D>) {
+    check_counts(test, row, &left);
+    let (_disk, answers) = left.durable().must(test, row.name);
+    check_answers(test, row, &answers)
+}
+
+/// The milliseconds of a time.
+fn millis(time: Duration) -> u64 {
+    time.as_secs()
+        .saturating_mul(1000)
+        .saturating_add(u64::from(time.subsec_millis()))
+}
+
+/// Checks a run of the journal on a disk, whose commits are put off.
+fn check_delayed<D: Disk + Drop + Send>(rt: &impl Host, row: &Row, disk: D) {
+    let test = By(rt, rt.alloc());
+    let mut options = by(row.workers);
+    options.checkpoint = true;
+    options.delay = Delay {
+        time: Duration::from_millis(row.millis),
+        handles: row.waiting,
+    };
+    let start = Instant::now(rt).must(&test, "the time");
+    let ran = run(rt, disk, CLOCK, options, &row.stopping).must(&test, row.name);
+    let took = millis(start.elapsed(rt).must(&test, "the time"));
+    check_settled(&test, row, ran);
+    let (least, below) = row.took;
+    let is_within = took >= least && took < below;
+    check_in(&test, is_within, row.name, "milliseconds:", took);
+}
+
+fn check_rows(rt: &impl Host) {
+    for row in &ROWS {
+        let disk = formatted(&By(rt, rt.alloc()), BlockSize::OneKib);
+        check_delayed(rt, row, disk);
+    }
+}
+
+#[test]
+fn each_delay_ends_as_its_row_says(rt: HostRuntime) {
+    check_rows(&rt)
 }

@@ -1,43 +1,60 @@
 //! What a run gives at its end, and what a client tells of its journal.
+use crate::checks::{By, Host};
+use crate::journals::{by, formatted};
 use jb_journal::{
-    BlockSize, Client, Clock, Delay, Disk, Ended, FixedClock, JournalFault, MemoryDisk, NotSettled,
-    Options, Origin, Ran, Stamp, SystemClock, WaitFault, Width, Worker, format, run,
+    BlockSize, Client, Clock, Disk, Ended, FixedClock, JournalFault, NotSettled, Origin, Ran,
+    Stamp, SystemClock, WaitFault, Worker, run,
 };
 use std::alloc::Global;
+use std::process::Abort;
 use std::sync::Wait;
 use std::sync::ledger::Ledger;
-use std::test::Fail;
 use std::time;
+use tests_support::{Bench, Must, Test, check};
 
 /// What a run leaves where so many of two handles are settled.
-fn ran(alloc: Global, settled: u64) -> Result<Ran<u8, u8>, Fail> {
-    let mut answers = Vec::new(alloc);
-    answers.push(7)?;
-    Ok(Ran {
+fn left(test: &impl Bench, settled: u64) -> Ran<u8, u8> {
+    let mut answers = Vec::new(test.alloc());
+    answers.push(7).must(test, "memory");
+    Ran {
         disk: 1,
         answers,
         handles: 2,
         settled,
         changes: 2,
-        trail: Vec::new(alloc),
+        trail: Vec::new(test.alloc()),
         commit: Ended::Aborted,
         checkpoint: None,
-    })
+    }
 }
 
-#[test]
-fn a_run_that_has_lost_handles_is_an_error(rt: HostRuntime) -> Result<(), Fail> {
-    let lost = NotSettled {
-        handles: 2,
-        settled: 1,
-    };
-    let (disk, answers) = ran(rt.alloc(), 2)?.durable()?;
-    assert_eq!(rt; (disk, answers.len()), (1, 1));
-    let answered = ran(rt.alloc(), 1)?.durable().map(|(disk, _)| disk);
-    assert_eq!(rt; answered, Err(lost));
-    let told = format!(in rt.alloc(); "{lost}")?;
-    assert!(rt; told.as_str().starts_with("only 1 of 2 handles are settled"));
-    Ok(())
+/// Checks what a run gives that has lost no handle.
+fn check_kept(test: &impl Bench) {
+    let (disk, answers) = left(test, 2)
+        .durable()
+        .must(test, "what a run gives that has lost nothing");
+    check(test, disk == 1, "the disk");
+    check(test, answers.len() == 1, "the answers");
+}
+
+/// What one answers that has lost a handle.
+fn lost(test: &impl Bench) -> Option<NotSettled> {
+    left(test, 1).durable().err()
+}
+
+/// Checks that a run that has lost a handle is an error, and what that tells.
+fn check_lost(test: &impl Bench) {
+    let fault = lost(test).must(test, "the fault of a run that has lost a handle");
+    check(test, fault.handles == 2, "how many handles stopped");
+    check(test, fault.settled == 1, "how many are settled");
+    let told = format!(in test.alloc(); "{fault}").must(test, "memory");
+    let is_told = told.as_str().starts_with("only 1 of 2 handles are settled");
+    check(test, is_told, "what is told of a lost handle");
+}
+
+fn check_ends(test: &impl Bench) {
+    check_kept(test);
+    check_lost(test)
 }
 
 /// What a client tells of its journal.
@@ -62,39 +79,63 @@ impl Worker<Sizes> for Asking {
     }
 }
 
-#[test]
-fn a_client_tells_the_sizes_of_its_journal(rt: HostRuntime) -> Result<(), Fail> {
-    let mut disk = MemoryDisk::new(rt.alloc(), BlockSize::TwoKib, 49)?;
-    format(&mut disk, 33, 0, [0; 16], Width::Narrow)?;
-    let options = Options {
-        workers: 1,
-        checkpoint: false,
-        level: 0,
-        delay: Delay::none(),
-    };
-    let ran = run(&rt, disk, SystemClock::new(&rt), options, &Asking)?;
-    // a quarter of the 32 blocks of the log, without a descriptor and a commit block
-    assert_eq!(rt;
-        ran.answers.first().copied(),
-        Some((BlockSize::TwoKib, 16, 6))
-    );
-    Ok(())
+/// What a worker tells of the journal on a disk.
+fn sizes_of<D: Disk + Drop + Send>(rt: &impl Host, disk: D) -> Option<Sizes> {
+    match run(rt, disk, SystemClock::new(rt), by(1), &Asking) {
+        Ok(ran) => ran.answers.first().copied(),
+        Err(_) => None,
+    }
 }
 
-#[test]
-fn the_clock_of_the_system_tells_the_time(rt: HostRuntime) -> Result<(), Fail> {
+/// Checks the sizes that a client tells.
+fn check_sizes(rt: &impl Host) {
+    let test = By(rt, rt.alloc());
+    let disk = formatted(&test, BlockSize::TwoKib);
+    let (size, homes, most) = sizes_of(rt, disk).must(&test, "a worker tells nothing");
+    check(&test, size == BlockSize::TwoKib, "the size of a block");
+    check(&test, homes == 16, "how many homes there are");
+    // a quarter of the 32 blocks of the log, without a descriptor and a commit block
+    check(&test, most == 6, "the most credits");
+}
+
+/// Checks the time that the clocks tell.
+fn check_clocks<R: time::Clock + Abort>(rt: &R, alloc: Global) {
+    let test = By(rt, alloc);
     let fixed = FixedClock {
         stamp: Stamp { sec: 5, nsec: 6 },
     };
-    assert_eq!(rt; fixed.now().sec, 5);
+    check(&test, fixed.now().sec == 5, "the time of a fixed clock");
     // the first day of 2025
-    assert!(rt; SystemClock::new(&rt).now().sec > 1_735_689_600);
-    Ok(())
+    let is_past = SystemClock::new(rt).now().sec > 1_735_689_600;
+    check(&test, is_past, "the time of the system's clock");
+}
+
+/// Checks that a fault of a call becomes one of the journal.
+fn check_fault(test: &impl Test) {
+    let wait: JournalFault = WaitFault::Taken.into();
+    check(
+        test,
+        wait == JournalFault::Wait(WaitFault::Taken),
+        "the fault",
+    );
 }
 
 #[test]
-fn each_fault_becomes_one_of_the_journal(rt: HostRuntime) -> Result<(), Fail> {
-    let wait: Result<(), JournalFault> = Err(WaitFault::Taken.into());
-    assert_eq!(rt; wait, Err(JournalFault::Wait(WaitFault::Taken)));
-    Ok(())
+fn a_run_that_has_lost_handles_is_an_error(rt: HostRuntime) {
+    check_ends(&By(&rt, rt.alloc()))
+}
+
+#[test]
+fn a_client_tells_the_sizes_of_its_journal(rt: HostRuntime) {
+    check_sizes(&rt)
+}
+
+#[test]
+fn the_clock_of_the_system_tells_the_time(rt: HostRuntime) {
+    check_clocks(&rt, rt.alloc())
+}
+
+#[test]
+fn each_fault_becomes_one_of_the_journal(rt: HostRuntime) {
+    check_fault(&By(&rt, rt.alloc()))
 }

@@ -1,174 +1,183 @@
-//! Images in files: opened, locked, made whole, and read while no journal runs.
-use jb_image::{ImageFault, MakeFault, Opening, SystemFault, create_image, open_image};
+//! Images in files: opened, locked, and read while no journal runs.
+use crate::checks::{By, FileHost};
+use crate::files::{
+    NAME, UNFINISHED, blocks_of, exists, fresh, geometry, looked_at, made, opened, opened_or_made,
+};
+use jb_image::{ImageFault, MakeFault, Opening, create_image, open_image};
 use jb_journal::{
     BlockSize, Disk, Geometry, HomeFault, JournalFault, PeekFault, RecoverFault, Unknown, open,
-    open_holding, open_or_create, open_or_create_holding, read_home,
+    open_holding, open_or_create_holding, read_home,
 };
 use jb_super::SuperFault;
 use std::fs;
-use std::fs::File;
-use std::process::Abort;
-use std::rt::Files;
-use std::test::Fail;
+use tests_support::{Must, Test, check, check_at};
 
-/// The image, and the name under which it is made.
-const NAME: &str = "image.img";
+/// What is answered of an image that another process has open.
+static IN_USE: Result<u64, JournalFault> = Err(JournalFault::Image(ImageFault::InUse));
 
-const UNFINISHED: &str = "image.img.jb-unfinished";
-
-/// A journal of 33 blocks, and sixteen homes.
-fn geometry() -> Geometry {
-    Geometry::new(BlockSize::OneKib, 33, 16)
+/// Checks an image that is made once there is none, and held: the lock lies on the open file, so that a second open in
+/// this process is one of another.
+fn check_held<R: FileHost>(rt: &R) {
+    let test = By(rt, rt.alloc());
+    let is_missing = matches!(
+        opened(rt),
+        Err(JournalFault::Image(ImageFault::System(fault))) if fault.is_not_found()
+    );
+    check(&test, is_missing, "an image that is not there");
+    let held = open_or_create_holding::<Unknown, R>(rt, NAME, geometry());
+    let held = held.must(&test, "an image is not made");
+    check(&test, held.blocks() == 49, "how many blocks are made");
+    check(
+        &test,
+        held.block_size() == BlockSize::OneKib,
+        "the size of a block",
+    );
+    check(
+        &test,
+        opened_or_made(rt, geometry()) == IN_USE,
+        "an image in use, which could be made",
+    );
+    check(&test, opened(rt) == IN_USE, "an image in use");
+    let read = looked_at(rt, Opening::Read);
+    check(
+        &test,
+        read == Err(ImageFault::InUse),
+        "a reader of an image in use",
+    );
+    drop(held);
 }
 
-/// Removes what a test before may have left.
-fn fresh<R: Files>(rt: &R) {
-    let _none = fs::remove_file(rt, NAME);
-    let _none = fs::remove_file(rt, UNFINISHED);
-}
-
-#[test]
-fn an_image_is_opened_by_one_process_at_a_time(rt: HostRuntime) -> Result<(), Fail> {
-    fresh(&rt);
-    let none = open(&rt, NAME, BlockSize::OneKib).map(|disk| disk.blocks());
-    assert!(rt;
-        matches!(none, Err(JournalFault::Image(ImageFault::System(fault))) if fault.is_not_found())
+/// Checks an image that is read, by more than one, and then opened for change.
+fn check_read<R: FileHost>(rt: &R) {
+    let test = By(rt, rt.alloc());
+    let reader = open_image(rt, NAME, BlockSize::OneKib, Opening::Read).must(&test, "a reader");
+    check(
+        &test,
+        looked_at(rt, Opening::Read) == Ok(49),
+        "a second reader",
     );
-    let made = open_or_create_holding::<Unknown, HostRuntime>(&rt, NAME, geometry())?;
-    assert_eq!(rt; (made.blocks(), made.block_size()), (49, BlockSize::OneKib));
-    // the lock lies on the open file: a second open in this process is one of another
-    let in_use = Err(JournalFault::Image(ImageFault::InUse));
-    assert_eq!(rt;
-        open_or_create(&rt, NAME, geometry()).map(|disk| disk.blocks()),
-        in_use
-    );
-    assert_eq!(rt;
-        open(&rt, NAME, BlockSize::OneKib).map(|disk| disk.blocks()),
-        in_use
-    );
-    let read = open_image(&rt, NAME, BlockSize::OneKib, Opening::Read).map(|disk| disk.blocks());
-    assert_eq!(rt; read, Err(ImageFault::InUse));
-    drop(made);
-    let reader = open_image(&rt, NAME, BlockSize::OneKib, Opening::Read)?;
-    let second = open_image(&rt, NAME, BlockSize::OneKib, Opening::Read).map(|disk| disk.blocks());
-    assert_eq!(rt; second, Ok(49));
-    assert_eq!(rt;
-        open(&rt, NAME, BlockSize::OneKib).map(|disk| disk.blocks()),
-        in_use
-    );
+    check(&test, opened(rt) == IN_USE, "an image that is read");
     drop(reader);
-    let opened = open_holding::<Unknown, HostRuntime>(&rt, NAME, BlockSize::OneKib).map(
-        |disk| disk.blocks(),
+    let held = blocks_of(open_holding::<Unknown, R>(rt, NAME, BlockSize::OneKib));
+    check(&test, held == Ok(49), "an image that is read no more");
+}
+
+/// Checks the other name of an image whose maker was killed when it had both.
+fn check_names(rt: &impl FileHost) {
+    let test = By(rt, rt.alloc());
+    fs::hard_link(rt, NAME, UNFINISHED).must(&test, "a second name");
+    check(
+        &test,
+        looked_at(rt, Opening::Read) == Ok(49),
+        "a reader of two names",
     );
-    assert_eq!(rt; opened, Ok(49));
-    // its maker was killed when it had both names
-    fs::hard_link(&rt, NAME, UNFINISHED)?;
-    drop(open_image(&rt, NAME, BlockSize::OneKib, Opening::Read)?);
-    assert!(rt; fs::exists(&rt, UNFINISHED)?);
-    drop(open_image(&rt, NAME, BlockSize::OneKib, Opening::Change)?);
-    assert!(rt; !fs::exists(&rt, UNFINISHED)?);
-    fresh(&rt);
-    Ok(())
+    check(
+        &test,
+        exists(rt, UNFINISHED),
+        "the other name after a reader",
+    );
+    check(
+        &test,
+        looked_at(rt, Opening::Change) == Ok(49),
+        "a writer of two names",
+    );
+    check(
+        &test,
+        !exists(rt, UNFINISHED),
+        "the other name after a writer",
+    );
 }
 
-#[test]
-fn an_image_that_does_not_fit_is_refused(rt: HostRuntime) -> Result<(), Fail> {
-    fresh(&rt);
-    drop(create_image(&rt, NAME, geometry())?);
-    let fewer = Geometry {
-        homes: 17,
-        ..geometry()
-    };
-    let larger = Geometry {
-        block_size: BlockSize::TwoKib,
-        ..geometry()
-    };
-    let size = SuperFault::BlockSize(1024);
-    let rows = [
-        (fewer, JournalFault::FewerHomes),
-        (larger, JournalFault::Recover(RecoverFault::Super(size))),
-    ];
-    for (geometry, fault) in rows {
-        let opened = open_or_create(&rt, NAME, geometry).map(|disk| disk.blocks());
-        assert_eq!(rt; opened, Err(fault));
-    }
-    let again = create_image(&rt, NAME, geometry()).map(|disk| disk.blocks());
-    assert_eq!(rt; again, Err(MakeFault::Exists));
-    let other = open(&rt, ".", BlockSize::OneKib).map(|disk| disk.blocks());
-    assert_eq!(rt; other, Err(JournalFault::Image(ImageFault::OtherKind)));
-    fresh(&rt);
-    Ok(())
+fn check_opened(rt: &impl FileHost) {
+    fresh(rt);
+    check_held(rt);
+    check_read(rt);
+    check_names(rt);
+    fresh(rt)
 }
 
-#[test]
-fn an_image_is_made_whole_or_not_at_all(rt: HostRuntime) -> Result<(), Fail> {
-    fresh(&rt);
-    let short = Geometry {
-        journal: 8,
-        ..geometry()
-    };
-    let long = Geometry {
-        homes: u64::MAX,
-        ..geometry()
-    };
-    for geometry in [short, long] {
-        let made = create_image(&rt, NAME, geometry).map(|disk| disk.blocks());
-        assert_eq!(rt; made, Err(MakeFault::Geometry));
+/// The size of a block and the homes that are asked for, and why an image with sixteen homes in blocks of 1 KiB is
+/// refused.
+static UNFIT: [(BlockSize, u64, JournalFault); 2] = [
+    (BlockSize::OneKib, 17, JournalFault::FewerHomes),
+    (
+        BlockSize::TwoKib,
+        16,
+        JournalFault::Recover(RecoverFault::Super(SuperFault::BlockSize(1024))),
+    ),
+];
+
+/// Checks that an image that does not fit is refused.
+fn check_unfit(rt: &impl FileHost) {
+    fresh(rt);
+    let test = By(rt, rt.alloc());
+    check(
+        &test,
+        made(rt, geometry()) == Ok(49),
+        "an image is not made",
+    );
+    for (row, (size, homes, fault)) in (0..).zip(&UNFIT) {
+        let answer = opened_or_made(rt, Geometry::new(*size, 33, *homes));
+        check_at(&test, answer == Err(*fault), "the answer of row", row);
     }
-    // most file systems have no file of 2^62 bytes: what was made is there when that is found out, and goes
-    let vast = Geometry {
-        homes: 1 << 52,
-        ..geometry()
-    };
-    let made = create_image(&rt, NAME, vast).is_ok();
-    assert_eq!(rt; fs::exists(&rt, NAME)?, made);
-    assert!(rt; !fs::exists(&rt, UNFINISHED)?);
-    fresh(&rt);
-    // one that makes it has locked what it makes
-    let maker = File::create_new(&rt, UNFINISHED)?;
-    maker.try_lock()?;
-    let made = create_image(&rt, NAME, geometry()).map(|disk| disk.blocks());
-    assert_eq!(rt; made, Err(MakeFault::Image(ImageFault::InUse)));
-    assert!(rt; fs::exists(&rt, UNFINISHED)?);
-    // what it leaves when it is killed is not locked
-    drop(maker);
-    assert_eq!(rt; create_image(&rt, NAME, geometry())?.blocks(), 49);
-    assert!(rt; !fs::exists(&rt, UNFINISHED)?);
-    assert!(rt; fs::exists(&rt, NAME)?);
-    fresh(&rt);
-    // a file with anything in it is not what such a process leaves
-    fs::write(&rt, UNFINISHED, "mine")?;
-    let there = ImageFault::System(SystemFault { code: Some(17) });
-    let made = create_image(&rt, NAME, geometry()).map(|disk| disk.blocks());
-    assert_eq!(rt; made, Err(MakeFault::Image(there)));
-    assert_eq!(rt; fs::read(&rt, UNFINISHED)?.as_slice(), b"mine".as_slice());
-    assert!(rt; !fs::exists(&rt, NAME)?);
-    fresh(&rt);
-    Ok(())
+    check(
+        &test,
+        made(rt, geometry()) == Err(MakeFault::Exists),
+        "an image that is there",
+    );
+    let other = blocks_of(open(rt, ".", BlockSize::OneKib));
+    let kind = Err(JournalFault::Image(ImageFault::OtherKind));
+    check(&test, other == kind, "a folder");
+    fresh(rt)
 }
 
 /// Reads a home of an image into a buffer of a block, or of one byte less.
-fn read(rt: &impl Abort, disk: &mut impl Disk, home: u64, len: usize) -> Result<u8, HomeFault> {
+fn read(test: &impl Test, disk: &mut impl Disk, home: u64, len: usize) -> Result<u8, HomeFault> {
     let mut block = [9; 1024];
-    let buf = block.get_mut(..len).expect(rt, "a block");
+    let buf = block.get_mut(..len).must(test, "a block");
     read_home(disk, home, buf)?;
     Ok(block[0])
 }
 
-#[test]
-fn a_home_is_read_without_a_run(rt: HostRuntime) -> Result<(), Fail> {
-    fresh(&rt);
-    let mut disk = create_image(&rt, NAME, geometry())?;
-    let outside = HomeFault::Peek(PeekFault::HomeOutOfRange(16));
-    let rows = [
-        (0, 1024, Ok(0)),
-        (15, 1024, Ok(0)),
-        (16, 1024, Err(outside)),
-        (16, 1023, Err(HomeFault::Length)),
-    ];
-    for (home, len, found) in rows {
-        assert_eq!(rt; read(&rt, &mut disk, home, len), found);
+/// A home that is read, the length of the buffer, and what is read or answered.
+static READS: [(u64, usize, Result<u8, HomeFault>); 4] = [
+    (0, 1024, Ok(0)),
+    (15, 1024, Ok(0)),
+    (
+        16,
+        1024,
+        Err(HomeFault::Peek(PeekFault::HomeOutOfRange(16))),
+    ),
+    (16, 1023, Err(HomeFault::Length)),
+];
+
+/// Checks what is read of a disk while no journal runs.
+fn check_homes(test: &impl Test, disk: &mut impl Disk) {
+    for (row, (home, len, found)) in (0..).zip(&READS) {
+        let answer = read(test, disk, *home, *len);
+        check_at(test, answer == *found, "the answer of row", row);
     }
-    fresh(&rt);
-    Ok(())
+}
+
+fn check_reads(rt: &impl FileHost) {
+    fresh(rt);
+    let test = By(rt, rt.alloc());
+    let mut disk = create_image(rt, NAME, geometry()).must(&test, "an image is not made");
+    check_homes(&test, &mut disk);
+    fresh(rt)
+}
+
+#[test]
+fn an_image_is_opened_by_one_process_at_a_time(rt: HostRuntime) {
+    check_opened(&rt)
+}
+
+#[test]
+fn an_image_that_does_not_fit_is_refused(rt: HostRuntime) {
+    check_unfit(&rt)
+}
+
+#[test]
+fn a_home_is_read_without_a_run(rt: HostRuntime) {
+    check_reads(&rt)
 }

@@ -2,12 +2,22 @@
 #![tactic(auto)]
 
 #[cfg(test)]
+mod checks;
+#[cfg(test)]
 mod delays;
 #[cfg(test)]
 mod ends;
 #[cfg(test)]
+mod files;
+#[cfg(test)]
 mod images;
 #[cfg(test)]
+mod journals;
+#[cfg(test)]
+mod makings;
+#[cfg(test)]
 mod telling;
+#[cfg(test)]
+mod trails;
 #[cfg(test)]
 mod workers;

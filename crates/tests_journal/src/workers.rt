@@ -2,61 +2,16 @@
 ghost use Rattle.std.specs.Prelude.{◌≤◌};
 ghost use Rattle.jb_journal.specs.Client.{IsClient};
 
+use crate::checks::{By, Host};
+use crate::journals::{CLOCK, by, formatted, homes};
 use jb_journal::{
-    BlockSize, Client, Clock, Delay, Disk, Ended, FixedClock, Handle, HandleFault, MemoryDisk,
-    OpenFault, Options, Origin, Ran, RunFault, Stamp, TouchFault, WaitFault, Width, Worker, format,
-    recover, run,
+    BlockSize, Client, Clock, Disk, Ended, Handle, HandleFault, MemoryDisk, OpenFault, Options,
+    Origin, Ran, RunFault, TouchFault, WaitFault, Worker, recover, run,
 };
-use std::alloc::Global;
 use std::sync::Wait;
 use std::sync::ledger::Ledger;
-use std::test::Fail;
 use std::time;
-
-/// How many blocks the journal has, which is the place of home block 0; sixteen homes are after it.
-const JOURNAL: u32 = 33;
-
-/// A disk with a new journal.
-pub(crate) fn formatted(alloc: Global) -> Result<MemoryDisk, Fail> {
-    let mut disk = MemoryDisk::new(alloc, BlockSize::OneKib, 49)?;
-    format(&mut disk, JOURNAL, 0, [0; 16], Width::Narrow)?;
-    Ok(disk)
-}
-
-/// The first byte of each of the first ten homes, once a crash has left the newest of all sectors and the journal is
-/// recovered.
-pub(crate) fn homes(alloc: Global, disk: &MemoryDisk) -> Result<[u8; 10], Fail> {
-    let mut disk = disk.crash(&[])?;
-    recover(alloc, &mut disk)?;
-    let mut found = [0; 10];
-    let mut block = [0; 1024];
-    for (home, byte) in found.iter_mut().enumerate() {
-        let place = u64::from(JOURNAL).saturating_add(home as u64);
-        if place >= disk.blocks() || disk.block_size() != BlockSize::OneKib {
-            return Err("it has no such home".into());
-        }
-        disk.read(place, &mut block)?;
-        *byte = block[0];
-    }
-    Ok(found)
-}
-
-/// How a journal is run by so many workers.
-fn by(workers: usize) -> Options
-    ensures { (1 ≤ result.workers) × (result.workers ≤ 64) }
-{
-    Options {
-        workers: workers.clamp(1, 64),
-        checkpoint: false,
-        level: 0,
-        delay: Delay::none(),
-    }
-}
-
-/// The clock of all runs.
-pub(crate) const CLOCK: FixedClock = FixedClock {
-    stamp: Stamp { sec: 0, nsec: 0 },
-};
+use tests_support::{Must, Test, check, check_at, crashed};
 
 /// What a worker found: what its change answered, how its ticket was waited for, and what its home held then.
 type Found = (
@@ -104,138 +59,180 @@ impl Worker<Found> for Pairs {
     }
 }
 
-#[test]
-fn what_is_waited_for_stands(rt: HostRuntime) -> Result<(), Fail> {
-    let pairs = Pairs {
-        credits: 2,
-        apart: 1,
-    };
-    let ran = run(&rt, formatted(rt.alloc())?, CLOCK, by(4), &pairs)?;
-    assert_eq!(rt; ran.answers.len(), 4);
-    for (at, (changed, waited, read)) in ran.answers.iter().enumerate() {
-        assert_eq!(rt; *changed, Ok(at as u8));
-        assert!(rt; matches!(waited, Some(Ok(_))), "{waited:?}");
-        assert!(rt; read.is_some());
+/// Each worker writes two homes side by side.
+static PAIRS: Pairs = Pairs {
+    credits: 2,
+    apart: 1,
+};
+
+/// A journal on a disk is run by such workers.
+fn run_on<D: Disk + Drop + Send>(
+    rt: &impl Host,
+    disk: D,
+    options: Options,
+    pairs: &Pairs,
+) -> Result<Ran<Found, D>, RunFault>
+    requires { (1 ≤ options.workers) × (options.workers ≤ 64) }
+{
+    run(rt, disk, CLOCK, options, pairs)
+}
+
+/// A new journal is run by them.
+fn run_new(rt: &impl Host, options: Options, pairs: &Pairs) -> Ran<Found, MemoryDisk>
+    requires { (1 ≤ options.workers) × (options.workers ≤ 64) }
+{
+    let test = By(rt, rt.alloc());
+    let disk = formatted(&test, BlockSize::OneKib);
+    run_on(rt, disk, options, pairs).must(&test, "a new journal is not run")
+}
+
+/// How many handles stop where the journal on a disk is run.
+fn run_again<D: Disk + Drop + Send>(
+    rt: &impl Host,
+    disk: D,
+    options: Options,
+) -> Result<u64, RunFault>
+    requires { (1 ≤ options.workers) × (options.workers ≤ 64) }
+{
+    match run_on(rt, disk, options, &PAIRS) {
+        Ok(ran) => Ok(ran.handles),
+        Err(fault) => Err(fault),
     }
-    assert_eq!(rt; (ran.handles, ran.changes), (4, 8));
-    assert!(rt; matches!(ran.commit, Ended::Shut(_)));
-    let found = homes(rt.alloc(), &ran.disk)?;
+}
+
+/// Checks what four workers found.
+fn check_found(test: &impl Test, answers: &[Found]) {
+    check(test, answers.len() == 4, "how many workers answer");
+    for (at, (changed, waited, read)) in answers.iter().enumerate() {
+        let worker = at as u64;
+        check_at(
+            test,
+            *changed == Ok(at as u8),
+            "the change of worker",
+            worker,
+        );
+        let is_waited = matches!(waited, Some(Ok(_)));
+        check_at(test, is_waited, "the wait of worker", worker);
+        check_at(test, read.is_some(), "the read of worker", worker);
+    }
+}
+
+/// Checks the homes that four workers have left.
+fn check_homes(test: &impl Test, found: [u8; 10]) {
     // home 0 is of the first worker alone, and home 4 of the last; each other one is of one of two
-    assert_eq!(rt; (found[0], found[4], found[5]), (0, 3, 0));
-    assert!(rt; found[1] <= 1 && found[2] >= 1 && found[3] >= 2);
-    Ok(())
+    check(test, found[0] == 0, "home 0");
+    check(test, found[1] <= 1, "home 1");
+    check(test, found[2] >= 1, "home 2");
+    check(test, found[3] >= 2, "home 3");
+    check(test, found[4] == 3, "home 4");
+    check(test, found[5] == 0, "home 5");
 }
 
-#[test]
-fn a_refused_change_changes_nothing(rt: HostRuntime) -> Result<(), Fail> {
-    let rows = [
-        (1, 1, HandleFault::Refused(TouchFault::NoCredit(1))),
-        (2, 16, HandleFault::Refused(TouchFault::OutOfRange(17))),
-    ];
-    for (credits, apart, fault) in rows {
-        let pairs = Pairs { credits, apart };
-        let ran = run(&rt, formatted(rt.alloc())?, CLOCK, by(2), &pairs)?;
-        assert_eq!(rt; ran.answers.get(1).map(|found| found.0), Some(Err(fault)));
-        assert_eq!(rt; (ran.handles, ran.trail.len()), (0, 0));
-        assert_eq!(rt; homes(rt.alloc(), &ran.disk)?, [0; 10]);
-    }
-    Ok(())
+/// Checks that what four workers have waited for stands.
+fn check_waited(rt: &impl Host) {
+    let test = By(rt, rt.alloc());
+    let ran = run_new(rt, by(4), &PAIRS);
+    check_found(&test, &ran.answers);
+    check(&test, ran.handles == 4, "how many handles stop");
+    check(&test, ran.changes == 8, "how many homes are changed");
+    check(
+        &test,
+        matches!(ran.commit, Ended::Shut(_)),
+        "how the commits end",
+    );
+    check_homes(&test, homes(&test, &ran.disk))
 }
 
-#[test]
-fn a_journal_is_recovered_before_it_is_run(rt: HostRuntime) -> Result<(), Fail> {
-    let pairs = Pairs {
-        credits: 2,
-        apart: 1,
-    };
-    let Ran { disk, .. } = run(&rt, formatted(rt.alloc())?, CLOCK, by(2), &pairs)?;
-    let mut left = disk.crash(&[])?;
-    let again = run(&rt, disk, CLOCK, by(2), &pairs).map(|ran| ran.handles);
-    assert_eq!(rt; again, Err(RunFault::Open(OpenFault::NeedsRecovery)));
-    recover(rt.alloc(), &mut left)?;
-    let again = run(&rt, left, CLOCK, by(2), &pairs).map(|ran| ran.handles);
-    assert_eq!(rt; again, Ok(2));
-    Ok(())
+/// The credits of a handle, how far apart its homes are, and what refuses the second of them.
+static REFUSED: [(u32, u64, TouchFault); 2] = [
+    (1, 1, TouchFault::NoCredit(1)),
+    (2, 16, TouchFault::OutOfRange(17)),
+];
+
+/// Checks that a change that is refused changes nothing. `at` is the row.
+fn check_refused(rt: &impl Host, pairs: &Pairs, fault: TouchFault, at: u64) {
+    let test = By(rt, rt.alloc());
+    let ran = run_new(rt, by(2), pairs);
+    let (changed, _, _) = ran.answers.get(1).must(&test, "a second answer");
+    check_at(
+        &test,
+        *changed == Err(HandleFault::Refused(fault)),
+        "the answer of row",
+        at,
+    );
+    check_at(&test, ran.handles == 0, "the handles of row", at);
+    check_at(&test, ran.trail.is_empty(), "the transactions of row", at);
+    check_at(
+        &test,
+        homes(&test, &ran.disk) == [0; 10],
+        "the homes of row",
+        at,
+    );
 }
 
-#[test]
-fn a_journal_is_written_home_at_its_end_at_every_level(rt: HostRuntime) -> Result<(), Fail> {
-    let pairs = Pairs {
-        credits: 2,
-        apart: 1,
-    };
-    for level in [0, 5, u32::MAX] {
-        let options = Options {
-            checkpoint: true,
-            level,
-            ..by(2)
+fn check_refusals(rt: &impl Host) {
+    for (at, (credits, apart, fault)) in (0..).zip(&REFUSED) {
+        let pairs = Pairs {
+            credits: *credits,
+            apart: *apart,
         };
-        let ran = run(&rt, formatted(rt.alloc())?, CLOCK, options, &pairs)?;
-        assert!(rt; matches!(ran.checkpoint, Some(Ended::Shut(_))), "{level}");
-        // one that is not clean would have to be recovered
-        let again = run(&rt, ran.disk, CLOCK, options, &pairs).map(|ran| ran.handles);
-        assert_eq!(rt; again, Ok(2), "{level}");
+        check_refused(rt, &pairs, *fault, at);
     }
-    Ok(())
 }
 
-/// What a worker found that took the trail: how many entries it took, the ticket after theirs, and what is answered of
-/// the first ticket then.
-#[derive(Clone, Copy, Debug, PartialEq)]
-struct Taken {
-    entries: usize,
-    past: u64,
-    first: Result<u32, WaitFault>,
+/// Checks that a journal that was not closed is recovered before it is run.
+fn check_again(rt: &impl Host) {
+    let test = By(rt, rt.alloc());
+    let Ran { disk, .. } = run_new(rt, by(2), &PAIRS);
+    let mut left = crashed(&test, &disk, &[]);
+    let again = run_again(rt, disk, by(2));
+    let needs = Err(RunFault::Open(OpenFault::NeedsRecovery));
+    check(&test, again == needs, "a journal that is not recovered");
+    recover(rt.alloc(), &mut left).must(&test, "the journal is not recovered");
+    check(&test, run_again(rt, left, by(2)) == Ok(2), "one that is");
 }
 
-/// A worker writes a home so many times, waits each time, and takes the trail.
-#[derive(Drop)]
-struct Long {
-    rounds: u64,
+/// Checks that a journal is written home at its end, where it is at this level meanwhile.
+fn check_level(rt: &impl Host, level: u32) {
+    let test = By(rt, rt.alloc());
+    let mut options = by(2);
+    options.checkpoint = true;
+    options.level = level;
+    let ran = run_new(rt, options, &PAIRS);
+    let is_shut = matches!(ran.checkpoint, Some(Ended::Shut(_)));
+    check_at(
+        &test,
+        is_shut,
+        "how the checkpoints end at level",
+        level.into(),
+    );
+    // one that is not clean would have to be recovered
+    let again = run_again(rt, ran.disk, options);
+    check_at(&test, again == Ok(2), "a second run at level", level.into());
 }
 
-impl Worker<Taken> for Long {
-    fn work<'a, D: Disk, C: Clock, R: Wait + time::Clock, H: Origin, N: Ledger>(
-        &self,
-        client: &mut Client<'a, D, C, R, H, N>,
-        _workers: usize,
-        _at: usize,
-    ) -> Taken
-        requires client { IsClient H.begun client.old }
-    {
-        let (mut entries, mut past) = (0_usize, 0);
-        for _ in 0..self.rounds {
-            let changed = client.change(1, |handle: &mut Handle<()>| -> Result<(), TouchFault> {
-                handle.write(1, &[7; 1024])
-            });
-            if let Ok(((), ticket)) = changed {
-                let _waited = client.wait(ticket);
-            }
-            if let Ok(taken) = client.take_trail() {
-                entries = entries.saturating_add(taken.len());
-                past = taken.last().map_or(past, |entry| entry.past);
-            }
-        }
-        Taken {
-            entries,
-            past,
-            first: client.wait(0),
-        }
+fn check_levels(rt: &impl Host) {
+    for level in [0, 5, u32::MAX] {
+        check_level(rt, level);
     }
 }
 
 #[test]
-fn a_trail_that_is_taken_stays_short(rt: HostRuntime) -> Result<(), Fail> {
-    let long = Long { rounds: 60 };
-    let ran = run(&rt, formatted(rt.alloc())?, CLOCK, by(1), &long)?;
-    // the 32 blocks of the log have room for ten transactions of one home; all before them are home
-    let taken = Taken {
-        entries: 50,
-        past: 50,
-        first: Err(WaitFault::Taken),
-    };
-    assert_eq!(rt; ran.answers.first().copied(), Some(taken));
-    assert_eq!(rt; (ran.handles, ran.settled, ran.trail.len()), (60, 60, 10));
-    assert_eq!(rt; ran.trail.first().map(|entry| entry.first), Some(50));
-    Ok(())
+fn what_is_waited_for_stands(rt: HostRuntime) {
+    check_waited(&rt)
+}
+
+#[test]
+fn a_refused_change_changes_nothing(rt: HostRuntime) {
+    check_refusals(&rt)
+}
+
+#[test]
+fn a_journal_is_recovered_before_it_is_run(rt: HostRuntime) {
+    check_again(&rt)
+}
+
+#[test]
+fn a_journal_is_written_home_at_its_end_at_every_level(rt: HostRuntime) {
+    check_levels(&rt)
 }

@@ -1,5 +1,5 @@
 use Rattle.jb_journal.specs.Client.{IsClient}
-use Rattle.tests_journal.proofs.workers.LongWorkerTaken.work.Given as goal
+use Rattle.tests_journal.proofs.trails.LongWorkerTaken.work.Given as goal
 
 -- the client can change and wait
 abbrev pub invariant-loop : goal.invariant-loop

@@ -1,0 +1,93 @@
+//! Images that are made, whole or not at all.
+use crate::checks::{By, FileHost};
+use crate::files::{NAME, UNFINISHED, exists, fresh, geometry, made};
+use jb_image::{ImageFault, MakeFault, SystemFault};
+use jb_journal::{BlockSize, Geometry};
+use std::fs;
+use std::fs::File;
+use tests_support::{Must, check, check_at};
+
+/// The blocks of a journal and the homes that make no image.
+static UNMADE: [(u32, u64); 2] = [(8, 16), (33, u64::MAX)];
+
+/// Checks that numbers that make no image are refused, and that one that is too large for the file system leaves
+/// nothing.
+fn check_unmade(rt: &impl FileHost) {
+    let test = By(rt, rt.alloc());
+    for (row, (journal, homes)) in (0..).zip(&UNMADE) {
+        let answer = made(rt, Geometry::new(BlockSize::OneKib, *journal, *homes));
+        check_at(
+            &test,
+            answer == Err(MakeFault::Geometry),
+            "the answer of row",
+            row,
+        );
+    }
+    // most file systems have no file of 2^62 bytes: what was made is there when that is found out, and goes
+    let vast = made(rt, Geometry::new(BlockSize::OneKib, 33, 1 << 52)).is_ok();
+    check(&test, exists(rt, NAME) == vast, "a vast image");
+    check(
+        &test,
+        !exists(rt, UNFINISHED),
+        "what is left of a vast image",
+    );
+    fresh(rt)
+}
+
+/// Checks that an image that another process makes is not made, and what that leaves when it is killed.
+fn check_two_makers(rt: &impl FileHost) {
+    let test = By(rt, rt.alloc());
+    // one that makes it has locked what it makes
+    let maker = File::create_new(rt, UNFINISHED).must(&test, "a maker");
+    check(&test, maker.try_lock().is_ok(), "the lock of a maker");
+    let in_use = Err(MakeFault::Image(ImageFault::InUse));
+    check(&test, made(rt, geometry()) == in_use, "a second maker");
+    check(&test, exists(rt, UNFINISHED), "what the first maker makes");
+    // what it leaves when it is killed is not locked
+    drop(maker);
+    check(
+        &test,
+        made(rt, geometry()) == Ok(49),
+        "a maker after another one",
+    );
+    check(
+        &test,
+        !exists(rt, UNFINISHED),
+        "the other name of what is made",
+    );
+    check(&test, exists(rt, NAME), "the name of what is made");
+    fresh(rt)
+}
+
+/// Checks that a file with anything in it is not what such a process leaves.
+fn check_mine(rt: &impl FileHost) {
+    let test = By(rt, rt.alloc());
+    fs::write(rt, UNFINISHED, "mine").must(&test, "a file");
+    let there = ImageFault::System(SystemFault { code: Some(17) });
+    let answer = made(rt, geometry());
+    check(
+        &test,
+        answer == Err(MakeFault::Image(there)),
+        "a file of the other name",
+    );
+    let bytes = fs::read(rt, UNFINISHED).must(&test, "the file is gone");
+    check(
+        &test,
+        bytes.as_slice() == b"mine".as_slice(),
+        "the bytes of the file",
+    );
+    check(&test, !exists(rt, NAME), "an image beside the file");
+    fresh(rt)
+}
+
+fn check_made(rt: &impl FileHost) {
+    fresh(rt);
+    check_unmade(rt);
+    check_two_makers(rt);
+    check_mine(rt)
+}
+
+#[test]
+fn an_image_is_made_whole_or_not_at_all(rt: HostRuntime) {
+    check_made(&rt)
+}
