@@ -8,7 +8,7 @@ use Rattle.jb_handle.specs.declared.shape.Shape.{Shape}
 use Rattle.jb_deck.specs.Done.{Follow, past_after, start_of}
 use Rattle.jb_deck.specs.declared.done.Entry.{Entry}
 use Rattle.jb_book.proofs.Follows.{follow-past}
-use Rattle.jb_book.specs.History.{AreAllStops, EndsWith}
+use Rattle.jb_book.specs.History.{AreAllStops, CameAbout, EndsWith}
 use Rattle.jb_book.specs.SinceMark.{EndsMarked}
 use Rattle.jb_book.specs.Origin.{Begun}
 use Rattle.jb_book.specs.Marks.{SeesMore}
@@ -44,10 +44,17 @@ module _ {D : Type 0} (G : Ghosts D) (b : Begun)
     same_shape = ends.same_shape;
     same_trail = ends.same_trail;
     since = ends.since;
-    run_shape = ends.run_shape;
-    run = ends.run;
-    runs_as = ends.runs_as;
     journal = ends.journal;
+  }
+
+  -- how its stops came about, without that seat
+  pub came-without : all ≡ [] ∷ stopped → CameAbout G b all shape disk trail → CameAbout G b stopped shape disk trail
+  came-without is came = record {
+    log = came.log;
+    stopped = subst (λ (xs : List (ℕ × WordMap)). AreAllStops came.log xs) (ap joined is) came.stopped;
+    run_shape = came.run_shape;
+    run = came.run;
+    runs_as = came.runs_as;
   }
 
   -- and what each worker knew lasts; a disk that is honest was so at all that each had seen

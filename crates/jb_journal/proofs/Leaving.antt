@@ -5,6 +5,7 @@ use Rattle.jb_disk.specs.declared.disk.Disk.{Ghosts as Disks}
 use Rattle.jb_deck.specs.declared.done.Entry.{Entry}
 use Rattle.jb_desk.specs.Seats.{made_left}
 use Rattle.jb_desk.specs.declared.ended.Ended.{Ended}
+use Rattle.jb_book.specs.History.{CameAbout}
 use Rattle.jb_book.specs.Origin.{Begun}
 use Rattle.jb_book.specs.Since.{EndsSince}
 use Rattle.jb_book.specs.SinceMark.{EndsMarked}
@@ -20,7 +21,7 @@ use Rattle.jb_journal.specs.declared.ran.Ran.{Ran}
 use Rattle.jb_journal.specs.declared.threads.Threaded.{Threaded}
 use Rattle.jb_journal.specs.declared.threads.Worked.{Worked}
 use Rattle.jb_journal.proofs.Answering.{are-answers}
-use Rattle.jb_journal.proofs.Ending.{ends-known}
+use Rattle.jb_journal.proofs.Ending.{came-without, ends-known}
 
 -- what is told of a disk and its trail is so since it began
 pub since-as : {T D : Type 0} (G : Disks D) (b : Begun) (told : Ran T D) (disk : D) (trail : List Entry) → told.disk ≡ disk → told.trail.items ≡ trail → EndsSince G b disk trail → EndsSince G b told.disk told.trail.items
@@ -29,12 +30,14 @@ since-as {D = D} G b told disk trail same_disk same_trail ends = subst (λ (x : 
 module _ {T D H N : Type 0} {O : Ghosts H} {P : Places H} (G : Disks D) (b : Begun) where
   -- what was told of a desk that was closed
   pub closed-as : (all : Gathered T D H N O P) (told : Ran T D) (disk : D) (handles : ℕ) (trail : List Entry) (shape : Shape) → told.disk ≡ disk → told.answers ≡ all.answers → told.handles ≡ handles → told.trail.items ≡ trail
-      → EndsMarked G b (map (λ l. made_left l) all.lefts.items) handles shape disk trail all.seen.stops all.seen.marks → IsClosed G b all told
-  closed-as all told disk handles trail shape same_disk same_answers same_handles same_trail ends = record {
+      → EndsMarked G b (map (λ l. made_left l) all.lefts.items) handles shape disk trail all.seen.stops all.seen.marks → CameAbout G b (map (λ l. made_left l) all.lefts.items) shape disk trail
+      → IsClosed G b all told
+  closed-as all told disk handles trail shape same_disk same_answers same_handles same_trail ends came = record {
     answers = same_answers;
     shape = shape;
     ends = subst (λ (x : (ℕ × D) × List Entry). EndsMarked G b (map (λ l. made_left l) all.lefts.items) x.0.0 shape x.0.1 x.1 all.seen.stops all.seen.marks)
         (λ i. ((sym same_handles i, sym same_disk i), sym same_trail i)) ends;
+    came = subst (λ (x : D × List Entry). CameAbout G b (map (λ l. made_left l) all.lefts.items) shape x.0 x.1) (λ i. (sym same_disk i, sym same_trail i)) came;
   }
 
   -- what was run
@@ -44,10 +47,10 @@ module _ {T D H N : Type 0} {O : Ghosts H} {P : Places H} (G : Disks D) (b : Beg
       let ws = gathered.of.workers.items in
       let has : HasThreaded G may workers gathered.of = IfOk-at_ok (HasThreaded G may workers) gathered.is threaded in
       let stopped : List (List Stop) = map (λ (w : Worked T D H N O P). stops_of_worked w) ws in
+      let alone = gathered.stops ∙ ap (λ xs. xs ∷ stopped) has.committed in
       let ends =
       ends-known G b _ stopped told.handles closed.shape told.disk told.trail.items
-      (λ (w : Worked T D H N O P). w.seen) ws all.0.seen
-      (gathered.stops ∙ ap (λ xs. xs ∷ stopped) has.committed) closed.ends gathered.seen in
+      (λ (w : Worked T D H N O P). w.seen) ws all.0.seen alone closed.ends gathered.seen in
       record {
         stopped = stopped;
         known = map (λ (w : Worked T D H N O P). known_of_worked G.moment w) ws;
@@ -55,6 +58,7 @@ module _ {T D H N : Type 0} {O : Ghosts H} {P : Places H} (G : Disks D) (b : Beg
         answers = are-answers G may workers told.answers.items ws has.worked (ap (λ xs. map (λ (x : T). Some x) xs.items) closed.answers ∙ gathered.answers);
         shape = closed.shape;
         ends = ends.0;
+        came = came-without G b _ stopped told.handles closed.shape told.disk told.trail.items alone closed.came;
         last = ends.1;
         honest = ends.2;
       }

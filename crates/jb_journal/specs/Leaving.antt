@@ -7,6 +7,7 @@ use Rattle.jb_desk.specs.Seats.{made_left}
 use Rattle.jb_desk.specs.declared.desk.closing.Closed.{Closed}
 use Rattle.jb_desk.specs.declared.ended.Ended.{Ended}
 use Rattle.jb_desk.specs.declared.seat.Left.{Left}
+use Rattle.jb_book.specs.History.{CameAbout}
 use Rattle.jb_book.specs.Origin.{Begun}
 use Rattle.jb_book.specs.Since.{EndsSince}
 use Rattle.jb_book.specs.SinceMark.{EndsMarked}
@@ -25,6 +26,7 @@ module _ {D H N : Type 0} {O : Ghosts H} {P : Places H} where
     pub within : (past : ℕ) × Follow (start_of closed.trail.items) 0 past closed.trail.items × (past ≤ closed.handles)
     pub since : EndsSince G b closed.disk closed.trail.items
     pub ends : EndsMarked G b (map made_left lefts) closed.handles closed.shape closed.disk closed.trail.items seen.stops seen.marks
+    pub came : CameAbout G b (map made_left lefts) closed.shape closed.disk closed.trail.items
 
 module _ {T D H N : Type 0} {O : Ghosts H} {P : Places H} where
   -- what the threads left is put together: what each worker has answered, what the committer's seat and those of the workers left, and all that is seen
@@ -40,3 +42,4 @@ module _ {T D H N : Type 0} {O : Ghosts H} {P : Places H} where
     pub answers : ran.answers ≡ all.answers
     pub shape : Shape
     pub ends : EndsMarked G b (map made_left all.lefts.items) ran.handles shape ran.disk ran.trail.items all.seen.stops all.seen.marks
+    pub came : CameAbout G b (map made_left all.lefts.items) shape ran.disk ran.trail.items

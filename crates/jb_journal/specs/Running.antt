@@ -8,7 +8,7 @@ use Rattle.jb_deck.specs.Done.{Follow, start_of}
 use Rattle.jb_desk.specs.Ends.{is_shut}
 use Rattle.jb_desk.specs.declared.ended.Ended.{Ended}
 use Rattle.jb_desk.specs.declared.ended.Ended.TheVariants as ended
-use Rattle.jb_book.specs.History.{EndsWith}
+use Rattle.jb_book.specs.History.{CameAbout, EndsWith}
 use Rattle.jb_book.specs.Origin.{Begun}
 use Rattle.jb_desk.specs.Seats.{made_by, made_left}
 use Rattle.jb_book.specs.declared.origin.Origin.{Ghosts}
@@ -110,5 +110,6 @@ pub record RanAll {T D : Type 0} (G : Disks D) (b : Begun) (may : Type 0 → ℕ
   -- that of the journal, by which its groups have cost what its trail says
   pub shape : Shape
   pub ends : EndsWith G b stopped ran.handles shape ran.disk ran.trail.items
+  pub came : CameAbout G b stopped shape ran.disk ran.trail.items
   pub last : All (KnownLasts G b ends.log ends.since.given ran.disk ran.trail.items) known
   pub honest : G.honest ran.disk → All (AreHonest G) seen

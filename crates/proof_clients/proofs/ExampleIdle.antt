@@ -24,7 +24,7 @@ use Rattle.jb_deck.specs.Deck.{OpenDeck}
 use Rattle.jb_board.specs.HistoryRule.{StandsIn}
 use Rattle.jb_book.specs.Origin.{unknown}
 use Rattle.jb_book.specs.Led.{IsMachineRun}
-use Rattle.jb_book.specs.History.{IsStop, AreAllStops}
+use Rattle.jb_book.specs.History.{AreAllStops, CameAbout, IsStop}
 use Rattle.jb_book.specs.Since.{IsCosted, WasGiven}
 use Rattle.jb_book.specs.SinceMark.{EndsMarked, Lasts}
 use Rattle.proof_clients.specs.Examples.{six, copies_at}
@@ -244,11 +244,11 @@ module _ (bounds : Vec ℕ Global) (are : bounds.items ≡ (0 ∷ 2 ∷ [])) whe
         same_shape = refl;
         same_trail = refl;
         since = record { given = given; has = was; since = λ known honest. absurd known };
-        run_shape = six;
-        run = run;
-        runs_as = λ known honest. absurd known;
         journal = λ known honest. absurd known;
       };
       knows = (history, refl);
       last = All-nil (Lasts G unknown given ended);
     }
+
+    pub came-idle : CameAbout G unknown idle_stops six d.disk (idle_group ∷ [])
+    came-idle = record { log = history; stopped = stopped; run_shape = six; run = run; runs_as = λ known honest. absurd known }

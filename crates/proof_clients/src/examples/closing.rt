@@ -6,6 +6,7 @@ ghost use Rattle.jb_deck.specs.Deck.{OpenDeck};
 ghost use Rattle.jb_deck.specs.declared.done.Entry.{Entry};
 ghost use Rattle.std.proofs.Common.{Vec, Global};
 ghost use Rattle.jb_book.specs.Origin.{unknown};
+ghost use Rattle.jb_book.specs.History.{CameAbout};
 ghost use Rattle.jb_book.specs.SinceMark.{EndsMarked};
 ghost use Rattle.proof_clients.specs.ExampleMarks.{first, second, third, entry, by_two_seats};
 ghost use Rattle.proof_clients.specs.ExampleMarks.{idle_stops, idle_group};
@@ -34,4 +35,13 @@ pub fn ends_marked<D: Disk, H: Origin>()
         → EndsMarked D.Disk H.begun by_two_seats 3 shape disk (entry 7 0 4 ∷ []) known marks → ⊥ }
     ensures not_numbered { (shape : Shape) (disk : D) (known : List WordMap) (marks : List (OpenDeck D))
         → EndsMarked D.Disk H.begun by_two_seats 3 shape disk (entry 7 0 1 ∷ entry 9 1 3 ∷ []) known marks → ⊥ }
+{}
+
+/// By the machine of handles three handles may stop of which two are settled, as one transaction.
+/// No stops came about so: the same handle stands for two seats.
+pub fn came_about<D: Disk, H: Origin>()
+    ensures meets { (d : OpenDeck D) (bounds : Vec ℕ Global) → bounds.items ≡ (0 ∷ 2 ∷ [])
+        → CameAbout D.Disk unknown idle_stops six d.disk (idle_group ∷ []) }
+    ensures not_twice { (shape : Shape) (disk : D) (trail : List Entry)
+        → CameAbout D.Disk H.begun (((0, first) ∷ []) ∷ ((0, first) ∷ []) ∷ []) shape disk trail → ⊥ }
 {}

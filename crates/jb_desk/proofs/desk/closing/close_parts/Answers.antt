@@ -22,7 +22,6 @@ returns-clause-since g c = record {
   since = is-weaker g.D.Disk g.H.Origin.begun (IsStop g.H.Origin.begun c.end-deck.result.2) (may_stop g.H.Origin.begun) (λ h s. s.0) c.end-deck.result.0 c.end-deck.ensures.since.since;
 }
 
--- the book's shape is that of the journal at a mark, and so its shape now
 pub returns-clause-stops : goal.returns-clause-stops
 returns-clause-stops g c =
     let b = g.H.Origin.begun in
@@ -32,8 +31,6 @@ returns-clause-stops g c =
     let marks = c.learn.new.sight in
     let since = c.end-deck.ensures.since in
     let is = marked-weaker g.D.Disk b (IsStop b c.end-deck.result.2) (IsStop b log) (stop-on b c.end-deck.result.2 log c.check.ensures.sight) marks deck since in
-    let book = c.totals-trail.ensures.journal in
-    let last = of-mark (Lasts g.D.Disk b is.since.given deck) marks book.at book.mark (placed_on c.totals-trail.result.4 marks c.learn.ensures.other (book.at, book.mark) book.stands) is.marks_last in
     record {
       ends = record {
         log = log;
@@ -44,11 +41,25 @@ returns-clause-stops g c =
         same_shape = sym c.shape-shape.ensures.value;
         same_trail = search rules;
         since = is.since;
-        run_shape = c.args.counter.register.book.shape;
-        run = search rules;
-        runs_as = λ known_start held. sym book.same ∙ sym last.same_shape ∙ sym c.shape-shape.ensures.value;
         journal = λ known_start held. of-begun g.D.Disk b (IsStop b c.end-deck.result.2) deck shape c.shape-shape.ensures.journal since.since known_start (subst g.D.Disk.honest c.close.ensures.value held);
       };
       knows = subst (λ (l : List WordMap). IsPrefix c.args.seen.stops l) c.check.ensures.kept c.check-2.ensures.sight;
       last = first-marks (Lasts g.D.Disk b is.since.given deck) c.args.seen.marks marks c.learn.ensures.own is.marks_last;
+    }
+
+-- the book's shape is that of the journal at a mark, and so its shape now
+pub returns-clause-came : goal.returns-clause-came
+returns-clause-came g c =
+    let deck = c.end-deck.result.0 in
+    let marks = c.learn.new.sight in
+    let since = c.end-deck.ensures.since in
+    let book = c.totals-trail.ensures.journal in
+    let stands = placed_on c.totals-trail.result.4 marks c.learn.ensures.other (book.at, book.mark) book.stands in
+    let last = of-mark (Lasts g.D.Disk g.H.Origin.begun since.since.given deck) marks book.at book.mark stands since.marks_last in
+    record {
+      log = c.totals-trail.result.3;
+      stopped = search rules;
+      run_shape = c.args.counter.register.book.shape;
+      run = search rules;
+      runs_as = λ known_start held. sym book.same ∙ sym last.same_shape ∙ sym c.shape-shape.ensures.value;
     }

@@ -12,6 +12,7 @@ use Rattle.jb_queue.specs.QueueLines.{handles_of}
 use Rattle.jb_tool.specs.Loads.{AreRuns}
 use Rattle.jb_tool.specs.Running.{HasRun}
 use Rattle.jb_book.proofs.Follows.{follow-past}
+use Rattle.jb_book.proofs.OneHistory.{of-history}
 use Rattle.jb_tool.proofs.Costing.{blocks-are}
 use Rattle.jb_tool.proofs.loading.load.load_at.Goals as goal
 
@@ -24,6 +25,7 @@ returns-clause-since g c =
     let ran = subst (λ r. IfOk r (HasRun {H = g.row.H.Denot} {N = g.row.N.Denot} {O = g.H.Origin} {P = g.H.Place} (shape_in c.args.desk) queue threads)) c.in_ok-ran.was c.run-ran.ensures.ran in
     let gathered = c.in_ok-lefts.ensures.gathered (shape_in c.args.desk) queue threads ran in
     let ends = c.in-Ok.ensures.stops.ends in
+    let came = c.in-Ok.ensures.came in
     let counts = c.count_up-loaded.ensures.counts in
     let tiles = c.in-Ok.ensures.trail in
     let begins : start_of trail ≡ 0 = search rules in
@@ -41,7 +43,7 @@ returns-clause-since g c =
           stopped = subst (AreAllStops ends.log) gathered.made ends.stopped;
           queued = counts.are_queued ∙ c.len.ensures.value;
           handles = counts.have_stopped ∙ sym ends.number;
-          changes = counts.have_changed ∙ c.in-Ok.ensures.changes ∙ gathered.changes;
+          changes = counts.have_changed ∙ c.in-Ok.ensures.changes.0 ∙ gathered.changes;
           follows = counts.follows;
           within = (let one = follow-past 0 0 c.count_up-loaded.result.settled trail counts.follows in let other = follow-past 0 0 tiles.0 trail (subst (λ n. Follow n 0 tiles.0 trail) begins tiles.1) in let most = tiles.2 in omega (arith, one, other, most, counts.have_stopped));
           groups = counts.groups;
@@ -50,7 +52,7 @@ returns-clause-since g c =
         refused = c.count_up-loaded.ensures.outcome.0 ∙ gathered.refused;
       };
       since = record { deck = ends.deck; same_disk = ends.same_disk; same_trail = ends.same_trail; since = ends.since };
-      run_shape = ends.run_shape;
-      run = ends.run;
-      runs_as = λ is_known honest. ends.runs_as is_known honest ∙ shape-same c.in-Ok.closed.shape c.args.shape c.if-ne.ensures;
+      run_shape = came.run_shape;
+      run = of-history g.D.Disk b _ c.in-Ok.closed.shape c.in-Ok.closed.disk trail ends.log ends.stopped came;
+      runs_as = λ is_known honest. came.runs_as is_known honest ∙ shape-same c.in-Ok.closed.shape c.args.shape c.if-ne.ensures;
     }
