@@ -45,11 +45,11 @@ counts n (suc k) (words ∷ log) lt =
 -- so one of the stops has the ticket
 found : (k : ℕ) (P : ℕ × WordMap → Type 0) (stops : List (ℕ × WordMap)) → All P stops → 1 ≤ sum_by (at k) stops → (s : ℕ × WordMap) × (s.0 ≡ k) × P s
 found k P [] each some = absurd (omega (arith, some))
-found k P (s ∷ stops) each some = found-by (at k s) refl
+found k P ((n, words) ∷ stops) each some = found-by (at k (n, words)) refl (found k P stops (All-tail P (n, words) stops each))
   where
-    found-by : (n : ℕ) → at k s ≡ n → (s : ℕ × WordMap) × (s.0 ≡ k) × P s
-    found-by zero is = let whole = sum_by-cons (at k) s stops in found k P stops (All-tail P s stops each) (omega (arith, some, whole, is))
-    found-by (suc n) is = (s, at-only k s.0 s.1 (omega (arith, is)), All-head P s stops each)
+    found-by : (m : ℕ) → at k (n, words) ≡ m → (1 ≤ sum_by (at k) stops → (s : ℕ × WordMap) × (s.0 ≡ k) × P s) → (s : ℕ × WordMap) × (s.0 ≡ k) × P s
+    found-by zero is rest = rest (let whole = sum_by-cons (at k) (n, words) stops in omega (arith, some, whole, is))
+    found-by (suc m) is rest = ((n, words), at-only k n words (omega (arith, is)), All-head P (n, words) stops each)
 
 places : (n : ℕ) (log : List WordMap) → sum_by (λ (s : ℕ × WordMap). 1) (with_places n log) ≡ length log
 places n [] = refl

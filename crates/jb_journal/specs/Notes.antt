@@ -23,8 +23,7 @@ use Rattle.jb_desk.specs.declared.fault.WaitFault.TheVariants as wait
 abbrev pub Stop : Type 0
 Stop = ℕ × WordMap
 
--- The journal as it was when it was opened, after a round of its committer, or after a read: the moment, and the transactions that were committed by then, without those that
--- had been taken from the trail
+-- What is noted of a journal at one time: the moment, and the transactions that were committed by then, without those that had been taken from the trail
 pub record Note : Type 0 where
   pub moment : ℕ
   pub trail : List Entry
@@ -46,7 +45,7 @@ pub record Known : Type 0 where
 abbrev pub KnowsMore : Known → Known → Type 0
 KnowsMore old new = IsFirstPart old.log new.log × IsFirstPart old.notes new.notes
 
--- the handle with the ticket was committed when some note was made, in the transaction of this number
+-- some note lists the ticket, in the transaction with this number
 pub record IsInNotes (notes : List Note) (ticket number : ℕ) : Type 0 where
   pub at : ℕ
   pub note : Note
@@ -57,7 +56,7 @@ pub record IsInNotes (notes : List Note) (ticket number : ℕ) : Type 0 where
   pub to : ticket < entry.past
   pub is_number : entry.number ≡ number
 
--- the same, where only a transaction after that of the handle is left in the trail
+-- some note lists a transaction after the ticket's, whose own may have been taken from the trail
 pub record IsPastInNotes (notes : List Note) (ticket : ℕ) : Type 0 where
   pub at : ℕ
   pub note : Note
@@ -66,13 +65,13 @@ pub record IsPastInNotes (notes : List Note) (ticket : ℕ) : Type 0 where
   pub has : HasEntry note.trail entry
   pub before : ticket < entry.first
 
--- the handle with the ticket was committed when this was noted, also where a wait for it answers `Taken`
+-- where a wait for the ticket answers `Taken`, some note lists a transaction after the ticket's
 abbrev pub NotesTaken : List Note → ℕ → WaitFault → Type 0
 NotesTaken notes ticket wait.Taken = IsPastInNotes notes ticket
 NotesTaken notes ticket wait.Aborted = Unit {0}
 NotesTaken notes ticket wait.Unknown = Unit {0}
 
--- each of these handles is known to be committed
+-- each of these handles is listed by some note
 abbrev pub AreInNotes : List Note → List Stop → Type 0
 AreInNotes notes stops = All (λ s. (number : ℕ) × IsInNotes notes s.0 number) stops
 
