@@ -18,6 +18,7 @@ pub mod Leds
 pub mod Limits
 pub mod Marked
 pub mod Numbered
+pub mod OneHistory
 pub mod Readings
 pub mod Registers
 pub mod Remains

@@ -14,7 +14,7 @@ use Rattle.jb_book.specs.Origin.{Begun}
 use Rattle.jb_book.specs.History.{AreAllStops, CameAbout}
 
 -- 1 for a stop with this ticket, and 0 for each other one
-at : ℕ → ℕ × WordMap → ℕ
+abbrev at : ℕ → ℕ × WordMap → ℕ
 at zero (zero, words) = 1
 at zero (suc n, words) = 0
 at (suc k) (zero, words) = 0
@@ -74,7 +74,7 @@ by-place (x ∷ xs) (y ∷ ys) same each =
 pub one-history : (log other : List WordMap) (stops : List (ℕ × WordMap)) → AreAllStops log stops → AreAllStops other stops → log ≡ other
 one-history log other stops are is =
     by-place log other (sym (places 0 log) ∙ sym (are.once (λ s. 1)) ∙ is.once (λ s. 1) ∙ places 0 other) (λ k lt.
-    let some : 1 ≤ sum_by (at k) stops = subst (λ n. 1 ≤ n) (sym (are.once (at k))) (counts 0 k log lt) in
+    let some : 1 ≤ sum_by (at k) stops = subst (λ n. 1 ≤ n) (sym (are.once (at k))) (subst (λ m. 1 ≤ sum_by (at m) (with_places 0 log)) (omega arith) (counts 0 k log lt)) in
     let both : All (λ s. StandsIn log s × StandsIn other s) stops = λ i d within. (are.stand i d within, is.stand i d within) in
     let s = found k (λ s. StandsIn log s × StandsIn other s) stops both some in
     subst (λ n. slice_get log n ≡ slice_get other n) s.1 (s.2.0 ∙ sym s.2.1))
