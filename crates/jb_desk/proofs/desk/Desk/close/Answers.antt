@@ -1,4 +1,4 @@
-use Rattle.std.proofs.Common.{◌≡◌}
+use Rattle.std.proofs.Common.{◌≡◌, ◌≤◌, ◌^◌}
 use Rattle.std.specs.List.{sum_by}
 use Rattle.jb_desk.specs.Seats.{stops_left, changes_left}
 use Rattle.jb_desk.specs.declared.desk.closing.Closed.{Closed}
