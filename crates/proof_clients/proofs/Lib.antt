@@ -6,7 +6,9 @@ pub mod ExampleCuts
 pub mod ExampleEnds
 pub mod ExampleIdle
 pub mod ExampleMarks
+pub mod Going
 pub mod Journal
 pub mod Living
+pub mod Parts
 pub mod Programs
 pub mod Steps

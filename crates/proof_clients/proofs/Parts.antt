@@ -1,0 +1,54 @@
+-- The parts of a program: what they change, one after another, and what a part of them is.
+use Rattle.std.proofs.Common.{◌≡◌, ℕ, ◌+◌, true, nat_eq, List, [], ◌∷◌, ◌++◌, map, append_assoc, Result, Ok, Err, refl, ap, sym, subst, ◌∙◌, arith}
+use Rattle.std.proofs.lemmas.Bool.Decides.{nat_tests}
+use Rattle.jb_deck.specs.Changes.{Change, HoldsAfter, HoldsAfterFill, fills, settles, torn_by}
+use Rattle.jb_deck.specs.Gathering.{groups_in}
+use Rattle.jb_deck.specs.declared.freed.FreeFault.{FreeFault}
+use Rattle.jb_deck.specs.declared.freed.FreeFault.TheVariants.{Aborted, NotFree, Length, DeviceFault}
+use Rattle.jb_deck.proofs.Changed.{holds-append}
+use Rattle.proof_clients.specs.Programs.{IsPartOf, Part, after_batch, after_write, all_changes, all_groups, commits, in_write, no_more, writes}
+
+-- a home that was written last holds these bytes
+pub filled : (done : List Change) (home : ℕ) (bytes : List ℕ) (held : List ℕ → Type 0) (found : List ℕ) → HoldsAfter (done ++ fills home bytes ∷ []) home held found → found ≡ bytes
+filled done home bytes held found is =
+    let here : nat_eq home home ≡ true = grind (arith, nat_tests) in
+    subst (λ b. HoldsAfterFill b bytes (HoldsAfter done home held) found) here
+    (subst (λ (P : List ℕ → Type 0). P found) (holds-append done (fills home bytes ∷ []) home held) is)
+
+-- whatever a write of a freed home answers, what is left of it is a part of it
+pub torn-part : (r : Result (Unit {0}) FreeFault) (home : ℕ) (bytes : List ℕ) (rest : List Part) → IsPartOf (writes home bytes ∷ rest) (torn_by r home bytes) 0
+torn-part (Ok done) home bytes rest = in_write home bytes rest
+torn-part (Err Aborted) home bytes rest = no_more (writes home bytes ∷ rest)
+torn-part (Err NotFree) home bytes rest = no_more (writes home bytes ∷ rest)
+torn-part (Err Length) home bytes rest = no_more (writes home bytes ∷ rest)
+torn-part (Err DeviceFault) home bytes rest = in_write home bytes rest
+
+-- what some parts changed, and then a part of the next ones, is a part of all
+pub part-on : (made rest : List Part) (changes : List Change) (more : ℕ) → IsPartOf rest changes more
+    → IsPartOf (made ++ rest) (all_changes made ++ changes) (all_groups made + more)
+part-on [] rest changes more part = subst (IsPartOf rest changes) (let n : more ≡ 0 + more = omega arith in n) part
+part-on (commits batch ∷ made) rest changes more part =
+    let hs : List Change = map settles batch.batch.handles in
+    let all = commits batch ∷ (made ++ rest) in
+    let sum : groups_in batch.groups + (all_groups made + more) ≡ groups_in batch.groups + all_groups made + more = omega arith in
+    subst (IsPartOf all ((hs ++ all_changes made) ++ changes)) sum
+    (subst (λ cs. IsPartOf all cs (groups_in batch.groups + (all_groups made + more))) (sym (append_assoc hs (all_changes made) changes))
+    (after_batch batch (made ++ rest) (all_changes made ++ changes) (all_groups made + more) (part-on made rest changes more part)))
+part-on (writes home bytes ∷ made) rest changes more part =
+    after_write home bytes (made ++ rest) (all_changes made ++ changes) (all_groups made + more) (part-on made rest changes more part)
+
+-- what is changed by further parts
+pub changes-append : (made more : List Part) → all_changes (made ++ more) ≡ all_changes made ++ all_changes more
+changes-append [] more = refl
+changes-append (commits batch ∷ made) more =
+    let hs : List Change = map settles batch.batch.handles in
+    ap (λ cs. hs ++ cs) (changes-append made more) ∙ sym (append_assoc hs (all_changes made) (all_changes more))
+changes-append (writes home bytes ∷ made) more = ap (λ cs. fills home bytes ∷ cs) (changes-append made more)
+
+-- and in how many groups
+pub groups-append : (made more : List Part) → all_groups (made ++ more) ≡ all_groups made + all_groups more
+groups-append [] more = let n : all_groups more ≡ 0 + all_groups more = omega arith in n
+groups-append (commits batch ∷ made) more =
+    let rest = groups-append made more in
+    let n : groups_in batch.groups + all_groups (made ++ more) ≡ groups_in batch.groups + all_groups made + all_groups more = omega (arith, rest) in n
+groups-append (writes home bytes ∷ made) more = groups-append made more
