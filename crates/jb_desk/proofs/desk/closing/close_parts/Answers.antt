@@ -14,6 +14,9 @@ use Rattle.jb_book.proofs.Sincing.{is-weaker}
 use Rattle.jb_book.proofs.Staying.{of-mark}
 use Rattle.jb_desk.proofs.desk.closing.close_parts.Goals as goal
 
+pub returns-clause-sums : goal.returns-clause-sums
+returns-clause-sums g c = c.totals-trail.ensures.sums
+
 pub returns-clause-since : goal.returns-clause-since
 returns-clause-since g c = record {
   deck = c.end-deck.result.0;
