@@ -1,5 +1,5 @@
 -- A journal since its desk was started: what a batch that is given to it keeps.
-use Rattle.std.proofs.Common.{◌≡◌, ◌⊎◌, ℕ, false, ◌+◌, ◌≤◌, List, ◌++◌, length, take, slice_index, All, Result, Ok, Err, IfOk, OnOk, inl, inr, ⊎_elim, refl, ap, sym, subst, ◌∙◌, arith}
+use Rattle.std.proofs.Common.{◌≡◌, ◌⊎◌, ℕ, false, ◌+◌, ◌≤◌, List, ◌++◌, length, take, slice_index, All, Result, Ok, Err, OnOk, inl, inr, ⊎_elim, refl, ap, sym, subst, ◌∙◌, arith}
 use Rattle.std.proofs.lemmas.List.{length-append, length-take-le}
 use Rattle.std.proofs.lemmas.List.Elements.{All-append}
 use Rattle.jb_plan.specs.Costs.{cost_in}
@@ -29,7 +29,7 @@ use Rattle.jb_log.proofs.Owning.{same-then}
 use Rattle.jb_deck.specs.Since.{committed, deck_homes}
 use Rattle.jb_deck.proofs.Sinces.{ended-is-call}
 use Rattle.jb_deck.proofs.Stood.{call-stood}
-use Rattle.jb_book.specs.Journal.{FailsAs, IsRound, RefusesRound}
+use Rattle.jb_book.specs.Journal.{EndsRound, RefusesRound}
 use Rattle.jb_book.specs.Origin.{Begun}
 use Rattle.jb_book.specs.Since.{NumberedFrom, HasFirst, IsCosted, IsSinceOf, Since, WasGiven}
 use Rattle.jb_book.proofs.Bounds.{cut-high, cut-last, for-length, for-past, past-append, cut-many}
@@ -247,9 +247,13 @@ module _ {D : Type 0} (G : Ghosts D) (counts_now : (disk : D) (t : ℕ) (c : Ima
       unfolding commit-since
       faulted-given settled answers on_disk now = refl
 
-    pub commit-round : (r : Result Done BatchFault) → AnswersBatch (G.faults old.disk) (G.faults new.disk) p stamp old new r → (G.honest new.disk → OnOk r (CommitsOnDisk G.newest p stamp old new)) → (G.honest new.disk → OnOk r (FindsLive (G.size old.disk) (G.count old.disk) new.log new.groups (G.newest new.disk))) → Leaves → Now r → Is old → IfOk r (IsRound G b p)
+    -- the journal that refuses a batch is as it was
+    refuses-round : (fault : BatchFault) → old.aborted ≡ false → RefusesBatch old p fault → Is old → RefusesRound G b p fault
+    refuses-round fault up refuses is = record { planned = planned; deck = old; since = plain-is G counts_now b known plain old is; up = up; refuses = refuses }
+
+    pub commit-ends : (r : Result Done BatchFault) → AnswersBatch (G.faults old.disk) (G.faults new.disk) p stamp old new r → (G.honest new.disk → OnOk r (CommitsOnDisk G.newest p stamp old new)) → (G.honest new.disk → OnOk r (FindsLive (G.size old.disk) (G.count old.disk) new.log new.groups (G.newest new.disk))) → Leaves → Now r → Is old → EndsRound G b p r
     unfolding commit-since plain-is is-weaker
-    commit-round (Ok done) answers on_disk finds leaves now is = record {
+    commit-ends (Ok done) answers on_disk finds leaves now is = record {
       planned = planned;
       stamp = stamp;
       old = old;
@@ -263,21 +267,12 @@ module _ {D : Type 0} (G : Ghosts D) (counts_now : (disk : D) (t : ℕ) (c : Ima
       after = plain-is G counts_now b known plain new (commit-since (Ok done) answers on_disk leaves now is);
       adds = refl;
     }
-    commit-round (Err fault) answers on_disk finds leaves now is = tt
-
-    -- the journal that refuses a batch is as it was
-    refuses-round : (fault : BatchFault) → old.aborted ≡ false → RefusesBatch old p fault → Is old → RefusesRound G b p fault
-    refuses-round fault up refuses is = record { planned = planned; deck = old; since = plain-is G counts_now b known plain old is; up = up; refuses = refuses }
-
-    pub commit-fails : (r : Result Done BatchFault) → AnswersBatch (G.faults old.disk) (G.faults new.disk) p stamp old new r → (G.honest new.disk → OnOk r (CommitsOnDisk G.newest p stamp old new)) → Leaves → Now r → Is old → FailsAs G b p r
-    unfolding commit-since plain-is is-weaker
-    commit-fails (Ok done) answers on_disk leaves now is = tt
-    commit-fails (Err (batch.Aborted back)) answers on_disk leaves now is = record { deck = old; since = plain-is G counts_now b known plain old is; failed = answers.0 }
-    commit-fails (Err (batch.WrongTicket back expected)) answers on_disk leaves now is = refuses-round (batch.WrongTicket back expected) answers.0 (answers.0, answers.1, answers.2, answers.3) is
-    commit-fails (Err (batch.OtherShape back)) answers on_disk leaves now is = refuses-round (batch.OtherShape back) answers.0 (answers.0, answers.1, answers.2, answers.3) is
-    commit-fails (Err (batch.NumbersSpent back)) answers on_disk leaves now is = refuses-round (batch.NumbersSpent back) answers.0 (answers.0, answers.1, answers.2, answers.3, answers.4) is
-    commit-fails (Err (batch.Memory back)) answers on_disk leaves now is = tt
-    commit-fails (Err (batch.DeviceFault settled)) answers on_disk leaves now is = record {
+    commit-ends (Err (batch.Aborted back)) answers on_disk finds leaves now is = record { deck = old; since = plain-is G counts_now b known plain old is; failed = answers.0 }
+    commit-ends (Err (batch.WrongTicket back expected)) answers on_disk finds leaves now is = refuses-round (batch.WrongTicket back expected) answers.0 (answers.0, answers.1, answers.2, answers.3) is
+    commit-ends (Err (batch.OtherShape back)) answers on_disk finds leaves now is = refuses-round (batch.OtherShape back) answers.0 (answers.0, answers.1, answers.2, answers.3) is
+    commit-ends (Err (batch.NumbersSpent back)) answers on_disk finds leaves now is = refuses-round (batch.NumbersSpent back) answers.0 (answers.0, answers.1, answers.2, answers.3, answers.4) is
+    commit-ends (Err (batch.Memory back)) answers on_disk finds leaves now is = tt
+    commit-ends (Err (batch.DeviceFault settled)) answers on_disk finds leaves now is = record {
       planned = planned;
       stamp = stamp;
       old = old;

@@ -152,15 +152,15 @@ module _ {D : Type 0} (G : Ghosts D) (b : Begun) where
     pub at : ℕ
     pub marked : StandsIn marks_after (at, new)
 
-  -- a commit of this batch that is not all done: the journal does not take the batch, or it has failed
-  abbrev pub FailsAs : Planned → Result Done BatchFault → Type 0
-  FailsAs p (Ok done) = Unit {0}
-  FailsAs p (Err (batch.Aborted back)) = HasFailed
-  FailsAs p (Err (batch.WrongTicket back expected)) = RefusesRound p (batch.WrongTicket back expected)
-  FailsAs p (Err (batch.OtherShape back)) = RefusesRound p (batch.OtherShape back)
-  FailsAs p (Err (batch.NumbersSpent back)) = RefusesRound p (batch.NumbersSpent back)
-  FailsAs p (Err (batch.Memory back)) = Unit {0}
-  FailsAs p (Err (batch.DeviceFault settled)) = FailsRound p settled
+  -- what a commit of this batch has done: all of it is committed; or the journal does not take the batch, or it has failed
+  abbrev pub EndsRound : Planned → Result Done BatchFault → Type 0
+  EndsRound p (Ok done) = IsRound p done
+  EndsRound p (Err (batch.Aborted back)) = HasFailed
+  EndsRound p (Err (batch.WrongTicket back expected)) = RefusesRound p (batch.WrongTicket back expected)
+  EndsRound p (Err (batch.OtherShape back)) = RefusesRound p (batch.OtherShape back)
+  EndsRound p (Err (batch.NumbersSpent back)) = RefusesRound p (batch.NumbersSpent back)
+  EndsRound p (Err (batch.Memory back)) = Unit {0}
+  EndsRound p (Err (batch.DeviceFault settled)) = FailsRound p settled
 
   -- what a round of a checkpointer has done: the oldest group is home, none was live, or the journal has failed
   abbrev pub ChecksRound : Result Checked CheckpointFault → Type 0

@@ -1,5 +1,5 @@
 ghost use Rattle.std.specs.Prelude.{◌≡◌, ℕ, ◌+◌, ◌^◌, ◌≤◌, List, Some, None, true};
-ghost use Rattle.std.specs.Prelude.{OnOk, OnErr, IfOk, IfErr, IfSome, IfNone};
+ghost use Rattle.std.specs.Prelude.{OnOk, OnErr, IfOk, IfErr, IfSome, IfNone, MatchResult};
 ghost use Rattle.jb_handle.specs.Handle.{holder, changes_of};
 ghost use Rattle.jb_plan.specs.Batch.{gathered};
 ghost use Rattle.jb_plan.specs.Costs.{HasCut};
@@ -164,11 +164,11 @@ impl<S: Origin> Book<S> {
         handle: Handle<T>,
     ) -> Result<(T, u64), (Handle<T>, EnqueueFault)>
         requires { S.begun.stops (changes_of handle).words }
-        ensures ok { OnOk result (self.new ≡ queued seat (changes_of handle).words self.old) }
+        ensures book { MatchResult result (λ _. self.new ≡ queued seat (changes_of handle).words self.old)
+            (λ _. self.new ≡ self.old) }
         ensures open { OnOk result (CanStop self.old seat (changes_of handle).words) }
         ensures given { IfOk result (λ given. (given.0 ≡ holder handle) × (given.1 ≡ self.old.shadow.next)) }
         ensures few { IfOk result (λ given. given.1 ≤ 2 ^ 61) }
-        ensures err { OnErr result (self.new ≡ self.old) }
         ensures back { IfErr result (λ back. back.0 ≡ handle) }
         ensures refused { IfErr result (λ back. RefusesStop self.old seat (changes_of handle).words back.1) }
         ensures does { (earlier : List Call) → Does (Enqueued seat (changes_of handle).words

@@ -45,10 +45,9 @@ impl<D: Disk, C: Clock, S: Origin> Works<D, C, S> {
     ghost use Rattle.jb_block.specs.declared.stamp.Stamp.{Stamp};
     ghost use Rattle.jb_deck.specs.Checkpoints.{AnswersCheckpoint};
     ghost use Rattle.jb_deck.specs.Committing.{AnswersBatch};
-    ghost use Rattle.jb_plan.specs.Prepared.{IsPlanned};
     ghost use Rattle.jb_deck.specs.Reading.{AnswersRead};
     ghost use Rattle.jb_deck.specs.Taking.{MayTakeFirst, TakesTrail, oldest_number};
-    ghost use Rattle.jb_book.specs.Journal.{AnswersAt, ChecksAt, ChecksRound, FailsAs, GivesTrail, IsRound, ReadsHome};
+    ghost use Rattle.jb_book.specs.Journal.{AnswersAt, ChecksAt, ChecksRound, EndsRound, GivesTrail, ReadsHome};
     ghost use Rattle.jb_book.specs.Rounds.{CommitsAs};
     ghost use Rattle.jb_book.specs.Tied.{TellsFirst};
     ghost use Rattle.jb_handle.specs.Tickets.{TicketsFrom};
@@ -95,7 +94,6 @@ impl<D: Disk, C: Clock, S: Origin> Works<D, C, S> {
         histories: &Histories<D, S>,
         mut sight: Sight<Words, S>,
     ) -> (Result<Done, BatchFault>, Sights<D, S>)
-        requires planned { IsPlanned prepared }
         requires stops { AreStops S.begun prepared.batch.handles }
         requires history { All (IsInHistory sight) prepared.batch.handles }
         ensures answers { (stamp : Stamp) × C.tells self.old.clock stamp
@@ -103,14 +101,15 @@ impl<D: Disk, C: Clock, S: Origin> Works<D, C, S> {
             self.new.deck result.0 }
         ensures tells { CommitsAs prepared result.0 × TellsFirst prepared result.0
             × TicketsFrom prepared.batch.first prepared.batch.handles }
-        ensures round { IfOk result.0 (IsRound D.Disk S.begun prepared) }
-        ensures failed { FailsAs D.Disk S.begun prepared result.0 }
+        ensures round { EndsRound D.Disk S.begun prepared result.0 }
         ensures clock { self.new.clock ≡ self.old.clock }
         ensures stops { result.1.stops ≡ sight }
         ensures marked { MarksSettled result.1.marks result.0 }
     {
         histories.stops.learn(&mut self.sight, &mut sight);
-        // for the proof alone: only the clause of this method says that the handles' tickets count up
+        // for the proof alone: only the clauses of these methods say that the cut is a least one, and that the handles'
+        // tickets count up
+        let _groups = prepared.groups();
         let _handles = prepared.batch().handles();
         let stamp = self.clock.now();
         let result = self.deck.commit_batch(prepared, stamp);

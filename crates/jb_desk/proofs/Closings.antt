@@ -1,5 +1,5 @@
 -- What closing a desk says of what its two locks guarded, said of the desk.
-use Rattle.std.proofs.Common.{Result, Ok, Err, IfOk, IfErr}
+use Rattle.std.proofs.Common.{Result, Ok, Err, IfErr}
 use Rattle.std.specs.Global.{Vec}
 use Rattle.jb_desk.specs.Closing.{DiffersAs, IsNotClosed}
 use Rattle.jb_book.specs.Works.{Worked}
@@ -13,10 +13,6 @@ use Rattle.jb_book.specs.declared.sights.Sights.{Sights}
 use Rattle.jb_book.specs.declared.origin.Origin.{Ghosts}
 use Rattle.jb_board.specs.declared.place.Place.{Ghosts as Places}
 use Rattle.jb_desk.specs.declared.seat.Left.{Left}
-
-pub first-ok : {A B : Type 0} (P Q : A → Type 0) (r : Result A B) → IfOk r (λ a. P a × Q a) → IfOk r P
-first-ok P Q (Ok a) is = is.0
-first-ok P Q (Err e) is = tt
 
 pub not-closed : {D C H N : Type 0} {Q : Disks D} {O : Ghosts H} {P : Places H} (counter : Counter D H N Q O P) (works : Worked D C) (desk : Desk D C H N Q O P) (lefts : Vec (Left H N O P)) (seen : Sights D H) (r : Result (Closed D C) (CloseFault D C H N Q O P)) → IfErr r (DiffersAs counter works) → IfErr r (IsNotClosed desk lefts seen)
 not-closed counter works desk lefts seen (Ok closed) is = tt

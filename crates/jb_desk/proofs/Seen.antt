@@ -1,6 +1,7 @@
 -- What a round makes of the counts that its seat is sure of.
 use Rattle.std.proofs.Common.{◌≡◌, ℕ, ◌<◌, ◌≤◌, max, length, is_some, Option, Some, None, Result, Ok, Err, inl, inr, refl, ap, sym, subst, ◌∙◌, arith}
 use Rattle.jb_plan.specs.Batch.{Gathered}
+use Rattle.jb_board.specs.Steps.{raised_settled}
 use Rattle.jb_board.specs.declared.front.Front.{Front}
 use Rattle.jb_disk.specs.declared.disk.Disk.{Ghosts as Disks}
 use Rattle.jb_book.specs.Account.{Account}
@@ -8,6 +9,7 @@ use Rattle.jb_desk.specs.Journal.{CommitsRound}
 use Rattle.jb_book.specs.Origin.{Begun}
 use Rattle.jb_book.specs.Rounds.{end_of}
 use Rattle.jb_desk.specs.Rounds.{AnswersRound, GivesBatch, IdleKeeps}
+use Rattle.jb_desk.specs.Seats.{KeepsSeat, changes, desk_of, made_by, seat_number, stops}
 use Rattle.jb_desk.specs.Views.{IsOneHeld, SeesCommit, SeesRound, TakesUp, with_taken}
 use Rattle.jb_board.specs.declared.place.Place.{Ghosts as Places}
 use Rattle.jb_book.specs.declared.origin.Origin.{Ghosts}
@@ -92,8 +94,24 @@ lost-sees held after v w r is same = subst (λ (x : Result Round RoundFault). Se
 pub lost-round : {D : Type 0} (G : Disks D) (begun : Begun) (held after : Option Gathered) (n : ℕ) (r : Result Round RoundFault) → r ≡ Err round.Aborted → CommitsRound G begun held after n r
 lost-round G begun held after n r is = subst (λ (x : Result Round RoundFault). CommitsRound G begun held after n x) (sym is) tt
 
+pub lost-idle : {H N : Type 0} {O : Ghosts H} {P : Places H} (old new : Seat H N O P) (r : Result Round RoundFault) → r ≡ Err round.Aborted → IdleKeeps old new r
+lost-idle old new r is = subst (λ (x : Result Round RoundFault). IdleKeeps old new x) (sym is) tt
+
 -- ---- a raise
 
 -- a count that was raised is at least so high
 pub reached : (old count : ℕ) → count ≤ max old count
 reached old count = omega arith
+
+-- so are the settled ones of a seat that has raised them
+pub settled-by : (old new : Front) (count : ℕ) → new ≡ raised_settled old count → count ≤ new.settled
+settled-by old new count is = subst (λ (f : Front). count ≤ f.settled) (sym is) (reached old.settled count)
+
+-- ---- a seat that is as it was
+
+pub keeps-same : {H N : Type 0} {O : Ghosts H} {P : Places H} (old new : Seat H N O P) → new ≡ old → KeepsSeat old new
+keeps-same {H} {N} {O} {P} old new is = record {
+  desk = ap (λ (s : Seat H N O P). desk_of s) is;
+  number = ap (λ (s : Seat H N O P). seat_number s) is;
+  counted = (ap (λ (s : Seat H N O P). stops s) is, ap (λ (s : Seat H N O P). changes s) is, ap (λ (s : Seat H N O P). made_by s) is);
+}

@@ -5,6 +5,7 @@ pub mod Ends
 pub mod History
 pub mod Journal
 pub mod Marks
+pub mod Out
 pub mod Parts
 pub mod Progress
 pub mod Refusals

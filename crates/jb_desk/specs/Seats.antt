@@ -1,5 +1,6 @@
 -- What contracts say of a seat and of what it leaves: which board it is of, what it has seen, and what it has counted.
-use Rattle.std.specs.Prelude.{◌≡◌, ℕ, List}
+use Rattle.std.specs.Prelude.{◌≡◌, ℕ, ◌^◌, ◌≤◌, List}
+use Rattle.std.specs.List.{sum_by}
 use Rattle.jb_handle.specs.Word.{WordMap}
 use Rattle.jb_board.specs.Seats.{BoardId, seat_board, seat_view}
 use Rattle.jb_board.specs.declared.front.Front.{Front}
@@ -47,3 +48,16 @@ made_left l = l.made
 -- the same handles stopped with the seat before and after
 abbrev pub KeepsStops : {H N : Type 0} {O : Ghosts H} {P : Places H} → Seat H N O P → Seat H N O P → Type 0
 KeepsStops old new = (stops new ≡ stops old) × (changes new ≡ changes old) × (made_by new ≡ made_by old)
+
+-- the seat is the same but for what it is sure of: it has its desk and its number, and the same handles stopped with it
+pub record KeepsSeat {H N : Type 0} {O : Ghosts H} {P : Places H} (old new : Seat H N O P) : Type 0 where
+  pub desk : desk_of new ≡ desk_of old
+  pub number : seat_number new ≡ seat_number old
+  pub counted : KeepsStops old new
+
+-- what seats have left adds up to so many handles, and to so many home blocks that these had touched; neither is above 2 ^ 61
+pub record AddsUp {H N : Type 0} {O : Ghosts H} {P : Places H} (lefts : List (Left H N O P)) (handles touched : ℕ) : Type 0 where
+  pub all_handles : handles ≡ sum_by stops_left lefts
+  pub all_touched : touched ≡ sum_by changes_left lefts
+  pub few_handles : handles ≤ 2 ^ 61
+  pub few_touched : touched ≤ 2 ^ 61

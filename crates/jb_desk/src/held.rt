@@ -1,5 +1,5 @@
 //! A batch that a committer holds.
-ghost use Rattle.std.specs.Prelude.{◌≡◌, ◌+◌, ◌<◌, ◌≤◌, length, All};
+ghost use Rattle.std.specs.Prelude.{◌≡◌};
 
 use crate::counter::Seen;
 use jb_board::{Sight, Tickets};
@@ -21,13 +21,10 @@ pub struct Held<S: Origin> {
 
 impl<S: Origin> Model for Held<S> {
     ghost use Rattle.std.specs.Coded.{codes};
-    ghost use Rattle.std.specs.Prelude.{◌+◌, ◌<◌, ◌≤◌, length, All};
     ghost use Rattle.jb_board.specs.Seats.{given_by};
     ghost use Rattle.jb_handle.specs.Word.{words_code};
     ghost use Rattle.jb_plan.specs.Batch.{Gathered};
-    ghost use Rattle.jb_plan.specs.Costs.{HasCut};
-    ghost use Rattle.jb_book.specs.Led.{IsInHistory};
-    ghost use Rattle.jb_book.specs.Origin.{AreStops};
+    ghost use Rattle.jb_desk.specs.Out.{IsOut};
 
     ghost Value = { Gathered };
 
@@ -35,19 +32,12 @@ impl<S: Origin> Model for Held<S> {
 
     ghost view = { λ h. h.batch };
 
-    ghost invariant = { λ h. AreStops S.begun h.batch.handles
-        × (0 < length h.batch.handles)
-        × HasCut h.batch.shape h.batch.handles
-        × (h.batch.first + length h.batch.handles ≤ given_by h.tickets)
-        × (h.batch.first + length h.batch.handles ≤ h.seen.taken)
-        × All (IsInHistory h.sight) h.batch.handles };
+    ghost invariant = { λ h. IsOut S.begun h.batch (given_by h.tickets) h.sight h.seen.taken };
 }
 
 impl<S: Origin> Held<S> {
     ghost use Rattle.jb_board.specs.Seats.{given_by};
-    ghost use Rattle.jb_plan.specs.Costs.{HasCut};
-    ghost use Rattle.jb_book.specs.Led.{IsInHistory};
-    ghost use Rattle.jb_book.specs.Origin.{AreStops};
+    ghost use Rattle.jb_desk.specs.Out.{IsOut};
 
     /// A batch to be held.
     pub(crate) fn of(
@@ -56,12 +46,7 @@ impl<S: Origin> Held<S> {
         sight: Sight<Words, S>,
         seen: Seen,
     ) -> Held<S>
-        requires stops { AreStops S.begun batch.handles }
-        requires some { 0 < length batch.handles }
-        requires cut { HasCut batch.shape batch.handles }
-        requires given { batch.first + length batch.handles ≤ given_by tickets }
-        requires taken { batch.first + length batch.handles ≤ seen.taken }
-        requires history { All (IsInHistory sight) batch.handles }
+        requires { IsOut S.begun batch (given_by tickets) sight seen.taken }
         ensures { result ≡ batch }
     {
         Held {
@@ -75,12 +60,7 @@ impl<S: Origin> Held<S> {
     /// The batch again, that its tickets were given, what has its handles, and that it was taken.
     pub(crate) fn end(self) -> (Batch, Tickets<S>, Sight<Words, S>, Seen)
         ensures batch { result.0 ≡ self }
-        ensures stops { AreStops S.begun result.0.handles }
-        ensures some { 0 < length result.0.handles }
-        ensures cut { HasCut result.0.shape result.0.handles }
-        ensures given { result.0.first + length result.0.handles ≤ given_by result.1 }
-        ensures taken { result.0.first + length result.0.handles ≤ result.3.taken }
-        ensures history { All (IsInHistory result.2) result.0.handles }
+        ensures out { IsOut S.begun result.0 (given_by result.1) result.2 result.3.taken }
     {
         let Held {
             batch,

@@ -1,5 +1,5 @@
 //! What seats have left is put together.
-ghost use Rattle.std.specs.Prelude.{◌≡◌, ℕ, ◌+◌, ◌≤◌, ◌^◌, length, map, vec_len};
+ghost use Rattle.std.specs.Prelude.{◌≡◌, ℕ, ◌+◌, ◌≤◌, length, map, vec_len};
 ghost use Rattle.std.specs.List.{sum_by};
 ghost use Rattle.jb_cost.specs.Pieces.{joined};
 ghost use Rattle.jb_deck.specs.Done.{Follow, start_of};
@@ -48,6 +48,7 @@ impl<D: Disk, H: Origin, N: Ledger> Counter<D, H, N> {
     ghost use Rattle.jb_book.specs.Marks.{HasShapeMark};
     ghost use Rattle.jb_book.specs.History.{AreAllStops};
     ghost use Rattle.jb_desk.specs.Parts.{ledger_parts};
+    ghost use Rattle.jb_desk.specs.Seats.{AddsUp};
 
     /// Takes it apart where every seat that was given has left: into the book's trail, how many handles
     /// stopped and how many blocks they had touched, which are the sums over what the seats left, the history, which
@@ -66,11 +67,10 @@ impl<D: Disk, H: Origin, N: Ledger> Counter<D, H, N> {
     )
         requires parts { (H.parts ≡ ledger_parts) × (N.parts ≡ ledger_parts) }
         requires all { vec_len lefts ≡ self.given }
-        ensures trail { result.0.items ≡ self.register.book.trail }
+        ensures book { (result.0.items ≡ self.register.book.trail) × (result.1 ≡ self.register.book.shadow.next)
+            × (result.2 ≡ self.register.book.changes) }
         ensures tiles { (past : ℕ) × Follow (start_of result.0.items) 0 past result.0.items × (past ≤ result.1) }
-        ensures handles { (result.1 ≡ self.register.book.shadow.next) × (result.1 ≡ sum_by stops_left lefts.items) }
-        ensures changes { (result.2 ≡ self.register.book.changes) × (result.2 ≡ sum_by changes_left lefts.items) }
-        ensures few { (result.1 ≤ 2 ^ 61) × (result.2 ≤ 2 ^ 61) }
+        ensures sums { AddsUp lefts.items result.1 result.2 }
         ensures history { (length result.3 ≡ result.1) × AreAllStops result.3 (joined (map made_left lefts.items)) }
         ensures run { IsMachineRun self.register.book.shape result.3 result.0.items }
         ensures journal { HasShapeMark result.4 self.register.book.shape }

@@ -2,12 +2,11 @@
 ghost use Rattle.std.specs.Prelude.{◌≡◌, ℕ, ◌+◌, ◌≤◌, ◌^◌, IfOk, IfErr, vec_len, map};
 ghost use Rattle.std.specs.List.{sum_by};
 ghost use Rattle.jb_deck.specs.Done.{Follow, start_of};
-ghost use Rattle.jb_desk.specs.Seats.{stops_left, changes_left, made_left};
+ghost use Rattle.jb_desk.specs.Seats.{AddsUp, made_left};
 ghost use Rattle.jb_book.specs.History.{CameAbout};
 ghost use Rattle.jb_book.specs.SinceMark.{EndsMarked};
 ghost use Rattle.jb_desk.specs.Closing.{DiffersAs};
 ghost use Rattle.jb_desk.specs.Parts.{ledger_parts};
-ghost use Rattle.jb_book.specs.Since.{EndsSince};
 
 use crate::counter::Counter;
 use crate::desk::Desk;
@@ -145,19 +144,16 @@ fn close_parts<D: Disk + Drop, C: Clock, H: Origin, N: Ledger>(
 ) -> Result<Closed<D, C>, CloseFault<D, C, H, N>>
     requires parts { (H.parts ≡ ledger_parts) × (N.parts ≡ ledger_parts) }
     requires all { vec_len lefts ≡ counter.given }
-    ensures handles { IfOk result (λ closed. ((closed.handles ≡ sum_by stops_left lefts.items)
-        × (closed.handles ≤ 2 ^ 61)) × (closed.handles ≡ counter.register.book.shadow.next)) }
-    ensures changes { IfOk result (λ closed. ((closed.changes ≡ sum_by changes_left lefts.items)
-        × (closed.changes ≤ 2 ^ 61)) × (closed.changes ≡ counter.register.book.changes)) }
+    ensures sums { IfOk result (λ closed. AddsUp lefts.items closed.handles closed.changes) }
     ensures tiles { IfOk result (λ closed. (past : ℕ) × Follow (start_of closed.trail.items) 0 past closed.trail.items
         × (past ≤ closed.handles)) }
-    ensures since { IfOk result (λ closed. EndsSince D.Disk H.begun closed.disk closed.trail.items) }
     ensures stops { IfOk result (λ closed. EndsMarked D.Disk H.begun (map made_left lefts.items) closed.handles
         closed.shape closed.disk closed.trail.items seen.stops seen.marks) }
     ensures came { IfOk result (λ closed. CameAbout D.Disk H.begun (map made_left lefts.items) closed.shape
         closed.disk closed.trail.items) }
     ensures given { IfOk result (λ closed. (closed.disk ≡ works.deck.disk) × (closed.clock ≡ works.clock)
-        × (closed.trail.items ≡ counter.register.book.trail) × (closed.trail.items ≡ works.deck.trail)) }
+        × (closed.trail.items ≡ works.deck.trail) × (closed.trail.items ≡ counter.register.book.trail)
+        × (closed.handles ≡ counter.register.book.shadow.next) × (closed.changes ≡ counter.register.book.changes)) }
     ensures refused { IfErr result (DiffersAs counter works) }
 {
     let (trail, handles, changes, mut scribe, mut known) = counter.totals(&histories.stops, lefts);

@@ -1,7 +1,6 @@
 //! Batches are committed, one in each round of a committer.
-ghost use Rattle.std.specs.Prelude.{◌≡◌, ◌+◌, ◌<◌, ◌≤◌, length, None, Some, All, IfErr, OnOk};
+ghost use Rattle.std.specs.Prelude.{◌≡◌, ◌+◌, ◌≤◌, length, None, Some, All, IfErr, OnOk};
 ghost use Rattle.jb_deck.specs.Done.{first_ticket, entries_of, past_after};
-ghost use Rattle.jb_plan.specs.Prepared.{IsPlanned};
 ghost use Rattle.jb_desk.specs.Seats.{view_of};
 
 use crate::committer::{Committer, Round, RoundFault};
@@ -22,10 +21,10 @@ impl<D: Disk, C: Clock, H: Origin, N: Ledger> Desk<D, C, H, N> {
     ghost use Rattle.jb_desk.specs.Journal.{CommitsRound};
     ghost use Rattle.jb_book.specs.Rounds.{end_of as end_in};
     ghost use Rattle.jb_desk.specs.Rounds.{seat_of, held_by, AnswersRound, IdleKeeps};
-    ghost use Rattle.jb_desk.specs.Seats.{KeepsStops, seat_number, desk_of};
-    ghost use Rattle.jb_book.specs.Led.{IsInHistory, IsSettling};
+    ghost use Rattle.jb_desk.specs.Seats.{KeepsSeat, KeepsStops, seat_number, desk_of};
+    ghost use Rattle.jb_desk.specs.Out.{IsOut};
+    ghost use Rattle.jb_book.specs.Led.{IsSettling};
     ghost use Rattle.jb_book.specs.Marks.{HasFailedMark, IsMarked, SeesSame};
-    ghost use Rattle.jb_book.specs.Origin.{AreStops};
     ghost use Rattle.jb_desk.specs.Views.{SeesCommit, SeesRound};
     ghost use Rattle.jb_board.specs.Seats.{given_by};
     ghost use Rattle.jb_board.specs.Steps.{raised_settled};
@@ -92,24 +91,19 @@ impl<D: Disk, C: Clock, H: Origin, N: Ledger> Desk<D, C, H, N> {
     ) -> Result<Round, RoundFault>
         requires desk { desk_of (seat_of committer.old) ≡ desk_id self.now }
         requires free { held_by committer.old ≡ None }
-        requires planned { IsPlanned prepared }
-        requires stops { AreStops H.begun prepared.batch.handles }
-        requires some { 0 < length prepared.batch.handles }
+        requires out { IsOut H.begun prepared.batch (given_by held.0) held.1 held.2.taken }
         requires taken { end_in prepared.batch ≤ (view_of (seat_of committer.old)).taken }
-        requires given { end_in prepared.batch ≤ given_by held.0 }
-        requires was_taken { end_in prepared.batch ≤ held.2.taken }
-        requires history { All (IsInHistory held.1) prepared.batch.handles }
-        ensures desk { (desk_of (seat_of committer.new) ≡ desk_of (seat_of committer.old))
-            × (seat_number (seat_of committer.new) ≡ seat_number (seat_of committer.old)) }
+        ensures seat { KeepsSeat (seat_of committer.old) (seat_of committer.new) }
         ensures answers { AnswersRound (Some prepared.batch) (held_by committer.new)
             (view_of (seat_of committer.new)).settled result }
         ensures view { SeesCommit prepared.batch (view_of (seat_of committer.old)) (view_of (seat_of committer.new))
             result }
-        ensures counted { KeepsStops (seat_of committer.old) (seat_of committer.new) }
         ensures round { CommitsRound D.Disk H.begun (Some prepared.batch) (held_by committer.new)
             (view_of (seat_of committer.new)).settled result }
     {
         let (tickets, sight, taken) = held;
+        // for the proof alone: only the clause of this method says that the cut is a least one
+        let _groups = prepared.groups();
         let end = past(prepared.batch());
         let shape = prepared.batch().shape();
         // bound first, so that the lock is free again before the book's is taken
@@ -162,13 +156,10 @@ impl<D: Disk, C: Clock, H: Origin, N: Ledger> Desk<D, C, H, N> {
         requires settling { IsSettling seen.old.stops end shape done.now }
         requires marked { All (IsMarked seen.old.marks) (entries_of done.now) }
         requires taken { past_after (first_ticket done.now) (entries_of done.now) ≤ (view_of seat.old).taken }
-        ensures desk { (desk_of seat.new ≡ desk_of seat.old) × (seat_number seat.new ≡ seat_number seat.old) }
-        ensures settled { OnOk result (past_after (first_ticket done.now)
-            (entries_of done.now) ≤ (view_of seat.new).settled) }
+        ensures seat { KeepsSeat seat.old seat.new }
         ensures view { OnOk result (view_of seat.new ≡ raised_settled (view_of seat.old)
             (past_after (first_ticket done.now) (entries_of done.now))) }
         ensures failed { IfErr result (λ fault. (fault ≡ Aborted) × (seat.new ≡ seat.old)) }
-        ensures counted { KeepsStops seat.old seat.new }
     {
         let mut counter = self.counter.lock(rt);
         let settled = counter.settle(&self.histories, seen, done, end, shape);
@@ -200,13 +191,10 @@ impl<D: Disk, C: Clock, H: Origin, N: Ledger> Desk<D, C, H, N> {
         requires marked { All (IsMarked seen.old.marks) (entries_of done.now) }
         requires failed { HasFailedMark seen.old.marks }
         requires taken { past_after (first_ticket done.now) (entries_of done.now) ≤ (view_of seat.old).taken }
-        ensures desk { (desk_of seat.new ≡ desk_of seat.old) × (seat_number seat.new ≡ seat_number seat.old) }
-        ensures settled { OnOk result (past_after (first_ticket done.now)
-            (entries_of done.now) ≤ (view_of seat.new).settled) }
+        ensures seat { KeepsSeat seat.old seat.new }
         ensures view { OnOk result (view_of seat.new ≡ raised_settled (view_of seat.old)
             (past_after (first_ticket done.now) (entries_of done.now))) }
         ensures failed { IfErr result (λ fault. (fault ≡ Aborted) × (seat.new ≡ seat.old)) }
-        ensures counted { KeepsStops seat.old seat.new }
     {
         let mut counter = self.counter.lock(rt);
         let settled = counter.settle_last(&self.histories, seen, done, end, shape);

@@ -1,40 +1,62 @@
-use Rattle.std.proofs.Common.{rules, ◌≡◌, IfOk, Err, Some, Result, refl, ap, subst, ◌∙◌, arith}
+use Rattle.std.proofs.Common.{rules, ℕ, All, ◌≡◌, ◌<◌, List, Option, Some, Err, Result, length, refl, ap, sym, subst, ◌∙◌, arith}
+use Rattle.jb_handle.specs.Word.{WordMap}
+use Rattle.jb_plan.specs.Batch.{Gathered}
+use Rattle.jb_plan.specs.Prepared.{Planned}
+use Rattle.jb_disk.specs.declared.disk.Disk.{Ghosts as Disks}
 use Rattle.jb_board.specs.Steps.{raised_settled}
 use Rattle.jb_deck.specs.declared.batched.BatchFault.{BatchFault}
 use Rattle.jb_deck.specs.declared.batched.BatchFault.TheVariants.{DeviceFault, WrongTicket, OtherShape, NumbersSpent}
 use Rattle.jb_deck.specs.declared.done.Done.{Done}
-use Rattle.jb_book.specs.Tied.{TellsFirst}
-use Rattle.jb_book.specs.Journal.{FailsAs, IsRound}
-use Rattle.jb_book.specs.SinceMark.{MarksSettled}
+use Rattle.jb_book.specs.Journal.{EndsRound, RefusesRound}
+use Rattle.jb_book.specs.Led.{IsInHistory}
+use Rattle.jb_book.specs.Origin.{Begun}
 use Rattle.jb_book.specs.Rounds.{CommitsAs}
-use Rattle.jb_desk.specs.Rounds.{held_by, seat_of}
-use Rattle.jb_desk.specs.Seats.{changes, desk_of, made_by, seat_number, stops, view_of}
+use Rattle.jb_book.specs.SinceMark.{MarksSettled}
+use Rattle.jb_book.specs.Tied.{TellsFirst}
+use Rattle.jb_desk.specs.Journal.{CommitsRound}
+use Rattle.jb_desk.specs.Out.{IsOut}
+use Rattle.jb_desk.specs.Rounds.{seat_of}
+use Rattle.jb_desk.specs.Seats.{view_of}
+use Rattle.jb_desk.specs.declared.committer.RoundFault.TheVariants as round
 use Rattle.jb_desk.proofs.Rounds.{settles-whole, whole-past}
+use Rattle.jb_desk.proofs.Seen.{keeps-same, settled-by}
 use Rattle.jb_desk.proofs.desk.Desk.commit.Goals as goal
 
-pub settle-requires-clause-taken : goal.settle-requires-clause-taken
-settle-requires-clause-taken g c =
-    let told = subst (CommitsAs c.args.prepared) c.in-Ok.is c.commit-result.ensures.tells.0 in
-    let past = whole-past c.args.prepared c.in-Ok.done told in
-    let taken = c.requires.taken in
-    omega (arith, past, taken)
+-- a batch that is handed back as it was is out as it was
+out-on : (b : Begun) (batch back : Gathered) (given taken : ℕ) (sight seen : List WordMap) → back ≡ batch → seen ≡ sight → IsOut b batch given sight taken → IsOut b back given seen taken
+out-on b batch back given taken sight seen same kept out = subst (λ (x : Gathered × List WordMap). IsOut b x.0 given x.1 taken) (λ i. (sym same i, sym kept i)) out
 
-pub settle-requires-clause-settling : goal.settle-requires-clause-settling
-settle-requires-clause-settling g c =
-    let told = subst (CommitsAs c.args.prepared) c.in-Ok.is c.commit-result.ensures.tells.0 in
+-- a batch that the journal does not take is held again
+held-on : {D : Type 0} (G : Disks D) (b : Begun) (p : Planned) (r : Result Done BatchFault) (found fault : BatchFault) (after : Option Gathered) (n : ℕ)
+    → r ≡ Err found → found ≡ fault → (EndsRound G b p (Err fault) → RefusesRound G b p fault) → 0 < length p.batch.handles → after ≡ Some p.batch → EndsRound G b p r
+    → CommitsRound G b (Some p.batch) after n (Err round.Refused)
+held-on G b p r found fault after n fails is refuses some again ends =
+    (p, fault, record { same = refl; some = some }, again, refuses (subst (λ (f : BatchFault). EndsRound G b p (Err f)) is (subst (EndsRound G b p) fails ends)))
+
+pub settle-requires : goal.settle-requires
+settle-requires g c =
+    let p = c.args.prepared in
+    let told = subst (CommitsAs p) c.in-Ok.is c.commit-result.ensures.tells.0 in
+    let past = whole-past p c.in-Ok.done told in
+    let taken = c.requires.taken in
     record {
-      planned = c.args.prepared;
-      is = c.requires.planned;
-      shape_is = search rules;
-      tickets = c.commit-result.ensures.tells.2;
-      recorded = search rules;
-      first = told.0;
-      past = search rules;
-      tells = subst (TellsFirst c.args.prepared) c.in-Ok.is c.commit-result.ensures.tells.1;
+      desk = c.requires.desk;
+      settling = record {
+        planned = p;
+        is = c.groups-groups.ensures.least;
+        shape_is = search rules;
+        tickets = c.commit-result.ensures.tells.2;
+        recorded = subst (λ (l : List WordMap). All (IsInHistory l) p.batch.handles) (sym c.commit-result.ensures.stops) c.requires.out.recorded;
+        first = told.0;
+        past = search rules;
+        tells = subst (TellsFirst p) c.in-Ok.is c.commit-result.ensures.tells.1;
+      };
+      marked = subst (MarksSettled c.commit-result.result.1.marks) c.in-Ok.is c.commit-result.ensures.marked;
+      taken = omega (arith, past, taken);
     }
 
-pub settle-requires-clause-marked : goal.settle-requires-clause-marked
-settle-requires-clause-marked g c = subst (MarksSettled c.commit-result.result.1.marks) c.in-Ok.is c.commit-result.ensures.marked
+pub settle_last-requires-clause-desk : goal.settle_last-requires-clause-desk
+settle_last-requires-clause-desk g c = c.requires.desk
 
 pub settle_last-requires-clause-settling : goal.settle_last-requires-clause-settling
 settle_last-requires-clause-settling g c =
@@ -43,164 +65,97 @@ settle_last-requires-clause-settling g c =
     let told = subst (λ (f : BatchFault). CommitsAs p (Err f)) is (subst (CommitsAs p) c.in-Err-DeviceFault.is c.commit-result.ensures.tells.0) in
     record {
       planned = p;
-      is = c.requires.planned;
+      is = c.groups-groups.ensures.least;
       shape_is = search rules;
       tickets = c.commit-result.ensures.tells.2;
-      recorded = search rules;
+      recorded = subst (λ (l : List WordMap). All (IsInHistory l) p.batch.handles) (sym c.commit-result.ensures.stops) c.requires.out.recorded;
       first = told.0;
       past = search rules;
       tells = subst (λ (f : BatchFault). TellsFirst p (Err f)) is (subst (TellsFirst p) c.in-Err-DeviceFault.is c.commit-result.ensures.tells.1);
     }
 
-pub returns-in_ok-settle-in-Ok-clause-answers : goal.returns-in_ok-settle-in-Ok-clause-answers
-returns-in_ok-settle-in-Ok-clause-answers g c =
-    let told = subst (CommitsAs c.args.prepared) c.in-Ok.is c.commit-result.ensures.tells.0 in
-    (c.requires.free, settles-whole c.args.prepared c.in-Ok.done (view_of c.settle.new.seat).settled c.requires.some told c.in_ok-settle-in-Ok.ensures.settled)
-
-pub returns-in_ok-settle-in-Ok-clause-view : goal.returns-in_ok-settle-in-Ok-clause-view
-returns-in_ok-settle-in-Ok-clause-view g c =
-    let told = subst (CommitsAs c.args.prepared) c.in-Ok.is c.commit-result.ensures.tells.0 in
-    c.in_ok-settle-in-Ok.ensures.view ∙ ap (raised_settled (view_of (seat_of c.args.committer.now))) (whole-past c.args.prepared c.in-Ok.done told)
-
-pub returns-in_ok-settle-in-Ok-clause-round : goal.returns-in_ok-settle-in-Ok-clause-round
-returns-in_ok-settle-in-Ok-clause-round g c =
+pub returns-in_ok-settle-in-Ok : goal.returns-in_ok-settle-in-Ok
+returns-in_ok-settle-in-Ok g c =
     let p = c.args.prepared in
-    (p, record { same = refl; some = c.requires.some }, subst (λ (r : Result Done BatchFault). IfOk r (IsRound g.D.Disk g.H.Origin.begun p)) c.in-Ok.is c.commit-result.ensures.round)
+    let now = view_of c.settle.new.seat in
+    let told = subst (CommitsAs p) c.in-Ok.is c.commit-result.ensures.tells.0 in
+    record {
+      seat = c.settle.ensures.seat;
+      answers = (c.requires.free, settles-whole p c.in-Ok.done now.settled c.requires.out.some told (settled-by _ now _ c.in_ok-settle-in-Ok.ensures.view));
+      view = c.in_ok-settle-in-Ok.ensures.view ∙ ap (raised_settled (view_of (seat_of c.args.committer.now))) (whole-past p c.in-Ok.done told);
+      round = (p, record { same = refl; some = c.requires.out.some }, subst (EndsRound g.D.Disk g.H.Origin.begun p) c.in-Ok.is c.commit-result.ensures.round);
+    }
+
+pub returns-in_err-settle-in-Ok-clause-seat : goal.returns-in_err-settle-in-Ok-clause-seat
+returns-in_err-settle-in-Ok-clause-seat g c = c.settle.ensures.seat
+
+pub returns-in_ok-settle_last-in-Err-DeviceFault-clause-seat : goal.returns-in_ok-settle_last-in-Err-DeviceFault-clause-seat
+returns-in_ok-settle_last-in-Err-DeviceFault-clause-seat g c = c.settle_last.ensures.seat
+
+pub returns-in_ok-settle_last-in-Err-DeviceFault-clause-answers : goal.returns-in_ok-settle_last-in-Err-DeviceFault-clause-answers
+returns-in_ok-settle_last-in-Err-DeviceFault-clause-answers g c = c.requires.free
 
 pub returns-in_ok-settle_last-in-Err-DeviceFault-clause-round : goal.returns-in_ok-settle_last-in-Err-DeviceFault-clause-round
 returns-in_ok-settle_last-in-Err-DeviceFault-clause-round g c =
     let p = c.args.prepared in
-    let Fails = λ (r : Result Done BatchFault). FailsAs g.D.Disk g.H.Origin.begun p r in
+    let Ends = λ (r : Result Done BatchFault). EndsRound g.D.Disk g.H.Origin.begun p r in
     let is : c.in-Err-DeviceFault.field-0 ≡ DeviceFault c.in-Err-DeviceFault.settled = search rules in (
       p,
       c.in-Err-DeviceFault.settled,
-      record { same = refl; some = c.requires.some },
-      subst (λ (f : BatchFault). Fails (Err f)) is (subst Fails c.in-Err-DeviceFault.is c.commit-result.ensures.failed),
-      c.in_ok-settle_last-in-Err-DeviceFault.ensures.settled,
+      record { same = refl; some = c.requires.out.some },
+      subst (λ (f : BatchFault). Ends (Err f)) is (subst Ends c.in-Err-DeviceFault.is c.commit-result.ensures.round),
+      settled-by _ (view_of c.settle_last.new.seat) _ c.in_ok-settle_last-in-Err-DeviceFault.ensures.view,
     )
 
-pub returns-in-Err-WrongTicket-clause-round : goal.returns-in-Err-WrongTicket-clause-round
-returns-in-Err-WrongTicket-clause-round g c =
-    let p = c.args.prepared in
-    let Fails = λ (r : Result Done BatchFault). FailsAs g.D.Disk g.H.Origin.begun p r in
-    let fault : BatchFault = WrongTicket c.in-Err-WrongTicket.prepared c.in-Err-WrongTicket.field-0-1 in
-    let is : c.in-Err-WrongTicket.field-0 ≡ fault = search rules in
-    let held : held_by c.hold-in-Err-WrongTicket.new.self ≡ Some p.batch = search rules in
-    (p, fault, record { same = refl; some = c.requires.some }, held, subst (λ (f : BatchFault). Fails (Err f)) is (subst Fails c.in-Err-WrongTicket.is c.commit-result.ensures.failed))
+pub returns-in_err-settle_last-in-Err-DeviceFault-clause-seat : goal.returns-in_err-settle_last-in-Err-DeviceFault-clause-seat
+returns-in_err-settle_last-in-Err-DeviceFault-clause-seat g c = c.settle_last.ensures.seat
 
-pub returns-in-Err-OtherShape-clause-round : goal.returns-in-Err-OtherShape-clause-round
-returns-in-Err-OtherShape-clause-round g c =
-    let p = c.args.prepared in
-    let Fails = λ (r : Result Done BatchFault). FailsAs g.D.Disk g.H.Origin.begun p r in
-    let fault : BatchFault = OtherShape c.in-Err-OtherShape.prepared in
-    let is : c.in-Err-OtherShape.field-0 ≡ fault = search rules in
-    let held : held_by c.hold-in-Err-OtherShape.new.self ≡ Some p.batch = search rules in
-    (p, fault, record { same = refl; some = c.requires.some }, held, subst (λ (f : BatchFault). Fails (Err f)) is (subst Fails c.in-Err-OtherShape.is c.commit-result.ensures.failed))
+pub returns-in-Err-Aborted : goal.returns-in-Err-Aborted
+returns-in-Err-Aborted g c = record { seat = keeps-same _ _ refl; answers = c.requires.free; view = refl; round = tt }
 
-pub returns-in-Err-NumbersSpent-clause-round : goal.returns-in-Err-NumbersSpent-clause-round
-returns-in-Err-NumbersSpent-clause-round g c =
-    let p = c.args.prepared in
-    let Fails = λ (r : Result Done BatchFault). FailsAs g.D.Disk g.H.Origin.begun p r in
-    let fault : BatchFault = NumbersSpent c.in-Err-NumbersSpent.prepared in
-    let is : c.in-Err-NumbersSpent.field-0 ≡ fault = search rules in
-    let held : held_by c.hold-in-Err-NumbersSpent.new.self ≡ Some p.batch = search rules in
-    (p, fault, record { same = refl; some = c.requires.some }, held, subst (λ (f : BatchFault). Fails (Err f)) is (subst Fails c.in-Err-NumbersSpent.is c.commit-result.ensures.failed))
+pub of-requires : goal.of-requires
+of-requires g c = out-on g.H.Origin.begun _ _ _ _ _ _ (search rules) c.commit-result.ensures.stops c.requires.out
 
-pub returns-in-Err-Memory-clause-desk : goal.returns-in-Err-Memory-clause-desk
-returns-in-Err-Memory-clause-desk g c = (ap (λ s. desk_of s) c.hold.ensures.0, ap (λ s. seat_number s) c.hold.ensures.0)
+pub returns-in-Err-Memory : goal.returns-in-Err-Memory
+returns-in-Err-Memory g c = record {
+  seat = keeps-same _ _ c.hold.ensures.0;
+  answers = search rules;
+  view = ap (λ s. view_of s) c.hold.ensures.0;
+  round = tt;
+}
 
-pub returns-in-Err-Memory-clause-view : goal.returns-in-Err-Memory-clause-view
-returns-in-Err-Memory-clause-view g c = ap (λ s. view_of s) c.hold.ensures.0
+pub of-requires-in-Err-WrongTicket : goal.of-requires-in-Err-WrongTicket
+of-requires-in-Err-WrongTicket g c = out-on g.H.Origin.begun _ _ _ _ _ _ (search rules) c.commit-result.ensures.stops c.requires.out
 
-pub returns-in-Err-Memory-clause-counted : goal.returns-in-Err-Memory-clause-counted
-returns-in-Err-Memory-clause-counted g c = (ap (λ s. stops s) c.hold.ensures.0, ap (λ s. changes s) c.hold.ensures.0, ap (λ s. made_by s) c.hold.ensures.0)
+pub returns-in-Err-WrongTicket : goal.returns-in-Err-WrongTicket
+returns-in-Err-WrongTicket g c = record {
+  seat = keeps-same _ _ c.hold-in-Err-WrongTicket.ensures.0;
+  answers = search rules;
+  view = ap (λ s. view_of s) c.hold-in-Err-WrongTicket.ensures.0;
+  round = held-on g.D.Disk g.H.Origin.begun c.args.prepared _ _ (WrongTicket c.in-Err-WrongTicket.prepared c.in-Err-WrongTicket.field-0-1) _ 0 c.in-Err-WrongTicket.is (search rules)
+      (λ refuses. refuses) c.requires.out.some (search rules) c.commit-result.ensures.round;
+}
 
-pub returns-in-Err-WrongTicket-clause-desk : goal.returns-in-Err-WrongTicket-clause-desk
-returns-in-Err-WrongTicket-clause-desk g c = (ap (λ s. desk_of s) c.hold-in-Err-WrongTicket.ensures.0, ap (λ s. seat_number s) c.hold-in-Err-WrongTicket.ensures.0)
+pub of-requires-in-Err-OtherShape : goal.of-requires-in-Err-OtherShape
+of-requires-in-Err-OtherShape g c = out-on g.H.Origin.begun _ _ _ _ _ _ (search rules) c.commit-result.ensures.stops c.requires.out
 
-pub returns-in-Err-WrongTicket-clause-view : goal.returns-in-Err-WrongTicket-clause-view
-returns-in-Err-WrongTicket-clause-view g c = ap (λ s. view_of s) c.hold-in-Err-WrongTicket.ensures.0
+pub returns-in-Err-OtherShape : goal.returns-in-Err-OtherShape
+returns-in-Err-OtherShape g c = record {
+  seat = keeps-same _ _ c.hold-in-Err-OtherShape.ensures.0;
+  answers = search rules;
+  view = ap (λ s. view_of s) c.hold-in-Err-OtherShape.ensures.0;
+  round = held-on g.D.Disk g.H.Origin.begun c.args.prepared _ _ (OtherShape c.in-Err-OtherShape.prepared) _ 0 c.in-Err-OtherShape.is (search rules)
+      (λ refuses. refuses) c.requires.out.some (search rules) c.commit-result.ensures.round;
+}
 
-pub returns-in-Err-WrongTicket-clause-counted : goal.returns-in-Err-WrongTicket-clause-counted
-returns-in-Err-WrongTicket-clause-counted g c = (ap (λ s. stops s) c.hold-in-Err-WrongTicket.ensures.0, ap (λ s. changes s) c.hold-in-Err-WrongTicket.ensures.0, ap (λ s. made_by s) c.hold-in-Err-WrongTicket.ensures.0)
+pub of-requires-in-Err-NumbersSpent : goal.of-requires-in-Err-NumbersSpent
+of-requires-in-Err-NumbersSpent g c = out-on g.H.Origin.begun _ _ _ _ _ _ (search rules) c.commit-result.ensures.stops c.requires.out
 
-pub returns-in-Err-OtherShape-clause-desk : goal.returns-in-Err-OtherShape-clause-desk
-returns-in-Err-OtherShape-clause-desk g c = (ap (λ s. desk_of s) c.hold-in-Err-OtherShape.ensures.0, ap (λ s. seat_number s) c.hold-in-Err-OtherShape.ensures.0)
-
-pub returns-in-Err-OtherShape-clause-view : goal.returns-in-Err-OtherShape-clause-view
-returns-in-Err-OtherShape-clause-view g c = ap (λ s. view_of s) c.hold-in-Err-OtherShape.ensures.0
-
-pub returns-in-Err-OtherShape-clause-counted : goal.returns-in-Err-OtherShape-clause-counted
-returns-in-Err-OtherShape-clause-counted g c = (ap (λ s. stops s) c.hold-in-Err-OtherShape.ensures.0, ap (λ s. changes s) c.hold-in-Err-OtherShape.ensures.0, ap (λ s. made_by s) c.hold-in-Err-OtherShape.ensures.0)
-
-pub returns-in-Err-NumbersSpent-clause-desk : goal.returns-in-Err-NumbersSpent-clause-desk
-returns-in-Err-NumbersSpent-clause-desk g c = (ap (λ s. desk_of s) c.hold-in-Err-NumbersSpent.ensures.0, ap (λ s. seat_number s) c.hold-in-Err-NumbersSpent.ensures.0)
-
-pub returns-in-Err-NumbersSpent-clause-view : goal.returns-in-Err-NumbersSpent-clause-view
-returns-in-Err-NumbersSpent-clause-view g c = ap (λ s. view_of s) c.hold-in-Err-NumbersSpent.ensures.0
-
-pub returns-in-Err-NumbersSpent-clause-counted : goal.returns-in-Err-NumbersSpent-clause-counted
-returns-in-Err-NumbersSpent-clause-counted g c = (ap (λ s. stops s) c.hold-in-Err-NumbersSpent.ensures.0, ap (λ s. changes s) c.hold-in-Err-NumbersSpent.ensures.0, ap (λ s. made_by s) c.hold-in-Err-NumbersSpent.ensures.0)
-
-pub returns-in-Err-Memory-clause-round : goal.returns-in-Err-Memory-clause-round
-returns-in-Err-Memory-clause-round g c = tt
-
-pub returns-in-Err-Aborted-clause-desk : goal.returns-in-Err-Aborted-clause-desk
-returns-in-Err-Aborted-clause-desk g c = (refl, refl)
-
-pub returns-in-Err-Aborted-clause-answers : goal.returns-in-Err-Aborted-clause-answers
-returns-in-Err-Aborted-clause-answers g c = c.requires.free
-
-pub returns-in-Err-Aborted-clause-view : goal.returns-in-Err-Aborted-clause-view
-returns-in-Err-Aborted-clause-view g c = refl
-
-pub returns-in-Err-Aborted-clause-counted : goal.returns-in-Err-Aborted-clause-counted
-returns-in-Err-Aborted-clause-counted g c = (refl, refl, refl)
-
-pub returns-in-Err-Aborted-clause-round : goal.returns-in-Err-Aborted-clause-round
-returns-in-Err-Aborted-clause-round g c = tt
-
-pub returns-in_ok-settle-in-Ok-clause-desk : goal.returns-in_ok-settle-in-Ok-clause-desk
-returns-in_ok-settle-in-Ok-clause-desk g c = c.settle.ensures.desk
-
-pub returns-in_ok-settle-in-Ok-clause-counted : goal.returns-in_ok-settle-in-Ok-clause-counted
-returns-in_ok-settle-in-Ok-clause-counted g c = c.settle.ensures.counted
-
-pub returns-in_err-settle-in-Ok-clause-desk : goal.returns-in_err-settle-in-Ok-clause-desk
-returns-in_err-settle-in-Ok-clause-desk g c = c.settle.ensures.desk
-
-pub returns-in_err-settle-in-Ok-clause-counted : goal.returns-in_err-settle-in-Ok-clause-counted
-returns-in_err-settle-in-Ok-clause-counted g c = c.settle.ensures.counted
-
-pub returns-in_ok-settle_last-in-Err-DeviceFault-clause-desk : goal.returns-in_ok-settle_last-in-Err-DeviceFault-clause-desk
-returns-in_ok-settle_last-in-Err-DeviceFault-clause-desk g c = c.settle_last.ensures.desk
-
-pub returns-in_ok-settle_last-in-Err-DeviceFault-clause-counted : goal.returns-in_ok-settle_last-in-Err-DeviceFault-clause-counted
-returns-in_ok-settle_last-in-Err-DeviceFault-clause-counted g c = c.settle_last.ensures.counted
-
-pub returns-in_err-settle_last-in-Err-DeviceFault-clause-desk : goal.returns-in_err-settle_last-in-Err-DeviceFault-clause-desk
-returns-in_err-settle_last-in-Err-DeviceFault-clause-desk g c = c.settle_last.ensures.desk
-
-pub returns-in_err-settle_last-in-Err-DeviceFault-clause-counted : goal.returns-in_err-settle_last-in-Err-DeviceFault-clause-counted
-returns-in_err-settle_last-in-Err-DeviceFault-clause-counted g c = c.settle_last.ensures.counted
-
-pub returns-in-Err-Memory-clause-answers : goal.returns-in-Err-Memory-clause-answers
-returns-in-Err-Memory-clause-answers g c = search rules
-
-pub returns-in-Err-WrongTicket-clause-answers : goal.returns-in-Err-WrongTicket-clause-answers
-returns-in-Err-WrongTicket-clause-answers g c = search rules
-
-pub returns-in-Err-OtherShape-clause-answers : goal.returns-in-Err-OtherShape-clause-answers
-returns-in-Err-OtherShape-clause-answers g c = search rules
-
-pub returns-in-Err-NumbersSpent-clause-answers : goal.returns-in-Err-NumbersSpent-clause-answers
-returns-in-Err-NumbersSpent-clause-answers g c = search rules
-
-pub settle-requires-clause-desk : goal.settle-requires-clause-desk
-settle-requires-clause-desk g c = c.requires.desk
-
-pub settle_last-requires-clause-desk : goal.settle_last-requires-clause-desk
-settle_last-requires-clause-desk g c = c.requires.desk
-
-pub returns-in_ok-settle_last-in-Err-DeviceFault-clause-answers : goal.returns-in_ok-settle_last-in-Err-DeviceFault-clause-answers
-returns-in_ok-settle_last-in-Err-DeviceFault-clause-answers g c = c.requires.free
+pub returns-in-Err-NumbersSpent : goal.returns-in-Err-NumbersSpent
+returns-in-Err-NumbersSpent g c = record {
+  seat = keeps-same _ _ c.hold-in-Err-NumbersSpent.ensures.0;
+  answers = search rules;
+  view = ap (λ s. view_of s) c.hold-in-Err-NumbersSpent.ensures.0;
+  round = held-on g.D.Disk g.H.Origin.begun c.args.prepared _ _ (NumbersSpent c.in-Err-NumbersSpent.prepared) _ 0 c.in-Err-NumbersSpent.is (search rules)
+      (λ refuses. refuses) c.requires.out.some (search rules) c.commit-result.ensures.round;
+}
