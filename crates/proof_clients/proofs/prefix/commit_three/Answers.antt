@@ -23,23 +23,6 @@ opened g c =
     begun c.opening.ensures c.since.ensures c.holds.ensures c.keeps.ensures ok.new ok.opens ok.stands ok.kept ok.leaves
     c.shape-shape.ensures.value c.shape-shape.ensures.journal
 
-one : (g : Over) (c : After-commit-2 g)
-    → SoFar g.D.Disk c.args.disk c.in-Ok.deck [] (commits c.args.first ∷ commits c.args.second ∷ commits c.args.third ∷ []) c.in-Ok.deck
-    → SoFar g.D.Disk c.args.disk c.in-Ok.deck (commits c.args.first ∷ []) (commits c.args.second ∷ commits c.args.third ∷ []) c.commit.new.deck
-one g c so = let ok = c.in-Ok-commit.ensures in commit-on so ok.kept ok.ended ok.numbers ok.up.1 ok.left
-
-two : (g : Over) (c : After-checkpoint_one g)
-    → SoFar g.D.Disk c.args.disk c.in-Ok.deck (commits c.args.first ∷ []) (commits c.args.second ∷ commits c.args.third ∷ []) c.commit.new.deck
-    → SoFar g.D.Disk c.args.disk c.in-Ok.deck (commits c.args.first ∷ commits c.args.second ∷ []) (commits c.args.third ∷ []) c.commit-2.new.deck
-two g c so = let ok = c.in-Ok-commit-2.ensures in commit-on so ok.kept ok.ended ok.numbers ok.up.1 ok.left
-
-checkpointed : (g : Over) (c : After-commit-3 g)
-    → SoFar g.D.Disk c.args.disk c.in-Ok.deck (commits c.args.first ∷ commits c.args.second ∷ []) (commits c.args.third ∷ []) c.commit-2.new.deck
-    → SoFar g.D.Disk c.args.disk c.in-Ok.deck (commits c.args.first ∷ commits c.args.second ∷ []) (commits c.args.third ∷ []) c.checkpoint_one.new.self
-checkpointed g c so =
-    let ok = c.in-Ok-checkpoint_one.ensures in
-    idle-on so ok.kept (λ honest. ok.ended honest ok.answers.2.live) (ap (λ (l : Log). l.next) ok.answers.2.log) ok.answers.2.live ok.left
-
 pub returns-in-Err-clause-leaves : goal.returns-in-Err-clause-leaves
 returns-in-Err-clause-leaves g c = λ honest. opening-runs g.D.Disk c.args.disk c.opening.ensures (c.in-Err.ensures.leaves honest)
 
@@ -47,16 +30,33 @@ pub returns-in_default-clause-leaves : goal.returns-in_default-clause-leaves
 returns-in_default-clause-leaves g c =
     commit-runs (opened g (goal.at.returns-in_default-clause-leaves g c).After-commit) c.close.ensures.value c.commit.ensures.kept c.commit.ensures.left
 
+one : (g : Over) (c : After-commit-2 g)
+    → SoFar g.D.Disk c.args.disk c.in-Ok.deck [] (commits c.args.first ∷ commits c.args.second ∷ commits c.args.third ∷ []) c.in-Ok.deck
+    → SoFar g.D.Disk c.args.disk c.in-Ok.deck (commits c.args.first ∷ []) (commits c.args.second ∷ commits c.args.third ∷ []) c.commit.new.deck
+one g c so = let ok = c.in-Ok-commit.ensures in commit-on so ok.kept ok.ended ok.numbers ok.up.1 ok.left
+
 pub returns-in_default-commit-clause-leaves : goal.returns-in_default-commit-clause-leaves
 returns-in_default-commit-clause-leaves g c =
     let at = goal.at.returns-in_default-commit-clause-leaves g c in
     commit-runs (one g at.After-commit-2 (opened g at.After-commit)) c.close-in_default-commit.ensures.value c.commit-2.ensures.kept c.commit-2.ensures.left
+
+two : (g : Over) (c : After-checkpoint_one g)
+    → SoFar g.D.Disk c.args.disk c.in-Ok.deck (commits c.args.first ∷ []) (commits c.args.second ∷ commits c.args.third ∷ []) c.commit.new.deck
+    → SoFar g.D.Disk c.args.disk c.in-Ok.deck (commits c.args.first ∷ commits c.args.second ∷ []) (commits c.args.third ∷ []) c.commit-2.new.deck
+two g c so = let ok = c.in-Ok-commit-2.ensures in commit-on so ok.kept ok.ended ok.numbers ok.up.1 ok.left
 
 pub returns-in_default-checkpoint_one-clause-leaves : goal.returns-in_default-checkpoint_one-clause-leaves
 returns-in_default-checkpoint_one-clause-leaves g c =
     let at = goal.at.returns-in_default-checkpoint_one-clause-leaves g c in
     idle-runs (two g at.After-checkpoint_one (one g at.After-commit-2 (opened g at.After-commit))) c.close-in_default-checkpoint_one.ensures.value
     c.checkpoint_one.ensures.kept c.checkpoint_one.ensures.left
+
+checkpointed : (g : Over) (c : After-commit-3 g)
+    → SoFar g.D.Disk c.args.disk c.in-Ok.deck (commits c.args.first ∷ commits c.args.second ∷ []) (commits c.args.third ∷ []) c.commit-2.new.deck
+    → SoFar g.D.Disk c.args.disk c.in-Ok.deck (commits c.args.first ∷ commits c.args.second ∷ []) (commits c.args.third ∷ []) c.checkpoint_one.new.self
+checkpointed g c so =
+    let ok = c.in-Ok-checkpoint_one.ensures in
+    idle-on so ok.kept (λ honest. ok.ended honest ok.answers.2.live) (ap (λ (l : Log). l.next) ok.answers.2.log) ok.answers.2.live ok.left
 
 pub returns-in-Err-commit-clause-leaves : goal.returns-in-Err-commit-clause-leaves
 returns-in-Err-commit-clause-leaves g c =

@@ -17,25 +17,6 @@ opened g c =
     begun c.opening.ensures c.since.ensures c.holds.ensures c.keeps.ensures ok.new ok.opens ok.stands ok.kept ok.leaves
     c.shape-shape.ensures.value c.shape-shape.ensures.journal
 
-committed : (g : Over) (c : After-write_free g)
-    → SoFar g.D.Disk c.args.disk c.in-Ok.deck [] (commits c.args.first ∷ writes c.args.home c.args.bytes.now ∷ commits c.args.second ∷ []) c.in-Ok.deck
-    → SoFar g.D.Disk c.args.disk c.in-Ok.deck (commits c.args.first ∷ []) (writes c.args.home c.args.bytes.now ∷ commits c.args.second ∷ []) c.commit.new.deck
-committed g c so = let ok = c.in-Ok-commit.ensures in commit-on so ok.kept ok.ended ok.numbers ok.up.1 ok.left
-
-written : (g : Over) (c : After-read_home g)
-    → SoFar g.D.Disk c.args.disk c.in-Ok.deck (commits c.args.first ∷ []) (writes c.args.home c.args.bytes.now ∷ commits c.args.second ∷ []) c.commit.new.deck
-    → SoFar g.D.Disk c.args.disk c.in-Ok.deck (commits c.args.first ∷ writes c.args.home c.args.bytes.now ∷ []) (commits c.args.second ∷ []) c.write_free.new.self
-written g c so =
-    let ok = c.in-Ok-write_free.ensures in
-    write-on so c.write_free.result ok.answers.4 ok.kept ok.ended c.write_free.ensures.left
-
-taken : (g : Over) (c : After-commit-2 g)
-    → SoFar g.D.Disk c.args.disk c.in-Ok.deck (commits c.args.first ∷ writes c.args.home c.args.bytes.now ∷ []) (commits c.args.second ∷ []) c.write_free.new.self
-    → SoFar g.D.Disk c.args.disk c.in-Ok.deck (commits c.args.first ∷ writes c.args.home c.args.bytes.now ∷ []) (commits c.args.second ∷ []) c.take_trail.new.self
-taken g c so =
-    let read = read-on so c.in-Ok-read_home.ensures.answers.4 c.read_home.ensures.kept c.read_home.ensures.ended c.read_home.ensures.left in
-    take-on read c.in-Ok-take_trail.ensures.taken.same c.take_trail.ensures.ended
-
 pub returns-in-Err-clause-leaves : goal.returns-in-Err-clause-leaves
 returns-in-Err-clause-leaves g c = λ honest. opening-runs g.D.Disk c.args.disk c.opening.ensures (c.in-Err.ensures.leaves honest)
 
@@ -43,11 +24,23 @@ pub returns-in_default-clause-leaves : goal.returns-in_default-clause-leaves
 returns-in_default-clause-leaves g c =
     commit-runs (opened g (goal.at.returns-in_default-clause-leaves g c).After-commit) c.close.ensures.value c.commit.ensures.kept c.commit.ensures.left
 
+committed : (g : Over) (c : After-write_free g)
+    → SoFar g.D.Disk c.args.disk c.in-Ok.deck [] (commits c.args.first ∷ writes c.args.home c.args.bytes.now ∷ commits c.args.second ∷ []) c.in-Ok.deck
+    → SoFar g.D.Disk c.args.disk c.in-Ok.deck (commits c.args.first ∷ []) (writes c.args.home c.args.bytes.now ∷ commits c.args.second ∷ []) c.commit.new.deck
+committed g c so = let ok = c.in-Ok-commit.ensures in commit-on so ok.kept ok.ended ok.numbers ok.up.1 ok.left
+
 pub returns-in_default-write_free-clause-leaves : goal.returns-in_default-write_free-clause-leaves
 returns-in_default-write_free-clause-leaves g c =
     let at = goal.at.returns-in_default-write_free-clause-leaves g c in
     write-runs (committed g at.After-write_free (opened g at.After-commit)) c.write_free.result c.close-in_default-write_free.ensures.value
     c.write_free.ensures.kept c.write_free.ensures.left
+
+written : (g : Over) (c : After-read_home g)
+    → SoFar g.D.Disk c.args.disk c.in-Ok.deck (commits c.args.first ∷ []) (writes c.args.home c.args.bytes.now ∷ commits c.args.second ∷ []) c.commit.new.deck
+    → SoFar g.D.Disk c.args.disk c.in-Ok.deck (commits c.args.first ∷ writes c.args.home c.args.bytes.now ∷ []) (commits c.args.second ∷ []) c.write_free.new.self
+written g c so =
+    let ok = c.in-Ok-write_free.ensures in
+    write-on so c.write_free.result ok.answers.4 ok.kept ok.ended c.write_free.ensures.left
 
 pub returns-in_default-read_home-clause-leaves : goal.returns-in_default-read_home-clause-leaves
 returns-in_default-read_home-clause-leaves g c =
@@ -74,6 +67,13 @@ returns-in-Ok-commit-2-clause-read g c = λ held.
     c.in-Ok-read_home.ensures.found read
     ∙ filled (map settles c.args.first.batch.handles) c.args.home c.args.bytes.now (λ bytes. bytes ≡ stood c.args.home) _
     (c.reads.ensures stood c.in-Ok.deck c.write_free.new.self _ is.new is.stands (so.calls honest) c.args.home)
+
+taken : (g : Over) (c : After-commit-2 g)
+    → SoFar g.D.Disk c.args.disk c.in-Ok.deck (commits c.args.first ∷ writes c.args.home c.args.bytes.now ∷ []) (commits c.args.second ∷ []) c.write_free.new.self
+    → SoFar g.D.Disk c.args.disk c.in-Ok.deck (commits c.args.first ∷ writes c.args.home c.args.bytes.now ∷ []) (commits c.args.second ∷ []) c.take_trail.new.self
+taken g c so =
+    let read = read-on so c.in-Ok-read_home.ensures.answers.4 c.read_home.ensures.kept c.read_home.ensures.ended c.read_home.ensures.left in
+    take-on read c.in-Ok-take_trail.ensures.taken.same c.take_trail.ensures.ended
 
 pub returns-in-Ok-commit-2-clause-leaves : goal.returns-in-Ok-commit-2-clause-leaves
 returns-in-Ok-commit-2-clause-leaves g c =
