@@ -6,7 +6,6 @@ ghost use Rattle.jb_desk.specs.Seats.{AddsUp, made_left};
 ghost use Rattle.jb_book.specs.SinceMark.{EndsMarked};
 ghost use Rattle.jb_desk.specs.Closing.{DiffersAs};
 ghost use Rattle.jb_desk.specs.Parts.{ledger_parts};
-ghost use Rattle.jb_book.specs.Since.{EndsSince};
 
 use crate::counter::Counter;
 use crate::desk::Desk;
@@ -143,7 +142,6 @@ fn close_parts<D: Disk + Drop, C: Clock, H: Origin, N: Ledger>(
     ensures sums { IfOk result (λ closed. AddsUp lefts.items closed.handles closed.changes) }
     ensures tiles { IfOk result (λ closed. (past : ℕ) × Follow (start_of closed.trail.items) 0 past closed.trail.items
         × (past ≤ closed.handles)) }
-    ensures since { IfOk result (λ closed. EndsSince D.Disk H.begun closed.disk closed.trail.items) }
     ensures stops { IfOk result (λ closed. EndsMarked D.Disk H.begun (map made_left lefts.items) closed.handles
         closed.shape closed.disk closed.trail.items seen.stops seen.marks) }
     ensures given { IfOk result (λ closed. (closed.disk ≡ works.deck.disk) × (closed.clock ≡ works.clock)

@@ -5,25 +5,15 @@ use Rattle.std.specs.Prelude.{List}
 use Rattle.jb_board.proofs.Placed.{placed_on}
 use Rattle.jb_book.specs.History.{IsStop}
 use Rattle.jb_book.specs.SinceMark.{Lasts}
-use Rattle.jb_book.specs.Since.{may_stop}
 use Rattle.jb_book.proofs.StopHistories.{stop-on}
 use Rattle.jb_book.proofs.Lasting.{first-marks}
 use Rattle.jb_book.proofs.LastingMarks.{marked-weaker}
 use Rattle.jb_book.proofs.Shaped.{of-begun}
-use Rattle.jb_book.proofs.Sincing.{is-weaker}
 use Rattle.jb_book.proofs.Staying.{of-mark}
 use Rattle.jb_desk.proofs.desk.closing.close_parts.Goals as goal
 
 pub returns-clause-sums : goal.returns-clause-sums
 returns-clause-sums g c = c.totals-trail.ensures.sums
-
-pub returns-clause-since : goal.returns-clause-since
-returns-clause-since g c = record {
-  deck = c.end-deck.result.0;
-  same_disk = sym c.close.ensures.value;
-  same_trail = search rules;
-  since = is-weaker g.D.Disk g.H.Origin.begun (IsStop g.H.Origin.begun c.end-deck.result.2) (may_stop g.H.Origin.begun) (λ h s. s.0) c.end-deck.result.0 c.end-deck.ensures.since.since;
-}
 
 -- the book's shape is that of the journal at a mark, and so its shape now
 pub returns-clause-stops : goal.returns-clause-stops
