@@ -13,11 +13,11 @@ use Rattle.jb_book.specs.Marks.{SeesStop}
 use Rattle.jb_book.specs.declared.origin.Origin.{Ghosts}
 use Rattle.jb_book.specs.declared.sights.Sights.{Sights}
 use Rattle.jb_desk.specs.Seats.{made_by}
-use Rattle.jb_desk.specs.declared.seat.Seat.{Seat}
 use Rattle.jb_journal.specs.Changing.{AnswersChange, IsCalled, IsChanged, SeesChange, Stops}
 use Rattle.jb_journal.specs.Client.{made_from}
 use Rattle.jb_journal.specs.Notes.{Stop}
 use Rattle.jb_journal.proofs.Noting.{stand-on}
+use Rattle.jb_journal.specs.declared.counted.CountedSeat.{CountedSeat}
 use Rattle.jb_journal.specs.declared.fault.HandleFault.{HandleFault}
 use Rattle.jb_journal.specs.declared.fault.HandleFault.TheVariants.{Begin, Refused, Aborted, NotOpen, Memory}
 
@@ -42,9 +42,9 @@ sees-stop before after old new answer ticket words made sees marks = record {
 }
 
 -- a client knows its own handles, once its seat is put back
-pub own-again : {D H N : Type 0} {O : Ghosts H} {P : Places H} (seen after last : Sights D H) (old new : Option (Seat H N O P)) (seat back : Seat H N O P) → old ≡ Some seat → new ≡ Some back → last ≡ after
-    → (All (StandsIn seen.stops) (made_by seat) → All (StandsIn after.stops) (made_by back)) → All (StandsIn seen.stops) (made_from old) → All (StandsIn last.stops) (made_from new)
+pub own-again : {D H N : Type 0} {O : Ghosts H} {P : Places H} (seen after last : Sights D H) (old new : Option (CountedSeat H N O P)) (seat back : CountedSeat H N O P) → old ≡ Some seat → new ≡ Some back → last ≡ after
+    → (All (StandsIn seen.stops) (made_by seat.seat) → All (StandsIn after.stops) (made_by back.seat)) → All (StandsIn seen.stops) (made_from old) → All (StandsIn last.stops) (made_from new)
 own-again {D = D} {H = H} {N = N} {O = O} {P = P} seen after last old new seat back taken put same own each =
     subst (λ (x : Sights D H). All (StandsIn x.stops) (made_from new)) (sym same)
-    (subst (λ (s : Option (Seat H N O P)). All (StandsIn after.stops) (made_from s)) (sym put)
-    (own (subst (λ (s : Option (Seat H N O P)). All (StandsIn seen.stops) (made_from s)) taken each)))
+    (subst (λ (s : Option (CountedSeat H N O P)). All (StandsIn after.stops) (made_from s)) (sym put)
+    (own (subst (λ (s : Option (CountedSeat H N O P)). All (StandsIn seen.stops) (made_from s)) taken each)))

@@ -1,9 +1,11 @@
 -- What a run leaves, from what its threads left and how its desk was closed.
 use Rattle.std.proofs.Common.{◌≡◌, ℕ, List, ◌∷◌, map, Some, Result, IfOk, sym, ap, subst, ◌∙◌}
 use Rattle.std.proofs.lemmas.Result.{IfOk-at_ok}
+use Rattle.std.specs.List.{sum_by}
+use Rattle.jb_cost.specs.Pieces.{joined}
 use Rattle.jb_disk.specs.declared.disk.Disk.{Ghosts as Disks}
 use Rattle.jb_deck.specs.declared.done.Entry.{Entry}
-use Rattle.jb_desk.specs.Seats.{made_left}
+use Rattle.jb_desk.specs.Seats.{changes_left, made_left}
 use Rattle.jb_desk.specs.declared.ended.Ended.{Ended}
 use Rattle.jb_book.specs.History.{CameAbout}
 use Rattle.jb_book.specs.Origin.{Begun}
@@ -13,7 +15,7 @@ use Rattle.jb_book.specs.declared.origin.Origin.{Ghosts}
 use Rattle.jb_board.specs.declared.place.Place.{Ghosts as Places}
 use Rattle.jb_handle.specs.declared.shape.Shape.{Shape}
 use Rattle.jb_journal.specs.Leaving.{IsClosed, IsGatheredFrom}
-use Rattle.jb_journal.specs.Notes.{Known, Stop}
+use Rattle.jb_journal.specs.Notes.{Known, Stop, changed_by}
 use Rattle.jb_journal.specs.Running.{HasThreaded, RanAll, known_of_worked, marks_of_worked, stops_of_worked}
 use Rattle.jb_journal.specs.declared.fault.RunFault.{RunFault}
 use Rattle.jb_journal.specs.declared.gather.Gathered.{Gathered}
@@ -29,11 +31,13 @@ since-as {D = D} G b told disk trail same_disk same_trail ends = subst (λ (x : 
 
 module _ {T D H N : Type 0} {O : Ghosts H} {P : Places H} (G : Disks D) (b : Begun) where
   -- what was told of a desk that was closed
-  pub closed-as : (all : Gathered T D H N O P) (told : Ran T D) (disk : D) (handles : ℕ) (trail : List Entry) (shape : Shape) → told.disk ≡ disk → told.answers ≡ all.answers → told.handles ≡ handles → told.trail.items ≡ trail
+  pub closed-as : (all : Gathered T D H N G O P) (told : Ran T D) (disk : D) (handles changes : ℕ) (trail : List Entry) (shape : Shape) → told.disk ≡ disk → told.answers ≡ all.answers → told.handles ≡ handles → told.trail.items ≡ trail
+      → told.changes ≡ changes → changes ≡ sum_by changes_left all.lefts.items
       → EndsMarked G b (map (λ l. made_left l) all.lefts.items) handles shape disk trail all.seen.stops all.seen.marks → CameAbout G b (map (λ l. made_left l) all.lefts.items) shape disk trail
       → IsClosed G b all told
-  closed-as all told disk handles trail shape same_disk same_answers same_handles same_trail ends came = record {
+  closed-as all told disk handles changes trail shape same_disk same_answers same_handles same_trail same_changes added ends came = record {
     answers = same_answers;
+    changes = same_changes ∙ added ∙ all.counted;
     shape = shape;
     ends = subst (λ (x : (ℕ × D) × List Entry). EndsMarked G b (map (λ l. made_left l) all.lefts.items) x.0.0 shape x.0.1 x.1 all.seen.stops all.seen.marks)
         (λ i. ((sym same_handles i, sym same_disk i), sym same_trail i)) ends;
@@ -41,24 +45,26 @@ module _ {T D H N : Type 0} {O : Ghosts H} {P : Places H} (G : Disks D) (b : Beg
   }
 
   -- what was run
-  pub ran-all : (may : Type 0 → ℕ → ℕ → List Stop → Known → T → Type 0) (workers : ℕ) (ran : Result (Threaded T D H N O P) RunFault) (all : Gathered T D H N O P × Ended) → IfOk ran (HasThreaded G may workers) → IsGatheredFrom ran all
+  pub ran-all : (may : Type 0 → ℕ → ℕ → List Stop → Known → T → Type 0) (workers : ℕ) (ran : Result (Threaded T D H N O P) RunFault) (all : Gathered T D H N G O P × Ended) → IfOk ran (HasThreaded G may workers) → IsGatheredFrom ran all
       → (told : Ran T D) → IsClosed G b all.0 told → RanAll G b may workers told
   ran-all may workers ran all threaded gathered told closed =
       let ws = gathered.of.workers.items in
       let has : HasThreaded G may workers gathered.of = IfOk-at_ok (HasThreaded G may workers) gathered.is threaded in
       let stopped : List (List Stop) = map (λ (w : Worked T D H N O P). stops_of_worked w) ws in
-      let alone = gathered.stops ∙ ap (λ xs. xs ∷ stopped) has.committed in
+      let made = gathered.stops ∙ ap (λ xs. xs ∷ stopped) has.committed in
       let ends =
       ends-known G b _ stopped told.handles closed.shape told.disk told.trail.items
-      (λ (w : Worked T D H N O P). w.seen) ws all.0.seen alone closed.ends gathered.seen in
+      (λ (w : Worked T D H N O P). w.seen) ws all.0.seen
+      made closed.ends gathered.seen in
       record {
         stopped = stopped;
         known = map (λ (w : Worked T D H N O P). known_of_worked G.moment w) ws;
         seen = map (λ (w : Worked T D H N O P). marks_of_worked w) ws;
         answers = are-answers G may workers told.answers.items ws has.worked (ap (λ xs. map (λ (x : T). Some x) xs.items) closed.answers ∙ gathered.answers);
+        changes = closed.changes ∙ ap (λ xs. sum_by changed_by (joined xs)) made;
         shape = closed.shape;
         ends = ends.0;
-        came = came-without G b _ stopped told.handles closed.shape told.disk told.trail.items alone closed.came;
+        came = came-without G b _ stopped told.handles closed.shape told.disk told.trail.items made closed.came;
         last = ends.1;
         honest = ends.2;
       }

@@ -1,5 +1,6 @@
 pub mod Answering
 pub mod Changing
+pub mod Counting
 pub mod Ending
 pub mod Leaving
 pub mod Noting

@@ -9,7 +9,6 @@ use Rattle.jb_disk.specs.declared.disk.Disk.{Ghosts as Disks}
 use Rattle.jb_desk.specs.Desks.{desk_id, shape_in}
 use Rattle.jb_book.specs.Origin.{Begun}
 use Rattle.jb_desk.specs.Seats.{made_by, desk_of, view_of}
-use Rattle.jb_desk.specs.declared.seat.Seat.{Seat}
 use Rattle.jb_handle.specs.Word.{WordMap}
 use Rattle.jb_handle.specs.declared.shape.Shape.{Shape}
 use Rattle.jb_handle.specs.declared.word.Word.TheVariants.{Copy}
@@ -19,25 +18,26 @@ use Rattle.jb_book.specs.declared.sights.Sights.{Sights}
 use Rattle.jb_board.specs.HistoryRule.{StandsIn}
 use Rattle.jb_journal.specs.Notes.{Known, Stop, note_of}
 use Rattle.jb_journal.specs.declared.client.Client.{Client}
+use Rattle.jb_journal.specs.declared.counted.CountedSeat.{CountedSeat}
 
 -- the words of a handle that has written these bytes to one home, and has touched no other
 abbrev pub one_block : ℕ → List ℕ → WordMap
 one_block home bytes = map.insert map.empty home (Copy bytes)
 
 -- there is a seat, of that board
-abbrev pub SeatedAt : {H N : Type 0} {O : OriginGhosts H} {P : Places H} → BoardId → Option (Seat H N O P) → Type 0
+abbrev pub SeatedAt : {H N : Type 0} {O : OriginGhosts H} {P : Places H} → BoardId → Option (CountedSeat H N O P) → Type 0
 SeatedAt board None = ⊥
-SeatedAt board (Some seat) = desk_of seat ≡ board
+SeatedAt board (Some counted) = desk_of counted.seat ≡ board
 
 -- the counts that a seat is sure of
-abbrev pub seen_from : {H N : Type 0} {O : OriginGhosts H} {P : Places H} → Option (Seat H N O P) → Front
+abbrev pub seen_from : {H N : Type 0} {O : OriginGhosts H} {P : Places H} → Option (CountedSeat H N O P) → Front
 seen_from None = front 0 0 0
-seen_from (Some seat) = view_of seat
+seen_from (Some counted) = view_of counted.seat
 
 -- the handles that stopped with a seat, each with its ticket and its words
-abbrev pub made_from : {H N : Type 0} {O : OriginGhosts H} {P : Places H} → Option (Seat H N O P) → List Stop
+abbrev pub made_from : {H N : Type 0} {O : OriginGhosts H} {P : Places H} → Option (CountedSeat H N O P) → List Stop
 made_from None = []
-made_from (Some seat) = made_by seat
+made_from (Some counted) = made_by counted.seat
 
 -- each of these journals had a disk that was honest
 abbrev pub AreHonest : {D : Type 0} → Disks D → List (OpenDeck D) → Type 0

@@ -1,6 +1,8 @@
 -- What the threads of a journal leave.
 use Rattle.std.specs.Prelude.{◌≡◌, ℕ, ◌<◌, ◌≤◌, Bool, true, false, All, List, [], length, slice_index_or, Option, Some, None, IfSome}
 use Rattle.std.specs.Bool.{OnTrue}
+use Rattle.std.specs.List.{sum_by}
+use Rattle.jb_cost.specs.Pieces.{joined}
 use Rattle.jb_disk.specs.declared.disk.Disk.{Ghosts as Disks}
 use Rattle.jb_handle.specs.declared.shape.Shape.{Shape}
 use Rattle.jb_deck.specs.Deck.{OpenDeck}
@@ -12,13 +14,13 @@ use Rattle.jb_book.specs.History.{CameAbout, EndsWith}
 use Rattle.jb_book.specs.Origin.{Begun}
 use Rattle.jb_desk.specs.Seats.{made_by, made_left}
 use Rattle.jb_book.specs.declared.origin.Origin.{Ghosts}
-use Rattle.jb_desk.specs.declared.seat.Left.{Left}
-use Rattle.jb_desk.specs.declared.seat.Seat.{Seat}
 use Rattle.jb_board.specs.declared.place.Place.{Ghosts as Places}
 use Rattle.jb_book.specs.Marks.{SeesMore}
 use Rattle.jb_book.specs.declared.sights.Sights.{Sights}
 use Rattle.jb_journal.specs.Client.{AreHonest, known_in}
-use Rattle.jb_journal.specs.Notes.{Known, KnownLasts, Stop}
+use Rattle.jb_journal.specs.Notes.{Known, KnownLasts, Stop, changed_by}
+use Rattle.jb_journal.specs.declared.counted.CountedLeft.{CountedLeft}
+use Rattle.jb_journal.specs.declared.counted.CountedSeat.{CountedSeat}
 use Rattle.jb_journal.specs.declared.ran.Ran.{Ran}
 use Rattle.jb_journal.specs.declared.threads.Threaded.{Threaded}
 use Rattle.jb_journal.specs.declared.threads.Worked.{Worked}
@@ -34,9 +36,9 @@ pub record AreAnswers {T D : Type 0} (G : Disks D) (may : Type 0 → ℕ → ℕ
       → may (AreHonest G (slice_index_or seen at unseen)) workers at (slice_index_or stopped at none) (slice_index_or known at unknown) (slice_index_or answers at d)
 
 -- the handles that stopped with a seat that has left, where there was one
-abbrev pub stops_left_by : {H N : Type 0} {O : Ghosts H} {P : Places H} → Option (Left H N O P) → List Stop
+abbrev pub stops_left_by : {H N : Type 0} {O : Ghosts H} {P : Places H} → Option (CountedLeft H N O P) → List Stop
 stops_left_by None = []
-stops_left_by (Some left) = made_left left
+stops_left_by (Some counted) = made_left counted.left
 
 module _ {T D H N : Type 0} {O : Ghosts H} {P : Places H} where
   -- what a worker answered
@@ -69,13 +71,13 @@ module _ {T D H N : Type 0} {O : Ghosts H} {P : Places H} where
   -- the workers have answered, and the committer has stopped no handle
   pub record HasThreaded (G : Disks D) (may : Type 0 → ℕ → ℕ → List Stop → Known → T → Type 0) (workers : ℕ) (ran : Threaded T D H N O P) : Type 0 where
     pub worked : HaveWorked G may workers ran.workers.items
-    pub committed : made_left ran.committer ≡ []
+    pub committed : made_left ran.committer.left ≡ []
 
 -- a seat that was there has left, with what it stopped
-abbrev pub HasLeft : {H N : Type 0} {O : Ghosts H} {P : Places H} → Option (Seat H N O P) → Option (Left H N O P × Ended) → Type 0
-HasLeft None left = left ≡ None
-HasLeft (Some seat) None = ⊥
-HasLeft (Some seat) (Some left) = made_left left.0 ≡ made_by seat
+abbrev pub HasLeft : {H N : Type 0} {O : Ghosts H} {P : Places H} → Option (CountedSeat H N O P) → Option (CountedLeft H N O P × Ended) → Type 0
+HasLeft None after = after ≡ None
+HasLeft (Some before) None = ⊥
+HasLeft (Some before) (Some after) = made_left after.0.left ≡ made_by before.seat
 
 -- what is told of a checkpointer, where one was asked for: that the desk is over, or that the journal has failed
 abbrev pub EndsChecked : Bool → Option Ended → Type 0
@@ -99,14 +101,16 @@ abbrev pub AllSettled : {T D : Type 0} → Ran T D → Type 0
 AllSettled ran = ran.settled ≡ ran.handles
 
 -- What was run: there are the handles that each worker's client has stopped, and what it knew and had seen of the journal, with which it answered what it may. The handles are
--- all of one history, of as many as are reported, and each is there once; the journal that the disk is left with was given the first of this history; and the
--- machine of handles accepts a list of events in which they stopped in this order, and whose settled groups are those of the trail. What a client knew to be
--- committed at some moment, what a crash at any time since then leaves has. Where the disk that is given back is honest, it was so at all that any client has seen
+-- all of one history, of as many as are reported, and each is there once; the home blocks that they changed, each handle's added up, are as many as are reported. The
+-- journal that the disk is left with was given the first of this history; and the machine of handles accepts a list of events in which they stopped in this order, and
+-- whose settled groups are those of the trail. What a client knew to be committed at some moment, what a crash at any time since then leaves has. Where the disk that is
+-- given back is honest, it was so at all that any client has seen
 pub record RanAll {T D : Type 0} (G : Disks D) (b : Begun) (may : Type 0 → ℕ → ℕ → List Stop → Known → T → Type 0) (workers : ℕ) (ran : Ran T D) : Type 0 where
   pub stopped : List (List Stop)
   pub known : List Known
   pub seen : List (List (OpenDeck D))
   pub answers : AreAnswers G may workers stopped known seen ran.answers.items
+  pub changes : ran.changes ≡ sum_by changed_by (joined stopped)
   -- that of the journal, by which its groups have cost what its trail says
   pub shape : Shape
   pub ends : EndsWith G b stopped ran.handles shape ran.disk ran.trail.items

@@ -1,20 +1,20 @@
 //! What a worker has of the journal.
 ghost use Rattle.std.specs.Prelude.{◌≡◌, ◌<◌, ◌≤◌, [], None, Some, IfErr, IfOk, OnOk, length};
 ghost use Rattle.std.specs.FinMap as map;
-ghost use Rattle.std.specs.Fn.{FnOnceReturnsAtMut};
 ghost use Rattle.jb_handle.specs.Held.{held};
 ghost use Rattle.jb_desk.specs.Desks.{desk_id, shape_in};
-ghost use Rattle.jb_desk.specs.Seats.{made_by, desk_of, view_of};
+ghost use Rattle.jb_desk.specs.Seats.{made_by, desk_of};
 ghost use Rattle.jb_desk.specs.declared.fault.WaitFault.TheVariants.{Taken};
-ghost use Rattle.jb_handle.specs.Handle.{holder, changes_of};
 ghost use Rattle.jb_handle.specs.Word.{WordMap};
-ghost use Rattle.jb_journal.specs.Changing.{AnswersChange, SeesChange, Stops};
+ghost use Rattle.jb_journal.specs.Changing.{AnswersChange};
 
+use crate::change::change_at;
+use crate::counted::CountedSeat;
 use crate::fault::HandleFault;
 use jb_block::{BlockSize, Memory};
 use jb_cost::{Geometry, most_credits};
 use jb_deck::{Entry, ReadHomeFault};
-use jb_desk::{Desk, Origin, Seat, Sights, StopFault, WaitFault};
+use jb_desk::{Desk, Origin, Sights, WaitFault};
 use jb_disk::{Clock, Disk};
 use jb_handle::{Handle, Shape};
 use std::sync::Wait;
@@ -27,7 +27,7 @@ pub struct Client<'a, D: Disk, C: Clock, R, H: Origin, N: Ledger> {
     rt: &'a R,
     desk: &'a Desk<D, C, H, N>,
     shape: Shape,
-    seat: Option<Seat<H, N>>,
+    seat: Option<CountedSeat<H, N>>,
     /// what it has seen of the handles that stopped and of the journal
     seen: Sights<D, H>,
 }
@@ -45,12 +45,12 @@ impl<'a, D: Disk, C: Clock, R: Wait + time::Clock, H: Origin, N: Ledger> Client<
         rt: &'a R,
         desk: &'a Desk<D, C, H, N>,
         shape: Shape,
-        seat: Seat<H, N>,
+        seat: CountedSeat<H, N>,
     ) -> Client<'a, D, C, R, H, N>
-        requires desk { desk_of seat ≡ desk_id desk.now }
+        requires desk { desk_of seat.seat ≡ desk_id desk.now }
         requires shape { shape ≡ shape_in desk.now }
         requires any { (words : WordMap) → H.begun.stops words }
-        requires fresh { made_by seat ≡ [] }
+        requires fresh { made_by seat.seat ≡ [] }
         ensures client { IsClient H.begun result }
         ensures stopped { client_stops result ≡ [] }
     {
@@ -99,7 +99,7 @@ impl<'a, D: Disk, C: Clock, R: Wait + time::Clock, H: Origin, N: Ledger> Client<
     }
 
     /// The seat, and what was seen, once the worker has ended.
-    pub(crate) fn into_seat(self) -> (Option<Seat<H, N>>, Sights<D, H>)
+    pub(crate) fn into_seat(self) -> (Option<CountedSeat<H, N>>, Sights<D, H>)
         ensures seat { made_from result.0 ≡ client_stops self.entry }
         ensures seen { result.1 ≡ sights_of self.entry }
     {
@@ -182,7 +182,7 @@ impl<'a, D: Disk, C: Clock, R: Wait + time::Clock, H: Origin, N: Ledger> Client<
     }
 
     /// The seat is put back.
-    fn sit(&mut self, seat: Seat<H, N>)
+    fn sit(&mut self, seat: CountedSeat<H, N>)
         requires { self.old.seat ≡ None }
         ensures seat { self.new.seat ≡ Some seat }
         ensures desk { self.new.desk ≡ self.old.desk }
@@ -192,7 +192,7 @@ impl<'a, D: Disk, C: Clock, R: Wait + time::Clock, H: Origin, N: Ledger> Client<
         match mem::replace(&mut self.seat, Some(seat)) {
             None => {}
             Some(seat) => {
-                let _left = self.desk.leave(self.rt, seat);
+                let _left = seat.leave(self.rt, self.desk);
                 unreachable!()
             }
         }
@@ -219,82 +219,8 @@ impl<'a, D: Disk, C: Clock, R: Wait + time::Clock, H: Origin, N: Ledger> Client<
         let (rt, desk) = (self.rt, self.desk);
         let Client { seat, seen, .. } = self;
         match seat {
-            Some(seat) => desk.wait(rt, seat, seen, ticket),
+            Some(counted) => desk.wait(rt, &mut counted.seat, seen, ticket),
             None => unreachable!(),
         }
-    }
-}
-
-/// Begins a handle at a desk, changes home blocks by it, and stops it.
-fn change_at<
-    D: Disk,
-    C: Clock,
-    R: Wait + time::Clock,
-    H: Origin,
-    N: Ledger,
-    T: Drop,
-    E,
-    F: FnOnce(&mut Handle<()>) -> Result<T, E>,
->(
-    rt: &R,
-    desk: &Desk<D, C, H, N>,
-    seen: &mut Sights<D, H>,
-    seat: Seat<H, N>,
-    credits: u32,
-    change: F,
-) -> (Seat<H, N>, Result<(T, u64), HandleFault<E>>)
-    requires desk { desk_of seat ≡ desk_id desk.now }
-    requires any { (words : WordMap) → H.begun.stops words }
-    requires callable { F.IsAlwaysCallable change }
-    ensures desk { desk_of result.0 ≡ desk_id desk.now }
-    ensures changed { AnswersChange F.FnOnce change (held credits (shape_in desk.now) map.empty) (made_by seat)
-        (made_by result.0) result.1 }
-    ensures stopped { IfOk result.1 (λ given. given.1 < (view_of result.0).stopped) }
-    ensures sees { SeesChange (made_by seat) (made_by result.0) seen.old seen.new result.1 }
-{
-    let handle = match desk.begin_waiting(rt, seat, credits) {
-        Ok(handle) => handle,
-        Err((seat, fault)) => return (seat, Err(HandleFault::Begin(fault))),
-    };
-    let (seat, mut handle) = handle.with_seat(());
-    let answer = call(change, &mut handle);
-    let (_, handle) = handle.with_seat(seat);
-    match answer {
-        Ok(answer) => stop(rt, desk, seen, handle, answer),
-        Err(fault) => (desk.abandon(rt, handle), Err(HandleFault::Refused(fault))),
-    }
-}
-
-/// Calls what changes a handle.
-fn call<T, E, F: FnOnce(&mut Handle<()>) -> Result<T, E>>(
-    change: F,
-    handle: &mut Handle<()>,
-) -> Result<T, E>
-    requires { F.IsAlwaysCallable change }
-    ensures { FnOnceReturnsAtMut F.FnOnce change handle.old result handle.new }
-{
-    change(handle)
-}
-
-/// Stops a handle, or drops it where that is refused.
-fn stop<D: Disk, C: Clock, R: Wait, H: Origin, N: Ledger, T: Drop, E>(
-    rt: &R,
-    desk: &Desk<D, C, H, N>,
-    seen: &mut Sights<D, H>,
-    handle: Handle<Seat<H, N>>,
-    answer: T,
-) -> (Seat<H, N>, Result<(T, u64), HandleFault<E>>)
-    requires desk { desk_of (holder handle) ≡ desk_id desk.now }
-    requires any { (words : WordMap) → H.begun.stops words }
-    ensures desk { desk_of result.0 ≡ desk_id desk.now }
-    ensures answer { Stops answer (changes_of handle).words (made_by (holder handle)) (made_by result.0) result.1 }
-    ensures stopped { IfOk result.1 (λ given. given.1 < (view_of result.0).stopped) }
-    ensures sees { SeesChange (made_by (holder handle)) (made_by result.0) seen.old seen.new result.1 }
-{
-    match desk.stop(rt, seen, handle) {
-        Ok((seat, ticket)) => (seat, Ok((answer, ticket))),
-        Err(StopFault::Aborted(seat)) => (seat, Err(HandleFault::Aborted)),
-        Err(StopFault::NotOpen(handle)) => (desk.abandon(rt, handle), Err(HandleFault::NotOpen)),
-        Err(StopFault::Memory(handle)) => (desk.abandon(rt, handle), Err(HandleFault::Memory)),
     }
 }

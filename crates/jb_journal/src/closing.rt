@@ -62,7 +62,7 @@ fn tell<T: Drop, D: Disk + Drop, C: Clock + Drop>(
 ) -> Result<Ran<T, D>, RunFault>
     requires { (past : ℕ) × Follow (start_of closed.trail.items) 0 past closed.trail.items × (past ≤ closed.handles) }
     ensures told { IfOk result (λ ran. (ran.disk ≡ closed.disk) × (ran.answers ≡ answers)
-        × (ran.handles ≡ closed.handles) × (ran.trail ≡ closed.trail)) }
+        × (ran.handles ≡ closed.handles) × (ran.trail ≡ closed.trail) × (ran.changes ≡ closed.changes)) }
     ensures ends { IfOk result (λ ran. (asked : Bool) → EndsChecked asked checkpoint → EndsRun asked ran) }
     ensures faults { IfErr result (λ fault. fault ≡ Accounts) }
 {

@@ -4,8 +4,9 @@ ghost use Rattle.jb_desk.specs.Desks.{desk_id};
 ghost use Rattle.jb_desk.specs.Seats.{made_by, made_left, desk_of};
 ghost use Rattle.jb_journal.specs.Running.{HasLeft};
 
+use crate::counted::{CountedLeft, CountedSeat};
 use crate::gate::Gate;
-use jb_desk::{Delay, Desk, Ended, Left, Origin, Seat};
+use jb_desk::{Delay, Desk, Ended, Origin};
 use jb_disk::{Clock, Disk};
 use std::sync::Wait;
 use std::sync::ledger::Ledger;
@@ -17,17 +18,18 @@ fn commit_all<D: Disk, C: Clock, R: Wait + time::Clock, H: Origin, N: Ledger>(
     rt: &R,
     desk: &Desk<D, C, H, N>,
     delay: Delay,
-    seat: Seat<H, N>,
-) -> (Left<H, N>, Ended)
-    requires { desk_of seat ≡ desk_id desk.now }
-    ensures { made_left result.0 ≡ made_by seat }
+    seat: CountedSeat<H, N>,
+) -> (CountedLeft<H, N>, Ended)
+    requires { desk_of seat.seat ≡ desk_id desk.now }
+    ensures { made_left result.0.left ≡ made_by seat.seat }
 {
+    let CountedSeat { seat } = seat;
     let (committer, ended) = desk.run_committer_after(rt, desk.committer(seat), delay);
     let seat = match desk.retire(rt, committer) {
         Ok(seat) => seat,
         Err(committer) => desk.give_up(rt, committer),
     };
-    (desk.leave(rt, seat), ended)
+    (CountedSeat { seat }.leave(rt, desk), ended)
 }
 
 /// The same with a seat that was taken before, as a desk that is shut gives none; `None` where there is none. Comes to
@@ -37,9 +39,9 @@ pub(crate) fn commit_from<D: Disk, C: Clock, R: Wait + time::Clock, H: Origin, N
     desk: &Desk<D, C, H, N>,
     gate: &Gate,
     delay: Delay,
-    place: &mut Option<Seat<H, N>>,
-) -> Option<(Left<H, N>, Ended)>
-    requires { IfSome place.old (λ seat. desk_of seat ≡ desk_id desk.now) }
+    place: &mut Option<CountedSeat<H, N>>,
+) -> Option<(CountedLeft<H, N>, Ended)>
+    requires { IfSome place.old (λ seat. desk_of seat.seat ≡ desk_id desk.now) }
     ensures taken { place.new ≡ None }
     ensures left { HasLeft place.old result }
 {

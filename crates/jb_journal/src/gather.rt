@@ -1,8 +1,11 @@
 //! What the workers leave is put together.
-ghost use Rattle.std.specs.Prelude.{◌≡◌, ◌⊎◌, IfErr, IfOk};
-ghost use Rattle.jb_journal.specs.Leaving.{IsGatheredFrom};
-ghost use Rattle.jb_journal.specs.declared.fault.RunFault.TheVariants.{Accounts, NoThread, Memory as OutOfMemory};
+ghost use Rattle.std.specs.Prelude.{◌≡◌, map};
+ghost use Rattle.std.specs.List.{sum_by};
+ghost use Rattle.jb_cost.specs.Pieces.{joined};
+ghost use Rattle.jb_desk.specs.Seats.{changes_left, made_left};
+ghost use Rattle.jb_journal.specs.Notes.{changed_by};
 
+use crate::counted::CountedLeft;
 use crate::fault::RunFault;
 use crate::threads::{Threaded, Worked};
 use jb_desk::{Desk, Ended, Left, Origin, Sights};
@@ -20,14 +23,15 @@ pub(crate) struct Gathered<T, D: Disk, H: Origin, N: Ledger> {
     pub seen: Sights<D, H>,
     /// What the workers answered, in the order of their places.
     pub answers: Vec<T>,
+    ghost counted: { sum_by changes_left lefts.items ≡ sum_by changed_by (joined (map made_left lefts.items)) },
 }
 
 impl<T: Drop, D: Disk, H: Origin, N: Ledger> Gathered<T, D, H, N> {
     ghost use Rattle.std.specs.Prelude.{◌≡◌, ◌++◌, ◌∷◌, [], map, All, Some, IfOk, OnOk, IfErr, ◌⊎◌};
     ghost use Rattle.jb_book.specs.Marks.{SeesMore};
-    ghost use Rattle.jb_desk.specs.Seats.{made_left};
+    ghost use Rattle.jb_journal.specs.Leaving.{IsGatheredFrom};
     ghost use Rattle.jb_journal.specs.Running.{HasAllSeen, answer_of, stops_left_by, stops_of_worked};
-    ghost use Rattle.jb_journal.specs.declared.fault.RunFault.TheVariants.{Accounts, Memory as OutOfMemory};
+    ghost use Rattle.jb_journal.specs.declared.fault.RunFault.TheVariants.{Accounts, NoThread, Memory as OutOfMemory};
 
     /// Nothing but what is seen by now. Takes no memory.
     fn new(alloc: Global, seen: Sights<D, H>) -> Gathered<T, D, H, N>
@@ -44,17 +48,17 @@ impl<T: Drop, D: Disk, H: Origin, N: Ledger> Gathered<T, D, H, N> {
     ///
     /// # Errors
     /// `Accounts` where there was no seat, `Memory` where there is none for that.
-    fn add_left(&mut self, left: Option<Left<H, N>>) -> Result<(), RunFault>
+    fn add_left(&mut self, left: Option<CountedLeft<H, N>>) -> Result<(), RunFault>
         ensures answers { self.new.answers ≡ self.old.answers }
         ensures seen { self.new.seen ≡ self.old.seen }
         ensures stops { OnOk result (map made_left self.new.lefts.items ≡ map made_left self.old.lefts.items
             ++ stops_left_by left ∷ []) }
         ensures faults { IfErr result (λ fault. (fault ≡ OutOfMemory) ⊎ (fault ≡ Accounts)) }
     {
-        let Some(left) = left else {
+        let Some(counted) = left else {
             return Err(RunFault::Accounts);
         };
-        match self.lefts.push(left) {
+        match self.lefts.push(counted.left) {
             Ok(()) => Ok(()),
             Err(_) => Err(RunFault::Memory),
         }
@@ -127,29 +131,29 @@ impl<T: Drop, D: Disk, H: Origin, N: Ledger> Gathered<T, D, H, N> {
         }
         Ok(())
     }
-}
 
-/// Puts together what the threads of a run leave; says how the committer ended, too.
-///
-/// # Errors
-/// That of the threads; `Accounts` where a worker had no seat, `Memory` where there is none for that.
-pub(crate) fn gather<T: Drop, D: Disk, C: Clock, R: Wait, H: Origin, N: Ledger>(
-    rt: &R,
-    alloc: Global,
-    desk: &Desk<D, C, H, N>,
-    ran: Result<Threaded<T, D, H, N>, RunFault>,
-) -> Result<(Gathered<T, D, H, N>, Ended), RunFault>
-    requires { IfErr ran (λ fault. (fault ≡ OutOfMemory) ⊎ ((fault ≡ Accounts) ⊎ (fault ≡ NoThread))) }
-    ensures gathered { IfOk result (IsGatheredFrom ran) }
-    ensures faults { IfErr result (λ fault. (fault ≡ OutOfMemory) ⊎ ((fault ≡ Accounts) ⊎ (fault ≡ NoThread))) }
-{
-    let Threaded {
-        workers,
-        committer,
-        commit,
-    } = ran?;
-    let mut gathered = Gathered::new(alloc, desk.sights(rt));
-    gathered.add_left(Some(committer))?;
-    gathered.add_all(desk, workers)?;
-    Ok((gathered, commit))
+    /// Puts together what the threads of a run leave; says how the committer ended, too.
+    ///
+    /// # Errors
+    /// That of the threads; `Accounts` where a worker had no seat, `Memory` where there is none for that.
+    pub(crate) fn of<C: Clock, R: Wait>(
+        rt: &R,
+        alloc: Global,
+        desk: &Desk<D, C, H, N>,
+        ran: Result<Threaded<T, D, H, N>, RunFault>,
+    ) -> Result<(Gathered<T, D, H, N>, Ended), RunFault>
+        requires { IfErr ran (λ fault. (fault ≡ OutOfMemory) ⊎ ((fault ≡ Accounts) ⊎ (fault ≡ NoThread))) }
+        ensures gathered { IfOk result (IsGatheredFrom ran) }
+        ensures faults { IfErr result (λ fault. (fault ≡ OutOfMemory) ⊎ ((fault ≡ Accounts) ⊎ (fault ≡ NoThread))) }
+    {
+        let Threaded {
+            workers,
+            committer,
+            commit,
+        } = ran?;
+        let mut gathered = Gathered::new(alloc, desk.sights(rt));
+        gathered.add_left(Some(committer))?;
+        gathered.add_all(desk, workers)?;
+        Ok((gathered, commit))
+    }
 }

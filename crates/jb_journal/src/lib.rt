@@ -2,10 +2,12 @@
 //! and written home.
 #![tactic(auto)]
 
+mod change;
 mod client;
 mod clock;
 mod closing;
 mod committing;
+mod counted;
 mod fault;
 mod gate;
 mod gather;

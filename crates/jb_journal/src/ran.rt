@@ -16,7 +16,7 @@ pub struct Ran<T, D> {
     pub handles: u64,
     /// How many of them, the first by their tickets, are settled: they stand after a crash.
     pub settled: u64,
-    /// How many home blocks these had touched, added up. No clause of `run` says so; it is tested.
+    /// How many home blocks these changed, each handle's added up.
     pub changes: u64,
     /// The transactions that were committed, in the order of their tickets, without those that a worker has taken from
     /// the trail. They begin at the ticket 0 where none was.

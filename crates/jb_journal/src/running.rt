@@ -12,7 +12,7 @@ ghost use Rattle.jb_journal.specs.declared.fault.RunFault.TheVariants.{Accounts,
 
 use crate::closing::close;
 use crate::fault::RunFault;
-use crate::gather::gather;
+use crate::gather::Gathered;
 use crate::options::Options;
 use crate::ran::Ran;
 use crate::threads::run_all;
@@ -224,6 +224,6 @@ fn run_at<
     ensures faults { IfErr result (λ fault. (fault ≡ OutOfMemory) ⊎ ((fault ≡ Accounts) ⊎ (fault ≡ NoThread))) }
 {
     let (ran, checkpoint) = run_all(rt, alloc, &desk, shape, options, worker);
-    let (gathered, commit) = gather(rt, alloc, &desk, ran)?;
+    let (gathered, commit) = Gathered::of(rt, alloc, &desk, ran)?;
     close(desk, gathered, commit, checkpoint)
 }

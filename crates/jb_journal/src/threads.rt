@@ -9,12 +9,13 @@ ghost use Rattle.jb_journal.specs.Running.{known_of_worked, marks_of_worked, sto
 
 use crate::client::Client;
 use crate::committing::commit_from;
+use crate::counted::{CountedLeft, CountedSeat};
 use crate::fault::RunFault;
 use crate::gate::Gate;
 use crate::options::Options;
 use crate::worker::Worker;
 use jb_block::Memory;
-use jb_desk::{Desk, Ended, Left, Origin, Sights};
+use jb_desk::{Desk, Ended, Origin, Sights};
 use jb_disk::{Clock, Disk};
 use jb_handle::Shape;
 use std::alloc::Global;
@@ -27,7 +28,7 @@ use std::{thread, time};
 #[derive(Drop)]
 pub(crate) struct Worked<T, D: Disk, H: Origin, N: Ledger> {
     /// What its seat left; `None` where it had none.
-    pub left: Option<Left<H, N>>,
+    pub left: Option<CountedLeft<H, N>>,
     /// What its client had seen of the handles that stopped and of the journal.
     pub seen: Sights<D, H>,
     /// What it answered.
@@ -40,7 +41,7 @@ pub(crate) struct Threaded<T, D: Disk, H: Origin, N: Ledger> {
     /// What the workers leave.
     pub workers: Vec<Worked<T, D, H, N>>,
     /// What the committer's seat left.
-    pub committer: Left<H, N>,
+    pub committer: CountedLeft<H, N>,
     /// How the committer ended.
     pub commit: Ended,
 }
@@ -127,7 +128,7 @@ fn run_workers<
     ensures ran { IfOk result (HasThreaded D.Disk (W.answers worker.now H.begun) options.workers) }
     ensures faults { IfErr result (λ fault. (fault ≡ OutOfMemory) ⊎ ((fault ≡ Accounts) ⊎ (fault ≡ NoThread))) }
 {
-    let Ok(seat) = desk.seat(rt) else {
+    let Some(seat) = CountedSeat::at(rt, desk) else {
         desk.shut(rt);
         return Err(RunFault::Accounts);
     };
@@ -142,7 +143,7 @@ fn run_workers<
     );
     match place {
         Some(seat) => {
-            let _left = desk.leave(rt, seat);
+            let _left = seat.leave(rt, desk);
             Err(RunFault::Accounts)
         }
         None => put_threads(committed, ran, gate.is_given_up(rt)),
@@ -151,7 +152,7 @@ fn run_workers<
 
 /// What the threads leave, where the committer had a seat and the gate was not given up.
 fn put_threads<T: Drop, D: Disk, H: Origin, N: Ledger>(
-    committed: Option<(Left<H, N>, Ended)>,
+    committed: Option<(CountedLeft<H, N>, Ended)>,
     ran: Result<Vec<Worked<T, D, H, N>>, Memory>,
     given_up: bool,
 ) -> Result<Threaded<T, D, H, N>, RunFault>
@@ -230,7 +231,7 @@ fn work_at<T, W: Worker<T>, D: Disk, C: Clock, R: Wait + time::Clock, H: Origin,
             answer: None,
         };
     }
-    let Ok(seat) = desk.seat(rt) else {
+    let Some(seat) = CountedSeat::at(rt, desk) else {
         return Worked {
             left: None,
             seen: desk.sights(rt),
@@ -241,7 +242,7 @@ fn work_at<T, W: Worker<T>, D: Disk, C: Clock, R: Wait + time::Clock, H: Origin,
     let answer = worker.work(&mut client, workers, at);
     let (seat, seen) = client.into_seat();
     let left = match seat {
-        Some(seat) => Some(desk.leave(rt, seat)),
+        Some(seat) => Some(seat.leave(rt, desk)),
         None => None,
     };
     Worked {

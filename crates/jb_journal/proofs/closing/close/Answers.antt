@@ -10,7 +10,8 @@ pub returns-in-Some-clause-closed : goal.returns-in-Some-clause-closed
 returns-in-Some-clause-closed g c =
     let closed = c.in-Some.closed in
     IfOk-weaker c.tell.result _ _
-    (λ ran told. closed-as g.D.Disk g.H.Origin.begun c.args.gathered ran closed.disk closed.handles closed.trail.items closed.shape told.0 told.1 told.2 (ap (λ t. t.items) told.3) c.in-Some.ensures.ends c.in-Some.ensures.came)
+    (λ ran told. closed-as g.D.Disk g.H.Origin.begun c.args.gathered ran closed.disk closed.handles closed.changes closed.trail.items closed.shape told.0 told.1 told.2 (ap (λ t. t.items) told.3)
+    told.4 c.in-Some.ensures.changes c.in-Some.ensures.ends c.in-Some.ensures.came)
     c.tell.ensures.told
 
 pub returns-in-Some-clause-ends : goal.returns-in-Some-clause-ends

@@ -1,6 +1,6 @@
 use Rattle.std.proofs.Common.{refl}
 use Rattle.jb_journal.proofs.Changing.{sees-stop}
-use Rattle.jb_journal.proofs.client.stop.Goals as goal
+use Rattle.jb_journal.proofs.change.stop.Goals as goal
 
 pub stop-requires-clause-seat : goal.stop-requires-clause-seat
 stop-requires-clause-seat g c = c.requires.desk

@@ -1,7 +1,7 @@
 use Rattle.std.proofs.Common.{[], ◌∷◌, ◌++◌, map, ap, ◌∙◌}
 use Rattle.jb_desk.specs.Seats.{made_left}
 use Rattle.jb_journal.specs.Running.{stops_of_worked}
-use Rattle.jb_journal.proofs.gather.gather.Goals as goal
+use Rattle.jb_journal.proofs.gather.Gathered.of.Goals as goal
 
 pub returns-clause-gathered : goal.returns-clause-gathered
 returns-clause-gathered g c =
@@ -12,6 +12,6 @@ returns-clause-gathered g c =
       of = of;
       is = c.in_ok-workers.was;
       answers = c.in_ok-add_all.ensures.answers;
-      stops = c.in_ok-add_all.ensures.stops ∙ ap (λ xs. xs ++ stopped) (c.in_ok-add_left.ensures.stops ∙ ap (λ ls. made ls ++ made_left of.committer ∷ []) c.new-gathered.ensures.0);
+      stops = c.in_ok-add_all.ensures.stops ∙ ap (λ xs. xs ++ stopped) (c.in_ok-add_left.ensures.stops ∙ ap (λ ls. made ls ++ made_left of.committer.left ∷ []) c.new-gathered.ensures.0);
       seen = c.in_ok-add_all.ensures.seen;
     }
