@@ -8,7 +8,7 @@ use Rattle.jb_disk.specs.Image.{Image}
 use Rattle.jb_super.specs.Superblock.{Superblock}
 use Rattle.jb_handle.specs.declared.stopped.Stopped.{Stopped}
 use Rattle.jb_handle.specs.declared.shape.Shape.{Shape}
-use Rattle.jb_format.specs.Front.{homes_in, homes_on, wide_in}
+use Rattle.jb_format.specs.Front.{homes_in, wide_in}
 use Rattle.jb_format.specs.Ready.{has_revoke, revoking, revoking_if}
 use Rattle.jb_log.specs.Frame.{KeepsFrame, KeepsOutside}
 use Rattle.jb_deck.specs.Deck.{IsShapeOf}
@@ -45,6 +45,6 @@ keeps-own l sb shape count base c is shaped has =
     let but = revoking-same sb in
     let first : l.sb.first ≡ sb.first = ap (λ (x : Log). x.sb.first) is ∙ but.first in
     let maxlen : l.sb.maxlen ≡ sb.maxlen = ap (λ (x : Log). x.sb.maxlen) is ∙ but.maxlen in
-    let homes : shape.homes ≡ homes_in sb count = shaped.homes ∙ ap (λ (x : Log). homes_in x.sb count) is ∙ ap₂ (λ w m. homes_on w m count) (wide-revoking sb) but.maxlen in
+    let homes : shape.homes ≡ homes_in sb count = shaped.homes ∙ ap (λ (x : Log). homes_in x.sb count) is ∙ ap₂ (λ w m. min (count - m) (if w then 2 ^ 64 - 1 else 2 ^ 32)) (wide-revoking sb) but.maxlen in
     let past : l.sb.maxlen + shape.homes ≡ sb.maxlen + homes_in sb count = ap₂ (λ m n. m + n) maxlen homes in
     subst (λ n. KeepsOutside sb.first n base c) past (subst (λ n. KeepsOutside n (l.sb.maxlen + shape.homes) base c) first has)
