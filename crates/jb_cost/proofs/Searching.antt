@@ -1,5 +1,5 @@
 -- A search for the best start, as it goes over one stretch more.
-use Rattle.std.proofs.Common.{◌≡◌, ℕ, ◌+◌, ◌-◌, ◌^◌, ◌<◌, ◌≤◌, List, length, Option, sym, subst, ◌∙◌, arith}
+use Rattle.std.proofs.Common.{◌≡◌, ℕ, ◌+◌, ◌-◌, ◌^◌, ◌<◌, ◌≤◌, List, length, Option, sym, ◌∙◌, arith}
 use Rattle.jb_cost.specs.declared.geometry.Geometry.{Geometry}
 use Rattle.jb_cost.specs.declared.owned.Owned.{Owned}
 use Rattle.jb_cost.specs.declared.stretch.Priced.{Priced}
@@ -7,7 +7,7 @@ use Rattle.jb_cost.specs.declared.found.Found.{Found}
 use Rattle.jb_cost.specs.Cost.{blocks_of}
 use Rattle.jb_cost.specs.Owned.{owned_at, owned_from, copies_of, frees_of, owned_cost}
 use Rattle.jb_cost.specs.Starts.{LeastPrice, BestStart, AreIdle, found_start, better_of}
-use Rattle.jb_cost.proofs.Starts.{best-joined, best-alike}
+use Rattle.jb_cost.proofs.Starts.{best-stretch}
 use Rattle.jb_cost.proofs.Spans.{owned-one, owned-later}
 use Rattle.jb_cost.proofs.Walking.{owned-dearer, idle-copies, idle-frees}
 
@@ -52,12 +52,9 @@ module _ (g : Geometry) (os : List Owned) (low copies frees : ℕ) (within : low
       pub stretch-best : (limit cost end : ℕ) → cost ≡ blocks_of g copies_now frees_now → cost ≤ limit → low ≤ end → (ps : List (Option ℕ)) (best : Option Found) (least : Option Priced) → LeastPrice ps from (low - 1 + 1) least
           → BestStart (owned_cost g os) limit ps low end best → BestStart (owned_cost g os) limit ps from end (better_of best (found_start least cost))
       stretch-best limit cost end is fits inside ps best least lowest tried =
-          let back : low - 1 + 1 ≡ low = omega arith in
           let short : low - 1 ≤ length os = omega (arith, within) in
-          best-joined (owned_cost g os) limit ps from low low end (omega (arith, before)) (omega arith) inside best (found_start least cost)
-          (best-alike (owned_cost g os) limit ps from low cost fits
+          best-stretch (owned_cost g os) limit ps from low cost end (omega (arith, before)) inside fits
           (λ i above below.
           let until : AreIdle os i (low - 1) = λ j late early. idle j (omega arith) early in
           (λ k. blocks_of g (idle-copies os i (low - 1) (omega arith) short until k) (idle-frees os i (low - 1) (omega arith) short until k)) ∙ stretch-cost ∙ sym is)
-          least (subst (λ n. LeastPrice ps from n least) back lowest))
-          tried
+          best least lowest tried

@@ -1,5 +1,5 @@
 -- Spans: as a walk counts one, as a search goes over it, and as a handle in it changes.
-use Rattle.std.proofs.Common.{◌≡◌, ℕ, ◌+◌, ◌-◌, ◌^◌, ◌<◌, ◌≤◌, true, false, nat_lt, if◌then◌else◌, List, length, Option, Some, None, refl, subst, ap, arith}
+use Rattle.std.proofs.Common.{◌≡◌, ℕ, ◌+◌, ◌-◌, ◌^◌, ◌<◌, ◌≤◌, true, false, nat_lt, if◌then◌else◌, List, length, Option, Some, None, refl, ap, arith}
 use Rattle.std.specs.Int.{div_ceil}
 use Rattle.std.proofs.lemmas.List.Sums.{sum_by-drop_more}
 use Rattle.jb_cost.specs.declared.geometry.Geometry.{Geometry}
@@ -11,7 +11,7 @@ use Rattle.jb_cost.specs.Owned.{owned_at, owned_from, copies_of, frees_of, owned
 use Rattle.jb_cost.specs.Starts.{LeastPrice, BestStart, AreIdle, found_start, dearer_by, better_of}
 use Rattle.jb_cost.specs.Spans.{CostsWithin, copies_until, IsSpan, IsBestOf}
 use Rattle.jb_cost.proofs.Ceilings.{ceil-mono}
-use Rattle.jb_cost.proofs.Starts.{best-joined, best-alike, best-dearer, best-as}
+use Rattle.jb_cost.proofs.Starts.{best-joined, best-stretch, best-moved, best-as}
 use Rattle.jb_cost.proofs.Walking.{owned-more, owned-dearer, idle-copies, idle-frees}
 
 -- one handle more to the left
@@ -75,16 +75,13 @@ module _ (os : List Owned) (end low copies frees : ℕ) (best : Option Found) (c
     pub counted-best : owned_from copies_of os 0 ≤ 2 ^ 62 → (ps : List (Option ℕ)) (least : Option Priced) → LeastPrice ps from (low - 1 + 1) least → BestStart (copies_until os end) (2 ^ 62) ps low end best
         → BestStart (copies_until os end) (2 ^ 62) ps from end (better_of best (found_start least copies_now))
     counted-best few ps least lowest tried =
-        let back : low - 1 + 1 ≡ low = omega arith in
         let short : low - 1 ≤ length os = omega (arith, counted.within) in
         let now = counted-more least in
-        best-joined (copies_until os end) (2 ^ 62) ps from low low end (omega (arith, before)) (omega arith) counted.within best (found_start least copies_now)
-        (best-alike (copies_until os end) (2 ^ 62) ps from low copies_now (omega (arith, few, now.copies_are, owned-later copies_of os 0 from (omega arith)))
+        best-stretch (copies_until os end) (2 ^ 62) ps from low copies_now end (omega (arith, before)) counted.within (omega (arith, few, now.copies_are, owned-later copies_of os 0 from (omega arith)))
         (λ i above below.
         let until : AreIdle os i (low - 1) = λ j late early. idle j (omega arith) early in
         omega (arith, idle-copies os i (low - 1) (omega arith) short until, idle-copies os from (low - 1) before short idle, now.copies_are))
-        least (subst (λ n. LeastPrice ps from n least) back lowest))
-        tried
+        best least lowest tried
 
 -- what a search over a span takes in
 module _ (g : Geometry) (os : List Owned) (low : ℕ) (s : Span) (is : IsSpan os low s) where
@@ -123,10 +120,11 @@ module _ (g : Geometry) (os : List Owned) (low : ℕ) (s : Span) (is : IsSpan os
         → BestStart (owned_cost g os) limit ps met end best → BestStart (owned_cost g os) limit ps s.from end (better_of best (dearer_by cost s.least))
     span-best limit cost met end back overlap costs fits few inside ps best of tried =
         best-joined (owned_cost g os) limit ps s.from met low end back overlap inside best (dearer_by cost s.least)
-        (best-dearer (owned_cost g os) limit ps (copies_until os low) (2 ^ 62) cost s.from low
+        (best-moved (copies_until os low) (owned_cost g os) (2 ^ 62) limit ps ps s.from s.from low cost (omega arith)
         (λ i above below. omega (arith, span-cost i above below, costs))
-        (λ i above below. omega (arith, fits, owned-dearer g os s.from i above))
-        (λ i above below. omega (arith, few, owned-later copies_of os 0 i (omega arith)))
+        (λ i below. refl)
+        (λ i above below fit. omega (arith, fits, owned-dearer g os s.from i above))
+        (λ i above below fit. (above, omega (arith, few, owned-later copies_of os 0 i (omega arith))))
         s.least of)
         tried
 
