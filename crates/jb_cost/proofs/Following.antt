@@ -15,7 +15,7 @@ use Rattle.jb_handle.specs.declared.stopped.Stopped.{Stopped}
 use Rattle.jb_handle.specs.Size.{IsWithinSize}
 use Rattle.jb_handle.specs.Word.{is_copy}
 use Rattle.jb_handle.specs.Words.{word, is_copied, is_freed, copies, frees}
-use Rattle.jb_handle.proofs.Touched.{word-append, contains-copies, contains-frees}
+use Rattle.jb_handle.proofs.Touched.{is_of, word-append, contains-copies, contains-frees}
 use Rattle.jb_cost.specs.declared.geometry.Geometry.{Geometry}
 use Rattle.jb_cost.specs.declared.owned.Touch.{Touch}
 use Rattle.jb_cost.specs.declared.stretch.Stretch.{Stretch}
@@ -27,7 +27,7 @@ use Rattle.jb_cost.specs.Starts.{LeastPrice, stretch_at, AreLeast, priced_of}
 use Rattle.jb_cost.specs.Spans.{copies_until}
 use Rattle.jb_cost.specs.LastTouches.{PartsFit, TellsQueue, homes_owned}
 use Rattle.jb_cost.proofs.Left.{few}
-use Rattle.jb_cost.proofs.Picked.{passes, len-of_kind}
+use Rattle.jb_cost.proofs.Picked.{len-of_kind}
 use Rattle.jb_cost.proofs.Pieces.{piece-none, weight-part}
 use Rattle.jb_cost.proofs.Starts.{least-one, least-as, best-as}
 
@@ -83,40 +83,32 @@ leasts-more ps ss n start long leasts is k below = elim (cases_lt k n) [
       (subst (λ (x : Stretch). LeastPrice ps x.from (length ss + 1) x.least) (sym here) (subst (λ m. LeastPrice ps n (m + 1) (priced_of n start)) (sym long) (least-one ps n start is)))
 ]
 
--- whether what is left is of a kind
-holds : (Bool → Bool) → Option Bool → Bool
-holds kind None = false
-holds kind (Some copy) = kind copy
+is_of-since : (kind : Bool → Bool) (i : ℕ) (t : Option Touch) → is_of kind (left_since i t) ≡ is_of (is_since kind i) t
+is_of-since kind i None = refl
+is_of-since kind i (Some t) = elim (nat_le i t.handle) as (λ b. is_of kind (cond b (Some t.copy) None) ≡ (b && kind t.copy)) [ true ↦ refl | false ↦ refl ]
 
-holds-since : (kind : Bool → Bool) (i : ℕ) (t : Option Touch) → holds kind (left_since i t) ≡ passes (is_since kind i) t
-unfolding holds
-holds-since kind i None = refl
-holds-since kind i (Some t) = elim (nat_le i t.handle) as (λ b. holds kind (cond b (Some t.copy) None) ≡ (b && kind t.copy)) [ true ↦ refl | false ↦ refl ]
+copied-is_of : (w : Option Word) → is_copied w ≡ is_of left_copy (option_map is_copy w)
+copied-is_of None = refl
+copied-is_of (Some (Copy bytes)) = refl
+copied-is_of (Some Free) = refl
 
-copied-holds : (w : Option Word) → is_copied w ≡ holds left_copy (option_map is_copy w)
-unfolding holds
-copied-holds None = refl
-copied-holds (Some (Copy bytes)) = refl
-copied-holds (Some Free) = refl
-
-freed-holds : (w : Option Word) → is_freed w ≡ holds not (option_map is_copy w)
-unfolding holds
-freed-holds None = refl
-freed-holds (Some (Copy bytes)) = refl
-freed-holds (Some Free) = refl
+freed-is_of : (w : Option Word) → is_freed w ≡ is_of not (option_map is_copy w)
+freed-is_of None = refl
+freed-is_of (Some (Copy bytes)) = refl
+freed-is_of (Some Free) = refl
 
 module _ (g : Geometry) (hs : List Stopped) (n : ℕ) (ps : List (Option ℕ)) (t : LastTouches) (sound : PartsFit t) (tells : TellsQueue g hs n ps t) where
   -- the homes that the handles of a piece copy, and those that they free
   pub copies-piece : (i : ℕ) → i ≤ n → set.len (copies (slice_range hs i n)) ≡ owned_from copies_of t.owned.items i
   copies-piece i inside =
       len-of_kind (is_since left_copy i) t.last.entries sound.ordered (copies (slice_range hs i n))
-      (λ q. contains-copies (slice_range hs i n) q ∙ copied-holds (word (slice_range hs i n) q) ∙ ap (holds left_copy) (sym (tells.follows i q inside)) ∙ holds-since left_copy i (get nat_cmp t.last q))
+      (λ q. contains-copies (slice_range hs i n) q ∙ copied-is_of (word (slice_range hs i n) q) ∙ ap (is_of left_copy) (sym (tells.follows i q inside)) ∙ is_of-since left_copy i (get nat_cmp t.last q))
       ∙ sym (sound.copies i)
 
   pub frees-piece : (i : ℕ) → i ≤ n → set.len (frees (slice_range hs i n)) ≡ owned_from frees_of t.owned.items i
   frees-piece i inside =
       len-of_kind (is_since not i) t.last.entries sound.ordered (frees (slice_range hs i n))
-      (λ q. contains-frees (slice_range hs i n) q ∙ freed-holds (word (slice_range hs i n) q) ∙ ap (holds not) (sym (tells.follows i q inside)) ∙ holds-since not i (get nat_cmp t.last q))
+      (λ q. contains-frees (slice_range hs i n) q ∙ freed-is_of (word (slice_range hs i n) q) ∙ ap (is_of not) (sym (tells.follows i q inside)) ∙ is_of-since not i (get nat_cmp t.last q))
       ∙ sym (sound.frees i)
 
   -- what a piece that ends with the last handle costs

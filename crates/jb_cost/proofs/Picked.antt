@@ -1,67 +1,83 @@
--- How many homes have a value that passes a test.
-use Rattle.std.proofs.Common.{◌≡◌, ℕ, ◌+◌, Bool, true, false, cond, ◌||◌, List, [], ◌∷◌, Option, Some, None, Less, refl, sym, ap, subst, ◌∙◌, arith}
-use Rattle.std.specs.List.{sum_by, AllByRecursion}
+-- The homes of the entries that pass a test, put into a set: which they are, and how many.
+use Rattle.std.proofs.Common.{◌≡◌, ℕ, ◌+◌, ◌<◌, Bool, true, false, cond, ◌||◌, T, List, [], ◌∷◌, Option, Some, None, refl, sym, ap, subst, ◌∙◌, arith}
+use Rattle.std.specs.List.{sum_by, count_by}
 use Rattle.std.specs.List.Sorted.{IsStrictlySortedBy}
 use Rattle.std.specs.Map.{keys_of, values_of, lookup}
 use Rattle.std.specs.Ordering.{nat_cmp, eq_by_cmp}
 use Rattle.std.specs.Cmp.{nat_cmp_total}
 use Rattle.std.specs.BTreeMap.{is_at}
+use Rattle.std.specs.FinMap as map
+use Rattle.std.specs.FinMap.Entries.{below_all}
 use Rattle.std.specs.FinSet as set
+use Rattle.std.proofs.Math.Bool.{or-false}
 use Rattle.std.proofs.lemmas.Bool.Decides.{nat_tests}
 use Rattle.std.proofs.lemmas.List.Sums.{sum_by-cons}
+use Rattle.jb_handle.proofs.Rising.{both_parts, is_lt-less, ordered-rise}
+use Rattle.jb_handle.proofs.Touched.{is_of}
+use Rattle.jb_handle.proofs.Trees.{find-looks}
 
-module _ {W : Type 0} (p : W → Bool) where
-  -- whether what is found passes
-  abbrev pub passes : Option W → Bool
-  passes None = false
-  passes (Some w) = p w
+none-added : (a b n : ℕ) → a ≡ b + n → a ≡ b + (0 + n)
+none-added a b n e = omega arith
 
-  -- the homes of the entries that pass
-  picked : List (ℕ × W) → set.FinSet nat_cmp
-  picked [] = set.empty
-  picked (e ∷ es) = cond (p e.1) (set.insert (picked es) e.0) (picked es)
+one-added : (a b n : ℕ) → a ≡ b + n → a + 1 ≡ b + (1 + n)
+one-added a b n e = omega arith
 
-  none-later : (b : ℕ) (es : List (ℕ × W)) → AllByRecursion (λ k. nat_cmp b k ≡ Less) (keys_of es) → lookup (is_at (nat_cmp b)) es ≡ None
+module _ {W : Type 0} (p : ℕ × W → Bool) (s : set.FinSet nat_cmp) where
+  -- the set, and the homes of the entries that pass
+  abbrev pub picked : List (ℕ × W) → set.FinSet nat_cmp
+  picked [] = s
+  picked (e ∷ es) = cond (p e) (set.insert (picked es) e.0) (picked es)
+
+  none-later : (b : ℕ) (es : List (ℕ × W)) → T (below_all nat_cmp b es) → map.find nat_cmp b es ≡ None
   none-later b [] h = refl
-  none-later b (e ∷ es) h = rw h.0 (none-later b es h.1)
+  none-later b (e ∷ es) h =
+      let less : b < e.0 = is_lt-less b e.0 (both_parts _ _ h).0 in
+      let apart : eq_by_cmp nat_cmp b e.0 ≡ false = grind (arith, nat_tests) in
+      rw apart (none-later b es (both_parts _ _ h).1)
 
-  put-picked : (b t : Bool) (w : W) (found : Option W) (old : Bool) → p w ≡ b → old ≡ passes found → (t ≡ true → found ≡ None) → cond b (t || old) old ≡ passes (cond t (Some w) found)
-  put-picked true true w found old is e none = sym is
-  put-picked true false w found old is e none = e
-  put-picked false true w found old is e none = e ∙ ap passes (none refl) ∙ sym is
-  put-picked false false w found old is e none = e
+  -- whether what is found at home q passes
+  abbrev pub passes_at : ℕ → Option W → Bool
+  passes_at q = is_of (λ w. p (q, w))
 
-  contains-picked : (es : List (ℕ × W)) → IsStrictlySortedBy nat_cmp (keys_of es) → (q : ℕ) → set.contains (picked es) q ≡ passes (lookup (is_at (nat_cmp q)) es)
-  unfolding picked IsStrictlySortedBy
-  contains-picked [] h q = set.contains-empty nat_cmp q
+  put-picked : (b t : Bool) (q : ℕ) (e : ℕ × W) (found : Option W) (old base : Bool) → p e ≡ b → old ≡ (passes_at q found || base) → (t ≡ true → (e.0 ≡ q) × (found ≡ None))
+      → cond b (t || old) old ≡ (passes_at q (cond t (Some e.1) found) || base)
+  put-picked true true q e found old base is so_far tied = ap (λ x. x || base) (sym is ∙ ap (λ h. p (h, e.1)) (tied refl).0)
+  put-picked false true q e found old base is so_far tied = so_far ∙ ap (λ w. passes_at q w || base) (tied refl).1 ∙ ap (λ x. x || base) (sym is ∙ ap (λ h. p (h, e.1)) (tied refl).0)
+  put-picked true false q e found old base is so_far tied = so_far
+  put-picked false false q e found old base is so_far tied = so_far
+
+  pub contains-picked : (es : List (ℕ × W)) → T (map.is_sorted nat_cmp es) → (q : ℕ) → set.contains (picked es) q ≡ (passes_at q (map.find nat_cmp q es) || set.contains s q)
+  contains-picked [] h q = refl
   contains-picked (e ∷ es) h q =
-      elim (p e.1) as (λ b. set.contains (cond b (set.insert (picked es) e.0) (picked es)) q ≡ cond b (eq_by_cmp nat_cmp q e.0 || set.contains (picked es) q) (set.contains (picked es) q)) [
+      elim (p e) as (λ b. set.contains (cond b (set.insert (picked es) e.0) (picked es)) q ≡ cond b (eq_by_cmp nat_cmp q e.0 || set.contains (picked es) q) (set.contains (picked es) q)) [
         | true ↦ set.contains-insert nat_cmp_total (picked es) e.0 q
         | false ↦ refl
       ]
-      ∙ put-picked (p e.1) (eq_by_cmp nat_cmp q e.0) e.1 _ _ refl (contains-picked es h.1 q)
-      (λ tied. let here : e.0 ≡ q = grind (arith, nat_tests) in subst (λ b. lookup (is_at (nat_cmp b)) es ≡ None) here (none-later e.0 es h.0))
+      ∙ put-picked (p e) (eq_by_cmp nat_cmp q e.0) q e _ _ (set.contains s q) refl (contains-picked es (both_parts _ _ h).1 q)
+      (λ tied. let here : e.0 ≡ q = grind (arith, nat_tests) in (here, subst (λ b. map.find nat_cmp b es ≡ None) here (none-later e.0 es (both_parts _ _ h).0)))
 
-  one-added : (a n : ℕ) → a ≡ n → a + 1 ≡ 1 + n
-  one-added a n e = omega arith
+  -- where the passing homes are not in the set, each counts
+  pub len-picked : (es : List (ℕ × W)) → T (map.is_sorted nat_cmp es) → ((e : ℕ × W) → p e ≡ true → set.contains s e.0 ≡ false) → set.len (picked es) ≡ set.len s + count_by p es
+  len-picked [] h apart = omega arith
+  len-picked (e ∷ es) h apart =
+      elim (p e) as (λ b. p e ≡ b → set.len (cond b (set.insert (picked es) e.0) (picked es)) ≡ set.len s + (cond b 1 0 + count_by p es)) [
+        | true ↦ λ passes.
+            let lacks : set.contains (picked es) e.0 ≡ false = contains-picked es (both_parts _ _ h).1 e.0 ∙ (λ i. passes_at e.0 (none-later e.0 es (both_parts _ _ h).0 i) || apart e passes i) in
+            set.len-insert nat_cmp_total (picked es) e.0 ∙ rw lacks (one-added _ _ _ (len-picked es (both_parts _ _ h).1 apart))
+        | false ↦ λ fails. none-added _ _ _ (len-picked es (both_parts _ _ h).1 apart)
+      ] refl
+      ∙ ap (λ n. set.len s + n) (sym (sum_by-cons (λ x. cond (p x) 1 0) e es))
 
-  none-added : (a n : ℕ) → a ≡ n → a ≡ 0 + n
-  none-added a n e = omega arith
-
-  len-picked : (es : List (ℕ × W)) → IsStrictlySortedBy nat_cmp (keys_of es) → set.len (picked es) ≡ sum_by (λ w. cond (p w) 1 0) (values_of es)
-  unfolding picked IsStrictlySortedBy
-  len-picked [] h = set.len-empty nat_cmp
-  len-picked (e ∷ es) h =
-      elim (p e.1) as (λ b. set.len (cond b (set.insert (picked es) e.0) (picked es)) ≡ cond b 1 0 + sum_by (λ w. cond (p w) 1 0) (values_of es)) [
-        | true ↦
-            let lacks : set.contains (picked es) e.0 ≡ false = contains-picked es h.1 e.0 ∙ ap passes (none-later e.0 es h.0) in
-            set.len-insert nat_cmp_total (picked es) e.0 ∙ rw lacks (one-added _ _ (len-picked es h.1))
-        | false ↦ none-added _ _ (len-picked es h.1)
-      ]
-      ∙ sym (sum_by-cons (λ w. cond (p w) 1 0) e.1 (values_of es))
+module _ {W : Type 0} (p : W → Bool) where
+  counted : (es : List (ℕ × W)) → count_by (λ e. p e.1) es ≡ sum_by (λ w. cond (p w) 1 0) (values_of es)
+  counted [] = refl
+  counted (e ∷ es) = omega (arith, counted es, sum_by-cons (λ (x : ℕ × W). cond (p x.1) 1 0) e es, sum_by-cons (λ w. cond (p w) 1 0) e.1 (values_of es))
 
   -- a set of the homes whose value passes has as many as there are such values
-  pub len-of_kind : (es : List (ℕ × W)) → IsStrictlySortedBy nat_cmp (keys_of es) → (s : set.FinSet nat_cmp) → ((q : ℕ) → set.contains s q ≡ passes (lookup (is_at (nat_cmp q)) es)) → set.len s ≡ sum_by (λ w. cond (p w) 1 0) (values_of es)
-  len-of_kind es rising s agree =
-      ap set.len (set.same_set nat_cmp_total set.nat_cmp-IsAntisymmetric s (picked es) (λ q. agree q ∙ sym (contains-picked es rising q)))
-      ∙ len-picked es rising
+  pub len-of_kind : (es : List (ℕ × W)) → IsStrictlySortedBy nat_cmp (keys_of es) → (s : set.FinSet nat_cmp) → ((q : ℕ) → set.contains s q ≡ is_of p (lookup (is_at (nat_cmp q)) es)) → set.len s ≡ sum_by (λ w. cond (p w) 1 0) (values_of es)
+  len-of_kind es ordered s agree =
+      let test = λ (e : ℕ × W). p e.1 in
+      let rising = ordered-rise es ordered in
+      let found = λ (q : ℕ). contains-picked test set.empty es rising q ∙ ap (λ b. is_of p (map.find nat_cmp q es) || b) (set.contains-empty nat_cmp q) ∙ or-false _ ∙ ap (is_of p) (find-looks q es) in
+      ap set.len (set.same_set nat_cmp_total set.nat_cmp-IsAntisymmetric s (picked test set.empty es) (λ q. agree q ∙ sym (found q)))
+      ∙ omega (arith, len-picked test set.empty es rising (λ e passes. set.contains-empty nat_cmp e.0), set.len-empty nat_cmp, counted es)

@@ -1,7 +1,6 @@
 -- Spans: as a walk counts one, as a search goes over it, and as a handle in it changes.
-use Rattle.std.proofs.Common.{◌≡◌, ℕ, ◌+◌, ◌-◌, ◌^◌, ◌<◌, ◌≤◌, true, false, nat_lt, if◌then◌else◌, List, length, Option, Some, None, refl, subst, ap, arith}
+use Rattle.std.proofs.Common.{◌≡◌, ℕ, ◌+◌, ◌-◌, ◌^◌, ◌<◌, ◌≤◌, true, false, nat_lt, if◌then◌else◌, List, length, Option, Some, None, refl, arith}
 use Rattle.std.specs.Int.{div_ceil}
-use Rattle.std.proofs.lemmas.List.Sums.{sum_by-drop_more}
 use Rattle.jb_cost.specs.declared.geometry.Geometry.{Geometry}
 use Rattle.jb_cost.specs.declared.owned.Owned.{Owned}
 use Rattle.jb_cost.specs.declared.stretch.Priced.{Priced}
@@ -11,17 +10,8 @@ use Rattle.jb_cost.specs.Owned.{owned_at, owned_from, copies_of, frees_of, owned
 use Rattle.jb_cost.specs.Starts.{LeastPrice, BestStart, AreIdle, found_start, dearer_by, better_of}
 use Rattle.jb_cost.specs.Spans.{CostsWithin, copies_until, IsSpan, IsBestOf}
 use Rattle.jb_cost.proofs.Ceilings.{ceil-mono}
-use Rattle.jb_cost.proofs.Starts.{best-joined, best-alike, best-dearer, best-as}
-use Rattle.jb_cost.proofs.Walking.{owned-more, owned-dearer, idle-copies, idle-frees}
-
--- one handle more to the left
-pub owned-one : (count : Owned → ℕ) (os : List Owned) (low : ℕ) → 0 < low → low ≤ length os → owned_from count os (low - 1) ≡ owned_from count os low + count (owned_at os (low - 1))
-owned-one count os low positive within =
-    let back : low - 1 + 1 ≡ low = omega arith in
-    omega (arith, ap (owned_from count os) back, sum_by-drop_more count os (low - 1) (record { copies = 0; frees = 0 }) (omega (arith, within)))
-
-pub owned-later : (count : Owned → ℕ) (os : List Owned) (i k : ℕ) → i ≤ k → owned_from count os k ≤ owned_from count os i
-owned-later count os i k before = owned-more count os (k - i) i k (omega arith)
+use Rattle.jb_cost.proofs.Starts.{best-joined, best-stretch, best-moved, best-as}
+use Rattle.jb_cost.proofs.Walking.{owned-later, owned-one, owned-dearer, idle-sums}
 
 within-better : (most : ℕ) (best earlier : Option Found) → CostsWithin most best → CostsWithin most earlier → CostsWithin most (better_of best earlier)
 within-better most best None one other = one
@@ -44,29 +34,15 @@ pub record Counted (os : List Owned) (end low copies frees : ℕ) (least : Optio
   pub small : CostsWithin copies least
 
 module _ (os : List Owned) (end low copies frees : ℕ) (best : Option Found) (counted : Counted os end low copies frees best) (eight : 8 ≤ end) (inside : end ≤ length os) (later : end - 8 < low) where
-  -- the sums of one handle more are within the size
-  pub counted-room : owned_from copies_of os 0 + owned_from frees_of os 0 ≤ 2 ^ 62 → (copies + (owned_at os (low - 1)).copies) + (frees + (owned_at os (low - 1)).frees) ≤ 2 ^ 62
-  counted-room few =
-      omega (
-        arith,
-        few,
-        counted.copies_are,
-        counted.frees_are,
-        counted.within,
-        owned-one copies_of os low (omega arith) (omega (arith, counted.within)),
-        owned-one frees_of os low (omega arith) (omega (arith, counted.within)),
-        owned-later copies_of os 0 (low - 1) (omega arith),
-        owned-later frees_of os 0 (low - 1) (omega arith),
-      )
-
   -- one stretch more
   module _ (from copies_now frees_now : ℕ) (copied : copies_now ≡ copies + (owned_at os (low - 1)).copies) (freed : frees_now ≡ frees + (owned_at os (low - 1)).frees) (before : from ≤ low - 1) (idle : AreIdle os from (low - 1)) where
     pub counted-more : (least : Option Priced) → Counted os end from copies_now frees_now (better_of best (found_start least copies_now))
     counted-more least =
-        let short : low - 1 ≤ length os = omega (arith, counted.within) in
+        let one = owned-one os low (omega arith) (omega (arith, counted.within)) in
+        let same = idle-sums os from (low - 1) before (omega (arith, counted.within)) idle in
         record {
-          copies_are = omega (arith, copied, counted.copies_are, owned-one copies_of os low (omega arith) (omega (arith, counted.within)), idle-copies os from (low - 1) before short idle);
-          frees_are = omega (arith, freed, counted.frees_are, owned-one frees_of os low (omega arith) (omega (arith, counted.within)), idle-frees os from (low - 1) before short idle);
+          copies_are = omega (arith, copied, counted.copies_are, one.0, same.0);
+          frees_are = omega (arith, freed, counted.frees_are, one.1, same.1);
           within = omega (arith, before, counted.within);
           idle = λ j above below. idle j above (omega arith);
           small = within-better copies_now best (found_start least copies_now) (within-more copies copies_now best (omega (arith, copied)) counted.small) (within-from copies_now least);
@@ -75,29 +51,18 @@ module _ (os : List Owned) (end low copies frees : ℕ) (best : Option Found) (c
     pub counted-best : owned_from copies_of os 0 ≤ 2 ^ 62 → (ps : List (Option ℕ)) (least : Option Priced) → LeastPrice ps from (low - 1 + 1) least → BestStart (copies_until os end) (2 ^ 62) ps low end best
         → BestStart (copies_until os end) (2 ^ 62) ps from end (better_of best (found_start least copies_now))
     counted-best few ps least lowest tried =
-        let back : low - 1 + 1 ≡ low = omega arith in
         let short : low - 1 ≤ length os = omega (arith, counted.within) in
         let now = counted-more least in
-        best-joined (copies_until os end) (2 ^ 62) ps from low low end (omega (arith, before)) (omega arith) counted.within best (found_start least copies_now)
-        (best-alike (copies_until os end) (2 ^ 62) ps from low copies_now (omega (arith, few, now.copies_are, owned-later copies_of os 0 from (omega arith)))
+        best-stretch (copies_until os end) (2 ^ 62) ps from low copies_now end (omega (arith, before)) counted.within (omega (arith, few, now.copies_are, owned-later copies_of os 0 from (omega arith)))
         (λ i above below.
         let until : AreIdle os i (low - 1) = λ j late early. idle j (omega arith) early in
-        omega (arith, idle-copies os i (low - 1) (omega arith) short until, idle-copies os from (low - 1) before short idle, now.copies_are))
-        least (subst (λ n. LeastPrice ps from n least) back lowest))
-        tried
+        omega (arith, (idle-sums os i (low - 1) (omega arith) short until).0, (idle-sums os from (low - 1) before short idle).0, now.copies_are))
+        best least lowest tried
 
 -- what a search over a span takes in
 module _ (g : Geometry) (os : List Owned) (low : ℕ) (s : Span) (is : IsSpan os low s) where
-  -- the sums with the span are those of the handles from its first one on
-  pub span-copies : (copies : ℕ) → copies ≡ owned_from copies_of os low → copies + s.copies ≡ owned_from copies_of os s.from
-  span-copies copies so_far = omega (arith, so_far, is.copies)
-
-  pub span-frees : (frees : ℕ) → frees ≡ owned_from frees_of os low → frees + s.frees ≡ owned_from frees_of os s.from
-  span-frees frees so_far = omega (arith, so_far, is.frees)
-
   pub span-room : owned_from copies_of os 0 + owned_from frees_of os 0 ≤ 2 ^ 62 → (copies frees : ℕ) → copies ≡ owned_from copies_of os low → frees ≡ owned_from frees_of os low → (copies + s.copies) + (frees + s.frees) ≤ 2 ^ 62
-  span-room few copies frees copied freed =
-      omega (arith, few, span-copies copies copied, span-frees frees freed, owned-later copies_of os 0 s.from (omega arith), owned-later frees_of os 0 s.from (omega arith))
+  span-room few copies frees copied freed = omega (arith, few, is.copies, is.frees, owned-later copies_of os 0 s.from (omega arith), owned-later frees_of os 0 s.from (omega arith))
 
   module _ (copied : div_ceil (owned_from copies_of os low) g.t ≡ div_ceil (owned_from copies_of os s.from) g.t) (freed : div_ceil (owned_from frees_of os low) g.r ≡ div_ceil (owned_from frees_of os s.from) g.r) where
     -- with as many descriptors and revoke blocks each of its starts costs its copies more
@@ -123,10 +88,11 @@ module _ (g : Geometry) (os : List Owned) (low : ℕ) (s : Span) (is : IsSpan os
         → BestStart (owned_cost g os) limit ps met end best → BestStart (owned_cost g os) limit ps s.from end (better_of best (dearer_by cost s.least))
     span-best limit cost met end back overlap costs fits few inside ps best of tried =
         best-joined (owned_cost g os) limit ps s.from met low end back overlap inside best (dearer_by cost s.least)
-        (best-dearer (owned_cost g os) limit ps (copies_until os low) (2 ^ 62) cost s.from low
+        (best-moved (copies_until os low) (owned_cost g os) (2 ^ 62) limit ps ps s.from s.from low cost (omega arith)
         (λ i above below. omega (arith, span-cost i above below, costs))
-        (λ i above below. omega (arith, fits, owned-dearer g os s.from i above))
-        (λ i above below. omega (arith, few, owned-later copies_of os 0 i (omega arith)))
+        (λ i below. refl)
+        (λ i above below fit. omega (arith, fits, owned-dearer g os s.from i above))
+        (λ i above below fit. (above, omega (arith, few, owned-later copies_of os 0 i (omega arith))))
         s.least of)
         tried
 

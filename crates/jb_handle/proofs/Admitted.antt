@@ -1,14 +1,12 @@
 -- A change that is not refused leaves a handle within its credits and its shape.
-use Rattle.std.proofs.Common.{◌≡◌, ℕ, ◌+◌, ◌^◌, ◌<◌, ◌≤◌, Bool, true, false, not, nat_le, cond, ◌==◌, ◌&&◌, length, List, [], ◌∷◌, Some, None, sym, ap, subst, refl, ◌∙◌, arith}
+use Rattle.std.proofs.Common.{◌≡◌, ℕ, ◌+◌, ◌^◌, ◌<◌, ◌≤◌, Bool, true, false, not, nat_le, cond, ◌==◌, ◌&&◌, [], ◌∷◌, Some, None, sym, ap, subst, refl, ◌∙◌, arith}
 use Rattle.std.proofs.lemmas.Bool.Decides.{nat_tests}
 use Rattle.std.specs.Ordering.{nat_cmp}
 use Rattle.std.specs.Cmp.{nat_cmp_total, unsigned_ties}
 use Rattle.std.specs.FinMap as map
-use Rattle.jb_block.specs.Size.{bytes_of}
 use Rattle.jb_handle.specs.declared.word.Word.{Word}
 use Rattle.jb_handle.specs.declared.word.Word.TheVariants.{Copy, Free}
 use Rattle.jb_handle.specs.declared.shape.Shape.{Shape}
-use Rattle.jb_handle.specs.declared.changes.TouchFault.{TouchFault}
 use Rattle.jb_handle.specs.declared.changes.TouchFault.TheVariants.{NoCredit, OutOfRange, Length}
 use Rattle.jb_handle.specs.Word.{WordMap}
 use Rattle.jb_handle.specs.Held.{Held, held, FitsWord, Fits, IsKept, is_spent, is_misfit, first_of, len_in, refusal_at, put_at}
@@ -45,29 +43,17 @@ kept-put h home word kept fits room = record {
 }
 
 -- what three tests let pass
-passed : (a b c : Bool) (x y z : TouchFault) → first_of ((a, x) ∷ (b, y) ∷ (c, z) ∷ []) ≡ None → (a ≡ false) × (b ≡ false) × (c ≡ false)
+pub passed : {F : Type 0} (a b c : Bool) (x y z : F) → first_of ((a, x) ∷ (b, y) ∷ (c, z) ∷ []) ≡ None → (a ≡ false) × (b ≡ false) × (c ≡ false)
 passed true b c x y z is = absurd (let h : ⊥ = cc in h)
 passed false true c x y z is = absurd (let h : ⊥ = cc in h)
 passed false false true x y z is = absurd (let h : ⊥ = cc in h)
 passed false false false x y z is = (refl, refl, refl)
 
-pub copy-kept : (h : Held) (home : ℕ) (bytes : List ℕ) → IsKept h → refusal_at h home (Some (length bytes)) ≡ None → IsKept (put_at h home (Copy bytes))
-copy-kept h home bytes kept none =
-    let p = passed (is_spent h home) (nat_le h.shape.homes home) (is_misfit h.shape (Some (length bytes))) (NoCredit h.credits) (OutOfRange home) Length none in
-    let there : nat_le h.shape.homes home ≡ false = p.1 in
-    let in_range : home < h.shape.homes = grind (arith, nat_tests) in
-    let misfit : not (length bytes == bytes_of h.shape.bs) ≡ false = p.2 in
-    let whole : length bytes ≡ bytes_of h.shape.bs = grind (arith, nat_tests) in
-    kept-put h home (Copy bytes) kept (in_range, whole) p.0
+fitting : (shape : Shape) (home : ℕ) (word : Word) → nat_le shape.homes home ≡ false → is_misfit shape (len_in word) ≡ false → FitsWord shape home word
+fitting shape home (Copy bytes) there misfit = (grind (arith, nat_tests), grind (arith, nat_tests))
+fitting shape home Free there misfit = grind (arith, nat_tests)
 
-pub free-kept : (h : Held) (home : ℕ) → IsKept h → refusal_at h home None ≡ None → IsKept (put_at h home Free)
-free-kept h home kept none =
-    let p = passed (is_spent h home) (nat_le h.shape.homes home) false (NoCredit h.credits) (OutOfRange home) Length none in
-    let there : nat_le h.shape.homes home ≡ false = p.1 in
-    let in_range : home < h.shape.homes = grind (arith, nat_tests) in
-    kept-put h home Free kept in_range p.0
-
--- the same of any word
 pub word-kept : (h : Held) (home : ℕ) (word : Word) → IsKept h → refusal_at h home (len_in word) ≡ None → IsKept (put_at h home word)
-word-kept h home (Copy bytes) kept none = copy-kept h home bytes kept none
-word-kept h home Free kept none = free-kept h home kept none
+word-kept h home word kept none =
+    let p = passed (is_spent h home) (nat_le h.shape.homes home) (is_misfit h.shape (len_in word)) (NoCredit h.credits) (OutOfRange home) Length none in
+    kept-put h home word kept (fitting h.shape home word p.1 p.2) p.0

@@ -4,28 +4,32 @@ use Rattle.std.specs.Option.{option_or}
 use Rattle.std.specs.Ordering.{eq_by_cmp, nat_cmp}
 use Rattle.std.specs.Cmp.{nat_cmp_total}
 use Rattle.std.specs.FinMap as map
+use Rattle.std.proofs.lemmas.Bool.{both_ways}
 use Rattle.std.proofs.lemmas.Bool.Decides.{nat_tests}
-use Rattle.std.proofs.lemmas.List.{drop_more, take_all}
+use Rattle.std.proofs.lemmas.List.{drop_more}
 use Rattle.jb_handle.specs.declared.word.Word.{Word}
 use Rattle.jb_handle.specs.declared.stopped.Stopped.{Stopped}
 use Rattle.jb_handle.specs.Word.{WordMap}
 use Rattle.jb_handle.specs.Words.{word, words_of}
 use Rattle.jb_handle.proofs.LastWord.{or-cond, get-words_of}
-use Rattle.jb_handle.proofs.Rising.{find-before, find-take, tied-cond}
+use Rattle.jb_handle.proofs.Rising.{find-whole, find-with, none-before, tied-cond}
 use Rattle.jb_handle.proofs.Options.{or-none, or-nothing}
+
+get-put : (m n : WordMap) (home : ℕ) (w v : Word) → w ≡ v → n ≡ map.insert m home w → (q : ℕ) → map.get n q ≡ cond (nat_eq q home) (Some v) (map.get m q)
+get-put m n home w v same put q =
+    ap (λ x. map.get x q) put
+    ∙ map.get-insert nat_cmp_total m home w q
+    ∙ tied-cond q home (Some w) (map.get m q)
+    ∙ ap (λ x. cond (nat_eq q home) (Some x) (map.get m q)) same
 
 -- one word more of a handle
 pub word-more : (es : List (ℕ × Word)) → T (map.is_sorted nat_cmp es) → (i : ℕ) (e : ℕ × Word) → e ≡ get_or es i e → i < length es → (m n : WordMap) (w : Word) → w ≡ e.1 → n ≡ map.insert m e.0 w
     → (q : ℕ) (before : Option Word) → map.get m q ≡ option_or (map.find nat_cmp q (take i es)) before → map.get n q ≡ option_or (map.find nat_cmp q (take (i + 1) es)) before
 word-more es rising i e here inside m n w same put q before so_far =
-    ap (λ x. map.get x q) put
-    ∙ map.get-insert nat_cmp_total m e.0 w q
-    ∙ tied-cond q e.0 (Some w) (map.get m q)
-    ∙ ap (λ x. cond (nat_eq q e.0) (Some x) (map.get m q)) same
+    get-put m n e.0 w e.1 same put q
     ∙ ap (cond (nat_eq q e.0) (Some e.1)) so_far
     ∙ or-cond (nat_eq q e.0) e.1 (map.find nat_cmp q (take i es)) before
-    ∙ ap (λ (x : ℕ × Word). option_or (cond (nat_eq q x.0) (Some x.1) (map.find nat_cmp q (take i es))) before) here
-    ∙ ap (λ found. option_or found before) (sym (find-take es rising i e inside q))
+    ∙ ap (λ found. option_or found before) (sym (find-with es rising i e here inside q))
 
 or-added : (t : Bool) (w : Word) (before found : Option Word) → (t ≡ true → found ≡ None) → option_or (option_or before found) (cond t (Some w) None) ≡ option_or before (cond t (Some w) found)
 or-added true w before found none = ap (λ f. option_or (option_or before f) (Some w)) (none refl) ∙ ap (λ x. option_or x (Some w)) (or-nothing before)
@@ -39,32 +43,25 @@ word-added es rising i e here inside m n q before put so_far =
     ∙ ap (λ x. option_or x (cond (nat_eq q e.0) (Some e.1) None)) so_far
     ∙ or-added (nat_eq q e.0) e.1 before (map.find nat_cmp q (take i es)) (λ same.
     let tied : q ≡ e.0 = grind (arith, nat_tests, same) in
-    ap (λ h. map.find nat_cmp h (take i es)) (tied ∙ ap (λ (x : ℕ × Word). x.0) here) ∙ find-before es rising i e inside)
-    ∙ ap (λ (x : ℕ × Word). option_or before (cond (nat_eq q x.0) (Some x.1) (map.find nat_cmp q (take i es)))) here
-    ∙ ap (option_or before) (sym (find-take es rising i e inside q))
+    ap (λ h. map.find nat_cmp h (take i es)) tied ∙ none-before es rising i e here inside)
+    ∙ ap (option_or before) (sym (find-with es rising i e here inside q))
 
-put-by : (t : Bool) (v : Word) (had : Option Word) → (t ≡ true → had ≡ None) → cond t (Some v) had ≡ option_or had (cond t (Some v) None)
-put-by true v had none = ap (λ h. option_or h (Some v)) (sym (none refl))
+put-by : (t : Bool) (v : Word) (had : Option Word) → (t ≡ true → is_some had ≡ false) → cond t (Some v) had ≡ option_or had (cond t (Some v) None)
+put-by true v None none = refl
+put-by true v (Some w) none = absurd (both_ways true (none refl) refl)
 put-by false v had none = sym (or-nothing had)
-
-has-none : (had : Option Word) → is_some had ≡ false → had ≡ None
-has-none None is = refl
-has-none (Some w) is = let never : ◌≡◌ {A = Bool} true false = is in absurd (let h : ⊥ = cc in h)
 
 -- a word on a home that has none
 pub put-added : {V E : Type 0} (r : Result V E) (m n : WordMap) (home : ℕ) (w v : Word) → w ≡ v → is_some (map.get m home) ≡ false → OnOk r (n ≡ map.insert m home w)
     → OnOk r ((q : ℕ) → map.get n q ≡ option_or (map.get m q) (cond (nat_eq q home) (Some v) None))
 put-added (Err e) m n home w v same none put = tt
 put-added (Ok x) m n home w v same none put = λ q.
-    ap (λ x. map.get x q) put
-    ∙ map.get-insert nat_cmp_total m home w q
-    ∙ tied-cond q home (Some w) (map.get m q)
-    ∙ ap (λ x. cond (nat_eq q home) (Some x) (map.get m q)) same
-    ∙ put-by (nat_eq q home) v (map.get m q) (λ tied. let there : q ≡ home = grind (arith, nat_tests, tied) in ap (map.get m) there ∙ has-none (map.get m home) none)
+    get-put m n home w v same put q
+    ∙ put-by (nat_eq q home) v (map.get m q) (λ tied. let there : q ≡ home = grind (arith, nat_tests, tied) in ap (λ h. is_some (map.get m h)) there ∙ none)
 
 -- all words of a handle
 pub words-whole : (words : WordMap) (es : List (ℕ × Word)) → es ≡ map.entries words → (i : ℕ) → length es ≤ i → (q : ℕ) (before : Option Word) → option_or (map.find nat_cmp q (take i es)) before ≡ option_or (map.get words q) before
-words-whole words es same i whole q before = ap (λ found. option_or found before) (ap (map.find nat_cmp q) (take_all i es whole ∙ same) ∙ sym (map.get-entries words q))
+words-whole words es same i whole q before = ap (λ found. option_or found before) (find-whole words es same i q whole)
 
 -- a handle of which an entry was taken has words
 pub some-entry : (words : WordMap) (es : List (ℕ × Word)) → es ≡ map.entries words → (i : ℕ) → i < length es → 0 < map.len words

@@ -5,8 +5,7 @@ use Rattle.std.specs.FinMap as map
 use Rattle.std.specs.FinMap.Entries.{by_order}
 use Rattle.std.proofs.lemmas.Bool.Decides.{nat_tests}
 use Rattle.std.proofs.lemmas.List.{get_or_default}
-use Rattle.std.proofs.lemmas.List.Elements.{All-cons, All-push, All-nil}
-use Rattle.std.proofs.lemmas.Grind.{take_at_read}
+use Rattle.std.proofs.lemmas.List.Elements.{All-cons, All-more, All-nil}
 use Rattle.jb_handle.specs.Placed.{StandsAt}
 use Rattle.jb_handle.specs.declared.word.Word.{Word}
 use Rattle.jb_handle.specs.Word.{HasBytes, EntryHasBytes, AreWords}
@@ -35,7 +34,7 @@ no-words = record { rising = tt; bytes = All-nil EntryHasBytes }
 
 -- one entry more
 pub all-more : {A : Type 0} (P : A → Type 0) (xs : List A) (i : ℕ) (d : A) → i < length xs → All P (take i xs) → P (get_or xs i d) → All P (take (i + 1) xs)
-all-more P xs i d within so one = subst (All P) (sym (take_at_read xs i d within).1) (All-push P (take i xs) (get_or xs i d) so one)
+all-more P xs i d within so one = All-more P xs i d within so one
 
 module _ {W : Type 0} (P : ℕ → W → Type 0) where
   found-case : (b : ℕ) (w : W) (e : ℕ × W) (rest : Option W) (t : Bool) → eq_by_cmp nat_cmp b e.0 ≡ t → cond t (Some e.1) rest ≡ Some w → P e.0 e.1 → (rest ≡ Some w → P b w) → P b w

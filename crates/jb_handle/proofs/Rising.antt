@@ -1,16 +1,14 @@
 -- Entries whose homes rise: where a search among them ends, what is found there, and what is put there.
-use Rattle.std.proofs.Common.{◌≡◌, ℕ, zero, suc, ◌<◌, Bool, true, false, ◌&&◌, T, List, [], ◌∷◌, length, get_or, set, Some, None, Result, Ok, Err, sym, ap, subst, refl, ◌∙◌, arith}
-use Rattle.std.specs.List.{insert}
+use Rattle.std.proofs.Common.{◌≡◌, ℕ, zero, suc, ◌+◌, ◌<◌, ◌≤◌, Bool, true, false, ◌&&◌, cond, nat_eq, T, List, [], ◌∷◌, length, get_or, set, take, Some, None, Less, Result, Ok, Err, sym, ap, subst, refl, ◌∙◌, add-one, arith}
+use Rattle.std.specs.List.{insert, AllByRecursion}
 use Rattle.std.specs.List.Sorted.{IsSearchInRange, IsBinarySearchResult, IsNonDecreasingBy, IsStrictlySortedBy}
-use Rattle.std.specs.List.{AllByRecursion}
 use Rattle.std.specs.Map.{keys_of}
-use Rattle.std.proofs.Common.{◌+◌, add-one, Less, take, cond, nat_eq}
-use Rattle.std.specs.Ordering.{eq_by_cmp}
-use Rattle.std.specs.Ordering.{nat_cmp, ordering_index, is_lt}
+use Rattle.std.specs.Ordering.{eq_by_cmp, nat_cmp, ordering_index, is_lt}
 use Rattle.std.specs.FinMap as map
 use Rattle.std.specs.FinMap.Entries.{below_all, is_sorted-put}
 use Rattle.std.specs.Cmp.{nat_cmp_total}
 use Rattle.std.proofs.lemmas.Cmp.{ranked}
+use Rattle.std.proofs.lemmas.List.{take_all}
 use Rattle.std.proofs.lemmas.Bool.Decides.{nat_tests}
 use Rattle.jb_handle.specs.Placed.{StandsAt, GoesTo, IsPlaced}
 
@@ -148,3 +146,15 @@ module _ {W : Type 0} where
       let less : e.0 < (get_or es i d).0 = homes-rise (e ∷ es) h 0 (suc i) d (omega arith) lt in
       let apart : eq_by_cmp nat_cmp (get_or es i d).0 e.0 ≡ false = grind (arith, nat_tests) in
       rw apart (find-before es (rising-tail e es h) i d (omega arith))
+
+  -- the entry e is the next one: what is found with it, and that its home is not among those before it
+  module _ (es : List (ℕ × W)) (rising : T (map.is_sorted nat_cmp es)) (i : ℕ) (e : ℕ × W) (here : e ≡ get_or es i e) (inside : i < length es) where
+    pub find-with : (q : ℕ) → map.find nat_cmp q (take (i + 1) es) ≡ cond (nat_eq q e.0) (Some e.1) (map.find nat_cmp q (take i es))
+    find-with q = find-take es rising i e inside q ∙ ap (λ (x : ℕ × W). cond (nat_eq q x.0) (Some x.1) (map.find nat_cmp q (take i es))) (sym here)
+
+    pub none-before : map.find nat_cmp e.0 (take i es) ≡ None
+    none-before = ap (λ (x : ℕ × W). map.find nat_cmp x.0 (take i es)) here ∙ find-before es rising i e inside
+
+  -- what is found among all entries of a map
+  pub find-whole : (m : map.FinMap nat_cmp W) (es : List (ℕ × W)) → es ≡ map.entries m → (i q : ℕ) → length es ≤ i → map.find nat_cmp q (take i es) ≡ map.get m q
+  find-whole m es same i q whole = ap (map.find nat_cmp q) (take_all i es whole ∙ same) ∙ sym (map.get-entries m q)

@@ -15,8 +15,8 @@ use Rattle.jb_handle.specs.Word.{is_copy, is_free}
 use Rattle.jb_handle.specs.Words.{word, touched, is_copied, is_freed, copies, frees}
 use Rattle.jb_handle.proofs.Options.{or-assoc, or-nothing, or-some}
 
--- whether there is a word, of this kind
-abbrev pub is_of : (Word → Bool) → Option Word → Bool
+-- whether there is something, of this kind
+abbrev pub is_of : {W : Type 0} → (W → Bool) → Option W → Bool
 is_of kind None = false
 is_of kind (Some w) = kind w
 

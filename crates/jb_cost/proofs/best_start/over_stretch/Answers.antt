@@ -1,17 +1,18 @@
 use Rattle.std.proofs.Common.{◌∙◌, length, ap, arith}
 use Rattle.jb_cost.specs.Cost.{blocks_of}
-use Rattle.jb_cost.proofs.Searching.{stretch-room, stretch-over, stretch-copies, stretch-frees, stretch-best}
+use Rattle.jb_cost.proofs.Searching.{stretch-over, stretch-sums, stretch-best}
+use Rattle.jb_cost.proofs.Walking.{room-one}
 use Rattle.jb_cost.proofs.best_start.over_stretch.Goals as goal
 
 pub plus-tally-requires : goal.plus-tally-requires
 plus-tally-requires c =
     let is = c.requires.walk.0 in
-    stretch-room c.args.walk.tally.geometry c.args.owned.now c.args.walk.low _ _ is.within is.copies is.frees c.requires.walk.1 c.requires.few
+    room-one c.args.owned.now c.args.walk.low c.args.walk.tally.copies.entries c.args.walk.tally.frees.entries c.requires.walk.1 is.within (omega (arith, is.copies)) (omega (arith, is.frees)) c.requires.few
 
 pub cost-cost-requires : goal.cost-cost-requires
 cost-cost-requires c =
     let is = c.requires.walk.0 in
-    let room = stretch-room c.args.walk.tally.geometry c.args.owned.now c.args.walk.low _ _ is.within is.copies is.frees c.requires.walk.1 c.requires.few in
+    let room = room-one c.args.owned.now c.args.walk.low c.args.walk.tally.copies.entries c.args.walk.tally.frees.entries c.requires.walk.1 is.within (omega (arith, is.copies)) (omega (arith, is.frees)) c.requires.few in
     omega (arith, room, c.plus-tally.ensures.copies, c.plus-tally.ensures.frees)
 
 pub returns-then-cost-from-clause-over : goal.returns-then-cost-from-clause-over
@@ -25,10 +26,11 @@ pub returns-clause-next : goal.returns-clause-next
 returns-clause-next c =
     let is = c.requires.walk.0 in
     let stretch = c.stretch-stretch in
+    let sums = stretch-sums c.args.walk.tally.geometry c.args.owned.now c.args.walk.low _ _ is.within is.copies is.frees c.requires.walk.1 _ _ c.plus-tally.ensures.copies c.plus-tally.ensures.frees stretch.result.from stretch.ensures.back stretch.ensures.idle in
     record {
       walk = record {
-        copies = stretch-copies c.args.walk.tally.geometry c.args.owned.now c.args.walk.low _ _ is.within is.copies is.frees c.requires.walk.1 _ _ c.plus-tally.ensures.copies c.plus-tally.ensures.frees stretch.result.from stretch.ensures.back stretch.ensures.idle;
-        frees = stretch-frees c.args.walk.tally.geometry c.args.owned.now c.args.walk.low _ _ is.within is.copies is.frees c.requires.walk.1 _ _ c.plus-tally.ensures.copies c.plus-tally.ensures.frees stretch.result.from stretch.ensures.back stretch.ensures.idle;
+        copies = sums.0;
+        frees = sums.1;
         within = omega (arith, stretch.ensures.back, is.within);
         order = (omega (arith, stretch.ensures.back), omega (arith, is.within));
         idle = stretch.ensures.idle;

@@ -1,15 +1,18 @@
 use Rattle.std.proofs.Common.{arith}
-use Rattle.jb_cost.proofs.Spans.{counted-room, counted-more, counted-best}
+use Rattle.jb_cost.proofs.Spans.{counted-more, counted-best}
+use Rattle.jb_cost.proofs.Walking.{room-one}
 use Rattle.jb_cost.proofs.shortcuts.Shortcuts.counted.Goals as goal
 
 pub plus-sum-requires-clause-copies : goal.plus-sum-requires-clause-copies
 plus-sum-requires-clause-copies c =
-    let room = counted-room c.args.owned.now c.args.end c.loop-low.low _ _ _ c.loop-low.invariant.counted c.requires.inside.0 c.requires.inside.1 c.loop-low-test.true c.requires.few in
+    let so_far = c.loop-low.invariant.counted in
+    let room = room-one c.args.owned.now c.loop-low.low c.loop-low.sum.copies c.loop-low.sum.frees (omega arith) (omega (arith, so_far.within, c.requires.inside.1)) (omega (arith, so_far.copies_are)) (omega (arith, so_far.frees_are)) c.requires.few in
     omega (arith, room)
 
 pub plus-sum-requires-clause-frees : goal.plus-sum-requires-clause-frees
 plus-sum-requires-clause-frees c =
-    let room = counted-room c.args.owned.now c.args.end c.loop-low.low _ _ _ c.loop-low.invariant.counted c.requires.inside.0 c.requires.inside.1 c.loop-low-test.true c.requires.few in
+    let so_far = c.loop-low.invariant.counted in
+    let room = room-one c.args.owned.now c.loop-low.low c.loop-low.sum.copies c.loop-low.sum.frees (omega arith) (omega (arith, so_far.within, c.requires.inside.1)) (omega (arith, so_far.copies_are)) (omega (arith, so_far.frees_are)) c.requires.few in
     omega (arith, room)
 
 pub loop-low-preserved : goal.loop-low-preserved

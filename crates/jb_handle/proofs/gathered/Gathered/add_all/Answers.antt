@@ -6,7 +6,7 @@ use Rattle.jb_block.proofs.Refusals.{on-refusal}
 use Rattle.jb_handle.specs.Word.{WordMap}
 use Rattle.jb_handle.proofs.Gathering.{word-added, words-partly, some-entry}
 use Rattle.jb_handle.proofs.Options.{or-nothing}
-use Rattle.std.proofs.lemmas.List.{take_all}
+use Rattle.jb_handle.proofs.Rising.{find-whole}
 use Rattle.jb_handle.proofs.gathered.Gathered.add_all.Goals as goal
 
 pub loop-home-init : goal.loop-home-init
@@ -21,7 +21,7 @@ loop-home-preserved c =
 pub returns-clause-ok : goal.returns-clause-ok
 returns-clause-ok c q =
     c.loop-home.invariant q
-    ∙ ap (option_or (map.get c.args.self.now q)) (ap (map.find nat_cmp q) (take_all c.loop-home.home-index c.entries-home-items.result.now (omega arith) ∙ c.entries-home-items.ensures) ∙ sym (map.get-entries c.args.words.now q))
+    ∙ ap (option_or (map.get c.args.self.now q)) (find-whole c.args.words.now c.entries-home-items.result.now c.entries-home-items.ensures c.loop-home.home-index q (omega arith))
 
 pub returns-in_err-add-clause-err : goal.returns-in_err-add-clause-err
 returns-in_err-add-clause-err c = on-refusal c.from_residual.result (some-entry c.args.words.now _ c.entries-home-items.ensures c.loop-home.home-index c.loop-home-test.true)
