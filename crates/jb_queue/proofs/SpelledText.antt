@@ -24,21 +24,17 @@ use Rattle.jb_text.specs.Lines.{AreLines}
 use Rattle.jb_queue.specs.Spelling.{width_text, format_line, Each, SpellsHandle, Spells}
 use Rattle.jb_handle.specs.Tickets.{TicketsFrom}
 use Rattle.jb_handle.specs.Word.{WordMap}
-use Rattle.jb_text.proofs.Readings.{FirstFails, FirstGives, first-says}
+use Rattle.jb_text.proofs.Readings.{FirstFails, FirstGives, first-says, behind-read}
 use Rattle.jb_queue.specs.Faults.{HasNoFormat, HasNoLimit, HandleFault, FirstFaultOf}
 use Rattle.jb_queue.proofs.Walks.{each-map}
 use Rattle.jb_queue.proofs.FaultyLines.{lines-fault}
 use Rattle.jb_queue.proofs.Handles.{lines-walk, handles-are}
-use Rattle.jb_text.proofs.Grammar.{lines-are, are-lines, IsLine, behind-is}
+use Rattle.jb_text.proofs.Grammar.{lines-are, are-lines, IsLine}
 use Rattle.jb_text.proofs.Joins.{Without, literal-without, without-append, before-put, onward-put, before-whole, onward-none, spaced-without, decimal-without}
 use Rattle.jb_text.proofs.Numerals.{number-is_decimal, decimal-is_number}
 use Rattle.jb_queue.proofs.SpelledHandles.{handle-is, handle-from, texts-clear}
 use Rattle.jb_queue.proofs.SpelledOps.{feed-delimits}
 use Rattle.jb_text.proofs.Splits.{parted}
-
-number-case : (found : Option (List ℕ)) (n : ℕ) → option_and_then number_of found ≡ Some n → (found ≡ Some (decimal n)) × (n < 2 ^ 64)
-number-case None n is = cc
-number-case (Some digits) n is = let spelled = number-is_decimal digits n is in (ap Some spelled.0, spelled.1)
 
 -- the two first lines
 size-case : (n : Option ℕ) (size : BlockSize) → option_and_then size_of_bytes n ≡ Some size → n ≡ Some (bytes_of size)
@@ -71,19 +67,16 @@ both-is (Some size) (Some width) format is =
     let same : ◌≡◌ {A = BlockSize × Width} (size, width) format = cc in
     (ap (λ (f : BlockSize × Width). Some f.0) same, ap (λ (f : BlockSize × Width). Some f.1) same)
 
-behind-case : (found : Option (List ℕ)) (format : BlockSize × Width) → option_and_then format_behind found ≡ Some format → found ≡ Some (decimal (bytes_of format.0) ++ width_text format.1)
-behind-case None format is = cc
-behind-case (Some text) format is =
-    let both = both-is (option_and_then size_of_bytes (number_of (before 32 text))) (width_behind (onward 32 text)) format is in
-    ap Some (
+pub format-is : (line : List ℕ) (format : BlockSize × Width) → format_of line ≡ Some format → line ≡ format_line format.0 format.1
+format-is line format is =
+    let found = behind-read (codes "bs ") line format_behind format is in
+    let text = found.0 in
+    let both = both-is (option_and_then size_of_bytes (number_of (before 32 text))) (width_behind (onward 32 text)) format found.2 in
+    found.1 ∙ ap (λ bs. codes "bs " ++ bs) (
     sym (parted 32 text)
     ∙ ap (λ bs. bs ++ onward 32 text) (digits-case (before 32 text) format.0 both.0)
     ∙ ap (λ bs. decimal (bytes_of format.0) ++ bs) (width-is (onward 32 text) format.1 both.1)
     )
-
-pub format-is : (line : List ℕ) (format : BlockSize × Width) → format_of line ≡ Some format → line ≡ format_line format.0 format.1
-format-is line format is =
-    behind-is (codes "bs ") line (decimal (bytes_of format.0) ++ width_text format.1) (behind-case (behind_word (codes "bs ") line) format is)
 
 size-fits : (size : BlockSize) → bytes_of size < 2 ^ 64
 size-fits OneKib = omega arith
@@ -127,8 +120,8 @@ limit-case (Some m) limit is = from (nat_le 3 m && nat_le m 2147483646) refl is
 pub limit-is : (line : List ℕ) (limit : ℕ) → limit_in_line line ≡ Some limit → (line ≡ codes "limit " ++ decimal limit) × (3 ≤ limit) × (limit ≤ 2147483646)
 limit-is line limit is =
     let number = limit-case (option_and_then number_of (behind_word (codes "limit ") line)) limit is in
-    let found = number-case (behind_word (codes "limit ") line) limit number.0 in
-    (behind-is (codes "limit ") line (decimal limit) found.0, number.1, number.2)
+    let found = behind-read (codes "limit ") line number_of limit number.0 in
+    (found.1 ∙ ap (λ bs. codes "limit " ++ bs) (number-is_decimal found.0 limit found.2).0, number.1, number.2)
 
 pub limit-from : (limit : ℕ) → 3 ≤ limit → limit ≤ 2147483646 → limit_in_line (codes "limit " ++ decimal limit) ≡ Some limit
 limit-from limit least most =

@@ -1,8 +1,10 @@
 -- What is read, or what is wrong: both of a reading that goes step by step.
-use Rattle.std.proofs.Common.{◌≡◌, ap, sym, ◌∙◌, ℕ, Bool, true, false, if◌then◌else◌, refl, List, [], ◌∷◌, Option, option_map, Some, None, Result, Ok, Err}
+use Rattle.std.proofs.Common.{◌≡◌, ap, sym, ◌∙◌, ℕ, Bool, true, false, if◌then◌else◌, refl, List, [], ◌∷◌, ◌++◌, Option, option_map, Some, None, Result, Ok, Err}
 use Rattle.std.specs.Result.{MatchResult}
-use Rattle.std.specs.Option.{MatchOption}
-use Rattle.jb_text.specs.Parts.{◌>>=◌, read_first}
+use Rattle.std.specs.Option.{MatchOption, option_and_then}
+use Rattle.std.proofs.lemmas.Option.{option_and_then_some}
+use Rattle.jb_text.specs.Parts.{◌>>=◌, behind_word, read_first}
+use Rattle.jb_text.proofs.Grammar.{behind-is}
 
 -- a step, and the next one if it gave a value
 pub then-says : {A B E : Type 0} {P : A → Type 0} {Q : E → Type 0} (P' : B → Type 0) (Q' : E → Type 0) (first : Result A E) (next : A → Result B E)
@@ -36,3 +38,7 @@ first-says {A = A} read (line ∷ more) = by (read line) refl
     by : (got : Option A) → read line ≡ got → MatchOption (option_map (λ x. (x, more)) got) (FirstFails read (line ∷ more)) (FirstGives read (line ∷ more))
     by None is = λ other rest same. let one : line ≡ other = cc in ap read (sym one) ∙ is
     by (Some x) is = (line, refl, is)
+
+-- what a line says after its first word
+pub behind-read : {A : Type 0} (word line : List ℕ) (read : List ℕ → Option A) (x : A) → option_and_then read (behind_word word line) ≡ Some x → (text : List ℕ) × (line ≡ word ++ text) × (read text ≡ Some x)
+behind-read word line read x reads = option_and_then_some read (behind_word word line) x reads (λ text found gives. (text, behind-is word line text found, gives))
