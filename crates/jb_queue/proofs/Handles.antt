@@ -1,6 +1,7 @@
 -- The handles of a queue, read line by line.
-use Rattle.std.proofs.Common.{◌≡◌, ◌∙◌, sym, ap, ℕ, ◌+◌, ◌≤◌, List, [], ◌∷◌, ◌++◌, length, length-append, arith, refl, Result, Ok, Err}
-use Rattle.std.proofs.lemmas.List.{append_assoc}
+use Rattle.std.proofs.Common.{◌≡◌, ◌∙◌, sym, ap, subst, ℕ, ◌+◌, ◌≤◌, List, [], ◌∷◌, ◌++◌, length, fold, length-append, arith, refl, Result, Ok, Err}
+use Rattle.std.proofs.lemmas.List.{append_assoc, append-nil}
+use Rattle.std.proofs.lemmas.Result.{MatchResult-at_err}
 use Rattle.jb_queue.specs.declared.fault.Cause.{Cause}
 use Rattle.jb_queue.specs.declared.fault.Cause.TheVariants.{BlockSizeLine, LimitLine, HandleLine, OpWord, DataWord, Memory}
 use Rattle.jb_queue.specs.declared.fault.QueueFault.{QueueFault}
@@ -8,35 +9,53 @@ use Rattle.jb_handle.specs.declared.stopped.Stopped.{Stopped}
 use Rattle.jb_text.specs.Parts.{lines, FirstLine}
 use Rattle.jb_queue.specs.Queue.{Gives, Reports, BeginsHandle, MayGrow, handle_of, after_lines}
 use Rattle.jb_handle.specs.Word.{WordMap}
+use Rattle.jb_handle.specs.Tickets.{TicketsFrom}
+use Rattle.jb_queue.specs.Spelling.{Each}
+use Rattle.jb_queue.proofs.Walks.{IsWalk, walk-says, walk-last, walk-first}
 
-pub lines-goes : (size : ℕ) (had : List Stopped) (line : List ℕ) (more : List (List ℕ)) (left : WordMap) → handle_of size line ≡ Ok left → after_lines size had (line ∷ more) ≡ after_lines size (had ++ record { ticket = length had; words = left } ∷ []) more
-unfolding after_lines
-lines-goes size had line more left is = rw is refl
+-- the handles of a queue, with one of these words at the end
+abbrev pub put_handle : List Stopped → WordMap → List Stopped
+put_handle had words = had ++ record { ticket = length had; words = words } ∷ []
 
-pub lines-fails : (size : ℕ) (had : List Stopped) (line : List ℕ) (more : List (List ℕ)) (cause : Cause) → handle_of size line ≡ Err cause → after_lines size had (line ∷ more) ≡ Err (record { line = length had + 3; cause = cause })
-unfolding after_lines
-lines-fails size had line more cause is = rw is refl
+-- a fault of the line after theirs
+abbrev pub on_next : List Stopped → Cause → QueueFault
+on_next had cause = record { line = length had + 3; cause = cause }
 
-pub lines-end : (size : ℕ) (had : List Stopped) → after_lines size had [] ≡ Ok had
+pub lines-walk : (size : ℕ) → IsWalk (handle_of size) put_handle on_next (after_lines size)
 unfolding after_lines
-lines-end size had = refl
+lines-walk size = record { ends = λ had. refl; goes = λ had line more words is. rw is refl; fails = λ had line more cause is. rw is refl }
+
+pub put-length : (had : List Stopped) (each : List WordMap) → length (fold put_handle had each) ≡ length had + length each
+put-length had [] = omega arith
+put-length had (words ∷ each) =
+    let further = put-length (put_handle had words) each in
+    omega (arith, further, length-append had (record { ticket = length had; words = words } ∷ []))
+
+-- the handles that lines are read to
+pub record ReadsLines (size : ℕ) (had now : List Stopped) (left : List (List ℕ)) : Type 0 where
+  pub handles : List Stopped
+  pub whole : now ≡ had ++ handles
+  pub each : Each (λ line handle. handle_of size line ≡ Ok handle.words) left handles
+  pub tickets : TicketsFrom (length had) handles
+
+pub handles-are : (size : ℕ) (had now : List Stopped) (left : List (List ℕ)) → after_lines size had left ≡ Ok now → ReadsLines size had now left
+handles-are size had now [] reads = record { handles = []; whole = sym (walk-last (lines-walk size) had now reads) ∙ sym (append-nil had); each = tt; tickets = tt }
+handles-are size had now (line ∷ more) reads =
+    let first = walk-first (lines-walk size) had now line more reads in
+    let stopped : Stopped = record { ticket = length had; words = first.0 } in
+    let further = handles-are size (had ++ stopped ∷ []) now more first.2 in
+    record {
+      handles = stopped ∷ further.handles;
+      whole = further.whole ∙ append_assoc had (stopped ∷ []) further.handles;
+      each = (first.1, further.each);
+      tickets = (refl, subst (λ n. TicketsFrom n further.handles) (length-append had (stopped ∷ [])) further.tickets);
+    }
 
 -- a fault of further lines is not before them
-fails-later : (size : ℕ) (had : List Stopped) (line : List ℕ) (more : List (List ℕ)) (other : QueueFault) (h : Result WordMap Cause) → handle_of size line ≡ h → after_lines size had (line ∷ more) ≡ Err other
-    → ((had' : List Stopped) → after_lines size had' more ≡ Err other → length had' + 3 ≤ other.line) → length had + 3 ≤ other.line
-fails-later size had line more other (Ok left) is fails later =
-    let further = later (had ++ record { ticket = length had; words = left } ∷ []) (sym (lines-goes size had line more left is) ∙ fails) in
-    omega (arith, further, length-append had (record { ticket = length had; words = left } ∷ []))
-fails-later size had line more other (Err cause) is fails later =
-    let same : ◌≡◌ {A = Result (List Stopped) QueueFault} (Err (record { line = length had + 3; cause = cause })) (Err other) = sym (lines-fails size had line more cause is) ∙ fails in
-    let fault : ◌≡◌ {A = QueueFault} (record { line = length had + 3; cause = cause }) other = cc in
-    let at : length had + 3 ≡ other.line = ap (λ f. f.line) fault in
-    omega (arith, at)
-
 pub lines-later : (size : ℕ) (had : List Stopped) (left : List (List ℕ)) (other : QueueFault) → after_lines size had left ≡ Err other → length had + 3 ≤ other.line
-lines-later size had [] other fails = let never : ◌≡◌ {A = Result (List Stopped) QueueFault} (Ok had) (Err other) = sym (lines-end size had) ∙ fails in cc
-lines-later size had (line ∷ more) other fails =
-    fails-later size had line more other (handle_of size line) refl fails (λ had' further. lines-later size had' more other further)
+lines-later size had left other fails =
+    let stops = MatchResult-at_err _ _ other fails (walk-says (lines-walk size) had left) in
+    omega (arith, ap (λ (f : QueueFault). f.line) stops.1, put-length had stops.0.ys)
 
 module _ (size : ℕ) (had : List Stopped) (rest line behind : List ℕ) (whole : Result (List Stopped) QueueFault) (at : ℕ)
     (first : FirstLine rest line behind) (so_far : after_lines size had (lines rest) ≡ whole) (is : at ≡ length had) where
@@ -47,10 +66,10 @@ module _ (size : ℕ) (had : List Stopped) (rest line behind : List ℕ) (whole 
   pub line-goes : (left : WordMap) (now : List Stopped) → handle_of size line ≡ Ok left → now ≡ had ++ record { ticket = at; words = left } ∷ [] → after_lines size now (lines behind) ≡ whole
   line-goes left now given pushed =
       ap (λ hs. after_lines size hs (lines behind)) (pushed ∙ ap (λ n. had ++ record { ticket = n; words = left } ∷ []) is)
-      ∙ sym (lines-goes size had line (lines behind) left given) ∙ from_line
+      ∙ sym ((lines-walk size).goes had line (lines behind) left given) ∙ from_line
 
   line-fails : (cause : Cause) → handle_of size line ≡ Err cause → whole ≡ Err (record { line = at + 3; cause = cause })
-  line-fails cause given = sym from_line ∙ lines-fails size had line (lines behind) cause given ∙ ap (λ n. Err (record { line = n + 3; cause = cause })) (sym is)
+  line-fails cause given = sym from_line ∙ (lines-walk size).fails had line (lines behind) cause given ∙ ap (λ n. Err (record { line = n + 3; cause = cause })) (sym is)
 
   -- `Memory` at a line is before each fault that is left
   line-first : (other : QueueFault) → whole ≡ Err other → at + 3 ≤ other.line

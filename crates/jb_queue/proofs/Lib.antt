@@ -1,4 +1,3 @@
-pub mod Clear
 pub mod Data
 pub mod FaultyLines
 pub mod FaultyOps
@@ -10,4 +9,5 @@ pub mod SpelledHandles
 pub mod SpelledOps
 pub mod SpelledText
 pub mod Table
+pub mod Walks
 pub mod Weights

@@ -10,18 +10,18 @@ use Rattle.jb_handle.specs.declared.word.Word.{Word}
 use Rattle.jb_text.specs.Parts.{words, words_in}
 use Rattle.jb_queue.specs.Queue.{Gives, FirstReads, BeginsHandle, op_of, after_ops, behind_h, handle_of}
 use Rattle.jb_handle.specs.Word.{WordMap}
+use Rattle.jb_queue.proofs.Walks.{IsWalk, walk-first}
 
-pub ops-goes : (size : ℕ) (had : WordMap) (text : List ℕ) (texts : List (List ℕ)) (op : ℕ × Word) → op_of size text ≡ Ok op → after_ops size had (text ∷ texts) ≡ after_ops size (map.insert had op.0 op.1) texts
-unfolding after_ops
-ops-goes size had text texts op is = rw is refl
+-- the words of a handle, with what one of them says
+abbrev pub put_op : WordMap → ℕ × Word → WordMap
+put_op had op = map.insert had op.0 op.1
 
-pub ops-fails : (size : ℕ) (had : WordMap) (text : List ℕ) (texts : List (List ℕ)) (cause : Cause) → op_of size text ≡ Err cause → after_ops size had (text ∷ texts) ≡ Err cause
-unfolding after_ops
-ops-fails size had text texts cause is = rw is refl
+abbrev pub same_cause : WordMap → Cause → Cause
+same_cause had cause = cause
 
-pub ops-end : (size : ℕ) (had : WordMap) → after_ops size had [] ≡ Ok had
+pub ops-walk : (size : ℕ) → IsWalk (op_of size) put_op same_cause (after_ops size)
 unfolding after_ops
-ops-end size had = refl
+ops-walk size = record { ends = λ had. refl; goes = λ had text texts op is. rw is refl; fails = λ had text texts cause is. rw is refl }
 
 -- the loop over the words: what is left gives the whole, after what was gathered
 module _ (size : ℕ) (had : WordMap) (rest : Option (Bor (List ℕ))) (text : Bor (List ℕ)) (word : List ℕ) (behind : List (List ℕ)) (whole : Result WordMap Cause)
@@ -30,10 +30,10 @@ module _ (size : ℕ) (had : WordMap) (rest : Option (Bor (List ℕ))) (text : B
   from_word = ap (after_ops size had) (sym parts) ∙ ap (λ r. after_ops size had (words_in (option_copied r))) (sym is) ∙ so_far
 
   pub op-goes : (op : ℕ × Word) → op_of size word ≡ Ok op → after_ops size (map.insert had op.0 op.1) behind ≡ whole
-  op-goes op step = sym (ops-goes size had word behind op step) ∙ from_word
+  op-goes op step = sym ((ops-walk size).goes had word behind op step) ∙ from_word
 
   pub op-fails : (cause : Cause) → op_of size word ≡ Err cause → whole ≡ Err cause
-  op-fails cause step = sym from_word ∙ ops-fails size had word behind cause step
+  op-fails cause step = sym from_word ∙ (ops-walk size).fails had word behind cause step
 
 -- a fault of a part is one of the whole
 pub gives-on : {A B : Type 0} (cause : Cause) (part : Result A Cause) (whole : Result B Cause) → ((cause' : Cause) → part ≡ Err cause' → whole ≡ Err cause') → Gives {A = A} (Err cause) part → Gives {A = B} (Err cause) whole
@@ -46,7 +46,7 @@ gives-on Memory part whole on given = tt
 
 -- the last word was the last
 pub ops-whole : (size : ℕ) (had : WordMap) (rest : Option (Bor (List ℕ))) (whole : Result WordMap Cause) → ((text : Bor (List ℕ)) → rest ≡ Some text → ⊥) → after_ops size had (words_in (option_copied rest)) ≡ whole → whole ≡ Ok had
-ops-whole size had None whole ended so_far = sym so_far ∙ ops-end size had
+ops-whole size had None whole ended so_far = sym so_far ∙ (ops-walk size).ends had
 ops-whole size had (Some text) whole ended so_far = absurd (ended text refl)
 
 -- what is read where a test holds, and else is a fault
@@ -67,14 +67,9 @@ first-none size None ended = tt
 first-none size (Some text) ended = absurd (ended text refl)
 
 -- words that are read begin with one of the form
-first-case : (size : ℕ) (had : WordMap) (text : List ℕ) (texts : List (List ℕ)) (now : WordMap) (op : Result (ℕ × Word) Cause) → op_of size text ≡ op → after_ops size had (text ∷ texts) ≡ Ok now → IsOk op
-first-case size had text texts now (Ok op) is reads = refl
-first-case size had text texts now (Err cause) is reads =
-    let never : ◌≡◌ {A = Result WordMap Cause} (Err cause) (Ok now) = sym (ops-fails size had text texts cause is) ∙ reads in cc
-
 ops-first : (size : ℕ) (had : WordMap) (texts : List (List ℕ)) (now : WordMap) → after_ops size had texts ≡ Ok now → FirstReads size texts
 ops-first size had [] now reads = tt
-ops-first size had (text ∷ texts) now reads = first-case size had text texts now (op_of size text) refl reads
+ops-first size had (text ∷ texts) now reads = rw (walk-first (ops-walk size) had now text texts reads).1 refl
 
 -- a line that is read begins as a handle's
 pub line-begins : (size : ℕ) (line : List ℕ) (now : WordMap) → handle_of size line ≡ Ok now → BeginsHandle size line

@@ -9,7 +9,8 @@ use Rattle.jb_handle.specs.Word.{WordMap}
 use Rattle.jb_queue.specs.Queue.{IsCount, after_lines, handle_of, handles_or_none}
 use Rattle.jb_text.specs.Parts.{read_first}
 use Rattle.jb_queue.proofs.Weights.{after-first}
-use Rattle.jb_queue.proofs.Handles.{lines-goes, lines-fails, lines-end}
+use Rattle.jb_queue.proofs.Walks.{each-length, walk-first}
+use Rattle.jb_queue.proofs.Handles.{lines-walk, handles-are}
 
 -- after one line more
 pub drop-more : {A : Type 0} (n : ℕ) (ls : List A) (line : A) (more : List A) → drop n ls ≡ line ∷ more → drop (n + 1) ls ≡ more
@@ -27,57 +28,23 @@ pub record IsAt (size : ℕ) (all : List Stopped) (at : ℕ) (ls : List (List �
   pub number : length had ≡ at
   pub reads : after_lines size had ls ≡ Ok all
 
--- the first of the lines is a handle's, if all are
-pub record First (size : ℕ) (all had : List Stopped) (line : List ℕ) (more : List (List ℕ)) : Type 0 where
-  pub words : WordMap
-  pub is : handle_of size line ≡ Ok words
-  pub reads : after_lines size (had ++ record { ticket = length had; words = words } ∷ []) more ≡ Ok all
-
-first-case : (size : ℕ) (all had : List Stopped) (line : List ℕ) (more : List (List ℕ)) (h : Result WordMap Cause) → handle_of size line ≡ h → after_lines size had (line ∷ more) ≡ Ok all → First size all had line more
-first-case size all had line more (Ok words) is reads = record { words = words; is = is; reads = sym (lines-goes size had line more words is) ∙ reads }
-first-case size all had line more (Err cause) is reads =
-    let never : ◌≡◌ {A = Result (List Stopped) QueueFault} (Err (record { line = length had + 3; cause = cause })) (Ok all) = sym (lines-fails size had line more cause is) ∙ reads in cc
-
-pub first-line : (size : ℕ) (all had : List Stopped) (line : List ℕ) (more : List (List ℕ)) → after_lines size had (line ∷ more) ≡ Ok all → First size all had line more
-first-line size all had line more reads = first-case size all had line more (handle_of size line) refl reads
-
--- all handles are those before and one for each line
-pub record Begins (all had : List Stopped) (ls : List (List ℕ)) : Type 0 where
-  pub more : List Stopped
-  pub parts : all ≡ had ++ more
-  pub number : length more ≡ length ls
-
-pub begins : (size : ℕ) (all had : List Stopped) (ls : List (List ℕ)) → after_lines size had ls ≡ Ok all → Begins all had ls
-begins size all had [] reads =
-    let both : ◌≡◌ {A = Result (List Stopped) QueueFault} (Ok had) (Ok all) = sym (lines-end size had) ∙ reads in
-    let same : had ≡ all = cc in
-    record { more = []; parts = sym same ∙ sym (append_none had); number = refl }
-  where
-    append_none : (xs : List Stopped) → xs ++ [] ≡ xs
-    append_none [] = refl
-    append_none (x ∷ xs) = ap (λ ys. x ∷ ys) (append_none xs)
-begins size all had (line ∷ ls) reads =
-    let first = first-line size all had line ls reads in
-    let one : Stopped = record { ticket = length had; words = first.words } in
-    let rest = begins size all (had ++ one ∷ []) ls first.reads in
-    record { more = one ∷ rest.more; parts = rest.parts ∙ append_assoc had (one ∷ []) rest.more; number = ap suc rest.number }
-
 -- how many there are
 pub number-all : (size : ℕ) (all : List Stopped) (at : ℕ) (ls : List (List ℕ)) → IsAt size all at ls → length all ≡ at + length ls
 number-all size all at ls placed =
-    let b = begins size all placed.had ls placed.reads in
-    let sums = ap length b.parts ∙ length-append placed.had b.more in
-    omega (arith, sums, placed.number, b.number)
+    let are = handles-are size placed.had all ls placed.reads in
+    let sums = ap length are.whole ∙ length-append placed.had are.handles in
+    let number = each-length (λ line handle. handle_of size line ≡ Ok handle.words) ls are.handles are.each in
+    omega (arith, sums, placed.number, number)
 
 -- lines are passed over
 pub passes : (size : ℕ) (all : List Stopped) (n at to : ℕ) (ls : List (List ℕ)) → IsAt size all at ls → to ≡ at + n → n ≤ length ls → IsAt size all to (drop n ls)
 passes size all zero at to ls placed is within = record { had = placed.had; number = (let has = placed.number in omega (arith, has, is)); reads = placed.reads }
 passes size all (suc n) at to [] placed is within = absurd (omega (arith, within))
 passes size all (suc n) at to (line ∷ ls) placed is within =
-    let first = first-line size all placed.had line ls placed.reads in
-    let one : Stopped = record { ticket = length placed.had; words = first.words } in
+    let first = walk-first (lines-walk size) placed.had all line ls placed.reads in
+    let one : Stopped = record { ticket = length placed.had; words = first.0 } in
     passes size all n (at + 1) to ls
-    (record { had = placed.had ++ one ∷ []; number = (let sums = length-append placed.had (one ∷ []) in let has = placed.number in omega (arith, sums, has)); reads = first.reads })
+    (record { had = placed.had ++ one ∷ []; number = (let sums = length-append placed.had (one ∷ []) in let has = placed.number in omega (arith, sums, has)); reads = first.2 })
     (omega (arith, is)) (omega (arith, within))
 
 -- the handle at a place, and what is left after it
@@ -90,16 +57,16 @@ pub record Next (size : ℕ) (all : List Stopped) (at : ℕ) (line : List ℕ) (
 
 next-here : (size : ℕ) (all : List Stopped) (at : ℕ) (line : List ℕ) (more : List (List ℕ)) → IsAt size all at (line ∷ more) → Next size all at line more
 next-here size all at line more placed =
-    let first = first-line size all placed.had line more placed.reads in
-    let one : Stopped = record { ticket = length placed.had; words = first.words } in
-    let b = begins size all (placed.had ++ one ∷ []) more first.reads in
-    let parts : all ≡ placed.had ++ one ∷ b.more = b.parts ∙ append_assoc placed.had (one ∷ []) b.more in
+    let first = walk-first (lines-walk size) placed.had all line more placed.reads in
+    let one : Stopped = record { ticket = length placed.had; words = first.0 } in
+    let are = handles-are size (placed.had ++ one ∷ []) all more first.2 in
+    let parts : all ≡ placed.had ++ one ∷ are.handles = are.whole ∙ append_assoc placed.had (one ∷ []) are.handles in
     record {
       there = (let whole = number-all size all at (line ∷ more) placed in omega (arith, whole));
-      words = first.words;
-      read = first.is;
-      is = λ d. sym (ap (λ (x : Stopped). x.words) (ap (λ hs. get_or hs at d) parts ∙ ap (λ n. get_or (placed.had ++ one ∷ b.more) n d) (sym placed.number) ∙ get_or-append_seam placed.had one b.more d));
-      after = record { had = placed.had ++ one ∷ []; number = (let sums = length-append placed.had (one ∷ []) in let has = placed.number in omega (arith, sums, has)); reads = first.reads };
+      words = first.0;
+      read = first.1;
+      is = λ d. sym (ap (λ (x : Stopped). x.words) (ap (λ hs. get_or hs at d) parts ∙ ap (λ n. get_or (placed.had ++ one ∷ are.handles) n d) (sym placed.number) ∙ get_or-append_seam placed.had one are.handles d));
+      after = record { had = placed.had ++ one ∷ []; number = (let sums = length-append placed.had (one ∷ []) in let has = placed.number in omega (arith, sums, has)); reads = first.2 };
     }
 
 pub next-is : (size : ℕ) (all : List Stopped) (n at : ℕ) (ls : List (List ℕ)) (line : List ℕ) (more : List (List ℕ)) → IsAt size all at ls → drop n ls ≡ line ∷ more → Next size all (at + n) line more
@@ -118,7 +85,7 @@ none-left size all n at ls placed is =
 
 -- all handles are counted
 pub count-all : (size : ℕ) (had : List Stopped) (ls : List (List ℕ)) (whole : Result (List Stopped) QueueFault) (count : ℕ) → ls ≡ [] → after_lines size had ls ≡ whole → count ≡ length had → IsCount whole count
-count-all size had ls whole count none so_far is = subst (λ read. IsCount read count) (sym (lines-end size had) ∙ ap (after_lines size had) (sym none) ∙ so_far) is
+count-all size had ls whole count none so_far is = subst (λ read. IsCount read count) (sym ((lines-walk size).ends had) ∙ ap (after_lines size had) (sym none) ∙ so_far) is
 
 -- what is left of some lines after the first one, which was read
 first-off : {A : Type 0} (read : List ℕ → Option A) (ls : List (List ℕ)) (x : A) (more : List (List ℕ)) → ◌≡◌ {A = Option (A × List (List ℕ))} (Some (x, more)) (read_first read ls) → more ≡ drop 1 ls

@@ -1,8 +1,10 @@
--- A word is read exactly where it spells an op.
-use Rattle.std.proofs.Common.{subst, ◌≡◌, ◌⊎◌, ◌∙◌, sym, ap, ℕ, ◌^◌, ◌<◌, ◌≤◌, ◌==◌, ◌&&◌, nat_lt, nat_le, Bool, true, false, if◌then◌else◌, List, [], ◌∷◌, ◌++◌, length, refl, arith, Option, Some, None, Result, Ok, Err, inl, inr}
+-- A word is read exactly where it spells an op, and else something is wrong with it.
+use Rattle.std.proofs.Common.{subst, ◌≡◌, ◌⊎◌, ◌∙◌, sym, ap, ℕ, ◌^◌, ◌<◌, ◌≤◌, ◌==◌, ◌&&◌, nat_lt, nat_le, true, false, if◌then◌else◌, List, [], ◌∷◌, ◌++◌, length, refl, arith, Option, Some, None, Result, Ok, Err, inl, inr}
 use Rattle.std.specs.Prelude.{codes, decimal}
 use Rattle.std.specs.Char.{is_ascii_digit}
 use Rattle.std.specs.List.{AllByRecursion}
+use Rattle.std.specs.Result.{MatchResult}
+use Rattle.std.proofs.lemmas.Result.{MatchResult-at_ok, MatchResult-weaker}
 use Rattle.std.proofs.lemmas.List.Elements.{recursion_from_All}
 use Rattle.std.proofs.lemmas.List.{append-nil}
 use Rattle.std.proofs.lemmas.Bool.{eqb-true, cases_eq}
@@ -17,6 +19,8 @@ use Rattle.jb_block.specs.Fields.{padded}
 use Rattle.jb_text.specs.Parts.{◌>>=◌, before, onward, number_of}
 use Rattle.jb_queue.specs.Queue.{home_named, or_cause, data_in_word, decoded_block, op_of}
 use Rattle.jb_queue.specs.Spelling.{Entry, SpellsOp}
+use Rattle.jb_queue.specs.Faults.{HasNoData}
+use Rattle.jb_text.proofs.Readings.{then-says, if-says}
 use Rattle.jb_text.proofs.Joins.{Without, is_clear, literal-without, without-append, before-put, onward-put, before-whole, onward-none, decimal-without}
 use Rattle.jb_text.proofs.Numerals.{number-is_decimal, decimal-is_number}
 use Rattle.jb_text.proofs.Splits.{parted, onward-nil, onward-goes, onward-ends}
@@ -25,12 +29,12 @@ use Rattle.jb_text.proofs.Splits.{parted, onward-nil, onward-goes, onward-ends}
 pub home-from : (home : ℕ) → home < 2 ^ 64 → home_named (decimal home) ≡ Ok home
 home-from home fits = rw (decimal-is_number home fits) refl
 
-home-case : (found : Option ℕ) (home : ℕ) → or_cause OpWord found ≡ Ok home → found ≡ Some home
-home-case None home is = cc
-home-case (Some n) home is = let same : n ≡ home = cc in ap Some same
-
-pub home-is : (digits : List ℕ) (home : ℕ) → home_named digits ≡ Ok home → (digits ≡ decimal home) × (home < 2 ^ 64)
-home-is digits home is = number-is_decimal digits home (home-case (number_of digits) home is)
+home-says : (digits : List ℕ) → MatchResult (home_named digits) (λ home. (digits ≡ decimal home) × (home < 2 ^ 64)) (λ cause. cause ≡ OpWord)
+home-says digits = by (number_of digits) refl
+  where
+    by : (found : Option ℕ) → number_of digits ≡ found → MatchResult (or_cause OpWord found) (λ home. (digits ≡ decimal home) × (home < 2 ^ 64)) (λ cause. cause ≡ OpWord)
+    by None is = refl
+    by (Some home) is = number-is_decimal digits home is
 
 -- what spells an op is read to it
 pub fits-true : (size : ℕ) (bytes : List ℕ) → 0 < length bytes → length bytes ≤ size → (nat_lt 0 (length bytes) && nat_le (length bytes) size) ≡ true
@@ -56,7 +60,6 @@ op-from size text op spells = elim spells.form [
   | inr (inr free) ↦ ap (op_of size) free.0 ∙ free-from size op.0 spells.home ∙ ap (λ word. Ok (op.0, word)) (sym free.1)
 ]
 
--- what is read to an op spells it
 pub onward-case : (delimiter : ℕ) (bs : List ℕ) → (onward delimiter bs ≡ []) ⊎ ((behind : List ℕ) × (onward delimiter bs ≡ delimiter ∷ behind))
 onward-case delimiter [] = inl (onward-nil delimiter)
 onward-case delimiter (b ∷ bs) = elim (cases_eq b delimiter) [
@@ -67,79 +70,75 @@ onward-case delimiter (b ∷ bs) = elim (cases_eq b delimiter) [
   ]
 ]
 
-picked : (first second : Bool) (write free : Result Entry Cause) (op : Entry) → (if first then write else if second then free else Err OpWord) ≡ Ok op → ((first ≡ true) × (write ≡ Ok op)) ⊎ ((second ≡ true) × (free ≡ Ok op))
-picked true second write free op is = inl (refl, is)
-picked false true write free op is = inr (refl, is)
-picked false false write free op is = cc
+-- the bytes of a block that a text of digits has not
+abbrev pub NoBytes : ℕ → Result (List ℕ) FromHexError → Type 0
+NoBytes size decoded = (bytes : List ℕ) → decoded ≡ Ok bytes → 0 < length bytes → length bytes ≤ size → ⊥
 
-write-case : (home : Result ℕ Cause) (block : Result (List ℕ) Cause) (op : Entry) → (home >>= λ b. block >>= λ bytes. Ok (b, Copy bytes)) ≡ Ok op → (home ≡ Ok op.0) × (bytes : List ℕ) × (block ≡ Ok bytes) × (op.1 ≡ Copy bytes)
-write-case (Err cause) block op is = cc
-write-case (Ok b) (Err cause) op is = cc
-write-case (Ok b) (Ok bytes) op is =
-    let pair : ◌≡◌ {A = Entry} (b, Copy bytes) op = cc in
-    (ap (λ (o : Entry). Ok o.0) pair, bytes, refl, ap (λ (o : Entry). o.1) (sym pair))
+-- and those that it has
+abbrev pub HasBytes : ℕ → Result (List ℕ) FromHexError → List ℕ → Type 0
+HasBytes size decoded block = (raw : List ℕ) × (decoded ≡ Ok raw) × (0 < length raw) × (length raw ≤ size) × (block ≡ padded size raw)
 
-free-case : (home : Result ℕ Cause) (op : Entry) → (home >>= λ b. Ok (b, Free)) ≡ Ok op → (home ≡ Ok op.0) × (op.1 ≡ Free)
-free-case (Err cause) op is = cc
-free-case (Ok b) op is =
-    let pair : ◌≡◌ {A = Entry} (b, Free) op = cc in
-    (ap (λ (o : Entry). Ok o.0) pair, ap (λ (o : Entry). o.1) (sym pair))
+pub block-says : (size : ℕ) (decoded : Result (List ℕ) FromHexError) → MatchResult (decoded_block size decoded) (HasBytes size decoded) (λ cause. (cause ≡ DataWord) × NoBytes size decoded)
+block-says size (Err fault) = (refl, λ bytes never some within. cc)
+block-says size (Ok raw) =
+    if-says (HasBytes size (Ok raw)) (λ cause. (cause ≡ DataWord) × NoBytes size (Ok raw)) (nat_lt 0 (length raw) && nat_le (length raw) size) (Ok (padded size raw)) (Err DataWord)
+    (λ holds. (raw, refl, grind (arith, nat_tests, holds), grind (arith, nat_tests, holds), refl))
+    (λ other. (
+      refl,
+      λ bytes same some within.
+          let one : bytes ≡ raw = cc in
+          let never : true ≡ false = sym (fits-true size bytes some within) ∙ ap (λ bs. nat_lt 0 (length bs) && nat_le (length bs) size) one ∙ other in
+          cc,
+    ))
 
-fitted : (test : Bool) (size : ℕ) (raw bytes : List ℕ) → ◌≡◌ {A = Result (List ℕ) Cause} (if test then Ok (padded size raw) else Err DataWord) (Ok bytes) → (test ≡ true) × (bytes ≡ padded size raw)
-fitted true size raw bytes is = (refl, cc)
-fitted false size raw bytes is = cc
-
-bytes-case : (size : ℕ) (decoded : Result (List ℕ) FromHexError) (bytes : List ℕ) → decoded_block size decoded ≡ Ok bytes → (raw : List ℕ) × (decoded ≡ Ok raw) × (0 < length raw) × (length raw ≤ size) × (bytes ≡ padded size raw)
-bytes-case size (Err fault) bytes is = cc
-bytes-case size (Ok raw) bytes is =
-    let both = fitted (nat_lt 0 (length raw) && nat_le (length raw) size) size raw bytes is in
-    (raw, refl, grind (arith, nat_tests, both.0), grind (arith, nat_tests, both.0), both.1)
+-- what is wrong with a word, by the way in which it is read
+abbrev pub IsFaulty : ℕ → List ℕ → Cause → Type 0
+IsFaulty size text cause = (cause ≡ OpWord) ⊎ ((cause ≡ DataWord) × HasNoData size text)
 
 -- a word with no `=` after its number writes zeros, and one with it its bytes
-write-is : (size : ℕ) (rest : List ℕ) (op : Entry) (block : List ℕ) → home_named (before 61 rest) ≡ Ok op.0 → data_in_word size (onward 61 rest) ≡ Ok block → op.1 ≡ Copy block → SpellsOp size (119 ∷ rest) op
-write-is size rest op block home read left =
-    let found = home-is (before 61 rest) op.0 home in
-    let whole = parted 61 rest in
-    elim (onward-case 61 rest) [
-      | inl none ↦
-          let zeros : Ok (padded size []) ≡ Ok block = ap (data_in_word size) (sym none) ∙ read in
-          let same : padded size [] ≡ block = cc in
-          record {
-            home = found.1;
-            form = inl (ap (λ bs. 119 ∷ bs) (sym whole ∙ ap (λ bs. before 61 rest ++ bs) none ∙ append-nil (before 61 rest) ∙ found.0), left ∙ ap Copy (sym same));
-          }
-      | inr some ↦
-          let raw = bytes-case size (decode_of some.0) block (ap (data_in_word size) (sym some.1) ∙ read) in
-          record {
-            home = found.1;
-            form = inr (inl (record {
-              digits = some.0;
-              bytes = raw.0;
-              spelled = ap (λ bs. 119 ∷ bs) (sym whole ∙ ap (λ bs. before 61 rest ++ bs) some.1 ∙ ap (λ bs. bs ++ 61 ∷ some.0) found.0);
-              decoded = raw.1;
-              some = raw.2;
-              within = raw.3;
-              left = left ∙ ap Copy raw.4;
-            }));
-          }
-    ]
+data-says : (size : ℕ) (rest : List ℕ) (home : ℕ) → before 61 rest ≡ decimal home → home < 2 ^ 64
+    → MatchResult (data_in_word size (onward 61 rest)) (λ block. SpellsOp size (119 ∷ rest) (home, Copy block)) (λ cause. (cause ≡ DataWord) × HasNoData size (119 ∷ rest))
+data-says size rest home named fits = elim (onward-case 61 rest) [
+  | inl none ↦
+      let zeros : 119 ∷ rest ≡ 119 ∷ decimal home = ap (λ bs. 119 ∷ bs) (sym (parted 61 rest) ∙ ap (λ bs. before 61 rest ++ bs) none ∙ append-nil (before 61 rest) ∙ named) in
+      rw none (record { home = fits; form = inl (zeros, refl) })
+  | inr some ↦
+      let spelled : 119 ∷ rest ≡ 119 ∷ (decimal home ++ 61 ∷ some.0) = ap (λ bs. 119 ∷ bs) (sym (parted 61 rest) ∙ ap (λ bs. before 61 rest ++ bs) some.1 ∙ ap (λ bs. bs ++ 61 ∷ some.0) named) in
+      subst (λ behind. MatchResult (data_in_word size behind) (λ block. SpellsOp size (119 ∷ rest) (home, Copy block)) (λ cause. (cause ≡ DataWord) × HasNoData size (119 ∷ rest))) (sym some.1)
+      (MatchResult-weaker (decoded_block size (decode_of some.0)) (block-says size (decode_of some.0))
+      (λ block raw. record {
+        home = fits;
+        form = inr (inl (record { digits = some.0; bytes = raw.0; spelled = spelled; decoded = raw.1; some = raw.2; within = raw.3; left = ap Copy raw.4 }));
+      })
+      (λ cause no. (no.0, record { home = home; digits = some.0; fits = fits; spelled = spelled; none = no.1 })))
+]
+
+write-says : (size : ℕ) (rest : List ℕ) → MatchResult (home_named (before 61 rest) >>= λ b. data_in_word size (onward 61 rest) >>= λ bytes. Ok (b, Copy bytes)) (SpellsOp size (119 ∷ rest)) (IsFaulty size (119 ∷ rest))
+write-says size rest =
+    then-says (SpellsOp size (119 ∷ rest)) (IsFaulty size (119 ∷ rest)) (home_named (before 61 rest)) (λ b. data_in_word size (onward 61 rest) >>= λ bytes. Ok (b, Copy bytes)) (home-says (before 61 rest))
+    (λ b found. then-says (SpellsOp size (119 ∷ rest)) (IsFaulty size (119 ∷ rest)) (data_in_word size (onward 61 rest)) (λ bytes. Ok (b, Copy bytes)) (data-says size rest b found.0 found.1)
+    (λ block spells. spells) (λ cause no. inr no))
+    (λ cause same. inl same)
+
+free-says : (size : ℕ) (rest : List ℕ) → MatchResult (home_named rest >>= λ b. Ok (b, Free)) (SpellsOp size (114 ∷ rest)) (IsFaulty size (114 ∷ rest))
+free-says size rest =
+    then-says (SpellsOp size (114 ∷ rest)) (IsFaulty size (114 ∷ rest)) (home_named rest) (λ b. Ok (b, Free)) (home-says rest)
+    (λ b found. record { home = found.1; form = inr (inr (ap (λ bs. 114 ∷ bs) found.0, refl)) })
+    (λ cause same. inl same)
+
+pub op-says : (size : ℕ) (text : List ℕ) → MatchResult (op_of size text) (SpellsOp size text) (IsFaulty size text)
+op-says size [] = inl refl
+op-says size (letter ∷ rest) =
+    if-says (SpellsOp size (letter ∷ rest)) (IsFaulty size (letter ∷ rest)) (letter == 119)
+    (home_named (before 61 rest) >>= λ b. data_in_word size (onward 61 rest) >>= λ bytes. Ok (b, Copy bytes))
+    (if letter == 114 then home_named rest >>= (λ b. Ok (b, Free)) else Err OpWord)
+    (λ write. rw (eqb-true letter 119 write) (write-says size rest))
+    (λ _. if-says (SpellsOp size (letter ∷ rest)) (IsFaulty size (letter ∷ rest)) (letter == 114) (home_named rest >>= λ b. Ok (b, Free)) (Err OpWord)
+    (λ free. rw (eqb-true letter 114 free) (free-says size rest))
+    (λ _. inl refl))
 
 pub op-is : (size : ℕ) (text : List ℕ) (op : Entry) → op_of size text ≡ Ok op → SpellsOp size text op
-op-is size [] op is = cc
-op-is size (letter ∷ rest) op is =
-    elim (picked (letter == 119) (letter == 114)
-    (home_named (before 61 rest) >>= λ b. data_in_word size (onward 61 rest) >>= λ bytes. Ok (b, Copy bytes))
-    (home_named rest >>= λ b. Ok (b, Free)) op is) [
-      | inl write ↦
-          let parts = write-case (home_named (before 61 rest)) (data_in_word size (onward 61 rest)) op write.1 in
-          let same : letter ≡ 119 = eqb-true letter 119 write.0 in
-          rw same (write-is size rest op parts.1 parts.0 parts.2 parts.3)
-      | inr free ↦
-          let parts = free-case (home_named rest) op free.1 in
-          let found = home-is rest op.0 parts.0 in
-          let same : letter ≡ 114 = eqb-true letter 114 free.0 in
-          record { home = found.1; form = inr (inr (rw same (ap (λ bs. 114 ∷ bs) found.0), parts.1)) }
-    ]
+op-is size text op is = MatchResult-at_ok (SpellsOp size text) (IsFaulty size text) op is (op-says size text)
 
 -- a byte that no word has
 pub record IsDelimiter (delimiter : ℕ) : Type 0 where

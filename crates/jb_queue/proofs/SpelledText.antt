@@ -1,8 +1,10 @@
--- A queue text is read exactly where it spells a queue.
-use Rattle.std.proofs.Common.{subst, ◌↔◌, ◌≡◌, ◌∙◌, sym, ap, ap₂, ℕ, ◌+◌, ◌^◌, ◌<◌, ◌≤◌, ◌==◌, ◌&&◌, nat_le, Bool, true, false, if◌then◌else◌, List, [], ◌∷◌, ◌++◌, length, length-append, refl, arith, append_assoc, Option, option_map, Some, None, Result, Ok, Err}
+-- A queue text is read exactly where it spells a queue, and else has a first fault.
+use Rattle.std.proofs.Common.{subst, ◌↔◌, ◌≡◌, ◌∙◌, sym, ap, ap₂, ℕ, ◌^◌, ◌<◌, ◌≤◌, ◌==◌, ◌&&◌, nat_le, Bool, true, false, if◌then◌else◌, List, [], ◌∷◌, ◌++◌, length, length-append, refl, arith, append_assoc, Option, Some, None, Result, Ok, Err, inl, inr}
 use Rattle.std.specs.Prelude.{codes, decimal}
 use Rattle.std.specs.List.{AllByRecursion}
-use Rattle.std.specs.Option.{option_and_then}
+use Rattle.std.specs.Option.{option_and_then, MatchOption}
+use Rattle.std.specs.Result.{MatchResult}
+use Rattle.std.proofs.lemmas.Result.{MatchResult-at_ok, MatchResult-weaker}
 use Rattle.std.specs.Str.{bytes_eq}
 use Rattle.std.proofs.lemmas.Bool.{eqb-true}
 use Rattle.std.proofs.lemmas.Bool.Decides.{nat_tests}
@@ -13,7 +15,6 @@ use Rattle.jb_block.specs.declared.size.BlockSize.TheVariants.{OneKib, TwoKib, F
 use Rattle.jb_block.specs.declared.width.Width.{Width}
 use Rattle.jb_block.specs.declared.width.Width.TheVariants.{Narrow, Wide}
 use Rattle.jb_block.specs.Size.{bytes_of}
-use Rattle.jb_queue.specs.declared.fault.Cause.{Cause}
 use Rattle.jb_queue.specs.declared.fault.Cause.TheVariants.{BlockSizeLine, LimitLine}
 use Rattle.jb_queue.specs.declared.fault.QueueFault.{QueueFault}
 use Rattle.jb_handle.specs.declared.stopped.Stopped.{Stopped}
@@ -23,18 +24,17 @@ use Rattle.jb_text.specs.Lines.{AreLines}
 use Rattle.jb_queue.specs.Spelling.{width_text, format_line, Each, SpellsHandle, Spells}
 use Rattle.jb_handle.specs.Tickets.{TicketsFrom}
 use Rattle.jb_handle.specs.Word.{WordMap}
-use Rattle.jb_queue.proofs.Handles.{lines-fails, lines-end}
-use Rattle.jb_queue.proofs.Handles.{lines-goes as handles-go}
-use Rattle.jb_text.proofs.Grammar.{lines-are, are-lines, IsLine, behind-is}
+use Rattle.jb_text.proofs.Readings.{FirstFails, FirstGives, first-says, behind-read}
+use Rattle.jb_queue.specs.Faults.{HasNoFormat, HasNoLimit, HandleFault, FirstFaultOf}
+use Rattle.jb_queue.proofs.Walks.{each-map}
+use Rattle.jb_queue.proofs.FaultyLines.{lines-fault}
+use Rattle.jb_queue.proofs.Handles.{lines-walk, handles-are}
+use Rattle.jb_text.proofs.Grammar.{lines-are, are-lines, IsLine}
 use Rattle.jb_text.proofs.Joins.{Without, literal-without, without-append, before-put, onward-put, before-whole, onward-none, spaced-without, decimal-without}
 use Rattle.jb_text.proofs.Numerals.{number-is_decimal, decimal-is_number}
 use Rattle.jb_queue.proofs.SpelledHandles.{handle-is, handle-from, texts-clear}
 use Rattle.jb_queue.proofs.SpelledOps.{feed-delimits}
 use Rattle.jb_text.proofs.Splits.{parted}
-
-number-case : (found : Option (List ℕ)) (n : ℕ) → option_and_then number_of found ≡ Some n → (found ≡ Some (decimal n)) × (n < 2 ^ 64)
-number-case None n is = cc
-number-case (Some digits) n is = let spelled = number-is_decimal digits n is in (ap Some spelled.0, spelled.1)
 
 -- the two first lines
 size-case : (n : Option ℕ) (size : BlockSize) → option_and_then size_of_bytes n ≡ Some size → n ≡ Some (bytes_of size)
@@ -67,19 +67,16 @@ both-is (Some size) (Some width) format is =
     let same : ◌≡◌ {A = BlockSize × Width} (size, width) format = cc in
     (ap (λ (f : BlockSize × Width). Some f.0) same, ap (λ (f : BlockSize × Width). Some f.1) same)
 
-behind-case : (found : Option (List ℕ)) (format : BlockSize × Width) → option_and_then format_behind found ≡ Some format → found ≡ Some (decimal (bytes_of format.0) ++ width_text format.1)
-behind-case None format is = cc
-behind-case (Some text) format is =
-    let both = both-is (option_and_then size_of_bytes (number_of (before 32 text))) (width_behind (onward 32 text)) format is in
-    ap Some (
+pub format-is : (line : List ℕ) (format : BlockSize × Width) → format_of line ≡ Some format → line ≡ format_line format.0 format.1
+format-is line format is =
+    let found = behind-read (codes "bs ") line format_behind format is in
+    let text = found.0 in
+    let both = both-is (option_and_then size_of_bytes (number_of (before 32 text))) (width_behind (onward 32 text)) format found.2 in
+    found.1 ∙ ap (λ bs. codes "bs " ++ bs) (
     sym (parted 32 text)
     ∙ ap (λ bs. bs ++ onward 32 text) (digits-case (before 32 text) format.0 both.0)
     ∙ ap (λ bs. decimal (bytes_of format.0) ++ bs) (width-is (onward 32 text) format.1 both.1)
     )
-
-pub format-is : (line : List ℕ) (format : BlockSize × Width) → format_of line ≡ Some format → line ≡ format_line format.0 format.1
-format-is line format is =
-    behind-is (codes "bs ") line (decimal (bytes_of format.0) ++ width_text format.1) (behind-case (behind_word (codes "bs ") line) format is)
 
 size-fits : (size : BlockSize) → bytes_of size < 2 ^ 64
 size-fits OneKib = omega arith
@@ -123,49 +120,21 @@ limit-case (Some m) limit is = from (nat_le 3 m && nat_le m 2147483646) refl is
 pub limit-is : (line : List ℕ) (limit : ℕ) → limit_in_line line ≡ Some limit → (line ≡ codes "limit " ++ decimal limit) × (3 ≤ limit) × (limit ≤ 2147483646)
 limit-is line limit is =
     let number = limit-case (option_and_then number_of (behind_word (codes "limit ") line)) limit is in
-    let found = number-case (behind_word (codes "limit ") line) limit number.0 in
-    (behind-is (codes "limit ") line (decimal limit) found.0, number.1, number.2)
+    let found = behind-read (codes "limit ") line number_of limit number.0 in
+    (found.1 ∙ ap (λ bs. codes "limit " ++ bs) (number-is_decimal found.0 limit found.2).0, number.1, number.2)
 
 pub limit-from : (limit : ℕ) → 3 ≤ limit → limit ≤ 2147483646 → limit_in_line (codes "limit " ++ decimal limit) ≡ Some limit
 limit-from limit least most =
     let holds : (nat_le 3 limit && nat_le limit 2147483646) ≡ true = grind (arith, nat_tests, least, most) in
     rw (decimal-is_number limit (omega arith), holds) refl
 
--- the handles that lines are read to
-pub record ReadsLines (size : ℕ) (had now : List Stopped) (left : List (List ℕ)) : Type 0 where
-  pub handles : List Stopped
-  pub whole : now ≡ had ++ handles
-  pub each : Each (λ line handle. SpellsHandle size line handle.words) left handles
-  pub tickets : TicketsFrom (length had) handles
-
-lines-case : (size : ℕ) (had now : List Stopped) (line : List ℕ) (more : List (List ℕ)) (h : Result WordMap Cause) → handle_of size line ≡ h → after_lines size had (line ∷ more) ≡ Ok now
-    → ((had' : List Stopped) → after_lines size had' more ≡ Ok now → ReadsLines size had' now more) → ReadsLines size had now (line ∷ more)
-lines-case size had now line more (Err cause) is reads later =
-    let never : ◌≡◌ {A = Result (List Stopped) QueueFault} (Err (record { line = length had + 3; cause = cause })) (Ok now) = sym (lines-fails size had line more cause is) ∙ reads in cc
-lines-case size had now line more (Ok left) is reads later =
-    let stopped : Stopped = record { ticket = length had; words = left } in
-    let further = later (had ++ stopped ∷ []) (sym (handles-go size had line more left is) ∙ reads) in
-    record {
-      handles = stopped ∷ further.handles;
-      whole = further.whole ∙ append_assoc had (stopped ∷ []) further.handles;
-      each = (handle-is size line left is, further.each);
-      tickets = (refl, subst (λ n. TicketsFrom n further.handles) (length-append had (stopped ∷ [])) further.tickets);
-    }
-
-handles-are : (size : ℕ) (had now : List Stopped) (left : List (List ℕ)) → after_lines size had left ≡ Ok now → ReadsLines size had now left
-handles-are size had now [] reads =
-    let both : ◌≡◌ {A = Result (List Stopped) QueueFault} (Ok had) (Ok now) = sym (lines-end size had) ∙ reads in
-    let same : now ≡ had = cc in
-    record { handles = []; whole = same ∙ sym (append-nil had); each = tt; tickets = tt }
-handles-are size had now (line ∷ more) reads =
-    lines-case size had now line more (handle_of size line) refl reads (λ had' further. handles-are size had' now more further)
-
+-- what spells handles is read to them
 handles-from : (size : ℕ) (had : List Stopped) (left : List (List ℕ)) (handles : List Stopped) → Each (λ line handle. SpellsHandle size line handle.words) left handles → TicketsFrom (length had) handles → after_lines size had left ≡ Ok (had ++ handles)
-handles-from size had [] [] each tickets = lines-end size had ∙ ap Ok (sym (append-nil had))
+handles-from size had [] [] each tickets = (lines-walk size).ends had ∙ ap Ok (sym (append-nil had))
 handles-from size had [] (h ∷ hs) each tickets = absurd each
 handles-from size had (line ∷ more) [] each tickets = absurd each
 handles-from size had (line ∷ more) (h ∷ hs) each tickets =
-    handles-go size had line more h.words (handle-from size line h.words each.0)
+    (lines-walk size).goes had line more h.words (handle-from size line h.words each.0)
     ∙ ap (λ n. after_lines size (had ++ record { ticket = n; words = h.words } ∷ []) more) (sym tickets.0)
     ∙ handles-from size (had ++ h ∷ []) more hs each.1 (subst (λ n. TicketsFrom n hs) (sym (length-append had (h ∷ []))) tickets.1)
     ∙ ap Ok (append_assoc had (h ∷ []) hs)
@@ -177,43 +146,85 @@ behind_limit format limit more = after_lines (bytes_of format.0) [] more >>= λ 
 abbrev pub behind_format : BlockSize × Width → List (List ℕ) → Result Queue QueueFault
 behind_format format rest = at_line 2 (or_cause LimitLine (read_first limit_in_line rest)) >>= λ limit. behind_limit format limit.0 limit.1
 
-third : (text : List ℕ) (queue : Queue) (one two : List ℕ) (more : List (List ℕ)) (format : BlockSize × Width) (limit : ℕ) (handles : Result (List Stopped) QueueFault)
-    → lines text ≡ one ∷ two ∷ more → format_of one ≡ Some format → limit_in_line two ≡ Some limit → after_lines (bytes_of format.0) [] more ≡ handles
-    → (handles >>= λ hs. Ok (record { size = format.0; limit = limit; width = format.1; handles = hs })) ≡ Ok queue → Spells text queue
-third text queue one two more format limit (Err fault) parts first second reads is = cc
-third text queue one two more format limit (Ok handles) parts first second reads is =
-    let are = handles-are (bytes_of format.0) [] handles more reads in
-    let limit_line = limit-is two limit second in
-    let said : Queue = record { size = format.0; limit = limit; width = format.1; handles = handles } in
-    let same : said ≡ queue = cc in
-    subst (Spells text) same (record {
-      handle_lines = more;
-      spelled = subst (λ ls. AreLines ls text) (parts ∙ ap (λ line. line ∷ two ∷ more) (format-is one format first) ∙ ap (λ line. format_line format.0 format.1 ∷ line ∷ more) limit_line.0) (lines-are text);
-      least = limit_line.1;
-      most = limit_line.2;
-      each = subst (λ hs. Each (λ line handle. SpellsHandle (bytes_of format.0) line handle.words) more hs) (sym are.whole) are.each;
-      tickets = subst (TicketsFrom 0) (sym are.whole) are.tickets;
-    })
+-- the queue of some lines
+abbrev pub read : List (List ℕ) → Result Queue QueueFault
+read all = at_line 1 (or_cause BlockSizeLine (read_first format_of all)) >>= λ found. behind_format found.0 found.1
 
-second : (text : List ℕ) (queue : Queue) (one two : List ℕ) (more : List (List ℕ)) (format : BlockSize × Width) (limit : Option ℕ)
-    → lines text ≡ one ∷ two ∷ more → format_of one ≡ Some format → limit_in_line two ≡ limit
-    → ◌>>=◌ {A = ℕ × List (List ℕ)} (at_line 2 (or_cause LimitLine (option_map (λ n. (n, more)) limit))) (λ found. behind_limit format found.0 found.1) ≡ Ok queue → Spells text queue
-second text queue one two more format None parts first is reads = cc
-second text queue one two more format (Some limit) parts first is reads = third text queue one two more format limit (after_lines (bytes_of format.0) [] more) parts first is refl reads
+-- some lines spell a queue
+pub record SpellsLines (all : List (List ℕ)) (queue : Queue) : Type 0 where
+  pub more : List (List ℕ)
+  pub parts : all ≡ format_line queue.size queue.width ∷ (codes "limit " ++ decimal queue.limit) ∷ more
+  pub least : 3 ≤ queue.limit
+  pub most : queue.limit ≤ 2147483646
+  pub each : Each (λ line handle. SpellsHandle (bytes_of queue.size) line handle.words) more queue.handles
+  pub tickets : TicketsFrom 0 queue.handles
 
-first : (text : List ℕ) (queue : Queue) (one : List ℕ) (rest : List (List ℕ)) (format : Option (BlockSize × Width))
-    → lines text ≡ one ∷ rest → format_of one ≡ format
-    → ◌>>=◌ {A = (BlockSize × Width) × List (List ℕ)} (at_line 1 (or_cause BlockSizeLine (option_map (λ n. (n, rest)) format))) (λ found. behind_format found.0 found.1) ≡ Ok queue → Spells text queue
-first text queue one rest None parts is reads = cc
-first text queue one [] (Some format) parts is reads = cc
-first text queue one (two ∷ more) (Some format) parts is reads = second text queue one two more format (limit_in_line two) parts is refl reads
+handles-say : (all : List (List ℕ)) (format : BlockSize × Width) (limit : ℕ) (more : List (List ℕ)) → all ≡ format_line format.0 format.1 ∷ (codes "limit " ++ decimal limit) ∷ more → 3 ≤ limit → limit ≤ 2147483646
+    → MatchResult (behind_limit format limit more) (SpellsLines all) (HandleFault all)
+handles-say all format limit more parts least most = by (after_lines (bytes_of format.0) [] more) refl
+  where
+    by : (handles : Result (List Stopped) QueueFault) → after_lines (bytes_of format.0) [] more ≡ handles
+        → MatchResult (handles >>= λ hs. Ok (record { size = format.0; limit = limit; width = format.1; handles = hs })) (SpellsLines all) (HandleFault all)
+    by (Ok handles) reads =
+        let are = handles-are (bytes_of format.0) [] handles more reads in
+        let spells = each-map (λ line handle. handle_of (bytes_of format.0) line ≡ Ok handle.words) (λ line handle. SpellsHandle (bytes_of format.0) line handle.words) (λ line handle. handle-is (bytes_of format.0) line handle.words) more are.handles are.each in
+        record {
+          more = more;
+          parts = parts;
+          least = least;
+          most = most;
+          each = subst (Each (λ line handle. SpellsHandle (bytes_of format.0) line handle.words) more) (sym are.whole) spells;
+          tickets = subst (TicketsFrom 0) (sym are.whole) are.tickets;
+        }
+    by (Err fault) fails = record {
+      size = format.0;
+      width = format.1;
+      limit = limit;
+      more = more;
+      parts = parts;
+      least = least;
+      most = most;
+      wrong = lines-fault (bytes_of format.0) more fault fails;
+    }
 
-by-lines : (text : List ℕ) (queue : Queue) (all : List (List ℕ)) → lines text ≡ all → (at_line 1 (or_cause BlockSizeLine (read_first format_of all)) >>= λ found. behind_format found.0 found.1) ≡ Ok queue → Spells text queue
-by-lines text queue [] parts reads = cc
-by-lines text queue (one ∷ rest) parts reads = first text queue one rest (format_of one) parts refl reads
+no-limit : (rest : List (List ℕ)) → FirstFails limit_in_line rest → HasNoLimit rest
+no-limit rest none limit more least most is =
+    let never : ◌≡◌ {A = Option ℕ} None (Some limit) = sym (none (codes "limit " ++ decimal limit) more is) ∙ limit-from limit least most in cc
+
+limit-says : (all : List (List ℕ)) (format : BlockSize × Width) (rest : List (List ℕ)) → all ≡ format_line format.0 format.1 ∷ rest → MatchResult (behind_format format rest) (SpellsLines all) (FirstFaultOf all)
+limit-says all format rest parts = by (read_first limit_in_line rest) (first-says limit_in_line rest)
+  where
+    by : (got : Option (ℕ × List (List ℕ))) → MatchOption got (FirstFails limit_in_line rest) (FirstGives limit_in_line rest)
+        → MatchResult (at_line 2 (or_cause LimitLine got) >>= λ found. behind_limit format found.0 found.1) (SpellsLines all) (FirstFaultOf all)
+    by None none = inr (inl (refl, record { size = format.0; width = format.1; more = rest; parts = parts; none = no-limit rest none }))
+    by (Some got) gives =
+        let limit = limit-is gives.0 got.0 gives.2 in
+        let second = ap (λ ls. format_line format.0 format.1 ∷ ls) (gives.1 ∙ ap (λ line. line ∷ got.1) limit.0) in
+        MatchResult-weaker (behind_limit format got.0 got.1) (handles-say all format got.0 got.1 (parts ∙ second) limit.1 limit.2) (λ queue spells. spells) (λ fault wrong. inr (inr wrong))
+
+no-format : (all : List (List ℕ)) → FirstFails format_of all → HasNoFormat all
+no-format all none size width more is =
+    let never : ◌≡◌ {A = Option (BlockSize × Width)} None (Some (size, width)) = sym (none (format_line size width) more is) ∙ format-from size width in cc
+
+pub read-says : (all : List (List ℕ)) → MatchResult (read all) (SpellsLines all) (FirstFaultOf all)
+read-says all = by (read_first format_of all) (first-says format_of all)
+  where
+    by : (got : Option ((BlockSize × Width) × List (List ℕ))) → MatchOption got (FirstFails format_of all) (FirstGives format_of all)
+        → MatchResult (at_line 1 (or_cause BlockSizeLine got) >>= λ found. behind_format found.0 found.1) (SpellsLines all) (FirstFaultOf all)
+    by None none = inl (refl, no-format all none)
+    by (Some got) gives = limit-says all got.0 got.1 (gives.1 ∙ ap (λ line. line ∷ got.1) (format-is gives.0 got.0 gives.2))
 
 pub queue-is : (text : List ℕ) (queue : Queue) → queue_of text ≡ Ok queue → Spells text queue
-queue-is text queue reads = by-lines text queue (lines text) refl reads
+queue-is text queue reads =
+    let says = MatchResult-at_ok (SpellsLines (lines text)) (FirstFaultOf (lines text)) queue reads (read-says (lines text)) in
+    record {
+      handle_lines = says.more;
+      spelled = subst (λ ls. AreLines ls text) says.parts (lines-are text);
+      least = says.least;
+      most = says.most;
+      each = says.each;
+      tickets = says.tickets;
+    }
 
 -- and back
 handle-line : (size : ℕ) (line : List ℕ) (words : WordMap) → SpellsHandle size line words → IsLine line
@@ -249,7 +260,7 @@ queue-from text queue spells =
         handle-lines (bytes_of queue.size) spells.handle_lines queue.handles spells.each,
       ),
     ) in
-    ap (λ ls. at_line 1 (or_cause BlockSizeLine (read_first format_of ls)) >>= λ found. behind_format found.0 found.1) parts
+    ap read parts
     ∙ rw (format-from queue.size queue.width, limit-from queue.limit spells.least spells.most, handles-from (bytes_of queue.size) [] spells.handle_lines queue.handles spells.each spells.tickets) refl
 
 pub spelled : (text : List ℕ) (queue : Queue) → (queue_of text ≡ Ok queue) ↔ Spells text queue

@@ -1,13 +1,11 @@
 -- A queue weighs at most half as much as its text is long.
-use Rattle.std.proofs.Common.{◌≡◌, ◌∙◌, sym, ap, ℕ, ◌+◌, ◌*◌, ◌≤◌, ◌==◌, List, [], ◌∷◌, ◌++◌, length, arith, refl, Option, option_map, Some, None, Result, Ok, Err, inl, inr, Bool, true, false, cond}
+use Rattle.std.proofs.Common.{◌≡◌, ap, ℕ, ◌+◌, ◌*◌, ◌<◌, ◌≤◌, ◌==◌, List, [], ◌∷◌, length, arith, Option, option_map, Some, None, Ok, inl, inr, Bool, true, false, cond}
 use Rattle.std.specs.Ordering.{nat_cmp}
 use Rattle.std.specs.Cmp.{nat_cmp_total}
 use Rattle.std.specs.FinMap as map
 use Rattle.std.proofs.lemmas.Bool.{cases_eq}
 use Rattle.std.proofs.lemmas.List.Sums.{sum_by-append, sum_by-cons}
-use Rattle.jb_queue.specs.declared.fault.Cause.{Cause}
 use Rattle.jb_queue.specs.declared.fault.Cause.TheVariants.{HandleLine}
-use Rattle.jb_queue.specs.declared.fault.QueueFault.{QueueFault}
 use Rattle.jb_handle.specs.declared.stopped.Stopped.{Stopped}
 use Rattle.jb_handle.specs.declared.word.Word.{Word}
 use Rattle.jb_text.specs.Parts.{grow, lines, words}
@@ -16,9 +14,9 @@ use Rattle.jb_queue.specs.Queue.{op_of, after_ops, handle_of, behind_h, after_li
 use Rattle.jb_handle.specs.Size.{weight}
 use Rattle.jb_handle.specs.Word.{WordMap}
 use Rattle.jb_text.proofs.Splits.{lines-nil, lines-feed, lines-goes, words-nil, words-space, words-goes}
-use Rattle.jb_queue.proofs.Ops.{ops-goes, ops-fails, ops-end, tested}
-use Rattle.jb_queue.proofs.Handles.{lines-fails, lines-end}
-use Rattle.jb_queue.proofs.Handles.{lines-goes as handles-go}
+use Rattle.jb_queue.proofs.Walks.{walk-last, walk-first}
+use Rattle.jb_queue.proofs.Ops.{put_op, ops-walk, tested}
+use Rattle.jb_queue.proofs.Handles.{put_handle, lines-walk}
 
 -- the bytes of pieces, and one delimiter for each
 abbrev pub total : List (List ℕ) → ℕ
@@ -51,27 +49,17 @@ one-more false had now is = omega arith
 len-insert-le : (had : WordMap) (home : ℕ) (word : Word) → map.len (map.insert had home word) ≤ map.len had + 1
 len-insert-le had home word = one-more (map.contains_key had home) (map.len had) (map.len (map.insert had home word)) (map.len-insert nat_cmp_total had home word)
 
-empty-op : (size : ℕ) (op : ℕ × Word) → op_of size [] ≡ Ok op → ⊥
-empty-op size op is = cc
-
--- what a word of the line leaves, and those after it, as the case of the word goes
-ops-case : (size : ℕ) (had : WordMap) (text : List ℕ) (texts : List (List ℕ)) (now : WordMap) (op : Result (ℕ × Word) Cause) → op_of size text ≡ op → after_ops size had (text ∷ texts) ≡ Ok now
-    → ((had' : WordMap) → after_ops size had' texts ≡ Ok now → 2 * map.len now ≤ 2 * map.len had' + total texts) → 2 * map.len now ≤ 2 * map.len had + total (text ∷ texts)
-ops-case size had [] texts now (Ok op) is reads later = absurd (empty-op size op is)
-ops-case size had (b ∷ text) texts now (Ok op) is reads later =
-    let further = later (map.insert had op.0 op.1) (sym (ops-goes size had (b ∷ text) texts op is) ∙ reads) in
-    let one = len-insert-le had op.0 op.1 in
-    omega (arith, further, one)
-ops-case size had text texts now (Err cause) is reads later =
-    let never : ◌≡◌ {A = Result WordMap Cause} (Err cause) (Ok now) = sym (ops-fails size had text texts cause is) ∙ reads in cc
+some-word : (size : ℕ) (text : List ℕ) (op : ℕ × Word) → op_of size text ≡ Ok op → 0 < length text
+some-word size [] op is = cc
+some-word size (b ∷ text) op is = omega arith
 
 pub ops-weight : (size : ℕ) (had : WordMap) (texts : List (List ℕ)) (now : WordMap) → after_ops size had texts ≡ Ok now → 2 * map.len now ≤ 2 * map.len had + total texts
-ops-weight size had [] now reads =
-    let both : ◌≡◌ {A = Result WordMap Cause} (Ok had) (Ok now) = sym (ops-end size had) ∙ reads in
-    let same : had ≡ now = cc in
-    omega (arith, ap map.len same)
+ops-weight size had [] now reads = omega (arith, ap map.len (walk-last (ops-walk size) had now reads))
 ops-weight size had (text ∷ texts) now reads =
-    ops-case size had text texts now (op_of size text) refl reads (λ had' further. ops-weight size had' texts now further)
+    let first = walk-first (ops-walk size) had now text texts reads in
+    let further = ops-weight size (put_op had first.0) texts now first.2 in
+    let one = len-insert-le had first.0.0 first.0.1 in
+    omega (arith, further, one, some-word size text first.0 first.1)
 
 no-words : map.len (map.empty {X = Word} {R = nat_cmp}) ≡ 0
 no-words = map.len-empty nat_cmp Word
@@ -89,24 +77,14 @@ handle-weight size (b ∷ c ∷ text) now reads =
     let light = ops-weight size map.empty (words text) now ops in
     omega (arith, light, no-words, words-total text)
 
-lines-case : (size : ℕ) (had : List Stopped) (line : List ℕ) (more : List (List ℕ)) (now : List Stopped) (left : Result WordMap Cause) → handle_of size line ≡ left → after_lines size had (line ∷ more) ≡ Ok now
-    → ((had' : List Stopped) → after_lines size had' more ≡ Ok now → 2 * weight now ≤ 2 * weight had' + total more) → 2 * weight now ≤ 2 * weight had + total (line ∷ more)
-lines-case size had line more now (Ok left) is reads later =
-    let stopped : Stopped = record { ticket = length had; words = left } in
-    let further = later (had ++ stopped ∷ []) (sym (handles-go size had line more left is) ∙ reads) in
-    let light = handle-weight size line left is in
-    let sums : weight (had ++ stopped ∷ []) ≡ weight had + (0 + (map.len left + 1)) = sum_by-append (λ h. map.len h.words + 1) had (stopped ∷ []) in
-    omega (arith, further, light, sums)
-lines-case size had line more now (Err cause) is reads later =
-    let never : ◌≡◌ {A = Result (List Stopped) QueueFault} (Err (record { line = length had + 3; cause = cause })) (Ok now) = sym (lines-fails size had line more cause is) ∙ reads in cc
-
 pub lines-weight : (size : ℕ) (had : List Stopped) (left : List (List ℕ)) (now : List Stopped) → after_lines size had left ≡ Ok now → 2 * weight now ≤ 2 * weight had + total left
-lines-weight size had [] now reads =
-    let both : ◌≡◌ {A = Result (List Stopped) QueueFault} (Ok had) (Ok now) = sym (lines-end size had) ∙ reads in
-    let same : had ≡ now = cc in
-    omega (arith, ap weight same)
+lines-weight size had [] now reads = omega (arith, ap weight (walk-last (lines-walk size) had now reads))
 lines-weight size had (line ∷ more) now reads =
-    lines-case size had line more now (handle_of size line) refl reads (λ had' further. lines-weight size had' more now further)
+    let first = walk-first (lines-walk size) had now line more reads in
+    let further = lines-weight size (put_handle had first.0) more now first.2 in
+    let light = handle-weight size line first.0 first.1 in
+    let sums = sum_by-append (λ (h : Stopped). map.len h.words + 1) had (record { ticket = length had; words = first.0 } ∷ []) in
+    omega (arith, further, light, sums)
 
 -- the lines that are left after the first
 pub after-first : {A : Type 0} (rest : List (List ℕ)) (given : Option A) (x : A) (more : List (List ℕ)) → ◌≡◌ {A = Option (A × List (List ℕ))} (Some (x, more)) (option_map (λ y. (y, rest)) given) → more ≡ rest

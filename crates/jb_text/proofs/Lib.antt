@@ -3,6 +3,7 @@ pub mod Joins
 pub mod Left
 pub mod Numerals
 pub mod PartByPart
+pub mod Readings
 pub mod Splits
 pub mod Taken
 pub mod Written

@@ -2,7 +2,7 @@ use Rattle.std.proofs.Common.{◌≡◌, rules, sym, ap, ◌∙◌, length, refl
 use Rattle.jb_block.specs.Size.{bytes_of}
 use Rattle.jb_text.specs.Parts.{lines}
 use Rattle.jb_queue.specs.Queue.{after_lines}
-use Rattle.jb_queue.proofs.Handles.{lines-end, line-goes, line-full, line-reports, passed-none, passed-line, may-grow}
+use Rattle.jb_queue.proofs.Handles.{lines-walk, line-goes, line-full, line-reports, passed-none, passed-line, may-grow}
 use Rattle.jb_queue.proofs.Ops.{line-begins}
 use Rattle.jb_queue.proofs.queue_text.read_handles.Goals as goal
 
@@ -33,7 +33,7 @@ loop-line-preserved c =
 pub returns-clause-ok : goal.returns-clause-ok
 returns-clause-ok c =
     sym c.loop-line.invariant.reads ∙ ap (after_lines (bytes_of c.args.bs) c.loop-line.handles.items) c.in_default.ensures
-    ∙ lines-end (bytes_of c.args.bs) c.loop-line.handles.items
+    ∙ (lines-walk (bytes_of c.args.bs)).ends c.loop-line.handles.items
 
 pub returns-in_default-push-clause-memory : goal.returns-in_default-push-clause-memory
 returns-in_default-push-clause-memory c =

@@ -2,7 +2,7 @@ use Rattle.std.proofs.Common.{refl, sym, ap, ◌∙◌}
 use Rattle.jb_block.specs.Size.{bytes_of}
 use Rattle.jb_text.specs.Parts.{lines}
 use Rattle.jb_queue.specs.Queue.{after_lines}
-use Rattle.jb_queue.proofs.Handles.{lines-end}
+use Rattle.jb_queue.proofs.Handles.{lines-walk}
 use Rattle.jb_queue.proofs.Placed.{IsAt, next-is, none-left, same-words}
 use Rattle.jb_queue.proofs.queue_lines.HandleReader.read.Goals as goal
 
@@ -11,7 +11,7 @@ returns-in_default c = λ all at placed.
     let size = bytes_of c.args.self.now.bs in
     let here : IsAt size all at (lines c.args.self.now.rest.now) = record { had = placed.had; number = placed.number; reads = placed.reads } in (
       none-left size all c.args.passed at (lines c.args.self.now.rest.now) here (sym c.pass_lines-self.ensures ∙ c.in_default.ensures),
-      record { had = all; number = refl; reads = ap (λ ls. after_lines size all ls) c.in_default.ensures ∙ lines-end size all },
+      record { had = all; number = refl; reads = ap (λ ls. after_lines size all ls) c.in_default.ensures ∙ (lines-walk size).ends all },
     )
 
 pub returns-in-Ok : goal.returns-in-Ok
