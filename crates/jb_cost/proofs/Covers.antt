@@ -28,25 +28,13 @@ covers-none g homes none = λ i. record { geometry = g; homes = set.from_list (n
 
 -- a footprint of handles, its parts named
 module _ (g : Geometry) (hs : List Stopped) (footprint : Covered) (is : footprint ≡ covered_by g hs) where
-  geometry-is : footprint.geometry ≡ g
+  parts : record { geometry : footprint.geometry ≡ g; homes : footprint.homes ≡ touched hs; copies : footprint.copies ≡ set.len (copies hs); frees : footprint.frees ≡ set.len (frees hs) }
   unfolding covered_by
-  geometry-is = ap (λ c. c.geometry) is
-
-  homes-are : footprint.homes ≡ touched hs
-  unfolding covered_by
-  homes-are = ap (λ c. c.homes) is
-
-  copies-are : footprint.copies ≡ set.len (copies hs)
-  unfolding covered_by
-  copies-are = ap (λ c. c.copies) is
-
-  frees-are : footprint.frees ≡ set.len (frees hs)
-  unfolding covered_by
-  frees-are = ap (λ c. c.frees) is
+  parts = record { geometry = ap (λ c. c.geometry) is; homes = ap (λ c. c.homes) is; copies = ap (λ c. c.copies) is; frees = ap (λ c. c.frees) is }
 
   -- it has room for a handle, where all of them are within the size
   pub room-left : (h : Stopped) → weight (h ∷ hs) ≤ 2 ^ 62 → footprint.copies + footprint.frees + map.len h.words ≤ 2 ^ 62
-  room-left h size = omega (arith, size, few hs, copies-are, frees-are, sum_by-cons (λ x. map.len x.words + 1) h hs)
+  room-left h size = omega (arith, size, few hs, parts.copies, parts.frees, sum_by-cons (λ x. map.len x.words + 1) h hs)
 
   -- a handle is put in front
   module _ (h : Stopped) (old new : BTreeSet ℕ) (same : set.from_list old.keys ≡ footprint.homes)
@@ -56,19 +44,18 @@ module _ (g : Geometry) (hs : List Stopped) (footprint : Covered) (is : footprin
     homes-left = set.same_set nat_cmp_total set.nat_cmp-IsAntisymmetric _ _ (λ q.
         set-contains new q
         ∙ put q
-        ∙ ap (λ b. b || map.contains_key h.words q) (sym (set-contains old q) ∙ ap (λ s. set.contains s q) (same ∙ homes-are) ∙ contains-touched hs q)
+        ∙ ap (λ b. b || map.contains_key h.words q) (sym (set-contains old q) ∙ ap (λ s. set.contains s q) (same ∙ parts.homes) ∙ contains-touched hs q)
         ∙ or_comm (is_some (word hs q)) (is_some (map.get h.words q)) ∙ sym (or-some (word hs q) (map.get h.words q))
         ∙ sym (contains-touched (h ∷ hs) q))
 
     copies-left : footprint.copies + copied ≡ set.len (copies (h ∷ hs))
-    copies-left = (λ i. copies-are i + (copied-is ∙ ap (λ s. new_homes is_copy s (map.entries h.words)) (same ∙ homes-are)) i) ∙ sym (len-copies h hs)
+    copies-left = (λ i. parts.copies i + (copied-is ∙ ap (λ s. new_homes is_copy s (map.entries h.words)) (same ∙ parts.homes)) i) ∙ sym (len-copies h hs)
 
     frees-left : footprint.frees + freed ≡ set.len (frees (h ∷ hs))
-    frees-left = (λ i. frees-are i + (freed-is ∙ ap (λ s. new_homes is_free s (map.entries h.words)) (same ∙ homes-are)) i) ∙ sym (len-frees h hs)
+    frees-left = (λ i. parts.frees i + (freed-is ∙ ap (λ s. new_homes is_free s (map.entries h.words)) (same ∙ parts.homes)) i) ∙ sym (len-frees h hs)
 
-    pub covers-left : record { geometry = footprint.geometry; homes = set.from_list new.keys; copies = footprint.copies + copied; frees = footprint.frees + freed } ≡ covered_by g (h ∷ hs)
+    -- it covers this handle too, and its blocks are their cost
+    pub added-left : (record { geometry = footprint.geometry; homes = set.from_list new.keys; copies = footprint.copies + copied; frees = footprint.frees + freed } ≡ covered_by g (h ∷ hs))
+        × (blocks_of footprint.geometry (footprint.copies + copied) (footprint.frees + freed) ≡ cost g (h ∷ hs))
     unfolding covered_by
-    covers-left = λ i. record { geometry = geometry-is i; homes = homes-left i; copies = copies-left i; frees = frees-left i }
-
-    pub costs-left : blocks_of footprint.geometry (footprint.copies + copied) (footprint.frees + freed) ≡ cost g (h ∷ hs)
-    costs-left = λ i. blocks_of (geometry-is i) (copies-left i) (frees-left i)
+    added-left = (λ i. record { geometry = parts.geometry i; homes = homes-left i; copies = copies-left i; frees = frees-left i }, λ i. blocks_of (parts.geometry i) (copies-left i) (frees-left i))

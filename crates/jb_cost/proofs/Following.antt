@@ -6,9 +6,8 @@ use Rattle.std.specs.BTreeMap.{BTreeMap, get}
 use Rattle.std.specs.FinMap as map
 use Rattle.std.specs.FinSet as set
 use Rattle.std.proofs.lemmas.Bool.{cases_lt, le-leb, lt-leb}
-use Rattle.std.proofs.lemmas.List.{take_more, get_or-drop}
+use Rattle.std.proofs.lemmas.List.{take_more, get_or-drop, get_or_push}
 use Rattle.std.proofs.Math.ListN.{get_or-append}
-use Rattle.std.proofs.Math.Seq.{get_or-append_seam}
 use Rattle.jb_handle.specs.declared.word.Word.{Word}
 use Rattle.jb_handle.specs.declared.word.Word.TheVariants.{Copy, Free}
 use Rattle.jb_handle.specs.declared.stopped.Stopped.{Stopped}
@@ -22,7 +21,8 @@ use Rattle.jb_cost.specs.declared.stretch.Stretch.{Stretch}
 use Rattle.jb_cost.specs.declared.last_touches.LastTouches.{LastTouches}
 use Rattle.jb_cost.specs.Cost.{blocks_of}
 use Rattle.jb_cost.specs.Cut.{price, piece_cost}
-use Rattle.jb_cost.specs.Owned.{later_touch, left_since, is_since, left_copy, copies_of, frees_of, owned_from, owned_cost}
+use Rattle.jb_cost.specs.declared.owned.Owned.{Owned}
+use Rattle.jb_cost.specs.Owned.{Counts, later_touch, left_since, is_since, left_copy, copies_of, frees_of, owned_from, owned_cost}
 use Rattle.jb_cost.specs.Starts.{LeastPrice, stretch_at, AreLeast, priced_of}
 use Rattle.jb_cost.specs.Spans.{copies_until}
 use Rattle.jb_cost.specs.LastTouches.{PartsFit, TellsQueue, homes_owned}
@@ -74,14 +74,15 @@ follows-more hs h n last next within is below taken follows i q inside = elim (c
 
 -- the stretch of one handle more is its own start alone
 pub leasts-more : (ps : List (Option ℕ)) (ss : List Stretch) (n : ℕ) (start : Option ℕ) → length ss ≡ n → AreLeast ps ss n → price ps n ≡ start → AreLeast ps (ss ++ record { from = n; least = priced_of n start } ∷ []) (n + 1)
-leasts-more ps ss n start long leasts is k below = elim (cases_lt k n) [
-  | inl less ↦ subst (λ (x : Stretch). LeastPrice ps x.from (k + 1) x.least) (sym (get_or-append ss (record { from = n; least = priced_of n start } ∷ []) _ k (omega (arith, less, long)))) (leasts k less)
-  | inr more ↦
-      let same : k ≡ length ss = omega (arith, more, long) in
-      let here : stretch_at (ss ++ record { from = n; least = priced_of n start } ∷ []) (length ss) ≡ record { from = n; least = priced_of n start } = get_or-append_seam ss (record { from = n; least = priced_of n start }) [] _ in
-      subst (λ j. LeastPrice ps (stretch_at (ss ++ record { from = n; least = priced_of n start } ∷ []) j).from (j + 1) (stretch_at (ss ++ record { from = n; least = priced_of n start } ∷ []) j).least) (sym same)
-      (subst (λ (x : Stretch). LeastPrice ps x.from (length ss + 1) x.least) (sym here) (subst (λ m. LeastPrice ps n (m + 1) (priced_of n start)) (sym long) (least-one ps n start is)))
-]
+leasts-more ps ss n start long leasts is k below =
+    let last : Stretch = record { from = n; least = priced_of n start } in
+    let Least : Stretch → Type 0 = λ x. LeastPrice ps x.from (k + 1) x.least in
+    elim (cases_lt k n) [
+      | inl less ↦ subst Least (sym (get_or-append ss (last ∷ []) _ k (omega (arith, less, long)))) (leasts k less)
+      | inr more ↦
+          let same : n ≡ k = omega (arith, more) in
+          subst Least (sym (get_or_push ss last _ k (long ∙ same))) (subst (λ m. LeastPrice ps n (m + 1) (priced_of n start)) same (least-one ps n start is))
+    ]
 
 is_of-since : (kind : Bool → Bool) (i : ℕ) (t : Option Touch) → is_of kind (left_since i t) ≡ is_of (is_since kind i) t
 is_of-since kind i None = refl
@@ -98,18 +99,17 @@ freed-is_of (Some (Copy bytes)) = refl
 freed-is_of (Some Free) = refl
 
 module _ (g : Geometry) (hs : List Stopped) (n : ℕ) (ps : List (Option ℕ)) (t : LastTouches) (sound : PartsFit t) (tells : TellsQueue g hs n ps t) where
-  -- the homes that the handles of a piece copy, and those that they free
+  -- the homes of a kind that the handles of a piece leave
+  piece-kind : (kind : Bool → Bool) (count : Owned → ℕ) → Counts count kind t.owned.items t.last → (i : ℕ) → i ≤ n → (s : set.FinSet nat_cmp) → ((q : ℕ) → set.contains s q ≡ is_of kind (option_map is_copy (word (slice_range hs i n) q)))
+      → set.len s ≡ owned_from count t.owned.items i
+  piece-kind kind count counts i inside s are =
+      len-of_kind (is_since kind i) t.last.entries sound.ordered s (λ q. are q ∙ ap (is_of kind) (sym (tells.follows i q inside)) ∙ is_of-since kind i (get nat_cmp t.last q)) ∙ sym (counts i)
+
   pub copies-piece : (i : ℕ) → i ≤ n → set.len (copies (slice_range hs i n)) ≡ owned_from copies_of t.owned.items i
-  copies-piece i inside =
-      len-of_kind (is_since left_copy i) t.last.entries sound.ordered (copies (slice_range hs i n))
-      (λ q. contains-copies (slice_range hs i n) q ∙ copied-is_of (word (slice_range hs i n) q) ∙ ap (is_of left_copy) (sym (tells.follows i q inside)) ∙ is_of-since left_copy i (get nat_cmp t.last q))
-      ∙ sym (sound.copies i)
+  copies-piece i inside = piece-kind left_copy copies_of sound.copies i inside _ (λ q. contains-copies (slice_range hs i n) q ∙ copied-is_of (word (slice_range hs i n) q))
 
   pub frees-piece : (i : ℕ) → i ≤ n → set.len (frees (slice_range hs i n)) ≡ owned_from frees_of t.owned.items i
-  frees-piece i inside =
-      len-of_kind (is_since not i) t.last.entries sound.ordered (frees (slice_range hs i n))
-      (λ q. contains-frees (slice_range hs i n) q ∙ freed-is_of (word (slice_range hs i n) q) ∙ ap (is_of not) (sym (tells.follows i q inside)) ∙ is_of-since not i (get nat_cmp t.last q))
-      ∙ sym (sound.frees i)
+  frees-piece i inside = piece-kind not frees_of sound.frees i inside _ (λ q. contains-frees (slice_range hs i n) q ∙ freed-is_of (word (slice_range hs i n) q))
 
   -- what a piece that ends with the last handle costs
   pub cost-piece : (i : ℕ) → i ≤ n → piece_cost g hs i n ≡ owned_cost g t.owned.items i

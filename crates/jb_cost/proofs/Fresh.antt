@@ -1,21 +1,21 @@
 -- The homes of a handle, put one by one among those that others touch.
-use Rattle.std.proofs.Common.{◌≡◌, ℕ, ◌+◌, ◌<◌, ◌≤◌, Bool, true, false, cond, not, ◌&&◌, ◌||◌, nat_eq, T, List, [], ◌∷◌, ◌++◌, length, take, get_or, Option, Some, None, is_some, refl, sym, ap, subst, ◌∙◌, arith}
-use Rattle.std.specs.List.{list_any, count_by}
+use Rattle.std.proofs.Common.{◌≡◌, ℕ, ◌+◌, ◌<◌, ◌≤◌, Bool, true, false, cond, not, ◌&&◌, ◌||◌, nat_eq, T, List, [], ◌∷◌, ◌++◌, length, take, get_or, Option, Some, is_some, refl, sym, ap, subst, ◌∙◌, arith}
+use Rattle.std.specs.List.{list_any}
 use Rattle.std.specs.Ordering.{nat_cmp, is_eq}
 use Rattle.std.specs.Cmp.{nat_cmp_total}
 use Rattle.std.specs.BTreeSet as tree
 use Rattle.std.specs.BTreeSet.{BTreeSet}
 use Rattle.std.specs.FinMap as map
 use Rattle.std.specs.FinSet as set
-use Rattle.std.proofs.lemmas.List.Sums.{count_by_more_yes, count_by_more_no}
+use Rattle.std.proofs.lemmas.List.Sums.{sum_by_more}
 use Rattle.std.proofs.lemmas.List.Folds.{list_any-append}
 use Rattle.std.proofs.lemmas.Bool.{both_ways}
 use Rattle.std.proofs.Math.Bool.{and-true, and-false, or-false, or-true}
-use Rattle.std.proofs.lemmas.List.{take_more, take_all}
+use Rattle.std.proofs.lemmas.List.{take_more}
 use Rattle.std.proofs.lemmas.Bool.Decides.{nat_tests}
 use Rattle.jb_handle.specs.declared.word.Word.{Word}
-use Rattle.jb_handle.specs.Word.{WordMap, is_copy, is_free}
-use Rattle.jb_handle.proofs.Rising.{find-take, find-before}
+use Rattle.jb_handle.specs.Word.{is_copy, is_free}
+use Rattle.jb_handle.proofs.Rising.{find-with, none-before}
 use Rattle.jb_cost.specs.Met.{is_new, new_homes}
 
 -- the first i entries were put among the homes that were met: fresh lists the new ones, and copies and frees count them
@@ -52,13 +52,6 @@ known-or : (t listed met found : Bool) → (t ≡ true → met ≡ true) → lis
 known-or true listed met found known e = e ∙ rw (known refl) refl
 known-or false listed met found known e = e
 
-count-more : (p : ℕ × Word → Bool) (es : List (ℕ × Word)) (i : ℕ) (e : ℕ × Word) → e ≡ get_or es i e → i < length es → count_by p (take (i + 1) es) ≡ count_by p (take i es) + cond (p e) 1 0
-count-more p es i e here inside =
-    elim (p e) as (λ b. p e ≡ b → count_by p (take (i + 1) es) ≡ count_by p (take i es) + cond b 1 0) [
-      | true ↦ λ passes. count_by_more_yes p es i e inside (ap p (sym here) ∙ passes)
-      | false ↦ λ fails. count_by_more_no p es i e inside (ap p (sym here) ∙ fails) ∙ omega arith
-    ] refl
-
 pub set-contains : (met : BTreeSet ℕ) (q : ℕ) → set.contains (set.from_list {R = nat_cmp} met.keys) q ≡ tree.contains nat_cmp met q
 set-contains met q = set.contains-from_list nat_cmp_total met.keys q
 
@@ -77,9 +70,7 @@ module _ (met old new : BTreeSet ℕ) (fresh : List ℕ) (es : List (ℕ × Word
     (rising : T (map.is_sorted nat_cmp es)) (e : ℕ × Word) (here : e ≡ get_or es i e) (inside : i < length es)
     (put : (q : ℕ) → tree.contains nat_cmp new q ≡ cond (is_eq (nat_cmp e.0 q)) true (tree.contains nat_cmp old q)) where
   found-next : (q : ℕ) → is_some (map.find nat_cmp q (take (i + 1) es)) ≡ (nat_eq q e.0 || is_some (map.find nat_cmp q (take i es)))
-  found-next q =
-      ap is_some (find-take es rising i e inside q ∙ ap (λ (x : ℕ × Word). cond (nat_eq q x.0) (Some x.1) (map.find nat_cmp q (take i es))) (sym here))
-      ∙ some-cond (nat_eq q e.0) e.1 _
+  found-next q = ap is_some (find-with es rising i e here inside q) ∙ some-cond (nat_eq q e.0) e.1 _
 
   homes-next : (q : ℕ) → tree.contains nat_cmp new q ≡ (tree.contains nat_cmp met q || is_some (map.find nat_cmp q (take (i + 1) es)))
   homes-next q =
@@ -89,9 +80,7 @@ module _ (met old new : BTreeSet ℕ) (fresh : List ℕ) (es : List (ℕ × Word
       ∙ ap (λ b. tree.contains nat_cmp met q || b) (sym (found-next q))
 
   met-here : tree.contains nat_cmp old e.0 ≡ tree.contains nat_cmp met e.0
-  met-here =
-      let none : map.find nat_cmp e.0 (take i es) ≡ None = ap (λ (x : ℕ × Word). map.find nat_cmp x.0 (take i es)) here ∙ find-before es rising i e inside in
-      so_far.homes_are e.0 ∙ ap (λ w. tree.contains nat_cmp met e.0 || is_some w) none ∙ or-false _
+  met-here = so_far.homes_are e.0 ∙ ap (λ w. tree.contains nat_cmp met e.0 || is_some w) (none-before es rising i e here inside) ∙ or-false _
 
   at-home : (b : Bool) → tree.contains nat_cmp old e.0 ≡ b → (q : ℕ) → nat_eq q e.0 ≡ true → tree.contains nat_cmp met q ≡ b
   at-home b is q same =
@@ -100,7 +89,8 @@ module _ (met old new : BTreeSet ℕ) (fresh : List ℕ) (es : List (ℕ × Word
 
   count-at : (kind : Word → Bool) (b : Bool) → tree.contains nat_cmp old e.0 ≡ b → new_homes kind (set.from_list met.keys) (take (i + 1) es) ≡ new_homes kind (set.from_list met.keys) (take i es) + cond (kind e.1 && not b) 1 0
   count-at kind b is =
-      count-more (is_new kind (set.from_list met.keys)) es i e here inside
+      sum_by_more (λ x. cond (is_new kind (set.from_list met.keys) x) 1 0) es i e inside
+      ∙ ap (λ x. new_homes kind (set.from_list met.keys) (take i es) + cond (is_new kind (set.from_list met.keys) x) 1 0) (sym here)
       ∙ ap (λ m. new_homes kind (set.from_list met.keys) (take i es) + cond (kind e.1 && not m) 1 0) (set-contains met e.0 ∙ sym met-here ∙ is)
 
   -- the home was there already
@@ -151,15 +141,3 @@ out-set met put out fresh listed same partly apart taken =
     set-contains out q
     ∙ out-again (tree.contains nat_cmp met q) (tree.contains nat_cmp put q) _ (list_any (nat_eq q) fresh) (partly q) (apart q) (taken q ∙ ap (λ xs. tree.contains nat_cmp put q && not (list_any (nat_eq q) xs)) same)
     ∙ sym (set-contains met q))
-
-pub is-false : (b : Bool) → not b ≡ true → b ≡ false
-is-false true e = sym e
-is-false false e = refl
-
-pub is-true : (b : Bool) → not b ≡ false → b ≡ true
-is-true true e = refl
-is-true false e = sym e
-
--- all of the entries, once they are put
-pub met-all : (words : WordMap) (es : List (ℕ × Word)) → es ≡ map.entries words → (i q : ℕ) → length es ≤ i → is_some (map.find nat_cmp q (take i es)) ≡ map.contains_key words q
-met-all words es same i q whole = ap is_some (ap (map.find nat_cmp q) (take_all i es whole ∙ same) ∙ sym (map.get-entries words q))

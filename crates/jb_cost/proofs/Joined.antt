@@ -1,6 +1,6 @@
 -- Pieces of a list: joined, of a longer list, of a part of the list, further on, and parted themselves.
 use Rattle.std.proofs.Common.{◌≡◌, ℕ, zero, suc, ◌+◌, ◌-◌, ◌≤◌, List, [], ◌∷◌, ◌++◌, map, length, take, drop, slice_range, sym, refl, ap, subst, ◌∙◌, arith}
-use Rattle.std.proofs.lemmas.List.{drop-drop, length-append}
+use Rattle.std.proofs.lemmas.List.{drop-drop, drop-take, length-append, take-take}
 use Rattle.std.proofs.lemmas.List.Folds.{drop_split}
 use Rattle.std.proofs.Math.Seq.{drop-length, drop-append-add}
 use mathlib.Core.List.{append_assoc, append-nil}
@@ -13,13 +13,9 @@ module _ {A : Type 0} where
 
   -- what is taken of the rest of the first e is taken of the rest, up to e
   take-within : (n a e : ℕ) (xs : List A) → a + n ≤ e → take n (drop a (take e xs)) ≡ take n (drop a xs)
-  take-within zero a e xs le = refl
-  take-within (suc n) zero zero xs le = absurd (let h : ⊥ = omega arith in h)
-  take-within (suc n) zero (suc e) [] le = refl
-  take-within (suc n) zero (suc e) (x ∷ xs) le = ap (λ ys. x ∷ ys) (take-within n zero e xs (omega arith))
-  take-within (suc n) (suc a) zero xs le = absurd (let h : ⊥ = omega arith in h)
-  take-within (suc n) (suc a) (suc e) [] le = refl
-  take-within (suc n) (suc a) (suc e) (x ∷ xs) le = take-within (suc n) a e xs (omega arith)
+  take-within n a e xs le =
+      let at : e ≡ a + (e - a) = omega arith in
+      ap (λ k. take n (drop a (take k xs))) at ∙ ap (take n) (drop-take a (e - a) xs) ∙ take-take n (e - a) (drop a xs) (omega arith)
 
   pub pieces-take : (e a : ℕ) (es : List ℕ) (xs : List A) → RisesTo e a es → pieces_from a es (take e xs) ≡ pieces_from a es xs
   pieces-take e a [] xs rises = refl

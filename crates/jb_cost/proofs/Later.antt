@@ -1,16 +1,16 @@
 -- What the words of one handle, taken in turn, do to a home.
-use Rattle.std.proofs.Common.{◌≡◌, ℕ, ◌+◌, ◌<◌, ◌≤◌, Bool, true, false, not, cond, nat_eq, T, List, [], ◌∷◌, ◌++◌, None, take, length, get_or, Option, Some, refl, sym, ap, ◌∙◌}
+use Rattle.std.proofs.Common.{◌≡◌, ℕ, ◌+◌, ◌<◌, Bool, true, false, not, cond, nat_eq, T, List, [], ◌∷◌, ◌++◌, None, take, length, get_or, Option, Some, refl, sym, ap, ◌∙◌}
 use Rattle.std.specs.Ordering.{nat_cmp}
 use Rattle.std.specs.FinMap as map
 use Rattle.jb_handle.specs.declared.word.Word.{Word}
 use Rattle.jb_handle.specs.declared.word.Word.TheVariants.{Copy, Free}
-use Rattle.std.proofs.lemmas.List.{take_all, take_more}
+use Rattle.std.proofs.lemmas.List.{take_more}
 use Rattle.std.specs.Option.{option_or}
 use Rattle.jb_handle.specs.declared.stopped.Stopped.{Stopped}
 use Rattle.jb_handle.proofs.Touched.{word-append}
-use Rattle.jb_handle.specs.Word.{WordMap, is_copy}
+use Rattle.jb_handle.specs.Word.{is_copy}
 use Rattle.jb_handle.specs.Words.{word, is_copied, is_freed}
-use Rattle.jb_handle.proofs.Rising.{find-take}
+use Rattle.jb_handle.proofs.Rising.{find-with}
 use Rattle.jb_cost.specs.Met.{later}
 
 pub copied-is_copy : (w : Word) → is_copied (Some w) ≡ is_copy w
@@ -26,21 +26,10 @@ one-more kind w true found old before k is so_far = sym is
 one-more kind w false found old before k is so_far = so_far
 
 module _ (es : List (ℕ × Word)) (rising : T (map.is_sorted nat_cmp es)) (i : ℕ) (e : ℕ × Word) (here : e ≡ get_or es i e) (inside : i < length es) (q : ℕ) (old before : Bool) where
-  next-is : (kind : Option Word → Bool) (k : Bool) → kind (Some e.1) ≡ k → old ≡ later kind (map.find nat_cmp q (take i es)) before → cond (nat_eq q e.0) k old ≡ later kind (map.find nat_cmp q (take (i + 1) es)) before
+  pub next-is : (kind : Option Word → Bool) (k : Bool) → kind (Some e.1) ≡ k → old ≡ later kind (map.find nat_cmp q (take i es)) before → cond (nat_eq q e.0) k old ≡ later kind (map.find nat_cmp q (take (i + 1) es)) before
   next-is kind k is so_far =
       one-more kind e.1 (nat_eq q e.0) _ old before k is so_far
-      ∙ ap (λ (x : ℕ × Word). later kind (cond (nat_eq q x.0) (Some x.1) (map.find nat_cmp q (take i es))) before) here
-      ∙ ap (λ f. later kind f before) (sym (find-take es rising i e inside q))
-
-  pub copies-next : old ≡ later is_copied (map.find nat_cmp q (take i es)) before → cond (nat_eq q e.0) (is_copy e.1) old ≡ later is_copied (map.find nat_cmp q (take (i + 1) es)) before
-  copies-next = next-is is_copied _ (copied-is_copy e.1)
-
-  pub frees-next : old ≡ later is_freed (map.find nat_cmp q (take i es)) before → cond (nat_eq q e.0) (not (is_copy e.1)) old ≡ later is_freed (map.find nat_cmp q (take (i + 1) es)) before
-  frees-next = next-is is_freed _ (freed-is_copy e.1)
-
--- all of the words, once they are taken
-pub later-whole : (kind : Option Word → Bool) (words : WordMap) (es : List (ℕ × Word)) → es ≡ map.entries words → (i q : ℕ) (before : Bool) → length es ≤ i → later kind (map.find nat_cmp q (take i es)) before ≡ later kind (map.get words q) before
-later-whole kind words es same i q before whole = ap (λ w. later kind w before) (ap (map.find nat_cmp q) (take_all i es whole ∙ same) ∙ sym (map.get-entries words q))
+      ∙ ap (λ f. later kind f before) (sym (find-with es rising i e here inside q))
 
 later-or : (kind : Option Word → Bool) (w v : Option Word) → later kind w (kind v) ≡ kind (option_or w v)
 later-or kind None v = refl

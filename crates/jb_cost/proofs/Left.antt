@@ -6,25 +6,17 @@ use Rattle.std.specs.Cmp.{nat_cmp_total}
 use Rattle.std.specs.FinMap as map
 use Rattle.std.specs.FinSet as set
 use Rattle.std.proofs.lemmas.List.Sums.{sum_by-cons}
-use Rattle.std.proofs.lemmas.Bool.{both_ways}
+use Rattle.std.proofs.lemmas.Bool.{and_parts, not-true}
+use Rattle.std.proofs.lemmas.Bool.Decides.{nat_tests}
 use Rattle.std.proofs.Math.Bool.{and-true, and-false, or-false}
 use Rattle.jb_handle.specs.declared.word.Word.{Word}
 use Rattle.jb_handle.specs.declared.stopped.Stopped.{Stopped}
 use Rattle.jb_handle.specs.Word.{is_copy, is_free}
 use Rattle.jb_handle.specs.Words.{word, touched, copies, frees}
-use Rattle.jb_handle.proofs.Touched.{is_of, homes_of, copies-homes_of, frees-homes_of, contains-homes_of, contains-touched, contains-copies, contains-frees}
+use Rattle.jb_handle.proofs.Touched.{is_of, some-and, homes_of, copies-homes_of, frees-homes_of, contains-homes_of, contains-touched, contains-copies, contains-frees}
 use Rattle.jb_handle.specs.Size.{weight}
 use Rattle.jb_cost.specs.Met.{is_new, new_homes}
 use Rattle.jb_cost.proofs.Picked.{picked, contains-picked, len-picked}
-
-not-from-and : (a b : Bool) → (a && not b) ≡ true → b ≡ false
-not-from-and true true e = sym e
-not-from-and true false e = refl
-not-from-and false b e = absurd (both_ways false refl e)
-
-none-of : (kind : Word → Bool) (w : Option Word) → is_some w ≡ false → is_of kind w ≡ false
-none-of kind None e = refl
-none-of kind (Some w) e = absurd (both_ways true e refl)
 
 new-or : (kind : Word → Bool) (last first : Option Word) → (is_of (λ w. kind w && not (is_some last)) first || is_of kind last) ≡ is_of kind (option_or last first)
 new-or kind None None = refl
@@ -43,7 +35,7 @@ module _ (kind : Word → Bool) (h : Stopped) (hs : List Stopped) where
       ∙ new-or kind (word hs q) (map.get h.words q)))
 
   new-apart : (e : ℕ × Word) → is_new kind (touched hs) e ≡ true → set.contains (homes_of kind hs) e.0 ≡ false
-  new-apart e new = contains-homes_of kind hs e.0 ∙ none-of kind (word hs e.0) (sym (contains-touched hs e.0) ∙ not-from-and (kind e.1) _ new)
+  new-apart e new = contains-homes_of kind hs e.0 ∙ sym (some-and kind (word hs e.0)) ∙ ap (λ b. b && is_of kind (word hs e.0)) (sym (contains-touched hs e.0) ∙ not-true _ (and_parts (kind e.1) _ new).1)
 
   len-homes_of : set.len (homes_of kind (h ∷ hs)) ≡ set.len (homes_of kind hs) + new_homes kind (touched hs) (map.entries h.words)
   len-homes_of =
@@ -60,10 +52,7 @@ module _ (h : Stopped) (hs : List Stopped) where
 
 -- a home that is new is so by one kind
 one-kind : (a m : Bool) → cond (a && m) 1 0 + cond (not a && m) 1 0 ≤ 1
-one-kind true true = omega arith
-one-kind true false = omega arith
-one-kind false true = omega arith
-one-kind false false = omega arith
+one-kind a m = grind (arith, nat_tests)
 
 pub new-few : (met : set.FinSet nat_cmp) (es : List (ℕ × Word)) → new_homes is_copy met es + new_homes is_free met es ≤ length es
 new-few met [] = omega arith

@@ -1,11 +1,8 @@
 -- The spans as a handle loses a home, and as one more handle comes.
-use Rattle.std.proofs.Common.{◌≡◌, ◌≢◌, ℕ, ◌+◌, ◌*◌, ◌/◌, ◌<◌, ◌≤◌, Bool, true, false, cond, not, List, [], ◌∷◌, ◌++◌, length, set, drop, Option, Some, None, inl, inr, sym, subst, ap, ◌∙◌, arith, length-append}
-use Rattle.std.specs.List.{sum_by}
+use Rattle.std.proofs.Common.{◌≡◌, ◌≢◌, ℕ, ◌+◌, ◌*◌, ◌/◌, ◌<◌, ◌≤◌, Bool, true, false, cond, not, List, [], ◌∷◌, ◌++◌, length, set, Option, Some, None, inl, inr, sym, subst, ap, ◌∙◌, arith, length-append}
 use Rattle.std.proofs.lemmas.Bool.{cases_lt, cases_eq}
-use Rattle.std.proofs.lemmas.List.{drop-append-le, get_or-set_other}
-use Rattle.std.proofs.lemmas.List.Sums.{sum_by_push}
+use Rattle.std.proofs.lemmas.List.{get_or_push, get_or-set_other}
 use Rattle.std.proofs.Math.ListN.{get_or-append}
-use Rattle.std.proofs.Math.Seq.{get_or-append_seam}
 use Rattle.jb_handle.specs.declared.word.Word.{Word}
 use Rattle.jb_handle.specs.Word.{is_copy}
 use Rattle.jb_cost.specs.declared.owned.Owned.{Owned}
@@ -17,7 +14,7 @@ use Rattle.jb_cost.specs.declared.shortcuts.Shortcuts.{Shortcuts}
 use Rattle.jb_cost.specs.Owned.{owned_at, owned_from, copies_of, frees_of, counts_since, left_copy, later_touch, IsIdle}
 use Rattle.jb_cost.specs.Starts.{AreIdle, stretch_at}
 use Rattle.jb_cost.specs.Spans.{IsSpan, span_at, AreSpans, AreBest, FitOwned}
-use Rattle.jb_cost.proofs.Owning.{since-early, since-late}
+use Rattle.jb_cost.proofs.Owning.{since-early, since-late, owned-pushed}
 use Rattle.jb_cost.proofs.Spans.{span-as, span-best-as}
 
 -- a handle that touched a home last is not idle
@@ -51,27 +48,20 @@ module _ (os now : List Owned) (t : Touch) (owner : IsIdle (owned_at os t.handle
   ]
 
   module _ (xs ys : List (Option Span)) (others : (k : ℕ) (s : Span) → span_at ys k ≡ Some s → (span_at xs k ≡ Some s) × (k ≢ t.handle / 8)) (spans : AreSpans os xs) where
-    same-copies : (k : ℕ) (s : Span) → span_at ys k ≡ Some s → (i : ℕ) → s.from ≤ i → i ≤ 8 * k + 8 → owned_from copies_of now i + owned_from copies_of os (8 * k + 8) ≡ owned_from copies_of os i + owned_from copies_of now (8 * k + 8)
-    same-copies k s is i above below =
+    same-sums : (count : Owned → ℕ) (kind : Bool → Bool) → ((i : ℕ) → owned_from count now i + counts_since kind i t ≡ owned_from count os i)
+        → (k : ℕ) (s : Span) → span_at ys k ≡ Some s → (i : ℕ) → s.from ≤ i → i ≤ 8 * k + 8 → owned_from count now i + owned_from count os (8 * k + 8) ≡ owned_from count os i + owned_from count now (8 * k + 8)
+    same-sums count kind lost k s is i above below =
         let was = others k s is in
-        omega (arith, copies i, copies (8 * k + 8), outside k s was.1 (spans k s was.0) left_copy i above below)
-
-    same-frees : (k : ℕ) (s : Span) → span_at ys k ≡ Some s → (i : ℕ) → s.from ≤ i → i ≤ 8 * k + 8 → owned_from frees_of now i + owned_from frees_of os (8 * k + 8) ≡ owned_from frees_of os i + owned_from frees_of now (8 * k + 8)
-    same-frees k s is i above below =
-        let was = others k s is in
-        omega (arith, frees i, frees (8 * k + 8), outside k s was.1 (spans k s was.0) not i above below)
+        omega (arith, lost i, lost (8 * k + 8), outside k s was.1 (spans k s was.0) kind i above below)
 
     pub spans-lost : AreSpans now ys
-    spans-lost k s is = span-as os now (8 * k + 8) s (spans k s (others k s is).0) (same-copies k s is) (same-frees k s is) (omega (arith, number)) (λ j none below. idle j none)
+    spans-lost k s is = span-as os now (8 * k + 8) s (spans k s (others k s is).0) (same-sums copies_of left_copy copies k s is) (same-sums frees_of not frees k s is) (omega (arith, number)) (λ j none below. idle j none)
 
     pub bests-lost : (ps : List (Option ℕ)) → AreBest ps os xs → AreBest ps now ys
-    bests-lost ps bests k s is = span-best-as os now (8 * k + 8) s (spans k s (others k s is).0) (same-copies k s is) ps (bests k s (others k s is).0)
+    bests-lost ps bests k s is = span-best-as os now (8 * k + 8) s (spans k s (others k s is).0) (same-sums copies_of left_copy copies k s is) ps (bests k s (others k s is).0)
 
 -- one handle more at the end
 module _ (os : List Owned) (new : Owned) where
-  owned-pushed : (count : Owned → ℕ) (i : ℕ) → i ≤ length os → owned_from count (os ++ new ∷ []) i ≡ owned_from count os i + count new
-  owned-pushed count i inside = ap (sum_by count) (drop-append-le i os (new ∷ []) inside) ∙ sum_by_push count (drop i os) new
-
   idle-pushed : (k : ℕ) → IsIdle (owned_at os k) → k < length os → IsIdle (owned_at (os ++ new ∷ []) k)
   idle-pushed k idle below = subst IsIdle (sym (get_or-append os (new ∷ []) _ k below)) idle
 
@@ -80,8 +70,8 @@ module _ (os : List Owned) (new : Owned) where
     span-pushed k s is =
         let span = spans k s is in
         span-as os (os ++ new ∷ []) (8 * k + 8) s span
-        (λ i above below. omega (arith, owned-pushed copies_of i (omega (arith, below, span.within)), owned-pushed copies_of (8 * k + 8) span.within))
-        (λ i above below. omega (arith, owned-pushed frees_of i (omega (arith, below, span.within)), owned-pushed frees_of (8 * k + 8) span.within))
+        (λ i above below. omega (arith, owned-pushed copies_of os new i (omega (arith, below, span.within)), owned-pushed copies_of os new (8 * k + 8) span.within))
+        (λ i above below. omega (arith, owned-pushed frees_of os new i (omega (arith, below, span.within)), owned-pushed frees_of os new (8 * k + 8) span.within))
         (simp length-append (omega arith)) (λ j idle below. idle-pushed j idle (omega (arith, below, span.within)))
 
     pub bests-pushed : (ys : List (Option Span)) → ((k : ℕ) (s : Span) → span_at ys k ≡ Some s → span_at xs k ≡ Some s) → (ps : List (Option ℕ)) → AreBest ps os xs → AreBest ps (os ++ new ∷ []) ys
@@ -89,7 +79,7 @@ module _ (os : List Owned) (new : Owned) where
         let was = known k s is in
         let span = spans k s was in
         span-best-as os (os ++ new ∷ []) (8 * k + 8) s span
-        (λ i above below. omega (arith, owned-pushed copies_of i (omega (arith, below, span.within)), owned-pushed copies_of (8 * k + 8) span.within))
+        (λ i above below. omega (arith, owned-pushed copies_of os new i (omega (arith, below, span.within)), owned-pushed copies_of os new (8 * k + 8) span.within))
         ps (bests k s was)
 
 -- the shortcuts of one handle more, which has taken over homes of others
@@ -114,7 +104,7 @@ fit-more os now new least was next xs fit long idle spans places stretches more 
                 subst Goes (sym here) (goes.0, λ j above before. idle-pushed now new j (idle j (goes.1 j above before)) (omega (arith, before, less, long)))
             | inr more_than ↦
                 let same : k ≡ length was.stretches.items = omega (arith, below, whole, more_than, fit.number) in
-                let here : stretch_at next.stretches.items k ≡ last = ap (λ ss. stretch_at ss k) stretches ∙ ap (stretch_at (was.stretches.items ++ last ∷ [])) same ∙ get_or-append_seam was.stretches.items last [] _ in
+                let here : stretch_at next.stretches.items k ≡ last = ap (λ ss. stretch_at ss k) stretches ∙ get_or_push was.stretches.items last _ k (sym same) in
                 subst Goes (sym here) ((let at : length os ≤ k = more_than in at), λ j above before. absurd (let h : ⊥ = omega (arith, above, before, same, fit.number) in h))
           ];
       spans = λ k s is. span-pushed now new xs spans k s (known k s is);

@@ -32,6 +32,10 @@ fewer kind i j less t = elim (cases_lt t.handle j) [
   | inr early ↦ omega (arith, since-early kind j t early, since-early kind i t (omega (arith, early)))
 ]
 
+-- one handle more at the end
+pub owned-pushed : (count : Owned → ℕ) (os : List Owned) (new : Owned) (i : ℕ) → i ≤ length os → owned_from count (os ++ new ∷ []) i ≡ owned_from count os i + count new
+owned-pushed count os new i inside = ap (sum_by count) (drop-append-le i os (new ∷ []) inside) ∙ sum_by_push count (drop i os) new
+
 module _ (count : Owned → ℕ) (kind : Bool → Bool) where
   -- handle k loses a home
   pub lost : (os : List Owned) (t : Touch) (now : Owned) → t.handle < length os → count now + cond (kind t.copy) 1 0 ≡ count (owned_at os t.handle)
@@ -97,7 +101,5 @@ module _ (count : Owned → ℕ) (kind : Bool → Bool) where
         let none : drop i (os ++ new ∷ []) ≡ [] = drop_all i (os ++ new ∷ []) (simp length-append (omega (arith, late))) in
         let before : drop i os ≡ [] = drop_all i os (omega (arith, late)) in
         omega (arith, ap (sum_by count) none, ap (sum_by count) before, so_far i, cond-late i (length os) (count new) late)
-    | inr early ↦
-        let longer : drop i (os ++ new ∷ []) ≡ drop i os ++ new ∷ [] = drop-append-le i os (new ∷ []) early in
-        omega (arith, ap (sum_by count) longer, sum_by_push count (drop i os) new, so_far i, cond-early i (length os) (count new) early)
+    | inr early ↦ omega (arith, owned-pushed count os new i early, so_far i, cond-early i (length os) (count new) early)
   ]

@@ -16,12 +16,6 @@ use Rattle.jb_handle.proofs.Rising.{both_parts, is_lt-less, ordered-rise}
 use Rattle.jb_handle.proofs.Touched.{is_of}
 use Rattle.jb_handle.proofs.Trees.{find-looks}
 
-none-added : (a b n : ℕ) → a ≡ b + n → a ≡ b + (0 + n)
-none-added a b n e = omega arith
-
-one-added : (a b n : ℕ) → a ≡ b + n → a + 1 ≡ b + (1 + n)
-one-added a b n e = omega arith
-
 module _ {W : Type 0} (p : ℕ × W → Bool) (s : set.FinSet nat_cmp) where
   -- the set, and the homes of the entries that pass
   abbrev pub picked : List (ℕ × W) → set.FinSet nat_cmp
@@ -60,11 +54,14 @@ module _ {W : Type 0} (p : ℕ × W → Bool) (s : set.FinSet nat_cmp) where
   pub len-picked : (es : List (ℕ × W)) → T (map.is_sorted nat_cmp es) → ((e : ℕ × W) → p e ≡ true → set.contains s e.0 ≡ false) → set.len (picked es) ≡ set.len s + count_by p es
   len-picked [] h apart = omega arith
   len-picked (e ∷ es) h apart =
+      let parts = both_parts (below_all nat_cmp e.0 es) (map.is_sorted nat_cmp es) h in
+      let rest : set.len (picked es) ≡ set.len s + count_by p es = len-picked es parts.1 apart in
       elim (p e) as (λ b. p e ≡ b → set.len (cond b (set.insert (picked es) e.0) (picked es)) ≡ set.len s + (cond b 1 0 + count_by p es)) [
         | true ↦ λ passes.
-            let lacks : set.contains (picked es) e.0 ≡ false = contains-picked es (both_parts _ _ h).1 e.0 ∙ (λ i. passes_at e.0 (none-later e.0 es (both_parts _ _ h).0 i) || apart e passes i) in
-            set.len-insert nat_cmp_total (picked es) e.0 ∙ rw lacks (one-added _ _ _ (len-picked es (both_parts _ _ h).1 apart))
-        | false ↦ λ fails. none-added _ _ _ (len-picked es (both_parts _ _ h).1 apart)
+            let lacks : set.contains (picked es) e.0 ≡ false = contains-picked es parts.1 e.0 ∙ (λ i. passes_at e.0 (none-later e.0 es parts.0 i) || apart e passes i) in
+            let one : set.len (picked es) + 1 ≡ set.len s + (1 + count_by p es) = omega (arith, rest) in
+            set.len-insert nat_cmp_total (picked es) e.0 ∙ rw lacks one
+        | false ↦ λ fails. omega (arith, rest)
       ] refl
       ∙ ap (λ n. set.len s + n) (sym (sum_by-cons (λ x. cond (p x) 1 0) e es))
 

@@ -1,5 +1,5 @@
 -- The pieces of a list of handles: what they weigh, and what they cost.
-use Rattle.std.proofs.Common.{take-add, length-take-le, length-drop, zero, suc, ◌≡◌, ℕ, ◌+◌, ◌-◌, ◌*◌, ◌<◌, ◌≤◌, List, [], ◌∷◌, ◌++◌, length, take, drop, get_or, slice_range, refl, sym, ap, ◌∙◌, arith, add-one}
+use Rattle.std.proofs.Common.{take-add, length-take-le, length-drop, zero, suc, ◌≡◌, ℕ, ◌+◌, ◌-◌, ◌*◌, ◌<◌, ◌≤◌, List, [], ◌∷◌, length, take, drop, get_or, slice_range, refl, sym, ap, ◌∙◌, arith, add-one}
 use Rattle.std.specs.FinMap as map
 use Rattle.std.proofs.Math.Seq.{drop-cons}
 use Rattle.std.proofs.lemmas.List.Sums.{sum_by-append, sum_by-take-le}
@@ -37,14 +37,11 @@ piece-dearer g hs d (suc n) i k j within is before =
     let same : cost g (slice_range hs i j) ≡ cost g (get_or hs i d ∷ slice_range hs (i + 1) j) = ap (cost g) left in
     omega (arith, rest, step, same)
 
-weight-append : (hs ks : List Stopped) → weight (hs ++ ks) ≡ weight hs + weight ks
-weight-append hs ks = sum_by-append (λ h. map.len h.words + 1) hs ks
-
 -- what the first j handles weigh is what the first i do and what the piece between does
 weight-piece : (hs : List Stopped) (i j : ℕ) → i ≤ j → weight (take j hs) ≡ weight (take i hs) + weight (slice_range hs i j)
 weight-piece hs i j within =
     let whole : i + (j - i) ≡ j = omega arith in
-    ap (λ k. weight (take k hs)) (sym whole) ∙ ap weight (take-add i (j - i) hs) ∙ weight-append (take i hs) (slice_range hs i j)
+    ap (λ k. weight (take k hs)) (sym whole) ∙ ap weight (take-add i (j - i) hs) ∙ sum_by-append (λ h. map.len h.words + 1) (take i hs) (slice_range hs i j)
 
 -- the first handles weigh no more than all
 pub weight-take : (hs : List Stopped) (j : ℕ) → weight (take j hs) ≤ weight hs

@@ -1,5 +1,5 @@
 -- How many homes a set has.
-use Rattle.std.proofs.Common.{◌≡◌, ℕ, ◌≤◌, false, List, [], ◌∷◌, length, take, Less, refl, sym, ap, ◌∙◌, arith}
+use Rattle.std.proofs.Common.{◌≡◌, ℕ, ◌≤◌, false, Bool, Option, List, [], ◌∷◌, length, take, Less, refl, sym, ap, ◌∙◌, arith}
 use Rattle.std.specs.List.{list_any, AllByRecursion}
 use Rattle.std.specs.List.Sorted.{IsStrictlySortedBy}
 use Rattle.std.specs.Ordering.{nat_cmp, eq_by_cmp}
@@ -9,8 +9,8 @@ use Rattle.std.specs.BTreeSet.{BTreeSet}
 use Rattle.std.specs.FinSet as set
 use Rattle.std.proofs.lemmas.List.{take_all}
 use Rattle.jb_handle.specs.declared.stopped.Stopped.{Stopped}
-use Rattle.jb_handle.specs.Words.{word, is_copied, is_freed, copies, frees}
-use Rattle.jb_handle.proofs.Touched.{contains-copies, contains-frees}
+use Rattle.jb_handle.specs.Words.{word}
+use Rattle.jb_handle.specs.declared.word.Word.{Word}
 
 none-above : (b : ℕ) (ks : List ℕ) → AllByRecursion (λ k. nat_cmp b k ≡ Less) ks → list_any (eq_by_cmp nat_cmp b) ks ≡ false
 none-above b [] h = refl
@@ -23,16 +23,10 @@ len-rising (k ∷ ks) h =
     set.len-insert nat_cmp_total _ k
     ∙ rw (set.contains-from_list nat_cmp_total ks k, none-above k ks h.0, len-rising ks h.1) (omega arith)
 
--- a tree has as many keys as the set that agrees with it
-pub len-of_tree : (s : BTreeSet ℕ) → tree.IsOrdered nat_cmp s → (t : set.FinSet nat_cmp) → ((q : ℕ) → tree.contains nat_cmp s q ≡ set.contains t q) → tree.btree_set_len s ≡ set.len t
-len-of_tree s ordered t agree =
+-- a tree that agrees with the last words of all handles has as many keys as the set of their homes
+pub len-of_words : (kind : Option Word → Bool) (s : BTreeSet ℕ) → tree.IsOrdered nat_cmp s → (hs : List Stopped) (i : ℕ) → length hs ≤ i → (t : set.FinSet nat_cmp) → ((q : ℕ) → set.contains t q ≡ kind (word hs q))
+    → ((q : ℕ) → tree.contains nat_cmp s q ≡ kind (word (take i hs) q)) → tree.btree_set_len s ≡ set.len t
+len-of_words kind s ordered hs i whole t is agree =
     sym (len-rising s.keys ordered)
-    ∙ ap set.len (set.same_set nat_cmp_total set.nat_cmp-IsAntisymmetric (set.from_list s.keys) t (λ q. set.contains-from_list nat_cmp_total s.keys q ∙ agree q))
-
--- a tree that agrees with the last words of all handles
-module _ (s : BTreeSet ℕ) (ordered : tree.IsOrdered nat_cmp s) (hs : List Stopped) (i : ℕ) (whole : length hs ≤ i) where
-  pub len-copied : ((q : ℕ) → tree.contains nat_cmp s q ≡ is_copied (word (take i hs) q)) → tree.btree_set_len s ≡ set.len (copies hs)
-  len-copied agree = len-of_tree s ordered (copies hs) (λ q. agree q ∙ ap (λ gs. is_copied (word gs q)) (take_all i hs whole) ∙ sym (contains-copies hs q))
-
-  pub len-freed : ((q : ℕ) → tree.contains nat_cmp s q ≡ is_freed (word (take i hs) q)) → tree.btree_set_len s ≡ set.len (frees hs)
-  len-freed agree = len-of_tree s ordered (frees hs) (λ q. agree q ∙ ap (λ gs. is_freed (word gs q)) (take_all i hs whole) ∙ sym (contains-frees hs q))
+    ∙ ap set.len (set.same_set nat_cmp_total set.nat_cmp-IsAntisymmetric (set.from_list s.keys) t (λ q.
+    set.contains-from_list nat_cmp_total s.keys q ∙ agree q ∙ ap (λ gs. kind (word gs q)) (take_all i hs whole) ∙ sym (is q)))

@@ -23,13 +23,10 @@ use Rattle.jb_cost.proofs.Left.{len-copies, len-frees, few, new-few, no-copies, 
 pub worst-bound : (g : Geometry) (h : Stopped) (credits : ℕ) → map.len h.words ≤ credits → cost g (h ∷ []) ≤ worst_cost_of g credits
 worst-bound g h credits within = worst-bounds g _ _ credits (omega (arith, few (h ∷ []), sum_by-cons (λ x. map.len x.words + 1) h []))
 
-new-copy : (e : ℕ × Word) → is_copy e.1 ≡ true → is_new is_copy (touched []) e ≡ true
-new-copy e copied = (λ i. copied i && not (contains-touched [] e.0 i))
-
 all-new : (es : List (ℕ × Word)) → All (λ e. IsTrue (is_copy e.1)) es → new_homes is_copy (touched []) es ≡ length es
 all-new [] all = refl
 all-new (e ∷ es) all =
-    let here : is_new is_copy (touched []) e ≡ true = new-copy e (All-head (λ (x : ℕ × Word). IsTrue (is_copy x.1)) e es all) in
+    let here : is_new is_copy (touched []) e ≡ true = λ i. All-head (λ (x : ℕ × Word). IsTrue (is_copy x.1)) e es all i && not (contains-touched [] e.0 i) in
     let one : cond (is_new is_copy (touched []) e) 1 0 ≡ 1 = ap (λ b. cond {A = ℕ} b 1 0) here in
     omega (arith, one, sum_by-cons (λ x. cond (is_new is_copy (touched []) x) 1 0) e es, all-new es (All-tail (λ (x : ℕ × Word). IsTrue (is_copy x.1)) e es all))
 

@@ -51,7 +51,7 @@ any-word (h ∷ hs) q =
 pub contains-touched : (hs : List Stopped) (q : ℕ) → set.contains (touched hs) q ≡ is_some (word hs q)
 contains-touched hs q = set.contains-from_list nat_cmp_total _ q ∙ any-word hs q
 
-some-and : (kind : Word → Bool) (w : Option Word) → (is_some w && is_of kind w) ≡ is_of kind w
+pub some-and : (kind : Word → Bool) (w : Option Word) → (is_some w && is_of kind w) ≡ is_of kind w
 some-and kind None = refl
 some-and kind (Some w) = refl
 

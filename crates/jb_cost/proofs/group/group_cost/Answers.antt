@@ -5,9 +5,11 @@ use Rattle.jb_handle.specs.Words.{is_copied, is_freed, copies, frees}
 use Rattle.jb_cost.specs.Cost.{blocks_of}
 use Rattle.jb_cost.proofs.Later.{later-handle}
 use Rattle.jb_cost.proofs.Left.{few}
-use Rattle.jb_cost.proofs.Sizes.{len-copied, len-freed}
+use Rattle.jb_cost.proofs.Sizes.{len-of_words}
+use Rattle.jb_handle.proofs.Touched.{contains-copies, contains-frees}
 use Rattle.jb_block.proofs.Refusals.{on-refusal}
 use Rattle.jb_cost.proofs.group.group_cost.Goals as goal
+use Rattle.jb_cost.proofs.group.group_cost.Goals.{After-len-2}
 
 pub loop-handle-preserved : goal.loop-handle-preserved
 loop-handle-preserved c =
@@ -17,19 +19,18 @@ loop-handle-preserved c =
       frees = λ q. c.in_ok-put_all.ensures.frees q ∙ later-handle is_freed c.args.handles.now _ c.handle-item.result c.handle-item.is inside q _ (c.loop-handle.invariant.frees q);
     }
 
+counts : (c : After-len-2) → (c.len.result ≡ set.len (copies c.args.handles.now)) × (c.len-2.result ≡ set.len (frees c.args.handles.now))
+counts c =
+    let whole : length c.args.handles.now ≤ c.loop-handle.handle-index = omega arith in (
+      c.len.ensures.len ∙ len-of_words is_copied _ c.len.ensures.ordered c.args.handles.now _ whole _ (contains-copies c.args.handles.now) c.loop-handle.invariant.copies,
+      c.len-2.ensures.len ∙ len-of_words is_freed _ c.len-2.ensures.ordered c.args.handles.now _ whole _ (contains-frees c.args.handles.now) c.loop-handle.invariant.frees,
+    )
+
 pub blocks-cost-requires : goal.blocks-cost-requires
-blocks-cost-requires c =
-    let whole : length c.args.handles.now ≤ c.loop-handle.handle-index = omega arith in
-    let copied : c.len.result ≡ set.len (copies c.args.handles.now) = c.len.ensures.len ∙ len-copied _ c.len.ensures.ordered c.args.handles.now _ whole c.loop-handle.invariant.copies in
-    let freed : c.len-2.result ≡ set.len (frees c.args.handles.now) = c.len-2.ensures.len ∙ len-freed _ c.len-2.ensures.ordered c.args.handles.now _ whole c.loop-handle.invariant.frees in
-    record { small = omega (arith, copied, freed, few c.args.handles.now, c.requires.size) }
+blocks-cost-requires c = let both = counts c in record { small = omega (arith, both.0, both.1, few c.args.handles.now, c.requires.size) }
 
 pub returns-clause-blocks : goal.returns-clause-blocks
-returns-clause-blocks c =
-    let whole : length c.args.handles.now ≤ c.loop-handle.handle-index = omega arith in
-    let copied : c.len.result ≡ set.len (copies c.args.handles.now) = c.len.ensures.len ∙ len-copied _ c.len.ensures.ordered c.args.handles.now _ whole c.loop-handle.invariant.copies in
-    let freed : c.len-2.result ≡ set.len (frees c.args.handles.now) = c.len-2.ensures.len ∙ len-freed _ c.len-2.ensures.ordered c.args.handles.now _ whole c.loop-handle.invariant.frees in
-    c.blocks-cost.ensures ∙ (λ i. blocks_of c.args.geometry (copied i) (freed i))
+returns-clause-blocks c = let both = counts (goal.at.returns-clause-blocks c).After-len-2 in c.blocks-cost.ensures ∙ (λ i. blocks_of c.args.geometry (both.0 i) (both.1 i))
 
 pub returns-in_err-put_all-clause-grows : goal.returns-in_err-put_all-clause-grows
 returns-in_err-put_all-clause-grows c =

@@ -1,8 +1,10 @@
-use Rattle.std.proofs.Common.{◌≡◌, ◌<◌, ◌||◌, not, vec_len, vec_capacity, T, true, false, length, sym, ap, subst, ◌∙◌, arith}
+use Rattle.std.proofs.Common.{◌≡◌, ◌<◌, ◌||◌, not, is_some, vec_len, vec_capacity, T, true, false, length, sym, ap, subst, ◌∙◌, arith}
 use Rattle.std.specs.Ordering.{nat_cmp}
 use Rattle.std.specs.BTreeSet.{contains}
 use Rattle.std.specs.FinMap as map
-use Rattle.jb_cost.proofs.Fresh.{meets-none, meets-known, meets-new, met-all, is-false, is-true}
+use Rattle.std.proofs.lemmas.Bool.{not-true, not-false}
+use Rattle.jb_handle.proofs.Rising.{find-whole}
+use Rattle.jb_cost.proofs.Fresh.{meets-none, meets-known, meets-new}
 use Rattle.jb_block.proofs.Refusals.{on-refusal}
 use Rattle.jb_cost.proofs.met.meet.Goals as goal
 use Rattle.jb_cost.proofs.met.meet.Goals.{then-branch+then-is_copy, then-branch+else-is_copy, else-branch}
@@ -22,23 +24,23 @@ loop-home-preserved c =
     elim c.if-branch.branch [
       | then-branch+then-is_copy w ↦ record {
         meets = meets-new _ _ _ _ _ _ _ _ c.loop-home.invariant.meets rising c.loop-home-item.result c.loop-home-item.is inside put
-            (is-false _ (sym added ∙ w.if-branch.true)) _ (ap (λ v. v.items) w.fresh-is ∙ w.push_reserved.ensures.items) true w.if-is_copy.ensures _ _ (omega (arith, w.copies-is)) (omega (arith, w.frees-is));
+            (not-true _ (sym added ∙ w.if-branch.true)) _ (ap (λ v. v.items) w.fresh-is ∙ w.push_reserved.ensures.items) true w.if-is_copy.ensures _ _ (omega (arith, w.copies-is)) (omega (arith, w.frees-is));
         room = omega (arith, c.loop-home.invariant.room, ap (λ v. vec_len v) w.fresh-is, ap (λ v. vec_capacity v) w.fresh-is, w.push_reserved.ensures.len, w.push_reserved.ensures.capacity);
       }
       | then-branch+else-is_copy w ↦ record {
         meets = meets-new _ _ _ _ _ _ _ _ c.loop-home.invariant.meets rising c.loop-home-item.result c.loop-home-item.is inside put
-            (is-false _ (sym added ∙ w.if-branch.true)) _ (ap (λ v. v.items) w.fresh-is ∙ w.push_reserved.ensures.items) false w.if-is_copy.ensures _ _ (omega (arith, w.copies-is)) (omega (arith, w.frees-is));
+            (not-true _ (sym added ∙ w.if-branch.true)) _ (ap (λ v. v.items) w.fresh-is ∙ w.push_reserved.ensures.items) false w.if-is_copy.ensures _ _ (omega (arith, w.copies-is)) (omega (arith, w.frees-is));
         room = omega (arith, c.loop-home.invariant.room, ap (λ v. vec_len v) w.fresh-is, ap (λ v. vec_capacity v) w.fresh-is, w.push_reserved.ensures.len, w.push_reserved.ensures.capacity);
       }
       | else-branch w ↦ record {
         meets = meets-known _ _ _ _ _ _ _ _ c.loop-home.invariant.meets rising c.loop-home-item.result c.loop-home-item.is inside put
-            (is-true _ (sym added ∙ w.if-branch.false)) _ (ap (λ v. v.items) w.fresh-is) _ _ w.copies-is w.frees-is;
+            (not-false _ (sym added ∙ w.if-branch.false)) _ (ap (λ v. v.items) w.fresh-is) _ _ w.copies-is w.frees-is;
         room = omega (arith, c.loop-home.invariant.room, ap (λ v. vec_len v) w.fresh-is, ap (λ v. vec_capacity v) w.fresh-is);
       }
     ]
 
 pub returns-clause-homes : goal.returns-clause-homes
-returns-clause-homes c q = c.loop-home.invariant.meets.homes_are q ∙ ap (λ b. contains nat_cmp c.args.homes.now q || b) (met-all c.args.words.now _ c.entries-home-items.ensures c.loop-home.home-index q (omega arith))
+returns-clause-homes c q = c.loop-home.invariant.meets.homes_are q ∙ ap (λ b. contains nat_cmp c.args.homes.now q || b) (ap is_some (find-whole c.args.words.now _ c.entries-home-items.ensures c.loop-home.home-index q (omega arith)))
 
 pub returns-clause-few : goal.returns-clause-few
 returns-clause-few c = omega (arith, c.loop-home.invariant.meets.few, ap length c.entries-home-items.ensures, map.len-entries c.args.words.now)

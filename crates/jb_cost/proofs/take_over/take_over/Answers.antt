@@ -3,10 +3,10 @@ use Rattle.std.specs.Ordering.{nat_cmp}
 use Rattle.std.specs.BTreeMap.{get}
 use Rattle.std.specs.FinMap as map
 use Rattle.jb_cost.specs.Owned.{copies_of, frees_of, left_copy, later_touch}
-use Rattle.jb_cost.proofs.Fresh.{one-kind}
 use Rattle.jb_cost.proofs.Owning.{owns, counts-more}
-use Rattle.jb_cost.proofs.Fresh.{turned}
-use Rattle.jb_cost.proofs.Taking.{home-before, follows-next, follows-whole}
+use Rattle.jb_cost.proofs.Fresh.{one-kind, turned}
+use Rattle.jb_handle.proofs.Rising.{find-whole}
+use Rattle.jb_cost.proofs.Taking.{home-before, follows-next}
 use Rattle.jb_cost.proofs.take_over.take_over.Goals as goal
 
 pub lose-requires-clause-inside : goal.lose-requires-clause-inside
@@ -48,5 +48,5 @@ loop-home-preserved c =
 pub returns-clause-follows : goal.returns-clause-follows
 returns-clause-follows c q =
     c.loop-home.invariant.follows q
-    ∙ follows-whole c.args.words.now _ c.entries-home-items.ensures c.loop-home.home-index _ q _ (omega arith)
+    ∙ ap (λ w. later_touch c.len-handle.result w (get nat_cmp c.args.last.now q)) (find-whole c.args.words.now _ c.entries-home-items.ensures c.loop-home.home-index q (omega arith))
     ∙ ap (λ n. later_touch n (map.get c.args.words.now q) (get nat_cmp c.args.last.now q)) c.loop-home.invariant.at

@@ -1,6 +1,6 @@
 use Rattle.std.proofs.Common.{◌≡◌, refl, ap, ◌∙◌, arith}
 use Rattle.std.specs.FinSet as set
-use Rattle.jb_cost.proofs.Covers.{covers-left, costs-left}
+use Rattle.jb_cost.proofs.Covers.{added-left}
 use Rattle.jb_cost.proofs.Fresh.{out-set}
 use Rattle.jb_cost.specs.Footprint.{Covered, covered_by}
 use Rattle.jb_cost.proofs.footprint.Footprint.add_left.Goals as goal
@@ -17,10 +17,9 @@ blocks-cost-requires c = record { small = omega (arith, c.in-Ok.ensures.few, c.r
 pub returns-in-Ok-clause-ok : goal.returns-in-Ok-clause-ok
 returns-in-Ok-clause-ok c g hs is =
     let before : Covered = record { geometry = c.self.inside.geometry; homes = set.from_list c.self.inside.homes.keys; copies = c.self.inside.copies; frees = c.self.inside.frees } in
-    let shown : before ≡ covered_by g hs = c.self.view_is ∙ is in (
-      covers-left g hs before shown c.args.handle.now c.self.inside.homes c.meet.new.homes refl c.in-Ok.ensures.homes _ _ c.in-Ok.ensures.copies c.in-Ok.ensures.frees,
-      c.blocks-cost.ensures ∙ costs-left g hs before shown c.args.handle.now c.self.inside.homes c.meet.new.homes refl c.in-Ok.ensures.homes _ _ c.in-Ok.ensures.copies c.in-Ok.ensures.frees,
-    )
+    let shown : before ≡ covered_by g hs = c.self.view_is ∙ is in
+    let added = added-left g hs before shown c.args.handle.now c.self.inside.homes c.meet.new.homes refl c.in-Ok.ensures.homes _ _ c.in-Ok.ensures.copies c.in-Ok.ensures.frees in
+    (added.0, c.blocks-cost.ensures ∙ added.1)
 
 pub returns-in-Err-clause-err : goal.returns-in-Err-clause-err
 returns-in-Err-clause-err c =

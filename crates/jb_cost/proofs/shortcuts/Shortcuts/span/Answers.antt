@@ -1,7 +1,7 @@
 use Rattle.std.proofs.Common.{◌≡◌, ◌+◌, ◌-◌, ◌*◌, ◌/◌, length-set, sym, subst, ◌∙◌, arith}
 use Rattle.std.proofs.lemmas.List.{get_or_read}
 use Rattle.jb_cost.specs.Spans.{IsSpan, IsBestOf}
-use Rattle.jb_cost.proofs.Placed.{place-ends, spans-set, bests-set}
+use Rattle.jb_cost.proofs.Placed.{place-ends, each-set}
 use Rattle.jb_cost.proofs.shortcuts.Shortcuts.span.Goals as goal
 
 pub returns-in-Some-clause-span : goal.returns-in-Some-clause-span
@@ -24,7 +24,7 @@ returns-clause-fit c =
       number = fit.number;
       places = simp length-set fit.places;
       back = fit.back;
-      spans = spans-set c.counted-span.new.self.spans.items (c.args.end / 8 - 1) c.counted-span.result (omega (arith, fit.places, at, c.requires.inside.1)) c.args.owned.now c.args.end at fit.spans c.counted-span.ensures.span;
+      spans = each-set (IsSpan c.args.owned.now) c.counted-span.new.self.spans.items (c.args.end / 8 - 1) c.counted-span.result (omega (arith, fit.places, at, c.requires.inside.1)) c.args.end at fit.spans c.counted-span.ensures.span;
     }
 
 pub returns-clause-best : goal.returns-clause-best
@@ -33,7 +33,7 @@ returns-clause-best c ps fit =
     let both = c.counted-span.ensures.best ps fit in (
       record {
         leasts = both.0.leasts;
-        bests = bests-set c.counted-span.new.self.spans.items (c.args.end / 8 - 1) c.counted-span.result (omega (arith, c.counted-span.ensures.fit.places, at, c.requires.inside.1)) c.args.owned.now c.args.end at ps both.0.bests both.1;
+        bests = each-set (IsBestOf ps c.args.owned.now) c.counted-span.new.self.spans.items (c.args.end / 8 - 1) c.counted-span.result (omega (arith, c.counted-span.ensures.fit.places, at, c.requires.inside.1)) c.args.end at both.0.bests both.1;
       },
       both.1,
     )
