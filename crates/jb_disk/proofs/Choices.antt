@@ -1,10 +1,8 @@
 -- How the blocks of an image take their versions, block by block.
-use Rattle.std.proofs.Common.{◌≡◌, ◌≢◌, ◌<◌, ◌≤◌, ℕ, suc, ◌+◌, ◌*◌, ◌%◌, List, [], ◌∷◌, length, get_or, set, take, drop, ◌++◌, refl, sym, ◌∙◌, ap, subst, ⊎_elim, arith, min, add-zero, Vec, Global, Bor, ◌==◌, true, false, get_or-set_same, get_or-set_other}
-use Rattle.std.proofs.lemmas.Bool.{cases_lt}
-use Rattle.std.proofs.lemmas.List.{drop-drop, drop_all, get_or-drop, get_or-map}
+use Rattle.std.proofs.Common.{◌≡◌, ◌≢◌, ◌<◌, ◌≤◌, ℕ, suc, ◌+◌, ◌*◌, ◌%◌, List, [], ◌∷◌, length, get_or, set, take, drop, ◌++◌, refl, sym, ◌∙◌, ap, subst, below_more, arith, add-one, add-zero, Vec, Global, Bor, ◌==◌, true, false, get_or-set_same, get_or-set_other}
+use Rattle.std.proofs.lemmas.List.{drop-drop, get_or-drop, get_or-map}
 use Rattle.std.proofs.lemmas.Bool.Decides.{nat_tests}
 use Rattle.std.proofs.lemmas.Nat.{mod_below}
-use Rattle.std.proofs.Math.Nat.{add-mul}
 use Rattle.std.proofs.Math.Seq.{take-append_seam}
 use Rattle.jb_disk.specs.Image.{Image, block, sector, HasShape}
 use Rattle.jb_disk.specs.Mixing.{bytes_of_writes, table_of, writes_at, any_below}
@@ -24,24 +22,19 @@ only_first bytes number =
     let first : number % 1 ≡ 0 = omega (arith, mod_below number 1 (omega arith)) in
     ap (λ n. get_or (bytes ∷ []) n []) first
 
-next_place : (sectors count place : ℕ) (old : Image) (table : List (List (List ℕ))) (choice rest : List ℕ) (now : Image) → AreChosen sectors count (suc place) old table choice rest now → AreChosen sectors count (place + 1) old table choice rest now
-next_place sectors count place old table choice rest now are =
-    let sum : suc place ≡ place + 1 = omega arith in
-    subst (λ n. AreChosen sectors count n old table choice rest now) sum are
-
 -- a block without writes takes no number
 pub chosen-none : (sectors count place : ℕ) (old : Image) (table : List (List (List ℕ))) (choice rest : List ℕ) (now : Image) → AreChosen sectors count place old table choice rest now
     → writes_at table place ≡ [] → AreChosen sectors count (place + 1) old table choice rest now
-chosen-none sectors count place old table choice rest now are none = next_place sectors count place old table choice rest now (record {
+chosen-none sectors count place old table choice rest now are none = record {
   shape = are.shape;
-  chosen = λ p k below less. ⊎_elim (λ earlier. are.chosen p k earlier less)
-      (λ reaches. let here : place ≡ p = omega (arith, below, reaches) in
-      ap (sector k) (are.ahead p reaches
-      ∙ sym (only_first (block old p) (get_or choice (any_below table p * sectors + k) 0))
-      ∙ ap (λ ws. version (block old p ∷ ws) (get_or choice (any_below table p * sectors + k) 0)) (sym (ap (writes_at table) (sym here) ∙ none)))) (cases_lt p place);
+  chosen = λ p k below less. below_more (λ q. sector k (block now q) ≡ sector k (version (block old q ∷ writes_at table q) (get_or choice (any_below table q * sectors + k) 0))) place
+      (λ q earlier. are.chosen q k earlier less)
+      (ap (sector k) (are.ahead place (omega arith)
+      ∙ sym (only_first (block old place) (get_or choice (any_below table place * sectors + k) 0))
+      ∙ ap (λ ws. version (block old place ∷ ws) (get_or choice (any_below table place * sectors + k) 0)) (sym none))) p below;
   ahead = λ p above. are.ahead p (omega (arith, above));
-  numbers = are.numbers ∙ ap (λ n. drop (n * sectors) choice) (sym (ap (λ ws. any_below table place + one_if_any ws) none ∙ add-zero (any_below table place)));
-})
+  numbers = are.numbers ∙ ap (λ n. drop (n * sectors) choice) (sym (rw (add-one place) (ap (λ ws. any_below table place + one_if_any ws) none ∙ add-zero (any_below table place))));
+}
 
 -- a block with writes takes as many as it has sectors
 pub chosen-some : (sectors count place : ℕ) (old : Image) (table : List (List (List ℕ))) (choice rest : List ℕ) (now : Image) (bytes : List ℕ) → AreChosen sectors count place old table choice rest now
@@ -50,29 +43,20 @@ pub chosen-some : (sectors count place : ℕ) (old : Image) (table : List (List 
     → AreChosen sectors count (place + 1) old table choice (drop sectors rest) (set now place bytes)
 chosen-some sectors count place old table choice rest now bytes are inside some size each =
     let within : place < length now = omega (arith, are.shape.blocks, inside) in
-    next_place sectors count place old table choice (drop sectors rest) (set now place bytes) (record {
+    record {
       shape = shape_set count (512 * sectors) now place bytes are.shape inside size;
-      chosen = λ p k below less. ⊎_elim
-          (λ earlier. let other : p ≢ place = omega (arith, earlier) in
-          ap (sector k) (get_or-set_other now place p bytes [] other) ∙ are.chosen p k earlier less)
-          (λ reaches. let here : place ≡ p = omega (arith, below, reaches) in
-          subst (λ q. sector k (block (set now place bytes) q) ≡ sector k (version (block old q ∷ writes_at table q) (get_or choice (any_below table q * sectors + k) 0))) here
+      chosen = λ p k below less. below_more (λ q. sector k (block (set now place bytes) q) ≡ sector k (version (block old q ∷ writes_at table q) (get_or choice (any_below table q * sectors + k) 0))) place
+          (λ q earlier. ap (sector k) (get_or-set_other now place q bytes [] (omega (arith, earlier))) ∙ are.chosen q k earlier less)
           (ap (sector k) (get_or-set_same now place bytes [] within) ∙ each k less
           ∙ ap (λ b. sector k (version (b ∷ writes_at table place) (get_or rest k 0))) (are.ahead place (omega arith))
           ∙ ap (λ n. sector k (version (block old place ∷ writes_at table place) n))
-          (ap (λ r. get_or r k 0) are.numbers ∙ get_or-drop (any_below table place * sectors) choice k 0))) (cases_lt p place);
+          (ap (λ r. get_or r k 0) are.numbers ∙ get_or-drop (any_below table place * sectors) choice k 0)) p below;
       ahead = λ p above. let other : p ≢ place = omega (arith, above) in get_or-set_other now place p bytes [] other ∙ are.ahead p (omega (arith, above));
       numbers =
           let product : (any_below table place + one_if_any (writes_at table place)) * sectors ≡ any_below table place * sectors + sectors
-          = ap (λ n. (any_below table place + n) * sectors) some ∙ add-mul (any_below table place) 1 sectors ∙ ap (λ n. any_below table place * sectors + n) (let one : 1 * sectors ≡ sectors = omega arith in one) in
-          ap (drop sectors) are.numbers ∙ drop-drop sectors (any_below table place * sectors) choice ∙ ap (λ n. drop n choice) (sym product);
-    })
-
-pub drop-min : (n : ℕ) (xs : List ℕ) → drop (min n (length xs)) xs ≡ drop n xs
-drop-min n xs = ⊎_elim
-    (λ less. let is : min n (length xs) ≡ n = omega (arith, less) in ap (λ m. drop m xs) is)
-    (λ reaches. let is : min n (length xs) ≡ length xs = omega (arith, reaches) in
-    ap (λ m. drop m xs) is ∙ drop_all (length xs) xs (omega arith) ∙ sym (drop_all n xs reaches)) (cases_lt n (length xs))
+          = ap (λ n. (any_below table place + n) * sectors) some ∙ omega arith in
+          ap (drop sectors) are.numbers ∙ drop-drop sectors (any_below table place * sectors) choice ∙ ap (λ n. drop n choice) (sym (rw (add-one place) product));
+    }
 
 -- the writes of a place in the table, and whether there are any
 pub writes_here : (count : ℕ) (table : List (Vec (Bor (List ℕ)) Global)) (place : ℕ) (v : Vec (Bor (List ℕ)) Global) → length table ≡ count → place < count → v ≡ get_or table place v

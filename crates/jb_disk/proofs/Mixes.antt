@@ -1,7 +1,6 @@
 -- How a block takes its versions, sector by sector.
-use Rattle.std.proofs.Common.{◌≡◌, ◌<◌, ◌≤◌, ℕ, zero, suc, ◌+◌, ◌-◌, ◌*◌, ◌%◌, List, [], ◌∷◌, length, get_or, sym, ◌∙◌, ap, subst, ⊎_elim, arith, Bor, All, Bool, true, false, cond, ◌++◌}
-use Rattle.std.proofs.lemmas.Bool.{cases_lt}
-use Rattle.std.proofs.lemmas.List.Elements.{All-append}
+use Rattle.std.proofs.Common.{◌≡◌, ◌<◌, ◌≤◌, ℕ, zero, suc, ◌+◌, ◌-◌, ◌*◌, ◌%◌, List, [], ◌∷◌, length, get_or, sym, ◌∙◌, ap, subst, below_more, arith, Bor, All, Bool, true, false, cond, ◌++◌}
+use Rattle.std.proofs.lemmas.List.Elements.{All-cons, All-push}
 use Rattle.std.proofs.lemmas.Nat.{mod_below}
 use Rattle.std.proofs.lemmas.List.{length-map, get_or-map}
 use Rattle.jb_disk.specs.Image.{sector}
@@ -17,9 +16,8 @@ pub record IsMixed (k : ℕ) (old : List ℕ) (contents : List (List ℕ)) (choi
 -- a sector that keeps what it had
 pub mixed-keep : (k : ℕ) (old : List ℕ) (contents : List (List ℕ)) (choice now : List ℕ) → IsMixed k old contents choice now → version (old ∷ contents) (get_or choice k 0) ≡ old → IsMixed (k + 1) old contents choice now
 mixed-keep k old contents choice now mixed is = record {
-  chosen = λ j below. ⊎_elim (mixed.chosen j)
-      (λ reaches. let here : k ≡ j = omega (arith, below, reaches) in
-      mixed.rest j reaches ∙ ap (sector j) (sym (ap (λ i. version (old ∷ contents) (get_or choice i 0)) (sym here) ∙ is))) (cases_lt j k);
+  chosen = below_more (λ j. sector j now ≡ sector j (version (old ∷ contents) (get_or choice j 0))) k mixed.chosen
+      (mixed.rest k (omega arith) ∙ ap (sector k) (sym is));
   rest = λ j above. mixed.rest j (omega (arith, above));
 }
 
@@ -27,10 +25,9 @@ mixed-keep k old contents choice now mixed is = record {
 pub mixed-put : (k : ℕ) (old : List ℕ) (contents : List (List ℕ)) (choice now bytes : List ℕ) → IsMixed k old contents choice now
     → version (old ∷ contents) (get_or choice k 0) ≡ bytes → length bytes ≡ length now → 512 * k + 512 ≤ length now → IsMixed (k + 1) old contents choice (put_sector k bytes now)
 mixed-put k old contents choice now bytes mixed is same within = record {
-  chosen = λ j below. ⊎_elim (λ less. put_sector-below j k bytes now less within ∙ mixed.chosen j less)
-      (λ reaches. let here : k ≡ j = omega (arith, below, reaches) in
-      subst (λ i. sector i (put_sector k bytes now) ≡ sector i (version (old ∷ contents) (get_or choice i 0))) here
-      (put_sector-same k bytes now same within ∙ ap (sector k) (sym is))) (cases_lt j k);
+  chosen = below_more (λ j. sector j (put_sector k bytes now) ≡ sector j (version (old ∷ contents) (get_or choice j 0))) k
+      (λ j less. put_sector-below j k bytes now less within ∙ mixed.chosen j less)
+      (put_sector-same k bytes now same within ∙ ap (sector k) (sym is));
   rest = λ j above. put_sector-above j k bytes now same (omega (arith, above)) within ∙ mixed.rest j (omega (arith, above));
 }
 
@@ -46,14 +43,10 @@ version-later old writes number d later =
     ∙ get_or-map (λ v. v.now) writes (number % (length writes + 1) - 1) d [] inside
 
 -- a version is as long as all contents
-all_cons : (size : ℕ) (old : List ℕ) (contents : List (List ℕ)) → length old ≡ size → All (λ b. length b ≡ size) contents → All (λ b. length b ≡ size) (old ∷ contents)
-all_cons size old contents first later zero d below = first
-all_cons size old contents first later (suc k) d below = later k d (omega (arith, below))
-
 pub version-size : (size : ℕ) (old : List ℕ) (contents : List (List ℕ)) (number : ℕ) → length old ≡ size → All (λ b. length b ≡ size) contents → length (version (old ∷ contents) number) ≡ size
 version-size size old contents number first later =
-    all_cons size old contents first later (number % length (old ∷ contents)) [] (mod_below number (length (old ∷ contents)) (omega arith))
+    All-cons (λ b. length b ≡ size) old contents first later (number % length (old ∷ contents)) [] (mod_below number (length (old ∷ contents)) (omega arith))
 
 pub all_more : (size : ℕ) (more : Bool) (contents : List (List ℕ)) (bytes : List ℕ) → All (λ b. length b ≡ size) contents → length bytes ≡ size → All (λ b. length b ≡ size) (cond more (contents ++ bytes ∷ []) contents)
 all_more size false contents bytes all whole = all
-all_more size true contents bytes all whole = All-append (λ b. length b ≡ size) contents (bytes ∷ []) all (all_cons size bytes [] whole (λ j e less. absurd (let h : ⊥ = omega (arith, less) in h)))
+all_more size true contents bytes all whole = All-push (λ b. length b ≡ size) contents bytes all whole

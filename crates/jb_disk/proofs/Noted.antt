@@ -53,18 +53,9 @@ module _ {D : Type 0} (size : D → ℕ) (content : ℕ → Image) (events : D �
       → ((c : Image) → LeftBy (size old) e.0 e.1 e.2 e.3 (content (length (events old))) (Leaves (size old) content (events old)) c
       → (d : Image) × Leaves (size old) content (events old) d × step d c)
       → Goes (λ d. Leaves (size d) content (events d)) (λ d. length (events d)) (λ d. LeftFrom (size d) content (events d)) step old new
-  goes_event step old new e same noted comes =
-      let back : (c : Image) → Leaves (size new) content (events new) c → Leaves (size old) content (e ∷ events old) c =
-      λ c l. subst (λ s. Leaves s content (e ∷ events old) c) same (subst (λ es. Leaves (size new) content es c) noted l) in
-      let forth : (c : Image) → Leaves (size old) content (e ∷ events old) c → Leaves (size new) content (events new) c =
-      λ c l. subst (λ es. Leaves (size new) content es c) (sym noted) (subst (λ s. Leaves s content (e ∷ events old) c) (sym same) l) in
-      let from : (t : ℕ) (c : Image) → LeftFrom (size new) content (events new) t c → LeftFrom (size old) content (e ∷ events old) t c =
-      λ t c l. subst (λ s. LeftFrom s content (e ∷ events old) t c) same (subst (λ es. LeftFrom (size new) content es t c) noted l) in
-      let to : (t : ℕ) (c : Image) → LeftFrom (size old) content (e ∷ events old) t c → LeftFrom (size new) content (events new) t c =
-      λ t c l. subst (λ es. LeftFrom (size new) content es t c) (sym noted) (subst (λ s. LeftFrom s content (e ∷ events old) t c) (sym same) l) in
-      record {
-        crash = λ c now. comes c (back c now);
-        later = omega (arith, ap length noted);
-        nothing_else = λ t c earlier left. ⊎_elim (λ now. inr (forth c now.1)) inl (from t c left);
-        keeps = λ t c earlier left. to t c (inr left);
-      }
+  goes_event step old new e same noted comes = record {
+    crash = λ c now. comes c (rw (same, noted) at now);
+    later = omega (arith, ap length noted);
+    nothing_else = λ t c earlier left. rw (same, noted) (⊎_elim (λ now. inr now.1) inl (rw (same, noted) at left));
+    keeps = λ t c earlier left. rw (same, noted) (inr left);
+  }

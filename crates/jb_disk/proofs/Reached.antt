@@ -1,9 +1,10 @@
 -- Each image that a crash may leave is reached by some choice of numbers.
-use Rattle.std.proofs.Common.{◌≡◌, ◌<◌, ◌≤◌, ◌↔◌, ℕ, zero, suc, ◌+◌, ◌*◌, ◌/◌, List, [], ◌∷◌, ◌++◌, length, get_or, refl, sym, ◌∙◌, ap, subst, ⊎_elim, arith, length-append}
+use Rattle.std.proofs.Common.{◌≡◌, ◌<◌, ◌≤◌, ◌↔◌, ℕ, zero, suc, ◌+◌, ◌*◌, ◌/◌, List, [], ◌∷◌, ◌++◌, length, get_or, map, refl, sym, ◌∙◌, ap, subst, ⊎_elim, arith, length-append}
 use Rattle.std.proofs.lemmas.Bool.{cases_lt}
 use Rattle.std.proofs.lemmas.List.{get_or-append-add, get_or_append_left}
-use Rattle.std.proofs.Math.Seq.{get_or-append_seam}
-use Rattle.std.proofs.Math.Nat.{add-mul, mod-eq_of_lt, mul-le-mul_right}
+use Rattle.std.proofs.lemmas.List.FromFn.{get_or-map-range_with_len, length-map-range_with_len}
+use Rattle.std.specs.List.{range_with_len}
+use Rattle.std.proofs.Math.Nat.{mod-eq_of_lt, mul-le-mul_right}
 use Rattle.jb_block.specs.Size.{bytes_of}
 use Rattle.jb_disk.specs.Image.{Image, block, sector, HasShape}
 use Rattle.jb_disk.specs.History.{History, HistoryStep, IsHistorySound, MayLeave, AreWhole}
@@ -16,35 +17,18 @@ use Rattle.jb_disk.proofs.Outcomes.{choice_left, image_takes, only_version}
 
 -- ---- the numbers of a choice, block by block
 
--- the first so many values of a function
-abbrev row : (ℕ → ℕ) → ℕ → List ℕ
-row f zero = []
-row f (suc n) = row f n ++ f n ∷ []
-
-length-row : (f : ℕ → ℕ) (n : ℕ) → length (row f n) ≡ n
-length-row f zero = refl
-length-row f (suc n) = let all : length (row f n ++ f n ∷ []) ≡ length (row f n) + 1 = length-append (row f n) (f n ∷ []) in omega (arith, all, length-row f n)
-
-get_or-row : (f : ℕ → ℕ) (n k : ℕ) → k < n → get_or (row f n) k 0 ≡ f k
-get_or-row f zero k within = absurd (let h : ⊥ = omega (arith, within) in h)
-get_or-row f (suc n) k within = ⊎_elim
-    (λ less. get_or_append_left (row f n) (f n ∷ []) 0 k (omega (arith, less, length-row f n)) ∙ get_or-row f n k less)
-    (λ reaches. let here : n ≡ k = omega (arith, within, reaches) in
-    subst (λ i. get_or (row f n ++ f n ∷ []) i 0 ≡ f i) here
-    (ap (λ i. get_or (row f n ++ f n ∷ []) i 0) (sym (length-row f n)) ∙ get_or-append_seam (row f n) (f n) [] 0)) (cases_lt k n)
-
 -- those of one block: one for each sector, where it has been written
 abbrev of_block : List (List ℕ) → (ℕ → ℕ) → ℕ → List ℕ
 of_block [] f sectors = []
-of_block (_ ∷ _) f sectors = row f sectors
+of_block (_ ∷ _) f sectors = map f (range_with_len 0 sectors)
 
 length-of_block : (writes : List (List ℕ)) (f : ℕ → ℕ) (sectors : ℕ) → length (of_block writes f sectors) ≡ one_if_any writes * sectors
 length-of_block [] f sectors = omega arith
-length-of_block (_ ∷ _) f sectors = let one : 1 * sectors ≡ sectors = omega arith in length-row f sectors ∙ sym one
+length-of_block (_ ∷ _) f sectors = let one : 1 * sectors ≡ sectors = omega arith in length-map-range_with_len f 0 sectors ∙ sym one
 
 get_or-of_block : (writes : List (List ℕ)) (f : ℕ → ℕ) (sectors k : ℕ) → one_if_any writes ≡ 1 → k < sectors → get_or (of_block writes f sectors) k 0 ≡ f k
 get_or-of_block [] f sectors k any within = absurd (let h : ⊥ = omega (arith, any) in h)
-get_or-of_block (_ ∷ _) f sectors k any within = get_or-row f sectors k within
+get_or-of_block (_ ∷ _) f sectors k any within = get_or-map-range_with_len f 0 sectors k k 0 within (omega arith)
 
 module _ (pick : ℕ → ℕ → ℕ) (steps : List HistoryStep) (sectors : ℕ) where
   -- those of the blocks below a place
@@ -55,26 +39,22 @@ module _ (pick : ℕ → ℕ → ℕ) (steps : List HistoryStep) (sectors : ℕ)
   length-numbers : (place : ℕ) → length (numbers place) ≡ written_below steps place * sectors
   length-numbers zero = omega arith
   length-numbers (suc place) =
-      length-append (numbers place) (of_block (written steps place) (pick place) sectors)
-      ∙ ap (λ n. n + length (of_block (written steps place) (pick place) sectors)) (length-numbers place)
-      ∙ ap (λ n. written_below steps place * sectors + n) (length-of_block (written steps place) (pick place) sectors)
-      ∙ sym (add-mul (written_below steps place) (one_if_any (written steps place)) sectors)
+      let block = of_block (written steps place) (pick place) sectors in
+      omega (arith, length-append (numbers place) block, length-numbers place, length-of_block (written steps place) (pick place) sectors)
 
   -- a written block below a place counts there
   counted-below : (p place : ℕ) → p < place → one_if_any (written steps p) ≡ 1 → written_below steps p + 1 ≤ written_below steps place
   counted-below p zero below any = absurd (let h : ⊥ = omega (arith, below) in h)
   counted-below p (suc place) below any = ⊎_elim
       (λ less. omega (arith, counted-below p place less any))
-      (λ reaches. let here : p ≡ place = omega (arith, below, reaches) in
-      subst (λ q. written_below steps p + 1 ≤ written_below steps q + one_if_any (written steps q)) here (omega (arith, any))) (cases_lt p place)
+      (λ reaches. rw (let here : place ≡ p = omega (arith, below, reaches) in here) (omega (arith, any))) (cases_lt p place)
 
   get_or-numbers : (count p k : ℕ) → p < count → k < sectors → one_if_any (written steps p) ≡ 1 → get_or (numbers count) (written_below steps p * sectors + k) 0 ≡ pick p k
   get_or-numbers zero p k below within any = absurd (let h : ⊥ = omega (arith, below) in h)
   get_or-numbers (suc count) p k below within any = ⊎_elim
       (λ less.
-      let more : (written_below steps p + 1) * sectors ≤ written_below steps count * sectors = mul-le-mul_right sectors (counted-below p count less any) in
-      let spread : (written_below steps p + 1) * sectors ≡ written_below steps p * sectors + 1 * sectors = add-mul (written_below steps p) 1 sectors in
-      get_or_append_left (numbers count) (of_block (written steps count) (pick count) sectors) 0 (written_below steps p * sectors + k) (omega (arith, more, spread, within, length-numbers count))
+      let more = mul-le-mul_right sectors (counted-below p count less any) in
+      get_or_append_left (numbers count) (of_block (written steps count) (pick count) sectors) 0 (written_below steps p * sectors + k) (omega (arith, more, within, length-numbers count))
       ∙ get_or-numbers count p k less within any)
       (λ reaches. let here : count ≡ p = omega (arith, below, reaches) in
       subst (λ q. one_if_any (written steps q) ≡ 1 → get_or (numbers count ++ of_block (written steps count) (pick count) sectors) (written_below steps q * sectors + k) 0 ≡ pick q k) here

@@ -1,5 +1,5 @@
 -- A block whose sectors were each chosen among its versions, taken back to before its last write.
-use Rattle.std.proofs.Common.{◌≡◌, ◌<◌, ◌≤◌, ◌⊎◌, ℕ, zero, suc, ◌+◌, ◌*◌, List, [], ◌∷◌, ◌++◌, length, get_or, refl, sym, ◌∙◌, ap, subst, inl, inr, ⊎_elim, arith, length-append}
+use Rattle.std.proofs.Common.{◌≡◌, ◌<◌, ◌≤◌, ◌⊎◌, ℕ, zero, suc, ◌+◌, ◌*◌, List, [], ◌∷◌, ◌++◌, length, get_or, refl, sym, ◌∙◌, ap, subst, inl, inr, ⊎_elim, below_more, arith, length-append}
 use Rattle.std.proofs.lemmas.Bool.{cases_lt}
 use Rattle.std.proofs.lemmas.List.{get_or_append_left}
 use Rattle.std.proofs.Math.Seq.{get_or-append_seam}
@@ -20,9 +20,7 @@ pub record Undone (sectors n : ℕ) (contents : List (List ℕ)) (bytes now x : 
 undo_kept : (sectors n : ℕ) (contents : List (List ℕ)) (bytes now x : List ℕ) → Undone sectors n contents bytes now x → IsAmong contents n (sector n now) → Undone sectors (suc n) contents bytes now x
 undo_kept sectors n contents bytes now x undone older = record {
   size = undone.size;
-  among = λ k below. ⊎_elim (λ less. undone.among k less)
-      (λ reaches. let is : n ≡ k = omega (arith, below, reaches) in
-      subst (λ j. IsAmong contents j (sector j x)) is (subst (IsAmong contents n) (sym (undone.rest n (omega arith))) older)) (cases_lt k n);
+  among = λ k below. below_more (λ j. IsAmong contents j (sector j x)) n undone.among (subst (IsAmong contents n) (sym (undone.rest n (omega arith))) older) k (omega (arith, below));
   step = λ k below. ⊎_elim (λ less. undone.step k less)
       (λ reaches. inl (sym (undone.rest k reaches))) (cases_lt k n);
   rest = λ k above. undone.rest k (omega (arith, above));
@@ -36,13 +34,12 @@ undo_written sectors n base later bytes now x inside whole undone new =
     let within : 512 * n + 512 ≤ length x = omega (arith, undone.size, inside) in
     record {
       size = length-put_sector n base x same within ∙ undone.size;
-      among = λ k below. ⊎_elim
-          (λ less. subst (IsAmong (base ∷ later) k) (sym (put_sector-below k n base x less within)) (undone.among k less))
-          (λ reaches. let is : n ≡ k = omega (arith, below, reaches) in
-          subst (λ j. IsAmong (base ∷ later) j (sector j (put_sector n base x))) is (0, omega arith, put_sector-same n base x same within)) (cases_lt k n);
-      step = λ k below. ⊎_elim
-          (λ less. ⊎_elim (λ old. inl (old ∙ sym (put_sector-below k n base x less within))) inr (undone.step k less))
-          (λ reaches. let is : n ≡ k = omega (arith, below, reaches) in inr (subst (λ j. sector j now ≡ sector j bytes) is new)) (cases_lt k n);
+      among = λ k below. below_more (λ j. IsAmong (base ∷ later) j (sector j (put_sector n base x))) n
+          (λ j less. subst (IsAmong (base ∷ later) j) (sym (put_sector-below j n base x less within)) (undone.among j less))
+          (0, omega arith, put_sector-same n base x same within) k (omega (arith, below));
+      step = λ k below. below_more (λ j. (sector j now ≡ sector j (put_sector n base x)) ⊎ (sector j now ≡ sector j bytes)) n
+          (λ j less. ⊎_elim (λ old. inl (old ∙ sym (put_sector-below j n base x less within))) inr (undone.step j less))
+          (inr new) k (omega (arith, below));
       rest = λ k above. put_sector-above k n base x same (omega (arith, above)) within ∙ undone.rest k (omega (arith, above));
     }
 
