@@ -1,5 +1,5 @@
 -- Each call leaves the account sound.
-use Rattle.std.proofs.Common.{◌≡◌, ℕ, ◌+◌, ◌-◌, ◌^◌, ◌<◌, ◌≤◌, ◌||◌, Bool, true, false, nat_lt, nat_le, List, [], ◌∷◌, ◌++◌, length, drop, sum, All, None, is_some, sym, refl, ap, subst, ◌∙◌, IfSome, arith}
+use Rattle.std.proofs.Common.{◌≡◌, ℕ, ◌+◌, ◌-◌, ◌^◌, ◌<◌, ◌≤◌, Bool, true, false, nat_lt, List, [], ◌∷◌, ◌++◌, length, drop, sum, All, None, is_some, sym, refl, ap, subst, ◌∙◌, IfSome, arith}
 use Rattle.std.proofs.lemmas.Bool.Decides.{nat_tests}
 use Rattle.std.proofs.lemmas.List.{length-append, length-drop, drop-append-le, drop-drop}
 use Rattle.std.proofs.lemmas.List.Elements.{All-nil, All-push, All-drop}

@@ -16,7 +16,6 @@ use Rattle.jb_deck.proofs.Stood.{Stood, stood-recovered}
 use Rattle.jb_book.specs.Origin.{Begun}
 use Rattle.jb_book.specs.Since.{HasFirst}
 use Rattle.jb_book.proofs.Bounds.{cut-rise, cut-within}
-use Rattle.jb_recover.specs.Outcomes.{recovered}
 
 module _ (b : Begun) where
   -- the image is recovered to the homes of the start with these handles

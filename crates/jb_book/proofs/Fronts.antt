@@ -1,5 +1,5 @@
 -- The front of a trail, and what is left once entries were taken from it.
-use Rattle.std.proofs.Common.{◌≡◌, ℕ, zero, suc, ◌+◌, ◌-◌, ◌<◌, ◌≤◌, true, false, nat_le, cond, List, [], ◌∷◌, length, drop, Some, slice_get, refl, ap, ◌∙◌, arith}
+use Rattle.std.proofs.Common.{◌≡◌, ℕ, zero, suc, ◌-◌, ◌≤◌, true, false, nat_le, cond, List, [], ◌∷◌, length, drop, Some, slice_get, refl, ap, ◌∙◌, arith}
 use Rattle.jb_deck.specs.declared.done.Entry.{Entry}
 use Rattle.jb_deck.specs.Done.{Follow, least_after, start_of}
 use Rattle.jb_book.specs.Account.{Account, IsAccountSound, last_start, shortened, trail_from}

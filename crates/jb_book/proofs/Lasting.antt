@@ -19,7 +19,7 @@ use Rattle.jb_deck.specs.declared.batched.BatchFault.{BatchFault}
 use Rattle.jb_deck.specs.declared.batched.BatchFault.TheVariants as batch
 use Rattle.jb_deck.specs.declared.done.Done.{Done}
 use Rattle.jb_deck.specs.declared.done.Entry.{Entry}
-use Rattle.jb_book.specs.Marks.{HasEntry, HasFailedMark, IsMarked}
+use Rattle.jb_book.specs.Marks.{HasFailedMark, IsMarked}
 use Rattle.jb_book.specs.Origin.{Begun}
 use Rattle.jb_book.specs.SinceMark.{HasSettledOf, IsMarkedOf, Lasts, MarksSettled, Within}
 use Rattle.jb_book.specs.Since.{HasFirst, Since}

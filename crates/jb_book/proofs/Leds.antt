@@ -4,7 +4,6 @@ use Rattle.std.proofs.lemmas.List.{map-append}
 use Rattle.std.proofs.lemmas.List.Elements.{All-drop, All-weaker}
 use Rattle.jb_plan.specs.Batch.{gathered}
 use Rattle.jb_plan.specs.Costs.{HasCut}
-use Rattle.jb_cost.specs.Cut.{total}
 use Rattle.jb_cost.specs.Pieces.{joined, pieces}
 use Rattle.jb_core.proofs.Accepted.{none-left, still-up}
 use Rattle.jb_deck.specs.declared.done.Entry.{Entry}

@@ -1,5 +1,5 @@
 -- Marks that show all that a book has settled: each call keeps that.
-use Rattle.std.proofs.Common.{◌≡◌, ℕ, suc, Bool, true, false, ◌+◌, ◌<◌, List, [], ◌∷◌, ◌++◌, length, All, Option, Some, None, nat_le, if◌then◌else◌, Result, Ok, Err, IfNone, IfSome, OnOk, OnErr, inl, inr, refl, ap, sym, subst, ◌∙◌, arith}
+use Rattle.std.proofs.Common.{◌≡◌, ℕ, true, false, ◌+◌, ◌<◌, List, [], ◌∷◌, ◌++◌, length, All, Option, Some, None, nat_le, if◌then◌else◌, Result, Ok, Err, IfNone, IfSome, OnOk, OnErr, inl, inr, refl, ap, sym, subst, ◌∙◌, arith}
 use Rattle.std.proofs.lemmas.List.{length-append}
 use Rattle.std.proofs.lemmas.List.Elements.{All-append, All-head, All-tail, All-weaker}
 use mathlib.Core.List.{IsPrefix}
@@ -9,7 +9,7 @@ use Rattle.jb_deck.specs.declared.done.Entry.{Entry}
 use Rattle.jb_handle.specs.Word.{WordMap}
 use Rattle.jb_board.proofs.Placed.{get_last, placed_on}
 use Rattle.jb_board.specs.HistoryRule.{StandsIn}
-use Rattle.jb_book.specs.Account.{Account, AnswersNumber, CanTake, IsSettledBy, Settles, dropped_of, failed_of, granted_to, queued, settled_to, shortened, taken_all, trail_from}
+use Rattle.jb_book.specs.Account.{Account, AnswersNumber, CanTake, IsSettledBy, Settles, failed_of, granted_to, settled_to, shortened, taken_all, trail_from}
 use Rattle.jb_handle.specs.declared.shape.Shape.{Shape}
 use Rattle.jb_book.specs.Marks.{AreOfBook, AreShown, HasShapeMark, IsMarked, SeesStop, Shows, ShowsAfter}
 use Rattle.jb_book.specs.declared.fault.WrongBatch.{WrongBatch}

@@ -1,5 +1,5 @@
 -- A book beside the history of its stops: each call keeps what is known of the two.
-use Rattle.std.proofs.Common.{◌≡◌, ◌↔◌, IsTrue, ℕ, ◌+◌, List, [], ◌∷◌, ◌++◌, All, map, length, Some, None, Ok, Err, IfSome, IfNone, Option, Result, OnOk, OnErr, sym, refl, ap, ◌∙◌, subst, arith, true, false, Bool}
+use Rattle.std.proofs.Common.{◌≡◌, ◌↔◌, IsTrue, ℕ, List, [], ◌∷◌, ◌++◌, All, map, length, Some, None, Ok, Err, IfSome, IfNone, Option, Result, OnOk, OnErr, sym, refl, ap, ◌∙◌, subst, arith, true, false, Bool}
 use Rattle.std.proofs.lemmas.List.{length-append}
 use Rattle.std.proofs.lemmas.List.Elements.{All-nil, All-weaker}
 use Rattle.std.specs.Global.{Vec}

@@ -1,5 +1,5 @@
 -- Handles of one history, cuts of nothing, and what is left of a trail.
-use Rattle.std.proofs.Common.{◌≡◌, ℕ, zero, suc, ◌+◌, ◌<◌, ◌≤◌, Bool, true, false, List, [], ◌∷◌, ◌++◌, All, length, Some, get_or, slice_get, sym, refl, ap, ◌∙◌, subst, arith, append_assoc, nat_le, cond}
+use Rattle.std.proofs.Common.{◌≡◌, ℕ, zero, suc, ◌+◌, ◌<◌, ◌≤◌, true, false, List, [], ◌∷◌, ◌++◌, All, length, Some, get_or, slice_get, sym, refl, ap, ◌∙◌, subst, arith, append_assoc, nat_le, cond}
 use Rattle.std.proofs.Math.ListN.{get_or-append}
 use Rattle.std.proofs.lemmas.List.{same_lists}
 use Rattle.std.proofs.lemmas.List.Elements.{All-nil, All-push, All-weaker}

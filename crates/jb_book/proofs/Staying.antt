@@ -1,9 +1,7 @@
 -- What follows for a ticket that some mark has shown: a later crash leaves its handle, and a later read sees it.
-use Rattle.std.proofs.Common.{◌≡◌, ℕ, zero, suc, ◌+◌, ◌<◌, ◌≤◌, List, [], ◌∷◌, length, All, Option, Some, None, get_or, slice_get, inl, inr, ap, sym, subst, ◌∙◌, arith}
+use Rattle.std.proofs.Common.{◌≡◌, ℕ, suc, ◌<◌, ◌≤◌, List, length, All, Some, get_or, slice_get, inl, inr, ap, sym, subst, ◌∙◌, arith}
 use Rattle.std.proofs.lemmas.Option.{get_or_from_slice_get, slice_get-get_or, slice_get_within}
 use Rattle.jb_disk.specs.declared.disk.Disk.{Ghosts}
-use Rattle.jb_handle.specs.Tickets.{TicketsFrom}
-use Rattle.jb_handle.specs.Word.{WordMap}
 use Rattle.jb_handle.specs.declared.stopped.Stopped.{Stopped}
 use Rattle.jb_board.proofs.Placed.{placed_on}
 use Rattle.jb_board.specs.HistoryRule.{StandsIn}

@@ -20,7 +20,6 @@ use Rattle.jb_core.proofs.Runs.{sounds}
 use Rattle.jb_book.specs.Account.{Account, IsAccountSound, taken_all, settled_to, failed_of, CanTake, Settles}
 use Rattle.jb_book.specs.Calls.{AreOfFirst, IsCutOf}
 use Rattle.jb_book.specs.Shadow.{Shadow, took, settled_by, crashed}
-use Rattle.jb_book.specs.Shadow as shadow
 use Rattle.jb_book.specs.Tied.{IsUntouched, HasHandle, Tied, BookIsTied}
 use Rattle.jb_book.proofs.Follows.{follow-length}
 use Rattle.jb_book.proofs.Shadows.{shadowed}
