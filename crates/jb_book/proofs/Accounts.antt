@@ -1,6 +1,5 @@
 -- Each call leaves the account sound.
-use Rattle.std.proofs.Common.{◌≡◌, ℕ, ◌+◌, ◌-◌, ◌^◌, ◌<◌, ◌≤◌, ◌||◌, Bool, true, false, nat_lt, nat_le, List, [], ◌∷◌, ◌++◌, length, drop, sum, None, is_some, sym, refl, ap, subst, ◌∙◌, IfSome, arith}
-use Rattle.std.proofs.lemmas.Bool.{or_parts}
+use Rattle.std.proofs.Common.{◌≡◌, ℕ, ◌+◌, ◌-◌, ◌^◌, ◌<◌, ◌≤◌, Bool, true, false, nat_lt, List, [], ◌∷◌, ◌++◌, length, drop, sum, All, None, is_some, sym, refl, ap, subst, ◌∙◌, IfSome, arith}
 use Rattle.std.proofs.lemmas.Bool.Decides.{nat_tests}
 use Rattle.std.proofs.lemmas.List.{length-append, length-drop, drop-append-le, drop-drop}
 use Rattle.std.proofs.lemmas.List.Elements.{All-nil, All-push, All-drop}
@@ -12,6 +11,7 @@ use Rattle.std.specs.List.{sum_by}
 use Rattle.std.specs.Option.{unwrap_or}
 use Rattle.std.specs.Ordering.{nat_cmp}
 use Rattle.std.specs.BTreeMap.{is_at}
+use Rattle.std.specs.Map.{values_of}
 use Rattle.std.specs.FinMap as map
 use Rattle.jb_handle.specs.declared.stopped.Stopped.{Stopped}
 use Rattle.jb_handle.specs.Held.{Fits}
@@ -25,8 +25,8 @@ use Rattle.jb_core.proofs.Entries.{sum-insert, length-insert_entry, length-remov
 use Rattle.jb_deck.specs.declared.done.Entry.{Entry}
 use Rattle.jb_deck.specs.Done.{Follow, start_of}
 use Rattle.jb_book.specs.declared.fault.BeginFault.TheVariants.{Aborted, Closed, Busy, TooManyCredits, Full}
-use Rattle.jb_book.specs.Account.{Account, IsAccountSound, granted_to, dropped_of, queued, taken_all, settled_to, failed_of, has_no_room, begin_refusal, IsOpenFor, CanTake, Settles}
-use Rattle.jb_book.specs.Shadow.{credits_at, reserved_in}
+use Rattle.jb_book.specs.Account.{Account, InLine, IsAccountSound, IsLost, granted_to, dropped_of, queued, taken_all, settled_to, failed_of, has_no_room, begin_refusal, IsOpenFor, CanTake, Settles, touched_in}
+use Rattle.jb_book.specs.Shadow.{credits_at, lost, reserved_in, took}
 use Rattle.jb_book.proofs.Follows.{follow-length, follow-on}
 use Rattle.jb_book.proofs.SeatCredits.{length-less, sum-gone, sum-less}
 
@@ -41,67 +41,34 @@ passed a seat credits none =
     let three = first-false (is_some (credits_at a.shadow seat)) Busy _ two.1 in
     let four = first-false (nat_lt a.most credits) (TooManyCredits a.most) _ three.1 in
     let five = first-false (has_no_room a credits) (Full (reserved_in a.shadow)) [] four.1 in
-    let full = or_parts (nat_lt a.usable (reserved_in a.shadow + credits) || nat_le (2 ^ 61) (a.shadow.next + length a.shadow.seats)) (nat_lt (2 ^ 61) (a.granted + credits)) five.0 in
-    let both = or_parts (nat_lt a.usable (reserved_in a.shadow + credits)) (nat_le (2 ^ 61) (a.shadow.next + length a.shadow.seats)) full.0 in
-    let few : nat_lt a.most credits ≡ false = four.0 in
-    let room : nat_lt a.usable (reserved_in a.shadow + credits) ≡ false = both.0 in
-    let left : nat_le (2 ^ 61) (a.shadow.next + length a.shadow.seats) ≡ false = both.1 in
-    let grants : nat_lt (2 ^ 61) (a.granted + credits) ≡ false = full.1 in
     (one.0, two.0, found-none (credits_at a.shadow seat) three.0, grind (arith, nat_tests), grind (arith, nat_tests), grind (arith, nat_tests), grind (arith, nat_tests))
 
 module _ (a : Account) (sound : IsAccountSound a) where
+  -- with other seats it is sound where there is room for their credits and tickets
+  seats-sound : (seats : List (ℕ × ℕ)) (granted : ℕ) → All (λ c. c ≤ a.most) (values_of seats) → sum (values_of seats) + sum a.shadow.credits ≤ a.usable → a.shadow.next + length seats ≤ 2 ^ 61 → a.changes + sum (values_of seats) ≤ granted → granted ≤ 2 ^ 61
+      → IsAccountSound (record a { shadow = record a.shadow { seats = seats }; granted = granted })
+  seats-sound seats granted few room tickets changed grants =
+      let running : a.aborted ≡ false → InLine (record a.shadow { seats = seats }) = λ is. let line = sound.running is in assumption in
+      let failed : a.aborted ≡ true → IsLost (record a.shadow { seats = seats }) = λ is. let over = sound.failed is in assumption in
+      assumption
+
   pub begun-sound : (seat credits : ℕ) → begin_refusal a seat credits ≡ None → IsAccountSound (granted_to seat credits a)
   begun-sound seat credits none =
       let (running, open_yet, free, few, room, left, grants) = passed a seat credits none in
       let more = sum-insert (λ (x : ℕ). x) a.shadow.seats seat credits free in
       let longer = length-insert_entry a.shadow.seats seat credits in
-      let changed = sound.changed in
-      record {
-        most = sound.most;
-        order = sound.order;
-        within = sound.within;
-        running = λ is. let line = sound.running is in record { tickets = line.tickets; queued = line.queued; paired = line.paired; covered = line.covered };
-        failed = λ is. let over = sound.failed is in record { queue = over.queue; credits = over.credits; taken = over.taken };
-        seats_few = All-values-insert_entry nat_cmp seat credits (λ c. c ≤ a.most) a.shadow.seats sound.seats_few few;
-        few = sound.few;
-        fits = sound.fits;
-        room = omega (arith, more, room);
-        small = sound.small;
-        tickets = omega (arith, longer, left);
-        changed = omega (arith, more, changed);
-        granted = grants;
-        counted = sound.counted;
-        trail = sound.trail;
-      }
+      seats-sound (granted_to seat credits a).shadow.seats (a.granted + credits) (All-values-insert_entry nat_cmp seat credits (λ c. c ≤ a.most) a.shadow.seats sound.seats_few few)
+      (omega (arith, more, room)) (omega (arith, longer, left)) (omega (arith, more)) grants
 
   pub dropped-sound : (seat : ℕ) → IsAccountSound (dropped_of seat a)
   dropped-sound seat =
       let less = sum-less a.shadow.seats seat in
       let shorter = length-less (is_at (nat_cmp seat)) a.shadow.seats in
-      let room = sound.room in
-      let tickets = sound.tickets in
-      let changed = sound.changed in
-      record {
-        most = sound.most;
-        order = sound.order;
-        within = sound.within;
-        running = λ is. let line = sound.running is in record { tickets = line.tickets; queued = line.queued; paired = line.paired; covered = line.covered };
-        failed = λ is. let over = sound.failed is in record { queue = over.queue; credits = over.credits; taken = over.taken };
-        seats_few = All-map-remove_entry (is_at (nat_cmp seat)) (λ (e : ℕ × ℕ). e.1) (λ c. c ≤ a.most) a.shadow.seats sound.seats_few;
-        few = sound.few;
-        fits = sound.fits;
-        room = omega arith;
-        small = sound.small;
-        tickets = omega arith;
-        changed = omega arith;
-        granted = sound.granted;
-        counted = sound.counted;
-        trail = sound.trail;
-      }
+      seats-sound (dropped_of seat a).shadow.seats a.granted (All-map-remove_entry (is_at (nat_cmp seat)) (λ (e : ℕ × ℕ). e.1) (λ c. c ≤ a.most) a.shadow.seats sound.seats_few)
+      (omega arith) (omega arith) (omega arith) sound.granted
 
   pub queued-sound : (seat credits : ℕ) (words : WordMap) → a.aborted ≡ false → IsOpenFor a seat words credits → IsAccountSound (queued seat words a)
   queued-sound seat credits words running is =
-      let s = a.shadow in
       let stop : Stopped = record { ticket = a.shadow.next; words = words } in
       let line = sound.running running in
       let gone = sum-gone a.shadow.seats seat credits is.listed in
@@ -114,14 +81,12 @@ module _ (a : Account) (sound : IsAccountSound a) where
       let one : sum (unwrap_or (credits_at a.shadow seat) 0 ∷ []) ≡ unwrap_or (credits_at a.shadow seat) 0 = omega arith in
       let touches = sum_by-append (λ (h : Stopped). map.len h.words) a.shadow.queue (stop ∷ []) in
       let single : sum_by (λ (h : Stopped). map.len h.words) (stop ∷ []) ≡ map.len words = omega arith in
-      let queued_up = line.queued in
       let paired = line.paired in
       let order = sound.order in
       let within = sound.within in
       let room = sound.room in
       let tickets = sound.tickets in
       let changed = sound.changed in
-      let touched = is.within in
       let counted = sound.counted in
       record {
         most = sound.most;
@@ -132,7 +97,7 @@ module _ (a : Account) (sound : IsAccountSound a) where
           queued = omega arith;
           paired = omega arith;
           covered = subst (λ cs. Covers cs (a.shadow.queue ++ stop ∷ [])) (sym (drop-append-le (a.shadow.taken - a.shadow.settled) a.shadow.credits (unwrap_or (credits_at a.shadow seat) 0 ∷ []) (omega arith)))
-              (covers-append (drop (a.shadow.taken - a.shadow.settled) a.shadow.credits) (unwrap_or (credits_at a.shadow seat) 0 ∷ []) a.shadow.queue (stop ∷ []) line.covered (omega (arith, granted, touched), tt));
+              (covers-append (drop (a.shadow.taken - a.shadow.settled) a.shadow.credits) (unwrap_or (credits_at a.shadow seat) 0 ∷ []) a.shadow.queue (stop ∷ []) line.covered (omega (arith, granted), tt));
         };
         failed = still-up-not a.aborted running;
         seats_few = All-map-remove_entry (is_at (nat_cmp seat)) (λ (e : ℕ × ℕ). e.1) (λ c. c ≤ a.most) a.shadow.seats sound.seats_few;
@@ -141,7 +106,7 @@ module _ (a : Account) (sound : IsAccountSound a) where
         room = omega (arith, gone, sums, one, granted, room);
         small = sound.small;
         tickets = omega (arith, shorter, tickets);
-        changed = omega (arith, gone, touched, changed);
+        changed = omega (arith, gone, changed);
         granted = sound.granted;
         counted = omega (arith, touches, single, counted);
         trail = sound.trail;
@@ -153,33 +118,18 @@ module _ (a : Account) (sound : IsAccountSound a) where
   pub taken-sound : CanTake a → IsAccountSound (taken_all a)
   taken-sound can =
       let line = sound.running can.running in
-      let queued_up = line.queued in
       let paired = line.paired in
-      let free = can.free in
-      let order = sound.order in
       let none : drop (a.shadow.taken + length a.shadow.queue - a.shadow.settled) a.shadow.credits ≡ [] = drop_of_length-le a.shadow.credits (omega arith) in
-      record {
-        most = sound.most;
-        order = omega arith;
-        within = omega arith;
-        running = λ _. record { tickets = tt; queued = omega arith; paired = line.paired; covered = subst (λ cs. Covers cs []) (sym none) tt };
-        failed = λ is. still-up a.aborted is can.running;
-        seats_few = sound.seats_few;
-        few = sound.few;
-        fits = All-nil (λ h. Fits a.shape h.words);
-        room = sound.room;
-        small = sound.small;
-        tickets = sound.tickets;
-        changed = sound.changed;
-        granted = sound.granted;
-        counted = omega arith;
-        trail = sound.trail;
-      }
+      let ordered : a.shadow.settled ≤ a.shadow.taken + length a.shadow.queue = omega arith in
+      let within : a.shadow.taken + length a.shadow.queue ≤ a.shadow.next = omega arith in
+      let running : a.aborted ≡ false → InLine (took a.shadow) = λ _. record { tickets = tt; queued = omega arith; paired = line.paired; covered = subst (λ cs. Covers cs []) (sym none) tt } in
+      let failed : a.aborted ≡ true → IsLost (took a.shadow) = λ is. still-up a.aborted is can.running in
+      let counted : touched_in [] ≤ a.changes = omega arith in
+      assumption (All-nil (λ (h : Stopped). Fits a.shape h.words))
 
   pub settled-sound : (past : ℕ) (entries : List Entry) → Settles a past entries → IsAccountSound (settled_to past entries a)
   settled-sound past entries is =
       let up = follow-length a.shadow.settled _ past entries is.follow in
-      let inside = is.within in
       let order = sound.order in
       let within = sound.within in
       let n = past - a.shadow.settled in
@@ -194,7 +144,6 @@ module _ (a : Account) (sound : IsAccountSound a) where
             let line = sound.running run in
             let paired = line.paired in
             let fewer = length-drop (past - a.shadow.settled) a.shadow.credits in
-            let queued_up = line.queued in
             record {
               tickets = line.tickets;
               queued = line.queued;
@@ -231,45 +180,15 @@ module _ (a : Account) (sound : IsAccountSound a) where
 
   pub failed-sound : IsAccountSound (failed_of a)
   failed-sound =
-      let order = sound.order in
-      let within = sound.within in
-      let room = sound.room in
-      record {
-        most = sound.most;
-        order = omega arith;
-        within = omega arith;
-        running = λ is. still-up true refl is;
-        failed = λ _. record { queue = refl; credits = refl; taken = refl };
-        seats_few = sound.seats_few;
-        few = All-nil (λ c. c ≤ a.most);
-        fits = All-nil (λ h. Fits a.shape h.words);
-        room = omega arith;
-        small = sound.small;
-        tickets = sound.tickets;
-        changed = sound.changed;
-        granted = sound.granted;
-        counted = omega arith;
-        trail = sound.trail;
-      }
+      let ordered : a.shadow.settled ≤ a.shadow.settled = omega arith in
+      let inside : a.shadow.settled ≤ a.shadow.next = omega arith in
+      let running : true ≡ false → InLine (lost a.shadow) = λ is. still-up true refl is in
+      let room : sum (values_of a.shadow.seats) + sum [] ≤ a.usable = omega arith in
+      let counted : touched_in [] ≤ a.changes = omega arith in
+      assumption (All-nil (λ (c : ℕ). c ≤ a.most), All-nil (λ (h : Stopped). Fits a.shape h.words))
 
   pub shut-sound : IsAccountSound (record a { shut = true })
-  shut-sound = record {
-    most = sound.most;
-    order = sound.order;
-    within = sound.within;
-    running = sound.running;
-    failed = sound.failed;
-    seats_few = sound.seats_few;
-    few = sound.few;
-    fits = sound.fits;
-    room = sound.room;
-    small = sound.small;
-    tickets = sound.tickets;
-    changed = sound.changed;
-    granted = sound.granted;
-    counted = sound.counted;
-    trail = sound.trail;
-  }
+  shut-sound = assumption
 
   -- the planner takes any queue of a book
   pub queue-size : a.aborted ≡ false → IsWithinSize a.shadow.queue
@@ -278,8 +197,4 @@ module _ (a : Account) (sound : IsAccountSound a) where
       let k = a.shadow.taken - a.shadow.settled in
       let all = covers-weight (drop (a.shadow.taken - a.shadow.settled) a.shadow.credits) a.shadow.queue line.covered in
       let parts = sum_by-take-drop (λ (x : ℕ). x) a.shadow.credits (a.shadow.taken - a.shadow.settled) in
-      let queued_up = line.queued in
-      let room = sound.room in
-      let small = sound.small in
-      let tickets = sound.tickets in
       omega arith

@@ -1,5 +1,5 @@
 -- What is known between two calls of a book, and what the calls of its seats keep of it.
-use Rattle.std.proofs.Common.{◌≡◌, ◌⊎◌, inl, inr, ℕ, ◌≤◌, Bool, true, false, List, [], ◌∷◌, ◌++◌, map, length, drop, Option, Some, None, sym, refl, ap, subst, ◌∙◌, Ok, arith}
+use Rattle.std.proofs.Common.{◌≡◌, inl, inr, ℕ, ◌≤◌, Bool, true, false, List, [], ◌∷◌, ◌++◌, map, length, drop, Option, Some, None, sym, refl, ap, subst, ◌∙◌, Ok, arith}
 use Rattle.std.proofs.lemmas.List.{length-append, append_assoc}
 use Rattle.jb_handle.specs.declared.shape.Shape.{Shape}
 use Rattle.jb_handle.specs.declared.stopped.Stopped.{Stopped}
@@ -62,24 +62,31 @@ module _ (shape : Shape) (calls : List Call) (a : Account) (s : Stands shape cal
       ∙ ap (λ (s : Shadow). s.settled) (s.tied.running running).shadow
 
   few-stops : a.shadow.settled ≤ length (stops_of calls)
-  few-stops = let order = s.sound.order in let within = s.sound.within in let counted = s.counted in omega (arith, order, within, counted)
+  few-stops = omega arith
 
   -- ---- each call
 
-  pub call-opened : (seat credits : ℕ) → begin_refusal a seat credits ≡ None → Stands shape (Opened seat credits (Ok tt) ∷ calls) (granted_to seat credits a)
-  call-opened seat credits none = record {
-    same_shape = s.same_shape;
-    sound = begun-sound a s.sound seat credits none;
-    log = (event.Open seat credits, Ok Plain) ∷ s.log;
-    machine = after_event s.machine (event.Open seat credits);
-    tied = tied-opens a s.log s.machine s.tied s.sound seat credits none;
-    stops = s.stops;
-    settled = s.settled;
-    out = s.out;
-    numbered = s.numbered;
-    counted = s.counted;
-    trail = s.trail;
+  -- one by which no handle stops and no group is settled
+  pub call-on : (last : Call) (b : Account) → stops_of (last ∷ calls) ≡ stops_of calls → settled_of (last ∷ calls) ≡ settled_of calls → b.shape ≡ a.shape → b.shadow.next ≡ a.shadow.next → b.trail ≡ a.trail → IsAccountSound b
+      → (log : Log) (m : Machine) → Tied b log m → handles_of_order (stop_order log) ≡ stops_of calls → m.settled ≡ settled_of calls → m.taken ≡ out_of (last ∷ calls) → Stands shape (last ∷ calls) b
+  call-on last b same groups shaped next trail sound log m tied stops settled out = record {
+    same_shape = shaped ∙ s.same_shape;
+    sound = sound;
+    log = log;
+    machine = m;
+    tied = tied;
+    stops = stops ∙ sym same;
+    settled = settled ∙ sym groups;
+    out = out;
+    numbered = subst (TicketsFrom 0) (sym same) s.numbered;
+    counted = ap length same ∙ s.counted ∙ sym next;
+    trail = groups ∙ s.trail ∙ (λ i. map (handles_in (sym same i)) (sym trail i));
   }
+
+  pub call-opened : (seat credits : ℕ) → begin_refusal a seat credits ≡ None → Stands shape (Opened seat credits (Ok tt) ∷ calls) (granted_to seat credits a)
+  call-opened seat credits none =
+      call-on (Opened seat credits (Ok tt)) (granted_to seat credits a) refl refl refl refl refl (begun-sound a s.sound seat credits none) ((event.Open seat credits, Ok Plain) ∷ s.log) (after_event s.machine (event.Open seat credits))
+      (tied-opens a s.log s.machine s.tied s.sound seat credits none) s.stops s.settled s.out
 
   pub call-stopped : (seat : ℕ) (ws : WordMap) (ticket : ℕ) → CanStop a seat ws → ticket ≡ a.shadow.next → Stands shape (Enqueued seat ws (Ok ticket) ∷ calls) (queued seat ws a)
   call-stopped seat ws ticket can is =
@@ -112,65 +119,17 @@ module _ (shape : Shape) (calls : List Call) (a : Account) (s : Stands shape cal
   pub call-dropped : (seat : ℕ) → Stands shape (Dropped seat ∷ calls) (dropped_of seat a)
   call-dropped seat = at a.aborted refl (credits_at a.shadow seat) refl
     where
-      idle : (a.aborted ≡ true) ⊎ (credits_at a.shadow seat ≡ None) → Stands shape (Dropped seat ∷ calls) (dropped_of seat a)
-      idle why = record {
-        same_shape = s.same_shape;
-        sound = dropped-sound a s.sound seat;
-        log = s.log;
-        machine = s.machine;
-        tied = tied-drops-none a s.log s.machine s.tied seat why;
-        stops = s.stops;
-        settled = s.settled;
-        out = s.out;
-        numbered = s.numbered;
-        counted = s.counted;
-        trail = s.trail;
-      }
+      dropped : (log : Log) (m : Machine) → Tied (dropped_of seat a) log m → handles_of_order (stop_order log) ≡ stops_of calls → m.settled ≡ settled_of calls → m.taken ≡ out_of calls → Stands shape (Dropped seat ∷ calls) (dropped_of seat a)
+      dropped = call-on (Dropped seat) (dropped_of seat a) refl refl refl refl refl (dropped-sound a s.sound seat)
 
       at : (b : Bool) → a.aborted ≡ b → (found : Option ℕ) → credits_at a.shadow seat ≡ found → Stands shape (Dropped seat ∷ calls) (dropped_of seat a)
-      at true fell found is = idle (inl fell)
-      at false running None is = idle (inr is)
-      at false running (Some credits) is = record {
-        same_shape = s.same_shape;
-        sound = dropped-sound a s.sound seat;
-        log = (event.Abandon seat, Ok Plain) ∷ s.log;
-        machine = after_event s.machine (event.Abandon seat);
-        tied = tied-drops a s.log s.machine s.tied running seat credits is;
-        stops = s.stops;
-        settled = s.settled;
-        out = s.out;
-        numbered = s.numbered;
-        counted = s.counted;
-        trail = s.trail;
-      }
+      at true fell found is = dropped s.log s.machine (tied-drops-none a s.log s.machine s.tied seat (inl fell)) s.stops s.settled s.out
+      at false running None is = dropped s.log s.machine (tied-drops-none a s.log s.machine s.tied seat (inr is)) s.stops s.settled s.out
+      at false running (Some credits) is = dropped ((event.Abandon seat, Ok Plain) ∷ s.log) (after_event s.machine (event.Abandon seat)) (tied-drops a s.log s.machine s.tied running seat credits is) s.stops s.settled s.out
 
   -- a call that answers a refusal, or that only shuts the book
   pub call-shut : Stands shape (Shut ∷ calls) (record a { shut = true })
-  call-shut = record {
-    same_shape = s.same_shape;
-    sound = shut-sound a s.sound;
-    log = s.log;
-    machine = s.machine;
-    tied = tied-shuts a s.log s.machine s.tied;
-    stops = s.stops;
-    settled = s.settled;
-    out = s.out;
-    numbered = s.numbered;
-    counted = s.counted;
-    trail = s.trail;
-  }
+  call-shut = call-on Shut (record a { shut = true }) refl refl refl refl refl (shut-sound a s.sound) s.log s.machine (tied-shuts a s.log s.machine s.tied) s.stops s.settled s.out
 
   pub call-idle : (last : Call) → stops_of (last ∷ calls) ≡ stops_of calls → settled_of (last ∷ calls) ≡ settled_of calls → out_of (last ∷ calls) ≡ out_of calls → Stands shape (last ∷ calls) a
-  call-idle last same settled out = record {
-    same_shape = s.same_shape;
-    sound = s.sound;
-    log = s.log;
-    machine = s.machine;
-    tied = s.tied;
-    stops = s.stops ∙ sym same;
-    settled = s.settled ∙ sym settled;
-    out = s.out ∙ sym out;
-    numbered = subst (TicketsFrom 0) (sym same) s.numbered;
-    counted = ap length same ∙ s.counted;
-    trail = settled ∙ s.trail ∙ ap (λ stops. map (handles_in stops) a.trail) (sym same);
-  }
+  call-idle last same settled out = call-on last a same settled refl refl refl s.sound s.log s.machine s.tied s.stops s.settled (s.out ∙ sym out)

@@ -20,7 +20,7 @@ use Rattle.jb_book.proofs.Accounts.{taken-sound, settled-sound, failed-sound}
 use Rattle.jb_book.proofs.SeatTies.{tied-starts}
 use Rattle.jb_book.proofs.Ties.{tied-takes, tied-settles, tied-settles-none, tied-fails, tied-fails-again}
 use Rattle.jb_book.proofs.Grouped.{started, groups-in, cut-few, vec_of}
-use Rattle.jb_book.proofs.Between.{Stands, call-dropped, call-idle, call-opened, call-shut, call-stopped, handles-all, settled-handles}
+use Rattle.jb_book.proofs.Between.{Stands, call-dropped, call-idle, call-on, call-opened, call-shut, call-stopped, handles-all, settled-handles}
 
 -- ---- batches and a failure
 
@@ -29,21 +29,9 @@ module _ (shape : Shape) (calls : List Call) (a : Account) (s : Stands shape cal
   call-took any cut can least =
       let few = cut-few (length a.shadow.queue) cut least.fitting.cut in
       let line = (s.sound.running can.running).queued in
-      let tickets = s.sound.tickets in
-      let bounds = vec_of any cut (omega (arith, few, line, tickets)) in
-      record {
-        same_shape = s.same_shape;
-        sound = taken-sound a s.sound can;
-        log = (event.Take bounds, Ok Plain) ∷ s.log;
-        machine = after_event s.machine (event.Take bounds);
-        tied = tied-takes a s.log s.machine s.tied can bounds least;
-        stops = s.stops;
-        settled = s.settled;
-        out = ap (pieces cut) (ap (λ (t : Shadow). t.queue) (s.tied.running can.running).shadow);
-        numbered = s.numbered;
-        counted = s.counted;
-        trail = s.trail;
-      }
+      let bounds = vec_of any cut (omega (arith, few, line)) in
+      call-on shape calls a s (Took (gathered a.shadow.taken a.shadow.queue a.shape) cut) (taken_all a) refl refl refl refl refl (taken-sound a s.sound can) ((event.Take bounds, Ok Plain) ∷ s.log) (after_event s.machine (event.Take bounds))
+      (tied-takes a s.log s.machine s.tied can bounds least) s.stops s.settled (ap (pieces cut) (ap (λ (t : Shadow). t.queue) (s.tied.running can.running).shadow))
 
   call-settled : (past : ℕ) (entries : List Entry) → Settles a past entries → AreOfFirst (out_of calls) entries → Stands shape (Settled entries (Ok tt) ∷ calls) (settled_to past entries a)
   call-settled past entries is are = at a.aborted refl
@@ -87,32 +75,12 @@ module _ (shape : Shape) (calls : List Call) (a : Account) (s : Stands shape cal
   call-failed = at a.aborted refl
     where
       at : (b : Bool) → a.aborted ≡ b → Stands shape (Failed ∷ calls) (failed_of a)
-      at true fell = record {
-        same_shape = s.same_shape;
-        sound = failed-sound a s.sound;
-        log = s.log;
-        machine = s.machine;
-        tied = tied-fails-again a s.log s.machine s.tied s.sound fell;
-        stops = s.stops;
-        settled = s.settled;
-        out = ((sounds a.shape s.log s.machine s.tied.ran).down (s.tied.failed fell).down).taken;
-        numbered = s.numbered;
-        counted = s.counted;
-        trail = s.trail;
-      }
-      at false running = record {
-        same_shape = s.same_shape;
-        sound = failed-sound a s.sound;
-        log = (event.Crash 0, Ok Plain) ∷ s.log;
-        machine = after_event s.machine (event.Crash 0);
-        tied = tied-fails a s.log s.machine s.tied running;
-        stops = s.stops;
-        settled = append-nil s.machine.settled ∙ s.settled;
-        out = refl;
-        numbered = s.numbered;
-        counted = s.counted;
-        trail = s.trail;
-      }
+      at true fell =
+          call-on shape calls a s Failed (failed_of a) refl refl refl refl refl (failed-sound a s.sound) s.log s.machine
+          (tied-fails-again a s.log s.machine s.tied s.sound fell) s.stops s.settled ((sounds a.shape s.log s.machine s.tied.ran).down (s.tied.failed fell).down).taken
+      at false running =
+          call-on shape calls a s Failed (failed_of a) refl refl refl refl refl (failed-sound a s.sound) ((event.Crash 0, Ok Plain) ∷ s.log) (after_event s.machine (event.Crash 0))
+          (tied-fails a s.log s.machine s.tied running) s.stops (append-nil s.machine.settled ∙ s.settled) refl
 
   -- ---- what is promised
 

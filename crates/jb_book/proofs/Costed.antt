@@ -1,8 +1,9 @@
 -- The entries of a trail have what their handles cost.
-use Rattle.std.proofs.Common.{◌≡◌, ℕ, ◌+◌, ◌-◌, ◌≤◌, List, [], ◌∷◌, ◌++◌, All, length, take, drop, sym, ap, ◌∙◌, arith}
+use Rattle.std.proofs.Common.{◌≡◌, ℕ, ◌+◌, ◌≤◌, List, [], ◌∷◌, ◌++◌, All, length, take, sym, ap, ◌∙◌, arith}
 use Rattle.std.specs.Prelude.{slice_range}
 use Rattle.std.proofs.Math.Seq.{drop-append-add}
-use Rattle.std.proofs.lemmas.List.{drop-append-le, length-append, length-drop, take-append-le}
+use Rattle.std.proofs.lemmas.Grind.{common_steps}
+use Rattle.std.proofs.lemmas.List.{length-append}
 use Rattle.std.proofs.lemmas.List.Elements.{All-append, All-cons, All-nil, All-take, All-weaker}
 use Rattle.jb_plan.specs.Costs.{cost_in, geometry_of}
 use Rattle.jb_cost.specs.Cost.{cost}
@@ -15,14 +16,10 @@ use Rattle.jb_deck.specs.declared.done.Entry.{Entry}
 use Rattle.jb_book.specs.Since.{IsCosted}
 
 range-before : {A : Type 0} (xs ys : List A) (i j : ℕ) → i ≤ j → j ≤ length xs → slice_range (xs ++ ys) i j ≡ slice_range xs i j
-range-before xs ys i j up within =
-    ap (take (j - i)) (drop-append-le i xs ys (omega (arith, up, within)))
-    ∙ take-append-le (j - i) (drop i xs) ys (let rest = length-drop i xs in omega (arith, up, within, rest))
+range-before xs ys i j up within = grind (arith, common_steps)
 
 range-after : {A : Type 0} (xs ys : List A) (i j : ℕ) → slice_range (xs ++ ys) (length xs + i) (length xs + j) ≡ slice_range ys i j
-range-after xs ys i j =
-    let long : (length xs + j) - (length xs + i) ≡ j - i = omega arith in
-    ap (λ n. take n (drop (length xs + i) (xs ++ ys))) long ∙ ap (take (j - i)) (drop-append-add xs ys i)
+range-after xs ys i j = grind (arith, common_steps, drop-append-add xs ys i)
 
 module _ (shape : Shape) (given hs : List Stopped) where
   costed-before : (e : Entry) → IsCosted shape given e → IsCosted shape (given ++ hs) e
@@ -38,7 +35,7 @@ module _ (shape : Shape) (given hs : List Stopped) where
       All-cons (IsCosted shape (given ++ hs)) (record { first = length given + a; past = length given + b; number = number; blocks = cost_in shape hs a b })
       (entries_from (cost_in shape hs) (length given) (number + 1) b bs)
       (record {
-        some = (let more = rises.0 in omega (arith, more));
+        some = (omega arith);
         within = (let high = rises-le (length hs) b bs rises.1 in let both = length-append given hs in omega (arith, high, both));
         blocks = ap (cost (geometry_of shape)) (sym (range-after given hs a b));
       })
@@ -55,11 +52,3 @@ module _ (shape : Shape) (given hs : List Stopped) where
       All-append (IsCosted shape (given ++ hs)) trail (take k (entries_for (cost_in shape hs) (length given) number bounds))
       (All-weaker (IsCosted shape given) (IsCosted shape (given ++ hs)) costed-before trail all)
       (All-take (IsCosted shape (given ++ hs)) k (entries_for (cost_in shape hs) (length given) number bounds) (costed-for number bounds cut))
-
-  -- the same of all its entries
-  pub costed-all : (number : ℕ) (bounds : List ℕ) (trail : List Entry) → IsCut (length hs) bounds → All (IsCosted shape given) trail
-      → All (IsCosted shape (given ++ hs)) (trail ++ entries_for (cost_in shape hs) (length given) number bounds)
-  costed-all number bounds trail cut all =
-      All-append (IsCosted shape (given ++ hs)) trail (entries_for (cost_in shape hs) (length given) number bounds)
-      (All-weaker (IsCosted shape given) (IsCosted shape (given ++ hs)) costed-before trail all)
-      (costed-for number bounds cut)

@@ -32,7 +32,6 @@ covers-few most [] (h ∷ hs) covers few = absurd covers
 covers-few most (c ∷ cs) [] covers few = absurd covers
 covers-few most (c ∷ cs) (h ∷ hs) covers few =
     let here : c ≤ most = All-head (λ x. x ≤ most) c cs few in
-    let touched = covers.0 in
     All-cons (λ g. map.len g.words ≤ most) h hs (omega arith) (covers-few most cs hs covers.1 (All-tail (λ x. x ≤ most) c cs few))
 
 single-cost : (g : Geometry) (limit most : ℕ) → IsMost g limit most → (hs : List Stopped) → All (λ h. map.len h.words ≤ most) hs → (i : ℕ) → i < length hs → piece_cost g hs i (i + 1) ≤ limit
@@ -41,8 +40,7 @@ single-cost g limit most is hs few i there =
     let alone : slice_range hs i (i + 1) ≡ get_or hs i none ∷ [] = piece-left hs none i (i + 1) (omega arith) there ∙ ap (λ xs. get_or hs i none ∷ xs) (piece-none hs (i + 1)) in
     let same : cost g (slice_range hs i (i + 1)) ≡ cost g (get_or hs i none ∷ []) = ap (cost g) alone in
     let worst = worst-bound g (get_or hs i none) most (few i none there) in
-    let within = is.within in
-    omega (arith, same, worst, within)
+    omega (arith, same, worst)
 
 pub has-cut : (shape : Shape) (most : ℕ) → IsMost (geometry_of shape) shape.limit most → (cs : List ℕ) (hs : List Stopped) → Covers cs hs → All (λ c. c ≤ most) cs → HasCut shape hs
 has-cut shape most is cs hs covers few = (

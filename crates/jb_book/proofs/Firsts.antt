@@ -15,8 +15,7 @@ use Rattle.jb_deck.specs.Calls.{IsRecoveredTo}
 use Rattle.jb_deck.proofs.Stood.{Stood, stood-recovered}
 use Rattle.jb_book.specs.Origin.{Begun}
 use Rattle.jb_book.specs.Since.{HasFirst}
-use Rattle.jb_book.proofs.Bounds.{cut-high, cut-rise, cut-many}
-use Rattle.jb_recover.specs.Outcomes.{recovered}
+use Rattle.jb_book.proofs.Bounds.{cut-rise, cut-within}
 
 module _ (b : Begun) where
   -- the image is recovered to the homes of the start with these handles
@@ -44,6 +43,9 @@ module _ (b : Begun) where
     recovered = subst (λ hs. Recovered next hs c) (sym (take-length given)) is;
   }
 
+  pub first-lower : (given : List Stopped) (low least : ℕ) (c : Image) → low ≤ least → HasFirst b given least c → HasFirst b given low c
+  first-lower given low least c less is = record { many = is.many; from = (let from = is.from in omega (arith, less, from)); to = is.to; next = is.next; number = is.number; recovered = is.recovered }
+
   -- a first part of the handles is one of these and further ones
   pub first-longer : (given more : List Stopped) (least : ℕ) (c : Image) → HasFirst b given least c → HasFirst b (given ++ more) least c
   first-longer given more least c is = record {
@@ -68,8 +70,7 @@ module _ (b : Begun) where
 
     pub first-some : (hs : List Stopped) (bounds : List ℕ) (least most low next : ℕ) (c : Image) → next ≤ b.own.sequence + 1 + length given → IsCut (length hs) bounds → most ≤ groups_in bounds → low ≤ length given + slice_index bounds least → FollowsSome own next n m homes hs bounds least most c → HasFirst b (given ++ hs) low c
     first-some hs bounds least most low next c few cut within below some =
-        let to = some.to in
-        let groups : some.groups ≤ groups_in bounds = omega (arith, to, within) in
+        let groups : some.groups ≤ groups_in bounds = omega (arith, within) in
         let rise = cut-rise (length hs) bounds least some.groups cut some.from groups in
-        let many = cut-many (length hs) bounds some.groups cut groups in
-        first-more given hs (slice_index bounds some.groups) low (next + some.groups) c (cut-high (length hs) bounds some.groups cut groups) (omega (arith, below, rise)) (omega (arith, few, many)) (recovered-more (handles_to bounds some.groups hs) (next + some.groups) c some.follows some.headers)
+        let high = cut-within (length hs) bounds some.groups cut groups in
+        first-more given hs (slice_index bounds some.groups) low (next + some.groups) c (omega (arith, high.1)) (omega (arith, below, rise)) (omega (arith, few, high.0)) (recovered-more (handles_to bounds some.groups hs) (next + some.groups) c some.follows some.headers)

@@ -1,7 +1,7 @@
 -- Entries one after the other.
 use Rattle.std.proofs.Common.{◌≡◌, ℕ, zero, suc, ◌+◌, ◌<◌, ◌≤◌, ◌==◌, ◌&&◌, List, [], ◌∷◌, ◌++◌, length, drop, get_or, subst, sym, ap, refl, inl, inr, ◌∙◌, arith}
 use Rattle.std.proofs.Math.Seq.{drop-cons}
-use Rattle.std.proofs.lemmas.Bool.Decides.{Decides-and, Decides-eqb}
+use Rattle.std.proofs.lemmas.Bool.Decides.{nat_tests}
 use Rattle.std.specs.Bool.{Decides}
 use Rattle.std.specs.List.Sorted.{IsNonDecreasingBy}
 use Rattle.jb_deck.specs.declared.done.Entry.{Entry}
@@ -21,7 +21,7 @@ follow-on mid past (e ∷ es) fs one two = follow-append e.first 0 mid past (e �
 -- the tickets go up, at least one for each entry
 pub follow-length : (first least past : ℕ) (es : List Entry) → Follow first least past es → first + length es ≤ past
 follow-length first least past [] is = omega (arith, is)
-follow-length first least past (e ∷ es) is = let rest = follow-length e.past (e.number + 1) past es is.3 in let more = is.1 in omega arith
+follow-length first least past (e ∷ es) is = let rest = follow-length e.past (e.number + 1) past es is.3 in omega arith
 
 pub follow-past : (first least past : ℕ) (es : List Entry) → Follow first least past es → past_after first es ≡ past
 follow-past first least past [] is = is
@@ -73,8 +73,7 @@ pub settled-at : (first least past ticket : ℕ) (es : List Entry) (i : ℕ) (d 
 settled-at first least past ticket [] i d is low there before here = absurd (omega (arith, there))
 settled-at first least past ticket (e ∷ es) zero d is low there before here =
     let rest = follow-length e.past (e.number + 1) past es is.3 in
-    let begins = is.0 in
-    (inl (omega (arith, begins, low), here, refl), omega (arith, rest, here))
+    (inl (omega (arith, low), here, refl), omega (arith, rest, here))
 settled-at first least past ticket (e ∷ es) (suc i) d is low there before here =
     let later = settled-at e.past (e.number + 1) past ticket es i d is.3 (before 0 (omega arith)) (omega (arith, there)) (λ k h. before (suc k) (omega (arith, h))) here in
     (inr later.0, later.1)
@@ -86,14 +85,13 @@ none-at first least past ticket (e ∷ es) d is low all = none-at e.past (e.numb
 
 -- ---- two entries
 
-entry-of : (a b : Entry) → (a.first ≡ b.first) × ((a.past ≡ b.past) × ((a.number ≡ b.number) × (a.blocks ≡ b.blocks))) → a ≡ b
-entry-of a b is = λ i. record { first = is.0 i; past = is.1.0 i; number = is.1.1.0 i; blocks = is.1.1.1 i }
-
-parts-of : (a b : Entry) → a ≡ b → (a.first ≡ b.first) × ((a.past ≡ b.past) × ((a.number ≡ b.number) × (a.blocks ≡ b.blocks)))
-parts-of a b is = (ap (λ (e : Entry). e.first) is, (ap (λ (e : Entry). e.past) is, (ap (λ (e : Entry). e.number) is, ap (λ (e : Entry). e.blocks) is)))
-
 pub entry-Decides : (a b : Entry) → Decides ((a.first == b.first) && ((a.past == b.past) && ((a.number == b.number) && (a.blocks == b.blocks)))) (a ≡ b)
-entry-Decides a b =
-    let last = Decides-and (a.number == b.number) (a.blocks == b.blocks) (Decides-eqb a.number b.number) (Decides-eqb a.blocks b.blocks) in
-    let all = Decides-and (a.first == b.first) ((a.past == b.past) && ((a.number == b.number) && (a.blocks == b.blocks))) (Decides-eqb a.first b.first) (Decides-and (a.past == b.past) ((a.number == b.number) && (a.blocks == b.blocks)) (Decides-eqb a.past b.past) last) in
-    (λ test. entry-of a b (all.0 test), λ is. all.1 (parts-of a b is))
+entry-Decides a b = (
+  λ test.
+      let first : a.first ≡ b.first = grind (arith, nat_tests) in
+      let past : a.past ≡ b.past = grind (arith, nat_tests) in
+      let number : a.number ≡ b.number = grind (arith, nat_tests) in
+      let blocks : a.blocks ≡ b.blocks = grind (arith, nat_tests) in
+      λ i. record { first = first i; past = past i; number = number i; blocks = blocks i },
+  λ is. grind (arith, nat_tests),
+)

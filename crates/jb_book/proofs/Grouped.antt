@@ -33,8 +33,6 @@ started shape usable a small start =
     let all : reserved_in a.shadow ≡ 0 = ap reserved_in start.shadow in
     let touched : touched_in a.shadow.queue ≡ 0 = ap (λ (s : Shadow). touched_in s.queue) start.shadow in
     let granted = start.granted in
-    let changes = start.changes in
-    let usable_is = start.same_usable in
     record {
       most = subst (λ (s : Shape). IsMost (geometry_of s) s.limit a.most) (sym start.same_shape) start.most;
       order = omega (arith, settled, taken);
@@ -45,9 +43,9 @@ started shape usable a small start =
       few = subst (λ (s : Shadow). All (λ credits. credits ≤ a.most) s.credits) (sym start.shadow) (All-nil (λ credits. credits ≤ a.most));
       fits = subst (λ (s : Shadow). All (λ h. Fits a.shape h.words) s.queue) (sym start.shadow) (All-nil (λ h. Fits a.shape h.words));
       room = omega (arith, all);
-      small = omega (arith, usable_is, small);
+      small = omega (arith, small);
       tickets = omega (arith, next, seats);
-      changed = omega (arith, changes, sums);
+      changed = omega (arith, sums);
       granted = omega (arith, granted);
       counted = omega (arith, touched);
       trail = subst (λ (es : List Entry). Follow (start_of es) 0 a.shadow.settled es) (sym start.trail) (sym settled);
@@ -60,11 +58,9 @@ pub more-stops : (first least past : ℕ) (stops ys : List Stopped) (es : List E
 more-stops first least past stops ys [] follow inside = refl
 more-stops first least past stops ys (e ∷ es) follow inside =
     let rest = follow-length e.past (e.number + 1) past es follow.3 in
-    let begins = follow.0 in
-    let more = follow.1 in
     let fewer = length-drop e.first stops in
     let one : handles_in (stops ++ ys) e ≡ handles_in stops e =
-    ap (take (e.past - e.first)) (drop-append-le e.first stops ys (omega (arith, rest, begins, more, inside))) ∙ take-append-le (e.past - e.first) (drop e.first stops) ys (omega (arith, fewer, rest, begins, more, inside)) in
+    ap (take (e.past - e.first)) (drop-append-le e.first stops ys (omega (arith, rest, inside))) ∙ take-append-le (e.past - e.first) (drop e.first stops) ys (omega (arith, fewer, rest, inside)) in
     ap (λ g. g ∷ map (handles_in (stops ++ ys)) es) one ∙ ap (λ gs. handles_in stops e ∷ gs) (more-stops e.past (e.number + 1) past stops ys es follow.3 inside)
 
 -- the handles of entries of the first groups are these groups
@@ -74,9 +70,8 @@ groups-in first least past before groups rest [] long follow are = refl
 groups-in first least past before [] rest (e ∷ es) long follow are = absurd are
 groups-in first least past before (g ∷ groups) rest (e ∷ es) long follow are =
     let begins = follow.0 in
-    let ends = are.0 in
     let at : e.first ≡ length before = begins ∙ sym long in
-    let size : e.past - e.first ≡ length g = omega (arith, ends) in
+    let size : e.past - e.first ≡ length g = omega arith in
     let here : handles_in (before ++ ((g ++ joined groups) ++ rest)) e ≡ g =
     ap (λ n. take (e.past - e.first) (drop n (before ++ ((g ++ joined groups) ++ rest)))) at
     ∙ ap (take (e.past - e.first)) (drop-append_seam before ((g ++ joined groups) ++ rest) ∙ append_assoc g (joined groups) rest)
@@ -84,14 +79,14 @@ groups-in first least past before (g ∷ groups) rest (e ∷ es) long follow are
     ∙ take-append_seam g (joined groups ++ rest) in
     let all : (before ++ g) ++ (joined groups ++ rest) ≡ before ++ ((g ++ joined groups) ++ rest) = append_assoc before g (joined groups ++ rest) ∙ ap (λ xs. before ++ xs) (sym (append_assoc g (joined groups) rest)) in
     let both = length-append before g in
-    let later = groups-in e.past (e.number + 1) past (before ++ g) groups rest es (omega (arith, both, long, begins, ends)) follow.3 are.1 in
+    let later = groups-in e.past (e.number + 1) past (before ++ g) groups rest es (omega (arith, both, long, begins)) follow.3 are.1 in
     ap (λ gs. g ∷ gs) (later ∙ ap (λ stops. map (handles_in stops) es) all) ∙ ap (λ h. h ∷ map (handles_in (before ++ ((g ++ joined groups) ++ rest))) es) (sym here)
 
 -- ---- a Vec
 
 rises-few : (n a : ℕ) (bs : List ℕ) → RisesTo n a bs → a + length bs ≤ n
 rises-few n a [] is = omega (arith, is)
-rises-few n a (b ∷ bs) is = let more = is.0 in let rest = rises-few n b bs is.1 in omega (arith, more, rest)
+rises-few n a (b ∷ bs) is = let rest = rises-few n b bs is.1 in omega (arith, rest)
 
 pub cut-few : (n : ℕ) (bounds : List ℕ) → IsCut n bounds → length bounds ≤ n + 1
 cut-few n [] cut = absurd cut

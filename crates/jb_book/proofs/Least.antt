@@ -1,5 +1,5 @@
 -- A batch that has a cut has a least one.
-use Rattle.std.proofs.Common.{◌≡◌, ◌⊎◌, inl, inr, ℕ, zero, suc, ◌+◌, ◌<◌, ◌≤◌, List, [], ◌∷◌, ◌++◌, length, Option, Some, None, refl, sym, ap, subst, ◌∙◌, length-append, arith}
+use Rattle.std.proofs.Common.{◌≡◌, ◌⊎◌, inl, inr, ℕ, zero, suc, ◌+◌, ◌<◌, ◌≤◌, List, [], ◌∷◌, ◌++◌, length, Option, Some, None, refl, sym, subst, ◌∙◌, length-append, arith}
 use Rattle.std.proofs.lemmas.Bool.{cases_lt}
 use Rattle.std.proofs.Math.Nat.{eq-or-lt_of_le}
 use Rattle.jb_cost.specs.Cut.{price, FitsCut, IsLeastCut, IsPrice}
@@ -9,43 +9,36 @@ use Rattle.jb_plan.specs.Batch.{Gathered}
 use Rattle.jb_plan.specs.Costs.{cost_in, HasCut}
 use Rattle.jb_book.specs.Calls.{IsCutOf}
 
+-- what holds of a start and of all after it
+from-low : (P : ℕ → Type 0) (low i : ℕ) → P low → (low + 1 ≤ i → P i) → low ≤ i → P i
+from-low P low i here later above = elim (eq-or-lt_of_le above) [
+  | inl same ↦ subst P same here
+  | inr less ↦ later (omega (arith, less))
+]
+
 module _ (c : ℕ → ℕ → ℕ) (limit : ℕ) (ps : List (Option ℕ)) (end : ℕ) where
+  -- where a start leads to the end, what is said of its price
+  abbrev Costs : (ℕ → ℕ → Type 0) → ℕ → ℕ → Type 0
+  Costs P p i = c i end ≤ limit → price ps i ≡ Some p → P p i
+
   -- one start more, which does not lead to the end
   pass : (low : ℕ) → ((p : ℕ) → c low end ≤ limit → price ps low ≡ Some p → ⊥) → (best : Option LastGroup) → BestFrom c limit ps (low + 1) end best → BestFrom c limit ps low end best
-  pass low never None tried = λ i p above below fits is. elim (eq-or-lt_of_le above) [
-    | inl same ↦ never p (subst (λ k. c k end ≤ limit) (sym same) fits) (ap (price ps) same ∙ is)
-    | inr less ↦ tried i p (omega (arith, less)) below fits is
-  ]
+  pass low never None tried = λ i p above below. from-low (Costs (λ r k. ⊥) p) low i (never p) (λ later. tried i p later below) above
   pass low never (Some s) tried = record {
     leads = tried.leads;
-    least = λ i p above below fits is. elim (eq-or-lt_of_le above) [
-      | inl same ↦ absurd (never p (subst (λ k. c k end ≤ limit) (sym same) fits) (ap (price ps) same ∙ is))
-      | inr less ↦ tried.least i p (omega (arith, less)) below fits is
-    ];
-    first = λ i p above below fits is. elim (eq-or-lt_of_le above) [
-      | inl same ↦ absurd (never p (subst (λ k. c k end ≤ limit) (sym same) fits) (ap (price ps) same ∙ is))
-      | inr less ↦ tried.first i p (omega (arith, less)) below fits is
-    ];
+    least = λ i p above below. from-low (Costs (λ r k. s.price ≤ r + c k end) p) low i (λ fits is. absurd (never p fits is)) (λ later. tried.least i p later below) above;
+    first = λ i p above below. from-low (Costs (λ r k. s.price < r + c k end) p) low i (λ fits is. absurd (never p fits is)) (λ later. tried.first i p later below) above;
   }
 
   module _ (low q : ℕ) (before : low < end) (fits_in : c low end ≤ limit) (there : price ps low ≡ Some q) where
-    same-price : (i p : ℕ) → low ≡ i → price ps i ≡ Some p → p + c i end ≡ q + c low end
-    same-price i p same is =
-        let both : Some p ≡ Some q = sym is ∙ ap (price ps) (sym same) ∙ there in
-        let one : p ≡ q = cc in
-        ap (λ k. k + c i end) one ∙ ap (λ k. q + c k end) (sym same)
-
     -- it is the best one
     found : ((i p : ℕ) → low + 1 ≤ i → i < end → c i end ≤ limit → price ps i ≡ Some p → q + c low end ≤ p + c i end) → (best : Option LastGroup) × BestFrom c limit ps low end best
     found least = (
       Some (record { from = low; price = q + c low end }),
       record {
         leads = record { before = before; fits = fits_in; sum = (q, there, refl) };
-        least = λ i p above below fits is. elim (eq-or-lt_of_le above) [
-          | inl same ↦ (let all = same-price i p same is in omega (arith, all))
-          | inr less ↦ least i p (omega (arith, less)) below fits is
-        ];
-        first = λ i p above below fits is. absurd (let h : ⊥ = omega (arith, above, below) in h);
+        least = λ i p above below. from-low (Costs (λ r k. q + c low end ≤ r + c k end) p) low i (λ fits is. let same : p ≡ q = cc in omega (arith, same)) (λ later. least i p later below) above;
+        first = λ i p above below fits is. absurd (omega (arith, above, below));
       },
     )
 
@@ -57,14 +50,8 @@ module _ (c : ℕ → ℕ → ℕ) (limit : ℕ) (ps : List (Option ℕ)) (end :
         Some s,
         record {
           leads = tried.leads;
-          least = λ i p above below fits is. elim (eq-or-lt_of_le above) [
-            | inl same ↦ (let all = same-price i p same is in omega (arith, all, less))
-            | inr more ↦ tried.least i p (omega (arith, more)) below fits is
-          ];
-          first = λ i p above below fits is. elim (eq-or-lt_of_le above) [
-            | inl same ↦ (let all = same-price i p same is in omega (arith, all, less))
-            | inr more ↦ tried.first i p (omega (arith, more)) below fits is
-          ];
+          least = λ i p above below. from-low (Costs (λ r k. s.price ≤ r + c k end) p) low i (λ fits is. let same : p ≡ q = cc in omega (arith, same, less)) (λ later. tried.least i p later below) above;
+          first = λ i p above below. from-low (Costs (λ r k. s.price < r + c k end) p) low i (λ fits is. let same : p ≡ q = cc in omega (arith, same, less)) (λ later. tried.first i p later below) above;
         },
       )
       | inr more ↦ found (λ i p above below fits is. let rest = tried.least i p above below fits is in omega (arith, rest, more))
@@ -94,7 +81,6 @@ module _ (c : ℕ → ℕ → ℕ) (limit : ℕ) where
       let t = table n in
       let same : n + 1 ≡ suc n = omega arith in
       let (best, is) = best-from c limit t.ps (n + 1) (n + 1) 0 (omega arith) in
-      let prices = t.number in
       let starts = t.starts in
       let longer = length-append t.ps (price_of best ∷ []) in
       let later = length-append t.froms (from_of best ∷ []) in
@@ -102,7 +88,7 @@ module _ (c : ℕ → ℕ → ℕ) (limit : ℕ) where
         ps = t.ps ++ (price_of best ∷ []);
         froms = t.froms ++ (from_of best ∷ []);
         steps = steps-more c limit t.ps t.froms n best t.steps t.number t.starts is;
-        number = omega (arith, longer, prices);
+        number = omega (arith, longer);
         starts = omega (arith, later, starts);
       })
 
@@ -114,7 +100,7 @@ module _ (c : ℕ → ℕ → ℕ) (limit : ℕ) where
     where
       at : (found : Option ℕ) → IsPrice c limit n found → (bounds : List ℕ) × IsLeastCut c limit n bounds
       at None none = absurd (none other fits)
-      at (Some p) is = (is.0.0, record { fitting = is.0.1; least = λ more fitting. let low = is.1 more fitting in let same = is.0.2 in omega (arith, low, same) })
+      at (Some p) is = (is.0.0, record { fitting = is.0.1; least = λ more fitting. let low = is.1 more fitting in omega (arith, low) })
 
 -- so a batch that has a cut has a least one
 pub has_least : (b : Gathered) → HasCut b.shape b.handles → (cut : List ℕ) × IsCutOf b cut

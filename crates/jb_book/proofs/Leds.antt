@@ -4,7 +4,6 @@ use Rattle.std.proofs.lemmas.List.{map-append}
 use Rattle.std.proofs.lemmas.List.Elements.{All-drop, All-weaker}
 use Rattle.jb_plan.specs.Batch.{gathered}
 use Rattle.jb_plan.specs.Costs.{HasCut}
-use Rattle.jb_cost.specs.Cut.{total}
 use Rattle.jb_cost.specs.Pieces.{joined, pieces}
 use Rattle.jb_core.proofs.Accepted.{none-left, still-up}
 use Rattle.jb_deck.specs.declared.done.Entry.{Entry}
@@ -17,8 +16,8 @@ use Rattle.jb_cost.specs.Credits.{IsMost}
 use Rattle.jb_plan.specs.Costs.{geometry_of}
 use Rattle.jb_board.proofs.Placed.{placed_on}
 use Rattle.jb_book.specs.Account.{Account, IsNewBook, IsAccountSound, granted_to, dropped_of, queued, taken_all, settled_to, failed_of, shortened, trail_from, begin_refusal, CanStop, CanTake, Settles}
-use Rattle.jb_book.specs.Calls.{Opened, Enqueued, Dropped, Took, Settled, Failed, Shut, stops_of, out_of, AreOfFirst, IsCutOf}
-use Rattle.jb_book.specs.Led.{IsInHistory, with_trail, Led, AreCut, IsLed}
+use Rattle.jb_book.specs.Calls.{Call, Does, Opened, Enqueued, Dropped, Took, Settled, Failed, Shut, stops_of, out_of, AreOfFirst, IsCutOf}
+use Rattle.jb_book.specs.Led.{IsInHistory, with_trail, words_stopped, Led, AreCut, IsLed}
 use Rattle.jb_cost.proofs.Joined.{cut-joined}
 use Rattle.jb_book.specs.Tied.{HasHandle}
 use Rattle.jb_book.proofs.Shadows.{count-parts}
@@ -37,68 +36,46 @@ led_start shape usable a start =
       some = λ up. none-out [] a (settled ∙ sym taken);
       led = λ hs cut p. (
           let are = p start.aborted in
-          let number = are.0.number in
           record {
             calls = [];
             full = a.trail;
             left = record { front = []; is = refl; last = λ none. none };
-            called = record {
-              shadow = start.shadow;
-              same_shape = refl;
-              same_usable = refl;
-              most = subst (λ (s : Shape). IsMost (geometry_of s) s.limit a.most) (sym start.same_shape) start.most;
-              granted = start.granted;
-              changes = start.changes;
-              trail = start.trail;
-              shut = start.shut;
-              aborted = start.aborted;
-            };
+            called = (let most : IsMost (geometry_of a.shape) a.shape.limit a.most = subst (λ (s : Shape). IsMost (geometry_of s) s.limit a.most) (sym start.same_shape) start.most in assumption);
             stops = refl;
-            out = λ up. sym (none-pieces hs cut (omega (arith, number, settled, taken)) are.1.fitting.cut);
+            out = λ up. sym (none-pieces hs cut (omega (arith, settled, taken)) are.1.fitting.cut);
           });
     }
 
 -- ---- the calls
 
+-- the account with these seats, where so much was granted
+abbrev seated : List (ℕ × ℕ) → ℕ → Bool → Account → Account
+seated seats granted shut a = record a { shadow = record a.shadow { seats = seats }; granted = granted; shut = shut }
+
 module _ (log : List WordMap) (a : Account) (is : IsLed log a) where
-  pub led-opened : (seat credits : ℕ) → begin_refusal a seat credits ≡ None → IsLed log (granted_to seat credits a)
-  led-opened seat credits none = record {
+  -- a call more that may change the seats, what is granted and whether the book is shut
+  led-seated : (c : Call) (seats : List (ℕ × ℕ)) (granted : ℕ) (shut : Bool) → ((calls : List Call) → (stops_of (c ∷ calls) ≡ stops_of calls) × (out_of (c ∷ calls) ≡ out_of calls))
+      → ((calls : List Call) (full : List Entry) → Does c calls (with_trail full a) (with_trail full (seated seats granted shut a))) → IsLed log (seated seats granted shut a)
+  led-seated c seats granted shut same does = record {
     some = λ up. let s = is.some up in record { handles = s.handles; cut = s.cut; are = s.are };
     led = λ hs cut p. (let l = is.led hs cut p in record {
-      calls = Opened seat credits (Ok tt) ∷ l.calls;
+      calls = c ∷ l.calls;
       full = l.full;
       left = l.left;
-      called = (with_trail l.full a, l.called, (none, refl));
-      stops = l.stops;
-      out = l.out;
+      called = (with_trail l.full a, l.called, does l.calls l.full);
+      stops = ap words_stopped (same l.calls).0 ∙ l.stops;
+      out = λ up. (same l.calls).1 ∙ l.out up;
     });
   }
+
+  pub led-opened : (seat credits : ℕ) → begin_refusal a seat credits ≡ None → IsLed log (granted_to seat credits a)
+  led-opened seat credits none = led-seated (Opened seat credits (Ok tt)) (granted_to seat credits a).shadow.seats (a.granted + credits) a.shut (λ calls. (refl, refl)) (λ calls full. (none, refl))
 
   pub led-dropped : (seat : ℕ) → IsLed log (dropped_of seat a)
-  led-dropped seat = record {
-    some = λ up. let s = is.some up in record { handles = s.handles; cut = s.cut; are = s.are };
-    led = λ hs cut p. (let l = is.led hs cut p in record {
-      calls = Dropped seat ∷ l.calls;
-      full = l.full;
-      left = l.left;
-      called = (with_trail l.full a, l.called, refl);
-      stops = l.stops;
-      out = l.out;
-    });
-  }
+  led-dropped seat = led-seated (Dropped seat) (dropped_of seat a).shadow.seats a.granted a.shut (λ calls. (refl, refl)) (λ calls full. refl)
 
   pub led-shut : IsLed log (record a { shut = true })
-  led-shut = record {
-    some = λ up. let s = is.some up in record { handles = s.handles; cut = s.cut; are = s.are };
-    led = λ hs cut p. (let l = is.led hs cut p in record {
-      calls = Shut ∷ l.calls;
-      full = l.full;
-      left = l.left;
-      called = (with_trail l.full a, l.called, refl);
-      stops = l.stops;
-      out = l.out;
-    });
-  }
+  led-shut = led-seated Shut a.shadow.seats a.granted true (λ calls. (refl, refl)) (λ calls full. refl)
 
   -- entries are taken from the front of the trail
   pub led-shortened : (past : ℕ) → IsLed log (shortened past a)
@@ -134,7 +111,6 @@ module _ (log : List WordMap) (a : Account) (is : IsLed log a) where
 
   pub led-stopped : IsAccountSound a → (seat : ℕ) (ws : WordMap) → CanStop a seat ws → length log ≡ a.shadow.next → IsLed (log ++ ws ∷ []) (queued seat ws a)
   led-stopped sound seat ws can long =
-      let within = sound.within in
       record {
         some = λ up. (let s = is.some up in record {
           handles = s.handles;
@@ -152,7 +128,7 @@ module _ (log : List WordMap) (a : Account) (is : IsLed log a) where
             let before : a.aborted ≡ false → AreCut log a hs cut = λ up. (
             let are = p up in
             let number = are.0.number in (
-              record { tickets = are.0.tickets; recorded = recorded-back log (ws ∷ []) a.shadow.settled hs are.0.tickets (omega (arith, number, within, long)) are.0.recorded; number = number },
+              record { tickets = are.0.tickets; recorded = recorded-back log (ws ∷ []) a.shadow.settled hs are.0.tickets (omega (arith, number, long)) are.0.recorded; number = number },
               are.1,
             )) in
             let l = is.led hs cut before in
@@ -160,7 +136,7 @@ module _ (log : List WordMap) (a : Account) (is : IsLed log a) where
               calls = Enqueued seat ws (Ok a.shadow.next) ∷ l.calls;
               full = l.full;
               left = l.left;
-              called = (with_trail l.full a, l.called, ((can.0, (can.1.0, record { listed = can.1.1.listed; within = can.1.1.within; fits = can.1.1.fits })), refl, refl));
+              called = (with_trail l.full a, l.called, ((can.0, (can.1.0, (assumption))), refl, refl));
               stops = map-append (λ (h : Stopped). h.words) (stops_of l.calls) (record { ticket = a.shadow.next; words = ws } ∷ []) ∙ ap (λ xs. xs ++ ws ∷ []) l.stops;
               out = l.out;
             });
@@ -202,22 +178,18 @@ module _ (log : List WordMap) (a : Account) (is : IsLed log a) where
     of-out sound true fell l =
         let gone = (sound.failed fell).taken in
         let long = follow-length a.shadow.settled _ past entries settles.follow in
-        let within = settles.within in
-        subst (λ es. AreOfFirst (out_of l.calls) es) (sym (none-left entries (omega (arith, gone, long, within)))) tt
+        subst (λ es. AreOfFirst (out_of l.calls) es) (sym (none-left entries (omega (arith, gone, long)))) tt
 
     -- no handle is out once all of them are settled
     none-rest : past ≡ a.shadow.taken → (hs' : List Stopped) (cut' : List ℕ) → AreCut log (settled_to past entries a) hs' cut' → drop (length entries) (pieces cut hs) ≡ pieces cut' hs'
     none-rest whole hs' cut' are' =
         let both = first-few a.shadow.settled _ past (pieces cut hs) entries settles.follow first in
-        let upto = both.1 in
         let long = follow-length a.shadow.settled _ past entries settles.follow in
-        let number = are.0.number in
-        let number' = are'.0.number in
-        let none : length hs' ≡ 0 = omega (arith, number', whole, long) in
+        let none : length hs' ≡ 0 = omega (arith, whole, long) in
         let filled = All-drop HasHandle (length entries) (pieces cut hs) (filled-pieces hs cut are.1.fitting.cut) in
         let all = count-parts (length entries) (pieces cut hs) in
         let total : length (joined (pieces cut hs)) ≡ length hs = ap length (cut-joined cut hs are.1.fitting.cut) in
-        none-filled (drop (length entries) (pieces cut hs)) filled (omega (arith, all, total, upto, number, whole)) ∙ sym (none-pieces hs' cut' none are'.1.fitting.cut)
+        none-filled (drop (length entries) (pieces cut hs)) filled (omega (arith, all, total, whole)) ∙ sym (none-pieces hs' cut' none are'.1.fitting.cut)
 
     pub led-settled : IsAccountSound a → past ≡ a.shadow.taken → IsLed log (settled_to past entries a)
     led-settled sound whole =

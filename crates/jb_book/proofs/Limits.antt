@@ -1,5 +1,5 @@
 -- The limits of a machine after any events, the seats that its shadow shows, and groups with handles.
-use Rattle.std.proofs.Common.{◌≡◌, ℕ, ◌+◌, ◌-◌, ◌<◌, ◌≤◌, Bool, true, false, cond, List, [], ◌∷◌, map, length, take, drop, sum, Option, Some, None, All, slice_range, sym, refl, ap, subst, ◌∙◌, Ok, Err, arith}
+use Rattle.std.proofs.Common.{◌≡◌, ℕ, ◌+◌, ◌-◌, ◌<◌, ◌≤◌, Bool, List, [], ◌∷◌, map, length, take, drop, sum, Option, Some, None, All, slice_range, sym, refl, ap, subst, ◌∙◌, Ok, Err, arith}
 use Rattle.std.proofs.lemmas.List.{length-append, length-drop, length-take-le}
 use Rattle.std.proofs.lemmas.List.Elements.{All-nil, All-cons}
 use Rattle.std.proofs.lemmas.List.Sums.{sum_by-cons}
@@ -19,7 +19,7 @@ use Rattle.jb_cost.proofs.Cuts.{rises-le}
 use Rattle.jb_deck.specs.declared.done.Entry.{Entry}
 use Rattle.jb_deck.specs.Done.{Follow}
 use Rattle.jb_core.specs.declared.event.Event.{Event}
-use Rattle.jb_core.specs.declared.event.Event.TheVariants.{Open, Touch, Stop, Abandon, Take, Settle, Checkpoint, Crash, Restart}
+use Rattle.jb_core.specs.declared.event.Event.TheVariants.{Open}
 use Rattle.jb_core.specs.Line.{count}
 use Rattle.jb_core.specs.Lives.{Log}
 use Rattle.jb_core.specs.Machine.{Machine, reserved, after_event}
@@ -34,14 +34,7 @@ use Rattle.jb_book.specs.Tied.{HasHandle}
 
 after-limits : (m : Machine) (e : Event) → ((after_event m e).shape ≡ m.shape) × ((after_event m e).geometry ≡ m.geometry)
 after-limits m (Open seat credits) = (refl, refl)
-after-limits m (Touch seat op) = (refl, refl)
-after-limits m (Stop seat) = (refl, refl)
-after-limits m (Abandon seat) = (refl, refl)
-after-limits m (Take bounds) = (refl, refl)
-after-limits m (Settle n) = (refl, refl)
-after-limits m Checkpoint = (refl, refl)
-after-limits m (Crash n) = (refl, refl)
-after-limits m Restart = (refl, refl)
+after-limits m other = (refl, refl)
 
 pub record HasLimits (shape : Shape) (m : Machine) : Type 0 where
   pub same_shape : m.shape ≡ shape
@@ -76,20 +69,15 @@ pub same-reserved : (m : Machine) → shadow.reserved_in (shadow_of m) ≡ reser
 same-reserved m = ap (λ n. n + sum m.credits) (seats-sum m.handles)
 
 pub no-handle : (found : Option Held) → option_map (λ (h : Held). h.credits) found ≡ None → found ≡ None
-no-handle None is = refl
-no-handle (Some h) is = absurd (let h : ⊥ = cc in h)
+no-handle found is = grind arith
 
 pub some-handle : (credits : ℕ) (found : Option Held) → option_map (λ (h : Held). h.credits) found ≡ Some credits → (h : Held) × (found ≡ Some h) × (h.credits ≡ credits)
-some-handle credits None is = absurd (let h : ⊥ = cc in h)
-some-handle credits (Some h) is = (h, refl, (let same : h.credits ≡ credits = cc in same))
+some-handle credits None is = cc
+some-handle credits (Some h) is = (h, refl, cc)
 
 pub gone-none : {V : Type 0} (test : ℕ → Bool) (es : List (ℕ × V)) → lookup test es ≡ None → remove_entry test es ≡ es
 gone-none test [] none = refl
-gone-none test (e ∷ es) none = at (test e.0) none (gone-none test es)
-  where
-    at : (b : Bool) → cond b (Some e.1) (lookup test es) ≡ None → (lookup test es ≡ None → remove_entry test es ≡ es) → cond b es (e ∷ remove_entry test es) ≡ e ∷ es
-    at true is rest = absurd (let h : ⊥ = cc in h)
-    at false is rest = ap (λ xs. e ∷ xs) (rest is)
+gone-none test (e ∷ es) none = grind (arith, gone-none test es)
 
 -- ---- entries and groups
 
@@ -99,12 +87,8 @@ first-few first least past groups [] follow are = (omega arith, omega (arith, fo
 first-few first least past [] (e ∷ es) follow are = absurd are
 first-few first least past (g ∷ groups) (e ∷ es) follow are =
     let rest = first-few e.past (e.number + 1) past groups es follow.3 are.1 in
-    let begins = follow.0 in
-    let ends = are.0 in
     let both = length-append g (joined (take (length es) groups)) in
-    let few = rest.0 in
-    let sum_of = rest.1 in
-    (omega (arith, few), omega (arith, begins, ends, both, sum_of))
+    (omega arith, omega (arith, both))
 
 -- ---- groups with handles
 
@@ -113,7 +97,7 @@ none-filled [] filled none = refl
 none-filled (g ∷ groups) filled none =
     let some : 0 < length g = filled 0 g (omega arith) in
     let both = length-append g (joined groups) in
-    absurd (let h : ⊥ = omega (arith, some, both, none) in h)
+    absurd (omega (arith, some, both, none))
 
 pub length-range : {A : Type 0} (a b : ℕ) (xs : List A) → b ≤ length xs → length (slice_range xs a b) ≡ b - a
 length-range a b xs inside = let rest = length-drop a xs in length-take-le (b - a) (drop a xs) (omega (arith, rest, inside))
@@ -122,9 +106,8 @@ filled-from : (hs : List Stopped) (a : ℕ) (bs : List ℕ) → RisesTo (length 
 filled-from hs a [] is = All-nil HasHandle
 filled-from hs a (b ∷ bs) is =
     let inside = rises-le (length hs) b bs is.1 in
-    let more = is.0 in
     let size = length-range a b hs inside in
-    All-cons HasHandle (slice_range hs a b) (pieces_from b bs hs) (omega (arith, size, more)) (filled-from hs b bs is.1)
+    All-cons HasHandle (slice_range hs a b) (pieces_from b bs hs) (omega (arith, size)) (filled-from hs b bs is.1)
 
 -- each piece of a cut has a handle
 pub filled-pieces : (hs : List Stopped) (bounds : List ℕ) → IsCut (length hs) bounds → All HasHandle (pieces bounds hs)

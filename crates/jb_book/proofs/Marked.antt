@@ -1,7 +1,7 @@
 -- Marks that show all that a book has settled: each call keeps that.
-use Rattle.std.proofs.Common.{◌≡◌, ℕ, suc, Bool, true, false, ◌+◌, ◌<◌, List, [], ◌∷◌, ◌++◌, length, All, Option, Some, None, nat_le, if◌then◌else◌, Result, Ok, Err, IfNone, IfSome, OnOk, OnErr, inl, inr, ap, sym, subst, ◌∙◌, arith}
+use Rattle.std.proofs.Common.{◌≡◌, ℕ, true, false, ◌+◌, ◌<◌, List, [], ◌∷◌, ◌++◌, length, All, Option, Some, None, nat_le, if◌then◌else◌, Result, Ok, Err, IfNone, IfSome, OnOk, OnErr, inl, inr, refl, ap, sym, subst, ◌∙◌, arith}
 use Rattle.std.proofs.lemmas.List.{length-append}
-use Rattle.std.proofs.lemmas.List.Elements.{All-append, All-weaker}
+use Rattle.std.proofs.lemmas.List.Elements.{All-append, All-head, All-tail, All-weaker}
 use mathlib.Core.List.{IsPrefix}
 use Rattle.jb_deck.specs.Deck.{OpenDeck}
 use Rattle.jb_deck.specs.Done.{start_of}
@@ -9,14 +9,10 @@ use Rattle.jb_deck.specs.declared.done.Entry.{Entry}
 use Rattle.jb_handle.specs.Word.{WordMap}
 use Rattle.jb_board.proofs.Placed.{get_last, placed_on}
 use Rattle.jb_board.specs.HistoryRule.{StandsIn}
-use Rattle.jb_book.specs.Account.{Account, AnswersNumber, CanTake, IsSettledBy, Settles, dropped_of, failed_of, granted_to, queued, settled_to, shortened, taken_all, trail_from}
+use Rattle.jb_book.specs.Account.{Account, AnswersNumber, CanTake, IsSettledBy, Settles, failed_of, granted_to, settled_to, shortened, taken_all, trail_from}
 use Rattle.jb_handle.specs.declared.shape.Shape.{Shape}
 use Rattle.jb_book.specs.Marks.{AreOfBook, AreShown, HasShapeMark, IsMarked, SeesStop, Shows, ShowsAfter}
 use Rattle.jb_book.specs.declared.fault.WrongBatch.{WrongBatch}
-
-case-of : (P : Bool → Type 0) (x : Bool) → P true → P false → P x
-case-of P true one two = one
-case-of P false one two = two
 
 module _ {D : Type 0} where
   -- what is marked stays so
@@ -32,12 +28,6 @@ module _ {D : Type 0} where
   pub book-on : (ms ns : List (OpenDeck D)) → IsPrefix ms ns → (a : Account) → AreOfBook ms a → AreOfBook ns a
   book-on ms ns p a are = record { trail = all-marked-on ms ns p a.trail are.trail; shape = shape-on ms ns p a.shape are.shape }
 
-  has-one : (ms : List (OpenDeck D)) (e : Entry) (es : List Entry) → All (IsMarked ms) (e ∷ es) → IsMarked ms e
-  has-one ms e es each = each 0 e (omega arith)
-
-  has-rest : (ms : List (OpenDeck D)) (e : Entry) (es : List Entry) → All (IsMarked ms) (e ∷ es) → All (IsMarked ms) es
-  has-rest ms e es each k d lt = each (suc k) d (omega (arith, lt))
-
   -- nothing is settled in a new book, for a journal of a marked shape
   pub none-marked : (ms : List (OpenDeck D)) (a : Account) (shape : Shape) → a.trail ≡ [] → a.shape ≡ shape → HasShapeMark ms shape → AreOfBook ms a
   none-marked ms a shape none same is = record {
@@ -48,34 +38,29 @@ module _ {D : Type 0} where
   -- ---- what each call of the book keeps
 
   module _ (ms : List (OpenDeck D)) (old new : Account) (are : AreOfBook ms old) where
-    same-trail : new.trail ≡ old.trail → new.shape ≡ old.shape → AreOfBook ms new
-    same-trail trail shape = record { trail = subst (All (IsMarked ms)) (sym trail) are.trail; shape = subst (HasShapeMark ms) (sym shape) are.shape }
+    -- it becomes one with the same trail
+    pub marked-same : (b : Account) → b.trail ≡ old.trail → b.shape ≡ old.shape → new ≡ b → AreOfBook ms new
+    marked-same b trail shape is = subst (AreOfBook ms) (sym is) (record { trail = subst (All (IsMarked ms)) (sym trail) are.trail; shape = subst (HasShapeMark ms) (sym shape) are.shape })
 
     pub marked-failed : new ≡ failed_of old → AreOfBook ms new
-    marked-failed is = same-trail (ap (λ (a : Account). a.trail) is) (ap (λ (a : Account). a.shape) is)
-
-    pub marked-shut : new ≡ record old { shut = true } → AreOfBook ms new
-    marked-shut is = same-trail (ap (λ (a : Account). a.trail) is) (ap (λ (a : Account). a.shape) is)
-
-    pub marked-dropped : (seat : ℕ) → new ≡ dropped_of seat old → AreOfBook ms new
-    marked-dropped seat is = same-trail (ap (λ (a : Account). a.trail) is) (ap (λ (a : Account). a.shape) is)
-
-    pub marked-queued : (seat : ℕ) (words : WordMap) → new ≡ queued seat words old → AreOfBook ms new
-    marked-queued seat words is = same-trail (ap (λ (a : Account). a.trail) is) (ap (λ (a : Account). a.shape) is)
+    marked-failed is = marked-same (failed_of old) refl refl is
 
     pub marked-open : {A B : Type 0} (r : Result A B) (seat credits : ℕ) → OnOk r (new ≡ granted_to seat credits old) → OnErr r (new ≡ old) → AreOfBook ms new
-    marked-open (Ok a) seat credits ok err = same-trail (ap (λ (a : Account). a.trail) ok) (ap (λ (a : Account). a.shape) ok)
-    marked-open (Err b) seat credits ok err = same-trail (ap (λ (a : Account). a.trail) err) (ap (λ (a : Account). a.shape) err)
+    marked-open (Ok a) seat credits ok err = marked-same (granted_to seat credits old) refl refl ok
+    marked-open (Err b) seat credits ok err = marked-same old refl refl err
 
     pub marked-taken : {A : Type 0} (r : Option A) → IfSome r (λ _. CanTake old × (new ≡ taken_all old)) → IfNone r ((CanTake old → ⊥) × (new ≡ old)) → AreOfBook ms new
-    marked-taken (Some b) some none = same-trail (ap (λ (a : Account). a.trail) some.1) (ap (λ (a : Account). a.shape) some.1)
-    marked-taken None some none = same-trail (ap (λ (a : Account). a.trail) none.1) (ap (λ (a : Account). a.shape) none.1)
+    marked-taken (Some b) some none = marked-same (taken_all old) refl refl some.1
+    marked-taken None some none = marked-same old refl refl none.1
 
   left-marked : (ms : List (OpenDeck D)) (past : ℕ) (es : List Entry) → All (IsMarked ms) es → All (IsMarked ms) (trail_from past es)
   left-marked ms past [] each = each
   left-marked ms past (e ∷ []) each = each
   left-marked ms past (e ∷ f ∷ es) each =
-      case-of (λ x. All (IsMarked ms) (if x then trail_from past (f ∷ es) else e ∷ f ∷ es)) (nat_le e.past past) (left-marked ms past (f ∷ es) (has-rest ms e (f ∷ es) each)) each
+      elim (nat_le e.past past) as (λ x. All (IsMarked ms) (if x then trail_from past (f ∷ es) else e ∷ f ∷ es)) [
+        | true ↦ left-marked ms past (f ∷ es) (All-tail (IsMarked ms) e (f ∷ es) each)
+        | false ↦ each
+      ]
 
   pub marked-short : (ms : List (OpenDeck D)) (old new : Account) → AreOfBook ms old → (past : ℕ) → new ≡ shortened past old → AreOfBook ms new
   marked-short ms old new are past is = subst (AreOfBook ms) (sym is) (record { trail = left-marked ms past old.trail are.trail; shape = are.shape })
@@ -89,23 +74,20 @@ module _ {D : Type 0} where
       shape = shape-on ms ns p old.shape are.shape;
     })
 
-    marked-still : new ≡ old → AreOfBook ns new
-    marked-still is = subst (AreOfBook ns) (sym is) (book-on ms ns p old are)
-
     pub marked-by : (r : Result (Unit {0}) WrongBatch) → OnOk r ((past : ℕ) × Settles old past es × (new ≡ settled_to past es old)) → OnErr r (new ≡ old) → AreOfBook ns new
     marked-by (Ok unit) ok err = marked-settled ok.0 ok.2
-    marked-by (Err wrong) ok err = marked-still err
+    marked-by (Err wrong) ok err = subst (AreOfBook ns) (sym err) (book-on ms ns p old are)
 
   -- ---- what the book answers is shown
 
   by-some : (ms : List (OpenDeck D)) (es : List Entry) (ticket number : ℕ) → All (IsMarked ms) es → IsSettledBy es ticket number → Shows ms ticket number
   by-some ms [] ticket number each is = absurd is
-  by-some ms (e ∷ es) ticket number each (inl is) = record { entry = e; marked = has-one ms e es each; from = is.0; to = is.1; is_number = sym is.2 }
-  by-some ms (e ∷ es) ticket number each (inr is) = by-some ms es ticket number (has-rest ms e es each) is
+  by-some ms (e ∷ es) ticket number each (inl is) = record { entry = e; marked = All-head (IsMarked ms) e es each; from = is.0; to = is.1; is_number = sym is.2 }
+  by-some ms (e ∷ es) ticket number each (inr is) = by-some ms es ticket number (All-tail (IsMarked ms) e es each) is
 
   by-after : (ms : List (OpenDeck D)) (es : List Entry) (ticket : ℕ) → All (IsMarked ms) es → ticket < start_of es → ShowsAfter ms ticket
   by-after ms [] ticket each before = absurd (omega (arith, before))
-  by-after ms (e ∷ es) ticket each before = record { entry = e; marked = has-one ms e es each; before = before }
+  by-after ms (e ∷ es) ticket each before = record { entry = e; marked = All-head (IsMarked ms) e es each; before = before }
 
   -- of a book whose groups are marked, what it answers of a ticket is shown
   pub shown-by : (ms ns : List (OpenDeck D)) (a : Account) (ticket : ℕ) (number : Option ℕ) → All (IsMarked ms) a.trail → IsPrefix ms ns → AnswersNumber a ticket number → AreShown ns ticket number

@@ -1,5 +1,5 @@
 -- A book beside the history of its stops: each call keeps what is known of the two.
-use Rattle.std.proofs.Common.{◌≡◌, ◌↔◌, IsTrue, ℕ, ◌+◌, List, [], ◌∷◌, ◌++◌, All, map, length, Some, None, Ok, Err, IfSome, IfNone, Option, Result, OnOk, OnErr, sym, refl, ap, ◌∙◌, subst, arith, true, false, Bool}
+use Rattle.std.proofs.Common.{◌≡◌, ◌↔◌, IsTrue, ℕ, List, [], ◌∷◌, ◌++◌, All, map, length, Some, None, Ok, Err, IfSome, IfNone, Option, Result, OnOk, OnErr, sym, refl, ap, ◌∙◌, subst, arith, true, false, Bool}
 use Rattle.std.proofs.lemmas.List.{length-append}
 use Rattle.std.proofs.lemmas.List.Elements.{All-nil, All-weaker}
 use Rattle.std.specs.Global.{Vec}
@@ -42,8 +42,8 @@ module _ (a b : Account) (end : ℕ) (shape : Shape) (done : Done) where
 
   -- where it is not this one, or not whole, the book fails
   pub none-whole : (wrong : WrongBatch) (whole : Bool) → (IsTrue whole ↔ (IsOutAs a (first_ticket done) end shape × (past_after (first_ticket done) (entries_of done) ≡ end))) → whole ≡ false → b ≡ failed_of a → SettlesOrFails end shape done a (Err wrong) b
-  none-whole wrong true is not fell = absurd (let h : ⊥ = cc in h)
-  none-whole wrong false is not fell = (λ out settles. (let no : IsTrue false = is.1 (out, ends-whole out settles) in let h : ⊥ = cc in h), fell)
+  none-whole wrong true is not fell = cc
+  none-whole wrong false is not fell = (λ out settles. cc (is.1 (out, ends-whole out settles)), fell)
 
 module _ (a middle b : Account) (end : ℕ) (shape : Shape) (done : Done) (out : IsOutAs a (first_ticket done) end shape) where
   pub fails-after : (r : Result (Unit {0}) WrongBatch) → OnOk r ((past : ℕ) × Settles a past (entries_of done) × (middle ≡ settled_to past (entries_of done) a)) → OnErr r ((past : ℕ) → Settles a past (entries_of done) → ⊥) → OnErr r (middle ≡ a) → b ≡ failed_of middle → FailsAfter end shape done a r b
@@ -73,99 +73,67 @@ ends-run any a log sound is =
 
 -- ---- what is known of the two
 
-abbrev Kept : Account × List WordMap → Type 0
-Kept x = IsRegistered x.0 x.1
+-- a book and its history become these
+kept-as : (a b : Account) (log more : List WordMap) → IsLed log a → length log ≡ a.shadow.next → All (IsInHistory log) a.shadow.queue → b ≡ a → more ≡ log → IsRegistered b more
+kept-as a b log more led counted queued is same = subst (λ (x : Account × List WordMap). IsRegistered x.0 x.1) (λ i. (sym is i, sym same i)) (record { counted = counted; queued = queued; led = led })
 
 pub kept-new : (shape : Shape) (usable : ℕ) (a : Account) (log : List WordMap) → IsNewBook shape usable a → log ≡ [] → IsRegistered a log
-kept-new shape usable a log start none = subst (IsRegistered a) (sym none) (record {
-  counted = sym (ap (λ x. x.next) start.shadow);
-  queued = subst (All (IsInHistory [])) (sym (ap (λ x. x.queue) start.shadow)) (All-nil (IsInHistory []));
-  led = led_start shape usable a start;
-})
+kept-new shape usable a log start none =
+    kept-as a a [] log (led_start shape usable a start) (sym (ap (λ x. x.next) start.shadow))
+    (subst (All (IsInHistory [])) (sym (ap (λ x. x.queue) start.shadow)) (All-nil (IsInHistory []))) refl none
 
 pub kept-stopped : (a b : Account) (log more : List WordMap) (seat : ℕ) (ws : WordMap) → IsAccountSound a → IsRegistered a log → CanStop a seat ws → b ≡ queued seat ws a
     → (b.shadow.queue ≡ a.shadow.queue ++ record { ticket = a.shadow.next; words = ws } ∷ [] → more ≡ log ++ ws ∷ []) → IsRegistered b more
 kept-stopped a b log more seat ws sound kept can is adds =
-    let same : more ≡ log ++ ws ∷ [] = adds (ap (λ (c : Account). c.shadow.queue) is) in
     let long = length-append log (ws ∷ []) in
     let counted = kept.counted in
-    subst Kept (λ i. (sym is i, sym same i)) (record {
-      counted = (let h : length (log ++ ws ∷ []) ≡ a.shadow.next + 1 = omega (arith, long, counted) in h);
-      queued = recorded-more log a.shadow.queue a.shadow.next ws kept.queued counted;
-      led = led-stopped log a kept.led sound seat ws can counted;
-    })
-
-kept-taken : (a b : Account) (log more : List WordMap) → IsAccountSound a → IsRegistered a log → CanTake a → HasCut a.shape a.shadow.queue → b ≡ taken_all a → more ≡ log → IsRegistered b more
-kept-taken a b log more sound kept can cuts is same =
-    subst Kept (λ i. (sym is i, sym same i)) (record {
-      counted = kept.counted;
-      queued = All-nil (IsInHistory log);
-      led = led-taken log a kept.led sound can kept.queued cuts;
-    })
-
-kept-led : (a b : Account) (log : List WordMap) → IsRegistered a log → b.shadow.next ≡ a.shadow.next → b.shadow.queue ≡ a.shadow.queue → IsLed log b → IsRegistered b log
-kept-led a b log kept next queue led = record {
-  counted = kept.counted ∙ sym next;
-  queued = subst (All (IsInHistory log)) (sym queue) kept.queued;
-  led = led;
-}
-
-kept-failed : (a : Account) (log : List WordMap) → IsRegistered a log → IsRegistered (failed_of a) log
-kept-failed a log kept = record { counted = kept.counted; queued = All-nil (IsInHistory log); led = led-failed log a kept.led }
+    kept-as (queued seat ws a) b (log ++ ws ∷ []) more (led-stopped log a kept.led sound seat ws can counted) (omega (arith, long, counted))
+    (recorded-more log a.shadow.queue a.shadow.next ws kept.queued counted) is (adds (ap (λ (c : Account). c.shadow.queue) is))
 
 pub failed-same : (a b : Account) (log more : List WordMap) → IsRegistered a log → b ≡ failed_of a → more ≡ log → IsRegistered b more
-failed-same a b log more kept is same = subst Kept (λ i. (sym is i, sym same i)) (kept-failed a log kept)
+failed-same a b log more kept is same = kept-as (failed_of a) b log more (led-failed log a kept.led) kept.counted (All-nil (IsInHistory log)) is same
 
 pub kept-take : (r : Option Gathered) (a b : Account) (log more : List WordMap) → IsAccountSound a → IsRegistered a log → IfSome r (λ _. HasCut a.shape a.shadow.queue) → IfSome r (λ _. CanTake a × (b ≡ taken_all a)) → IfNone r ((CanTake a → ⊥) × (b ≡ a)) → more ≡ log
     → IsRegistered b more
-kept-take (Some batch) a b log more sound kept cuts taken none same = kept-taken a b log more sound kept taken.0 cuts taken.1 same
-kept-take None a b log more sound kept cuts taken none same = subst Kept (λ i. (sym none.1 i, sym same i)) kept
+kept-take (Some batch) a b log more sound kept cuts taken none same = kept-as (taken_all a) b log more (led-taken log a kept.led sound taken.0 kept.queued cuts) kept.counted (All-nil (IsInHistory log)) taken.1 same
+kept-take None a b log more sound kept cuts taken none same = kept-as a b log more kept.led kept.counted kept.queued none.1 same
 
 module _ (a : Account) (log sight : List WordMap) (end : ℕ) (shape : Shape) (done : Done) (is : IsSettling sight end shape done) (seen : IsFirstPart sight log) (out : IsOutAs a (first_ticket done) end shape) where
   abbrev settling-cut : AreCut log a is.planned.batch.handles is.planned.groups
   settling-cut =
-      let at : is.planned.batch.first ≡ a.shadow.settled = sym is.first ∙ out.first_is in
-      let last = is.past in
-      let whole = out.end_is in (
+      let at : is.planned.batch.first ≡ a.shadow.settled = sym is.first ∙ out.first_is in (
         record {
           tickets = subst (λ n. TicketsFrom n is.planned.batch.handles) at is.tickets;
           recorded = All-weaker (IsInHistory sight) (IsInHistory log) (λ h there. placed_on sight log seen (h.ticket, h.words) there) is.planned.batch.handles is.recorded;
-          number = omega (arith, at, last, whole);
+          number = omega (arith, at);
         },
         subst (λ (sh : Shape). IsLeastCut (cost_in sh is.planned.batch.handles) sh.limit (length is.planned.batch.handles) is.planned.groups) (is.shape_is ∙ sym out.shape_is) is.is.least,
       )
 
   pub kept-settled : IsAccountSound a → IsRegistered a log → (past : ℕ) → Settles a past (entries_of done) → past_after (first_ticket done) (entries_of done) ≡ end → (b : Account) (more : List WordMap) → b ≡ settled_to past (entries_of done) a → more ≡ log → IsRegistered b more
   kept-settled sound kept past settles last b more after grows =
-      let now = settled_to past (entries_of done) a in
       let whole = ends-at (first_ticket done) a.shadow.settled _ past end (entries_of done) settles.follow out.first_is last in
-      subst Kept (λ i. (sym after i, sym grows i))
-      (kept-led a now log kept refl refl (led-settled log a kept.led is.planned.batch.handles is.planned.groups past (entries_of done) settles settling-cut is.tells sound (whole ∙ out.end_is)))
-
-  kept-settled-last : IsAccountSound a → IsRegistered a log → (past : ℕ) → Settles a past (entries_of done) → (b : Account) (more : List WordMap) → b ≡ failed_of (settled_to past (entries_of done) a) → more ≡ log → IsRegistered b more
-  kept-settled-last sound kept past settles b more after grows =
-      subst Kept (λ i. (sym after i, sym grows i)) (record {
-        counted = kept.counted;
-        queued = All-nil (IsInHistory log);
-        led = led-settled-last log a kept.led is.planned.batch.handles is.planned.groups past (entries_of done) settles settling-cut is.tells sound;
-      })
+      kept-as (settled_to past (entries_of done) a) b log more
+      (led-settled log a kept.led is.planned.batch.handles is.planned.groups past (entries_of done) settles settling-cut is.tells sound (whole ∙ out.end_is)) kept.counted kept.queued after grows
 
   pub kept-last : (middle b : Account) (more : List WordMap) (r : Result (Unit {0}) WrongBatch) → IsAccountSound a → IsRegistered a log → OnOk r ((past : ℕ) × Settles a past (entries_of done) × (middle ≡ settled_to past (entries_of done) a)) → OnErr r (middle ≡ a) → b ≡ failed_of middle → more ≡ log → IsRegistered b more
-  kept-last middle b more (Ok unit) sound kept ok err fell grows = kept-settled-last sound kept ok.0 ok.1 b more (fell ∙ ap failed_of ok.2) grows
+  kept-last middle b more (Ok unit) sound kept ok err fell grows =
+      kept-as (failed_of (settled_to ok.0 (entries_of done) a)) b log more
+      (led-settled-last log a kept.led is.planned.batch.handles is.planned.groups ok.0 (entries_of done) ok.1 settling-cut is.tells sound) kept.counted (All-nil (IsInHistory log)) (fell ∙ ap failed_of ok.2) grows
   kept-last middle b more (Err wrong) sound kept ok err fell grows = failed-same a b log more kept (fell ∙ ap failed_of err) grows
 
 -- ---- the other calls
 
 module _ (a b : Account) (log : List WordMap) (kept : IsRegistered a log) where
   pub kept-open : (r : Result (Unit {0}) BeginFault) (seat credits : ℕ) → OnOk r (b ≡ granted_to seat credits a) → OnOk r (begin_refusal a seat credits ≡ None) → OnErr r (b ≡ a) → IsRegistered b log
-  kept-open (Ok unit) seat credits is none same = subst (λ (x : Account). IsRegistered x log) (sym is) (kept-led a (granted_to seat credits a) log kept refl refl (led-opened log a kept.led seat credits none))
-  kept-open (Err fault) seat credits is none same = subst (λ (x : Account). IsRegistered x log) (sym same) kept
+  kept-open (Ok unit) seat credits is none same = kept-as (granted_to seat credits a) b log log (led-opened log a kept.led seat credits none) kept.counted kept.queued is refl
+  kept-open (Err fault) seat credits is none same = kept-as a b log log kept.led kept.counted kept.queued same refl
 
   pub kept-dropped : (seat : ℕ) → b ≡ dropped_of seat a → IsRegistered b log
-  kept-dropped seat is = subst (λ (x : Account). IsRegistered x log) (sym is) (kept-led a (dropped_of seat a) log kept refl refl (led-dropped log a kept.led seat))
+  kept-dropped seat is = kept-as (dropped_of seat a) b log log (led-dropped log a kept.led seat) kept.counted kept.queued is refl
 
   pub kept-shut : b ≡ record a { shut = true } → IsRegistered b log
-  kept-shut is = subst (λ (x : Account). IsRegistered x log) (sym is) (kept-led a (record a { shut = true }) log kept refl refl (led-shut log a kept.led))
+  kept-shut is = kept-as (record a { shut = true }) b log log (led-shut log a kept.led) kept.counted kept.queued is refl
 
   pub kept-short : (past : ℕ) → b ≡ shortened past a → IsRegistered b log
-  kept-short past is = subst (λ (x : Account). IsRegistered x log) (sym is) (kept-led a (shortened past a) log kept refl refl (led-shortened log a kept.led past))
+  kept-short past is = kept-as (shortened past a) b log log (led-shortened log a kept.led past) kept.counted kept.queued is refl

@@ -1,9 +1,13 @@
 -- Handles of one history, cuts of nothing, and what is left of a trail.
-use Rattle.std.proofs.Common.{◌≡◌, ℕ, zero, suc, ◌+◌, ◌<◌, ◌≤◌, Bool, true, false, List, [], ◌∷◌, ◌++◌, All, length, Some, slice_get, sym, refl, ap, ◌∙◌, subst, arith, append_assoc, nat_le, cond}
-use Rattle.std.proofs.lemmas.List.Elements.{All-cons, All-nil, All-push, All-weaker}
+use Rattle.std.proofs.Common.{◌≡◌, ℕ, zero, suc, ◌+◌, ◌<◌, ◌≤◌, true, false, List, [], ◌∷◌, ◌++◌, All, length, Some, get_or, slice_get, sym, refl, ap, ◌∙◌, subst, arith, append_assoc, nat_le, cond}
+use Rattle.std.proofs.Math.ListN.{get_or-append}
+use Rattle.std.proofs.lemmas.List.{same_lists}
+use Rattle.std.proofs.lemmas.List.Elements.{All-nil, All-push, All-weaker}
+use Rattle.std.proofs.lemmas.Option.{get_or_from_slice_get, slice_get-get_or}
 use Rattle.jb_plan.specs.Batch.{gathered}
 use Rattle.jb_cost.specs.Cut.{RisesTo, IsCut}
 use Rattle.jb_cost.specs.Pieces.{pieces}
+use Rattle.jb_cost.proofs.Cuts.{rises-le}
 use Rattle.jb_deck.specs.declared.done.Entry.{Entry}
 use Rattle.jb_deck.specs.Done.{least_after}
 use Rattle.jb_handle.specs.declared.shape.Shape.{Shape}
@@ -27,49 +31,38 @@ recorded-more log queue ticket words stand at =
     (subst (λ k. IsInHistory more (record { ticket = k; words = words })) at (get_last log words))
 
 get-back : {E : Type 0} (xs ys : List E) (k : ℕ) (e : E) → k < length xs → slice_get (xs ++ ys) k ≡ Some e → slice_get xs k ≡ Some e
-get-back [] ys k e lt at = absurd (let h : ⊥ = omega (arith, lt) in h)
-get-back (x ∷ xs) ys zero e lt at = at
-get-back (x ∷ xs) ys (suc k) e lt at = get-back xs ys k e (omega (arith, lt)) at
+get-back xs ys k e lt at = slice_get-get_or xs k e lt ∙ ap Some (sym (get_or-append xs ys e k lt) ∙ get_or_from_slice_get (xs ++ ys) k e e at)
 
-first-of-all : (P : Stopped → Type 0) (h : Stopped) (hs : List Stopped) → All P (h ∷ hs) → P h
-first-of-all P h hs each = each 0 h (omega arith)
-
-rest-of-all : (P : Stopped → Type 0) (h : Stopped) (hs : List Stopped) → All P (h ∷ hs) → All P hs
-rest-of-all P h hs each = λ k d lt. each (suc k) d (omega (arith, lt))
+pub ticket-at : (n : ℕ) (hs : List Stopped) → TicketsFrom n hs → (k : ℕ) (d : Stopped) → k < length hs → (get_or hs k d).ticket ≡ n + k
+ticket-at n [] is k d lt = absurd (omega (arith, lt))
+ticket-at n (h ∷ hs) is zero d lt = omega arith
+ticket-at n (h ∷ hs) is (suc k) d lt = let rest = ticket-at (n + 1) hs is.1 k d (omega (arith, lt)) in omega (arith, rest)
 
 -- handles whose tickets are below the history's end stand in it before the next one stops
 pub recorded-back : (log more : List WordMap) (n : ℕ) (hs : List Stopped) → TicketsFrom n hs → n + length hs ≤ length log → All (IsInHistory (log ++ more)) hs → All (IsInHistory log) hs
-recorded-back log more n [] tickets few each = All-nil (IsInHistory log)
-recorded-back log more n (h ∷ hs) tickets few each =
-    let at = tickets.0 in
-    All-cons (IsInHistory log) h hs (get-back log more h.ticket h.words (omega (arith, at, few)) (first-of-all (IsInHistory (log ++ more)) h hs each))
-    (recorded-back log more (n + 1) hs tickets.1 (omega (arith, few)) (rest-of-all (IsInHistory (log ++ more)) h hs each))
+recorded-back log more n hs tickets few each k d lt =
+    let h = get_or hs k d in
+    let at = ticket-at n hs tickets k d lt in
+    get-back log more h.ticket h.words (omega (arith, at, few, lt)) (each k d lt)
 
 -- as many handles of one history from one ticket on are the same
 pub same-out : (log : List WordMap) (n : ℕ) (xs ys : List Stopped) → TicketsFrom n xs → TicketsFrom n ys → All (IsInHistory log) xs → All (IsInHistory log) ys → length xs ≡ length ys → xs ≡ ys
-same-out log n [] [] tx ty ax ay long = refl
-same-out log n [] (y ∷ ys) tx ty ax ay long = absurd (let h : ⊥ = omega (arith, long) in h)
-same-out log n (x ∷ xs) [] tx ty ax ay long = absurd (let h : ⊥ = omega (arith, long) in h)
-same-out log n (x ∷ xs) (y ∷ ys) tx ty ax ay long =
-    let at : x.ticket ≡ y.ticket = tx.0 ∙ sym ty.0 in
-    let both : Some x.words ≡ Some y.words = sym (first-of-all (IsInHistory log) x xs ax) ∙ ap (slice_get log) at ∙ first-of-all (IsInHistory log) y ys ay in
+same-out log n xs ys tx ty ax ay long = same_lists xs ys long (λ k d lt.
+    let x = get_or xs k d in
+    let y = get_or ys k d in
+    let at : x.ticket ≡ y.ticket = ticket-at n xs tx k d lt ∙ sym (ticket-at n ys ty k d (omega (arith, lt, long))) in
+    let both : Some x.words ≡ Some y.words = sym (ax k d lt) ∙ ap (slice_get log) at ∙ ay k d (omega (arith, lt, long)) in
     let words : x.words ≡ y.words = cc in
-    let heads : x ≡ y = (λ i. record { ticket = at i; words = words i }) in
-    let tails = same-out log (n + 1) xs ys tx.1 ty.1 (rest-of-all (IsInHistory log) x xs ax) (rest-of-all (IsInHistory log) y ys ay) (omega (arith, long)) in
-    (λ i. heads i ∷ tails i)
+    λ i. record { ticket = at i; words = words i })
 
 -- ---- cuts of nothing
 
 none-rise : (bs : List ℕ) → RisesTo 0 0 bs → bs ≡ []
 none-rise [] is = refl
-none-rise (b ∷ bs) is = absurd (none b bs is.0 is.1)
-  where
-    none : (b : ℕ) (bs : List ℕ) → 0 < b → RisesTo 0 b bs → ⊥
-    none b [] more is = omega (arith, more, is)
-    none b (c ∷ bs) more is = let up = is.0 in none c bs (omega (arith, more, up)) is.1
+none-rise (b ∷ bs) is = let low = rises-le 0 b bs is.1 in absurd (omega (arith, low))
 
 pub none-pieces : (hs : List Stopped) (cut : List ℕ) → length hs ≡ 0 → IsCut (length hs) cut → pieces cut hs ≡ []
-none-pieces (h ∷ hs) cut none is = absurd (let h : ⊥ = omega (arith, none) in h)
+none-pieces (h ∷ hs) cut none is = absurd (omega (arith, none))
 none-pieces [] [] none is = absurd is
 none-pieces [] (a ∷ bs) none is = ap (λ cs. pieces (a ∷ cs) []) (none-rise bs (subst (λ k. RisesTo 0 k bs) is.0 is.1))
 
@@ -97,7 +90,7 @@ least-same (e ∷ left) full rest = sym (least-rest 0 rest.front e left) ∙ ap 
 
 both-none : (xs ys : List Entry) → xs ++ ys ≡ [] → (xs ≡ []) × (ys ≡ [])
 both-none [] ys none = (refl, none)
-both-none (x ∷ xs) ys none = absurd (let h : ⊥ = cc in h)
+both-none (x ∷ xs) ys none = cc
 
 pub rest-more : (left full es : List Entry) → IsRestOf left full → IsRestOf (left ++ es) (full ++ es)
 rest-more left full es rest = record {
@@ -109,11 +102,12 @@ rest-more left full es rest = record {
 pub rest-from : (past : ℕ) (left : List Entry) → IsRestOf (trail_from past left) left
 rest-from past [] = record { front = []; is = refl; last = λ none. refl }
 rest-from past (e ∷ []) = record { front = []; is = refl; last = λ none. none }
-rest-from past (e ∷ f ∷ es) = at (nat_le e.past past) (rest-from past (f ∷ es))
-  where
-    at : (b : Bool) → IsRestOf (trail_from past (f ∷ es)) (f ∷ es) → IsRestOf (cond b (trail_from past (f ∷ es)) (e ∷ f ∷ es)) (e ∷ f ∷ es)
-    at true rest = record { front = e ∷ rest.front; is = ap (λ l. e ∷ l) rest.is; last = λ none. absurd (let is = rest.last none in let h : ⊥ = cc in h) }
-    at false rest = record { front = []; is = refl; last = λ none. none }
+rest-from past (e ∷ f ∷ es) =
+    let rest = rest-from past (f ∷ es) in
+    elim (nat_le e.past past) as (λ b. IsRestOf (cond b (trail_from past (f ∷ es)) (e ∷ f ∷ es)) (e ∷ f ∷ es)) [
+      | true ↦ record { front = e ∷ rest.front; is = ap (λ l. e ∷ l) rest.is; last = λ none. cc (rest.last none) }
+      | false ↦ record { front = []; is = refl; last = λ none. none }
+    ]
 
 pub rest-of-rest : (less left full : List Entry) → IsRestOf less left → IsRestOf left full → IsRestOf less full
 rest-of-rest less left full one two = record {

@@ -1,5 +1,5 @@
 -- The credits of the seats: without a seat, its credits are left over.
-use Rattle.std.proofs.Common.{◌≡◌, ℕ, suc, ◌+◌, ◌≤◌, Bool, true, false, List, ◌∷◌, [], length, sum, Some, ap, cond, le_refl, arith}
+use Rattle.std.proofs.Common.{◌≡◌, ℕ, ◌+◌, ◌≤◌, Bool, List, ◌∷◌, [], length, sum, Some, ap, le_refl, arith}
 use Rattle.std.proofs.lemmas.Map.Entries.{sum_by-remove_entry}
 use Rattle.std.specs.Option.{unwrap_or, option_map}
 use Rattle.std.specs.Ordering.{nat_cmp}
@@ -21,8 +21,4 @@ module _ (es : List (ℕ × ℕ)) (seat : ℕ) where
 -- nor is the list longer
 pub length-less : (test : ℕ → Bool) (es : List (ℕ × ℕ)) → length (remove_entry test es) ≤ length es
 length-less test [] = le_refl 0
-length-less test (e ∷ es) = at (test e.0) (length-less test es)
-  where
-    at : (b : Bool) → length (remove_entry test es) ≤ length es → length (cond b es (e ∷ remove_entry test es)) ≤ suc (length es)
-    at true rest = omega arith
-    at false rest = omega arith
+length-less test (e ∷ es) = let rest = length-less test es in grind (arith, rest)

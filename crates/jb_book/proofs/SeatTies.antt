@@ -1,5 +1,5 @@
 -- What a book accepts of its seats, the machine accepts, and the account after it is tied again.
-use Rattle.std.proofs.Common.{◌≡◌, ◌⊎◌, inl, inr, ℕ, ◌+◌, ◌^◌, ◌<◌, ◌≤◌, true, false, nat_lt, nat_le, [], ◌∷◌, ◌++◌, length, Some, None, All, IfSome, sym, refl, ap, subst, ◌∙◌, Ok, arith}
+use Rattle.std.proofs.Common.{◌≡◌, ◌⊎◌, ⊎_elim, ℕ, ◌+◌, ◌^◌, ◌<◌, ◌≤◌, true, false, nat_lt, nat_le, [], ◌∷◌, ◌++◌, length, Some, None, All, IfSome, sym, refl, ap, subst, ◌∙◌, Ok, arith}
 use Rattle.std.proofs.lemmas.Bool.Decides.{nat_tests}
 use Rattle.std.proofs.lemmas.List.{length-map}
 use Rattle.std.proofs.lemmas.List.Elements.{All-nil}
@@ -58,21 +58,7 @@ tied-starts shape usable a start =
     let m = begun_as a.shape (geometry_of a.shape) a.most in (
       m,
       record {
-        ran = record {
-          same_shape = refl;
-          tags = refl;
-          entries = refl;
-          most = subst (λ (s : Shape). IsMost (geometry_of s) s.limit a.most) (sym start.same_shape) start.most;
-          up = refl;
-          handles = refl;
-          queue = refl;
-          taken = refl;
-          settled = refl;
-          earlier = refl;
-          checkpointed = refl;
-          next = refl;
-          credits = refl;
-        };
+        ran = (let most : IsMost (geometry_of a.shape) a.shape.limit a.most = subst (λ (s : Shape). IsMost (geometry_of s) s.limit a.most) (sym start.same_shape) start.most in assumption);
         accepted = tt;
         one_life = refl;
         untouched = All-nil IsUntouched;
@@ -120,9 +106,8 @@ module _ (a : Account) (log : Log) (m : Machine) (t : Tied a log m) where
       subst (λ (s : Shape). worst_cost_of m.geometry a.most ≤ s.limit) (sym lim.same_shape) (subst (λ n. 1 + a.most + div_ceil a.most n ≤ a.shape.limit) (sym lim.tags) sound.most.within) in
       let most = own.most.greatest a.most costs in
       let many : nat_lt m.most credits ≡ false = grind (arith, nat_tests) in
-      let small = sound.small in
       let sums : reserved m ≡ shadow.reserved_in a.shadow = sym (same-reserved m) ∙ ap shadow.reserved_in same in
-      let over : nat_lt 2147483646 (reserved m + credits) ≡ false = (let le : reserved m + credits ≤ 2147483646 = omega (arith, sums, room, small) in grind (arith, nat_tests)) in
+      let over : nat_lt 2147483646 (reserved m + credits) ≡ false = (let le : reserved m + credits ≤ 2147483646 = omega (arith, sums, room) in grind (arith, nat_tests)) in
       let seats : length m.handles ≡ length a.shadow.seats = sym (length-map m.handles granted_in) ∙ ap (λ (s : Shadow). length s.seats) same in
       let next : m.next ≡ a.shadow.next = ap (λ (s : Shadow). s.next) same in
       let late : nat_le (2 ^ 61) (m.next + length m.handles) ≡ false = (let lt : m.next + length m.handles < 2 ^ 61 = omega (arith, seats, next, left) in grind (arith, nat_tests)) in
@@ -154,22 +139,16 @@ module _ (a : Account) (log : Log) (m : Machine) (t : Tied a log m) where
       }
 
   pub tied-drops-none : (seat : ℕ) → (a.aborted ≡ true) ⊎ (credits_at a.shadow seat ≡ None) → Tied (dropped_of seat a) log m
-  tied-drops-none seat (inl fell) = record {
+  tied-drops-none seat why = record {
     ran = t.ran;
     accepted = t.accepted;
     one_life = t.one_life;
     untouched = t.untouched;
     filled = t.filled;
-    running = λ is. still-up a.aborted fell is;
-    failed = λ is. record { down = (t.failed is).down; shadow = (t.failed is).shadow };
-  }
-  tied-drops-none seat (inr none) = record {
-    ran = t.ran;
-    accepted = t.accepted;
-    one_life = t.one_life;
-    untouched = t.untouched;
-    filled = t.filled;
-    running = λ is. record { up = (t.running is).up; shadow = (t.running is).shadow ∙ ap (λ es. let s : Shadow = record a.shadow { seats = es } in s) (sym (gone-none (is_at (nat_cmp seat)) a.shadow.seats none)) };
+    running = λ is. record {
+      up = (t.running is).up;
+      shadow = (t.running is).shadow ∙ ap (λ es. let s : Shadow = record a.shadow { seats = es } in s) (⊎_elim (λ fell. still-up a.aborted fell is) (λ none. sym (gone-none (is_at (nat_cmp seat)) a.shadow.seats none)) why);
+    };
     failed = λ is. record { down = (t.failed is).down; shadow = (t.failed is).shadow };
   }
 
@@ -179,9 +158,8 @@ module _ (a : Account) (log : Log) (m : Machine) (t : Tied a log m) where
       let running = can.0 in
       let credits = can.1.0 in
       let is = can.1.1 in
-      let within = is.within in
       let size = words.len-entries ws in
-      let (n, u) = touched a.shape log m seat credits t.ran t.accepted (tied-up running) (open-at running seat credits is.listed) (words.entries ws) (omega (arith, within, size)) (entries-fit a.shape ws is.fits) in
+      let (n, u) = touched a.shape log m seat credits t.ran t.accepted (tied-up running) (open-at running seat credits is.listed) (words.entries ws) (omega (arith, size)) (entries-fit a.shape ws is.fits) in
       let still : n.up ≡ true = ap (λ (k : Machine). k.up) u.same ∙ tied-up running in
       let same : shadow_of n ≡ a.shadow = u.shadow ∙ tied-shadow running in
       let granted : event_refusal n (Stop seat) ≡ None = rw (still, u.there) refl in

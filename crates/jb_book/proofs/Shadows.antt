@@ -1,9 +1,9 @@
 -- An event that a sound machine accepts moves its shadow by the event's function.
-use Rattle.std.proofs.Common.{◌≡◌, ℕ, ◌+◌, Bool, true, false, cond, List, [], ◌∷◌, ◌++◌, map, length, drop, take, Option, Some, None, Ordering, Less, Equal, Greater, Result, Ok, Err, sym, refl, ap, ◌∙◌, arith}
+use Rattle.std.proofs.Common.{◌≡◌, ℕ, ◌+◌, Bool, List, [], ◌∷◌, ◌++◌, map, length, drop, take, Option, Some, None, Result, Ok, Err, sym, refl, ap, ◌∙◌, arith}
 use Rattle.std.proofs.lemmas.List.{length-append, take-append-drop}
 use Rattle.std.proofs.Math.Seq.{drop-length}
 use Rattle.std.specs.Option.{unwrap_or, option_map}
-use Rattle.std.specs.Ordering.{nat_cmp, match_ordering}
+use Rattle.std.specs.Ordering.{nat_cmp}
 use Rattle.std.specs.BTreeMap.{insert_entry, is_at}
 use Rattle.std.specs.Map.{lookup, set_value, remove_entry}
 use Rattle.std.specs.FinMap as map_of
@@ -30,38 +30,19 @@ use Rattle.jb_book.specs.Events.{granted_in, shadow_of, after_shadow, StepsShado
 
 map-insert : (es : List (ℕ × Held)) (k : ℕ) (v : Held) → map granted_in (insert_entry nat_cmp es k v) ≡ insert_entry nat_cmp (map granted_in es) k v.credits
 map-insert [] k v = refl
-map-insert (e ∷ es) k v = at (nat_cmp k e.0) (map-insert es k v)
-  where
-    at : (o : Ordering) → map granted_in (insert_entry nat_cmp es k v) ≡ insert_entry nat_cmp (map granted_in es) k v.credits
-        → map granted_in (match_ordering o ((k, v) ∷ e ∷ es) ((e.0, v) ∷ es) (e ∷ insert_entry nat_cmp es k v))
-        ≡ match_ordering o ((k, v.credits) ∷ granted_in e ∷ map granted_in es) ((e.0, v.credits) ∷ map granted_in es) (granted_in e ∷ insert_entry nat_cmp (map granted_in es) k v.credits)
-    at Less rest = refl
-    at Equal rest = refl
-    at Greater rest = ap (λ xs. granted_in e ∷ xs) rest
+map-insert (e ∷ es) k v = let rest = map-insert es k v in grind (arith, rest)
 
 map-remove : (test : ℕ → Bool) (es : List (ℕ × Held)) → map granted_in (remove_entry test es) ≡ remove_entry test (map granted_in es)
 map-remove test [] = refl
-map-remove test (e ∷ es) = at (test e.0) (map-remove test es)
-  where
-    at : (b : Bool) → map granted_in (remove_entry test es) ≡ remove_entry test (map granted_in es) → map granted_in (cond b es (e ∷ remove_entry test es)) ≡ cond b (map granted_in es) (granted_in e ∷ remove_entry test (map granted_in es))
-    at true rest = refl
-    at false rest = ap (λ xs. granted_in e ∷ xs) rest
+map-remove test (e ∷ es) = let rest = map-remove test es in grind (arith, rest)
 
 map-set : (test : ℕ → Bool) (es : List (ℕ × Held)) (w h : Held) → lookup test es ≡ Some h → w.credits ≡ h.credits → map granted_in (set_value test es w) ≡ map granted_in es
 map-set test [] w h there same = refl
-map-set test (e ∷ es) w h there same = at (test e.0) there (λ more. map-set test es w h more same)
-  where
-    at : (b : Bool) → cond b (Some e.1) (lookup test es) ≡ Some h → (lookup test es ≡ Some h → map granted_in (set_value test es w) ≡ map granted_in es) → map granted_in (cond b ((e.0, w) ∷ es) (e ∷ set_value test es w)) ≡ granted_in e ∷ map granted_in es
-    at true is rest = let here : e.1 ≡ h = cc in ap (λ c. (e.0, c) ∷ map granted_in es) (same ∙ ap (λ (g : Held). g.credits) (sym here))
-    at false is rest = ap (λ xs. granted_in e ∷ xs) (rest is)
+map-set test (e ∷ es) w h there same = grind (arith, map-set test es w h)
 
 pub lookup-map : (test : ℕ → Bool) (es : List (ℕ × Held)) → lookup test (map granted_in es) ≡ option_map (λ (h : Held). h.credits) (lookup test es)
 lookup-map test [] = refl
-lookup-map test (e ∷ es) = at (test e.0) (lookup-map test es)
-  where
-    at : (b : Bool) → lookup test (map granted_in es) ≡ option_map (λ (h : Held). h.credits) (lookup test es) → cond b (Some e.1.credits) (lookup test (map granted_in es)) ≡ option_map (λ (h : Held). h.credits) (cond b (Some e.1) (lookup test es))
-    at true rest = refl
-    at false rest = rest
+lookup-map test (e ∷ es) = let rest = lookup-map test es in grind (arith, rest)
 
 -- the credits of a seat, or none
 found-credits : (shape : Shape) (found : Option Held) → unwrap_or (option_map (λ (h : Held). h.credits) found) 0 ≡ (unwrap_or found (held 0 shape map_of.empty)).credits

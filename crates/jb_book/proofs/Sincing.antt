@@ -1,5 +1,5 @@
--- A journal since its desk was started: with less known of each handle, and what its checkpoints keep.
-use Rattle.std.proofs.Common.{◌≡◌, ◌⊎◌, ℕ, Bool, true, false, ◌+◌, ◌<◌, ◌≤◌, List, [], ◌∷◌, length, take, All, Result, Ok, Err, OnOk, inr, ⊎_elim, refl, ap, sym, subst, ◌∙◌, arith}
+-- A journal since its desk was started: with other things known of its handles, and what a call keeps by which it is given none.
+use Rattle.std.proofs.Common.{◌≡◌, ℕ, Bool, true, false, ◌+◌, ◌<◌, ◌≤◌, List, [], ◌∷◌, length, take, All, Result, Ok, Err, OnOk, refl, ap, sym, subst, ◌∙◌, arith}
 use Rattle.std.proofs.lemmas.List.Elements.{All-weaker}
 use mathlib.Core.List.{append-nil}
 use Rattle.jb_disk.specs.Faults.{MoreFaults}
@@ -8,12 +8,13 @@ use Rattle.jb_disk.specs.Faults.{CountsAny}
 use Rattle.jb_disk.specs.KeptOn.{KeptOn}
 use Rattle.jb_disk.specs.declared.disk.Disk.{Ghosts}
 use Rattle.jb_disk.specs.Time.{LeavesOnly}
+use Rattle.jb_disk.proofs.Moments.{weaken}
 use Rattle.jb_handle.specs.Words.{word}
 use Rattle.jb_handle.specs.declared.shape.Shape.{Shape}
 use Rattle.jb_handle.specs.declared.stopped.Stopped.{Stopped}
 use Rattle.jb_scan.specs.Found.{log_blocks}
 use Rattle.jb_super.specs.Journal.{SameJournal}
-use Rattle.jb_deck.specs.Checkpoints.{AnswersCheckpoint, AnswersRun, Checkpoints, TakesRun}
+use Rattle.jb_deck.specs.Checkpoints.{AnswersCheckpoint, AnswersRun, Checkpoints}
 use Rattle.jb_group.specs.declared.group.Group.{Group}
 use Rattle.jb_deck.specs.Deck.{OpenDeck}
 use Rattle.jb_deck.specs.Done.{past_after, start_of}
@@ -27,12 +28,14 @@ use Rattle.jb_deck.specs.declared.done.Entry.{Entry}
 use Rattle.jb_log.proofs.Owning.{same-then}
 use Rattle.jb_deck.specs.Since.{LiveOf, checkpointed, deck_homes}
 use Rattle.jb_deck.proofs.Sinces.{ended-is-call}
-use Rattle.jb_book.specs.Journal.{blocks_in_use, most_at_once, ChecksAt, ChecksRound, TakesHomeAt}
+use Rattle.jb_book.specs.Journal.{blocks_in_use, most_at_once, ChecksAt, ChecksRound}
 use Rattle.jb_book.specs.declared.checkpoint.CheckpointRound.{CheckpointRound}
 use Rattle.jb_book.specs.declared.checkpoint.CheckpointRound.TheVariants.{Home}
 use Rattle.jb_book.specs.Origin.{Begun}
 use Rattle.jb_book.specs.Since.{NumberedFrom, HasFirst, IsCosted, IsSince, IsSinceOf, Since, WasGiven, may_stop}
+use Rattle.jb_book.specs.SinceMark.{IsMarkedOf}
 use Rattle.jb_book.proofs.Firsts.{first-none}
+use Rattle.jb_book.proofs.Lasting.{CountsNow, ever-on, kept-all}
 
 -- what a round answers of what the journal answers
 abbrev pub round_of : Result CheckedRun CheckpointFault → Result CheckpointRound CheckpointFault
@@ -42,182 +45,175 @@ round_of (Err fault) = Err fault
 -- of no groups the first ones are none
 none-first : (gs : List Group) → take most_at_once gs ≡ [] → gs ≡ []
 none-first [] none = refl
-none-first (g ∷ gs) none = absurd (let h : ⊥ = cc in h)
-
-pub not-both : (x : Bool) → x ≡ true → x ≡ false → ⊥
-not-both true one other = let h : ⊥ = cc in h
-not-both false one other = let h : ⊥ = cc in h
+none-first (g ∷ gs) none = cc
 
 -- a call of the disk that failed is counted, unless the count was at its top
 pub more-counted : (start before after : ℕ) → start ≤ before → MoreFaults before after → start < 18446744073709551615 → after ≡ start → ⊥
-more-counted start before after low more few same = let rises = more.rises in omega (arith, low, rises, few, same)
+more-counted start before after low more few same = omega (arith, low, few, same)
 
--- the same journal, where less is known of each of the handles
-unfoldable pub is-weaker : {D : Type 0} (G : Ghosts D) (b : Begun) (known less : Stopped → Type 0) → ((h : Stopped) → known h → less h) → (d : OpenDeck D) → IsSinceOf G b known d → IsSinceOf G b less d
-is-weaker G b known less weaker d is = record {
-  given = is.given;
-  has = record {
-    stopped = All-weaker known less weaker is.given is.has.stopped;
-    tickets = is.has.tickets;
-    settled = is.has.settled;
-    all = is.has.all;
-    costs = is.has.costs;
-    first = is.has.first;
-    numbers = is.has.numbers;
-    next = is.has.next;
-  };
-  since = is.since;
+-- ---- what is known of the handles
+
+-- the same handles, of each of which this is known
+pub given-as : {D : Type 0} (known less : Stopped → Type 0) (given : List Stopped) (d : OpenDeck D) → All less given → WasGiven known given d → WasGiven less given d
+given-as known less given d stopped has = record {
+  stopped = stopped;
+  tickets = has.tickets;
+  settled = has.settled;
+  all = has.all;
+  costs = has.costs;
+  first = has.first;
+  numbers = has.numbers;
+  next = has.next;
 }
 
--- it was given the same handles
-pub weaker-given : {D : Type 0} (G : Ghosts D) (b : Begun) (known less : Stopped → Type 0) (weaker : (h : Stopped) → known h → less h) (d : OpenDeck D) (is : IsSinceOf G b known d) → (is-weaker G b known less weaker d is).given ≡ is.given
-unfolding is-weaker
-weaker-given G b known less weaker d is = refl
+-- the same journal, where less is known of each of the handles
+abbrev pub is-weaker : {D : Type 0} (G : Ghosts D) (b : Begun) (known less : Stopped → Type 0) → ((h : Stopped) → known h → less h) → (d : OpenDeck D) → IsSinceOf G b known d → IsSinceOf G b less d
+is-weaker G b known less weaker d is = record { given = is.given; has = given-as known less is.given d (All-weaker known less weaker is.given is.has.stopped) is.has; since = is.since }
 
-module _ {D : Type 0} (G : Ghosts D) (counts_now : (disk : D) (t : ℕ) (c : Image) → G.honest disk → t ≤ G.moment disk → G.may_leave disk c → G.left_since disk t c) (b : Begun) (known : Stopped → Type 0) (plain : (h : Stopped) → known h → b.stops h.words) where
-  abbrev Is : OpenDeck D → Type 0
-  Is d = IsSinceOf G b known d
+-- where no more is known than that the handle stopped with words that a handle may stop with
+abbrev pub plain-is : {D : Type 0} (G : Ghosts D) (b : Begun) (known : Stopped → Type 0) → ((h : Stopped) → known h → b.stops h.words) → (d : OpenDeck D) → IsSinceOf G b known d → IsSince G b d
+plain-is G b known plain d is = is-weaker G b known (may_stop b) plain d is
 
-  abbrev Stands : List Stopped → OpenDeck D → Type 0
-  Stands given d = Since G b given d
+-- ---- a call by which nothing is given
 
-  unfoldable pub plain-is : (d : OpenDeck D) → Is d → IsSince G b d
-  plain-is d is = is-weaker G b known (may_stop b) plain d is
+-- the journal knows what it knew, but which groups are live, and that it may have failed
+pub record IsStill {D : Type 0} (G : Ghosts D) (old new : OpenDeck D) : Type 0 where
+  pub shape : new.shape ≡ old.shape
+  pub trail : new.trail ≡ old.trail
+  pub next : new.log.next ≡ old.log.next
+  pub same : SameJournal old.log.sb new.log.sb
+  pub no_fewer : G.faults old.disk ≤ G.faults new.disk
 
-  -- ---- the oldest group
+pub still-as : {D : Type 0} (G : Ghosts D) (old new : OpenDeck D) (failed : Bool) → new ≡ record old { disk = new.disk; aborted = failed } → G.faults old.disk ≤ G.faults new.disk → IsStill G old new
+still-as {D = D} G old new failed is more = record {
+  shape = cc;
+  trail = cc;
+  next = ap (λ (d : OpenDeck D). d.log.next) is;
+  same = subst (λ (d : OpenDeck D). SameJournal old.log.sb d.log.sb) (sym is) refl;
+  no_fewer = more;
+}
 
-  module _ (old new : OpenDeck D) (kept : KeptOn G CountsAny old.disk new.disk) where
-    abbrev None : Image → Type 0
-    None c = FollowsNone old.log.sb old.log.next (G.size old.disk) (G.count old.disk) (deck_homes G.newest old) c
+module _ {D : Type 0} (G : Ghosts D) (counts_now : CountsNow G) (b : Begun) (known : Stopped → Type 0) (old new : OpenDeck D) (kept : KeptOn G CountsAny old.disk new.disk) where
+  abbrev pub None : Image → Type 0
+  None c = FollowsNone old.log.sb old.log.next (G.size old.disk) (G.count old.disk) (deck_homes G.newest old) c
 
-    -- nothing is given
-    pub given-none : (given : List Stopped) → WasGiven known given old → old.aborted ≡ false → new.trail ≡ old.trail → new.shape ≡ old.shape → new.log.next ≡ old.log.next → WasGiven known given new
-    given-none given has up trail shape numbered = record {
+  abbrev pub LeavesNone : Type 0
+  LeavesNone = old.aborted ≡ false → G.honest new.disk → LeavesOnly G.moment G.left_since old.disk new.disk None
+
+  -- unless it fails, the homes stand as they did, and the live groups have the last words of what was given
+  abbrev pub Stays : Type 0
+  Stays = (given : List Stopped) → LiveOf given old.groups → new.aborted ≡ false → ((home : ℕ) → deck_homes G.newest new home ≡ deck_homes G.newest old home) × LiveOf given new.groups
+
+  module _ (up : old.aborted ≡ false) (still : IsStill G old new) where
+    given-still : (given : List Stopped) → WasGiven known given old → WasGiven known given new
+    given-still given has = record {
       stopped = has.stopped;
       tickets = has.tickets;
-      settled = subst (λ es. past_after 0 es ≤ length given) (sym trail) has.settled;
-      all = λ still. has.all up ∙ ap (past_after 0) (sym trail);
-      costs = subst (λ (x : Shape × List Entry). All (IsCosted x.0 given) x.1) (λ i. (sym shape i, sym trail i)) has.costs;
+      settled = subst (λ es. past_after 0 es ≤ length given) (sym still.trail) has.settled;
+      all = λ on. has.all up ∙ ap (past_after 0) (sym still.trail);
+      costs = subst (λ (x : Shape × List Entry). All (IsCosted x.0 given) x.1) (λ i. (sym still.shape i, sym still.trail i)) has.costs;
       first = has.first;
-      numbers = subst (NumberedFrom has.first) (sym trail) has.numbers;
-      next = ap (λ es. has.first + length es) trail ∙ has.next ∙ sym numbered;
+      numbers = subst (NumberedFrom has.first) (sym still.trail) has.numbers;
+      next = ap (λ es. has.first + length es) still.trail ∙ has.next ∙ sym still.next;
     }
 
-    module _ (given : List Stopped) (settled : past_after 0 old.trail ≤ length given) (s : Stands given old) (up : old.aborted ≡ false) (held : G.honest new.disk) (leaves : LeavesOnly G.moment G.left_since old.disk new.disk None) (trail : new.trail ≡ old.trail) where
-      has-none : (c : Image) → None c → HasFirst b given (past_after 0 old.trail) c
-      has-none c = first-none b old.log.sb s.same (G.size old.disk) (G.count old.disk) s.same_size s.same_count given (deck_homes G.newest old) (s.stood up) (past_after 0 old.trail) old.log.next c settled s.number
+    module _ (leaves : LeavesNone) (given : List Stopped) (settled : past_after 0 old.trail ≤ length given) (s : Since G b given old) (held : G.honest new.disk) where
+      -- each image that a crash leaves has all that were settled
+      first-still : LeavesOnly G.moment G.left_since old.disk new.disk (HasFirst b given (past_after 0 old.trail))
+      first-still =
+          weaken G.moment G.left_since old.disk new.disk None (HasFirst b given (past_after 0 old.trail))
+          (λ c f. first-none b old.log.sb s.same (G.size old.disk) (G.count old.disk) s.same_size s.same_count given (deck_homes G.newest old) (s.stood up) (past_after 0 old.trail) old.log.next c settled s.number f)
+          (leaves up held)
 
-      now-none : (c : Image) → G.may_leave new.disk c → HasFirst b given (past_after 0 new.trail) c
-      now-none c may =
-          subst (λ es. HasFirst b given (past_after 0 es) c) (sym trail)
-          (has-none c (leaves.each c (counts_now new.disk (G.moment old.disk) c held leaves.later may)))
-
-      ever-none : (c : Image) → G.left_since new.disk b.since c → b.left c ⊎ HasFirst b given 0 c
-      ever-none c left =
-          ⊎_elim (s.ever c)
-          (λ (f : None c). let first = has-none c f in inr (record { many = first.many; from = omega arith; to = first.to; next = first.next; number = first.number; recovered = first.recovered }))
-          (leaves.before b.since c s.later left)
-
-      -- the homes stand as they did
-      pub none-since : SameJournal old.log.sb new.log.sb → new.log.next ≡ old.log.next → G.faults old.disk ≤ G.faults new.disk → (b.faults < 18446744073709551615 → G.faults new.disk ≡ b.faults → new.aborted ≡ false) → (new.aborted ≡ false → ((home : ℕ) → deck_homes G.newest new home ≡ deck_homes G.newest old home) × LiveOf given new.groups) → Stands given new
-      none-since same numbered more fails same_homes = record {
+      since-still : (b.faults < 18446744073709551615 → G.faults new.disk ≡ b.faults → new.aborted ≡ false) → Stays → Since G b given new
+      since-still fails stays = record {
         same_size = kept.same_size ∙ s.same_size;
         same_count = kept.same_count ∙ s.same_count;
-        no_fewer = let before = s.no_fewer in omega (arith, before, more);
+        no_fewer = let before = s.no_fewer in omega (arith, before);
         up = fails;
-        same = same-then b.own old.log.sb new.log.sb s.same same;
-        number = let before = s.number in omega (arith, before, numbered);
-        began = λ starts. numbered ∙ s.began (ap start_of (sym trail) ∙ starts) ∙ ap (λ es. b.own.sequence + 1 + length es) (sym trail);
-        stood = λ still home. subst (StandsBy (word given home) (b.homes home)) (sym ((same_homes still).0 home)) (s.stood up home);
-        live = λ still. (same_homes still).1;
-        now = now-none;
-        later = let before = s.later in let on = leaves.later in omega (arith, before, on);
-        ever = ever-none;
+        same = same-then b.own old.log.sb new.log.sb s.same still.same;
+        number = let before = s.number in let same = still.next in omega (arith, before, same);
+        began = λ starts. still.next ∙ s.began (ap start_of (sym still.trail) ∙ starts) ∙ ap (λ es. b.own.sequence + 1 + length es) (sym still.trail);
+        stood = λ on home. subst (StandsBy (word given home) (b.homes home)) (sym ((stays given (s.live up) on).0 home)) (s.stood up home);
+        live = λ on. (stays given (s.live up) on).1;
+        now = λ c may. subst (λ es. HasFirst b given (past_after 0 es) c) (sym still.trail) (first-still.each c (counts_now new.disk (G.moment old.disk) c held first-still.later may));
+        later = let before = s.later in let on = first-still.later in omega (arith, before, on);
+        ever = ever-on G b given given (past_after 0 old.trail) old new (λ least c f. f) s first-still;
       }
 
-    abbrev LeavesNone : Type 0
-    LeavesNone = old.aborted ≡ false → G.honest new.disk → LeavesOnly G.moment G.left_since old.disk new.disk None
-
-    home-since : (most : ℕ) (run : CheckedRun) → G.faults new.disk ≡ G.faults old.disk → TakesRun most old new run → Checkpoints G.newest old new → (given : List Stopped) → past_after 0 old.trail ≤ length given → (s : Stands given old) → old.aborted ≡ false → G.honest new.disk → LeavesOnly G.moment G.left_since old.disk new.disk None → Stands given new
-    home-since most run counted takes goes given settled s up held leaves =
-        let called = ended-is-call G.newest given old [] new (s.live up) (checkpointed most run new takes goes) in
-        none-since given settled s up held leaves takes.trail (subst (λ l. SameJournal old.log.sb l.sb) (sym takes.log) refl) (ap (λ l. l.next) takes.log) (omega (arith, counted)) (λ few none. takes.live)
-        (λ still. (goes.standing, subst (λ hs. LiveOf hs new.groups) (append-nil given) called.1))
-
-    pub checkpoint-since : (most : ℕ) (r : Result CheckedRun CheckpointFault) → AnswersRun most (G.faults old.disk) (G.faults new.disk) old new r → (G.honest new.disk → OnOk r (Checkpoints G.newest old new)) → LeavesNone → Is old → Is new
-    checkpoint-since most (Ok run) answers checkpoints leaves is = record {
-      given = is.given;
-      has = given-none is.given is.has answers.0 answers.2.trail answers.2.shape (ap (λ l. l.next) answers.2.log);
-      since = λ known_start held. let s = is.since known_start (kept.was_honest held) in home-since most run answers.1 answers.2 (checkpoints held) is.given is.has.settled s answers.0 held (leaves answers.0 held);
-    }
-    checkpoint-since most (Err checkpoint.Aborted) answers checkpoints leaves is = subst (λ (d : OpenDeck D). Is d) (sym answers.1) is
-    checkpoint-since most (Err checkpoint.Nothing) answers checkpoints leaves is = subst (λ (d : OpenDeck D). Is d) (sym answers.2) is
-    checkpoint-since most (Err checkpoint.DeviceFault) answers checkpoints leaves is =
-        let failed : new.aborted ≡ true = ap (λ (d : OpenDeck D). d.aborted) answers.3 in
+    pub still-marked : (ms : List (OpenDeck D)) → (b.faults ≤ G.faults old.disk → b.faults < 18446744073709551615 → G.faults new.disk ≡ b.faults → new.aborted ≡ false) → (G.honest new.disk → Stays) → LeavesNone → IsMarkedOf G b known ms old → IsMarkedOf G b known ms new
+    still-marked ms fails stays leaves is =
+        let given = is.since.given in
+        let past : past_after 0 new.trail ≡ past_after 0 old.trail = ap (past_after 0) still.trail in
+        let before = λ (known_start : b.is_known) (held : G.honest new.disk). is.since.since known_start (kept.was_honest held) in
         record {
-          given = is.given;
-          has = given-none is.given is.has answers.0 (ap (λ (d : OpenDeck D). d.trail) answers.3) (ap (λ (d : OpenDeck D). d.shape) answers.3) (ap (λ (d : OpenDeck D). d.log.next) answers.3);
-          since = λ known_start held.
-              let s = is.since known_start (kept.was_honest held) in
-              none-since is.given is.has.settled s answers.0 held (leaves answers.0 held) (ap (λ (d : OpenDeck D). d.trail) answers.3)
-              (subst (λ (d : OpenDeck D). SameJournal old.log.sb d.log.sb) (sym answers.3) refl)
-              (ap (λ (d : OpenDeck D). d.log.next) answers.3)
-              answers.2.no_fewer (λ few none. absurd (more-counted b.faults (G.faults old.disk) (G.faults new.disk) s.no_fewer answers.2 few none))
-              (λ still. absurd (not-both new.aborted failed still));
+          since = record {
+            given = given;
+            has = given-still given is.since.has;
+            since = λ known_start held. (let s = before known_start held in since-still leaves given is.since.has.settled s held (fails s.no_fewer) (stays held));
+          };
+          marks_last = kept-all G b given given old new still.shape kept.was_honest (omega (arith, past)) (λ least c f. f) (λ known_start held. first-still leaves given is.since.has.settled (before known_start held) held) ms is.marks_last;
         }
 
-    -- the journal was given the same handles
-    module _ (leaves : LeavesNone) (is : Is old) where
-      pub checked-given : (most : ℕ) (run : CheckedRun) (answers : AnswersRun most (G.faults old.disk) (G.faults new.disk) old new (Ok run)) (checkpoints : G.honest new.disk → Checkpoints G.newest old new) → (checkpoint-since most (Ok run) answers checkpoints leaves is).given ≡ is.given
-      unfolding checkpoint-since
-      checked-given most run answers checkpoints = refl
+  -- ---- the oldest groups go home
 
-      pub unchecked-given : (most : ℕ) (answers : AnswersRun most (G.faults old.disk) (G.faults new.disk) old new (Err checkpoint.DeviceFault)) (checkpoints : G.honest new.disk → Unit {0}) → (checkpoint-since most (Err checkpoint.DeviceFault) answers checkpoints leaves is).given ≡ is.given
-      unfolding checkpoint-since
-      unchecked-given most answers checkpoints = refl
+  pub checkpoint-marked : (ms : List (OpenDeck D)) (most : ℕ) (r : Result CheckedRun CheckpointFault) → AnswersRun most (G.faults old.disk) (G.faults new.disk) old new r → (G.honest new.disk → OnOk r (Checkpoints G.newest old new)) → LeavesNone → IsMarkedOf G b known ms old → IsMarkedOf G b known ms new
+  checkpoint-marked ms most (Ok run) answers checkpoints leaves is =
+      let takes = answers.2 in
+      let still : IsStill G old new = record {
+        shape = takes.shape;
+        trail = takes.trail;
+        next = ap (λ l. l.next) takes.log;
+        same = subst (λ l. SameJournal old.log.sb l.sb) (sym takes.log) refl;
+        no_fewer = omega arith;
+      } in
+      still-marked answers.0 still ms (λ low few none. takes.live)
+      (λ held given live on. ((checkpoints held).standing, subst (λ hs. LiveOf hs new.groups) (append-nil given) (ended-is-call G.newest given old [] new live (checkpointed most run new takes (checkpoints held))).1))
+      leaves is
+  checkpoint-marked ms most (Err checkpoint.Aborted) answers checkpoints leaves is = subst (IsMarkedOf G b known ms) (sym answers.1) is
+  checkpoint-marked ms most (Err checkpoint.Nothing) answers checkpoints leaves is = subst (IsMarkedOf G b known ms) (sym answers.2) is
+  checkpoint-marked ms most (Err checkpoint.DeviceFault) answers checkpoints leaves is =
+      still-marked answers.0 (still-as G old new true answers.3 answers.2.no_fewer) ms
+      (λ low few none. absurd (more-counted b.faults (G.faults old.disk) (G.faults new.disk) low answers.2 few none))
+      (λ held given live on. cc (answers.3, on))
+      leaves is
 
-    pub checkpoint-round : (r : Result Checked CheckpointFault) → AnswersCheckpoint (G.faults old.disk) (G.faults new.disk) old new r → (G.honest new.disk → OnOk r (Checkpoints G.newest old new)) → Is old → Is new → ChecksRound G b r
-    checkpoint-round (Ok checked) answers checkpoints is after = record {
-      old = old;
-      new = new;
-      same_disk = kept;
-      up = answers.0;
-      takes = answers.2;
-      checkpoints = λ known_start held. checkpoints held;
-      before = plain-is old is;
-      after = plain-is new after;
-    }
-    checkpoint-round (Err checkpoint.Aborted) answers checkpoints is after = record { deck = old; since = plain-is old is; failed = answers.0 }
-    checkpoint-round (Err checkpoint.Nothing) answers checkpoints is after = record { deck = old; since = plain-is old is; up = answers.0; none = answers.1 }
-    checkpoint-round (Err checkpoint.DeviceFault) answers checkpoints is after = record { deck = new; since = plain-is new after; failed = ap (λ (d : OpenDeck D). d.aborted) answers.3 }
+-- ---- what a round says
 
-    -- the same at a level, where as many blocks were in use unless the journal had failed
-    module _ (level : ℕ) (high : old.aborted ≡ false → level ≤ blocks_in_use old) where
-      home-at : (run : CheckedRun) → AnswersRun most_at_once (G.faults old.disk) (G.faults new.disk) old new (Ok run) → (G.honest new.disk → Checkpoints G.newest old new) → Is old → Is new
-          → TakesHomeAt G b level run
-      home-at run answers checkpoints is after = record {
-        old = old;
-        new = new;
-        same_disk = kept;
-        up = answers.0;
-        high = high answers.0;
-        takes = answers.2;
-        checkpoints = λ known_start held. checkpoints held;
-        before = plain-is old is;
-        after = plain-is new after;
-      }
+module _ {D : Type 0} (G : Ghosts D) (b : Begun) (known : Stopped → Type 0) (plain : (h : Stopped) → known h → b.stops h.words) (old new : OpenDeck D) (kept : KeptOn G CountsAny old.disk new.disk) (is : IsSinceOf G b known old) (after : IsSinceOf G b known new) where
+  pub checkpoint-round : (r : Result Checked CheckpointFault) → AnswersCheckpoint (G.faults old.disk) (G.faults new.disk) old new r → (G.honest new.disk → OnOk r (Checkpoints G.newest old new)) → ChecksRound G b r
+  checkpoint-round (Ok checked) answers checkpoints = record {
+    old = old;
+    new = new;
+    same_disk = kept;
+    up = answers.0;
+    takes = answers.2;
+    checkpoints = λ known_start held. checkpoints held;
+    before = plain-is G b known plain old is;
+    after = plain-is G b known plain new after;
+  }
+  checkpoint-round (Err checkpoint.Aborted) answers checkpoints = record { deck = old; since = plain-is G b known plain old is; failed = answers.0 }
+  checkpoint-round (Err checkpoint.Nothing) answers checkpoints = record { deck = old; since = plain-is G b known plain old is; up = answers.0; none = answers.1 }
+  checkpoint-round (Err checkpoint.DeviceFault) answers checkpoints = record { deck = new; since = plain-is G b known plain new after; failed = cc (answers.3) }
 
-      fault-at : (fault : CheckpointFault) → AnswersRun most_at_once (G.faults old.disk) (G.faults new.disk) old new (Err fault) → Is old → Is new
-          → ChecksAt G b level (Err fault)
-      fault-at checkpoint.Aborted answers is after = record { deck = old; since = plain-is old is; failed = answers.0 }
-      fault-at checkpoint.Nothing answers is after =
-          let empty = none-first old.groups answers.1 in
-          let none : blocks_in_use old ≡ 0 = ap (λ gs. log_blocks (transactions old.log gs)) empty in
-          let some : level ≤ blocks_in_use old = high answers.0 in
-          (omega (arith, none, some), record { deck = old; since = plain-is old is; up = answers.0; none = empty })
-      fault-at checkpoint.DeviceFault answers is after = record { deck = new; since = plain-is new after; failed = ap (λ (d : OpenDeck D). d.aborted) answers.3 }
-
-      pub round-at : (r : Result CheckedRun CheckpointFault) → AnswersRun most_at_once (G.faults old.disk) (G.faults new.disk) old new r → (G.honest new.disk → OnOk r (Checkpoints G.newest old new)) → Is old → Is new
-          → ChecksAt G b level (round_of r)
-      round-at (Ok run) answers checkpoints is after = home-at run answers checkpoints is after
-      round-at (Err fault) answers checkpoints is after = fault-at fault answers is after
+  -- the same at a level, where as many blocks were in use unless the journal had failed
+  pub round-at : (level : ℕ) (high : old.aborted ≡ false → level ≤ blocks_in_use old) (r : Result CheckedRun CheckpointFault) → AnswersRun most_at_once (G.faults old.disk) (G.faults new.disk) old new r → (G.honest new.disk → OnOk r (Checkpoints G.newest old new))
+      → ChecksAt G b level (round_of r)
+  round-at level high (Ok run) answers checkpoints = record {
+    old = old;
+    new = new;
+    same_disk = kept;
+    up = answers.0;
+    high = high answers.0;
+    takes = answers.2;
+    checkpoints = λ known_start held. checkpoints held;
+    before = plain-is G b known plain old is;
+    after = plain-is G b known plain new after;
+  }
+  round-at level high (Err checkpoint.Aborted) answers checkpoints = record { deck = old; since = plain-is G b known plain old is; failed = answers.0 }
+  round-at level high (Err checkpoint.Nothing) answers checkpoints =
+      let empty = none-first old.groups answers.1 in
+      let none : blocks_in_use old ≡ 0 = ap (λ gs. log_blocks (transactions old.log gs)) empty in
+      let some : level ≤ blocks_in_use old = high answers.0 in
+      (omega (arith, none, some), record { deck = old; since = plain-is G b known plain old is; up = answers.0; none = empty })
+  round-at level high (Err checkpoint.DeviceFault) answers checkpoints = record { deck = new; since = plain-is G b known plain new after; failed = cc (answers.3) }

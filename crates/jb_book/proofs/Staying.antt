@@ -1,9 +1,7 @@
 -- What follows for a ticket that some mark has shown: a later crash leaves its handle, and a later read sees it.
-use Rattle.std.proofs.Common.{◌≡◌, ℕ, zero, suc, ◌+◌, ◌<◌, ◌≤◌, List, [], ◌∷◌, length, All, Option, Some, None, get_or, slice_get, inl, inr, ap, sym, subst, ◌∙◌, arith}
+use Rattle.std.proofs.Common.{◌≡◌, ℕ, suc, ◌<◌, ◌≤◌, List, length, All, Some, get_or, slice_get, inl, inr, ap, sym, subst, ◌∙◌, arith}
 use Rattle.std.proofs.lemmas.Option.{get_or_from_slice_get, slice_get-get_or, slice_get_within}
 use Rattle.jb_disk.specs.declared.disk.Disk.{Ghosts}
-use Rattle.jb_handle.specs.Tickets.{TicketsFrom}
-use Rattle.jb_handle.specs.Word.{WordMap}
 use Rattle.jb_handle.specs.declared.stopped.Stopped.{Stopped}
 use Rattle.jb_board.proofs.Placed.{placed_on}
 use Rattle.jb_board.specs.HistoryRule.{StandsIn}
@@ -11,6 +9,8 @@ use Rattle.jb_deck.specs.Deck.{OpenDeck}
 use Rattle.jb_deck.specs.Done.{past_after}
 use Rattle.jb_book.specs.Origin.{Begun}
 use Rattle.jb_book.specs.SinceMark.{HasSettledOf, IsShown, Lasts, ShownIsGiven, ShownStays, Within}
+use Rattle.jb_book.proofs.Firsts.{first-lower}
+use Rattle.jb_book.proofs.Remains.{ticket-at}
 
 -- ---- the mark that shows a ticket
 
@@ -26,13 +26,13 @@ shown-at marks ticket (inl (number, s)) = record {
   at = s.marked.at;
   mark = s.marked.mark;
   stands = s.marked.stands;
-  late = λ within. (let tiles = within s.entry s.marked.has in let past = tiles.1 in let to = s.to in omega (arith, past, to));
+  late = λ within. (let tiles = within s.entry s.marked.has in let past = tiles.1 in omega (arith, past));
 }
 shown-at marks ticket (inr s) = record {
   at = s.marked.at;
   mark = s.marked.mark;
   stands = s.marked.stands;
-  late = λ within. (let tiles = within s.entry s.marked.has in let some = tiles.0 in let past = tiles.1 in let before = s.before in omega (arith, some, past, before));
+  late = λ within. (let tiles = within s.entry s.marked.has in let past = tiles.1 in omega (arith, past));
 }
 
 -- what holds of all marks holds of this one
@@ -58,31 +58,17 @@ stays G b stops handles shape disk trail known before marks ticket ends first sh
       given = ends.ends.since.given;
       first = ends.ends.since.has.stopped;
       tickets = ends.ends.since.has.tickets;
-      leaves = λ c left. (
-          let f = last.leaves known_start there c (subst (λ x. G.left_since x (G.moment m.disk) c) (sym ends.ends.same_disk) left) in
-          let from = f.from in
-          record { many = f.many; from = omega (arith, late, from); to = f.to; next = f.next; number = f.number; recovered = f.recovered });
+      leaves = λ c left. first-lower b ends.ends.since.given (suc ticket) (past_after 0 m.trail) c (omega (arith, late)) (last.leaves known_start there c (subst (λ x. G.left_since x (G.moment m.disk) c) (sym ends.ends.same_disk) left));
     }
 
 -- ---- a read
-
-ticket-at : (n : ℕ) (hs : List Stopped) → TicketsFrom n hs → (k : ℕ) (d : Stopped) → k < length hs → (get_or hs k d).ticket ≡ n + k
-ticket-at n [] is k d lt = absurd (omega (arith, lt))
-ticket-at n (h ∷ hs) is zero d lt = let at = is.0 in omega (arith, at)
-ticket-at n (h ∷ hs) is (suc k) d lt = let rest = ticket-at (n + 1) hs is.1 k d (omega (arith, lt)) in omega (arith, rest)
-
-abbrev words-or : WordMap → Option WordMap → WordMap
-words-or w None = w
-words-or w (Some x) = x
 
 pub shown_is_given : {D : Type 0} (G : Ghosts D) (b : Begun) → ShownIsGiven G b
 shown_is_given G b known marks d ticket words is each shown stopped =
     let s = shown-at marks ticket shown in
     let has = of-mark (HasSettledOf d) marks s.at s.mark s.stands each in
     let late = s.late has.tiles in
-    let up = has.settled in
-    let most = is.has.settled in
-    let within : ticket < length is.given = omega (arith, late, up, most) in
+    let within : ticket < length is.given = omega (arith, late) in
     let any : Stopped = record { ticket = ticket; words = words } in
     let h = get_or is.given ticket any in
     let same : h.ticket ≡ ticket = (let at = ticket-at 0 is.given is.has.tickets ticket any within in omega (arith, at)) in
@@ -91,6 +77,6 @@ shown_is_given G b known marks d ticket words is each shown stopped =
       handle = h;
       stands = slice_get-get_or is.given ticket any within;
       same_ticket = same;
-      same_words = ap (words-or h.words) (sym stands ∙ ap (slice_get known) same ∙ stopped);
-      settled = omega (arith, late, up);
+      same_words = (let both : Some h.words ≡ Some words = sym stands ∙ ap (slice_get known) same ∙ stopped in cc (both));
+      settled = omega (arith, late);
     }

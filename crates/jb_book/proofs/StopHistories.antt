@@ -11,7 +11,8 @@ use Rattle.jb_book.specs.Led.{IsInHistory}
 use Rattle.jb_book.specs.History.{IsStop}
 use Rattle.jb_book.specs.Origin.{Begun}
 use Rattle.jb_book.specs.Origin.{AreStops}
-use Rattle.jb_book.specs.Since.{IsSince, IsSinceOf}
+use Rattle.jb_book.specs.Since.{IsSince, IsSinceOf, may_stop}
+use Rattle.jb_book.proofs.Sincing.{given-as}
 
 -- what stands in a first part of the history stands in the whole
 pub stop-on : (b : Begun) (xs ys : List WordMap) → IsPrefix xs ys → (h : Stopped) → IsStop b xs h → IsStop b ys h
@@ -24,17 +25,4 @@ all-stops b xs ys p hs stops stand k d lt = let h = get_or hs k d in (stops k d 
 pub none-given : {D : Type 0} (G : Ghosts D) (b : Begun) (known : Stopped → Type 0) (d : OpenDeck D) → d.trail ≡ [] → d.aborted ≡ false → IsSince G b d → IsSinceOf G b known d
 none-given G b known d fresh up is =
     let none : length is.given ≡ 0 = is.has.all up ∙ ap (past_after 0) fresh in
-    record {
-      given = is.given;
-      has = record {
-        stopped = λ k x lt. absurd (omega (arith, lt, none));
-        tickets = is.has.tickets;
-        settled = is.has.settled;
-        all = is.has.all;
-        costs = is.has.costs;
-        first = is.has.first;
-        numbers = is.has.numbers;
-        next = is.has.next;
-      };
-      since = is.since;
-    }
+    record { given = is.given; has = given-as (may_stop b) known is.given d (λ k x lt. absurd (omega (arith, lt, none))) is.has; since = is.since }

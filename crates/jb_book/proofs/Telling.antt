@@ -11,7 +11,7 @@ use Rattle.jb_deck.specs.Committing.{AnswersBatch}
 use Rattle.jb_deck.specs.Deck.{OpenDeck}
 use Rattle.jb_deck.specs.Gathering.{entries_from, entries_for}
 use Rattle.jb_deck.specs.declared.batched.BatchFault.{BatchFault}
-use Rattle.jb_deck.specs.declared.batched.BatchFault.TheVariants.{Aborted, WrongTicket, OtherShape, NumbersSpent, Memory, DeviceFault}
+use Rattle.jb_deck.specs.declared.batched.BatchFault.TheVariants.{DeviceFault}
 use Rattle.jb_deck.specs.declared.done.Done.{Done}
 use Rattle.jb_deck.specs.declared.done.Entry.{Entry}
 use Rattle.jb_book.specs.Calls.{AreOfFirst}
@@ -30,8 +30,7 @@ from-first c hs ticket number a [] is = tt
 from-first c hs ticket number a (b ∷ bs) is =
     let inside = rises-le (length hs) b bs is.1 in
     let size = length-range a b hs inside in
-    let more = is.0 in
-    (omega (arith, size, more), from-first c hs ticket (number + 1) b bs is.1)
+    (omega (arith, size), from-first c hs ticket (number + 1) b bs is.1)
 
 -- the entries of a cut are those of its pieces
 for-first : (c : ℕ → ℕ → ℕ) (hs : List Stopped) (ticket number : ℕ) (bounds : List ℕ) → IsCut (length hs) bounds → AreOfFirst (pieces bounds hs) (entries_for c ticket number bounds)
@@ -41,12 +40,8 @@ for-first c hs ticket number (a ∷ bs) cut = from-first c hs ticket number a bs
 pub commit_tells : {D : Type 0} (before after : ℕ) (p : Planned) (stamp : Stamp) (old new : OpenDeck D) (answer : Result Done BatchFault) → IsPlanned p → AnswersBatch before after p stamp old new answer → TellsFirst p answer
 commit_tells before after p stamp old new (Ok done) planned is =
     subst (AreOfFirst (pieces p.groups p.batch.handles)) (sym is.2.entries) (for-first (cost_in p.batch.shape p.batch.handles) p.batch.handles p.batch.first old.log.next p.groups planned.least.fitting.cut)
-commit_tells before after p stamp old new (Err (Aborted back)) planned is = tt
-commit_tells before after p stamp old new (Err (WrongTicket back expected)) planned is = tt
-commit_tells before after p stamp old new (Err (OtherShape back)) planned is = tt
-commit_tells before after p stamp old new (Err (NumbersSpent back)) planned is = tt
-commit_tells before after p stamp old new (Err (Memory back)) planned is = tt
 commit_tells before after p stamp old new (Err (DeviceFault settled)) planned is =
     let some = is.2 in
     subst (AreOfFirst (pieces p.groups p.batch.handles)) (sym some.entries)
     (fewer (pieces p.groups p.batch.handles) (entries_for (cost_in p.batch.shape p.batch.handles) p.batch.first old.log.next p.groups) some.groups (for-first (cost_in p.batch.shape p.batch.handles) p.batch.handles p.batch.first old.log.next p.groups planned.least.fitting.cut))
+commit_tells before after p stamp old new (Err refused) planned is = tt

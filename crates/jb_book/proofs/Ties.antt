@@ -20,7 +20,6 @@ use Rattle.jb_core.proofs.Runs.{sounds}
 use Rattle.jb_book.specs.Account.{Account, IsAccountSound, taken_all, settled_to, failed_of, CanTake, Settles}
 use Rattle.jb_book.specs.Calls.{AreOfFirst, IsCutOf}
 use Rattle.jb_book.specs.Shadow.{Shadow, took, settled_by, crashed}
-use Rattle.jb_book.specs.Shadow as shadow
 use Rattle.jb_book.specs.Tied.{IsUntouched, HasHandle, Tied, BookIsTied}
 use Rattle.jb_book.proofs.Follows.{follow-length}
 use Rattle.jb_book.proofs.Shadows.{shadowed}
@@ -37,13 +36,11 @@ module _ (a : Account) (log : Log) (m : Machine) (t : Tied a log m) where
       let up = tied-up a log m t can.running in
       let same = tied-shadow a log m t can.running in
       let queue : m.queue ≡ a.shadow.queue = ap (λ (s : Shadow). s.queue) same in
-      let many = can.some in
       let long : length m.queue ≡ length a.shadow.queue = ap length queue in
       let some : (length m.queue == 0) ≡ false = grind (arith, nat_tests) in
-      let free = can.free in
       let taken : length (settled_now m) + count m.taken ≡ a.shadow.taken = ap (λ (s : Shadow). s.taken) same in
       let settled : length (settled_now m) ≡ a.shadow.settled = ap (λ (s : Shadow). s.settled) same in
-      let none = none-filled m.taken t.filled (omega (arith, taken, settled, free)) in
+      let none = none-filled m.taken t.filled (omega (arith, taken, settled)) in
       let out : not (length m.taken == 0) ≡ false = rw none refl in
       let granted : event_refusal m (Take bounds) ≡ None = rw (up, some, out) refl in
       let least : IsLeastOf m bounds.items =
@@ -67,11 +64,9 @@ module _ (a : Account) (log : Log) (m : Machine) (t : Tied a log m) where
       let up = tied-up a log m t running in
       let same = tied-shadow a log m t running in
       let both = first-few a.shadow.settled _ past m.taken entries is.follow are in
-      let few = both.0 in
-      let upto = both.1 in
       let enough : nat_lt (length m.taken) (length entries) ≡ false = grind (arith, nat_tests) in
       let granted : event_refusal m (Settle (length entries)) ≡ None = rw (up, enough) refl in
-      let handles : count (take (length entries) m.taken) ≡ past - a.shadow.settled = omega (arith, upto) in
+      let handles : count (take (length entries) m.taken) ≡ past - a.shadow.settled = omega arith in
       record {
         ran = (m, t.ran, (granted, tt, refl, refl));
         accepted = t.accepted;
@@ -86,9 +81,8 @@ module _ (a : Account) (log : Log) (m : Machine) (t : Tied a log m) where
   tied-settles-none sound fell past entries is =
       let gone = (sound.failed fell).taken in
       let long = follow-length a.shadow.settled _ past entries is.follow in
-      let within = is.within in
-      let same : a.shadow.settled ≡ a.shadow.settled + (past - a.shadow.settled) = omega (arith, gone, long, within) in (
-        none-left entries (omega (arith, gone, long, within)),
+      let same : a.shadow.settled ≡ a.shadow.settled + (past - a.shadow.settled) = omega (arith, gone, long) in (
+        none-left entries (omega (arith, gone, long)),
         record {
           ran = t.ran;
           accepted = t.accepted;
@@ -131,7 +125,7 @@ module _ (a : Account) (log : Log) (m : Machine) (t : Tied a log m) where
   }
 
   pub tied-shuts : Tied (record a { shut = true }) log m
-  tied-shuts = record { ran = t.ran; accepted = t.accepted; one_life = t.one_life; untouched = t.untouched; filled = t.filled; running = t.running; failed = t.failed }
+  tied-shuts = assumption
 
 -- ---- all of them
 

@@ -1,5 +1,5 @@
 -- Changes of an open handle of the machine, one for each home of some words, leave it with the words.
-use Rattle.std.proofs.Common.{◌≡◌, ℕ, ◌+◌, ◌<◌, ◌≤◌, Bool, true, false, not, nat_le, ◌==◌, ◌&&◌, cond, List, [], ◌∷◌, ◌++◌, map, length, suc, Some, None, All, sym, refl, ap, ◌∙◌, le_refl, Ok, arith}
+use Rattle.std.proofs.Common.{◌≡◌, ℕ, ◌<◌, ◌≤◌, Bool, true, false, not, nat_le, ◌==◌, List, [], ◌∷◌, ◌++◌, map, length, suc, Some, None, All, sym, refl, ap, ◌∙◌, le_refl, Ok, arith}
 use Rattle.std.proofs.lemmas.Bool.Decides.{nat_tests}
 use Rattle.std.specs.Ordering.{nat_cmp}
 use Rattle.std.specs.Cmp.{nat_cmp_total}
@@ -40,17 +40,11 @@ none-of a b c x y z one two three = rw (one, two, three) refl
 -- a change that fits is not refused where a credit is left
 module _ (h : Held) (room : words.len h.words < h.credits) where
   not-spent : (home : ℕ) → is_spent h home ≡ false
-  not-spent home = at (words.contains_key h.words home) (let less : nat_le h.credits (words.len h.words) ≡ false = grind (arith, nat_tests) in less)
-    where
-      at : (has : Bool) → nat_le h.credits (words.len h.words) ≡ false → (not has && nat_le h.credits (words.len h.words)) ≡ false
-      at true less = refl
-      at false less = less
+  not-spent home = grind (arith, nat_tests)
 
   pub fits-in : (e : ℕ × Word) → FitsWord h.shape e.0 e.1 → handle.refusal h (op_for e) ≡ None
   fits-in (home, Copy bytes) fits =
-      let there = fits.0 in
       let far : nat_le h.shape.homes home ≡ false = grind (arith, nat_tests) in
-      let whole = fits.1 in
       let same : (length bytes == bytes_of h.shape.bs) ≡ true = grind (arith, nat_tests) in
       none-of (is_spent h home) (nat_le h.shape.homes home) (is_misfit h.shape (Some (length bytes))) (NoCredit h.credits) (OutOfRange home) Length (not-spent home) far (ap not same)
   fits-in (home, Free) fits =
@@ -61,20 +55,12 @@ module _ (h : Held) (room : words.len h.words < h.credits) where
 
 module _ {V : Type 0} (test : ℕ → Bool) (v : V) where
   found-set : (es : List (ℕ × V)) (w : V) → lookup test es ≡ Some w → lookup test (set_value test es v) ≡ Some v
-  found-set [] w is = absurd (let h : ⊥ = cc in h)
-  found-set (e ∷ es) w is = at (test e.0) refl is (found-set es w)
-    where
-      at : (b : Bool) → test e.0 ≡ b → cond b (Some e.1) (lookup test es) ≡ Some w → (lookup test es ≡ Some w → lookup test (set_value test es v) ≡ Some v) → lookup test (cond b ((e.0, v) ∷ es) (e ∷ set_value test es v)) ≡ Some v
-      at true same is rest = rw same refl
-      at false same is rest = rw same (rest is)
+  found-set [] w is = cc
+  found-set (e ∷ es) w is = grind (arith, found-set es w)
 
   gone-set : (es : List (ℕ × V)) → remove_entry test (set_value test es v) ≡ remove_entry test es
   gone-set [] = refl
-  gone-set (e ∷ es) = at (test e.0) refl (gone-set es)
-    where
-      at : (b : Bool) → test e.0 ≡ b → remove_entry test (set_value test es v) ≡ remove_entry test es → remove_entry test (cond b ((e.0, v) ∷ es) (e ∷ set_value test es v)) ≡ cond b es (e ∷ remove_entry test es)
-      at true same rest = rw same refl
-      at false same rest = rw same (ap (λ xs. e ∷ xs) rest)
+  gone-set (e ∷ es) = let rest = gone-set es in grind (arith, rest)
 
 -- ---- many changes
 
@@ -84,11 +70,7 @@ words_in es = words.from_entries es
 
 few-words : (es : List (ℕ × Word)) → words.len (words_in es) ≤ length es
 few-words [] = rw (words.len-empty nat_cmp Word) (le_refl 0)
-few-words (e ∷ es) = at (words.contains_key (words_in es) e.0) (words.len-insert nat_cmp_total (words_in es) e.0 e.1) (few-words es)
-  where
-    at : (has : Bool) → words.len (words.insert (words_in es) e.0 e.1) ≡ cond has (words.len (words_in es)) (words.len (words_in es) + 1) → words.len (words_in es) ≤ length es → words.len (words.insert (words_in es) e.0 e.1) ≤ length (e ∷ es)
-    at true is rest = omega (arith, is, rest)
-    at false is rest = omega (arith, is, rest)
+few-words (e ∷ es) = let rest = few-words es in grind (arith, rest, words.len-insert nat_cmp_total (words_in es) e.0 e.1)
 
 -- a machine after changes of a seat's open handle, which these entries made
 pub record IsTouched (shape : Shape) (log : Log) (m : Machine) (seat credits : ℕ) (es : List (ℕ × Word)) (n : Machine) : Type 0 where

@@ -9,9 +9,9 @@ use Rattle.jb_book.specs.History.{IsStop}
 use Rattle.jb_book.specs.SinceMark.{IsMarkedOf, MarksSettled}
 use Rattle.jb_book.proofs.StopHistories.{all-stops, stop-on}
 use Rattle.jb_book.proofs.Lasting.{marked-now, marks-settled}
-use Rattle.jb_book.proofs.LastingMarks.{commit-marked, marked-weaker}
+use Rattle.jb_book.proofs.LastingMarks.{marked-weaker}
 use Rattle.jb_book.proofs.Rounds.{commits-as}
-use Rattle.jb_book.proofs.Givings.{commit-ends}
+use Rattle.jb_book.proofs.Givings.{commit-ends, commit-marked}
 use Rattle.jb_book.proofs.works.Works.commit.Goals as goal
 
 pub invariant_of-self : goal.invariant_of-self
@@ -20,12 +20,12 @@ invariant_of-self g c =
     let stops = all-stops b c.args.sight c.learn.new.sight c.learn.ensures.other c.args.prepared.batch.handles c.requires.stops c.requires.history in
     let tickets = subst (λ (x : Gathered). TicketsFrom x.first x.handles) c.batch.ensures c.handles-handles.ensures.kept.tickets in
     let is = marked-weaker g.D.Disk b (IsStop b c.self.inside.sight) (IsStop b c.learn.new.sight) (stop-on b c.self.inside.sight c.learn.new.sight c.learn.ensures.own) c.self.inside.scribe c.self.inside.deck c.self.invariant in
-    let after = commit-marked g.D.Disk g.met.D.Disk.counts_now b (IsStop b c.learn.new.sight) (λ h s. s.0)
+    let after = commit-marked g.D.Disk b (IsStop b c.learn.new.sight)
     c.args.prepared c.now-stamp.result c.self.inside.deck c.commit_batch-result.new.self c.groups-groups.ensures.least tickets stops c.commit_batch-result.ensures.kept c.self.inside.scribe
     c.commit_batch-result.result c.commit_batch-result.ensures.answers c.commit_batch-result.ensures.commits c.commit_batch-result.ensures.leaves c.commit_batch-result.ensures.now is in
     let tiles = subst (λ (es : List Entry). Follow (start_of es) 0 (past_after 0 es) es) c.trail-trail.ensures.value c.trail-trail.ensures.tiles in
     subst (λ (ms : List (OpenDeck g.row.D.Denot)). IsMarkedOf g.D.Disk b (IsStop b c.learn.new.sight) ms c.commit_batch-result.new.self) (sym c.mark-marks.ensures.whole)
-    (marked-now g.D.Disk g.met.D.Disk.counts_now b (IsStop b c.learn.new.sight) (λ h s. s.0) g.met.D.Disk.only_now c.self.inside.scribe c.commit_batch-result.new.self tiles after)
+    (marked-now g.D.Disk g.met.D.Disk.only_now b (IsStop b c.learn.new.sight) c.self.inside.scribe c.commit_batch-result.new.self tiles after)
 
 pub returns-clause-tells : goal.returns-clause-tells
 returns-clause-tells g c =
@@ -41,9 +41,9 @@ returns-clause-round g c =
     let stops = all-stops b c.args.sight c.learn.new.sight c.learn.ensures.other c.args.prepared.batch.handles c.requires.stops c.requires.history in
     let tickets = subst (λ (x : Gathered). TicketsFrom x.first x.handles) c.batch.ensures c.handles-handles.ensures.kept.tickets in
     let is = marked-weaker g.D.Disk b (IsStop b c.self.inside.sight) (IsStop b c.learn.new.sight) (stop-on b c.self.inside.sight c.learn.new.sight c.learn.ensures.own) c.self.inside.scribe c.self.inside.deck c.self.invariant in
-    commit-ends g.D.Disk g.met.D.Disk.counts_now b (IsStop b c.learn.new.sight) (λ h s. s.0)
-    c.args.prepared c.now-stamp.result c.self.inside.deck c.commit_batch-result.new.self c.groups-groups.ensures.least tickets stops c.commit_batch-result.ensures.kept
-    c.commit_batch-result.result c.commit_batch-result.ensures.answers c.commit_batch-result.ensures.commits c.commit_batch-result.ensures.finds c.commit_batch-result.ensures.leaves c.commit_batch-result.ensures.now is.since
+    commit-ends g.D.Disk b (IsStop b c.learn.new.sight)
+    c.args.prepared c.now-stamp.result c.self.inside.deck c.commit_batch-result.new.self c.groups-groups.ensures.least tickets stops c.commit_batch-result.ensures.kept (λ h s. s.0) c.self.inside.scribe
+    c.commit_batch-result.result c.commit_batch-result.ensures.answers c.commit_batch-result.ensures.commits c.commit_batch-result.ensures.finds c.commit_batch-result.ensures.leaves c.commit_batch-result.ensures.now is
 
 pub returns-clause-marked : goal.returns-clause-marked
 returns-clause-marked g c =

@@ -3,4 +3,4 @@ use Rattle.jb_book.proofs.LastingMarks.{new-marked}
 use Rattle.jb_book.proofs.works.Works.new.Goals as goal
 
 pub invariant_of-result : goal.invariant_of-result
-invariant_of-result g c = new-marked g.D.Disk g.met.D.Disk.counts_now g.met.D.Disk.only_now g.S.Origin.begun (IsStop g.S.Origin.begun c.args.sight) (λ h s. s.0) c.args.scribe c.args.deck c.requires.marked c.requires.fresh c.requires.running c.requires.begun
+invariant_of-result g c = new-marked g.D.Disk g.met.D.Disk.only_now g.S.Origin.begun (IsStop g.S.Origin.begun c.args.sight) c.args.scribe c.args.deck c.requires.marked c.requires.fresh c.requires.running c.requires.begun

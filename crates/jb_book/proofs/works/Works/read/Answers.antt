@@ -10,19 +10,18 @@ use Rattle.jb_book.specs.History.{IsStop}
 use Rattle.jb_book.specs.SinceMark.{IsMarkedOf}
 use Rattle.jb_book.proofs.StopHistories.{stop-on}
 use Rattle.jb_book.proofs.Lasting.{marked-now, settled-of}
-use Rattle.jb_book.proofs.LastingMarks.{read-marked}
-use Rattle.jb_book.proofs.Readings.{read-home}
+use Rattle.jb_book.proofs.Readings.{read-home, read-marked}
 use Rattle.jb_book.proofs.works.Works.read.Goals as goal
 
 pub invariant_of-self : goal.invariant_of-self
 invariant_of-self g c =
     let b = g.S.Origin.begun in
     let known = IsStop b c.self.inside.sight in
-    let after = read-marked g.D.Disk g.met.D.Disk.counts_now b known (λ h s. s.0)
+    let after = read-marked g.D.Disk g.met.D.Disk.counts_now b known
     c.self.inside.deck c.read_home-result.new.self c.read_home-result.ensures.kept c.self.inside.scribe _ _
     c.read_home-result.result c.read_home-result.ensures.answers c.read_home-result.ensures.newest c.read_home-result.ensures.leaves c.self.invariant in
     let tiles = subst (λ (es : List Entry). Follow (start_of es) 0 (past_after 0 es) es) c.trail-trail.ensures.value c.trail-trail.ensures.tiles in
-    let now = marked-now g.D.Disk g.met.D.Disk.counts_now b known (λ h s. s.0) g.met.D.Disk.only_now c.self.inside.scribe c.read_home-result.new.self tiles after in
+    let now = marked-now g.D.Disk g.met.D.Disk.only_now b known c.self.inside.scribe c.read_home-result.new.self tiles after in
     subst (λ (x : List WordMap × List (OpenDeck g.row.D.Denot)). IsMarkedOf g.D.Disk b (IsStop b x.0) x.1 c.read_home-result.new.self)
     (λ i. (sym c.learn.ensures.kept i, (ap (λ (ms : List (OpenDeck g.row.D.Denot)). with_last ms c.read_home-result.new.self) (sym c.check.ensures.kept) ∙ sym c.mark-shown.ensures.whole) i))
     now
@@ -34,13 +33,13 @@ returns-clause-home g c =
     let deck = c.self.inside.deck in
     let new = c.read_home-result.new.self in
     let seen = subst (λ (ms : List (OpenDeck g.row.D.Denot)). IsPrefix ms c.self.inside.scribe) c.again-marks.ensures.sight c.check.ensures.sight in
-    let after = read-marked g.D.Disk g.met.D.Disk.counts_now b known (λ h s. s.0)
+    let after = read-marked g.D.Disk g.met.D.Disk.counts_now b known
     deck new c.read_home-result.ensures.kept c.self.inside.scribe _ _
     c.read_home-result.result c.read_home-result.ensures.answers c.read_home-result.ensures.newest c.read_home-result.ensures.leaves c.self.invariant in
     let at = length c.check.new.scribe in
     let last : StandsIn c.mark-shown.result (at, new) = subst (λ (ms : List (OpenDeck g.row.D.Denot)). StandsIn ms (at, new)) (sym c.mark-shown.ensures.whole ∙ sym c.mark-shown.ensures.sight) (get_last c.check.new.scribe new) in
     let marked = placed_on c.mark-shown.result c.learn-2.new.sight c.learn-2.ensures.other (at, new) last in
-    read-home g.D.Disk g.met.D.Disk.counts_now b known (λ h s. s.0)
+    read-home g.D.Disk b known
     deck new c.read_home-result.ensures.kept c.learn.new.sight c.args.seen.now.marks c.learn-2.new.sight at _ _ _
     c.read_home-result.result (stop-on b c.self.inside.sight c.learn.new.sight c.learn.ensures.other)
     (settled-of g.D.Disk b c.self.invariant.since.given deck c.args.seen.now.marks c.self.inside.scribe seen c.self.invariant.marks_last) marked
