@@ -1,21 +1,12 @@
 -- The first rows by their rank.
-use Rattle.std.proofs.Common.{◌≡◌, ℕ, zero, suc, Bool, true, false, List, [], ◌∷◌, take, refl, sym, ap, ◌∙◌}
+use Rattle.std.proofs.Common.{◌≡◌, ℕ, zero, suc, Bool, true, false, List, [], ◌∷◌, take, refl, sym, ap, ◌∙◌, arith}
+use Rattle.std.proofs.lemmas.List.{take-take}
 use Rattle.std.specs.Prelude.{nat_lt, if◌then◌else◌}
 use Rattle.jb_dump.specs.Written.{ranked, ranked_among}
 
-take-less : {A : Type 0} (n : ℕ) (xs : List A) → take n (take (suc n) xs) ≡ take n xs
-take-less zero xs = refl
-take-less (suc n) [] = refl
-take-less (suc n) (x ∷ xs) = ap (λ rest. x ∷ rest) (take-less n xs)
-
-take-twice : {A : Type 0} (n : ℕ) (xs : List A) → take n (take n xs) ≡ take n xs
-take-twice zero xs = refl
-take-twice (suc n) [] = refl
-take-twice (suc n) (x ∷ xs) = ap (λ rest. x ∷ rest) (take-twice n xs)
-
 take-behind : {A : Type 0} (n : ℕ) (x : A) (xs : List A) → take n (x ∷ take n xs) ≡ take n (x ∷ xs)
 take-behind zero x xs = refl
-take-behind (suc n) x xs = ap (λ rest. x ∷ rest) (take-less n xs)
+take-behind (suc n) x xs = ap (λ rest. x ∷ rest) (take-take n (suc n) xs (omega arith))
 
 -- what comes after the first rows does not matter for the first ones of them and one more
 take-among : (n : ℕ) (row : ℕ × ℕ) (rows : List (ℕ × ℕ)) → take n (ranked_among row (take n rows)) ≡ take n (ranked_among row rows)
@@ -29,7 +20,7 @@ take-among (suc n) row (other ∷ rows) = by (take-among n row rows) (nat_lt oth
 
 -- nor for the first ones of them and more
 pub take-ranked : (n : ℕ) (rows more : List (ℕ × ℕ)) → take n (ranked (take n rows) more) ≡ take n (ranked rows more)
-take-ranked n rows [] = take-twice n rows
+take-ranked n rows [] = take-take n n rows (omega arith)
 take-ranked n rows (row ∷ more) =
     sym (take-ranked n (ranked_among row (take n rows)) more)
     ∙ ap (λ first. take n (ranked first more)) (take-among n row rows)

@@ -51,15 +51,11 @@ module _ (c : ℕ → ℕ → ℕ) (limit n : ℕ) (ps : List (Option ℕ)) wher
 
   -- where the prices hold, what a verdict says of the answer it says of the certificate
   pub says-answer : (answer : CertAnswer) → PricesHold c limit n ps → (verdict : Verdict) → AnswerSays c limit n ps answer verdict → Says c limit n ps answer verdict
-  says-answer answer prices Accepted says = (prices, says)
   says-answer (Cut bounds sum) prices (Refused OpeningPrice) says = absurd says
   says-answer NoCut prices (Refused OpeningPrice) says = absurd says
   says-answer (Cut bounds sum) prices (Refused (Undercut i j)) says = absurd says
   says-answer NoCut prices (Refused (Undercut i j)) says = absurd says
-  says-answer answer prices (Refused NotACut) says = (prices, says)
-  says-answer answer prices (Refused (OverLimit i j)) says = (prices, says)
-  says-answer answer prices (Refused TotalDiffers) says = (prices, says)
-  says-answer answer prices (Refused EndPrice) says = (prices, says)
+  says-answer answer prices verdict says = (prices, says)
 
   pub right-accepted : (answer : CertAnswer) → Says c limit n ps answer Accepted → IsRight c limit n answer
   right-accepted (Cut bounds sum) (prices, holds) = (
@@ -111,10 +107,8 @@ module _ (c : ℕ → ℕ → ℕ) (limit n : ℕ) (ps : List (Option ℕ)) wher
   only-accepted (Cut bounds sum) prices holds (Refused (OverLimit i j)) says = absurd (over-piece c limit bounds.items i j holds.fitting.fits says.1.1)
   only-accepted (Cut bounds sum) prices holds (Refused TotalDiffers) says = absurd (says.1.1 holds.sums)
   only-accepted (Cut bounds sum) prices holds (Refused EndPrice) says = absurd (says.1.2 holds.end_price)
-  only-accepted NoCut prices holds (Refused NotACut) says = absurd says.1
-  only-accepted NoCut prices holds (Refused (OverLimit i j)) says = absurd says.1
-  only-accepted NoCut prices holds (Refused TotalDiffers) says = absurd says.1
   only-accepted NoCut prices holds (Refused EndPrice) says = absurd (says.1 holds)
+  only-accepted NoCut prices holds verdict says = absurd says.1
 
   pub planned-accepted : (answer : CertAnswer) → ArePrices c limit n ps → IsRight c limit n answer → Says c limit n ps answer Accepted × ((verdict : Verdict) → Says c limit n ps answer verdict → verdict ≡ Accepted)
   planned-accepted answer are right =

@@ -1,28 +1,19 @@
 -- The first wrong word of a handle is the one at which reading ends.
-use Rattle.std.proofs.Common.{◌≡◌, ◌∙◌, sym, ap, ℕ, ◌^◌, ◌<◌, List, [], ◌++◌, refl, Result, Ok, Err, inl, inr}
-use Rattle.std.specs.Prelude.{codes, decimal}
+use Rattle.std.proofs.Common.{◌≡◌, ◌∙◌, sym, ap, ℕ, List, [], refl, Result, Ok, Err, inl, inr}
 use Rattle.hex.specs.Hex.{decode_of}
 use Rattle.jb_queue.specs.declared.fault.Cause.{Cause}
 use Rattle.jb_queue.specs.declared.fault.Cause.TheVariants.{OpWord, DataWord}
 use Rattle.jb_handle.specs.declared.word.Word.TheVariants.{Copy, Free}
 use Rattle.jb_handle.specs.Word.{WordMap}
 use Rattle.jb_block.specs.Fields.{padded}
-use Rattle.jb_text.specs.Parts.{◌>>=◌}
 use Rattle.std.proofs.lemmas.Result.{MatchResult-at_err}
 use Rattle.jb_text.proofs.Readings.{then-says, wrong-is}
-use Rattle.jb_text.proofs.Joins.{before-put, onward-put, decimal-without}
 use Rattle.jb_queue.specs.Queue.{decoded_block, op_of, after_ops}
 use Rattle.jb_queue.specs.Spelling.{Entry, SpellsOp}
 use Rattle.jb_queue.specs.Faults.{IsNoOp, HasNoData, IsWrongWord, FirstWrongWord}
 use Rattle.jb_queue.proofs.Walks.{StopsAt, each-map, walk-fails}
 use Rattle.jb_queue.proofs.Ops.{ops-walk}
-use Rattle.jb_queue.proofs.SpelledOps.{IsFaulty, op-says, op-is, op-from, block-says, home-from, zeros-from, free-from}
-
--- a `w` word with an `=` after its number is read as the digits after it say
-reads-data : (size home : ℕ) (digits : List ℕ) → home < 2 ^ 64 → op_of size (codes "w" ++ (decimal home ++ (codes "=" ++ digits))) ≡ (decoded_block size (decode_of digits) >>= λ bytes. Ok (home, Copy bytes))
-reads-data size home digits fits =
-    let clear = decimal-without 61 home refl fits in
-    rw (before-put 61 (decimal home) digits clear, onward-put 61 (decimal home) digits clear, home-from home fits) refl
+use Rattle.jb_queue.proofs.SpelledOps.{IsFaulty, op-says, op-is, op-from, block-says, reads-data, zeros-from, free-from}
 
 -- what is wrong with a word at which reading ends
 no-op : (size : ℕ) (text : List ℕ) → op_of size text ≡ Err OpWord → IsNoOp text

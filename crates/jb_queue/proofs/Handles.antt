@@ -3,7 +3,7 @@ use Rattle.std.proofs.Common.{◌≡◌, ◌∙◌, sym, ap, subst, ℕ, ◌+◌
 use Rattle.std.proofs.lemmas.List.{append_assoc, append-nil}
 use Rattle.std.proofs.lemmas.Result.{MatchResult-at_err}
 use Rattle.jb_queue.specs.declared.fault.Cause.{Cause}
-use Rattle.jb_queue.specs.declared.fault.Cause.TheVariants.{BlockSizeLine, LimitLine, HandleLine, OpWord, DataWord, Memory}
+use Rattle.jb_queue.specs.declared.fault.Cause.TheVariants.{Memory}
 use Rattle.jb_queue.specs.declared.fault.QueueFault.{QueueFault}
 use Rattle.jb_handle.specs.declared.stopped.Stopped.{Stopped}
 use Rattle.jb_text.specs.Parts.{lines, FirstLine}
@@ -81,12 +81,8 @@ module _ (size : ℕ) (had : List Stopped) (rest line behind : List ℕ) (whole 
 
   -- a fault of a line is the first of the whole
   pub line-reports : (cause : Cause) → Gives {A = WordMap} (Err cause) (handle_of size line) → Reports whole (record { line = at + 3; cause = cause })
-  line-reports BlockSizeLine given = line-fails BlockSizeLine given
-  line-reports LimitLine given = line-fails LimitLine given
-  line-reports HandleLine given = line-fails HandleLine given
-  line-reports OpWord given = line-fails OpWord given
-  line-reports DataWord given = line-fails DataWord given
   line-reports Memory given = line-full
+  line-reports cause given = line-fails cause given
 
 -- of all lines some were read, so many
 pub record ArePassed (all left : List (List ℕ)) (n : ℕ) : Type 0 where

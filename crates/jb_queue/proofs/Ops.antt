@@ -5,7 +5,7 @@ use Rattle.std.specs.Borrow.{Bor}
 use Rattle.std.specs.Option.{option_copied}
 use Rattle.std.specs.FinMap as map
 use Rattle.jb_queue.specs.declared.fault.Cause.{Cause}
-use Rattle.jb_queue.specs.declared.fault.Cause.TheVariants.{BlockSizeLine, LimitLine, HandleLine, OpWord, DataWord, Memory}
+use Rattle.jb_queue.specs.declared.fault.Cause.TheVariants.{HandleLine, Memory}
 use Rattle.jb_handle.specs.declared.word.Word.{Word}
 use Rattle.jb_text.specs.Parts.{words, words_in}
 use Rattle.jb_queue.specs.Queue.{Gives, FirstReads, BeginsHandle, op_of, after_ops, behind_h, handle_of}
@@ -37,12 +37,8 @@ module _ (size : ℕ) (had : WordMap) (rest : Option (Bor (List ℕ))) (text : B
 
 -- a fault of a part is one of the whole
 pub gives-on : {A B : Type 0} (cause : Cause) (part : Result A Cause) (whole : Result B Cause) → ((cause' : Cause) → part ≡ Err cause' → whole ≡ Err cause') → Gives {A = A} (Err cause) part → Gives {A = B} (Err cause) whole
-gives-on BlockSizeLine part whole on given = on BlockSizeLine given
-gives-on LimitLine part whole on given = on LimitLine given
-gives-on HandleLine part whole on given = on HandleLine given
-gives-on OpWord part whole on given = on OpWord given
-gives-on DataWord part whole on given = on DataWord given
 gives-on Memory part whole on given = tt
+gives-on cause part whole on given = on cause given
 
 -- the last word was the last
 pub ops-whole : (size : ℕ) (had : WordMap) (rest : Option (Bor (List ℕ))) (whole : Result WordMap Cause) → ((text : Bor (List ℕ)) → rest ≡ Some text → ⊥) → after_ops size had (words_in (option_copied rest)) ≡ whole → whole ≡ Ok had

@@ -86,9 +86,8 @@ same-words ops now left = map.same_map nat_cmp_total nat_cmp-IsAntisymmetric (fo
 
 pub texts-clear : (size delimiter : ℕ) (is : IsDelimiter delimiter) (texts : List (List ℕ)) (ops : List Entry) → Each (SpellsOp size) texts ops → AllByRecursion (Without delimiter) texts
 texts-clear size delimiter is [] [] each = tt
-texts-clear size delimiter is [] (op ∷ ops) each = absurd each
-texts-clear size delimiter is (text ∷ texts) [] each = absurd each
 texts-clear size delimiter is (text ∷ texts) (op ∷ ops) each = (op-clear size delimiter is text op each.0, texts-clear size delimiter is texts ops each.1)
+texts-clear size delimiter is texts ops each = absurd each
 
 pub handle-from : (size : ℕ) (line : List ℕ) (now : WordMap) → SpellsHandle size line now → handle_of size line ≡ Ok now
 handle-from size line now spells = ap (handle_of size) spells.spelled ∙ from spells.texts spells.ops spells.each ∙ ap Ok (same-words spells.ops now spells.left)

@@ -37,7 +37,7 @@ home-says digits = by (number_of digits) refl
     by (Some home) is = number-is_decimal digits home is
 
 -- what spells an op is read to it
-pub fits-true : (size : ℕ) (bytes : List ℕ) → 0 < length bytes → length bytes ≤ size → (nat_lt 0 (length bytes) && nat_le (length bytes) size) ≡ true
+fits-true : (size : ℕ) (bytes : List ℕ) → 0 < length bytes → length bytes ≤ size → (nat_lt 0 (length bytes) && nat_le (length bytes) size) ≡ true
 fits-true size bytes some within = grind (arith, nat_tests, some, within)
 
 pub zeros-from : (size home : ℕ) → home < 2 ^ 64 → op_of size (codes "w" ++ decimal home) ≡ Ok (home, Copy (padded size []))
@@ -45,10 +45,11 @@ zeros-from size home fits =
     let clear = decimal-without 61 home refl fits in
     rw (before-whole 61 (decimal home) clear, onward-none 61 (decimal home) clear, home-from home fits) refl
 
-bytes-from : (size home : ℕ) (digits bytes : List ℕ) → home < 2 ^ 64 → decode_of digits ≡ Ok bytes → 0 < length bytes → length bytes ≤ size → op_of size (codes "w" ++ (decimal home ++ (codes "=" ++ digits))) ≡ Ok (home, Copy (padded size bytes))
-bytes-from size home digits bytes fits decoded some within =
+-- a `w` word with an `=` after its number is read as the digits after it say
+pub reads-data : (size home : ℕ) (digits : List ℕ) → home < 2 ^ 64 → op_of size (codes "w" ++ (decimal home ++ (codes "=" ++ digits))) ≡ (decoded_block size (decode_of digits) >>= λ bytes. Ok (home, Copy bytes))
+reads-data size home digits fits =
     let clear = decimal-without 61 home refl fits in
-    rw (before-put 61 (decimal home) digits clear, onward-put 61 (decimal home) digits clear, home-from home fits, decoded, fits-true size bytes some within) refl
+    rw (before-put 61 (decimal home) digits clear, onward-put 61 (decimal home) digits clear, home-from home fits) refl
 
 pub free-from : (size home : ℕ) → home < 2 ^ 64 → op_of size (codes "r" ++ decimal home) ≡ Ok (home, Free)
 free-from size home fits = rw (home-from home fits) refl
@@ -56,11 +57,11 @@ free-from size home fits = rw (home-from home fits) refl
 pub op-from : (size : ℕ) (text : List ℕ) (op : Entry) → SpellsOp size text op → op_of size text ≡ Ok op
 op-from size text op spells = elim spells.form [
   | inl zeros ↦ ap (op_of size) zeros.0 ∙ zeros-from size op.0 spells.home ∙ ap (λ word. Ok (op.0, word)) (sym zeros.1)
-  | inr (inl has) ↦ ap (op_of size) has.spelled ∙ bytes-from size op.0 has.digits has.bytes spells.home has.decoded has.some has.within ∙ ap (λ word. Ok (op.0, word)) (sym has.left)
+  | inr (inl has) ↦ ap (op_of size) has.spelled ∙ reads-data size op.0 has.digits spells.home ∙ rw (has.decoded, fits-true size has.bytes has.some has.within) refl ∙ ap (λ word. Ok (op.0, word)) (sym has.left)
   | inr (inr free) ↦ ap (op_of size) free.0 ∙ free-from size op.0 spells.home ∙ ap (λ word. Ok (op.0, word)) (sym free.1)
 ]
 
-pub onward-case : (delimiter : ℕ) (bs : List ℕ) → (onward delimiter bs ≡ []) ⊎ ((behind : List ℕ) × (onward delimiter bs ≡ delimiter ∷ behind))
+onward-case : (delimiter : ℕ) (bs : List ℕ) → (onward delimiter bs ≡ []) ⊎ ((behind : List ℕ) × (onward delimiter bs ≡ delimiter ∷ behind))
 onward-case delimiter [] = inl (onward-nil delimiter)
 onward-case delimiter (b ∷ bs) = elim (cases_eq b delimiter) [
   | inl same ↦ inr (bs, onward-ends delimiter b bs same ∙ ap (λ first. first ∷ bs) same)

@@ -1,12 +1,12 @@
 -- A queue text is read exactly where it spells a queue, and else has a first fault.
-use Rattle.std.proofs.Common.{subst, ◌↔◌, ◌≡◌, ◌∙◌, sym, ap, ap₂, ℕ, ◌^◌, ◌<◌, ◌≤◌, ◌==◌, ◌&&◌, nat_le, Bool, true, false, if◌then◌else◌, List, [], ◌∷◌, ◌++◌, length, length-append, refl, arith, append_assoc, Option, Some, None, Result, Ok, Err, inl, inr}
+use Rattle.std.proofs.Common.{subst, ◌↔◌, ◌≡◌, ◌∙◌, sym, ap, ap₂, ℕ, ◌^◌, ◌<◌, ◌≤◌, ◌&&◌, nat_le, Bool, true, false, if◌then◌else◌, List, [], ◌∷◌, ◌++◌, length, length-append, refl, arith, append_assoc, Option, Some, None, Result, Ok, Err, inl, inr}
 use Rattle.std.specs.Prelude.{codes, decimal}
 use Rattle.std.specs.List.{AllByRecursion}
 use Rattle.std.specs.Option.{option_and_then, MatchOption}
 use Rattle.std.specs.Result.{MatchResult}
 use Rattle.std.proofs.lemmas.Result.{MatchResult-at_ok, MatchResult-weaker}
 use Rattle.std.specs.Str.{bytes_eq}
-use Rattle.std.proofs.lemmas.Bool.{eqb-true}
+use Rattle.std.proofs.lemmas.Option.{option_and_then_some}
 use Rattle.std.proofs.lemmas.Bool.Decides.{nat_tests}
 use Rattle.std.proofs.lemmas.List.{append-nil}
 use Rattle.std.proofs.lemmas.Slice.Eq.{bytes_eq-Decides}
@@ -37,18 +37,13 @@ use Rattle.jb_queue.proofs.SpelledOps.{feed-delimits}
 use Rattle.jb_text.proofs.Splits.{parted}
 
 -- the two first lines
-size-case : (n : Option ℕ) (size : BlockSize) → option_and_then size_of_bytes n ≡ Some size → n ≡ Some (bytes_of size)
-size-case None size is = cc
-size-case (Some n) size is = from (n == 1024) (n == 2048) (n == 4096) refl refl refl is
-  where
-    from : (one two four : Bool) → (n == 1024) ≡ one → (n == 2048) ≡ two → (n == 4096) ≡ four → (if one then Some OneKib else if two then Some TwoKib else if four then Some FourKib else None) ≡ Some size → Some n ≡ Some (bytes_of size)
-    from true two four a b c gives = let same : OneKib ≡ size = cc in ap Some (eqb-true n 1024 a ∙ ap bytes_of same)
-    from false true four a b c gives = let same : TwoKib ≡ size = cc in ap Some (eqb-true n 2048 b ∙ ap bytes_of same)
-    from false false true a b c gives = let same : FourKib ≡ size = cc in ap Some (eqb-true n 4096 c ∙ ap bytes_of same)
-    from false false false a b c gives = cc
+size-of : (n : ℕ) (size : BlockSize) → size_of_bytes n ≡ Some size → n ≡ bytes_of size
+size-of n OneKib is = grind (arith, nat_tests, is)
+size-of n TwoKib is = grind (arith, nat_tests, is)
+size-of n FourKib is = grind (arith, nat_tests, is)
 
 digits-case : (digits : List ℕ) (size : BlockSize) → option_and_then size_of_bytes (number_of digits) ≡ Some size → digits ≡ decimal (bytes_of size)
-digits-case digits size is = (number-is_decimal digits (bytes_of size) (size-case (number_of digits) size is)).0
+digits-case digits size is = option_and_then_some size_of_bytes (number_of digits) size is (λ n found gives. (number-is_decimal digits (bytes_of size) (found ∙ ap Some (size-of n size gives))).0)
 
 width-is : (text : List ℕ) (width : Width) → width_behind text ≡ Some width → text ≡ width_text width
 width-is [] width is = let same : Narrow ≡ width = cc in ap width_text same
@@ -109,13 +104,7 @@ format-from size width =
 
 limit-case : (n : Option ℕ) (limit : ℕ) → and_then n (λ m. where_true (nat_le 3 m && nat_le m 2147483646) m) ≡ Some limit → (n ≡ Some limit) × (3 ≤ limit) × (limit ≤ 2147483646)
 limit-case None limit is = cc
-limit-case (Some m) limit is = from (nat_le 3 m && nat_le m 2147483646) refl is
-  where
-    from : (test : Bool) → (nat_le 3 m && nat_le m 2147483646) ≡ test → where_true test m ≡ Some limit → (Some m ≡ Some limit) × (3 ≤ limit) × (limit ≤ 2147483646)
-    from false other gives = cc
-    from true holds gives =
-        let same : m ≡ limit = cc in
-        (gives, grind (arith, nat_tests, holds, same), grind (arith, nat_tests, holds, same))
+limit-case (Some m) limit is = (grind (arith, nat_tests, is), grind (arith, nat_tests, is), grind (arith, nat_tests, is))
 
 pub limit-is : (line : List ℕ) (limit : ℕ) → limit_in_line line ≡ Some limit → (line ≡ codes "limit " ++ decimal limit) × (3 ≤ limit) × (limit ≤ 2147483646)
 limit-is line limit is =
@@ -131,13 +120,12 @@ limit-from limit least most =
 -- what spells handles is read to them
 handles-from : (size : ℕ) (had : List Stopped) (left : List (List ℕ)) (handles : List Stopped) → Each (λ line handle. SpellsHandle size line handle.words) left handles → TicketsFrom (length had) handles → after_lines size had left ≡ Ok (had ++ handles)
 handles-from size had [] [] each tickets = (lines-walk size).ends had ∙ ap Ok (sym (append-nil had))
-handles-from size had [] (h ∷ hs) each tickets = absurd each
-handles-from size had (line ∷ more) [] each tickets = absurd each
 handles-from size had (line ∷ more) (h ∷ hs) each tickets =
     (lines-walk size).goes had line more h.words (handle-from size line h.words each.0)
     ∙ ap (λ n. after_lines size (had ++ record { ticket = n; words = h.words } ∷ []) more) (sym tickets.0)
     ∙ handles-from size (had ++ h ∷ []) more hs each.1 (subst (λ n. TicketsFrom n hs) (sym (length-append had (h ∷ []))) tickets.1)
     ∙ ap Ok (append_assoc had (h ∷ []) hs)
+handles-from size had left handles each tickets = absurd each
 
 -- the queue of a text, from after its first line and its second
 abbrev pub behind_limit : BlockSize × Width → ℕ → List (List ℕ) → Result Queue QueueFault
@@ -234,9 +222,8 @@ handle-line size line words spells =
 
 handle-lines : (size : ℕ) (left : List (List ℕ)) (handles : List Stopped) → Each (λ line handle. SpellsHandle size line handle.words) left handles → AllByRecursion IsLine left
 handle-lines size [] [] each = tt
-handle-lines size [] (h ∷ hs) each = absurd each
-handle-lines size (line ∷ more) [] each = absurd each
 handle-lines size (line ∷ more) (h ∷ hs) each = (handle-line size line h.words each.0, handle-lines size more hs each.1)
+handle-lines size left handles each = absurd each
 
 number-line : (word : List ℕ) (n : ℕ) → 0 < length word → Without 10 word → n < 2 ^ 64 → IsLine (word ++ decimal n)
 number-line word n some clear fits = (omega (arith, length-append word (decimal n)), without-append 10 word (decimal n) clear (decimal-without 10 n refl fits))

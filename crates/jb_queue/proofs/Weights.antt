@@ -1,5 +1,5 @@
 -- A queue weighs at most half as much as its text is long.
-use Rattle.std.proofs.Common.{◌≡◌, ap, ℕ, ◌+◌, ◌*◌, ◌<◌, ◌≤◌, ◌==◌, List, [], ◌∷◌, length, arith, Option, option_map, Some, None, Ok, inl, inr, Bool, true, false, cond}
+use Rattle.std.proofs.Common.{◌≡◌, ap, ℕ, ◌+◌, ◌*◌, ◌<◌, ◌≤◌, ◌==◌, List, [], ◌∷◌, length, arith, Option, option_map, Some, None, Ok, inl, inr}
 use Rattle.std.specs.Ordering.{nat_cmp}
 use Rattle.std.specs.Cmp.{nat_cmp_total}
 use Rattle.std.specs.FinMap as map
@@ -42,12 +42,8 @@ words-total (b ∷ text) = elim (cases_eq b 32) [
 ]
 
 -- one word more makes at most one home more
-one-more : (known : Bool) (had now : ℕ) → now ≡ cond known had (had + 1) → now ≤ had + 1
-one-more true had now is = omega arith
-one-more false had now is = omega arith
-
 len-insert-le : (had : WordMap) (home : ℕ) (word : Word) → map.len (map.insert had home word) ≤ map.len had + 1
-len-insert-le had home word = one-more (map.contains_key had home) (map.len had) (map.len (map.insert had home word)) (map.len-insert nat_cmp_total had home word)
+len-insert-le had home word = grind (arith, map.len-insert nat_cmp_total had home word)
 
 some-word : (size : ℕ) (text : List ℕ) (op : ℕ × Word) → op_of size text ≡ Ok op → 0 < length text
 some-word size [] op is = cc

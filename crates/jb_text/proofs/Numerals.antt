@@ -3,7 +3,7 @@ use Rattle.std.proofs.Common.{◌≡◌, ◌∙◌, sym, ap, ℕ, ◌+◌, ◌-�
 use Rattle.std.specs.Char.{is_ascii_digit}
 use Rattle.std.specs.Fmt.{decimal}
 use Rattle.std.proofs.lemmas.Bool.Decides.{nat_tests}
-use Rattle.std.proofs.lemmas.Bool.{eq-eqb, ne_eqb, lt-ltb, ltb-true, cases_lt}
+use Rattle.std.proofs.lemmas.Bool.{ne_eqb, lt-ltb, ltb-true, cases_lt}
 use Rattle.std.proofs.lemmas.List.{drop_all, drop_more}
 use Rattle.std.proofs.lemmas.Fmt.{decimal-digits_value, digits_value-decimal, digits_decimal, first_decimal, decimal_nonempty, decimal_digit}
 use Rattle.std.proofs.lemmas.Str.Parse.{IsNumeralModel, numerals_by_fold}
@@ -102,14 +102,7 @@ guards-pass true many zero o first second = cc
 guards-pass false true true o first second = cc
 
 no-zero-leads : (digits : List ℕ) → (nat_lt 1 (length digits) && slice_index digits 0 == 48) ≡ false → 0 < length digits → get_or digits 0 0 ≡ 48 → length digits ≡ 1
-no-zero-leads [] test some first = omega arith
-no-zero-leads (digit ∷ []) test some first = refl
-no-zero-leads (digit ∷ next ∷ digits) test some first =
-    let many : nat_lt 1 (length (digit ∷ next ∷ digits)) ≡ true = lt-ltb _ _ (omega arith) in
-    let zero_leads : (slice_index (digit ∷ next ∷ digits) 0 == 48) ≡ true = eq-eqb digit 48 first in
-    let both : (nat_lt 1 (length (digit ∷ next ∷ digits)) && slice_index (digit ∷ next ∷ digits) 0 == 48) ≡ true = rw (many, zero_leads) refl in
-    let never : true ≡ false = sym both ∙ test in
-    cc
+no-zero-leads digits test some first = grind (arith, nat_tests, test, some, first)
 
 -- a number is read from exactly the text that spells it
 pub number-is_decimal : (digits : List ℕ) (n : ℕ) → number_of digits ≡ Some n → (digits ≡ decimal n) × (n < 2 ^ 64)
