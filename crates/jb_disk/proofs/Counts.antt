@@ -1,5 +1,5 @@
 -- What is kept over several calls, and how their faults are counted.
-use Rattle.std.proofs.Common.{◌≤◌, ℕ, Result, Ok, Err, refl, ◌∙◌, subst, arith}
+use Rattle.std.proofs.Common.{ℕ, Result, Ok, Err, refl, ◌∙◌, subst}
 use Rattle.std.specs.Prelude.{IsErr}
 use Rattle.jb_disk.specs.Faults.{CountsFault, CountsNone, MoreFaults}
 use Rattle.jb_disk.specs.Kept.{Kept}
@@ -36,11 +36,3 @@ kept_err {faults = faults} {new = new} (Err fault) failed first second = kept_on
 pub kept_as : {D : Type 0} {size count faults : D → ℕ} {honest : D → Type 0} {counts other : ℕ → ℕ → Type 0} {old new : D}
     → Kept size count faults honest counts old new → other (faults old) (faults new) → Kept size count faults honest other old new
 kept_as kept counted = record { same_size = kept.same_size; same_count = kept.same_count; was_honest = kept.was_honest; counted = counted }
-
--- a rise after counts that did not fall
-pub more_later : (old mid new : ℕ) → old ≤ mid → MoreFaults mid new → MoreFaults old new
-more_later old mid new no_fewer more = record { rises = omega (arith, no_fewer, more.rises); no_fewer = omega (arith, no_fewer, more.no_fewer) }
-
--- a rise before them
-pub more_before : (old mid new : ℕ) → MoreFaults old mid → mid ≤ new → MoreFaults old new
-more_before old mid new more no_fewer = record { rises = omega (arith, no_fewer, more.rises); no_fewer = omega (arith, no_fewer, more.no_fewer) }

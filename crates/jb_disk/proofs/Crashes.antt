@@ -3,7 +3,7 @@ use Rattle.std.proofs.Common.{◌≡◌, ◌<◌, ◌≤◌, ℕ, zero, suc, ◌
 use Rattle.std.proofs.lemmas.List.{take_all}
 use Rattle.std.proofs.lemmas.Nat.{mod_below}
 use Rattle.jb_block.specs.declared.size.BlockSize.{BlockSize}
-use Rattle.jb_block.specs.declared.size.BlockSize.TheVariants.{OneKib, TwoKib, FourKib}
+use Rattle.jb_block.specs.declared.size.BlockSize.TheVariants.{OneKib}
 use Rattle.jb_block.specs.Size.{bytes_of}
 use Rattle.jb_disk.specs.declared.memory.Call.{Call}
 use Rattle.jb_disk.specs.History.{History, HistoryStep, Wrote, Synced, AreWhole, IsHistorySound, MayLeave}
@@ -16,8 +16,7 @@ use Rattle.jb_disk.proofs.Outcomes.{choice_left}
 -- a block is as many whole sectors
 pub whole_sectors : (size : BlockSize) → bytes_of size ≡ 512 * (bytes_of size / 512)
 whole_sectors OneKib = refl
-whole_sectors TwoKib = refl
-whole_sectors FourKib = refl
+whole_sectors _ = refl
 
 -- what was written has the size of a block
 pub written_whole : (count size : ℕ) (steps : List HistoryStep) (place : ℕ) → AreWhole count size steps → All (λ b. length b ≡ size) (written steps place)

@@ -30,14 +30,6 @@ module _ (size count : ℕ) (content : ℕ → Image) (older events : List Event
   agreed : (e : Event) → events ≡ e ∷ older → IsHonestFile size count content events → Agree size content older
   agreed e are honest = (subst (Agree size content) are honest.1).0
 
-  reads : (at : ℕ) (ok : Bool) (bytes : List ℕ) → ok ≡ true → Makes size 0 at ok bytes old new → InBlocks size at bytes (λ place n. ReadsRun size n place old bytes)
-  reads at true bytes is makes = makes.1
-  reads at false bytes is makes = absurd (let h : ⊥ = cc in h)
-
-  writes : (at : ℕ) (ok : Bool) (bytes : List ℕ) → ok ≡ true → Makes size 1 at ok bytes old new → InBlocks size at bytes (λ place n. WroteRun size n place bytes old new)
-  writes at true bytes is makes = makes
-  writes at false bytes is makes = absurd (let h : ⊥ = cc in h)
-
   tears : (at : ℕ) (ok : Bool) (bytes : List ℕ) → ((t : ℕ) → HasShape count size (content t)) → Makes size 1 at ok bytes old new → InBlocks size at bytes (λ place n. TornRun size n place bytes old new)
   tears at true bytes shapes makes = λ place n here long. torn_of_wrote count size n place bytes old new (shapes (length older)) (shapes (length events)) (makes place n here long)
   tears at false bytes shapes makes = makes
@@ -45,17 +37,17 @@ module _ (size count : ℕ) (content : ℕ → Image) (older events : List Event
   pub found_run : (place n at : ℕ) (ok : Bool) (bytes : List ℕ) (r : Result Unit Fault) → is_ok r ≡ ok → at ≡ place * size → length bytes ≡ size * n
       → events ≡ read at ok bytes ∷ older → IsHonestFile size count content events → OnOk r (ReadsRun size n place old bytes)
   found_run place n at ok bytes r is here long are honest = on_ok (ReadsRun size n place old bytes) r ok is
-      (λ yes. reads at ok bytes yes (made 0 at ok bytes are honest) place n here long)
+      (λ yes. (rw yes at (made 0 at ok bytes are honest)).1 place n here long)
 
   pub found_block : (place at : ℕ) (ok : Bool) (bytes : List ℕ) (r : Result Unit Fault) → is_ok r ≡ ok → at ≡ place * size → length bytes ≡ size
       → events ≡ read at ok bytes ∷ older → IsHonestFile size count content events → OnOk r (bytes ≡ block old place)
   found_block place at ok bytes r is here long are honest = on_ok (bytes ≡ block old place) r ok is
-      (λ yes. read_one size place old bytes long (reads at ok bytes yes (made 0 at ok bytes are honest) place 1 here (omega (arith, long))))
+      (λ yes. read_one size place old bytes long ((rw yes at (made 0 at ok bytes are honest)).1 place 1 here (omega (arith, long))))
 
   pub written_block : (place at : ℕ) (ok : Bool) (bytes : List ℕ) (r : Result Unit Fault) → is_ok r ≡ ok → at ≡ place * size → length bytes ≡ size → place < count
       → events ≡ write_event at ok bytes ∷ older → IsHonestFile size count content events → OnOk r (new ≡ set old place bytes)
   written_block place at ok bytes r is here long inside are honest = on_ok (new ≡ set old place bytes) r ok is
-      (λ yes. wrote_one size place bytes old new long (omega (arith, inside, (honest.0 (length older)).blocks)) (writes at ok bytes yes (made 1 at ok bytes are honest) place 1 here (omega (arith, long))))
+      (λ yes. wrote_one size place bytes old new long (omega (arith, inside, (honest.0 (length older)).blocks)) ((rw yes at (made 1 at ok bytes are honest)) place 1 here (omega (arith, long))))
 
   pub torn_file : (place n at : ℕ) (ok : Bool) (bytes : List ℕ) → at ≡ place * size → length bytes ≡ size * n → events ≡ write_event at ok bytes ∷ older
       → IsHonestFile size count content events → TornRun size n place bytes old new

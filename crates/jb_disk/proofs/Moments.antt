@@ -3,12 +3,6 @@ use Rattle.std.proofs.Common.{◌≤◌, ℕ, inl, inr, ⊎_elim, arith}
 use Rattle.jb_disk.specs.Image.{Image}
 use Rattle.jb_disk.specs.Time.{Goes, LeavesOnly}
 
--- an image has P after a call where all had it before and the step keeps it
-pub images_keep : {D : Type 0} (may_leave : D → Image → Type 0) (moment : D → ℕ) (left_since : D → ℕ → Image → Type 0) (step : Image → Image → Type 0) (old new : D) (P Q : Image → Type 0)
-    → Goes may_leave moment left_since step old new → ((d : Image) → may_leave old d → P d) → ((d c : Image) → P d → step d c → Q c) → (c : Image) → may_leave new c → Q c
-images_keep may_leave moment left_since step old new P Q call before kept c now =
-    let from = call.crash c now in kept from.0 c (before from.0 from.1) from.2
-
 -- before the first call
 pub started : {D : Type 0} (moment : D → ℕ) (left_since : D → ℕ → Image → Type 0) (old : D) (P : Image → Type 0)
     → ((c : Image) → left_since old (moment old) c → P c) → LeavesOnly moment left_since old old P

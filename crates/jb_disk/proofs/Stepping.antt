@@ -65,10 +65,6 @@ module _ {D : Type 0} (may_leave : D → Image → Type 0) (moment : D → ℕ) 
       let now : (c : Image) → may_leave new c → P c = λ c left. let from = call.crash c left in makes from.0 c (has.each from.0 from.1) from.2 in
       record { now = record { each = now }; leaves = steps_on may_leave moment left_since step old mid new P so call now }
 
-  -- one call more, which keeps P
-  pub throughout-on : (step : Image → Image → Type 0) (old mid new : D) (P : Image → Type 0) → Throughout may_leave moment left_since old mid P → Goes may_leave moment left_since step mid new → ((c d : Image) → P c → step c d → P d) → Throughout may_leave moment left_since old new P
-  throughout-on step old mid new P so call keeps = throughout-last step old mid new P P so.leaves so.now call keeps
-
   -- a first call, before which each image has Q, which is more
   pub throughout-first : (step : Image → Image → Type 0) (old new : D) (Q P : Image → Type 0) → OnlyNow old → AllHave may_leave old Q → ((c : Image) → Q c → P c) → Goes may_leave moment left_since step old new → ((c d : Image) → Q c → step c d → P d) → Throughout may_leave moment left_since old new P
   throughout-first step old new Q P only_now has gives call makes =

@@ -16,9 +16,8 @@ returns-in_err-write-clause-torn g c honest =
     let old = c.args.self.now in
     let k = c.loop-k.k in
     let bytes = c.args.bytes.now in
-    let slice = part-slice (G.size old) c.bytes-size.result k bytes (c.bytes-size.ensures.value ∙ c.block_size.ensures) in
     torn_run-next (G.size old) k c.args.blocks c.args.place bytes (G.newest old) (G.newest c.loop-k.self) (G.newest c.write.new.self) c.loop-k-test.true (so.torn (c.write.ensures.kept.was_honest honest))
-    (subst (λ b. Torn (c.args.place + k) b (G.newest c.loop-k.self) (G.newest c.write.new.self)) slice (c.write.ensures.torn honest))
+    (rw (part-slice (G.size old) c.bytes-size.result k bytes (c.bytes-size.ensures.value ∙ c.block_size.ensures)) at (c.write.ensures.torn honest))
 
 pub returns-in_err-write-clause-steps : goal.returns-in_err-write-clause-steps
 returns-in_err-write-clause-steps g c honest =
@@ -28,10 +27,9 @@ returns-in_err-write-clause-steps g c honest =
     let k = c.loop-k.k in
     let bytes = c.args.bytes.now in
     let now_honest = c.write.ensures.kept.was_honest honest in
-    let slice = part-slice (G.size old) c.bytes-size.result k bytes (c.bytes-size.ensures.value ∙ c.block_size.ensures) in
     steps-run G.may_leave G.moment G.left_since (G.size old) k c.args.blocks c.args.place bytes old c.loop-k.self c.write.new.self c.loop-k-test.true
     (λ d left. g.met.Self.Disk.only_now c.loop-k.self d now_honest left) (so.steps now_honest)
-    (subst (λ b. Goes G.may_leave G.moment G.left_since (Torn (c.args.place + k) b) c.loop-k.self c.write.new.self) slice (c.write.ensures.goes honest))
+    (rw (part-slice (G.size old) c.bytes-size.result k bytes (c.bytes-size.ensures.value ∙ c.block_size.ensures)) at (c.write.ensures.goes honest))
 
 pub loop-k-preserved : goal.loop-k-preserved
 loop-k-preserved g c =
@@ -46,8 +44,7 @@ loop-k-preserved g c =
     let slice = part-slice (G.size old) c.bytes-size.result k bytes (c.bytes-size.ensures.value ∙ c.block_size.ensures) in
     record {
       kept = kept_ok so.kept c.in_ok-write.ensures.kept;
-      made = made-more G.own (λ j. Writes (place + j) (part (G.size old) j bytes)) k old now new so.made
-          (subst (λ b. G.own (Writes (place + k) b) now new true) slice c.in_ok-write.ensures.own);
+      made = made-more G.own (λ j. Writes (place + j) (part (G.size old) j bytes)) k old now new so.made (rw slice at c.in_ok-write.ensures.own);
       written = λ honest.
           let now_honest = c.write.ensures.kept.was_honest honest in
           let shape : HasShape (G.count now) (G.size now) (G.newest now) = g.met.Self.Disk.has_shape now (G.newest now) now_honest (g.met.Self.Disk.newest_may_stay now now_honest) in
@@ -56,12 +53,12 @@ loop-k-preserved g c =
           (so.written now_honest)
           (c.in_ok-write.ensures.written honest ∙ ap (λ b. set (G.newest now) (place + k) b) slice);
       torn = λ honest. torn_run-more (G.size old) k place bytes (G.newest old) (G.newest now) (G.newest new) (so.torn (c.write.ensures.kept.was_honest honest))
-          (subst (λ b. Torn (place + k) b (G.newest now) (G.newest new)) slice (c.write.ensures.torn honest));
+          (rw slice at (c.write.ensures.torn honest));
       steps = λ honest.
           let now_honest = c.write.ensures.kept.was_honest honest in
           steps-run G.may_leave G.moment G.left_since (G.size old) k (k + 1) place bytes old now new (omega arith)
           (λ d left. g.met.Self.Disk.only_now now d now_honest left) (so.steps now_honest)
-          (subst (λ b. Goes G.may_leave G.moment G.left_since (Torn (place + k) b) now new) slice (c.write.ensures.goes honest));
+          (rw slice at (c.write.ensures.goes honest));
       untried = λ none. absurd (let h : ⊥ = omega (arith, none) in h);
       passed = λ some. not_spent G k old now c.write.result so.untried so.passed (λ burnt. (c.write.ensures.spent burnt).0) (subst IsOk (sym c.in_ok-write.was) refl);
     }
