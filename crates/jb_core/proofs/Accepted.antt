@@ -6,7 +6,6 @@ use Rattle.std.specs.FinMap as map
 use Rattle.jb_handle.specs.Held.{Held, held, first_of}
 use Rattle.jb_core.specs.declared.event.Event.{Event}
 use Rattle.jb_core.specs.declared.event.Event.TheVariants.{Restart}
-use Rattle.jb_core.specs.declared.event.CoreFault.{CoreFault}
 use Rattle.jb_core.specs.declared.event.CoreFault.TheVariants.{Down, Empty, BatchOut}
 use Rattle.jb_core.specs.Machine.{Machine, handle_at, held_at, event_refusal, refusal_by, refusal_up, refusal_down, refusal_take}
 
@@ -26,13 +25,6 @@ none-left (x ∷ xs) le = absurd (let h : ⊥ = omega arith in h)
 pub first-false : {F : Type 0} (a : Bool) (x : F) (rest : List (Bool × F)) → first_of ((a, x) ∷ rest) ≡ None → (a ≡ false) × (first_of rest ≡ None)
 first-false true x rest is = absurd (let h : ⊥ = cc in h)
 first-false false x rest is = (refl, is)
-
--- what the three tests of an Open let pass
-pub opens : (a b c : Bool) (x y z : CoreFault) → first_of ((a, x) ∷ (b, y) ∷ (c, z) ∷ []) ≡ None → (a ≡ false) × (b ≡ false) × (c ≡ false)
-opens a b c x y z is =
-    let first = first-false a x ((b, y) ∷ (c, z) ∷ []) is in
-    let second = first-false b y ((c, z) ∷ []) first.1 in
-    (first.0, second.0, (first-false c z [] second.1).0)
 
 -- no group is out where a Take is not refused
 pub none-taken : (m : Machine) → refusal_take m ≡ None → m.taken ≡ []
