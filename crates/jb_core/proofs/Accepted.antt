@@ -35,19 +35,19 @@ none-taken m none =
 
 -- only a machine that is up accepts an event other than Restart
 pub accepted : (m : Machine) (e : Event) → refusal_down e ≡ Some Down → event_refusal m e ≡ None → (m.up ≡ true) × (refusal_up m e ≡ None)
-accepted m e other none = at m.up refl none
-  where
-    at : (b : Bool) → m.up ≡ b → refusal_by b m e ≡ None → (m.up ≡ true) × (refusal_up m e ≡ None)
-    at true up is = (up, is)
-    at false down is = let both : Some Down ≡ None = sym other ∙ is in absurd (let h : ⊥ = cc in h)
+accepted m e other none =
+    elim m.up as (λ b. m.up ≡ b → refusal_by b m e ≡ None → (m.up ≡ true) × (refusal_up m e ≡ None)) [
+      | true ↦ λ up is. (up, is)
+      | false ↦ λ down is. let both : Some Down ≡ None = sym other ∙ is in absurd (let h : ⊥ = cc in h)
+    ] refl none
 
 -- only one that is down accepts Restart
 pub restarted : (m : Machine) → event_refusal m Restart ≡ None → m.up ≡ false
-restarted m none = at m.up refl none
-  where
-    at : (b : Bool) → m.up ≡ b → refusal_by b m Restart ≡ None → m.up ≡ false
-    at true up is = absurd (let h : ⊥ = cc in h)
-    at false down is = down
+restarted m none =
+    elim m.up as (λ b. m.up ≡ b → refusal_by b m Restart ≡ None → m.up ≡ false) [
+      | true ↦ λ up is. absurd (let h : ⊥ = cc in h)
+      | false ↦ λ down is. down
+    ] refl none
 
 pub still-up : {A : Type 0} (b : Bool) → b ≡ true → b ≡ false → A
 still-up b up down = let both : true ≡ false = sym up ∙ down in absurd (let h : ⊥ = cc in h)

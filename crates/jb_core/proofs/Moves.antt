@@ -1,6 +1,6 @@
 -- What becomes of the line where groups are settled, taken and lost.
 use Rattle.std.proofs.Common.{◌≡◌, ℕ, zero, suc, ◌+◌, ◌-◌, ◌<◌, ◌≤◌, List, [], ◌∷◌, ◌++◌, map, length, take, drop, get_or, slice_range, slice_get, Some, None, le_refl, sym, refl, ap, subst, ◌∙◌, arith}
-use Rattle.std.proofs.lemmas.List.{take-append-drop, drop_all, drop-drop, length-drop, length-append, length-take-le, take-take, take-append-le, drop-append-le}
+use Rattle.std.proofs.lemmas.List.{nil_from_length, take-append-drop, drop_all, drop-drop, length-drop, length-append, length-take-le, take-take, take-append-le, drop-append-le}
 use Rattle.std.proofs.lemmas.Option.{slice_get_past}
 use Rattle.std.proofs.Math.Seq.{drop-cons, take-add, drop-append_seam, drop-length}
 use Rattle.jb_handle.specs.declared.stopped.Stopped.{Stopped}
@@ -27,10 +27,7 @@ taken_ends s = drop s.settled s.ends.items
 
 -- as many groups are taken as there are ends of taken groups
 pub groups-there : (s : Inside) (l : Line) (n : ℕ) → line_of_stops s ≡ l → n ≤ length l.taken → n ≤ length (taken_ends s)
-groups-there s l n is there =
-    let groups : n ≤ length (line_of_stops s).taken = subst (λ (k : Line). n ≤ length k.taken) (sym is) there in
-    let same = length-pieces s.settled_end (taken_ends s) s.handles.items in
-    omega (arith, groups, same)
+groups-there s l n is there = omega (arith, there, ap (λ (k : Line). length k.taken) is, length-pieces s.settled_end (taken_ends s) s.handles.items)
 
 -- the ends of the taken groups, parted where the search for an end parts them
 pub parts-of : (s : Inside) → IsInLine s → (n end : ℕ) (es : List ℕ) → es ≡ s.ends.items
@@ -75,6 +72,9 @@ module _ (s : Inside) (kept : IsInLine s) (n end : ℕ) (there : n ≤ length (t
   pub settled-credits : slice_range s.granted.items s.settled_end end ≡ take (count (take n (line_of_stops s).taken)) (line_of_stops s).credits
   settled-credits = ap (λ k. take k (drop s.settled_end s.granted.items)) (sym taken_count)
 
+settled-inside : (s : Inside) → IsInLine s → s.settled_end ≤ length s.handles.items
+settled-inside s kept = let before : s.settled_end ≤ s.taken_end = rises-le s.taken_end s.settled_end (taken_ends s) kept.taken in let inside = kept.inside in omega arith
+
 -- ---- the handles that are not settled are dropped
 
 module _ (s : Inside) (kept : IsInLine s) (t : Inside) (handles : t.handles.items ≡ take s.settled_end s.handles.items) (ends : t.ends.items ≡ take s.settled s.ends.items)
@@ -85,15 +85,12 @@ module _ (s : Inside) (kept : IsInLine s) (t : Inside) (handles : t.handles.item
   pub cut-settled : (line_of_stops t).settled ≡ (line_of_stops s).settled
   cut-settled = ap (λ es. pieces_from 0 es t.handles.items) same-ends ∙ ap (pieces_from 0 (take s.settled s.ends.items)) handles ∙ pieces-take s.settled_end 0 (take s.settled s.ends.items) s.handles.items kept.settled
 
-  settled-inside : s.settled_end ≤ length s.handles.items
-  settled-inside = let before : s.settled_end ≤ s.taken_end = rises-le s.taken_end s.settled_end (taken_ends s) kept.taken in let inside = kept.inside in omega arith
-
   pub cut-kept : t.taken_end ≡ s.settled_end → t.granted.items ≡ take s.settled_end s.granted.items → IsInLine t
   cut-kept taken_end granted =
       let held = ap length handles in
       let given = ap length granted in
-      let first = length-take-le s.settled_end s.handles.items settled-inside in
-      let inside = settled-inside in
+      let inside = settled-inside s kept in
+      let first = length-take-le s.settled_end s.handles.items inside in
       let paired = kept.paired in
       let credits = length-take-le s.settled_end s.granted.items (omega arith) in
       let none : drop t.settled t.ends.items ≡ [] = ap (λ n. drop n t.ends.items) settled ∙ ap (drop s.settled) ends ∙ drop_all s.settled (take s.settled s.ends.items) (omega (arith, length-take-le s.settled s.ends.items kept.counted)) in
@@ -115,14 +112,12 @@ pub push-line : (s : Inside) → IsInLine s → (t : Inside) (handle : Stopped) 
     → t.ends.items ≡ s.ends.items → t.taken_end ≡ s.taken_end → t.settled ≡ s.settled → t.settled_end ≡ s.settled_end
     → IsPushed handle credits (line_of_stops s) (line_of_stops t)
 push-line s kept t handle credits handles granted ends taken_end settled settled_end =
-    let before : s.settled_end ≤ s.taken_end = rises-le s.taken_end s.settled_end (taken_ends s) kept.taken in
-    let inside = kept.inside in
-    let paired = kept.paired in
+    let inside = settled-inside s kept in
     record {
-      settled = rw (handles, ends, settled) (longer-pieces s.settled_end 0 (take s.settled s.ends.items) s.handles.items (handle ∷ []) kept.settled (omega arith));
+      settled = rw (handles, ends, settled) (longer-pieces s.settled_end 0 (take s.settled s.ends.items) s.handles.items (handle ∷ []) kept.settled inside);
       taken = rw (handles, ends, settled, settled_end) (longer-pieces s.taken_end s.settled_end (taken_ends s) s.handles.items (handle ∷ []) kept.taken kept.inside);
       queue = rw (handles, taken_end) (drop-append-le s.taken_end s.handles.items (handle ∷ []) kept.inside);
-      credits = rw (granted, settled_end) (drop-append-le s.settled_end s.granted.items (credits ∷ []) (omega arith));
+      credits = rw (granted, settled_end) (drop-append-le s.settled_end s.granted.items (credits ∷ []) (omega (arith, kept.paired)));
     }
 
 -- ---- the queue is taken
@@ -150,12 +145,8 @@ module _ (s : Inside) (kept : IsInLine s) (bounds : List ℕ) (cut : IsCut (leng
   all-settled : s.settled ≡ length s.ends.items
   all-settled = let left = length-drop s.settled s.ends.items in let counted = kept.counted in let empty = no-ends in omega arith
 
-  end-settled : (es : List ℕ) → length es ≡ 0 → RisesTo s.taken_end s.settled_end es → s.settled_end ≡ s.taken_end
-  end-settled [] empty rises = rises
-  end-settled (e ∷ es) empty rises = absurd (let h : ⊥ = omega arith in h)
-
   all-end : s.settled_end ≡ s.taken_end
-  all-end = end-settled (taken_ends s) no-ends kept.taken
+  all-end = subst (RisesTo s.taken_end s.settled_end) (nil_from_length (taken_ends s) no-ends) kept.taken
 
   new-ends : drop t.settled t.ends.items ≡ map (λ end. s.taken_end + end) (drop 1 bounds)
   new-ends = rw (ends, settled, all-settled) (drop-append_seam s.ends.items (map (λ end. s.taken_end + end) (drop 1 bounds)))

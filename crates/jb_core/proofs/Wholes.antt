@@ -4,7 +4,6 @@ use Rattle.std.proofs.lemmas.List.{length-append, append_assoc, append-nil, map-
 use Rattle.std.proofs.Math.Seq.{drop-length, take-length}
 use Rattle.std.specs.FinMap as map
 use Rattle.jb_handle.specs.declared.shape.Shape.{Shape}
-use Rattle.jb_handle.specs.declared.op.Op.{Op}
 use Rattle.jb_handle.specs.Held.{Held, held, home_of, word_of}
 use Rattle.jb_handle.specs.Held as handle
 use Rattle.jb_handle.specs.LastOp.{words_by}
@@ -12,7 +11,6 @@ use Rattle.jb_handle.proofs.Admitted.{passed}
 use Rattle.jb_core.specs.declared.event.Event.{Event}
 use Rattle.jb_core.specs.declared.event.Event.TheVariants.{Open, Touch, Stop, Abandon, Take, Settle, Checkpoint, Crash, Restart}
 use Rattle.jb_core.specs.declared.event.Reply.{Reply}
-use Rattle.jb_core.specs.declared.event.Reply.TheVariants.{Ticket}
 use Rattle.jb_core.specs.declared.event.CoreFault.{CoreFault}
 use Rattle.jb_core.specs.declared.event.CoreFault.TheVariants.{Busy, NoHandle, TooManyCredits, Full}
 use Rattle.jb_cost.specs.Pieces.{joined, pieces}
@@ -62,8 +60,14 @@ module _ (log : Log) (m : Machine) (s : Stands log m) where
   refused : (e : Event) (fault : CoreFault) → Stands ((e, Err fault) ∷ log) m
   refused e fault = handled ((e, Err fault) ∷ log) m.handles m.checkpointed refl refl s.handles s.once (λ down. (s.bare down).handles)
 
-  opened : (seat credits : ℕ) (reply : Reply) → event_refusal m (Open seat credits) ≡ None → Stands ((Open seat credits, Ok reply) ∷ log) (after_event m (Open seat credits))
-  opened seat credits reply none =
+  longer : (n : ℕ) → m.earlier ≤ length (m.settled ++ take n m.taken)
+  longer n = let lives = s.lives in let all = length-append m.settled (take n m.taken) in omega arith
+
+  same-past : (n : ℕ) → PastKept (past_orders log) (take m.earlier (m.settled ++ take n m.taken))
+  same-past n = subst (PastKept (past_orders log)) (sym (take-append-le m.earlier m.settled (take n m.taken) s.lives)) s.whole.past
+
+  happens : (e : Event) (reply : Reply) → event_refusal m e ≡ None → IsLeast m e → reply ≡ reply_of m e → Stands ((e, Ok reply) ∷ log) (after_event m e)
+  happens (Open seat credits) reply none least is =
       let granted = accepted m (Open seat credits) refl none in
       let tests = passed (is_some (handle_at m seat)) (nat_lt m.most credits) (is_full m credits) Busy (TooManyCredits m.most) (Full (reserved m)) granted.1 in
       let free = found-none (handle_at m seat) tests.0 in
@@ -71,9 +75,7 @@ module _ (log : Log) (m : Machine) (s : Stands log m) where
       handled ((Open seat credits, Ok reply) ∷ log) (set m.handles seat new) m.checkpointed refl refl
       (by-changed log ((Open seat credits, Ok reply) ∷ log) seat m.handles (set m.handles seat new) new (λ x apart. rw apart refl) (λ x apart. set-other seat new x m.handles apart) (set-same seat new m.handles) (rw (seat-self seat) refl) s.handles)
       (once-set seat new m.handles free s.once) (still-up m.up granted.0)
-
-  touched : (seat : ℕ) (op : Op) (reply : Reply) → event_refusal m (Touch seat op) ≡ None → Stands ((Touch seat op, Ok reply) ∷ log) (after_event m (Touch seat op))
-  touched seat op reply none =
+  happens (Touch seat op) reply none least is =
       let granted = accepted m (Touch seat op) refl none in
       let found = found-some (handle_at m seat) (first-false (is_none (handle_at m seat)) NoHandle _ granted.1).0 in
       let words = held-by log m seat found.0 found.1 s.handles in
@@ -82,9 +84,7 @@ module _ (log : Log) (m : Machine) (s : Stands log m) where
       (by-changed log ((Touch seat op, Ok reply) ∷ log) seat m.handles (change m.handles seat new) new (λ x apart. rw apart refl) (λ x apart. change-other seat new x m.handles apart)
       (change-same seat new m.handles ∙ ap (λ had. changed had new) found.1) (rw (seat-self seat) (ap (λ ws. map.insert ws (home_of op) (word_of op)) words)) s.handles)
       (once-change seat new m.handles s.once) (still-up m.up granted.0)
-
-  stopped : (seat : ℕ) (reply : Reply) → event_refusal m (Stop seat) ≡ None → reply ≡ Ticket m.next → Stands ((Stop seat, Ok reply) ∷ log) (after_event m (Stop seat))
-  stopped seat reply none is =
+  happens (Stop seat) reply none least is =
       let granted = accepted m (Stop seat) refl none in
       let found = found-some (handle_at m seat) (first-false (is_none (handle_at m seat)) NoHandle _ granted.1).0 in
       let words = held-by log m seat found.0 found.1 s.handles in
@@ -106,14 +106,10 @@ module _ (log : Log) (m : Machine) (s : Stands log m) where
           past = s.whole.past;
         };
       }
-
-  abandoned : (seat : ℕ) (reply : Reply) → event_refusal m (Abandon seat) ≡ None → Stands ((Abandon seat, Ok reply) ∷ log) (after_event m (Abandon seat))
-  abandoned seat reply none =
+  happens (Abandon seat) reply none least is =
       let granted = accepted m (Abandon seat) refl none in
       handled ((Abandon seat, Ok reply) ∷ log) (drop_seat m.handles seat) m.checkpointed refl refl (by-dropped log seat m.handles s.once s.handles) (once-drop seat m.handles s.once) (still-up m.up granted.0)
-
-  taken : (bounds : _) (reply : Reply) → event_refusal m (Take bounds) ≡ None → IsLeast m (Take bounds) → Stands ((Take bounds, Ok reply) ∷ log) (after_event m (Take bounds))
-  taken bounds reply none least =
+  happens (Take bounds) reply none least is =
       let granted = accepted m (Take bounds) refl none in
       let free = none-taken m granted.1 in
       record {
@@ -129,15 +125,7 @@ module _ (log : Log) (m : Machine) (s : Stands log m) where
           past = s.whole.past;
         };
       }
-
-  longer : (n : ℕ) → m.earlier ≤ length (m.settled ++ take n m.taken)
-  longer n = let lives = s.lives in let all = length-append m.settled (take n m.taken) in omega arith
-
-  same-past : (n : ℕ) → PastKept (past_orders log) (take m.earlier (m.settled ++ take n m.taken))
-  same-past n = subst (PastKept (past_orders log)) (sym (take-append-le m.earlier m.settled (take n m.taken) s.lives)) s.whole.past
-
-  settled : (n : ℕ) (reply : Reply) → event_refusal m (Settle n) ≡ None → Stands ((Settle n, Ok reply) ∷ log) (after_event m (Settle n))
-  settled n reply none =
+  happens (Settle n) reply none least is =
       let granted = accepted m (Settle n) refl none in
       record {
         handles = s.handles;
@@ -150,14 +138,10 @@ module _ (log : Log) (m : Machine) (s : Stands log m) where
           past = same-past n;
         };
       }
-
-  checkpointed : (reply : Reply) → event_refusal m Checkpoint ≡ None → Stands ((Checkpoint, Ok reply) ∷ log) (after_event m Checkpoint)
-  checkpointed reply none =
+  happens Checkpoint reply none least is =
       let granted = accepted m Checkpoint refl none in
       handled ((Checkpoint, Ok reply) ∷ log) m.handles (m.checkpointed + 1) refl refl s.handles s.once (still-up m.up granted.0)
-
-  crashed : (n : ℕ) (reply : Reply) → event_refusal m (Crash n) ≡ None → Stands ((Crash n, Ok reply) ∷ log) (after_event m (Crash n))
-  crashed n reply none =
+  happens (Crash n) reply none least is =
       let granted = accepted m (Crash n) refl none in
       record {
         handles = λ x h is. absurd (let never : ⊥ = cc in never);
@@ -170,9 +154,7 @@ module _ (log : Log) (m : Machine) (s : Stands log m) where
           past = same-past n;
         };
       }
-
-  back : (reply : Reply) → event_refusal m Restart ≡ None → Stands ((Restart, Ok reply) ∷ log) (after_event m Restart)
-  back reply none =
+  happens Restart reply none least is =
       let down = restarted m none in
       let bare = s.bare down in
       let prefix = s.whole.crashed down in
@@ -187,17 +169,6 @@ module _ (log : Log) (m : Machine) (s : Stands log m) where
           past = subst (PastKept (stop_order log ∷ past_orders log)) (sym (take-length m.settled)) (m.earlier, prefix.0, prefix.1, s.whole.past);
         };
       }
-
-  happens : (e : Event) (reply : Reply) → event_refusal m e ≡ None → IsLeast m e → reply ≡ reply_of m e → Stands ((e, Ok reply) ∷ log) (after_event m e)
-  happens (Open seat credits) reply none least is = opened seat credits reply none
-  happens (Touch seat op) reply none least is = touched seat op reply none
-  happens (Stop seat) reply none least is = stopped seat reply none is
-  happens (Abandon seat) reply none least is = abandoned seat reply none
-  happens (Take bounds) reply none least is = taken bounds reply none least
-  happens (Settle n) reply none least is = settled n reply none
-  happens Checkpoint reply none least is = checkpointed reply none
-  happens (Crash n) reply none least is = crashed n reply none
-  happens Restart reply none least is = back reply none
 
   stepped : (e : Event) (answer : Answer) (n : Machine) → MachineSteps e m answer n → Stands ((e, answer) ∷ log) n
   stepped e (Ok reply) n step = subst (Stands ((e, Ok reply) ∷ log)) (sym step.2) (happens e reply step.0 step.1 step.3)
