@@ -6,7 +6,6 @@ use Rattle.std.specs.FinMap as map
 use Rattle.jb_handle.specs.Held.{Held, held, first_of}
 use Rattle.jb_core.specs.declared.event.Event.{Event}
 use Rattle.jb_core.specs.declared.event.Event.TheVariants.{Restart}
-use Rattle.jb_core.specs.declared.event.CoreFault.{CoreFault}
 use Rattle.jb_core.specs.declared.event.CoreFault.TheVariants.{Down, Empty, BatchOut}
 use Rattle.jb_core.specs.Machine.{Machine, handle_at, held_at, event_refusal, refusal_by, refusal_up, refusal_down, refusal_take}
 
@@ -27,13 +26,6 @@ pub first-false : {F : Type 0} (a : Bool) (x : F) (rest : List (Bool × F)) → 
 first-false true x rest is = absurd (let h : ⊥ = cc in h)
 first-false false x rest is = (refl, is)
 
--- what the three tests of an Open let pass
-pub opens : (a b c : Bool) (x y z : CoreFault) → first_of ((a, x) ∷ (b, y) ∷ (c, z) ∷ []) ≡ None → (a ≡ false) × (b ≡ false) × (c ≡ false)
-opens a b c x y z is =
-    let first = first-false a x ((b, y) ∷ (c, z) ∷ []) is in
-    let second = first-false b y ((c, z) ∷ []) first.1 in
-    (first.0, second.0, (first-false c z [] second.1).0)
-
 -- no group is out where a Take is not refused
 pub none-taken : (m : Machine) → refusal_take m ≡ None → m.taken ≡ []
 none-taken m none =
@@ -43,19 +35,19 @@ none-taken m none =
 
 -- only a machine that is up accepts an event other than Restart
 pub accepted : (m : Machine) (e : Event) → refusal_down e ≡ Some Down → event_refusal m e ≡ None → (m.up ≡ true) × (refusal_up m e ≡ None)
-accepted m e other none = at m.up refl none
-  where
-    at : (b : Bool) → m.up ≡ b → refusal_by b m e ≡ None → (m.up ≡ true) × (refusal_up m e ≡ None)
-    at true up is = (up, is)
-    at false down is = let both : Some Down ≡ None = sym other ∙ is in absurd (let h : ⊥ = cc in h)
+accepted m e other none =
+    elim m.up as (λ b. m.up ≡ b → refusal_by b m e ≡ None → (m.up ≡ true) × (refusal_up m e ≡ None)) [
+      | true ↦ λ up is. (up, is)
+      | false ↦ λ down is. let both : Some Down ≡ None = sym other ∙ is in absurd (let h : ⊥ = cc in h)
+    ] refl none
 
 -- only one that is down accepts Restart
 pub restarted : (m : Machine) → event_refusal m Restart ≡ None → m.up ≡ false
-restarted m none = at m.up refl none
-  where
-    at : (b : Bool) → m.up ≡ b → refusal_by b m Restart ≡ None → m.up ≡ false
-    at true up is = absurd (let h : ⊥ = cc in h)
-    at false down is = down
+restarted m none =
+    elim m.up as (λ b. m.up ≡ b → refusal_by b m Restart ≡ None → m.up ≡ false) [
+      | true ↦ λ up is. absurd (let h : ⊥ = cc in h)
+      | false ↦ λ down is. down
+    ] refl none
 
 pub still-up : {A : Type 0} (b : Bool) → b ≡ true → b ≡ false → A
 still-up b up down = let both : true ≡ false = sym up ∙ down in absurd (let h : ⊥ = cc in h)

@@ -29,17 +29,14 @@ sum-insert f (e ∷ es) k v none =
 
 pub length-insert_entry : {V : Type 0} (es : List (ℕ × V)) (k : ℕ) (v : V) → length (insert_entry nat_cmp es k v) ≤ length es + 1
 length-insert_entry [] k v = le_refl 1
-length-insert_entry (e ∷ es) k v = at (nat_cmp k e.0) (length-insert_entry es k v)
-  where
-    at : (o : Ordering) → length (insert_entry nat_cmp es k v) ≤ length es + 1 → length (match_ordering o ((k, v) ∷ e ∷ es) ((e.0, v) ∷ es) (e ∷ insert_entry nat_cmp es k v)) ≤ suc (length es) + 1
-    at Less rest = omega arith
-    at Equal rest = omega arith
-    at Greater rest = omega arith
+length-insert_entry (e ∷ es) k v =
+    let rest = length-insert_entry es k v in
+    elim (nat_cmp k e.0) as (λ o. length (match_ordering o ((k, v) ∷ e ∷ es) ((e.0, v) ∷ es) (e ∷ insert_entry nat_cmp es k v)) ≤ suc (length es) + 1) [ Less ↦ omega arith | Equal ↦ omega arith | Greater ↦ omega arith ]
 
 pub length-remove_entry : {V : Type 0} (test : ℕ → Bool) (es : List (ℕ × V)) (v : V) → lookup test es ≡ Some v → length (remove_entry test es) + 1 ≡ length es
 length-remove_entry test [] v is = absurd (let h : ⊥ = cc in h)
-length-remove_entry test (e ∷ es) v is = at (test e.0) (length-remove_entry test es v) is
-  where
-    at : (b : Bool) → (lookup test es ≡ Some v → length (remove_entry test es) + 1 ≡ length es) → cond b (Some e.1) (lookup test es) ≡ Some v → length (cond b es (e ∷ remove_entry test es)) + 1 ≡ suc (length es)
-    at true rest is = omega arith
-    at false rest is = let r = rest is in omega arith
+length-remove_entry test (e ∷ es) v is =
+    elim (test e.0) as (λ b. cond b (Some e.1) (lookup test es) ≡ Some v → length (cond b es (e ∷ remove_entry test es)) + 1 ≡ suc (length es)) [
+      | true ↦ λ _. omega arith
+      | false ↦ λ later. let rest = length-remove_entry test es v later in omega arith
+    ] is

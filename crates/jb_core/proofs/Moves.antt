@@ -1,6 +1,7 @@
 -- What becomes of the line where groups are settled, taken and lost.
 use Rattle.std.proofs.Common.{◌≡◌, ℕ, zero, suc, ◌+◌, ◌-◌, ◌<◌, ◌≤◌, List, [], ◌∷◌, ◌++◌, map, length, take, drop, get_or, slice_range, slice_get, Some, None, le_refl, sym, refl, ap, subst, ◌∙◌, arith}
-use Rattle.std.proofs.lemmas.List.{take-append-drop, drop-drop, length-drop, length-append, take_all, take-take, take-append-le, drop-append-le}
+use Rattle.std.proofs.lemmas.List.{nil_from_length, take-append-drop, drop_all, drop-drop, length-drop, length-append, length-take-le, take-take, take-append-le, drop-append-le}
+use Rattle.std.proofs.lemmas.Option.{slice_get_past}
 use Rattle.std.proofs.Math.Seq.{drop-cons, take-add, drop-append_seam, drop-length}
 use Rattle.jb_handle.specs.declared.stopped.Stopped.{Stopped}
 use Rattle.jb_cost.specs.Cut.{RisesTo, IsCut}
@@ -11,38 +12,6 @@ use Rattle.jb_core.specs.Stops.{line_of_stops, IsInLine}
 use Rattle.jb_core.specs.declared.stops.Stops.TheInside.{Inside}
 use Rattle.jb_core.specs.Parted.{IsParted}
 use Rattle.jb_cost.proofs.Joined.{rises-append, pieces-append, take-pieces, drop-pieces, length-pieces, joined-pieces, pieces-take, pieces-shift, rises-shift}
-
--- a slice from a place on
-pub rest-is : {A : Type 0} (i : ℕ) (xs : List A) → take (length xs - i) (drop i xs) ≡ drop i xs
-rest-is i xs = take_all (length xs - i) (drop i xs) (let same = length-drop i xs in omega arith)
-
-module _ (ends : List ℕ) (s m t n end : ℕ) (first : RisesTo m 0 (take s ends)) (parts : IsParted t m n (drop s ends) end) where
-  pub settled-rises : RisesTo end 0 (take (s + n) ends)
-  settled-rises = subst (RisesTo end 0) (sym (take-add s n ends)) (rises-append m end 0 (take s ends) (take n (drop s ends)) first parts.first)
-
-  pub taken-rises : RisesTo t end (drop (s + n) ends)
-  taken-rises = subst (RisesTo t end) (drop-drop n s ends) parts.rest
-
-  module _ {A : Type 0} (xs : List A) where
-    pub settled-pieces : pieces_from 0 (take (s + n) ends) xs ≡ pieces_from 0 (take s ends) xs ++ take n (pieces_from m (drop s ends) xs)
-    settled-pieces =
-        ap (λ es. pieces_from 0 es xs) (take-add s n ends)
-        ∙ pieces-append m 0 (take s ends) (take n (drop s ends)) xs first
-        ∙ ap (λ ps. pieces_from 0 (take s ends) xs ++ ps) (sym (take-pieces n m (drop s ends) xs))
-
-    pub taken-pieces : pieces_from end (drop (s + n) ends) xs ≡ drop n (pieces_from m (drop s ends) xs)
-    taken-pieces = ap (λ es. pieces_from end es xs) (sym (drop-drop n s ends)) ∙ sym (drop-pieces n end m (drop s ends) xs parts.first)
-
-    -- as many handles as there are between the two ends
-    pub settled-count : t ≤ length xs → length (joined (take n (pieces_from m (drop s ends) xs))) ≡ end - m
-    settled-count inside =
-        let whole = ap length (joined-pieces end m (take n (drop s ends)) xs parts.first) in
-        let parted = length-append (joined (pieces_from m (take n (drop s ends)) xs)) (drop end xs) in
-        let one = length-drop end xs in
-        let two = length-drop m xs in
-        let high = parts.high in
-        let low = parts.low in
-        ap (λ ps. length (joined ps)) (take-pieces n m (drop s ends) xs) ∙ (let same : length (joined (pieces_from m (take n (drop s ends)) xs)) ≡ end - m = omega arith in same)
 
 -- the numbers after m, once those up to end are taken away
 pub drop-between : {A : Type 0} (m end k : ℕ) (xs : List A) → m ≤ end → k ≡ end - m → drop end xs ≡ drop k (drop m xs)
@@ -58,10 +27,7 @@ taken_ends s = drop s.settled s.ends.items
 
 -- as many groups are taken as there are ends of taken groups
 pub groups-there : (s : Inside) (l : Line) (n : ℕ) → line_of_stops s ≡ l → n ≤ length l.taken → n ≤ length (taken_ends s)
-groups-there s l n is there =
-    let groups : n ≤ length (line_of_stops s).taken = subst (λ (k : Line). n ≤ length k.taken) (sym is) there in
-    let same = length-pieces s.settled_end (taken_ends s) s.handles.items in
-    omega (arith, groups, same)
+groups-there s l n is there = omega (arith, there, ap (λ (k : Line). length k.taken) is, length-pieces s.settled_end (taken_ends s) s.handles.items)
 
 -- the ends of the taken groups, parted where the search for an end parts them
 pub parts-of : (s : Inside) → IsInLine s → (n end : ℕ) (es : List ℕ) → es ≡ s.ends.items
@@ -74,19 +40,31 @@ module _ (s : Inside) (kept : IsInLine s) (n end : ℕ) (there : n ≤ length (t
   pub settled-kept : IsInLine (settled_to s n end)
   settled-kept = record {
     counted = let left = length-drop s.settled s.ends.items in let counted = kept.counted in omega arith;
-    settled = settled-rises s.ends.items s.settled s.settled_end s.taken_end n end kept.settled parts;
-    taken = taken-rises s.ends.items s.settled s.settled_end s.taken_end n end kept.settled parts;
+    settled = subst (RisesTo end 0) (sym (take-add s.settled n s.ends.items)) (rises-append s.settled_end end 0 (take s.settled s.ends.items) (take n (taken_ends s)) kept.settled parts.first);
+    taken = subst (RisesTo s.taken_end end) (drop-drop n s.settled s.ends.items) parts.rest;
     inside = kept.inside;
     paired = kept.paired;
   }
 
+  -- as many handles as there are between the two ends
   taken_count : count (take n (line_of_stops s).taken) ≡ end - s.settled_end
-  taken_count = settled-count s.ends.items s.settled s.settled_end s.taken_end n end kept.settled parts s.handles.items kept.inside
+  taken_count =
+      let whole = ap length (joined-pieces end s.settled_end (take n (taken_ends s)) s.handles.items parts.first) in
+      let parted = length-append (joined (pieces_from s.settled_end (take n (taken_ends s)) s.handles.items)) (drop end s.handles.items) in
+      let one = length-drop end s.handles.items in
+      let two = length-drop s.settled_end s.handles.items in
+      let high = parts.high in
+      let low = parts.low in
+      let inside = kept.inside in
+      ap count (take-pieces n s.settled_end (taken_ends s) s.handles.items) ∙ (let same : count (pieces_from s.settled_end (take n (taken_ends s)) s.handles.items) ≡ end - s.settled_end = omega arith in same)
 
   pub settled-line : IsSettled n (line_of_stops s) (line_of_stops (settled_to s n end))
   settled-line = record {
-    settled = settled-pieces s.ends.items s.settled s.settled_end s.taken_end n end kept.settled parts s.handles.items;
-    taken = taken-pieces s.ends.items s.settled s.settled_end s.taken_end n end kept.settled parts s.handles.items;
+    settled =
+        ap (λ es. pieces_from 0 es s.handles.items) (take-add s.settled n s.ends.items)
+        ∙ pieces-append s.settled_end 0 (take s.settled s.ends.items) (take n (taken_ends s)) s.handles.items kept.settled
+        ∙ ap (λ ps. (line_of_stops s).settled ++ ps) (sym (take-pieces n s.settled_end (taken_ends s) s.handles.items));
+    taken = ap (λ es. pieces_from end es s.handles.items) (sym (drop-drop n s.settled s.ends.items)) ∙ sym (drop-pieces n end s.settled_end (taken_ends s) s.handles.items parts.first);
     queue = refl;
     credits = drop-between s.settled_end end (count (take n (line_of_stops s).taken)) s.granted.items parts.low taken_count;
   }
@@ -94,13 +72,8 @@ module _ (s : Inside) (kept : IsInLine s) (n end : ℕ) (there : n ≤ length (t
   pub settled-credits : slice_range s.granted.items s.settled_end end ≡ take (count (take n (line_of_stops s).taken)) (line_of_stops s).credits
   settled-credits = ap (λ k. take k (drop s.settled_end s.granted.items)) (sym taken_count)
 
-length-first : {A : Type 0} (n : ℕ) (xs : List A) → n ≤ length xs → length (take n xs) ≡ n
-length-first n xs le = let whole = ap length (take-append-drop n xs) in let parts = length-append (take n xs) (drop n xs) in let rest = length-drop n xs in omega (arith, le)
-
-nothing-behind : {A : Type 0} (n : ℕ) (xs : List A) → drop n (take n xs) ≡ []
-nothing-behind zero xs = refl
-nothing-behind (suc n) [] = refl
-nothing-behind (suc n) (x ∷ xs) = nothing-behind n xs
+settled-inside : (s : Inside) → IsInLine s → s.settled_end ≤ length s.handles.items
+settled-inside s kept = let before : s.settled_end ≤ s.taken_end = rises-le s.taken_end s.settled_end (taken_ends s) kept.taken in let inside = kept.inside in omega arith
 
 -- ---- the handles that are not settled are dropped
 
@@ -112,20 +85,17 @@ module _ (s : Inside) (kept : IsInLine s) (t : Inside) (handles : t.handles.item
   pub cut-settled : (line_of_stops t).settled ≡ (line_of_stops s).settled
   cut-settled = ap (λ es. pieces_from 0 es t.handles.items) same-ends ∙ ap (pieces_from 0 (take s.settled s.ends.items)) handles ∙ pieces-take s.settled_end 0 (take s.settled s.ends.items) s.handles.items kept.settled
 
-  settled-inside : s.settled_end ≤ length s.handles.items
-  settled-inside = let before : s.settled_end ≤ s.taken_end = rises-le s.taken_end s.settled_end (taken_ends s) kept.taken in let inside = kept.inside in omega arith
-
   pub cut-kept : t.taken_end ≡ s.settled_end → t.granted.items ≡ take s.settled_end s.granted.items → IsInLine t
   cut-kept taken_end granted =
       let held = ap length handles in
       let given = ap length granted in
-      let first = length-first s.settled_end s.handles.items settled-inside in
-      let inside = settled-inside in
+      let inside = settled-inside s kept in
+      let first = length-take-le s.settled_end s.handles.items inside in
       let paired = kept.paired in
-      let credits = length-first s.settled_end s.granted.items (omega arith) in
-      let none : drop t.settled t.ends.items ≡ [] = ap (λ n. drop n t.ends.items) settled ∙ ap (drop s.settled) ends ∙ nothing-behind s.settled s.ends.items in
+      let credits = length-take-le s.settled_end s.granted.items (omega arith) in
+      let none : drop t.settled t.ends.items ≡ [] = ap (λ n. drop n t.ends.items) settled ∙ ap (drop s.settled) ends ∙ drop_all s.settled (take s.settled s.ends.items) (omega (arith, length-take-le s.settled s.ends.items kept.counted)) in
       record {
-        counted = let counted = length-first s.settled s.ends.items kept.counted in let same = ap length ends in omega (arith, settled);
+        counted = let counted = length-take-le s.settled s.ends.items kept.counted in let same = ap length ends in omega (arith, settled);
         settled = subst (λ es. RisesTo t.settled_end 0 es) (sym same-ends) (subst (λ m. RisesTo m 0 (take s.settled s.ends.items)) (sym settled_end) kept.settled);
         taken = subst (λ es. RisesTo t.taken_end t.settled_end es) (sym none) (settled_end ∙ sym taken_end);
         inside = omega (arith, taken_end, held, first);
@@ -142,14 +112,12 @@ pub push-line : (s : Inside) → IsInLine s → (t : Inside) (handle : Stopped) 
     → t.ends.items ≡ s.ends.items → t.taken_end ≡ s.taken_end → t.settled ≡ s.settled → t.settled_end ≡ s.settled_end
     → IsPushed handle credits (line_of_stops s) (line_of_stops t)
 push-line s kept t handle credits handles granted ends taken_end settled settled_end =
-    let before : s.settled_end ≤ s.taken_end = rises-le s.taken_end s.settled_end (taken_ends s) kept.taken in
-    let inside = kept.inside in
-    let paired = kept.paired in
+    let inside = settled-inside s kept in
     record {
-      settled = rw (handles, ends, settled) (longer-pieces s.settled_end 0 (take s.settled s.ends.items) s.handles.items (handle ∷ []) kept.settled (omega arith));
+      settled = rw (handles, ends, settled) (longer-pieces s.settled_end 0 (take s.settled s.ends.items) s.handles.items (handle ∷ []) kept.settled inside);
       taken = rw (handles, ends, settled, settled_end) (longer-pieces s.taken_end s.settled_end (taken_ends s) s.handles.items (handle ∷ []) kept.taken kept.inside);
       queue = rw (handles, taken_end) (drop-append-le s.taken_end s.handles.items (handle ∷ []) kept.inside);
-      credits = rw (granted, settled_end) (drop-append-le s.settled_end s.granted.items (credits ∷ []) (omega arith));
+      credits = rw (granted, settled_end) (drop-append-le s.settled_end s.granted.items (credits ∷ []) (omega (arith, kept.paired)));
     }
 
 -- ---- the queue is taken
@@ -177,12 +145,8 @@ module _ (s : Inside) (kept : IsInLine s) (bounds : List ℕ) (cut : IsCut (leng
   all-settled : s.settled ≡ length s.ends.items
   all-settled = let left = length-drop s.settled s.ends.items in let counted = kept.counted in let empty = no-ends in omega arith
 
-  end-settled : (es : List ℕ) → length es ≡ 0 → RisesTo s.taken_end s.settled_end es → s.settled_end ≡ s.taken_end
-  end-settled [] empty rises = rises
-  end-settled (e ∷ es) empty rises = absurd (let h : ⊥ = omega arith in h)
-
   all-end : s.settled_end ≡ s.taken_end
-  all-end = end-settled (taken_ends s) no-ends kept.taken
+  all-end = subst (RisesTo s.taken_end s.settled_end) (nil_from_length (taken_ends s) no-ends) kept.taken
 
   new-ends : drop t.settled t.ends.items ≡ map (λ end. s.taken_end + end) (drop 1 bounds)
   new-ends = rw (ends, settled, all-settled) (drop-append_seam s.ends.items (map (λ end. s.taken_end + end) (drop 1 bounds)))
@@ -227,11 +191,6 @@ get-first [] (suc i) x rest is = absurd (let h : ⊥ = cc in h)
 get-first (y ∷ ys) zero x rest is = ap Some (let same : y ≡ x = cc in same)
 get-first (y ∷ ys) (suc i) x rest is = get-first ys i x rest is
 
-get-over : {A : Type 0} (xs : List A) (i : ℕ) → length xs ≤ i → slice_get xs i ≡ None
-get-over [] i le = refl
-get-over (x ∷ xs) zero le = absurd (let h : ⊥ = omega arith in h)
-get-over (x ∷ xs) (suc i) le = get-over xs i (omega arith)
-
 module _ (s : Inside) (kept : IsInLine s) where
   all-rise : RisesTo s.taken_end 0 s.ends.items
   all-rise = subst (RisesTo s.taken_end 0) (take-append-drop s.settled s.ends.items) (rises-append s.settled_end s.taken_end 0 (take s.settled s.ends.items) (taken_ends s) kept.settled kept.taken)
@@ -240,7 +199,7 @@ module _ (s : Inside) (kept : IsInLine s) where
   all-pieces = ap (λ es. pieces_from 0 es s.handles.items) (sym (take-append-drop s.settled s.ends.items)) ∙ pieces-append s.settled_end 0 (take s.settled s.ends.items) (taken_ends s) s.handles.items kept.settled
 
   pub no-group : (i : ℕ) → length s.ends.items ≤ i → slice_get ((line_of_stops s).settled ++ (line_of_stops s).taken) i ≡ None
-  no-group i over = let same = length-pieces 0 s.ends.items s.handles.items in rw (sym all-pieces) (get-over (pieces_from 0 s.ends.items s.handles.items) i (omega arith))
+  no-group i over = let same = length-pieces 0 s.ends.items s.handles.items in rw (sym all-pieces) (slice_get_past (pieces_from 0 s.ends.items s.handles.items) i (omega arith))
 
   module _ (i start : ℕ) (there : i < length s.ends.items) (found : (last : ℕ) → RisesTo last 0 s.ends.items → IsParted last 0 i s.ends.items start) where
     group-ends : drop i s.ends.items ≡ get_or s.ends.items i 0 ∷ drop (suc i) s.ends.items

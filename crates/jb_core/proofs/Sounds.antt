@@ -12,11 +12,10 @@ use Rattle.std.specs.BTreeMap.{is_at}
 use Rattle.std.specs.Map.{values_of}
 use Rattle.std.specs.FinMap as map
 use Rattle.jb_handle.specs.declared.op.Op.{Op}
-use Rattle.jb_handle.specs.declared.op.Op.TheVariants.{Write, Revoke}
-use Rattle.jb_handle.specs.Held.{Held, held, IsKept, Fits}
+use Rattle.jb_handle.specs.Held.{Held, held, home_of, word_of, Fits}
 use Rattle.jb_handle.specs.Held as handle
 use Rattle.jb_handle.specs.Tickets.{TicketsFrom}
-use Rattle.jb_handle.proofs.Admitted.{kept-new, copy-kept, free-kept}
+use Rattle.jb_handle.proofs.Admitted.{kept-new, word-kept, passed}
 use Rattle.jb_handle.proofs.Tickets.{tickets-append, tickets-first}
 use Rattle.jb_cost.specs.Cut.{IsCut}
 use Rattle.jb_cost.specs.Credits.{Covers}
@@ -29,15 +28,10 @@ use Rattle.jb_core.specs.Line.{count}
 use Rattle.jb_core.specs.Lives.{settled_now}
 use Rattle.jb_core.specs.Machine.{Machine, handle_at, held_at, reserved, is_full, refusal_up, stopped_at, after_event, after_take}
 use Rattle.jb_core.specs.Sound.{waiting, stopped_now, IsGranted, IsMachineSound}
-use Rattle.jb_core.proofs.Accepted.{found-none, found-some, first-false, opens, still-up, there-at}
+use Rattle.jb_core.proofs.Accepted.{found-none, found-some, first-false, still-up, there-at}
 use Rattle.jb_core.proofs.Groups.{more-settled, parts-joined}
 use Rattle.jb_core.proofs.Entries.{length-insert_entry, length-remove_entry}
 use Rattle.jb_core.proofs.Reserved.{credits_of, open-reserved, touch-reserved, gone-reserved, stop-reserved, settle-reserved}
-
--- an accepted change leaves a handle within its credits and its shape
-after-kept : (h : Held) (op : Op) → IsKept h → handle.refusal h op ≡ None → IsKept (handle.after h op)
-after-kept h (Write home bytes) kept none = copy-kept h home bytes kept none
-after-kept h (Revoke home) kept none = free-kept h home kept none
 
 module _ (m : Machine) (sound : IsMachineSound m) where
   -- what a seat holds is within what was granted
@@ -48,9 +42,27 @@ module _ (m : Machine) (sound : IsMachineSound m) where
   granted-held seat h there = subst (IsGranted m.shape m.most) (sym (there-at m seat h there)) (granted-at seat h there)
 
   module _ (up : m.up ≡ true) where
+    -- other open handles, and another number of groups that are home
+    handled : (hs : List (ℕ × Held)) (home : ℕ) → All (IsGranted m.shape m.most) (values_of hs) → reserved (record m { handles = hs }) ≤ 2147483646 → m.next + length hs ≤ 2 ^ 61 → home ≤ length m.settled
+        → IsMachineSound (record m { handles = hs; checkpointed = home })
+    handled hs home granted room tickets within = record {
+      most = sound.most;
+      granted = granted;
+      few = sound.few;
+      covered = sound.covered;
+      fits = sound.fits;
+      room = room;
+      tickets = tickets;
+      numbered = sound.numbered;
+      counted = sound.counted;
+      lives = sound.lives;
+      home = within;
+      down = still-up m.up up;
+    }
+
     pub open-sound : (seat credits : ℕ) → refusal_up m (Open seat credits) ≡ None → IsMachineSound (after_event m (Open seat credits))
-    open-sound seat credits passed =
-        let tests = opens (is_some (handle_at m seat)) (nat_lt m.most credits) (is_full m credits) Busy (TooManyCredits m.most) (Full (reserved m)) passed in
+    open-sound seat credits accepts =
+        let tests = passed (is_some (handle_at m seat)) (nat_lt m.most credits) (is_full m credits) Busy (TooManyCredits m.most) (Full (reserved m)) accepts in
         let full = or_parts (nat_lt 2147483646 (reserved m + credits)) (nat_le (2 ^ 61) (m.next + length m.handles)) tests.2 in
         let room : nat_lt 2147483646 (reserved m + credits) ≡ false = full.0 in
         let fits : reserved m + credits ≤ 2147483646 = grind (arith, nat_tests) in
@@ -60,69 +72,43 @@ module _ (m : Machine) (sound : IsMachineSound m) where
         let few : credits ≤ m.most = grind (arith, nat_tests) in
         let within = sound.most.within in
         let limit = m.shape.most in
+        let same = open-reserved m seat credits (found-none (handle_at m seat) tests.0) in
         let longer = length-insert_entry m.handles seat (held credits m.shape map.empty) in
-        record {
-          most = sound.most;
-          granted = All-values-insert_entry nat_cmp seat (held credits m.shape map.empty) (IsGranted m.shape m.most) m.handles sound.granted
-              (record { few = few; same_shape = refl; kept = kept-new credits m.shape (omega arith) });
-          few = sound.few;
-          covered = sound.covered;
-          fits = sound.fits;
-          room = let same = open-reserved m seat credits (found-none (handle_at m seat) tests.0) in omega (arith, same, fits);
-          tickets = omega (arith, longer, left);
-          numbered = sound.numbered;
-          counted = sound.counted;
-          lives = sound.lives;
-          home = sound.home;
-          down = still-up m.up up;
-        }
+        handled (after_event m (Open seat credits)).handles m.checkpointed
+        (All-values-insert_entry nat_cmp seat (held credits m.shape map.empty) (IsGranted m.shape m.most) m.handles sound.granted (record { few = few; same_shape = refl; kept = kept-new credits m.shape (omega arith) }))
+        (omega (arith, same, fits)) (omega (arith, longer, left)) sound.home
 
     pub touch-sound : (seat : ℕ) (op : Op) → refusal_up m (Touch seat op) ≡ None → IsMachineSound (after_event m (Touch seat op))
-    touch-sound seat op passed =
-        let first = first-false (is_none (handle_at m seat)) NoHandle _ passed in
+    touch-sound seat op accepts =
+        let first = first-false (is_none (handle_at m seat)) NoHandle _ accepts in
         let found = found-some (handle_at m seat) first.0 in
         let none = found-none (handle.refusal (held_at m seat) op) (first-false (is_some (handle.refusal (held_at m seat) op)) _ [] first.1).0 in
         let granted = granted-held seat found.0 found.1 in
-        record {
-          most = sound.most;
-          granted = All-values-set_value (is_at (nat_cmp seat)) (IsGranted m.shape m.most) m.handles (handle.after (held_at m seat) op) sound.granted
-              (record { few = granted.few; same_shape = granted.same_shape; kept = after-kept (held_at m seat) op granted.kept none });
-          few = sound.few;
-          covered = sound.covered;
-          fits = sound.fits;
-          room = let same = touch-reserved m seat found.0 (handle.after (held_at m seat) op) found.1 (ap credits_of (there-at m seat found.0 found.1)) in let room = sound.room in omega arith;
-          tickets = let same = length-set_value (is_at (nat_cmp seat)) m.handles (handle.after (held_at m seat) op) in let tickets = sound.tickets in omega arith;
-          numbered = sound.numbered;
-          counted = sound.counted;
-          lives = sound.lives;
-          home = sound.home;
-          down = still-up m.up up;
-        }
+        let kept = word-kept (held_at m seat) (home_of op) (word_of op) granted.kept none in
+        let after = handle.after (held_at m seat) op in
+        let same = touch-reserved m seat found.0 after found.1 (ap credits_of (there-at m seat found.0 found.1)) in
+        let long = length-set_value (is_at (nat_cmp seat)) m.handles after in
+        let room = sound.room in
+        let tickets = sound.tickets in
+        handled (after_event m (Touch seat op)).handles m.checkpointed
+        (All-values-set_value (is_at (nat_cmp seat)) (IsGranted m.shape m.most) m.handles after sound.granted (record { few = granted.few; same_shape = granted.same_shape; kept = kept }))
+        (omega arith) (omega arith) sound.home
 
     gone-granted : (seat : ℕ) → All (IsGranted m.shape m.most) (values_of (after_event m (Abandon seat)).handles)
     gone-granted seat = All-map-remove_entry (is_at (nat_cmp seat)) (λ (e : ℕ × Held). e.1) (IsGranted m.shape m.most) m.handles sound.granted
 
     pub abandon-sound : (seat : ℕ) → refusal_up m (Abandon seat) ≡ None → IsMachineSound (after_event m (Abandon seat))
-    abandon-sound seat passed =
-        let found = found-some (handle_at m seat) (first-false (is_none (handle_at m seat)) NoHandle [] passed).0 in
-        record {
-          most = sound.most;
-          granted = gone-granted seat;
-          few = sound.few;
-          covered = sound.covered;
-          fits = sound.fits;
-          room = let all = gone-reserved m seat found.0 found.1 in let room = sound.room in omega arith;
-          tickets = let fewer = length-remove_entry (is_at (nat_cmp seat)) m.handles found.0 found.1 in let tickets = sound.tickets in omega arith;
-          numbered = sound.numbered;
-          counted = sound.counted;
-          lives = sound.lives;
-          home = sound.home;
-          down = still-up m.up up;
-        }
+    abandon-sound seat accepts =
+        let found = found-some (handle_at m seat) (first-false (is_none (handle_at m seat)) NoHandle [] accepts).0 in
+        let all = gone-reserved m seat found.0 found.1 in
+        let fewer = length-remove_entry (is_at (nat_cmp seat)) m.handles found.0 found.1 in
+        let room = sound.room in
+        let tickets = sound.tickets in
+        handled (after_event m (Abandon seat)).handles m.checkpointed (gone-granted seat) (omega arith) (omega arith) sound.home
 
     pub stop-sound : (seat : ℕ) → refusal_up m (Stop seat) ≡ None → IsMachineSound (after_event m (Stop seat))
-    stop-sound seat passed =
-        let found = found-some (handle_at m seat) (first-false (is_none (handle_at m seat)) NoHandle [] passed).0 in
+    stop-sound seat accepts =
+        let found = found-some (handle_at m seat) (first-false (is_none (handle_at m seat)) NoHandle [] accepts).0 in
         let granted = granted-held seat found.0 found.1 in
         let line : waiting m ++ stopped_at m seat ∷ [] ≡ joined m.taken ++ (m.queue ++ stopped_at m seat ∷ []) = append_assoc (joined m.taken) m.queue (stopped_at m seat ∷ []) in
         let all : stopped_now m ++ stopped_at m seat ∷ [] ≡ stopped_now (after_event m (Stop seat)) = append_assoc (settled_now m) (waiting m) (stopped_at m seat ∷ []) ∙ ap (λ hs. settled_now m ++ hs) line in
@@ -185,23 +171,10 @@ module _ (m : Machine) (sound : IsMachineSound m) where
         }
 
     pub checkpoint-sound : refusal_up m Checkpoint ≡ None → IsMachineSound (after_event m Checkpoint)
-    checkpoint-sound passed =
-        let test : nat_le (length m.settled) m.checkpointed ≡ false = (first-false (nat_le (length m.settled) m.checkpointed) Nothing [] passed).0 in
+    checkpoint-sound accepts =
+        let test : nat_le (length m.settled) m.checkpointed ≡ false = (first-false (nat_le (length m.settled) m.checkpointed) Nothing [] accepts).0 in
         let more : m.checkpointed < length m.settled = grind (arith, nat_tests) in
-        record {
-          most = sound.most;
-          granted = sound.granted;
-          few = sound.few;
-          covered = sound.covered;
-          fits = sound.fits;
-          room = sound.room;
-          tickets = sound.tickets;
-          numbered = sound.numbered;
-          counted = sound.counted;
-          lives = sound.lives;
-          home = omega (arith, more);
-          down = still-up m.up up;
-        }
+        handled m.handles (m.checkpointed + 1) sound.granted sound.room sound.tickets (omega (arith, more))
 
   pub crash-sound : (n : ℕ) → IsMachineSound (after_event m (Crash n))
   crash-sound n =

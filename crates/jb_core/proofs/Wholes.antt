@@ -1,19 +1,16 @@
 -- Over every run the machine keeps its lives whole.
-use Rattle.std.proofs.Common.{◌≡◌, ℕ, ◌≤◌, true, false, nat_lt, List, [], ◌∷◌, ◌++◌, length, take, drop, Some, None, is_some, is_none, Ok, Err, sym, refl, ap, subst, ◌∙◌, le_refl, arith}
+use Rattle.std.proofs.Common.{◌≡◌, ℕ, ◌+◌, ◌≤◌, true, false, nat_lt, List, [], ◌∷◌, ◌++◌, length, take, drop, Some, None, is_some, is_none, Ok, Err, sym, refl, ap, subst, ◌∙◌, le_refl, arith}
 use Rattle.std.proofs.lemmas.List.{length-append, append_assoc, append-nil, map-append, take-append-le}
 use Rattle.std.proofs.Math.Seq.{drop-length, take-length}
-use Rattle.std.specs.Ordering.{nat_cmp}
-use Rattle.std.specs.BTreeMap.{is_at}
 use Rattle.std.specs.FinMap as map
 use Rattle.jb_handle.specs.declared.shape.Shape.{Shape}
-use Rattle.jb_handle.specs.declared.op.Op.{Op}
 use Rattle.jb_handle.specs.Held.{Held, held, home_of, word_of}
 use Rattle.jb_handle.specs.Held as handle
 use Rattle.jb_handle.specs.LastOp.{words_by}
+use Rattle.jb_handle.proofs.Admitted.{passed}
 use Rattle.jb_core.specs.declared.event.Event.{Event}
 use Rattle.jb_core.specs.declared.event.Event.TheVariants.{Open, Touch, Stop, Abandon, Take, Settle, Checkpoint, Crash, Restart}
 use Rattle.jb_core.specs.declared.event.Reply.{Reply}
-use Rattle.jb_core.specs.declared.event.Reply.TheVariants.{Ticket}
 use Rattle.jb_core.specs.declared.event.CoreFault.{CoreFault}
 use Rattle.jb_core.specs.declared.event.CoreFault.TheVariants.{Busy, NoHandle, TooManyCredits, Full}
 use Rattle.jb_cost.specs.Pieces.{joined, pieces}
@@ -23,10 +20,12 @@ use Rattle.jb_core.specs.Sound.{HasOnlySettled}
 use Rattle.jb_core.specs.Steps.{MachineSteps, IsLeast}
 use Rattle.jb_core.specs.Lives.{Log, Answer, ops_of, ticket_in, stop_order, past_orders, stopped_by, handles_of_order, settled_now, PastKept, IsWhole, log_from}
 use Rattle.jb_core.specs.Ran.{IsNewMachine, Ran}
-use Rattle.jb_core.proofs.Accepted.{found-none, found-some, first-false, opens, none-taken, accepted, restarted, still-up, there-at}
+use Rattle.jb_core.proofs.Accepted.{found-none, found-some, first-false, none-taken, accepted, restarted, still-up, there-at}
 use Rattle.jb_core.proofs.Groups.{more-settled, parts-joined}
-use Rattle.jb_core.specs.Seats.{Once}
-use Rattle.jb_core.proofs.Seats.{seat-self, AreBy, once-insert, once-set, once-remove, by-same, by-found, by-remove, by-insert, by-set}
+use Rattle.jb_core.specs.Seats.{set, change, Once}
+use Rattle.jb_core.specs.Seats.{drop as drop_seat}
+use Rattle.jb_core.specs.SeatLaw.{changed}
+use Rattle.jb_core.proofs.Seats.{seat-self, set-same, set-other, change-same, change-other, once-set, once-change, once-drop, AreBy, by-changed, by-dropped}
 
 -- how a machine agrees with its log between two events
 record Stands (log : Log) (m : Machine) : Type 0 where
@@ -38,57 +37,62 @@ record Stands (log : Log) (m : Machine) : Type 0 where
 
 -- the words of a seat's handle are those of its changes
 held-by : (log : Log) (m : Machine) (seat : ℕ) (h : Held) → handle_at m seat ≡ Some h → AreBy log m.handles → (held_at m seat).words ≡ words_by (ops_of seat log)
-held-by log m seat h there by = ap (λ (g : Held). g.words) (there-at m seat h there) ∙ by-found log seat m.handles h there by
+held-by log m seat h there by = ap (λ (g : Held). g.words) (there-at m seat h there) ∙ by seat h there
 
 -- ---- each event
 
 module _ (log : Log) (m : Machine) (s : Stands log m) where
-  refused : (e : Event) (fault : CoreFault) → Stands ((e, Err fault) ∷ log) m
-  refused e fault = record {
-    handles = by-same log ((e, Err fault) ∷ log) m.handles (λ x. refl) s.handles;
-    once = s.once;
+  -- one that changes no more than the open handles and the number of groups that are home
+  handled : (next : Log) (hs : List (ℕ × Held)) (home : ℕ) → stop_order log ≡ stop_order next → past_orders log ≡ past_orders next → AreBy next hs → Once hs → (m.up ≡ false → hs ≡ [])
+      → Stands next (record m { handles = hs; checkpointed = home })
+  handled next hs home order orders by once empty = record {
+    handles = by;
+    once = once;
     lives = s.lives;
-    bare = s.bare;
-    whole = record { up = s.whole.up; crashed = s.whole.crashed; past = s.whole.past };
+    bare = λ down. let bare = s.bare down in record { handles = empty down; taken = bare.taken; queue = bare.queue; credits = bare.credits };
+    whole = record {
+      up = λ up. s.whole.up up ∙ ap handles_of_order order;
+      crashed = λ down. let prefix = s.whole.crashed down in (prefix.0, prefix.1 ∙ ap handles_of_order order);
+      past = subst (λ ps. PastKept ps (take m.earlier m.settled)) orders s.whole.past;
+    };
   }
 
-  opened : (seat credits : ℕ) (reply : Reply) → event_refusal m (Open seat credits) ≡ None → Stands ((Open seat credits, Ok reply) ∷ log) (after_event m (Open seat credits))
-  opened seat credits reply none =
-      let granted = accepted m (Open seat credits) refl none in
-      let tests = opens (is_some (handle_at m seat)) (nat_lt m.most credits) (is_full m credits) Busy (TooManyCredits m.most) (Full (reserved m)) granted.1 in
-      let free = found-none (handle_at m seat) tests.0 in
-      record {
-        handles = by-insert log ((Open seat credits, Ok reply) ∷ log) seat (λ x apart. rw apart refl) (held credits m.shape map.empty) (rw (seat-self seat) refl) m.handles free s.handles;
-        once = once-insert seat (held credits m.shape map.empty) m.handles free s.once;
-        lives = s.lives;
-        bare = still-up m.up granted.0;
-        whole = record { up = s.whole.up; crashed = s.whole.crashed; past = s.whole.past };
-      }
+  refused : (e : Event) (fault : CoreFault) → Stands ((e, Err fault) ∷ log) m
+  refused e fault = handled ((e, Err fault) ∷ log) m.handles m.checkpointed refl refl s.handles s.once (λ down. (s.bare down).handles)
 
-  touched : (seat : ℕ) (op : Op) (reply : Reply) → event_refusal m (Touch seat op) ≡ None → Stands ((Touch seat op, Ok reply) ∷ log) (after_event m (Touch seat op))
-  touched seat op reply none =
+  longer : (n : ℕ) → m.earlier ≤ length (m.settled ++ take n m.taken)
+  longer n = let lives = s.lives in let all = length-append m.settled (take n m.taken) in omega arith
+
+  same-past : (n : ℕ) → PastKept (past_orders log) (take m.earlier (m.settled ++ take n m.taken))
+  same-past n = subst (PastKept (past_orders log)) (sym (take-append-le m.earlier m.settled (take n m.taken) s.lives)) s.whole.past
+
+  happens : (e : Event) (reply : Reply) → event_refusal m e ≡ None → IsLeast m e → reply ≡ reply_of m e → Stands ((e, Ok reply) ∷ log) (after_event m e)
+  happens (Open seat credits) reply none least is =
+      let granted = accepted m (Open seat credits) refl none in
+      let tests = passed (is_some (handle_at m seat)) (nat_lt m.most credits) (is_full m credits) Busy (TooManyCredits m.most) (Full (reserved m)) granted.1 in
+      let free = found-none (handle_at m seat) tests.0 in
+      let new = held credits m.shape map.empty in
+      handled ((Open seat credits, Ok reply) ∷ log) (set m.handles seat new) m.checkpointed refl refl
+      (by-changed log ((Open seat credits, Ok reply) ∷ log) seat m.handles (set m.handles seat new) new (λ x apart. rw apart refl) (λ x apart. set-other seat new x m.handles apart) (set-same seat new m.handles) (rw (seat-self seat) refl) s.handles)
+      (once-set seat new m.handles free s.once) (still-up m.up granted.0)
+  happens (Touch seat op) reply none least is =
       let granted = accepted m (Touch seat op) refl none in
       let found = found-some (handle_at m seat) (first-false (is_none (handle_at m seat)) NoHandle _ granted.1).0 in
       let words = held-by log m seat found.0 found.1 s.handles in
-      record {
-        handles = by-set log ((Touch seat op, Ok reply) ∷ log) seat (λ x apart. rw apart refl) (handle.after (held_at m seat) op)
-            (rw (seat-self seat) (ap (λ ws. map.insert ws (home_of op) (word_of op)) words)) m.handles s.once s.handles;
-        once = once-set seat (handle.after (held_at m seat) op) (is_at (nat_cmp seat)) m.handles s.once;
-        lives = s.lives;
-        bare = still-up m.up granted.0;
-        whole = record { up = s.whole.up; crashed = s.whole.crashed; past = s.whole.past };
-      }
-
-  stopped : (seat : ℕ) (reply : Reply) → event_refusal m (Stop seat) ≡ None → reply ≡ Ticket m.next → Stands ((Stop seat, Ok reply) ∷ log) (after_event m (Stop seat))
-  stopped seat reply none is =
+      let new = handle.after (held_at m seat) op in
+      handled ((Touch seat op, Ok reply) ∷ log) (change m.handles seat new) m.checkpointed refl refl
+      (by-changed log ((Touch seat op, Ok reply) ∷ log) seat m.handles (change m.handles seat new) new (λ x apart. rw apart refl) (λ x apart. change-other seat new x m.handles apart)
+      (change-same seat new m.handles ∙ ap (λ had. changed had new) found.1) (rw (seat-self seat) (ap (λ ws. map.insert ws (home_of op) (word_of op)) words)) s.handles)
+      (once-change seat new m.handles s.once) (still-up m.up granted.0)
+  happens (Stop seat) reply none least is =
       let granted = accepted m (Stop seat) refl none in
       let found = found-some (handle_at m seat) (first-false (is_none (handle_at m seat)) NoHandle _ granted.1).0 in
       let words = held-by log m seat found.0 found.1 s.handles in
       let ticket : m.next ≡ ticket_in reply = ap ticket_in (sym is) in
       let one : stopped_at m seat ≡ stopped_by (ticket_in reply, ops_of seat log) = λ i. record { ticket = ticket i; words = words i } in
       record {
-        handles = by-same log ((Stop seat, Ok reply) ∷ log) _ (λ x. refl) (by-remove log (is_at (nat_cmp seat)) m.handles s.handles);
-        once = once-remove (is_at (nat_cmp seat)) m.handles s.once;
+        handles = by-dropped log seat m.handles s.once s.handles;
+        once = once-drop seat m.handles s.once;
         lives = s.lives;
         bare = still-up m.up granted.0;
         whole = record {
@@ -102,24 +106,14 @@ module _ (log : Log) (m : Machine) (s : Stands log m) where
           past = s.whole.past;
         };
       }
-
-  abandoned : (seat : ℕ) (reply : Reply) → event_refusal m (Abandon seat) ≡ None → Stands ((Abandon seat, Ok reply) ∷ log) (after_event m (Abandon seat))
-  abandoned seat reply none =
+  happens (Abandon seat) reply none least is =
       let granted = accepted m (Abandon seat) refl none in
-      record {
-        handles = by-same log ((Abandon seat, Ok reply) ∷ log) _ (λ x. refl) (by-remove log (is_at (nat_cmp seat)) m.handles s.handles);
-        once = once-remove (is_at (nat_cmp seat)) m.handles s.once;
-        lives = s.lives;
-        bare = still-up m.up granted.0;
-        whole = record { up = s.whole.up; crashed = s.whole.crashed; past = s.whole.past };
-      }
-
-  taken : (bounds : _) (reply : Reply) → event_refusal m (Take bounds) ≡ None → IsLeast m (Take bounds) → Stands ((Take bounds, Ok reply) ∷ log) (after_event m (Take bounds))
-  taken bounds reply none least =
+      handled ((Abandon seat, Ok reply) ∷ log) (drop_seat m.handles seat) m.checkpointed refl refl (by-dropped log seat m.handles s.once s.handles) (once-drop seat m.handles s.once) (still-up m.up granted.0)
+  happens (Take bounds) reply none least is =
       let granted = accepted m (Take bounds) refl none in
       let free = none-taken m granted.1 in
       record {
-        handles = by-same log ((Take bounds, Ok reply) ∷ log) m.handles (λ x. refl) s.handles;
+        handles = s.handles;
         once = s.once;
         lives = s.lives;
         bare = still-up m.up granted.0;
@@ -131,18 +125,10 @@ module _ (log : Log) (m : Machine) (s : Stands log m) where
           past = s.whole.past;
         };
       }
-
-  longer : (n : ℕ) → m.earlier ≤ length (m.settled ++ take n m.taken)
-  longer n = let lives = s.lives in let all = length-append m.settled (take n m.taken) in omega arith
-
-  same-past : (n : ℕ) → PastKept (past_orders log) (take m.earlier (m.settled ++ take n m.taken))
-  same-past n = subst (PastKept (past_orders log)) (sym (take-append-le m.earlier m.settled (take n m.taken) s.lives)) s.whole.past
-
-  settled : (n : ℕ) (reply : Reply) → event_refusal m (Settle n) ≡ None → Stands ((Settle n, Ok reply) ∷ log) (after_event m (Settle n))
-  settled n reply none =
+  happens (Settle n) reply none least is =
       let granted = accepted m (Settle n) refl none in
       record {
-        handles = by-same log ((Settle n, Ok reply) ∷ log) m.handles (λ x. refl) s.handles;
+        handles = s.handles;
         once = s.once;
         lives = longer n;
         bare = still-up m.up granted.0;
@@ -152,23 +138,13 @@ module _ (log : Log) (m : Machine) (s : Stands log m) where
           past = same-past n;
         };
       }
-
-  checkpointed : (reply : Reply) → event_refusal m Checkpoint ≡ None → Stands ((Checkpoint, Ok reply) ∷ log) (after_event m Checkpoint)
-  checkpointed reply none =
+  happens Checkpoint reply none least is =
       let granted = accepted m Checkpoint refl none in
-      record {
-        handles = by-same log ((Checkpoint, Ok reply) ∷ log) m.handles (λ x. refl) s.handles;
-        once = s.once;
-        lives = s.lives;
-        bare = still-up m.up granted.0;
-        whole = record { up = s.whole.up; crashed = s.whole.crashed; past = s.whole.past };
-      }
-
-  crashed : (n : ℕ) (reply : Reply) → event_refusal m (Crash n) ≡ None → Stands ((Crash n, Ok reply) ∷ log) (after_event m (Crash n))
-  crashed n reply none =
+      handled ((Checkpoint, Ok reply) ∷ log) m.handles (m.checkpointed + 1) refl refl s.handles s.once (still-up m.up granted.0)
+  happens (Crash n) reply none least is =
       let granted = accepted m (Crash n) refl none in
       record {
-        handles = tt;
+        handles = λ x h is. absurd (let never : ⊥ = cc in never);
         once = tt;
         lives = longer n;
         bare = λ down. record { handles = refl; taken = refl; queue = refl; credits = refl };
@@ -178,14 +154,12 @@ module _ (log : Log) (m : Machine) (s : Stands log m) where
           past = same-past n;
         };
       }
-
-  back : (reply : Reply) → event_refusal m Restart ≡ None → Stands ((Restart, Ok reply) ∷ log) (after_event m Restart)
-  back reply none =
+  happens Restart reply none least is =
       let down = restarted m none in
       let bare = s.bare down in
       let prefix = s.whole.crashed down in
       record {
-        handles = by-same log ((Restart, Ok reply) ∷ log) m.handles (λ x. refl) s.handles;
+        handles = s.handles;
         once = s.once;
         lives = le_refl (length m.settled);
         bare = λ up. still-up true refl up;
@@ -196,17 +170,6 @@ module _ (log : Log) (m : Machine) (s : Stands log m) where
         };
       }
 
-  happens : (e : Event) (reply : Reply) → event_refusal m e ≡ None → IsLeast m e → reply ≡ reply_of m e → Stands ((e, Ok reply) ∷ log) (after_event m e)
-  happens (Open seat credits) reply none least is = opened seat credits reply none
-  happens (Touch seat op) reply none least is = touched seat op reply none
-  happens (Stop seat) reply none least is = stopped seat reply none is
-  happens (Abandon seat) reply none least is = abandoned seat reply none
-  happens (Take bounds) reply none least is = taken bounds reply none least
-  happens (Settle n) reply none least is = settled n reply none
-  happens Checkpoint reply none least is = checkpointed reply none
-  happens (Crash n) reply none least is = crashed n reply none
-  happens Restart reply none least is = back reply none
-
   stepped : (e : Event) (answer : Answer) (n : Machine) → MachineSteps e m answer n → Stands ((e, answer) ∷ log) n
   stepped e (Ok reply) n step = subst (Stands ((e, Ok reply) ∷ log)) (sym step.2) (happens e reply step.0 step.1 step.3)
   stepped e (Err fault) n step = subst (Stands ((e, Err fault) ∷ log)) (sym step.1) (refused e fault)
@@ -215,7 +178,7 @@ module _ (log : Log) (m : Machine) (s : Stands log m) where
 
 begun : (shape : Shape) (m : Machine) → IsNewMachine shape m → Stands [] m
 begun shape m start = record {
-  handles = subst (AreBy []) (sym start.handles) tt;
+  handles = subst (AreBy []) (sym start.handles) (λ x h is. absurd (let never : ⊥ = cc in never));
   once = subst Once (sym start.handles) tt;
   lives = let none = start.earlier in omega arith;
   bare = still-up m.up start.up;

@@ -1,14 +1,14 @@
 use Rattle.std.proofs.Common.{rules, ◌≡◌, ◌+◌, ◌++◌, map, refl, sym, ap, ◌∙◌, subst, length, drop, arith}
-use Rattle.std.proofs.lemmas.List.{length-drop}
+use Rattle.std.proofs.lemmas.List.{length-drop, take_rest}
 use Rattle.jb_cost.specs.Cut.{IsCut}
 use Rattle.jb_core.specs.Line.{Line, IsTaken}
 use Rattle.jb_core.specs.Stops.{line_of_stops}
 use Rattle.jb_core.specs.declared.stops.Stops.TheInside.{Inside}
-use Rattle.jb_core.proofs.Moves.{rest-is, rises-below, cut-rises, take-kept, take-line}
+use Rattle.jb_core.proofs.Moves.{rises-below, cut-rises, take-kept, take-line}
 use Rattle.jb_core.proofs.stops.Stops.take.Goals as goal
 
 pub push_ends-requires : goal.push_ends-requires
-push_ends-requires c = rw (rest-is 1 c.args.bounds.now) (λ k d there.
+push_ends-requires c = rw (take_rest c.args.bounds.now 1) (λ k d there.
     let cut : IsCut (length (line_of_stops c.self.inside).queue) c.args.bounds.now = subst (λ (l : Line). IsCut (length l.queue) c.args.bounds.now) (sym c.self.view_is) c.requires.cut in
     let below = rises-below (length (line_of_stops c.self.inside).queue) 0 (drop 1 c.args.bounds.now) (cut-rises _ c.args.bounds.now cut) k d there in
     let left = length-drop c.self.inside.taken_end c.self.inside.handles.items in
@@ -22,7 +22,7 @@ invariant_of-self-2 c =
     (subst (λ (l : Line). IsCut (length l.queue) c.args.bounds.now) (sym c.self.view_is) c.requires.cut)
     (ap (λ (l : Line). l.taken) c.self.view_is ∙ c.requires.none)
     _ refl refl
-    (c.in_ok-push_ends.ensures.ok ∙ ap (λ es. c.self.inside.ends.items ++ map (λ end. c.self.inside.taken_end + end) es) (rest-is 1 c.args.bounds.now))
+    (c.in_ok-push_ends.ensures.ok ∙ ap (λ es. c.self.inside.ends.items ++ map (λ end. c.self.inside.taken_end + end) es) (take_rest c.args.bounds.now 1))
     end refl refl
 
 pub returns-clause-ok : goal.returns-clause-ok
@@ -34,5 +34,5 @@ returns-clause-ok c =
     (subst (λ (l : Line). IsCut (length l.queue) c.args.bounds.now) (sym c.self.view_is) c.requires.cut)
     (ap (λ (l : Line). l.taken) c.self.view_is ∙ c.requires.none)
     after refl refl
-    (c.in_ok-push_ends.ensures.ok ∙ ap (λ es. c.self.inside.ends.items ++ map (λ end. c.self.inside.taken_end + end) es) (rest-is 1 c.args.bounds.now))
+    (c.in_ok-push_ends.ensures.ok ∙ ap (λ es. c.self.inside.ends.items ++ map (λ end. c.self.inside.taken_end + end) es) (take_rest c.args.bounds.now 1))
     end refl refl)
