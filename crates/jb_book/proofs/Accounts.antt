@@ -26,7 +26,7 @@ use Rattle.jb_deck.specs.declared.done.Entry.{Entry}
 use Rattle.jb_deck.specs.Done.{Follow, start_of}
 use Rattle.jb_book.specs.declared.fault.BeginFault.TheVariants.{Aborted, Closed, Busy, TooManyCredits, Full}
 use Rattle.jb_book.specs.Account.{Account, InLine, IsAccountSound, IsLost, granted_to, dropped_of, queued, taken_all, settled_to, failed_of, has_no_room, begin_refusal, IsOpenFor, CanTake, Settles, touched_in}
-use Rattle.jb_book.specs.Shadow.{credits_at, lost, reserved_in, took}
+use Rattle.jb_book.specs.Shadow.{credits_at, lost, reserved_in, settled_by, took}
 use Rattle.jb_book.proofs.Follows.{follow-length, follow-on}
 use Rattle.jb_book.proofs.SeatCredits.{length-less, sum-gone, sum-less}
 
@@ -81,13 +81,6 @@ module _ (a : Account) (sound : IsAccountSound a) where
       let one : sum (unwrap_or (credits_at a.shadow seat) 0 ∷ []) ≡ unwrap_or (credits_at a.shadow seat) 0 = omega arith in
       let touches = sum_by-append (λ (h : Stopped). map.len h.words) a.shadow.queue (stop ∷ []) in
       let single : sum_by (λ (h : Stopped). map.len h.words) (stop ∷ []) ≡ map.len words = omega arith in
-      let paired = line.paired in
-      let order = sound.order in
-      let within = sound.within in
-      let room = sound.room in
-      let tickets = sound.tickets in
-      let changed = sound.changed in
-      let counted = sound.counted in
       record {
         most = sound.most;
         order = sound.order;
@@ -103,12 +96,12 @@ module _ (a : Account) (sound : IsAccountSound a) where
         seats_few = All-map-remove_entry (is_at (nat_cmp seat)) (λ (e : ℕ × ℕ). e.1) (λ c. c ≤ a.most) a.shadow.seats sound.seats_few;
         few = All-push (λ c. c ≤ a.most) a.shadow.credits (unwrap_or (credits_at a.shadow seat) 0) sound.few (omega (arith, granted, few));
         fits = All-push (λ h. Fits a.shape h.words) a.shadow.queue stop sound.fits is.fits;
-        room = omega (arith, gone, sums, one, granted, room);
+        room = omega (arith, gone, sums, one, granted);
         small = sound.small;
-        tickets = omega (arith, shorter, tickets);
-        changed = omega (arith, gone, changed);
+        tickets = omega (arith, shorter);
+        changed = omega (arith, gone);
         granted = sound.granted;
-        counted = omega (arith, touches, single, counted);
+        counted = omega (arith, touches, single);
         trail = sound.trail;
       }
     where
@@ -118,7 +111,6 @@ module _ (a : Account) (sound : IsAccountSound a) where
   pub taken-sound : CanTake a → IsAccountSound (taken_all a)
   taken-sound can =
       let line = sound.running can.running in
-      let paired = line.paired in
       let none : drop (a.shadow.taken + length a.shadow.queue - a.shadow.settled) a.shadow.credits ≡ [] = drop_of_length-le a.shadow.credits (omega arith) in
       let ordered : a.shadow.settled ≤ a.shadow.taken + length a.shadow.queue = omega arith in
       let within : a.shadow.taken + length a.shadow.queue ≤ a.shadow.next = omega arith in
@@ -130,46 +122,27 @@ module _ (a : Account) (sound : IsAccountSound a) where
   pub settled-sound : (past : ℕ) (entries : List Entry) → Settles a past entries → IsAccountSound (settled_to past entries a)
   settled-sound past entries is =
       let up = follow-length a.shadow.settled _ past entries is.follow in
-      let order = sound.order in
-      let within = sound.within in
-      let n = past - a.shadow.settled in
       let there : past ≡ a.shadow.settled + (past - a.shadow.settled) = omega arith in
-      let room = sound.room in
       let parts = sum_by-take-drop (λ (x : ℕ). x) a.shadow.credits (past - a.shadow.settled) in
+      let ordered : a.shadow.settled + (past - a.shadow.settled) ≤ a.shadow.taken = omega arith in
+      let running : a.aborted ≡ false → InLine (settled_by (past - a.shadow.settled) a.shadow) = λ run. (
+      let line = sound.running run in
+      let fewer = length-drop (past - a.shadow.settled) a.shadow.credits in
       record {
-        most = sound.most;
-        order = omega arith;
-        within = sound.within;
-        running = λ run.
-            let line = sound.running run in
-            let paired = line.paired in
-            let fewer = length-drop (past - a.shadow.settled) a.shadow.credits in
-            record {
-              tickets = line.tickets;
-              queued = line.queued;
-              paired = omega arith;
-              covered = subst (λ cs. Covers cs a.shadow.queue) (ap (λ k. drop k a.shadow.credits) (let same : a.shadow.taken - a.shadow.settled ≡ (past - a.shadow.settled) + (a.shadow.taken - (a.shadow.settled + (past - a.shadow.settled))) = omega arith in same)
-                  ∙ sym (drop-drop (a.shadow.taken - (a.shadow.settled + (past - a.shadow.settled))) (past - a.shadow.settled) a.shadow.credits)) line.covered;
-            };
-        failed = λ fell.
-            let over = sound.failed fell in
-            let same = over.taken in
-            record {
-              queue = over.queue;
-              credits = ap (drop (past - a.shadow.settled)) over.credits ∙ drop-nil (past - a.shadow.settled);
-              taken = omega arith;
-            };
-        seats_few = sound.seats_few;
-        few = All-drop (λ c. c ≤ a.most) (past - a.shadow.settled) a.shadow.credits sound.few;
-        fits = sound.fits;
-        room = omega arith;
-        small = sound.small;
-        tickets = sound.tickets;
-        changed = sound.changed;
-        granted = sound.granted;
-        counted = sound.counted;
-        trail = subst (λ p. Follow (start_of (a.trail ++ entries)) 0 p (a.trail ++ entries)) there (follow-on a.shadow.settled past a.trail entries sound.trail is.follow);
-      }
+        tickets = line.tickets;
+        queued = line.queued;
+        paired = omega arith;
+        covered = subst (λ cs. Covers cs a.shadow.queue) (ap (λ k. drop k a.shadow.credits) (let same : a.shadow.taken - a.shadow.settled ≡ (past - a.shadow.settled) + (a.shadow.taken - (a.shadow.settled + (past - a.shadow.settled))) = omega arith in same)
+            ∙ sym (drop-drop (a.shadow.taken - (a.shadow.settled + (past - a.shadow.settled))) (past - a.shadow.settled) a.shadow.credits)) line.covered;
+      }) in
+      let failed : a.aborted ≡ true → IsLost (settled_by (past - a.shadow.settled) a.shadow) = λ fell. (
+      let over = sound.failed fell in
+      record { queue = over.queue; credits = ap (drop (past - a.shadow.settled)) over.credits ∙ drop-nil (past - a.shadow.settled); taken = omega arith }) in
+      let room : reserved_in (settled_by (past - a.shadow.settled) a.shadow) ≤ a.usable = omega arith in
+      assumption (
+        All-drop (λ (c : ℕ). c ≤ a.most) (past - a.shadow.settled) a.shadow.credits sound.few,
+        subst (λ p. Follow (start_of (a.trail ++ entries)) 0 p (a.trail ++ entries)) there (follow-on a.shadow.settled past a.trail entries sound.trail is.follow),
+      )
 
   -- the account with what is settled so
   pub settled-is : (past : ℕ) (entries : List Entry) (credits : List ℕ) (trail : List Entry) → a.shadow.settled ≤ past → credits ≡ drop (past - a.shadow.settled) a.shadow.credits → trail ≡ a.trail ++ entries
@@ -194,7 +167,6 @@ module _ (a : Account) (sound : IsAccountSound a) where
   pub queue-size : a.aborted ≡ false → IsWithinSize a.shadow.queue
   queue-size running =
       let line = sound.running running in
-      let k = a.shadow.taken - a.shadow.settled in
       let all = covers-weight (drop (a.shadow.taken - a.shadow.settled) a.shadow.credits) a.shadow.queue line.covered in
       let parts = sum_by-take-drop (λ (x : ℕ). x) a.shadow.credits (a.shadow.taken - a.shadow.settled) in
       omega arith

@@ -80,7 +80,7 @@ opened-since {D = D} G counts_now b disk deck begun kept new opens leaves now st
       record {
         same_size = kept.same_size ∙ begun.same_size;
         same_count = kept.same_count ∙ begun.same_count;
-        no_fewer = let stayed : G.faults deck.disk ≡ G.faults disk = kept.counted in let same = begun.same_faults in omega (arith, stayed, same);
+        no_fewer = let stayed : G.faults deck.disk ≡ G.faults disk = kept.counted in omega (arith, stayed);
         up = λ few none. new.aborted;
         same = own-opened (G.size disk) (G.count disk) (G.newest disk) b.own deck.log op.sb op.taken op.log begun.own;
         number = omega (arith, numbered);
@@ -90,7 +90,7 @@ opened-since {D = D} G counts_now b disk deck begun kept new opens leaves now st
         now = λ c may.
             first-none b deck.log.sb (own-opened (G.size disk) (G.count disk) (G.newest disk) b.own deck.log op.sb op.taken op.log begun.own) (G.size disk) (G.count disk) begun.same_size begun.same_count []
             (recovered_home (G.size disk) (G.count disk) (G.newest disk)) stood (past_after 0 deck.trail) deck.log.next c (omega (arith, past)) (omega (arith, numbered)) ((now held).each c may);
-        later = let on = left.later in omega (arith, on);
+        later = omega arith;
         ever = λ c was.
             ⊎_elim
             (λ (early : G.left_since disk b.since c). inl (begun.ever known_start honest_on c early))

@@ -94,7 +94,7 @@ module _ (shape : Shape) (calls : List Call) (a : Account) (s : Stands shape cal
       let one : Stopped = record { ticket = ticket; words = ws } in
       let own : Stopped = record { ticket = a.shadow.next; words = ws } in
       let counted = s.counted in
-      let longer = length-append (stops_of calls) (record { ticket = ticket; words = ws } ∷ []) in
+      let longer = length-append (stops_of calls) (one ∷ []) in
       let follow = s.sound.trail in
       record {
         same_shape = s.same_shape;
@@ -104,16 +104,16 @@ module _ (shape : Shape) (calls : List Call) (a : Account) (s : Stands shape cal
         tied = tied;
         stops =
             sym (all-of (queued seat ws a) _ n tied can.0)
-            ∙ (λ i. joined (settled i) ++ (joined (taken i) ++ (a.shadow.queue ++ record { ticket = a.shadow.next; words = ws } ∷ [])))
-            ∙ ap (λ xs. joined s.machine.settled ++ xs) (sym (append_assoc (joined s.machine.taken) a.shadow.queue (record { ticket = a.shadow.next; words = ws } ∷ [])))
-            ∙ sym (append_assoc (joined s.machine.settled) (joined s.machine.taken ++ a.shadow.queue) (record { ticket = a.shadow.next; words = ws } ∷ []))
-            ∙ ap (λ xs. xs ++ record { ticket = a.shadow.next; words = ws } ∷ []) (all-of a s.log s.machine s.tied can.0 ∙ s.stops)
+            ∙ (λ i. joined (settled i) ++ (joined (taken i) ++ (a.shadow.queue ++ own ∷ [])))
+            ∙ ap (λ xs. joined s.machine.settled ++ xs) (sym (append_assoc (joined s.machine.taken) a.shadow.queue (own ∷ [])))
+            ∙ sym (append_assoc (joined s.machine.settled) (joined s.machine.taken ++ a.shadow.queue) (own ∷ []))
+            ∙ ap (λ xs. xs ++ own ∷ []) (all-of a s.log s.machine s.tied can.0 ∙ s.stops)
             ∙ ap (λ k. stops_of calls ++ record { ticket = k; words = ws } ∷ []) (sym is);
         settled = settled ∙ s.settled;
         out = taken ∙ s.out;
-        numbered = tickets-append 0 (stops_of calls) (record { ticket = ticket; words = ws } ∷ []) s.numbered (omega (arith, is, counted), tt);
+        numbered = tickets-append 0 (stops_of calls) (one ∷ []) s.numbered (omega (arith, is, counted), tt);
         counted = omega (arith, longer, counted);
-        trail = s.trail ∙ sym (more-stops (start_of a.trail) 0 a.shadow.settled (stops_of calls) (record { ticket = ticket; words = ws } ∷ []) a.trail follow few-stops);
+        trail = s.trail ∙ sym (more-stops (start_of a.trail) 0 a.shadow.settled (stops_of calls) (one ∷ []) a.trail follow few-stops);
       }
 
   pub call-dropped : (seat : ℕ) → Stands shape (Dropped seat ∷ calls) (dropped_of seat a)

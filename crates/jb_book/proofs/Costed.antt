@@ -25,8 +25,8 @@ module _ (shape : Shape) (given hs : List Stopped) where
   costed-before : (e : Entry) → IsCosted shape given e → IsCosted shape (given ++ hs) e
   costed-before e is = record {
     some = is.some;
-    within = (let within = is.within in let both = length-append given hs in omega (arith, within, both));
-    blocks = is.blocks ∙ ap (cost (geometry_of shape)) (sym (range-before given hs e.first e.past (let some = is.some in omega (arith, some)) is.within));
+    within = (let both = length-append given hs in omega (arith, both));
+    blocks = is.blocks ∙ ap (cost (geometry_of shape)) (sym (range-before given hs e.first e.past (omega arith) is.within));
   }
 
   costed-from : (number a : ℕ) (bs : List ℕ) → RisesTo (length hs) a bs → All (IsCosted shape (given ++ hs)) (entries_from (cost_in shape hs) (length given) number a bs)

@@ -44,14 +44,14 @@ module _ (b : Begun) where
   }
 
   pub first-lower : (given : List Stopped) (low least : ℕ) (c : Image) → low ≤ least → HasFirst b given least c → HasFirst b given low c
-  first-lower given low least c less is = record { many = is.many; from = (let from = is.from in omega (arith, less, from)); to = is.to; next = is.next; number = is.number; recovered = is.recovered }
+  first-lower given low least c less is = record { many = is.many; from = omega arith; to = is.to; next = is.next; number = is.number; recovered = is.recovered }
 
   -- a first part of the handles is one of these and further ones
   pub first-longer : (given more : List Stopped) (least : ℕ) (c : Image) → HasFirst b given least c → HasFirst b (given ++ more) least c
   first-longer given more least c is = record {
     many = is.many;
     from = is.from;
-    to = let all = length-append given more in let to = is.to in omega (arith, all, to);
+    to = let all = length-append given more in omega (arith, all);
     next = is.next;
     number = is.number;
     recovered = subst (λ hs. Recovered is.next hs c) (sym (take-append-le is.many given more is.to)) is.recovered;

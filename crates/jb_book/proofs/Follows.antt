@@ -51,11 +51,10 @@ module _ (es : List Entry) (i : ℕ) (e : Entry) (there : i < length es) (is : e
 -- a ticket of the first entry or of a later one ends no later than its own entry does
 later-past : (first least past : ℕ) (es : List Entry) (j : ℕ) (d : Entry) → Follow first least past es → j < length es → first ≤ (get_or es j d).past
 later-past first least past [] j d is there = absurd (omega (arith, there))
-later-past first least past (e ∷ es) zero d is there = let more = is.1 in omega (arith, more)
+later-past first least past (e ∷ es) zero d is there = omega arith
 later-past first least past (e ∷ es) (suc j) d is there =
-    let more = is.1 in
     let rest = later-past e.past (e.number + 1) past es j d is.3 (omega (arith, there)) in
-    omega (arith, more, rest)
+    omega (arith, rest)
 
 -- the ends of entries that tile the tickets go up
 pub pasts-rise : (first least past : ℕ) (es : List Entry) → Follow first least past es → IsNonDecreasingBy (λ (e : Entry). e.past) es

@@ -158,15 +158,15 @@ module _ {D : Type 0} (G : Ghosts D) (b : Begun) (known : Stopped → Type 0) (p
         since-more fails called most few now = record {
           same_size = kept.same_size ∙ s.same_size;
           same_count = kept.same_count ∙ s.same_count;
-          no_fewer = let before = s.no_fewer in omega (arith, before);
+          no_fewer = omega arith;
           up = fails;
           same = same-then b.own old.log.sb new.log.sb s.same st.moved;
-          number = let before = s.number in let all = length-append given hs in let few = cut-within (length hs) p.groups k cut st.within in omega (arith, before, all, few.0, few.1);
+          number = let all = length-append given hs in let few = cut-within (length hs) p.groups k cut st.within in omega (arith, all, few);
           began = began-more;
           stood = λ on. call-stood given hs b.homes (deck_homes G.newest old) (deck_homes G.newest new) (s.stood takes.up) (called on).0;
           live = λ on. (called on).1;
           now = λ x may. has-some k most (past_after 0 new.trail) x few (let ends = past in omega (arith, ends)) (now x may);
-          later = let before = s.later in let on = first-leaves.later in omega (arith, before, on);
+          later = omega (arith, leaves.later);
           ever = ever-on G b given (given ++ hs) (past_after 0 old.trail) old new (first-longer b given hs) s first-leaves;
         }
 
@@ -205,12 +205,11 @@ module _ {D : Type 0} (G : Ghosts D) (b : Begun) (known : Stopped → Type 0) (p
   commit-marked ms (Err (batch.Memory back)) answers on_disk leaves now is = subst (IsMarkedOf G b known ms) (sym answers.3) is
   commit-marked ms (Err (batch.DeviceFault settled)) answers on_disk leaves now is =
       let some = answers.2 in
-      let few = some.some in
       let st = some-settled settled answers.1.no_fewer some in
       more-marked answers.0 some.groups (entries_of settled) st ms
       (λ low few none. absurd (more-counted b.faults (G.faults old.disk) (G.faults new.disk) low answers.1 few none))
       (λ held given live on. cc (some.aborted, on))
-      (some.groups + 1) (omega (arith, few)) (λ held x may. subst (λ n. Left n (n + 1) x) (long answers.0 some.groups (entries_of settled) st) (now answers.0.up held x may)) leaves is
+      (some.groups + 1) (omega arith) (λ held x may. subst (λ n. Left n (n + 1) x) (long answers.0 some.groups (entries_of settled) st) (now answers.0.up held x may)) leaves is
 
   module _ (plain : (h : Stopped) → known h → b.stops h.words) (ms : List (OpenDeck D)) where
     -- the journal that refuses a batch is as it was

@@ -32,7 +32,6 @@ started shape usable a small start =
     let sums : sum (values_of a.shadow.seats) ≡ 0 = ap (λ (s : Shadow). sum (values_of s.seats)) start.shadow in
     let all : reserved_in a.shadow ≡ 0 = ap reserved_in start.shadow in
     let touched : touched_in a.shadow.queue ≡ 0 = ap (λ (s : Shadow). touched_in s.queue) start.shadow in
-    let granted = start.granted in
     record {
       most = subst (λ (s : Shape). IsMost (geometry_of s) s.limit a.most) (sym start.same_shape) start.most;
       order = omega (arith, settled, taken);
@@ -46,7 +45,7 @@ started shape usable a small start =
       small = omega (arith, small);
       tickets = omega (arith, next, seats);
       changed = omega (arith, sums);
-      granted = omega (arith, granted);
+      granted = omega arith;
       counted = omega (arith, touched);
       trail = subst (λ (es : List Entry). Follow (start_of es) 0 a.shadow.settled es) (sym start.trail) (sym settled);
     }
@@ -69,8 +68,7 @@ pub groups-in : (first least past : ℕ) (before : List Stopped) (groups : List 
 groups-in first least past before groups rest [] long follow are = refl
 groups-in first least past before [] rest (e ∷ es) long follow are = absurd are
 groups-in first least past before (g ∷ groups) rest (e ∷ es) long follow are =
-    let begins = follow.0 in
-    let at : e.first ≡ length before = begins ∙ sym long in
+    let at : e.first ≡ length before = follow.0 ∙ sym long in
     let size : e.past - e.first ≡ length g = omega arith in
     let here : handles_in (before ++ ((g ++ joined groups) ++ rest)) e ≡ g =
     ap (λ n. take (e.past - e.first) (drop n (before ++ ((g ++ joined groups) ++ rest)))) at
@@ -79,7 +77,7 @@ groups-in first least past before (g ∷ groups) rest (e ∷ es) long follow are
     ∙ take-append_seam g (joined groups ++ rest) in
     let all : (before ++ g) ++ (joined groups ++ rest) ≡ before ++ ((g ++ joined groups) ++ rest) = append_assoc before g (joined groups ++ rest) ∙ ap (λ xs. before ++ xs) (sym (append_assoc g (joined groups) rest)) in
     let both = length-append before g in
-    let later = groups-in e.past (e.number + 1) past (before ++ g) groups rest es (omega (arith, both, long, begins)) follow.3 are.1 in
+    let later = groups-in e.past (e.number + 1) past (before ++ g) groups rest es (omega (arith, both)) follow.3 are.1 in
     ap (λ gs. g ∷ gs) (later ∙ ap (λ stops. map (handles_in stops) es) all) ∙ ap (λ h. h ∷ map (handles_in (before ++ ((g ++ joined groups) ++ rest))) es) (sym here)
 
 -- ---- a Vec

@@ -105,7 +105,7 @@ module _ {D : Type 0} (G : Ghosts D) (b : Begun) (given after : List Stopped) wh
       → (ms : List (OpenDeck D)) → All (Lasts G b given old) ms → All (Lasts G b after new) ms
   kept-all old new shape was_honest up longer leaves =
       All-weaker (Lasts G b given old) (Lasts G b after new) (λ m l. record {
-        has = record { tiles = l.has.tiles; settled = let was = l.has.settled in omega (arith, was, up) };
+        has = record { tiles = l.has.tiles; settled = omega arith };
         same_shape = shape ∙ l.same_shape;
         was_honest = λ held. l.was_honest (was_honest held);
         earlier = λ known_start held. (let was = l.earlier known_start (was_honest held) in let on = (leaves known_start held).later in omega (arith, was, on));

@@ -81,7 +81,6 @@ module _ (c : ℕ → ℕ → ℕ) (limit : ℕ) where
       let t = table n in
       let same : n + 1 ≡ suc n = omega arith in
       let (best, is) = best-from c limit t.ps (n + 1) (n + 1) 0 (omega arith) in
-      let starts = t.starts in
       let longer = length-append t.ps (price_of best ∷ []) in
       let later = length-append t.froms (from_of best ∷ []) in
       subst Table same (record {
@@ -89,7 +88,7 @@ module _ (c : ℕ → ℕ → ℕ) (limit : ℕ) where
         froms = t.froms ++ (from_of best ∷ []);
         steps = steps-more c limit t.ps t.froms n best t.steps t.number t.starts is;
         number = omega (arith, longer);
-        starts = omega (arith, later, starts);
+        starts = omega (arith, later);
       })
 
   least-cut : (n : ℕ) (other : List ℕ) → FitsCut c limit n other → (bounds : List ℕ) × IsLeastCut c limit n bounds

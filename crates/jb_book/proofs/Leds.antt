@@ -126,9 +126,8 @@ module _ (log : List WordMap) (a : Account) (is : IsLed log a) where
         });
         led = λ hs cut p. (
             let before : a.aborted ≡ false → AreCut log a hs cut = λ up. (
-            let are = p up in
-            let number = are.0.number in (
-              record { tickets = are.0.tickets; recorded = recorded-back log (ws ∷ []) a.shadow.settled hs are.0.tickets (omega (arith, number, long)) are.0.recorded; number = number },
+            let are = p up in (
+              record { tickets = are.0.tickets; recorded = recorded-back log (ws ∷ []) a.shadow.settled hs are.0.tickets (omega arith) are.0.recorded; number = are.0.number },
               are.1,
             )) in
             let l = is.led hs cut before in
@@ -144,20 +143,18 @@ module _ (log : List WordMap) (a : Account) (is : IsLed log a) where
 
   pub led-taken : IsAccountSound a → CanTake a → All (IsInHistory log) a.shadow.queue → HasCut a.shape a.shadow.queue → IsLed log (taken_all a)
   led-taken sound can recorded cuts =
-      let free = can.free in
-      let tickets : TicketsFrom a.shadow.settled a.shadow.queue = subst (λ n. TicketsFrom n a.shadow.queue) free (sound.running can.running).tickets in
+      let tickets : TicketsFrom a.shadow.settled a.shadow.queue = subst (λ n. TicketsFrom n a.shadow.queue) can.free (sound.running can.running).tickets in
       let least = has_least (gathered a.shadow.settled a.shadow.queue a.shape) cuts in
       record {
         some = λ up. record {
           handles = a.shadow.queue;
           cut = least.0;
-          are = (record { tickets = tickets; recorded = recorded; number = (let h : a.shadow.settled + length a.shadow.queue ≡ a.shadow.taken + length a.shadow.queue = omega (arith, free) in h) }, least.1);
+          are = (record { tickets = tickets; recorded = recorded; number = (let h : a.shadow.settled + length a.shadow.queue ≡ a.shadow.taken + length a.shadow.queue = omega arith in h) }, least.1);
         };
         led = λ hs cut p. (
             let are = p can.running in
-            let number = are.0.number in
-            let same : hs ≡ a.shadow.queue = same-out log a.shadow.settled hs a.shadow.queue are.0.tickets tickets are.0.recorded recorded (omega (arith, number, free)) in
-            let l = is.led [] (0 ∷ []) (λ _. none-are log a (sym free)) in
+            let same : hs ≡ a.shadow.queue = same-out log a.shadow.settled hs a.shadow.queue are.0.tickets tickets are.0.recorded recorded (omega arith) in
+            let l = is.led [] (0 ∷ []) (λ _. none-are log a (sym can.free)) in
             record {
               calls = Took (gathered a.shadow.taken a.shadow.queue a.shape) cut ∷ l.calls;
               full = l.full;

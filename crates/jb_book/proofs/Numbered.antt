@@ -39,8 +39,8 @@ start-more [] fs P none some starts = none refl
 start-more (e ∷ es) fs P none some starts = some starts
 
 later-start : (first least past : ℕ) (es : List Entry) (f : Entry) (fs : List Entry) → Follow first least past (es ++ f ∷ fs) → first + length es ≤ f.first
-later-start first least past [] f fs is = let at = is.0 in omega (arith, at)
-later-start first least past (e ∷ es) f fs is = let at = is.0 in let rest = later-start e.past (e.number + 1) past es f fs is.3 in omega (arith, at, rest)
+later-start first least past [] f fs is = omega arith
+later-start first least past (e ∷ es) f fs is = let rest = later-start e.past (e.number + 1) past es f fs is.3 in omega (arith, rest)
 
 -- where what is left of one begins at it, none was taken
 pub none-taken : (oldest past end : ℕ) (taken rest : List Entry) → StopsAt oldest past taken rest → Follow (start_of (taken ++ rest)) 0 end (taken ++ rest) → start_of rest ≡ 0 → length taken ≡ 0

@@ -129,15 +129,15 @@ module _ {D : Type 0} (G : Ghosts D) (counts_now : CountsNow G) (b : Begun) (kno
       since-still fails stays = record {
         same_size = kept.same_size ∙ s.same_size;
         same_count = kept.same_count ∙ s.same_count;
-        no_fewer = let before = s.no_fewer in omega (arith, before);
+        no_fewer = omega arith;
         up = fails;
         same = same-then b.own old.log.sb new.log.sb s.same still.same;
-        number = let before = s.number in let same = still.next in omega (arith, before, same);
+        number = omega arith;
         began = λ starts. still.next ∙ s.began (ap start_of (sym still.trail) ∙ starts) ∙ ap (λ es. b.own.sequence + 1 + length es) (sym still.trail);
         stood = λ on home. subst (StandsBy (word given home) (b.homes home)) (sym ((stays given (s.live up) on).0 home)) (s.stood up home);
         live = λ on. (stays given (s.live up) on).1;
         now = λ c may. subst (λ es. HasFirst b given (past_after 0 es) c) (sym still.trail) (first-still.each c (counts_now new.disk (G.moment old.disk) c held first-still.later may));
-        later = let before = s.later in let on = first-still.later in omega (arith, before, on);
+        later = let on = first-still.later in omega (arith, on);
         ever = ever-on G b given given (past_after 0 old.trail) old new (λ least c f. f) s first-still;
       }
 

@@ -26,13 +26,13 @@ shown-at marks ticket (inl (number, s)) = record {
   at = s.marked.at;
   mark = s.marked.mark;
   stands = s.marked.stands;
-  late = λ within. (let tiles = within s.entry s.marked.has in let past = tiles.1 in omega (arith, past));
+  late = λ within. (let tiles = within s.entry s.marked.has in omega arith);
 }
 shown-at marks ticket (inr s) = record {
   at = s.marked.at;
   mark = s.marked.mark;
   stands = s.marked.stands;
-  late = λ within. (let tiles = within s.entry s.marked.has in let past = tiles.1 in omega (arith, past));
+  late = λ within. (let tiles = within s.entry s.marked.has in omega arith);
 }
 
 -- what holds of all marks holds of this one

@@ -86,14 +86,11 @@ module _ (shape : Shape) (log : Log) (m : Machine) (seat credits : ℕ) (ran : R
   touched [] few fits = (m, record { ran = ran; accepted = accepted; same = refl; shadow = refl; there = there; rest = refl })
   touched (e ∷ es) few fits =
       let (n, t) = touched es (omega (arith, few)) (λ k d within. fits (suc k) d (omega (arith, within))) in
-      let h = held credits shape (words_in es) in
-      let op = op_for e in
       let still : n.up ≡ true = ap (λ (k : Machine). k.up) t.same ∙ up in
       let few_yet = few-words es in
       let free : handle.refusal (held credits shape (words_in es)) (op_for e) ≡ None = fits-in (held credits shape (words_in es)) (omega (arith, few, few_yet)) e (fits 0 e (omega arith)) in
       let none : event_refusal n (Touch seat (op_for e)) ≡ None = rw (still, t.there) (rw free refl) in
       let holds : held_at n seat ≡ held credits shape (words_in es) = there-at n seat (held credits shape (words_in es)) t.there in
-      let next = handle.after (held_at n seat) (op_for e) in
       let is : handle.after (held_at n seat) (op_for e) ≡ held credits shape (words.insert (words_in es) e.0 e.1)
       = ap (λ (k : Held). handle.after k (op_for e)) holds ∙ same-put (λ home word. held credits shape (words.insert (words_in es) home word)) e in (
         after_event n (Touch seat (op_for e)),

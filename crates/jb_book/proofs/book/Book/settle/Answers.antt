@@ -7,53 +7,45 @@ use Rattle.jb_book.specs.Book.{account_of}
 use Rattle.jb_book.proofs.Accounts.{settled-is, settled-sound}
 use Rattle.jb_book.proofs.Follows.{follow-length, least-append}
 use Rattle.jb_book.proofs.Keeping.{kept-by}
+use Rattle.jb_book.proofs.book.Book.settle.Given.{Over}
+use Rattle.jb_book.proofs.book.Book.settle.Goals.{After-push_all}
 use Rattle.jb_book.proofs.book.Book.settle.Goals as goal
+
+-- the entries settle handles of the batch that is out
+settles : (g : Over) (c : After-push_all g) → Settles (account_of c.self.inside) c.in-Some.past c.entries-entries.result.now
+settles g c = record {
+  follow = subst (λ n. Follow c.self.inside.settled n c.in-Some.past c.entries-entries.result.now) c.self.invariant.least c.in-Some.ensures.follow;
+  within = c.in-Some.ensures.within;
+}
 
 pub push_all-requires : goal.push_all-requires
 push_all-requires g c =
-    let follow : Follow c.self.inside.settled c.self.inside.least c.in-Some.past c.entries-entries.result.now = c.in-Some.ensures.follow in
-    let inside : c.in-Some.past ≤ c.self.inside.taken = c.in-Some.ensures.within in
-    let up = follow-length c.self.inside.settled c.self.inside.least c.in-Some.past c.entries-entries.result.now follow in
-    let within = c.self.invariant.sound.within in
-    let room = c.self.invariant.room in
-    omega arith
+    let up = follow-length c.self.inside.settled c.self.inside.least c.in-Some.past c.entries-entries.result.now c.in-Some.ensures.follow in
+    omega (arith, c.in-Some.ensures.within, c.self.invariant.sound.within, c.self.invariant.room)
 
 pub overflow_sub-past : goal.overflow_sub-past
-overflow_sub-past g c =
-    let follow : Follow c.self.inside.settled c.self.inside.least c.in-Some.past c.entries-entries.result.now = c.in-Some.ensures.follow in
-    let up = follow-length c.self.inside.settled c.self.inside.least c.in-Some.past c.entries-entries.result.now follow in
-    omega arith
+overflow_sub-past g c = omega (arith, follow-length c.self.inside.settled c.self.inside.least c.in-Some.past c.entries-entries.result.now c.in-Some.ensures.follow)
 
 pub invariant_of-self : goal.invariant_of-self
 invariant_of-self g c =
-    let follow : Follow c.self.inside.settled c.self.inside.least c.in-Some.past c.entries-entries.result.now = c.in-Some.ensures.follow in
-    let inside : c.in-Some.past ≤ c.self.inside.taken = c.in-Some.ensures.within in
-    let up = follow-length c.self.inside.settled c.self.inside.least c.in-Some.past c.entries-entries.result.now follow in
-    let later : c.self.inside.settled ≤ c.in-Some.past = omega arith in
-    let within = c.self.invariant.sound.within in
-    let had = c.self.invariant.room in
-    let settles : Settles (account_of c.self.inside) c.in-Some.past c.entries-entries.result.now = record { follow = subst (λ n. Follow c.self.inside.settled n c.in-Some.past c.entries-entries.result.now) c.self.invariant.least follow; within = inside } in
+    let up = follow-length c.self.inside.settled c.self.inside.least c.in-Some.past c.entries-entries.result.now c.in-Some.ensures.follow in
     let parts = sum_by-take-drop (λ (x : ℕ). x) c.self.inside.credits.items (c.in-Some.past - c.self.inside.settled) in
     let line_sum : c.self.inside.line_sum - c.drop_first.result ≡ sum (drop (c.in-Some.past - c.self.inside.settled) c.self.inside.credits.items) = omega (arith, parts, c.drop_first.ensures.sum, c.self.invariant.line_sum) in
-    let room : vec_len c.push_all.new.trail + (c.self.inside.next - c.in-Some.past) ≤ vec_capacity c.push_all.new.trail = omega (arith, c.push_all.ensures.len, c.push_all.ensures.capacity) in
+    let room : vec_len c.push_all.new.trail + (c.self.inside.next - c.in-Some.past) ≤ vec_capacity c.push_all.new.trail = omega (arith, c.push_all.ensures.len, c.push_all.ensures.capacity, c.in-Some.ensures.within, c.self.invariant.sound.within, c.self.invariant.room) in
     kept-by g.S.Origin.begun _ (settled_to c.in-Some.past c.entries-entries.result.now (account_of c.self.inside))
-    (settled-is (account_of c.self.inside) c.self.invariant.sound c.in-Some.past c.entries-entries.result.now c.drop_first.new.credits.items c.push_all.new.trail.items later c.drop_first.ensures.items c.push_all.ensures.items)
-    (settled-sound (account_of c.self.inside) c.self.invariant.sound c.in-Some.past c.entries-entries.result.now settles)
+    (settled-is (account_of c.self.inside) c.self.invariant.sound c.in-Some.past c.entries-entries.result.now c.drop_first.new.credits.items c.push_all.new.trail.items (omega (arith, up)) c.drop_first.ensures.items c.push_all.ensures.items)
+    (settled-sound (account_of c.self.inside) c.self.invariant.sound c.in-Some.past c.entries-entries.result.now (settles g (goal.at.invariant_of-self g c).After-push_all))
     c.self.invariant.open_sum line_sum
     (c.in-Some.ensures.least.0 ∙ ap (λ n. least_after n c.entries-entries.result.now) c.self.invariant.least ∙ sym (least-append 0 c.self.inside.trail.items c.entries-entries.result.now))
     c.in-Some.ensures.least.1 room c.self.invariant.ordered c.self.invariant.stops
 
 pub returns-clause-ok : goal.returns-clause-ok
 returns-clause-ok g c =
-    let follow : Follow c.self.inside.settled c.self.inside.least c.in-Some.past c.entries-entries.result.now = c.in-Some.ensures.follow in
-    let inside : c.in-Some.past ≤ c.self.inside.taken = c.in-Some.ensures.within in
-    let up = follow-length c.self.inside.settled c.self.inside.least c.in-Some.past c.entries-entries.result.now follow in
-    let later : c.self.inside.settled ≤ c.in-Some.past = omega arith in
-    let settles : Settles (account_of c.self.inside) c.in-Some.past c.entries-entries.result.now = record { follow = subst (λ n. Follow c.self.inside.settled n c.in-Some.past c.entries-entries.result.now) c.self.invariant.least follow; within = inside } in
-    let here : Settles c.args.self.now c.in-Some.past c.entries-entries.result.now = subst (λ (a : Account). Settles a c.in-Some.past c.entries-entries.result.now) c.self.view_is settles in (
+    let up = follow-length c.self.inside.settled c.self.inside.least c.in-Some.past c.entries-entries.result.now c.in-Some.ensures.follow in
+    let here : Settles c.args.self.now c.in-Some.past c.entries-entries.result.now = subst (λ (a : Account). Settles a c.in-Some.past c.entries-entries.result.now) c.self.view_is (settles g (goal.at.returns-clause-ok g c).After-push_all) in (
       c.in-Some.past,
       subst (Settles c.args.self.now c.in-Some.past) c.entries-entries.ensures here,
-      settled-is (account_of c.self.inside) c.self.invariant.sound c.in-Some.past c.entries-entries.result.now c.drop_first.new.credits.items c.push_all.new.trail.items later c.drop_first.ensures.items c.push_all.ensures.items
+      settled-is (account_of c.self.inside) c.self.invariant.sound c.in-Some.past c.entries-entries.result.now c.drop_first.new.credits.items c.push_all.new.trail.items (omega (arith, up)) c.drop_first.ensures.items c.push_all.ensures.items
           ∙ ap (settled_to c.in-Some.past c.entries-entries.result.now) c.self.view_is
           ∙ ap (λ es. settled_to c.in-Some.past es c.args.self.now) c.entries-entries.ensures,
     )
