@@ -1,10 +1,7 @@
 use Rattle.std.proofs.Common.{string_bytes}
-use Rattle.jb_dump.specs.Lines.{clean_line}
-use Rattle.jb_dump.specs.Summary.{room_line}
 use Rattle.jb_dump.proofs.Summing.{two-parts}
 use Rattle.jb_dump.proofs.glance.put_clean_summary.Goals as goal
 
 pub returns : goal.returns
 returns c =
-    two-parts (string_bytes c.args.text.now) (string_bytes c.put_room.new.text) (string_bytes c.put_clean.new.text) (room_line c.args.sb.now 0 0) (clean_line c.args.sb.now)
-    c.in_ok-put_room.ensures c.in_ok-put_clean.ensures
+    two-parts (string_bytes c.args.text.now) (string_bytes c.put_room.new.text) (string_bytes c.put_clean.new.text) _ _ c.in_ok-put_room.ensures c.in_ok-put_clean.ensures

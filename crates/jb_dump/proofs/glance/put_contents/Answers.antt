@@ -1,6 +1,5 @@
-use Rattle.std.proofs.Common.{◌≡◌, ◌/◌, ◌++◌, length, ap, ap₂, ◌∙◌, string_bytes}
-use Rattle.jb_dump.specs.Summary.{copies_line, first_of_all, written_lines, last_of_all, least_of, greatest_of, revokes_line, sizes_line, sum_of, times_line}
-use Rattle.jb_dump.specs.Written.{foremost, written_rows}
+use Rattle.std.proofs.Common.{◌≡◌, ◌∙◌, string_bytes}
+use Rattle.jb_dump.specs.Written.{written_rows}
 use Rattle.jb_dump.proofs.Rows.{rows-written}
 use Rattle.jb_dump.proofs.Summing.{five-parts}
 use Rattle.jb_dump.proofs.glance.put_contents.Goals as goal
@@ -16,17 +15,9 @@ returns c sum t =
     let all = string_bytes c.put_times.new.text in
     let rows = written_rows sum.homes in
     let kept : tally.contents.homes.entries ≡ rows = t.homes ∙ rows-written sum.homes in
-    let sizes : a ≡ old ++ sizes_line (least_of sum.sizes) (sum_of sum.sizes / length sum.sizes) (greatest_of sum.sizes) =
-    c.in_ok-put_sizes.ensures
-    ∙ ap (λ n. old ++ sizes_line tally.least (n / tally.count) tally.most) c.from.ensures
-    ∙ ap₂ (λ l m. old ++ sizes_line l (tally.contents.blocks / tally.count) m) t.least t.most
-    ∙ ap₂ (λ n k. old ++ sizes_line (least_of sum.sizes) (n / k) (greatest_of sum.sizes)) t.blocks t.count in
-    let copies : b ≡ a ++ copies_line (length sum.homes) (length rows) =
-    c.in_ok-put_copies.ensures ∙ ap (λ n. a ++ copies_line tally.contents.copies n) c.len.ensures.len ∙ ap₂ (λ n es. a ++ copies_line n (length es)) t.copies kept in
-    let homes : d ≡ b ++ written_lines (foremost rows) =
-    c.in_ok-put_homes.ensures ∙ ap (λ es. b ++ written_lines es) (c.deref.ensures.value ∙ c.in_ok-rows.ensures ∙ ap foremost kept) in
-    let revokes : e ≡ d ++ revokes_line sum.revokes = c.in_ok-put_revoked.ensures ∙ ap (λ n. d ++ revokes_line n) t.revokes in
-    let times : all ≡ e ++ times_line (first_of_all sum.times) (last_of_all sum.times) =
-    c.in_ok-put_times.ensures ∙ ap₂ (λ m n. e ++ times_line m n) t.first t.last in
-    five-parts old a b d e all (sizes_line (least_of sum.sizes) (sum_of sum.sizes / length sum.sizes) (greatest_of sum.sizes)) (copies_line (length sum.homes) (length rows))
-    (written_lines (foremost rows)) (revokes_line sum.revokes) (times_line (first_of_all sum.times) (last_of_all sum.times)) sizes copies homes revokes times
+    let sizes = rw (c.from.ensures, t.least, t.most, t.blocks, t.count) at c.in_ok-put_sizes.ensures in
+    let copies = rw (c.len.ensures.len, t.copies, kept) at c.in_ok-put_copies.ensures in
+    let homes = rw (c.deref.ensures.value, c.in_ok-rows.ensures, kept) at c.in_ok-put_homes.ensures in
+    let revokes = rw t.revokes at c.in_ok-put_revoked.ensures in
+    let times = rw (t.first, t.last) at c.in_ok-put_times.ensures in
+    five-parts old a b d e all _ _ _ _ _ sizes copies homes revokes times
