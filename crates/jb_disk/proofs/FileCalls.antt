@@ -2,7 +2,7 @@
 use Rattle.std.proofs.Common.{◌≡◌, ◌<◌, ℕ, ◌*◌, Bool, true, false, List, [], ◌∷◌, length, set, refl, sym, subst, arith}
 use Rattle.std.specs.Prelude.{Result, Ok, Err, is_ok, OnOk}
 use Rattle.jb_disk.specs.Image.{Image, block, Torn, HasShape}
-use Rattle.jb_disk.specs.Runs.{ReadsRun, WroteRun, TornRun}
+use Rattle.jb_disk.specs.Runs.{ReadsRun, TornRun}
 use Rattle.jb_disk.specs.Events.{Event, InBlocks, Makes, Agree, LeftBy, Leaves, IsHonestFile, read, write_event, sync_event}
 use Rattle.jb_disk.specs.Agreeing.{torn_of_wrote, newest_left}
 use Rattle.jb_disk.proofs.Noted.{read_one, torn_one, wrote_one}
