@@ -1,5 +1,5 @@
 -- The loop over the bytes of a list's word.
-use Rattle.std.proofs.Common.{Bool, ◌≡◌, ◌∙◌, sym, ap, ℕ, ◌+◌, ◌<◌, ◌≤◌, true, false, List, [], ◌∷◌, ◌++◌, length, take, drop, get_or, refl, add-one}
+use Rattle.std.proofs.Common.{Bool, ◌≡◌, ◌∙◌, sym, ap, ℕ, ◌+◌, ◌<◌, ◌≤◌, true, false, List, [], ◌∷◌, ◌++◌, length, take, drop, get_or, refl}
 use Rattle.std.proofs.lemmas.List.{append-nil, append_assoc, take_all, take_more, drop_all, drop_more}
 use Rattle.jb_text.specs.Parts.{grow}
 use Rattle.jb_image.specs.Lists.{is_between, listed}

@@ -1,5 +1,5 @@
 -- How a crash of two disks goes on where one of them is called.
-use Rattle.std.proofs.Common.{◌≡◌, ◌≤◌, ◌⊎◌, ℕ, ◌+◌, ◌*◌, List, ◌∷◌, ◌++◌, length, refl, sym, ap, subst, inl, inr, ⊎_elim, arith}
+use Rattle.std.proofs.Common.{◌≡◌, ◌≤◌, ◌⊎◌, ℕ, ◌+◌, List, ◌∷◌, ◌++◌, length, refl, sym, ap, subst, inl, inr, ⊎_elim, arith}
 use Rattle.jb_disk.specs.Image.{Image, Same, HasShape}
 use Rattle.jb_disk.specs.Runs.{TornRun}
 use Rattle.jb_disk.specs.Steps.{Steps}
