@@ -1,6 +1,6 @@
 -- Blocks by their sectors.
 use Rattle.std.proofs.Common.{◌≡◌, ◌<◌, ◌≤◌, ℕ, zero, suc, ◌+◌, ◌-◌, ◌*◌, List, [], ◌∷◌, ◌++◌, length, take, drop, refl, sym, ◌∙◌, ap, arith, length-append, length-drop}
-use Rattle.std.proofs.lemmas.List.{drop-drop, take-append-drop, length-take-le}
+use Rattle.std.proofs.lemmas.List.{nil_from_length, drop-drop, take-append-drop, length-take-le}
 use Rattle.std.proofs.lemmas.Slice.{drop-put_mid}
 use borrow.Rule.Slice.PartMut.{put_mid}
 use Rattle.jb_disk.specs.Image.{sector}
@@ -47,13 +47,9 @@ sector-suc k bytes =
     let sum : 512 * suc k ≡ 512 + 512 * k = omega arith in
     ap (take 512) (ap (λ n. drop n bytes) sum ∙ sym (drop-drop (512 * k) 512 bytes))
 
-none_left : (bytes : List ℕ) → length bytes ≤ 0 → bytes ≡ []
-none_left [] few = refl
-none_left (x ∷ bytes) few = absurd (let h : ⊥ = omega (arith, few) in h)
-
 -- a block of no more than n sectors is given by them
 pub same_sectors : (n : ℕ) (a b : List ℕ) → length a ≤ 512 * n → length a ≡ length b → ((k : ℕ) → k < n → sector k a ≡ sector k b) → a ≡ b
-same_sectors zero a b few same each = none_left a (omega (arith, few)) ∙ sym (none_left b (omega (arith, few, same)))
+same_sectors zero a b few same each = nil_from_length a (omega (arith, few)) ∙ sym (nil_from_length b (omega (arith, few, same)))
 same_sectors (suc n) a b few same each =
     let front : take 512 a ≡ take 512 b = each 0 (omega arith) in
     let back : drop 512 a ≡ drop 512 b = same_sectors n (drop 512 a) (drop 512 b) (omega (arith, few, length-drop 512 a)) (length-drop 512 a ∙ ap (λ m. m - 512) same ∙ sym (length-drop 512 b))
