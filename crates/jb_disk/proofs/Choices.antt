@@ -1,5 +1,5 @@
 -- How the blocks of an image take their versions, block by block.
-use Rattle.std.proofs.Common.{◌≡◌, ◌≢◌, ◌<◌, ◌≤◌, ℕ, suc, ◌+◌, ◌*◌, ◌%◌, List, [], ◌∷◌, length, get_or, set, take, drop, ◌++◌, refl, sym, ◌∙◌, ap, subst, below_more, arith, add-one, add-zero, Vec, Global, Bor, ◌==◌, true, false, get_or-set_same, get_or-set_other}
+use Rattle.std.proofs.Common.{◌≡◌, ◌≢◌, ◌<◌, ◌≤◌, ℕ, ◌+◌, ◌*◌, ◌%◌, List, [], ◌∷◌, length, get_or, set, take, drop, ◌++◌, refl, sym, ◌∙◌, ap, below_more, arith, add-one, add-zero, Vec, Global, Bor, ◌==◌, true, false, get_or-set_same, get_or-set_other}
 use Rattle.std.proofs.lemmas.List.{drop-drop, get_or-drop, get_or-map}
 use Rattle.std.proofs.lemmas.Bool.Decides.{nat_tests}
 use Rattle.std.proofs.lemmas.Nat.{mod_below}

@@ -1,5 +1,5 @@
 -- From the parts of a crash to its image.
-use Rattle.std.proofs.Common.{◌≡◌, ◌<◌, ◌≤◌, ℕ, zero, suc, ◌+◌, ◌*◌, ◌/◌, ◌%◌, List, [], ◌∷◌, length, get_or, refl, sym, ◌∙◌, ap, subst, arith, All, eqb, take, drop, ◌-◌, length-drop}
+use Rattle.std.proofs.Common.{◌≡◌, ◌<◌, ◌≤◌, ℕ, zero, suc, ◌+◌, ◌*◌, ◌/◌, ◌%◌, List, [], ◌∷◌, length, get_or, refl, sym, ◌∙◌, ap, arith, All, eqb, take, drop, ◌-◌, length-drop}
 use Rattle.std.proofs.lemmas.List.{take_all}
 use Rattle.std.proofs.lemmas.Nat.{mod_below}
 use Rattle.jb_block.specs.declared.size.BlockSize.{BlockSize}
@@ -9,7 +9,7 @@ use Rattle.jb_disk.specs.declared.memory.Call.{Call}
 use Rattle.jb_disk.specs.History.{History, HistoryStep, Wrote, Synced, AreWhole, IsHistorySound, MayLeave}
 use Rattle.jb_disk.specs.Mixing.{writes_at, any_below}
 use Rattle.jb_disk.specs.Image.{Image, block, sector, HasShape}
-use Rattle.jb_disk.specs.Versions.{IsChosen, synced, written, written_below, version, versions, one_if_any}
+use Rattle.jb_disk.specs.Versions.{IsAmong, IsChosen, synced, written, written_below, version, versions, one_if_any}
 use Rattle.jb_disk.proofs.Mixes.{all_more}
 use Rattle.jb_disk.proofs.Outcomes.{choice_left}
 
@@ -47,13 +47,16 @@ chosen_by_history count sectors first stable now steps table choice before each 
 pub rest_of_calls : (calls : List Call) (n : ℕ) → take (length calls - n) (drop n calls) ≡ drop n calls
 rest_of_calls calls n = take_all (length calls - n) (drop n calls) (omega (arith, length-drop n calls))
 
--- an image that a choice names is one that a crash may leave
-pub chosen_left : (h : History) (choice : List ℕ) (c : Image) → IsHistorySound h → IsChosen h choice c → MayLeave h.first h.steps c
-chosen_left h choice c sound is =
+-- an image of the disk's shape that takes a version for each sector is one that a crash may leave
+pub takes_left : (h : History) (c : Image) → IsHistorySound h → HasShape h.count (bytes_of h.size) c
+    → ((p k : ℕ) → p < h.count → k < bytes_of h.size / 512 → IsAmong (versions h.first h.steps p) k (sector k (block c p))) → MayLeave h.first h.steps c
+takes_left h c sound shape =
     choice_left h.count (bytes_of h.size / 512) h.first h.steps c
-    (subst (λ s. HasShape h.count s h.first) (whole_sectors h.size) sound.shape)
-    (subst (λ s. AreWhole h.count s h.steps) (whole_sectors h.size) sound.whole)
-    (subst (λ s. HasShape h.count s c) (whole_sectors h.size) is.shape)
+    (rw (whole_sectors h.size) at sound.shape) (rw (whole_sectors h.size) at sound.whole) (rw (whole_sectors h.size) at shape)
+
+-- and so is one that a choice names
+pub chosen_left : (h : History) (choice : List ℕ) (c : Image) → IsHistorySound h → IsChosen h choice c → MayLeave h.first h.steps c
+chosen_left h choice c sound is = takes_left h c sound is.shape
     (λ place k inside less.
     let number : ℕ = get_or choice (written_below h.steps place * (bytes_of h.size / 512) + k) 0 in (
       number % length (versions h.first h.steps place),

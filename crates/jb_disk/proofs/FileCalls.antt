@@ -1,8 +1,9 @@
 -- What one call of a file as a disk comes to, from the record that has it as its newest.
 use Rattle.std.proofs.Common.{◌≡◌, ◌<◌, ℕ, ◌*◌, Bool, true, false, List, [], ◌∷◌, length, set, refl, sym, subst, arith}
 use Rattle.std.specs.Prelude.{Result, Ok, Err, is_ok, OnOk}
+use Rattle.std.proofs.lemmas.Result.{on_ok_weaker}
 use Rattle.jb_disk.specs.Image.{Image, block, Torn, HasShape}
-use Rattle.jb_disk.specs.Runs.{ReadsRun, WroteRun, TornRun}
+use Rattle.jb_disk.specs.Runs.{ReadsRun, TornRun}
 use Rattle.jb_disk.specs.Events.{Event, InBlocks, Makes, Agree, LeftBy, Leaves, IsHonestFile, read, write_event, sync_event}
 use Rattle.jb_disk.specs.Agreeing.{torn_of_wrote, newest_left}
 use Rattle.jb_disk.proofs.Noted.{read_one, torn_one, wrote_one}
@@ -41,8 +42,8 @@ module _ (size count : ℕ) (content : ℕ → Image) (older events : List Event
 
   pub found_block : (place at : ℕ) (ok : Bool) (bytes : List ℕ) (r : Result Unit Fault) → is_ok r ≡ ok → at ≡ place * size → length bytes ≡ size
       → events ≡ read at ok bytes ∷ older → IsHonestFile size count content events → OnOk r (bytes ≡ block old place)
-  found_block place at ok bytes r is here long are honest = on_ok (bytes ≡ block old place) r ok is
-      (λ yes. read_one size place old bytes long ((rw yes at (made 0 at ok bytes are honest)).1 place 1 here (omega (arith, long))))
+  found_block place at ok bytes r is here long are honest =
+      on_ok_weaker r (read_one size place old bytes long) (found_run place 1 at ok bytes r is here (omega (arith, long)) are honest)
 
   pub written_block : (place at : ℕ) (ok : Bool) (bytes : List ℕ) (r : Result Unit Fault) → is_ok r ≡ ok → at ≡ place * size → length bytes ≡ size → place < count
       → events ≡ write_event at ok bytes ∷ older → IsHonestFile size count content events → OnOk r (new ≡ set old place bytes)

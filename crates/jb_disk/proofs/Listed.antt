@@ -13,15 +13,10 @@ pub steps_of-more : (calls : List Call) (i : ℕ) (call : Call) → i < length c
 steps_of-more calls i call inside is =
     ap steps_of (take_more calls i call inside ∙ ap (λ x. take i calls ++ x ∷ []) (sym is)) ∙ steps_of-append (take i calls) (call ∷ [])
 
-pub whole-older : (count size : ℕ) (newer older : List HistoryStep) → AreWhole count size (newer ++ older) → AreWhole count size older
-whole-older count size [] older whole = whole
-whole-older count size (Wrote place bytes ∷ newer) older whole = whole-older count size newer older whole.2
-whole-older count size (Synced ∷ newer) older whole = whole-older count size newer older whole
-
-pub whole-newer : (count size : ℕ) (newer older : List HistoryStep) → AreWhole count size (newer ++ older) → AreWhole count size newer
-whole-newer count size [] older whole = tt
-whole-newer count size (Wrote place bytes ∷ newer) older whole = (whole.0, whole.1, whole-newer count size newer older whole.2)
-whole-newer count size (Synced ∷ newer) older whole = whole-newer count size newer older whole
+whole-parts : (count size : ℕ) (newer older : List HistoryStep) → AreWhole count size (newer ++ older) → AreWhole count size newer × AreWhole count size older
+whole-parts count size [] older whole = (tt, whole)
+whole-parts count size (Wrote place bytes ∷ newer) older whole = let parts = whole-parts count size newer older whole.2 in ((whole.0, whole.1, parts.0), parts.1)
+whole-parts count size (Synced ∷ newer) older whole = whole-parts count size newer older whole
 
 pub steps_of-split : (calls : List Call) (i : ℕ) → steps_of calls ≡ steps_of (drop i calls) ++ steps_of (take i calls)
 steps_of-split calls i = ap steps_of (sym (take-append-drop i calls)) ∙ steps_of-append (take i calls) (drop i calls)
@@ -29,14 +24,14 @@ steps_of-split calls i = ap steps_of (sym (take-append-drop i calls)) ∙ steps_
 -- a part of the calls is whole too
 pub whole-take : (count size : ℕ) (calls : List Call) (i : ℕ) → AreWhole count size (steps_of calls) → AreWhole count size (steps_of (take i calls))
 whole-take count size calls i whole =
-    whole-older count size (steps_of (drop i calls)) (steps_of (take i calls)) (subst (AreWhole count size) (steps_of-split calls i) whole)
+    (whole-parts count size (steps_of (drop i calls)) (steps_of (take i calls)) (subst (AreWhole count size) (steps_of-split calls i) whole)).1
 
 pub whole-drop : (count size : ℕ) (calls : List Call) (i : ℕ) → AreWhole count size (steps_of calls) → AreWhole count size (steps_of (drop i calls))
 whole-drop count size calls i whole =
-    whole-newer count size (steps_of (drop i calls)) (steps_of (take i calls)) (subst (AreWhole count size) (steps_of-split calls i) whole)
+    (whole-parts count size (steps_of (drop i calls)) (steps_of (take i calls)) (subst (AreWhole count size) (steps_of-split calls i) whole)).0
 
 -- the step of each call is one of them
 pub whole-at : (count size : ℕ) (calls : List Call) (i : ℕ) (call : Call) → AreWhole count size (steps_of calls) → i < length calls → call ≡ get_or calls i call → AreWhole count size (history_step call ∷ [])
 whole-at count size calls i call whole inside is =
-    whole-newer count size (history_step call ∷ []) (steps_of (take i calls))
-    (subst (AreWhole count size) (steps_of-more calls i call inside is) (whole-take count size calls (i + 1) whole))
+    (whole-parts count size (history_step call ∷ []) (steps_of (take i calls))
+    (subst (AreWhole count size) (steps_of-more calls i call inside is) (whole-take count size calls (i + 1) whole))).0

@@ -1,5 +1,5 @@
 -- How a block takes its versions, sector by sector.
-use Rattle.std.proofs.Common.{◌≡◌, ◌<◌, ◌≤◌, ℕ, zero, suc, ◌+◌, ◌-◌, ◌*◌, ◌%◌, List, [], ◌∷◌, length, get_or, sym, ◌∙◌, ap, subst, below_more, arith, Bor, All, Bool, true, false, cond, ◌++◌}
+use Rattle.std.proofs.Common.{◌≡◌, ◌<◌, ◌≤◌, ℕ, suc, ◌+◌, ◌-◌, ◌*◌, ◌%◌, List, [], ◌∷◌, length, get_or, sym, ◌∙◌, ap, below_more, arith, Bor, All, Bool, true, false, cond, ◌++◌}
 use Rattle.std.proofs.lemmas.List.Elements.{All-cons, All-push}
 use Rattle.std.proofs.lemmas.Nat.{mod_below}
 use Rattle.std.proofs.lemmas.List.{length-map, get_or-map}
@@ -26,9 +26,9 @@ pub mixed-put : (k : ℕ) (old : List ℕ) (contents : List (List ℕ)) (choice 
     → version (old ∷ contents) (get_or choice k 0) ≡ bytes → length bytes ≡ length now → 512 * k + 512 ≤ length now → IsMixed (k + 1) old contents choice (put_sector k bytes now)
 mixed-put k old contents choice now bytes mixed is same within = record {
   chosen = below_more (λ j. sector j (put_sector k bytes now) ≡ sector j (version (old ∷ contents) (get_or choice j 0))) k
-      (λ j less. put_sector-below j k bytes now less within ∙ mixed.chosen j less)
+      (λ j less. put_sector-below k bytes now same within j less ∙ mixed.chosen j less)
       (put_sector-same k bytes now same within ∙ ap (sector k) (sym is));
-  rest = λ j above. put_sector-above j k bytes now same (omega (arith, above)) within ∙ mixed.rest j (omega (arith, above));
+  rest = λ j above. put_sector-above k bytes now same within j (omega (arith, above)) ∙ mixed.rest j (omega (arith, above));
 }
 
 pub version-later : (old : List ℕ) (writes : List (Bor (List ℕ))) (number : ℕ) (d : Bor (List ℕ)) → (number % (length writes + 1) ≡ 0 → ⊥)

@@ -26,15 +26,6 @@ after moment left_since old mid new P first second = record {
   before = λ t c earlier left. ⊎_elim (first.before t c earlier) inr (second.before t c (omega (arith, earlier, first.later)) left);
 }
 
--- what has P has Q
-pub weaken : {D : Type 0} (moment : D → ℕ) (left_since : D → ℕ → Image → Type 0) (old new : D) (P Q : Image → Type 0)
-    → ((c : Image) → P c → Q c) → LeavesOnly moment left_since old new P → LeavesOnly moment left_since old new Q
-weaken moment left_since old new P Q gives run = record {
-  later = run.later;
-  each = λ c left. gives c (run.each c left);
-  before = λ t c earlier left. ⊎_elim inl (λ has. inr (gives c has)) (run.before t c earlier left);
-}
-
 -- what has P has Q, where it is known besides of each image that might have been left (`known` is a law of the disk at its end)
 pub weaken_shaped : {D : Type 0} (moment : D → ℕ) (left_since : D → ℕ → Image → Type 0) (old new : D) (Shaped P Q : Image → Type 0)
     → ((t : ℕ) (c : Image) → left_since new t c → Shaped c) → ((c : Image) → Shaped c → P c → Q c) → LeavesOnly moment left_since old new P → LeavesOnly moment left_since old new Q
@@ -43,6 +34,11 @@ weaken_shaped moment left_since old new Shaped P Q known gives run = record {
   each = λ c left. gives c (known (moment old) c left) (run.each c left);
   before = λ t c earlier left. ⊎_elim inl (λ has. inr (gives c (known t c left) has)) (run.before t c earlier left);
 }
+
+-- what has P has Q
+pub weaken : {D : Type 0} (moment : D → ℕ) (left_since : D → ℕ → Image → Type 0) (old new : D) (P Q : Image → Type 0)
+    → ((c : Image) → P c → Q c) → LeavesOnly moment left_since old new P → LeavesOnly moment left_since old new Q
+weaken moment left_since old new P Q gives run = weaken_shaped moment left_since old new (λ _. Unit {0}) P Q (λ _ _ _. tt) (λ c _ has. gives c has) run
 
 -- what a crash may leave at the end of a run has P too; `counts_now` is the law of the disk at its end
 pub at_the_end : {D : Type 0} (may_leave : D → Image → Type 0) (moment : D → ℕ) (left_since : D → ℕ → Image → Type 0) (old new : D) (P : Image → Type 0)

@@ -1,5 +1,5 @@
 -- A call of a file that is noted: what it means for one block, and for what a crash may leave.
-use Rattle.std.proofs.Common.{◌≡◌, ◌≢◌, ◌<◌, ◌⊎◌, ℕ, ◌+◌, ◌*◌, List, [], ◌∷◌, length, take, drop, set, sym, ◌∙◌, subst, inl, inr, ⊎_elim, ap, arith, length-set, get_or-set_same, get_or-set_other}
+use Rattle.std.proofs.Common.{◌≡◌, ◌≢◌, ◌<◌, ◌⊎◌, ℕ, ◌+◌, ◌*◌, List, [], ◌∷◌, length, take, drop, set, sym, ◌∙◌, subst, inl, inr, ⊎_elim, ap, add-zero, arith, length-set, get_or-set_same, get_or-set_other}
 use Rattle.std.proofs.lemmas.List.{ext_get_or, take_all}
 use Rattle.std.proofs.Math.Decide.{ℕ_discrete}
 use Rattle.jb_disk.specs.Image.{Image, block, sector, Torn}
@@ -14,13 +14,10 @@ part_one size bytes long =
     ap (λ n. take size (drop n bytes)) (let h : size * 0 ≡ 0 = omega arith in h)
     ∙ take_all size bytes (omega (arith, long))
 
-first : (place : ℕ) → place + 0 ≡ place
-first place = omega arith
-
 -- a run of one block that is read is the block
 pub read_one : (size place : ℕ) (c : Image) (bytes : List ℕ) → length bytes ≡ size → ReadsRun size 1 place c bytes → bytes ≡ block c place
 read_one size place c bytes long found =
-    sym (part_one size bytes long) ∙ found 0 (omega arith) ∙ ap (block c) (first place)
+    sym (part_one size bytes long) ∙ found 0 (omega arith) ∙ ap (block c) (add-zero place)
 
 others : (place p : ℕ) → p ≢ place → IsOutside 1 place p
 others place p other k below = λ same. other (omega (arith, below, same))
@@ -31,7 +28,7 @@ torn_one size place bytes old new long torn = record {
   count = torn.count;
   elsewhere = λ p other. torn.elsewhere p (others place p other);
   size = torn.sizes place;
-  sectors = λ k. subst (λ q. (sector k (block new q) ≡ sector k (block old q)) ⊎ (sector k (block new q) ≡ sector k bytes)) (first place)
+  sectors = λ k. subst (λ q. (sector k (block new q) ≡ sector k (block old q)) ⊎ (sector k (block new q) ≡ sector k bytes)) (add-zero place)
       (subst (λ b. (sector k (block new (place + 0)) ≡ sector k (block old (place + 0))) ⊎ (sector k (block new (place + 0)) ≡ sector k b)) (part_one size bytes long)
       (torn.sectors 0 k (omega arith)));
 }
@@ -41,7 +38,7 @@ pub wrote_one : (size place : ℕ) (bytes : List ℕ) (old new : Image) → leng
 wrote_one size place bytes old new long inside wrote =
     ext_get_or [] new (set old place bytes) (wrote.count ∙ sym (length-set old place bytes))
     (λ i below. elim (ℕ_discrete i place) [
-      | yes here ↦ ap (block new) (here ∙ sym (first place)) ∙ wrote.inside 0 (omega arith) ∙ part_one size bytes long ∙ sym (get_or-set_same old place bytes [] inside) ∙ ap (block (set old place bytes)) (sym here)
+      | yes here ↦ ap (block new) (here ∙ sym (add-zero place)) ∙ wrote.inside 0 (omega arith) ∙ part_one size bytes long ∙ sym (get_or-set_same old place bytes [] inside) ∙ ap (block (set old place bytes)) (sym here)
       | no other ↦ wrote.elsewhere i (others place i other) ∙ sym (get_or-set_other old place i bytes [] other)
     ])
 

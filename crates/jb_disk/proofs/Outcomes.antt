@@ -29,17 +29,11 @@ versions-other first older p place bytes other =
     ap (λ b. block (synced first older) place ∷ cond b (written older place ++ bytes ∷ []) (written older place)) (ne_eqb p place other)
 
 -- an older version is still one, and the written bytes are the last
-older_version : (contents : List (List ℕ)) (k : ℕ) (bytes x : List ℕ) → IsAmong contents k x → IsAmong (contents ++ bytes ∷ []) k x
-older_version contents k bytes x (n, below, is) =
-    (n, omega (arith, length-append contents (bytes ∷ []), below), is ∙ ap (sector k) (sym (get_or_append_left contents (bytes ∷ []) [] n below)))
-
-last_version : (contents : List (List ℕ)) (k : ℕ) (bytes : List ℕ) → IsAmong (contents ++ bytes ∷ []) k (sector k bytes)
-last_version contents k bytes =
-    (length contents, omega (arith, length-append contents (bytes ∷ [])), ap (sector k) (sym (get_or-append_seam contents bytes [] [])))
-
 takes_written : (contents : List (List ℕ)) (k : ℕ) (bytes x old : List ℕ) → IsAmong contents k old → (x ≡ old) ⊎ (x ≡ sector k bytes) → IsAmong (contents ++ bytes ∷ []) k x
-takes_written contents k bytes x old among (inl same) = older_version contents k bytes x (subst (IsAmong contents k) (sym same) among)
-takes_written contents k bytes x old among (inr new) = subst (IsAmong (contents ++ bytes ∷ []) k) (sym new) (last_version contents k bytes)
+takes_written contents k bytes x old (n, below, is) (inl same) =
+    (n, omega (arith, length-append contents (bytes ∷ []), below), same ∙ is ∙ ap (sector k) (sym (get_or_append_left contents (bytes ∷ []) [] n below)))
+takes_written contents k bytes x old among (inr new) =
+    (length contents, omega (arith, length-append contents (bytes ∷ [])), new ∙ ap (sector k) (sym (get_or-append_seam contents bytes [] [])))
 
 -- each image takes one version for each sector
 pub image_takes : (first : Image) (steps : List HistoryStep) (c : Image) → MayLeave first steps c → (p k : ℕ) → IsAmong (versions first steps p) k (sector k (block c p))

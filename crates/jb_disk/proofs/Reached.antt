@@ -7,13 +7,13 @@ use Rattle.std.specs.List.{range_with_len}
 use Rattle.std.proofs.Math.Nat.{mod-eq_of_lt, mul-le-mul_right}
 use Rattle.jb_block.specs.Size.{bytes_of}
 use Rattle.jb_disk.specs.Image.{Image, block, sector, HasShape}
-use Rattle.jb_disk.specs.History.{History, HistoryStep, IsHistorySound, MayLeave, AreWhole}
+use Rattle.jb_disk.specs.History.{History, HistoryStep, IsHistorySound, MayLeave}
 use Rattle.jb_disk.specs.Laws.{TakesVersions}
 use Rattle.jb_disk.specs.Lives.{left_has_shape}
 use Rattle.jb_disk.specs.Versions.{IsAmong, IsChosen, one_if_any, synced, version, versions, written, written_below}
 use Rattle.jb_disk.proofs.Choices.{only_first}
-use Rattle.jb_disk.proofs.Crashes.{chosen_left, whole_sectors}
-use Rattle.jb_disk.proofs.Outcomes.{choice_left, image_takes, only_version}
+use Rattle.jb_disk.proofs.Crashes.{chosen_left, takes_left}
+use Rattle.jb_disk.proofs.Outcomes.{image_takes, only_version}
 
 -- ---- the numbers of a choice, block by block
 
@@ -93,12 +93,7 @@ chosen h c sound left =
 pub left-versions : (h : History) (c : Image) → IsHistorySound h → MayLeave h.first h.steps c ↔ TakesVersions h c
 left-versions h c sound = (
   λ left. record { shape = left_shape h c sound left; each = λ place k inside less. image_takes h.first h.steps c left place k },
-  λ takes.
-      choice_left h.count (bytes_of h.size / 512) h.first h.steps c
-      (subst (λ s. HasShape h.count s h.first) (whole_sectors h.size) sound.shape)
-      (subst (λ s. AreWhole h.count s h.steps) (whole_sectors h.size) sound.whole)
-      (subst (λ s. HasShape h.count s c) (whole_sectors h.size) takes.shape)
-      takes.each,
+  λ takes. takes_left h c sound takes.shape takes.each,
 )
 
 pub left-chosen : (h : History) (c : Image) → IsHistorySound h → MayLeave h.first h.steps c ↔ ((choice : List ℕ) × IsChosen h choice c)

@@ -35,12 +35,12 @@ undo_written sectors n base later bytes now x inside whole undone new =
     record {
       size = length-put_sector n base x same within ∙ undone.size;
       among = λ k below. below_more (λ j. IsAmong (base ∷ later) j (sector j (put_sector n base x))) n
-          (λ j less. subst (IsAmong (base ∷ later) j) (sym (put_sector-below j n base x less within)) (undone.among j less))
+          (λ j less. subst (IsAmong (base ∷ later) j) (sym (put_sector-below n base x same within j less)) (undone.among j less))
           (0, omega arith, put_sector-same n base x same within) k (omega (arith, below));
       step = λ k below. below_more (λ j. (sector j now ≡ sector j (put_sector n base x)) ⊎ (sector j now ≡ sector j bytes)) n
-          (λ j less. ⊎_elim (λ old. inl (old ∙ sym (put_sector-below j n base x less within))) inr (undone.step j less))
+          (λ j less. ⊎_elim (λ old. inl (old ∙ sym (put_sector-below n base x same within j less))) inr (undone.step j less))
           (inr new) k (omega (arith, below));
-      rest = λ k above. put_sector-above k n base x same (omega (arith, above)) within ∙ undone.rest k (omega (arith, above));
+      rest = λ k above. put_sector-above n base x same within k (omega (arith, above)) ∙ undone.rest k (omega (arith, above));
     }
 
 -- a version after one more write is an older one or the written bytes

@@ -1,7 +1,7 @@
 -- Images one after the other, and what a call changes of both.
 use Rattle.std.proofs.Common.{◌≡◌, ◌<◌, ◌≤◌, ◌⊎◌, ℕ, ◌+◌, ◌-◌, ◌*◌, List, [], ◌++◌, length, take, drop, refl, sym, ◌∙◌, ap, subst, inl, inr, ⊎_elim, arith, length-append, length-drop}
 use Rattle.std.proofs.lemmas.Bool.{cases_lt}
-use Rattle.std.proofs.lemmas.List.{get_or_append_left, get_or-append_right, take-append-drop, take-append-le, drop-append-le}
+use Rattle.std.proofs.lemmas.List.{get_or_append_left, get_or-append_right, take-append-le, drop-append-le}
 use Rattle.std.proofs.Math.Seq.{drop-append-add}
 use Rattle.std.proofs.Math.Nat.{mul-le-mul_left}
 use Rattle.jb_disk.specs.Image.{Image, block, sector, Torn}
@@ -68,43 +68,85 @@ changes-then R n m place c d e first second = record {
       ∙ first.elsewhere p (λ k below. outside k (omega (arith, below)));
 }
 
--- ---- what is torn
+-- ---- words for what is changed
+
+-- a word that says of n blocks how they are changed, and of no other block
+pub record Word (n : ℕ) : Type 1 where
+  pub each : ℕ → List ℕ → List ℕ → Type 0
+  pub holds : ℕ → Image → Image → Type 0
+  pub to : (place : ℕ) (c d : Image) → holds place c d → Changes each n place c d
+  pub from : (place : ℕ) (c d : Image) → Changes each n place c d → holds place c d
+
+module _ (n : ℕ) (word : Word n) where
+  pub in-front : (place : ℕ) (x x' y : Image) → place + n ≤ length x → word.holds place x x' → word.holds place (x ++ y) (x' ++ y)
+  in-front place x x' y within holds = word.from place (x ++ y) (x' ++ y) (changes-front word.each n place x x' y within (word.to place x x' holds))
+
+  pub in-back : (q place : ℕ) (x y y' : Image) → place ≡ length x + q → word.holds q y y' → word.holds place (x ++ y) (x ++ y')
+  in-back q place x y y' is holds = word.from place (x ++ y) (x ++ y') (changes-back word.each n q place x y y' is (word.to q y y' holds))
 
 -- each sector of a block is the old one or one of these bytes
 abbrev pub TornBlock : List ℕ → List ℕ → List ℕ → Type 0
 TornBlock bytes a b = (length b ≡ length a) × ((j : ℕ) → (sector j b ≡ sector j a) ⊎ (sector j b ≡ sector j bytes))
 
-changes-torn : (place : ℕ) (bytes : List ℕ) (c d : Image) → Torn place bytes c d → Changes (λ _. TornBlock bytes) 1 place c d
-changes-torn place bytes c d torn = record {
-  count = torn.count;
-  inside = λ k below. subst (λ p. TornBlock bytes (block c p) (block d p)) (let h : place ≡ place + k = omega (arith, below) in h) (torn.size, torn.sectors);
-  elsewhere = λ p outside. torn.elsewhere p (λ same. outside 0 (omega arith) (omega (arith, same)));
+-- a torn write
+abbrev pub torn_block : List ℕ → Word 1
+torn_block bytes = record {
+  each = λ _. TornBlock bytes;
+  holds = λ place. Torn place bytes;
+  to = λ place c d torn. record {
+    count = torn.count;
+    inside = λ k below. subst (λ p. TornBlock bytes (block c p) (block d p)) (let h : place ≡ place + k = omega (arith, below) in h) (torn.size, torn.sectors);
+    elsewhere = λ p outside. torn.elsewhere p (λ same. outside 0 (omega arith) (omega (arith, same)));
+  };
+  from = λ place c d changes.
+      let here : TornBlock bytes (block c place) (block d place)
+      = subst (λ p. TornBlock bytes (block c p) (block d p)) (let h : place + 0 ≡ place = omega arith in h) (changes.inside 0 (omega arith)) in
+      record {
+        count = changes.count;
+        elsewhere = λ p other. changes.elsewhere p (λ k below same. other (omega (arith, below, same)));
+        size = here.0;
+        sectors = here.1;
+      };
 }
 
-torn-changes : (place : ℕ) (bytes : List ℕ) (c d : Image) → Changes (λ _. TornBlock bytes) 1 place c d → Torn place bytes c d
-torn-changes place bytes c d changes =
-    let here : TornBlock bytes (block c place) (block d place)
-    = subst (λ p. TornBlock bytes (block c p) (block d p)) (let h : place + 0 ≡ place = omega arith in h) (changes.inside 0 (omega arith)) in
-    record {
-      count = changes.count;
-      elsewhere = λ p other. changes.elsewhere p (λ k below same. other (omega (arith, below, same)));
-      size = here.0;
-      sectors = here.1;
-    }
+-- a place is in a run, or outside of it
+pub in_run : (n place p : ℕ) → ((k : ℕ) × (k < n) × (p ≡ place + k)) ⊎ IsOutside n place p
+in_run n place p =
+    ⊎_elim (λ below. inr (λ k less same. omega (arith, below, same)))
+    (λ past. ⊎_elim (λ within. inl (p - place, omega (arith, within, past), omega (arith, past))) (λ behind. inr (λ k less same. omega (arith, behind, less, same))) (cases_lt p (place + n)))
+    (cases_lt p place)
 
-pub torn-front : (place : ℕ) (bytes : List ℕ) (x x' y : Image) → place < length x → Torn place bytes x x' → Torn place bytes (x ++ y) (x' ++ y)
-torn-front place bytes x x' y within torn =
-    torn-changes place bytes (x ++ y) (x' ++ y) (changes-front (λ _. TornBlock bytes) 1 place x x' y (omega (arith, within)) (changes-torn place bytes x x' torn))
+-- a torn run: each block of it is torn, by the one of the buffer that is for it
+abbrev pub torn_blocks : ℕ → (n : ℕ) → List ℕ → Word n
+torn_blocks size n bytes = record {
+  each = λ k. TornBlock (part size k bytes);
+  holds = λ place. TornRun size n place bytes;
+  to = λ place c d torn. record {
+    count = torn.count;
+    inside = λ k below. (torn.sizes (place + k), λ j. torn.sectors k j below);
+    elsewhere = torn.elsewhere;
+  };
+  from = λ place c d changes. record {
+    count = changes.count;
+    sizes = λ p. ⊎_elim
+        (λ here. subst (λ q. length (block d q) ≡ length (block c q)) (sym here.2) (changes.inside here.0 here.1).0)
+        (λ outside. ap length (changes.elsewhere p outside))
+        (in_run n place p);
+    sectors = λ k j below. (changes.inside k below).1 j;
+    elsewhere = changes.elsewhere;
+  };
+}
 
-pub torn-back : (q place : ℕ) (bytes : List ℕ) (x y y' : Image) → place ≡ length x + q → Torn q bytes y y' → Torn place bytes (x ++ y) (x ++ y')
-torn-back q place bytes x y y' is torn =
-    torn-changes place bytes (x ++ y) (x ++ y') (changes-back (λ _. TornBlock bytes) 1 q place x y y' is (changes-torn q bytes y y' torn))
+-- a run that is written
+abbrev pub written_blocks : ℕ → (n : ℕ) → List ℕ → Word n
+written_blocks size n bytes = record {
+  each = λ k _ b. b ≡ part size k bytes;
+  holds = λ place. WroteRun size n place bytes;
+  to = λ place c d wrote. record { count = wrote.count; inside = wrote.inside; elsewhere = wrote.elsewhere };
+  from = λ place c d changes. record { count = changes.count; inside = changes.inside; elsewhere = changes.elsewhere };
+}
 
 -- ---- the blocks of a buffer
-
--- its two parts are all of it
-pub halves : (k : ℕ) (bytes first rest : List ℕ) → first ≡ take k bytes → rest ≡ drop k bytes → first ++ rest ≡ bytes
-halves k bytes first rest front back = ap (λ b. b ++ rest) front ∙ ap (λ b. take k bytes ++ b) back ∙ take-append-drop k bytes
 
 -- of its first part
 pub part-front : (size n k : ℕ) (a b : List ℕ) → length a ≡ size * n → k < n → part size k (a ++ b) ≡ part size k a
@@ -119,98 +161,62 @@ part-back size n k a b is =
     let sum : size * (n + k) ≡ length a + size * k = omega (arith, is) in
     ap (take size) (ap (λ i. drop i (a ++ b)) sum ∙ drop-append-add a b (size * k))
 
--- ---- a torn run
+-- ---- a run, and then the one behind it
 
--- a place is in a run, or outside of it
-in_run : (n place p : ℕ) → ((k : ℕ) × (k < n) × (p ≡ place + k)) ⊎ IsOutside n place p
-in_run n place p =
-    ⊎_elim (λ below. inr (λ k less same. omega (arith, below, same)))
-    (λ past. ⊎_elim (λ within. inl (p - place, omega (arith, within, past), omega (arith, past))) (λ behind. inr (λ k less same. omega (arith, behind, less, same))) (cases_lt p (place + n)))
-    (cases_lt p place)
+-- so many blocks, in two parts, and their bytes
+pub record Halves (size n m blocks : ℕ) (first rest bytes : List ℕ) : Type 0 where
+  pub long : length first ≡ size * n
+  pub all : n + m ≡ blocks
+  pub whole : first ++ rest ≡ bytes
 
--- each block of the run is torn, by the one of the buffer that is for it
-abbrev pub TornParts : ℕ → List ℕ → ℕ → List ℕ → List ℕ → Type 0
-TornParts size bytes k = TornBlock (part size k bytes)
+module _ {size n m blocks : ℕ} {first rest bytes : List ℕ} (halves : Halves size n m blocks first rest bytes) (place : ℕ) where
+  runs-then : (R : List ℕ → List ℕ → List ℕ → Type 0) (c d e : Image) → Changes (λ k. R (part size k first)) n place c d → Changes (λ k. R (part size k rest)) m (place + n) d e
+      → Changes (λ k. R (part size k bytes)) blocks place c e
+  runs-then R c d e begun ended =
+      subst (λ b. Changes (λ k. R (part size k b)) blocks place c e) halves.whole
+      (subst (λ k. Changes (λ k. R (part size k (first ++ rest))) k place c e) halves.all
+      (changes-then (λ k. R (part size k (first ++ rest))) n m place c d e
+      (record {
+        count = begun.count;
+        inside = λ k below. subst (λ b. R b (block c (place + k)) (block d (place + k))) (sym (part-front size n k first rest halves.long below)) (begun.inside k below);
+        elsewhere = begun.elsewhere;
+      })
+      (record {
+        count = ended.count;
+        inside = λ k below. subst (λ b. R b (block d (place + n + k)) (block e (place + n + k))) (sym (part-back size n k first rest halves.long)) (ended.inside k below);
+        elsewhere = ended.elsewhere;
+      })))
 
-pub changes-torn_run : (size n place : ℕ) (bytes : List ℕ) (c d : Image) → TornRun size n place bytes c d → Changes (TornParts size bytes) n place c d
-changes-torn_run size n place bytes c d torn = record {
-  count = torn.count;
-  inside = λ k below. (torn.sizes (place + k), λ j. torn.sectors k j below);
-  elsewhere = torn.elsewhere;
-}
+  pub torn_run-then : (c d e : Image) → TornRun size n place first c d → TornRun size m (place + n) rest d e → TornRun size blocks place bytes c e
+  torn_run-then c d e begun ended =
+      (torn_blocks size blocks bytes).from place c e
+      (runs-then TornBlock c d e ((torn_blocks size n first).to place c d begun) ((torn_blocks size m rest).to (place + n) d e ended))
 
-pub torn_run-changes : (size n place : ℕ) (bytes : List ℕ) (c d : Image) → Changes (TornParts size bytes) n place c d → TornRun size n place bytes c d
-torn_run-changes size n place bytes c d changes = record {
-  count = changes.count;
-  sizes = λ p. ⊎_elim
-      (λ here. subst (λ q. length (block d q) ≡ length (block c q)) (sym here.2) (changes.inside here.0 here.1).0)
-      (λ outside. ap length (changes.elsewhere p outside))
-      (in_run n place p);
-  sectors = λ k j below. (changes.inside k below).1 j;
-  elsewhere = changes.elsewhere;
-}
+  -- the first run ends with the first image
+  module _ (x x' y y' : Image) (end : place + n ≡ length x) where
+    pub torn-both : TornRun size n place first x x' → TornRun size m 0 rest y y' → TornRun size blocks place bytes (x ++ y) (x' ++ y')
+    torn-both begun ended =
+        torn_run-then (x ++ y) (x' ++ y) (x' ++ y')
+        (in-front n (torn_blocks size n first) place x x' y (omega (arith, end)) begun)
+        (in-back m (torn_blocks size m rest) 0 (place + n) x' y y' (omega (arith, end, begun.count)) ended)
 
-pub torn_run-front : (size n place : ℕ) (bytes : List ℕ) (x x' y : Image) → place + n ≤ length x → TornRun size n place bytes x x' → TornRun size n place bytes (x ++ y) (x' ++ y)
-torn_run-front size n place bytes x x' y within torn =
-    torn_run-changes size n place bytes (x ++ y) (x' ++ y) (changes-front (TornParts size bytes) n place x x' y within (changes-torn_run size n place bytes x x' torn))
+    pub wrote-both : WroteRun size n place first x x' → WroteRun size m 0 rest y y' → WroteRun size blocks place bytes (x ++ y) (x' ++ y')
+    wrote-both begun ended =
+        let front = written_blocks size n first in
+        let back = written_blocks size m rest in
+        (written_blocks size blocks bytes).from place (x ++ y) (x' ++ y')
+        (runs-then (λ bytes _ b. b ≡ bytes) (x ++ y) (x' ++ y) (x' ++ y')
+        (front.to place (x ++ y) (x' ++ y) (in-front n front place x x' y (omega (arith, end)) begun))
+        (back.to (place + n) (x' ++ y) (x' ++ y') (in-back m back 0 (place + n) x' y y' (omega (arith, end, begun.count)) ended)))
 
-pub torn_run-back : (size n q place : ℕ) (bytes : List ℕ) (x y y' : Image) → place ≡ length x + q → TornRun size n q bytes y y' → TornRun size n place bytes (x ++ y) (x ++ y')
-torn_run-back size n q place bytes x y y' is torn =
-    torn_run-changes size n place bytes (x ++ y) (x ++ y') (changes-back (TornParts size bytes) n q place x y y' is (changes-torn_run size n q bytes y y' torn))
-
--- a run, and then the one behind it
-pub torn_run-then : (size n m place : ℕ) (first rest : List ℕ) (c d e : Image) → length first ≡ size * n
-    → TornRun size n place first c d → TornRun size m (place + n) rest d e → TornRun size (n + m) place (first ++ rest) c e
-torn_run-then size n m place first rest c d e long begun ended =
-    torn_run-changes size (n + m) place (first ++ rest) c e (changes-then (TornParts size (first ++ rest)) n m place c d e
-    (record {
-      count = begun.count;
-      inside = λ k below. subst (λ b. TornBlock b (block c (place + k)) (block d (place + k))) (sym (part-front size n k first rest long below)) (begun.sizes (place + k), λ j. begun.sectors k j below);
-      elsewhere = begun.elsewhere;
-    })
-    (record {
-      count = ended.count;
-      inside = λ k below. subst (λ b. TornBlock b (block d (place + n + k)) (block e (place + n + k))) (sym (part-back size n k first rest long)) (ended.sizes (place + n + k), λ j. ended.sectors k j below);
-      elsewhere = ended.elsewhere;
-    }))
-
--- ---- a run that is written
-
-abbrev Written : ℕ → List ℕ → ℕ → List ℕ → List ℕ → Type 0
-Written size bytes k a b = b ≡ part size k bytes
-
-changes-wrote : (size n place : ℕ) (bytes : List ℕ) (c d : Image) → WroteRun size n place bytes c d → Changes (Written size bytes) n place c d
-changes-wrote size n place bytes c d wrote = record { count = wrote.count; inside = wrote.inside; elsewhere = wrote.elsewhere }
-
-wrote-changes : (size n place : ℕ) (bytes : List ℕ) (c d : Image) → Changes (Written size bytes) n place c d → WroteRun size n place bytes c d
-wrote-changes size n place bytes c d changes = record { count = changes.count; inside = changes.inside; elsewhere = changes.elsewhere }
-
-pub wrote-front : (size n place : ℕ) (bytes : List ℕ) (x x' y : Image) → place + n ≤ length x → WroteRun size n place bytes x x' → WroteRun size n place bytes (x ++ y) (x' ++ y)
-wrote-front size n place bytes x x' y within wrote =
-    wrote-changes size n place bytes (x ++ y) (x' ++ y) (changes-front (Written size bytes) n place x x' y within (changes-wrote size n place bytes x x' wrote))
-
-pub wrote-back : (size n q place : ℕ) (bytes : List ℕ) (x y y' : Image) → place ≡ length x + q → WroteRun size n q bytes y y' → WroteRun size n place bytes (x ++ y) (x ++ y')
-wrote-back size n q place bytes x y y' is wrote =
-    wrote-changes size n place bytes (x ++ y) (x ++ y') (changes-back (Written size bytes) n q place x y y' is (changes-wrote size n q bytes y y' wrote))
-
--- a run, and then the one behind it
-pub wrote-then : (size n m place : ℕ) (first rest : List ℕ) (c d e : Image) → length first ≡ size * n
-    → WroteRun size n place first c d → WroteRun size m (place + n) rest d e → WroteRun size (n + m) place (first ++ rest) c e
-wrote-then size n m place first rest c d e long begun ended =
-    wrote-changes size (n + m) place (first ++ rest) c e (changes-then (Written size (first ++ rest)) n m place c d e
-    (record { count = begun.count; inside = λ k below. begun.inside k below ∙ sym (part-front size n k first rest long below); elsewhere = begun.elsewhere })
-    (record { count = ended.count; inside = λ k below. ended.inside k below ∙ sym (part-back size n k first rest long); elsewhere = ended.elsewhere }))
-
--- ---- a run that is read
-
-pub reads-both : (size n m place : ℕ) (x y : Image) (first rest : List ℕ) → place + n ≡ length x → length first ≡ size * n
-    → ReadsRun size n place x first → ReadsRun size m 0 y rest → ReadsRun size (n + m) place (x ++ y) (first ++ rest)
-reads-both size n m place x y first rest end long front back k below =
-    ⊎_elim
-    (λ less. part-front size n k first rest long less ∙ front k less ∙ sym (get_or_append_left x y [] (place + k) (omega (arith, end, less))))
-    (λ past.
-    let number : k ≡ n + (k - n) = omega (arith, past) in
-    let at : 0 + (k - n) ≡ place + k - length x = omega (arith, end, past) in
-    ap (λ j. part size j (first ++ rest)) number ∙ part-back size n (k - n) first rest long ∙ back (k - n) (omega (arith, past, below))
-    ∙ ap (block y) at ∙ sym (get_or-append_right x y (length x) (place + k) [] refl (omega (arith, end, past))))
-    (cases_lt k n)
+  pub reads-both : (x y : Image) → place + n ≡ length x → ReadsRun size n place x first → ReadsRun size m 0 y rest → ReadsRun size blocks place (x ++ y) bytes
+  reads-both x y end front back k below =
+      ap (part size k) (sym halves.whole)
+      ∙ ⊎_elim
+      (λ less. part-front size n k first rest halves.long less ∙ front k less ∙ sym (get_or_append_left x y [] (place + k) (omega (arith, end, less))))
+      (λ past.
+      let number : k ≡ n + (k - n) = omega (arith, past) in
+      let at : 0 + (k - n) ≡ place + k - length x = omega (arith, end, past) in
+      ap (λ j. part size j (first ++ rest)) number ∙ part-back size n (k - n) first rest halves.long ∙ back (k - n) (omega (arith, past, below, halves.all))
+      ∙ ap (block y) at ∙ sym (get_or-append_right x y (length x) (place + k) [] refl (omega (arith, end, past))))
+      (cases_lt k n)

@@ -1,7 +1,6 @@
 -- The loop over the bytes of a list's word.
-use Rattle.std.proofs.Common.{Bool, ◌≡◌, ◌∙◌, sym, ap, ℕ, ◌+◌, ◌<◌, ◌≤◌, true, false, List, [], ◌∷◌, ◌++◌, length, take, drop, get_or, refl, add-one}
-use Rattle.std.proofs.Math.Seq.{take-suc}
-use Rattle.std.proofs.lemmas.List.{append-nil, append_assoc, take_all, drop_all, drop_more}
+use Rattle.std.proofs.Common.{Bool, ◌≡◌, ◌∙◌, sym, ap, ℕ, ◌+◌, ◌<◌, ◌≤◌, true, false, List, [], ◌∷◌, ◌++◌, length, take, drop, get_or, refl}
+use Rattle.std.proofs.lemmas.List.{append-nil, append_assoc, take_all, take_more, drop_all, drop_more}
 use Rattle.jb_text.specs.Parts.{grow}
 use Rattle.jb_image.specs.Lists.{is_between, listed}
 
@@ -35,13 +34,10 @@ unfolding listed
 word-opens [] = refl
 word-opens (b ∷ bs) = opens-by b bs (is_between b) refl
 
-take-next : (bs : List ℕ) (n : ℕ) → n < length bs → take (n + 1) bs ≡ take n bs ++ (get_or bs n 0 ∷ [])
-take-next bs n within = ap (λ k. take k bs) (add-one n) ∙ take-suc bs n 0 within
-
 pub word-goes : (text : List ℕ) (at : ℕ) → at < length text → is_between (get_or text at 0) ≡ false
     → fronted (take at text) (listed (drop at text)) ≡ listed text → fronted (take (at + 1) text) (listed (drop (at + 1) text)) ≡ listed text
 word-goes text at within other so_far =
-    ap (λ front. fronted front (listed (drop (at + 1) text))) (take-next text at within)
+    ap (λ front. fronted front (listed (drop (at + 1) text))) (take_more text at 0 within)
     ∙ fronted-grow (take at text) (get_or text at 0) (listed (drop (at + 1) text))
     ∙ ap (fronted (take at text)) (sym (listed-goes (get_or text at 0) (drop (at + 1) text) other))
     ∙ ap (λ rest. fronted (take at text) (listed rest)) (sym (drop_more text at 0 within))

@@ -1,5 +1,5 @@
 -- How a crash of two disks goes on where one of them is called.
-use Rattle.std.proofs.Common.{◌≡◌, ◌≤◌, ◌⊎◌, ℕ, ◌+◌, ◌*◌, List, ◌∷◌, ◌++◌, length, refl, sym, ap, subst, inl, inr, ⊎_elim, arith}
+use Rattle.std.proofs.Common.{◌≡◌, ◌≤◌, ◌⊎◌, ℕ, ◌+◌, List, ◌∷◌, ◌++◌, length, refl, sym, ap, subst, inl, inr, ⊎_elim, arith}
 use Rattle.jb_disk.specs.Image.{Image, Same, HasShape}
 use Rattle.jb_disk.specs.Runs.{TornRun}
 use Rattle.jb_disk.specs.Steps.{Steps}
@@ -9,7 +9,7 @@ use Rattle.jb_disk.proofs.RunWrites.{torn_run-same}
 use Rattle.jb_disk.proofs.Stepping.{CountsNow, goes-on, steps-joined}
 use Rattle.jb_image.specs.declared.pair.PairDisk.{PairDisk}
 use Rattle.jb_image.specs.declared.past.Past.{Past}
-use Rattle.jb_image.proofs.Joined.{torn_run-front, torn_run-back, torn_run-then}
+use Rattle.jb_image.proofs.Joined.{Halves, in-front, in-back, torn_blocks, torn_run-then}
 use Rattle.jb_image.specs.Laws.{left_from-now, left_from-only}
 use Rattle.jb_image.specs.Past.{states, LeavesBoth, LeftBetween, LeftOfBoth}
 use Rattle.jb_image.specs.Pair.{joined_count, past_states, PairLeaves, PairLeftSince}
@@ -180,16 +180,15 @@ module _ {A B : Type 0} (G : Ghosts A) (H : Ghosts B) where
         (goes-back a' b b' mid new noted' other more only_a' Same Same (λ x y y' _ _ same. ap (λ z. x ++ z) same) only_b second)
 
     -- one run that lies in both
-    pub steps-both : (bytes n m place : ℕ) (first rest : List ℕ) → length first ≡ bytes * n
+    pub steps-both : {bytes n m blocks : ℕ} {first rest whole : List ℕ} (halves : Halves bytes n m blocks first rest whole) (place : ℕ)
         → ((x : Image) → G.may_leave a x → place + n ≡ length x) → ((x : Image) → G.may_leave a' x → place + n ≡ length x)
         → Steps G.may_leave G.moment G.left_since (TornRun bytes n place first) a a' → Steps H.may_leave H.moment H.left_since (TornRun bytes m 0 rest) b b'
-        → PairSteps (TornRun bytes (n + m) place (first ++ rest)) begin end
-    steps-both bytes n m place first rest long ends ends' begun ended =
+        → PairSteps (TornRun bytes blocks place whole) begin end
+    steps-both {bytes} {n} {m} {blocks} {first} {rest} {whole} halves place ends ends' begun ended =
         steps-joined (PairLeaves G H) (λ p. length (past_states p)) (PairLeftSince G H)
-        (TornRun bytes n place first) (TornRun bytes m (place + n) rest) (TornRun bytes (n + m) place (first ++ rest)) begin midway end
-        (λ c d torn. torn_run-then bytes n m place first rest c d d long torn (torn_run-same bytes m (place + n) rest d))
-        (λ c d e torn next. torn_run-then bytes n m place first rest c d e long torn next)
+        (TornRun bytes n place first) (TornRun bytes m (place + n) rest) (TornRun bytes blocks place whole) begin midway end
+        (λ c d torn. torn_run-then halves place c d d torn (torn_run-same bytes m (place + n) rest d)) (torn_run-then halves place)
         (steps-front a a' b old mid noted size count only_b (TornRun bytes n place first) (TornRun bytes n place first)
-        (λ x x' y left _ torn. torn_run-front bytes n place first x x' y (omega (arith, ends x left)) torn) (λ c. torn_run-same bytes n place first c) begun)
+        (λ x x' y left _ torn. in-front n (torn_blocks bytes n first) place x x' y (omega (arith, ends x left)) torn) (torn_run-same bytes n place first) begun)
         (steps-back a' b b' mid new noted' other more only_a' (TornRun bytes m 0 rest) (TornRun bytes m (place + n) rest)
-        (λ x y y' left _ torn. torn_run-back bytes m 0 (place + n) rest x y y' (omega (arith, ends' x left)) torn) (λ c. torn_run-same bytes m (place + n) rest c) ended)
+        (λ x y y' left _ torn. in-back m (torn_blocks bytes m rest) 0 (place + n) x y y' (omega (arith, ends' x left)) torn) (torn_run-same bytes m (place + n) rest) ended)

@@ -1,7 +1,7 @@
 -- Which place a block of the image is, and what a call for one changes.
-use Rattle.std.proofs.Common.{◌≡◌, ◌≢◌, ◌<◌, ◌≤◌, ◌+◌, ◌-◌, ◌⊎◌, ℕ, Bool, true, false, not, ◌&&◌, ◌||◌, cond, max, List, [], ◌∷◌, length, set, Option, Some, None, All, refl, sym, ◌∙◌, ap, subst, inl, inr, ⊎_elim, arith, length-set, get_or-set_same, get_or-set_other}
+use Rattle.std.proofs.Common.{◌≡◌, ◌≢◌, ◌<◌, ◌≤◌, ◌+◌, ◌-◌, ℕ, Bool, true, false, not, ◌&&◌, ◌||◌, cond, max, List, [], ◌∷◌, length, set, Option, Some, None, All, refl, sym, ◌∙◌, ap, subst, inl, inr, ⊎_elim, arith, length-set, get_or-set_same, get_or-set_other}
 use Rattle.std.specs.Prelude.{nat_lt}
-use Rattle.std.proofs.lemmas.Bool.{and_from, and_parts, cases_Bool, cases_lt, le-ltb, not-true, or_cases, ltb-false, ltb-true, true≢false}
+use Rattle.std.proofs.lemmas.Bool.{and_from, and_parts, cases_Bool, cases_lt, le-ltb, not-true, or_cases, or_right, ltb-false, ltb-true, true≢false}
 use Rattle.std.proofs.lemmas.List.{ext_get_or, get_or_past}
 use Rattle.std.proofs.lemmas.List.Elements.{All-head, All-tail}
 use Rattle.std.proofs.lemmas.Option.{none-some, same_Some}
@@ -61,14 +61,6 @@ place-later : (e : Extent) (es : List Extent) (i b : ℕ) → nat_lt i (extent_c
 place-later e es i b later is =
     subst (λ t. cond t (Some (e.first + i)) (place_within es (i - extent_count e)) ≡ Some b) later is
 
--- the first extent has what is placed in it
-first-behind : (e : Extent) (i b : ℕ) → e.first ≤ e.last → i < extent_count e → e.first + i ≡ b → b ≤ e.last
-first-behind e i b forward few is = omega (arith, forward, few, is)
-
-or-right : (x y : Bool) → y ≡ true → (x || y) ≡ true
-or-right true y is = refl
-or-right false y is = is
-
 -- they stand in the extents
 place-held : (es : List Extent) → All (λ e. e.first ≤ e.last) es → (i b : ℕ) → place_within es i ≡ Some b → holds_in es b ≡ true
 place-held [] forward i b is = absurd (none-some b is)
@@ -76,9 +68,9 @@ place-held (e ∷ es) forward i b is =
     ⊎_elim
     (λ first.
     let at = place-first e es i b first is in
-    let here = has-within e b (omega (arith, at)) (first-behind e i b (All-head (λ e. e.first ≤ e.last) e es forward) (ltb-true i (extent_count e) first) at) in
+    let here = has-within e b (omega (arith, at)) (omega (arith, All-head (λ e. e.first ≤ e.last) e es forward, ltb-true i (extent_count e) first, at)) in
     ap (λ t. t || holds_in es b) here)
-    (λ later. or-right (has_block e b) (holds_in es b) (place-held es (All-tail (λ e. e.first ≤ e.last) e es forward) (i - extent_count e) b (place-later e es i b later is)))
+    (λ later. or_right (has_block e b) (holds_in es b) (place-held es (All-tail (λ e. e.first ≤ e.last) e es forward) (i - extent_count e) b (place-later e es i b later is)))
     (cases_Bool (nat_lt i (extent_count e)))
 
 -- and each in one of its own
@@ -92,7 +84,7 @@ place-apart (e ∷ es) forward apart i j b one other =
     let twice : (k l : ℕ) → nat_lt k n ≡ true → nat_lt l n ≡ false → place_within (e ∷ es) k ≡ Some b → place_within (e ∷ es) l ≡ Some b → ⊥
     = λ k l first later in_first in_later.
     let at = place-first e es k b first in_first in
-    meets-held e es b (omega (arith, at)) (first-behind e k b head (ltb-true k n first) at) (place-held es tail (l - n) b (place-later e es l b later in_later)) none.0 in
+    meets-held e es b (omega (arith, at)) (omega (arith, head, ltb-true k n first, at)) (place-held es tail (l - n) b (place-later e es l b later in_later)) none.0 in
     ⊎_elim
     (λ first. ⊎_elim
     (λ too. omega (arith, place-first e es i b first one, place-first e es j b too other))

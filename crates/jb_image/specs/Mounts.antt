@@ -1,5 +1,5 @@
 -- One line of the system's list of mounts.
-use Rattle.std.specs.Prelude.{ℕ, List, drop, Option, Some, option_and_then, option_map}
+use Rattle.std.specs.Prelude.{ℕ, List, drop, Option, option_and_then, option_map}
 use Rattle.jb_text.specs.Parts.{before, number_of, onward}
 
 -- the bytes behind the first `delimiter`

@@ -1,9 +1,8 @@
-use Rattle.std.proofs.Common.{◌+◌, true, set, refl, ◌∙◌, sym, ap, subst, arith}
+use Rattle.std.proofs.Common.{◌+◌, set, refl, ◌∙◌, sym, ap, subst, arith}
 use Rattle.std.specs.Prelude.{IsOk}
 use Rattle.jb_disk.specs.Called.{Writes}
-use Rattle.jb_disk.specs.Image.{Torn, HasShape}
+use Rattle.jb_disk.specs.Image.{HasShape}
 use Rattle.jb_disk.specs.Runs.{part}
-use Rattle.jb_disk.specs.Time.{Goes}
 use Rattle.jb_disk.proofs.Counts.{kept_ok}
 use Rattle.jb_disk.proofs.Running.{made-more, not_spent}
 use Rattle.jb_disk.proofs.RunWrites.{part-slice, torn_run-more, torn_run-next, wrote_run-more, steps-run}

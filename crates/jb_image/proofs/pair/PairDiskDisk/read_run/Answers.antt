@@ -1,10 +1,9 @@
-use Rattle.std.proofs.Common.{◌≡◌, ◌+◌, ◌-◌, ◌*◌, ◌++◌, length, sym, ◌∙◌, subst, ap, arith, rules}
+use Rattle.std.proofs.Common.{◌≡◌, ◌+◌, ◌-◌, ◌*◌, ◌++◌, length, refl, sym, ◌∙◌, ap, arith, rules}
 use Rattle.std.proofs.lemmas.Result.{on_ok_weaker}
 use Rattle.jb_disk.specs.Image.{Same}
-use Rattle.jb_disk.specs.Runs.{ReadsRun}
 use Rattle.jb_image.specs.Laws.{counts_both}
 use Rattle.jb_image.specs.Pair.{IsHonestPair}
-use Rattle.jb_image.proofs.Joined.{reads-both}
+use Rattle.jb_image.proofs.Joined.{Halves, reads-both}
 use Rattle.jb_image.proofs.Passing.{goes-front, goes-back, goes-both}
 use Rattle.jb_image.proofs.pair.PairDiskDisk.read_run.Goals as goal
 
@@ -53,14 +52,14 @@ returns-clause-found g c honest =
     let rest = c.read_run-3.new.buf in
     let same_size : H.size p.back ≡ size = sym c.read_run-3.ensures.kept.same_size ∙ sym honest.same_size ∙ c.read_run-2.ensures.kept.same_size in
     let end : place + n ≡ length (G.newest p.front) = omega (arith, shape.blocks, c.blocks-front.ensures, c.if-front-place.false) in
-    let long : length first ≡ size * n
-    = c.read_run-2.auto.buf ∙ c.split_at_mut-first.ensures.front_len ∙ ap (λ s. s * n) (c.bytes-size.ensures.value ∙ c.block_size.ensures) in
-    let all : n + m ≡ c.args.blocks = omega (arith, c.if-place-blocks.false, c.if-front-place.false) in
-    on_ok_weaker c.read_run-3.result (λ found.
-    subst (λ k. ReadsRun size k place (G.newest p.front ++ H.newest p.back) (first ++ rest)) all
-    (reads-both size n m place (G.newest p.front) (H.newest p.back) first rest end long (c.in_ok-read_run.ensures.found honest.first)
-    (subst (λ s. ReadsRun s m 0 (H.newest p.back) rest) same_size found)))
-    (c.read_run-3.ensures.found honest.second)
+    let halves : Halves size n m c.args.blocks first rest (first ++ rest) = record {
+      long = c.read_run-2.auto.buf ∙ c.split_at_mut-first.ensures.front_len ∙ ap (λ s. s * n) (c.bytes-size.ensures.value ∙ c.block_size.ensures);
+      all = omega (arith, c.if-place-blocks.false, c.if-front-place.false);
+      whole = refl;
+    } in
+    on_ok_weaker c.read_run-3.result
+    (reads-both halves place (G.newest p.front) (H.newest p.back) end (c.in_ok-read_run.ensures.found honest.first))
+    (rw same_size at (c.read_run-3.ensures.found honest.second))
 
 pub returns-clause-goes : goal.returns-clause-goes
 returns-clause-goes g c honest =

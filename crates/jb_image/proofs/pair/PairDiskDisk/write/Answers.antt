@@ -2,7 +2,7 @@ use Rattle.std.proofs.Common.{◌<◌, ◌-◌, ◌++◌, ◌∙◌, sym, ap, le
 use Rattle.std.proofs.lemmas.List.{set-append_left, set-append_right}
 use Rattle.std.proofs.lemmas.Result.{on_ok_weaker}
 use Rattle.jb_disk.specs.Image.{Torn}
-use Rattle.jb_image.proofs.Joined.{torn-front, torn-back}
+use Rattle.jb_image.proofs.Joined.{in-front, in-back, torn_block}
 use Rattle.jb_image.proofs.Passing.{goes-front, goes-back}
 use Rattle.jb_image.proofs.pair.PairDiskDisk.write.Goals as goal
 
@@ -20,7 +20,7 @@ returns-then-place-front-clause-torn g c honest =
     let p = c.args.self.now in
     let was = c.write.ensures.kept.was_honest honest.first in
     let shape = g.met.A.Disk.has_shape p.front (g.A.Disk.newest p.front) was (g.met.A.Disk.newest_may_stay p.front was) in
-    torn-front c.args.place c.args.bytes.now (g.A.Disk.newest p.front) (g.A.Disk.newest c.write.new.self) (g.B.Disk.newest p.back)
+    in-front 1 (torn_block c.args.bytes.now) c.args.place (g.A.Disk.newest p.front) (g.A.Disk.newest c.write.new.self) (g.B.Disk.newest p.back)
     (omega (arith, c.if-place-front.true, c.blocks-front.ensures, shape.blocks)) (c.write.ensures.torn honest.first)
 
 pub returns-then-place-front-clause-goes : goal.returns-then-place-front-clause-goes
@@ -31,7 +31,7 @@ returns-then-place-front-clause-goes g c honest =
     goes-front g.A.Disk g.B.Disk p.front c.write.new.self p.back p.past c.note.new.self c.note.ensures c.write.ensures.kept.same_size c.write.ensures.kept.same_count
     (λ y left. g.met.B.Disk.only_now p.back y honest.second left)
     (Torn c.args.place bytes) (Torn c.args.place bytes)
-    (λ x x' y left _ torn. torn-front c.args.place bytes x x' y (omega (arith, c.if-place-front.true, c.blocks-front.ensures, (g.met.A.Disk.has_shape p.front x was left).blocks)) torn)
+    (λ x x' y left _ torn. in-front 1 (torn_block bytes) c.args.place x x' y (omega (arith, c.if-place-front.true, c.blocks-front.ensures, (g.met.A.Disk.has_shape p.front x was left).blocks)) torn)
     (λ x left. g.met.A.Disk.only_now p.front x was left)
     (c.write.ensures.goes honest.first)
 
@@ -47,7 +47,7 @@ pub returns-clause-torn : goal.returns-clause-torn
 returns-clause-torn g c honest =
     let p = c.args.self.now in
     let shape = g.met.A.Disk.has_shape p.front (g.A.Disk.newest p.front) honest.first (g.met.A.Disk.newest_may_stay p.front honest.first) in
-    torn-back (c.args.place - c.blocks-front.result) c.args.place c.args.bytes.now (g.A.Disk.newest p.front) (g.B.Disk.newest p.back) (g.B.Disk.newest c.write-2.new.self)
+    in-back 1 (torn_block c.args.bytes.now) (c.args.place - c.blocks-front.result) c.args.place (g.A.Disk.newest p.front) (g.B.Disk.newest p.back) (g.B.Disk.newest c.write-2.new.self)
     (omega (arith, c.if-place-front.false, c.blocks-front.ensures, shape.blocks)) (c.write-2.ensures.torn honest.second)
 
 pub returns-clause-goes : goal.returns-clause-goes
@@ -58,6 +58,6 @@ returns-clause-goes g c honest =
     goes-back g.A.Disk g.B.Disk p.front p.back c.write-2.new.self p.past c.note.new.self c.note.ensures c.write-2.ensures.kept.same_size c.write-2.ensures.kept.same_count
     (λ x left. g.met.A.Disk.only_now p.front x honest.first left)
     (Torn place bytes) (Torn c.args.place bytes)
-    (λ x y y' left _ torn. torn-back place c.args.place bytes x y y' (omega (arith, c.if-place-front.false, c.blocks-front.ensures, (g.met.A.Disk.has_shape p.front x honest.first left).blocks)) torn)
+    (λ x y y' left _ torn. in-back 1 (torn_block bytes) place c.args.place x y y' (omega (arith, c.if-place-front.false, c.blocks-front.ensures, (g.met.A.Disk.has_shape p.front x honest.first left).blocks)) torn)
     (λ y left. g.met.B.Disk.only_now p.back y (c.write-2.ensures.kept.was_honest honest.second) left)
     (c.write-2.ensures.goes honest.second)
