@@ -32,6 +32,9 @@ fewer kind i j less t = elim (cases_lt t.handle j) [
   | inr early ↦ omega (arith, since-early kind j t early, since-early kind i t (omega (arith, early)))
 ]
 
+owned-past : (count : Owned → ℕ) (os : List Owned) (i : ℕ) → length os ≤ i → owned_from count os i ≡ 0
+owned-past count os i past = ap (sum_by count) (drop_all i os past)
+
 -- one handle more at the end
 pub owned-pushed : (count : Owned → ℕ) (os : List Owned) (new : Owned) (i : ℕ) → i ≤ length os → owned_from count (os ++ new ∷ []) i ≡ owned_from count os i + count new
 owned-pushed count os new i inside = ap (sum_by count) (drop-append-le i os (new ∷ []) inside) ∙ sum_by_push count (drop i os) new
@@ -97,9 +100,6 @@ module _ (count : Owned → ℕ) (kind : Bool → Bool) where
   -- the new handle joins the list, and owns what it has taken over
   pub counts-joined : (os : List Owned) (new : Owned) (last : BTreeMap ℕ Touch) → CountsBut count kind (length os) (count new) os last → Counts count kind (os ++ new ∷ []) last
   counts-joined os new last so_far i = elim (cases_lt (length os) i) [
-    | inl late ↦
-        let none : drop i (os ++ new ∷ []) ≡ [] = drop_all i (os ++ new ∷ []) (simp length-append (omega (arith, late))) in
-        let before : drop i os ≡ [] = drop_all i os (omega (arith, late)) in
-        omega (arith, ap (sum_by count) none, ap (sum_by count) before, so_far i, cond-late i (length os) (count new) late)
+    | inl late ↦ omega (arith, owned-past count (os ++ new ∷ []) i (simp length-append (omega (arith, late))), owned-past count os i (omega (arith, late)), so_far i, cond-late i (length os) (count new) late)
     | inr early ↦ omega (arith, owned-pushed count os new i early, so_far i, cond-early i (length os) (count new) early)
   ]

@@ -49,14 +49,10 @@ weight-take hs j = sum_by-take-le (λ h. map.len h.words + 1) hs j
 
 -- a piece weighs no more than all
 pub weight-part : (hs : List Stopped) (i j : ℕ) → i ≤ j → weight (slice_range hs i j) ≤ weight hs
-weight-part hs i j within =
-    let parts = weight-piece hs i j within in
-    let most = weight-take hs j in
-    omega arith
+weight-part hs i j within = omega (arith, weight-piece hs i j within, weight-take hs j)
 
 -- a piece costs at most twice what it weighs
 pub piece-within : (g : Geometry) (hs : List Stopped) (i j : ℕ) → i < j → j ≤ length hs → piece_cost g hs i j + 2 * weight (take i hs) ≤ 2 * weight (take j hs)
 piece-within g hs i j before within =
-    let parts = weight-piece hs i j (omega arith) in
     let long : length (slice_range hs i j) ≡ j - i = length-take-le (j - i) (drop i hs) (simp length-drop (omega arith)) in
-    omega (arith, cost-few g (slice_range hs i j))
+    omega (arith, weight-piece hs i j (omega arith), cost-few g (slice_range hs i j))
