@@ -9,7 +9,7 @@ use Rattle.std.specs.FinMap as map
 use Rattle.std.specs.FinSet as set
 use Rattle.std.proofs.lemmas.List.Sums.{sum_by_more}
 use Rattle.std.proofs.lemmas.List.Folds.{list_any-append}
-use Rattle.std.proofs.Math.Bool.{and-true, and-false, or-false, or-true}
+use Rattle.std.proofs.Math.Bool.{and-true, and-false, or-false}
 use Rattle.std.proofs.lemmas.List.{take_more}
 use Rattle.std.proofs.lemmas.Bool.Decides.{nat_tests}
 use Rattle.jb_handle.specs.declared.word.Word.{Word}
@@ -43,12 +43,10 @@ put-or t old met found e = grind (arith, nat_tests)
 
 -- q is the new home, or is not
 new-or : (t listed met found : Bool) → (t ≡ true → met ≡ false) → listed ≡ (not met && found) → (listed || (t || false)) ≡ (not met && (t || found))
-new-or true listed met found fresh e = or-true listed ∙ rw (fresh refl) refl
-new-or false listed met found fresh e = or-false listed ∙ e
+new-or t listed met found fresh e = grind (arith, nat_tests, fresh)
 
 known-or : (t listed met found : Bool) → (t ≡ true → met ≡ true) → listed ≡ (not met && found) → listed ≡ (not met && (t || found))
-known-or true listed met found known e = e ∙ rw (known refl) refl
-known-or false listed met found known e = e
+known-or t listed met found known e = grind (arith, nat_tests, known)
 
 pub set-contains : (met : BTreeSet ℕ) (q : ℕ) → set.contains (set.from_list {R = nat_cmp} met.keys) q ≡ tree.contains nat_cmp met q
 set-contains met q = set.contains-from_list nat_cmp_total met.keys q

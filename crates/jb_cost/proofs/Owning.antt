@@ -7,6 +7,7 @@ use Rattle.std.specs.Ordering.{nat_cmp}
 use Rattle.std.specs.Cmp.{nat_cmp_total}
 use Rattle.std.specs.BTreeMap.{BTreeMap, IsOrdered, get, values, insert_entry}
 use Rattle.std.proofs.lemmas.Bool.{cases_lt, le-leb, lt-leb}
+use Rattle.std.proofs.lemmas.Bool.Decides.{nat_tests}
 use Rattle.std.proofs.lemmas.List.{drop-set-lt, drop-set-add, get_or-drop, drop-append-le, drop_all}
 use Rattle.std.proofs.lemmas.List.Sums.{sum_by-set, sum_by-drop_more, sum_by-le-sum_by, sum_by_push}
 use Rattle.std.proofs.lemmas.Map.Entries.{sum_by-insert_entry}
@@ -27,10 +28,7 @@ cond-late : (i n extra : ℕ) → n < i → cond (nat_le i n) extra 0 ≡ 0
 cond-late i n extra late = ap (λ b. cond {A = ℕ} b extra 0) (lt-leb i n late)
 
 fewer : (kind : Bool → Bool) (i j : ℕ) → i ≤ j → (t : Touch) → counts_since kind j t ≤ counts_since kind i t
-fewer kind i j less t = elim (cases_lt t.handle j) [
-  | inl late ↦ omega (arith, since-late kind j t late)
-  | inr early ↦ omega (arith, since-early kind j t early, since-early kind i t (omega (arith, early)))
-]
+fewer kind i j less t = grind (arith, nat_tests)
 
 owned-past : (count : Owned → ℕ) (os : List Owned) (i : ℕ) → length os ≤ i → owned_from count os i ≡ 0
 owned-past count os i past = ap (sum_by count) (drop_all i os past)
