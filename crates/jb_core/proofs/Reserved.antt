@@ -37,11 +37,9 @@ module _ (m : Machine) where
   -- a handle that stops keeps its credits
   pub stop-reserved : (seat : ℕ) (h : Held) → handle_at m seat ≡ Some h → reserved (after_event m (Stop seat)) ≡ reserved m
   stop-reserved seat h there =
-      let all = gone-reserved seat h there in
       let more = sum_by-append (λ (x : ℕ). x) m.credits ((held_at m seat).credits ∷ []) in
-      let same : (held_at m seat).credits ≡ h.credits = ap credits_of (there-at m seat h there) in
       let one : sum ((held_at m seat).credits ∷ []) ≡ (held_at m seat).credits = omega arith in
-      omega (arith, all, more, same, one)
+      omega (arith, gone-reserved seat h there, more, one, ap credits_of (there-at m seat h there))
 
   -- the credits of settled handles are left over
   pub settle-reserved : (n : ℕ) → reserved (after_event m (Settle n)) + sum (take (count (take n m.taken)) m.credits) ≡ reserved m

@@ -9,8 +9,7 @@ use Rattle.std.specs.FinMap as map
 use Rattle.std.specs.FinSet as set
 use Rattle.std.proofs.lemmas.List.Sums.{sum_by_more}
 use Rattle.std.proofs.lemmas.List.Folds.{list_any-append}
-use Rattle.std.proofs.lemmas.Bool.{both_ways}
-use Rattle.std.proofs.Math.Bool.{and-true, and-false, or-false, or-true}
+use Rattle.std.proofs.Math.Bool.{and-true, and-false, or-false}
 use Rattle.std.proofs.lemmas.List.{take_more}
 use Rattle.std.proofs.lemmas.Bool.Decides.{nat_tests}
 use Rattle.jb_handle.specs.declared.word.Word.{Word}
@@ -40,17 +39,14 @@ some-cond true w found = refl
 some-cond false w found = refl
 
 put-or : (t old met found : Bool) → old ≡ (met || found) → cond t true old ≡ (met || (t || found))
-put-or true old met found e = sym (or-true met)
-put-or false old met found e = e
+put-or t old met found e = grind (arith, nat_tests)
 
 -- q is the new home, or is not
 new-or : (t listed met found : Bool) → (t ≡ true → met ≡ false) → listed ≡ (not met && found) → (listed || (t || false)) ≡ (not met && (t || found))
-new-or true listed met found fresh e = or-true listed ∙ rw (fresh refl) refl
-new-or false listed met found fresh e = or-false listed ∙ e
+new-or t listed met found fresh e = grind (arith, nat_tests, fresh)
 
 known-or : (t listed met found : Bool) → (t ≡ true → met ≡ true) → listed ≡ (not met && found) → listed ≡ (not met && (t || found))
-known-or true listed met found known e = e ∙ rw (known refl) refl
-known-or false listed met found known e = e
+known-or t listed met found known e = grind (arith, nat_tests, known)
 
 pub set-contains : (met : BTreeSet ℕ) (q : ℕ) → set.contains (set.from_list {R = nat_cmp} met.keys) q ≡ tree.contains nat_cmp met q
 set-contains met q = set.contains-from_list nat_cmp_total met.keys q
@@ -59,12 +55,10 @@ pub tied-is : (q b : ℕ) → is_eq (nat_cmp b q) ≡ nat_eq q b
 tied-is q b = grind (arith, nat_tests)
 
 pub turned : (b : Bool) → cond (not b) 1 0 ≡ cond {A = ℕ} b 0 1
-turned true = refl
-turned false = refl
+turned b = grind (arith, nat_tests)
 
 pub one-kind : (b : Bool) → cond b 1 0 + cond b 0 1 ≡ 1
-one-kind true = refl
-one-kind false = refl
+one-kind b = grind (arith, nat_tests)
 
 module _ (met old new : BTreeSet ℕ) (fresh : List ℕ) (es : List (ℕ × Word)) (i copies frees : ℕ) (so_far : Meets met old fresh es i copies frees)
     (rising : T (map.is_sorted nat_cmp es)) (e : ℕ × Word) (here : e ≡ get_or es i e) (inside : i < length es)
@@ -118,8 +112,7 @@ module _ (met old new : BTreeSet ℕ) (fresh : List ℕ) (es : List (ℕ × Word
   }
 
 part-or : (t old start any : Bool) → old ≡ (start && not any) → cond t false old ≡ (start && not (any || (t || false)))
-part-or true old start any e = sym (ap (λ b. start && not b) (or-true any) ∙ and-false start)
-part-or false old start any e = e ∙ ap (λ b. start && not b) (sym (or-false any))
+part-or t old start any e = grind (arith, nat_tests)
 
 -- one home more is taken out
 pub part-next : (fresh : List ℕ) (i : ℕ) → i < length fresh → (q : ℕ) (old start : Bool) → old ≡ (start && not (list_any (nat_eq q) (take i fresh))) → cond (is_eq (nat_cmp (get_or fresh i 0) q)) false old ≡ (start && not (list_any (nat_eq q) (take (i + 1) fresh)))
@@ -129,10 +122,7 @@ part-next fresh i inside q old start so_far =
     ∙ ap (λ b. start && not b) (sym (ap (list_any (nat_eq q)) (take_more fresh i 0 inside) ∙ list_any-append (nat_eq q) (take i fresh) (get_or fresh i 0 ∷ [])))
 
 out-again : (met put out listed : Bool) → put ≡ (met || listed) → (met && listed) ≡ false → out ≡ (put && not listed) → out ≡ met
-out-again true put out true e apart is = absurd (both_ways true apart refl)
-out-again true put out false e apart is = is ∙ rw e refl
-out-again false put out true e apart is = is ∙ and-false put
-out-again false put out false e apart is = is ∙ rw e refl
+out-again met put out listed e apart is = grind (arith, nat_tests)
 
 -- where the homes that were put are taken out again, the set is as it was
 pub out-set : (met put out : BTreeSet ℕ) (fresh listed : List ℕ) → listed ≡ fresh → ((q : ℕ) → tree.contains nat_cmp put q ≡ (tree.contains nat_cmp met q || list_any (nat_eq q) fresh)) → ((q : ℕ) → (tree.contains nat_cmp met q && list_any (nat_eq q) fresh) ≡ false) → ((q : ℕ) → tree.contains nat_cmp out q ≡ (tree.contains nat_cmp put q && not (list_any (nat_eq q) listed))) → set.from_list {R = nat_cmp} out.keys ≡ set.from_list met.keys

@@ -25,8 +25,4 @@ covers-weight [] [] a = le_refl 0
 covers-weight [] (h ∷ hs) a = absurd a
 covers-weight (c ∷ cs) [] a = absurd a
 covers-weight (c ∷ cs) (h ∷ hs) a =
-    let rest = covers-weight cs hs a.1 in
-    let touched = a.0 in
-    let left = sum_by-cons (λ (g : Stopped). map.len g.words + 1) h hs in
-    let right = sum_by-cons (λ (x : ℕ). x) c cs in
-    omega arith
+    omega (arith, a.0, covers-weight cs hs a.1, sum_by-cons (λ (g : Stopped). map.len g.words + 1) h hs, sum_by-cons (λ (x : ℕ). x) c cs)

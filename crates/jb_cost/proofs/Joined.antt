@@ -20,8 +20,7 @@ module _ {A : Type 0} where
   pub pieces-take : (e a : ℕ) (es : List ℕ) (xs : List A) → RisesTo e a es → pieces_from a es (take e xs) ≡ pieces_from a es xs
   pieces-take e a [] xs rises = refl
   pieces-take e a (b ∷ bs) xs rises =
-      let le : b ≤ e = rises-le e b bs rises.1 in
-      let within : a + (b - a) ≤ e = let less = rises.0 in omega arith in
+      let within : a + (b - a) ≤ e = omega (arith, rises.0, rises-le e b bs rises.1) in
       ap (λ p. p ∷ pieces_from b bs (take e xs)) (take-within (b - a) a e xs within) ∙ ap (λ ps. slice_range xs a b ∷ ps) (pieces-take e b bs xs rises.1)
 
   -- ---- pieces parted

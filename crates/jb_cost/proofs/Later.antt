@@ -1,25 +1,15 @@
 -- What the words of one handle, taken in turn, do to a home.
-use Rattle.std.proofs.Common.{◌≡◌, ℕ, ◌+◌, ◌<◌, Bool, true, false, not, cond, nat_eq, T, List, [], ◌∷◌, ◌++◌, None, take, length, get_or, Option, Some, refl, sym, ap, ◌∙◌}
+use Rattle.std.proofs.Common.{◌≡◌, ℕ, ◌+◌, ◌<◌, Bool, true, false, cond, nat_eq, T, List, [], ◌∷◌, ◌++◌, None, take, length, get_or, Option, Some, refl, sym, ap, ◌∙◌}
 use Rattle.std.specs.Ordering.{nat_cmp}
 use Rattle.std.specs.FinMap as map
 use Rattle.jb_handle.specs.declared.word.Word.{Word}
-use Rattle.jb_handle.specs.declared.word.Word.TheVariants.{Copy, Free}
 use Rattle.std.proofs.lemmas.List.{take_more}
 use Rattle.std.specs.Option.{option_or}
 use Rattle.jb_handle.specs.declared.stopped.Stopped.{Stopped}
 use Rattle.jb_handle.proofs.Touched.{word-append}
-use Rattle.jb_handle.specs.Word.{is_copy}
-use Rattle.jb_handle.specs.Words.{word, is_copied, is_freed}
+use Rattle.jb_handle.specs.Words.{word}
 use Rattle.jb_handle.proofs.Rising.{find-with}
 use Rattle.jb_cost.specs.Met.{later}
-
-pub copied-is_copy : (w : Word) → is_copied (Some w) ≡ is_copy w
-copied-is_copy (Copy bytes) = refl
-copied-is_copy Free = refl
-
-pub freed-is_copy : (w : Word) → is_freed (Some w) ≡ not (is_copy w)
-freed-is_copy (Copy bytes) = refl
-freed-is_copy Free = refl
 
 one-more : (kind : Option Word → Bool) (w : Word) (t : Bool) (found : Option Word) (old before k : Bool) → kind (Some w) ≡ k → old ≡ later kind found before → cond t k old ≡ later kind (cond t (Some w) found) before
 one-more kind w true found old before k is so_far = sym is

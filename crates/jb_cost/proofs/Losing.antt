@@ -1,6 +1,7 @@
 -- The spans as a handle loses a home, and as one more handle comes.
-use Rattle.std.proofs.Common.{◌≡◌, ◌≢◌, ℕ, ◌+◌, ◌*◌, ◌/◌, ◌<◌, ◌≤◌, Bool, true, false, cond, not, List, [], ◌∷◌, ◌++◌, length, set, Option, Some, None, inl, inr, sym, subst, ap, ◌∙◌, arith, length-append}
+use Rattle.std.proofs.Common.{◌≡◌, ◌≢◌, ℕ, ◌+◌, ◌*◌, ◌/◌, ◌<◌, ◌≤◌, Bool, cond, not, List, [], ◌∷◌, ◌++◌, length, set, Option, Some, None, inl, inr, sym, subst, ap, ◌∙◌, arith, length-append}
 use Rattle.std.proofs.lemmas.Bool.{cases_lt, cases_eq}
+use Rattle.std.proofs.lemmas.Bool.Decides.{nat_tests}
 use Rattle.std.proofs.lemmas.List.{get_or_push, get_or-set_other}
 use Rattle.std.proofs.Math.ListN.{get_or-append}
 use Rattle.jb_handle.specs.declared.word.Word.{Word}
@@ -19,11 +20,7 @@ use Rattle.jb_cost.proofs.Spans.{span-as, span-best-as}
 
 -- a handle that touched a home last is not idle
 pub not-idle : (t : Touch) (o : Owned) → cond t.copy 1 0 ≤ o.copies → cond t.copy 0 1 ≤ o.frees → IsIdle o → ⊥
-not-idle t o copies frees idle =
-    elim t.copy as (λ b. cond b 1 0 ≤ o.copies → cond b 0 1 ≤ o.frees → ⊥) [
-      | true ↦ λ one none. let h : ⊥ = omega (arith, idle.0, one) in h
-      | false ↦ λ none one. let h : ⊥ = omega (arith, idle.1, one) in h
-    ] copies frees
+not-idle t o copies frees idle = grind (arith, nat_tests)
 
 -- the other idle handles stay idle
 pub idle-lost : (os : List Owned) (h : ℕ) (new : Owned) → (IsIdle (owned_at os h) → ⊥) → (k : ℕ) → IsIdle (owned_at os k) → IsIdle (owned_at (set os h new) k)

@@ -7,6 +7,7 @@ use Rattle.std.specs.Ordering.{nat_cmp}
 use Rattle.std.specs.Cmp.{nat_cmp_total}
 use Rattle.std.specs.BTreeMap.{BTreeMap, IsOrdered, get, values, insert_entry}
 use Rattle.std.proofs.lemmas.Bool.{cases_lt, le-leb, lt-leb}
+use Rattle.std.proofs.lemmas.Bool.Decides.{nat_tests}
 use Rattle.std.proofs.lemmas.List.{drop-set-lt, drop-set-add, get_or-drop, drop-append-le, drop_all}
 use Rattle.std.proofs.lemmas.List.Sums.{sum_by-set, sum_by-drop_more, sum_by-le-sum_by, sum_by_push}
 use Rattle.std.proofs.lemmas.Map.Entries.{sum_by-insert_entry}
@@ -27,10 +28,10 @@ cond-late : (i n extra : ℕ) → n < i → cond (nat_le i n) extra 0 ≡ 0
 cond-late i n extra late = ap (λ b. cond {A = ℕ} b extra 0) (lt-leb i n late)
 
 fewer : (kind : Bool → Bool) (i j : ℕ) → i ≤ j → (t : Touch) → counts_since kind j t ≤ counts_since kind i t
-fewer kind i j less t = elim (cases_lt t.handle j) [
-  | inl late ↦ omega (arith, since-late kind j t late)
-  | inr early ↦ omega (arith, since-early kind j t early, since-early kind i t (omega (arith, early)))
-]
+fewer kind i j less t = grind (arith, nat_tests)
+
+owned-past : (count : Owned → ℕ) (os : List Owned) (i : ℕ) → length os ≤ i → owned_from count os i ≡ 0
+owned-past count os i past = ap (sum_by count) (drop_all i os past)
 
 -- one handle more at the end
 pub owned-pushed : (count : Owned → ℕ) (os : List Owned) (new : Owned) (i : ℕ) → i ≤ length os → owned_from count (os ++ new ∷ []) i ≡ owned_from count os i + count new
@@ -97,9 +98,6 @@ module _ (count : Owned → ℕ) (kind : Bool → Bool) where
   -- the new handle joins the list, and owns what it has taken over
   pub counts-joined : (os : List Owned) (new : Owned) (last : BTreeMap ℕ Touch) → CountsBut count kind (length os) (count new) os last → Counts count kind (os ++ new ∷ []) last
   counts-joined os new last so_far i = elim (cases_lt (length os) i) [
-    | inl late ↦
-        let none : drop i (os ++ new ∷ []) ≡ [] = drop_all i (os ++ new ∷ []) (simp length-append (omega (arith, late))) in
-        let before : drop i os ≡ [] = drop_all i os (omega (arith, late)) in
-        omega (arith, ap (sum_by count) none, ap (sum_by count) before, so_far i, cond-late i (length os) (count new) late)
+    | inl late ↦ omega (arith, owned-past count (os ++ new ∷ []) i (simp length-append (omega (arith, late))), owned-past count os i (omega (arith, late)), so_far i, cond-late i (length os) (count new) late)
     | inr early ↦ omega (arith, owned-pushed count os new i early, so_far i, cond-early i (length os) (count new) early)
   ]

@@ -31,11 +31,12 @@ piece-none hs j = let e : j - j ≡ 0 = omega arith in rw e refl
 pub piece-dearer : (g : Geometry) (hs : List Stopped) (d : Stopped) (n i k j : ℕ) → j ≤ length hs → k ≡ i + n → k < j → piece_cost g hs k j ≤ piece_cost g hs i j
 piece-dearer g hs d zero i k j within is before = let e : k ≡ i = omega arith in rw e (omega arith)
 piece-dearer g hs d (suc n) i k j within is before =
-    let rest : piece_cost g hs k j ≤ piece_cost g hs (i + 1) j = piece-dearer g hs d n (i + 1) k j within (omega arith) before in
-    let step : cost g (slice_range hs (i + 1) j) ≤ cost g (get_or hs i d ∷ slice_range hs (i + 1) j) = cost-left g (get_or hs i d) (slice_range hs (i + 1) j) in
-    let left : slice_range hs i j ≡ get_or hs i d ∷ slice_range hs (i + 1) j = piece-left hs d i j (omega arith) (omega arith) in
-    let same : cost g (slice_range hs i j) ≡ cost g (get_or hs i d ∷ slice_range hs (i + 1) j) = ap (cost g) left in
-    omega (arith, rest, step, same)
+    omega (
+      arith,
+      piece-dearer g hs d n (i + 1) k j within (omega arith) before,
+      cost-left g (get_or hs i d) (slice_range hs (i + 1) j),
+      ap (cost g) (piece-left hs d i j (omega arith) (omega arith)),
+    )
 
 -- what the first j handles weigh is what the first i do and what the piece between does
 weight-piece : (hs : List Stopped) (i j : ℕ) → i ≤ j → weight (take j hs) ≡ weight (take i hs) + weight (slice_range hs i j)
@@ -49,14 +50,10 @@ weight-take hs j = sum_by-take-le (λ h. map.len h.words + 1) hs j
 
 -- a piece weighs no more than all
 pub weight-part : (hs : List Stopped) (i j : ℕ) → i ≤ j → weight (slice_range hs i j) ≤ weight hs
-weight-part hs i j within =
-    let parts = weight-piece hs i j within in
-    let most = weight-take hs j in
-    omega arith
+weight-part hs i j within = omega (arith, weight-piece hs i j within, weight-take hs j)
 
 -- a piece costs at most twice what it weighs
 pub piece-within : (g : Geometry) (hs : List Stopped) (i j : ℕ) → i < j → j ≤ length hs → piece_cost g hs i j + 2 * weight (take i hs) ≤ 2 * weight (take j hs)
 piece-within g hs i j before within =
-    let parts = weight-piece hs i j (omega arith) in
     let long : length (slice_range hs i j) ≡ j - i = length-take-le (j - i) (drop i hs) (simp length-drop (omega arith)) in
-    omega (arith, cost-few g (slice_range hs i j))
+    omega (arith, weight-piece hs i j (omega arith), cost-few g (slice_range hs i j))

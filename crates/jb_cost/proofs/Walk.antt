@@ -14,9 +14,8 @@ module _ (g : Geometry) (hs : List Stopped) (h : Stopped) (k j : ℕ) (positive 
   -- the footprint has room for the words of the handle before it
   pub room-left : (footprint : Covered) → IsWithinSize hs → footprint ≡ covered_by g (slice_range hs k j) → footprint.copies + footprint.frees + map.len h.words ≤ 2 ^ 62
   room-left footprint small covers =
-      let whole : weight (slice_range hs (k - 1) j) ≡ weight (h ∷ slice_range hs k j) = ap weight (piece-before hs h k j positive before within is) in
-      let most = weight-part hs (k - 1) j (omega arith) in
-      has-room g (slice_range hs k j) footprint covers h (omega (arith, small))
+      let whole = ap weight (piece-before hs h k j positive before within is) in
+      has-room g (slice_range hs k j) footprint covers h (omega (arith, small, whole, weight-part hs (k - 1) j (omega arith)))
 
   -- with this handle it is the footprint of the piece that begins there, and what it answers is the piece's cost
   pub stepped-left : (footprint : Covered) (blocks : ℕ) → (footprint ≡ covered_by g (h ∷ slice_range hs k j)) × (blocks ≡ cost g (h ∷ slice_range hs k j)) → (footprint ≡ covered_by g (slice_range hs (k - 1) j)) × (blocks ≡ piece_cost g hs (k - 1) j)

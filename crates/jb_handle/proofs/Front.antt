@@ -1,9 +1,8 @@
 -- The first bytes of a block of which some are kept and the others are zeros.
-use Rattle.std.proofs.Common.{◌≡◌, ap, sym, ◌∙◌, ℕ, ◌+◌, ◌-◌, ◌≤◌, ◌<◌, min, List, ◌++◌, length, take, drop, replicate, get_or, arith, inl, inr, append-nil, length-append}
+use Rattle.std.proofs.Common.{◌≡◌, ap, sym, ◌∙◌, ℕ, zero, suc, ◌+◌, ◌-◌, ◌≤◌, ◌<◌, min, List, [], ◌∷◌, ◌++◌, length, take, drop, replicate, get_or, arith, inl, inr, append-nil, length-append}
 use Rattle.std.proofs.lemmas.Bool.{cases_lt}
-use Rattle.std.proofs.lemmas.List.{take-append-le, take-replicate, drop-replicate, take_all, drop_all, length-replicate, get_or-replicate}
-use Rattle.std.proofs.Math.ListN.{get_or-append, get_or-eq_default}
-use Rattle.std.proofs.Math.Seq.{take-append-add, get_or-append_right}
+use Rattle.std.proofs.lemmas.List.{take-append-le, take-replicate, drop-replicate, take_all, drop_all, length-replicate}
+use Rattle.std.proofs.Math.Seq.{take-append-add}
 use Rattle.jb_block.specs.Fields.{AreBytes}
 
 -- zeros over which so many of the bytes are written, up to n of them
@@ -23,19 +22,15 @@ take-padded n len k bytes long fits is = elim (cases_lt (length bytes) n) [
 
 -- bytes and the zeros that fill them up are as many as they are to be
 pub length-filled : (len : ℕ) (bytes : List ℕ) → length bytes ≤ len → length (bytes ++ replicate (len - length bytes) 0) ≡ len
-length-filled len bytes fits =
-    let zeros : length (replicate {A = ℕ} (len - length bytes) 0) ≡ len - length bytes = length-replicate (len - length bytes) 0 in
-    length-append bytes (replicate (len - length bytes) 0) ∙ (let e : length bytes + length (replicate {A = ℕ} (len - length bytes) 0) ≡ len = omega arith in e)
+length-filled len bytes fits = simp (length-append, length-replicate) (omega arith)
+
+zero-byte : (n i : ℕ) → get_or (replicate n 0) i 0 < 256
+zero-byte zero i = omega arith
+zero-byte (suc n) zero = omega arith
+zero-byte (suc n) (suc i) = zero-byte n i
 
 -- bytes and the zeros that fill them up are bytes
 pub filled-bytes : (n : ℕ) (bytes : List ℕ) → AreBytes bytes → AreBytes (bytes ++ replicate n 0)
-filled-bytes n bytes fit i = elim (cases_lt i (length bytes)) [
-  | inl within ↦ rw (get_or-append bytes (replicate n 0) 0 i within) (fit i)
-  | inr past ↦ rw (get_or-append_right bytes (replicate n 0) i 0 past) (zero-byte n (i - length bytes))
-]
-  where
-    zero-byte : (n i : ℕ) → get_or (replicate n 0) i 0 < 256
-    zero-byte n i = elim (cases_lt i n) [
-      | inl within ↦ rw (get_or-replicate {A = ℕ} n i 0 0 within) (omega arith)
-      | inr past ↦ rw (get_or-eq_default {A = ℕ} (replicate n 0) 0 {n = i} (let l : length (replicate {A = ℕ} n 0) ≡ n = length-replicate n 0 in omega (arith, l))) (omega arith)
-    ]
+filled-bytes n [] fit i = zero-byte n i
+filled-bytes n (b ∷ bytes) fit zero = fit 0
+filled-bytes n (b ∷ bytes) fit (suc i) = filled-bytes n bytes (λ k. fit (suc k)) i

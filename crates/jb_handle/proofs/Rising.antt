@@ -1,14 +1,14 @@
 -- Entries whose homes rise: where a search among them ends, what is found there, and what is put there.
-use Rattle.std.proofs.Common.{◌≡◌, ℕ, zero, suc, ◌+◌, ◌<◌, ◌≤◌, Bool, true, false, ◌&&◌, cond, nat_eq, T, List, [], ◌∷◌, length, get_or, set, take, Some, None, Less, Result, Ok, Err, sym, ap, subst, refl, ◌∙◌, add-one, arith}
+use Rattle.std.proofs.Common.{◌≡◌, ℕ, zero, suc, ◌+◌, ◌<◌, ◌≤◌, Bool, true, false, ◌&&◌, cond, nat_eq, T, List, [], ◌∷◌, length, get_or, set, take, Some, None, Less, Result, Ok, Err, sym, ap, subst, refl, ◌∙◌, arith}
 use Rattle.std.specs.List.{insert, AllByRecursion}
 use Rattle.std.specs.List.Sorted.{IsSearchInRange, IsBinarySearchResult, IsNonDecreasingBy, IsStrictlySortedBy}
 use Rattle.std.specs.Map.{keys_of}
 use Rattle.std.specs.Ordering.{eq_by_cmp, nat_cmp, ordering_index, is_lt}
 use Rattle.std.specs.FinMap as map
-use Rattle.std.specs.FinMap.Entries.{below_all, is_sorted-put}
+use Rattle.std.specs.FinMap.Entries.{below_all, is_sorted-put, find-append}
 use Rattle.std.specs.Cmp.{nat_cmp_total}
 use Rattle.std.proofs.lemmas.Cmp.{ranked}
-use Rattle.std.proofs.lemmas.List.{take_all}
+use Rattle.std.proofs.lemmas.List.{take_all, take_more}
 use Rattle.std.proofs.lemmas.Bool.Decides.{nat_tests}
 use Rattle.jb_handle.specs.Placed.{StandsAt, GoesTo, IsPlaced}
 
@@ -29,9 +29,6 @@ less-is_lt x y h = grind (arith, nat_tests)
 
 pub tied-cond : {A : Type 0} (q b : ℕ) (x y : A) → cond (eq_by_cmp nat_cmp q b) x y ≡ cond (nat_eq q b) x y
 tied-cond q b x y = grind (arith, nat_tests)
-
-apart-cond : {A : Type 0} (q a b : ℕ) (x y z : A) → a < b → cond (nat_eq q a) x (cond (nat_eq q b) y z) ≡ cond (nat_eq q b) y (cond (nat_eq q a) x z)
-apart-cond q a b x y z less = grind (arith, nat_tests)
 
 module _ {W : Type 0} where
   -- a home below all is below each
@@ -124,20 +121,6 @@ module _ {W : Type 0} where
   ordered-rise [] h = tt
   ordered-rise (e ∷ es) h = both _ _ (below-all e.0 es h.0) (ordered-rise es h.1)
 
-  found-next : (es : List (ℕ × W)) → T (map.is_sorted nat_cmp es) → (i : ℕ) (d : ℕ × W) → i < length es → (q : ℕ) → map.find nat_cmp q (take (suc i) es) ≡ cond (nat_eq q (get_or es i d).0) (Some (get_or es i d).1) (map.find nat_cmp q (take i es))
-  found-next [] h i d lt q = absurd (omega arith)
-  found-next (e ∷ es) h zero d lt q = tied-cond q e.0 _ _
-  found-next (e ∷ es) h (suc i) d lt q =
-      let less : e.0 < (get_or es i d).0 = homes-rise (e ∷ es) h 0 (suc i) d (omega arith) lt in
-      ap (cond (eq_by_cmp nat_cmp q e.0) (Some e.1)) (found-next es (rising-tail e es h) i d (omega arith) q)
-      ∙ tied-cond q e.0 _ _
-      ∙ apart-cond q e.0 (get_or es i d).0 _ _ _ less
-      ∙ ap (cond (nat_eq q (get_or es i d).0) (Some (get_or es i d).1)) (sym (tied-cond q e.0 _ _))
-
-  -- what is found among one entry more
-  pub find-take : (es : List (ℕ × W)) → T (map.is_sorted nat_cmp es) → (i : ℕ) (d : ℕ × W) → i < length es → (q : ℕ) → map.find nat_cmp q (take (i + 1) es) ≡ cond (nat_eq q (get_or es i d).0) (Some (get_or es i d).1) (map.find nat_cmp q (take i es))
-  find-take es h i d lt q = rw add-one (found-next es h i d lt q)
-
   -- no home is among the entries before it
   pub find-before : (es : List (ℕ × W)) → T (map.is_sorted nat_cmp es) → (i : ℕ) (d : ℕ × W) → i < length es → map.find nat_cmp (get_or es i d).0 (take i es) ≡ None
   find-before [] h i d lt = absurd (omega arith)
@@ -146,6 +129,13 @@ module _ {W : Type 0} where
       let less : e.0 < (get_or es i d).0 = homes-rise (e ∷ es) h 0 (suc i) d (omega arith) lt in
       let apart : eq_by_cmp nat_cmp (get_or es i d).0 e.0 ≡ false = grind (arith, nat_tests) in
       rw apart (find-before es (rising-tail e es h) i d (omega arith))
+
+  -- what is found among one entry more
+  pub find-take : (es : List (ℕ × W)) → T (map.is_sorted nat_cmp es) → (i : ℕ) (d : ℕ × W) → i < length es → (q : ℕ) → map.find nat_cmp q (take (i + 1) es) ≡ cond (nat_eq q (get_or es i d).0) (Some (get_or es i d).1) (map.find nat_cmp q (take i es))
+  find-take es h i d lt q =
+      ap (map.find nat_cmp q) (take_more es i d lt)
+      ∙ find-append nat_cmp nat_cmp_total (take i es) (get_or es i d).0 (get_or es i d).1 q (find-before es h i d lt)
+      ∙ tied-cond q (get_or es i d).0 _ _
 
   -- the entry e is the next one: what is found with it, and that its home is not among those before it
   module _ (es : List (ℕ × W)) (rising : T (map.is_sorted nat_cmp es)) (i : ℕ) (e : ℕ × W) (here : e ≡ get_or es i e) (inside : i < length es) where

@@ -24,12 +24,12 @@ is_of kind (Some w) = kind w
 abbrev pub homes_of : (Word → Bool) → List Stopped → set.FinSet nat_cmp
 homes_of kind hs = set.retain (touched hs) (λ b. is_of kind (word hs b))
 
-copied-is_of : (w : Option Word) → is_of is_copy w ≡ is_copied w
+pub copied-is_of : (w : Option Word) → is_of is_copy w ≡ is_copied w
 copied-is_of None = refl
 copied-is_of (Some (Copy bytes)) = refl
 copied-is_of (Some Free) = refl
 
-freed-is_of : (w : Option Word) → is_of is_free w ≡ is_freed w
+pub freed-is_of : (w : Option Word) → is_of is_free w ≡ is_freed w
 freed-is_of None = refl
 freed-is_of (Some (Copy bytes)) = refl
 freed-is_of (Some Free) = refl

@@ -1,8 +1,9 @@
-use Rattle.std.proofs.Common.{◌<◌, T, length, sym, ap, subst, ◌∙◌, arith}
+use Rattle.std.proofs.Common.{◌<◌, T, Some, length, sym, ap, subst, ◌∙◌, arith}
 use Rattle.std.specs.Ordering.{nat_cmp}
 use Rattle.std.specs.FinMap as map
 use Rattle.jb_handle.specs.Words.{is_copied, is_freed}
-use Rattle.jb_cost.proofs.Later.{copied-is_copy, freed-is_copy, next-is}
+use Rattle.jb_cost.proofs.Later.{next-is}
+use Rattle.jb_handle.proofs.Touched.{copied-is_of, freed-is_of}
 use Rattle.jb_cost.specs.Met.{later}
 use Rattle.jb_handle.proofs.Rising.{find-whole}
 use Rattle.std.specs.BTreeSet.{contains}
@@ -14,8 +15,8 @@ loop-home-preserved c =
     let rising : T (map.is_sorted nat_cmp c.entries-home-items.result.now) = subst (λ es. T (map.is_sorted nat_cmp es)) (sym c.entries-home-items.ensures) (map.entries_sorted c.args.words.now) in
     let inside : c.loop-home.home-index < length c.entries-home-items.result.now = omega arith in
     record {
-      copies = λ q. c.in_ok-put.ensures.copies q ∙ next-is _ rising _ _ c.loop-home-item.is inside q _ _ is_copied _ (copied-is_copy c.loop-home-item.result.1) (c.loop-home.invariant.copies q);
-      frees = λ q. c.in_ok-put.ensures.frees q ∙ next-is _ rising _ _ c.loop-home-item.is inside q _ _ is_freed _ (freed-is_copy c.loop-home-item.result.1) (c.loop-home.invariant.frees q);
+      copies = λ q. c.in_ok-put.ensures.copies q ∙ next-is _ rising _ _ c.loop-home-item.is inside q _ _ is_copied _ (sym (copied-is_of (Some c.loop-home-item.result.1))) (c.loop-home.invariant.copies q);
+      frees = λ q. c.in_ok-put.ensures.frees q ∙ next-is _ rising _ _ c.loop-home-item.is inside q _ _ is_freed _ (sym (freed-is_of (Some c.loop-home-item.result.1))) (c.loop-home.invariant.frees q);
     }
 
 pub returns-clause-copies : goal.returns-clause-copies
