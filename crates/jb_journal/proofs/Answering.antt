@@ -1,5 +1,5 @@
 -- What all workers answered, from what each leaves.
-use Rattle.std.proofs.Common.{◌≡◌, ℕ, ◌<◌, List, [], ◌∷◌, length, get_or, map, Option, Some, IfSome, refl, sym, subst, ap, ◌∙◌, arith}
+use Rattle.std.proofs.Common.{◌≡◌, ℕ, ◌<◌, List, [], ◌∷◌, length, get_or, map, Some, refl, sym, ap, ◌∙◌, arith}
 use Rattle.std.proofs.Math.ListN.{length-map}
 use Rattle.std.proofs.lemmas.List.{get_or-map}
 use Rattle.jb_book.specs.declared.origin.Origin.{Ghosts}
@@ -38,10 +38,8 @@ module _ {T D H N : Type 0} {O : Ghosts H} {P : Places H} (G : Disks D) (may : T
           → may (AreHonest G (get_or (map saw ws) at unseen)) workers at (get_or (map stops ws) at none) (get_or (map knew ws) at unknown) (get_or answers at d)
       each at none unknown unseen d inside [] is = absurd (let none : 0 ≡ workers = ap length is ∙ worked.number in let never : ⊥ = omega arith in never)
       each at none unknown unseen d inside (x ∷ xs) is =
-          let given = get_or-map (λ (y : T). Some y) answers at d (Some d) (omega (arith, inside, number)) in
-          let left = get_or-map (answer_of {T = T} {D = D} {H = H} {N = N} {O = O} {P = P}) ws at x (Some d) (omega (arith, inside, worked.number)) in
-          let stopped = get_or-map stops ws at x none (omega (arith, inside, worked.number)) in
-          let known = get_or-map knew ws at x unknown (omega (arith, inside, worked.number)) in
-          let seen = get_or-map saw ws at x unseen (omega (arith, inside, worked.number)) in
-          subst (λ (o : Option T). IfSome o (may (AreHonest G (get_or (map saw ws) at unseen)) workers at (get_or (map stops ws) at none) (get_or (map knew ws) at unknown))) (sym left ∙ ap (λ l. get_or l at (Some d)) (sym same) ∙ given)
-          (subst (λ (s : (List Stop × Known) × List (OpenDeck D)). IfSome (answer_of (get_or ws at x)) (may (AreHonest G s.1) workers at s.0.0 s.0.1)) (λ i. ((sym stopped i, sym known i), sym seen i)) (worked.each at x inside))
+          let lt : at < length ws = omega (arith, inside, worked.number) in
+          let answered : answer_of (get_or ws at x) ≡ Some (get_or answers at d) =
+          sym (get_or-map (answer_of {T = T} {D = D} {H = H} {N = N} {O = O} {P = P}) ws at x (Some d) lt) ∙ ap (λ l. get_or l at (Some d)) (sym same)
+          ∙ get_or-map (λ (y : T). Some y) answers at d (Some d) (omega (arith, inside, number)) in
+          rw (get_or-map stops ws at x none lt, get_or-map knew ws at x unknown lt, get_or-map saw ws at x unseen lt) (rw answered at (worked.each at x inside))

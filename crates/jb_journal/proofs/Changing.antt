@@ -44,7 +44,4 @@ sees-stop before after old new answer ticket words made sees marks = record {
 -- a client knows its own handles, once its seat is put back
 pub own-again : {D H N : Type 0} {O : Ghosts H} {P : Places H} (seen after last : Sights D H) (old new : Option (CountedSeat H N O P)) (seat back : CountedSeat H N O P) → old ≡ Some seat → new ≡ Some back → last ≡ after
     → (All (StandsIn seen.stops) (made_by seat.seat) → All (StandsIn after.stops) (made_by back.seat)) → All (StandsIn seen.stops) (made_from old) → All (StandsIn last.stops) (made_from new)
-own-again {D = D} {H = H} {N = N} {O = O} {P = P} seen after last old new seat back taken put same own each =
-    subst (λ (x : Sights D H). All (StandsIn x.stops) (made_from new)) (sym same)
-    (subst (λ (s : Option (CountedSeat H N O P)). All (StandsIn after.stops) (made_from s)) (sym put)
-    (own (subst (λ (s : Option (CountedSeat H N O P)). All (StandsIn seen.stops) (made_from s)) taken each)))
+own-again seen after last old new seat back taken put same own each = rw (put, same) (own (rw taken at each))

@@ -5,7 +5,8 @@ use Rattle.std.specs.List.{sum_by}
 use Rattle.jb_cost.specs.Pieces.{joined}
 use Rattle.jb_disk.specs.declared.disk.Disk.{Ghosts as Disks}
 use Rattle.jb_deck.specs.declared.done.Entry.{Entry}
-use Rattle.jb_desk.specs.Seats.{changes_left, made_left}
+use Rattle.jb_desk.specs.Seats.{made_left}
+use Rattle.jb_desk.specs.declared.desk.closing.Closed.{Closed}
 use Rattle.jb_desk.specs.declared.ended.Ended.{Ended}
 use Rattle.jb_book.specs.History.{CameAbout}
 use Rattle.jb_book.specs.Origin.{Begun}
@@ -13,8 +14,7 @@ use Rattle.jb_book.specs.Since.{EndsSince}
 use Rattle.jb_book.specs.SinceMark.{EndsMarked}
 use Rattle.jb_book.specs.declared.origin.Origin.{Ghosts}
 use Rattle.jb_board.specs.declared.place.Place.{Ghosts as Places}
-use Rattle.jb_handle.specs.declared.shape.Shape.{Shape}
-use Rattle.jb_journal.specs.Leaving.{IsClosed, IsGatheredFrom}
+use Rattle.jb_journal.specs.Leaving.{HasEnded, IsClosed, IsGatheredFrom}
 use Rattle.jb_journal.specs.Notes.{Known, Stop, changed_by}
 use Rattle.jb_journal.specs.Running.{HasThreaded, RanAll, known_of_worked, marks_of_worked, stops_of_worked}
 use Rattle.jb_journal.specs.declared.fault.RunFault.{RunFault}
@@ -31,17 +31,15 @@ since-as {D = D} G b told disk trail same_disk same_trail ends = subst (λ (x : 
 
 module _ {T D H N : Type 0} {O : Ghosts H} {P : Places H} (G : Disks D) (b : Begun) where
   -- what was told of a desk that was closed
-  pub closed-as : (all : Gathered T D H N G O P) (told : Ran T D) (disk : D) (handles changes : ℕ) (trail : List Entry) (shape : Shape) → told.disk ≡ disk → told.answers ≡ all.answers → told.handles ≡ handles → told.trail.items ≡ trail
-      → told.changes ≡ changes → changes ≡ sum_by changes_left all.lefts.items
-      → EndsMarked G b (map (λ l. made_left l) all.lefts.items) handles shape disk trail all.seen.stops all.seen.marks → CameAbout G b (map (λ l. made_left l) all.lefts.items) shape disk trail
-      → IsClosed G b all told
-  closed-as all told disk handles changes trail shape same_disk same_answers same_handles same_trail same_changes added ends came = record {
+  pub closed-as : {C : Type 0} (all : Gathered T D H N G O P) (told : Ran T D) (closed : Closed D C) → HasEnded G b all.lefts.items all.seen closed
+      → told.disk ≡ closed.disk → told.answers ≡ all.answers → told.handles ≡ closed.handles → told.trail.items ≡ closed.trail.items → told.changes ≡ closed.changes → IsClosed G b all told
+  closed-as all told closed ended same_disk same_answers same_handles same_trail same_changes = record {
     answers = same_answers;
-    changes = same_changes ∙ added ∙ all.counted;
-    shape = shape;
-    ends = subst (λ (x : (ℕ × D) × List Entry). EndsMarked G b (map (λ l. made_left l) all.lefts.items) x.0.0 shape x.0.1 x.1 all.seen.stops all.seen.marks)
-        (λ i. ((sym same_handles i, sym same_disk i), sym same_trail i)) ends;
-    came = subst (λ (x : D × List Entry). CameAbout G b (map (λ l. made_left l) all.lefts.items) shape x.0 x.1) (λ i. (sym same_disk i, sym same_trail i)) came;
+    changes = same_changes ∙ ended.changes ∙ all.counted;
+    shape = closed.shape;
+    ends = subst (λ (x : (ℕ × D) × List Entry). EndsMarked G b (map (λ l. made_left l) all.lefts.items) x.0.0 closed.shape x.0.1 x.1 all.seen.stops all.seen.marks)
+        (λ i. ((sym same_handles i, sym same_disk i), sym same_trail i)) ended.ends;
+    came = subst (λ (x : D × List Entry). CameAbout G b (map (λ l. made_left l) all.lefts.items) closed.shape x.0 x.1) (λ i. (sym same_disk i, sym same_trail i)) ended.came;
   }
 
   -- what was run
@@ -52,10 +50,7 @@ module _ {T D H N : Type 0} {O : Ghosts H} {P : Places H} (G : Disks D) (b : Beg
       let has : HasThreaded G may workers gathered.of = IfOk-at_ok (HasThreaded G may workers) gathered.is threaded in
       let stopped : List (List Stop) = map (λ (w : Worked T D H N O P). stops_of_worked w) ws in
       let made = gathered.stops ∙ ap (λ xs. xs ∷ stopped) has.committed in
-      let ends =
-      ends-known G b _ stopped told.handles closed.shape told.disk told.trail.items
-      (λ (w : Worked T D H N O P). w.seen) ws all.0.seen
-      made closed.ends gathered.seen in
+      let ends = ends-known G b _ stopped told.handles closed.shape told.disk told.trail.items (λ (w : Worked T D H N O P). w.seen) ws all.0.seen made closed.ends gathered.seen in
       record {
         stopped = stopped;
         known = map (λ (w : Worked T D H N O P). known_of_worked G.moment w) ws;

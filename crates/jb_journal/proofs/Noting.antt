@@ -1,5 +1,5 @@
 -- What a client knows of its journal, from what the desk shows it.
-use Rattle.std.proofs.Common.{◌≡◌, ℕ, ◌≤◌, List, ◌++◌, All, map, option_map, length, Result, Ok, Err, IfOk, IfErr, OnOk, sym, ap, subst, ◌∙◌, arith, append_assoc}
+use Rattle.std.proofs.Common.{◌≡◌, ℕ, ◌≤◌, List, ◌++◌, All, map, option_map, length, Result, Ok, Err, OnOk, sym, ap, subst, ◌∙◌, arith, append_assoc}
 use Rattle.std.proofs.Math.Seq.{take-append_seam}
 use Rattle.std.proofs.lemmas.List.{map-append}
 use Rattle.std.proofs.lemmas.List.Elements.{All-map, All-take, All-weaker}
@@ -11,6 +11,7 @@ use Rattle.jb_handle.specs.Words.{word}
 use Rattle.jb_handle.specs.declared.stopped.Stopped.{Stopped}
 use Rattle.jb_board.proofs.Placed.{placed_on}
 use Rattle.jb_board.specs.HistoryRule.{StandsIn}
+use Rattle.jb_board.specs.declared.place.Place.{Ghosts as Places}
 use Rattle.jb_log.specs.Follows.{StandsBy}
 use Rattle.jb_deck.specs.Deck.{OpenDeck}
 use Rattle.jb_deck.specs.Done.{past_after}
@@ -19,15 +20,18 @@ use Rattle.jb_deck.specs.declared.read.ReadHomeFault.{ReadHomeFault}
 use Rattle.jb_book.specs.Led.{IsInHistory}
 use Rattle.jb_book.specs.Marks.{SeesMore, Shows, ShowsAfter}
 use Rattle.jb_book.specs.Origin.{Begun}
+use Rattle.jb_book.specs.declared.origin.Origin.{Ghosts as OriginGhosts}
 use Rattle.jb_book.specs.declared.sights.Sights.{Sights}
 use Rattle.jb_book.specs.History.{IsStop}
 use Rattle.jb_book.specs.Journal.{ReadsHome}
 use Rattle.jb_book.specs.SinceMark.{HasSettledOf, Lasts, Within}
+use Rattle.jb_desk.specs.Desks.{shape_in}
 use Rattle.jb_desk.specs.Marks.{ShowsTaken}
 use Rattle.jb_desk.specs.declared.fault.WaitFault.{WaitFault}
 use Rattle.jb_desk.specs.declared.fault.WaitFault.TheVariants as wait
-use Rattle.jb_journal.specs.Client.{AreHonest}
+use Rattle.jb_journal.specs.Client.{AreHonest, ClientGoesOn}
 use Rattle.jb_journal.specs.Notes.{Note, IsInNotes, IsPastInNotes, KnownLasts, NoteLasts, NotesTaken, ReadsAs, StaysSince, Stop, committed_by, note_of}
+use Rattle.jb_journal.specs.declared.client.Client.{Client}
 
 -- ---- first parts
 
@@ -48,9 +52,17 @@ All-first P xs ys p each = subst (All P) (take-append_seam xs p.0) (All-take P (
 pub honest-first : {D : Type 0} (G : Ghosts D) (xs ys : List (OpenDeck D)) → IsPrefix xs ys → AreHonest G ys → AreHonest G xs
 honest-first G xs ys p each = All-first (λ m. G.honest m.disk) xs ys p each
 
--- and at each of them
-honest-at : {D : Type 0} (G : Ghosts D) (ms : List (OpenDeck D)) (at : ℕ) (m : OpenDeck D) → StandsIn ms (at, m) → AreHonest G ms → G.honest m.disk
-honest-at G ms at m stands each = subst (λ x. G.honest x.disk) (get_or_from_slice_get ms at m m stands) (each at m (slice_get_within ms at m stands))
+-- a client that has seen more goes on, at the same desk
+pub goes-on : {D C R H N : Type 0} {Q : Ghosts D} {O : OriginGhosts H} {P : Places H} (old new : Client D C R H N Q O P) → new.desk ≡ old.desk → SeesMore old.seen new.seen → ClientGoesOn old new
+goes-on {Q = Q} old new same more = record {
+  knows = (more.0, first-notes (note_of Q.moment) old.seen.marks new.seen.marks more.1);
+  honest = honest-first Q old.seen.marks new.seen.marks more.1;
+  shape = ap (λ desk. shape_in desk.now) same;
+}
+
+-- what holds of each holds of the one that stands at a place
+pub at-place : {A : Type 0} (P : A → Type 0) (xs : List A) (at : ℕ) (x : A) → StandsIn xs (at, x) → All P xs → P x
+at-place P xs at x stands each = subst P (get_or_from_slice_get xs at x x stands) (each at x (slice_get_within xs at x stands))
 
 -- what stands in a first part stands in the whole
 pub stands-on : (old new : List WordMap) → IsPrefix old new → (s : Stop) → StandsIn old s → StandsIn new s
@@ -65,7 +77,7 @@ module _ {D : Type 0} (moment : D → ℕ) where
   noted-at : (ms : List (OpenDeck D)) (m : ℕ × OpenDeck D) → StandsIn ms m → StandsIn (map (note_of moment) ms) (m.0, note_of moment m.1)
   noted-at ms m at = slice_get-map (note_of moment) ms m.0 ∙ ap (option_map (note_of moment)) at
 
-  noted-by : (ms : List (OpenDeck D)) (ticket number : ℕ) → Shows ms ticket number → IsInNotes (map (note_of moment) ms) ticket number
+  pub noted-by : (ms : List (OpenDeck D)) (ticket number : ℕ) → Shows ms ticket number → IsInNotes (map (note_of moment) ms) ticket number
   noted-by ms ticket number is = record {
     at = is.marked.at;
     note = note_of moment is.marked.mark;
@@ -87,19 +99,10 @@ module _ {D : Type 0} (moment : D → ℕ) where
     before = is.before;
   }
 
-  -- what a wait answers
-  pub noted-ok : (ms : List (OpenDeck D)) (ticket : ℕ) (r : Result ℕ WaitFault) → IfOk r (Shows ms ticket) → IfOk r (IsInNotes (map (note_of moment) ms) ticket)
-  noted-ok ms ticket (Ok number) is = noted-by ms ticket number is
-  noted-ok ms ticket (Err fault) is = tt
-
-  taken-of : (ms : List (OpenDeck D)) (ticket : ℕ) (fault : WaitFault) → ShowsTaken ms ticket fault → NotesTaken (map (note_of moment) ms) ticket fault
+  pub taken-of : (ms : List (OpenDeck D)) (ticket : ℕ) (fault : WaitFault) → ShowsTaken ms ticket fault → NotesTaken (map (note_of moment) ms) ticket fault
   taken-of ms ticket wait.Taken is = noted-after ms ticket is
   taken-of ms ticket wait.Aborted is = tt
   taken-of ms ticket wait.Unknown is = tt
-
-  pub noted-taken : (ms : List (OpenDeck D)) (ticket : ℕ) (r : Result ℕ WaitFault) → IfErr r (ShowsTaken ms ticket) → IfErr r (NotesTaken (map (note_of moment) ms) ticket)
-  noted-taken ms ticket (Ok number) is = tt
-  noted-taken ms ticket (Err fault) is = taken-of ms ticket fault is
 
 -- ---- what lasts
 
@@ -122,8 +125,7 @@ module _ {D : Type 0} (G : Ghosts D) (b : Begun) (given : List Stopped) where
   pub noted-stays : (disk : D) (trail : List Entry) (notes : List Note) (ticket number : ℕ) → (n : IsInNotes notes ticket number) → All (NoteLasts G b given disk trail) notes → b.is_known → G.honest disk
       → StaysSince G b given disk n.note.moment ticket
   noted-stays disk trail notes ticket number n each known held =
-      let last : NoteLasts G b given disk trail n.note =
-      subst (NoteLasts G b given disk trail) (get_or_from_slice_get notes n.at n.note n.note n.stands) (each n.at n.note (slice_get_within notes n.at n.note n.stands)) in
+      let last = at-place (NoteLasts G b given disk trail) notes n.at n.note n.stands each in
       let within = last.tiles n.entry n.has in
       let to = n.to in
       let past = within.1 in
@@ -175,12 +177,12 @@ module _ {D : Type 0} (G : Ghosts D) (b : Begun) (known log : List WordMap) (mar
         tickets = reads.before.has.tickets;
         are = All-weaker (IsStop b known) (IsInHistory known) (λ h s. s.1) given reads.before.has.stopped;
         sees = λ ticket number n. (
-            let one : HasNote trail n.note = subst (HasNote trail) (get_or_from_slice_get (map (note_of G.moment) marks) n.at n.note n.note n.stands) (each n.at n.note (slice_get_within (map (note_of G.moment) marks) n.at n.note n.stands)) in
+            let one = at-place (HasNote trail) (map (note_of G.moment) marks) n.at n.note n.stands each in
             let past = (one.0 n.entry n.has).1 in
             let to = n.to in
             let settled = one.1 in
             omega (arith, past, to, settled, long));
         stands = λ is_known sure. (
-            let held : G.honest reads.new.disk = honest-at G after reads.at reads.new reads.marked sure in
+            let held = at-place (λ (m : OpenDeck D). G.honest m.disk) after reads.at reads.new reads.marked sure in
             subst (StandsBy (word given home) (b.homes home)) (sym (reads.stands is_known held)) ((reads.before.since is_known (reads.same_disk.was_honest held)).stood up home));
       }

@@ -1,5 +1,5 @@
 -- A file that was recovered, and then read.
-use Rattle.std.proofs.Common.{◌≡◌, ◌≤◌, ℕ, length, Ok, Err, IfOk, inl, sym, ◌∙◌, ap, subst, ⊎_elim, arith}
+use Rattle.std.proofs.Common.{◌≡◌, ◌≤◌, ℕ, length, Ok, refl, sym, ◌∙◌, ap, subst, ⊎_elim, arith}
 use Rattle.jb_block.specs.Size.{bytes_of}
 use Rattle.jb_block.specs.declared.size.BlockSize.{BlockSize}
 use Rattle.jb_disk.specs.Agreeing.{left_from_now}
@@ -10,14 +10,14 @@ use Rattle.jb_disk.specs.Kept.{Kept}
 use Rattle.jb_disk.specs.Time.{Goes, LeavesOnly}
 use Rattle.jb_disk.specs.declared.file.FileDisk.{FileDisk}
 use Rattle.jb_disk.specs.declared.start.Start.{Ghosts as Starts}
+use Rattle.jb_format.proofs.Entering.{entry-as}
 use Rattle.jb_image.proofs.Opened.{opened-holds, opened-leaves}
-use Rattle.jb_image.specs.declared.geometry.Geometry.{Geometry}
 use Rattle.jb_recover.specs.Outcomes.{RecoversAs}
 use Rattle.jb_recover.specs.Recovers.{Recovers}
 use Rattle.jb_recover.specs.declared.fault.RecoverFault.{RecoverFault}
 use Rattle.jb_recover.specs.declared.recovered.Recovered.{Recovered}
 use Rattle.std.specs.Prelude.{Result}
-use Rattle.jb_journal.specs.Opening.{WasRecovered, WasRecoveredOrMade}
+use Rattle.jb_journal.specs.Opening.{WasRecovered}
 
 module _ {S : Type 0} {start : Starts S} where
   -- how many calls of a file were made
@@ -33,19 +33,7 @@ module _ {S : Type 0} {start : Starts S} where
     pub recovers-held : (answer : Result Recovered RecoverFault) → bytes_of (size_of_blocks old) ≡ bytes_of size → count_of new ≡ count_of old → content_of old ≡ start.content 0
         → Recovers (bytes_of (size_of_blocks old)) (count_of old) (content_of old) (content_of new) answer
         → Recovers (bytes_of size) (count_of new) (start.content 0) (content_of new) answer
-    recovers-held answer sized same held done =
-        subst (λ s. Recovers s (count_of new) (start.content 0) (content_of new) answer) sized
-        (subst (λ n. Recovers (bytes_of (size_of_blocks old)) n (start.content 0) (content_of new) answer) (sym same)
-        (subst (λ c. Recovers (bytes_of (size_of_blocks old)) (count_of old) c (content_of new) answer) held done))
-
-    -- the same of what recovers as it does
-    pub as-held : (c : Image) → bytes_of (size_of_blocks old) ≡ bytes_of size → count_of new ≡ count_of old → content_of old ≡ start.content 0
-        → RecoversAs (bytes_of (size_of_blocks old)) (count_of old) (content_of old) c
-        → RecoversAs (bytes_of size) (count_of new) (start.content 0) c
-    as-held c sized same held is =
-        subst (λ s. RecoversAs s (count_of new) (start.content 0) c) sized
-        (subst (λ n. RecoversAs (bytes_of (size_of_blocks old)) n (start.content 0) c) (sym same)
-        (subst (λ d. RecoversAs (bytes_of (size_of_blocks old)) (count_of old) d c) held is))
+    recovers-held answer sized same held done = entry-as (λ s n d. Recovers s n d (content_of new) answer) _ _ _ _ _ _ sized (sym same) held done
 
     -- nothing is pending in a file that was asked its length and nothing else
     pub measured-only : IsMeasured old → IsHonest old → Only (content_of old) (FileLeaves old)
@@ -68,7 +56,7 @@ module _ {S : Type 0} {start : Starts S} where
           fresh = kept.counted ∙ fresh;
           asked = λ honest. subst (λ n. n ≤ length (events_of new)) once (run honest).later;
           recovers = λ honest. (done, recovers-held (Ok done) same kept.same_count (held honest) (recovers honest));
-          crash = λ honest c left. as-held c same kept.same_count (held honest)
+          crash = λ honest c left. entry-as (λ s n d. RecoversAs s n d c) _ _ _ _ _ _ same (sym kept.same_count) (held honest)
               ((run honest).each c (subst (λ n. FileLeft new n c) (sym once) left));
           durable = durable;
         }
@@ -90,20 +78,9 @@ module _ {S : Type 0} {start : Starts S} where
           asked = λ honest. omega (arith, was.asked (before honest), (reads honest).later);
           recovers = λ honest. let done = was.recovers (before honest) in (
             done.0,
-            subst (λ n. Recovers (bytes_of size) n (start.content 0) (content_of new) (Ok done.0)) (sym kept.same_count)
-                (subst (λ c. Recovers (bytes_of size) (count_of old) (start.content 0) c (Ok done.0)) (sym (same honest)) done.1),
+            entry-as (λ s n d. Recovers s n (start.content 0) d (Ok done.0)) _ _ _ _ _ _ refl (sym kept.same_count) (sym (same honest)) done.1,
           );
           crash = λ honest c left. subst (λ n. RecoversAs (bytes_of size) n (start.content 0) c) (sym kept.same_count)
               (was.crash (before honest) c (left_then honest c left));
           durable = λ honest c left. was.durable (before honest) c (left_before honest c left) ∙ sym (same honest);
         }
-
--- where an image was opened, its blocks have the size that was asked for
-pub sized-as : {S E : Type 0} {start : Starts S} (size : BlockSize) (r : Result (FileDisk S start) E) → IfOk r (WasRecovered size) → IfOk r (λ f. bytes_of (size_of_blocks f) ≡ bytes_of size)
-sized-as size (Ok f) was = was.sized
-sized-as size (Err e) was = tt
-
--- and it was recovered, or made
-pub ready-as : {S E : Type 0} {start : Starts S} (g : Geometry) (r : Result (FileDisk S start) E) → IfOk r (WasRecovered g.block_size) → IfOk r (WasRecoveredOrMade g)
-ready-as g (Ok f) was = inl was
-ready-as g (Err e) was = tt

@@ -1,8 +1,8 @@
 -- A handle that its client knew to be committed stays.
-use Rattle.std.proofs.Common.{◌≡◌, ℕ, zero, suc, ◌+◌, ◌<◌, List, [], ◌∷◌, ◌++◌, All, Option, Some, None, slice_get, get_or, length, refl, sym, ap, subst, ◌∙◌, arith}
+use Rattle.std.proofs.Common.{◌≡◌, ℕ, zero, suc, ◌+◌, ◌<◌, List, [], ◌∷◌, ◌++◌, All, Some, slice_get, get_or, length, refl, sym, ap, subst, ◌∙◌, arith}
 use Rattle.std.proofs.Math.Seq.{drop-append_seam}
 use Rattle.std.proofs.lemmas.List.Elements.{All-drop}
-use Rattle.std.proofs.lemmas.Option.{get_or_from_slice_get, slice_get-get_or, slice_get_within}
+use Rattle.std.proofs.lemmas.Option.{same_Some, slice_get-get_or}
 use Rattle.jb_cost.specs.Pieces.{joined}
 use Rattle.jb_disk.specs.declared.disk.Disk.{Ghosts}
 use Rattle.jb_handle.specs.Tickets.{TicketsFrom}
@@ -17,19 +17,15 @@ use Rattle.jb_journal.specs.Notes.{AreInNotes, IsInNotes, Known, KnownLasts, Not
 use Rattle.jb_journal.specs.Running.{RanAll}
 use Rattle.jb_journal.specs.Staying.{HandleStays}
 use Rattle.jb_journal.specs.declared.ran.Ran.{Ran}
-use Rattle.jb_journal.proofs.Noting.{All-first, noted-stays}
-
-abbrev value-of : {A : Type 0} → A → Option A → A
-value-of d None = d
-value-of d (Some x) = x
+use Rattle.jb_journal.proofs.Noting.{All-first, at-place, noted-stays}
 
 -- what holds of all lists that are joined holds of each
 all-parts : {A : Type 0} (P : A → Type 0) (lists : List (List A)) → All P (joined lists) → (k : ℕ) (xs : List A) → slice_get lists k ≡ Some xs → All P xs
 all-parts P [] each k xs at = absurd (cc)
-all-parts P (ys ∷ lists) each zero xs at = subst (All P) (ap (value-of xs) at) (All-first P ys (ys ++ joined lists) (joined lists, refl) each)
+all-parts P (ys ∷ lists) each zero xs at = subst (All P) (same_Some ys xs at) (All-first P ys (ys ++ joined lists) (joined lists, refl) each)
 all-parts P (ys ∷ lists) each (suc k) xs at = all-parts P lists (subst (All P) (drop-append_seam ys (joined lists)) (All-drop P (length ys) (ys ++ joined lists) each)) k xs at
 
-ticket-at : (n : ℕ) (hs : List Stopped) → TicketsFrom n hs → (k : ℕ) (d : Stopped) → k < length hs → (get_or hs k d).ticket ≡ n + k
+pub ticket-at : (n : ℕ) (hs : List Stopped) → TicketsFrom n hs → (k : ℕ) (d : Stopped) → k < length hs → (get_or hs k d).ticket ≡ n + k
 ticket-at n [] tickets k d lt = absurd (omega (arith, lt))
 ticket-at n (h ∷ hs) tickets zero d lt = let first = tickets.0 in omega (arith, first)
 ticket-at n (h ∷ hs) tickets (suc k) d lt = let rest = ticket-at (n + 1) hs tickets.1 k d (omega (arith, lt)) in omega (arith, rest)
@@ -42,15 +38,14 @@ given-at b log given tickets stopped stop stands lt =
     let h : Stopped = get_or given stop.0 none in
     let at = ticket-at 0 given tickets stop.0 none lt in
     let ticket : h.ticket ≡ stop.0 = omega (arith, at) in
-    let words : Some stop.1 ≡ Some h.words = sym stands ∙ ap (slice_get log) (sym ticket) ∙ (stopped stop.0 none lt).1 in
-    slice_get-get_or given stop.0 none lt ∙ ap (λ (x : Stopped). Some x) (λ i. record { ticket = ticket i; words = ap (value-of stop.1) (sym words) i })
+    let words = same_Some h.words stop.1 (sym (stopped stop.0 none lt).1 ∙ ap (slice_get log) ticket ∙ stands) in
+    slice_get-get_or given stop.0 none lt ∙ ap (λ (x : Stopped). Some x) (λ i. record { ticket = ticket i; words = words i })
 
 module _ {T D : Type 0} (G : Ghosts D) (b : Begun) (may : Type 0 → ℕ → ℕ → List Stop → Known → T → Type 0) (workers : ℕ) (ran : Ran T D)
     (all : RanAll G b may workers ran) where
   -- what a client knew lasts
   pub lasts-at : (by : ℕ) (known : Known) → slice_get all.known by ≡ Some known → KnownLasts G b all.ends.log all.ends.since.given ran.disk ran.trail.items known
-  lasts-at by known is =
-      subst (KnownLasts G b all.ends.log all.ends.since.given ran.disk ran.trail.items) (get_or_from_slice_get all.known by known known is) (all.last by known (slice_get_within all.known by known is))
+  lasts-at by known is = at-place (KnownLasts G b all.ends.log all.ends.since.given ran.disk ran.trail.items) all.known by known is all.last
 
   -- the handle of one worker's client stays, where the client of one of them knew that it was committed
   pub stays-noted : (at by : ℕ) (stops : List Stop) (known : Known) → slice_get all.stopped at ≡ Some stops → slice_get all.known by ≡ Some known → (k : ℕ) (stop : Stop) → slice_get stops k ≡ Some stop
@@ -58,10 +53,9 @@ module _ {T D : Type 0} (G : Ghosts D) (b : Begun) (may : Type 0 → ℕ → ℕ
   stays-noted at by stops known stopped is k stop placed number n =
       let last = (lasts-at by known is).last in
       let notes = known.notes in
-      let one : NoteLasts G b all.ends.since.given ran.disk ran.trail.items n.note =
-      subst (NoteLasts G b all.ends.since.given ran.disk ran.trail.items) (get_or_from_slice_get notes n.at n.note n.note n.stands) (last n.at n.note (slice_get_within notes n.at n.note n.stands)) in
+      let one = at-place (NoteLasts G b all.ends.since.given ran.disk ran.trail.items) notes n.at n.note n.stands last in
       let stand = all-parts (StandsIn all.ends.log) all.stopped all.ends.stopped.stand at stops stopped in
-      let stands : StandsIn all.ends.log stop = subst (StandsIn all.ends.log) (get_or_from_slice_get stops k stop stop placed) (stand k stop (slice_get_within stops k stop placed)) in
+      let stands = at-place (StandsIn all.ends.log) stops k stop placed stand in
       let within = (one.tiles n.entry n.has).1 in
       let to = n.to in
       let settled = one.settled in

@@ -16,7 +16,7 @@ use Rattle.jb_book.specs.declared.origin.Origin.{Ghosts as OriginGhosts}
 use Rattle.jb_board.specs.declared.place.Place.{Ghosts as Places}
 use Rattle.jb_book.specs.declared.sights.Sights.{Sights}
 use Rattle.jb_board.specs.HistoryRule.{StandsIn}
-use Rattle.jb_journal.specs.Notes.{Known, Stop, note_of}
+use Rattle.jb_journal.specs.Notes.{Known, KnowsMore, Stop, note_of}
 use Rattle.jb_journal.specs.declared.client.Client.{Client}
 use Rattle.jb_journal.specs.declared.counted.CountedSeat.{CountedSeat}
 
@@ -78,3 +78,9 @@ module _ {D C R H N : Type 0} {Q : Disks D} {O : OriginGhosts H} {P : Places H} 
   -- what its handles have to fit
   abbrev pub shape_of : Client D C R H N Q O P → Shape
   shape_of client = shape_in client.desk.now
+
+  -- how a client goes on: it knows all that it knew, the disk was honest at all that it had seen if it was so at all that it has seen now, and its handles have to fit the same shape
+  pub record ClientGoesOn (old new : Client D C R H N Q O P) : Type 0 where
+    pub knows : KnowsMore (client_known old) (client_known new)
+    pub honest : client_honest new → client_honest old
+    pub shape : shape_of new ≡ shape_of old

@@ -36,9 +36,9 @@ impl<'a, D: Disk, C: Clock, R: Wait + time::Clock, H: Origin, N: Ledger> Client<
     ghost use Rattle.jb_book.specs.Journal.{GivesTrail, ReadsHome};
     ghost use Rattle.jb_plan.specs.Costs.{geometry_of};
     ghost use Rattle.jb_cost.specs.Credits.{IsMost};
-    ghost use Rattle.jb_journal.specs.Client.{IsClient, client_honest, client_known, client_stops, made_from};
-    ghost use Rattle.jb_journal.specs.Client.{seen_by, shape_of, sights_of};
-    ghost use Rattle.jb_journal.specs.Notes.{IsInNotes, KnowsMore, NotesTaken, ReadsAs};
+    ghost use Rattle.jb_journal.specs.Client.{ClientGoesOn, IsClient, client_honest, client_known, client_stops};
+    ghost use Rattle.jb_journal.specs.Client.{made_from, seen_by, shape_of, sights_of};
+    ghost use Rattle.jb_journal.specs.Notes.{IsInNotes, NotesTaken, ReadsAs};
 
     /// A client at a desk, where handles may stop with any words.
     pub(crate) fn new(
@@ -134,9 +134,7 @@ impl<'a, D: Disk, C: Clock, R: Wait + time::Clock, H: Origin, N: Ledger> Client<
             (client_stops self.old) (client_stops self.new) result }
         ensures stopped { IfOk result (λ given. given.1 < (seen_by self.new).stopped) }
         ensures later { IfOk result (λ given. length (client_known self.old).log ≤ given.1) }
-        ensures knows { KnowsMore (client_known self.old) (client_known self.new) }
-        ensures honest { client_honest self.new → client_honest self.old }
-        ensures shape { shape_of self.new ≡ shape_of self.old }
+        ensures goes_on { ClientGoesOn self.old self.new }
     {
         let (rt, desk) = (self.rt, self.desk);
         let Some(seat) = self.seat.take() else {
@@ -161,9 +159,7 @@ impl<'a, D: Disk, C: Clock, R: Wait + time::Clock, H: Origin, N: Ledger> Client<
             (sights_of self.new).marks home (length buf.old) buf.new result }
         ensures reads { OnOk result (ReadsAs H.begun (client_honest self.new) (client_known self.old)
             (client_known self.new) home buf.new) }
-        ensures knows { KnowsMore (client_known self.old) (client_known self.new) }
-        ensures honest { client_honest self.new → client_honest self.old }
-        ensures shape { shape_of self.new ≡ shape_of self.old }
+        ensures goes_on { ClientGoesOn self.old self.new }
         ensures kept { client_stops self.new ≡ client_stops self.old }
     {
         self.desk.read(self.rt, &mut self.seen, home, buf)
@@ -211,9 +207,7 @@ impl<'a, D: Disk, C: Clock, R: Wait + time::Clock, H: Origin, N: Ledger> Client<
         ensures taken { IfErr result (λ fault. fault ≡ Taken → ticket < (seen_by self.new).settled) }
         ensures noted { IfOk result (IsInNotes (client_known self.new).notes ticket) }
         ensures noted_taken { IfErr result (NotesTaken (client_known self.new).notes ticket) }
-        ensures knows { KnowsMore (client_known self.old) (client_known self.new) }
-        ensures honest { client_honest self.new → client_honest self.old }
-        ensures shape { shape_of self.new ≡ shape_of self.old }
+        ensures goes_on { ClientGoesOn self.old self.new }
         ensures kept { client_stops self.new ≡ client_stops self.old }
     {
         let (rt, desk) = (self.rt, self.desk);

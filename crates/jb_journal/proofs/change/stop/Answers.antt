@@ -5,17 +5,15 @@ use Rattle.jb_journal.proofs.change.stop.Goals as goal
 pub stop-requires-clause-seat : goal.stop-requires-clause-seat
 stop-requires-clause-seat g c = c.requires.desk
 
-pub returns-in-Ok-clause-desk : goal.returns-in-Ok-clause-desk
-returns-in-Ok-clause-desk g c = c.in-Ok.ensures.seat.0
-
-pub returns-in-Ok-clause-answer : goal.returns-in-Ok-clause-answer
-returns-in-Ok-clause-answer g c = (refl, c.in-Ok.ensures.made)
-
-pub returns-in-Ok-clause-stopped : goal.returns-in-Ok-clause-stopped
-returns-in-Ok-clause-stopped g c = c.in-Ok.ensures.stopped
-
-pub returns-in-Ok-clause-sees : goal.returns-in-Ok-clause-sees
-returns-in-Ok-clause-sees g c = sees-stop _ _ c.args.seen.now c.stop.new.seen c.args.answer c.in-Ok.ticket _ c.in-Ok.ensures.made c.in-Ok.ensures.sees c.in-Ok.ensures.marks
+pub returns-in-Ok : goal.returns-in-Ok
+returns-in-Ok g c =
+    let is = c.in-Ok.ensures in
+    record {
+      desk = is.seat.0;
+      answer = (refl, is.made);
+      stopped = is.stopped;
+      sees = sees-stop _ _ c.args.seen.now c.stop.new.seen c.args.answer c.in-Ok.ticket _ is.made is.sees is.marks;
+    }
 
 pub returns-in-Err-Aborted-clause-stopped : goal.returns-in-Err-Aborted-clause-stopped
 returns-in-Err-Aborted-clause-stopped g c = tt

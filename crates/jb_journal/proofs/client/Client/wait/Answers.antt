@@ -1,15 +1,13 @@
-use Rattle.jb_journal.specs.Notes.{note_of}
-use Rattle.jb_journal.proofs.Noting.{first-notes, honest-first, noted-ok, noted-taken}
+use Rattle.std.proofs.Common.{refl}
+use Rattle.std.proofs.lemmas.Result.{IfErr-weaker, IfOk-weaker}
+use Rattle.jb_journal.proofs.Noting.{goes-on, noted-by, taken-of}
 use Rattle.jb_journal.proofs.client.Client.wait.Goals as goal
 
 pub returns-clause-noted : goal.returns-clause-noted
-returns-clause-noted g c = noted-ok g.D.Disk.moment c.wait.new.seen.marks c.args.ticket c.wait.result c.wait.ensures.shown
+returns-clause-noted g c = IfOk-weaker c.wait.result _ _ (λ number is. noted-by g.D.Disk.moment c.wait.new.seen.marks c.args.ticket number is) c.wait.ensures.shown
 
 pub returns-clause-noted_taken : goal.returns-clause-noted_taken
-returns-clause-noted_taken g c = noted-taken g.D.Disk.moment c.wait.new.seen.marks c.args.ticket c.wait.result c.wait.ensures.taken
+returns-clause-noted_taken g c = IfErr-weaker c.wait.result _ _ (λ fault is. taken-of g.D.Disk.moment c.wait.new.seen.marks c.args.ticket fault is) c.wait.ensures.taken
 
-pub returns-clause-knows : goal.returns-clause-knows
-returns-clause-knows g c = (c.wait.ensures.begins.0, first-notes (note_of g.D.Disk.moment) c.args.self.now.seen.marks c.wait.new.seen.marks c.wait.ensures.begins.1)
-
-pub returns-clause-honest : goal.returns-clause-honest
-returns-clause-honest g c = honest-first g.D.Disk c.args.self.now.seen.marks c.wait.new.seen.marks c.wait.ensures.begins.1
+pub returns-clause-goes_on : goal.returns-clause-goes_on
+returns-clause-goes_on g c = goes-on _ _ refl c.wait.ensures.begins

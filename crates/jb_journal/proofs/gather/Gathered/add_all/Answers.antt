@@ -26,20 +26,15 @@ loop-worked-preserved g c =
           c.in_ok-add.ensures.seen.1;
     }
 
-pub returns-clause-seen : goal.returns-clause-seen
-returns-clause-seen g c =
-    let end = YieldsList-end (YieldsList-from_vec {s = c.into_iter-worked-iterator.result} c.args.workers.items (search rules) (search rules)) c.loop-worked.yielded c.loop-worked.worked-iterator c.loop-worked.yielded_by c.next.result c.next.new.self c.in-None.is c.next.ensures.steps in
-    subst (All (HasAllSeen c.loop-worked.self.seen)) (sym (map-id c.loop-worked.yielded) ∙ end.0) c.loop-worked.invariant.seen
-
-pub returns-clause-answers : goal.returns-clause-answers
-returns-clause-answers g c =
-    let W = Worked g.row.T.Denot g.row.D.Denot g.row.H.Denot g.row.N.Denot g.H.Origin g.H.Place in
-    let end = YieldsList-end (YieldsList-from_vec {s = c.into_iter-worked-iterator.result} c.args.workers.items (search rules) (search rules)) c.loop-worked.yielded c.loop-worked.worked-iterator c.loop-worked.yielded_by c.next.result c.next.new.self c.in-None.is c.next.ensures.steps in
-    c.loop-worked.invariant.answers ∙ ap (λ (ws : List W). map (λ (w : W). answer_of w) ws) (sym (map-id c.loop-worked.yielded) ∙ end.0)
-
-pub returns-clause-stops : goal.returns-clause-stops
-returns-clause-stops g c =
+pub returns : goal.returns
+returns g c =
     let W = Worked g.row.T.Denot g.row.D.Denot g.row.H.Denot g.row.N.Denot g.H.Origin g.H.Place in
     let initial = map (made_left {H = g.row.H.Denot} {N = g.row.N.Denot} {O = g.H.Origin} {P = g.H.Place}) c.args.self.now.lefts.items in
     let end = YieldsList-end (YieldsList-from_vec {s = c.into_iter-worked-iterator.result} c.args.workers.items (search rules) (search rules)) c.loop-worked.yielded c.loop-worked.worked-iterator c.loop-worked.yielded_by c.next.result c.next.new.self c.in-None.is c.next.ensures.steps in
-    c.loop-worked.invariant.stops ∙ ap (λ (ws : List W). initial ++ map (λ (w : W). stops_of_worked w) ws) (sym (map-id c.loop-worked.yielded) ∙ end.0)
+    let all = sym (map-id c.loop-worked.yielded) ∙ end.0 in
+    record {
+      seen = subst (All (HasAllSeen c.loop-worked.self.seen)) all c.loop-worked.invariant.seen;
+      answers = c.loop-worked.invariant.answers ∙ ap (λ (ws : List W). map (λ (w : W). answer_of w) ws) all;
+      stops = c.loop-worked.invariant.stops ∙ ap (λ (ws : List W). initial ++ map (λ (w : W). stops_of_worked w) ws) all;
+      faults = tt;
+    }
