@@ -62,21 +62,18 @@ module _ (f g : ℕ → ℕ) (home : ℕ) (others : (k : ℕ) → k ≢ home →
   -- a number that is set is one more row, or the row's own
   sets : (n v : ℕ) (ks : List ℕ) → From n ks → g home ≡ v → insert_entry nat_cmp (rows_by f ks) home v ≡ rows_by g (home_among home ks)
   sets n v [] up new = ap (λ x. (home, x) ∷ []) (sym new)
-  sets n v (k ∷ ks) up new = by (sets (k + 1) v ks up.1 new) (cases_order home k)
-    where
-      by : insert_entry nat_cmp (rows_by f ks) home v ≡ rows_by g (home_among home ks) → (home ≡ k) ⊎ ((home < k) ⊎ (k < home)) → insert_entry nat_cmp (rows_by f (k ∷ ks)) home v ≡ rows_by g (home_among home (k ∷ ks))
-      by rest (inl same) =
-          insert-same home v (k, f k) (rows_by f ks) same
-          ∙ ap₂ (λ x more. (k, x) ∷ more) (sym new ∙ ap g same) (rest-same (k + 1) ks (omega (arith, same)) up.1)
-          ∙ ap (rows_by g) (sym (among-same home k ks same))
-      by rest (inr (inl below)) =
-          insert-below home v (k, f k) (rows_by f ks) below
-          ∙ ap₂ (λ x more. (home, x) ∷ more) (sym new) (rest-same (home + 1) (k ∷ ks) (omega arith) (omega (arith, below), up.1))
-          ∙ ap (rows_by g) (sym (among-below home k ks below))
-      by rest (inr (inr above)) =
-          insert-above home v (k, f k) (rows_by f ks) above
-          ∙ ap₂ (λ x more. (k, x) ∷ more) (sym (others k (omega (arith, above)))) rest
-          ∙ ap (rows_by g) (sym (among-above home k ks above))
+  sets n v (k ∷ ks) up new =
+      elim (cases_order home k) [
+        | inl same ↦
+            rw (insert-same home v (k, f k) (rows_by f ks) same, among-same home k ks same)
+            (ap₂ (λ x more. (k, x) ∷ more) (sym new ∙ ap g same) (rest-same (k + 1) ks (omega (arith, same)) up.1))
+        | inr (inl below) ↦
+            rw (insert-below home v (k, f k) (rows_by f ks) below, among-below home k ks below)
+            (ap₂ (λ x more. (home, x) ∷ more) (sym new) (rest-same (home + 1) (k ∷ ks) (omega arith) (omega (arith, below), up.1)))
+        | inr (inr above) ↦
+            rw (insert-above home v (k, f k) (rows_by f ks) above, among-above home k ks above)
+            (ap₂ (λ x more. (k, x) ∷ more) (sym (others k (omega (arith, above)))) (sets (k + 1) v ks up.1 new))
+      ]
 
 -- ---- what is looked up in rows
 
@@ -127,13 +124,8 @@ module _ (done ks : List ℕ) (home : ℕ) (up : From 0 ks) (says : Says done ks
   was h = writes_of (rows_by (copies_to done) ks) h
 
   said-by : (h : ℕ) → (h ≡ home) ⊎ (h ≡ home → ⊥) → (if nat_eq h home then was home + 1 else was h) ≡ copies_to (done ++ home ∷ []) h
-  said-by h (inl same) =
-      ap (λ test. if test then was home + 1 else was h) (eq-eqb h home same)
-      ∙ ap (λ n. n + 1) (says home)
-      ∙ sym (more-same done home)
-      ∙ ap (copies_to (done ++ home ∷ [])) (sym same)
-  said-by h (inr other) =
-      ap (λ test. if test then was home + 1 else was h) (ne_eqb h home other) ∙ says h ∙ sym (more-other done home h other)
+  said-by h (inl same) = rw (same, eq-eqb home home refl) (ap (λ n. n + 1) (says home) ∙ sym (more-same done home))
+  said-by h (inr other) = rw (ne_eqb h home other) (says h ∙ sym (more-other done home h other))
 
   says-more : Says (done ++ home ∷ []) (home_among home ks)
   says-more h =
