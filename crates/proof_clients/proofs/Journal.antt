@@ -1,6 +1,6 @@
 -- The journal that was opened, and the one that the disk had at first.
 use Rattle.std.proofs.Common.{◌≡◌, ℕ, ◌+◌, Bool, true, false, nat_eq, List, refl, ap, ap₂, subst, ◌∙◌}
-use Rattle.std.specs.Prelude.{if◌then◌else◌}
+use Rattle.std.specs.Prelude.{◌-◌, ◌^◌, min, if◌then◌else◌}
 use Rattle.std.proofs.lemmas.Nat.{and_or_apart}
 use Rattle.jb_block.specs.Width.{is_wide}
 use Rattle.jb_block.specs.declared.width.Width.TheVariants.{Narrow, Wide}
