@@ -1,6 +1,6 @@
 -- Two handles stand in the first groups of a least cut of them.
-use Rattle.std.proofs.Common.{◌≡◌, ◌⊎◌, inl, inr, ℕ, zero, suc, ◌≤◌, List, [], ◌∷◌, ◌++◌, map, length, take, Result, Ok, refl, sym, ap, subst, ◌∙◌, arith}
-use Rattle.std.proofs.lemmas.List.{length-map}
+use Rattle.std.proofs.Common.{◌≡◌, inl, inr, ℕ, zero, suc, ◌≤◌, List, [], ◌∷◌, ◌++◌, map, length, take, Result, Ok, refl, sym, ap, subst, ◌∙◌, arith}
+use Rattle.std.proofs.lemmas.List.{length-map, length-take, nil_from_length, take_min}
 use Rattle.std.specs.Global.{Vec}
 use Rattle.jb_handle.specs.declared.shape.Shape.{Shape}
 use Rattle.jb_handle.specs.declared.stopped.Stopped.{Stopped}
@@ -19,33 +19,27 @@ use Rattle.proof_clients.specs.BookClient.{Have, SettlesQueue, Stand, two_stops}
 -- ---- the groups of a cut of two
 
 module _ (one two : Stopped) where
-  both : (a : ℕ) (bs : List ℕ) → a ≡ 0 → RisesTo 2 a bs → (pieces_from a bs (one ∷ two ∷ []) ≡ (one ∷ two ∷ []) ∷ []) ⊎ (pieces_from a bs (one ∷ two ∷ []) ≡ (one ∷ []) ∷ (two ∷ []) ∷ [])
-  both a [] start is = absurd (let h : ⊥ = omega (arith, start, is) in h)
-  both a (b ∷ []) start is = let ends : b ≡ 2 = is.1 in inl (rw (start, ends) refl)
-  both a (b ∷ c ∷ []) start is =
+  -- what holds of both in one group, and of each in its own, holds of the groups of each cut
+  both : (P : List (List Stopped) → Type 0) → P ((one ∷ two ∷ []) ∷ []) → P ((one ∷ []) ∷ (two ∷ []) ∷ []) → (a : ℕ) (bs : List ℕ) → a ≡ 0 → RisesTo 2 a bs → P (pieces_from a bs (one ∷ two ∷ []))
+  both P together apart a [] start is = absurd (let h : ⊥ = omega (arith, start, is) in h)
+  both P together apart a (b ∷ []) start is = let ends : b ≡ 2 = is.1 in rw (start, ends) together
+  both P together apart a (b ∷ c ∷ []) start is =
       let less = is.0 in
       let more = is.1.0 in
       let ends : c ≡ 2 = is.1.1 in
       let mid : b ≡ 1 = omega (arith, start, less, more, ends) in
-      inr (rw (start, mid, ends) refl)
-  both a (b ∷ c ∷ d ∷ bs) start is =
+      rw (start, mid, ends) apart
+  both P together apart a (b ∷ c ∷ d ∷ bs) start is =
       let less = is.0 in
       let more = is.1.0 in
       let most = is.1.1.0 in
       let inside = rises-le 2 d bs is.1.1.1 in
       absurd (let h : ⊥ = omega (arith, start, less, more, most, inside) in h)
 
-  of-cut : (cut : List ℕ) → IsCut 2 cut → (pieces cut (one ∷ two ∷ []) ≡ (one ∷ two ∷ []) ∷ []) ⊎ (pieces cut (one ∷ two ∷ []) ≡ (one ∷ []) ∷ (two ∷ []) ∷ [])
-  of-cut [] is = absurd is
-  of-cut (a ∷ bs) is = both a bs is.0 is.1
-
   in-one : (k : ℕ) → Have one two (take k ((one ∷ two ∷ []) ∷ []))
   in-one zero = tt
-  in-one (suc k) = none-more k
-    where
-      none-more : (k : ℕ) → Have one two ((one ∷ two ∷ []) ∷ take k [])
-      none-more zero = inr refl
-      none-more (suc k) = inr refl
+  in-one (suc zero) = inr refl
+  in-one (suc (suc k)) = inr refl
 
   in-two : (k : ℕ) → Have one two (take k ((one ∷ []) ∷ (two ∷ []) ∷ []))
   in-two zero = tt
@@ -54,20 +48,11 @@ module _ (one two : Stopped) where
   in-two (suc (suc (suc k))) = (refl, refl)
 
   have-first : (cut : List ℕ) → IsCut 2 cut → (k : ℕ) → Have one two (take k (pieces cut (one ∷ two ∷ [])))
-  have-first cut is k = at (of-cut cut is)
-    where
-      at : (pieces cut (one ∷ two ∷ []) ≡ (one ∷ two ∷ []) ∷ []) ⊎ (pieces cut (one ∷ two ∷ []) ≡ (one ∷ []) ∷ (two ∷ []) ∷ []) → Have one two (take k (pieces cut (one ∷ two ∷ [])))
-      at (inl same) = subst (λ gs. Have one two (take k gs)) (sym same) (in-one k)
-      at (inr same) = subst (λ gs. Have one two (take k gs)) (sym same) (in-two k)
-
-take-own : {A : Type 0} (k : ℕ) (xs : List A) → take (length (take k xs)) xs ≡ take k xs
-take-own zero xs = refl
-take-own (suc k) [] = refl
-take-own (suc k) (x ∷ xs) = ap (λ ys. x ∷ ys) (take-own k xs)
+  have-first [] is k = absurd is
+  have-first (a ∷ bs) is k = both (λ gs. Have one two (take k gs)) (in-one k) (in-two k) a bs is.0 is.1
 
 no-map : {A B : Type 0} (f : A → B) (xs : List A) → map f xs ≡ [] → xs ≡ []
-no-map f [] none = refl
-no-map f (x ∷ xs) none = absurd (let h : ⊥ = cc in h)
+no-map f xs none = nil_from_length xs (sym (length-map xs f) ∙ ap length none)
 
 -- ---- the calls
 
@@ -81,32 +66,32 @@ settled entries a cut calls = Settled entries (Ok tt) ∷ Took (gathered a.shado
 
 module _ (any : Vec Entry) (run : EveryRun) (shape : Shape) (usable : ℕ) (small : usable ≤ 2147483646) (first second : WordMap) (c d t u : ℕ) (r s : Result (Unit {0}) BeginFault) (mid after last : Account) (before later : List Entry)
     (called : CallsMake shape usable (begun c d r s first second t u) mid) (settles : SettlesQueue mid after before later) where
-  -- the book's trail has the groups that the journal has settled
-  pub told : last ≡ failed_of after → (trail : List Entry) → trail ≡ last.trail → later ≡ before ++ trail
-  told fails trail is =
-      let kept = (run any shape usable (begun c d r s first second t u) mid small called).0 in
-      settles.told ∙ ap (λ es. before ++ es) (sym (is ∙ ap (λ (a : Account). a.trail) fails ∙ settles.trail ∙ ap (λ es. es ++ settles.entries) (no-map (handles_in (stops_of (begun c d r s first second t u))) mid.trail (sym kept.trail))))
-
-  pub stand : last ≡ failed_of after → (trail : List Entry) → trail ≡ last.trail → Stand shape first second trail
+  -- the book's trail has the groups that the journal has settled, and these are the first of a cut of the two handles
+  pub stand : last ≡ failed_of after → (trail : List Entry) → trail ≡ last.trail → (later ≡ before ++ trail) × Stand shape first second trail
   stand fails trail is =
       let calls = begun c d r s first second t u in
       let first_kept = (run any shape usable calls mid small called).0 in
       let kept = (run any shape usable (Failed ∷ settled settles.entries mid settles.cut calls) last small (after, settles.goes shape usable calls called, fails)).0 in
       let numbers = first_kept.numbered in
-      let named : stops_of (begun c d r s first second t u) ≡ two_stops first second = λ i. record { ticket = numbers.0 i; words = first } ∷ record { ticket = numbers.1.0 i; words = second } ∷ [] in
-      let queue : mid.shadow.queue ≡ two_stops first second = first_kept.running settles.could.running ∙ named in
-      let least : IsCutOf (gathered 0 (two_stops first second) shape) settles.cut =
+      let two = two_stops first second in
+      let parts = pieces settles.cut two in
+      let named : stops_of calls ≡ two = λ i. record { ticket = numbers.0 i; words = first } ∷ record { ticket = numbers.1.0 i; words = second } ∷ [] in
+      let queue : mid.shadow.queue ≡ two = first_kept.running settles.could.running ∙ named in
+      let none : mid.trail ≡ [] = no-map (handles_in (stops_of calls)) mid.trail (sym first_kept.trail) in
+      let least : IsCutOf (gathered 0 two shape) settles.cut =
       subst (λ hs. IsCutOf (gathered 0 hs shape) settles.cut) queue (subst (λ sh. IsCutOf (gathered 0 mid.shadow.queue sh) settles.cut) first_kept.same_shape settles.least) in
-      let groups : map (handles_in (two_stops first second)) trail ≡ take (length settles.entries) (pieces settles.cut (two_stops first second)) =
-      ap (map (handles_in (two_stops first second))) is
+      let groups : map (handles_in two) trail ≡ take (length settles.entries) parts =
+      ap (map (handles_in two)) is
       ∙ ap (λ stops. map (handles_in stops) last.trail) (sym named)
       ∙ sym kept.trail
       ∙ ap (λ hs. take (length settles.entries) (pieces settles.cut hs)) queue in
-      let long : length trail ≡ length (take (length settles.entries) (pieces settles.cut (two_stops first second))) = sym (length-map trail (handles_in (two_stops first second))) ∙ ap length groups in
-      record {
-        cut = settles.cut;
-        least = least;
-        groups = groups ∙ sym (take-own (length settles.entries) (pieces settles.cut (two_stops first second))) ∙ ap (λ n. take n (pieces settles.cut (two_stops first second))) (sym long);
-        have = subst (Have (record { ticket = 0; words = first }) (record { ticket = 1; words = second })) (sym groups)
-            (have-first (record { ticket = 0; words = first }) (record { ticket = 1; words = second }) settles.cut least.fitting.cut (length settles.entries));
-      }
+      let long = sym (length-map trail (handles_in two)) ∙ ap length groups ∙ length-take (length settles.entries) parts in (
+        settles.told ∙ ap (λ es. before ++ es) (sym (is ∙ ap (λ (a : Account). a.trail) fails ∙ settles.trail ∙ ap (λ es. es ++ settles.entries) none)),
+        record {
+          cut = settles.cut;
+          least = least;
+          groups = groups ∙ sym (ap (λ n. take n parts) long ∙ take_min (length settles.entries) parts);
+          have = subst (Have (record { ticket = 0; words = first }) (record { ticket = 1; words = second })) (sym groups)
+              (have-first (record { ticket = 0; words = first }) (record { ticket = 1; words = second }) settles.cut least.fitting.cut (length settles.entries));
+        },
+      )

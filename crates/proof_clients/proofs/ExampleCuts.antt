@@ -1,35 +1,28 @@
 -- The cuts of three handles, by what their groups cost.
-use Rattle.std.proofs.Common.{◌≡◌, ℕ, zero, suc, ◌+◌, ◌<◌, ◌≤◌, List, [], ◌∷◌, Option, Some, None, refl, sym, ap, ◌∙◌, subst, arith}
-use Rattle.jb_cost.specs.Cut.{FitsCut, IsLeastCut, IsPrice, IsReached, ArePrices, Hold, IsFirstToAttain, EachPiece, price, total}
+use Rattle.std.proofs.Common.{◌≡◌, ℕ, zero, suc, ◌+◌, ◌<◌, ◌≤◌, List, [], ◌∷◌, length, Option, Some, refl, sym, ap, ◌∙◌, subst, arith}
+use Rattle.std.proofs.lemmas.Option.{none-some, same_Some}
+use Rattle.jb_cost.specs.Cut.{FitsCut, IsLeastCut, IsReached, ArePrices, Hold, IsFirstToAttain, EachPiece, price, total}
 use Rattle.jb_cost.specs.declared.geometry.Geometry.{Geometry}
 use Rattle.jb_cost.specs.Cost.{blocks_of}
 use Rattle.jb_cost.specs.Cut.{piece_cost}
 use Rattle.jb_plan.specs.Costs.{cost_in, geometry_of}
-use Rattle.proof_clients.specs.Examples.{three, six, four, best, greedy, prices, low_prices, high_prices, four_prices, late_prices}
+use Rattle.proof_clients.specs.Examples.{three, six, four, best, prices, four_prices}
 use Rattle.proof_clients.proofs.ExampleCosts.{cost-wrote}
-use Rattle.jb_cost.proofs.Bounds.{lower, hold-fewer, price-exact}
-
-pub some-same : (x y : ℕ) → Some x ≡ Some y → x ≡ y
-some-same x y same = cc
+use Rattle.jb_cost.proofs.Bounds.{hold-fewer, price-exact}
 
 -- what holds of the six groups of three handles holds of each
 six-ends : (P : ℕ → ℕ → Type 0) → P 0 1 → P 1 2 → P 2 3 → P 0 2 → P 1 3 → P 0 3 → (i j : ℕ) → i < j → j ≤ 3 → P i j
-six-ends P p01 p12 p23 p02 p13 p03 zero zero less most = absurd (omega arith)
+six-ends P p01 p12 p23 p02 p13 p03 i zero less most = absurd (omega arith)
 six-ends P p01 p12 p23 p02 p13 p03 zero (suc zero) less most = p01
+six-ends P p01 p12 p23 p02 p13 p03 (suc i) (suc zero) less most = absurd (omega arith)
 six-ends P p01 p12 p23 p02 p13 p03 zero (suc (suc zero)) less most = p02
-six-ends P p01 p12 p23 p02 p13 p03 zero (suc (suc (suc zero))) less most = p03
-six-ends P p01 p12 p23 p02 p13 p03 zero (suc (suc (suc (suc j)))) less most = absurd (omega arith)
-six-ends P p01 p12 p23 p02 p13 p03 (suc zero) zero less most = absurd (omega arith)
-six-ends P p01 p12 p23 p02 p13 p03 (suc zero) (suc zero) less most = absurd (omega arith)
 six-ends P p01 p12 p23 p02 p13 p03 (suc zero) (suc (suc zero)) less most = p12
+six-ends P p01 p12 p23 p02 p13 p03 (suc (suc i)) (suc (suc zero)) less most = absurd (omega arith)
+six-ends P p01 p12 p23 p02 p13 p03 zero (suc (suc (suc zero))) less most = p03
 six-ends P p01 p12 p23 p02 p13 p03 (suc zero) (suc (suc (suc zero))) less most = p13
-six-ends P p01 p12 p23 p02 p13 p03 (suc zero) (suc (suc (suc (suc j)))) less most = absurd (omega arith)
-six-ends P p01 p12 p23 p02 p13 p03 (suc (suc zero)) zero less most = absurd (omega arith)
-six-ends P p01 p12 p23 p02 p13 p03 (suc (suc zero)) (suc zero) less most = absurd (omega arith)
-six-ends P p01 p12 p23 p02 p13 p03 (suc (suc zero)) (suc (suc zero)) less most = absurd (omega arith)
 six-ends P p01 p12 p23 p02 p13 p03 (suc (suc zero)) (suc (suc (suc zero))) less most = p23
-six-ends P p01 p12 p23 p02 p13 p03 (suc (suc zero)) (suc (suc (suc (suc j)))) less most = absurd (omega arith)
-six-ends P p01 p12 p23 p02 p13 p03 (suc (suc (suc i))) j less most = absurd (omega arith)
+six-ends P p01 p12 p23 p02 p13 p03 (suc (suc (suc i))) (suc (suc (suc zero))) less most = absurd (omega arith)
+six-ends P p01 p12 p23 p02 p13 p03 i (suc (suc (suc (suc j)))) less most = absurd (omega arith)
 
 -- what holds of the first four numbers holds of each up to three
 pub four-starts : (P : ℕ → Type 0) → P 0 → P 1 → P 2 → P 3 → (i : ℕ) → i ≤ 3 → P i
@@ -50,14 +43,28 @@ pub record Costs (c : ℕ → ℕ → ℕ) : Type 0 where
 
 module _ (c : ℕ → ℕ → ℕ) (limit : ℕ) (ps : List (Option ℕ)) where
   -- the piece does not undercut the price of its end
-  abbrev pub Step : ℕ → ℕ → Type 0
+  abbrev Step : ℕ → ℕ → Type 0
   Step i j = (p : ℕ) → price ps i ≡ Some p → c i j ≤ limit → (q : ℕ) × (price ps j ≡ Some q) × (q ≤ p + c i j)
 
-  pub within : (i j p q : ℕ) → price ps i ≡ Some p → price ps j ≡ Some q → q ≤ p + c i j → Step i j
-  within i j p q from to less r is fits = (q, to, let same : p ≡ r = some-same p r (sym from ∙ is) in omega (arith, same, less))
+  within : (i j p q : ℕ) → price ps i ≡ Some p → price ps j ≡ Some q → q ≤ p + c i j → Step i j
+  within i j p q from to less r is fits = (q, to, let same : p ≡ r = same_Some p r (sym from ∙ is) in omega (arith, same, less))
 
   over : (i j : ℕ) → limit < c i j → Step i j
   over i j more r is fits = absurd (omega (arith, more, fits))
+
+  -- the price of so many handles is the total of some cut
+  abbrev Reached : ℕ → Type 0
+  Reached n = (p : ℕ) → price ps n ≡ Some p → IsReached c limit n p
+
+  reached : (n : ℕ) (bounds : List ℕ) (p : ℕ) → FitsCut c limit n bounds → total c bounds ≡ p → price ps n ≡ Some p → Reached n
+  reached n bounds p fitting sum is q also = (bounds, fitting, sum ∙ same_Some p q (sym is ∙ also))
+
+  -- prices of three handles that hold, and that cuts reach
+  prices-of : length ps ≡ 4 → Hold c limit 3 ps → Reached 0 → Reached 1 → Reached 2 → Reached 3 → ArePrices c limit 3 ps
+  prices-of number hold r0 r1 r2 r3 = record {
+    number = number;
+    each = λ i most. price-exact c limit i ps (hold-fewer c limit 3 i ps hold most) (four-starts Reached r0 r1 r2 r3 i most);
+  }
 
 pub costs-of : (g : Geometry) → blocks_of g 2 0 ≡ 4 → blocks_of g 3 0 ≡ 5 → blocks_of g 4 0 ≡ 6 → blocks_of g 5 0 ≡ 7 → Costs (piece_cost g three)
 costs-of g two more four five = record {
@@ -74,9 +81,6 @@ costs-six = costs-of (geometry_of six) refl refl refl refl
 
 pub costs-four : Costs (cost_in four three)
 costs-four = costs-of (geometry_of four) refl refl refl refl
-
-none-some : (x : ℕ) → None ≡ Some x → ⊥
-none-some x same = cc
 
 module _ (c : ℕ → ℕ → ℕ) (costs : Costs c) where
   pub hold : Hold c 6 3 prices
@@ -106,69 +110,33 @@ module _ (c : ℕ → ℕ → ℕ) (costs : Costs c) where
         i j less most p;
   }
 
-  pub none-fits : (other : List ℕ) → FitsCut c 4 3 other → ⊥
-  none-fits other fitting = let low = lower c 4 3 four_prices hold-four other fitting in none-some low.0 low.1
-
   pub fits-best : FitsCut c 6 3 best
   fits-best = record { cut = (refl, (omega arith, (omega arith, refl))); fits = (omega (arith, costs.first), (omega (arith, costs.late), tt)) }
+
+  pub are-prices : ArePrices c 6 3 prices
+  are-prices =
+      prices-of c 6 prices refl hold
+      (reached c 6 prices 0 (0 ∷ []) 0 (record { cut = (refl, refl); fits = tt }) refl refl)
+      (reached c 6 prices 1 (0 ∷ 1 ∷ []) 4 (record { cut = (refl, (omega arith, refl)); fits = (omega (arith, costs.first), tt) }) (omega (arith, costs.first)) refl)
+      (reached c 6 prices 2 (0 ∷ 2 ∷ []) 6 (record { cut = (refl, (omega arith, refl)); fits = (omega (arith, costs.early), tt) }) (omega (arith, costs.early)) refl)
+      (reached c 6 prices 3 best 9 fits-best (omega (arith, costs.first, costs.late)) refl)
+
+  pub are-four-prices : ArePrices c 4 3 four_prices
+  are-four-prices =
+      prices-of c 4 four_prices refl hold-four
+      (reached c 4 four_prices 0 (0 ∷ []) 0 (record { cut = (refl, refl); fits = tt }) refl refl)
+      (reached c 4 four_prices 1 (0 ∷ 1 ∷ []) 4 (record { cut = (refl, (omega arith, refl)); fits = (omega (arith, costs.first), tt) }) (omega (arith, costs.first)) refl)
+      (reached c 4 four_prices 2 (0 ∷ 1 ∷ 2 ∷ []) 8 (record { cut = (refl, (omega arith, (omega arith, refl))); fits = (omega (arith, costs.first), (omega (arith, costs.second), tt)) }) (omega (arith, costs.first, costs.second)) refl)
+      (λ p is. absurd (none-some p is))
+
+  pub none-fits : (other : List ℕ) → FitsCut c 4 3 other → ⊥
+  none-fits = are-four-prices.each 3 (omega arith)
 
   pub is-best : IsLeastCut c 6 3 best
   is-best = record {
     fitting = fits-best;
-    least = λ other fitting.
-        let low = lower c 6 3 prices hold other fitting in
-        let same : 9 ≡ low.0 = some-same 9 low.0 low.1 in
-        omega (arith, costs.first, costs.late, same, low.2);
+    least = λ other fitting. let low = (are-prices.each 3 (omega arith)).1 other fitting in omega (arith, costs.first, costs.late, low);
   }
-
-  pub not-greedy : IsLeastCut c 6 3 greedy → ⊥
-  not-greedy is = let less = is.least best fits-best in omega (arith, costs.first, costs.late, costs.early, costs.third, less)
-
-  -- some cut of the first handles has the total
-  reached : (limit n : ℕ) (bounds : List ℕ) (p : ℕ) → FitsCut c limit n bounds → total c bounds ≡ p → (q : ℕ) → Some p ≡ Some q → IsReached c limit n q
-  reached limit n bounds p fitting sum q same = (bounds, fitting, sum ∙ some-same p q same)
-
-  none-reached : (limit n q : ℕ) → None ≡ Some q → IsReached c limit n q
-  none-reached limit n q same = absurd (none-some q same)
-
-  pub are-prices : ArePrices c 6 3 prices
-  are-prices = record {
-    number = refl;
-    each = four-starts (λ i. IsPrice c 6 i (price prices i)) (exact 0 (omega arith) (reached 6 0 (0 ∷ []) 0 (record { cut = (refl, refl); fits = tt }) refl))
-        (exact 1 (omega arith) (reached 6 1 (0 ∷ 1 ∷ []) 4 (record { cut = (refl, (omega arith, refl)); fits = (omega (arith, costs.first), tt) }) (omega (arith, costs.first))))
-        (exact 2 (omega arith) (reached 6 2 (0 ∷ 2 ∷ []) 6 (record { cut = (refl, (omega arith, refl)); fits = (omega (arith, costs.early), tt) }) (omega (arith, costs.early))))
-        (exact 3 (omega arith) (reached 6 3 best 9 fits-best (omega (arith, costs.first, costs.late))));
-  }
-    where
-      exact : (i : ℕ) → i ≤ 3 → ((p : ℕ) → price prices i ≡ Some p → IsReached c 6 i p) → IsPrice c 6 i (price prices i)
-      exact i most reached = price-exact c 6 i prices (hold-fewer c 6 3 i prices hold most) reached
-
-  pub are-four-prices : ArePrices c 4 3 four_prices
-  are-four-prices = record {
-    number = refl;
-    each = four-starts (λ i. IsPrice c 4 i (price four_prices i)) (exact 0 (omega arith) (reached 4 0 (0 ∷ []) 0 (record { cut = (refl, refl); fits = tt }) refl))
-        (exact 1 (omega arith) (reached 4 1 (0 ∷ 1 ∷ []) 4 (record { cut = (refl, (omega arith, refl)); fits = (omega (arith, costs.first), tt) }) (omega (arith, costs.first))))
-        (exact 2 (omega arith) (reached 4 2 (0 ∷ 1 ∷ 2 ∷ []) 8 (record { cut = (refl, (omega arith, (omega arith, refl))); fits = (omega (arith, costs.first), (omega (arith, costs.second), tt)) }) (omega (arith, costs.first, costs.second))))
-        (exact 3 (omega arith) (none-reached 4 3));
-  }
-    where
-      exact : (i : ℕ) → i ≤ 3 → ((p : ℕ) → price four_prices i ≡ Some p → IsReached c 4 i p) → IsPrice c 4 i (price four_prices i)
-      exact i most reached = price-exact c 4 i four_prices (hold-fewer c 4 3 i four_prices hold-four most) reached
-
-  pub not-low : ArePrices c 6 3 low_prices → ⊥
-  not-low are =
-      let is : IsReached c 6 3 8 = (are.each 3 (omega arith)).0 in
-      let low = is-best.least is.0 is.1 in
-      omega (arith, low, is.2, costs.first, costs.late)
-
-  pub not-high : ArePrices c 6 3 high_prices → ⊥
-  not-high are = let least : 10 ≤ total c best = (are.each 3 (omega arith)).1 best fits-best in omega (arith, least, costs.first, costs.late)
-
-  pub not-none : ArePrices c 6 3 four_prices → ⊥
-  not-none are = are.each 3 (omega arith) best fits-best
-
-  pub not-late : ArePrices c 4 3 late_prices → ⊥
-  not-late are = let is : IsReached c 4 3 13 = (are.each 3 (omega arith)).0 in none-fits is.0 is.1
 
   -- each bound of the best cut comes after the least one that may
   pub first : EachPiece (IsFirstToAttain c 6 prices) best

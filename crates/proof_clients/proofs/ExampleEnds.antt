@@ -1,14 +1,16 @@
 -- What a history says of the stops that it has.
-use Rattle.std.proofs.Common.{◌≡◌, ℕ, zero, suc, ◌+◌, ◌<◌, ◌≤◌, List, [], ◌∷◌, length, All, Some, None, slice_get, refl, arith}
+use Rattle.std.proofs.Common.{◌≡◌, ℕ, zero, suc, ◌<◌, ◌≤◌, List, [], ◌∷◌, length, get_or, All, refl, arith}
+use Rattle.std.specs.FinMap as map
 use Rattle.std.specs.List.{sum_by}
-use Rattle.std.proofs.lemmas.List.Elements.{All-head, All-tail}
 use Rattle.std.proofs.lemmas.List.Sums.{sum_by-cons}
+use Rattle.std.proofs.lemmas.Option.{slice_get_within}
 use Rattle.jb_handle.specs.Tickets.{TicketsFrom}
 use Rattle.jb_handle.specs.Word.{WordMap}
 use Rattle.jb_handle.specs.declared.stopped.Stopped.{Stopped}
 use Rattle.jb_board.specs.HistoryRule.{with_places}
 use Rattle.jb_book.specs.Origin.{Begun}
 use Rattle.jb_book.specs.History.{IsStop}
+use Rattle.jb_journal.proofs.Staying.{ticket-at}
 
 -- 1 for the first place, and 0 for each other one
 abbrev pub at_first : ℕ × WordMap → ℕ
@@ -17,43 +19,16 @@ at_first (suc n, words) = 0
 
 none-later : (n : ℕ) (log : List WordMap) → sum_by at_first (with_places (suc n) log) ≡ 0
 none-later n [] = refl
-none-later n (words ∷ log) =
-    let sum : sum_by at_first (with_places (suc n) (words ∷ log)) ≡ 0 + sum_by at_first (with_places (suc (suc n)) log) = sum_by-cons at_first (suc n, words) (with_places (suc (suc n)) log) in
-    let rest : sum_by at_first (with_places (suc (suc n)) log) ≡ 0 = none-later (suc n) log in
-    omega (arith, sum, rest)
+none-later n (words ∷ log) = omega (arith, sum_by-cons at_first (suc n, words) (with_places (suc (suc n)) log), none-later (suc n) log)
 
 -- one entry stands at the first place
 pub one-first : (log : List WordMap) → sum_by at_first (with_places 0 log) ≤ 1
 one-first [] = omega arith
-one-first (words ∷ log) =
-    let sum : sum_by at_first (with_places 0 (words ∷ log)) ≡ 1 + sum_by at_first (with_places 1 log) = sum_by-cons at_first (0, words) (with_places 1 log) in
-    let rest : sum_by at_first (with_places 1 log) ≡ 0 = none-later 0 log in
-    omega (arith, sum, rest)
+one-first (words ∷ log) = omega (arith, sum_by-cons at_first (0, words) (with_places 1 log), none-later 0 log)
 
--- each entry counts once
-pub ones : (n : ℕ) (log : List WordMap) → sum_by (λ s. 1) (with_places n log) ≡ length log
-ones n [] = refl
-ones n (words ∷ log) =
-    let sum : sum_by (λ s. 1) (with_places n (words ∷ log)) ≡ 1 + sum_by (λ s. 1) (with_places (suc n) log) = sum_by-cons (λ s. 1) (n, words) (with_places (suc n) log) in
-    let rest : sum_by (λ s. 1) (with_places (suc n) log) ≡ length log = ones (suc n) log in
-    omega (arith, sum, rest)
-
-none-words : (words : WordMap) → None ≡ Some words → ⊥
-none-words words same = cc
-
-pub got-inside : (log : List WordMap) (k : ℕ) (words : WordMap) → slice_get log k ≡ Some words → k < length log
-got-inside [] k words is = absurd (none-words words is)
-got-inside (w ∷ log) zero words is = omega arith
-got-inside (w ∷ log) (suc k) words is = let rest = got-inside log k words is in omega (arith, rest)
-
--- four handles of a history are four entries of it
-pub four-stand : (b : Begun) (log : List WordMap) (given : List Stopped) → TicketsFrom 0 given → All (IsStop b log) given → 4 ≤ length given → 4 ≤ length log
-four-stand b log [] tickets are many = absurd (omega (arith, many))
-four-stand b log (g ∷ []) tickets are many = absurd (omega (arith, many))
-four-stand b log (g ∷ h ∷ []) tickets are many = absurd (omega (arith, many))
-four-stand b log (g ∷ h ∷ i ∷ []) tickets are many = absurd (omega (arith, many))
-four-stand b log (g ∷ h ∷ i ∷ j ∷ rest) tickets are many =
-    let last = All-head (IsStop b log) j rest (All-tail (IsStop b log) i (j ∷ rest) (All-tail (IsStop b log) h (i ∷ j ∷ rest) (All-tail (IsStop b log) g (h ∷ i ∷ j ∷ rest) are))) in
-    let inside = got-inside log j.ticket j.words last.1 in
-    let ticket : j.ticket ≡ 3 = tickets.1.1.1.0 in
-    omega (arith, inside, ticket)
+-- a handle of a history is an entry of it
+pub inside : (b : Begun) (log : List WordMap) (given : List Stopped) → TicketsFrom 0 given → All (IsStop b log) given → (k : ℕ) → k < length given → k < length log
+inside b log given tickets are k lt =
+    let none : Stopped = record { ticket = 0; words = map.empty } in
+    let h : Stopped = get_or given k none in
+    omega (arith, ticket-at 0 given tickets k none lt, slice_get_within log h.ticket h.words (are k none lt).1)

@@ -1,5 +1,5 @@
 -- Three handles that changed nothing, of which two are settled: the events, and how a desk ends with them.
-use Rattle.std.proofs.Common.{◌≡◌, ℕ, zero, suc, ◌<◌, ◌≤◌, true, false, List, [], ◌∷◌, length, Option, Some, Ok, Vec, Global, inl, inr, refl, sym, ap, ◌∙◌, subst, arith}
+use Rattle.std.proofs.Common.{◌≡◌, ℕ, zero, suc, ◌<◌, ◌≤◌, true, false, List, [], ◌∷◌, length, Ok, Vec, Global, inl, inr, refl, sym, ap, ◌∙◌, subst, arith}
 use Rattle.std.specs.Ordering.{nat_cmp}
 use Rattle.std.specs.Int.{div_ceil}
 use Rattle.std.specs.FinMap as map
@@ -11,15 +11,16 @@ use Rattle.jb_handle.specs.declared.stopped.Stopped.{Stopped}
 use Rattle.jb_cost.specs.declared.geometry.Geometry.{Geometry}
 use Rattle.jb_cost.specs.Cost.{cost}
 use Rattle.jb_cost.specs.Credits.{IsMost}
-use Rattle.jb_cost.specs.Cut.{IsLeastCut, Hold, piece_cost}
-use Rattle.jb_cost.proofs.Bounds.{lower}
+use Rattle.jb_cost.specs.Cut.{IsCut, IsLeastCut, piece_cost, total}
 use Rattle.jb_cost.proofs.Ceilings.{ceil-mono}
+use Rattle.jb_cost.proofs.Cuts.{rises-le}
 use Rattle.jb_plan.specs.Costs.{geometry_of}
+use Rattle.jb_core.specs.declared.event.Event.{Event}
 use Rattle.jb_core.specs.declared.event.Event.TheVariants.{Open, Stop, Take, Settle}
 use Rattle.jb_core.specs.declared.event.Reply.TheVariants.{Plain, Ticket}
 use Rattle.jb_core.specs.Lives.{Log}
 use Rattle.jb_core.specs.Machine.{Machine, after_event, after_take}
-use Rattle.jb_core.specs.Ran.{Ran}
+use Rattle.jb_core.specs.Ran.{IsNewMachine, Ran}
 use Rattle.jb_deck.specs.Deck.{OpenDeck}
 use Rattle.jb_board.specs.HistoryRule.{StandsIn}
 use Rattle.jb_book.specs.Origin.{unknown}
@@ -30,7 +31,6 @@ use Rattle.jb_book.specs.SinceMark.{EndsMarked, Lasts}
 use Rattle.proof_clients.specs.Examples.{six, copies_at}
 use Rattle.proof_clients.specs.ExampleMarks.{idle_stops, idle_group}
 use Rattle.proof_clients.proofs.ExampleCosts.{cost-wrote}
-use Rattle.proof_clients.proofs.ExampleCuts.{some-same, Step, within}
 
 -- a handle that changed nothing
 abbrev idle : ℕ → Stopped
@@ -53,43 +53,24 @@ two-idle = subst (λ (w : WordMap). cost g (record { ticket = 0; words = w } ∷
 abbrev c : ℕ → ℕ → ℕ
 c = piece_cost g (idle 0 ∷ idle 1 ∷ [])
 
-abbrev prices : List (Option ℕ)
-prices = Some 0 ∷ Some 1 ∷ Some 1 ∷ []
+-- the first group costs a block, wherever it ends
+first-costs : (a b : ℕ) → a ≡ 0 → a < b → b ≤ 2 → c a b ≡ 1
+first-costs a zero start less most = absurd (omega arith)
+first-costs a (suc zero) start less most = rw start (one-idle 0)
+first-costs a (suc (suc zero)) start less most = rw start two-idle
+first-costs a (suc (suc (suc b))) start less most = absurd (omega arith)
 
-three-ends : (P : ℕ → ℕ → Type 0) → P 0 1 → P 1 2 → P 0 2 → (i j : ℕ) → i < j → j ≤ 2 → P i j
-three-ends P p01 p12 p02 zero zero less most = absurd (omega arith)
-three-ends P p01 p12 p02 zero (suc zero) less most = p01
-three-ends P p01 p12 p02 zero (suc (suc zero)) less most = p02
-three-ends P p01 p12 p02 zero (suc (suc (suc j))) less most = absurd (omega arith)
-three-ends P p01 p12 p02 (suc zero) zero less most = absurd (omega arith)
-three-ends P p01 p12 p02 (suc zero) (suc zero) less most = absurd (omega arith)
-three-ends P p01 p12 p02 (suc zero) (suc (suc zero)) less most = p12
-three-ends P p01 p12 p02 (suc zero) (suc (suc (suc j))) less most = absurd (omega arith)
-three-ends P p01 p12 p02 (suc (suc i)) j less most = absurd (omega arith)
-
-hold : Hold c 6 2 prices
-hold =
-    let first : c 0 1 ≡ 1 = one-idle 0 in
-    let second : c 1 2 ≡ 1 = one-idle 1 in
-    let both : c 0 2 ≡ 1 = two-idle in
-    record {
-      start = refl;
-      step = λ i j p less most. three-ends (Step c 6 prices)
-          (within c 6 prices 0 1 0 1 refl refl (omega (arith, first)))
-          (within c 6 prices 1 2 1 1 refl refl (omega (arith, second)))
-          (within c 6 prices 0 2 0 1 refl refl (omega (arith, both)))
-          i j less most p;
-    }
+some-block : (other : List ℕ) → IsCut 2 other → 1 ≤ total c other
+some-block [] cut = absurd cut
+some-block (a ∷ []) cut = absurd (let h : ⊥ = omega (arith, cut.0, cut.1) in h)
+some-block (a ∷ b ∷ bs) cut = let one = first-costs a b cut.0 cut.1.0 (rises-le 2 b bs cut.1.1) in omega (arith, one)
 
 least : IsLeastCut c 6 2 (0 ∷ 2 ∷ [])
 least =
     let both : c 0 2 ≡ 1 = two-idle in
     record {
       fitting = record { cut = (refl, (omega arith, refl)); fits = (omega (arith, both), tt) };
-      least = λ other fitting.
-          let low = lower c 6 2 prices hold other fitting in
-          let same : 1 ≡ low.0 = some-same 1 low.0 low.1 in
-          omega (arith, both, same, low.2);
+      least = λ other fitting. omega (arith, both, some-block other fitting.cut);
     }
 
 -- ---- the machine, after each event
@@ -119,29 +100,36 @@ m0 = record {
   credits = [];
 }
 
-abbrev m1 : Machine
-m1 = after_event m0 (Open 0 0)
+new : IsNewMachine six m0
+new = record {
+  same_shape = refl;
+  tags = refl;
+  entries = refl;
+  most = most-four;
+  up = refl;
+  handles = refl;
+  queue = refl;
+  taken = refl;
+  settled = refl;
+  earlier = refl;
+  checkpointed = refl;
+  next = refl;
+  credits = refl;
+}
 
-abbrev m2 : Machine
-m2 = after_event m1 (Stop 0)
-
-abbrev m3 : Machine
-m3 = after_event m2 (Open 1 0)
+-- after some events, the newest of which is first
+abbrev after : Machine → List Event → Machine
+after m [] = m
+after m (e ∷ es) = after_event (after m es) e
 
 abbrev m4 : Machine
-m4 = after_event m3 (Stop 1)
+m4 = after m0 (Stop 1 ∷ Open 1 0 ∷ Stop 0 ∷ Open 0 0 ∷ [])
 
 abbrev m5 : Machine
 m5 = after_take m4 (0 ∷ 2 ∷ [])
 
-abbrev m6 : Machine
-m6 = after_event m5 (Settle 1)
-
-abbrev m7 : Machine
-m7 = after_event m6 (Open 0 0)
-
 abbrev m8 : Machine
-m8 = after_event m7 (Stop 0)
+m8 = after m5 (Stop 0 ∷ Open 0 0 ∷ Settle 1 ∷ [])
 
 -- the history: three handles without a change
 abbrev history : List WordMap
@@ -155,43 +143,13 @@ module _ (bounds : Vec ℕ Global) (are : bounds.items ≡ (0 ∷ 2 ∷ [])) whe
   events = (Stop 0, Ok (Ticket 2)) ∷ (Open 0 0, Ok Plain) ∷ (Settle 1, Ok Plain) ∷ (Take bounds, Ok Plain) ∷ opened
 
   ran4 : Ran six opened m4
-  ran4 = (
-    m3,
-    (
-      m2,
-      (
-        m1,
-        (
-          m0,
-          record {
-            same_shape = refl;
-            tags = refl;
-            entries = refl;
-            most = most-four;
-            up = refl;
-            handles = refl;
-            queue = refl;
-            taken = refl;
-            settled = refl;
-            earlier = refl;
-            checkpointed = refl;
-            next = refl;
-            credits = refl;
-          },
-          (refl, tt, refl, refl),
-        ),
-        (refl, tt, refl, refl),
-      ),
-      (refl, tt, refl, refl),
-    ),
-    (refl, tt, refl, refl),
-  )
+  ran4 = (_, (_, (_, (m0, new, (refl, tt, refl, refl)), (refl, tt, refl, refl)), (refl, tt, refl, refl)), (refl, tt, refl, refl))
 
   ran5 : Ran six ((Take bounds, Ok Plain) ∷ opened) m5
   ran5 = (m4, ran4, (refl, subst (IsLeastCut c 6 2) (sym are) least, ap (after_take m4) (sym are), refl))
 
   ran : Ran six events m8
-  ran = (m7, (m6, (m5, ran5, (refl, tt, refl, refl)), (refl, tt, refl, refl)), (refl, tt, refl, refl))
+  ran = (_, (_, (m5, ran5, (refl, tt, refl, refl)), (refl, tt, refl, refl)), (refl, tt, refl, refl))
 
   run : IsMachineRun six history (idle_group ∷ [])
   run = record {

@@ -1,5 +1,5 @@
 -- A program goes on call by call, and a crash leaves a first part of what it changes.
-use Rattle.std.proofs.Common.{◌≡◌, ℕ, ◌+◌, false, List, [], ◌∷◌, ◌++◌, map, append_assoc, Result, inr, refl, ap, sym, subst, ◌∙◌, arith}
+use Rattle.std.proofs.Common.{◌≡◌, ℕ, ◌+◌, false, List, [], ◌∷◌, ◌++◌, map, append_assoc, Result, inr, refl, ap, sym, subst, ◌∙◌, arith, add-zero}
 use mathlib.Core.List.{append-nil}
 use Rattle.jb_plan.specs.Prepared.{Planned}
 use Rattle.jb_disk.specs.declared.disk.Disk.{Ghosts}
@@ -33,7 +33,7 @@ module _ {D : Type 0} {G : Ghosts D} {entry : D} where
   begun {opened = opened} recovers since holds keeps new opens stands kept run same shaped =
       let own = subst (IsShapeOf opened.log.sb (G.count opened.disk)) same shaped in
       record {
-        next = (let n : opened.log.next ≡ opened.log.next + 0 = omega arith in n);
+        next = sym (add-zero opened.log.next);
         up = new.aborted;
         same_size = kept.same_size;
         same_count = kept.same_count;
@@ -79,21 +79,16 @@ module _ {D : Type 0} {G : Ghosts D} {entry : D} where
       run = λ honest. subst (λ ps. Runs G entry ps new.disk) parts (run honest);
     }
 
-    pub still : (changes : List Change) (c : Image) → LeftIn G now changes now.log.next c → LeftIn G now changes (now.log.next + 0) c
-    still changes c left = subst (λ n. LeftIn G now changes n c) (let n : now.log.next ≡ now.log.next + 0 = omega arith in n) left
-
     -- ---- a call that changes nothing
 
     pub idle-runs : {new closed : D} → closed ≡ new → Keeps G now.disk new → Leaving G now new (LeftNow G now) → G.honest closed
         → Runs G entry (made ++ rest) closed
-    idle-runs same kept left = runs same kept (LeftNow G now) left (λ honest c has. left-program G entry so honest [] 0 c (still [] c has) (no_more rest))
+    idle-runs same kept left = runs same kept (LeftNow G now) left (λ honest c has. left-program G entry so honest [] 0 c has (omega arith) (no_more rest))
 
     idle-step : {new : OpenDeck D} → Keeps G now.disk new.disk → Ends G now [] new → new.log.next ≡ now.log.next → new.aborted ≡ false
         → (G.honest new.disk → Runs G entry (made ++ rest) new.disk) → SoFar G entry opened made rest new
     idle-step {new = new} kept ended next up run =
-        let same : new.log.next ≡ now.log.next + 0 = omega (arith, next) in
-        let none : all_groups made ≡ all_groups made + 0 = omega arith in
-        step made rest [] 0 refl (sym (append-nil (all_changes made))) none kept ended same up run
+        step made rest [] 0 refl (sym (append-nil (all_changes made))) (sym (add-zero (all_groups made))) kept ended (next ∙ sym (add-zero now.log.next)) up run
 
     pub idle-on : {new : OpenDeck D} → Keeps G now.disk new.disk → Ends G now [] new → new.log.next ≡ now.log.next → new.aborted ≡ false
         → Leaving G now new.disk (LeftNow G now) → SoFar G entry opened made rest new
@@ -121,9 +116,8 @@ module _ {D : Type 0} {G : Ghosts D} {entry : D} where
         let sum : all_groups made + 0 ≡ n = omega (arith, many) in
         record {
           each = λ c may.
-              subst (λ m. Has G entry (all_changes made) m c) sum
-              (subst (λ cs. Has G entry cs (all_groups made + 0) c) (append-nil (all_changes made))
-              (left-has G entry so honest [] 0 c (still [] c (left.each c may))));
+              subst (λ (x : List Change × ℕ). Has G entry x.0 x.1 c) (λ i. (append-nil (all_changes made) i, sum i))
+              (left-has G entry so honest [] 0 c (left.each c may) (omega arith));
         }
 
     -- once the journal is closed
@@ -144,7 +138,7 @@ module _ {D : Type 0} {G : Ghosts D} {entry : D} where
     commit-runs same kept left =
         runs so same kept (LeftInBatch G now batch) left (λ honest c l.
         let hs : List Change = map settles (handles_to batch.groups l.groups batch.batch.handles) in
-        left-program G entry so honest hs l.groups c l.left (in_batch batch rest l.groups l.within))
+        left-program G entry so honest hs l.groups c l.left refl (in_batch batch rest l.groups l.within))
 
     pub commit-on : {new : OpenDeck D} → Keeps G now.disk new.disk → Ends G now (map settles batch.batch.handles) new
         → new.log.next ≡ now.log.next + groups_in batch.groups → new.aborted ≡ false → Leaving G now new.disk (LeftInBatch G now batch)
@@ -153,9 +147,7 @@ module _ {D : Type 0} {G : Ghosts D} {entry : D} where
         let one : List Part = commits batch ∷ [] in
         let hs : List Change = map settles batch.batch.handles in
         let all : all_changes (made ++ one) ≡ all_changes made ++ hs = changes-append made one ∙ ap (λ cs. all_changes made ++ cs) (append-nil hs) in
-        let sum : all_groups (made ++ one) ≡ all_groups made + (groups_in batch.groups + 0) = groups-append made one in
-        let many : all_groups (made ++ one) ≡ all_groups made + groups_in batch.groups = omega (arith, sum) in
-        step so (made ++ one) rest hs (groups_in batch.groups) (sym (append_assoc made one rest)) all many kept ended next up (commit-runs refl kept left)
+        step so (made ++ one) rest hs (groups_in batch.groups) (sym (append_assoc made one rest)) all (rw add-zero at (groups-append made one)) kept ended next up (commit-runs refl kept left)
 
   -- ---- bytes that are written into a free home
 
@@ -166,7 +158,7 @@ module _ {D : Type 0} {G : Ghosts D} {entry : D} where
     write-runs same kept left =
         let torn = torn_by r home bytes in
         runs so same kept (LeftIn G now torn now.log.next) left (λ honest c has.
-        left-program G entry so honest torn 0 c (still so torn c has) (torn-part r home bytes rest))
+        left-program G entry so honest torn 0 c has (omega arith) (torn-part r home bytes rest))
 
     pub write-on : {new : OpenDeck D} → new ≡ on_disk now new.disk → Keeps G now.disk new.disk
         → (G.honest new.disk → new.aborted ≡ false → IsEnded G.newest now (fills home bytes ∷ []) new)
@@ -174,7 +166,6 @@ module _ {D : Type 0} {G : Ghosts D} {entry : D} where
     write-on {new = new} same kept ended left =
         let one : List Part = writes home bytes ∷ [] in
         let up : new.aborted ≡ false = ap (λ (d : OpenDeck D). d.aborted) same ∙ so.up in
-        let was : new.log.next ≡ now.log.next = ap (λ (d : OpenDeck D). d.log.next) same in
-        let next : new.log.next ≡ now.log.next + 0 = omega (arith, was) in
+        let next = ap (λ (d : OpenDeck D). d.log.next) same ∙ sym (add-zero now.log.next) in
         step so (made ++ one) rest (fills home bytes ∷ []) 0 (sym (append_assoc made one rest)) (changes-append made one) (groups-append made one)
         kept (λ honest. ended honest up) next up (write-runs refl kept left)

@@ -11,4 +11,3 @@ pub mod Journal
 pub mod Living
 pub mod Parts
 pub mod Programs
-pub mod Steps

@@ -1,6 +1,8 @@
 -- One life of a journal: from what stands before it to what is recovered after it.
-use Rattle.std.proofs.Common.{◌≡◌, ℕ, ◌+◌, ◌%◌, ◌^◌, ◌⊎◌, Bool, true, false, nat_eq, List, [], ◌∷◌, ◌++◌, Ok, inl, inr, ⊎_elim, refl, ap, sym, subst, ◌∙◌, arith}
-use Rattle.jb_disk.specs.History.{History, MayLeave, newest_of, replay}
+use Rattle.std.proofs.Common.{◌≡◌, ℕ, ◌+◌, ◌%◌, ◌^◌, ◌⊎◌, Bool, true, false, nat_eq, List, [], ◌∷◌, ◌++◌, Ok, inl, inr, ⊎_elim, refl, ap, ap₂, sym, subst, ◌∙◌, arith, add-zero}
+use Rattle.std.proofs.lemmas.Bool.{false≢true}
+use Rattle.jb_block.specs.Size.{bytes_of}
+use Rattle.jb_disk.specs.History.{History, IsHistorySound, MayLeave, newest_of, replay}
 use Rattle.jb_disk.specs.declared.disk.Disk.{Ghosts}
 use Rattle.jb_disk.specs.Image.{Image, Only, block}
 use Rattle.jb_disk.specs.Time.{LeavesOnly}
@@ -16,27 +18,21 @@ use Rattle.jb_recover.proofs.Outcomes.{own-clean_refusal}
 use Rattle.jb_log.specs.declared.log.Log.{Log}
 use Rattle.jb_log.proofs.Framed.{frame-start}
 use Rattle.jb_log.proofs.Owning.{same-then}
-use Rattle.jb_deck.specs.Calls.{IsCleanAt, IsRecoveredTo}
-use Rattle.jb_deck.specs.Changes.{Change, HoldsAfter, settled_in}
+use Rattle.jb_deck.specs.Calls.{IsCleanAt}
+use Rattle.jb_deck.specs.Changes.{Change, HoldsAfter}
 use Rattle.jb_deck.specs.Deck.{IsShapeOf}
 use Rattle.jb_deck.specs.Gathering.{groups_in}
 use Rattle.jb_deck.specs.Opening.{home_by, opened_log, recovered_home}
 use Rattle.jb_deck.specs.Since.{HoldsOn}
 use Rattle.jb_deck.proofs.Lives.{one-super, revoking-twice, same-revoking}
 use Rattle.jb_deck.proofs.Opened.{revoking-same}
-use Rattle.proof_clients.specs.Lives.{HasLives, HoldsChanges, HoldsLife, IsBatchOf, IsPartOfLife, IsWholeLife, LeftByLife, no_life, nothing, of_batch, one_life}
+use Rattle.proof_clients.specs.Lives.{HasLives, HoldsChanges, HoldsLife, IsAtRest, IsBatchOf, IsPartOfLife, LeftByLife, no_life, nothing, of_batch, one_life}
 use Rattle.proof_clients.proofs.Programs.{Left, Runs}
-use Rattle.proof_clients.specs.Programs.{HasChanges, IsPartOf, LeftByProgram, after_batch, all_changes, commits, no_more}
+use Rattle.proof_clients.specs.Programs.{HasChanges, IsPartOf, LeftByProgram, Part, after_batch, all_changes, commits, no_more}
 
 -- a disk on which nothing is pending
 pub fresh-only : (h : History) → h.steps ≡ [] → Only (newest_of h) (MayLeave h.first h.steps)
 fresh-only h none = subst (λ steps. Only (replay h.first steps) (MayLeave h.first steps)) (sym none) (λ c is. is)
-
--- the whole of a program of one batch
-whole-part : (batch : Planned) → IsPartOf (commits batch ∷ []) (all_changes (commits batch ∷ [])) (groups_in batch.groups)
-whole-part batch =
-    let sum : groups_in batch.groups + 0 ≡ groups_in batch.groups = omega arith in
-    subst (IsPartOf (commits batch ∷ []) (all_changes (commits batch ∷ []))) sum (after_batch batch [] [] 0 (no_more []))
 
 -- ---- up to the crash
 
@@ -44,61 +40,48 @@ whole-part batch =
 none-part : (own : Superblock) (count : ℕ) (handles : List Stopped) (changes : List Change) (groups : ℕ) → IsPartOf [] changes groups → IsPartOfLife own count handles changes groups
 none-part own count handles changes groups (no_more _) = nothing
 
-false-true : false ≡ true → ⊥
-false-true is = cc
-
-pub left-none : (size count : ℕ) (base : Image) (handles : List Stopped) (c : Image) → LeftByProgram size count base [] c → LeftByLife size count base handles false c
-left-none size count base handles c l = record { changes = l.changes; groups = l.groups; has = l.has; part = none-part l.has.own count handles l.changes l.groups l.part; all = λ yes. absurd (false-true yes) }
-
--- the batch is one of the life's handles, planned for the journal that was opened
-batch-of : (own : Superblock) (l : Log) → l ≡ opened_log own → (count : ℕ) (handles : List Stopped) (batch : Planned) → IsPlanned batch → batch.batch.handles ≡ handles → IsShapeOf l.sb count batch.batch.shape → IsBatchOf own count handles batch
-batch-of own l is count handles batch planned same shaped =
-    let at = subst (λ (m : Log). IsShapeOf m.sb count batch.batch.shape) is shaped in
-    record { planned = planned; same = same; shape = record { size = at.size; homes = at.homes; limit = at.limit; width = at.width } }
-
--- the same by the superblock that an image had
+-- the batch is one of the life's handles, planned for the journal that was opened, by the superblock that an image had
 pub batch-opened : (size count : ℕ) (base : Image) (sb : Superblock) (l : Log) → super_on size count base ≡ Ok sb → l ≡ opened_log sb → (handles : List Stopped) (batch : Planned) → IsPlanned batch → batch.batch.handles ≡ handles → IsShapeOf l.sb count batch.batch.shape
     → (own : Superblock) → super_on size count base ≡ Ok own → IsBatchOf own count handles batch
-batch-opened size count base sb l taken is handles batch planned same shaped own was = batch-of own l (is ∙ ap opened_log (one-super size count base sb own taken was)) count handles batch planned same shaped
+batch-opened size count base sb l taken is handles batch planned same shaped own was =
+    let at = subst (λ (m : Log). IsShapeOf m.sb count batch.batch.shape) (is ∙ ap opened_log (one-super size count base sb own taken was)) shaped in
+    record { planned = planned; same = same; shape = record { size = at.size; homes = at.homes; limit = at.limit; width = at.width } }
 
-module _ (size count : ℕ) (base : Image) (handles : List Stopped) (batch : Planned) (c : Image) where
-  -- of which superblock the batch is one
-  abbrev pub Of : Superblock → Type 0
-  Of own = IsBatchOf own count handles batch
-
-  -- a crash in the life
-  pub left-batch : ((own : Superblock) → super_on size count base ≡ Ok own → Of own) → LeftByProgram size count base (commits batch ∷ []) c → LeftByLife size count base handles false c
-  left-batch of l = record { changes = l.changes; groups = l.groups; has = l.has; part = of_batch batch l.changes l.groups (of l.has.own l.has.was) l.part; all = λ yes. absurd (false-true yes) }
-
-  -- or after it
-  pub left-whole : ((own : Superblock) → super_on size count base ≡ Ok own → Of own) → HasChanges size count base (all_changes (commits batch ∷ [])) (groups_in batch.groups) c → LeftByLife size count base handles true c
-  left-whole of has =
-      let is = of has.own has.was in
-      record {
-        changes = all_changes (commits batch ∷ []);
-        groups = groups_in batch.groups;
-        has = has;
-        part = of_batch batch (all_changes (commits batch ∷ [])) (groups_in batch.groups) is (whole-part batch);
-        all = λ yes. record { batch = batch; is = is; all = refl; every = refl };
-      }
+-- a crash after the life
+pub left-whole : (size count : ℕ) (base : Image) (handles : List Stopped) (batch : Planned) (c : Image) → ((own : Superblock) → super_on size count base ≡ Ok own → IsBatchOf own count handles batch)
+    → HasChanges size count base (all_changes (commits batch ∷ [])) (groups_in batch.groups) c → LeftByLife size count base handles true c
+left-whole size count base handles batch c of has =
+    let is = of has.own has.was in
+    record {
+      changes = all_changes (commits batch ∷ []);
+      groups = groups_in batch.groups;
+      has = has;
+      part = of_batch batch (all_changes (commits batch ∷ [])) (groups_in batch.groups) is (rw add-zero at (after_batch batch [] [] 0 (no_more [])));
+      all = λ yes. record { batch = batch; is = is; all = refl; every = refl };
+    }
 
 module _ {D : Type 0} (G : Ghosts D) (entry : D) (handles : List Stopped) where
   -- what a crash leaves from the entry on
   abbrev pub LifeLeft : Image → Type 0
   LifeLeft c = G.may_leave entry c ⊎ LeftByLife (G.size entry) (G.count entry) (G.newest entry) handles false c
 
-  pub none-runs : (now : D) → Runs G entry [] now → LeavesOnly G.moment G.left_since entry now LifeLeft
-  none-runs now run =
-      weaken G.moment G.left_since entry now (Left G entry []) LifeLeft
-      (λ c. ⊎_elim inl (λ (l : LeftByProgram (G.size entry) (G.count entry) (G.newest entry) [] c). inr (left-none (G.size entry) (G.count entry) (G.newest entry) handles c l)))
-      run
+  -- and in a program, each part of which is one of the life
+  pub life-runs : (parts : List Part)
+      → ((own : Superblock) → super_on (G.size entry) (G.count entry) (G.newest entry) ≡ Ok own → (changes : List Change) (groups : ℕ) → IsPartOf parts changes groups → IsPartOfLife own (G.count entry) handles changes groups)
+      → (now : D) → Runs G entry parts now → LeavesOnly G.moment G.left_since entry now LifeLeft
+  life-runs parts of now run =
+      let left : (c : Image) → LeftByProgram (G.size entry) (G.count entry) (G.newest entry) parts c → LeftByLife (G.size entry) (G.count entry) (G.newest entry) handles false c
+      = λ c l. record {
+        changes = l.changes;
+        groups = l.groups;
+        has = l.has;
+        part = of l.has.own l.has.was l.changes l.groups l.part;
+        all = λ yes. absurd (false≢true yes);
+      } in
+      weaken G.moment G.left_since entry now (Left G entry parts) LifeLeft (λ c. ⊎_elim inl (λ l. inr (left c l))) run
 
-  pub batch-runs : (batch : Planned) → ((own : Superblock) → super_on (G.size entry) (G.count entry) (G.newest entry) ≡ Ok own → IsBatchOf own (G.count entry) handles batch)
-      → (now : D) → Runs G entry (commits batch ∷ []) now → LeavesOnly G.moment G.left_since entry now LifeLeft
-  batch-runs batch of now run =
-      weaken G.moment G.left_since entry now (Left G entry (commits batch ∷ [])) LifeLeft
-      (λ c. ⊎_elim inl (λ (l : LeftByProgram (G.size entry) (G.count entry) (G.newest entry) (commits batch ∷ []) c). inr (left-batch (G.size entry) (G.count entry) (G.newest entry) handles batch c of l)))
-      run
+  pub none-runs : (now : D) → Runs G entry [] now → LeavesOnly G.moment G.left_since entry now LifeLeft
+  none-runs now run = life-runs [] (λ own was changes groups part. none-part own (G.count entry) handles changes groups part) now run
 
 -- ---- to the recovery after it
 
@@ -113,9 +96,6 @@ module _ (on : HoldsOn) (size count : ℕ) (own : Superblock) (last : ℕ) (befo
   same-journal : (a : Superblock) → Own a → SameJournal (revoking own) (revoking a)
   same-journal a is = ⊎_elim (same-revoking own a) (λ (second : SameJournal (revoking own) a). subst (λ (x : Superblock). SameJournal x (revoking a)) (revoking-twice own) (same-revoking (revoking own) a second)) is
 
-  own-revoking : (a : Superblock) → Own a → Own (revoking a)
-  own-revoking a is = inr (same-journal a is)
-
   -- a plan for the one is one for the other
   batch-own : (a : Superblock) → Own a → (batch : Planned) → IsBatchOf a count handles batch → IsBatchOf own count handles batch
   batch-own a is batch of =
@@ -126,41 +106,41 @@ module _ (on : HoldsOn) (size count : ℕ) (own : Superblock) (last : ℕ) (befo
   part-own a is changes groups nothing = nothing
   part-own a is changes groups (of_batch batch _ _ of part) = of_batch batch changes groups (batch-own a is batch of) part
 
-  whole-own : (a : Superblock) → Own a → (changes : List Change) (groups : ℕ) → IsWholeLife a count handles changes groups → IsWholeLife own count handles changes groups
-  whole-own a is changes groups whole = record { batch = whole.batch; is = batch-own a is whole.batch whole.is; all = whole.all; every = whole.every }
-
   own-maxlen : (a : Superblock) → Own a → a.maxlen ≡ own.maxlen
   own-maxlen a is = ⊎_elim (λ (first : SameJournal own a). ap (λ (x : Superblock). x.maxlen) first) (λ (second : SameJournal (revoking own) a). ap (λ (x : Superblock). x.maxlen) second ∙ (revoking-same own).maxlen) is
 
-  -- an image with these changes since, recovered
-  module _ (changes : List Change) (groups : ℕ) (c : Image) (has : HasChanges size count base changes groups c) (part : IsPartOfLife has.own count handles changes groups) (all : committed ≡ true → IsWholeLife has.own count handles changes groups) where
+  -- an image that is left by the life, recovered
+  module _ (c : Image) (l : LeftByLife size count base handles committed c) where
     abbrev r : Image
     r = recovered size count c
 
-    is_own : has.own ≡ entry.sb
-    is_own = one-super size count base has.own entry.sb has.was entry.taken
+    abbrev sb : Superblock
+    sb = l.has.own
 
-    owned : Own has.own
+    is_own : sb ≡ entry.sb
+    is_own = one-super size count base sb entry.sb l.has.was entry.taken
+
+    owned : Own sb
     owned = subst Own (sym is_own) entry.same
 
     stood : (home : ℕ) → recovered_home size count base home ≡ block base (own.maxlen + home)
     stood home =
-        ap (λ x. home_by x (recovered size count base) home) has.was
-        ∙ ap (λ e. block e (has.own.maxlen + home)) still
-        ∙ ap (λ m. block base (m + home)) (own-maxlen has.own owned)
+        ap (λ x. home_by x (recovered size count base) home) l.has.was
+        ∙ ap (λ e. block e (sb.maxlen + home)) still
+        ∙ ap (λ m. block base (m + home)) (own-maxlen sb owned)
 
-    clean-more : (x : Superblock) → Own x → IsCleanAt x (has.own.sequence + 1 + groups) size count r → HoldsLife own last size count before done handles committed r
+    clean-more : (x : Superblock) → Own x → IsCleanAt x (sb.sequence + 1 + l.groups) size count r → HoldsLife own last size count before done handles committed r
     clean-more x is after =
-        let at : has.own.sequence ≡ last = ap (λ (s : Superblock). s.sequence) is_own ∙ entry.number in
+        let at : sb.sequence ≡ last = ap (λ (s : Superblock). s.sequence) is_own ∙ entry.number in
         record {
-          changes = changes;
-          groups = groups;
-          part = part-own has.own owned changes groups part;
-          all = λ yes. whole-own has.own owned changes groups (all yes);
+          changes = l.changes;
+          groups = l.groups;
+          part = part-own sb owned l.changes l.groups l.part;
+          all = λ yes. (let whole = l.all yes in record { batch = whole.batch; is = batch-own sb owned whole.batch whole.is; all = whole.all; every = whole.every });
           now = after.sb.sequence;
           counts = ⊎_elim
-              (λ early. inl (let e : after.sb.sequence ≡ last + groups = omega (arith, early, at) in e))
-              (λ late. inr (late ∙ ap (λ n. n % 2 ^ 32) (ap (λ n. n + 1 + groups) at)))
+              (λ early. inl (let e : after.sb.sequence ≡ last + l.groups = omega (arith, early, at) in e))
+              (λ late. inr (late ∙ ap (λ n. n % 2 ^ 32) (ap (λ n. n + 1 + l.groups) at)))
               after.number;
           holds = record {
             sb = after.sb;
@@ -170,18 +150,17 @@ module _ (on : HoldsOn) (size count : ℕ) (own : Superblock) (last : ℕ) (befo
             number = refl;
             homes = λ home.
                 let now : List ℕ = block r (own.maxlen + home) in
-                on done changes home (before home) (block base (own.maxlen + home)) now (entry.homes home)
-                (subst (λ b. HoldsAfter changes home (λ bytes. bytes ≡ b) now) (stood home)
-                (subst (λ m. HoldsAfter changes home (λ bytes. bytes ≡ recovered_home size count base home) (block r (m + home))) (own-maxlen has.own owned) (has.holds home)));
+                on done l.changes home (before home) (block base (own.maxlen + home)) now (entry.homes home)
+                (subst (λ b. HoldsAfter l.changes home (λ bytes. bytes ≡ b) now) (stood home)
+                (subst (λ m. HoldsAfter l.changes home (λ bytes. bytes ≡ recovered_home size count base home) (block r (m + home))) (own-maxlen sb owned) (l.has.holds home)));
           };
         }
 
     has-more : HoldsLife own last size count before done handles committed r
-    has-more =
-        ⊎_elim
-        (λ (is : IsRecoveredTo has.own (has.own.sequence + 1 + groups) size count (recovered_home size count base) (settled_in changes) c). clean-more has.own owned is.after)
-        (λ (is : IsRecoveredTo (revoking has.own) (has.own.sequence + 1 + groups) size count (recovered_home size count base) (settled_in changes) c). clean-more (revoking has.own) (own-revoking has.own owned) is.after)
-        has.recovered_to
+    has-more = elim l.has.recovered_to [
+      | inl is ↦ clean-more sb owned is.after
+      | inr is ↦ clean-more (revoking sb) (inr (same-journal sb owned)) is.after
+    ]
 
   -- nothing was changed
   none-has : HasChanges size count base [] 0 base
@@ -206,16 +185,24 @@ module _ (on : HoldsOn) (size count : ℕ) (own : Superblock) (last : ℕ) (befo
   pub life-more : (c new : Image) → ((c ≡ base) ⊎ LeftByLife size count base handles false c)
       → (committed ≡ true → LeftByLife size count base handles true c)
       → new ≡ recovered size count c → HoldsLife own last size count before done handles committed new
-  life-more c new left whole ended = subst (HoldsLife own last size count before done handles committed) (sym ended) (go committed refl)
+  life-more c new left whole ended = subst (HoldsLife own last size count before done handles committed) (sym ended) (has-more c (so committed left whole))
     where
-      go : (b : Bool) → committed ≡ b → HoldsLife own last size count before done handles committed (recovered size count c)
-      go true is = let l = whole is in has-more l.changes l.groups c l.has l.part (λ yes. l.all refl)
-      go false is =
-          let never : committed ≡ true → ⊥ = λ yes. false-true (sym is ∙ yes) in
-          ⊎_elim
-          (λ (same : c ≡ base). has-more [] 0 c (subst (HasChanges size count base [] 0) (sym same) none-has) nothing (λ yes. absurd (never yes)))
-          (λ (l : LeftByLife size count base handles false c). has-more l.changes l.groups c l.has l.part (λ yes. absurd (never yes)))
-          left
+      none : LeftByLife size count base handles false base
+      none = record { changes = []; groups = 0; has = none-has; part = nothing; all = λ yes. absurd (false≢true yes) }
+
+      so : (b : Bool) → ((c ≡ base) ⊎ LeftByLife size count base handles false c) → (b ≡ true → LeftByLife size count base handles true c) → LeftByLife size count base handles b c
+      so true left whole = whole refl
+      so false (inl same) whole = subst (LeftByLife size count base handles false) (sym same) none
+      so false (inr l) whole = l
+
+-- a disk in memory that was recovered is at rest
+pub rested : (size count : ℕ) (old : Image) (new : History) → IsHistorySound new → Only (newest_of new) (MayLeave new.first new.steps) → bytes_of new.size ≡ size → new.count ≡ count
+    → newest_of new ≡ recovered size count old → recovered size count (recovered size count old) ≡ recovered size count old → IsAtRest new
+rested size count old new sound only same_size same_count ended once = record {
+  sound = sound;
+  only = only;
+  still = ap₂ (λ s n. recovered s n (newest_of new)) same_size same_count ∙ ap (recovered size count) ended ∙ once ∙ sym ended;
+}
 
 -- an image that was recovered has no changes, counted from its own homes
 pub holds-none : (size count : ℕ) (base new : Image) (keeps : KeepsJournal size count base new) → new ≡ recovered size count base → HoldsChanges keeps.own keeps.is.sb.sequence size count (recovered_home size count base) [] new

@@ -1,5 +1,5 @@
 -- The parts of a program: what they change, one after another, and what a part of them is.
-use Rattle.std.proofs.Common.{◌≡◌, ℕ, ◌+◌, true, nat_eq, List, [], ◌∷◌, ◌++◌, map, append_assoc, Result, Ok, Err, refl, ap, sym, subst, ◌∙◌, arith}
+use Rattle.std.proofs.Common.{◌≡◌, ℕ, ◌+◌, true, nat_eq, List, [], ◌∷◌, ◌++◌, map, append_assoc, Result, Ok, Err, refl, ap, sym, subst, arith, add_assoc, zero-add}
 use Rattle.std.proofs.lemmas.Bool.Decides.{nat_tests}
 use Rattle.jb_deck.specs.Changes.{Change, HoldsAfter, HoldsAfterFill, fills, settles, torn_by}
 use Rattle.jb_deck.specs.Gathering.{groups_in}
@@ -26,29 +26,21 @@ torn-part (Err DeviceFault) home bytes rest = in_write home bytes rest
 -- what some parts changed, and then a part of the next ones, is a part of all
 pub part-on : (made rest : List Part) (changes : List Change) (more : ℕ) → IsPartOf rest changes more
     → IsPartOf (made ++ rest) (all_changes made ++ changes) (all_groups made + more)
-part-on [] rest changes more part = subst (IsPartOf rest changes) (let n : more ≡ 0 + more = omega arith in n) part
+part-on [] rest changes more part = rw (zero-add more) part
 part-on (commits batch ∷ made) rest changes more part =
-    let hs : List Change = map settles batch.batch.handles in
-    let all = commits batch ∷ (made ++ rest) in
-    let sum : groups_in batch.groups + (all_groups made + more) ≡ groups_in batch.groups + all_groups made + more = omega arith in
-    subst (IsPartOf all ((hs ++ all_changes made) ++ changes)) sum
-    (subst (λ cs. IsPartOf all cs (groups_in batch.groups + (all_groups made + more))) (sym (append_assoc hs (all_changes made) changes))
-    (after_batch batch (made ++ rest) (all_changes made ++ changes) (all_groups made + more) (part-on made rest changes more part)))
+    rw (append_assoc (map settles batch.batch.handles) (all_changes made) changes, add_assoc (groups_in batch.groups) (all_groups made) more)
+    (after_batch batch (made ++ rest) (all_changes made ++ changes) (all_groups made + more) (part-on made rest changes more part))
 part-on (writes home bytes ∷ made) rest changes more part =
     after_write home bytes (made ++ rest) (all_changes made ++ changes) (all_groups made + more) (part-on made rest changes more part)
 
 -- what is changed by further parts
 pub changes-append : (made more : List Part) → all_changes (made ++ more) ≡ all_changes made ++ all_changes more
 changes-append [] more = refl
-changes-append (commits batch ∷ made) more =
-    let hs : List Change = map settles batch.batch.handles in
-    ap (λ cs. hs ++ cs) (changes-append made more) ∙ sym (append_assoc hs (all_changes made) (all_changes more))
+changes-append (commits batch ∷ made) more = rw (changes-append made more, append_assoc (map settles batch.batch.handles) (all_changes made) (all_changes more))
 changes-append (writes home bytes ∷ made) more = ap (λ cs. fills home bytes ∷ cs) (changes-append made more)
 
 -- and in how many groups
 pub groups-append : (made more : List Part) → all_groups (made ++ more) ≡ all_groups made + all_groups more
-groups-append [] more = let n : all_groups more ≡ 0 + all_groups more = omega arith in n
-groups-append (commits batch ∷ made) more =
-    let rest = groups-append made more in
-    let n : groups_in batch.groups + all_groups (made ++ more) ≡ groups_in batch.groups + all_groups made + all_groups more = omega (arith, rest) in n
+groups-append [] more = sym (zero-add (all_groups more))
+groups-append (commits batch ∷ made) more = rw (groups-append made more, add_assoc (groups_in batch.groups) (all_groups made) (all_groups more))
 groups-append (writes home bytes ∷ made) more = groups-append made more

@@ -28,26 +28,18 @@ use Rattle.proof_clients.proofs.Parts.{part-on}
 entry-has : OpeningIsRecovered → (size count : ℕ) (base c : Image) → FollowsEntry size count base c → HasChanges size count base [] 0 c
 entry-has opening size count base c f =
     let before : ℕ → List ℕ = recovered_home size count base in
-    let numbered : f.sb.sequence + 1 ≡ f.sb.sequence + 1 + 0 = omega arith in
-    let at : (own : Superblock) → IsRecoveredTo own (f.sb.sequence + 1) size count before [] c → IsRecoveredTo own (f.sb.sequence + 1 + 0) size count before [] c
-    = λ own is. subst (λ n. IsRecoveredTo own n size count before [] c) numbered is in
+    let none : f.sb.sequence + 1 ≡ f.sb.sequence + 1 + 0 = omega arith in
     let here : (home maxlen : ℕ) → maxlen ≡ f.sb.maxlen → block (recovered size count c) (f.sb.maxlen + home) ≡ block (recovered size count c) (maxlen + home)
     = λ home maxlen same. ap (λ m. block (recovered size count c) (m + home)) (sym same) in
     let is = opening size count base c f in
     record {
       own = f.sb;
       was = f.was;
-      recovered_to =
-          ⊎_elim
-          (λ (early : IsRecoveredTo f.sb (f.sb.sequence + 1) size count before [] c). inl (at f.sb early))
-          (λ (late : IsRecoveredTo (revoking f.sb) (f.sb.sequence + 1) size count before [] c). inr (at (revoking f.sb) late))
-          is;
-      holds = λ home.
-          ⊎_elim
-          (λ (early : IsRecoveredTo f.sb (f.sb.sequence + 1) size count before [] c). here home _ (ap (λ (x : Superblock). x.maxlen) early.same) ∙ early.each home)
-          (λ (late : IsRecoveredTo (revoking f.sb) (f.sb.sequence + 1) size count before [] c).
-          here home _ (ap (λ (x : Superblock). x.maxlen) late.same ∙ (revoking-same f.sb).maxlen) ∙ late.each home)
-          is;
+      recovered_to = subst (λ n. IsRecoveredTo f.sb n size count before [] c ⊎ IsRecoveredTo (revoking f.sb) n size count before [] c) none is;
+      holds = λ home. elim is [
+        | inl early ↦ here home _ (ap (λ (x : Superblock). x.maxlen) early.same) ∙ early.each home
+        | inr late ↦ here home _ (ap (λ (x : Superblock). x.maxlen) late.same ∙ (revoking-same f.sb).maxlen) ∙ late.each home
+      ];
       keeps = f.frame;
     }
 
@@ -143,23 +135,20 @@ module _ {D : Type 0} (G : Ghosts D) where
 
     -- what a crash left in the next call
     module _ {opened now : OpenDeck D} {made rest : List Part} (so : SoFar opened made rest now) (honest : G.honest now.disk)
-        (changes : List Change) (more : ℕ) (c : Image) (left : LeftIn now changes (now.log.next + more) c) where
-      here : IsLeft G.newest size count now changes (now.log.next + more) c
-      here =
-          subst (λ n. IsLeft G.newest size n now changes (now.log.next + more) c) so.same_count
-          (subst (λ s. IsLeft G.newest s (G.count now.disk) now changes (now.log.next + more) c) so.same_size left)
+        (changes : List Change) (more : ℕ) (c : Image) {next : ℕ} (left : LeftIn now changes next c) (sum : next ≡ now.log.next + more) where
+      here : IsLeft G.newest size count now changes next c
+      here = subst (λ (x : ℕ × ℕ). IsLeft G.newest x.0 x.1 now changes next c) (λ i. (so.same_size i, so.same_count i)) left
 
       pub left-to : {hs : List Stopped} {n : ℕ} → settled_in (all_changes made ++ changes) ≡ hs
           → (so.is honest).opens.sb.sequence + 1 + (all_groups made + more) ≡ n → IsRecoveredTo (revoking (so.is honest).opens.sb) n size count before hs c
       left-to {hs = hs} {n = n} settled many =
           let is = so.is honest in
-          let to = is.since size count before opened now (all_changes made) changes (now.log.next + more) c is.new is.stands (so.calls honest) here in
+          let to = is.since size count before opened now (all_changes made) changes next c is.new is.stands (so.calls honest) here in
           let start : opened.log.next ≡ is.opens.sb.sequence + 1 = ap (λ (x : Log). x.next) is.opens.log in
-          let next = so.next in
-          let number : now.log.next + more ≡ n = omega (arith, start, next, many) in
+          let number : next ≡ n = omega (arith, start, so.next, many, sum) in
           subst (λ m. IsRecoveredTo (revoking is.opens.sb) m size count before hs c) number
-          (opened-recovered opened.log is.opens.sb is.opens.log (now.log.next + more) size count before hs c
-          (subst (λ xs. IsRecoveredTo opened.log.sb (now.log.next + more) size count before xs c) settled to))
+          (opened-recovered opened.log is.opens.sb is.opens.log next size count before hs c
+          (subst (λ xs. IsRecoveredTo opened.log.sb next size count before xs c) settled to))
 
       pub left-has : Has (all_changes made ++ changes) (all_groups made + more) c
       left-has =
@@ -171,10 +160,10 @@ module _ {D : Type 0} (G : Ghosts D) where
             recovered_to = inr (left-to refl refl);
             holds = λ home.
                 subst (λ m. HoldsAfter (all_changes made ++ changes) home (λ bytes. bytes ≡ before home) (block (recovered size count c) (m + home))) maxlen
-                (is.holds size count before opened now (all_changes made) changes (now.log.next + more) c is.new is.stands (so.calls honest) here home);
+                (is.holds size count before opened now (all_changes made) changes next c is.new is.stands (so.calls honest) here home);
             keeps =
                 keeps-own opened.log is.opens.sb opened.shape count base c is.opens.log is.shaped
-                (is.keeps size count base opened now (all_changes made) changes (now.log.next + more) c is.opens is.shaped (so.calls honest) here).0;
+                (is.keeps size count base opened now (all_changes made) changes next c is.opens is.shaped (so.calls honest) here).0;
           }
 
       pub left-program : IsPartOf rest changes more → LeftByProgram size count base (made ++ rest) c

@@ -1,7 +1,29 @@
-use Rattle.proof_clients.proofs.Steps.{settled}
+use Rattle.std.proofs.Common.{◌≡◌, ◌++◌, refl, ap, subst, ◌∙◌}
+use Rattle.jb_cost.specs.Pieces.{pieces}
+use Rattle.jb_plan.specs.Batch.{gathered}
+use Rattle.jb_deck.specs.Done.{entries_of}
+use Rattle.jb_book.specs.Account.{Account}
+use Rattle.jb_book.specs.Calls.{AreOfFirst, IsCutOf}
 use Rattle.proof_clients.proofs.calls.settle.Goals as goal
 
+-- the queue is taken, committed and settled
 pub returns-in-Ok : goal.returns-in-Ok
 returns-in-Ok g c =
-    settled c.args.book.now c.take.new.self c.settle.new.self c.in_ok-batch.batch c.in_ok-prepared.prepared c.in_ok-done.done c.in_ok-batch.ensures.batch c.in_ok-prepared.ensures
-    c.args.deck.now.trail c.commit.new.deck.trail c.in_ok-done.ensures.trail c.in_ok-batch.ensures.taken c.in_ok-done.ensures.tells c.in-Ok.ensures.ok
+    let old = c.args.book.now in
+    let p = c.in_ok-prepared.prepared in
+    let plan = c.in_ok-prepared.ensures in
+    let can = c.in_ok-batch.ensures.taken in
+    let entries = entries_of c.in_ok-done.done in
+    let settles = c.in-Ok.ensures.ok in
+    let whole : p.batch ≡ gathered old.shadow.taken old.shadow.queue old.shape = plan.batch ∙ c.in_ok-batch.ensures.batch in
+    let least = subst (λ b. IsCutOf b p.groups) whole plan.planned.least in
+    let first = subst (λ b. AreOfFirst (pieces p.groups b.handles) entries) whole c.in_ok-done.ensures.tells in
+    record {
+      could = can.0;
+      cut = p.groups;
+      entries = entries;
+      least = least;
+      told = c.in_ok-done.ensures.trail;
+      trail = ap (λ (a : Account). a.trail) settles.2 ∙ ap (λ (a : Account). a.trail ++ entries) can.1;
+      goes = λ shape usable calls called. (c.take.new.self, (old, called, (can.0, refl, least, can.1)), (settles, first));
+    }

@@ -1,11 +1,11 @@
-use Rattle.std.proofs.Common.{◌≡◌, ◌+◌, List, [], ◌∷◌, ◌++◌, map, subst, ◌∙◌, ap, arith}
+use Rattle.std.proofs.Common.{◌≡◌, ◌+◌, List, [], ◌∷◌, ◌++◌, map, subst, ◌∙◌, ap, arith, add-zero}
 use mathlib.Core.List.{append-nil}
 use Rattle.jb_deck.specs.Changes.{Change, settled_in, settles}
 use Rattle.jb_deck.specs.Gathering.{groups_in}
 use Rattle.jb_deck.proofs.Changed.{settled-map}
 use Rattle.proof_clients.specs.Programs.{commits}
 use Rattle.proof_clients.proofs.Programs.{SoFar, left-to, opening-runs}
-use Rattle.proof_clients.proofs.Going.{begun, closed-has, closed-left, commit-on, commit-runs, still}
+use Rattle.proof_clients.proofs.Going.{begun, closed-has, closed-left, commit-on, commit-runs}
 use Rattle.proof_clients.proofs.closed.commit_and_close.Given.{Over}
 use Rattle.proof_clients.proofs.closed.commit_and_close.Goals.{After-commit}
 use Rattle.proof_clients.proofs.closed.commit_and_close.Goals as goal
@@ -42,12 +42,11 @@ returns-in-Ok-commit-clause-all g c = λ held.
     record {
       own = is.opens.sb;
       was = is.opens.taken;
-      each = λ image may. left-to g.D.Disk c.args.disk so honest [] 0 image (still so [] image (left.each image may)) all many;
+      each = λ image may. left-to g.D.Disk c.args.disk so honest [] 0 image (left.each image may) (omega arith) all many;
     }
 
 pub returns-in-Ok-commit-clause-ends : goal.returns-in-Ok-commit-clause-ends
 returns-in-Ok-commit-clause-ends g c =
     let ok = c.in-Ok-commit.ensures in
-    let many : groups_in c.args.batch.groups + 0 ≡ groups_in c.args.batch.groups = omega arith in
     let so = commit-on (opened g (goal.at.returns-in-Ok-commit-clause-ends g c).After-commit) ok.kept ok.ended ok.numbers ok.up.1 ok.left in
-    closed-has so many c.close.ensures.value c.close.ensures.left
+    closed-has so (add-zero (groups_in c.args.batch.groups)) c.close.ensures.value c.close.ensures.left

@@ -1,4 +1,4 @@
-use Rattle.std.proofs.Common.{◌≡◌, ◌+◌, true, Ok, List, [], ◌∷◌, sym, subst, ◌∙◌, arith}
+use Rattle.std.proofs.Common.{◌≡◌, true, Ok, List, [], ◌∷◌, sym, subst, ◌∙◌, add-zero}
 use Rattle.jb_disk.proofs.Moments.{at_the_end}
 use Rattle.jb_disk.specs.Throughout.{AllHave}
 use Rattle.jb_disk.specs.Time.{LeavesOnly}
@@ -7,9 +7,9 @@ use Rattle.jb_handle.specs.declared.stopped.Stopped.{Stopped}
 use Rattle.jb_format.specs.Front.{super_on}
 use Rattle.jb_deck.specs.Deck.{IsShapeOf}
 use Rattle.jb_deck.specs.Gathering.{groups_in}
-use Rattle.proof_clients.specs.Lives.{IsBatchOf, LeftByLife}
+use Rattle.proof_clients.specs.Lives.{IsBatchOf, LeftByLife, of_batch}
 use Rattle.proof_clients.specs.Programs.{all_changes, commits}
-use Rattle.proof_clients.proofs.Living.{LifeLeft, batch-opened, batch-runs, left-whole, none-runs}
+use Rattle.proof_clients.proofs.Living.{LifeLeft, batch-opened, left-whole, life-runs as runs-of, none-runs}
 use Rattle.proof_clients.proofs.Programs.{Has, LeftNow, Runs, SoFar, opening-runs}
 use Rattle.proof_clients.proofs.Going.{begun, closed-has, commit-on, commit-runs, idle-runs, still-has}
 use Rattle.proof_clients.proofs.life.run.Given.{Over}
@@ -45,7 +45,9 @@ Ends g entry handles closed = LeavesOnly g.D.Disk.moment g.D.Disk.left_since ent
 
 life-runs : (g : Over) (c : After-commit g) {closed : g.row.D.Denot} → g.D.Disk.honest c.in-Ok.deck.disk
     → Runs g.D.Disk c.args.disk (commits c.in-Some.batch ∷ []) closed → Ends g c.args.disk c.args.handles.items closed
-life-runs g c {closed = closed} honest run = batch-runs g.D.Disk c.args.disk c.args.handles.items c.in-Some.batch (is-batch g c honest) closed run
+life-runs g c {closed = closed} honest run =
+    let batch = c.in-Some.batch in
+    runs-of g.D.Disk c.args.disk c.args.handles.items (commits batch ∷ []) (λ own was changes groups part. of_batch batch changes groups (is-batch g c honest own was) part) closed run
 
 commit-ends : (g : Over) (c : After-commit g) {closed : g.row.D.Denot} → closed ≡ c.commit.new.deck.disk → g.D.Disk.honest closed
     → Ends g c.args.disk c.args.handles.items closed
@@ -88,9 +90,8 @@ returns-then-not-checkpoint-clause-ends g c = λ held yes.
     let at = goal.at.returns-then-not-checkpoint-clause-ends g c in
     let so = committed g at.In-Ok-commit (opened g at.After-commit) in
     let value = c.close-then-not-checkpoint.ensures.value in
-    let many : groups_in c.in-Some.batch.groups + 0 ≡ groups_in c.in-Some.batch.groups = omega arith in
     life-has g at.After-commit (c.commit.ensures.kept.was_honest (subst g.D.Disk.honest value held))
-    (closed-has so many value c.close-then-not-checkpoint.ensures.left held)
+    (closed-has so (add-zero (groups_in c.in-Some.batch.groups)) value c.close-then-not-checkpoint.ensures.left held)
 
 pub returns-clause-leaves : goal.returns-clause-leaves
 returns-clause-leaves g c = λ held.
@@ -110,8 +111,7 @@ returns-clause-ends g c = λ held yes.
     let checked = c.checkpoint_one-checked.ensures in
     let later = subst G.honest c.close-2.ensures.value held in
     let honest = checked.kept.was_honest later in
-    let many : groups_in c.in-Some.batch.groups + 0 ≡ groups_in c.in-Some.batch.groups = omega arith in
-    life-has g at.After-commit (c.commit.ensures.kept.was_honest honest) (still-has so many honest (record {
+    life-has g at.After-commit (c.commit.ensures.kept.was_honest honest) (still-has so (add-zero (groups_in c.in-Some.batch.groups)) honest (record {
       each = λ image may.
           at_the_end G.may_leave G.moment G.left_since old.disk new (LeftNow G old) (checked.left so.up later)
           (λ t c within left. g.met.D.Disk.counts_now new t c later within left) image (subst (λ d. G.may_leave d image) c.close-2.ensures.value may);

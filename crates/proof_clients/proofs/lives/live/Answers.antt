@@ -6,22 +6,17 @@ use Rattle.jb_disk.specs.Lives.{left_since_now}
 use Rattle.jb_format.proofs.Entering.{entry-as}
 use Rattle.jb_recover.specs.Outcomes.{RecoversAs, recovered}
 use Rattle.proof_clients.specs.Lives.{HoldsChanges, HoldsLife, IsAtRest, LeftByLife}
-use Rattle.proof_clients.proofs.Living.{fresh-only, life-more}
+use Rattle.proof_clients.proofs.Living.{fresh-only, life-more, rested}
 use Rattle.proof_clients.proofs.lives.live.Goals as goal
 
 pub returns-clause-rest : goal.returns-clause-rest
 returns-clause-rest c = λ rest.
     let crashed = c.in_ok-disk.disk in
-    let new = c.recover.new.disk in
-    let size = bytes_of crashed.size in
     let kept = c.recover.ensures.kept in
-    let ended = (c.in_ok-recover.ensures.recovers c.always_sound-3.ensures.sound).3 in
-    let at : recovered size crashed.count (newest_of new) ≡ newest_of new = ap (recovered size crashed.count) ended ∙ c.recovered.ensures.once size crashed.count (newest_of crashed) ∙ sym ended in
-    record {
-      sound = c.always_sound-3.ensures.sound;
-      only = c.in_ok-recover.ensures.durable c.always_sound-3.ensures.sound;
-      still = subst (λ s. recovered s new.count (newest_of new) ≡ newest_of new) (sym kept.same_size) (subst (λ n. recovered size n (newest_of new) ≡ newest_of new) (sym kept.same_count) at);
-    }
+    let held = c.in_ok-recover.ensures in
+    let sound = c.always_sound-3.ensures.sound in
+    rested (bytes_of crashed.size) crashed.count (newest_of crashed) c.recover.new.disk sound (held.durable sound) kept.same_size kept.same_count
+    (held.recovers sound).3 (c.recovered.ensures.once (bytes_of crashed.size) crashed.count (newest_of crashed))
 
 pub returns-clause-lives : goal.returns-clause-lives
 returns-clause-lives c = λ rest own last_number before done entry.

@@ -1,12 +1,13 @@
-use Rattle.std.proofs.Common.{◌≡◌, [], ◌∷◌, ◌++◌, map, ap, sym, subst, ◌∙◌, rules}
+use Rattle.std.proofs.Common.{◌≡◌, [], ◌∷◌, ◌++◌, map, refl, sym, subst, ◌∙◌, rules}
 use Rattle.std.proofs.lemmas.List.{map-append}
 use Rattle.jb_block.specs.Size.{bytes_of}
 use Rattle.jb_disk.specs.History.{newest_of}
+use Rattle.jb_format.proofs.Entering.{entry-as}
 use Rattle.jb_recover.specs.Outcomes.{recovered}
 use Rattle.jb_deck.specs.Opening.{recovered_home}
 use Rattle.proof_clients.specs.Lives.{HasLives, HoldsChanges, HoldsLife}
 use Rattle.proof_clients.specs.declared.lives.Life.{Life}
-use Rattle.proof_clients.proofs.Living.{lives-more, lives-none}
+use Rattle.proof_clients.proofs.Living.{lives-more, lives-none, rested}
 use Rattle.proof_clients.proofs.lives.run_lives.Goals as goal
 
 pub loop-life-init : goal.loop-life-init
@@ -16,24 +17,16 @@ loop-life-init c =
     let count = old.count in
     let base = newest_of old in
     let d1 = c.recover.new.disk in
-    let new1 = newest_of d1 in
-    let kept = c.in_ok-recover.ensures.kept in
+    let held = c.in_ok-recover.ensures in
+    let kept = held.kept in
+    let sound = c.always_sound.ensures.sound in
     record {
-      rest =
-          let sound = c.always_sound.ensures.sound in
-          let ended = (c.in_ok-recover.ensures.recovers sound).3 in
-          let at : recovered size count new1 ≡ new1 = ap (recovered size count) ended ∙ c.recovered.ensures.once size count base ∙ sym ended in
-          record {
-            sound = sound;
-            only = c.in_ok-recover.ensures.durable sound;
-            still = subst (λ s. recovered s d1.count new1 ≡ new1) (sym kept.same_size) (subst (λ n. recovered size n new1 ≡ new1) (sym kept.same_count) at);
-          };
+      rest = rested size count base d1 sound (held.durable sound) kept.same_size kept.same_count (held.recovers sound).3 (c.recovered.ensures.once size count base);
       size = kept.same_size;
       count = kept.same_count;
       lives =
-          let sound = c.always_sound.ensures.sound in
-          subst (λ reported. HasLives size count [] reported base new1) (sym c.new-committed.ensures.items)
-          (lives-none size count base new1 (c.in_ok-recover.ensures.journal sound) (c.in_ok-recover.ensures.recovers sound).3);
+          subst (λ reported. HasLives size count [] reported base (newest_of d1)) (sym c.new-committed.ensures.items)
+          (lives-none size count base (newest_of d1) (held.journal sound) (held.recovers sound).3);
     }
 
 pub loop-life-preserved : goal.loop-life-preserved
@@ -56,13 +49,9 @@ loop-life-preserved c =
       lives =
           let h = inv.lives in
           let before = recovered_home size count base in
-          let held : HoldsChanges h.own h.now (bytes_of mid.size) mid.count before h.changes (newest_of mid) =
-          subst (λ s. HoldsChanges h.own h.now s mid.count before h.changes (newest_of mid)) (sym inv.size)
-          (subst (λ n. HoldsChanges h.own h.now size n before h.changes (newest_of mid)) (sym inv.count) h.holds) in
+          let held = entry-as (λ s n base. HoldsChanges h.own h.now s n before h.changes base) _ _ _ _ _ _ (sym inv.size) (sym inv.count) refl h.holds in
           let life = c.in_ok-next.ensures.lives inv.rest h.own h.now before h.changes held in
-          let here : HoldsLife h.own h.now size count before h.changes handles is (newest_of new) =
-          subst (λ s. HoldsLife h.own h.now s count before h.changes handles is (newest_of new)) inv.size
-          (subst (λ n. HoldsLife h.own h.now (bytes_of mid.size) n before h.changes handles is (newest_of new)) inv.count life) in
+          let here = entry-as (λ s n base. HoldsLife h.own h.now s n before h.changes handles is base) _ _ _ _ _ _ inv.size inv.count refl life in
           let more = lives-more size count (map (λ (l : Life). l.handles.items) c.loop-life.yielded) c.loop-life.committed.items base (newest_of mid) (newest_of new) handles is h here in
           subst (λ reported. HasLives size count (map (λ (l : Life). l.handles.items) (c.loop-life.yielded ++ c.in-Some.life ∷ [])) reported base (newest_of new)) (sym items)
           (subst (λ lives. HasLives size count lives (c.loop-life.committed.items ++ is ∷ []) base (newest_of new)) (sym (map-append (λ (l : Life). l.handles.items) c.loop-life.yielded (c.in-Some.life ∷ []))) more);

@@ -13,7 +13,7 @@ use Rattle.proof_clients.specs.Programs.{all_changes, commits}
 use Rattle.proof_clients.proofs.Programs.{LeftIn, SoFar, before, left-to, opening-runs}
 use Rattle.proof_clients.proofs.Going.{begun, commit-on, commit-runs, idle-on, idle-runs}
 use Rattle.proof_clients.proofs.prefix.commit_three.Given.{Over}
-use Rattle.proof_clients.proofs.prefix.commit_three.Goals.{After-commit, After-commit-2, After-checkpoint_one, After-commit-3}
+use Rattle.proof_clients.proofs.prefix.commit_three.Goals.{After-commit, After-checkpoint_one, After-commit-3}
 use Rattle.proof_clients.proofs.prefix.commit_three.Goals as goal
 
 opened : (g : Over) (c : After-commit g)
@@ -30,25 +30,25 @@ pub returns-in_default-clause-leaves : goal.returns-in_default-clause-leaves
 returns-in_default-clause-leaves g c =
     commit-runs (opened g (goal.at.returns-in_default-clause-leaves g c).After-commit) c.close.ensures.value c.commit.ensures.kept c.commit.ensures.left
 
-one : (g : Over) (c : After-commit-2 g)
-    → SoFar g.D.Disk c.args.disk c.in-Ok.deck [] (commits c.args.first ∷ commits c.args.second ∷ commits c.args.third ∷ []) c.in-Ok.deck
-    → SoFar g.D.Disk c.args.disk c.in-Ok.deck (commits c.args.first ∷ []) (commits c.args.second ∷ commits c.args.third ∷ []) c.commit.new.deck
-one g c so = let ok = c.in-Ok-commit.ensures in commit-on so ok.kept ok.ended ok.numbers ok.up.1 ok.left
-
 pub returns-in_default-commit-clause-leaves : goal.returns-in_default-commit-clause-leaves
 returns-in_default-commit-clause-leaves g c =
     let at = goal.at.returns-in_default-commit-clause-leaves g c in
-    commit-runs (one g at.After-commit-2 (opened g at.After-commit)) c.close-in_default-commit.ensures.value c.commit-2.ensures.kept c.commit-2.ensures.left
+    let one = c.in-Ok-commit.ensures in
+    commit-runs (commit-on (opened g at.After-commit) one.kept one.ended one.numbers one.up.1 one.left)
+    c.close-in_default-commit.ensures.value c.commit-2.ensures.kept c.commit-2.ensures.left
 
 two : (g : Over) (c : After-checkpoint_one g)
-    → SoFar g.D.Disk c.args.disk c.in-Ok.deck (commits c.args.first ∷ []) (commits c.args.second ∷ commits c.args.third ∷ []) c.commit.new.deck
+    → SoFar g.D.Disk c.args.disk c.in-Ok.deck [] (commits c.args.first ∷ commits c.args.second ∷ commits c.args.third ∷ []) c.in-Ok.deck
     → SoFar g.D.Disk c.args.disk c.in-Ok.deck (commits c.args.first ∷ commits c.args.second ∷ []) (commits c.args.third ∷ []) c.commit-2.new.deck
-two g c so = let ok = c.in-Ok-commit-2.ensures in commit-on so ok.kept ok.ended ok.numbers ok.up.1 ok.left
+two g c so =
+    let one = c.in-Ok-commit.ensures in
+    let ok = c.in-Ok-commit-2.ensures in
+    commit-on (commit-on so one.kept one.ended one.numbers one.up.1 one.left) ok.kept ok.ended ok.numbers ok.up.1 ok.left
 
 pub returns-in_default-checkpoint_one-clause-leaves : goal.returns-in_default-checkpoint_one-clause-leaves
 returns-in_default-checkpoint_one-clause-leaves g c =
     let at = goal.at.returns-in_default-checkpoint_one-clause-leaves g c in
-    idle-runs (two g at.After-checkpoint_one (one g at.After-commit-2 (opened g at.After-commit))) c.close-in_default-checkpoint_one.ensures.value
+    idle-runs (two g at.After-checkpoint_one (opened g at.After-commit)) c.close-in_default-checkpoint_one.ensures.value
     c.checkpoint_one.ensures.kept c.checkpoint_one.ensures.left
 
 checkpointed : (g : Over) (c : After-commit-3 g)
@@ -61,20 +61,19 @@ checkpointed g c so =
 pub returns-in-Err-commit-clause-leaves : goal.returns-in-Err-commit-clause-leaves
 returns-in-Err-commit-clause-leaves g c =
     let at = goal.at.returns-in-Err-commit-clause-leaves g c in
-    commit-runs (checkpointed g at.After-commit-3 (two g at.After-checkpoint_one (one g at.After-commit-2 (opened g at.After-commit))))
+    commit-runs (checkpointed g at.After-commit-3 (two g at.After-checkpoint_one (opened g at.After-commit)))
     c.close-in-Err-commit.ensures.value c.commit-3.ensures.kept c.commit-3.ensures.left
 
 pub returns-in-Ok-commit-3-clause-leaves : goal.returns-in-Ok-commit-3-clause-leaves
 returns-in-Ok-commit-3-clause-leaves g c =
     let at = goal.at.returns-in-Ok-commit-3-clause-leaves g c in
-    commit-runs (checkpointed g at.After-commit-3 (two g at.After-checkpoint_one (one g at.After-commit-2 (opened g at.After-commit))))
-    refl c.commit-3.ensures.kept c.commit-3.ensures.left
+    commit-runs (checkpointed g at.After-commit-3 (two g at.After-checkpoint_one (opened g at.After-commit))) refl c.commit-3.ensures.kept c.commit-3.ensures.left
 
 pub returns-in-Ok-commit-3-clause-prefix : goal.returns-in-Ok-commit-3-clause-prefix
 returns-in-Ok-commit-3-clause-prefix g c = λ held.
     let G = g.D.Disk in
     let at = goal.at.returns-in-Ok-commit-3-clause-prefix g c in
-    let so = checkpointed g at.After-commit-3 (two g at.After-checkpoint_one (one g at.After-commit-2 (opened g at.After-commit))) in
+    let so = checkpointed g at.After-commit-3 (two g at.After-checkpoint_one (opened g at.After-commit)) in
     let honest = c.commit-3.ensures.kept.was_honest held in
     let own = (so.is honest).opens.sb in
     let first = c.args.first in
@@ -84,10 +83,9 @@ returns-in-Ok-commit-3-clause-prefix g c = λ held.
     let numbers = groups_in first.groups + groups_in second.groups in
     let made : List Change = all_changes (commits first ∷ commits second ∷ []) in
     let hs = first.batch.handles ++ second.batch.handles in
-    let second_settled : settled_in (map settles second.batch.handles ++ []) ≡ second.batch.handles
-    = ap settled_in (append-nil (map settles second.batch.handles)) ∙ settled-map second.batch.handles in
-    let settled : settled_in made ≡ hs
-    = settled-append (map settles first.batch.handles) (map settles second.batch.handles ++ []) ∙ ap₂ (λ xs ys. xs ++ ys) (settled-map first.batch.handles) second_settled in
+    let settled : settled_in made ≡ hs =
+    settled-append (map settles first.batch.handles) (map settles second.batch.handles ++ [])
+    ∙ ap₂ (λ xs ys. xs ++ ys) (settled-map first.batch.handles) (ap settled_in (append-nil (map settles second.batch.handles)) ∙ settled-map second.batch.handles) in
     let has : (least groups : ℕ) (image : Image) → least ≤ groups → groups ≤ groups_in third.groups
     → LeftIn G now (map settles (handles_to third.groups groups third.batch.handles)) (now.log.next + groups) image
     → HasPrefix (revoking own) (own.sequence + 1 + numbers) (G.size c.args.disk) (G.count c.args.disk) (before G c.args.disk) hs third least image
@@ -95,7 +93,7 @@ returns-in-Ok-commit-3-clause-prefix g c = λ held.
     let more = handles_to third.groups groups third.batch.handles in
     let all : settled_in (made ++ map settles more) ≡ hs ++ more = settled-append made (map settles more) ∙ ap₂ (λ xs ys. xs ++ ys) settled (settled-map more) in
     let many : own.sequence + 1 + (groups_in first.groups + (groups_in second.groups + 0) + groups) ≡ own.sequence + 1 + numbers + groups = omega arith in
-    record { groups = groups; from = from; within = within; recovered = left-to G c.args.disk so honest (map settles more) groups image left all many } in
+    record { groups = groups; from = from; within = within; recovered = left-to G c.args.disk so honest (map settles more) groups image left refl all many } in
     let left = c.commit-3.ensures.left so.up held in
     record {
       own = own;

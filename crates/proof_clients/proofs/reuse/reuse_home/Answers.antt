@@ -1,13 +1,12 @@
-use Rattle.std.proofs.Common.{◌≡◌, ◌+◌, [], ◌∷◌, map, ap, subst, ◌∙◌, arith}
+use Rattle.std.proofs.Common.{◌≡◌, [], ◌∷◌, map, ap, subst, ◌∙◌, add-zero}
 use Rattle.jb_deck.specs.Changes.{settles}
 use Rattle.jb_deck.specs.Deck.{OpenDeck}
-use Rattle.jb_deck.specs.Gathering.{groups_in}
 use Rattle.proof_clients.specs.Programs.{commits, writes}
 use Rattle.proof_clients.proofs.Parts.{filled}
 use Rattle.proof_clients.proofs.Programs.{SoFar, before, opening-runs}
 use Rattle.proof_clients.proofs.Going.{begun, closed-has, commit-on, commit-runs, idle-runs, read-on, take-on, write-on, write-runs}
 use Rattle.proof_clients.proofs.reuse.reuse_home.Given.{Over}
-use Rattle.proof_clients.proofs.reuse.reuse_home.Goals.{After-commit, After-write_free, After-read_home, After-commit-2}
+use Rattle.proof_clients.proofs.reuse.reuse_home.Goals.{After-commit, After-read_home, After-commit-2}
 use Rattle.proof_clients.proofs.reuse.reuse_home.Goals as goal
 
 opened : (g : Over) (c : After-commit g)
@@ -24,41 +23,37 @@ pub returns-in_default-clause-leaves : goal.returns-in_default-clause-leaves
 returns-in_default-clause-leaves g c =
     commit-runs (opened g (goal.at.returns-in_default-clause-leaves g c).After-commit) c.close.ensures.value c.commit.ensures.kept c.commit.ensures.left
 
-committed : (g : Over) (c : After-write_free g)
-    → SoFar g.D.Disk c.args.disk c.in-Ok.deck [] (commits c.args.first ∷ writes c.args.home c.args.bytes.now ∷ commits c.args.second ∷ []) c.in-Ok.deck
-    → SoFar g.D.Disk c.args.disk c.in-Ok.deck (commits c.args.first ∷ []) (writes c.args.home c.args.bytes.now ∷ commits c.args.second ∷ []) c.commit.new.deck
-committed g c so = let ok = c.in-Ok-commit.ensures in commit-on so ok.kept ok.ended ok.numbers ok.up.1 ok.left
-
 pub returns-in_default-write_free-clause-leaves : goal.returns-in_default-write_free-clause-leaves
 returns-in_default-write_free-clause-leaves g c =
-    let at = goal.at.returns-in_default-write_free-clause-leaves g c in
-    write-runs (committed g at.After-write_free (opened g at.After-commit)) c.write_free.result c.close-in_default-write_free.ensures.value
-    c.write_free.ensures.kept c.write_free.ensures.left
+    let one = c.in-Ok-commit.ensures in
+    write-runs (commit-on (opened g (goal.at.returns-in_default-write_free-clause-leaves g c).After-commit) one.kept one.ended one.numbers one.up.1 one.left)
+    c.write_free.result c.close-in_default-write_free.ensures.value c.write_free.ensures.kept c.write_free.ensures.left
 
 written : (g : Over) (c : After-read_home g)
-    → SoFar g.D.Disk c.args.disk c.in-Ok.deck (commits c.args.first ∷ []) (writes c.args.home c.args.bytes.now ∷ commits c.args.second ∷ []) c.commit.new.deck
+    → SoFar g.D.Disk c.args.disk c.in-Ok.deck [] (commits c.args.first ∷ writes c.args.home c.args.bytes.now ∷ commits c.args.second ∷ []) c.in-Ok.deck
     → SoFar g.D.Disk c.args.disk c.in-Ok.deck (commits c.args.first ∷ writes c.args.home c.args.bytes.now ∷ []) (commits c.args.second ∷ []) c.write_free.new.self
 written g c so =
+    let one = c.in-Ok-commit.ensures in
     let ok = c.in-Ok-write_free.ensures in
-    write-on so c.write_free.result ok.answers.4 ok.kept ok.ended c.write_free.ensures.left
+    write-on (commit-on so one.kept one.ended one.numbers one.up.1 one.left) c.write_free.result ok.answers.4 ok.kept ok.ended c.write_free.ensures.left
 
 pub returns-in_default-read_home-clause-leaves : goal.returns-in_default-read_home-clause-leaves
 returns-in_default-read_home-clause-leaves g c =
     let at = goal.at.returns-in_default-read_home-clause-leaves g c in
-    idle-runs (written g at.After-read_home (committed g at.After-write_free (opened g at.After-commit))) c.close-in_default-read_home.ensures.value
+    idle-runs (written g at.After-read_home (opened g at.After-commit)) c.close-in_default-read_home.ensures.value
     c.read_home.ensures.kept c.read_home.ensures.left
 
 pub returns-in_default-take_trail-clause-leaves : goal.returns-in_default-take_trail-clause-leaves
 returns-in_default-take_trail-clause-leaves g c =
     let at = goal.at.returns-in_default-take_trail-clause-leaves g c in
     let same = ap (λ (d : OpenDeck g.row.D.Denot). d.disk) c.in_default-take_trail.ensures.refused.0 in
-    idle-runs (written g at.After-read_home (committed g at.After-write_free (opened g at.After-commit))) (c.close-in_default-take_trail.ensures.value ∙ same)
+    idle-runs (written g at.After-read_home (opened g at.After-commit)) (c.close-in_default-take_trail.ensures.value ∙ same)
     c.read_home.ensures.kept c.read_home.ensures.left
 
 pub returns-in-Ok-commit-2-clause-read : goal.returns-in-Ok-commit-2-clause-read
 returns-in-Ok-commit-2-clause-read g c = λ held.
     let at = goal.at.returns-in-Ok-commit-2-clause-read g c in
-    let so = written g at.After-read_home (committed g at.After-write_free (opened g at.After-commit)) in
+    let so = written g at.After-read_home (opened g at.After-commit) in
     let taken = c.commit-2.ensures.kept.was_honest (subst g.D.Disk.honest c.close-in-Ok-commit-2.ensures.value held) in
     let read = subst g.D.Disk.honest (ap (λ (d : OpenDeck g.row.D.Denot). d.disk) c.in-Ok-take_trail.ensures.taken.same) taken in
     let honest = c.read_home.ensures.kept.was_honest read in
@@ -78,21 +73,18 @@ taken g c so =
 pub returns-in-Ok-commit-2-clause-leaves : goal.returns-in-Ok-commit-2-clause-leaves
 returns-in-Ok-commit-2-clause-leaves g c =
     let at = goal.at.returns-in-Ok-commit-2-clause-leaves g c in
-    commit-runs (taken g at.After-commit-2 (written g at.After-read_home (committed g at.After-write_free (opened g at.After-commit))))
+    commit-runs (taken g at.After-commit-2 (written g at.After-read_home (opened g at.After-commit)))
     c.close-in-Ok-commit-2.ensures.value c.commit-2.ensures.kept c.commit-2.ensures.left
 
 pub returns-in-Ok-commit-2-clause-ends : goal.returns-in-Ok-commit-2-clause-ends
 returns-in-Ok-commit-2-clause-ends g c =
     let at = goal.at.returns-in-Ok-commit-2-clause-ends g c in
-    let so = taken g at.After-commit-2 (written g at.After-read_home (committed g at.After-write_free (opened g at.After-commit))) in
+    let so = taken g at.After-commit-2 (written g at.After-read_home (opened g at.After-commit)) in
     let ok = c.in-Ok-commit-2.ensures in
-    let m = groups_in c.args.first.groups in
-    let n = groups_in c.args.second.groups in
-    let many : m + (n + 0) ≡ m + n = omega arith in
-    closed-has (commit-on so ok.kept ok.ended ok.numbers ok.up.1 ok.left) many c.close-in-Ok-commit-2.ensures.value c.close-in-Ok-commit-2.ensures.left
+    closed-has (commit-on so ok.kept ok.ended ok.numbers ok.up.1 ok.left) (rw add-zero) c.close-in-Ok-commit-2.ensures.value c.close-in-Ok-commit-2.ensures.left
 
 pub returns-in-Err-commit-clause-leaves : goal.returns-in-Err-commit-clause-leaves
 returns-in-Err-commit-clause-leaves g c =
     let at = goal.at.returns-in-Err-commit-clause-leaves g c in
-    commit-runs (taken g at.After-commit-2 (written g at.After-read_home (committed g at.After-write_free (opened g at.After-commit))))
+    commit-runs (taken g at.After-commit-2 (written g at.After-read_home (opened g at.After-commit)))
     c.close-in-Err-commit.ensures.value c.commit-2.ensures.kept c.commit-2.ensures.left

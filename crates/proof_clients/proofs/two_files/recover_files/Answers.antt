@@ -2,8 +2,9 @@ use Rattle.std.proofs.Common.{◌≡◌, ◌++◌, length, sym, ◌∙◌, ap, a
 use Rattle.jb_block.specs.Size.{bytes_of}
 use Rattle.jb_disk.specs.File.{FileLeaves, IsHonest, content_of, size_of_blocks}
 use Rattle.jb_disk.specs.Image.{Only}
+use Rattle.jb_format.proofs.Entering.{entry-as}
 use Rattle.jb_image.specs.Pair.{front_disk, past_states}
-use Rattle.proof_clients.specs.Files.{FilesLeave, FilesLeft, files_content, files_count}
+use Rattle.proof_clients.specs.Files.{FilesLeave, FilesLeft, files_content}
 use Rattle.jb_image.proofs.Opened.{opened-holds, opened-leaves}
 use Rattle.jb_recover.specs.Outcomes.{RecoversAs}
 use Rattle.proof_clients.proofs.two_files.recover_files.Goals as goal
@@ -13,21 +14,18 @@ returns-clause-crash g c honest d left =
     let front = c.in_ok-front.front in
     let back = c.in_ok-back.back in
     let old = c.of-disk.result in
-    let new = c.recover-answer.new.disk in
     let done = c.recover-answer.ensures in
     let is_front = c.of-disk.ensures.front in
     let is_back = c.of-disk.ensures.back in
-    let S = g.S.Start.content 0 in
-    let T = g.T.Start.content 0 in
     let was = done.kept.was_honest honest in
     let size : bytes_of (size_of_blocks (front_disk old)) ≡ bytes_of c.args.size = ap bytes_of (ap size_of_blocks is_front ∙ c.in_ok-front.ensures.size) in
     let asked_front = c.in_ok-front.ensures.opened in
     let asked_back = c.in_ok-back.ensures.opened in
-    let held : files_content old ≡ S ++ T
+    let held : files_content old ≡ g.S.Start.content 0 ++ g.T.Start.content 0
     = ap₂ (λ x y. x ++ y)
     (ap content_of is_front ∙ opened-holds front asked_front.0 asked_front.1 (subst IsHonest is_front was.first))
     (ap content_of is_back ∙ opened-holds back asked_back.0 asked_back.1 (subst IsHonest is_back was.second)) in
-    let since : FilesLeft new (length (past_states old)) d = subst (λ past. FilesLeft new (length past) d) (sym c.of-disk.ensures.fresh) left in
+    let since : FilesLeft c.recover-answer.new.disk (length (past_states old)) d = subst (λ past. FilesLeft c.recover-answer.new.disk (length past) d) (sym c.of-disk.ensures.fresh) left in
     let only : Only (files_content old) (FilesLeave old)
     = λ e still.
     still.joined
@@ -35,6 +33,4 @@ returns-clause-crash g c honest d left =
     (opened-leaves front asked_front.0 asked_front.1 still.front (subst (λ f. FileLeaves f still.front) is_front still.first))
     (opened-leaves back asked_back.0 asked_back.1 still.back (subst (λ f. FileLeaves f still.back) is_back still.second))
     ∙ sym held in
-    subst (λ image. RecoversAs (bytes_of c.args.size) (files_count new) image d) held
-    (subst (λ n. RecoversAs (bytes_of c.args.size) n (files_content old) d) (sym done.kept.same_count)
-    (subst (λ s. RecoversAs s (files_count old) (files_content old) d) size ((done.settled honest only).each d since)))
+    entry-as (λ s n image. RecoversAs s n image d) _ _ _ _ _ _ size (sym done.kept.same_count) held ((done.settled honest only).each d since)

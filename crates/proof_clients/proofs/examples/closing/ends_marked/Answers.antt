@@ -1,13 +1,15 @@
 use Rattle.std.proofs.Common.{◌≡◌, List, [], ◌∷◌, length, Some, slice_get, sym, ap, ◌∙◌, arith}
 use Rattle.std.specs.List.{sum_by}
 use Rattle.std.proofs.lemmas.List.Elements.{All-head}
+use Rattle.std.proofs.lemmas.Option.{same_Some}
 use Rattle.jb_board.specs.HistoryRule.{StandsIn, with_places}
 use Rattle.jb_handle.specs.Word.{WordMap}
 use Rattle.jb_deck.specs.Done.{past_after}
 use Rattle.proof_clients.specs.ExampleMarks.{first, second, third}
-use Rattle.proof_clients.proofs.ExampleEnds.{at_first, one-first, ones, four-stand}
+use Rattle.proof_clients.proofs.ExampleEnds.{at_first, one-first, inside}
 use Rattle.proof_clients.proofs.ExampleMarks.{first-third}
 use Rattle.proof_clients.proofs.ExampleIdle.{ends-idle}
+use Rattle.proof_clients.proofs.Heard.{ones}
 use Rattle.proof_clients.proofs.examples.closing.ends_marked.Goals as goal
 
 pub returns-clause-meets : goal.returns-clause-meets
@@ -26,21 +28,17 @@ returns-clause-not_missing g c shape disk trail known marks is =
     let three : length log ≡ 3 = is.ends.number in
     omega (arith, two, three, ones 0 log)
 
-some-words : (x y : WordMap) → Some x ≡ Some y → x ≡ y
-some-words x y same = cc
-
 pub returns-clause-not_other_words : goal.returns-clause-not_other_words
 returns-clause-not_other_words g c shape disk trail marks is =
     let log = is.ends.log in
     let here : slice_get log 0 ≡ Some first = All-head (StandsIn log) (0, first) ((2, third) ∷ (1, second) ∷ []) is.ends.stopped.stand in
     let seen : Some third ≡ slice_get log 0 = ap (λ (l : List WordMap). slice_get l 0) is.knows.1 in
-    first-third (sym (some-words third first (seen ∙ here)))
+    first-third (sym (same_Some third first (seen ∙ here)))
 
 pub returns-clause-not_settled : goal.returns-clause-not_settled
 returns-clause-not_settled g c shape disk known marks is =
     let has = is.ends.since.has in
-    let given = is.ends.since.given in
     let four : past_after 0 is.ends.deck.trail ≡ 4 = ap (past_after 0) is.ends.same_trail in
-    let many = four-stand g.H.Origin.begun is.ends.log given has.tickets has.stopped (omega (arith, four, has.settled)) in
+    let many = inside g.H.Origin.begun is.ends.log is.ends.since.given has.tickets has.stopped 3 (omega (arith, four, has.settled)) in
     let three : length is.ends.log ≡ 3 = is.ends.number in
     omega (arith, many, three)

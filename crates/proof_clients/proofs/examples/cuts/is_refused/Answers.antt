@@ -1,8 +1,8 @@
-use Rattle.std.proofs.Common.{sym, subst}
+use Rattle.std.proofs.Common.{sym, subst, arith}
 use Rattle.jb_plan.specs.Costs.{cost_in}
-use Rattle.jb_cost.specs.Cut.{ArePrices}
+use Rattle.jb_cost.specs.Cut.{ArePrices, IsReached}
 use Rattle.proof_clients.specs.Examples.{three, six, four, best}
-use Rattle.proof_clients.proofs.ExampleCuts.{costs-six, costs-four, fits-best, none-fits, are-four-prices, not-late}
+use Rattle.proof_clients.proofs.ExampleCuts.{costs-six, costs-four, fits-best, none-fits, are-four-prices}
 use Rattle.proof_clients.proofs.examples.cuts.is_refused.Goals as goal
 
 pub returns-clause-meets : goal.returns-clause-meets
@@ -12,4 +12,6 @@ pub returns-clause-not_with_a_cut : goal.returns-clause-not_with_a_cut
 returns-clause-not_with_a_cut c ps refused = refused.0 (best, fits-best (cost_in six three) costs-six)
 
 pub returns-clause-not_priced : goal.returns-clause-not_priced
-returns-clause-not_priced c ps are refused = not-late (cost_in four three) costs-four (subst (ArePrices (cost_in four three) 4 3) are refused.1)
+returns-clause-not_priced c ps are refused =
+    let is : IsReached (cost_in four three) 4 3 13 = ((subst (ArePrices (cost_in four three) 4 3) are refused.1).each 3 (omega arith)).0 in
+    none-fits (cost_in four three) costs-four is.0 is.1

@@ -2,7 +2,7 @@ use Rattle.std.proofs.Common.{◌≡◌, ◌∙◌, ap, sym, subst, arith}
 use Rattle.jb_cost.specs.Cut.{IsLeastCut, total, FitsCut}
 use Rattle.jb_plan.specs.Costs.{cost_in}
 use Rattle.proof_clients.specs.Examples.{three, six, four, best}
-use Rattle.proof_clients.proofs.ExampleCuts.{costs-six, costs-four, is-best, fits-best, not-greedy, none-fits}
+use Rattle.proof_clients.proofs.ExampleCuts.{costs-six, costs-four, is-best, fits-best, none-fits}
 use Rattle.proof_clients.proofs.examples.cuts.is_right.Goals as goal
 
 pub returns-clause-meets : goal.returns-clause-meets
@@ -15,7 +15,9 @@ pub returns-clause-meets_none : goal.returns-clause-meets_none
 returns-clause-meets_none c other fitting = none-fits (cost_in four three) costs-four other fitting
 
 pub returns-clause-not_greedy : goal.returns-clause-not_greedy
-returns-clause-not_greedy c bounds are right = not-greedy (cost_in six three) costs-six (subst (IsLeastCut (cost_in six three) 6 3) are right.0)
+returns-clause-not_greedy c bounds are right =
+    let less = (subst (IsLeastCut (cost_in six three) 6 3) are right.0).least best (fits-best (cost_in six three) costs-six) in
+    omega (arith, less, costs-six.first, costs-six.late, costs-six.early, costs-six.third)
 
 pub returns-clause-not_total : goal.returns-clause-not_total
 returns-clause-not_total c bounds are right = let sum : total (cost_in six three) best ≡ 8 = ap (total (cost_in six three)) (sym are) ∙ right.1 in omega (arith, sum, costs-six.first, costs-six.late)

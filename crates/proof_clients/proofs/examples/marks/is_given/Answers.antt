@@ -1,4 +1,5 @@
-use Rattle.std.proofs.Common.{◌≡◌, [], ◌∷◌, Some, refl, ap, ◌∙◌, arith}
+use Rattle.std.proofs.Common.{◌≡◌, [], ◌∷◌, refl, ap, ◌∙◌, arith}
+use Rattle.std.proofs.lemmas.Option.{same_Some}
 use Rattle.jb_handle.specs.declared.stopped.Stopped.{Stopped}
 use Rattle.proof_clients.specs.Examples.{wrote}
 use Rattle.proof_clients.proofs.ExampleMarks.{second-third}
@@ -13,10 +14,7 @@ returns-clause-meets c d = record {
   settled = omega arith;
 }
 
-some-handle : (x y : Stopped) → Some x ≡ Some y → x ≡ y
-some-handle x y same = cc
-
 pub returns-clause-not_other_words : goal.returns-clause-not_other_words
 returns-clause-not_other_words c d given =
-    let same : wrote [] 1 (2 ∷ []) ≡ given.handle = some-handle (wrote [] 1 (2 ∷ [])) given.handle given.stands in
+    let same : wrote [] 1 (2 ∷ []) ≡ given.handle = same_Some (wrote [] 1 (2 ∷ [])) given.handle given.stands in
     second-third (ap (λ (h : Stopped). h.words) same ∙ given.same_words)
