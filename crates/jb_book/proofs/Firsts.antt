@@ -1,7 +1,7 @@
 -- Images with a first part of the handles that a journal was given.
 use Rattle.std.proofs.Common.{◌≡◌, ℕ, ◌+◌, ◌≤◌, List, [], ◌++◌, length, take, slice_index, sym, subst, arith}
 use Rattle.std.proofs.lemmas.List.{length-append, take-append-le}
-use Rattle.std.proofs.Math.Seq.{take-append-add, take-length}
+use Rattle.std.proofs.Math.Seq.{take-append-add}
 use mathlib.Core.List.{append-nil}
 use Rattle.jb_cost.specs.Cut.{IsCut}
 use Rattle.jb_disk.specs.Image.{Image}

@@ -1,10 +1,9 @@
 -- The handles of a book's entries, a new book, and the Vec of a cut's bounds.
-use Rattle.std.proofs.Common.{◌≡◌, ℕ, ◌+◌, ◌-◌, ◌^◌, ◌<◌, ◌≤◌, List, [], ◌∷◌, ◌++◌, map, length, take, drop, sum, All, le_refl, sym, refl, ap, subst, ◌∙◌, arith}
+use Rattle.std.proofs.Common.{◌≡◌, ℕ, ◌+◌, ◌-◌, ◌^◌, ◌<◌, ◌≤◌, List, [], ◌∷◌, ◌++◌, map, length, take, drop, le_refl, sym, refl, ap, subst, ◌∙◌, arith}
 use Rattle.std.proofs.lemmas.List.{length-append, append_assoc, drop-append-le, take-append-le, length-drop}
 use Rattle.std.proofs.Math.Seq.{drop-append_seam, take-append_seam}
 use Rattle.std.proofs.lemmas.List.Elements.{All-nil}
 use Rattle.std.specs.Global.{Vec}
-use Rattle.std.specs.Map.{values_of}
 use Rattle.std.specs.Vec.{vec_ptr, vec_allocator}
 use Rattle.jb_handle.specs.declared.shape.Shape.{Shape}
 use Rattle.jb_handle.specs.declared.stopped.Stopped.{Stopped}
@@ -16,9 +15,9 @@ use Rattle.jb_plan.specs.Costs.{geometry_of}
 use Rattle.jb_deck.specs.declared.done.Entry.{Entry}
 use Rattle.jb_deck.specs.Done.{Follow, start_of}
 use Rattle.jb_core.proofs.Accepted.{still-up}
-use Rattle.jb_book.specs.Account.{Account, IsAccountSound, IsNewBook, InLine, touched_in}
+use Rattle.jb_book.specs.Account.{Account, IsAccountSound, IsNewBook}
 use Rattle.jb_book.specs.Calls.{AreOfFirst, handles_in}
-use Rattle.jb_book.specs.Shadow.{Shadow, reserved_in}
+use Rattle.jb_book.specs.Shadow.{Shadow}
 use Rattle.jb_book.proofs.Follows.{follow-length}
 
 -- ---- the start
