@@ -66,22 +66,29 @@ module _ (shape : Shape) (calls : List Call) (a : Account) (s : Stands shape cal
 
   -- ---- each call
 
-  -- one by which no handle stops and no group is settled
-  pub call-on : (last : Call) (b : Account) → stops_of (last ∷ calls) ≡ stops_of calls → settled_of (last ∷ calls) ≡ settled_of calls → b.shape ≡ a.shape → b.shadow.next ≡ a.shadow.next → b.trail ≡ a.trail → IsAccountSound b
-      → (log : Log) (m : Machine) → Tied b log m → handles_of_order (stop_order log) ≡ stops_of calls → m.settled ≡ settled_of calls → m.taken ≡ out_of (last ∷ calls) → Stands shape (last ∷ calls) b
-  call-on last b same groups shaped next trail sound log m tied stops settled out = record {
+  -- one by which no handle stops
+  pub call-by : (last : Call) (b : Account) → stops_of (last ∷ calls) ≡ stops_of calls → b.shape ≡ a.shape → b.shadow.next ≡ a.shadow.next → IsAccountSound b
+      → (log : Log) (m : Machine) → Tied b log m → handles_of_order (stop_order log) ≡ stops_of calls → m.settled ≡ settled_of (last ∷ calls) → m.taken ≡ out_of (last ∷ calls)
+      → settled_of (last ∷ calls) ≡ map (handles_in (stops_of calls)) b.trail → Stands shape (last ∷ calls) b
+  call-by last b same shaped next sound log m tied stops settled out trail = record {
     same_shape = shaped ∙ s.same_shape;
     sound = sound;
     log = log;
     machine = m;
     tied = tied;
     stops = stops ∙ sym same;
-    settled = settled ∙ sym groups;
+    settled = settled;
     out = out;
     numbered = subst (TicketsFrom 0) (sym same) s.numbered;
     counted = ap length same ∙ s.counted ∙ sym next;
-    trail = groups ∙ s.trail ∙ (λ i. map (handles_in (sym same i)) (sym trail i));
+    trail = trail ∙ ap (λ hs. map (handles_in hs) b.trail) (sym same);
   }
+
+  -- and no group is settled
+  pub call-on : (last : Call) (b : Account) → stops_of (last ∷ calls) ≡ stops_of calls → settled_of (last ∷ calls) ≡ settled_of calls → b.shape ≡ a.shape → b.shadow.next ≡ a.shadow.next → b.trail ≡ a.trail → IsAccountSound b
+      → (log : Log) (m : Machine) → Tied b log m → handles_of_order (stop_order log) ≡ stops_of calls → m.settled ≡ settled_of calls → m.taken ≡ out_of (last ∷ calls) → Stands shape (last ∷ calls) b
+  call-on last b same groups shaped next trail sound log m tied stops settled out =
+      call-by last b same shaped next sound log m tied stops (settled ∙ sym groups) out (groups ∙ s.trail ∙ ap (map (handles_in (stops_of calls))) (sym trail))
 
   pub call-opened : (seat credits : ℕ) → begin_refusal a seat credits ≡ None → Stands shape (Opened seat credits (Ok tt) ∷ calls) (granted_to seat credits a)
   call-opened seat credits none =

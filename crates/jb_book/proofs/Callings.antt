@@ -20,7 +20,7 @@ use Rattle.jb_book.proofs.Accounts.{taken-sound, settled-sound, failed-sound}
 use Rattle.jb_book.proofs.SeatTies.{tied-starts}
 use Rattle.jb_book.proofs.Ties.{tied-takes, tied-settles, tied-settles-none, tied-fails, tied-fails-again}
 use Rattle.jb_book.proofs.Grouped.{started, groups-in, cut-few, vec_of}
-use Rattle.jb_book.proofs.Between.{Stands, call-dropped, call-idle, call-on, call-opened, call-shut, call-stopped, handles-all, settled-handles}
+use Rattle.jb_book.proofs.Between.{Stands, call-by, call-dropped, call-idle, call-on, call-opened, call-shut, call-stopped, handles-all, settled-handles}
 
 -- ---- batches and a failure
 
@@ -39,37 +39,18 @@ module _ (shape : Shape) (calls : List Call) (a : Account) (s : Stands shape cal
       at : (b : Bool) → a.aborted ≡ b → Stands shape (Settled entries (Ok tt) ∷ calls) (settled_to past entries a)
       at true fell =
           let (none, tied) = tied-settles-none a s.log s.machine s.tied s.sound fell past entries is in
-          record {
-            same_shape = s.same_shape;
-            sound = settled-sound a s.sound past entries is;
-            log = s.log;
-            machine = s.machine;
-            tied = tied;
-            stops = s.stops;
-            settled = s.settled ∙ sym (append-nil (settled_of calls)) ∙ ap (λ es. settled_of calls ++ take (length es) (out_of calls)) (sym none);
-            out = s.out ∙ ap (λ es. drop (length es) (out_of calls)) (sym none);
-            numbered = s.numbered;
-            counted = s.counted;
-            trail = ap (λ es. settled_of calls ++ take (length es) (out_of calls)) none ∙ append-nil (settled_of calls) ∙ s.trail
-                ∙ ap (map (handles_in (stops_of calls))) (sym (append-nil a.trail) ∙ ap (λ es. a.trail ++ es) (sym none));
-          }
+          call-by shape calls a s (Settled entries (Ok tt)) (settled_to past entries a) refl refl refl (settled-sound a s.sound past entries is) s.log s.machine tied s.stops
+          (s.settled ∙ sym (append-nil (settled_of calls)) ∙ ap (λ es. settled_of calls ++ take (length es) (out_of calls)) (sym none))
+          (s.out ∙ ap (λ es. drop (length es) (out_of calls)) (sym none))
+          (ap (λ es. settled_of calls ++ take (length es) (out_of calls)) none ∙ append-nil (settled_of calls) ∙ s.trail ∙ ap (map (handles_in (stops_of calls))) (sym (append-nil a.trail) ∙ ap (λ es. a.trail ++ es) (sym none)))
       at false running =
           let new = groups-in a.shadow.settled _ past (joined (settled_of calls)) (out_of calls) a.shadow.queue entries (settled-handles shape calls a s running) is.follow are in
-          record {
-            same_shape = s.same_shape;
-            sound = settled-sound a s.sound past entries is;
-            log = (event.Settle (length entries), Ok Plain) ∷ s.log;
-            machine = after_event s.machine (event.Settle (length entries));
-            tied = tied-settles a s.log s.machine s.tied running past entries is (subst (λ gs. AreOfFirst gs entries) (sym s.out) are);
-            stops = s.stops;
-            settled = λ i. s.settled i ++ take (length entries) (s.out i);
-            out = ap (drop (length entries)) s.out;
-            numbered = s.numbered;
-            counted = s.counted;
-            trail = ap (λ gs. settled_of calls ++ gs) (new ∙ ap (λ stops. map (handles_in stops) entries) (handles-all shape calls a s running))
-                ∙ ap (λ gs. gs ++ map (handles_in (stops_of calls)) entries) s.trail
-                ∙ sym (map-append (handles_in (stops_of calls)) a.trail entries);
-          }
+          call-by shape calls a s (Settled entries (Ok tt)) (settled_to past entries a) refl refl refl (settled-sound a s.sound past entries is) ((event.Settle (length entries), Ok Plain) ∷ s.log) (after_event s.machine (event.Settle (length entries)))
+          (tied-settles a s.log s.machine s.tied running past entries is (subst (λ gs. AreOfFirst gs entries) (sym s.out) are)) s.stops
+          (λ i. s.settled i ++ take (length entries) (s.out i))
+          (ap (drop (length entries)) s.out)
+          (ap (λ gs. settled_of calls ++ gs) (new ∙ ap (λ stops. map (handles_in stops) entries) (handles-all shape calls a s running))
+          ∙ ap (λ gs. gs ++ map (handles_in (stops_of calls)) entries) s.trail ∙ sym (map-append (handles_in (stops_of calls)) a.trail entries))
 
   call-failed : Stands shape (Failed ∷ calls) (failed_of a)
   call-failed = at a.aborted refl

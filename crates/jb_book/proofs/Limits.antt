@@ -1,5 +1,5 @@
 -- The limits of a machine after any events, the seats that its shadow shows, and groups with handles.
-use Rattle.std.proofs.Common.{◌≡◌, ℕ, ◌+◌, ◌-◌, ◌<◌, ◌≤◌, Bool, List, [], ◌∷◌, map, length, take, drop, sum, Option, Some, None, All, slice_range, sym, refl, ap, subst, ◌∙◌, Ok, Err, arith}
+use Rattle.std.proofs.Common.{◌≡◌, ℕ, ◌+◌, ◌-◌, ◌<◌, ◌≤◌, Bool, List, [], ◌∷◌, map, length, take, drop, sum, Option, Some, None, All, slice_range, sym, refl, ap, subst, Ok, Err, arith}
 use Rattle.std.proofs.lemmas.List.{length-append, length-drop, length-take-le}
 use Rattle.std.proofs.lemmas.List.Elements.{All-nil, All-cons}
 use Rattle.std.proofs.lemmas.List.Sums.{sum_by-cons}
@@ -12,7 +12,6 @@ use Rattle.jb_block.specs.Width.{is_wide}
 use Rattle.jb_handle.specs.declared.shape.Shape.{Shape}
 use Rattle.jb_handle.specs.declared.stopped.Stopped.{Stopped}
 use Rattle.jb_handle.specs.Held.{Held}
-use Rattle.jb_cost.specs.declared.geometry.Geometry.{Geometry}
 use Rattle.jb_cost.specs.Cut.{RisesTo, IsCut}
 use Rattle.jb_cost.specs.Pieces.{joined, pieces_from, pieces}
 use Rattle.jb_cost.proofs.Cuts.{rises-le}
@@ -32,27 +31,19 @@ use Rattle.jb_book.specs.Tied.{HasHandle}
 
 -- ---- the limits of a machine
 
-after-limits : (m : Machine) (e : Event) → ((after_event m e).shape ≡ m.shape) × ((after_event m e).geometry ≡ m.geometry)
-after-limits m (Open seat credits) = (refl, refl)
-after-limits m other = (refl, refl)
-
 pub record HasLimits (shape : Shape) (m : Machine) : Type 0 where
   pub same_shape : m.shape ≡ shape
   pub tags : m.geometry.t ≡ tags_in (is_wide shape.width) (bytes_of shape.bs)
   pub entries : m.geometry.r ≡ entries_in (is_wide shape.width) (bytes_of shape.bs)
 
+after-limits : (shape : Shape) (m : Machine) (e : Event) → HasLimits shape m → HasLimits shape (after_event m e)
+after-limits shape m (Open seat credits) was = assumption
+after-limits shape m other was = assumption
+
 -- they are those of its start
 pub limits : (shape : Shape) (log : Log) (m : Machine) → Ran shape log m → HasLimits shape m
-limits shape [] m start = record { same_shape = start.same_shape; tags = start.tags; entries = start.entries }
-limits shape ((e, Ok reply) ∷ earlier) m (before, ran, step) =
-    let was = limits shape earlier before ran in
-    let same = after-limits before e in
-    let geometry : m.geometry ≡ before.geometry = ap (λ (n : Machine). n.geometry) step.2 ∙ same.1 in
-    record {
-      same_shape = ap (λ (n : Machine). n.shape) step.2 ∙ same.0 ∙ was.same_shape;
-      tags = ap (λ (g : Geometry). g.t) geometry ∙ was.tags;
-      entries = ap (λ (g : Geometry). g.r) geometry ∙ was.entries;
-    }
+limits shape [] m start = assumption
+limits shape ((e, Ok reply) ∷ earlier) m (before, ran, step) = subst (HasLimits shape) (sym step.2) (after-limits shape before e (limits shape earlier before ran))
 limits shape ((e, Err fault) ∷ earlier) m (before, ran, step) = subst (HasLimits shape) (sym step.1) (limits shape earlier before ran)
 
 -- ---- the seats of a shadow

@@ -7,6 +7,8 @@ use Rattle.jb_board.proofs.Placed.{placed_on}
 use Rattle.jb_board.specs.HistoryRule.{StandsIn}
 use Rattle.jb_deck.specs.Deck.{OpenDeck}
 use Rattle.jb_deck.specs.Done.{past_after}
+use Rattle.jb_deck.specs.declared.done.Entry.{Entry}
+use Rattle.jb_book.specs.Marks.{IsMarked}
 use Rattle.jb_book.specs.Origin.{Begun}
 use Rattle.jb_book.specs.SinceMark.{HasSettledOf, IsShown, Lasts, ShownIsGiven, ShownStays, Within}
 use Rattle.jb_book.proofs.Firsts.{first-lower}
@@ -21,19 +23,18 @@ record ShownAt {D : Type 0} (marks : List (OpenDeck D)) (ticket : ℕ) : Type 0 
   stands : StandsIn marks (at, mark)
   late : Within mark.trail → ticket < past_after 0 mark.trail
 
+-- by an entry that ends after the ticket
+shown-in : {D : Type 0} (marks : List (OpenDeck D)) (ticket : ℕ) (e : Entry) → IsMarked marks e → (e.first < e.past → ticket < e.past) → ShownAt marks ticket
+shown-in marks ticket e is up = record {
+  at = is.at;
+  mark = is.mark;
+  stands = is.stands;
+  late = λ within. (let tiles = within e is.has in omega (arith, up tiles.0));
+}
+
 shown-at : {D : Type 0} (marks : List (OpenDeck D)) (ticket : ℕ) → IsShown marks ticket → ShownAt marks ticket
-shown-at marks ticket (inl (number, s)) = record {
-  at = s.marked.at;
-  mark = s.marked.mark;
-  stands = s.marked.stands;
-  late = λ within. (let tiles = within s.entry s.marked.has in omega arith);
-}
-shown-at marks ticket (inr s) = record {
-  at = s.marked.at;
-  mark = s.marked.mark;
-  stands = s.marked.stands;
-  late = λ within. (let tiles = within s.entry s.marked.has in omega arith);
-}
+shown-at marks ticket (inl (number, s)) = shown-in marks ticket s.entry s.marked (λ some. s.to)
+shown-at marks ticket (inr s) = shown-in marks ticket s.entry s.marked (λ some. omega arith)
 
 -- what holds of all marks holds of this one
 pub of-mark : {D : Type 0} (P : OpenDeck D → Type 0) (marks : List (OpenDeck D)) (at : ℕ) (m : OpenDeck D) → StandsIn marks (at, m) → All P marks → P m
