@@ -1,5 +1,6 @@
 -- The entries of a map by their keys: how many there are, and what they add up to.
-use Rattle.std.proofs.Common.{◌≡◌, ℕ, suc, ◌+◌, ◌≤◌, Bool, true, false, cond, List, [], ◌∷◌, length, Option, Some, None, Ordering, Less, Equal, Greater, refl, ap, le_refl, arith}
+use Rattle.std.proofs.Common.{◌≡◌, ℕ, suc, ◌+◌, ◌≤◌, Bool, true, false, cond, List, [], ◌∷◌, length, Option, Some, None, Less, Equal, Greater, refl, ap, le_refl, arith}
+use Rattle.std.proofs.lemmas.Bool.{both_ways}
 use Rattle.std.proofs.lemmas.List.Sums.{sum_by-cons}
 use Rattle.std.specs.List.{sum_by}
 use Rattle.std.specs.Ordering.{nat_cmp, match_ordering, is_eq}
@@ -15,17 +16,13 @@ missed false h rest is = (refl, is)
 pub sum-insert : {V : Type 0} (f : V → ℕ) (es : List (ℕ × V)) (k : ℕ) (v : V) → lookup (is_at (nat_cmp k)) es ≡ None → sum_by f (values_of (insert_entry nat_cmp es k v)) ≡ sum_by f (values_of es) + f v
 sum-insert f [] k v none = let one = sum_by-cons f v [] in omega arith
 sum-insert f (e ∷ es) k v none =
-    let miss = missed (is_at (nat_cmp k) e.0) e.1 _ none in
-    at (nat_cmp k e.0) refl miss.0 (sum-insert f es k v miss.1)
-  where
-    at : (o : Ordering) → nat_cmp k e.0 ≡ o → is_at (nat_cmp k) e.0 ≡ false → sum_by f (values_of (insert_entry nat_cmp es k v)) ≡ sum_by f (values_of es) + f v
-        → sum_by f (values_of (match_ordering o ((k, v) ∷ e ∷ es) ((e.0, v) ∷ es) (e ∷ insert_entry nat_cmp es k v))) ≡ sum_by f (values_of (e ∷ es)) + f v
-    at Less is miss rest = let front = sum_by-cons f v (values_of (e ∷ es)) in omega (arith, front)
-    at Equal is miss rest = let hit : is_at (nat_cmp k) e.0 ≡ true = ap is_eq is in absurd (let h : ⊥ = cc in h)
-    at Greater is miss rest =
-        let new = sum_by-cons f e.1 (values_of (insert_entry nat_cmp es k v)) in
-        let old = sum_by-cons f e.1 (values_of es) in
-        omega (arith, new, old, rest)
+    let miss = missed (is_at (nat_cmp k) e.0) e.1 (lookup (is_at (nat_cmp k)) es) none in
+    let rest = sum-insert f es k v miss.1 in
+    elim (nat_cmp k e.0) as (λ o. nat_cmp k e.0 ≡ o → sum_by f (values_of (match_ordering o ((k, v) ∷ e ∷ es) ((e.0, v) ∷ es) (e ∷ insert_entry nat_cmp es k v))) ≡ sum_by f (values_of (e ∷ es)) + f v) [
+      | Less ↦ λ is. omega (arith, sum_by-cons f v (values_of (e ∷ es)))
+      | Equal ↦ λ is. absurd (both_ways (is_at (nat_cmp k) e.0) miss.0 (ap is_eq is))
+      | Greater ↦ λ is. omega (arith, rest, sum_by-cons f e.1 (values_of (insert_entry nat_cmp es k v)), sum_by-cons f e.1 (values_of es))
+    ] refl
 
 pub length-insert_entry : {V : Type 0} (es : List (ℕ × V)) (k : ℕ) (v : V) → length (insert_entry nat_cmp es k v) ≤ length es + 1
 length-insert_entry [] k v = le_refl 1

@@ -22,8 +22,7 @@ use Rattle.jb_core.specs.Lives.{Log, Answer, ops_of, ticket_in, stop_order, past
 use Rattle.jb_core.specs.Ran.{IsNewMachine, Ran}
 use Rattle.jb_core.proofs.Accepted.{found-none, found-some, first-false, none-taken, accepted, restarted, still-up, there-at}
 use Rattle.jb_core.proofs.Groups.{more-settled, parts-joined}
-use Rattle.jb_core.specs.Seats.{set, change, Once}
-use Rattle.jb_core.specs.Seats.{drop as drop_seat}
+use Rattle.jb_core.specs.Seats.{set, change, drop as drop_seat, Once}
 use Rattle.jb_core.specs.SeatLaw.{changed}
 use Rattle.jb_core.proofs.Seats.{seat-self, set-same, set-other, change-same, change-other, once-set, once-change, once-drop, AreBy, by-changed, by-dropped}
 
