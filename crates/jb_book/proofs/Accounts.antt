@@ -1,5 +1,10 @@
 -- Each call leaves the account sound.
-use Rattle.std.proofs.Common.{◌≡◌, ℕ, ◌+◌, ◌-◌, ◌^◌, ◌<◌, ◌≤◌, Bool, true, false, nat_lt, List, [], ◌∷◌, ◌++◌, length, drop, sum, All, None, is_some, sym, refl, ap, subst, ◌∙◌, IfSome, arith}
+use Rattle.std.proofs.Common.{◌≡◌, ℕ, ◌+◌, ◌≤◌, Bool, List, ◌∷◌, [], length, sum, Some, ap, le_refl, arith, ◌-◌, ◌^◌, ◌<◌, true, false, nat_lt, ◌++◌, drop, All, None, is_some, sym, refl, subst, ◌∙◌, IfSome}
+use Rattle.std.proofs.lemmas.Map.Entries.{sum_by-remove_entry}
+use Rattle.std.specs.Option.{unwrap_or, option_map}
+use Rattle.std.specs.Ordering.{nat_cmp}
+use Rattle.std.specs.BTreeMap.{is_at}
+use Rattle.std.specs.Map.{lookup, remove_entry, values_of}
 use Rattle.std.proofs.lemmas.Bool.Decides.{nat_tests}
 use Rattle.std.proofs.lemmas.List.{length-append, length-drop, drop-append-le, drop-drop}
 use Rattle.std.proofs.lemmas.List.Elements.{All-nil, All-push, All-drop}
@@ -8,11 +13,6 @@ use Rattle.std.proofs.lemmas.Map.Views.{All-values-insert_entry, All-map-remove_
 use Rattle.std.proofs.Math.ListN.{drop_of_length-le}
 use Rattle.std.proofs.Math.Seq.{drop-nil}
 use Rattle.std.specs.List.{sum_by}
-use Rattle.std.specs.Option.{unwrap_or}
-use Rattle.std.specs.Ordering.{nat_cmp}
-use Rattle.std.specs.BTreeMap.{is_at}
-use Rattle.std.specs.Map.{values_of}
-use Rattle.std.specs.FinMap as map
 use Rattle.jb_handle.specs.declared.stopped.Stopped.{Stopped}
 use Rattle.jb_handle.specs.Held.{Fits}
 use Rattle.jb_handle.specs.Size.{IsWithinSize}
@@ -28,7 +28,26 @@ use Rattle.jb_book.specs.declared.fault.BeginFault.TheVariants.{Aborted, Closed,
 use Rattle.jb_book.specs.Account.{Account, InLine, IsAccountSound, IsLost, granted_to, dropped_of, queued, taken_all, settled_to, failed_of, has_no_room, begin_refusal, IsOpenFor, CanTake, Settles, touched_in}
 use Rattle.jb_book.specs.Shadow.{credits_at, lost, reserved_in, settled_by, took}
 use Rattle.jb_book.proofs.Follows.{follow-length, follow-on}
-use Rattle.jb_book.proofs.SeatCredits.{length-less, sum-gone, sum-less}
+use Rattle.std.specs.FinMap as map
+
+-- ---- the credits of the seats: without a seat, its credits are left over
+
+module _ (es : List (ℕ × ℕ)) (seat : ℕ) where
+  -- without a seat, its credits are left over
+  pub sum-gone : (credits : ℕ) → lookup (is_at (nat_cmp seat)) es ≡ Some credits → sum (values_of (remove_entry (is_at (nat_cmp seat)) es)) + credits ≡ sum (values_of es)
+  sum-gone credits there =
+      let all = sum_by-remove_entry (λ (x : ℕ). x) (is_at (nat_cmp seat)) es in
+      let before : unwrap_or (option_map (λ (x : ℕ). x) (lookup (is_at (nat_cmp seat)) es)) 0 ≡ credits = ap (λ found. unwrap_or (option_map (λ (x : ℕ). x) found) 0) there in
+      omega (arith, all, before)
+
+  -- and no more than before
+  pub sum-less : sum (values_of (remove_entry (is_at (nat_cmp seat)) es)) ≤ sum (values_of es)
+  sum-less = let all = sum_by-remove_entry (λ (x : ℕ). x) (is_at (nat_cmp seat)) es in omega (arith, all)
+
+-- nor is the list longer
+pub length-less : (test : ℕ → Bool) (es : List (ℕ × ℕ)) → length (remove_entry test es) ≤ length es
+length-less test [] = le_refl 0
+length-less test (e ∷ es) = let rest = length-less test es in grind (arith, rest)
 
 -- ---- the calls
 

@@ -27,7 +27,7 @@ use Rattle.jb_deck.proofs.Stood.{Stood}
 use Rattle.jb_book.specs.Origin.{Begun, own_on, revoking_in}
 use Rattle.jb_book.specs.Opened.{WasOpened}
 use Rattle.jb_book.specs.Since.{NumberedFrom, IsBegunOn, IsCosted, IsSince}
-use Rattle.jb_book.proofs.Firsts.{first-none}
+use Rattle.jb_book.proofs.Lasting.{first-none}
 use Rattle.jb_deck.proofs.Opened.{revoking-same}
 
 none-live : (gs : List Group) → gs ≡ [] → LiveOf [] gs

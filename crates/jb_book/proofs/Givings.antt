@@ -1,11 +1,21 @@
 -- A journal since its desk was started: what a batch that is given to it keeps.
-use Rattle.std.proofs.Common.{◌≡◌, ℕ, false, ◌+◌, ◌<◌, ◌≤◌, List, ◌++◌, length, take, slice_index, All, Result, Ok, Err, OnOk, refl, ap, sym, subst, ◌∙◌, arith}
+use Rattle.std.proofs.Common.{◌≡◌, ℕ, ◌+◌, ◌≤◌, List, [], ◌∷◌, ◌++◌, All, length, take, sym, ap, ◌∙◌, arith, false, ◌<◌, slice_index, Result, Ok, Err, OnOk, refl, subst}
+use Rattle.std.specs.Prelude.{slice_range}
+use Rattle.std.proofs.Math.Seq.{drop-append-add}
+use Rattle.std.proofs.lemmas.Grind.{common_steps}
 use Rattle.std.proofs.lemmas.List.{length-append, length-take-le, take_all}
-use Rattle.std.proofs.lemmas.List.Elements.{All-append}
-use Rattle.jb_plan.specs.Costs.{cost_in}
+use Rattle.std.proofs.lemmas.List.Elements.{All-append, All-cons, All-nil, All-take, All-weaker}
+use Rattle.jb_plan.specs.Costs.{cost_in, geometry_of}
+use Rattle.jb_cost.specs.Cost.{cost}
+use Rattle.jb_cost.specs.Cut.{IsCut, RisesTo}
+use Rattle.jb_cost.proofs.Cuts.{rises-le}
+use Rattle.jb_handle.specs.declared.shape.Shape.{Shape}
+use Rattle.jb_handle.specs.declared.stopped.Stopped.{Stopped}
+use Rattle.jb_deck.specs.Gathering.{entries_for, entries_from, groups_in}
+use Rattle.jb_deck.specs.declared.done.Entry.{Entry}
+use Rattle.jb_book.specs.Since.{IsCosted, NumberedFrom, HasFirst, Since, WasGiven}
 use Rattle.jb_plan.specs.Prepared.{Planned, IsPlanned}
 use Rattle.jb_block.specs.declared.stamp.Stamp.{Stamp}
-use Rattle.jb_cost.specs.Cut.{IsCut}
 use Rattle.jb_disk.specs.Image.{Image}
 use Rattle.jb_disk.specs.Faults.{CountsAny}
 use Rattle.jb_disk.specs.KeptOn.{KeptOn}
@@ -13,19 +23,14 @@ use Rattle.jb_disk.specs.declared.disk.Disk.{Ghosts}
 use Rattle.jb_disk.specs.Time.{LeavesOnly}
 use Rattle.jb_disk.proofs.Moments.{weaken}
 use Rattle.jb_handle.specs.Tickets.{TicketsFrom}
-use Rattle.jb_handle.specs.declared.shape.Shape.{Shape}
-use Rattle.jb_handle.specs.declared.stopped.Stopped.{Stopped}
 use Rattle.jb_handle.proofs.Tickets.{tickets-append}
 use Rattle.jb_deck.specs.Calls.{IsCall}
 use Rattle.jb_deck.specs.Committing.{AnswersBatch, CommitsBatch, CommitsOnDisk, FindsLive, LeavesGroups, RefusesBatch, SettlesSome, TakesBatch}
 use Rattle.jb_deck.specs.Deck.{OpenDeck}
 use Rattle.jb_deck.specs.Done.{entries_of, past_after, start_of}
-use Rattle.jb_deck.specs.Gathering.{groups_in, entries_for}
 use Rattle.jb_deck.specs.Trailing.{FollowsSome}
 use Rattle.jb_deck.specs.declared.batched.BatchFault.{BatchFault}
-use Rattle.jb_deck.specs.declared.batched.BatchFault.TheVariants as batch
 use Rattle.jb_deck.specs.declared.done.Done.{Done}
-use Rattle.jb_deck.specs.declared.done.Entry.{Entry}
 use Rattle.jb_super.specs.Journal.{SameJournal}
 use Rattle.jb_log.proofs.Owning.{same-then}
 use Rattle.jb_deck.specs.Since.{LiveOf, committed, deck_homes}
@@ -33,14 +38,54 @@ use Rattle.jb_deck.proofs.Sinces.{ended-is-call}
 use Rattle.jb_deck.proofs.Stood.{call-stood}
 use Rattle.jb_book.specs.Journal.{EndsRound, RefusesRound}
 use Rattle.jb_book.specs.Origin.{Begun}
-use Rattle.jb_book.specs.Since.{NumberedFrom, HasFirst, IsCosted, Since, WasGiven}
 use Rattle.jb_book.specs.SinceMark.{IsMarkedOf}
-use Rattle.jb_book.proofs.Bounds.{cut-last, cut-within, for-length, for-past, past-append}
-use Rattle.jb_book.proofs.Costed.{costed-more}
-use Rattle.jb_book.proofs.Firsts.{first-longer, first-some}
-use Rattle.jb_book.proofs.Lasting.{ever-on, kept-all}
-use Rattle.jb_book.proofs.Numbered.{numbered-first, numbered-for, numbered-on, start-more}
+use Rattle.jb_book.proofs.Rounds.{cut-last, cut-within, for-length, for-past, past-append}
+use Rattle.jb_book.proofs.Lasting.{ever-on, kept-all, first-longer, first-some}
+use Rattle.jb_book.proofs.Takings.{numbered-first, numbered-for, numbered-on, start-more}
 use Rattle.jb_book.proofs.Sincing.{more-counted, plain-is}
+use Rattle.jb_deck.specs.declared.batched.BatchFault.TheVariants as batch
+
+-- ---- the entries of a trail have what their handles cost
+
+range-before : {A : Type 0} (xs ys : List A) (i j : ℕ) → i ≤ j → j ≤ length xs → slice_range (xs ++ ys) i j ≡ slice_range xs i j
+range-before xs ys i j up within = grind (arith, common_steps)
+
+range-after : {A : Type 0} (xs ys : List A) (i j : ℕ) → slice_range (xs ++ ys) (length xs + i) (length xs + j) ≡ slice_range ys i j
+range-after xs ys i j = grind (arith, common_steps, drop-append-add xs ys i)
+
+module _ (shape : Shape) (given hs : List Stopped) where
+  costed-before : (e : Entry) → IsCosted shape given e → IsCosted shape (given ++ hs) e
+  costed-before e is = record {
+    some = is.some;
+    within = (let both = length-append given hs in omega (arith, both));
+    blocks = is.blocks ∙ ap (cost (geometry_of shape)) (sym (range-before given hs e.first e.past (omega arith) is.within));
+  }
+
+  costed-from : (number a : ℕ) (bs : List ℕ) → RisesTo (length hs) a bs → All (IsCosted shape (given ++ hs)) (entries_from (cost_in shape hs) (length given) number a bs)
+  costed-from number a [] rises = All-nil (IsCosted shape (given ++ hs))
+  costed-from number a (b ∷ bs) rises =
+      All-cons (IsCosted shape (given ++ hs)) (record { first = length given + a; past = length given + b; number = number; blocks = cost_in shape hs a b })
+      (entries_from (cost_in shape hs) (length given) (number + 1) b bs)
+      (record {
+        some = (omega arith);
+        within = (let high = rises-le (length hs) b bs rises.1 in let both = length-append given hs in omega (arith, high, both));
+        blocks = ap (cost (geometry_of shape)) (sym (range-after given hs a b));
+      })
+      (costed-from (number + 1) b bs rises.1)
+
+  costed-for : (number : ℕ) (bounds : List ℕ) → IsCut (length hs) bounds → All (IsCosted shape (given ++ hs)) (entries_for (cost_in shape hs) (length given) number bounds)
+  costed-for number [] cut = absurd cut
+  costed-for number (a ∷ bs) cut = costed-from number a bs cut.1
+
+  -- the entries before, and the first ones of a batch
+  pub costed-more : (number k : ℕ) (bounds : List ℕ) (trail : List Entry) → IsCut (length hs) bounds → All (IsCosted shape given) trail
+      → All (IsCosted shape (given ++ hs)) (trail ++ take k (entries_for (cost_in shape hs) (length given) number bounds))
+  costed-more number k bounds trail cut all =
+      All-append (IsCosted shape (given ++ hs)) trail (take k (entries_for (cost_in shape hs) (length given) number bounds))
+      (All-weaker (IsCosted shape given) (IsCosted shape (given ++ hs)) costed-before trail all)
+      (All-take (IsCosted shape (given ++ hs)) k (entries_for (cost_in shape hs) (length given) number bounds) (costed-for number bounds cut))
+
+-- ---- A journal since its desk was started: what a batch that is given to it keeps
 
 module _ {D : Type 0} (G : Ghosts D) (b : Begun) (known : Stopped → Type 0) (p : Planned) (stamp : Stamp) (old new : OpenDeck D) (planned : IsPlanned p) (tickets : TicketsFrom p.batch.first p.batch.handles) (stopped : All known p.batch.handles) (kept : KeptOn G CountsAny old.disk new.disk) where
   abbrev hs : List Stopped

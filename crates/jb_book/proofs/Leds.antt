@@ -24,7 +24,7 @@ use Rattle.jb_book.proofs.Shadows.{count-parts}
 use Rattle.jb_book.proofs.Least.{has_least}
 use Rattle.jb_book.proofs.Limits.{first-few, none-filled, filled-pieces}
 use Rattle.jb_book.proofs.Follows.{follow-length}
-use Rattle.jb_book.proofs.Remains.{least-same, none-are, none-out, none-pieces, recorded-back, rest-from, rest-more, rest-of-rest, same-out}
+use Rattle.jb_book.proofs.Staying.{least-same, none-are, none-out, none-pieces, recorded-back, rest-from, rest-more, rest-of-rest, same-out}
 
 -- ---- the start
 

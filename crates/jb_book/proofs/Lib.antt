@@ -1,15 +1,10 @@
 pub mod Accounts
 pub mod Begins
 pub mod Between
-pub mod Bounds
-pub mod Callings
-pub mod Costed
 pub mod Cuts
-pub mod Firsts
 pub mod Follows
 pub mod Fronts
 pub mod Givings
-pub mod Grouped
 pub mod Keeping
 pub mod Lasting
 pub mod LastingMarks
@@ -17,13 +12,10 @@ pub mod Least
 pub mod Leds
 pub mod Limits
 pub mod Marked
-pub mod Numbered
 pub mod OneHistory
 pub mod Readings
 pub mod Registers
-pub mod Remains
 pub mod Rounds
-pub mod SeatCredits
 pub mod SeatTies
 pub mod Shadows
 pub mod Shaped
@@ -33,4 +25,3 @@ pub mod StopHistories
 pub mod Takings
 pub mod Telling
 pub mod Ties
-pub mod Touching

@@ -1,18 +1,76 @@
 -- What a commit tells of its batch, whatever journal it was.
-use Rattle.std.proofs.Common.{◌≡◌, ℕ, ◌+◌, ◌≤◌, List, [], ◌∷◌, length, Result, Ok, Err, refl, sym, ap, subst, ◌∙◌, arith}
-use Rattle.jb_block.specs.declared.stamp.Stamp.{Stamp}
+use Rattle.std.proofs.Common.{◌≡◌, ℕ, zero, suc, ◌+◌, ◌-◌, ◌≤◌, List, [], ◌∷◌, ◌++◌, length, take, slice_index, refl, ap, ◌∙◌, arith, Result, Ok, Err, sym, subst}
 use Rattle.jb_cost.specs.Cut.{RisesTo, IsCut}
+use Rattle.jb_deck.specs.Done.{past_after, Follow}
+use Rattle.jb_deck.specs.Gathering.{groups_in, entries_from, entries_for}
+use Rattle.jb_deck.specs.declared.done.Entry.{Entry}
+use Rattle.jb_block.specs.declared.stamp.Stamp.{Stamp}
 use Rattle.jb_deck.specs.Committing.{AnswersBatch}
 use Rattle.jb_deck.specs.Deck.{OpenDeck}
-use Rattle.jb_deck.specs.Done.{Follow, past_after}
-use Rattle.jb_deck.specs.Gathering.{entries_from, entries_for}
 use Rattle.jb_plan.specs.Costs.{cost_in}
 use Rattle.jb_plan.specs.Prepared.{Planned, IsPlanned}
 use Rattle.jb_deck.specs.declared.batched.BatchFault.{BatchFault}
 use Rattle.jb_deck.specs.declared.batched.BatchFault.TheVariants.{Aborted, WrongTicket, OtherShape, NumbersSpent, Memory, DeviceFault}
 use Rattle.jb_deck.specs.declared.done.Done.{Done}
 use Rattle.jb_book.specs.Rounds.{CommitsAs, end_of}
-use Rattle.jb_book.proofs.Bounds.{cut-within, for-past}
+
+-- ---- the bounds of a cut, and where the entries of its first groups end
+
+pub past-append : (n : ℕ) (es fs : List Entry) → past_after n (es ++ fs) ≡ past_after (past_after n es) fs
+past-append n [] fs = refl
+past-append n (e ∷ es) fs = past-append e.past es fs
+
+bound-rise : (n a : ℕ) (bs : List ℕ) (j k : ℕ) → RisesTo n a bs → j ≤ k → k ≤ length bs → slice_index (a ∷ bs) j + (k - j) ≤ slice_index (a ∷ bs) k
+bound-rise n a bs zero zero rises up within = omega arith
+bound-rise n a bs (suc j) zero rises up within = absurd (omega (arith, up))
+bound-rise n a [] j (suc k) rises up within = absurd (omega (arith, within))
+bound-rise n a (b ∷ bs) zero (suc k) rises up within = let rest = bound-rise n b bs 0 k rises.1 (omega arith) (omega (arith, within)) in omega (arith, rest)
+bound-rise n a (b ∷ bs) (suc j) (suc k) rises up within = let rest = bound-rise n b bs j k rises.1 (omega (arith, up)) (omega (arith, within)) in omega (arith, rest)
+
+bound-last : (n a : ℕ) (bs : List ℕ) → RisesTo n a bs → slice_index (a ∷ bs) (length bs) ≡ n
+bound-last n a [] rises = rises
+bound-last n a (b ∷ bs) rises = bound-last n b bs rises.1
+
+-- each group has a handle at least
+pub cut-rise : (n : ℕ) (bounds : List ℕ) (j k : ℕ) → IsCut n bounds → j ≤ k → k ≤ groups_in bounds → slice_index bounds j + (k - j) ≤ slice_index bounds k
+cut-rise n [] j k cut up within = absurd cut
+cut-rise n (a ∷ bs) j k cut up within = bound-rise n a bs j k cut.1 up within
+
+-- all groups of a cut end with the last handle
+pub cut-last : (n : ℕ) (bounds : List ℕ) → IsCut n bounds → slice_index bounds (groups_in bounds) ≡ n
+cut-last n [] cut = absurd cut
+cut-last n (a ∷ bs) cut = bound-last n a bs cut.1
+
+-- the first groups end within the handles, and have one each at least
+pub cut-within : (n : ℕ) (bounds : List ℕ) (k : ℕ) → IsCut n bounds → k ≤ groups_in bounds → (k ≤ slice_index bounds k) × (slice_index bounds k + (groups_in bounds - k) ≤ n)
+cut-within n bounds k cut within =
+    let low = cut-rise n bounds 0 k cut (omega arith) within in
+    let high = cut-rise n bounds k (groups_in bounds) cut within (omega arith) in
+    let last = cut-last n bounds cut in
+    (omega (arith, low), omega (arith, high, last))
+
+-- ---- the entries
+
+from-past : (c : ℕ → ℕ → ℕ) (ticket number a : ℕ) (bs : List ℕ) (k : ℕ) → k ≤ length bs → past_after (ticket + a) (take k (entries_from c ticket number a bs)) ≡ ticket + slice_index (a ∷ bs) k
+from-past c ticket number a bs zero within = refl
+from-past c ticket number a [] (suc k) within = absurd (omega (arith, within))
+from-past c ticket number a (b ∷ bs) (suc k) within = from-past c ticket (number + 1) b bs k (omega (arith, within))
+
+-- those of the first groups end at the bound of these
+pub for-past : (c : ℕ → ℕ → ℕ) (n ticket number k : ℕ) (bounds : List ℕ) → IsCut n bounds → k ≤ groups_in bounds → past_after ticket (take k (entries_for c ticket number bounds)) ≡ ticket + slice_index bounds k
+for-past c n ticket number k [] cut within = absurd cut
+for-past c n ticket number k (a ∷ bs) cut within =
+    let same : ticket ≡ ticket + a = omega arith in
+    ap (λ f. past_after f (take k (entries_from c ticket number a bs))) same ∙ from-past c ticket number a bs k within
+
+from-length : (c : ℕ → ℕ → ℕ) (ticket number a : ℕ) (bs : List ℕ) → length (entries_from c ticket number a bs) ≡ length bs
+from-length c ticket number a [] = refl
+from-length c ticket number a (b ∷ bs) = ap suc (from-length c ticket (number + 1) b bs)
+
+-- there is one for each group
+pub for-length : (c : ℕ → ℕ → ℕ) (ticket number : ℕ) (bounds : List ℕ) → length (entries_for c ticket number bounds) ≡ groups_in bounds
+for-length c ticket number [] = refl
+for-length c ticket number (a ∷ bs) = from-length c ticket number a bs
 
 -- ---- the entries of a cut
 

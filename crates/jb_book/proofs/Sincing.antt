@@ -34,8 +34,7 @@ use Rattle.jb_book.specs.declared.checkpoint.CheckpointRound.TheVariants.{Home}
 use Rattle.jb_book.specs.Origin.{Begun}
 use Rattle.jb_book.specs.Since.{NumberedFrom, HasFirst, IsCosted, IsSince, IsSinceOf, Since, WasGiven, may_stop}
 use Rattle.jb_book.specs.SinceMark.{IsMarkedOf}
-use Rattle.jb_book.proofs.Firsts.{first-none}
-use Rattle.jb_book.proofs.Lasting.{CountsNow, ever-on, kept-all}
+use Rattle.jb_book.proofs.Lasting.{CountsNow, ever-on, kept-all, first-none}
 
 -- what a round answers of what the journal answers
 abbrev pub round_of : Result CheckedRun CheckpointFault → Result CheckpointRound CheckpointFault

@@ -2,7 +2,6 @@ pub mod Parts
 pub mod Moves
 pub mod Accepted
 pub mod Entries
-pub mod Reserved
 pub mod Groups
 pub mod Sounds
 pub mod Runs

@@ -1,5 +1,12 @@
 -- Each event leaves the machine sound.
-use Rattle.std.proofs.Common.{◌≡◌, ℕ, ◌+◌, ◌^◌, ◌<◌, ◌≤◌, true, false, nat_lt, nat_le, List, [], ◌∷◌, ◌++◌, length, take, drop, Some, None, is_some, is_none, All, IfSome, sym, refl, ap, subst, ◌∙◌, le_refl, arith}
+use Rattle.std.proofs.Common.{◌≡◌, ℕ, ◌+◌, [], ◌∷◌, take, sum, Some, None, ap, arith, ◌^◌, ◌<◌, ◌≤◌, true, false, nat_lt, nat_le, List, ◌++◌, length, drop, is_some, is_none, All, IfSome, sym, refl, subst, ◌∙◌, le_refl}
+use Rattle.std.proofs.lemmas.List.Sums.{sum_by-append, sum_by-take-drop}
+use Rattle.std.proofs.lemmas.Map.Entries.{sum_by-remove_entry, sum_by-set_value}
+use Rattle.std.specs.List.{sum_by}
+use Rattle.std.specs.Option.{unwrap_or, option_map}
+use Rattle.std.specs.Ordering.{nat_cmp}
+use Rattle.std.specs.BTreeMap.{is_at}
+use Rattle.std.specs.Map.{lookup, set_value, remove_entry, values_of}
 use Rattle.std.proofs.lemmas.Bool.{or_parts}
 use Rattle.std.proofs.lemmas.Bool.Decides.{nat_tests}
 use Rattle.std.proofs.lemmas.List.{length-append, append_assoc, append-nil}
@@ -7,13 +14,11 @@ use Rattle.std.proofs.lemmas.List.Elements.{All-nil, All-push, All-drop, All-sam
 use Rattle.std.proofs.Math.Seq.{drop-length}
 use Rattle.std.proofs.lemmas.Map.{length-set_value}
 use Rattle.std.proofs.lemmas.Map.Views.{All-values-insert_entry, All-values-set_value, All-map-remove_entry, IfSome-lookup_from_All}
-use Rattle.std.specs.Ordering.{nat_cmp}
-use Rattle.std.specs.BTreeMap.{is_at}
-use Rattle.std.specs.Map.{values_of}
-use Rattle.std.specs.FinMap as map
-use Rattle.jb_handle.specs.declared.op.Op.{Op}
 use Rattle.jb_handle.specs.Held.{Held, held, home_of, word_of, Fits}
-use Rattle.jb_handle.specs.Held as handle
+use Rattle.jb_core.specs.declared.event.Event.TheVariants.{Open, Stop, Settle, Touch, Abandon, Checkpoint, Crash, Restart}
+use Rattle.jb_core.specs.Line.{count}
+use Rattle.jb_core.specs.Machine.{Machine, handle_at, held_at, reserved, after_event, is_full, refusal_up, stopped_at, after_take}
+use Rattle.jb_handle.specs.declared.op.Op.{Op}
 use Rattle.jb_handle.specs.Tickets.{TicketsFrom}
 use Rattle.jb_handle.proofs.Admitted.{kept-new, word-kept, passed}
 use Rattle.jb_handle.proofs.Tickets.{tickets-append, tickets-first}
@@ -22,16 +27,48 @@ use Rattle.jb_cost.specs.Credits.{Covers}
 use Rattle.jb_cost.specs.Pieces.{joined, pieces}
 use Rattle.jb_cost.proofs.Granted.{covers-append, covers-drop}
 use Rattle.jb_cost.proofs.Joined.{drop-joined, cut-joined}
-use Rattle.jb_core.specs.declared.event.Event.TheVariants.{Open, Touch, Stop, Abandon, Settle, Checkpoint, Crash, Restart}
 use Rattle.jb_core.specs.declared.event.CoreFault.TheVariants.{Busy, NoHandle, TooManyCredits, Full, Nothing}
-use Rattle.jb_core.specs.Line.{count}
 use Rattle.jb_core.specs.Lives.{settled_now}
-use Rattle.jb_core.specs.Machine.{Machine, handle_at, held_at, reserved, is_full, refusal_up, stopped_at, after_event, after_take}
 use Rattle.jb_core.specs.Sound.{waiting, stopped_now, IsGranted, IsMachineSound}
-use Rattle.jb_core.proofs.Accepted.{found-none, found-some, first-false, still-up, there-at}
+use Rattle.jb_core.proofs.Accepted.{there-at, found-none, found-some, first-false, still-up}
+use Rattle.jb_core.proofs.Entries.{sum-insert, length-insert_entry, length-remove_entry}
 use Rattle.jb_core.proofs.Groups.{more-settled, parts-joined}
-use Rattle.jb_core.proofs.Entries.{length-insert_entry, length-remove_entry}
-use Rattle.jb_core.proofs.Reserved.{credits_of, open-reserved, touch-reserved, gone-reserved, stop-reserved, settle-reserved}
+use Rattle.std.specs.FinMap as map
+use Rattle.jb_handle.specs.Held as handle
+
+-- ---- what is reserved, after each event
+
+abbrev pub credits_of : Held → ℕ
+credits_of h = h.credits
+
+module _ (m : Machine) where
+  -- the credits of a new handle are reserved
+  pub open-reserved : (seat credits : ℕ) → handle_at m seat ≡ None → reserved (after_event m (Open seat credits)) ≡ reserved m + credits
+  open-reserved seat credits none = let all = sum-insert credits_of m.handles seat (held credits m.shape map.empty) none in omega (arith, all)
+
+  -- a change leaves the credits of its handle
+  pub touch-reserved : (seat : ℕ) (h w : Held) → handle_at m seat ≡ Some h → w.credits ≡ h.credits → sum_by credits_of (values_of (set_value (is_at (nat_cmp seat)) m.handles w)) ≡ sum_by credits_of (values_of m.handles)
+  touch-reserved seat h w there same = let all = sum_by-set_value credits_of (is_at (nat_cmp seat)) m.handles h w there in omega (arith, all, same)
+
+  -- without a handle, its credits are left over
+  pub gone-reserved : (seat : ℕ) (h : Held) → handle_at m seat ≡ Some h → sum_by credits_of (values_of (remove_entry (is_at (nat_cmp seat)) m.handles)) + h.credits ≡ sum_by credits_of (values_of m.handles)
+  gone-reserved seat h there =
+      let all = sum_by-remove_entry credits_of (is_at (nat_cmp seat)) m.handles in
+      let before : unwrap_or (option_map credits_of (lookup (is_at (nat_cmp seat)) m.handles)) 0 ≡ h.credits = ap (λ found. unwrap_or (option_map credits_of found) 0) there in
+      omega (arith, all, before)
+
+  -- a handle that stops keeps its credits
+  pub stop-reserved : (seat : ℕ) (h : Held) → handle_at m seat ≡ Some h → reserved (after_event m (Stop seat)) ≡ reserved m
+  stop-reserved seat h there =
+      let more = sum_by-append (λ (x : ℕ). x) m.credits ((held_at m seat).credits ∷ []) in
+      let one : sum ((held_at m seat).credits ∷ []) ≡ (held_at m seat).credits = omega arith in
+      omega (arith, gone-reserved seat h there, more, one, ap credits_of (there-at m seat h there))
+
+  -- the credits of settled handles are left over
+  pub settle-reserved : (n : ℕ) → reserved (after_event m (Settle n)) + sum (take (count (take n m.taken)) m.credits) ≡ reserved m
+  settle-reserved n = let parts = sum_by-take-drop (λ (x : ℕ). x) m.credits (count (take n m.taken)) in omega arith
+
+-- ---- each event leaves the machine sound
 
 module _ (m : Machine) (sound : IsMachineSound m) where
   -- what a seat holds is within what was granted

@@ -26,8 +26,7 @@ use Rattle.jb_cost.specs.Owned.{Counts, later_touch, left_since, is_since, left_
 use Rattle.jb_cost.specs.Starts.{LeastPrice, stretch_at, AreLeast, priced_of}
 use Rattle.jb_cost.specs.Spans.{copies_until}
 use Rattle.jb_cost.specs.LastTouches.{PartsFit, TellsQueue, homes_owned}
-use Rattle.jb_cost.proofs.Left.{few}
-use Rattle.jb_cost.proofs.Picked.{len-of_kind}
+use Rattle.jb_cost.proofs.Left.{few, len-of_kind}
 use Rattle.jb_cost.proofs.Pieces.{piece-none, weight-part}
 use Rattle.jb_cost.proofs.Starts.{least-one, least-as, best-as}
 

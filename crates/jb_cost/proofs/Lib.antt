@@ -11,8 +11,6 @@ pub mod Later
 pub mod Leaping
 pub mod Left
 pub mod Losing
-pub mod Owning
-pub mod Picked
 pub mod Pieces
 pub mod Placed
 pub mod Searching

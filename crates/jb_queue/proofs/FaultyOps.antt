@@ -1,19 +1,181 @@
 -- The first wrong word of a handle is the one at which reading ends.
-use Rattle.std.proofs.Common.{◌≡◌, ◌∙◌, sym, ap, ℕ, List, [], refl, Result, Ok, Err, inl, inr}
-use Rattle.hex.specs.Hex.{decode_of}
+use Rattle.std.proofs.Common.{subst, ◌≡◌, ◌⊎◌, ◌∙◌, sym, ap, ℕ, ◌^◌, ◌<◌, ◌≤◌, ◌==◌, ◌&&◌, nat_lt, nat_le, true, false, if◌then◌else◌, List, [], ◌∷◌, ◌++◌, length, refl, arith, Option, Some, None, Result, Ok, Err, inl, inr}
+use Rattle.std.specs.Prelude.{codes, decimal}
+use Rattle.std.specs.Char.{is_ascii_digit}
+use Rattle.std.specs.List.{AllByRecursion}
+use Rattle.std.specs.Result.{MatchResult}
+use Rattle.std.proofs.lemmas.Result.{MatchResult-at_ok, MatchResult-weaker, MatchResult-at_err}
+use Rattle.std.proofs.lemmas.List.Elements.{recursion_from_All}
+use Rattle.std.proofs.lemmas.List.{append-nil}
+use Rattle.std.proofs.lemmas.Bool.{eqb-true, cases_eq}
+use Rattle.std.proofs.lemmas.Bool.Decides.{nat_tests}
+use Rattle.hex.specs.Hex.{decode_of, is_hex_digit}
+use Rattle.hex.proofs.HexLemmas.{decode_of-ok}
+use Rattle.hex.specs.declared.error.FromHexError.{FromHexError}
 use Rattle.jb_queue.specs.declared.fault.Cause.{Cause}
 use Rattle.jb_queue.specs.declared.fault.Cause.TheVariants.{OpWord, DataWord}
 use Rattle.jb_handle.specs.declared.word.Word.TheVariants.{Copy, Free}
-use Rattle.jb_handle.specs.Word.{WordMap}
 use Rattle.jb_block.specs.Fields.{padded}
-use Rattle.std.proofs.lemmas.Result.{MatchResult-at_err}
-use Rattle.jb_text.proofs.Readings.{then-says, wrong-is}
-use Rattle.jb_queue.specs.Queue.{decoded_block, op_of, after_ops}
+use Rattle.jb_text.specs.Parts.{◌>>=◌, before, onward, number_of}
+use Rattle.jb_queue.specs.Queue.{home_named, or_cause, data_in_word, decoded_block, op_of, after_ops}
 use Rattle.jb_queue.specs.Spelling.{Entry, SpellsOp}
-use Rattle.jb_queue.specs.Faults.{IsNoOp, HasNoData, IsWrongWord, FirstWrongWord}
+use Rattle.jb_queue.specs.Faults.{HasNoData, IsNoOp, IsWrongWord, FirstWrongWord}
+use Rattle.jb_text.proofs.Readings.{then-says, if-says, wrong-is}
+use Rattle.jb_text.proofs.Joins.{Without, is_clear, literal-without, without-append, before-put, onward-put, before-whole, onward-none, decimal-without}
+use Rattle.jb_text.proofs.Numerals.{number-is_decimal, decimal-is_number}
+use Rattle.jb_text.proofs.Splits.{parted, onward-nil, onward-goes, onward-ends}
+use Rattle.jb_handle.specs.Word.{WordMap}
 use Rattle.jb_queue.proofs.Walks.{StopsAt, each-map, walk-fails}
 use Rattle.jb_queue.proofs.Ops.{ops-walk}
-use Rattle.jb_queue.proofs.SpelledOps.{IsFaulty, op-says, op-is, op-from, block-says, reads-data, zeros-from, free-from}
+
+-- ---- A word is read exactly where it spells an op, and else something is wrong with it
+
+-- a home block, and its numeral
+pub home-from : (home : ℕ) → home < 2 ^ 64 → home_named (decimal home) ≡ Ok home
+home-from home fits = rw (decimal-is_number home fits) refl
+
+home-says : (digits : List ℕ) → MatchResult (home_named digits) (λ home. (digits ≡ decimal home) × (home < 2 ^ 64)) (λ cause. cause ≡ OpWord)
+home-says digits = by (number_of digits) refl
+  where
+    by : (found : Option ℕ) → number_of digits ≡ found → MatchResult (or_cause OpWord found) (λ home. (digits ≡ decimal home) × (home < 2 ^ 64)) (λ cause. cause ≡ OpWord)
+    by None is = refl
+    by (Some home) is = number-is_decimal digits home is
+
+-- what spells an op is read to it
+fits-true : (size : ℕ) (bytes : List ℕ) → 0 < length bytes → length bytes ≤ size → (nat_lt 0 (length bytes) && nat_le (length bytes) size) ≡ true
+fits-true size bytes some within = grind (arith, nat_tests, some, within)
+
+pub zeros-from : (size home : ℕ) → home < 2 ^ 64 → op_of size (codes "w" ++ decimal home) ≡ Ok (home, Copy (padded size []))
+zeros-from size home fits =
+    let clear = decimal-without 61 home refl fits in
+    rw (before-whole 61 (decimal home) clear, onward-none 61 (decimal home) clear, home-from home fits) refl
+
+-- a `w` word with an `=` after its number is read as the digits after it say
+pub reads-data : (size home : ℕ) (digits : List ℕ) → home < 2 ^ 64 → op_of size (codes "w" ++ (decimal home ++ (codes "=" ++ digits))) ≡ (decoded_block size (decode_of digits) >>= λ bytes. Ok (home, Copy bytes))
+reads-data size home digits fits =
+    let clear = decimal-without 61 home refl fits in
+    rw (before-put 61 (decimal home) digits clear, onward-put 61 (decimal home) digits clear, home-from home fits) refl
+
+pub free-from : (size home : ℕ) → home < 2 ^ 64 → op_of size (codes "r" ++ decimal home) ≡ Ok (home, Free)
+free-from size home fits = rw (home-from home fits) refl
+
+pub op-from : (size : ℕ) (text : List ℕ) (op : Entry) → SpellsOp size text op → op_of size text ≡ Ok op
+op-from size text op spells = elim spells.form [
+  | inl zeros ↦ ap (op_of size) zeros.0 ∙ zeros-from size op.0 spells.home ∙ ap (λ word. Ok (op.0, word)) (sym zeros.1)
+  | inr (inl has) ↦ ap (op_of size) has.spelled ∙ reads-data size op.0 has.digits spells.home ∙ rw (has.decoded, fits-true size has.bytes has.some has.within) refl ∙ ap (λ word. Ok (op.0, word)) (sym has.left)
+  | inr (inr free) ↦ ap (op_of size) free.0 ∙ free-from size op.0 spells.home ∙ ap (λ word. Ok (op.0, word)) (sym free.1)
+]
+
+onward-case : (delimiter : ℕ) (bs : List ℕ) → (onward delimiter bs ≡ []) ⊎ ((behind : List ℕ) × (onward delimiter bs ≡ delimiter ∷ behind))
+onward-case delimiter [] = inl (onward-nil delimiter)
+onward-case delimiter (b ∷ bs) = elim (cases_eq b delimiter) [
+  | inl same ↦ inr (bs, onward-ends delimiter b bs same ∙ ap (λ first. first ∷ bs) same)
+  | inr other ↦ elim (onward-case delimiter bs) [
+    | inl none ↦ inl (onward-goes delimiter b bs other ∙ none)
+    | inr found ↦ inr (found.0, onward-goes delimiter b bs other ∙ found.1)
+  ]
+]
+
+-- the bytes of a block that a text of digits has not
+abbrev pub NoBytes : ℕ → Result (List ℕ) FromHexError → Type 0
+NoBytes size decoded = (bytes : List ℕ) → decoded ≡ Ok bytes → 0 < length bytes → length bytes ≤ size → ⊥
+
+-- and those that it has
+abbrev pub HasBytes : ℕ → Result (List ℕ) FromHexError → List ℕ → Type 0
+HasBytes size decoded block = (raw : List ℕ) × (decoded ≡ Ok raw) × (0 < length raw) × (length raw ≤ size) × (block ≡ padded size raw)
+
+pub block-says : (size : ℕ) (decoded : Result (List ℕ) FromHexError) → MatchResult (decoded_block size decoded) (HasBytes size decoded) (λ cause. (cause ≡ DataWord) × NoBytes size decoded)
+block-says size (Err fault) = (refl, λ bytes never some within. cc)
+block-says size (Ok raw) =
+    if-says (HasBytes size (Ok raw)) (λ cause. (cause ≡ DataWord) × NoBytes size (Ok raw)) (nat_lt 0 (length raw) && nat_le (length raw) size) (Ok (padded size raw)) (Err DataWord)
+    (λ holds. (raw, refl, grind (arith, nat_tests, holds), grind (arith, nat_tests, holds), refl))
+    (λ other. (
+      refl,
+      λ bytes same some within.
+          let one : bytes ≡ raw = cc in
+          let never : true ≡ false = sym (fits-true size bytes some within) ∙ ap (λ bs. nat_lt 0 (length bs) && nat_le (length bs) size) one ∙ other in
+          cc,
+    ))
+
+-- what is wrong with a word, by the way in which it is read
+abbrev pub IsFaulty : ℕ → List ℕ → Cause → Type 0
+IsFaulty size text cause = (cause ≡ OpWord) ⊎ ((cause ≡ DataWord) × HasNoData size text)
+
+-- a word with no `=` after its number writes zeros, and one with it its bytes
+data-says : (size : ℕ) (rest : List ℕ) (home : ℕ) → before 61 rest ≡ decimal home → home < 2 ^ 64
+    → MatchResult (data_in_word size (onward 61 rest)) (λ block. SpellsOp size (119 ∷ rest) (home, Copy block)) (λ cause. (cause ≡ DataWord) × HasNoData size (119 ∷ rest))
+data-says size rest home named fits = elim (onward-case 61 rest) [
+  | inl none ↦
+      let zeros : 119 ∷ rest ≡ 119 ∷ decimal home = ap (λ bs. 119 ∷ bs) (sym (parted 61 rest) ∙ ap (λ bs. before 61 rest ++ bs) none ∙ append-nil (before 61 rest) ∙ named) in
+      rw none (record { home = fits; form = inl (zeros, refl) })
+  | inr some ↦
+      let spelled : 119 ∷ rest ≡ 119 ∷ (decimal home ++ 61 ∷ some.0) = ap (λ bs. 119 ∷ bs) (sym (parted 61 rest) ∙ ap (λ bs. before 61 rest ++ bs) some.1 ∙ ap (λ bs. bs ++ 61 ∷ some.0) named) in
+      subst (λ behind. MatchResult (data_in_word size behind) (λ block. SpellsOp size (119 ∷ rest) (home, Copy block)) (λ cause. (cause ≡ DataWord) × HasNoData size (119 ∷ rest))) (sym some.1)
+      (MatchResult-weaker (decoded_block size (decode_of some.0)) (block-says size (decode_of some.0))
+      (λ block raw. record {
+        home = fits;
+        form = inr (inl (record { digits = some.0; bytes = raw.0; spelled = spelled; decoded = raw.1; some = raw.2; within = raw.3; left = ap Copy raw.4 }));
+      })
+      (λ cause no. (no.0, record { home = home; digits = some.0; fits = fits; spelled = spelled; none = no.1 })))
+]
+
+write-says : (size : ℕ) (rest : List ℕ) → MatchResult (home_named (before 61 rest) >>= λ b. data_in_word size (onward 61 rest) >>= λ bytes. Ok (b, Copy bytes)) (SpellsOp size (119 ∷ rest)) (IsFaulty size (119 ∷ rest))
+write-says size rest =
+    then-says (SpellsOp size (119 ∷ rest)) (IsFaulty size (119 ∷ rest)) (home_named (before 61 rest)) (λ b. data_in_word size (onward 61 rest) >>= λ bytes. Ok (b, Copy bytes)) (home-says (before 61 rest))
+    (λ b found. then-says (SpellsOp size (119 ∷ rest)) (IsFaulty size (119 ∷ rest)) (data_in_word size (onward 61 rest)) (λ bytes. Ok (b, Copy bytes)) (data-says size rest b found.0 found.1)
+    (λ block spells. spells) (λ cause no. inr no))
+    (λ cause same. inl same)
+
+free-says : (size : ℕ) (rest : List ℕ) → MatchResult (home_named rest >>= λ b. Ok (b, Free)) (SpellsOp size (114 ∷ rest)) (IsFaulty size (114 ∷ rest))
+free-says size rest =
+    then-says (SpellsOp size (114 ∷ rest)) (IsFaulty size (114 ∷ rest)) (home_named rest) (λ b. Ok (b, Free)) (home-says rest)
+    (λ b found. record { home = found.1; form = inr (inr (ap (λ bs. 114 ∷ bs) found.0, refl)) })
+    (λ cause same. inl same)
+
+pub op-says : (size : ℕ) (text : List ℕ) → MatchResult (op_of size text) (SpellsOp size text) (IsFaulty size text)
+op-says size [] = inl refl
+op-says size (letter ∷ rest) =
+    if-says (SpellsOp size (letter ∷ rest)) (IsFaulty size (letter ∷ rest)) (letter == 119)
+    (home_named (before 61 rest) >>= λ b. data_in_word size (onward 61 rest) >>= λ bytes. Ok (b, Copy bytes))
+    (if letter == 114 then home_named rest >>= (λ b. Ok (b, Free)) else Err OpWord)
+    (λ write. rw (eqb-true letter 119 write) (write-says size rest))
+    (λ _. if-says (SpellsOp size (letter ∷ rest)) (IsFaulty size (letter ∷ rest)) (letter == 114) (home_named rest >>= λ b. Ok (b, Free)) (Err OpWord)
+    (λ free. rw (eqb-true letter 114 free) (free-says size rest))
+    (λ _. inl refl))
+
+pub op-is : (size : ℕ) (text : List ℕ) (op : Entry) → op_of size text ≡ Ok op → SpellsOp size text op
+op-is size text op is = MatchResult-at_ok (SpellsOp size text) (IsFaulty size text) op is (op-says size text)
+
+-- a byte that no word has
+pub record IsDelimiter (delimiter : ℕ) : Type 0 where
+  pub digit : is_ascii_digit delimiter ≡ false
+  pub hex : is_hex_digit delimiter ≡ false
+  pub letters : is_clear delimiter (codes "wr=") ≡ true
+
+pub space-delimits : IsDelimiter 32
+space-delimits = record { digit = refl; hex = refl; letters = refl }
+
+pub feed-delimits : IsDelimiter 10
+feed-delimits = record { digit = refl; hex = refl; letters = refl }
+
+hex-clear : (delimiter : ℕ) (digits : List ℕ) → is_hex_digit delimiter ≡ false → AllByRecursion (λ c. is_hex_digit c ≡ true) digits → Without delimiter digits
+hex-clear delimiter [] other are = tt
+hex-clear delimiter (digit ∷ digits) other are =
+    (λ same. let never : true ≡ false = sym are.0 ∙ ap is_hex_digit same ∙ other in cc, hex-clear delimiter digits other are.1)
+
+pub op-clear : (size delimiter : ℕ) → IsDelimiter delimiter → (text : List ℕ) (op : Entry) → SpellsOp size text op → Without delimiter text
+op-clear size delimiter is text op spells =
+    let letters = literal-without delimiter (codes "wr=") is.letters in
+    let number = decimal-without delimiter op.0 is.digit spells.home in
+    elim spells.form [
+      | inl zeros ↦ subst (Without delimiter) (sym zeros.0) (letters.0, number)
+      | inr (inl has) ↦
+          let hex = hex-clear delimiter has.digits is.hex (recursion_from_All (λ c. is_hex_digit c ≡ true) has.digits (decode_of-ok has.digits has.bytes has.decoded).1) in
+          subst (Without delimiter) (sym has.spelled) (letters.0, without-append delimiter (decimal op.0) (61 ∷ has.digits) number (letters.1.1.0, hex))
+      | inr (inr free) ↦ subst (Without delimiter) (sym free.0) (letters.1.0, number)
+    ]
+
+-- ---- the first wrong word of a handle is the one at which reading ends
 
 -- what is wrong with a word at which reading ends
 no-op : (size : ℕ) (text : List ℕ) → op_of size text ≡ Err OpWord → IsNoOp text

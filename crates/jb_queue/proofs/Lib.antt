@@ -2,11 +2,8 @@ pub mod Data
 pub mod FaultyLines
 pub mod FaultyOps
 pub mod FaultyText
-pub mod Handles
 pub mod Ops
 pub mod Placed
-pub mod SpelledHandles
-pub mod SpelledOps
 pub mod SpelledText
 pub mod Table
 pub mod Walks

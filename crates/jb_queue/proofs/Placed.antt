@@ -8,9 +8,8 @@ use Rattle.jb_handle.specs.declared.stopped.Stopped.{Stopped}
 use Rattle.jb_handle.specs.Word.{WordMap}
 use Rattle.jb_queue.specs.Queue.{IsCount, after_lines, handle_of, handles_or_none}
 use Rattle.jb_text.specs.Parts.{read_first}
-use Rattle.jb_queue.proofs.Weights.{after-first}
+use Rattle.jb_queue.proofs.Weights.{after-first, lines-walk, handles-are}
 use Rattle.jb_queue.proofs.Walks.{each-length, walk-first}
-use Rattle.jb_queue.proofs.Handles.{lines-walk, handles-are}
 
 -- after one line more
 pub drop-more : {A : Type 0} (n : ℕ) (ls : List A) (line : A) (more : List A) → drop n ls ≡ line ∷ more → drop (n + 1) ls ≡ more

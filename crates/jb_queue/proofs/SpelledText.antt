@@ -27,13 +27,12 @@ use Rattle.jb_handle.specs.Word.{WordMap}
 use Rattle.jb_text.proofs.Readings.{FirstFails, FirstGives, first-says, behind-read}
 use Rattle.jb_queue.specs.Faults.{HasNoFormat, HasNoLimit, HandleFault, FirstFaultOf}
 use Rattle.jb_queue.proofs.Walks.{each-map}
-use Rattle.jb_queue.proofs.FaultyLines.{lines-fault}
-use Rattle.jb_queue.proofs.Handles.{lines-walk, handles-are}
+use Rattle.jb_queue.proofs.FaultyLines.{lines-fault, handle-is, handle-from, texts-clear}
+use Rattle.jb_queue.proofs.Weights.{lines-walk, handles-are}
 use Rattle.jb_text.proofs.Grammar.{lines-are, are-lines, IsLine}
 use Rattle.jb_text.proofs.Joins.{Without, literal-without, without-append, before-put, onward-put, before-whole, onward-none, spaced-without, decimal-without}
 use Rattle.jb_text.proofs.Numerals.{number-is_decimal, decimal-is_number}
-use Rattle.jb_queue.proofs.SpelledHandles.{handle-is, handle-from, texts-clear}
-use Rattle.jb_queue.proofs.SpelledOps.{feed-delimits}
+use Rattle.jb_queue.proofs.FaultyOps.{feed-delimits}
 use Rattle.jb_text.proofs.Splits.{parted}
 
 -- the two first lines

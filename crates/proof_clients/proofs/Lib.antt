@@ -7,7 +7,6 @@ pub mod ExampleEnds
 pub mod ExampleIdle
 pub mod ExampleMarks
 pub mod Going
-pub mod Journal
 pub mod Living
 pub mod Parts
 pub mod Programs

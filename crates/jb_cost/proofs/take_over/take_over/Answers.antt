@@ -3,7 +3,7 @@ use Rattle.std.specs.Ordering.{nat_cmp}
 use Rattle.std.specs.BTreeMap.{get}
 use Rattle.std.specs.FinMap as map
 use Rattle.jb_cost.specs.Owned.{copies_of, frees_of, left_copy, later_touch}
-use Rattle.jb_cost.proofs.Owning.{owns, counts-more}
+use Rattle.jb_cost.proofs.Losing.{owns, counts-more}
 use Rattle.jb_cost.proofs.Fresh.{one-kind, turned}
 use Rattle.jb_handle.proofs.Rising.{find-whole}
 use Rattle.jb_cost.proofs.Taking.{home-before, follows-next}

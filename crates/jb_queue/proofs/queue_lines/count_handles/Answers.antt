@@ -3,7 +3,7 @@ use Rattle.std.proofs.lemmas.List.{length_push}
 use Rattle.jb_block.specs.Size.{bytes_of}
 use Rattle.jb_text.specs.Parts.{lines}
 use Rattle.jb_queue.specs.Queue.{handle_of}
-use Rattle.jb_queue.proofs.Handles.{line-goes, line-reports, passed-line}
+use Rattle.jb_queue.proofs.Weights.{line-goes, line-reports, passed-line}
 use Rattle.jb_queue.proofs.Placed.{count-all, ok-value}
 use Rattle.jb_queue.proofs.queue_lines.count_handles.Goals as goal
 

@@ -3,7 +3,7 @@ use Rattle.jb_block.specs.Size.{bytes_of}
 use Rattle.jb_handle.specs.declared.stopped.Stopped.{Stopped}
 use Rattle.jb_text.specs.Parts.{lines}
 use Rattle.jb_queue.specs.Queue.{after_lines}
-use Rattle.jb_queue.proofs.Handles.{ArePassed}
+use Rattle.jb_queue.proofs.Weights.{ArePassed}
 use Rattle.jb_queue.proofs.queue_lines.count_handles.Given as goal
 
 -- the handles of the text are those that the rest leaves after the ones that were read, one a line

@@ -2,7 +2,7 @@ use Rattle.std.proofs.Common.{◌≡◌, rules, sym, ap, ◌∙◌, length, refl
 use Rattle.jb_block.specs.Size.{bytes_of}
 use Rattle.jb_text.specs.Parts.{lines}
 use Rattle.jb_queue.specs.Queue.{after_lines}
-use Rattle.jb_queue.proofs.Handles.{lines-walk, line-goes, line-full, line-reports, passed-none, passed-line, may-grow}
+use Rattle.jb_queue.proofs.Weights.{lines-walk, line-goes, line-full, line-reports, passed-none, passed-line, may-grow}
 use Rattle.jb_queue.proofs.Ops.{line-begins}
 use Rattle.jb_queue.proofs.queue_text.read_handles.Goals as goal
 

@@ -7,8 +7,7 @@ use Rattle.jb_handle.specs.Handle.{changes_of}
 use Rattle.jb_book.specs.Account.{Account, IsOpenFor, queued}
 use Rattle.jb_book.specs.Book.{account_of}
 use Rattle.jb_book.specs.Shadow.{credits_at}
-use Rattle.jb_book.proofs.Accounts.{queued-sound}
-use Rattle.jb_book.proofs.SeatCredits.{sum-gone}
+use Rattle.jb_book.proofs.Accounts.{queued-sound, sum-gone}
 use Rattle.jb_book.proofs.Keeping.{kept-by, stops-more}
 use Rattle.jb_book.proofs.book.Book.enqueue.Goals as goal
 

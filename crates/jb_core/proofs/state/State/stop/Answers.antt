@@ -3,8 +3,7 @@ use Rattle.jb_core.specs.Machine.{Machine, handle_at, reserved, after_event}
 use Rattle.jb_core.specs.State.{machine_of}
 use Rattle.jb_core.specs.declared.event.Event.TheVariants.{Stop}
 use Rattle.jb_core.proofs.Runs.{kept-by}
-use Rattle.jb_core.proofs.Sounds.{stop-sound}
-use Rattle.jb_core.proofs.Reserved.{stop-reserved}
+use Rattle.jb_core.proofs.Sounds.{stop-sound, stop-reserved}
 use Rattle.jb_core.proofs.state.State.stop.Goals as goal
 
 pub invariant_of-self-2 : goal.invariant_of-self-2

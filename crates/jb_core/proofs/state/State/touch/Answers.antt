@@ -10,8 +10,7 @@ use Rattle.std.proofs.lemmas.Map.Steps.{set_value_same}
 use Rattle.jb_core.specs.declared.event.Event.TheVariants.{Touch}
 use Rattle.jb_core.proofs.Touches.{touch-refused}
 use Rattle.jb_core.proofs.Runs.{kept-by}
-use Rattle.jb_core.proofs.Sounds.{touch-sound}
-use Rattle.jb_core.proofs.Reserved.{touch-reserved}
+use Rattle.jb_core.proofs.Sounds.{touch-sound, touch-reserved}
 use Rattle.jb_core.proofs.state.State.touch.Goals as goal
 
 pub invariant_of-self-in_err-apply : goal.invariant_of-self-in_err-apply

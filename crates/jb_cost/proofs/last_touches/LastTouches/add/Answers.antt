@@ -6,8 +6,7 @@ use Rattle.jb_cost.specs.Owned.{later_touch, copies_of, frees_of, left_copy}
 use Rattle.jb_cost.specs.Starts.{AreLeast, priced_of}
 use Rattle.jb_cost.specs.Spans.{AreBest, FitOwned}
 use Rattle.jb_cost.proofs.Following.{follows-more, leasts-more}
-use Rattle.jb_cost.proofs.Losing.{fit-more, bests-pushed, touch-below}
-use Rattle.jb_cost.proofs.Owning.{counts-joined}
+use Rattle.jb_cost.proofs.Losing.{fit-more, bests-pushed, touch-below, counts-joined}
 use Rattle.jb_cost.proofs.last_touches.LastTouches.add.Goals as goal
 
 pub returns-clause-sound : goal.returns-clause-sound
