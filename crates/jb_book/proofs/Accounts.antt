@@ -1,8 +1,6 @@
 -- Each call leaves the account sound.
-use Rattle.std.proofs.Common.{◌≡◌, ℕ, ◌+◌, ◌≤◌, Bool, List, ◌∷◌, [], length, sum, Some, ap, le_refl, arith, ◌-◌, ◌^◌, ◌<◌, true, false, nat_lt, ◌++◌, drop, All, None, is_some, sym, refl, subst, ◌∙◌, IfSome}
+use Rattle.std.proofs.Common.{◌≡◌, ℕ, ◌+◌, ◌≤◌, Bool, List, ◌∷◌, [], length, sum, Some, ap, le_refl, arith, ◌-◌, ◌^◌, ◌<◌, true, false, nat_lt, ◌++◌, drop, All, None, is_some, sym, refl, subst, ◌∙◌, IfSome, unwrap_or, option_map, nat_cmp, drop_of_length-le, sum_by}
 use Rattle.std.proofs.lemmas.Map.Entries.{sum_by-remove_entry}
-use Rattle.std.specs.Option.{unwrap_or, option_map}
-use Rattle.std.specs.Ordering.{nat_cmp}
 use Rattle.std.specs.BTreeMap.{is_at}
 use Rattle.std.specs.Map.{lookup, remove_entry, values_of}
 use Rattle.std.proofs.lemmas.Bool.Decides.{nat_tests}
@@ -10,9 +8,7 @@ use Rattle.std.proofs.lemmas.List.{length-append, length-drop, drop-append-le, d
 use Rattle.std.proofs.lemmas.List.Elements.{All-nil, All-push, All-drop}
 use Rattle.std.proofs.lemmas.List.Sums.{sum_by-append, sum_by-take-drop}
 use Rattle.std.proofs.lemmas.Map.Views.{All-values-insert_entry, All-map-remove_entry, IfSome-lookup_from_All}
-use Rattle.std.proofs.Math.ListN.{drop_of_length-le}
 use Rattle.std.proofs.Math.Seq.{drop-nil}
-use Rattle.std.specs.List.{sum_by}
 use Rattle.jb_handle.specs.declared.stopped.Stopped.{Stopped}
 use Rattle.jb_handle.specs.Held.{Fits}
 use Rattle.jb_handle.specs.Size.{IsWithinSize}

@@ -1,9 +1,8 @@
 -- What is known between two calls of a book, and what the calls of its seats keep of it.
-use Rattle.std.proofs.Common.{◌≡◌, ℕ, ◌+◌, ◌-◌, ◌^◌, ◌<◌, ◌≤◌, List, [], ◌∷◌, ◌++◌, map, length, take, drop, le_refl, sym, refl, ap, subst, ◌∙◌, arith, inl, inr, Bool, true, false, Option, Some, None, Ok}
+use Rattle.std.proofs.Common.{◌≡◌, ℕ, ◌+◌, ◌-◌, ◌^◌, ◌<◌, ◌≤◌, List, [], ◌∷◌, ◌++◌, map, length, take, drop, le_refl, sym, refl, ap, subst, ◌∙◌, arith, inl, inr, Bool, true, false, Option, Some, None, Ok, Vec}
 use Rattle.std.proofs.lemmas.List.{length-append, append_assoc, drop-append-le, take-append-le, length-drop}
 use Rattle.std.proofs.Math.Seq.{drop-append_seam, take-append_seam}
 use Rattle.std.proofs.lemmas.List.Elements.{All-nil}
-use Rattle.std.specs.Global.{Vec}
 use Rattle.std.specs.Vec.{vec_ptr, vec_allocator}
 use Rattle.jb_handle.specs.declared.shape.Shape.{Shape}
 use Rattle.jb_handle.specs.declared.stopped.Stopped.{Stopped}

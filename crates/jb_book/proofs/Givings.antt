@@ -1,9 +1,7 @@
 -- A journal since its desk was started: what a batch that is given to it keeps.
-use Rattle.std.proofs.Common.{◌≡◌, ℕ, ◌+◌, ◌≤◌, List, [], ◌∷◌, ◌++◌, All, length, take, sym, ap, ◌∙◌, arith, false, ◌<◌, slice_index, Result, Ok, Err, OnOk, refl, subst}
-use Rattle.std.specs.Prelude.{slice_range}
+use Rattle.std.proofs.Common.{◌≡◌, ℕ, ◌+◌, ◌≤◌, List, [], ◌∷◌, ◌++◌, All, length, take, sym, ap, ◌∙◌, arith, false, ◌<◌, slice_index, Result, Ok, Err, OnOk, refl, subst, slice_range, length-append, length-take-le, take_all}
 use Rattle.std.proofs.Math.Seq.{drop-append-add}
 use Rattle.std.proofs.lemmas.Grind.{common_steps}
-use Rattle.std.proofs.lemmas.List.{length-append, length-take-le, take_all}
 use Rattle.std.proofs.lemmas.List.Elements.{All-append, All-cons, All-nil, All-take, All-weaker}
 use Rattle.jb_plan.specs.Costs.{cost_in, geometry_of}
 use Rattle.jb_cost.specs.Cost.{cost}

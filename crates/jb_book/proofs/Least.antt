@@ -1,7 +1,6 @@
 -- A batch that has a cut has a least one.
-use Rattle.std.proofs.Common.{◌≡◌, ◌⊎◌, inl, inr, ℕ, zero, suc, ◌+◌, ◌<◌, ◌≤◌, List, [], ◌∷◌, ◌++◌, length, Option, Some, None, refl, sym, subst, ◌∙◌, length-append, arith}
+use Rattle.std.proofs.Common.{◌≡◌, ◌⊎◌, inl, inr, ℕ, zero, suc, ◌+◌, ◌<◌, ◌≤◌, List, [], ◌∷◌, ◌++◌, length, Option, Some, None, refl, sym, subst, ◌∙◌, length-append, arith, eq-or-lt_of_le}
 use Rattle.std.proofs.lemmas.Bool.{cases_lt}
-use Rattle.std.proofs.Math.Nat.{eq-or-lt_of_le}
 use Rattle.jb_cost.specs.Cut.{price, FitsCut, IsLeastCut, IsPrice}
 use Rattle.jb_plan.specs.Step.{LastGroup, BestFrom, AreSteps, price_of, from_of}
 use Rattle.jb_plan.proofs.Steps.{steps-start, steps-more, prices-steps}

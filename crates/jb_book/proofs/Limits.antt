@@ -1,10 +1,7 @@
 -- The limits of a machine after any events, the seats that its shadow shows, and groups with handles.
-use Rattle.std.proofs.Common.{◌≡◌, ℕ, ◌+◌, ◌-◌, ◌<◌, ◌≤◌, Bool, List, [], ◌∷◌, map, length, take, drop, sum, Option, Some, None, All, slice_range, sym, refl, ap, subst, Ok, Err, arith}
-use Rattle.std.proofs.lemmas.List.{length-append, length-drop, length-take-le}
+use Rattle.std.proofs.Common.{◌≡◌, ℕ, ◌+◌, ◌-◌, ◌<◌, ◌≤◌, Bool, List, [], ◌∷◌, map, length, take, drop, sum, Option, Some, None, All, slice_range, sym, refl, ap, subst, Ok, Err, arith, length-append, length-drop, length-take-le, sum_by, option_map}
 use Rattle.std.proofs.lemmas.List.Elements.{All-nil, All-cons}
 use Rattle.std.proofs.lemmas.List.Sums.{sum_by-cons}
-use Rattle.std.specs.List.{sum_by}
-use Rattle.std.specs.Option.{option_map}
 use Rattle.std.specs.Map.{lookup, remove_entry, values_of}
 use Rattle.jb_block.specs.Capacity.{entries_in, tags_in}
 use Rattle.jb_block.specs.Size.{bytes_of}

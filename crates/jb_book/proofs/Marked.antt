@@ -1,6 +1,5 @@
 -- Marks that show all that a book has settled: each call keeps that.
-use Rattle.std.proofs.Common.{◌≡◌, ℕ, true, false, ◌+◌, ◌<◌, List, [], ◌∷◌, ◌++◌, length, All, Option, Some, None, nat_le, if◌then◌else◌, Result, Ok, Err, IfNone, IfSome, OnOk, OnErr, inl, inr, refl, ap, sym, subst, ◌∙◌, arith}
-use Rattle.std.proofs.lemmas.List.{length-append}
+use Rattle.std.proofs.Common.{◌≡◌, ℕ, true, false, ◌+◌, ◌<◌, List, [], ◌∷◌, ◌++◌, length, All, Option, Some, None, nat_le, if◌then◌else◌, Result, Ok, Err, IfNone, IfSome, OnOk, OnErr, inl, inr, refl, ap, sym, subst, ◌∙◌, arith, length-append}
 use Rattle.std.proofs.lemmas.List.Elements.{All-append, All-head, All-tail, All-weaker}
 use mathlib.Core.List.{IsPrefix}
 use Rattle.jb_deck.specs.Deck.{OpenDeck}

@@ -1,7 +1,6 @@
 -- What a book accepts of its seats, the machine accepts, and the account after it is tied again.
-use Rattle.std.proofs.Common.{◌≡◌, ℕ, ◌<◌, ◌≤◌, Bool, true, false, not, nat_le, ◌==◌, List, [], ◌∷◌, ◌++◌, map, length, suc, Some, None, All, sym, refl, ap, ◌∙◌, le_refl, Ok, arith, ◌⊎◌, ⊎_elim, ◌+◌, ◌^◌, nat_lt, IfSome, subst}
+use Rattle.std.proofs.Common.{◌≡◌, ℕ, ◌<◌, ◌≤◌, Bool, true, false, not, nat_le, ◌==◌, List, [], ◌∷◌, ◌++◌, map, length, suc, Some, None, All, sym, refl, ap, ◌∙◌, le_refl, Ok, arith, ◌⊎◌, ⊎_elim, ◌+◌, ◌^◌, nat_lt, IfSome, subst, nat_cmp}
 use Rattle.std.proofs.lemmas.Bool.Decides.{nat_tests}
-use Rattle.std.specs.Ordering.{nat_cmp}
 use Rattle.std.specs.Cmp.{nat_cmp_total}
 use Rattle.std.specs.BTreeMap.{is_at}
 use Rattle.std.specs.Map.{lookup, set_value, remove_entry, values_of}

@@ -1,9 +1,6 @@
 -- An event that a sound machine accepts moves its shadow by the event's function.
-use Rattle.std.proofs.Common.{◌≡◌, ℕ, ◌+◌, Bool, List, [], ◌∷◌, ◌++◌, map, length, drop, take, Option, Some, None, Result, Ok, Err, sym, refl, ap, ◌∙◌, arith}
-use Rattle.std.proofs.lemmas.List.{length-append, take-append-drop}
+use Rattle.std.proofs.Common.{◌≡◌, ℕ, ◌+◌, Bool, List, [], ◌∷◌, ◌++◌, map, length, drop, take, Option, Some, None, Result, Ok, Err, sym, refl, ap, ◌∙◌, arith, length-append, take-append-drop, unwrap_or, option_map, nat_cmp}
 use Rattle.std.proofs.Math.Seq.{drop-length}
-use Rattle.std.specs.Option.{unwrap_or, option_map}
-use Rattle.std.specs.Ordering.{nat_cmp}
 use Rattle.std.specs.BTreeMap.{insert_entry, is_at}
 use Rattle.std.specs.Map.{lookup, set_value, remove_entry}
 use Rattle.std.specs.FinMap as map_of

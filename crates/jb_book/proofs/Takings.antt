@@ -1,9 +1,7 @@
 -- Entries that are taken from the trail of a journal since its desk was started.
-use Rattle.std.proofs.Common.{◌≡◌, ℕ, zero, suc, ◌+◌, ◌≤◌, List, [], ◌∷◌, ◌++◌, length, take, refl, ap, subst, arith, drop, All, Result, Ok, Err, IfOk, OnErr, sym, ◌∙◌}
+use Rattle.std.proofs.Common.{◌≡◌, ℕ, zero, suc, ◌+◌, ◌≤◌, List, [], ◌∷◌, ◌++◌, length, take, refl, ap, subst, arith, drop, All, Result, Ok, Err, IfOk, OnErr, sym, ◌∙◌, length-append, Vec}
 use Rattle.std.proofs.Math.Seq.{drop-append_seam}
-use Rattle.std.proofs.lemmas.List.{length-append}
 use Rattle.std.proofs.lemmas.List.Elements.{All-drop, All-weaker}
-use Rattle.std.specs.Global.{Vec}
 use Rattle.std.specs.declared.alloc.AllocError.{AllocError}
 use Rattle.jb_deck.specs.Done.{Follow, start_of, past_after}
 use Rattle.jb_deck.specs.Gathering.{entries_for, entries_from}

@@ -1,7 +1,6 @@
 -- What an accepted event shows of the machine.
-use Rattle.std.proofs.Common.{◌≡◌, ℕ, Bool, true, false, not, ◌==◌, List, [], ◌∷◌, length, Option, Some, None, is_some, is_none, sym, refl, ap, ◌∙◌, ◌≤◌, arith}
+use Rattle.std.proofs.Common.{◌≡◌, ℕ, Bool, true, false, not, ◌==◌, List, [], ◌∷◌, length, Option, Some, None, is_some, is_none, sym, refl, ap, ◌∙◌, ◌≤◌, arith, unwrap_or}
 use Rattle.std.proofs.lemmas.Bool.Decides.{nat_tests}
-use Rattle.std.specs.Option.{unwrap_or}
 use Rattle.std.specs.FinMap as map
 use Rattle.jb_handle.specs.Held.{Held, held, first_of}
 use Rattle.jb_core.specs.declared.event.Event.{Event}

@@ -1,15 +1,11 @@
 -- Each event leaves the machine sound.
-use Rattle.std.proofs.Common.{◌≡◌, ℕ, ◌+◌, [], ◌∷◌, take, sum, Some, None, ap, arith, ◌^◌, ◌<◌, ◌≤◌, true, false, nat_lt, nat_le, List, ◌++◌, length, drop, is_some, is_none, All, IfSome, sym, refl, subst, ◌∙◌, le_refl}
+use Rattle.std.proofs.Common.{◌≡◌, ℕ, ◌+◌, [], ◌∷◌, take, sum, Some, None, ap, arith, ◌^◌, ◌<◌, ◌≤◌, true, false, nat_lt, nat_le, List, ◌++◌, length, drop, is_some, is_none, All, IfSome, sym, refl, subst, ◌∙◌, le_refl, sum_by, unwrap_or, option_map, nat_cmp, length-append, append_assoc, append-nil}
 use Rattle.std.proofs.lemmas.List.Sums.{sum_by-append, sum_by-take-drop}
 use Rattle.std.proofs.lemmas.Map.Entries.{sum_by-remove_entry, sum_by-set_value}
-use Rattle.std.specs.List.{sum_by}
-use Rattle.std.specs.Option.{unwrap_or, option_map}
-use Rattle.std.specs.Ordering.{nat_cmp}
 use Rattle.std.specs.BTreeMap.{is_at}
 use Rattle.std.specs.Map.{lookup, set_value, remove_entry, values_of}
 use Rattle.std.proofs.lemmas.Bool.{or_parts}
 use Rattle.std.proofs.lemmas.Bool.Decides.{nat_tests}
-use Rattle.std.proofs.lemmas.List.{length-append, append_assoc, append-nil}
 use Rattle.std.proofs.lemmas.List.Elements.{All-nil, All-push, All-drop, All-same}
 use Rattle.std.proofs.Math.Seq.{drop-length}
 use Rattle.std.proofs.lemmas.Map.{length-set_value}

@@ -1,6 +1,5 @@
 -- The footprint of handles, and of those with one more in front.
-use Rattle.std.proofs.Common.{◌≡◌, ℕ, ◌+◌, ◌^◌, ◌≤◌, ◌||◌, List, [], ◌∷◌, is_some, sym, ap, ◌∙◌, arith}
-use Rattle.std.specs.Ordering.{nat_cmp}
+use Rattle.std.proofs.Common.{◌≡◌, ℕ, ◌+◌, ◌^◌, ◌≤◌, ◌||◌, List, [], ◌∷◌, is_some, sym, ap, ◌∙◌, arith, nat_cmp}
 use Rattle.std.specs.Cmp.{nat_cmp_total}
 use Rattle.std.specs.BTreeSet as tree
 use Rattle.std.specs.BTreeSet.{BTreeSet}

@@ -1,6 +1,5 @@
 -- What the words of one handle, taken in turn, do to a home.
-use Rattle.std.proofs.Common.{◌≡◌, ℕ, ◌+◌, ◌<◌, Bool, true, false, cond, nat_eq, T, List, [], ◌∷◌, ◌++◌, None, take, length, get_or, Option, Some, refl, sym, ap, ◌∙◌}
-use Rattle.std.specs.Ordering.{nat_cmp}
+use Rattle.std.proofs.Common.{◌≡◌, ℕ, ◌+◌, ◌<◌, Bool, true, false, cond, nat_eq, T, List, [], ◌∷◌, ◌++◌, None, take, length, get_or, Option, Some, refl, sym, ap, ◌∙◌, nat_cmp}
 use Rattle.std.specs.FinMap as map
 use Rattle.jb_handle.specs.declared.word.Word.{Word}
 use Rattle.std.proofs.lemmas.List.{take_more}

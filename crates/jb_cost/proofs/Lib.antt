@@ -15,9 +15,7 @@ pub mod Pieces
 pub mod Placed
 pub mod Searching
 pub mod Sizes
-pub mod Spans
 pub mod Starts
 pub mod Taking
 pub mod Walk
-pub mod Walking
 pub mod Worst

@@ -1,9 +1,6 @@
 -- The spans as a handle loses a home, and as one more handle comes.
-use Rattle.std.proofs.Common.{◌≡◌, ℕ, ◌+◌, ◌-◌, ◌<◌, ◌≤◌, Bool, cond, ◌&&◌, nat_le, List, [], ◌∷◌, ◌++◌, length, drop, get_or, set, Option, Some, inl, inr, sym, ap, ◌∙◌, arith, length-append, length-drop, ◌≢◌, ◌*◌, ◌/◌, not, None, subst}
-use Rattle.std.specs.List.{sum_by}
-use Rattle.std.specs.Option.{unwrap_or, option_map}
+use Rattle.std.proofs.Common.{◌≡◌, ℕ, ◌+◌, ◌-◌, ◌<◌, ◌≤◌, Bool, cond, ◌&&◌, nat_le, List, [], ◌∷◌, ◌++◌, length, drop, get_or, set, Option, Some, inl, inr, sym, ap, ◌∙◌, arith, length-append, length-drop, ◌≢◌, ◌*◌, ◌/◌, not, None, subst, sum_by, unwrap_or, option_map, nat_cmp}
 use Rattle.std.specs.Map.{values_of}
-use Rattle.std.specs.Ordering.{nat_cmp}
 use Rattle.std.specs.Cmp.{nat_cmp_total}
 use Rattle.std.specs.BTreeMap.{BTreeMap, IsOrdered, get, values, insert_entry}
 use Rattle.std.proofs.lemmas.Bool.{cases_lt, le-leb, lt-leb, cases_eq}
@@ -23,7 +20,7 @@ use Rattle.jb_cost.specs.declared.span.Span.{Span}
 use Rattle.jb_cost.specs.declared.shortcuts.Shortcuts.{Shortcuts}
 use Rattle.jb_cost.specs.Starts.{AreIdle, stretch_at}
 use Rattle.jb_cost.specs.Spans.{IsSpan, span_at, AreSpans, AreBest, FitOwned}
-use Rattle.jb_cost.proofs.Spans.{span-as, span-best-as}
+use Rattle.jb_cost.proofs.Leaping.{span-as, span-best-as}
 
 -- ---- what the handles own, as a home goes from one to another
 

@@ -1,7 +1,6 @@
 -- The pieces of a list of handles: what they weigh, and what they cost.
-use Rattle.std.proofs.Common.{take-add, length-take-le, length-drop, zero, suc, ◌≡◌, ℕ, ◌+◌, ◌-◌, ◌*◌, ◌<◌, ◌≤◌, List, [], ◌∷◌, length, take, drop, get_or, slice_range, refl, sym, ap, ◌∙◌, arith, add-one}
+use Rattle.std.proofs.Common.{take-add, length-take-le, length-drop, zero, suc, ◌≡◌, ℕ, ◌+◌, ◌-◌, ◌*◌, ◌<◌, ◌≤◌, List, [], ◌∷◌, length, take, drop, get_or, slice_range, refl, sym, ap, ◌∙◌, arith, add-one, drop-cons}
 use Rattle.std.specs.FinMap as map
-use Rattle.std.proofs.Math.Seq.{drop-cons}
 use Rattle.std.proofs.lemmas.List.Sums.{sum_by-append, sum_by-take-le}
 use Rattle.jb_handle.specs.declared.stopped.Stopped.{Stopped}
 use Rattle.jb_handle.specs.Size.{weight}

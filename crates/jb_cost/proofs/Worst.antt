@@ -1,10 +1,8 @@
 -- What handles of so many credits cost at most.
-use Rattle.std.proofs.Common.{◌≡◌, ℕ, ◌+◌, ◌-◌, ◌*◌, ◌≤◌, true, cond, not, ◌&&◌, List, [], ◌∷◌, length, IsTrue, refl, ap, ◌∙◌, arith}
-use Rattle.std.specs.List.{All}
+use Rattle.std.proofs.Common.{◌≡◌, ℕ, ◌+◌, ◌-◌, ◌*◌, ◌≤◌, true, cond, not, ◌&&◌, List, [], ◌∷◌, length, IsTrue, refl, ap, ◌∙◌, arith, All, mul-le-mul_right, mul-add}
 use Rattle.std.specs.Int.{div_ceil}
 use Rattle.std.specs.FinMap as map
 use Rattle.std.specs.FinSet as set
-use Rattle.std.proofs.Math.Nat.{mul-le-mul_right, mul-add}
 use Rattle.std.proofs.lemmas.List.Elements.{All-head, All-tail}
 use Rattle.std.proofs.lemmas.List.Sums.{sum_by-cons}
 use Rattle.jb_handle.specs.declared.word.Word.{Word}

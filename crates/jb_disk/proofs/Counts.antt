@@ -1,6 +1,5 @@
 -- What is kept over several calls, and how their faults are counted.
-use Rattle.std.proofs.Common.{ℕ, Result, Ok, Err, refl, ◌∙◌, subst}
-use Rattle.std.specs.Prelude.{IsErr}
+use Rattle.std.proofs.Common.{ℕ, Result, Ok, Err, refl, ◌∙◌, subst, IsErr}
 use Rattle.jb_disk.specs.Faults.{CountsFault, CountsNone, MoreFaults}
 use Rattle.jb_disk.specs.Kept.{Kept}
 

@@ -1,6 +1,5 @@
 -- From the parts of a crash to its image.
-use Rattle.std.proofs.Common.{◌≡◌, ◌<◌, ◌≤◌, ℕ, zero, suc, ◌+◌, ◌*◌, ◌/◌, ◌%◌, List, [], ◌∷◌, length, get_or, refl, sym, ◌∙◌, ap, arith, All, eqb, take, drop, ◌-◌, length-drop}
-use Rattle.std.proofs.lemmas.List.{take_all}
+use Rattle.std.proofs.Common.{◌≡◌, ◌<◌, ◌≤◌, ℕ, zero, suc, ◌+◌, ◌*◌, ◌/◌, ◌%◌, List, [], ◌∷◌, length, get_or, refl, sym, ◌∙◌, ap, arith, All, eqb, take, drop, ◌-◌, length-drop, take_all}
 use Rattle.std.proofs.lemmas.Nat.{mod_below}
 use Rattle.jb_block.specs.declared.size.BlockSize.{BlockSize}
 use Rattle.jb_block.specs.declared.size.BlockSize.TheVariants.{OneKib}

@@ -1,6 +1,5 @@
 -- What one call of a file as a disk comes to, from the record that has it as its newest.
-use Rattle.std.proofs.Common.{◌≡◌, ◌<◌, ℕ, ◌*◌, Bool, true, false, List, [], ◌∷◌, length, set, refl, sym, subst, arith}
-use Rattle.std.specs.Prelude.{Result, Ok, Err, is_ok, OnOk}
+use Rattle.std.proofs.Common.{◌≡◌, ◌<◌, ℕ, ◌*◌, Bool, true, false, List, [], ◌∷◌, length, set, refl, sym, subst, arith, Result, Ok, Err, is_ok, OnOk}
 use Rattle.std.proofs.lemmas.Result.{on_ok_weaker}
 use Rattle.jb_disk.specs.Image.{Image, block, Torn, HasShape}
 use Rattle.jb_disk.specs.Runs.{ReadsRun, TornRun}

@@ -5,7 +5,6 @@ pub mod Counts
 pub mod Crashes
 pub mod FileCalls
 pub mod Goings
-pub mod Listed
 pub mod Mixes
 pub mod Moments
 pub mod Noted
@@ -21,4 +20,3 @@ pub mod Stays
 pub mod Stepping
 pub mod Syncs
 pub mod Tables
-pub mod Undoing

@@ -1,6 +1,5 @@
 -- A call of a file that is noted: what it means for one block, and for what a crash may leave.
-use Rattle.std.proofs.Common.{◌≡◌, ◌≢◌, ◌<◌, ◌⊎◌, ℕ, ◌+◌, ◌*◌, List, [], ◌∷◌, length, take, drop, set, sym, ◌∙◌, subst, inl, inr, ⊎_elim, ap, add-zero, arith, length-set, get_or-set_same, get_or-set_other}
-use Rattle.std.proofs.lemmas.List.{ext_get_or, take_all}
+use Rattle.std.proofs.Common.{◌≡◌, ◌≢◌, ◌<◌, ◌⊎◌, ℕ, ◌+◌, ◌*◌, List, [], ◌∷◌, length, take, drop, set, sym, ◌∙◌, subst, inl, inr, ⊎_elim, ap, add-zero, arith, length-set, get_or-set_same, get_or-set_other, ext_get_or, take_all}
 use Rattle.std.proofs.Math.Decide.{ℕ_discrete}
 use Rattle.jb_disk.specs.Image.{Image, block, sector, Torn}
 use Rattle.jb_disk.specs.Runs.{IsOutside, ReadsRun, WroteRun, TornRun, part}

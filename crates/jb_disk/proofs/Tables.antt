@@ -1,6 +1,5 @@
 -- How the writes of a list of calls are sorted by the blocks that they write.
-use Rattle.std.proofs.Common.{◌≡◌, ◌<◌, ℕ, ◌+◌, List, [], ◌∷◌, ◌++◌, length, get_or, set, take, drop, cond, refl, sym, ◌∙◌, ap, subst, arith, Vec, Global, Bor, get_or-set_same, get_or-set_other, length-set}
-use Rattle.std.proofs.lemmas.Bool.{eq-eqb, ne_eqb}
+use Rattle.std.proofs.Common.{◌≡◌, ◌<◌, ℕ, ◌+◌, List, [], ◌∷◌, ◌++◌, length, get_or, set, take, drop, cond, refl, sym, ◌∙◌, ap, subst, arith, Vec, Global, Bor, get_or-set_same, get_or-set_other, length-set, eq-eqb, ne_eqb}
 use Rattle.std.proofs.lemmas.List.{length-map, get_or-map, map-set, map-append}
 use Rattle.std.proofs.Math.Decide.{ℕ_discrete}
 use Rattle.jb_disk.specs.Calls.{history_step, steps_of}
@@ -9,7 +8,7 @@ use Rattle.jb_disk.specs.Mixing.{bytes_of_writes, table_of, writes_at, AreWrites
 use Rattle.jb_disk.specs.Versions.{written}
 use Rattle.jb_disk.specs.declared.memory.Call.{Call}
 use Rattle.jb_disk.specs.declared.memory.Call.TheVariants.{Sync}
-use Rattle.jb_disk.proofs.Listed.{steps_of-more, steps_of-split}
+use Rattle.jb_disk.proofs.Replays.{steps_of-more, steps_of-split}
 
 -- the table says for each block what has been written to it
 pub record IsTable (count : ℕ) (table : List (Vec (Bor (List ℕ)) Global)) (steps : List HistoryStep) : Type 0 where

@@ -1,4 +1,3 @@
-pub mod Each
 pub mod FaultyCert
 pub mod ReadBack
 pub mod SpelledCert

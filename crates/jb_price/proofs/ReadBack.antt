@@ -1,24 +1,97 @@
 -- What is printed is read back.
-use Rattle.std.proofs.Common.{◌≡◌, ◌∙◌, sym, ap, ℕ, ◌+◌, ◌<◌, ◌==◌, true, false, List, [], ◌∷◌, ◌++◌, length, map, refl, arith, append_assoc, Option, option_map, Some, None, Ok}
-use Rattle.std.specs.Prelude.{codes, decimal}
+use Rattle.std.proofs.Common.{◌≡◌, ◌∙◌, sym, ap, subst, ℕ, ◌+◌, ◌<◌, ◌==◌, Bool, true, false, if◌then◌else◌, List, [], ◌∷◌, ◌++◌, length, refl, arith, length-append, inl, inr, Option, IsSome, Some, None, Err, map, append_assoc, option_map, Ok, Bor, option_copied, codes, decimal, bytes_eq, append-nil}
+use Rattle.std.proofs.lemmas.Bool.{cases_lt, ne_eqb, eq-eqb}
 use Rattle.std.specs.Char.{is_ascii_digit}
 use Rattle.std.specs.List.{AllByRecursion}
-use Rattle.std.specs.Str.{bytes_eq}
-use Rattle.std.proofs.lemmas.Bool.{ne_eqb, eq-eqb}
 use Rattle.std.proofs.lemmas.Fmt.{digits_decimal, decimal_nonempty}
-use Rattle.std.proofs.lemmas.List.{append-nil}
-use Rattle.jb_text.specs.Parts.{lines, number_of}
+use Rattle.jb_text.specs.Parts.{words, words_in, read_first, grow, lines, number_of, spaced}
+use Rattle.jb_price.specs.declared.fault.CertFault.TheVariants.{Syntax}
+use Rattle.jb_price.specs.Claims.{after_each, on_line, price_in_word, prices_in, cut_in, total_in, claim_in, claim_of, cut_of, read_of}
 use Rattle.jb_text.proofs.Joins.{Without, without-append, spaced-without, words-spaced, lines-put, literal-without, decimal-without}
 use Rattle.jb_text.proofs.Numerals.{AreDigits, numerals, decimal-is_number}
 use Rattle.jb_text.proofs.Splits.{lines-nil}
 use Rattle.jb_price.specs.declared.certificate.Cert.{Cert}
 use Rattle.jb_price.specs.declared.certificate.CertAnswer.{CertAnswer}
 use Rattle.jb_price.specs.declared.certificate.CertAnswer.TheVariants.{Cut, NoCut}
-use Rattle.jb_text.specs.Parts.{spaced}
 use Rattle.jb_price.specs.Certificate.{price_text, prices_line, answer_lines, cert_text}
-use Rattle.jb_price.specs.Claims.{after_each, price_in_word, prices_in, cut_in, total_in, claim_in, claim_of, cut_of, read_of}
 use Rattle.jb_price.specs.ReadBack.{Fits64, PriceFits, HasBound, AnswerFits, HasText}
-use Rattle.jb_price.proofs.Each.{each-goes, each-end}
+
+-- ---- the words of a line, read one by one
+
+module _ {A : Type 0} (read : List ℕ → Option A) (had : List A) where
+  pub each-goes : (word : List ℕ) (more : List (List ℕ)) (x : A) → read word ≡ Some x → after_each read had (word ∷ more) ≡ after_each read (had ++ x ∷ []) more
+  unfolding after_each
+  each-goes word more x is = rw is refl
+
+  pub each-fails : (word : List ℕ) (more : List (List ℕ)) → read word ≡ None → after_each read had (word ∷ more) ≡ None
+  unfolding after_each
+  each-fails word more is = rw is refl
+
+  pub each-end : after_each read had [] ≡ Some had
+  unfolding after_each
+  each-end = refl
+
+  -- the loop over the words: what is left gives the whole, after what was read
+  module _ (rest : Option (Bor (List ℕ))) (whole : Option (List A)) (so_far : after_each read had (words_in (option_copied rest)) ≡ whole) where
+    -- the last word was the last
+    pub word-ends : ((text : Bor (List ℕ)) → rest ≡ Some text → ⊥) → whole ≡ Some had
+    word-ends ended = sym so_far ∙ none-left rest ended
+      where
+        none-left : (rest' : Option (Bor (List ℕ))) → ((text : Bor (List ℕ)) → rest' ≡ Some text → ⊥) → after_each read had (words_in (option_copied rest')) ≡ Some had
+        none-left None over = each-end
+        none-left (Some text) over = absurd (over text refl)
+
+    module _ (text : Bor (List ℕ)) (word : List ℕ) (behind : List (List ℕ)) (is : rest ≡ Some text) (parts : words text.now ≡ word ∷ behind) where
+      from_word : after_each read had (word ∷ behind) ≡ whole
+      from_word = ap (after_each read had) (sym parts) ∙ ap (λ r. after_each read had (words_in (option_copied r))) (sym is) ∙ so_far
+
+      pub word-goes : (x : A) (now : List A) → read word ≡ Some x → now ≡ had ++ x ∷ [] → after_each read now behind ≡ whole
+      word-goes x now step pushed = ap (λ xs. after_each read xs behind) pushed ∙ sym (each-goes word behind x step) ∙ from_word
+
+      pub word-fails : (at : ℕ) → read word ≡ None → on_line at whole ≡ Err (Syntax at)
+      word-fails at step = ap (on_line at) (sym from_word ∙ each-fails word behind step)
+
+-- the first word was read, or no word was looked at yet
+pub record Begun {A : Type 0} (read : List ℕ → Option A) (had : List A) (all left : List (List ℕ)) : Type 0 where
+  pub some : 0 < length had → IsSome (read_first read all)
+  pub fresh : length had ≡ 0 → left ≡ all
+
+no-words : (text : List ℕ) → words text ≡ [] → ⊥
+unfolding words
+no-words [] none = let h : ◌≡◌ {A = List (List ℕ)} ([] ∷ []) [] = none in cc
+no-words (b ∷ bs) none = go (b == 32) (words bs) none
+  where
+    go : (t : Bool) (ws : List (List ℕ)) → (if t then [] ∷ ws else grow b ws) ≡ [] → ⊥
+    go true ws h = cc
+    go false [] h = cc
+    go false (w ∷ ws) h = cc
+
+module _ {A : Type 0} (read : List ℕ → Option A) (had : List A) (all left : List (List ℕ)) (begun : Begun read had all left) where
+  -- a word is read
+  pub begun-some : (word : List ℕ) (behind : List (List ℕ)) (x : A) → left ≡ word ∷ behind → read word ≡ Some x → IsSome (read_first read all)
+  begun-some word behind x parts is = elim (cases_lt 0 (length had)) [
+    | inl more ↦ begun.some more
+    | inr none ↦ subst (λ ws. IsSome (read_first read ws)) (sym parts ∙ begun.fresh (omega (arith, none))) (rw is refl)
+  ]
+
+  pub begun-goes : (word : List ℕ) (behind : List (List ℕ)) (x : A) (now : List A) (rest : List (List ℕ)) → left ≡ word ∷ behind → read word ≡ Some x → now ≡ had ++ x ∷ [] → Begun read now all rest
+  begun-goes word behind x now rest parts is pushed = record {
+    some = λ _. begun-some word behind x parts is;
+    fresh = λ none. absurd (let long : length now ≡ length had + 1 = ap length pushed ∙ simp length-append refl in let h : ⊥ = omega arith in h);
+  }
+
+  -- all words were read
+  pub begun-ends : (text : List ℕ) (rest : Option (Bor (List ℕ))) → all ≡ words text → left ≡ words_in (option_copied rest) → ((text : Bor (List ℕ)) → rest ≡ Some text → ⊥) → IsSome (read_first read all)
+  begun-ends text rest whole is ended = elim (cases_lt 0 (length had)) [
+    | inl more ↦ begun.some more
+    | inr none ↦ absurd (no-words text (sym whole ∙ sym (begun.fresh (omega (arith, none))) ∙ is ∙ over rest ended))
+  ]
+    where
+      over : (rest' : Option (Bor (List ℕ))) → ((text : Bor (List ℕ)) → rest' ≡ Some text → ⊥) → words_in (option_copied rest') ≡ []
+      over None h = refl
+      over (Some text) h = absurd (h text refl)
+
+-- ---- what is printed is read back
 
 -- words that show values are read to these values
 each-back : {A : Type 0} (read : List ℕ → Option A) (show : A → List ℕ) (P : A → Type 0) → ((x : A) → P x → read (show x) ≡ Some x) → (had xs : List A) → AllByRecursion P xs → after_each read had (map show xs) ≡ Some (had ++ xs)

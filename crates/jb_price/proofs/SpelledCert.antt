@@ -1,14 +1,8 @@
 -- A certificate's text is read exactly where it spells a claim, and else has a first fault.
-use Rattle.std.proofs.Common.{subst, ◌≡◌, ◌↔◌, ◌∙◌, sym, ap, ℕ, ◌+◌, ◌<◌, ◌==◌, Bool, true, false, if◌then◌else◌, List, [], ◌∷◌, ◌++◌, length, map, refl, arith, append_assoc, Option, option_map, Some, None, Result, Ok, Err, inl, inr}
-use Rattle.std.specs.Prelude.{codes, decimal}
+use Rattle.std.proofs.Common.{subst, ◌≡◌, ◌↔◌, ◌∙◌, sym, ap, ℕ, ◌+◌, ◌<◌, ◌==◌, Bool, true, false, if◌then◌else◌, List, [], ◌∷◌, ◌++◌, length, map, refl, arith, append_assoc, Option, option_map, Some, None, Result, Ok, Err, inl, inr, codes, decimal, MatchOption, MatchResult, bytes_eq, eq-eqb, eqb-true, append-nil}
 use Rattle.std.specs.List.{AllByRecursion}
-use Rattle.std.specs.Option.{MatchOption}
-use Rattle.std.specs.Result.{MatchResult}
 use Rattle.std.proofs.lemmas.Option.{option_and_then_some, same_Some}
 use Rattle.std.proofs.lemmas.Result.{MatchResult-at_ok, MatchResult-weaker}
-use Rattle.std.specs.Str.{bytes_eq}
-use Rattle.std.proofs.lemmas.Bool.{eq-eqb, eqb-true}
-use Rattle.std.proofs.lemmas.List.{append-nil}
 use Rattle.std.proofs.lemmas.Slice.Eq.{bytes_eq-Decides}
 use Rattle.jb_text.specs.Parts.{◌>>=◌, lines, words, spaced, read_first, number_of}
 use Rattle.jb_text.specs.Lines.{AreLines}

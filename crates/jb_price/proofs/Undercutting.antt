@@ -1,7 +1,6 @@
 -- The first undercut, as one more start and one more end are looked at.
-use Rattle.std.proofs.Common.{◌≡◌, ℕ, ◌+◌, ◌<◌, ◌≤◌, Bool, true, false, List, Option, Some, None, nat_le, if◌then◌else◌, inl, inr, sym, subst, ap, ◌∙◌, refl, arith}
+use Rattle.std.proofs.Common.{◌≡◌, ℕ, ◌+◌, ◌<◌, ◌≤◌, Bool, true, false, List, Option, Some, None, nat_le, if◌then◌else◌, inl, inr, sym, subst, ap, ◌∙◌, refl, arith, eq-or-lt_of_le}
 use Rattle.std.proofs.lemmas.Bool.{cases_lt, leb-true, leb-false}
-use Rattle.std.proofs.Math.Nat.{eq-or-lt_of_le}
 use Rattle.jb_cost.specs.declared.found.Found.{Found}
 use Rattle.jb_cost.specs.Cut.{price}
 use Rattle.jb_cost.specs.Starts.{BestStart}

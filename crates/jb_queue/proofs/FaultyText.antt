@@ -1,5 +1,5 @@
 -- The first fault of a queue text is the one at which reading ends.
-use Rattle.std.proofs.Common.{◌↔◌, ◌≡◌, ◌∙◌, sym, ap, ℕ, List, ◌∷◌, refl, Option, Some, None, Result, Err, inl, inr}
+use Rattle.std.proofs.Common.{◌↔◌, ◌≡◌, ◌∙◌, sym, ap, ℕ, List, ◌∷◌, refl, Option, Some, None, Result, Err, inl, inr, MatchOption}
 use Rattle.jb_block.specs.declared.size.BlockSize.{BlockSize}
 use Rattle.jb_block.specs.declared.width.Width.{Width}
 use Rattle.jb_block.specs.Size.{bytes_of}
@@ -10,7 +10,6 @@ use Rattle.jb_queue.specs.Queue.{Queue, at_line, or_cause, limit_in_line, queue_
 use Rattle.jb_queue.specs.Faults.{HasNoFormat, HasNoLimit, FirstFaultOf, FirstFault}
 use Rattle.jb_queue.proofs.FaultyLines.{lines-wrong}
 use Rattle.jb_queue.proofs.SpelledText.{behind_limit, behind_format, read, SpellsLines, read-says, format-from, limit-is, limit-from}
-use Rattle.std.specs.Option.{MatchOption}
 use Rattle.std.proofs.lemmas.Result.{MatchResult-at_err}
 use Rattle.jb_text.proofs.Readings.{FirstFails, FirstGives, first-says, wrong-is}
 

@@ -1,8 +1,5 @@
 -- The words of a handle, read one by one.
-use Rattle.std.proofs.Common.{◌≡◌, ◌∙◌, sym, ap, ℕ, List, [], ◌∷◌, refl, Option, Some, None, Result, Ok, Err, IsOk, Bool, true, false, if◌then◌else◌, ◌==◌}
-use Rattle.std.proofs.lemmas.Bool.{eqb-true}
-use Rattle.std.specs.Borrow.{Bor}
-use Rattle.std.specs.Option.{option_copied}
+use Rattle.std.proofs.Common.{◌≡◌, ◌∙◌, sym, ap, ℕ, List, [], ◌∷◌, refl, Option, Some, None, Result, Ok, Err, IsOk, Bool, true, false, if◌then◌else◌, ◌==◌, eqb-true, Bor, option_copied}
 use Rattle.std.specs.FinMap as map
 use Rattle.jb_queue.specs.declared.fault.Cause.{Cause}
 use Rattle.jb_queue.specs.declared.fault.Cause.TheVariants.{HandleLine, Memory}

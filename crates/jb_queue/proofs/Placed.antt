@@ -1,7 +1,6 @@
 -- The handles of a queue, read from its text one by one.
-use Rattle.std.proofs.Common.{◌≡◌, ◌∙◌, sym, ap, subst, ℕ, zero, suc, ◌+◌, ◌-◌, ◌<◌, ◌≤◌, List, [], ◌∷◌, ◌++◌, length, length-append, drop, get_or, arith, refl, Option, Some, Result, Ok, Err, IsOk}
+use Rattle.std.proofs.Common.{◌≡◌, ◌∙◌, sym, ap, subst, ℕ, zero, suc, ◌+◌, ◌-◌, ◌<◌, ◌≤◌, List, [], ◌∷◌, ◌++◌, length, length-append, drop, get_or, arith, refl, Option, Some, Result, Ok, Err, IsOk, append_assoc, drop-drop, length-drop}
 use Rattle.std.proofs.Math.Seq.{drop-nil, get_or-append_seam}
-use Rattle.std.proofs.lemmas.List.{append_assoc, drop-drop, length-drop}
 use Rattle.jb_queue.specs.declared.fault.Cause.{Cause}
 use Rattle.jb_queue.specs.declared.fault.QueueFault.{QueueFault}
 use Rattle.jb_handle.specs.declared.stopped.Stopped.{Stopped}

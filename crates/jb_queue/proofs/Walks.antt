@@ -1,6 +1,5 @@
 -- A list that is read item by item, up to the first that cannot be read.
-use Rattle.std.proofs.Common.{◌≡◌, ◌⊎◌, ◌∙◌, sym, ap, suc, List, [], ◌∷◌, ◌++◌, length, fold, refl, Result, Ok, Err, inl, inr}
-use Rattle.std.specs.Result.{MatchResult}
+use Rattle.std.proofs.Common.{◌≡◌, ◌⊎◌, ◌∙◌, sym, ap, suc, List, [], ◌∷◌, ◌++◌, length, fold, refl, Result, Ok, Err, inl, inr, MatchResult}
 use Rattle.jb_queue.specs.Spelling.{Each}
 
 -- two lists whose items belong together also do so by what follows of each two

@@ -1,8 +1,6 @@
 -- A queue weighs at most half as much as its text is long.
-use Rattle.std.proofs.Common.{◌≡◌, ◌∙◌, sym, ap, subst, ℕ, ◌+◌, ◌≤◌, List, [], ◌∷◌, ◌++◌, length, fold, length-append, arith, refl, Result, Ok, Err, ◌*◌, ◌<◌, ◌==◌, Option, option_map, Some, None, inl, inr}
-use Rattle.std.proofs.lemmas.List.{append_assoc, append-nil}
+use Rattle.std.proofs.Common.{◌≡◌, ◌∙◌, sym, ap, subst, ℕ, ◌+◌, ◌≤◌, List, [], ◌∷◌, ◌++◌, length, fold, length-append, arith, refl, Result, Ok, Err, ◌*◌, ◌<◌, ◌==◌, Option, option_map, Some, None, inl, inr, append_assoc, append-nil, nat_cmp}
 use Rattle.std.proofs.lemmas.Result.{MatchResult-at_err}
-use Rattle.std.specs.Ordering.{nat_cmp}
 use Rattle.std.specs.Cmp.{nat_cmp_total}
 use Rattle.std.proofs.lemmas.Bool.{cases_eq}
 use Rattle.std.proofs.lemmas.List.Sums.{sum_by-append, sum_by-cons}

@@ -1,9 +1,7 @@
 -- A text is read exactly where its lines, and its words, make it.
-use Rattle.std.proofs.Common.{subst, ◌≡◌, ◌∙◌, sym, ap, ℕ, ◌<◌, Bool, true, false, if◌then◌else◌, List, [], ◌∷◌, ◌++◌, length, take, drop, refl, arith, Some, None, inl, inr}
+use Rattle.std.proofs.Common.{subst, ◌≡◌, ◌∙◌, sym, ap, ℕ, ◌<◌, Bool, true, false, if◌then◌else◌, List, [], ◌∷◌, ◌++◌, length, take, drop, refl, arith, Some, None, inl, inr, bytes_eq, take-append-drop}
 use Rattle.std.specs.List.{AllByRecursion}
-use Rattle.std.specs.Str.{bytes_eq}
 use Rattle.std.proofs.lemmas.Bool.{cases_eq}
-use Rattle.std.proofs.lemmas.List.{take-append-drop}
 use Rattle.std.proofs.lemmas.Slice.Eq.{bytes_eq-Decides}
 use Rattle.jb_text.specs.Lines.{ended, joined_lines, AreLines}
 use Rattle.jb_text.specs.Parts.{lines, words, grow, spaced, behind_word}

@@ -1,10 +1,7 @@
 -- Pieces without a delimiter in them, joined by delimiters: they are parted there again.
-use Rattle.std.proofs.Common.{◌≡◌, ◌≢◌, ◌∙◌, sym, ap, ℕ, ◌^◌, ◌<◌, ◌==◌, if◌then◌else◌, Bool, true, false, List, [], ◌∷◌, ◌++◌, refl}
+use Rattle.std.proofs.Common.{◌≡◌, ◌≢◌, ◌∙◌, sym, ap, ℕ, ◌^◌, ◌<◌, ◌==◌, if◌then◌else◌, Bool, true, false, List, [], ◌∷◌, ◌++◌, refl, decimal, append-nil, eq-eqb}
 use Rattle.std.specs.Char.{is_ascii_digit}
-use Rattle.std.specs.Fmt.{decimal}
 use Rattle.std.specs.List.{AllByRecursion}
-use Rattle.std.proofs.lemmas.List.{append-nil}
-use Rattle.std.proofs.lemmas.Bool.{eq-eqb}
 use Rattle.std.proofs.lemmas.Fmt.{digits_decimal}
 use Rattle.jb_text.specs.Parts.{before, onward, grow, lines, words, spaced}
 use Rattle.jb_text.proofs.Splits.{before-nil, before-goes, before-ends, onward-nil, onward-goes, onward-ends, lines-nil, lines-feed, lines-goes, words-nil, words-space, words-goes}

@@ -1,6 +1,5 @@
 -- Texts that are written part by part.
-use Rattle.std.proofs.Common.{◌≡◌, ◌+◌, ◌≤◌, ◌<◌, ℕ, List, [], ◌∷◌, ◌++◌, Option, Result, Ok, Err, min, ◌∙◌, ap, drop, get_or, length, map, subst, suc, sym, refl, arith}
-use Rattle.std.specs.Prelude.{take}
+use Rattle.std.proofs.Common.{◌≡◌, ◌+◌, ◌≤◌, ◌<◌, ℕ, List, [], ◌∷◌, ◌++◌, Option, Result, Ok, Err, min, ◌∙◌, ap, drop, get_or, length, map, subst, suc, sym, refl, arith, take}
 use Rattle.std.proofs.Math.Seq.{take-append-add, take-length}
 use Rattle.std.proofs.Math.Nat.{min-le_right}
 use Rattle.std.proofs.lemmas.List.{drop_all, drop_more, take-append-le, take_min}

@@ -1,7 +1,5 @@
 -- What is read, or what is wrong: both of a reading that goes step by step.
-use Rattle.std.proofs.Common.{◌≡◌, ap, sym, ◌∙◌, ℕ, Bool, true, false, if◌then◌else◌, refl, List, [], ◌∷◌, ◌++◌, Option, option_map, Some, None, Result, Ok, Err}
-use Rattle.std.specs.Result.{MatchResult}
-use Rattle.std.specs.Option.{MatchOption, option_and_then}
+use Rattle.std.proofs.Common.{◌≡◌, ap, sym, ◌∙◌, ℕ, Bool, true, false, if◌then◌else◌, refl, List, [], ◌∷◌, ◌++◌, Option, option_map, Some, None, Result, Ok, Err, MatchResult, MatchOption, option_and_then}
 use Rattle.std.proofs.lemmas.Option.{option_and_then_some}
 use Rattle.jb_text.specs.Parts.{◌>>=◌, behind_word, read_first}
 use Rattle.jb_text.proofs.Grammar.{behind-is}

@@ -1,6 +1,5 @@
 -- Where a text is parted: the bytes before the first delimiter, and those from it on.
-use Rattle.std.proofs.Common.{◌≡◌, ◌≢◌, ◌∙◌, sym, ap, ℕ, ◌+◌, ◌<◌, ◌≤◌, List, [], ◌∷◌, ◌++◌, length, take, drop, get_or, refl, add-one, inl, inr, zero, suc, subst, length-append, length-drop, arith, ◌-◌, Option, Some, None, ◌==◌, true}
-use Rattle.std.proofs.Math.Seq.{take-suc}
+use Rattle.std.proofs.Common.{◌≡◌, ◌≢◌, ◌∙◌, sym, ap, ℕ, ◌+◌, ◌<◌, ◌≤◌, List, [], ◌∷◌, ◌++◌, length, take, drop, get_or, refl, add-one, inl, inr, zero, suc, subst, length-append, length-drop, arith, ◌-◌, Option, Some, None, ◌==◌, true, take-suc}
 use Rattle.std.proofs.lemmas.List.{append-nil, append_assoc, take_all, drop_all, drop_more}
 use Rattle.std.proofs.lemmas.Bool.{eq-eqb, eqb-true, ne_eqb, cases_eq}
 use Rattle.jb_text.specs.Parts.{before, onward, grow, lines, words, words_in, FirstLine}

@@ -1,7 +1,5 @@
 -- A reader that was cut at a limit.
-use Rattle.std.proofs.Common.{◌≡◌, ℕ, List, [], ◌++◌, Option, Some, None, IfSome}
-use Rattle.std.specs.Prelude.{take}
-use Rattle.std.specs.Option.{option_map}
+use Rattle.std.proofs.Common.{◌≡◌, ℕ, List, [], ◌++◌, Option, Some, None, IfSome, take, option_map}
 
 -- it gave the beginning of what it had
 pub beginning : (known : Option (List ℕ)) (text : List ℕ) (limit : ℕ) → IfSome (option_map (take limit) known) (λ xs. text ≡ [] ++ xs)

@@ -1,7 +1,6 @@
 -- What one worker has written stays, and is what the other one has read.
-use Rattle.std.proofs.Common.{◌≡◌, ℕ, suc, ◌<◌, List, [], ◌∷◌, ◌++◌, All, Some, slice_get, get_or, length, Result, Ok, Err, IfOk, refl, sym, ap, subst, ◌∙◌, arith}
+use Rattle.std.proofs.Common.{◌≡◌, ℕ, suc, ◌<◌, List, [], ◌∷◌, ◌++◌, All, Some, slice_get, get_or, length, Result, Ok, Err, IfOk, refl, sym, ap, subst, ◌∙◌, arith, sum_by}
 use Rattle.std.specs.FinMap as map
-use Rattle.std.specs.List.{sum_by}
 use Rattle.std.specs.Cmp.{nat_cmp_total}
 use Rattle.std.proofs.lemmas.List.Elements.{All-weaker}
 use Rattle.std.proofs.lemmas.List.Sums.{sum_by-cons}

@@ -1,5 +1,4 @@
-use Rattle.std.proofs.Common.{suc, ◌≤◌, length, drop, sym, ap, ◌∙◌, arith}
-use Rattle.std.proofs.lemmas.List.{length-take-le}
+use Rattle.std.proofs.Common.{suc, ◌≤◌, length, drop, sym, ap, ◌∙◌, arith, length-take-le}
 use Rattle.jb_book.proofs.Fronts.{front-last}
 use Rattle.jb_book.proofs.follow.count_to.Goals as goal
 

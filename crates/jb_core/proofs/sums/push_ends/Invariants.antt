@@ -1,5 +1,4 @@
-use Rattle.std.proofs.Common.{◌≡◌, ◌+◌, ◌≤◌, ◌++◌, map, take, length}
-use Rattle.std.specs.Prelude.{vec_len, vec_capacity}
+use Rattle.std.proofs.Common.{◌≡◌, ◌+◌, ◌≤◌, ◌++◌, map, take, length, vec_len, vec_capacity}
 use Rattle.jb_core.proofs.sums.push_ends.Given as goal
 
 abbrev pub invariant-loop-end : goal.invariant-loop-end

@@ -2,9 +2,8 @@ use Rattle.std.proofs.Common.{rules, ◌≡◌, ◌+◌, ◌^◌, ◌≤◌, ◌
 use Rattle.jb_cost.specs.Cost.{blocks_of}
 use Rattle.jb_cost.specs.Owned.{owned_from, copies_of, frees_of}
 use Rattle.jb_cost.specs.Starts.{dearer_by}
-use Rattle.jb_cost.proofs.Spans.{span-room}
-use Rattle.jb_cost.proofs.Leaping.{leap-best, leap-sums}
-use Rattle.jb_cost.proofs.Walking.{idle-sums}
+use Rattle.jb_cost.proofs.Leaping.{leap-best, leap-sums, span-room}
+use Rattle.jb_cost.proofs.Searching.{idle-sums}
 use Rattle.jb_cost.proofs.best_start.over_span.Goals as goal
 use Rattle.jb_cost.proofs.best_start.over_span.Goals.{After-span-span, in-Some-least, in-None}
 

@@ -1,7 +1,6 @@
 use Rattle.std.proofs.Common.{◌∙◌, length, ap, arith}
 use Rattle.jb_cost.specs.Cost.{blocks_of}
-use Rattle.jb_cost.proofs.Searching.{stretch-over, stretch-sums, stretch-best}
-use Rattle.jb_cost.proofs.Walking.{room-one}
+use Rattle.jb_cost.proofs.Searching.{stretch-over, stretch-sums, stretch-best, room-one}
 use Rattle.jb_cost.proofs.best_start.over_stretch.Goals as goal
 
 pub plus-tally-requires : goal.plus-tally-requires

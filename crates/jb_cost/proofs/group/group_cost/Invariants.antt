@@ -1,5 +1,4 @@
-use Rattle.std.proofs.Common.{◌≡◌, ℕ, take}
-use Rattle.std.specs.Ordering.{nat_cmp}
+use Rattle.std.proofs.Common.{◌≡◌, ℕ, take, nat_cmp}
 use Rattle.std.specs.BTreeSet.{contains}
 use Rattle.jb_handle.specs.Words.{word, is_copied, is_freed}
 use Rattle.jb_cost.proofs.group.group_cost.Given as goal

@@ -1,5 +1,4 @@
-use Rattle.std.proofs.Common.{◌≡◌, ◌<◌, ◌||◌, not, is_some, vec_len, vec_capacity, T, true, false, length, sym, ap, subst, ◌∙◌, arith}
-use Rattle.std.specs.Ordering.{nat_cmp}
+use Rattle.std.proofs.Common.{◌≡◌, ◌<◌, ◌||◌, not, is_some, vec_len, vec_capacity, T, true, false, length, sym, ap, subst, ◌∙◌, arith, nat_cmp}
 use Rattle.std.specs.BTreeSet.{contains}
 use Rattle.std.specs.FinMap as map
 use Rattle.std.proofs.lemmas.Bool.{not-true, not-false}

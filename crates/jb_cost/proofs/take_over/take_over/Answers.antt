@@ -1,5 +1,4 @@
-use Rattle.std.proofs.Common.{◌+◌, ◌<◌, not, T, length, sym, ap, subst, ◌∙◌, arith}
-use Rattle.std.specs.Ordering.{nat_cmp}
+use Rattle.std.proofs.Common.{◌+◌, ◌<◌, not, T, length, sym, ap, subst, ◌∙◌, arith, nat_cmp}
 use Rattle.std.specs.BTreeMap.{get}
 use Rattle.std.specs.FinMap as map
 use Rattle.jb_cost.specs.Owned.{copies_of, frees_of, left_copy, later_touch}

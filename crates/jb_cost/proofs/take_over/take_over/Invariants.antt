@@ -1,5 +1,4 @@
-use Rattle.std.proofs.Common.{◌≡◌, ◌+◌, ◌≤◌, ℕ, not, List, Option, length, take}
-use Rattle.std.specs.Ordering.{nat_cmp}
+use Rattle.std.proofs.Common.{◌≡◌, ◌+◌, ◌≤◌, ℕ, not, List, Option, length, take, nat_cmp}
 use Rattle.std.specs.BTreeMap.{IsOrdered, get}
 use Rattle.std.specs.FinMap as map
 use Rattle.jb_cost.specs.Owned.{IsIdle, owned_at, copies_of, frees_of, left_copy, CountsBut, later_touch}

@@ -7,9 +7,8 @@ use Rattle.jb_disk.specs.Versions.{written, written_below, version, versions}
 use Rattle.jb_disk.proofs.Buffers.{buffers_count}
 use Rattle.jb_disk.proofs.Choices.{written_back}
 use Rattle.jb_disk.proofs.Crashes.{rest_of_calls, whole_sectors, written_whole, chosen_by_history}
-use Rattle.jb_disk.proofs.Listed.{whole-take, whole-drop}
 use Rattle.jb_block.proofs.Refusals.{on-refusal}
-use Rattle.jb_disk.proofs.Replays.{replaying_shape}
+use Rattle.jb_disk.proofs.Replays.{replaying_shape, whole-take, whole-drop}
 use Rattle.jb_disk.proofs.sector.crash_image.Goals as goal
 use Rattle.jb_disk.proofs.sector.crash_image.Goals.{After-choose, After-deref, In_ok-image}
 

@@ -1,7 +1,7 @@
 use Rattle.std.proofs.Common.{subst, arith}
 use Rattle.jb_dump.specs.Summary.{summary_of}
 use Rattle.jb_dump.specs.Tallies.{AreTallied, IsTallyOf}
-use Rattle.jb_dump.proofs.Summing.{tally-more}
+use Rattle.jb_dump.proofs.Addings.{tally-more}
 use Rattle.jb_dump.proofs.tally.add_to.Goals as goal
 
 pub add-requires : goal.add-requires

@@ -1,5 +1,4 @@
-use Rattle.std.proofs.Common.{◌≡◌, ◌++◌, drop, map}
-use Rattle.std.specs.Prelude.{codes, decimal, string_bytes}
+use Rattle.std.proofs.Common.{◌≡◌, ◌++◌, drop, map, codes, decimal, string_bytes}
 use Rattle.jb_text.specs.Parts.{spaced}
 use Rattle.jb_price.proofs.print.push_bounds.Given as goal
 

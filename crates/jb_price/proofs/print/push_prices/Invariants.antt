@@ -1,5 +1,4 @@
-use Rattle.std.proofs.Common.{◌≡◌, ◌++◌, drop, map}
-use Rattle.std.specs.Prelude.{codes, string_bytes}
+use Rattle.std.proofs.Common.{◌≡◌, ◌++◌, drop, map, codes, string_bytes}
 use Rattle.jb_text.specs.Parts.{spaced}
 use Rattle.jb_price.specs.Certificate.{price_text}
 use Rattle.jb_price.proofs.print.push_prices.Given as goal

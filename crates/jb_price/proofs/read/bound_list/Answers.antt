@@ -1,7 +1,6 @@
-use Rattle.std.proofs.Common.{sym}
-use Rattle.std.specs.Option.{option_copied}
+use Rattle.std.proofs.Common.{sym, option_copied}
 use Rattle.jb_text.specs.Parts.{words_in, number_of}
-use Rattle.jb_price.proofs.Each.{word-goes, word-fails, word-ends}
+use Rattle.jb_price.proofs.ReadBack.{word-goes, word-fails, word-ends}
 use Rattle.jb_price.proofs.read.bound_list.Goals as goal
 
 pub returns-in_default-number-clause-err : goal.returns-in_default-number-clause-err

@@ -1,5 +1,4 @@
-use Rattle.std.proofs.Common.{◌≡◌, []}
-use Rattle.std.specs.Option.{option_copied}
+use Rattle.std.proofs.Common.{◌≡◌, [], option_copied}
 use Rattle.jb_text.specs.Parts.{words, words_in, number_of}
 use Rattle.jb_text.proofs.Left.{left}
 use Rattle.jb_price.specs.Claims.{after_each}

@@ -1,8 +1,7 @@
-use Rattle.std.proofs.Common.{refl, sym, ap, ◌∙◌}
-use Rattle.std.specs.Option.{option_copied}
+use Rattle.std.proofs.Common.{refl, sym, ap, ◌∙◌, option_copied}
 use Rattle.jb_text.specs.Parts.{words_in}
 use Rattle.jb_price.specs.Claims.{price_in_word}
-use Rattle.jb_price.proofs.Each.{word-goes, word-fails, word-ends, begun-goes, begun-ends}
+use Rattle.jb_price.proofs.ReadBack.{word-goes, word-fails, word-ends, begun-goes, begun-ends}
 use Rattle.jb_price.proofs.read.price_list.Goals as goal
 
 pub returns-in_default-price_of-clause-err : goal.returns-in_default-price_of-clause-err

@@ -1,9 +1,8 @@
-use Rattle.std.proofs.Common.{◌≡◌, []}
-use Rattle.std.specs.Option.{option_copied}
+use Rattle.std.proofs.Common.{◌≡◌, [], option_copied}
 use Rattle.jb_text.specs.Parts.{words, words_in}
 use Rattle.jb_text.proofs.Left.{left}
 use Rattle.jb_price.specs.Claims.{after_each, price_in_word}
-use Rattle.jb_price.proofs.Each.{Begun}
+use Rattle.jb_price.proofs.ReadBack.{Begun}
 use Rattle.jb_price.proofs.read.price_list.Given as goal
 
 -- the prices of the words are those that the rest says after the ones that were read

@@ -1,5 +1,4 @@
-use Rattle.std.proofs.Common.{◌≡◌, rules, sym, ap, ◌∙◌, Ok, Err}
-use Rattle.std.specs.Option.{option_copied}
+use Rattle.std.proofs.Common.{◌≡◌, rules, sym, ap, ◌∙◌, Ok, Err, option_copied}
 use Rattle.jb_block.specs.Size.{bytes_of}
 use Rattle.jb_text.specs.Parts.{words_in}
 use Rattle.jb_queue.specs.declared.fault.Cause.TheVariants.{Memory as OutOfMemory}

@@ -1,5 +1,4 @@
-use Rattle.std.proofs.Common.{◌≡◌, ◌+◌, List, [], ◌∷◌, ◌++◌, map, subst, ◌∙◌, ap, arith, add-zero}
-use mathlib.Core.List.{append-nil}
+use Rattle.std.proofs.Common.{◌≡◌, ◌+◌, List, [], ◌∷◌, ◌++◌, map, subst, ◌∙◌, ap, arith, add-zero, append-nil}
 use Rattle.jb_deck.specs.Changes.{Change, settled_in, settles}
 use Rattle.jb_deck.specs.Gathering.{groups_in}
 use Rattle.jb_deck.proofs.Changed.{settled-map}

@@ -1,5 +1,4 @@
-use Rattle.std.proofs.Common.{◌≡◌, ◌+◌, ◌-◌, ◌≤◌, drop, List, sym, subst, ◌∙◌, arith}
-use Rattle.std.specs.Prelude.{vec_len, vec_capacity}
+use Rattle.std.proofs.Common.{◌≡◌, ◌+◌, ◌-◌, ◌≤◌, drop, List, sym, subst, ◌∙◌, arith, vec_len, vec_capacity}
 use Rattle.jb_deck.specs.declared.done.Entry.{Entry}
 use Rattle.jb_book.specs.Account.{shortened, trail_from}
 use Rattle.jb_book.specs.Book.{account_of}

@@ -1,7 +1,5 @@
-use Rattle.std.proofs.Common.{rules, ℕ, ◌≡◌, ◌+◌, ◌-◌, ◌∷◌, [], ◌≤◌, false, sum, sym, ap, subst, arith}
-use Rattle.std.specs.Prelude.{vec_len, vec_capacity}
+use Rattle.std.proofs.Common.{rules, ℕ, ◌≡◌, ◌+◌, ◌-◌, ◌∷◌, [], ◌≤◌, false, sum, sym, ap, subst, arith, vec_len, vec_capacity, unwrap_or}
 use Rattle.std.specs.Map.{values_of}
-use Rattle.std.specs.Option.{unwrap_or}
 use Rattle.std.proofs.lemmas.List.Sums.{sum_by-append}
 use Rattle.jb_handle.specs.Handle.{changes_of}
 use Rattle.jb_book.specs.Account.{Account, IsOpenFor, queued}

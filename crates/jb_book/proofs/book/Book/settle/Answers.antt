@@ -1,5 +1,4 @@
-use Rattle.std.proofs.Common.{ℕ, ◌≡◌, ◌+◌, ◌-◌, ◌≤◌, drop, sum, sym, ap, subst, ◌∙◌, arith}
-use Rattle.std.specs.Prelude.{vec_len, vec_capacity}
+use Rattle.std.proofs.Common.{ℕ, ◌≡◌, ◌+◌, ◌-◌, ◌≤◌, drop, sum, sym, ap, subst, ◌∙◌, arith, vec_len, vec_capacity}
 use Rattle.std.proofs.lemmas.List.Sums.{sum_by-take-drop}
 use Rattle.jb_deck.specs.Done.{Follow, least_after}
 use Rattle.jb_book.specs.Account.{Account, Settles, settled_to}

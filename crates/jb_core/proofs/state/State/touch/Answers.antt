@@ -1,8 +1,6 @@
-use Rattle.std.proofs.Common.{rules, ◌≡◌, true, Some, Err, sym, ap, ◌∙◌, arith}
+use Rattle.std.proofs.Common.{rules, ◌≡◌, true, Some, Err, sym, ap, ◌∙◌, arith, nat_cmp, unwrap_or}
 use Rattle.jb_core.specs.Machine.{Machine, fault_of, handle_at, held_at, reserved, after_event}
 use Rattle.jb_core.specs.State.{machine_of}
-use Rattle.std.specs.Ordering.{nat_cmp}
-use Rattle.std.specs.Option.{unwrap_or}
 use Rattle.std.specs.FinMap as map
 use Rattle.jb_handle.specs.Held.{held, after as held_after}
 use Rattle.std.specs.BTreeMap.{is_at}

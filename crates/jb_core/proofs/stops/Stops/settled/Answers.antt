@@ -1,5 +1,4 @@
-use Rattle.std.proofs.Common.{length, take, sym, ap, ◌∙◌}
-use Rattle.std.proofs.lemmas.List.{length-take-le}
+use Rattle.std.proofs.Common.{length, take, sym, ap, ◌∙◌, length-take-le}
 use Rattle.jb_core.specs.Line.{Line}
 use Rattle.jb_cost.proofs.Joined.{length-pieces}
 use Rattle.jb_core.proofs.stops.Stops.settled.Goals as goal

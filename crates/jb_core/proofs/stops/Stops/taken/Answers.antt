@@ -1,5 +1,4 @@
-use Rattle.std.proofs.Common.{rules, ◌≡◌, ◌-◌, length, drop, sym, ap, ◌∙◌}
-use Rattle.std.proofs.lemmas.List.{length-drop}
+use Rattle.std.proofs.Common.{rules, ◌≡◌, ◌-◌, length, drop, sym, ap, ◌∙◌, length-drop}
 use Rattle.jb_core.specs.Line.{Line}
 use Rattle.jb_cost.proofs.Joined.{length-pieces}
 use Rattle.jb_core.proofs.stops.Stops.taken.Goals as goal

@@ -1,5 +1,4 @@
-use Rattle.std.proofs.Common.{◌≡◌, ◌+◌, ◌∷◌, ◌++◌, not, [], length, sym, ap, subst, ◌∙◌, arith, length-append}
-use Rattle.std.specs.Ordering.{nat_cmp}
+use Rattle.std.proofs.Common.{◌≡◌, ◌+◌, ◌∷◌, ◌++◌, not, [], length, sym, ap, subst, ◌∙◌, arith, length-append, nat_cmp}
 use Rattle.std.specs.BTreeMap.{get}
 use Rattle.std.specs.FinMap as map
 use Rattle.jb_cost.specs.Owned.{later_touch, copies_of, frees_of, left_copy}

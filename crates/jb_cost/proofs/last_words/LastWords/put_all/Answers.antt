@@ -1,5 +1,4 @@
-use Rattle.std.proofs.Common.{◌<◌, T, Some, length, sym, ap, subst, ◌∙◌, arith}
-use Rattle.std.specs.Ordering.{nat_cmp}
+use Rattle.std.proofs.Common.{◌<◌, T, Some, length, sym, ap, subst, ◌∙◌, arith, nat_cmp}
 use Rattle.std.specs.FinMap as map
 use Rattle.jb_handle.specs.Words.{is_copied, is_freed}
 use Rattle.jb_cost.proofs.Later.{next-is}

@@ -1,6 +1,6 @@
 use Rattle.std.proofs.Common.{arith}
-use Rattle.jb_cost.proofs.Spans.{counted-more, counted-best}
-use Rattle.jb_cost.proofs.Walking.{room-one}
+use Rattle.jb_cost.proofs.Leaping.{counted-more, counted-best}
+use Rattle.jb_cost.proofs.Searching.{room-one}
 use Rattle.jb_cost.proofs.shortcuts.Shortcuts.counted.Goals as goal
 
 pub plus-sum-requires-clause-copies : goal.plus-sum-requires-clause-copies

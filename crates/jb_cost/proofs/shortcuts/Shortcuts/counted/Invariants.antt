@@ -1,7 +1,7 @@
 use Rattle.std.proofs.Common.{◌^◌, ℕ, List, Option}
 use Rattle.jb_cost.specs.Starts.{BestStart}
 use Rattle.jb_cost.specs.Spans.{copies_until, FitOwned, FitPrices}
-use Rattle.jb_cost.proofs.Spans.{Counted}
+use Rattle.jb_cost.proofs.Leaping.{Counted}
 use Rattle.jb_cost.proofs.shortcuts.Shortcuts.counted.Given as goal
 
 abbrev pub invariant-loop-low : goal.invariant-loop-low

@@ -1,5 +1,4 @@
-use Rattle.std.proofs.Common.{◌≡◌, ◌<◌, ◌≤◌, ◌*◌, ◌+◌, ◌-◌, length, refl, ◌∙◌, sym, ap, subst, rules, arith}
-use Rattle.std.specs.Prelude.{IsOk}
+use Rattle.std.proofs.Common.{◌≡◌, ◌<◌, ◌≤◌, ◌*◌, ◌+◌, ◌-◌, length, refl, ◌∙◌, sym, ap, subst, rules, arith, IsOk}
 use borrow.Rule.Slice.PartMut.{put_mid}
 use Rattle.jb_disk.specs.Called.{Reads}
 use Rattle.jb_disk.specs.Image.{block, Same}

@@ -1,5 +1,4 @@
-use Rattle.std.proofs.Common.{◌+◌, set, refl, ◌∙◌, sym, ap, subst, arith}
-use Rattle.std.specs.Prelude.{IsOk}
+use Rattle.std.proofs.Common.{◌+◌, set, refl, ◌∙◌, sym, ap, subst, arith, IsOk}
 use Rattle.jb_disk.specs.Called.{Writes}
 use Rattle.jb_disk.specs.Image.{HasShape}
 use Rattle.jb_disk.specs.Runs.{part}

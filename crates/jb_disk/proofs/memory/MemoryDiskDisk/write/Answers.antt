@@ -1,6 +1,5 @@
-use Rattle.std.proofs.Common.{length, arith, sym, ◌∙◌, ap}
+use Rattle.std.proofs.Common.{length, arith, sym, ◌∙◌, ap, map, reverse}
 use Rattle.jb_disk.proofs.Buffers.{kept_count, kept_size, kept_buffer, kept_written}
-use Rattle.std.specs.Prelude.{map, reverse}
 use Rattle.jb_disk.specs.Calls.{history_step}
 use Rattle.jb_disk.proofs.Goings.{goes_refused}
 use Rattle.jb_disk.proofs.memory.MemoryDiskDisk.write.Goals as goal

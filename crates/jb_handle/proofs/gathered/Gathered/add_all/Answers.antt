@@ -1,6 +1,5 @@
-use Rattle.std.proofs.Common.{◌<◌, T, length, sym, ap, subst, ◌∙◌, arith}
+use Rattle.std.proofs.Common.{◌<◌, T, length, sym, ap, subst, ◌∙◌, arith, nat_cmp}
 use Rattle.std.specs.Option.{option_or}
-use Rattle.std.specs.Ordering.{nat_cmp}
 use Rattle.std.specs.FinMap as map
 use Rattle.jb_block.proofs.Refusals.{on-refusal}
 use Rattle.jb_handle.specs.Word.{WordMap}

@@ -1,6 +1,5 @@
-use Rattle.std.proofs.Common.{◌≡◌, ℕ, take}
+use Rattle.std.proofs.Common.{◌≡◌, ℕ, take, nat_cmp}
 use Rattle.std.specs.Option.{option_or}
-use Rattle.std.specs.Ordering.{nat_cmp}
 use Rattle.std.specs.FinMap as map
 use Rattle.jb_handle.proofs.gathered.Gathered.add_all.Given as goal
 

@@ -1,5 +1,4 @@
-use Rattle.std.proofs.Common.{sym, ap, ◌∙◌}
-use Rattle.std.specs.Ordering.{nat_cmp}
+use Rattle.std.proofs.Common.{sym, ap, ◌∙◌, nat_cmp}
 use Rattle.std.specs.FinMap as map
 use Rattle.jb_block.proofs.Refusals.{on-refusal}
 use Rattle.jb_handle.proofs.Listed.{put-words}

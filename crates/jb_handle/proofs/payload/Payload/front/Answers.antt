@@ -1,5 +1,4 @@
-use Rattle.std.proofs.Common.{◌≡◌, ap, ◌∙◌, sym, subst, ◌≤◌, ◌++◌, drop, take, replicate, length, min, ◌-◌, rules}
-use Rattle.std.specs.Vec.{vec_len}
+use Rattle.std.proofs.Common.{◌≡◌, ap, ◌∙◌, sym, subst, ◌≤◌, ◌++◌, drop, take, replicate, length, min, ◌-◌, rules, vec_len}
 use Rattle.jb_handle.proofs.Front.{take-padded, length-filled}
 use Rattle.jb_handle.proofs.payload.Payload.front.Goals as goal
 

@@ -1,5 +1,4 @@
-use Rattle.std.proofs.Common.{All, refl, ◌∙◌, sym, subst, arith, IsTrue}
-use Rattle.std.proofs.lemmas.List.{take_all}
+use Rattle.std.proofs.Common.{All, refl, ◌∙◌, sym, subst, arith, IsTrue, take_all}
 use Rattle.jb_handle.specs.Held.{FitsWord, Fits}
 use Rattle.jb_handle.proofs.Listed.{all-more, each-word, each-entry}
 use Rattle.jb_handle.proofs.words.Words.fit.Goals as goal

@@ -1,5 +1,4 @@
-use Rattle.std.proofs.Common.{◌≡◌, [], ap, All, rules, sym, ◌∙◌, subst, T}
-use Rattle.std.specs.Ordering.{nat_cmp}
+use Rattle.std.proofs.Common.{◌≡◌, [], ap, All, rules, sym, ◌∙◌, subst, T, nat_cmp}
 use Rattle.std.specs.FinMap as map
 use Rattle.std.proofs.lemmas.List.{nil_from_length}
 use Rattle.jb_handle.specs.Word.{EntryHasBytes}

@@ -1,5 +1,4 @@
-use Rattle.std.proofs.Common.{Some, sym, ap, ◌∙◌}
-use Rattle.std.specs.Ordering.{nat_cmp}
+use Rattle.std.proofs.Common.{Some, sym, ap, ◌∙◌, nat_cmp}
 use Rattle.std.specs.FinMap as map
 use Rattle.jb_handle.proofs.Rising.{find-stands, find-goes}
 use Rattle.jb_handle.specs.Placed.{StandsAt, GoesTo}

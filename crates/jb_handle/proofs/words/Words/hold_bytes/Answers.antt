@@ -1,5 +1,4 @@
-use Rattle.std.proofs.Common.{All, ap, subst, sym, ◌∙◌}
-use Rattle.std.specs.Ordering.{nat_cmp}
+use Rattle.std.proofs.Common.{All, ap, subst, sym, ◌∙◌, nat_cmp}
 use Rattle.std.specs.FinMap as map
 use Rattle.jb_handle.specs.Word.{EntryHasBytes}
 use Rattle.jb_handle.proofs.words.Words.hold_bytes.Goals as goal

@@ -1,5 +1,4 @@
-use Rattle.std.proofs.Common.{◌≡◌, [], rules, subst, sym, ap, ◌∙◌}
-use Rattle.std.specs.Ordering.{nat_cmp}
+use Rattle.std.proofs.Common.{◌≡◌, [], rules, subst, sym, ap, ◌∙◌, nat_cmp}
 use Rattle.std.specs.FinMap as map
 use Rattle.jb_handle.proofs.Listed.{no-words}
 use Rattle.jb_handle.specs.Word.{AreWords}

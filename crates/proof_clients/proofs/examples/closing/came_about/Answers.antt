@@ -1,5 +1,4 @@
-use Rattle.std.proofs.Common.{◌≡◌, arith}
-use Rattle.std.specs.List.{sum_by}
+use Rattle.std.proofs.Common.{◌≡◌, arith, sum_by}
 use Rattle.jb_board.specs.HistoryRule.{with_places}
 use Rattle.proof_clients.proofs.ExampleEnds.{at_first, one-first}
 use Rattle.proof_clients.proofs.ExampleIdle.{came-idle}
