@@ -1,5 +1,6 @@
 -- What is known between two calls of a book, and what the calls of its seats keep of it.
-use Rattle.std.proofs.Common.{◌≡◌, ℕ, ◌+◌, ◌-◌, ◌^◌, ◌<◌, ◌≤◌, List, [], ◌∷◌, ◌++◌, map, length, take, drop, le_refl, sym, refl, ap, subst, ◌∙◌, arith, inl, inr, Bool, true, false, Option, Some, None, Ok, Vec}
+use Rattle.std.proofs.Common.{◌≡◌, ℕ, ◌+◌, ◌-◌, ◌^◌, ◌<◌, ◌≤◌, List, [], ◌∷◌, ◌++◌, map, length, take, drop, le_refl, sym, refl, ap, subst, ◌∙◌, arith, inl, inr, Bool, true, false, Option, Some, None, Ok}
+use Rattle.std.specs.Global.{Vec}
 use Rattle.std.proofs.lemmas.List.{length-append, append_assoc, drop-append-le, take-append-le, length-drop}
 use Rattle.std.proofs.Math.Seq.{drop-append_seam, take-append_seam}
 use Rattle.std.proofs.lemmas.List.Elements.{All-nil}

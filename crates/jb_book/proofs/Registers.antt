@@ -1,5 +1,6 @@
 -- A book beside the history of its stops: each call keeps what is known of the two.
-use Rattle.std.proofs.Common.{◌≡◌, ℕ, ◌≤◌, Bool, true, false, List, [], ◌∷◌, ◌++◌, map, length, take, drop, sym, refl, ap, subst, ◌∙◌, Ok, Err, arith, ◌↔◌, IsTrue, All, Some, None, IfSome, IfNone, Option, Result, OnOk, OnErr, Vec}
+use Rattle.std.proofs.Common.{◌≡◌, ℕ, ◌≤◌, Bool, true, false, List, [], ◌∷◌, ◌++◌, map, length, take, drop, sym, refl, ap, subst, ◌∙◌, Ok, Err, arith, ◌↔◌, IsTrue, All, Some, None, IfSome, IfNone, Option, Result, OnOk, OnErr}
+use Rattle.std.specs.Global.{Vec}
 use Rattle.std.proofs.lemmas.List.{append-nil, map-append, length-append}
 use Rattle.std.proofs.lemmas.List.Elements.{All-nil, All-weaker}
 use Rattle.jb_handle.specs.declared.shape.Shape.{Shape}

@@ -1,5 +1,6 @@
 -- Entries that are taken from the trail of a journal since its desk was started.
-use Rattle.std.proofs.Common.{◌≡◌, ℕ, zero, suc, ◌+◌, ◌≤◌, List, [], ◌∷◌, ◌++◌, length, take, refl, ap, subst, arith, drop, All, Result, Ok, Err, IfOk, OnErr, sym, ◌∙◌, length-append, Vec}
+use Rattle.std.proofs.Common.{◌≡◌, ℕ, zero, suc, ◌+◌, ◌≤◌, List, [], ◌∷◌, ◌++◌, length, take, refl, ap, subst, arith, drop, All, Result, Ok, Err, IfOk, OnErr, sym, ◌∙◌, length-append}
+use Rattle.std.specs.Global.{Vec}
 use Rattle.std.proofs.Math.Seq.{drop-append_seam}
 use Rattle.std.proofs.lemmas.List.Elements.{All-drop, All-weaker}
 use Rattle.std.specs.declared.alloc.AllocError.{AllocError}

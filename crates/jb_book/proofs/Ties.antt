@@ -1,5 +1,6 @@
 -- What a book accepts, the machine accepts, and the account after it is tied again: batches, a failure, and all calls.
-use Rattle.std.proofs.Common.{◌≡◌, ℕ, ◌+◌, ◌-◌, true, false, not, nat_lt, ◌==◌, List, [], ◌∷◌, length, take, None, sym, refl, ap, subst, ◌∙◌, Ok, arith, Vec}
+use Rattle.std.proofs.Common.{◌≡◌, ℕ, ◌+◌, ◌-◌, true, false, not, nat_lt, ◌==◌, List, [], ◌∷◌, length, take, None, sym, refl, ap, subst, ◌∙◌, Ok, arith}
+use Rattle.std.specs.Global.{Vec}
 use Rattle.std.proofs.lemmas.Bool.Decides.{nat_tests}
 use Rattle.std.proofs.lemmas.List.Elements.{All-nil, All-drop}
 use Rattle.jb_handle.specs.declared.shape.Shape.{Shape}
