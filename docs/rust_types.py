@@ -137,25 +137,24 @@ def generics_of(head):
 
 
 def ghosts_of(source, at):
-    """Of a trait: the runs of lines with its ghosts and what is said of them, and the names of the ghosts."""
-    runs, names, said, end = [[]], [], [], source.lines.index("}", at)
+    """The ghosts of a trait by their names, each with its lines and what is said of it; of its laws, which begin with the values that they
+    speak of, the names alone."""
+    members, said, end = {}, [], source.lines.index("}", at)
     while at < end:
         at += 1
         line = source.lines[at]
-        found = re.match(r"    ghost (?!use\b)(\w+)", line)
+        found = re.match(r"    ghost (?!use\b)(\w+): \{ (\(?)", line)
         if line.startswith("    ///"):
             said.append(line)
         elif found:
-            names.append(found.group(1))
             start = at
             while not source.lines[at].endswith(";"):
                 at += 1
-            runs[-1] += [""] * bool(runs[-1]) + said + source.lines[start:at + 1]
+            members[found.group(1)] = [] if found.group(2) else said + source.lines[start:at + 1]
             said = []
         elif line.strip():
             said = []
-            runs += [[]] * bool(runs[-1])
-    return [run for run in runs if run], names
+    return members
 
 
 def above_of(head):
@@ -178,7 +177,7 @@ def bounding(source, generics, head, ghost):
             return kind, crate, name
         if kind == "type":
             source, at, _ = item(crate, name)
-            if ghost in ghosts_of(source, at)[1]:
+            if ghost in ghosts_of(source, at):
                 return kind, crate, name
             traits += types_in(above_of(source.lines[at]))
     return "named", "std", ghost
@@ -201,6 +200,16 @@ def free_words(source, at, text, bound, generics):
             yield Meant(name, rust_meant(source, head) if re.match("[A-Z]", head) else None)
 
 
+# the traits that were met
+TRAITS = []
+
+
+def show_ghosts(names):
+    """A page names the ghosts of traits that are called so, and no others."""
+    for trait in TRAITS:
+        trait.show(names)
+
+
 class Declared:
     """A type or a trait as a page prints it: its file, its line of meaning, what is said before its code, the code, and what its words
     stand for."""
@@ -211,6 +220,8 @@ class Declared:
         # of a type that is another one by name, or that clauses see as another value: that one
         self.stands_for = None
         self.constructors = []
+        # of a trait: its ghosts, by name
+        self.ghosts = {}
         self.head = source.lines[at].partition("{")[0].strip().rstrip(";")
         self.generics = generics_of(source.lines[at])
         value = declared_in(source.crate)[1].get(name)
@@ -225,13 +236,32 @@ class Declared:
             self.of_code()
 
     def of_trait(self):
-        runs, names = ghosts_of(self.source, self.at)
-        has_calls = re.search(r"^    fn ", "\n".join(self.source.lines[self.at:self.source.lines.index("}", self.at)]), re.M)
-        self.note = "What clauses may name of `%s`.%s" % (self.head, " Its calls, with their clauses, are in the file." if has_calls else "")
-        self.blocks = runs
+        self.all_ghosts = ghosts_of(self.source, self.at)
+        self.ghosts = {name: lines for name, lines in self.all_ghosts.items() if lines}
+        self.note = "What the page names of `%s`. Its calls and laws are in the file." % self.head
+        TRAITS.append(self)
+        self.show(())
+
+    def show(self, names):
+        """Of a trait: a page names these ghosts, or others that these name."""
+        shown = [name for name in self.ghosts if name in names]
+        bound = {"Self", *self.all_ghosts, *self.generics}
+        while True:
+            text = "\n".join(line for name in shown for line in self.ghosts[name])
+            named = [name for name in self.ghosts if name in shown or re.search(r"(?<![\w.'])%s(?![\w'])" % name, re.sub(r"//.*", "", text))]
+            if named == shown:
+                break
+            shown = named
+        self.shown = shown
+        self.blocks = [[]]
+        for name, lines in self.all_ghosts.items():
+            if name in shown:
+                self.blocks[-1] += [""] * bool(self.blocks[-1]) + lines
+            elif self.blocks[-1]:
+                self.blocks.append([])
+        self.blocks = [run for run in self.blocks if run]
         self.meant = [Meant(path, bound_meant(self.source, path)) for path in types_in(above_of(self.head))]
-        for run in runs:
-            self.read_ghosts(self.source, self.at + 1, "\n".join(run), {"Self", *names, *self.generics}, {})
+        self.read_ghosts(self.source, self.at + 1, text, bound, {})
 
     def of_value(self, source, at):
         end = at

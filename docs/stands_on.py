@@ -20,9 +20,14 @@ class Word:
         return self.definition is not None or self.crate is not None
 
 
-@functools.lru_cache(maxsize=None)
 def words_of(node):
     """The words of a definition, in order."""
+    return [Word(one) for one in node.meant] if isinstance(node, Declared) and node.ghosts else words_written(node)
+
+
+@functools.lru_cache(maxsize=None)
+def words_written(node):
+    """The words of a definition that has the same ones on each page."""
     if isinstance(node, Declared):
         return [Word(one) for one in node.meant]
     spec = spec_file(node.path)
