@@ -1,7 +1,7 @@
 """What a clause or a definition stands on: the definitions of its words, in an order in which each comes after those that it uses."""
 import functools
 
-from rust_types import Declared, bare, declared
+from declared_types import Declared, bare, declared
 from specs import meant, spec_file
 
 
