@@ -1,5 +1,5 @@
 -- When numbers make an image, and what its making does to its file.
-use Rattle.std.specs.Prelude.{◌≡◌, ◌+◌, ◌*◌, ◌^◌, ◌<◌, ◌≤◌, ℕ, List, Result, Ok, Err, OnOk, set}
+use Rattle.std.specs.Prelude.{◌≡◌, ◌+◌, ◌*◌, ◌^◌, ◌<◌, ◌≤◌, ℕ, false, List, Result, Ok, Err, OnOk, set}
 use Rattle.jb_block.specs.Size.{bytes_of}
 use Rattle.jb_block.specs.Width.{is_wide}
 use Rattle.jb_disk.specs.File.{IsMeasured, count_of, size_of_blocks}
@@ -15,11 +15,12 @@ use Rattle.jb_format.specs.declared.fault.FormatFault.{FormatFault}
 use Rattle.jb_format.specs.declared.fault.FormatFault.TheVariants.{DeviceFault}
 use Rattle.jb_image.specs.declared.geometry.Geometry.{Geometry}
 
--- the journal has as many blocks as one may have, and the image a length that a file may have
+-- the journal has as many blocks as one may have, the image a length that a file may have, and each home block a number of the journal's width
 pub record MakesImage (g : Geometry) : Type 0 where
   pub least : 9 ≤ g.journal
   pub most : g.journal < 2 ^ 31
   pub len : (g.journal + g.homes) * bytes_of g.block_size < 2 ^ 63
+  pub numbers : is_wide g.width ≡ false → g.homes ≤ 2 ^ 32
 
 -- block 0 of the journal that is asked for, in blocks of this size
 abbrev pub block_made : ℕ → Geometry → List ℕ

@@ -70,8 +70,8 @@ impl From<AllocError> for ImageFault {
 /// Why an image was not made.
 #[derive(Clone, Copy, Debug, PartialEq, Eq, Error)]
 pub enum MakeFault {
-    /// A journal may not have so many blocks, or a file so many bytes.
-    #[error("the numbers make no journal, or more bytes than a file may have")]
+    /// A journal may not have so many blocks, a file so many bytes, or a journal of the width so many home blocks.
+    #[error("the numbers make no journal, too long a file, or home blocks without a number")]
     Geometry,
     /// There is a file of this name.
     #[error("there is a file of this name already")]

@@ -1,6 +1,7 @@
 //! How many blocks an image has, and which.
-ghost use Rattle.std.specs.Prelude.{◌≡◌, ◌+◌, ◌*◌, ◌↔◌, replicate, IfSome, IsSome};
+ghost use Rattle.std.specs.Prelude.{◌≡◌, ◌+◌, ◌*◌, ◌^◌, ◌≤◌, ◌↔◌, false, replicate, IfSome, IsSome, IsTrue};
 ghost use Rattle.jb_block.specs.Size.{bytes_of};
+ghost use Rattle.jb_block.specs.Width.{is_wide};
 ghost use Rattle.jb_block.specs.declared.width.Width.TheVariants.{Narrow};
 ghost use Rattle.jb_image.specs.Making.{MakesImage};
 
@@ -18,7 +19,7 @@ pub struct Geometry {
     pub block_size: BlockSize,
     /// How many blocks the journal has, from 9 to 2^31 - 1; the first is its superblock.
     pub journal: u32,
-    /// How many home blocks there are.
+    /// How many home blocks there are, at most 2^32 where the width is `Narrow`.
     pub homes: u64,
     /// The most log blocks of a transaction, 0 for a quarter of the log.
     pub max_transaction: u32,
@@ -51,13 +52,14 @@ impl Geometry {
         }
     }
 
-    /// How many bytes the image has; `None` where a journal may not have so many blocks, or a file so many bytes.
+    /// How many bytes the image has; `None` where a journal may not have so many blocks, a file so many bytes, or the
+    /// last home blocks would have no number.
     pub(crate) fn len(&self) -> Option<u64>
         ensures good { IsSome result ↔ MakesImage self.now }
         ensures value { IfSome result (λ len. len ≡
             (self.now.journal + self.now.homes) * bytes_of self.now.block_size) }
     {
-        if self.journal < LEAST || self.journal > MOST {
+        if self.journal < LEAST || self.journal > MOST || !self.has_numbers() {
             return None;
         }
         let blocks = u128::from(self.journal) + u128::from(self.homes);
@@ -66,6 +68,15 @@ impl Geometry {
             Some(len as u64)
         } else {
             None
+        }
+    }
+    /// Whether block numbers of its width name each home block.
+    fn has_numbers(&self) -> bool
+        ensures { IsTrue result ↔ (is_wide self.now.width ≡ false → self.now.homes ≤ 2 ^ 32) }
+    {
+        match self.width {
+            Width::Narrow => self.homes <= 1 << 32,
+            Width::Wide => true,
         }
     }
 }

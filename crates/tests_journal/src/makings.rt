@@ -7,8 +7,8 @@ use std::fs;
 use std::fs::File;
 use tests_support::{Must, check, check_at};
 
-/// The blocks of a journal and the homes that make no image.
-static UNMADE: [(u32, u64); 2] = [(8, 16), (33, u64::MAX)];
+/// The blocks of a journal and the homes that make no image; of the last, a home would have no number of 32 bits.
+static UNMADE: [(u32, u64); 3] = [(8, 16), (33, u64::MAX), (33, (1 << 32) + 1)];
 
 /// Checks that numbers that make no image are refused, and that one that is too large for the file system leaves
 /// nothing.
