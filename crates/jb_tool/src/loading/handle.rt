@@ -26,9 +26,10 @@ pub(crate) fn run_handle<'a, D: Disk, C: Clock, R: Wait + time::Clock, H: Origin
 {
     // more than these are too many in any journal
     let credits = u32::try_from(words.len()).unwrap_or(u32::MAX);
-    let changed = client.change(credits, |handle: &mut Handle<()>| -> Result<(), TouchFault> {
-        put_words(handle, words)
-    });
+    let changed = client.change(
+        credits,
+        |handle: &mut Handle<()>| -> Result<(), TouchFault> { put_words(handle, words) },
+    );
     match changed {
         Ok((_, ticket)) => Ok(ticket),
         Err(fault) => Err(HandleFault::from(fault)),

@@ -53,7 +53,9 @@ pub fn load_on<
     }
     let run = run_options(options);
     let loader = Loader { alloc, queue };
-    let ran = run_on::<Option<Refused>, Loader<'_>, D, C, R, H>(rt, alloc, disk, clock, run, &loader);
+    let ran = run_on::<Option<Refused>, Loader<'_>, D, C, R, H>(
+        rt, alloc, disk, clock, run, &loader,
+    );
     match ran {
         Ok(ran) => count_up(queue.len() as u64, ran),
         Err(fault) => Err(fault_of(fault)),

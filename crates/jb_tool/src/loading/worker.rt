@@ -17,6 +17,7 @@ use std::time;
 
 /// Workers that run the handles of a queue. The one at the place k of T runs the handles k, k + T, k + 2T and so on,
 /// up to the first that is refused, and answers that one.
+#[derive(Drop)]
 pub(crate) struct Loader<'q> {
     /// For the words of a handle, which are read when it is run.
     pub alloc: Global,
