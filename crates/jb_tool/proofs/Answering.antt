@@ -1,5 +1,5 @@
 -- What a load answers, by what the run of its journal answers.
-use Rattle.std.proofs.Common.{◌≡◌, ℕ, List, length, Result, Ok, Err, Option, IfOk, IfErr, subst, sym, tt}
+use Rattle.std.proofs.Common.{◌≡◌, ℕ, Bool, List, length, Result, Ok, Err, Option, IfOk, IfErr, subst, sym}
 use Rattle.jb_block.specs.Size.{bytes_of}
 use Rattle.jb_block.specs.declared.size.BlockSize.{BlockSize}
 use Rattle.jb_deck.specs.Done.{Follow}
@@ -7,7 +7,7 @@ use Rattle.jb_disk.specs.declared.disk.Disk.{Ghosts}
 use Rattle.jb_handle.specs.declared.stopped.Stopped.{Stopped}
 use Rattle.jb_book.specs.Origin.{Begun}
 use Rattle.jb_journal.specs.Refusing.{RefusesRun}
-use Rattle.jb_journal.specs.Running.{EndsRun, RanOn}
+use Rattle.jb_journal.specs.Running.{EndsRun, RanAll, RanOn}
 use Rattle.jb_journal.specs.declared.fault.RunFault.{RunFault}
 use Rattle.jb_journal.specs.declared.fault.RunFault.TheVariants.{Open, Memory, NoThread, Accounts}
 use Rattle.jb_journal.specs.declared.ran.Ran.{Ran}
@@ -29,9 +29,24 @@ module _ {D : Type 0} (G : Ghosts D) (b : Begun) (disk : D) (bs : BlockSize) (qu
   answers-fault Accounts opened = (same, opened)
 
   -- it was run, and counted up
-  pub answers-run : (ran : Ran (Option Refused) D) → RanOn G disk b (λ shape sure workers at stops known refused. IsRun shape queue workers at stops refused) options.threads ran → EndsRun options.checkpoint ran
-      → (r : Result (Loaded × D) LoadFault) → IfOk r (λ told. CountsRun (length queue) ran told.0) → IfOk r (λ told. told.1 ≡ ran.disk) → IfOk r (λ told. Follow 0 0 ran.settled ran.trail.items)
-      → IfErr r (λ fault. fault ≡ load.Accounts) → AnswersLoad G b disk bs queue options r
-  answers-run ran on ends (Ok told) counts back follows none =
-      (same, (on.shape, on.opened, record { ran = ran; all = on.all; ends = ends; follows = follows; same_disk = sym back; counts = counts }))
-  answers-run ran on ends (Err fault) none back follows is = subst (λ (x : LoadFault). AnswersLoad G b disk bs queue options (Err x)) (sym is) (same, (on.shape, on.opened))
+  pub answers-run : (ran : Ran (Option Refused) D) (workers : ℕ) → workers ≡ options.threads → (checkpoint : Bool) → checkpoint ≡ options.checkpoint
+      → RanOn G disk b (λ shape sure workers at stops known refused. IsRun shape queue workers at stops refused) workers ran → EndsRun checkpoint ran
+      → (queued : ℕ) → queued ≡ length queue → (r : Result (Loaded × D) LoadFault) → IfOk r (λ told. CountsRun queued ran told.0) → IfOk r (λ told. told.1 ≡ ran.disk)
+      → IfOk r (λ told. Follow 0 0 ran.settled ran.trail.items) → IfErr r (λ fault. fault ≡ load.Accounts) → AnswersLoad G b disk bs queue options r
+  answers-run ran workers threads checkpoint asked on ends queued many (Ok told) counts back follows none = (
+    same,
+    (
+      on.shape,
+      on.opened,
+      record {
+        ran = ran;
+        all = subst (λ n. RanAll G b (λ sure workers at stops known refused. IsRun on.shape queue workers at stops refused) n on.shape ran) threads on.all;
+        ends = subst (λ c. EndsRun c ran) asked ends;
+        follows = follows;
+        same_disk = sym back;
+        counts = subst (λ n. CountsRun n ran told.0) many counts;
+      },
+    ),
+  )
+  answers-run ran workers threads checkpoint asked on ends queued many (Err fault) none back follows is =
+      subst (λ (x : LoadFault). AnswersLoad G b disk bs queue options (Err x)) (sym is) (same, (on.shape, on.opened))

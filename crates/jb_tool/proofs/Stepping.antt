@@ -1,12 +1,11 @@
 -- One handle more of a worker.
-use Rattle.std.proofs.Common.{◌≡◌, ℕ, suc, ◌+◌, ◌*◌, ◌<◌, ◌≤◌, List, [], ◌∷◌, ◌++◌, length, get_or, Some, None, sym, ap, subst, ◌∙◌, arith}
-use Rattle.std.specs.FinMap as map
+use Rattle.std.proofs.Common.{◌≡◌, ℕ, suc, ◌+◌, ◌*◌, ◌<◌, ◌≤◌, List, [], ◌∷◌, ◌++◌, length, Some, None, Ok, Err, sym, ap, subst, ◌∙◌, arith}
 use Rattle.std.proofs.Math.Nat.{mul-suc}
-use Rattle.std.proofs.lemmas.List.{length-append, get_or_default}
+use Rattle.std.proofs.lemmas.List.{length-append}
 use Rattle.jb_handle.specs.declared.shape.Shape.{Shape}
 use Rattle.jb_handle.specs.declared.stopped.Stopped.{Stopped}
 use Rattle.jb_journal.specs.Notes.{Stop}
-use Rattle.jb_tool.specs.Runs.{IsRun, StepsBy, queued_at}
+use Rattle.jb_tool.specs.Runs.{IsRun, RunsAt, StepsBy, queued_at}
 use Rattle.jb_tool.specs.Refusing.{IsRefusedFor}
 use Rattle.jb_tool.specs.declared.loading.fault.HandleFault.{HandleFault}
 
@@ -34,24 +33,26 @@ pub record Stepped (queue : List Stopped) (step at next : ℕ) (ss : List Stop) 
 pub stepped-none : (queue : List Stopped) (step at : ℕ) (ss : List Stop) → ss ≡ [] → Stepped queue step at at ss
 stepped-none queue step at ss none = subst (Stepped queue step at at) (sym none) (record { place = (let z = mul-suc step 0 in omega (arith, z)); steps = tt })
 
-pub stepped-more : (queue : List Stopped) (step at next : ℕ) (ss ts : List Stop) (s : Stop) (h : Stopped) → s.1 ≡ (get_or queue next h).words → next < length queue → ts ≡ ss ++ s ∷ [] → Stepped queue step at next ss → Stepped queue step at (next + step) ts
-stepped-more queue step at next ss ts s h is there more so_far =
-    let here : get_or queue next h ≡ queued_at queue next = get_or_default queue next h (record { ticket = 0; words = map.empty }) there in
-    subst (Stepped queue step at (next + step)) (sym more) (
-    record {
-      place = omega (arith, so_far.place, place-more step at ss s);
-      steps = steps-more queue step at ss s so_far.steps (omega (arith, there, so_far.place)) (is ∙ ap (λ (x : Stopped). x.words) here ∙ ap (λ n. (queued_at queue n).words) so_far.place);
-    })
-
 module _ (shape : Shape) (queue : List Stopped) (step at next : ℕ) (ss : List Stop) (stepped : Stepped queue step at next ss) where
   -- no handle is left
   pub ran-all : length queue ≤ next → IsRun shape queue step at ss None
   ran-all none = record { steps = stepped.steps; ends = omega (arith, stepped.place, none); why = tt }
 
-  -- the next handle was refused
-  pub ran-until : (h : Stopped) (fault : HandleFault) → next < length queue → IsRefusedFor shape (get_or queue next h).words fault → IsRun shape queue step at ss (Some (record { handle = next; fault = fault }))
-  ran-until h fault there why = record {
-    steps = stepped.steps;
-    ends = (stepped.place, omega (arith, stepped.place, there));
-    why = subst (λ (x : Stopped). IsRefusedFor shape x.words fault) (sym (get_or_default queue next (record { ticket = 0; words = map.empty }) h there)) why;
-  }
+  module _ (there : next < length queue) (n : ℕ) (is : n ≡ next) (ts : List Stop) where
+    -- the next handle stopped
+    pub stepped-more : (ticket : ℕ) → RunsAt shape queue n ss ts (Ok ticket) → Stepped queue step at (next + step) ts
+    stepped-more ticket more =
+        let s : Stop = (ticket, (queued_at queue n).words) in
+        subst (Stepped queue step at (next + step)) (sym more) (
+        record {
+          place = omega (arith, stepped.place, place-more step at ss s);
+          steps = steps-more queue step at ss s stepped.steps (omega (arith, there, stepped.place)) (ap (λ k. (queued_at queue k).words) (is ∙ stepped.place));
+        })
+
+    -- the next handle was refused
+    pub ran-until : (fault : HandleFault) → RunsAt shape queue n ss ts (Err fault) → IsRun shape queue step at ts (Some (record { handle = next; fault = fault }))
+    ran-until fault refused = record {
+      steps = subst (StepsBy queue step at) (sym refused.0) stepped.steps;
+      ends = (subst (λ (x : List Stop). next ≡ at + step * length x) (sym refused.0) stepped.place, omega (arith, stepped.place, there, ap (λ (x : List Stop). step * length x) refused.0));
+      why = subst (λ k. IsRefusedFor shape (queued_at queue k).words fault) is refused.1;
+    }

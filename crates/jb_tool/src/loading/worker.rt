@@ -38,7 +38,7 @@ impl Worker<Option<Refused>> for Loader<'_> {
         requires client { IsClient H.begun client.old }
         requires fresh { client_stops client.old ≡ [] }
         requires workers { (1 ≤ workers) × (workers ≤ 64) }
-        ensures answers { IsRun (shape_of client.new) (handles_of self.now.queue.now) workers at
+        ensures answers { IsRun (shape_of client.old) (handles_of self.now.queue.now) workers at
             (client_stops client.new) result }
     {
         let mut reader = self.queue.reader();

@@ -1,4 +1,4 @@
-use Rattle.std.proofs.Common.{None, sym, ap, ◌∙◌}
+use Rattle.std.proofs.Common.{None, get_or, take, sym, ap, ◌∙◌}
 use Rattle.std.proofs.lemmas.List.{take_more}
 use Rattle.jb_tool.specs.Gathering.{earlier_refused, first_after}
 use Rattle.jb_tool.proofs.Adding.{first-more}
@@ -6,6 +6,7 @@ use Rattle.jb_tool.proofs.loading.counting.first_of.Goals as goal
 
 pub loop-refused-preserved : goal.loop-refused-preserved
 loop-refused-preserved c =
-    ap (λ r. earlier_refused r c.loop-refused-item.result) c.loop-refused.invariant
-    ∙ sym (first-more None _ c.loop-refused-item.result)
-    ∙ ap (first_after None) (take_more c.args.answers.now c.loop-refused.refused-index None c.loop-refused-test.true)
+    let i = c.loop-refused.refused-index in
+    let answers = c.args.answers.now in
+    c.earlier-first.ensures ∙ ap (λ r. earlier_refused r (get_or answers i None)) c.loop-refused.invariant
+    ∙ sym (first-more None (take i answers) (get_or answers i None)) ∙ ap (first_after None) (sym (take_more answers i None c.loop-refused-test.true))
