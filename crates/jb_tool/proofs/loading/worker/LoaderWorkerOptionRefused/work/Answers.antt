@@ -1,4 +1,4 @@
-use Rattle.std.proofs.Common.{◌≡◌, ◌+◌, ◌<◌, Err, Some, length, subst, ◌∙◌, arith}
+use Rattle.std.proofs.Common.{◌+◌, ◌<◌, Some, length, subst, ◌∙◌, arith}
 use Rattle.jb_journal.specs.Client.{client_stops, shape_of}
 use Rattle.jb_queue.specs.QueueLines.{handles_of}
 use Rattle.jb_tool.proofs.Stepping.{ran-until, stepped-more}
