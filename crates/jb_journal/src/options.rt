@@ -12,17 +12,17 @@ pub enum Commits {
     /// make these threads, no worker is called, and the answer is `NoThread`.
     Meanwhile,
     /// The same where the system makes the threads. Otherwise the workers run one after the other, and what they
-    /// stopped is committed after them: a worker that waits for a commit may wait for ever.
+    /// stopped is committed after them. For workers that wait for no commit: one that does may wait for ever.
     MeanwhileOrAfter,
-    /// Once all workers have ended: a worker that waits for a commit does so for ever, and a handle that the log has no
-    /// room for is refused.
+    /// Once all workers have ended, with threads or without. For workers that wait for no commit: one that does waits
+    /// for ever. A handle that finds no room in the log is refused (`Full`).
     After,
 }
 
 /// How a journal is run.
 #[derive(Clone, Copy, Debug, PartialEq, Eq)]
 pub struct Options {
-    /// How many workers there are, a thread each, from 1 to 64.
+    /// How many workers there are, from 1 to 64.
     pub workers: usize,
     /// Whether committed transactions are written home meanwhile (`jbd2_log_do_checkpoint`). Otherwise a commit writes
     /// the oldest ones home where it needs their room, and the last ones are left to recovery.

@@ -1,5 +1,4 @@
 ghost use Rattle.std.specs.Prelude.{◌≡◌, ◌≤◌, ℕ, List, []};
-ghost use Rattle.jb_handle.specs.Word.{WordMap};
 ghost use Rattle.jb_handle.specs.declared.shape.Shape.{Shape};
 
 use crate::client::Client;
@@ -9,17 +8,18 @@ use std::sync::Wait;
 use std::sync::ledger::Ledger;
 use std::time;
 
-/// What each thread does with the journal. It is shared by all workers, and answers a `T` each.
+/// What each worker does with the journal. It is shared by all of them, and answers a `T` each.
 pub trait Worker<T> {
     ghost use Rattle.jb_book.specs.Origin.{Begun};
     ghost use Rattle.jb_journal.specs.Client.{IsClient, client_honest, client_known, client_stops, shape_of};
-    ghost use Rattle.jb_journal.specs.Notes.{Known};
+    ghost use Rattle.jb_journal.specs.Notes.{Known, Stop};
 
     /// What a worker may answer: where the journal began so, its handles have to fit this, and what a read's content
     /// rests on is this (that the disk was honest at all that the client has seen), of so many workers, at this place,
     /// whose client has stopped these handles, each with its ticket and its words, and knows this of the journal.
     /// Anything, where a worker does not say.
-    ghost answers: { Self → Begun → Shape → Type 0 → ℕ → ℕ → List (ℕ × WordMap) → Known → T → Type 0 } = { λ _ _ _ _ _ _ _ _ _. Unit {0} };
+    ghost answers: { Self → Begun → Shape → Type 0 → ℕ → ℕ → List Stop → Known → T → Type 0 } = { λ _ _ _ _ _ _ _ _ _.
+        Unit {0} };
 
     /// Works with the journal through a client of its own, as the worker at the place `at` of so many.
     fn work<'a, D: Disk, C: Clock, R: Wait + time::Clock, H: Origin, N: Ledger>(

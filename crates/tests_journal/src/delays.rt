@@ -5,8 +5,8 @@ ghost use Rattle.jb_journal.specs.Client.{IsClient};
 use crate::checks::{By, Host};
 use crate::journals::{CLOCK, by, formatted};
 use jb_journal::{
-    BlockSize, Client, Clock, Commits, Delay, Disk, Handle, JournalFault, Origin, Ran, TouchFault, Worker,
-    run,
+    BlockSize, Client, Clock, Commits, Delay, Disk, Handle, JournalFault, Origin, Ran, TouchFault,
+    Worker, run,
 };
 use std::sync::Wait;
 use std::sync::ledger::Ledger;
