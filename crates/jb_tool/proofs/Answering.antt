@@ -7,7 +7,7 @@ use Rattle.jb_disk.specs.declared.disk.Disk.{Ghosts}
 use Rattle.jb_handle.specs.declared.stopped.Stopped.{Stopped}
 use Rattle.jb_book.specs.Origin.{Begun}
 use Rattle.jb_journal.specs.Refusing.{RefusesRun}
-use Rattle.jb_journal.specs.Running.{EndsRun, RanAll, RanOn}
+use Rattle.jb_journal.specs.Running.{EndsRun, RanOn}
 use Rattle.jb_journal.specs.declared.fault.RunFault.{RunFault}
 use Rattle.jb_journal.specs.declared.fault.RunFault.TheVariants.{Open, Memory, NoThread, Accounts}
 use Rattle.jb_journal.specs.declared.ran.Ran.{Ran}
@@ -35,18 +35,14 @@ module _ {D : Type 0} (G : Ghosts D) (b : Begun) (disk : D) (bs : BlockSize) (qu
       → IfOk r (λ told. Follow 0 0 ran.settled ran.trail.items) → IfErr r (λ fault. fault ≡ load.Accounts) → AnswersLoad G b disk bs queue options r
   answers-run ran workers threads checkpoint asked on ends queued many (Ok told) counts back follows none = (
     same,
-    (
-      on.shape,
-      on.opened,
-      record {
-        ran = ran;
-        all = subst (λ n. RanAll G b (λ sure workers at stops known refused. IsRun on.shape queue workers at stops refused) n on.shape ran) threads on.all;
-        ends = subst (λ c. EndsRun c ran) asked ends;
-        follows = follows;
-        same_disk = sym back;
-        counts = subst (λ n. CountsRun n ran told.0) many counts;
-      },
-    ),
+    record {
+      ran = ran;
+      on = subst (λ n. RanOn G disk b (λ shape sure workers at stops known refused. IsRun shape queue workers at stops refused) n ran) threads on;
+      ends = subst (λ c. EndsRun c ran) asked ends;
+      follows = follows;
+      same_disk = sym back;
+      counts = subst (λ n. CountsRun n ran told.0) many counts;
+    },
   )
   answers-run ran workers threads checkpoint asked on ends queued many (Err fault) none back follows is =
       subst (λ (x : LoadFault). AnswersLoad G b disk bs queue options (Err x)) (sym is) (same, (on.shape, on.opened))

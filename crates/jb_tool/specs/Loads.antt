@@ -9,7 +9,7 @@ use Rattle.jb_handle.specs.declared.stopped.Stopped.{Stopped}
 use Rattle.jb_deck.specs.Done.{Follow}
 use Rattle.jb_book.specs.Opened.{NotOpened, WasOpened}
 use Rattle.jb_book.specs.Origin.{Begun}
-use Rattle.jb_journal.specs.Running.{EndsRun, RanAll}
+use Rattle.jb_journal.specs.Running.{EndsRun, RanOn}
 use Rattle.jb_journal.specs.declared.ran.Ran.{Ran}
 use Rattle.jb_tool.specs.Gathering.{first_refused}
 use Rattle.jb_tool.specs.Runs.{IsRun}
@@ -33,22 +33,21 @@ pub record CountsRun {D : Type 0} (queued : ℕ) (ran : Ran (Option Refused) D) 
   pub checkpoint : loaded.checkpoint ≡ ran.checkpoint
 
 module _ {D : Type 0} (G : Ghosts D) (b : Begun) where
-  -- A journal of this shape was run with the handles of the queue, and has left this disk: each worker has answered the first of its handles that was refused, and has stopped
-  -- those before it. No entry was taken from the trail, and the counts are those of the run
-  pub record LoadedSince (shape : Shape) (queue : List Stopped) (options : LoadOptions) (loaded : Loaded) (disk : D) : Type 0 where
+  -- The journal on the disk of before was opened, it was run with the handles of the queue, and has left this disk: each worker has answered the first of its handles that was
+  -- refused, and has stopped those before it. No entry was taken from the trail, and the counts are those of the run
+  pub record LoadedSince (before : D) (queue : List Stopped) (options : LoadOptions) (loaded : Loaded) (disk : D) : Type 0 where
     pub ran : Ran (Option Refused) D
-    pub all : RanAll G b (λ sure workers at stops known refused. IsRun shape queue workers at stops refused) options.threads shape ran
+    pub on : RanOn G before b (λ shape sure workers at stops known refused. IsRun shape queue workers at stops refused) options.threads ran
     pub ends : EndsRun options.checkpoint ran
     pub follows : Follow 0 0 ran.settled ran.trail.items
     pub same_disk : ran.disk ≡ disk
     pub counts : CountsRun (length queue) ran loaded
 
   -- What a load answers to a queue of blocks of this size. Only where the size is not the disk's does it answer so. Where the journal was not opened, some disk that this one has
-  -- become is lost. Where it was loaded, the handles had to fit the shape of the journal that was opened
+  -- become is lost
   abbrev pub AnswersLoad : D → BlockSize → List Stopped → LoadOptions → Result (Loaded × D) LoadFault → Type 0
   AnswersLoad disk bs queue options (Err fault.BlockSize) = bytes_of bs ≢ G.size disk
   AnswersLoad disk bs queue options (Err (fault.Open why)) = (bytes_of bs ≡ G.size disk) × ((after : D) × NotOpened G disk after why)
   AnswersLoad disk bs queue options (Err fault.Memory) = (bytes_of bs ≡ G.size disk) × ((shape : Shape) × WasOpened G disk shape)
   AnswersLoad disk bs queue options (Err fault.Accounts) = (bytes_of bs ≡ G.size disk) × ((shape : Shape) × WasOpened G disk shape)
-  AnswersLoad disk bs queue options (Ok ended) =
-      (bytes_of bs ≡ G.size disk) × ((shape : Shape) × WasOpened G disk shape × LoadedSince shape queue options ended.0 ended.1)
+  AnswersLoad disk bs queue options (Ok ended) = (bytes_of bs ≡ G.size disk) × LoadedSince disk queue options ended.0 ended.1
