@@ -4,7 +4,7 @@ use Rattle.std.proofs.lemmas.List.Elements.{All-push}
 use Rattle.jb_journal.specs.Client.{one_block}
 use Rattle.jb_journal.specs.Names.{Ghosts}
 use Rattle.jb_journal.specs.Notes.{Note, AreInNotes, IsInNotes, Known, KnowsMore, Stop}
-use Rattle.jb_journal.specs.Running.{RanAll}
+use Rattle.jb_journal.specs.Running.{RanOn}
 use Rattle.jb_journal.specs.Starting.{started_on}
 use Rattle.jb_journal.specs.declared.ran.Ran.{Ran}
 use Rattle.jb_journal.proofs.Noting.{noted-on}
@@ -53,16 +53,16 @@ only-one (x ∷ []) is = (x, refl)
 only-one (x ∷ y ∷ xs) is = absurd (omega (arith, is))
 
 module _ {D : Type 0} (G : Ghosts D) (disk : D) (ran : Ran (Result (Unit {0}) Failed) D) where
-  abbrev All-of : Type 0
-  All-of = RanAll G (started_on G disk) (λ sure workers at stops known answer. Acknowledges stops known.notes answer) 1 ran
+  abbrev On-of : Type 0
+  On-of = RanOn G disk (started_on G disk) (λ shape sure workers at stops known answer. Acknowledges stops known.notes answer) 1 ran
 
   abbrev Kept : Type 0
   Kept = Keeps G disk ran
 
-  kept-as : (all : All-of) (answer : Result (Unit {0}) Failed) → ran.answers.items ≡ answer ∷ [] → (stops : List Stop) → all.stopped ≡ stops ∷ [] → (knew : Known) → all.known ≡ knew ∷ []
+  kept-as : (on : On-of) (answer : Result (Unit {0}) Failed) → ran.answers.items ≡ answer ∷ [] → (stops : List Stop) → on.all.stopped ≡ stops ∷ [] → (knew : Known) → on.all.known ≡ knew ∷ []
       → (first last : List Stop) → stops ≡ first ++ last → IsLast answer last → AreInNotes knew.notes first → Kept
-  kept-as all answer answered stops stopped knew known first last are few noted = record {
-    all = all;
+  kept-as on answer answered stops stopped knew known first last are few noted = record {
+    on = on;
     answer = answer;
     answered = answered;
     stops = stops;
@@ -73,24 +73,25 @@ module _ {D : Type 0} (G : Ghosts D) (disk : D) (ran : Ran (Result (Unit {0}) Fa
     last = last;
     are = are;
     few = few;
-    stay = all-stay G _ _ 1 ran all 0 0 stops knew (ap (λ l. slice_get l 0) stopped) (ap (λ l. slice_get l 0) known) first last are noted;
+    stay = all-stay G _ _ 1 on.shape ran on.all 0 0 stops knew (ap (λ l. slice_get l 0) stopped) (ap (λ l. slice_get l 0) known) first last are noted;
   }
 
-  kept-by : (all : All-of) (answer : Result (Unit {0}) Failed) → ran.answers.items ≡ answer ∷ [] → (stops : List Stop) → all.stopped ≡ stops ∷ [] → (knew : Known) → all.known ≡ knew ∷ []
+  kept-by : (on : On-of) (answer : Result (Unit {0}) Failed) → ran.answers.items ≡ answer ∷ [] → (stops : List Stop) → on.all.stopped ≡ stops ∷ [] → (knew : Known) → on.all.known ≡ knew ∷ []
       → Acknowledges stops knew.notes answer → Kept
-  kept-by all (Ok unit) answered stops stopped knew known each = kept-as all (Ok unit) answered stops stopped knew known stops [] (sym (append-nil stops)) refl each
-  kept-by all (Err failed) answered stops stopped knew known each = kept-as all (Err failed) answered stops stopped knew known each.acknowledged each.last each.are each.one each.noted
+  kept-by on (Ok unit) answered stops stopped knew known each = kept-as on (Ok unit) answered stops stopped knew known stops [] (sym (append-nil stops)) refl each
+  kept-by on (Err failed) answered stops stopped knew known each = kept-as on (Err failed) answered stops stopped knew known each.acknowledged each.last each.are each.one each.noted
 
-  pub keeps : All-of → Kept
-  keeps all =
+  pub keeps : On-of → Kept
+  keeps on =
+      let all = on.all in
       let answer = only-one ran.answers.items all.answers.number in
       let stops = only-one all.stopped all.answers.same in
       let knew = only-one all.known all.answers.knew in
       let each : Acknowledges (get_or all.stopped 0 stops.0) (get_or all.known 0 knew.0).notes (get_or ran.answers.items 0 answer.0) = all.answers.each 0 stops.0 knew.0 [] answer.0 (omega arith) in
-      kept-by all answer.0 answer.1 stops.0 stops.1 knew.0 knew.1
+      kept-by on answer.0 answer.1 stops.0 stops.1 knew.0 knew.1
       (subst (λ (x : (List (List Stop) × List Known) × List (Result (Unit {0}) Failed)). Acknowledges (get_or x.0.0 0 stops.0) (get_or x.0.1 0 knew.0).notes (get_or x.1 0 answer.0)) (λ i. ((stops.1 i, knew.1 i), answer.1 i)) each)
 
   -- the same of a run with as many workers
-  pub keeps-by : (workers : ℕ) → workers ≡ 1 → RanAll G (started_on G disk) (λ sure workers at stops known answer. Acknowledges stops known.notes answer) workers ran → Kept
-  keeps-by workers one all =
-      keeps (subst (λ n. RanAll G (started_on G disk) (λ sure workers at stops known answer. Acknowledges stops known.notes answer) n ran) one all)
+  pub keeps-by : (workers : ℕ) → workers ≡ 1 → RanOn G disk (started_on G disk) (λ shape sure workers at stops known answer. Acknowledges stops known.notes answer) workers ran → Kept
+  keeps-by workers one on =
+      keeps (subst (λ n. RanOn G disk (started_on G disk) (λ shape sure workers at stops known answer. Acknowledges stops known.notes answer) n ran) one on)

@@ -2,7 +2,7 @@
 use Rattle.std.specs.Prelude.{◌≡◌, ◌⊎◌, ℕ, ◌≤◌, All, List, [], ◌∷◌, ◌++◌, length, Result, Ok, Err}
 use Rattle.jb_journal.specs.Client.{one_block}
 use Rattle.jb_journal.specs.Notes.{Note, AreInNotes, IsInNotes, Known, Stop}
-use Rattle.jb_journal.specs.Running.{RanAll}
+use Rattle.jb_journal.specs.Running.{RanOn}
 use Rattle.jb_journal.specs.Names.{Ghosts}
 use Rattle.jb_journal.specs.Starting.{started_on}
 use Rattle.jb_journal.specs.Staying.{HandleStays}
@@ -50,15 +50,15 @@ IsLast (Err failed) last = length last ≤ 1
 
 -- What the store has acknowledged stays, where the disk that is given back is honest: of the one worker that was run, each handle that it has stopped and acknowledged
 pub record Keeps {D : Type 0} (G : Ghosts D) (disk : D) (ran : Ran (Result Unit Failed) D) : Type 0 where
-  pub all : RanAll G (started_on G disk) (λ sure workers at stops known answer. Acknowledges stops known.notes answer) 1 ran
+  pub on : RanOn G disk (started_on G disk) (λ shape sure workers at stops known answer. Acknowledges stops known.notes answer) 1 ran
   pub answer : Result Unit Failed
   pub answered : ran.answers.items ≡ answer ∷ []
   pub stops : List Stop
-  pub stopped : all.stopped ≡ stops ∷ []
+  pub stopped : on.all.stopped ≡ stops ∷ []
   pub knew : Known
-  pub known : all.known ≡ knew ∷ []
+  pub known : on.all.known ≡ knew ∷ []
   pub acknowledged : List Stop
   pub last : List Stop
   pub are : stops ≡ acknowledged ++ last
   pub few : IsLast answer last
-  pub stay : All (HandleStays G (started_on G disk) (λ sure workers at stops known answer. Acknowledges stops known.notes answer) 1 ran all knew.notes) acknowledged
+  pub stay : All (HandleStays G (started_on G disk) (λ sure workers at stops known answer. Acknowledges stops known.notes answer) 1 on.shape ran on.all knew.notes) acknowledged

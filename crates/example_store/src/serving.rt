@@ -26,7 +26,7 @@ impl Worker<Result<(), Failed>> for Serving {
     ghost use Rattle.jb_journal.specs.Client.{IsClient, client_known, client_stops};
     ghost use Rattle.example_store.specs.Keeping.{Acknowledges};
 
-    ghost answers = { λ serving begun sure workers at stops known answer. Acknowledges stops known.notes answer };
+    ghost answers = { λ serving begun shape sure workers at stops known answer. Acknowledges stops known.notes answer };
 
     fn work<'a, D: Disk, C: Clock, R: Wait + time::Clock, H: Origin, N: Ledger>(
         &self,

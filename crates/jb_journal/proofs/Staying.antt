@@ -7,6 +7,7 @@ use Rattle.jb_cost.specs.Pieces.{joined}
 use Rattle.jb_disk.specs.declared.disk.Disk.{Ghosts}
 use Rattle.jb_handle.specs.Tickets.{TicketsFrom}
 use Rattle.jb_handle.specs.Word.{WordMap}
+use Rattle.jb_handle.specs.declared.shape.Shape.{Shape}
 use Rattle.jb_handle.specs.declared.stopped.Stopped.{Stopped}
 use Rattle.jb_board.proofs.Placed.{get_before}
 use Rattle.jb_board.specs.HistoryRule.{StandsIn}
@@ -41,15 +42,15 @@ given-at b log given tickets stopped stop stands lt =
     let words = same_Some h.words stop.1 (sym (stopped stop.0 none lt).1 ∙ ap (slice_get log) ticket ∙ stands) in
     slice_get-get_or given stop.0 none lt ∙ ap (λ (x : Stopped). Some x) (λ i. record { ticket = ticket i; words = words i })
 
-module _ {T D : Type 0} (G : Ghosts D) (b : Begun) (may : Type 0 → ℕ → ℕ → List Stop → Known → T → Type 0) (workers : ℕ) (ran : Ran T D)
-    (all : RanAll G b may workers ran) where
+module _ {T D : Type 0} (G : Ghosts D) (b : Begun) (may : Type 0 → ℕ → ℕ → List Stop → Known → T → Type 0) (workers : ℕ) (shape : Shape) (ran : Ran T D)
+    (all : RanAll G b may workers shape ran) where
   -- what a client knew lasts
   pub lasts-at : (by : ℕ) (known : Known) → slice_get all.known by ≡ Some known → KnownLasts G b all.ends.log all.ends.since.given ran.disk ran.trail.items known
   lasts-at by known is = at-place (KnownLasts G b all.ends.log all.ends.since.given ran.disk ran.trail.items) all.known by known is all.last
 
   -- the handle of one worker's client stays, where the client of one of them knew that it was committed
   pub stays-noted : (at by : ℕ) (stops : List Stop) (known : Known) → slice_get all.stopped at ≡ Some stops → slice_get all.known by ≡ Some known → (k : ℕ) (stop : Stop) → slice_get stops k ≡ Some stop
-      → (number : ℕ) → IsInNotes known.notes stop.0 number → HandleStays G b may workers ran all known.notes stop
+      → (number : ℕ) → IsInNotes known.notes stop.0 number → HandleStays G b may workers shape ran all known.notes stop
   stays-noted at by stops known stopped is k stop placed number n =
       let last = (lasts-at by known is).last in
       let notes = known.notes in
@@ -70,7 +71,7 @@ module _ {T D : Type 0} (G : Ghosts D) (b : Begun) (may : Type 0 → ℕ → ℕ
 
   -- the first of a client's handles stay, where the client of one of them knew that they were committed
   pub all-stay : (at by : ℕ) (stops : List Stop) (known : Known) → slice_get all.stopped at ≡ Some stops → slice_get all.known by ≡ Some known → (first last : List Stop) → stops ≡ first ++ last → AreInNotes known.notes first
-      → All (HandleStays G b may workers ran all known.notes) first
+      → All (HandleStays G b may workers shape ran all known.notes) first
   all-stay at by stops known stopped is first last are each k d lt =
       let stop : Stop = get_or first k d in
       let placed : slice_get stops k ≡ Some stop = subst (λ l. slice_get l k ≡ Some stop) (sym are) (get_before first last k stop (slice_get-get_or first k d lt)) in

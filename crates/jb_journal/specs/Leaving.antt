@@ -41,11 +41,10 @@ module _ {T D H N : Type 0} {Q : Disks D} {O : Ghosts H} {P : Places H} where
     pub stops : map made_left all.0.lefts.items ≡ made_left of.committer.left ∷ map stops_of_worked of.workers.items
     pub seen : All (HasAllSeen all.0.seen) of.workers.items
 
-  -- a desk was closed with what was put together: the answers are given on, the changes are those of the stops of all seats, and the journal ends with these and the marks that
-  -- were seen
-  pub record IsClosed (G : Disks D) (b : Begun) (all : Gathered T D H N Q O P) (ran : Ran T D) : Type 0 where
+  -- a desk was closed with what was put together: the answers are given on, the changes are those of the stops of all seats, and the journal, of this shape, ends with these and
+  -- the marks that were seen
+  pub record IsClosed (G : Disks D) (b : Begun) (all : Gathered T D H N Q O P) (shape : Shape) (ran : Ran T D) : Type 0 where
     pub answers : ran.answers ≡ all.answers
     pub changes : ran.changes ≡ sum_by changed_by (joined (map made_left all.lefts.items))
-    pub shape : Shape
     pub ends : EndsMarked G b (map made_left all.lefts.items) ran.handles shape ran.disk ran.trail.items all.seen.stops all.seen.marks
     pub came : CameAbout G b (map made_left all.lefts.items) shape ran.disk ran.trail.items

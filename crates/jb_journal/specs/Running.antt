@@ -16,6 +16,7 @@ use Rattle.jb_desk.specs.Seats.{made_by, made_left}
 use Rattle.jb_book.specs.declared.origin.Origin.{Ghosts}
 use Rattle.jb_board.specs.declared.place.Place.{Ghosts as Places}
 use Rattle.jb_book.specs.Marks.{SeesMore}
+use Rattle.jb_book.specs.Opened.{WasOpened}
 use Rattle.jb_book.specs.declared.sights.Sights.{Sights}
 use Rattle.jb_journal.specs.Client.{AreHonest, known_in}
 use Rattle.jb_journal.specs.Notes.{Known, KnownLasts, Stop, changed_by}
@@ -102,18 +103,22 @@ AllSettled ran = ran.settled ≡ ran.handles
 
 -- What was run: there are the handles that each worker's client has stopped, and what it knew and had seen of the journal, with which it answered what it may. The handles are
 -- all of one history, of as many as are reported, and each is there once; the home blocks that they changed, each handle's added up, are as many as are reported. The
--- journal that the disk is left with was given the first of this history; and the machine of handles accepts a list of events in which they stopped in this order, and
--- whose settled groups are those of the trail. What a client knew to be committed at some moment, what a crash at any time since then leaves has. Where the disk that is
+-- journal that the disk is left with has this shape, by which its groups have cost what its trail says, and was given the first of this history; and the machine of
+-- handles accepts a list of events in which they stopped in this order, and whose settled groups are those of the trail. What a client knew to be committed at some moment, what a crash at any time since then leaves has. Where the disk that is
 -- given back is honest, it was so at all that any client has seen
-pub record RanAll {T D : Type 0} (G : Disks D) (b : Begun) (may : Type 0 → ℕ → ℕ → List Stop → Known → T → Type 0) (workers : ℕ) (ran : Ran T D) : Type 0 where
+pub record RanAll {T D : Type 0} (G : Disks D) (b : Begun) (may : Type 0 → ℕ → ℕ → List Stop → Known → T → Type 0) (workers : ℕ) (shape : Shape) (ran : Ran T D) : Type 0 where
   pub stopped : List (List Stop)
   pub known : List Known
   pub seen : List (List (OpenDeck D))
   pub answers : AreAnswers G may workers stopped known seen ran.answers.items
   pub changes : ran.changes ≡ sum_by changed_by (joined stopped)
-  -- that of the journal, by which its groups have cost what its trail says
-  pub shape : Shape
   pub ends : EndsWith G b stopped ran.handles shape ran.disk ran.trail.items
   pub came : CameAbout G b stopped shape ran.disk ran.trail.items
   pub last : All (KnownLasts G b ends.log ends.since.given ran.disk ran.trail.items) known
   pub honest : G.honest ran.disk → All (AreHonest G) seen
+
+-- what was run on this disk: the journal on it was opened, with the shape that its workers' handles had to fit
+pub record RanOn {T D : Type 0} (G : Disks D) (disk : D) (b : Begun) (may : Shape → Type 0 → ℕ → ℕ → List Stop → Known → T → Type 0) (workers : ℕ) (ran : Ran T D) : Type 0 where
+  pub shape : Shape
+  pub opened : WasOpened G disk shape
+  pub all : RanAll G b (may shape) workers shape ran

@@ -1,13 +1,14 @@
 -- What stays of what was run.
 use Rattle.std.specs.Prelude.{◌≡◌, ℕ, List, Some, slice_get}
 use Rattle.jb_disk.specs.declared.disk.Disk.{Ghosts}
+use Rattle.jb_handle.specs.declared.shape.Shape.{Shape}
 use Rattle.jb_book.specs.Origin.{Begun}
 use Rattle.jb_journal.specs.Notes.{Known, Note, IsInNotes, Stop, StaysSince}
 use Rattle.jb_journal.specs.Running.{RanAll}
 use Rattle.jb_journal.specs.declared.ran.Ran.{Ran}
 
-module _ {T D : Type 0} (G : Ghosts D) (b : Begun) (may : Type 0 → ℕ → ℕ → List Stop → Known → T → Type 0) (workers : ℕ) (ran : Ran T D)
-    (all : RanAll G b may workers ran) where
+module _ {T D : Type 0} (G : Ghosts D) (b : Begun) (may : Type 0 → ℕ → ℕ → List Stop → Known → T → Type 0) (workers : ℕ) (shape : Shape) (ran : Ran T D)
+    (all : RanAll G b may workers shape ran) where
   -- The handle that stopped with this ticket and these words stays: it is the one with its ticket among the handles that the journal was given, and where the disk that is given
   -- back is honest, since each of the notes by which a client knew that it was committed, what a crash at any time leaves has it, and all with lower tickets
   pub record HandleStays (notes : List Note) (stop : Stop) : Type 0 where

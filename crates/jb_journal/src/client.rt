@@ -52,6 +52,7 @@ impl<'a, D: Disk, C: Clock, R: Wait + time::Clock, H: Origin, N: Ledger> Client<
         requires any { (words : WordMap) → H.begun.stops words }
         requires fresh { made_by seat.seat ≡ [] }
         ensures client { IsClient H.begun result }
+        ensures shape { shape_of result ≡ shape }
         ensures stopped { client_stops result ≡ [] }
     {
         Client {

@@ -12,17 +12,19 @@ use crate::ran::Ran;
 use jb_deck::Entry;
 use jb_desk::{Closed, Desk, Ended, Left, Origin, Sights};
 use jb_disk::{Clock, Disk};
+use jb_handle::Shape;
 use std::sync::ledger::Ledger;
 
-/// Closes the desk of a run, and tells what that leaves.
+/// Closes the desk of a run, whose journal had this shape when it was opened, and tells what that leaves.
 pub(crate) fn close<T: Drop, D: Disk + Drop, C: Clock + Drop, H: Origin, N: Ledger>(
     desk: Desk<D, C, H, N>,
+    shape: Shape,
     gathered: Gathered<T, D, H, N>,
     commit: Ended,
     checkpoint: Option<Ended>,
 ) -> Result<Ran<T, D>, RunFault>
     requires parts { (H.parts ≡ 2 ^ 61 + 1) × (N.parts ≡ 2 ^ 61 + 1) }
-    ensures closed { IfOk result (IsClosed D.Disk H.begun gathered) }
+    ensures closed { IfOk result (IsClosed D.Disk H.begun gathered shape) }
     ensures ends { IfOk result (λ ran. (asked : Bool) → EndsChecked asked checkpoint → EndsRun asked ran) }
     ensures since { IfOk result (λ ran. EndsSince D.Disk H.begun ran.disk ran.trail.items) }
     ensures faults { IfErr result (λ fault. fault ≡ Accounts) }
@@ -33,7 +35,7 @@ pub(crate) fn close<T: Drop, D: Disk + Drop, C: Clock + Drop, H: Origin, N: Ledg
         answers,
     } = gathered;
     match closed_by(desk, lefts, seen) {
-        Some(closed) => tell(closed, answers, commit, checkpoint),
+        Some(closed) => tell(closed, shape, answers, commit, checkpoint),
         None => Err(RunFault::Accounts),
     }
 }
@@ -53,16 +55,18 @@ fn closed_by<D: Disk + Drop, C: Clock + Drop, H: Origin, N: Ledger>(
     }
 }
 
-/// Tells what a desk that was closed leaves.
+/// Tells what a desk that was closed leaves, where its journal had this shape when it was opened.
 fn tell<T: Drop, D: Disk + Drop, C: Clock + Drop>(
     closed: Closed<D, C>,
+    shape: Shape,
     answers: Vec<T>,
     commit: Ended,
     checkpoint: Option<Ended>,
 ) -> Result<Ran<T, D>, RunFault>
     requires { (past : ℕ) × Follow (start_of closed.trail.items) 0 past closed.trail.items × (past ≤ closed.handles) }
     ensures told { IfOk result (λ ran. (ran.disk ≡ closed.disk) × (ran.answers ≡ answers)
-        × (ran.handles ≡ closed.handles) × (ran.trail ≡ closed.trail) × (ran.changes ≡ closed.changes)) }
+        × (ran.handles ≡ closed.handles) × (ran.trail ≡ closed.trail) × (ran.changes ≡ closed.changes)
+        × (closed.shape ≡ shape)) }
     ensures ends { IfOk result (λ ran. (asked : Bool) → EndsChecked asked checkpoint → EndsRun asked ran) }
     ensures faults { IfErr result (λ fault. fault ≡ Accounts) }
 {
@@ -71,8 +75,12 @@ fn tell<T: Drop, D: Disk + Drop, C: Clock + Drop>(
         handles,
         changes,
         trail,
+        shape: at_end,
         ..
     } = closed;
+    if at_end != shape {
+        return Err(RunFault::Accounts);
+    }
     let settled = settled_handles(&trail);
     if commit.is_shut() && settled != handles {
         return Err(RunFault::Accounts);

@@ -14,7 +14,7 @@ use std::time;
 
 /// Commits, each round after the delay, until the desk is over or a round does not end well, and then leaves; a batch
 /// that could not be committed is given up at once, so that nobody waits for it.
-fn commit_all<D: Disk, C: Clock, R: Wait + time::Clock, H: Origin, N: Ledger>(
+pub(crate) fn commit_all<D: Disk, C: Clock, R: Wait + time::Clock, H: Origin, N: Ledger>(
     rt: &R,
     desk: &Desk<D, C, H, N>,
     delay: Delay,

@@ -41,7 +41,7 @@ pub enum RunFault {
     /// The system makes no thread more, so that each worker had one of its own: no worker was called.
     #[error("the system makes no thread more; run with fewer workers")]
     NoThread,
-    /// The desk's sums do not agree, which cannot happen.
+    /// The desk's sums do not agree, or its journal has another shape at the end, which cannot happen.
     #[error("the journal's accounts do not agree")]
     Accounts,
 }

@@ -32,7 +32,7 @@ pub use jb_handle::{Handle, Payload, Shape, TouchFault, Word, Words};
 pub use jb_image::{Geometry, ImageFault, MakeFault, SystemFault};
 pub use jb_recover::{PeekFault, RecoverFault, Recovered, recover};
 pub use journal_fault::JournalFault;
-pub use options::Options;
+pub use options::{Commits, Options};
 pub use ran::Ran;
 pub use running::{run, run_on};
 pub use worker::Worker;

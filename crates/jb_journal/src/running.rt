@@ -6,7 +6,7 @@ ghost use Rattle.jb_book.specs.Since.{EndsSince, IsBegunOn, IsSince};
 ghost use Rattle.jb_handle.specs.Word.{WordMap};
 ghost use Rattle.jb_board.specs.History.{history_id};
 ghost use Rattle.jb_journal.specs.Refusing.{RefusesRun};
-ghost use Rattle.jb_journal.specs.Running.{EndsRun, RanAll};
+ghost use Rattle.jb_journal.specs.Running.{EndsRun, RanAll, RanOn};
 ghost use Rattle.jb_journal.specs.Starting.{started_on};
 ghost use Rattle.jb_journal.specs.declared.fault.RunFault.TheVariants.{Accounts, NoThread, Memory as OutOfMemory};
 
@@ -43,8 +43,8 @@ const PARTS: u64 = (1 << 61) + 1;
 /// - `Memory` where there was none for the desk, a thread's answer or what the threads leave; handles may have been
 ///   committed then, or the disk may have failed.
 /// - `NoThread` where the system makes no thread for each worker, for what commits and for what writes home within ten
-///   seconds: no worker was called.
-/// - `Accounts` where the desk's sums do not agree, which cannot happen.
+///   seconds: no worker was called. It is only so with `Commits::Meanwhile`.
+/// - `Accounts` where the desk's sums do not agree, or its journal has another shape at the end, which cannot happen.
 pub fn run<
     T: Drop + Send,
     W: Worker<T> + Sync,
@@ -53,8 +53,8 @@ pub fn run<
     R: AllocGlobal + Threads + Wait + time::Clock + Sync,
 >(rt: &R, disk: D, clock: C, options: Options, worker: &W) -> Result<Ran<T, D>, RunFault>
     requires workers { (1 ≤ options.workers) × (options.workers ≤ 64) }
-    ensures ran { IfOk result (RanAll D.Disk (started_on D.Disk disk) (W.answers worker.now (started_on D.Disk disk))
-        options.workers) }
+    ensures ran { IfOk result (RanOn D.Disk disk (started_on D.Disk disk)
+        (W.answers worker.now (started_on D.Disk disk)) options.workers) }
     ensures ends { IfOk result (EndsRun options.checkpoint) }
     ensures since { IfOk result (λ ran. EndsSince D.Disk (started_on D.Disk disk) ran.disk ran.trail.items) }
     ensures refused { IfErr result (RefusesRun D.Disk disk) }
@@ -84,15 +84,15 @@ pub fn run_on<
     requires workers { (1 ≤ options.workers) × (options.workers ≤ 64) }
     requires begun { IsBegunOn D.Disk H.begun disk }
     requires any { (words : WordMap) → H.begun.stops words }
-    ensures ran { IfOk result (RanAll D.Disk H.begun (W.answers worker.now H.begun) options.workers) }
+    ensures ran { IfOk result (RanOn D.Disk disk H.begun (W.answers worker.now H.begun) options.workers) }
     ensures ends { IfOk result (EndsRun options.checkpoint) }
     ensures since { IfOk result (λ ran. EndsSince D.Disk H.begun ran.disk ran.trail.items) }
     ensures refused { IfErr result (RefusesRun D.Disk disk) }
 {
     match jb_desk::open::<D, H>(alloc, disk) {
         Ok(deck) => {
-            let _shape = deck.shape(); // for the proof alone: what its handles have to fit
-            run_deck::<T, W, D, C, R, H>(rt, alloc, deck, clock, options, worker)
+            let shape = deck.shape();
+            run_deck::<T, W, D, C, R, H>(rt, alloc, deck, shape, clock, options, worker)
         }
         Err((_, fault)) => Err(RunFault::Open(fault)),
     }
@@ -110,13 +110,15 @@ fn run_deck<
     rt: &R,
     alloc: Global,
     deck: Deck<D>,
+    shape: Shape,
     clock: C,
     options: Options,
     worker: &W,
 ) -> Result<Ran<T, D>, RunFault>
-    requires deck { (deck.trail ≡ []) × (deck.aborted ≡ false) × IsSince D.Disk H.begun deck }
+    requires workers { (1 ≤ options.workers) × (options.workers ≤ 64) }
+    requires deck { (deck.trail ≡ []) × (deck.aborted ≡ false) × (deck.shape ≡ shape) × IsSince D.Disk H.begun deck }
     requires any { (words : WordMap) → H.begun.stops words }
-    ensures ran { IfOk result (RanAll D.Disk H.begun (W.answers worker.now H.begun) options.workers) }
+    ensures ran { IfOk result (RanAll D.Disk H.begun (W.answers worker.now H.begun shape) options.workers shape) }
     ensures ends { IfOk result (EndsRun options.checkpoint) }
     ensures since { IfOk result (λ ran. EndsSince D.Disk H.begun ran.disk ran.trail.items) }
     ensures faults { IfErr result (λ fault. (fault ≡ OutOfMemory) ⊎ ((fault ≡ Accounts) ⊎ (fault ≡ NoThread))) }
@@ -126,7 +128,7 @@ fn run_deck<
         return Err(RunFault::Memory);
     };
     run_open::<T, W, D, C, R, Brand, Brand>(
-        rt, alloc, handles, changes, marks, deck, clock, options, worker,
+        rt, alloc, handles, changes, marks, deck, shape, clock, options, worker,
     )
 }
 
@@ -157,22 +159,21 @@ fn run_open<
     changes: Blank,
     marks: Opened<Deck<D>>,
     deck: Deck<D>,
+    shape: Shape,
     clock: C,
     options: Options,
     worker: &W,
 ) -> Result<Ran<T, D>, RunFault>
-    requires handles { (handles.tickets.name ≡ H.name) × (handles.tickets.parts ≡ H.parts) × (H.parts ≡ 2 ^ 61 + 1)
-        × (history_in handles ≡ H.history) }
-    requires changes { (changes.name ≡ N.name) × (changes.parts ≡ N.parts) × (N.parts ≡ 2 ^ 61 + 1) }
-    requires marks { history_id marks ≡ H.marks }
-    requires deck { (deck.trail ≡ []) × (deck.aborted ≡ false) × IsSince D.Disk H.begun deck }
-    requires any { (words : WordMap) → H.begun.stops words }
-    ensures ran { IfOk result (RanAll D.Disk H.begun (W.answers worker.now H.begun) options.workers) }
+    requires ledgers { (handles.tickets.name ≡ H.name) × (handles.tickets.parts ≡ H.parts) × (H.parts ≡ 2 ^ 61 + 1)
+        × (changes.name ≡ N.name) × (changes.parts ≡ N.parts) × (N.parts ≡ 2 ^ 61 + 1) }
+    requires histories { (history_in handles ≡ H.history) × (history_id marks ≡ H.marks) }
+    requires deck { (deck.trail ≡ []) × (deck.aborted ≡ false) × (deck.shape ≡ shape) × IsSince D.Disk H.begun deck }
+    requires work { (1 ≤ options.workers) × (options.workers ≤ 64) × ((words : WordMap) → H.begun.stops words) }
+    ensures ran { IfOk result (RanAll D.Disk H.begun (W.answers worker.now H.begun shape) options.workers shape) }
     ensures ends { IfOk result (EndsRun options.checkpoint) }
     ensures since { IfOk result (λ ran. EndsSince D.Disk H.begun ran.disk ran.trail.items) }
     ensures faults { IfErr result (λ fault. (fault ≡ OutOfMemory) ⊎ ((fault ≡ Accounts) ⊎ (fault ≡ NoThread))) }
 {
-    let shape = deck.shape();
     let Some(desk) = start::<D, C, H, N>(alloc, handles, changes, marks, deck, clock) else {
         return Err(RunFault::Memory);
     };
@@ -188,10 +189,9 @@ fn start<D: Disk + Drop, C: Clock + Drop, H: Origin, N: Ledger>(
     deck: Deck<D>,
     clock: C,
 ) -> Option<Desk<D, C, H, N>>
-    requires handles { (handles.tickets.name ≡ H.name) × (handles.tickets.parts ≡ H.parts) × (H.parts ≡ 2 ^ 61 + 1)
-        × (history_in handles ≡ H.history) }
-    requires changes { (changes.name ≡ N.name) × (changes.parts ≡ N.parts) × (N.parts ≡ 2 ^ 61 + 1) }
-    requires marks { history_id marks ≡ H.marks }
+    requires ledgers { (handles.tickets.name ≡ H.name) × (handles.tickets.parts ≡ H.parts) × (H.parts ≡ 2 ^ 61 + 1)
+        × (changes.name ≡ N.name) × (changes.parts ≡ N.parts) × (N.parts ≡ 2 ^ 61 + 1) }
+    requires histories { (history_in handles ≡ H.history) × (history_id marks ≡ H.marks) }
     requires deck { (deck.trail ≡ []) × (deck.aborted ≡ false) × IsSince D.Disk H.begun deck }
     ensures { IfSome result (λ desk. shape_in desk ≡ deck.shape) }
 {
@@ -217,13 +217,13 @@ fn run_at<
 ) -> Result<Ran<T, D>, RunFault>
     requires parts { (H.parts ≡ 2 ^ 61 + 1) × (N.parts ≡ 2 ^ 61 + 1) }
     requires shape { shape ≡ shape_in desk }
-    requires any { (words : WordMap) → H.begun.stops words }
-    ensures ran { IfOk result (RanAll D.Disk H.begun (W.answers worker.now H.begun) options.workers) }
+    requires work { (1 ≤ options.workers) × (options.workers ≤ 64) × ((words : WordMap) → H.begun.stops words) }
+    ensures ran { IfOk result (RanAll D.Disk H.begun (W.answers worker.now H.begun shape) options.workers shape) }
     ensures ends { IfOk result (EndsRun options.checkpoint) }
     ensures since { IfOk result (λ ran. EndsSince D.Disk H.begun ran.disk ran.trail.items) }
     ensures faults { IfErr result (λ fault. (fault ≡ OutOfMemory) ⊎ ((fault ≡ Accounts) ⊎ (fault ≡ NoThread))) }
 {
     let (ran, checkpoint) = run_all(rt, alloc, &desk, shape, options, worker);
     let (gathered, commit) = Gathered::of(rt, alloc, &desk, ran)?;
-    close(desk, gathered, commit, checkpoint)
+    close(desk, shape, gathered, commit, checkpoint)
 }

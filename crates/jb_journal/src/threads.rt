@@ -8,11 +8,11 @@ ghost use Rattle.jb_journal.specs.Client.{AreHonest};
 ghost use Rattle.jb_journal.specs.Running.{known_of_worked, marks_of_worked, stops_of_worked};
 
 use crate::client::Client;
-use crate::committing::commit_from;
+use crate::committing::{commit_all, commit_from};
 use crate::counted::{CountedLeft, CountedSeat};
 use crate::fault::RunFault;
 use crate::gate::Gate;
-use crate::options::Options;
+use crate::options::{Commits, Options};
 use crate::worker::Worker;
 use jb_block::Memory;
 use jb_desk::{Desk, Ended, Origin, Sights};
@@ -47,7 +47,7 @@ pub(crate) struct Threaded<T, D: Disk, H: Origin, N: Ledger> {
 }
 
 /// Runs the workers and commits what they stopped, and writes committed transactions home where that is asked for; says
-/// how that ended, too. No worker is called unless each of these has a thread.
+/// how that ended, too. With `Commits::Meanwhile` no worker is called unless each of these has a thread.
 pub(crate) fn run_all<
     T: Drop + Send,
     W: Worker<T> + Sync,
@@ -65,8 +65,8 @@ pub(crate) fn run_all<
     worker: &W,
 ) -> (Result<Threaded<T, D, H, N>, RunFault>, Option<Ended>)
     requires shape { shape ≡ shape_in desk.now }
-    requires any { (words : WordMap) → H.begun.stops words }
-    ensures ran { IfOk result.0 (HasThreaded D.Disk (W.answers worker.now H.begun) options.workers) }
+    requires work { (1 ≤ options.workers) × (options.workers ≤ 64) × ((words : WordMap) → H.begun.stops words) }
+    ensures ran { IfOk result.0 (HasThreaded D.Disk (W.answers worker.now H.begun shape) options.workers) }
     ensures faults { IfErr result.0 (λ fault. (fault ≡ OutOfMemory) ⊎ ((fault ≡ Accounts) ⊎ (fault ≡ NoThread))) }
     ensures ended { EndsChecked options.checkpoint result.1 }
 {
@@ -80,14 +80,20 @@ pub(crate) fn run_all<
         rt,
         || check_home(rt, desk, &gate, options.level),
         || -> Result<Threaded<T, D, H, N>, RunFault>
-            requires { (shape ≡ shape_in desk.now) × ((words : WordMap) → H.begun.stops words) }
+            requires { (shape ≡ shape_in desk.now) × (1 ≤ options.workers) × (options.workers ≤ 64)
+                × ((words : WordMap) → H.begun.stops words) }
         { run_workers(rt, alloc, desk, shape, &gate, options, worker) },
     );
     (ran, Some(checkpoint))
 }
 
-/// How many threads a run has: its workers, its committer, and its checkpointer where there is one.
+/// How many threads have to be there before a worker is called: the workers' own, that of the committer, and that of the
+/// checkpointer where there is one. None, but where commits are made only while the workers are at work.
 fn threads_of(options: Options) -> usize {
+    match options.commits {
+        Commits::Meanwhile => {}
+        Commits::MeanwhileOrAfter | Commits::After => return 0,
+    }
     let threads = options.workers.saturating_add(1);
     threads.saturating_add(usize::from(options.checkpoint))
 }
@@ -105,7 +111,7 @@ fn check_home<D: Disk, C: Clock, R: Wait, H: Origin, N: Ledger>(
     desk.run_checkpointer_at(rt, level)
 }
 
-/// Runs the workers and commits what they stopped, at the same time. The desk is shut then.
+/// Runs the workers and commits what they stopped, at the same time or after them. The desk is shut then.
 fn run_workers<
     T: Drop + Send,
     W: Worker<T> + Sync,
@@ -124,21 +130,32 @@ fn run_workers<
     worker: &W,
 ) -> Result<Threaded<T, D, H, N>, RunFault>
     requires shape { shape ≡ shape_in desk.now }
-    requires any { (words : WordMap) → H.begun.stops words }
-    ensures ran { IfOk result (HasThreaded D.Disk (W.answers worker.now H.begun) options.workers) }
+    requires work { (1 ≤ options.workers) × (options.workers ≤ 64) × ((words : WordMap) → H.begun.stops words) }
+    ensures ran { IfOk result (HasThreaded D.Disk (W.answers worker.now H.begun shape) options.workers) }
     ensures faults { IfErr result (λ fault. (fault ≡ OutOfMemory) ⊎ ((fault ≡ Accounts) ⊎ (fault ≡ NoThread))) }
 {
     let Some(seat) = CountedSeat::at(rt, desk) else {
         desk.shut(rt);
         return Err(RunFault::Accounts);
     };
+    let Options {
+        workers,
+        delay,
+        commits,
+        ..
+    } = options;
+    if commits == Commits::After {
+        let ran = work(rt, alloc, desk, shape, gate, workers, worker);
+        return put_threads(Some(commit_all(rt, desk, delay, seat)), ran, false);
+    }
+    // the committer is first, since the first closure runs last where no thread can be made
     let mut place = Some(seat);
-    let Options { workers, delay, .. } = options;
     let (committed, ran) = thread::join(
         rt,
         || commit_from(rt, desk, gate, delay, &mut place),
         || -> Result<Vec<Worked<T, D, H, N>>, Memory>
-            requires { (shape ≡ shape_in desk.now) × ((words : WordMap) → H.begun.stops words) }
+            requires { (shape ≡ shape_in desk.now) × (1 ≤ workers) × (workers ≤ 64)
+                × ((words : WordMap) → H.begun.stops words) }
         { work(rt, alloc, desk, shape, gate, workers, worker) },
     );
     match place {
@@ -191,17 +208,18 @@ fn work<
     worker: &W,
 ) -> Result<Vec<Worked<T, D, H, N>>, Memory>
     requires shape { shape ≡ shape_in desk.now }
-    requires any { (words : WordMap) → H.begun.stops words }
-    ensures { IfOk result (λ ran. HaveWorked D.Disk (W.answers worker.now H.begun) workers ran.items) }
+    requires work { (1 ≤ workers) × (workers ≤ 64) × ((words : WordMap) → H.begun.stops words) }
+    ensures { IfOk result (λ ran. HaveWorked D.Disk (W.answers worker.now H.begun shape) workers ran.items) }
 {
     let ran = thread::map_indices(
         rt,
         alloc,
         workers,
         &|at: usize| -> Worked<T, D, H, N>
-            requires { (shape ≡ shape_in desk.now) × ((words : WordMap) → H.begun.stops words) }
+            requires { (shape ≡ shape_in desk.now) × (1 ≤ workers) × (workers ≤ 64)
+                × ((words : WordMap) → H.begun.stops words) }
             ensures { IfSome result.answer
-                (W.answers worker.entry.now H.begun (AreHonest D.Disk (marks_of_worked result))
+                (W.answers worker.entry.now H.begun shape (AreHonest D.Disk (marks_of_worked result))
                 workers at (stops_of_worked result) (known_of_worked D.moment result)) }
         { work_at(rt, desk, shape, gate, workers, worker, at) },
     );
@@ -220,9 +238,9 @@ fn work_at<T, W: Worker<T>, D: Disk, C: Clock, R: Wait + time::Clock, H: Origin,
     at: usize,
 ) -> Worked<T, D, H, N>
     requires shape { shape ≡ shape_in desk.now }
-    requires any { (words : WordMap) → H.begun.stops words }
-    ensures { IfSome result.answer (W.answers worker.now H.begun (AreHonest D.Disk (marks_of_worked result)) workers at
-        (stops_of_worked result) (known_of_worked D.moment result)) }
+    requires work { (1 ≤ workers) × (workers ≤ 64) × ((words : WordMap) → H.begun.stops words) }
+    ensures { IfSome result.answer (W.answers worker.now H.begun shape (AreHonest D.Disk (marks_of_worked result))
+        workers at (stops_of_worked result) (known_of_worked D.moment result)) }
 {
     if !gate.wait(rt) {
         return Worked {

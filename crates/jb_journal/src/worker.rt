@@ -1,5 +1,5 @@
-ghost use Rattle.std.specs.Prelude.{◌≡◌, ℕ, List, []};
-ghost use Rattle.jb_handle.specs.Word.{WordMap};
+ghost use Rattle.std.specs.Prelude.{◌≡◌, ◌≤◌, ℕ, List, []};
+ghost use Rattle.jb_handle.specs.declared.shape.Shape.{Shape};
 
 use crate::client::Client;
 use jb_desk::Origin;
@@ -8,17 +8,17 @@ use std::sync::Wait;
 use std::sync::ledger::Ledger;
 use std::time;
 
-/// What each thread does with the journal. It is shared by all workers, and answers a `T` each.
+/// What each worker does with the journal. It is shared by all of them, and answers a `T` each.
 pub trait Worker<T> {
     ghost use Rattle.jb_book.specs.Origin.{Begun};
-    ghost use Rattle.jb_journal.specs.Client.{IsClient, client_honest, client_known, client_stops};
-    ghost use Rattle.jb_journal.specs.Notes.{Known};
+    ghost use Rattle.jb_journal.specs.Client.{IsClient, client_honest, client_known, client_stops, shape_of};
+    ghost use Rattle.jb_journal.specs.Notes.{Known, Stop};
 
-    /// What a worker may answer: where the journal began so, and what a read's content rests on is this (that the disk
-    /// was honest at all that the client has seen), of so many workers, at this place, whose client has stopped these
-    /// handles, each with its ticket and its words, and knows this of the journal. Anything, where a worker does not
-    /// say.
-    ghost answers: { Self → Begun → Type 0 → ℕ → ℕ → List (ℕ × WordMap) → Known → T → Type 0 } = { λ _ _ _ _ _ _ _ _.
+    /// What a worker may answer: where the journal began so, its handles have to fit this, and what a read's content
+    /// rests on is this (that the disk was honest at all that the client has seen), of so many workers, at this place,
+    /// whose client has stopped these handles, each with its ticket and its words, and knows this of the journal.
+    /// Anything, where a worker does not say.
+    ghost answers: { Self → Begun → Shape → Type 0 → ℕ → ℕ → List Stop → Known → T → Type 0 } = { λ _ _ _ _ _ _ _ _ _.
         Unit {0} };
 
     /// Works with the journal through a client of its own, as the worker at the place `at` of so many.
@@ -30,6 +30,7 @@ pub trait Worker<T> {
     ) -> T
         requires client { IsClient H.begun client.old }
         requires fresh { client_stops client.old ≡ [] }
-        ensures answers { answers self.now H.begun (client_honest client.new) workers at (client_stops client.new)
-            (client_known client.new) result };
+        requires workers { (1 ≤ workers) × (workers ≤ 64) }
+        ensures answers { answers self.now H.begun (shape_of client.old) (client_honest client.new) workers at
+            (client_stops client.new) (client_known client.new) result };
 }

@@ -1,10 +1,7 @@
 pub mod Adding
 pub mod Answering
-pub mod Costing
-pub mod Opening
 pub mod Reading
 pub mod Refusals
 pub mod Stepping
-pub mod Summing
 pub mod Tallying
 pub mod WordRefusals

@@ -12,8 +12,6 @@ use Rattle.jb_handle.specs.declared.changes.TouchFault.TheVariants as touch
 use Rattle.jb_handle.specs.declared.shape.Shape.{Shape}
 use Rattle.jb_handle.specs.declared.word.Word.{Word}
 use Rattle.jb_handle.specs.declared.word.Word.TheVariants.{Copy, Free}
-use Rattle.jb_book.specs.declared.fault.BeginFault.{BeginFault}
-use Rattle.jb_book.specs.declared.fault.BeginFault.TheVariants as begin
 use Rattle.jb_tool.specs.Faults.{not_touched}
 use Rattle.jb_tool.specs.Refusing.{IsMisfit, IsRefusedFor}
 

@@ -1,13 +1,11 @@
 -- One handle more of a worker.
-use Rattle.std.proofs.Common.{◌≡◌, ℕ, suc, ◌+◌, ◌*◌, ◌<◌, ◌≤◌, List, [], ◌∷◌, ◌++◌, length, get_or, Some, None, sym, ap, subst, ◌∙◌, arith}
-use Rattle.std.specs.FinMap as map
+use Rattle.std.proofs.Common.{◌≡◌, ℕ, suc, ◌+◌, ◌*◌, ◌<◌, ◌≤◌, List, [], ◌∷◌, ◌++◌, length, Some, None, Ok, Err, sym, ap, subst, ◌∙◌, arith}
 use Rattle.std.proofs.Math.Nat.{mul-suc}
-use Rattle.std.proofs.lemmas.List.{length-append, get_or_default}
-use Rattle.std.proofs.lemmas.List.Sums.{sum_by_push}
-use Rattle.jb_handle.specs.Word.{WordMap}
+use Rattle.std.proofs.lemmas.List.{length-append}
 use Rattle.jb_handle.specs.declared.shape.Shape.{Shape}
 use Rattle.jb_handle.specs.declared.stopped.Stopped.{Stopped}
-use Rattle.jb_tool.specs.Runs.{IsRun, StepsBy, queued_at, touched_by}
+use Rattle.jb_journal.specs.Notes.{Stop}
+use Rattle.jb_tool.specs.Runs.{IsRun, RunsAt, StepsBy, queued_at}
 use Rattle.jb_tool.specs.Refusing.{IsRefusedFor}
 use Rattle.jb_tool.specs.declared.loading.fault.HandleFault.{HandleFault}
 
@@ -15,10 +13,10 @@ pub length-more : {X : Type 0} (xs : List X) (x : X) → length (xs ++ x ∷ [])
 length-more xs x = let both = length-append xs (x ∷ []) in omega (arith, both)
 
 -- the next place
-pub place-more : (step from : ℕ) (ss : List (ℕ × WordMap)) (s : ℕ × WordMap) → from + step * length (ss ++ s ∷ []) ≡ from + step * length ss + step
+pub place-more : (step from : ℕ) (ss : List Stop) (s : Stop) → from + step * length (ss ++ s ∷ []) ≡ from + step * length ss + step
 place-more step from ss s = let one = ap (λ n. step * n) (length-more ss s) ∙ mul-suc step (length ss) in omega (arith, one)
 
-pub steps-more : (queue : List Stopped) (step from : ℕ) (ss : List (ℕ × WordMap)) (s : ℕ × WordMap) → StepsBy queue step from ss → from + step * length ss < length queue → s.1 ≡ (queued_at queue (from + step * length ss)).words → StepsBy queue step from (ss ++ s ∷ [])
+pub steps-more : (queue : List Stopped) (step from : ℕ) (ss : List Stop) (s : Stop) → StepsBy queue step from ss → from + step * length ss < length queue → s.1 ≡ (queued_at queue (from + step * length ss)).words → StepsBy queue step from (ss ++ s ∷ [])
 steps-more queue step from [] s steps there is =
     let none : from + step * 0 ≡ from = (let z = mul-suc step 0 in omega (arith, z)) in
     (omega (arith, there, none), is ∙ ap (λ n. (queued_at queue n).words) none, tt)
@@ -27,39 +25,34 @@ steps-more queue step from (x ∷ xs) s steps there is =
     (steps.0, steps.1, steps-more queue step (from + step) xs s steps.2 (omega (arith, there, one)) (is ∙ ap (λ n. (queued_at queue n).words) one))
 
 -- what a worker's loop keeps: the first handles have stopped, up to the next one
-pub record Stepped (queue : List Stopped) (step at next : ℕ) (ss : List (ℕ × WordMap)) : Type 0 where
+pub record Stepped (queue : List Stopped) (step at next : ℕ) (ss : List Stop) : Type 0 where
   pub place : next ≡ at + step * length ss
   pub steps : StepsBy queue step at ss
 
 -- no handle has stopped
-pub stepped-none : (queue : List Stopped) (step at : ℕ) (ss : List (ℕ × WordMap)) → ss ≡ [] → Stepped queue step at at ss
+pub stepped-none : (queue : List Stopped) (step at : ℕ) (ss : List Stop) → ss ≡ [] → Stepped queue step at at ss
 stepped-none queue step at ss none = subst (Stepped queue step at at) (sym none) (record { place = (let z = mul-suc step 0 in omega (arith, z)); steps = tt })
 
-pub stepped-more : (queue : List Stopped) (step at next : ℕ) (ss ts : List (ℕ × WordMap)) (s : ℕ × WordMap) (h : Stopped) → s.1 ≡ (get_or queue next h).words → next < length queue → ts ≡ ss ++ s ∷ [] → Stepped queue step at next ss → Stepped queue step at (next + step) ts
-stepped-more queue step at next ss ts s h is there more so_far =
-    let here : get_or queue next h ≡ queued_at queue next = get_or_default queue next h (record { ticket = 0; words = map.empty }) there in
-    subst (Stepped queue step at (next + step)) (sym more) (
-    record {
-      place = omega (arith, so_far.place, place-more step at ss s);
-      steps = steps-more queue step at ss s so_far.steps (omega (arith, there, so_far.place)) (is ∙ ap (λ (x : Stopped). x.words) here ∙ ap (λ n. (queued_at queue n).words) so_far.place);
-    })
-
--- the blocks that one handle more touches
-pub touched-more : (ss ts : List (ℕ × WordMap)) (s : ℕ × WordMap) (n m : ℕ) → ts ≡ ss ++ s ∷ [] → n ≡ touched_by ss → m ≡ n + map.len s.1 → m ≡ touched_by ts
-touched-more ss ts s n m more before one =
-    let pushed = sum_by_push (λ (x : ℕ × WordMap). map.len x.1) ss s in
-    let all = ap touched_by more in
-    omega (arith, pushed, all, before, one)
-
-module _ (shape : Shape) (queue : List Stopped) (step at next : ℕ) (ss : List (ℕ × WordMap)) (stepped : Stepped queue step at next ss) where
+module _ (shape : Shape) (queue : List Stopped) (step at next : ℕ) (ss : List Stop) (stepped : Stepped queue step at next ss) where
   -- no handle is left
-  pub ran-all : length queue ≤ next → IsRun shape queue step at (record { stops = ss; refused = None })
+  pub ran-all : length queue ≤ next → IsRun shape queue step at ss None
   ran-all none = record { steps = stepped.steps; ends = omega (arith, stepped.place, none); why = tt }
 
-  -- the next handle was refused
-  pub ran-until : (h : Stopped) (fault : HandleFault) → next < length queue → IsRefusedFor shape (get_or queue next h).words fault → IsRun shape queue step at (record { stops = ss; refused = Some (record { handle = next; fault = fault }) })
-  ran-until h fault there why = record {
-    steps = stepped.steps;
-    ends = (stepped.place, omega (arith, stepped.place, there));
-    why = subst (λ (x : Stopped). IsRefusedFor shape x.words fault) (sym (get_or_default queue next (record { ticket = 0; words = map.empty }) h there)) why;
-  }
+  module _ (there : next < length queue) (n : ℕ) (is : n ≡ next) (ts : List Stop) where
+    -- the next handle stopped
+    pub stepped-more : (ticket : ℕ) → RunsAt shape queue n ss ts (Ok ticket) → Stepped queue step at (next + step) ts
+    stepped-more ticket more =
+        let s : Stop = (ticket, (queued_at queue n).words) in
+        subst (Stepped queue step at (next + step)) (sym more) (
+        record {
+          place = omega (arith, stepped.place, place-more step at ss s);
+          steps = steps-more queue step at ss s stepped.steps (omega (arith, there, stepped.place)) (ap (λ k. (queued_at queue k).words) (is ∙ stepped.place));
+        })
+
+    -- the next handle was refused
+    pub ran-until : (fault : HandleFault) → RunsAt shape queue n ss ts (Err fault) → IsRun shape queue step at ts (Some (record { handle = next; fault = fault }))
+    ran-until fault refused = record {
+      steps = subst (StepsBy queue step at) (sym refused.0) stepped.steps;
+      ends = (subst (λ (x : List Stop). next ≡ at + step * length x) (sym refused.0) stepped.place, omega (arith, stepped.place, there, ap (λ (x : List Stop). step * length x) refused.0));
+      why = subst (λ k. IsRefusedFor shape (queued_at queue k).words fault) is refused.1;
+    }

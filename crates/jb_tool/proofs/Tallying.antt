@@ -11,27 +11,28 @@ use Rattle.jb_book.proofs.Follows.{at-entry}
 abbrev pub no_entry : Entry
 no_entry = record { first = 0; past = 0; number = 0; blocks = 0 }
 
--- the groups that are left begin where the others end; and those took few blocks, as numbers rise and are of 32 bits, and a group's blocks too
-pub record Goes (settled past blocks : ℕ) (rest : List Entry) : Type 0 where
+-- the groups that are left follow others, which took few blocks, as numbers rise and are of 32 bits, and a group's blocks too
+pub record Goes (past blocks : ℕ) (rest : List Entry) : Type 0 where
+  pub first : ℕ
   pub least : ℕ
-  pub follows : Follow settled least past rest
+  pub follows : Follow first least past rest
   pub few : blocks ≤ least * 4294967295
 
-module _ (trail : List Entry) (i : ℕ) (there : i < length trail) (blocks settled past taken : ℕ) (is : taken ≡ (get_or trail i no_entry).blocks) where
+module _ (trail : List Entry) (i : ℕ) (there : i < length trail) (blocks past taken : ℕ) (is : taken ≡ (get_or trail i no_entry).blocks) where
   here : get_or trail i no_entry ≡ get_or trail i (get_or trail i no_entry)
   here = get_or_default trail i no_entry (get_or trail i no_entry) there
 
   -- one more
-  pub goes-more : (get_or trail i no_entry).blocks < 2 ^ 32 → Goes settled past blocks (drop i trail) → Goes (get_or trail i no_entry).past past (blocks + taken) (drop (i + 1) trail)
+  pub goes-more : (get_or trail i no_entry).blocks < 2 ^ 32 → Goes past blocks (drop i trail) → Goes past (blocks + taken) (drop (i + 1) trail)
   goes-more small so =
       let e = get_or trail i no_entry in
-      let next = at-entry trail i e there here settled so.least past so.follows in
-      record { least = e.number + 1; follows = next.3; few = (let few = so.few in let low = next.2 in omega (arith, few, low, small, is)) }
+      let next = at-entry trail i e there here so.first so.least past so.follows in
+      record { first = e.past; least = e.number + 1; follows = next.3; few = (let few = so.few in let low = next.2 in omega (arith, few, low, small, is)) }
 
-  pub few-more : (get_or trail i no_entry).blocks < 2 ^ 32 → (get_or trail i no_entry).number < 2 ^ 32 → Goes settled past blocks (drop i trail) → blocks + taken < 2 ^ 64
+  pub few-more : (get_or trail i no_entry).blocks < 2 ^ 32 → (get_or trail i no_entry).number < 2 ^ 32 → Goes past blocks (drop i trail) → blocks + taken < 2 ^ 64
   few-more small low so =
       let e = get_or trail i no_entry in
-      let next = at-entry trail i e there here settled so.least past so.follows in
+      let next = at-entry trail i e there here so.first so.least past so.follows in
       let few = so.few in
       let least = next.2 in
       omega (arith, few, least, low, small, is)

@@ -1,10 +1,16 @@
--- The faults of a desk and of a handle, as a load reports them.
+-- The faults of a journal and of its handles, as a load reports them.
+use Rattle.jb_journal.specs.declared.fault.HandleFault.{HandleFault as ChangeFault}
+use Rattle.jb_journal.specs.declared.fault.HandleFault.TheVariants as change
+use Rattle.jb_journal.specs.declared.fault.RunFault.{RunFault}
+use Rattle.jb_journal.specs.declared.fault.RunFault.TheVariants as run
 use Rattle.jb_handle.specs.declared.changes.TouchFault.{TouchFault}
 use Rattle.jb_handle.specs.declared.changes.TouchFault.TheVariants as touch
 use Rattle.jb_book.specs.declared.fault.BeginFault.{BeginFault}
 use Rattle.jb_book.specs.declared.fault.BeginFault.TheVariants as begin
 use Rattle.jb_tool.specs.declared.loading.fault.HandleFault.{HandleFault}
-use Rattle.jb_tool.specs.declared.loading.fault.HandleFault.TheVariants.{Aborted, Closed, Busy, TooManyCredits, Full, NoCredit, OutOfRange, Length, Memory}
+use Rattle.jb_tool.specs.declared.loading.fault.HandleFault.TheVariants.{Aborted, Closed, Busy, TooManyCredits, Full, NoCredit, OutOfRange, Length, NotOpen, Memory}
+use Rattle.jb_tool.specs.declared.loading.fault.LoadFault.{LoadFault}
+use Rattle.jb_tool.specs.declared.loading.fault.LoadFault.TheVariants as load
 
 -- why a handle was not begun
 abbrev pub not_begun : BeginFault → HandleFault
@@ -21,3 +27,18 @@ not_touched (touch.NoCredit credits) = NoCredit credits
 not_touched (touch.OutOfRange home) = OutOfRange home
 not_touched touch.Length = Length
 not_touched touch.Memory = Memory
+
+-- why a handle of the queue did not stop
+abbrev pub not_stopped : ChangeFault TouchFault → HandleFault
+not_stopped (change.Begin fault) = not_begun fault
+not_stopped (change.Refused fault) = not_touched fault
+not_stopped change.Aborted = Aborted
+not_stopped change.NotOpen = NotOpen
+not_stopped change.Memory = Memory
+
+-- why a queue was not loaded, where its journal was not run or has no answer; a load waits for no thread, so that it needs none
+abbrev pub not_run : RunFault → LoadFault
+not_run (run.Open fault) = load.Open fault
+not_run run.Memory = load.Memory
+not_run run.NoThread = load.Accounts
+not_run run.Accounts = load.Accounts

@@ -1,6 +1,5 @@
--- What all workers report.
+-- Which of the handles that workers have refused is told.
 use Rattle.std.specs.Prelude.{Bool, true, false, nat_lt, List, [], ◌∷◌, Option, Some, None}
-use Rattle.jb_tool.specs.Runs.{Run}
 use Rattle.jb_tool.specs.declared.loading.loaded.Refused.{Refused}
 
 -- the first of two refused handles, unless the test holds: the other one then
@@ -15,10 +14,10 @@ earlier_refused (Some one) None = Some one
 earlier_refused (Some one) (Some other) = Some (earlier_if (nat_lt other.handle one.handle) one other)
 
 -- after those of the first workers: the handle that is refused and earliest in the queue
-abbrev pub first_after : Option Refused → List Run → Option Refused
+abbrev pub first_after : Option Refused → List (Option Refused) → Option Refused
 first_after had [] = had
-first_after had (run ∷ runs) = first_after (earlier_refused had run.refused) runs
+first_after had (refused ∷ others) = first_after (earlier_refused had refused) others
 
--- the refused handle that is earliest in the queue
-abbrev pub first_refused : List Run → Option Refused
-first_refused runs = first_after None runs
+-- of what each worker has refused, the handle that is earliest in the queue
+abbrev pub first_refused : List (Option Refused) → Option Refused
+first_refused answers = first_after None answers

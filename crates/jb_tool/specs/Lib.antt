@@ -6,8 +6,6 @@ pub mod Loads
 pub mod Program
 pub mod Refused
 pub mod Refusing
-pub mod Running
 pub mod Runs
-pub mod Settled
 pub mod Telling
 pub mod Wanted

@@ -5,19 +5,16 @@ use Rattle.jb_args.specs.declared.option_name.OptionName.TheVariants.{Threads}
 use Rattle.jb_commands.specs.Faulty.{queue_fault}
 use Rattle.jb_commands.specs.AnswerSaid.{said}
 use Rattle.jb_commands.specs.declared.answer.Answer.{Answer}
-use Rattle.jb_book.specs.Origin.{Begun, own_on}
-use Rattle.jb_deck.specs.Opening.{recovered_home}
 use Rattle.jb_deck.specs.declared.fault.OpenFault.{OpenFault}
 use Rattle.jb_deck.specs.declared.fault.OpenFault.TheVariants as opening
 use Rattle.jb_disk.specs.declared.disk.Disk.{Ghosts as Disks}
 use Rattle.jb_disk.specs.declared.file.FileDisk.{FileDisk}
 use Rattle.jb_disk.specs.declared.start.Start.{Ghosts as Starts}
-use Rattle.jb_handle.specs.declared.stopped.Stopped.{Stopped}
 use Rattle.jb_image.specs.Files.{FileImage, as_files}
 use Rattle.jb_image.specs.declared.image.ImageDisk.{ImageDisk}
+use Rattle.jb_journal.specs.Starting.{started_on}
 use Rattle.jb_text.specs.declared.putting.WriteFault.{WriteFault}
 use Rattle.jb_tool.specs.Loads.{AnswersLoad}
-use Rattle.jb_tool.specs.Settled.{IsOfQueue, LoadsSince}
 use Rattle.jb_tool.specs.Telling.{TellsLoad}
 use Rattle.jb_tool.specs.declared.loading.fault.LoadFault.{LoadFault}
 use Rattle.jb_tool.specs.declared.loading.fault.LoadFault.TheVariants as loading
@@ -80,34 +77,19 @@ abbrev pub TellsLoadEnd : Result LoadReport CommandFault → Outputs → Outputs
 TellsLoadEnd (Ok report) old new end = TellsLoadReport report old new end
 TellsLoadEnd (Err fault) old new end = (end ≡ Err fault) × (new ≡ old)
 
--- a load began with the disk as it stood, and its handles are those of the queue
-abbrev pub begun_on : {D : Type 0} → Disks D → D → List Stopped → Begun
-begun_on G disk queue = record {
-  is_known = Unit {0};
-  size = G.size disk;
-  count = G.count disk;
-  faults = G.faults disk;
-  own = own_on (G.size disk) (G.count disk) (G.newest disk);
-  homes = recovered_home (G.size disk) (G.count disk) (G.newest disk);
-  since = G.moment disk;
-  left = λ c. Unit {0};
-  stops = IsOfQueue queue;
-}
-
 module _ {S T : Type 0} {start : Starts S} {other : Starts T} where
   -- a queue was loaded into an open image, and this is the image then: the groups that the load counts stand in its journal, if its files
   -- are honest
   pub record LoadsOn (options : LoadOptions) (homes : ℕ) (disk : ImageDisk (FileDisk S start) (FileDisk T other)) (queue : Queue)
       (new : ImageDisk (FileDisk S start) (FileDisk T other)) (end : Result LoadReport CommandFault) : Type 0 where
     pub loaded : Loaded
-    pub answers : AnswersLoad as_files disk queue.size queue.handles options (Ok (loaded, new))
-    pub since : LoadsSince as_files (begun_on as_files disk queue.handles) disk queue.handles options.threads loaded new
+    pub answers : AnswersLoad as_files (started_on as_files disk) disk queue.size queue.handles options (Ok (loaded, new))
     pub told : end ≡ Ok (ReportsLoaded loaded homes)
 
   -- a queue was loaded into an open image; or there is no answer, for this, and the image is lost
   abbrev pub LoadsQueue : LoadOptions → ℕ → ImageDisk (FileDisk S start) (FileDisk T other) → Queue → Option (ImageDisk (FileDisk S start) (FileDisk T other)) → Result LoadReport CommandFault → Type 0
   LoadsQueue options homes disk queue None end =
-      (fault : LoadFault) × AnswersLoad as_files disk queue.size queue.handles options (Err fault) × (end ≡ Err (load_fault fault))
+      (fault : LoadFault) × AnswersLoad as_files (started_on as_files disk) disk queue.size queue.handles options (Err fault) × (end ≡ Err (load_fault fault))
   LoadsQueue options homes disk queue (Some new) end = LoadsOn options homes disk queue new end
 
   -- the queue of a text was loaded; or the text's first fault is told, and the image is as it was opened

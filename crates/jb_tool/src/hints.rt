@@ -6,7 +6,7 @@ ghost use Rattle.jb_tool.specs.Hints.{handle_hint as handle_hinted, load_hint as
 
 use crate::{HandleFault, Loaded};
 use jb_args::Hint;
-use jb_desk::Ended;
+use jb_journal::Ended;
 
 /// What a second line is about after a load into an image of so many home blocks: the line of the handle that was
 /// refused, or of the committer, or of the checkpointer, whichever is the first. Of a handle that the commits have

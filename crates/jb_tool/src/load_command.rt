@@ -12,9 +12,9 @@ use jb_block::Stamp;
 use jb_commands::{
     CommandFault, Ended, Opening, TwoFiles, close, fault_answer, judge_on, open_counted, read_file,
 };
-use jb_deck::OpenFault;
 use jb_disk::{Disk, FileDisk, FixedClock, Start, Unknown};
 use jb_image::ImageDisk;
+use jb_journal::OpenFault;
 use jb_queue::{QueueLines, read_lines};
 use std::fs::File;
 use std::io::Write;

@@ -1,15 +1,11 @@
-//! The handles of a queue text are run through a desk, by threads, and committed.
+//! The handles of a queue text are run by the workers of a journal.
 
-mod bounds;
-mod committing;
 mod counting;
 mod fault;
-mod gather;
 mod handle;
 mod load;
 mod loaded;
 mod options;
-mod running;
 mod telling;
 mod words;
 mod worker;

@@ -8,7 +8,7 @@ use Rattle.std.proofs.lemmas.Option.{get_or_from_slice_get, same_Some, slice_get
 use Rattle.jb_journal.specs.Client.{AreHonest, one_block}
 use Rattle.jb_journal.specs.Names.{AreAllStops, Begun, Copy, Ghosts, IsFirstPart, IsInHistory, StandsBy, StandsIn, Stopped, TicketsFrom, WordMap, joined, with_places, word}
 use Rattle.jb_journal.specs.Notes.{Known, Stop}
-use Rattle.jb_journal.specs.Running.{RanAll}
+use Rattle.jb_journal.specs.Running.{RanOn}
 use Rattle.jb_journal.specs.Starting.{started_on}
 use Rattle.jb_journal.specs.declared.ran.Ran.{Ran}
 use Rattle.jb_journal.proofs.Noting.{stands-on}
@@ -63,22 +63,23 @@ module _ {D : Type 0} (G : Ghosts D) (bytes : List ℕ) (disk : D) (ran : Ran Fo
   abbrev may : Type 0 → ℕ → ℕ → List Stop → Known → Found → Type 0
   may sure workers at stops known found = HasFound bytes b sure stops known found
 
-  abbrev All-of : Type 0
-  All-of = RanAll G b may 2 ran
+  abbrev On-of : Type 0
+  On-of = RanOn G disk b (λ shape. may) 2 ran
 
   abbrev nothing : Known
   nothing = record { log = []; notes = [] }
 
-  module _ (all : All-of) where
+  module _ (on : On-of) where
     -- what one of the workers has found, of its stops and of what it knew and had seen
     found-at : (at : ℕ) (found : Found) → at < 2 → slice_get ran.answers.items at ≡ Some found
-        → HasFound bytes b (AreHonest G (get_or all.seen at [])) (get_or all.stopped at []) (get_or all.known at nothing) found
+        → HasFound bytes b (AreHonest G (get_or on.all.seen at [])) (get_or on.all.stopped at []) (get_or on.all.known at nothing) found
     found-at at found lt is =
-        subst (HasFound bytes b (AreHonest G (get_or all.seen at [])) (get_or all.stopped at []) (get_or all.known at nothing))
-        (get_or_from_slice_get ran.answers.items at found found is) (all.answers.each at [] nothing [] found lt)
+        subst (HasFound bytes b (AreHonest G (get_or on.all.seen at [])) (get_or on.all.stopped at []) (get_or on.all.known at nothing))
+        (get_or_from_slice_get ran.answers.items at found found is) (on.all.answers.each at [] nothing [] found lt)
 
     pub told : TwoHaveWorked G bytes disk ran
     told =
+        let all = on.all in
         let stops0 = get_or all.stopped 0 [] in
         let known0 = get_or all.known 0 nothing in
         let known1 = get_or all.known 1 nothing in
@@ -86,17 +87,17 @@ module _ {D : Type 0} (G : Ghosts D) (bytes : List ℕ) (disk : D) (ran : Ran Fo
         let knew0 = slice_get-get_or all.known 0 nothing (omega (arith, all.answers.knew)) in
         let knew1 = slice_get-get_or all.known 1 nothing (omega (arith, all.answers.knew)) in
         record {
-          all = all;
+          on = on;
           wrote = λ ticket is. (
               let w : HasWritten bytes stops0 known0 ticket = found-at 0 (Wrote ticket) (omega arith) is in
-              (known0, knew0, stays-noted G b may 2 ran all 0 0 stops0 known0 at0 knew0 0 (ticket, one_block home bytes) (ap (λ l. slice_get l 0) w.stopped) w.number w.noted));
+              (known0, knew0, stays-noted G b may 2 on.shape ran all 0 0 stops0 known0 at0 knew0 0 (ticket, one_block home bytes) (ap (λ l. slice_get l 0) w.stopped) w.number w.noted));
           read = λ ticket heard found is isnt held. (
               let w : HasWritten bytes stops0 known0 ticket = found-at 0 (Wrote ticket) (omega arith) is in
               let r : HasReadThen b (AreHonest G (get_or all.seen 1 [])) (get_or all.stopped 1 []) known1 heard found = found-at 1 (Read heard found) (omega arith) isnt in
               let whole : joined all.stopped ≡ (ticket, one_block home bytes) ∷ [] =
               ap joined (two-of all.stopped [] all.answers.same) ∙ ap (λ (x : List Stop × List Stop). x.0 ++ (x.1 ++ [])) (λ i. (w.stopped i, r.stopped i)) in
               let one = one-stop all.ends.log (ticket, one_block home bytes) (subst (AreAllStops all.ends.log) whole all.ends.stopped) in
-              let begins : IsFirstPart known1.log all.ends.log = (lasts-at G b may 2 ran all 1 known1 knew1).begins in
+              let begins : IsFirstPart known1.log all.ends.log = (lasts-at G b may 2 on.shape ran all 1 known1 knew1).begins in
               let are : All (IsInHistory (one_block home bytes ∷ [])) r.reads.given =
               All-weaker (IsInHistory known1.log) (IsInHistory (one_block home bytes ∷ [])) (λ s at. subst (λ l. StandsIn l (s.ticket, s.words)) one.1 (stands-on known1.log all.ends.log begins (s.ticket, s.words) at)) r.reads.given r.reads.are in
               let given = one-given (one_block home bytes) r.reads.given r.reads.tickets are heard (r.reads.sees heard r.number r.noted) in
@@ -106,10 +107,10 @@ module _ {D : Type 0} (G : Ghosts D) (bytes : List ℕ) (disk : D) (ran : Ran Fo
 
 -- whatever the run answers, of as many workers
 pub told-of : {D E : Type 0} (G : Ghosts D) (disk : D) (bytes written : List ℕ) (workers : ℕ) → written ≡ bytes → workers ≡ 2
-    → (r : Result (Ran Found D) E) → IfOk r (RanAll G (started_on G disk) (λ sure workers at stops known found. HasFound written (started_on G disk) sure stops known found) workers)
+    → (r : Result (Ran Found D) E) → IfOk r (RanOn G disk (started_on G disk) (λ shape sure workers at stops known found. HasFound written (started_on G disk) sure stops known found) workers)
     → IfOk r (TwoHaveWorked G bytes disk)
-told-of G disk bytes written workers same two (Ok ran) all =
+told-of G disk bytes written workers same two (Ok ran) on =
     subst (λ text. TwoHaveWorked G text disk ran) same
     (told G written disk ran
-    (subst (λ n. RanAll G (started_on G disk) (λ sure workers at stops known found. HasFound written (started_on G disk) sure stops known found) n ran) two all))
-told-of G disk bytes written workers same two (Err fault) all = tt
+    (subst (λ n. RanOn G disk (started_on G disk) (λ shape sure workers at stops known found. HasFound written (started_on G disk) sure stops known found) n ran) two on))
+told-of G disk bytes written workers same two (Err fault) on = tt

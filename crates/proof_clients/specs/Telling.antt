@@ -3,7 +3,7 @@ use Rattle.std.specs.Prelude.{◌≡◌, ℕ, List, [], ◌∷◌, Some, slice_g
 use Rattle.jb_journal.specs.Client.{one_block}
 use Rattle.jb_journal.specs.Names.{Begun, Ghosts}
 use Rattle.jb_journal.specs.Notes.{IsInNotes, Known, ReadsAs, Stop}
-use Rattle.jb_journal.specs.Running.{RanAll}
+use Rattle.jb_journal.specs.Running.{RanOn}
 use Rattle.jb_journal.specs.Starting.{started_on}
 use Rattle.jb_journal.specs.Staying.{HandleStays}
 use Rattle.jb_journal.specs.declared.ran.Ran.{Ran}
@@ -37,7 +37,7 @@ HasFound bytes b sure stops known Failed = Unit {0}
 -- What was run of the two workers. Where the first has written, its handle stays: what a crash at any time since it was known to be committed leaves, has it. Where the
 -- second has read then, and the disk that is given back is honest, it has read what the first has written
 pub record TwoHaveWorked {D : Type 0} (G : Ghosts D) (bytes : List ℕ) (disk : D) (ran : Ran Found D) : Type 0 where
-  pub all : RanAll G (started_on G disk) (λ sure workers at stops known found. HasFound bytes (started_on G disk) sure stops known found) 2 ran
+  pub on : RanOn G disk (started_on G disk) (λ shape sure workers at stops known found. HasFound bytes (started_on G disk) sure stops known found) 2 ran
   pub wrote : (ticket : ℕ) → slice_get ran.answers.items 0 ≡ Some (Wrote ticket)
-      → (known : Known) × (slice_get all.known 0 ≡ Some known) × HandleStays G (started_on G disk) (λ sure workers at stops known found. HasFound bytes (started_on G disk) sure stops known found) 2 ran all known.notes (ticket, one_block home bytes)
+      → (known : Known) × (slice_get on.all.known 0 ≡ Some known) × HandleStays G (started_on G disk) (λ sure workers at stops known found. HasFound bytes (started_on G disk) sure stops known found) 2 on.shape ran on.all known.notes (ticket, one_block home bytes)
   pub read : (ticket told : ℕ) (found : List ℕ) → slice_get ran.answers.items 0 ≡ Some (Wrote ticket) → slice_get ran.answers.items 1 ≡ Some (Read told found) → G.honest ran.disk → (told ≡ ticket) × (found ≡ bytes)

@@ -46,7 +46,7 @@ impl Worker<Found> for Telling {
     ghost use Rattle.std.specs.Prelude.{◌≡◌, []};
     ghost use Rattle.jb_journal.specs.Client.{IsClient, client_honest, client_known, client_stops};
 
-    ghost answers = { λ telling begun sure workers at stops known found.
+    ghost answers = { λ telling begun shape sure workers at stops known found.
         HasFound telling.bytes begun sure stops known found };
 
     fn work<'a, D: Disk, C: Clock, R: Wait + time::Clock, H: Origin, N: Ledger>(

@@ -1,12 +1,12 @@
-//! Rounds that are put off: how many handles they commit, and what they take.
+//! Rounds that are put off, or made after the workers: how many handles they commit, and what they take.
 ghost use Rattle.std.specs.Prelude.{◌≤◌};
 ghost use Rattle.jb_journal.specs.Client.{IsClient};
 
 use crate::checks::{By, Host};
 use crate::journals::{CLOCK, by, formatted};
 use jb_journal::{
-    BlockSize, Client, Clock, Delay, Disk, Handle, JournalFault, Origin, Ran, TouchFault, Worker,
-    run,
+    BlockSize, Client, Clock, Commits, Delay, Disk, Handle, JournalFault, Origin, Ran, TouchFault,
+    Worker, run,
 };
 use std::sync::Wait;
 use std::sync::ledger::Ledger;
@@ -61,6 +61,8 @@ struct Row {
     name: &'static str,
     workers: usize,
     stopping: Stopping,
+    /// when commits are made
+    commits: Commits,
     /// for how many milliseconds at most
     millis: u64,
     /// until how many handles wait
@@ -73,7 +75,7 @@ struct Row {
     took: (u64, u64),
 }
 
-static ROWS: [Row; 4] = [
+static ROWS: [Row; 6] = [
     Row {
         name: "a round takes as many handles as it is put off for",
         workers: 4,
@@ -83,6 +85,7 @@ static ROWS: [Row; 4] = [
             apart: 50,
             is_awaited: true,
         },
+        commits: Commits::Meanwhile,
         millis: LONG,
         waiting: 4,
         handles: 4,
@@ -98,6 +101,7 @@ static ROWS: [Row; 4] = [
             apart: 50,
             is_awaited: true,
         },
+        commits: Commits::Meanwhile,
         millis: 200,
         waiting: 4,
         handles: 1,
@@ -113,6 +117,7 @@ static ROWS: [Row; 4] = [
             apart: 50,
             is_awaited: false,
         },
+        commits: Commits::Meanwhile,
         millis: LONG,
         waiting: 4,
         handles: 1,
@@ -129,11 +134,46 @@ static ROWS: [Row; 4] = [
             apart: 50,
             is_awaited: false,
         },
+        commits: Commits::Meanwhile,
         millis: LONG,
         waiting: 100,
         handles: 12,
         transactions: None,
         took: (0, LONG / 4),
+    },
+    // with commits meanwhile each of the handles would have a transaction of its own
+    Row {
+        name: "what stops is committed after the workers",
+        workers: 2,
+        stopping: Stopping {
+            handles: 3,
+            credits: 1,
+            apart: 50,
+            is_awaited: false,
+        },
+        commits: Commits::After,
+        millis: 0,
+        waiting: 0,
+        handles: 6,
+        transactions: Some(1),
+        took: (400, LONG / 2),
+    },
+    // after the workers it would never be
+    Row {
+        name: "where there are threads, what stops is committed meanwhile",
+        workers: 2,
+        stopping: Stopping {
+            handles: 1,
+            credits: 1,
+            apart: 50,
+            is_awaited: true,
+        },
+        commits: Commits::MeanwhileOrAfter,
+        millis: 0,
+        waiting: 0,
+        handles: 2,
+        transactions: None,
+        took: (200, LONG / 2),
     },
 ];
 
@@ -188,6 +228,7 @@ fn check_delayed<D: Disk + Drop + Send>(rt: &impl Host, row: &Row, disk: D) {
         time: Duration::from_millis(row.millis),
         handles: row.waiting,
     };
+    options.commits = row.commits;
     let start = Instant::now(rt).must(&test, "the time");
     let ran = run(rt, disk, CLOCK, options, &row.stopping).must(&test, row.name);
     let took = millis(start.elapsed(rt).must(&test, "the time"));

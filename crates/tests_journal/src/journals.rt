@@ -2,7 +2,7 @@
 ghost use Rattle.std.specs.Prelude.{◌≤◌};
 
 use jb_journal::{
-    BlockSize, Delay, FixedClock, MemoryDisk, Options, Stamp, Width, format, recover,
+    BlockSize, Commits, Delay, FixedClock, MemoryDisk, Options, Stamp, Width, format, recover,
 };
 use tests_support::{Bench, Must, crashed, read_at, zeros};
 
@@ -30,6 +30,7 @@ pub fn by(workers: usize) -> Options
         checkpoint: false,
         level: 0,
         delay: Delay::none(),
+        commits: Commits::Meanwhile,
     }
 }
 

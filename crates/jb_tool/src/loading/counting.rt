@@ -1,40 +1,58 @@
 //! What a load did is counted up.
-ghost use Rattle.std.specs.Prelude.{◌≡◌, ℕ, ◌<◌, ◌^◌, ◌↔◌, IsTrue};
+ghost use Rattle.std.specs.Prelude.{◌≡◌, ℕ, ◌<◌, ◌^◌, ◌↔◌, IsTrue, IfErr, IfOk};
 ghost use Rattle.std.specs.List.{sum_by};
 ghost use Rattle.jb_deck.specs.Done.{Follow, start_of};
-ghost use Rattle.jb_tool.specs.Running.{CountsUp};
+ghost use Rattle.jb_tool.specs.Gathering.{earlier_refused, first_refused};
+ghost use Rattle.jb_tool.specs.Loads.{CountsRun};
+ghost use Rattle.jb_tool.specs.declared.loading.fault.LoadFault.TheVariants.{Accounts};
 
-use crate::loading::loaded::{Loaded, Outcome};
-use jb_deck::Entry;
-use jb_desk::Closed;
+use crate::loading::fault::LoadFault;
+use crate::loading::loaded::{Loaded, Refused};
+use jb_journal::{Entry, Ran};
 
-/// What a load whose desk is closed did, with a queue of so many handles, where its threads ended so.
-pub(crate) fn count_up<D: Drop, C: Drop>(
+/// What a load did whose journal was run so, with a queue of so many handles; and the disk.
+///
+/// # Errors
+/// `Accounts` where entries were taken from the trail, which no worker of a load does.
+pub(crate) fn count_up<D: Drop>(
     queued: u64,
-    closed: &Closed<D, C>,
-    outcome: Outcome,
-) -> Loaded
-    requires trail { (past : ℕ) × Follow 0 0 past closed.now.trail.items }
-    ensures counts { CountsUp queued closed.now.handles closed.now.changes closed.now.trail.items result }
-    ensures outcome { (result.refused ≡ outcome.refused) × (result.commit ≡ outcome.commit)
-        × (result.checkpoint ≡ outcome.checkpoint) }
+    ran: Ran<Option<Refused>, D>,
+) -> Result<(Loaded, D), LoadFault>
+    requires { Follow (start_of ran.trail.items) 0 ran.settled ran.trail.items }
+    ensures counts { IfOk result (λ told. CountsRun queued ran told.0) }
+    ensures disk { IfOk result (λ told. told.1 ≡ ran.disk) }
+    ensures follows { IfOk result (λ _. Follow 0 0 ran.settled ran.trail.items) }
+    ensures faults { IfErr result (λ fault. fault ≡ Accounts) }
 {
-    let (settled, blocks) = add_up(&closed.trail);
-    Loaded {
-        queued,
-        handles: closed.handles,
-        changes: closed.changes,
+    let Ran {
+        disk,
+        answers,
+        handles,
         settled,
-        groups: closed.trail.len() as u64,
-        blocks,
-        refused: outcome.refused,
-        commit: outcome.commit,
-        checkpoint: outcome.checkpoint,
+        changes,
+        trail,
+        commit,
+        checkpoint,
+    } = ran;
+    if !begins_at_first(&trail) {
+        return Err(LoadFault::Accounts);
     }
+    let loaded = Loaded {
+        queued,
+        handles,
+        changes,
+        settled,
+        groups: trail.len() as u64,
+        blocks: blocks_of(&trail),
+        refused: first_of(&answers),
+        commit,
+        checkpoint,
+    };
+    Ok((loaded, disk))
 }
 
 /// Whether a trail begins at the ticket 0, as it does where no entry was taken from it.
-pub(crate) fn begins_at_first(trail: &[Entry]) -> bool
+fn begins_at_first(trail: &[Entry]) -> bool
     ensures { IsTrue result ↔ (start_of trail.now ≡ 0) }
 {
     match trail.first() {
@@ -43,19 +61,16 @@ pub(crate) fn begins_at_first(trail: &[Entry]) -> bool
     }
 }
 
-/// How many handles the groups of a trail have settled, and how many log blocks they take.
-fn add_up(trail: &[Entry]) -> (u64, u64)
+/// How many log blocks the groups of a trail take.
+fn blocks_of(trail: &[Entry]) -> u64
     requires { (past : ℕ) × Follow 0 0 past trail.now }
-    ensures settled { Follow 0 0 result.0 trail.now }
-    ensures blocks { result.1 ≡ sum_by (λ e. e.blocks) trail.now }
+    ensures { result ≡ sum_by (λ e. e.blocks) trail.now }
 {
-    let mut settled = 0;
     let mut blocks = 0;
     for entry in trail {
         blocks += widened(entry.blocks, entry.number);
-        settled = entry.past;
     }
-    (settled, blocks)
+    blocks
 }
 
 /// A group's blocks in 64 bits. They have 32, as the group's number has.
@@ -65,4 +80,26 @@ fn widened(blocks: u32, _number: u32) -> u64
 {
     // `_number` is for the proof alone: that it has 32 bits is known of a parameter, and not of an entry's field
     u64::from(blocks)
+}
+
+/// Of what each worker has refused, the handle that is earliest in the queue.
+fn first_of(answers: &[Option<Refused>]) -> Option<Refused>
+    ensures { result ≡ first_refused answers.now }
+{
+    let mut first = None;
+    for refused in answers {
+        first = earlier(first, *refused);
+    }
+    first
+}
+
+/// The one of two refused handles that is earlier in the queue.
+fn earlier(one: Option<Refused>, other: Option<Refused>) -> Option<Refused>
+    ensures { result ≡ earlier_refused one other }
+{
+    match (one, other) {
+        (Some(one), Some(other)) if other.handle < one.handle => Some(other),
+        (Some(one), _) => Some(one),
+        (None, other) => other,
+    }
 }

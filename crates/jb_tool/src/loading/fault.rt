@@ -1,7 +1,5 @@
-use jb_block::Memory;
-use jb_deck::OpenFault;
-use jb_desk::{BeginFault, SeatFault};
 use jb_handle::TouchFault;
+use jb_journal::{BeginFault, HandleFault as ChangeFault, OpenFault};
 
 /// Why nothing was loaded, or why it is not known what was.
 #[derive(Clone, Copy, Debug, PartialEq, Eq)]
@@ -14,17 +12,6 @@ pub enum LoadFault {
     Memory,
     /// The accounts of the desk do not agree. This cannot happen.
     Accounts,
-}
-
-impl From<Memory> for LoadFault {
-    ghost use Rattle.std.specs.Prelude.{◌≡◌};
-    ghost use Rattle.jb_tool.specs.declared.loading.fault.LoadFault.TheVariants.{Memory as OutOfMemory};
-
-    ghost from_gives = { λ _ fault. fault ≡ OutOfMemory };
-
-    fn from(_: Memory) -> LoadFault {
-        LoadFault::Memory
-    }
 }
 
 /// Why a handle of the queue did not stop.
@@ -86,15 +73,19 @@ impl From<TouchFault> for HandleFault {
     }
 }
 
-impl From<SeatFault> for HandleFault {
+impl From<ChangeFault<TouchFault>> for HandleFault {
     ghost use Rattle.std.specs.Prelude.{◌≡◌};
-    ghost use Rattle.jb_tool.specs.declared.loading.fault.HandleFault.TheVariants.{Closed};
+    ghost use Rattle.jb_tool.specs.Faults.{not_stopped};
 
-    ghost from_gives = { λ _ given. given ≡ Closed };
+    ghost from_gives = { λ fault given. given ≡ not_stopped fault };
 
-    fn from(fault: SeatFault) -> HandleFault {
+    fn from(fault: ChangeFault<TouchFault>) -> HandleFault {
         match fault {
-            SeatFault::Closed => HandleFault::Closed,
+            ChangeFault::Begin(fault) => HandleFault::from(fault),
+            ChangeFault::Refused(fault) => HandleFault::from(fault),
+            ChangeFault::Aborted => HandleFault::Aborted,
+            ChangeFault::NotOpen => HandleFault::NotOpen,
+            ChangeFault::Memory => HandleFault::Memory,
         }
     }
 }

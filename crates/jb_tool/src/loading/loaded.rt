@@ -1,5 +1,5 @@
 use crate::loading::fault::HandleFault;
-use jb_desk::Ended;
+use jb_journal::Ended;
 
 /// A handle that was not run to its end.
 #[derive(Clone, Copy, Debug, PartialEq, Eq)]
@@ -25,17 +25,6 @@ pub struct Loaded {
     pub groups: u64,
     /// How many log blocks these groups take.
     pub blocks: u64,
-    /// The first handle of the queue that was refused.
-    pub refused: Option<Refused>,
-    /// How the committer ended.
-    pub commit: Ended,
-    /// How the checkpointer ended; `None` where none was asked for.
-    pub checkpoint: Option<Ended>,
-}
-
-/// How the threads of a load ended.
-#[derive(Clone, Copy)]
-pub(crate) struct Outcome {
     /// The first handle of the queue that was refused.
     pub refused: Option<Refused>,
     /// How the committer ended.

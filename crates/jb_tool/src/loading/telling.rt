@@ -5,7 +5,7 @@ ghost use Rattle.jb_tool.specs.Telling.{ends_text, faults_text, refused_text};
 
 use crate::loading::loaded::{Loaded, Refused};
 use itoa::Buffer;
-use jb_desk::Ended;
+use jb_journal::Ended;
 use jb_text::{WriteFault, put_parts};
 use std::io::Write;
 

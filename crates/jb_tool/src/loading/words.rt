@@ -1,4 +1,4 @@
-//! The words of a handle of the queue are put into a handle of the desk.
+//! The words of a handle of the queue are put into a handle of the journal.
 ghost use Rattle.std.specs.Prelude.{◌≡◌, IfErr, OnOk};
 ghost use Rattle.std.specs.FinMap as map;
 ghost use Rattle.jb_handle.specs.Handle.{holder, changes_of};
@@ -7,15 +7,15 @@ ghost use Rattle.jb_tool.specs.Refusing.{IsRefusedFor};
 
 use jb_handle::{Handle, TouchFault, Words};
 
-/// Puts these words into a handle that has none, by rising home.
+/// Puts these words into a handle, by rising home. Nothing is said of a handle that had some.
 ///
 /// # Errors
 /// Why a word was refused; those before it are put.
 pub(crate) fn put_words<S>(handle: &mut Handle<S>, words: &Words) -> Result<(), TouchFault>
-    requires fresh { (changes_of handle.old).words ≡ map.empty }
     ensures seat { holder handle.new ≡ holder handle.old }
-    ensures ok { OnOk result ((changes_of handle.new).words ≡ words.now) }
-    ensures refused { IfErr result (λ fault. IsRefusedFor (changes_of handle.old).shape words.now (not_touched fault)) }
+    ensures ok { (changes_of handle.old).words ≡ map.empty → OnOk result ((changes_of handle.new).words ≡ words.now) }
+    ensures refused { (changes_of handle.old).words ≡ map.empty
+        → IfErr result (λ fault. IsRefusedFor (changes_of handle.old).shape words.now (not_touched fault)) }
 {
     for (home, word) in words.entries() {
         handle.put(*home, word)?;

@@ -1,136 +1,80 @@
-//! A worker runs its handles of the queue.
-ghost use Rattle.std.specs.Prelude.{◌≡◌, ◌+◌, ◌<◌, ◌≤◌, ℕ, List, [], length, None};
-ghost use Rattle.jb_desk.specs.Desks.{desk_id, shape_in};
-ghost use Rattle.jb_desk.specs.Seats.{changes, made_by, desk_of};
-ghost use Rattle.jb_tool.specs.Settled.{MayStop};
-ghost use Rattle.jb_tool.specs.Runs.{IsAt, IsRun, IsCounted, run_of};
-ghost use Rattle.jb_tool.specs.Running.{RunsAt};
+//! The workers of a load run the handles of a queue.
+ghost use Rattle.std.specs.Prelude.{◌≡◌, ◌+◌, ◌<◌, ◌≤◌, ℕ, List, [], length};
 ghost use Rattle.jb_handle.specs.declared.stopped.Stopped.{Stopped as StoppedValue};
+ghost use Rattle.jb_journal.specs.Client.{IsClient, client_stops, shape_of};
 ghost use Rattle.jb_queue.specs.QueueLines.{StandsAfter, handles_of};
+ghost use Rattle.jb_tool.specs.Runs.{IsRun, RunsAt};
 
 use crate::loading::fault::HandleFault;
 use crate::loading::handle::run_handle;
 use crate::loading::loaded::Refused;
-use jb_desk::{Desk, Left, Origin, Seat, Sights};
-use jb_disk::{Clock, Disk};
+use jb_journal::{Client, Clock, Disk, Origin, Worker};
 use jb_queue::{HandleReader, QueueLines};
 use std::alloc::Global;
 use std::sync::Wait;
 use std::sync::ledger::Ledger;
 use std::time;
 
-/// What a worker leaves.
+/// Workers that run the handles of a queue. The one at the place k of T runs the handles k, k + T, k + 2T and so on,
+/// up to the first that is refused, and answers that one.
 #[derive(Drop)]
-pub(crate) struct Worked<H: Origin, N: Ledger> {
-    /// What its seat left; `None` where it had none.
-    pub left: Option<Left<H, N>>,
-    /// The first handle of it that was refused, and the last one that it ran.
-    pub refused: Option<Refused>,
+pub(crate) struct Loader<'q> {
+    /// For the words of a handle, which are read when it is run.
+    pub alloc: Global,
+    /// What is loaded.
+    pub queue: &'q QueueLines,
 }
 
-/// Runs the handles at the places `at`, `at + step` and so on, until one is refused.
-pub(crate) fn work<D: Disk, C: Clock, R: Wait + time::Clock, H: Origin, N: Ledger>(
-    rt: &R,
-    alloc: Global,
-    desk: &Desk<D, C, H, N>,
-    queue: &QueueLines,
-    step: usize,
-    at: usize,
-) -> Worked<H, N>
-    requires step { (1 ≤ step) × (step ≤ 64) }
-    requires words { MayStop H.begun (handles_of queue.now) }
-    ensures run { IsRun (shape_in desk.now) (handles_of queue.now) step at (run_of result) }
-    ensures counted { IsCounted result }
-{
-    if at >= queue.len() {
-        return stopped_at(None);
-    }
-    match desk.seat(rt) {
-        Ok(seat) => run_all(rt, alloc, desk, seat, queue, step, at),
-        Err(fault) => stopped_at(Some((at, HandleFault::from(fault)))),
-    }
-}
+impl Worker<Option<Refused>> for Loader<'_> {
+    ghost answers = { λ loader begun shape sure workers at stops known refused.
+        IsRun shape (handles_of loader.queue.now) workers at stops refused };
 
-/// Runs the handles of a worker at its seat.
-fn run_all<D: Disk, C: Clock, R: Wait + time::Clock, H: Origin, N: Ledger>(
-    rt: &R,
-    alloc: Global,
-    desk: &Desk<D, C, H, N>,
-    seat: Seat<H, N>,
-    queue: &QueueLines,
-    step: usize,
-    at: usize,
-) -> Worked<H, N>
-    requires step { (1 ≤ step) × (step ≤ 64) }
-    requires at { at < length (handles_of queue.now) }
-    requires desk { desk_of seat ≡ desk_id desk.now }
-    requires fresh { (changes seat ≡ 0) × (made_by seat ≡ []) }
-    requires words { MayStop H.begun (handles_of queue.now) }
-    ensures run { IsRun (shape_in desk.now) (handles_of queue.now) step at (run_of result) }
-    ensures counted { IsCounted result }
-{
-    let (mut seat, mut refused) = (seat, None);
-    let mut seen = desk.sights(rt);
-    let mut reader = queue.reader();
-    let (mut next, mut passed) = (at, at);
-    while next < queue.len() {
-        let (back, ran) = run_next(rt, alloc, desk, &mut seen, seat, &mut reader, passed);
-        seat = back;
-        match ran {
-            Ok(_ticket) => {
-                next += step;
-                passed = step - 1;
-            }
-            Err(fault) => {
-                refused = Some(Refused {
+    fn work<'a, D: Disk, C: Clock, R: Wait + time::Clock, H: Origin, N: Ledger>(
+        &self,
+        client: &mut Client<'a, D, C, R, H, N>,
+        workers: usize,
+        at: usize,
+    ) -> Option<Refused>
+        requires client { IsClient H.begun client.old }
+        requires fresh { client_stops client.old ≡ [] }
+        requires workers { (1 ≤ workers) × (workers ≤ 64) }
+        ensures answers { IsRun (shape_of client.old) (handles_of self.now.queue.now) workers at
+            (client_stops client.new) result }
+    {
+        let mut reader = self.queue.reader();
+        let (mut next, mut passed) = (at, at);
+        while next < self.queue.len() {
+            if let Err(fault) = run_next(self.alloc, client, &mut reader, passed) {
+                return Some(Refused {
                     handle: next as u64,
                     fault,
                 });
-                break;
             }
+            next += workers;
+            passed = workers - 1;
         }
-    }
-    Worked {
-        left: Some(desk.leave(rt, seat)),
-        refused,
+        None
     }
 }
 
 /// Passes over so many handles of a queue, reads the next one, and runs it; the words of one handle are read at a time.
-fn run_next<D: Disk, C: Clock, R: Wait + time::Clock, H: Origin, N: Ledger>(
-    rt: &R,
+fn run_next<'a, D: Disk, C: Clock, R: Wait + time::Clock, H: Origin, N: Ledger>(
     alloc: Global,
-    desk: &Desk<D, C, H, N>,
-    seen: &mut Sights<D, H>,
-    seat: Seat<H, N>,
+    client: &mut Client<'a, D, C, R, H, N>,
     reader: &mut HandleReader<'_>,
     passed: usize,
-) -> (Seat<H, N>, Result<u64, HandleFault>)
-    requires desk { desk_of seat ≡ desk_id desk.now }
-    requires words { (queue : List StoppedValue) × (at : ℕ) × StandsAfter reader.old queue at × MayStop H.begun queue }
-    ensures desk { desk_of result.0 ≡ desk_id desk.now }
+) -> Result<u64, HandleFault>
+    requires client { IsClient H.begun client.old }
+    ensures client { IsClient H.begun client.new }
+    ensures shape { shape_of client.new ≡ shape_of client.old }
     ensures ran { (queue : List StoppedValue) (at : ℕ) → StandsAfter reader.old queue at → at + passed < length queue
-        → RunsAt (shape_in desk.now) queue (at + passed) seat result.0 result.1 }
+        → RunsAt (shape_of client.old) queue (at + passed) (client_stops client.old) (client_stops client.new) result }
     ensures placed { (queue : List StoppedValue) (at : ℕ) → StandsAfter reader.old queue at → at + passed < length queue
         → StandsAfter reader.new queue (at + passed + 1) }
 {
     match reader.read(alloc, passed) {
-        Ok(Some(words)) => run_handle(rt, desk, seen, seat, &words),
+        Ok(Some(words)) => run_handle(client, &words),
         // a place that the queue has is never `None`
-        Ok(None) | Err(_) => (seat, Err(HandleFault::Memory)),
-    }
-}
-
-/// A worker that has run none of its handles, as the first was refused, or as it has none.
-fn stopped_at<H: Origin, N: Ledger>(refused: Option<(usize, HandleFault)>) -> Worked<H, N>
-    ensures left { result.left ≡ None }
-    ensures refused { IsAt refused result.refused }
-{
-    Worked {
-        left: None,
-        refused: refused.map(|(at, fault)| Refused {
-            handle: at as u64,
-            fault,
-        }),
+        Ok(None) | Err(_) => Err(HandleFault::Memory),
     }
 }

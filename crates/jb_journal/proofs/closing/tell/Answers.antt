@@ -1,11 +1,15 @@
-use Rattle.std.proofs.Common.{◌≡◌, ap, ◌∙◌, arith}
+use Rattle.std.proofs.Common.{◌≡◌, refl, ap, ◌∙◌, arith}
 use Rattle.std.proofs.lemmas.Bool.{OnTrue_from}
 use Rattle.std.proofs.lemmas.Grind.{common_steps}
+use Rattle.jb_deck.proofs.Shapes.{shape-same}
 use Rattle.jb_deck.specs.Done.{past_after}
 use Rattle.jb_desk.specs.Ends.{is_shut}
 use Rattle.jb_journal.proofs.Ending.{settled-as}
 use Rattle.jb_journal.proofs.closing.tell.Goals as goal
 use Rattle.jb_journal.proofs.closing.tell.Goals.{else-is_shut-via-then-is_shut+else-settled-handles, else-is_shut-via-else-is_shut}
+
+pub returns-clause-told : goal.returns-clause-told
+returns-clause-told g c = (refl, refl, refl, refl, refl, shape-same c.args.closed.shape c.args.shape c.if-ne.ensures)
 
 pub returns-clause-ends : goal.returns-clause-ends
 returns-clause-ends g c =

@@ -9,7 +9,7 @@ returns g c =
     let closed = c.close.ensures in
     record {
       ran = IfOk-weaker c.close.result _ _
-          (ran-all g.D.Disk begun (g.W.Worker.answers c.args.worker.now begun) c.args.options.workers c.run_all-ran.result.0 _ c.run_all-ran.ensures.ran c.in_ok-gathered.ensures.gathered)
+          (ran-all g.D.Disk begun (g.W.Worker.answers c.args.worker.now begun c.args.shape) c.args.options.workers c.run_all-ran.result.0 _ c.run_all-ran.ensures.ran c.in_ok-gathered.ensures.gathered c.args.shape)
           closed.closed;
       ends = IfOk-weaker c.close.result _ _ (λ told ends. ends c.args.options.checkpoint c.run_all-ran.ensures.ended) closed.ends;
       since = closed.since;

@@ -1,11 +1,18 @@
+use Rattle.std.proofs.lemmas.Result.{IfOk-weaker}
 use Rattle.jb_journal.proofs.Refusing.{refuses-as}
 use Rattle.jb_journal.proofs.running.run_on.Goals as goal
 
 pub returns-in-Ok : goal.returns-in-Ok
 returns-in-Ok g c =
     let ran = c.run_deck.ensures in
-    let opened = c.in-Ok.ensures.opened c.shape-shape.result c.shape-shape.ensures.journal in
-    record { ran = ran.ran; ends = ran.ends; since = ran.since; refused = refuses-as g.D.Disk c.args.disk (c.shape-shape.result, opened) c.run_deck.result ran.faults }
+    let shape = c.shape-shape.result in
+    let opened = c.in-Ok.ensures.opened shape c.shape-shape.ensures.journal in
+    record {
+      ran = IfOk-weaker c.run_deck.result _ _ (λ told all. record { shape = shape; opened = opened; all = all }) ran.ran;
+      ends = ran.ends;
+      since = ran.since;
+      refused = refuses-as g.D.Disk c.args.disk (shape, opened) c.run_deck.result ran.faults;
+    }
 
 -- the disk is lost
 pub returns-in-Err : goal.returns-in-Err

@@ -5,11 +5,11 @@ use Rattle.std.specs.FinMap as map
 use Rattle.jb_handle.specs.Handle.{holder, changes_of}
 use Rattle.jb_tool.proofs.loading.words.put_words.Given as goal
 
--- the handle has the words so far
+-- a handle that had none has the words so far
 abbrev pub invariant-loop-home : goal.invariant-loop-home
 invariant-loop-home g l = record {
   seat : holder l.handle ≡ holder l.initial.handle;
   shape : (changes_of l.handle).shape ≡ (changes_of l.initial.handle).shape;
-  words : (q : ℕ) → map.get (changes_of l.handle).words q ≡ option_or (map.find nat_cmp q (take l.home-index l.home-items)) None;
-  few : map.len (changes_of l.handle).words ≤ l.home-index;
+  words : (changes_of l.initial.handle).words ≡ map.empty → (q : ℕ) → map.get (changes_of l.handle).words q ≡ option_or (map.find nat_cmp q (take l.home-index l.home-items)) None;
+  few : (changes_of l.initial.handle).words ≡ map.empty → map.len (changes_of l.handle).words ≤ l.home-index;
 }
