@@ -5,7 +5,7 @@ use Rattle.jb_format.specs.Front.{super_on}
 use Rattle.jb_handle.specs.Word.{WordMap}
 use Rattle.jb_handle.specs.declared.stopped.Stopped.{Stopped}
 use Rattle.jb_format.specs.Ready.{revoking}
-use Rattle.jb_super.specs.Superblock.{Superblock, superblock_in}
+use Rattle.jb_super.specs.Superblock.{Superblock, new_super}
 use Rattle.jb_super.specs.declared.fault.SuperFault.{SuperFault}
 
 -- what is known of the disk when a desk begins, and of the words that its handles may stop with
@@ -29,7 +29,7 @@ pub record Begun : Type 1 where
 -- the superblock that was read, with the feature for revoke blocks
 abbrev pub revoking_in : Result Superblock SuperFault → Superblock
 revoking_in (Ok sb) = revoking sb
-revoking_in (Err fault) = superblock_in []
+revoking_in (Err fault) = new_super 0 0 0 []
 
 -- the superblock of the journal on a disk, with the feature for revoke blocks, which opening it sets
 abbrev pub own_on : ℕ → ℕ → Image → Superblock
@@ -37,7 +37,7 @@ own_on size count c = revoking_in (super_on size count c)
 
 -- nothing is known of the start, and handles stop with any words
 abbrev pub unknown : Begun
-unknown = record { is_known = ⊥; size = 0; count = 0; faults = 0; own = superblock_in []; homes = λ home. []; since = 0; left = λ c. ⊥; stops = λ words. Unit {0} }
+unknown = record { is_known = ⊥; size = 0; count = 0; faults = 0; own = new_super 0 0 0 []; homes = λ home. []; since = 0; left = λ c. ⊥; stops = λ words. Unit {0} }
 
 -- each of the handles stopped with words that a handle may stop with
 abbrev pub AreStops : Begun → List Stopped → Type 0

@@ -7,7 +7,8 @@ use Rattle.jb_disk.specs.Image.{Image, block}
 use Rattle.jb_super.specs.Superblock.{Superblock}
 use Rattle.jb_handle.specs.declared.stopped.Stopped.{Stopped}
 use Rattle.jb_handle.specs.declared.shape.Shape.{Shape}
-use Rattle.jb_format.specs.Front.{homes_in, wide_in}
+use Rattle.jb_super.specs.Features.{wide_in}
+use Rattle.jb_format.specs.Front.{homes_in}
 use Rattle.jb_format.specs.Ready.{has_revoke, revoking, revoking_if}
 use Rattle.jb_log.specs.Frame.{KeepsFrame, KeepsOutside}
 use Rattle.jb_deck.specs.Deck.{IsShapeOf, OpenDeck}

@@ -8,7 +8,8 @@ use Rattle.jb_super.specs.Superblock.{Superblock}
 use Rattle.jb_scan.specs.declared.transaction.Piece.{Piece}
 use Rattle.jb_scan.specs.declared.transaction.Piece.TheVariants.{Revokes, Run}
 use Rattle.jb_scan.specs.declared.transaction.Transaction.{Transaction}
-use Rattle.jb_format.specs.Front.{homes_in, super_on, wide_in}
+use Rattle.jb_super.specs.Features.{wide_in}
+use Rattle.jb_format.specs.Front.{homes_in, super_on}
 use Rattle.jb_recover.specs.Refusals.{image_refusal}
 use Rattle.jb_recover.specs.Window.{found_on}
 use Rattle.jb_deck.specs.Trailing.{FollowsSome}
