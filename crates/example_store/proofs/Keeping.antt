@@ -4,12 +4,12 @@ use Rattle.std.proofs.lemmas.List.Elements.{All-push}
 use Rattle.jb_journal.specs.Client.{one_block}
 use Rattle.jb_journal.specs.Names.{Ghosts}
 use Rattle.jb_journal.specs.Notes.{Note, AreInNotes, IsInNotes, Known, KnowsMore, Stop}
-use Rattle.jb_journal.specs.Running.{RanOn}
-use Rattle.jb_journal.specs.Starting.{started_on}
+use Rattle.jb_journal.specs.Run.{RanOn}
+use Rattle.jb_journal.specs.Start.{started_on}
 use Rattle.jb_journal.specs.declared.ran.Ran.{Ran}
 use Rattle.jb_journal.proofs.Noting.{noted-on}
 use Rattle.jb_journal.proofs.Staying.{all-stay}
-use Rattle.example_store.specs.Keeping.{Acknowledges, AreInNotesButOne, IsLast, IsPut, Keeps, MayHaveStopped, PutsBlock, PutsHome}
+use Rattle.example_store.specs.Acknowledged.{Acknowledges, AreInNotesButOne, IsLast, IsPut, Keeps, MayHaveStopped, PutsBlock, PutsHome}
 use Rattle.example_store.specs.declared.failed.Failed.{Failed}
 
 -- what is known stays known

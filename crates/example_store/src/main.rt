@@ -38,7 +38,7 @@ const SIZE: BlockSize = BlockSize::OneKib;
 const JOURNAL: u32 = 256;
 
 ghost use Rattle.std.specs.Prelude.{IfOk};
-ghost use Rattle.example_store.specs.Keeping.{Keeps};
+ghost use Rattle.example_store.specs.Acknowledged.{Keeps};
 
 /// Runs the worker on a journal. What it has acknowledged stays, whenever a crash comes, where the disk that is given
 /// back is honest.

@@ -1,5 +1,5 @@
 pub mod Advice
 pub mod App
 pub mod Faults
-pub mod Named
-pub mod Wanted
+pub mod PlainCommand
+pub mod Command

@@ -3,9 +3,9 @@ ghost use Rattle.clap.specs.Kinds.{FailsBy};
 ghost use Rattle.clap.specs.Words.{app_of, first_of, found_of, rows_of, subcommand_of, subcommand_rows_of};
 ghost use Rattle.jb_args.specs.App.{jb_app};
 ghost use Rattle.jb_args.specs.Faults.{HasKind, fault_kinds};
-ghost use Rattle.jb_args.specs.Named.{asked, asks, cat_in, check_in, dump_in};
-ghost use Rattle.jb_args.specs.Named.{flag_in, format_in, number_in, options_in, options_said, recover_in};
-ghost use Rattle.jb_args.specs.Wanted.{load_in, load_said, wanted_in, wanted_of, wants};
+ghost use Rattle.jb_args.specs.PlainCommand.{asked, asks, cat_in, check_in, dump_in};
+ghost use Rattle.jb_args.specs.PlainCommand.{flag_in, format_in, number_in, options_in, options_said, recover_in};
+ghost use Rattle.jb_args.specs.Command.{load_in, load_said, wanted_in, wanted_of, wants};
 
 use crate::command::{LoadWords, Words};
 use crate::commands::jb_command;

@@ -19,13 +19,13 @@ use Rattle.jb_deck.specs.Deck.{IsShapeOf, OpenDeck}
 use Rattle.jb_deck.specs.Done.{past_after}
 use Rattle.jb_log.specs.Follows.{FollowsNone}
 use Rattle.jb_disk.specs.Throughout.{AllHave}
-use Rattle.jb_deck.specs.Opening.{CountsOpen, FollowsEntry, IsNew, Opens, RefusesOpen, disk_in, opened_log, recovered_home}
+use Rattle.jb_deck.specs.Open.{CountsOpen, FollowsEntry, IsNew, Opens, RefusesOpen, disk_in, opened_log, recovered_home}
 use Rattle.jb_deck.specs.declared.fault.OpenFault.{OpenFault}
 use Rattle.jb_log.specs.declared.log.Log.{Log}
 use Rattle.jb_deck.specs.Since.{LiveOf, deck_homes}
 use Rattle.jb_deck.proofs.Stood.{Stood}
 use Rattle.jb_book.specs.Origin.{Begun, own_on, revoking_in}
-use Rattle.jb_book.specs.Opened.{WasOpened}
+use Rattle.jb_book.specs.OpenDisk.{WasOpened}
 use Rattle.jb_book.specs.Since.{NumberedFrom, IsBegunOn, IsCosted, IsSince}
 use Rattle.jb_book.proofs.Lasting.{first-none}
 use Rattle.jb_deck.proofs.Opened.{revoking-same}

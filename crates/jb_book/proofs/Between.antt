@@ -25,7 +25,7 @@ use Rattle.jb_core.specs.declared.event.Reply.TheVariants.{Plain, Ticket}
 use Rattle.jb_core.specs.Lives.{Log, settled_now, handles_of_order, stop_order}
 use Rattle.jb_core.specs.Machine.{Machine, after_event}
 use Rattle.jb_core.proofs.Wholes.{whole}
-use Rattle.jb_book.specs.Tied.{Tied, touches_of}
+use Rattle.jb_book.specs.MachineTie.{Tied, touches_of}
 use Rattle.jb_book.proofs.Follows.{follow-length}
 use Rattle.jb_book.proofs.Accounts.{begun-sound, dropped-sound, queued-sound, shut-sound}
 use Rattle.jb_book.proofs.SeatTies.{tied-opens, tied-stops, tied-drops, tied-drops-none}

@@ -9,10 +9,10 @@ use Rattle.jb_cost.specs.Cut.{IsCut, RisesTo}
 use Rattle.jb_cost.proofs.Cuts.{rises-le}
 use Rattle.jb_handle.specs.declared.shape.Shape.{Shape}
 use Rattle.jb_handle.specs.declared.stopped.Stopped.{Stopped}
-use Rattle.jb_deck.specs.Gathering.{entries_for, entries_from, groups_in}
+use Rattle.jb_deck.specs.GroupsOfBatch.{entries_for, entries_from, groups_in}
 use Rattle.jb_deck.specs.declared.done.Entry.{Entry}
 use Rattle.jb_book.specs.Since.{IsCosted, NumberedFrom, HasFirst, Since, WasGiven}
-use Rattle.jb_plan.specs.Prepared.{Planned, IsPlanned}
+use Rattle.jb_plan.specs.Prepare.{Planned, IsPlanned}
 use Rattle.jb_block.specs.declared.stamp.Stamp.{Stamp}
 use Rattle.jb_disk.specs.Image.{Image}
 use Rattle.jb_disk.specs.Faults.{CountsAny}
@@ -23,10 +23,10 @@ use Rattle.jb_disk.proofs.Moments.{weaken}
 use Rattle.jb_handle.specs.Tickets.{TicketsFrom}
 use Rattle.jb_handle.proofs.Tickets.{tickets-append}
 use Rattle.jb_deck.specs.Calls.{IsCall}
-use Rattle.jb_deck.specs.Committing.{AnswersBatch, CommitsBatch, CommitsOnDisk, FindsLive, LeavesGroups, RefusesBatch, SettlesSome, TakesBatch}
+use Rattle.jb_deck.specs.CommitBatch.{AnswersBatch, CommitsBatch, CommitsOnDisk, FindsLive, LeavesGroups, RefusesBatch, SettlesSome, TakesBatch}
 use Rattle.jb_deck.specs.Deck.{OpenDeck}
 use Rattle.jb_deck.specs.Done.{entries_of, past_after, start_of}
-use Rattle.jb_deck.specs.Trailing.{FollowsSome}
+use Rattle.jb_deck.specs.GroupByGroup.{FollowsSome}
 use Rattle.jb_deck.specs.declared.batched.BatchFault.{BatchFault}
 use Rattle.jb_deck.specs.declared.done.Done.{Done}
 use Rattle.jb_super.specs.Journal.{SameJournal}

@@ -12,18 +12,18 @@ use Rattle.jb_handle.specs.declared.stopped.Stopped.{Stopped}
 use Rattle.jb_super.specs.Journal.{SameJournal}
 use Rattle.jb_super.specs.Superblock.{Superblock}
 use Rattle.jb_log.specs.Follows.{Follows, FollowsNone, OldHeaders}
-use Rattle.jb_deck.specs.Gathering.{groups_in}
-use Rattle.jb_deck.specs.Trailing.{FollowsSome, handles_to}
+use Rattle.jb_deck.specs.GroupsOfBatch.{groups_in}
+use Rattle.jb_deck.specs.GroupByGroup.{FollowsSome, handles_to}
 use Rattle.jb_deck.specs.Calls.{IsRecoveredTo}
 use Rattle.jb_deck.proofs.Stood.{Stood, stood-recovered}
 use Rattle.jb_book.specs.Origin.{Begun}
 use Rattle.jb_book.specs.Since.{HasFirst, Since}
-use Rattle.jb_plan.specs.Prepared.{Planned}
+use Rattle.jb_plan.specs.Prepare.{Planned}
 use Rattle.jb_block.specs.declared.stamp.Stamp.{Stamp}
 use Rattle.jb_disk.specs.declared.disk.Disk.{Ghosts}
 use Rattle.jb_disk.specs.Time.{LeavesOnly}
 use Rattle.jb_board.proofs.Placed.{get_last}
-use Rattle.jb_deck.specs.Committing.{AnswersBatch}
+use Rattle.jb_deck.specs.CommitBatch.{AnswersBatch}
 use Rattle.jb_deck.specs.Deck.{OpenDeck}
 use Rattle.jb_deck.specs.Done.{Follow, entries_of, past_after, start_of}
 use Rattle.jb_deck.specs.declared.batched.BatchFault.{BatchFault}

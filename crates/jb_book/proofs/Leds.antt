@@ -17,9 +17,9 @@ use Rattle.jb_plan.specs.Costs.{geometry_of}
 use Rattle.jb_board.proofs.Placed.{placed_on}
 use Rattle.jb_book.specs.Account.{Account, IsNewBook, IsAccountSound, granted_to, dropped_of, queued, taken_all, settled_to, failed_of, shortened, trail_from, begin_refusal, CanStop, CanTake, Settles}
 use Rattle.jb_book.specs.Calls.{Call, Does, Opened, Enqueued, Dropped, Took, Settled, Failed, Shut, stops_of, out_of, AreOfFirst, IsCutOf}
-use Rattle.jb_book.specs.Led.{IsInHistory, with_trail, words_stopped, Led, AreCut, IsLed}
+use Rattle.jb_book.specs.CallsToBook.{IsInHistory, with_trail, words_stopped, Led, AreCut, IsLed}
 use Rattle.jb_cost.proofs.Joined.{cut-joined}
-use Rattle.jb_book.specs.Tied.{HasHandle}
+use Rattle.jb_book.specs.MachineTie.{HasHandle}
 use Rattle.jb_book.proofs.Shadows.{count-parts}
 use Rattle.jb_book.proofs.Least.{has_least}
 use Rattle.jb_book.proofs.Limits.{first-few, none-filled, filled-pieces}

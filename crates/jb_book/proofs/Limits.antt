@@ -24,7 +24,7 @@ use Rattle.jb_book.specs.Calls.{AreOfFirst}
 use Rattle.jb_book.specs.Events.{granted_in, shadow_of}
 use Rattle.jb_book.specs.Shadow.{Shadow}
 use Rattle.jb_book.specs.Shadow as shadow
-use Rattle.jb_book.specs.Tied.{HasHandle}
+use Rattle.jb_book.specs.MachineTie.{HasHandle}
 
 -- ---- the limits of a machine
 

@@ -11,7 +11,7 @@ use Rattle.jb_handle.specs.Word.{WordMap}
 use Rattle.jb_handle.specs.declared.shape.Shape.{Shape}
 use Rattle.jb_deck.specs.declared.done.Entry.{Entry}
 use Rattle.jb_board.specs.HistoryRule.{StandsIn, with_places}
-use Rattle.jb_book.specs.Led.{IsMachineRun}
+use Rattle.jb_book.specs.CallsToBook.{IsMachineRun}
 use Rattle.jb_book.specs.Origin.{Begun}
 use Rattle.jb_book.specs.History.{AreAllStops, CameAbout}
 

@@ -9,7 +9,7 @@ use Rattle.jb_disk.proofs.Moments.{weaken}
 use Rattle.jb_handle.specs.declared.stopped.Stopped.{Stopped}
 use Rattle.jb_deck.specs.Deck.{OpenDeck, on_disk}
 use Rattle.jb_log.specs.Log.{standing}
-use Rattle.jb_deck.specs.Reading.{AnswersRead, IsAsBefore}
+use Rattle.jb_deck.specs.ReadHome.{AnswersRead, IsAsBefore}
 use Rattle.jb_deck.specs.Since.{LiveOf, deck_homes}
 use Rattle.jb_deck.specs.declared.read.ReadHomeFault.{ReadHomeFault}
 use Rattle.jb_deck.specs.declared.read.ReadHomeFault.TheVariants.{Aborted, OutOfRange, Length, DeviceFault}

@@ -15,7 +15,7 @@ use Rattle.jb_core.proofs.Wholes.{whole}
 use Rattle.jb_book.specs.Account.{Account, IsNewBook, taken_all, settled_to, failed_of, CanTake, Settles, IsAccountSound, granted_to, dropped_of, queued, shortened, begin_refusal, CanStop}
 use Rattle.jb_book.specs.Calls.{Call, Opened, Enqueued, Dropped, Took, TookNone, Settled, Failed, Shut, stops_of, out_of, settled_of, AreOfFirst, IsCutOf, Does, CallsMake, handles_in, KeepsWhole}
 use Rattle.jb_book.specs.Shadow.{Shadow}
-use Rattle.jb_book.specs.Tied.{EveryRun}
+use Rattle.jb_book.specs.MachineTie.{EveryRun}
 use Rattle.jb_plan.specs.Costs.{cost_in, HasCut}
 use Rattle.jb_cost.specs.Cut.{IsLeastCut}
 use Rattle.jb_deck.specs.declared.done.Done.{Done}
@@ -26,7 +26,7 @@ use Rattle.jb_board.proofs.Placed.{placed_on}
 use Rattle.jb_board.specs.HistoryRule.{IsFirstPart}
 use Rattle.jb_book.specs.declared.fault.BeginFault.{BeginFault}
 use Rattle.jb_book.specs.declared.fault.WrongBatch.{WrongBatch}
-use Rattle.jb_book.specs.Led.{AreCut, FailsAfter, IsInHistory, IsLed, IsOutAs, IsRegistered, IsMachineRun, IsSettling, SettlesOrFails, words_stopped, with_trail}
+use Rattle.jb_book.specs.CallsToBook.{AreCut, FailsAfter, IsInHistory, IsLed, IsOutAs, IsRegistered, IsMachineRun, IsSettling, SettlesOrFails, words_stopped, with_trail}
 use Rattle.jb_book.proofs.Accounts.{taken-sound, settled-sound, failed-sound}
 use Rattle.jb_book.proofs.SeatTies.{tied-starts}
 use Rattle.jb_book.proofs.Ties.{tied-takes, tied-settles, tied-settles-none, tied-fails, tied-fails-again}

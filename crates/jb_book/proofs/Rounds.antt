@@ -2,13 +2,13 @@
 use Rattle.std.proofs.Common.{◌≡◌, ℕ, zero, suc, ◌+◌, ◌-◌, ◌≤◌, List, [], ◌∷◌, ◌++◌, length, take, slice_index, refl, ap, ◌∙◌, arith, Result, Ok, Err, sym, subst}
 use Rattle.jb_cost.specs.Cut.{RisesTo, IsCut}
 use Rattle.jb_deck.specs.Done.{past_after, Follow}
-use Rattle.jb_deck.specs.Gathering.{groups_in, entries_from, entries_for}
+use Rattle.jb_deck.specs.GroupsOfBatch.{groups_in, entries_from, entries_for}
 use Rattle.jb_deck.specs.declared.done.Entry.{Entry}
 use Rattle.jb_block.specs.declared.stamp.Stamp.{Stamp}
-use Rattle.jb_deck.specs.Committing.{AnswersBatch}
+use Rattle.jb_deck.specs.CommitBatch.{AnswersBatch}
 use Rattle.jb_deck.specs.Deck.{OpenDeck}
 use Rattle.jb_plan.specs.Costs.{cost_in}
-use Rattle.jb_plan.specs.Prepared.{Planned, IsPlanned}
+use Rattle.jb_plan.specs.Prepare.{Planned, IsPlanned}
 use Rattle.jb_deck.specs.declared.batched.BatchFault.{BatchFault}
 use Rattle.jb_deck.specs.declared.batched.BatchFault.TheVariants.{Aborted, WrongTicket, OtherShape, NumbersSpent, Memory, DeviceFault}
 use Rattle.jb_deck.specs.declared.done.Done.{Done}

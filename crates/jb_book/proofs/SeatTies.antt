@@ -25,7 +25,7 @@ use Rattle.jb_core.specs.Ran.{Ran}
 use Rattle.jb_core.proofs.Accepted.{there-at, still-up}
 use Rattle.jb_core.proofs.Runs.{sounds}
 use Rattle.jb_book.specs.Events.{shadow_of, granted_in}
-use Rattle.jb_book.specs.Tied.{AreAccepted, op_for, IsUntouched, HasHandle, Tied, TiedBy, touches_of}
+use Rattle.jb_book.specs.MachineTie.{AreAccepted, op_for, IsUntouched, HasHandle, Tied, TiedBy, touches_of}
 use Rattle.jb_cost.specs.declared.geometry.Geometry.{Geometry}
 use Rattle.jb_cost.specs.Cost.{worst_cost_of}
 use Rattle.jb_cost.specs.Credits.{IsMost}

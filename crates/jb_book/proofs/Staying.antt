@@ -17,7 +17,7 @@ use Rattle.jb_handle.specs.Word.{WordMap}
 use Rattle.jb_board.proofs.Placed.{get_last, placed_on}
 use Rattle.jb_book.specs.Account.{Account, trail_from}
 use Rattle.jb_book.specs.Calls.{IsCutOf}
-use Rattle.jb_book.specs.Led.{IsInHistory, IsRestOf, AreCut, HasOut}
+use Rattle.jb_book.specs.CallsToBook.{IsInHistory, IsRestOf, AreCut, HasOut}
 use Rattle.jb_disk.specs.declared.disk.Disk.{Ghosts}
 use Rattle.jb_board.specs.HistoryRule.{StandsIn}
 use Rattle.jb_deck.specs.Deck.{OpenDeck}

@@ -7,7 +7,7 @@ use Rattle.jb_deck.specs.Done.{past_after}
 use Rattle.jb_handle.specs.Word.{WordMap}
 use Rattle.jb_handle.specs.declared.stopped.Stopped.{Stopped}
 use Rattle.jb_board.proofs.Placed.{placed_on}
-use Rattle.jb_book.specs.Led.{IsInHistory}
+use Rattle.jb_book.specs.CallsToBook.{IsInHistory}
 use Rattle.jb_book.specs.History.{IsStop}
 use Rattle.jb_book.specs.Origin.{Begun}
 use Rattle.jb_book.specs.Origin.{AreStops}

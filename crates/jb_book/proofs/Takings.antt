@@ -5,8 +5,8 @@ use Rattle.std.proofs.Math.Seq.{drop-append_seam}
 use Rattle.std.proofs.lemmas.List.Elements.{All-drop, All-weaker}
 use Rattle.std.specs.declared.alloc.AllocError.{AllocError}
 use Rattle.jb_deck.specs.Done.{Follow, start_of, past_after}
-use Rattle.jb_deck.specs.Gathering.{entries_for, entries_from}
-use Rattle.jb_deck.specs.Taking.{StopsAt, MayTakeFirst, TakesTrail, oldest_number}
+use Rattle.jb_deck.specs.GroupsOfBatch.{entries_for, entries_from}
+use Rattle.jb_deck.specs.TakeTrail.{StopsAt, MayTakeFirst, TakesTrail, oldest_number}
 use Rattle.jb_deck.specs.declared.done.Entry.{Entry}
 use Rattle.jb_book.specs.Since.{NumberedFrom, HasFirst, IsCosted, Since, WasGiven}
 use Rattle.jb_disk.specs.declared.disk.Disk.{Ghosts}

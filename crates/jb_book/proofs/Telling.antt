@@ -6,16 +6,16 @@ use Rattle.jb_cost.specs.Cut.{RisesTo, IsCut}
 use Rattle.jb_cost.specs.Pieces.{pieces, pieces_from}
 use Rattle.jb_cost.proofs.Cuts.{rises-le}
 use Rattle.jb_plan.specs.Costs.{cost_in}
-use Rattle.jb_plan.specs.Prepared.{Planned, IsPlanned}
-use Rattle.jb_deck.specs.Committing.{AnswersBatch}
+use Rattle.jb_plan.specs.Prepare.{Planned, IsPlanned}
+use Rattle.jb_deck.specs.CommitBatch.{AnswersBatch}
 use Rattle.jb_deck.specs.Deck.{OpenDeck}
-use Rattle.jb_deck.specs.Gathering.{entries_from, entries_for}
+use Rattle.jb_deck.specs.GroupsOfBatch.{entries_from, entries_for}
 use Rattle.jb_deck.specs.declared.batched.BatchFault.{BatchFault}
 use Rattle.jb_deck.specs.declared.batched.BatchFault.TheVariants.{DeviceFault}
 use Rattle.jb_deck.specs.declared.done.Done.{Done}
 use Rattle.jb_deck.specs.declared.done.Entry.{Entry}
 use Rattle.jb_book.specs.Calls.{AreOfFirst}
-use Rattle.jb_book.specs.Tied.{TellsFirst}
+use Rattle.jb_book.specs.MachineTie.{TellsFirst}
 use Rattle.jb_book.proofs.Limits.{length-range}
 
 -- the first of these entries are those of fewer groups

@@ -20,7 +20,7 @@ use Rattle.jb_core.proofs.Runs.{sounds}
 use Rattle.jb_book.specs.Account.{Account, IsAccountSound, taken_all, settled_to, failed_of, CanTake, Settles}
 use Rattle.jb_book.specs.Calls.{AreOfFirst, IsCutOf}
 use Rattle.jb_book.specs.Shadow.{Shadow, took, settled_by, crashed}
-use Rattle.jb_book.specs.Tied.{IsUntouched, HasHandle, Tied, BookIsTied}
+use Rattle.jb_book.specs.MachineTie.{IsUntouched, HasHandle, Tied, BookIsTied}
 use Rattle.jb_book.proofs.Follows.{follow-length}
 use Rattle.jb_book.proofs.Shadows.{shadowed}
 use Rattle.jb_book.proofs.Limits.{limits, first-few, none-filled, filled-pieces}

@@ -8,7 +8,7 @@ use Rattle.jb_handle.specs.Word.{WordMap}
 use Rattle.jb_handle.specs.declared.shape.Shape.{Shape}
 use Rattle.jb_handle.specs.declared.stopped.Stopped.{Stopped}
 use Rattle.jb_board.specs.HistoryRule.{StandsIn, with_places}
-use Rattle.jb_book.specs.Led.{IsInHistory, IsMachineRun}
+use Rattle.jb_book.specs.CallsToBook.{IsInHistory, IsMachineRun}
 use Rattle.jb_deck.specs.Deck.{OpenDeck, IsShapeOf}
 use Rattle.jb_book.specs.Origin.{Begun}
 use Rattle.jb_book.specs.Since.{IsSinceOf}

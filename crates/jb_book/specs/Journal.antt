@@ -2,19 +2,19 @@
 use Rattle.std.specs.Prelude.{◌≡◌, ◌<◌, ◌≤◌, ◌⊎◌, ◌++◌, true, false, ℕ, List, [], All, Result, Ok, Err, OnOk}
 use Rattle.std.specs.Global.{Vec}
 use Rattle.std.specs.declared.alloc.AllocError.{AllocError}
-use Rattle.jb_plan.specs.Prepared.{Planned, IsPlanned}
+use Rattle.jb_plan.specs.Prepare.{Planned, IsPlanned}
 use Rattle.jb_block.specs.declared.stamp.Stamp.{Stamp}
 use Rattle.jb_disk.specs.Faults.{CountsAny}
 use Rattle.jb_disk.specs.KeptOn.{KeptOn}
 use Rattle.jb_disk.specs.declared.disk.Disk.{Ghosts}
 use Rattle.jb_scan.specs.Found.{log_blocks}
 use Rattle.jb_deck.specs.Checkpoints.{AnswersRun, Checkpoints, TakesOldest, TakesRun}
-use Rattle.jb_deck.specs.Committing.{CommitsBatch, CommitsOnDisk, FindsLive, RefusesBatch, SettlesSome, TakesBatch}
+use Rattle.jb_deck.specs.CommitBatch.{CommitsBatch, CommitsOnDisk, FindsLive, RefusesBatch, SettlesSome, TakesBatch}
 use Rattle.jb_deck.specs.Deck.{OpenDeck}
 use Rattle.jb_deck.specs.Done.{Follow, past_after, start_of}
 use Rattle.jb_log.specs.Log.{standing, transactions}
-use Rattle.jb_deck.specs.Reading.{AnswersRead}
-use Rattle.jb_deck.specs.Taking.{MayTakeFirst, TakesTrail, oldest_number}
+use Rattle.jb_deck.specs.ReadHome.{AnswersRead}
+use Rattle.jb_deck.specs.TakeTrail.{MayTakeFirst, TakesTrail, oldest_number}
 use Rattle.jb_deck.specs.declared.batched.BatchFault.{BatchFault}
 use Rattle.jb_deck.specs.declared.batched.BatchFault.TheVariants as batch
 use Rattle.jb_deck.specs.declared.checked.Checked.{Checked}

@@ -4,13 +4,13 @@ pub mod Calls
 pub mod Events
 pub mod History
 pub mod Journal
-pub mod Led
+pub mod CallsToBook
 pub mod Marks
-pub mod Opened
+pub mod OpenDisk
 pub mod Origin
 pub mod Rounds
 pub mod Shadow
 pub mod Since
 pub mod SinceMark
-pub mod Tied
+pub mod MachineTie
 pub mod Works

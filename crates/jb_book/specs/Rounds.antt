@@ -1,7 +1,7 @@
 -- What a commit tells of its batch, whatever journal it was.
 use Rattle.std.specs.Prelude.{◌≡◌, ℕ, ◌+◌, ◌<◌, ◌≤◌, length, Result, Ok, Err}
 use Rattle.jb_plan.specs.Batch.{Gathered}
-use Rattle.jb_plan.specs.Prepared.{Planned}
+use Rattle.jb_plan.specs.Prepare.{Planned}
 use Rattle.jb_deck.specs.Done.{Follow, first_ticket, entries_of, past_after}
 use Rattle.jb_deck.specs.declared.batched.BatchFault.{BatchFault}
 use Rattle.jb_deck.specs.declared.batched.BatchFault.TheVariants as batch

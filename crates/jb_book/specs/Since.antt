@@ -11,7 +11,7 @@ use Rattle.jb_super.specs.Journal.{SameJournal}
 use Rattle.jb_deck.specs.Deck.{OpenDeck}
 use Rattle.jb_deck.specs.Done.{past_after, start_of}
 use Rattle.jb_log.specs.Follows.{StandsBy}
-use Rattle.jb_deck.specs.Opening.{recovered_home, FollowsEntry}
+use Rattle.jb_deck.specs.Open.{recovered_home, FollowsEntry}
 use Rattle.jb_deck.specs.Calls.{IsRecoveredTo}
 use Rattle.jb_deck.specs.Since.{LiveOf, deck_homes}
 use Rattle.jb_deck.specs.declared.done.Entry.{Entry}

@@ -2,7 +2,7 @@
 ghost use Rattle.jb_core.specs.Steps.{MachineSteps};
 ghost use Rattle.jb_book.specs.Calls.{TakesLeast};
 ghost use Rattle.jb_book.specs.Events.{Shadowed, StepsShadow};
-ghost use Rattle.jb_book.specs.Tied.{BookIsTied, CommitTells, EveryRun};
+ghost use Rattle.jb_book.specs.MachineTie.{BookIsTied, CommitTells, EveryRun};
 
 use jb_core::{CoreFault, Event, Reply, State, step};
 use jb_disk::Disk;

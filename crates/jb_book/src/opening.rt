@@ -2,7 +2,7 @@
 ghost use Rattle.std.specs.Prelude.{◌≡◌, [], false, IfOk, IfErr};
 ghost use Rattle.jb_deck.specs.Deck.{IsShapeOf};
 ghost use Rattle.jb_handle.specs.declared.shape.Shape.{Shape as ShapeValue};
-ghost use Rattle.jb_book.specs.Opened.{NotOpened, WasOpened};
+ghost use Rattle.jb_book.specs.OpenDisk.{NotOpened, WasOpened};
 ghost use Rattle.jb_book.specs.Since.{IsBegunOn, IsSince};
 
 use crate::Origin;

@@ -33,7 +33,7 @@ pub struct Register<D: Disk, S: Origin> {
 impl<D: Disk, S: Origin> Model for Register<D, S> {
     ghost use Rattle.std.specs.Coded.{codes};
     ghost use Rattle.jb_handle.specs.Word.{words_code};
-    ghost use Rattle.jb_book.specs.Led.{Registered, registered, IsRegistered};
+    ghost use Rattle.jb_book.specs.CallsToBook.{Registered, registered, IsRegistered};
     ghost use Rattle.jb_book.specs.Marks.{AreOfBook};
 
     ghost Value = { Registered };
@@ -48,8 +48,8 @@ impl<D: Disk, S: Origin> Model for Register<D, S> {
 impl<D: Disk, S: Origin> Register<D, S> {
     ghost use Rattle.jb_book.specs.Account.{IsNewBook, granted_to, dropped_of, taken_all, shortened};
     ghost use Rattle.jb_book.specs.Account.{failed_of, begin_refusal, RefusesBegin, RefusesStop, CanTake};
-    ghost use Rattle.jb_book.specs.Led.{IsInHistory, IsLed};
-    ghost use Rattle.jb_book.specs.Led.{IsMachineRun, Queues};
+    ghost use Rattle.jb_book.specs.CallsToBook.{IsInHistory, IsLed};
+    ghost use Rattle.jb_book.specs.CallsToBook.{IsMachineRun, Queues};
     ghost use Rattle.jb_book.specs.Marks.{HasFailedMark, HasShapeMark, IsMarked, SeesSame, SeesStop};
     ghost use Rattle.jb_book.specs.Origin.{AreStops};
 

@@ -44,14 +44,14 @@ impl<D: Disk, C: Clock, S: Origin> Model for Works<D, C, S> {
 impl<D: Disk, C: Clock, S: Origin> Works<D, C, S> {
     ghost use Rattle.jb_block.specs.declared.stamp.Stamp.{Stamp};
     ghost use Rattle.jb_deck.specs.Checkpoints.{AnswersCheckpoint};
-    ghost use Rattle.jb_deck.specs.Committing.{AnswersBatch};
-    ghost use Rattle.jb_deck.specs.Reading.{AnswersRead};
-    ghost use Rattle.jb_deck.specs.Taking.{MayTakeFirst, TakesTrail, oldest_number};
+    ghost use Rattle.jb_deck.specs.CommitBatch.{AnswersBatch};
+    ghost use Rattle.jb_deck.specs.ReadHome.{AnswersRead};
+    ghost use Rattle.jb_deck.specs.TakeTrail.{MayTakeFirst, TakesTrail, oldest_number};
     ghost use Rattle.jb_book.specs.Journal.{AnswersAt, ChecksAt, ChecksRound, EndsRound, GivesTrail, ReadsHome};
     ghost use Rattle.jb_book.specs.Rounds.{CommitsAs};
-    ghost use Rattle.jb_book.specs.Tied.{TellsFirst};
+    ghost use Rattle.jb_book.specs.MachineTie.{TellsFirst};
     ghost use Rattle.jb_handle.specs.Tickets.{TicketsFrom};
-    ghost use Rattle.jb_book.specs.Led.{IsInHistory};
+    ghost use Rattle.jb_book.specs.CallsToBook.{IsInHistory};
     ghost use Rattle.jb_book.specs.Marks.{SeesMore};
     ghost use Rattle.jb_book.specs.History.{IsStop};
     ghost use Rattle.jb_book.specs.Origin.{AreStops};

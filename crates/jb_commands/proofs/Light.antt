@@ -7,7 +7,7 @@ use Rattle.jb_text.specs.Parts.{◌>>=◌, lines, read_first}
 use Rattle.jb_handle.specs.Size.{weight}
 use Rattle.jb_handle.specs.declared.stopped.Stopped.{Stopped}
 use Rattle.jb_queue.specs.Queue.{Queue, after_lines, at_line, format_of, limit_in_line, or_cause, queue_of}
-use Rattle.jb_queue.specs.Spelling.{width_text}
+use Rattle.jb_queue.specs.Grammar.{width_text}
 use Rattle.jb_queue.specs.declared.fault.Cause.TheVariants.{BlockSizeLine, LimitLine}
 use Rattle.jb_queue.specs.declared.fault.QueueFault.{QueueFault}
 use Rattle.jb_queue.proofs.SpelledText.{behind_format, behind_limit, format-is, limit-is}

@@ -6,7 +6,7 @@ use Rattle.jb_disk.specs.declared.file.FileDisk.{FileDisk}
 use Rattle.jb_disk.specs.declared.start.Start.{Ghosts as Starts}
 use Rattle.jb_format.specs.Front.{homes_in}
 use Rattle.jb_format.specs.declared.change.ChangeFault.{ChangeFault}
-use Rattle.jb_image.specs.Making.{WasMade}
+use Rattle.jb_image.specs.Create.{WasMade}
 use Rattle.jb_image.specs.declared.geometry.Geometry.{Geometry}
 use Rattle.jb_image.specs.Files.{as_files}
 use Rattle.jb_image.specs.Pair.{back_disk, front_disk, past_states}
@@ -16,7 +16,7 @@ use Rattle.jb_image.specs.declared.pair.PairDisk.{PairDisk}
 use Rattle.jb_super.specs.Faults.{super_in}
 use Rattle.jb_super.specs.Superblock.{Superblock}
 use Rattle.jb_super.specs.declared.fault.SuperFault.TheVariants.{Geometry as NoGeometry}
-use Rattle.jb_args.specs.Named.{Options}
+use Rattle.jb_args.specs.PlainCommand.{Options}
 use Rattle.jb_commands.specs.Change.{ChangesOn}
 use Rattle.jb_commands.specs.Format.{new_limit_of}
 use Rattle.jb_commands.specs.Options.{AreGood, IsAskedBy, IsFirstBad, IsJournalLength}

@@ -15,7 +15,7 @@ pub mod Judge
 pub mod Limits
 pub mod Lines
 pub mod Options
-pub mod Placed
+pub mod JournalPlace
 pub mod Plan
 pub mod Recover
 pub mod Reports

@@ -2,8 +2,8 @@
 use Rattle.std.specs.Prelude.{ℕ, zero, suc, ◌+◌, ◌-◌, ◌==◌, ◌&&◌, ◌||◌, not, Bool, if◌then◌else◌, List, [], ◌∷◌, ◌++◌, length, get_or, nat_lt, Option, None, Some, option_map, codes}
 use Rattle.hex.specs.Hex.{encode_lower}
 use Rattle.jb_text.specs.TextParts.{spelled}
-use Rattle.jb_args.specs.Named.{Asked}
-use Rattle.jb_args.specs.Named.Asked.{AsksCat, AsksRecover}
+use Rattle.jb_args.specs.PlainCommand.{Asked}
+use Rattle.jb_args.specs.PlainCommand.Asked.{AsksCat, AsksRecover}
 use Rattle.jb_commands.specs.declared.names.TwoFiles.{TwoFiles}
 
 -- ---- a name as it is shown

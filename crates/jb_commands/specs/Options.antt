@@ -6,7 +6,7 @@ use Rattle.jb_args.specs.declared.option_name.OptionName.{OptionName}
 use Rattle.jb_args.specs.declared.option_name.OptionName.TheVariants.{Bs, Homes, Journal, Max, Uuid}
 use Rattle.jb_block.specs.Size.{bytes_of, IsBlockSize}
 use Rattle.jb_block.specs.Width.{is_wide}
-use Rattle.jb_args.specs.Named.{Options}
+use Rattle.jb_args.specs.PlainCommand.{Options}
 use Rattle.jb_image.specs.declared.geometry.Geometry.{Geometry}
 
 -- as many blocks as a journal may have

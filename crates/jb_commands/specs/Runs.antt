@@ -3,19 +3,19 @@ use Rattle.std.specs.Prelude.{◌≡◌, ◌⊎◌, ℕ, Bool, false, List, Opti
 use Rattle.std.specs.Str.{bytes_eq}
 use Rattle.jb_disk.specs.declared.file.FileDisk.{FileDisk}
 use Rattle.jb_disk.specs.declared.start.Start.{Ghosts as Starts}
-use Rattle.jb_format.specs.Renumbering.{IsRenumbering, Renumbers, RenumbersAs}
-use Rattle.jb_format.specs.Widening.{IsWidened, Widens, WidensAs}
+use Rattle.jb_format.specs.Renumber.{IsRenumbering, Renumbers, RenumbersAs}
+use Rattle.jb_format.specs.Widen.{IsWidened, Widens, WidensAs}
 use Rattle.jb_text.specs.Puts.{PutsPart}
 use Rattle.jb_image.specs.Files.{FileImage}
 use Rattle.jb_image.specs.declared.image.ImageDisk.{ImageDisk}
-use Rattle.jb_args.specs.Named.{Asked}
-use Rattle.jb_args.specs.Named.Asked.{AsksCat, AsksCheck, AsksCost, AsksDump, AsksFormat, AsksPlan, AsksRecover, AsksRenumber, AsksWiden}
+use Rattle.jb_args.specs.PlainCommand.{Asked}
+use Rattle.jb_args.specs.PlainCommand.Asked.{AsksCat, AsksCheck, AsksCost, AsksDump, AsksFormat, AsksPlan, AsksRecover, AsksRenumber, AsksWiden}
 use Rattle.jb_commands.specs.Check.{CheckSays}
 use Rattle.jb_commands.specs.Cost.{cost_said}
 use Rattle.jb_commands.specs.Limits.{cert_limit}
 use Rattle.jb_commands.specs.Dump.{EndsOfDump, choice_of}
 use Rattle.jb_commands.specs.Files.{EndsOfChange, EndsOfFormat}
-use Rattle.jb_commands.specs.Placed.{EndsOfCat, EndsOfRecover}
+use Rattle.jb_commands.specs.JournalPlace.{EndsOfCat, EndsOfRecover}
 use Rattle.jb_commands.specs.Plan.{PlanSays}
 use Rattle.jb_commands.specs.AnswerSaid.{Said}
 use Rattle.jb_commands.specs.Said.{Outputs, Tells}

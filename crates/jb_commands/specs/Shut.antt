@@ -14,7 +14,7 @@ use Rattle.jb_image.specs.declared.image.ImageDisk.{ImageDisk}
 use Rattle.jb_super.specs.Faults.{super_in}
 use Rattle.jb_super.specs.Superblock.{Superblock}
 use Rattle.jb_commands.specs.Files.{SaysSuper}
-use Rattle.jb_commands.specs.Placed.{IsHeldWithin, IsJournalWithin, IsNoPlace}
+use Rattle.jb_commands.specs.JournalPlace.{IsHeldWithin, IsJournalWithin, IsNoPlace}
 use Rattle.jb_commands.specs.declared.files.shut.FileFault.{FileFault}
 use Rattle.jb_commands.specs.declared.files.shut.FileFault.TheVariants.{Super}
 use Rattle.jb_commands.specs.declared.files.shut.PairFault.{PairFault}

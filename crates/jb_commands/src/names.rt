@@ -1,5 +1,5 @@
 ghost use Rattle.std.specs.Prelude.{◌≡◌, option_map};
-ghost use Rattle.jb_args.specs.Named.{asks};
+ghost use Rattle.jb_args.specs.PlainCommand.{asks};
 ghost use Rattle.jb_commands.specs.Lines.{image_named, journal_named, names_of, names_said, names_with};
 
 use jb_args::Plain;

@@ -3,7 +3,7 @@ ghost use Rattle.std.specs.List.{AllPass};
 ghost use Rattle.hex.specs.Hex.{decode_of, is_hex_digit};
 ghost use Rattle.jb_block.specs.Size.{bytes_of, IsBlockSize};
 ghost use Rattle.jb_block.specs.Width.{is_wide};
-ghost use Rattle.jb_args.specs.Named.{options_said};
+ghost use Rattle.jb_args.specs.PlainCommand.{options_said};
 ghost use Rattle.jb_commands.specs.Options.{AreGood, IsAskedBy, IsFirstBad};
 
 use hex::FromHex;

@@ -1,6 +1,6 @@
 ghost use Rattle.std.specs.Prelude.{◌≡◌, ◌<◌, ◌^◌, ℕ, List, Option, Some, codes, false, length};
 ghost use Rattle.std.specs.Str.{bytes_eq};
-ghost use Rattle.jb_args.specs.Named.{asks};
+ghost use Rattle.jb_args.specs.PlainCommand.{asks};
 ghost use Rattle.jb_handle.specs.Size.{IsWithinSize};
 ghost use Rattle.jb_queue.specs.QueueText.{value_of};
 ghost use Rattle.jb_commands.specs.Check.{CheckSays, SaysCheck};

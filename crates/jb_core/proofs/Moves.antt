@@ -10,7 +10,7 @@ use Rattle.jb_cost.specs.Pieces.{joined, pieces_from, pieces}
 use Rattle.jb_core.specs.Line.{Line, count, IsSettled, IsTaken, IsPushed}
 use Rattle.jb_core.specs.Stops.{line_of_stops, IsInLine}
 use Rattle.jb_core.specs.declared.stops.Stops.TheInside.{Inside}
-use Rattle.jb_core.specs.Parted.{IsParted}
+use Rattle.jb_core.specs.SplitEnds.{IsParted}
 use Rattle.jb_cost.proofs.Joined.{rises-append, pieces-append, take-pieces, drop-pieces, length-pieces, joined-pieces, pieces-take, pieces-shift, rises-shift}
 
 -- the numbers after m, once those up to end are taken away

@@ -2,7 +2,7 @@
 use Rattle.std.proofs.Common.{ℕ, zero, suc, ◌<◌, ◌≤◌, List, [], ◌∷◌, length, get_or, refl, arith}
 use Rattle.jb_cost.specs.Cut.{RisesTo}
 use Rattle.jb_cost.proofs.Cuts.{rises-le}
-use Rattle.jb_core.specs.Parted.{IsParted}
+use Rattle.jb_core.specs.SplitEnds.{IsParted}
 
 -- a rising list, divided after one of its ends
 pub rises-part : (n e a : ℕ) (es : List ℕ) → RisesTo e a es → n < length es → IsParted e a (suc n) es (get_or es n 0)

@@ -2,7 +2,7 @@ pub mod Line
 pub mod Seats
 pub mod SeatLaw
 pub mod Machine
-pub mod Parted
+pub mod SplitEnds
 pub mod Sound
 pub mod Steps
 pub mod Stops

@@ -1,7 +1,7 @@
 ghost use Rattle.std.specs.Prelude.{◌≡◌, ℕ, ◌+◌, ◌<◌, ◌≤◌, ◌^◌, ◌++◌, map};
 ghost use Rattle.std.specs.Prelude.{length, drop, slice_range, sum, All, OnOk, OnErr};
 ghost use Rattle.jb_cost.specs.Cut.{RisesTo};
-ghost use Rattle.jb_core.specs.Parted.{IsParted};
+ghost use Rattle.jb_core.specs.SplitEnds.{IsParted};
 
 use jb_block::Memory;
 

@@ -21,7 +21,7 @@ use Rattle.jb_cost.specs.declared.last_touches.LastTouches.{LastTouches}
 use Rattle.jb_cost.specs.Cost.{blocks_of}
 use Rattle.jb_cost.specs.Cut.{price, piece_cost}
 use Rattle.jb_cost.specs.declared.owned.Owned.{Owned}
-use Rattle.jb_cost.specs.Owned.{Counts, later_touch, left_since, is_since, left_copy, copies_of, frees_of, owned_from, owned_cost}
+use Rattle.jb_cost.specs.LastTouch.{Counts, later_touch, left_since, is_since, left_copy, copies_of, frees_of, owned_from, owned_cost}
 use Rattle.jb_cost.specs.Starts.{LeastPrice, stretch_at, AreLeast, priced_of}
 use Rattle.jb_cost.specs.Spans.{copies_until}
 use Rattle.jb_cost.specs.LastTouches.{PartsFit, TellsQueue, homes_owned}

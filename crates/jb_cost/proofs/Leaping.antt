@@ -6,7 +6,7 @@ use Rattle.jb_cost.specs.declared.owned.Owned.{Owned}
 use Rattle.jb_cost.specs.declared.stretch.Priced.{Priced}
 use Rattle.jb_cost.specs.declared.found.Found.{Found}
 use Rattle.jb_cost.specs.declared.span.Span.{Span}
-use Rattle.jb_cost.specs.Owned.{owned_at, owned_from, copies_of, frees_of, owned_cost, IsIdle}
+use Rattle.jb_cost.specs.LastTouch.{owned_at, owned_from, copies_of, frees_of, owned_cost, IsIdle}
 use Rattle.jb_cost.specs.Starts.{LeastPrice, BestStart, AreIdle, found_start, dearer_by, better_of}
 use Rattle.jb_cost.specs.Spans.{CostsWithin, copies_until, IsSpan, IsBestOf}
 use Rattle.jb_cost.specs.declared.tally.Tally.{Tally}

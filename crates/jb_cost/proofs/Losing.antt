@@ -11,7 +11,7 @@ use Rattle.std.proofs.lemmas.Map.Entries.{sum_by-insert_entry}
 use Rattle.std.proofs.Math.ListN.{get_or-append}
 use Rattle.jb_cost.specs.declared.owned.Touch.{Touch}
 use Rattle.jb_cost.specs.declared.owned.Owned.{Owned}
-use Rattle.jb_cost.specs.Owned.{owned_at, owned_from, counts_since, Counts, CountsBut, copies_of, frees_of, left_copy, later_touch, IsIdle}
+use Rattle.jb_cost.specs.LastTouch.{owned_at, owned_from, counts_since, Counts, CountsBut, copies_of, frees_of, left_copy, later_touch, IsIdle}
 use Rattle.jb_handle.specs.declared.word.Word.{Word}
 use Rattle.jb_handle.specs.Word.{is_copy}
 use Rattle.jb_cost.specs.declared.stretch.Priced.{Priced}

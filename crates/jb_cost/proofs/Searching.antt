@@ -4,7 +4,7 @@ use Rattle.std.proofs.lemmas.List.Sums.{sum_by-drop_more, sum_by-take-drop}
 use Rattle.jb_cost.specs.declared.geometry.Geometry.{Geometry}
 use Rattle.jb_cost.specs.declared.owned.Owned.{Owned}
 use Rattle.jb_cost.specs.declared.stretch.Stretch.{Stretch}
-use Rattle.jb_cost.specs.Owned.{owned_at, owned_from, copies_of, frees_of, owned_cost, IsIdle}
+use Rattle.jb_cost.specs.LastTouch.{owned_at, owned_from, copies_of, frees_of, owned_cost, IsIdle}
 use Rattle.jb_cost.specs.Starts.{LeastPrice, AreIdle, AreLeast, BestStart, found_start, better_of}
 use Rattle.jb_cost.specs.declared.stretch.Priced.{Priced}
 use Rattle.jb_cost.specs.declared.found.Found.{Found}

@@ -6,7 +6,7 @@ use Rattle.jb_handle.specs.declared.word.Word.{Word}
 use Rattle.jb_handle.specs.Word.{is_copy}
 use Rattle.jb_handle.proofs.Rising.{find-with, none-before}
 use Rattle.jb_cost.specs.declared.owned.Touch.{Touch}
-use Rattle.jb_cost.specs.Owned.{later_touch}
+use Rattle.jb_cost.specs.LastTouch.{later_touch}
 use Rattle.jb_cost.proofs.Fresh.{tied-is}
 
 -- the entries before place i are those of handle n

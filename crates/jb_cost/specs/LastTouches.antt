@@ -9,7 +9,7 @@ use Rattle.jb_handle.specs.Words.{word}
 use Rattle.jb_cost.specs.declared.geometry.Geometry.{Geometry}
 use Rattle.jb_cost.specs.declared.owned.Touch.{Touch}
 use Rattle.jb_cost.specs.declared.last_touches.LastTouches.{LastTouches}
-use Rattle.jb_cost.specs.Owned.{Counts, copies_of, frees_of, left_copy, owned_from, left_since}
+use Rattle.jb_cost.specs.LastTouch.{Counts, copies_of, frees_of, left_copy, owned_from, left_since}
 use Rattle.jb_cost.specs.Spans.{FitOwned, FitPrices}
 
 -- the homes that all handles own

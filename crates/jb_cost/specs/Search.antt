@@ -3,7 +3,7 @@ use Rattle.std.specs.Prelude.{◌≡◌, ℕ, ◌<◌, ◌≤◌, List, length, 
 use Rattle.jb_cost.specs.declared.geometry.Geometry.{Geometry}
 use Rattle.jb_cost.specs.declared.owned.Owned.{Owned}
 use Rattle.jb_cost.specs.declared.best_start.Walk.{Walk}
-use Rattle.jb_cost.specs.Owned.{owned_from, copies_of, frees_of, owned_cost}
+use Rattle.jb_cost.specs.LastTouch.{owned_from, copies_of, frees_of, owned_cost}
 use Rattle.jb_cost.specs.Starts.{BestStart, AreIdle}
 
 -- the sums are those of the handles from low on, of which the first ones, up to until, are idle

@@ -4,7 +4,7 @@ use Rattle.jb_cost.specs.declared.owned.Owned.{Owned}
 use Rattle.jb_cost.specs.declared.found.Found.{Found}
 use Rattle.jb_cost.specs.declared.span.Span.{Span}
 use Rattle.jb_cost.specs.declared.shortcuts.Shortcuts.{Shortcuts}
-use Rattle.jb_cost.specs.Owned.{owned_from, copies_of, frees_of}
+use Rattle.jb_cost.specs.LastTouch.{owned_from, copies_of, frees_of}
 use Rattle.jb_cost.specs.Starts.{BestStart, AreIdle, GoBack, AreLeast}
 
 -- the homes with a copy that the handles from i up to an end own

@@ -6,7 +6,7 @@ use Rattle.jb_cost.specs.declared.stretch.Stretch.{Stretch}
 use Rattle.jb_cost.specs.declared.found.Found.{Found}
 use Rattle.jb_cost.specs.declared.owned.Owned.{Owned}
 use Rattle.jb_cost.specs.Cut.{price}
-use Rattle.jb_cost.specs.Owned.{IsIdle, owned_at}
+use Rattle.jb_cost.specs.LastTouch.{IsIdle, owned_at}
 
 -- a start with its price, if it has one
 abbrev pub priced_of : ℕ → Option ℕ → Option Priced

@@ -1,5 +1,5 @@
 ghost use Rattle.std.specs.Prelude.{◌≡◌, ℕ, ◌+◌, ◌^◌, ◌<◌, ◌≤◌, List, Option, length, IfSome, IfNone};
-ghost use Rattle.jb_cost.specs.Owned.{owned_from, copies_of, frees_of, owned_cost};
+ghost use Rattle.jb_cost.specs.LastTouch.{owned_from, copies_of, frees_of, owned_cost};
 ghost use Rattle.jb_cost.specs.Starts.{BestStart};
 ghost use Rattle.jb_cost.specs.Spans.{FitOwned, FitPrices};
 ghost use Rattle.jb_cost.specs.Search.{IsWalk, GoesEarlier, BestSoFar, AreBeyondLimit};

@@ -1,5 +1,5 @@
 ghost use Rattle.std.specs.Prelude.{◌≡◌, ◌↔◌, ℕ, ◌+◌, ◌-◌, ◌<◌, ◌≤◌, List, Option, length, IsTrue};
-ghost use Rattle.jb_cost.specs.Owned.{IsIdle, owned_at};
+ghost use Rattle.jb_cost.specs.LastTouch.{IsIdle, owned_at};
 ghost use Rattle.jb_cost.specs.Starts.{LeastPrice, AreIdle, GoBack, AreLeast};
 
 use crate::owned::Owned;

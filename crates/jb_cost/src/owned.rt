@@ -15,7 +15,7 @@ pub(crate) struct Owned {
 
 impl Owned {
     ghost use Rattle.std.specs.Prelude.{◌≡◌, ◌↔◌, ◌+◌, ◌^◌, ◌<◌, ◌≤◌, IsTrue, if◌then◌else◌};
-    ghost use Rattle.jb_cost.specs.Owned.{IsIdle};
+    ghost use Rattle.jb_cost.specs.LastTouch.{IsIdle};
 
     pub(crate) fn none() -> Owned
         ensures copies { result.copies ≡ 0 }

@@ -20,7 +20,7 @@ impl Shortcuts {
     ghost use Rattle.std.specs.Prelude.{◌≡◌, ℕ, [], ◌∷◌, ◌++◌, ◌+◌, ◌*◌, ◌/◌, ◌%◌, ◌^◌};
     ghost use Rattle.std.specs.Prelude.{◌<◌, ◌≤◌, List, Option, Some, length, OnOk};
     ghost use Rattle.jb_cost.specs.declared.span.Span.{Span as SpanValue};
-    ghost use Rattle.jb_cost.specs.Owned.{owned_from, copies_of, frees_of};
+    ghost use Rattle.jb_cost.specs.LastTouch.{owned_from, copies_of, frees_of};
     ghost use Rattle.jb_cost.specs.Starts.{LeastPrice, BestStart, AreIdle, GoBack, AreLeast, stretch_at};
     ghost use Rattle.jb_cost.specs.Spans.{IsSpan, IsBestOf, span_at, FitOwned, FitPrices};
 

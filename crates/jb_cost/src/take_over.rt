@@ -4,8 +4,8 @@ ghost use Rattle.std.specs.Ordering.{nat_cmp};
 ghost use Rattle.std.specs.BTreeMap.{IsOrdered, get};
 ghost use Rattle.std.specs.FinMap as map;
 ghost use Rattle.jb_cost.specs.declared.owned.Touch.{Touch as TouchValue};
-ghost use Rattle.jb_cost.specs.Owned.{IsIdle, owned_at, owned_from, copies_of, frees_of, left_copy, counts_since};
-ghost use Rattle.jb_cost.specs.Owned.{Counts, Gains, later_touch};
+ghost use Rattle.jb_cost.specs.LastTouch.{IsIdle, owned_at, owned_from, copies_of, frees_of, left_copy, counts_since};
+ghost use Rattle.jb_cost.specs.LastTouch.{Counts, Gains, later_touch};
 ghost use Rattle.jb_cost.specs.Spans.{AreSpans, AreBest};
 
 use crate::owned::{Owned, Touch};

@@ -10,7 +10,7 @@ use Rattle.jb_book.specs.Origin.{Begun}
 use Rattle.jb_book.specs.Since.{EndsSince, may_stop}
 use Rattle.jb_book.specs.SinceMark.{EndsMarked}
 use Rattle.jb_book.proofs.Sincing.{is-weaker}
-use Rattle.jb_desk.specs.Closing.{DiffersAs, IsNotClosed}
+use Rattle.jb_desk.specs.Close.{DiffersAs, IsNotClosed}
 use Rattle.jb_book.specs.Works.{Worked}
 use Rattle.jb_desk.specs.declared.counter.Counter.{Counter}
 use Rattle.jb_desk.specs.declared.desk.Desk.{Desk}

@@ -1,11 +1,11 @@
 -- What is settled of a batch that was committed.
 use Rattle.std.proofs.Common.{◌≡◌, ℕ, ◌+◌, ◌-◌, ◌<◌, ◌≤◌, length, Some, Ok, refl, sym, ap, subst, ◌∙◌, arith}
-use Rattle.jb_plan.specs.Prepared.{Planned}
+use Rattle.jb_plan.specs.Prepare.{Planned}
 use Rattle.jb_deck.specs.Done.{Follow, first_ticket, entries_of, past_after}
 use Rattle.jb_deck.specs.declared.done.Done.{Done}
 use Rattle.jb_handle.specs.declared.shape.Shape.{Shape}
 use Rattle.jb_book.specs.Account.{Account}
-use Rattle.jb_book.specs.Led.{FailsAfter, SettlesOrFails}
+use Rattle.jb_book.specs.CallsToBook.{FailsAfter, SettlesOrFails}
 use Rattle.jb_book.specs.Rounds.{CommitsAs, end_of}
 use Rattle.jb_desk.specs.Rounds.{IsOfHeld}
 use Rattle.jb_book.proofs.Follows.{follow-length, follow-past}

@@ -1,7 +1,7 @@
 -- What a round of a committer has done to the journal of its desk.
 use Rattle.std.specs.Prelude.{◌≡◌, ◌≤◌, ℕ, Option, Some, Result, Ok, Err}
 use Rattle.jb_plan.specs.Batch.{Gathered}
-use Rattle.jb_plan.specs.Prepared.{Planned}
+use Rattle.jb_plan.specs.Prepare.{Planned}
 use Rattle.jb_disk.specs.declared.disk.Disk.{Ghosts}
 use Rattle.jb_deck.specs.Done.{entries_of, first_ticket, past_after}
 use Rattle.jb_deck.specs.declared.batched.BatchFault.{BatchFault}

@@ -1,4 +1,4 @@
-pub mod Closing
+pub mod Close
 pub mod Delays
 pub mod Desks
 pub mod Ends

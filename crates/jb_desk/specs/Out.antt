@@ -3,7 +3,7 @@ use Rattle.std.specs.Prelude.{ℕ, ◌<◌, ◌≤◌, List, length, All}
 use Rattle.jb_handle.specs.Word.{WordMap}
 use Rattle.jb_plan.specs.Batch.{Gathered}
 use Rattle.jb_plan.specs.Costs.{HasCut}
-use Rattle.jb_book.specs.Led.{IsInHistory}
+use Rattle.jb_book.specs.CallsToBook.{IsInHistory}
 use Rattle.jb_book.specs.Origin.{AreStops, Begun}
 use Rattle.jb_book.specs.Rounds.{end_of}
 

@@ -5,7 +5,7 @@ use Rattle.std.proofs.lemmas.Bool.Decides.{nat_tests}
 use Rattle.std.proofs.lemmas.Nat.{mod_below}
 use Rattle.std.proofs.Math.Seq.{take-append_seam}
 use Rattle.jb_disk.specs.Image.{Image, block, sector, HasShape}
-use Rattle.jb_disk.specs.Mixing.{bytes_of_writes, table_of, writes_at, any_below}
+use Rattle.jb_disk.specs.CrashWrites.{bytes_of_writes, table_of, writes_at, any_below}
 use Rattle.jb_disk.specs.Versions.{version, one_if_any}
 use Rattle.jb_disk.specs.Writes.{shape_set}
 

@@ -6,7 +6,7 @@ use Rattle.jb_block.specs.declared.size.BlockSize.TheVariants.{OneKib}
 use Rattle.jb_block.specs.Size.{bytes_of}
 use Rattle.jb_disk.specs.declared.memory.Call.{Call}
 use Rattle.jb_disk.specs.History.{History, HistoryStep, Wrote, Synced, AreWhole, IsHistorySound, MayLeave}
-use Rattle.jb_disk.specs.Mixing.{writes_at, any_below}
+use Rattle.jb_disk.specs.CrashWrites.{writes_at, any_below}
 use Rattle.jb_disk.specs.Image.{Image, block, sector, HasShape}
 use Rattle.jb_disk.specs.Versions.{IsAmong, IsChosen, synced, written, written_below, version, versions, one_if_any}
 use Rattle.jb_disk.proofs.Mixes.{all_more}

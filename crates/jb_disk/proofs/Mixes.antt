@@ -4,7 +4,7 @@ use Rattle.std.proofs.lemmas.List.Elements.{All-cons, All-push}
 use Rattle.std.proofs.lemmas.Nat.{mod_below}
 use Rattle.std.proofs.lemmas.List.{length-map, get_or-map}
 use Rattle.jb_disk.specs.Image.{sector}
-use Rattle.jb_disk.specs.Mixing.{put_sector, bytes_of_writes}
+use Rattle.jb_disk.specs.CrashWrites.{put_sector, bytes_of_writes}
 use Rattle.jb_disk.specs.Versions.{version}
 use Rattle.jb_disk.proofs.Sectors.{put_sector-same, put_sector-below, put_sector-above}
 

@@ -5,7 +5,7 @@ use Rattle.std.proofs.lemmas.List.{get_or_append_left, ext_get_or}
 use Rattle.std.proofs.Math.Seq.{get_or-append_seam}
 use Rattle.std.proofs.Math.Decide.{ℕ_discrete}
 use Rattle.jb_disk.specs.Image.{sector, Image, block, Torn, HasShape}
-use Rattle.jb_disk.specs.Mixing.{put_sector}
+use Rattle.jb_disk.specs.CrashWrites.{put_sector}
 use Rattle.jb_disk.specs.Versions.{IsAmong, synced, written, versions}
 use Rattle.jb_disk.specs.History.{HistoryStep, Wrote, Synced, replay, MayLeave, AreWhole}
 use Rattle.jb_disk.specs.Lives.{replay_shape}

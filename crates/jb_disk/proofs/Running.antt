@@ -4,7 +4,7 @@ use Rattle.std.proofs.lemmas.Bool.{cases_lt}
 use Rattle.std.proofs.lemmas.List.{drop-take, take-append-le, take-take}
 use Rattle.std.proofs.lemmas.Slice.{take-put_mid_below, between-put_mid}
 use borrow.Rule.Slice.PartMut.{put_mid}
-use Rattle.jb_disk.specs.Called.{AllMade, AreMade, Called, Reads}
+use Rattle.jb_disk.specs.OneCall.{AllMade, AreMade, Called, Reads}
 use Rattle.jb_disk.specs.Image.{Image, block, Same}
 use Rattle.jb_disk.specs.Faults.{CountsNone}
 use Rattle.jb_disk.specs.KeptOn.{KeptOn}

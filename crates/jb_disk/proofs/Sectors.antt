@@ -4,7 +4,7 @@ use Rattle.std.proofs.lemmas.List.{nil_from_length, drop-drop, take-append-drop,
 use Rattle.std.proofs.lemmas.Slice.{drop-put_mid}
 use borrow.Rule.Slice.PartMut.{put_mid}
 use Rattle.jb_disk.specs.Image.{sector}
-use Rattle.jb_disk.specs.Mixing.{put_sector}
+use Rattle.jb_disk.specs.CrashWrites.{put_sector}
 use Rattle.jb_disk.proofs.Running.{part-before, part-put}
 
 -- what a copy over the part of a slice makes of it

@@ -3,7 +3,7 @@ use Rattle.std.proofs.Common.{◌≡◌, ◌≤◌, ℕ, List, length, take, dro
 use Rattle.jb_disk.specs.Calls.{steps_of}
 use Rattle.jb_disk.specs.History.{replay}
 use Rattle.jb_disk.specs.Image.{Image}
-use Rattle.jb_disk.specs.Mixing.{AreWrites}
+use Rattle.jb_disk.specs.CrashWrites.{AreWrites}
 use Rattle.jb_disk.specs.Versions.{synced, written}
 use Rattle.jb_disk.specs.declared.memory.Call.{Call}
 

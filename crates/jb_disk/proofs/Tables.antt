@@ -4,7 +4,7 @@ use Rattle.std.proofs.lemmas.List.{length-map, get_or-map, map-set, map-append}
 use Rattle.std.proofs.Math.Decide.{ℕ_discrete}
 use Rattle.jb_disk.specs.Calls.{history_step, steps_of}
 use Rattle.jb_disk.specs.History.{HistoryStep, Wrote, Synced}
-use Rattle.jb_disk.specs.Mixing.{bytes_of_writes, table_of, writes_at, AreWrites}
+use Rattle.jb_disk.specs.CrashWrites.{bytes_of_writes, table_of, writes_at, AreWrites}
 use Rattle.jb_disk.specs.Versions.{written}
 use Rattle.jb_disk.specs.declared.memory.Call.{Call}
 use Rattle.jb_disk.specs.declared.memory.Call.TheVariants.{Sync}

@@ -1,6 +1,6 @@
 -- What contracts see of a disk with a fuse.
 use Rattle.std.specs.Prelude.{◌≡◌, ◌≢◌, ◌-◌, ℕ, Bool, false}
-use Rattle.jb_disk.specs.Called.{Called}
+use Rattle.jb_disk.specs.OneCall.{Called}
 use Rattle.jb_disk.specs.Faults.{CountsCall, CountsOne}
 use Rattle.jb_disk.specs.declared.fuse.FuseDisk.{FuseDisk}
 

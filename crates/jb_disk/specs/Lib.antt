@@ -1,5 +1,5 @@
-pub mod Agreeing
-pub mod Called
+pub mod RecordLaws
+pub mod OneCall
 pub mod Calls
 pub mod Events
 pub mod Faults
@@ -12,7 +12,7 @@ pub mod KeptOn
 pub mod Laws
 pub mod Lives
 pub mod Memory
-pub mod Mixing
+pub mod CrashWrites
 pub mod Once
 pub mod OneFault
 pub mod ReadAhead

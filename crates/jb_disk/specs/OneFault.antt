@@ -1,6 +1,6 @@
 -- What a disk that fails once shows of its fields.
 use Rattle.std.specs.Prelude.{◌≡◌, ℕ, Bool, true, false, Option}
-use Rattle.jb_disk.specs.Called.{Called}
+use Rattle.jb_disk.specs.OneCall.{Called}
 use Rattle.jb_disk.specs.Faults.{CountsCall}
 use Rattle.jb_disk.specs.Once.{is_next, next_of}
 use Rattle.jb_disk.specs.declared.one_fault.OneFaultDisk.{OneFaultDisk}

@@ -4,7 +4,7 @@ ghost use Rattle.std.specs.Prelude.{◌^◌, ◌+◌, ◌*◌, ℕ, length, OnOk
 ghost use Rattle.jb_block.specs.Size.{bytes_of, IsBlockSize};
 ghost use Rattle.jb_disk.specs.Image.{Image, block, Torn, Same, Only, HasShape};
 ghost use Rattle.jb_disk.specs.Time.{Goes};
-ghost use Rattle.jb_disk.specs.Called.{AreMade, Called, Reads, Writes, Syncs};
+ghost use Rattle.jb_disk.specs.OneCall.{AreMade, Called, Reads, Writes, Syncs};
 ghost use Rattle.jb_disk.specs.Faults.{CountsFault};
 ghost use Rattle.jb_disk.specs.Kept.{Kept, Untouched};
 ghost use Rattle.jb_disk.specs.Runs.{part, ReadsRun, TornRun, WroteRun};

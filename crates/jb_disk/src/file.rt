@@ -77,7 +77,7 @@ impl<S: Start> FileDisk<S> {
 /// its calls has them, for clauses alone: no code can know it.
 impl<S: Start> Disk for FileDisk<S> {
     ghost use Rattle.jb_disk.specs.File.{IsHonest, content_of, FileLeaves, FileLeft};
-    ghost use Rattle.jb_disk.specs.Agreeing.{newest_left, left_shape, from_shape, left_from_now, left_from_only};
+    ghost use Rattle.jb_disk.specs.RecordLaws.{newest_left, left_shape, from_shape, left_from_now, left_from_only};
 
     ghost size = { λ f. bytes_of f.size };
 

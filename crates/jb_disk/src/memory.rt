@@ -123,7 +123,7 @@ impl Disk for MemoryDisk {
 
     ghost left_since = { λ h. LeftSince h.first h.steps };
 
-    ghost use Rattle.jb_disk.specs.Called.{CallMakes};
+    ghost use Rattle.jb_disk.specs.OneCall.{CallMakes};
 
     ghost own = { CallMakes };
 

@@ -5,7 +5,7 @@ ghost use Rattle.jb_block.specs.Size.{bytes_of};
 ghost use Rattle.jb_disk.specs.Calls.{steps_of, image_of};
 ghost use Rattle.jb_disk.specs.History.{replay, AreWhole};
 ghost use Rattle.jb_disk.specs.Image.{HasShape, block as block_at, sector};
-ghost use Rattle.jb_disk.specs.Mixing.{put_sector, bytes_of_writes, table_of, writes_at, any_below, AreWrites};
+ghost use Rattle.jb_disk.specs.CrashWrites.{put_sector, bytes_of_writes, table_of, writes_at, any_below, AreWrites};
 ghost use Rattle.jb_disk.specs.Versions.{synced, written, written_below, version, versions};
 
 use crate::memory::Call;

@@ -6,7 +6,7 @@ use Rattle.std.specs.FinMap.Entries.{by_order}
 use Rattle.std.proofs.lemmas.Bool.Decides.{nat_tests}
 use Rattle.std.proofs.lemmas.List.{get_or_default}
 use Rattle.std.proofs.lemmas.List.Elements.{All-cons, All-more, All-nil}
-use Rattle.jb_handle.specs.Placed.{StandsAt}
+use Rattle.jb_handle.specs.HomeSearch.{StandsAt}
 use Rattle.jb_handle.specs.declared.word.Word.{Word}
 use Rattle.jb_handle.specs.Word.{HasBytes, EntryHasBytes, AreWords}
 use Rattle.jb_handle.proofs.Rising.{find-stands, view-put}

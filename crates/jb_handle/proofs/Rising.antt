@@ -10,7 +10,7 @@ use Rattle.std.specs.Cmp.{nat_cmp_total}
 use Rattle.std.proofs.lemmas.Cmp.{ranked}
 use Rattle.std.proofs.lemmas.List.{take_all, take_more}
 use Rattle.std.proofs.lemmas.Bool.Decides.{nat_tests}
-use Rattle.jb_handle.specs.Placed.{StandsAt, GoesTo, IsPlaced}
+use Rattle.jb_handle.specs.HomeSearch.{StandsAt, GoesTo, IsPlaced}
 
 pub both_parts : (a b : Bool) → T (a && b) → T a × T b
 both_parts true true h = (tt, tt)

@@ -2,7 +2,7 @@ ghost use Rattle.std.specs.Prelude.{◌≡◌, IfOk, OnOk, OnErr, T, IsTrue, ◌
 ghost use Rattle.std.specs.Ordering.{nat_cmp};
 ghost use Rattle.std.specs.Option.{option_copied};
 ghost use Rattle.std.specs.FinMap as map;
-ghost use Rattle.jb_handle.specs.Placed.{IsPlaced};
+ghost use Rattle.jb_handle.specs.HomeSearch.{IsPlaced};
 ghost use Rattle.jb_handle.specs.Word.{EntryHasBytes};
 
 use crate::shape::Shape;

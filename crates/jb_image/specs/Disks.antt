@@ -1,6 +1,6 @@
 -- A journal and the file system that it stands in, as one disk.
 use Rattle.std.specs.Prelude.{◌≡◌, ℕ, ◌+◌, ◌-◌, ◌^◌, Bool, false, if◌then◌else◌, List, [], ◌∷◌, min, nat_lt, Option, Some, None, option_and_then}
-use Rattle.jb_disk.specs.Called.{Called, Reads, Writes, Syncs}
+use Rattle.jb_disk.specs.OneCall.{Called, Reads, Writes, Syncs}
 use Rattle.jb_disk.specs.Faults.{CountsCall, CountsOne}
 use Rattle.jb_image.specs.Lists.{holds_in, list_of, place_within}
 use Rattle.jb_image.specs.declared.extents_disk.ExtentsDisk.{ExtentsDisk}

@@ -1,7 +1,7 @@
 -- An image as a disk: one disk, two, or one in extents of which the journal stands.
 use Rattle.std.proofs.Common.{◌≤◌, ℕ, Bool, true, false, List, ◌++◌, length, Option, None, refl}
 use Rattle.jb_block.specs.Size.{IsBlockSize}
-use Rattle.jb_disk.specs.Called.{Called}
+use Rattle.jb_disk.specs.OneCall.{Called}
 use Rattle.jb_disk.specs.Faults.{counted}
 use Rattle.jb_disk.specs.Image.{Image, HasShape}
 use Rattle.jb_disk.specs.declared.disk.Disk.{Ghosts}

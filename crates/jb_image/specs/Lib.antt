@@ -4,11 +4,11 @@ pub mod Disks
 pub mod Fields
 pub mod Files
 pub mod Images
-pub mod Judged
+pub mod Judge
 pub mod Laws
 pub mod Left
 pub mod Lists
-pub mod Making
+pub mod Create
 pub mod Mounts
 pub mod Pair
 pub mod Past

@@ -1,6 +1,6 @@
 -- Two disks as one.
 use Rattle.std.specs.Prelude.{◌≡◌, ◌<◌, ◌+◌, ◌-◌, ◌^◌, ◌==◌, ◌⊎◌, ℕ, Bool, true, false, if◌then◌else◌, min, nat_lt, List}
-use Rattle.jb_disk.specs.Called.{Called, Reads, Writes, Syncs}
+use Rattle.jb_disk.specs.OneCall.{Called, Reads, Writes, Syncs}
 use Rattle.jb_disk.specs.Faults.{CountsCall}
 use Rattle.jb_disk.specs.Image.{Image, HasShape}
 use Rattle.jb_disk.specs.declared.disk.Disk.{Ghosts}

@@ -3,7 +3,7 @@ ghost use Rattle.std.specs.Prelude.{◌≡◌, ◌+◌, ◌*◌, ◌^◌, ◌≤
 ghost use Rattle.jb_block.specs.Size.{bytes_of};
 ghost use Rattle.jb_block.specs.Width.{is_wide};
 ghost use Rattle.jb_block.specs.declared.width.Width.TheVariants.{Narrow};
-ghost use Rattle.jb_image.specs.Making.{MakesImage};
+ghost use Rattle.jb_image.specs.Create.{MakesImage};
 
 use jb_block::{BlockSize, Width};
 

@@ -3,7 +3,7 @@ ghost use Rattle.std.specs.Prelude.{◌≡◌, ◌↔◌, ◌+◌, ◌*◌, IfOk
 ghost use Rattle.jb_block.specs.Size.{bytes_of};
 ghost use Rattle.jb_disk.specs.File.{IsMeasured, count_of, size_of_blocks};
 ghost use Rattle.jb_disk.specs.contracts.start.UnknownStart.TheImpl.{ghosts as unknown};
-ghost use Rattle.jb_image.specs.Making.{MakingFailed, MakesImage, WasMade};
+ghost use Rattle.jb_image.specs.Create.{MakingFailed, MakesImage, WasMade};
 ghost use Rattle.jb_image.specs.declared.fault.MakeFault.TheVariants.{DeviceFault, Geometry as NoGeometry};
 
 use crate::draft::Draft;

@@ -8,7 +8,7 @@ use Rattle.jb_disk.specs.declared.disk.Disk.{Ghosts as Disks}
 use Rattle.jb_board.specs.declared.place.Place.{Ghosts as Places}
 use Rattle.jb_journal.specs.Client.{AreHonest}
 use Rattle.jb_journal.specs.Notes.{Known, Stop}
-use Rattle.jb_journal.specs.Running.{AreAnswers, HaveWorked, answer_of, known_of_worked, marks_of_worked, stops_of_worked}
+use Rattle.jb_journal.specs.Run.{AreAnswers, HaveWorked, answer_of, known_of_worked, marks_of_worked, stops_of_worked}
 use Rattle.jb_journal.specs.declared.threads.Worked.{Worked}
 
 module _ {T D H N : Type 0} {O : Ghosts H} {P : Places H} (G : Disks D) (may : Type 0 → ℕ → ℕ → List Stop → Known → T → Type 0) (workers : ℕ) (answers : List T) (ws : List (Worked T D H N O P)) (worked : HaveWorked G may workers ws)

@@ -13,7 +13,7 @@ use Rattle.jb_book.specs.Marks.{SeesStop}
 use Rattle.jb_book.specs.declared.origin.Origin.{Ghosts}
 use Rattle.jb_book.specs.declared.sights.Sights.{Sights}
 use Rattle.jb_desk.specs.Seats.{made_by}
-use Rattle.jb_journal.specs.Changing.{AnswersChange, IsCalled, IsChanged, SeesChange, Stops}
+use Rattle.jb_journal.specs.Change.{AnswersChange, IsCalled, IsChanged, SeesChange, Stops}
 use Rattle.jb_journal.specs.Client.{made_from}
 use Rattle.jb_journal.specs.Notes.{Stop}
 use Rattle.jb_journal.proofs.Noting.{stand-on}

@@ -15,9 +15,9 @@ use Rattle.jb_book.specs.Since.{EndsSince}
 use Rattle.jb_book.specs.SinceMark.{EndsMarked}
 use Rattle.jb_book.specs.declared.origin.Origin.{Ghosts}
 use Rattle.jb_board.specs.declared.place.Place.{Ghosts as Places}
-use Rattle.jb_journal.specs.Leaving.{HasEnded, IsClosed, IsGatheredFrom}
+use Rattle.jb_journal.specs.Gather.{HasEnded, IsClosed, IsGatheredFrom}
 use Rattle.jb_journal.specs.Notes.{Known, Stop, changed_by}
-use Rattle.jb_journal.specs.Running.{HasThreaded, RanAll, known_of_worked, marks_of_worked, stops_of_worked}
+use Rattle.jb_journal.specs.Run.{HasThreaded, RanAll, known_of_worked, marks_of_worked, stops_of_worked}
 use Rattle.jb_journal.specs.declared.fault.RunFault.{RunFault}
 use Rattle.jb_journal.specs.declared.gather.Gathered.{Gathered}
 use Rattle.jb_journal.specs.declared.ran.Ran.{Ran}

@@ -17,7 +17,7 @@ use Rattle.jb_deck.specs.Deck.{OpenDeck}
 use Rattle.jb_deck.specs.Done.{past_after}
 use Rattle.jb_deck.specs.declared.done.Entry.{Entry}
 use Rattle.jb_deck.specs.declared.read.ReadHomeFault.{ReadHomeFault}
-use Rattle.jb_book.specs.Led.{IsInHistory}
+use Rattle.jb_book.specs.CallsToBook.{IsInHistory}
 use Rattle.jb_book.specs.Marks.{SeesMore, Shows, ShowsAfter}
 use Rattle.jb_book.specs.Origin.{Begun}
 use Rattle.jb_book.specs.declared.origin.Origin.{Ghosts as OriginGhosts}

@@ -2,7 +2,7 @@
 use Rattle.std.proofs.Common.{◌≡◌, ◌≤◌, ℕ, length, Ok, refl, sym, ◌∙◌, ap, subst, ⊎_elim, arith}
 use Rattle.jb_block.specs.Size.{bytes_of}
 use Rattle.jb_block.specs.declared.size.BlockSize.{BlockSize}
-use Rattle.jb_disk.specs.Agreeing.{left_from_now}
+use Rattle.jb_disk.specs.RecordLaws.{left_from_now}
 use Rattle.jb_disk.specs.Faults.{CountsNone}
 use Rattle.jb_disk.specs.File.{content_of, count_of, events_of, faults_of, size_of_blocks, FileLeaves, FileLeft, IsHonest, IsMeasured}
 use Rattle.jb_disk.specs.Image.{Image, Only, Same}
@@ -17,7 +17,7 @@ use Rattle.jb_recover.specs.Recovers.{Recovers}
 use Rattle.jb_recover.specs.declared.fault.RecoverFault.{RecoverFault}
 use Rattle.jb_recover.specs.declared.recovered.Recovered.{Recovered}
 use Rattle.std.specs.Prelude.{Result}
-use Rattle.jb_journal.specs.Opening.{WasRecovered}
+use Rattle.jb_journal.specs.OpenFile.{WasRecovered}
 
 module _ {S : Type 0} {start : Starts S} where
   -- how many calls of a file were made

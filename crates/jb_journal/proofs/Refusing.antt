@@ -1,9 +1,9 @@
 -- Why a journal that was opened has no answer.
 use Rattle.std.proofs.Common.{◌≡◌, ◌⊎◌, Result, Ok, Err, IfErr, inl, inr, sym, subst}
-use Rattle.jb_book.specs.Opened.{WasOpened}
+use Rattle.jb_book.specs.OpenDisk.{WasOpened}
 use Rattle.jb_disk.specs.declared.disk.Disk.{Ghosts}
 use Rattle.jb_handle.specs.declared.shape.Shape.{Shape}
-use Rattle.jb_journal.specs.Refusing.{RefusesRun}
+use Rattle.jb_journal.specs.RunFaults.{RefusesRun}
 use Rattle.jb_journal.specs.declared.fault.RunFault.{RunFault}
 use Rattle.jb_journal.specs.declared.fault.RunFault.TheVariants.{Accounts, Memory, NoThread}
 

@@ -15,8 +15,8 @@ use Rattle.jb_deck.specs.Done.{past_after}
 use Rattle.jb_book.specs.Origin.{Begun}
 use Rattle.jb_book.specs.History.{IsStop}
 use Rattle.jb_journal.specs.Notes.{AreInNotes, IsInNotes, Known, KnownLasts, NoteLasts, Stop}
-use Rattle.jb_journal.specs.Running.{RanAll}
-use Rattle.jb_journal.specs.Staying.{HandleStays}
+use Rattle.jb_journal.specs.Run.{RanAll}
+use Rattle.jb_journal.specs.Stays.{HandleStays}
 use Rattle.jb_journal.specs.declared.ran.Ran.{Ran}
 use Rattle.jb_journal.proofs.Noting.{All-first, at-place, noted-stays}
 

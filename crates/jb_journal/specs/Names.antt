@@ -10,6 +10,6 @@ pub use Rattle.jb_handle.specs.declared.word.Word.{Word}
 pub use Rattle.jb_handle.specs.declared.word.Word.TheVariants.{Copy, Free}
 pub use Rattle.jb_board.specs.HistoryRule.{IsFirstPart, StandsIn, with_places}
 pub use Rattle.jb_log.specs.Follows.{StandsBy}
-pub use Rattle.jb_book.specs.Led.{IsInHistory}
+pub use Rattle.jb_book.specs.CallsToBook.{IsInHistory}
 pub use Rattle.jb_book.specs.Origin.{Begun}
 pub use Rattle.jb_book.specs.History.{AreAllStops}

@@ -8,7 +8,7 @@ ghost use Rattle.jb_desk.specs.Desks.{desk_id, shape_in};
 ghost use Rattle.jb_desk.specs.Seats.{changes, made_by, desk_of, view_of};
 ghost use Rattle.jb_handle.specs.Handle.{holder, changes_of};
 ghost use Rattle.jb_handle.specs.Word.{WordMap};
-ghost use Rattle.jb_journal.specs.Changing.{AnswersChange, SeesChange, Stops};
+ghost use Rattle.jb_journal.specs.Change.{AnswersChange, SeesChange, Stops};
 ghost use Rattle.jb_journal.specs.Notes.{changed_by};
 
 use crate::counted::CountedSeat;

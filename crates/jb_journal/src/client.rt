@@ -6,7 +6,7 @@ ghost use Rattle.jb_desk.specs.Desks.{desk_id, shape_in};
 ghost use Rattle.jb_desk.specs.Seats.{made_by, desk_of};
 ghost use Rattle.jb_desk.specs.declared.fault.WaitFault.TheVariants.{Taken};
 ghost use Rattle.jb_handle.specs.Word.{WordMap};
-ghost use Rattle.jb_journal.specs.Changing.{AnswersChange};
+ghost use Rattle.jb_journal.specs.Change.{AnswersChange};
 
 use crate::change::change_at;
 use crate::counted::CountedSeat;

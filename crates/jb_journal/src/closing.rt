@@ -2,8 +2,8 @@
 ghost use Rattle.std.specs.Prelude.{◌≡◌, ◌+◌, ◌^◌, ◌≤◌, Bool, ℕ, IfErr, IfOk, IfSome};
 ghost use Rattle.jb_deck.specs.Done.{Follow, past_after, start_of};
 ghost use Rattle.jb_book.specs.Since.{EndsSince};
-ghost use Rattle.jb_journal.specs.Leaving.{HasEnded, IsClosed};
-ghost use Rattle.jb_journal.specs.Running.{EndsChecked, EndsRun};
+ghost use Rattle.jb_journal.specs.Gather.{HasEnded, IsClosed};
+ghost use Rattle.jb_journal.specs.Run.{EndsChecked, EndsRun};
 ghost use Rattle.jb_journal.specs.declared.fault.RunFault.TheVariants.{Accounts};
 
 use crate::fault::RunFault;

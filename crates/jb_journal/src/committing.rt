@@ -2,7 +2,7 @@
 ghost use Rattle.std.specs.Prelude.{◌≡◌, None, IfSome};
 ghost use Rattle.jb_desk.specs.Desks.{desk_id};
 ghost use Rattle.jb_desk.specs.Seats.{made_by, made_left, desk_of};
-ghost use Rattle.jb_journal.specs.Running.{HasLeft};
+ghost use Rattle.jb_journal.specs.Run.{HasLeft};
 
 use crate::counted::{CountedLeft, CountedSeat};
 use crate::gate::Gate;

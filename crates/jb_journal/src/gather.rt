@@ -29,8 +29,8 @@ pub(crate) struct Gathered<T, D: Disk, H: Origin, N: Ledger> {
 impl<T: Drop, D: Disk, H: Origin, N: Ledger> Gathered<T, D, H, N> {
     ghost use Rattle.std.specs.Prelude.{◌≡◌, ◌++◌, ◌∷◌, [], map, All, Some, IfOk, OnOk, IfErr, ◌⊎◌};
     ghost use Rattle.jb_book.specs.Marks.{SeesMore};
-    ghost use Rattle.jb_journal.specs.Leaving.{IsGatheredFrom};
-    ghost use Rattle.jb_journal.specs.Running.{HasAllSeen, answer_of, stops_left_by, stops_of_worked};
+    ghost use Rattle.jb_journal.specs.Gather.{IsGatheredFrom};
+    ghost use Rattle.jb_journal.specs.Run.{HasAllSeen, answer_of, stops_left_by, stops_of_worked};
     ghost use Rattle.jb_journal.specs.declared.fault.RunFault.TheVariants.{Accounts, NoThread, Memory as OutOfMemory};
 
     /// Nothing but what is seen by now. Takes no memory.

@@ -7,7 +7,7 @@ ghost use Rattle.jb_disk.specs.KeptOn.{KeptOn};
 ghost use Rattle.jb_disk.specs.Time.{Goes};
 ghost use Rattle.jb_recover.specs.Peeks.{IsRecoveredHome};
 ghost use Rattle.jb_journal.specs.Homes.{HomeFaults, ReadsWhole};
-ghost use Rattle.jb_journal.specs.Opening.{WasRecoveredOrMade, RefusesImage, WasRecovered};
+ghost use Rattle.jb_journal.specs.OpenFile.{WasRecoveredOrMade, RefusesImage, WasRecovered};
 ghost use Rattle.jb_journal.specs.declared.fault.HomeFault.TheVariants.{Length};
 
 use crate::fault::HomeFault;

@@ -29,7 +29,7 @@ pub struct Ran<T, D> {
 }
 
 impl<T: Drop, D: Drop> Ran<T, D> {
-    ghost use Rattle.jb_journal.specs.Running.{AllSettled};
+    ghost use Rattle.jb_journal.specs.Run.{AllSettled};
 
     /// The disk, and what each worker answered, where all that stopped is settled: it stands after a crash.
     ///

@@ -5,9 +5,9 @@ ghost use Rattle.jb_desk.specs.History.{history_in};
 ghost use Rattle.jb_book.specs.Since.{EndsSince, IsBegunOn, IsSince};
 ghost use Rattle.jb_handle.specs.Word.{WordMap};
 ghost use Rattle.jb_board.specs.History.{history_id};
-ghost use Rattle.jb_journal.specs.Refusing.{RefusesRun};
-ghost use Rattle.jb_journal.specs.Running.{EndsRun, RanAll, RanOn};
-ghost use Rattle.jb_journal.specs.Starting.{started_on};
+ghost use Rattle.jb_journal.specs.RunFaults.{RefusesRun};
+ghost use Rattle.jb_journal.specs.Run.{EndsRun, RanAll, RanOn};
+ghost use Rattle.jb_journal.specs.Start.{started_on};
 ghost use Rattle.jb_journal.specs.declared.fault.RunFault.TheVariants.{Accounts, NoThread, Memory as OutOfMemory};
 
 use crate::closing::close;

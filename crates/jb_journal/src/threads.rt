@@ -3,9 +3,9 @@ ghost use Rattle.std.specs.Prelude.{◌≡◌, ◌<◌, ◌≤◌, ◌⊎◌, tr
 ghost use Rattle.jb_handle.specs.Word.{WordMap};
 ghost use Rattle.jb_journal.specs.declared.fault.RunFault.TheVariants.{Accounts, NoThread, Memory as OutOfMemory};
 ghost use Rattle.jb_desk.specs.Desks.{shape_in};
-ghost use Rattle.jb_journal.specs.Running.{HasThreaded, HaveWorked, EndsChecked};
+ghost use Rattle.jb_journal.specs.Run.{HasThreaded, HaveWorked, EndsChecked};
 ghost use Rattle.jb_journal.specs.Client.{AreHonest};
-ghost use Rattle.jb_journal.specs.Running.{known_of_worked, marks_of_worked, stops_of_worked};
+ghost use Rattle.jb_journal.specs.Run.{known_of_worked, marks_of_worked, stops_of_worked};
 
 use crate::client::Client;
 use crate::committing::{commit_all, commit_from};

@@ -2,6 +2,6 @@ pub mod Batch
 pub mod Costs
 pub mod Next
 pub mod Plan
-pub mod Prepared
-pub mod Refused
+pub mod Prepare
+pub mod NoCut
 pub mod Step

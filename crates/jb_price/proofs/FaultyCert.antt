@@ -6,7 +6,7 @@ use Rattle.std.proofs.lemmas.Result.{MatchResult-at_err}
 use Rattle.jb_price.specs.declared.fault.CertFault.{CertFault}
 use Rattle.jb_price.specs.declared.fault.CertFault.TheVariants.{Syntax, Length}
 use Rattle.jb_price.specs.Claims.{cut_in, with_total, claim_in, for_handles, read_of}
-use Rattle.jb_price.specs.Spelling.{cut_lines, SpellsClaim}
+use Rattle.jb_price.specs.Grammar.{cut_lines, SpellsClaim}
 use Rattle.jb_price.specs.Faults.{HasNoPrices, HasNoCut, HasNoTotal, TotalFault, CutFault, SyntaxFault, LengthFault, FirstCertFault}
 use Rattle.jb_price.proofs.ReadBack.{prices-back, bounds-back, total-back}
 use Rattle.jb_price.proofs.SpelledCert.{behind_prices, cut-is, total-says, claim-says, read-says, claim-from}

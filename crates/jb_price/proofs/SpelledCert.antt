@@ -15,7 +15,7 @@ use Rattle.jb_price.specs.declared.fault.CertFault.TheVariants.{Length}
 use Rattle.jb_price.specs.Certificate.{price_text}
 use Rattle.jb_price.specs.Claims.{Claim, after_each, price_in_word, prices_in, bounds_in, cut_in, total_in, on_line, at_end, with_total, claim_in, for_handles, read_of}
 use Rattle.jb_price.specs.ReadBack.{Fits64, PriceFits}
-use Rattle.jb_price.specs.Spelling.{first_line, cut_lines, CutFits, SpellsClaim}
+use Rattle.jb_price.specs.Grammar.{first_line, cut_lines, CutFits, SpellsClaim}
 use Rattle.jb_price.specs.Faults.{HasNoPrices, HasNoCut, HasNoTotal, TotalFault, CutFault, SyntaxFault, FirstCertFault}
 use Rattle.jb_price.proofs.ReadBack.{prices-back, bounds-back, total-back, first-clear, second-clear, third-clear}
 

@@ -6,7 +6,7 @@ use Rattle.jb_price.specs.declared.fault.CertFault.{CertFault}
 use Rattle.jb_price.specs.declared.fault.CertFault.TheVariants.{Syntax, Length}
 use Rattle.jb_price.specs.Claims.{Claim}
 use Rattle.jb_price.specs.ReadBack.{Fits64, PriceFits}
-use Rattle.jb_price.specs.Spelling.{first_line, cut_lines, CutFits}
+use Rattle.jb_price.specs.Grammar.{first_line, cut_lines, CutFits}
 
 -- some lines begin with one of prices, and these come after it
 pub record AfterPrices (all more : List (List ℕ)) : Type 0 where

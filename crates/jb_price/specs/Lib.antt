@@ -3,6 +3,6 @@ pub mod Faults
 pub mod FirstUndercut
 pub mod ReadBack
 pub mod Claims
-pub mod Spelling
+pub mod Grammar
 pub mod Sum
 pub mod Verdict

@@ -4,7 +4,7 @@ ghost use Rattle.std.specs.Prelude.{◌≡◌, ◌↔◌, ◌+◌, ℕ, List, le
 ghost use Rattle.jb_price.specs.declared.certificate.Cert.{Cert};
 ghost use Rattle.jb_price.specs.Certificate.{cert_text};
 ghost use Rattle.jb_price.specs.Claims.{Claim, read_of, claim_of};
-ghost use Rattle.jb_price.specs.Spelling.{SpellsClaim};
+ghost use Rattle.jb_price.specs.Grammar.{SpellsClaim};
 ghost use Rattle.jb_price.specs.Faults.{FirstCertFault};
 ghost use Rattle.jb_price.specs.declared.fault.CertFault.{CertFault};
 ghost use Rattle.jb_price.specs.ReadBack.{HasText};

@@ -12,7 +12,7 @@ use Rattle.jb_queue.specs.declared.fault.Cause.TheVariants.{HandleLine, OpWord, 
 use Rattle.jb_handle.specs.declared.word.Word.{Word}
 use Rattle.jb_text.specs.Parts.{words, spaced}
 use Rattle.jb_queue.specs.Queue.{op_of, after_ops, behind_h, handle_of, after_lines}
-use Rattle.jb_queue.specs.Spelling.{Entry, Each, SpellsOp, SpellsHandle, last_op}
+use Rattle.jb_queue.specs.Grammar.{Entry, Each, SpellsOp, SpellsHandle, last_op}
 use Rattle.jb_handle.specs.Word.{WordMap}
 use Rattle.jb_handle.proofs.Options.{or-assoc, or-nothing}
 use Rattle.jb_text.proofs.Grammar.{spaced-words}

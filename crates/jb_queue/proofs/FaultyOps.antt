@@ -15,7 +15,7 @@ use Rattle.jb_handle.specs.declared.word.Word.TheVariants.{Copy, Free}
 use Rattle.jb_block.specs.Fields.{padded}
 use Rattle.jb_text.specs.Parts.{◌>>=◌, before, onward, number_of}
 use Rattle.jb_queue.specs.Queue.{home_named, or_cause, data_in_word, decoded_block, op_of, after_ops}
-use Rattle.jb_queue.specs.Spelling.{Entry, SpellsOp}
+use Rattle.jb_queue.specs.Grammar.{Entry, SpellsOp}
 use Rattle.jb_queue.specs.Faults.{HasNoData, IsNoOp, IsWrongWord, FirstWrongWord}
 use Rattle.jb_text.proofs.Readings.{then-says, if-says, wrong-is}
 use Rattle.jb_text.proofs.Joins.{Without, is_clear, literal-without, without-append, before-put, onward-put, before-whole, onward-none, decimal-without}

@@ -16,7 +16,7 @@ use Rattle.jb_handle.specs.declared.stopped.Stopped.{Stopped}
 use Rattle.jb_text.specs.Parts.{◌>>=◌, before, onward, lines, spaced, read_first, behind_word, number_of, and_then}
 use Rattle.jb_queue.specs.Queue.{Queue, at_line, both_of, or_cause, where_true, format_behind, format_of, limit_in_line, size_of_bytes, width_behind, handle_of, after_lines, queue_of}
 use Rattle.jb_text.specs.Lines.{AreLines}
-use Rattle.jb_queue.specs.Spelling.{width_text, format_line, Each, SpellsHandle, Spells}
+use Rattle.jb_queue.specs.Grammar.{width_text, format_line, Each, SpellsHandle, Spells}
 use Rattle.jb_handle.specs.Tickets.{TicketsFrom}
 use Rattle.jb_handle.specs.Word.{WordMap}
 use Rattle.jb_text.proofs.Readings.{FirstFails, FirstGives, first-says, behind-read}

@@ -1,6 +1,6 @@
 -- A list that is read item by item, up to the first that cannot be read.
 use Rattle.std.proofs.Common.{◌≡◌, ◌⊎◌, ◌∙◌, sym, ap, suc, List, [], ◌∷◌, ◌++◌, length, fold, refl, Result, Ok, Err, inl, inr, MatchResult}
-use Rattle.jb_queue.specs.Spelling.{Each}
+use Rattle.jb_queue.specs.Grammar.{Each}
 
 -- two lists whose items belong together also do so by what follows of each two
 pub each-map : {A B : Type 0} (R Q : A → B → Type 0) → ((x : A) (y : B) → R x y → Q x y) → (xs : List A) (ys : List B) → Each R xs ys → Each Q xs ys

@@ -12,7 +12,7 @@ use Rattle.jb_text.specs.Parts.{lines, FirstLine, grow, words, read_first}
 use Rattle.jb_queue.specs.Queue.{Gives, Reports, BeginsHandle, MayGrow, handle_of, after_lines, op_of, after_ops, behind_h}
 use Rattle.jb_handle.specs.Word.{WordMap}
 use Rattle.jb_handle.specs.Tickets.{TicketsFrom}
-use Rattle.jb_queue.specs.Spelling.{Each}
+use Rattle.jb_queue.specs.Grammar.{Each}
 use Rattle.jb_handle.specs.declared.word.Word.{Word}
 use Rattle.jb_handle.specs.Size.{weight}
 use Rattle.jb_text.proofs.Splits.{lines-nil, lines-feed, lines-goes, words-nil, words-space, words-goes}

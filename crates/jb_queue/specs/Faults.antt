@@ -9,7 +9,7 @@ use Rattle.jb_text.specs.Parts.{lines, words}
 use Rattle.jb_queue.specs.declared.fault.Cause.{Cause}
 use Rattle.jb_queue.specs.declared.fault.Cause.TheVariants.{BlockSizeLine, LimitLine, HandleLine, OpWord, DataWord}
 use Rattle.jb_queue.specs.declared.fault.QueueFault.{QueueFault}
-use Rattle.jb_queue.specs.Spelling.{Each, Entry, SpellsOp, SpellsHandle, format_line}
+use Rattle.jb_queue.specs.Grammar.{Each, Entry, SpellsOp, SpellsHandle, format_line}
 
 -- up to its first `=`, a word is not `w` or `r` and the number of a home block; or it is an `r` word with an `=`
 pub record IsNoOp (text : List ℕ) : Type 0 where

@@ -2,4 +2,4 @@ pub mod Faults
 pub mod Queue
 pub mod QueueLines
 pub mod QueueText
-pub mod Spelling
+pub mod Grammar

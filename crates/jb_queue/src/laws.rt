@@ -1,7 +1,7 @@
 //! Laws over the definitions alone. Their functions do nothing: the law is the contract.
 ghost use Rattle.std.specs.Prelude.{◌≡◌, ◌↔◌, ℕ, List, Ok, Err};
 ghost use Rattle.jb_queue.specs.Queue.{Queue, queue_of};
-ghost use Rattle.jb_queue.specs.Spelling.{Spells};
+ghost use Rattle.jb_queue.specs.Grammar.{Spells};
 ghost use Rattle.jb_queue.specs.Faults.{FirstFault};
 ghost use Rattle.jb_queue.specs.declared.fault.QueueFault.{QueueFault};
 

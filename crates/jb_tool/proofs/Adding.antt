@@ -1,6 +1,6 @@
 -- One worker more.
 use Rattle.std.proofs.Common.{◌≡◌, List, [], ◌∷◌, ◌++◌, Option, refl}
-use Rattle.jb_tool.specs.Gathering.{earlier_refused, first_after}
+use Rattle.jb_tool.specs.FirstRefused.{earlier_refused, first_after}
 use Rattle.jb_tool.specs.declared.loading.loaded.Refused.{Refused}
 
 -- the earliest of the refused handles, where one worker more has answered

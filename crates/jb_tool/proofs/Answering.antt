@@ -6,8 +6,8 @@ use Rattle.jb_deck.specs.Done.{Follow}
 use Rattle.jb_disk.specs.declared.disk.Disk.{Ghosts}
 use Rattle.jb_handle.specs.declared.stopped.Stopped.{Stopped}
 use Rattle.jb_book.specs.Origin.{Begun}
-use Rattle.jb_journal.specs.Refusing.{RefusesRun}
-use Rattle.jb_journal.specs.Running.{EndsRun, RanOn}
+use Rattle.jb_journal.specs.RunFaults.{RefusesRun}
+use Rattle.jb_journal.specs.Run.{EndsRun, RanOn}
 use Rattle.jb_journal.specs.declared.fault.RunFault.{RunFault}
 use Rattle.jb_journal.specs.declared.fault.RunFault.TheVariants.{Open, Memory, NoThread, Accounts}
 use Rattle.jb_journal.specs.declared.ran.Ran.{Ran}

@@ -8,7 +8,7 @@ use Rattle.jb_handle.specs.declared.stopped.Stopped.{Stopped}
 use Rattle.jb_journal.specs.Notes.{Stop}
 use Rattle.jb_queue.specs.QueueLines.{HasRead}
 use Rattle.jb_queue.specs.declared.queue_lines.HandleReader.{HandleReader}
-use Rattle.jb_tool.specs.Refusing.{IsRefusedFor}
+use Rattle.jb_tool.specs.RefusedHandle.{IsRefusedFor}
 use Rattle.jb_tool.specs.Runs.{RunsAt, queued_at}
 use Rattle.jb_tool.specs.declared.loading.fault.HandleFault.{HandleFault}
 

@@ -13,7 +13,7 @@ use Rattle.jb_handle.specs.declared.shape.Shape.{Shape}
 use Rattle.jb_handle.specs.declared.word.Word.{Word}
 use Rattle.jb_handle.specs.declared.word.Word.TheVariants.{Copy, Free}
 use Rattle.jb_tool.specs.Faults.{not_touched}
-use Rattle.jb_tool.specs.Refusing.{IsMisfit, IsRefusedFor}
+use Rattle.jb_tool.specs.RefusedHandle.{IsMisfit, IsRefusedFor}
 
 -- one word more is at most one home more
 pub few-more : (words : WordMap) (home n : ℕ) (word : Word) → map.len words ≤ n → map.len (map.insert words home word) ≤ n + 1

@@ -6,7 +6,7 @@ use Rattle.jb_handle.specs.declared.shape.Shape.{Shape}
 use Rattle.jb_handle.specs.declared.stopped.Stopped.{Stopped}
 use Rattle.jb_journal.specs.Notes.{Stop}
 use Rattle.jb_tool.specs.Runs.{IsRun, RunsAt, StepsBy, queued_at}
-use Rattle.jb_tool.specs.Refusing.{IsRefusedFor}
+use Rattle.jb_tool.specs.RefusedHandle.{IsRefusedFor}
 use Rattle.jb_tool.specs.declared.loading.fault.HandleFault.{HandleFault}
 
 pub length-more : {X : Type 0} (xs : List X) (x : X) → length (xs ++ x ∷ []) ≡ suc (length xs)

@@ -1,11 +1,11 @@
 pub mod Faults
-pub mod Gathering
+pub mod FirstRefused
 pub mod Hints
 pub mod Load
 pub mod Loads
 pub mod Program
-pub mod Refused
-pub mod Refusing
+pub mod RefusedWords
+pub mod RefusedHandle
 pub mod Runs
-pub mod Telling
-pub mod Wanted
+pub mod LoadLines
+pub mod RunWanted

@@ -12,20 +12,20 @@ use Rattle.jb_disk.specs.declared.file.FileDisk.{FileDisk}
 use Rattle.jb_disk.specs.declared.start.Start.{Ghosts as Starts}
 use Rattle.jb_image.specs.Files.{FileImage, as_files}
 use Rattle.jb_image.specs.declared.image.ImageDisk.{ImageDisk}
-use Rattle.jb_journal.specs.Starting.{started_on}
+use Rattle.jb_journal.specs.Start.{started_on}
 use Rattle.jb_text.specs.declared.putting.WriteFault.{WriteFault}
 use Rattle.jb_tool.specs.Loads.{AnswersLoad}
-use Rattle.jb_tool.specs.Telling.{TellsLoad}
+use Rattle.jb_tool.specs.LoadLines.{TellsLoad}
 use Rattle.jb_tool.specs.declared.loading.fault.LoadFault.{LoadFault}
 use Rattle.jb_tool.specs.declared.loading.fault.LoadFault.TheVariants as loading
 use Rattle.jb_tool.specs.declared.loading.loaded.Loaded.{Loaded}
 use Rattle.jb_tool.specs.declared.loading.options.LoadOptions.{LoadOptions}
 use Rattle.jb_queue.specs.Queue.{Queue, queue_of}
 use Rattle.jb_queue.specs.declared.fault.QueueFault.{QueueFault}
-use Rattle.jb_args.specs.Wanted.{Loading}
+use Rattle.jb_args.specs.Command.{Loading}
 use Rattle.jb_commands.specs.Files.{IsImageOpened, IsShut}
 use Rattle.jb_commands.specs.Lines.{names_with}
-use Rattle.jb_commands.specs.Placed.{JudgesBeside, is_apart}
+use Rattle.jb_commands.specs.JournalPlace.{JudgesBeside, is_apart}
 use Rattle.jb_commands.specs.Runs.{Closes}
 use Rattle.jb_commands.specs.Said.{Outputs, Tells}
 use Rattle.jb_commands.specs.Texts.{HasNoText, IsText}

@@ -7,11 +7,11 @@ use Rattle.jb_disk.specs.declared.disk.Disk.{Ghosts}
 use Rattle.jb_handle.specs.declared.shape.Shape.{Shape}
 use Rattle.jb_handle.specs.declared.stopped.Stopped.{Stopped}
 use Rattle.jb_deck.specs.Done.{Follow}
-use Rattle.jb_book.specs.Opened.{NotOpened, WasOpened}
+use Rattle.jb_book.specs.OpenDisk.{NotOpened, WasOpened}
 use Rattle.jb_book.specs.Origin.{Begun}
-use Rattle.jb_journal.specs.Running.{EndsRun, RanOn}
+use Rattle.jb_journal.specs.Run.{EndsRun, RanOn}
 use Rattle.jb_journal.specs.declared.ran.Ran.{Ran}
-use Rattle.jb_tool.specs.Gathering.{first_refused}
+use Rattle.jb_tool.specs.FirstRefused.{first_refused}
 use Rattle.jb_tool.specs.Runs.{IsRun}
 use Rattle.jb_tool.specs.declared.loading.fault.LoadFault.{LoadFault}
 use Rattle.jb_tool.specs.declared.loading.fault.LoadFault.TheVariants as fault

@@ -6,16 +6,16 @@ use Rattle.jb_args.specs.Advice.{hint_line}
 use Rattle.jb_args.specs.declared.hint.Hint.{Hint}
 use Rattle.jb_text.specs.Puts.{PutsPart}
 use Rattle.jb_args.specs.Faults.{fault_kinds}
-use Rattle.jb_args.specs.Named.Asked.{AsksCost}
-use Rattle.jb_args.specs.Wanted.{wanted_in}
+use Rattle.jb_args.specs.PlainCommand.Asked.{AsksCost}
+use Rattle.jb_args.specs.Command.{wanted_in}
 use Rattle.jb_commands.specs.Ends.{of_fault, with_status}
 use Rattle.jb_commands.specs.Faults.{line_of, not_utf8}
 use Rattle.jb_commands.specs.Runs.{Closes, Runs}
 use Rattle.jb_commands.specs.Said.{Outputs}
 use Rattle.jb_commands.specs.declared.ended.Ended.{Ended}
 use Rattle.jb_commands.specs.declared.fault.CommandFault.TheVariants.{Memory}
-use Rattle.jb_tool.specs.Refused.{RefusesWords}
-use Rattle.jb_tool.specs.Wanted.{RunsWanted}
+use Rattle.jb_tool.specs.RefusedWords.{RefusesWords}
+use Rattle.jb_tool.specs.RunWanted.{RunsWanted}
 
 -- what `run` says of a run with these words
 pub record RunsWords {S : Type 0} (text : S → List ℕ) (words : List S) (input : Option (List ℕ)) (old new : Outputs) (ended : Ended) : Type 0 where

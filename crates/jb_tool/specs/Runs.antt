@@ -4,7 +4,7 @@ use Rattle.std.specs.FinMap as map
 use Rattle.jb_handle.specs.declared.shape.Shape.{Shape}
 use Rattle.jb_handle.specs.declared.stopped.Stopped.{Stopped}
 use Rattle.jb_journal.specs.Notes.{Stop}
-use Rattle.jb_tool.specs.Refusing.{IsRefusedFor}
+use Rattle.jb_tool.specs.RefusedHandle.{IsRefusedFor}
 use Rattle.jb_tool.specs.declared.loading.fault.HandleFault.{HandleFault}
 use Rattle.jb_tool.specs.declared.loading.loaded.Refused.{Refused}
 

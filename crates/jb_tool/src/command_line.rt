@@ -1,14 +1,14 @@
 ghost use Rattle.std.specs.Prelude.{◌≡◌, ◌≢◌, ◌⊎◌, Err, None, IfSome, [], codes, false, map};
 ghost use Rattle.jb_args.specs.Faults.{fault_kinds, kind_of};
-ghost use Rattle.jb_args.specs.Named.Asked.{AsksCost};
-ghost use Rattle.jb_args.specs.Wanted.{wanted_in};
+ghost use Rattle.jb_args.specs.PlainCommand.Asked.{AsksCost};
+ghost use Rattle.jb_args.specs.Command.{wanted_in};
 ghost use Rattle.jb_text.specs.Puts.{PutsPart};
 ghost use Rattle.jb_commands.specs.Ends.{of_fault, with_status};
 ghost use Rattle.jb_commands.specs.Runs.{Closes, Runs};
 ghost use Rattle.jb_commands.specs.Faults.{line_of};
 ghost use Rattle.jb_commands.specs.declared.fault.CommandFault.TheVariants.{Memory as CommandMemory, WriteFault};
-ghost use Rattle.jb_tool.specs.Refused.{RefusesWords};
-ghost use Rattle.jb_tool.specs.Wanted.{RunsWanted, wants_input};
+ghost use Rattle.jb_tool.specs.RefusedWords.{RefusesWords};
+ghost use Rattle.jb_tool.specs.RunWanted.{RunsWanted, wants_input};
 
 use crate::load_command::run_load;
 use jb_args::{Error, ErrorKind, Plain, Words, parse};

@@ -1,7 +1,7 @@
 //! `jb load`: the handles of a queue text, run by threads and committed to an image.
 ghost use Rattle.std.specs.Prelude.{◌≡◌, ◌≤◌, ◌↔◌, IsSome, IfSome, option_map};
 ghost use Rattle.jb_queue.specs.QueueLines.{queue_in};
-ghost use Rattle.jb_args.specs.Wanted.{load_said};
+ghost use Rattle.jb_args.specs.Command.{load_said};
 ghost use Rattle.jb_tool.specs.Load.{EndsOfLoad, HasThreads, AreOptionsOf, LoadsQueue, LoadsText};
 ghost use Rattle.jb_tool.specs.Load.{JudgesLoad, LoadsOpened, RunsLoad, load_fault};
 

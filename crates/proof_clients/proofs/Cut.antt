@@ -13,7 +13,7 @@ use Rattle.jb_deck.specs.declared.done.Entry.{Entry}
 use Rattle.jb_book.specs.declared.fault.BeginFault.{BeginFault}
 use Rattle.jb_book.specs.Account.{Account, failed_of}
 use Rattle.jb_book.specs.Calls.{Call, Opened, Enqueued, Took, Settled, Failed, CallsMake, IsCutOf, handles_in, stops_of}
-use Rattle.jb_book.specs.Tied.{EveryRun}
+use Rattle.jb_book.specs.MachineTie.{EveryRun}
 use Rattle.proof_clients.specs.BookClient.{Have, SettlesQueue, Stand, two_stops}
 
 -- ---- the groups of a cut of two

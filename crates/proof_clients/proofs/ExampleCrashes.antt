@@ -6,7 +6,7 @@ use Rattle.jb_handle.specs.Words.{word}
 use Rattle.jb_recover.specs.Outcomes.{recovered}
 use Rattle.jb_cost.specs.Pieces.{joined}
 use Rattle.jb_log.specs.Follows.{Follows, FollowsNone, HoldsBy, next_on}
-use Rattle.jb_deck.specs.Trailing.{handles_to}
+use Rattle.jb_deck.specs.GroupByGroup.{handles_to}
 use Rattle.jb_deck.proofs.Lives.{one-super}
 use Rattle.proof_clients.specs.Examples.{wrote_from}
 use Rattle.proof_clients.specs.ExampleCrashes.{three_writes, three_groups, with_new, MayBeLeft}

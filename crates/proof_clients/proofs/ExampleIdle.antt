@@ -23,7 +23,7 @@ use Rattle.jb_core.specs.Ran.{IsNewMachine, Ran}
 use Rattle.jb_deck.specs.Deck.{OpenDeck}
 use Rattle.jb_board.specs.HistoryRule.{StandsIn}
 use Rattle.jb_book.specs.Origin.{unknown}
-use Rattle.jb_book.specs.Led.{IsMachineRun}
+use Rattle.jb_book.specs.CallsToBook.{IsMachineRun}
 use Rattle.jb_book.specs.History.{AreAllStops, CameAbout, IsStop}
 use Rattle.jb_book.specs.Since.{IsCosted, WasGiven}
 use Rattle.jb_book.specs.SinceMark.{EndsMarked, Lasts}

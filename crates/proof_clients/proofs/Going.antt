@@ -1,6 +1,6 @@
 -- A program goes on call by call, and a crash leaves a first part of what it changes.
 use Rattle.std.proofs.Common.{◌≡◌, ℕ, ◌+◌, false, List, [], ◌∷◌, ◌++◌, map, append_assoc, Result, inr, refl, ap, sym, subst, ◌∙◌, arith, add-zero, append-nil}
-use Rattle.jb_plan.specs.Prepared.{Planned}
+use Rattle.jb_plan.specs.Prepare.{Planned}
 use Rattle.jb_disk.specs.declared.disk.Disk.{Ghosts}
 use Rattle.jb_disk.specs.Image.{Image}
 use Rattle.jb_disk.specs.Faults.{CountsAny}
@@ -12,11 +12,11 @@ use Rattle.jb_handle.specs.declared.shape.Shape.{Shape}
 use Rattle.jb_deck.specs.Calls.{OpeningIsRecovered, Reaches, at_first, one_more}
 use Rattle.jb_deck.specs.Changes.{Change, fills, settles, torn_by}
 use Rattle.jb_deck.specs.Deck.{IsShapeOf, OpenDeck, on_disk}
-use Rattle.jb_deck.specs.Gathering.{groups_in}
-use Rattle.jb_deck.specs.Keeping.{CrashKeeps}
-use Rattle.jb_deck.specs.Opening.{IsNew}
+use Rattle.jb_deck.specs.GroupsOfBatch.{groups_in}
+use Rattle.jb_deck.specs.CallsSinceOpen.{CrashKeeps}
+use Rattle.jb_deck.specs.Open.{IsNew}
 use Rattle.jb_deck.specs.Since.{CrashHolds, IsEnded, IsLeft, SinceIsRecovered}
-use Rattle.jb_deck.specs.Trailing.{handles_to}
+use Rattle.jb_deck.specs.GroupByGroup.{handles_to}
 use Rattle.jb_deck.specs.declared.freed.FreeFault.{FreeFault}
 use Rattle.proof_clients.specs.Programs.{LeftByProgram, Part, all_changes, all_groups, commits, in_batch, no_more, writes}
 use Rattle.proof_clients.proofs.Parts.{changes-append, groups-append, torn-part}

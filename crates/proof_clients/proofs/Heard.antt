@@ -8,12 +8,12 @@ use Rattle.std.proofs.lemmas.Option.{get_or_from_slice_get, same_Some, slice_get
 use Rattle.jb_journal.specs.Client.{AreHonest, one_block}
 use Rattle.jb_journal.specs.Names.{AreAllStops, Begun, Copy, Ghosts, IsFirstPart, IsInHistory, StandsBy, StandsIn, Stopped, TicketsFrom, WordMap, joined, with_places, word}
 use Rattle.jb_journal.specs.Notes.{Known, Stop}
-use Rattle.jb_journal.specs.Running.{RanOn}
-use Rattle.jb_journal.specs.Starting.{started_on}
+use Rattle.jb_journal.specs.Run.{RanOn}
+use Rattle.jb_journal.specs.Start.{started_on}
 use Rattle.jb_journal.specs.declared.ran.Ran.{Ran}
 use Rattle.jb_journal.proofs.Noting.{stands-on}
 use Rattle.jb_journal.proofs.Staying.{lasts-at, stays-noted}
-use Rattle.proof_clients.specs.Telling.{HasFound, HasReadThen, HasWritten, TwoHaveWorked, home}
+use Rattle.proof_clients.specs.TwoWorkers.{HasFound, HasReadThen, HasWritten, TwoHaveWorked, home}
 use Rattle.proof_clients.specs.declared.telling.Found.{Found}
 use Rattle.proof_clients.specs.declared.telling.Found.TheVariants.{Wrote, Read}
 

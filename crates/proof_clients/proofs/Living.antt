@@ -9,7 +9,7 @@ use Rattle.jb_disk.specs.Time.{LeavesOnly}
 use Rattle.jb_disk.proofs.Moments.{weaken}
 use Rattle.jb_super.specs.Journal.{SameJournal}
 use Rattle.jb_super.specs.Superblock.{Superblock}
-use Rattle.jb_plan.specs.Prepared.{IsPlanned, Planned}
+use Rattle.jb_plan.specs.Prepare.{IsPlanned, Planned}
 use Rattle.jb_handle.specs.declared.stopped.Stopped.{Stopped}
 use Rattle.jb_format.specs.Front.{homes_in, super_on}
 use Rattle.jb_format.specs.Ready.{revoking}
@@ -21,8 +21,8 @@ use Rattle.jb_log.proofs.Owning.{same-then}
 use Rattle.jb_deck.specs.Calls.{IsCleanAt}
 use Rattle.jb_deck.specs.Changes.{Change, HoldsAfter}
 use Rattle.jb_deck.specs.Deck.{IsShapeOf}
-use Rattle.jb_deck.specs.Gathering.{groups_in}
-use Rattle.jb_deck.specs.Opening.{home_by, opened_log, recovered_home}
+use Rattle.jb_deck.specs.GroupsOfBatch.{groups_in}
+use Rattle.jb_deck.specs.Open.{home_by, opened_log, recovered_home}
 use Rattle.jb_deck.specs.Since.{HoldsOn}
 use Rattle.jb_deck.proofs.Lives.{one-super, revoking-twice, same-revoking}
 use Rattle.jb_deck.proofs.Opened.{revoking-same}

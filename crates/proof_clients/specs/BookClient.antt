@@ -5,7 +5,7 @@ use Rattle.jb_handle.specs.declared.stopped.Stopped.{Stopped}
 use Rattle.jb_handle.specs.Word.{WordMap}
 use Rattle.jb_cost.specs.Pieces.{pieces}
 use Rattle.jb_plan.specs.Batch.{Gathered, gathered}
-use Rattle.jb_plan.specs.Prepared.{Planned, IsPlanned}
+use Rattle.jb_plan.specs.Prepare.{Planned, IsPlanned}
 use Rattle.jb_deck.specs.Done.{entries_of}
 use Rattle.jb_deck.specs.declared.done.Done.{Done}
 use Rattle.jb_deck.specs.declared.done.Entry.{Entry}

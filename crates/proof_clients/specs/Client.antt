@@ -3,12 +3,12 @@ use Rattle.std.specs.Prelude.{◌≡◌, ℕ, ◌+◌, ◌≤◌, List, ◌++◌
 use Rattle.jb_disk.specs.Image.{Image}
 use Rattle.jb_super.specs.Superblock.{Superblock}
 use Rattle.jb_handle.specs.declared.stopped.Stopped.{Stopped}
-use Rattle.jb_plan.specs.Prepared.{Planned}
+use Rattle.jb_plan.specs.Prepare.{Planned}
 use Rattle.jb_format.specs.Front.{super_on}
 use Rattle.jb_format.specs.Ready.{revoking}
-use Rattle.jb_deck.specs.Gathering.{groups_in}
-use Rattle.jb_deck.specs.Opening.{recovered_home}
-use Rattle.jb_deck.specs.Trailing.{handles_to}
+use Rattle.jb_deck.specs.GroupsOfBatch.{groups_in}
+use Rattle.jb_deck.specs.Open.{recovered_home}
+use Rattle.jb_deck.specs.GroupByGroup.{handles_to}
 use Rattle.jb_deck.specs.Calls.{IsRecoveredTo}
 
 -- the image is recovered to all these handles, and those of the first groups of a batch after them, at least so many of

@@ -12,7 +12,7 @@ use Rattle.jb_super.specs.Features.{wide_in}
 use Rattle.jb_format.specs.Front.{homes_in, super_on}
 use Rattle.jb_recover.specs.Refusals.{image_refusal}
 use Rattle.jb_recover.specs.Window.{found_on}
-use Rattle.jb_deck.specs.Trailing.{FollowsSome}
+use Rattle.jb_deck.specs.GroupByGroup.{FollowsSome}
 use Rattle.proof_clients.specs.Examples.{wrote_from}
 
 -- three handles that write the same bytes: into home 1, into homes 2 and 3, into home 4

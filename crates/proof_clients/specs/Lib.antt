@@ -6,4 +6,4 @@ pub mod Examples
 pub mod Files
 pub mod Lives
 pub mod Programs
-pub mod Telling
+pub mod TwoWorkers

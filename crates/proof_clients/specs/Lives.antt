@@ -7,14 +7,14 @@ use Rattle.jb_disk.specs.Image.{Image, Only, block}
 use Rattle.jb_super.specs.Journal.{SameJournal}
 use Rattle.jb_super.specs.Superblock.{Superblock}
 use Rattle.jb_handle.specs.declared.stopped.Stopped.{Stopped}
-use Rattle.jb_plan.specs.Prepared.{IsPlanned, Planned}
+use Rattle.jb_plan.specs.Prepare.{IsPlanned, Planned}
 use Rattle.jb_format.specs.Front.{super_on}
 use Rattle.jb_format.specs.Ready.{revoking}
 use Rattle.jb_recover.specs.Outcomes.{recovered}
 use Rattle.jb_deck.specs.Changes.{Change, HoldsAfter}
 use Rattle.jb_deck.specs.Deck.{IsShapeOf}
-use Rattle.jb_deck.specs.Gathering.{groups_in}
-use Rattle.jb_deck.specs.Opening.{recovered_home}
+use Rattle.jb_deck.specs.GroupsOfBatch.{groups_in}
+use Rattle.jb_deck.specs.Open.{recovered_home}
 use Rattle.proof_clients.specs.Programs.{HasChanges, IsPartOf, all_changes, commits}
 
 -- ---- what a life changes

@@ -2,7 +2,7 @@
 use Rattle.std.specs.Prelude.{◌≡◌, ◌⊎◌, ℕ, ◌+◌, ◌≤◌, List, [], ◌∷◌, ◌++◌, map, Ok, Result, Err}
 use Rattle.jb_disk.specs.Image.{Image, block}
 use Rattle.jb_super.specs.Superblock.{Superblock}
-use Rattle.jb_plan.specs.Prepared.{Planned}
+use Rattle.jb_plan.specs.Prepare.{Planned}
 use Rattle.jb_format.specs.Front.{super_on}
 use Rattle.jb_format.specs.Ready.{revoking}
 use Rattle.jb_recover.specs.Outcomes.{recovered}
@@ -10,9 +10,9 @@ use Rattle.jb_log.specs.Frame.{KeepsFrame}
 use Rattle.jb_deck.specs.Calls.{IsRecoveredTo}
 use Rattle.jb_deck.specs.Changes.{Change, HoldsAfter, fills, settled_in, settles, tears}
 use Rattle.jb_deck.specs.Deck.{OpenDeck}
-use Rattle.jb_deck.specs.Gathering.{groups_in}
-use Rattle.jb_deck.specs.Opening.{recovered_home}
-use Rattle.jb_deck.specs.Trailing.{handles_to}
+use Rattle.jb_deck.specs.GroupsOfBatch.{groups_in}
+use Rattle.jb_deck.specs.Open.{recovered_home}
+use Rattle.jb_deck.specs.GroupByGroup.{handles_to}
 
 -- what a program changes by one call: it commits a batch, or writes bytes into a home that is free
 pub data Part : Type 0 where

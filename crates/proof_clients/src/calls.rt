@@ -1,7 +1,7 @@
 //! Calls of a book, each of which adds to a list of calls.
 ghost use Rattle.std.specs.Prelude.{◌≡◌, ◌++◌, Ok, None, IfSome};
 ghost use Rattle.jb_handle.specs.Handle.{changes_of};
-ghost use Rattle.jb_plan.specs.Prepared.{IsPlanned};
+ghost use Rattle.jb_plan.specs.Prepare.{IsPlanned};
 ghost use Rattle.jb_deck.specs.Done.{entries_of};
 ghost use Rattle.jb_book.specs.Calls.{Enqueued};
 ghost use Rattle.proof_clients.specs.BookClient.{CallLeads, SettlesQueue, TellsFirstGroups, IsPlanOf};

@@ -6,7 +6,7 @@ ghost use Rattle.jb_disk.specs.Faults.{CountsAny};
 ghost use Rattle.jb_disk.specs.KeptOn.{KeptOn};
 ghost use Rattle.jb_disk.specs.Time.{LeavesOnly};
 ghost use Rattle.jb_disk.specs.Throughout.{AllHave};
-ghost use Rattle.jb_deck.specs.Gathering.{groups_in};
+ghost use Rattle.jb_deck.specs.GroupsOfBatch.{groups_in};
 
 use crate::commit::{commit, give_up};
 use jb_block::Stamp;

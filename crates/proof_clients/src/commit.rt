@@ -3,11 +3,11 @@ ghost use Rattle.std.specs.Prelude.{◌≡◌, ◌+◌, false, map, OnOk};
 ghost use Rattle.jb_disk.specs.Faults.{CountsAny};
 ghost use Rattle.jb_disk.specs.KeptOn.{KeptOn};
 ghost use Rattle.jb_disk.specs.Time.{LeavesOnly};
-ghost use Rattle.jb_plan.specs.Prepared.{IsPlanned};
-ghost use Rattle.jb_deck.specs.Gathering.{groups_in};
+ghost use Rattle.jb_plan.specs.Prepare.{IsPlanned};
+ghost use Rattle.jb_deck.specs.GroupsOfBatch.{groups_in};
 ghost use Rattle.jb_disk.specs.Throughout.{AllHave};
 ghost use Rattle.jb_log.specs.Log.{standing};
-ghost use Rattle.jb_deck.specs.Trailing.{FollowsSome};
+ghost use Rattle.jb_deck.specs.GroupByGroup.{FollowsSome};
 ghost use Rattle.jb_deck.specs.Changes.{settles};
 ghost use Rattle.jb_deck.specs.Since.{IsEnded, LeftInCommit};
 

@@ -1,6 +1,6 @@
 //! One life of a journal, up to the crash that ends it.
 ghost use Rattle.std.specs.Prelude.{◌≡◌, ◌⊎◌, false, true, IfSome};
-ghost use Rattle.jb_plan.specs.Prepared.{IsPlanned};
+ghost use Rattle.jb_plan.specs.Prepare.{IsPlanned};
 ghost use Rattle.jb_disk.specs.Faults.{CountsAny};
 ghost use Rattle.jb_disk.specs.KeptOn.{KeptOn};
 ghost use Rattle.jb_disk.specs.Time.{LeavesOnly};

@@ -1,7 +1,7 @@
 //! Three batches, with a checkpoint before the last one.
 ghost use Rattle.std.specs.Prelude.{IfOk, ◌+◌, ◌∷◌, ◌⊎◌, ◌++◌, []};
 ghost use Rattle.jb_disk.specs.Time.{LeavesOnly};
-ghost use Rattle.jb_deck.specs.Gathering.{groups_in};
+ghost use Rattle.jb_deck.specs.GroupsOfBatch.{groups_in};
 ghost use Rattle.proof_clients.specs.Client.{LeavesPrefix};
 ghost use Rattle.proof_clients.specs.Programs.{commits, disk_after, LeftByProgram};
 

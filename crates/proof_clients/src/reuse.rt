@@ -2,7 +2,7 @@
 ghost use Rattle.std.specs.Prelude.{◌≡◌, ◌+◌, ◌∷◌, ◌⊎◌, [], IfOk, OnOk};
 ghost use Rattle.jb_disk.specs.Time.{LeavesOnly};
 ghost use Rattle.jb_disk.specs.Throughout.{AllHave};
-ghost use Rattle.jb_deck.specs.Gathering.{groups_in};
+ghost use Rattle.jb_deck.specs.GroupsOfBatch.{groups_in};
 ghost use Rattle.proof_clients.specs.Programs.{all_changes, commits, disk_either, HasChanges, LeftByProgram, writes};
 
 use crate::commit::{commit, give_up};

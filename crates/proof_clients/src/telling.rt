@@ -1,6 +1,6 @@
 //! The two workers.
 ghost use Rattle.std.specs.Prelude.{IfSome};
-ghost use Rattle.proof_clients.specs.Telling.{HasFound, HasWritten};
+ghost use Rattle.proof_clients.specs.TwoWorkers.{HasFound, HasWritten};
 
 use jb_journal::{Client, Clock, Disk, Handle, Origin, TouchFault, Worker};
 use std::sync::ledger::Ledger;

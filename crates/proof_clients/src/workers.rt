@@ -1,6 +1,6 @@
 //! The journal is run with the two workers.
 ghost use Rattle.std.specs.Prelude.{IfOk};
-ghost use Rattle.proof_clients.specs.Telling.{TwoHaveWorked};
+ghost use Rattle.proof_clients.specs.TwoWorkers.{TwoHaveWorked};
 
 use crate::telling::{Found, Telling};
 use jb_journal::{Clock, Disk, Options, Ran, RunFault, run};

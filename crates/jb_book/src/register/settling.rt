@@ -12,7 +12,7 @@ use jb_disk::Disk;
 use jb_handle::Shape;
 
 impl<D: Disk, S: Origin> Register<D, S> {
-    ghost use Rattle.jb_book.specs.Led.{FailsAfter, IsOutAs, IsSettling, SettlesOrFails};
+    ghost use Rattle.jb_book.specs.CallsToBook.{FailsAfter, IsOutAs, IsSettling, SettlesOrFails};
     ghost use Rattle.jb_book.specs.Marks.{HasFailedMark, IsMarked, SeesSame};
 
     /// Settles the batch that is out, whole: a batch of this shape that ends at this ticket, whose handles were seen,

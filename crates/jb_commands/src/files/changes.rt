@@ -1,6 +1,6 @@
 //! Images whose journal is changed.
-ghost use Rattle.jb_format.specs.Renumbering.{IsRenumbering, Renumbers, RenumbersAs};
-ghost use Rattle.jb_format.specs.Widening.{IsWidened, Widens, WidensAs};
+ghost use Rattle.jb_format.specs.Renumber.{IsRenumbering, Renumbers, RenumbersAs};
+ghost use Rattle.jb_format.specs.Widen.{IsWidened, Widens, WidensAs};
 ghost use Rattle.jb_commands.specs.Files.{EndsOfChange};
 ghost use Rattle.jb_commands.specs.declared.report.Report.TheVariants.{Renumbered as ReportsRenumbered};
 ghost use Rattle.jb_commands.specs.declared.report.Report.TheVariants.{Widened as ReportsWidened};

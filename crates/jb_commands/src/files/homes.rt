@@ -1,6 +1,6 @@
 //! Home blocks of images, as recovery would leave them.
-ghost use Rattle.jb_args.specs.Named.{cat_said};
-ghost use Rattle.jb_commands.specs.Placed.{EndsOfCat};
+ghost use Rattle.jb_args.specs.PlainCommand.{cat_said};
+ghost use Rattle.jb_commands.specs.JournalPlace.{EndsOfCat};
 
 use crate::done::Done;
 use crate::files::opening::Opening;

@@ -1,7 +1,7 @@
 //! Images that are made.
 ghost use Rattle.std.specs.Prelude.{◌≡◌, ◌↔◌, IfSome, IsSome};
-ghost use Rattle.jb_image.specs.Making.{MakesImage};
-ghost use Rattle.jb_args.specs.Named.{options_said};
+ghost use Rattle.jb_image.specs.Create.{MakesImage};
+ghost use Rattle.jb_args.specs.PlainCommand.{options_said};
 ghost use Rattle.jb_commands.specs.Files.{EndsOfFormat, EndsOfMaking, IsUnnamed};
 ghost use Rattle.jb_commands.specs.Format.{new_limit_of};
 ghost use Rattle.jb_commands.specs.Options.{IsJournalLength};

@@ -4,7 +4,7 @@ ghost use Rattle.jb_disk.specs.File.{IsMeasured, size_of_blocks};
 ghost use Rattle.jb_image.specs.Disks.{whole_disk};
 ghost use Rattle.jb_image.specs.Lists.{extents_in, list_of, shared_in};
 ghost use Rattle.jb_commands.specs.Files.{SaysSuper};
-ghost use Rattle.jb_commands.specs.Placed.{IsNoPlaceFor, IsOpenedAt, IsOpenedWithin, IsShutAt};
+ghost use Rattle.jb_commands.specs.JournalPlace.{IsNoPlaceFor, IsOpenedAt, IsOpenedWithin, IsShutAt};
 ghost use Rattle.jb_commands.specs.Shut.{IsFileShut, IsFront, IsListShut, IsOpenedOver, IsSpreadShut, JoinsFile};
 
 use crate::fault::CommandFault;

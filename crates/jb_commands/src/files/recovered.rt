@@ -1,10 +1,10 @@
 //! Images that are recovered, or of which it is said what a recovery would do.
 ghost use Rattle.std.specs.Prelude.{◌≡◌, option_map};
 ghost use Rattle.jb_image.specs.Files.{as_disks};
-ghost use Rattle.jb_args.specs.Named.{recover_said};
+ghost use Rattle.jb_args.specs.PlainCommand.{recover_said};
 ghost use Rattle.jb_commands.specs.Foresee.{foreseen_end as foreseen_so, own_checked};
-ghost use Rattle.jb_commands.specs.Placed.{EndsOfRecover, is_apart as stands_apart, is_beside as stands_beside};
-ghost use Rattle.jb_commands.specs.Placed.{ChecksOwn, ForeseesImage, JudgesBeside, RecoversImage, RecoversOpened};
+ghost use Rattle.jb_commands.specs.JournalPlace.{EndsOfRecover, is_apart as stands_apart, is_beside as stands_beside};
+ghost use Rattle.jb_commands.specs.JournalPlace.{ChecksOwn, ForeseesImage, JudgesBeside, RecoversImage, RecoversOpened};
 
 use crate::done::Done;
 use crate::fault::CommandFault;

@@ -2,7 +2,7 @@
 //! a `CommandFault` where the words of the command are.
 ghost use Rattle.std.specs.Prelude.{◌≡◌, IfErr, IfOk, List, Some, ℕ};
 ghost use Rattle.jb_commands.specs.Files.{IsShut, IsUnread};
-ghost use Rattle.jb_commands.specs.Placed.{IsShutWithin};
+ghost use Rattle.jb_commands.specs.JournalPlace.{IsShutWithin};
 ghost use Rattle.jb_commands.specs.Shut.{IsFileShut, IsListShut, IsPairShut};
 
 use crate::fault::CommandFault;

@@ -1,6 +1,6 @@
 ghost use Rattle.std.specs.Prelude.{◌≡◌};
-ghost use Rattle.jb_format.specs.Renumbering.{IsRenumbering, Renumbers, RenumbersAs};
-ghost use Rattle.jb_format.specs.Widening.{IsWidened, Widens, WidensAs};
+ghost use Rattle.jb_format.specs.Renumber.{IsRenumbering, Renumbers, RenumbersAs};
+ghost use Rattle.jb_format.specs.Widen.{IsWidened, Widens, WidensAs};
 ghost use Rattle.jb_commands.specs.Change.{ChangesOn, change_end, renumbered_line, widened_line};
 ghost use Rattle.jb_commands.specs.Said.{TellsLine, line_end};
 ghost use Rattle.jb_commands.specs.declared.report.Report.TheVariants.{Renumbered as ReportsRenumbered};

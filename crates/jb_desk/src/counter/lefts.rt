@@ -44,7 +44,7 @@ fn merged<H: Origin, N: Ledger>(
 }
 
 impl<D: Disk, H: Origin, N: Ledger> Counter<D, H, N> {
-    ghost use Rattle.jb_book.specs.Led.{IsMachineRun};
+    ghost use Rattle.jb_book.specs.CallsToBook.{IsMachineRun};
     ghost use Rattle.jb_book.specs.Marks.{HasShapeMark};
     ghost use Rattle.jb_book.specs.History.{AreAllStops};
     ghost use Rattle.jb_desk.specs.Parts.{ledger_parts};

@@ -14,7 +14,7 @@ use std::sync::ledger::Ledger;
 impl<D: Disk, H: Origin, N: Ledger> Counter<D, H, N> {
     ghost use Rattle.jb_book.specs.Account.{failed_of, CanTake};
     ghost use Rattle.jb_desk.specs.Rounds.{GivesBatch, GivesUp, Rests};
-    ghost use Rattle.jb_book.specs.Led.{FailsAfter, IsSettling, SettlesOrFails};
+    ghost use Rattle.jb_book.specs.CallsToBook.{FailsAfter, IsSettling, SettlesOrFails};
     ghost use Rattle.jb_book.specs.Marks.{HasFailedMark, IsMarked, SeesSame};
     ghost use Rattle.jb_deck.specs.Done.{entries_of};
 

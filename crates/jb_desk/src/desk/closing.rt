@@ -5,7 +5,7 @@ ghost use Rattle.jb_deck.specs.Done.{Follow, start_of};
 ghost use Rattle.jb_desk.specs.Seats.{AddsUp, made_left};
 ghost use Rattle.jb_book.specs.History.{CameAbout};
 ghost use Rattle.jb_book.specs.SinceMark.{EndsMarked};
-ghost use Rattle.jb_desk.specs.Closing.{DiffersAs};
+ghost use Rattle.jb_desk.specs.Close.{DiffersAs};
 ghost use Rattle.jb_desk.specs.Parts.{ledger_parts};
 
 use crate::counter::Counter;
@@ -75,7 +75,7 @@ impl<D: Disk + Drop, C: Clock, H: Origin, N: Ledger> Desk<D, C, H, N> {
     ghost use Rattle.jb_desk.specs.Seats.{stops_left, changes_left, made_left};
     ghost use Rattle.jb_book.specs.History.{CameAbout};
     ghost use Rattle.jb_book.specs.SinceMark.{EndsMarked};
-    ghost use Rattle.jb_desk.specs.Closing.{IsNotClosed};
+    ghost use Rattle.jb_desk.specs.Close.{IsNotClosed};
     ghost use Rattle.jb_book.specs.Since.{EndsSince};
 
     /// Closes the desk, where every seat that it gave has left. It writes nothing. Of the marks that were seen it says

@@ -23,7 +23,7 @@ impl<D: Disk, C: Clock, H: Origin, N: Ledger> Desk<D, C, H, N> {
     ghost use Rattle.jb_desk.specs.Rounds.{seat_of, held_by, AnswersRound, IdleKeeps};
     ghost use Rattle.jb_desk.specs.Seats.{KeepsSeat, KeepsStops, seat_number, desk_of};
     ghost use Rattle.jb_desk.specs.Out.{IsOut};
-    ghost use Rattle.jb_book.specs.Led.{IsSettling};
+    ghost use Rattle.jb_book.specs.CallsToBook.{IsSettling};
     ghost use Rattle.jb_book.specs.Marks.{HasFailedMark, IsMarked, SeesSame};
     ghost use Rattle.jb_desk.specs.Views.{SeesCommit, SeesRound};
     ghost use Rattle.jb_board.specs.Seats.{given_by};

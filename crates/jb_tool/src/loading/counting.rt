@@ -2,7 +2,7 @@
 ghost use Rattle.std.specs.Prelude.{◌≡◌, ℕ, ◌<◌, ◌^◌, ◌↔◌, IsTrue, IfErr, IfOk};
 ghost use Rattle.std.specs.List.{sum_by};
 ghost use Rattle.jb_deck.specs.Done.{Follow, start_of};
-ghost use Rattle.jb_tool.specs.Gathering.{earlier_refused, first_refused};
+ghost use Rattle.jb_tool.specs.FirstRefused.{earlier_refused, first_refused};
 ghost use Rattle.jb_tool.specs.Loads.{CountsRun};
 ghost use Rattle.jb_tool.specs.declared.loading.fault.LoadFault.TheVariants.{Accounts};
 

@@ -92,7 +92,7 @@ impl From<ChangeFault<TouchFault>> for HandleFault {
 
 impl HandleFault {
     ghost use Rattle.std.specs.Prelude.{◌≡◌};
-    ghost use Rattle.jb_tool.specs.Telling.{name_of, number_named};
+    ghost use Rattle.jb_tool.specs.LoadLines.{name_of, number_named};
 
     /// Its name.
     pub fn name(self) -> &'static str

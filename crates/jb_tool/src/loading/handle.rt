@@ -1,7 +1,7 @@
 //! One handle of the queue is run.
 ghost use Rattle.std.specs.Prelude.{◌≡◌, ◌++◌, ◌∷◌, [], IfOk, IfErr, OnErr};
 ghost use Rattle.jb_journal.specs.Client.{IsClient, client_stops, shape_of};
-ghost use Rattle.jb_tool.specs.Refusing.{IsRefusedFor};
+ghost use Rattle.jb_tool.specs.RefusedHandle.{IsRefusedFor};
 
 use crate::loading::fault::HandleFault;
 use crate::loading::words::put_words;

@@ -35,7 +35,7 @@ pub struct Loaded {
 
 impl Loaded {
     ghost use Rattle.std.specs.Prelude.{◌≡◌};
-    ghost use Rattle.jb_tool.specs.Telling.{is_whole};
+    ghost use Rattle.jb_tool.specs.LoadLines.{is_whole};
 
     /// Whether no handle was refused, the committer and the checkpointer ended as the desk was over, and every
     /// handle of the queue is settled.

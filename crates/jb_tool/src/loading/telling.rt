@@ -1,7 +1,7 @@
 ghost use Rattle.jb_text.specs.Puts.{Puts};
 ghost use Rattle.std.specs.Prelude.{◌≡◌};
-ghost use Rattle.jb_tool.specs.Telling.{TellsLoad, aborted_word as aborted_said, counts_line, thread_end_line};
-ghost use Rattle.jb_tool.specs.Telling.{ends_text, faults_text, refused_text};
+ghost use Rattle.jb_tool.specs.LoadLines.{TellsLoad, aborted_word as aborted_said, counts_line, thread_end_line};
+ghost use Rattle.jb_tool.specs.LoadLines.{ends_text, faults_text, refused_text};
 
 use crate::loading::loaded::{Loaded, Refused};
 use itoa::Buffer;

@@ -3,7 +3,7 @@ ghost use Rattle.std.specs.Prelude.{◌≡◌, IfErr, OnOk};
 ghost use Rattle.std.specs.FinMap as map;
 ghost use Rattle.jb_handle.specs.Handle.{holder, changes_of};
 ghost use Rattle.jb_tool.specs.Faults.{not_touched};
-ghost use Rattle.jb_tool.specs.Refusing.{IsRefusedFor};
+ghost use Rattle.jb_tool.specs.RefusedHandle.{IsRefusedFor};
 
 use jb_handle::{Handle, TouchFault, Words};
 

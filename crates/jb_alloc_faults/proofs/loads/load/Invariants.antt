@@ -1,5 +1,5 @@
 use Rattle.jb_board.specs.Place.{nowhere}
-use Rattle.jb_journal.specs.Starting.{started_on}
+use Rattle.jb_journal.specs.Start.{started_on}
 use Rattle.jb_alloc_faults.proofs.loads.load.Given as goal
 
 abbrev pub ghosts-load_on-H-Origin : goal.ghosts-load_on-H-Origin

@@ -1,6 +1,6 @@
 use Rattle.std.proofs.Common.{◌≡◌, length, subst, ◌∙◌, arith}
 use Rattle.jb_cost.specs.declared.geometry.Geometry.{Geometry}
-use Rattle.jb_cost.specs.Owned.{owned_cost}
+use Rattle.jb_cost.specs.LastTouch.{owned_cost}
 use Rattle.jb_cost.specs.Search.{BestSoFar, AreBeyondLimit}
 use Rattle.jb_cost.specs.Starts.{BestStart}
 use Rattle.jb_cost.proofs.Starts.{best-all}

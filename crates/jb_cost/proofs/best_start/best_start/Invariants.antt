@@ -1,5 +1,5 @@
 use Rattle.std.proofs.Common.{◌≡◌, ℕ, List, Option, length}
-use Rattle.jb_cost.specs.Owned.{owned_cost}
+use Rattle.jb_cost.specs.LastTouch.{owned_cost}
 use Rattle.jb_cost.specs.Starts.{BestStart}
 use Rattle.jb_cost.specs.Spans.{FitOwned, FitPrices}
 use Rattle.jb_cost.specs.Search.{IsWalk}

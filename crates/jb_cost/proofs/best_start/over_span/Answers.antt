@@ -1,6 +1,6 @@
 use Rattle.std.proofs.Common.{rules, ◌≡◌, ◌+◌, ◌^◌, ◌≤◌, ◌∙◌, IsTrue, length, sym, ap, arith}
 use Rattle.jb_cost.specs.Cost.{blocks_of}
-use Rattle.jb_cost.specs.Owned.{owned_from, copies_of, frees_of}
+use Rattle.jb_cost.specs.LastTouch.{owned_from, copies_of, frees_of}
 use Rattle.jb_cost.specs.Starts.{dearer_by}
 use Rattle.jb_cost.proofs.Leaping.{leap-best, leap-sums, span-room}
 use Rattle.jb_cost.proofs.Searching.{idle-sums}

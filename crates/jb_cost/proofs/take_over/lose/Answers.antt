@@ -1,6 +1,6 @@
 use Rattle.std.proofs.Common.{◌≡◌, ℕ, ◌+◌, Bool, not, set, length-set, ap, ◌∙◌, arith, unwrap_or, option_map}
 use Rattle.std.proofs.lemmas.List.{get_or_read}
-use Rattle.jb_cost.specs.Owned.{copies_of, frees_of, left_copy, owned_at, owned_from, counts_since, IsIdle}
+use Rattle.jb_cost.specs.LastTouch.{copies_of, frees_of, left_copy, owned_at, owned_from, counts_since, IsIdle}
 use Rattle.jb_cost.proofs.Fresh.{turned}
 use Rattle.jb_cost.proofs.Losing.{not-idle, idle-lost, spans-lost, bests-lost, lost}
 use Rattle.jb_cost.proofs.take_over.lose.Goals as goal

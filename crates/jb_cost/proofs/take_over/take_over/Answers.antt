@@ -1,7 +1,7 @@
 use Rattle.std.proofs.Common.{◌+◌, ◌<◌, not, T, length, sym, ap, subst, ◌∙◌, arith, nat_cmp}
 use Rattle.std.specs.BTreeMap.{get}
 use Rattle.std.specs.FinMap as map
-use Rattle.jb_cost.specs.Owned.{copies_of, frees_of, left_copy, later_touch}
+use Rattle.jb_cost.specs.LastTouch.{copies_of, frees_of, left_copy, later_touch}
 use Rattle.jb_cost.proofs.Losing.{owns, counts-more}
 use Rattle.jb_cost.proofs.Fresh.{one-kind, turned}
 use Rattle.jb_handle.proofs.Rising.{find-whole}

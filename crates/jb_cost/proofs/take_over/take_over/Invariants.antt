@@ -1,7 +1,7 @@
 use Rattle.std.proofs.Common.{◌≡◌, ◌+◌, ◌≤◌, ℕ, not, List, Option, length, take, nat_cmp}
 use Rattle.std.specs.BTreeMap.{IsOrdered, get}
 use Rattle.std.specs.FinMap as map
-use Rattle.jb_cost.specs.Owned.{IsIdle, owned_at, copies_of, frees_of, left_copy, CountsBut, later_touch}
+use Rattle.jb_cost.specs.LastTouch.{IsIdle, owned_at, copies_of, frees_of, left_copy, CountsBut, later_touch}
 use Rattle.jb_cost.specs.Spans.{AreSpans, AreBest}
 use Rattle.jb_cost.proofs.take_over.take_over.Given as goal
 

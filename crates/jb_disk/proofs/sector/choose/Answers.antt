@@ -3,7 +3,7 @@ use Rattle.std.proofs.lemmas.List.{map-set}
 use Rattle.std.specs.Vec.{with_items}
 use Rattle.jb_disk.specs.Calls.{image_of}
 use Rattle.jb_disk.specs.Image.{block, sector}
-use Rattle.jb_disk.specs.Mixing.{table_of, bytes_of_writes}
+use Rattle.jb_disk.specs.CrashWrites.{table_of, bytes_of_writes}
 use Rattle.jb_disk.specs.Versions.{one_if_any, version}
 use Rattle.jb_disk.proofs.Buffers.{buffer_at}
 use Rattle.jb_disk.proofs.Choices.{AreChosen, chosen-none, chosen-some, written_back, writes_here, none_here, some_here}

@@ -1,6 +1,6 @@
 use Rattle.std.proofs.Common.{length}
 use Rattle.jb_disk.specs.Calls.{image_of}
-use Rattle.jb_disk.specs.Mixing.{table_of}
+use Rattle.jb_disk.specs.CrashWrites.{table_of}
 use Rattle.jb_disk.proofs.Choices.{AreChosen}
 use Rattle.jb_disk.proofs.sector.choose.Given as goal
 

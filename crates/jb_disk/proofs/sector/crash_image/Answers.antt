@@ -2,7 +2,7 @@ use Rattle.std.proofs.Common.{◌≡◌, ◌<◌, ◌+◌, ◌*◌, ◌/◌, ◌
 use Rattle.jb_block.specs.Size.{bytes_of}
 use Rattle.jb_disk.specs.Calls.{steps_of, image_of}
 use Rattle.jb_disk.specs.Image.{HasShape, block, sector}
-use Rattle.jb_disk.specs.Mixing.{table_of, writes_at, any_below}
+use Rattle.jb_disk.specs.CrashWrites.{table_of, writes_at, any_below}
 use Rattle.jb_disk.specs.Versions.{written, written_below, version, versions}
 use Rattle.jb_disk.proofs.Buffers.{buffers_count}
 use Rattle.jb_disk.proofs.Choices.{written_back}

@@ -1,5 +1,5 @@
 use Rattle.std.proofs.Common.{◌≡◌, ◌≤◌, ◌+◌, ◌*◌, ◌∷◌, length, arith, sym, ◌∙◌, ap}
-use Rattle.jb_disk.specs.Mixing.{bytes_of_writes}
+use Rattle.jb_disk.specs.CrashWrites.{bytes_of_writes}
 use Rattle.jb_disk.specs.Versions.{version}
 use Rattle.jb_disk.proofs.Mixes.{mixed-keep, mixed-put, version-size}
 use Rattle.jb_disk.proofs.sector.mix.Goals as goal

@@ -1,4 +1,4 @@
-use Rattle.jb_disk.specs.Mixing.{bytes_of_writes}
+use Rattle.jb_disk.specs.CrashWrites.{bytes_of_writes}
 use Rattle.jb_disk.proofs.Mixes.{IsMixed}
 use Rattle.jb_disk.proofs.sector.mix.Given as goal
 

@@ -1,5 +1,5 @@
 use Rattle.std.proofs.Common.{◌≡◌, ℕ, [], length}
-use Rattle.jb_disk.specs.Mixing.{table_of, writes_at}
+use Rattle.jb_disk.specs.CrashWrites.{table_of, writes_at}
 use Rattle.jb_disk.proofs.sector.no_writes.Given as goal
 
 abbrev pub invariant-loop-place : goal.invariant-loop-place

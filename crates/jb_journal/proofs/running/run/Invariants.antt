@@ -1,5 +1,5 @@
 use Rattle.jb_board.specs.Place.{nowhere}
-use Rattle.jb_journal.specs.Starting.{started_on}
+use Rattle.jb_journal.specs.Start.{started_on}
 use Rattle.jb_journal.proofs.running.run.Given as goal
 
 abbrev pub ghosts-run_on-H-Origin : goal.ghosts-run_on-H-Origin

@@ -3,7 +3,7 @@ use Rattle.jb_handle.specs.declared.shape.Shape.{Shape}
 use Rattle.jb_book.specs.declared.sights.Sights.{Sights}
 use Rattle.jb_journal.specs.Client.{AreHonest, client_stops, known_in}
 use Rattle.jb_journal.specs.Notes.{Stop}
-use Rattle.jb_journal.specs.Running.{stops_left_by}
+use Rattle.jb_journal.specs.Run.{stops_left_by}
 use Rattle.jb_journal.proofs.threads.work_at.Goals as goal
 use Rattle.jb_journal.proofs.threads.work_at.Goals.{in-Some-seat, in-None}
 

@@ -1,6 +1,6 @@
 use Rattle.std.proofs.Common.{◌≡◌, ◌+◌, List, [], ◌∷◌, ◌++◌, map, subst, ◌∙◌, ap, arith, add-zero, append-nil}
 use Rattle.jb_deck.specs.Changes.{Change, settled_in, settles}
-use Rattle.jb_deck.specs.Gathering.{groups_in}
+use Rattle.jb_deck.specs.GroupsOfBatch.{groups_in}
 use Rattle.jb_deck.proofs.Changed.{settled-map}
 use Rattle.proof_clients.specs.Programs.{commits}
 use Rattle.proof_clients.proofs.Programs.{SoFar, left-to, opening-runs}

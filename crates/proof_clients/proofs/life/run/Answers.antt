@@ -6,7 +6,7 @@ use Rattle.jb_super.specs.Superblock.{Superblock}
 use Rattle.jb_handle.specs.declared.stopped.Stopped.{Stopped}
 use Rattle.jb_format.specs.Front.{super_on}
 use Rattle.jb_deck.specs.Deck.{IsShapeOf}
-use Rattle.jb_deck.specs.Gathering.{groups_in}
+use Rattle.jb_deck.specs.GroupsOfBatch.{groups_in}
 use Rattle.proof_clients.specs.Lives.{IsBatchOf, LeftByLife, of_batch}
 use Rattle.proof_clients.specs.Programs.{all_changes, commits}
 use Rattle.proof_clients.proofs.Living.{LifeLeft, batch-opened, left-whole, life-runs as runs-of, none-runs}

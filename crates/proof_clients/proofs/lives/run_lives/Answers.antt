@@ -4,7 +4,7 @@ use Rattle.jb_block.specs.Size.{bytes_of}
 use Rattle.jb_disk.specs.History.{newest_of}
 use Rattle.jb_format.proofs.Entering.{entry-as}
 use Rattle.jb_recover.specs.Outcomes.{recovered}
-use Rattle.jb_deck.specs.Opening.{recovered_home}
+use Rattle.jb_deck.specs.Open.{recovered_home}
 use Rattle.proof_clients.specs.Lives.{HasLives, HoldsChanges, HoldsLife}
 use Rattle.proof_clients.specs.declared.lives.Life.{Life}
 use Rattle.proof_clients.proofs.Living.{lives-more, lives-none, rested}

@@ -3,9 +3,9 @@ use Rattle.jb_disk.specs.Image.{Image}
 use Rattle.jb_format.specs.Ready.{revoking}
 use Rattle.jb_log.specs.declared.log.Log.{Log}
 use Rattle.jb_deck.specs.Changes.{Change, settled_in, settles}
-use Rattle.jb_deck.specs.Gathering.{groups_in}
+use Rattle.jb_deck.specs.GroupsOfBatch.{groups_in}
 use Rattle.jb_deck.specs.Since.{in_commit}
-use Rattle.jb_deck.specs.Trailing.{handles_to}
+use Rattle.jb_deck.specs.GroupByGroup.{handles_to}
 use Rattle.jb_deck.proofs.Changed.{settled-append, settled-map}
 use Rattle.proof_clients.specs.Client.{HasPrefix}
 use Rattle.proof_clients.specs.Programs.{all_changes, commits}

@@ -1,6 +1,6 @@
 use Rattle.std.proofs.Common.{List, sym, subst}
 use Rattle.jb_deck.specs.declared.done.Entry.{Entry}
-use Rattle.jb_book.specs.Led.{IsMachineRun, Registered}
+use Rattle.jb_book.specs.CallsToBook.{IsMachineRun, Registered}
 use Rattle.jb_book.proofs.Registers.{ends-run}
 use Rattle.jb_book.proofs.register.Register.end.Goals as goal
 

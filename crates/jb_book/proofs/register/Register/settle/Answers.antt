@@ -1,7 +1,7 @@
 use Rattle.std.proofs.Common.{rules, ap, subst, sym, ◌∙◌, ◌≡◌, false, Ok}
 use Rattle.jb_deck.specs.Done.{entries_of}
 use Rattle.jb_book.specs.Account.{failed_of}
-use Rattle.jb_book.specs.Led.{IsRegistered, Registered, SettlesOrFails}
+use Rattle.jb_book.specs.CallsToBook.{IsRegistered, Registered, SettlesOrFails}
 use Rattle.jb_book.proofs.Marked.{book-on, marked-failed, marked-settled}
 use Rattle.jb_book.proofs.Registers.{failed-same, kept-settled, none-whole, settles-out}
 use Rattle.jb_book.proofs.register.Register.settle.Goals as goal

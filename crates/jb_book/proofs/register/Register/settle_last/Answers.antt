@@ -1,6 +1,6 @@
 use Rattle.std.proofs.Common.{rules, subst, sym}
 use Rattle.jb_deck.specs.Done.{entries_of, first_ticket}
-use Rattle.jb_book.specs.Led.{FailsAfter, IsOutAs, IsRegistered, Registered}
+use Rattle.jb_book.specs.CallsToBook.{FailsAfter, IsOutAs, IsRegistered, Registered}
 use Rattle.jb_book.proofs.Marked.{book-on, marked-by, marked-failed}
 use Rattle.jb_book.proofs.Registers.{failed-same, fails-after, kept-last}
 use Rattle.jb_book.proofs.register.Register.settle_last.Goals as goal

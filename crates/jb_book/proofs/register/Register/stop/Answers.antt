@@ -2,7 +2,7 @@ use Rattle.std.proofs.Common.{◌++◌, ◌∷◌, [], length, refl, ap, sym, su
 use Rattle.jb_handle.specs.Handle.{changes_of, holder}
 use Rattle.jb_board.specs.HistoryRule.{IsFirstPart}
 use Rattle.jb_book.specs.Account.{Account, RefusesStop, queued}
-use Rattle.jb_book.specs.Led.{Queues, Registered, registered}
+use Rattle.jb_book.specs.CallsToBook.{Queues, Registered, registered}
 use Rattle.jb_book.proofs.Marked.{marked-same, sees-stop}
 use Rattle.jb_book.proofs.Registers.{kept-stopped}
 use Rattle.jb_book.proofs.register.Register.stop.Goals as goal

@@ -2,7 +2,7 @@ use Rattle.std.proofs.Common.{IfSome, List, Option, subst, sym}
 use Rattle.jb_plan.specs.Batch.{Gathered}
 use Rattle.jb_plan.specs.Costs.{HasCut}
 use Rattle.jb_handle.specs.Word.{WordMap}
-use Rattle.jb_book.specs.Led.{Registered}
+use Rattle.jb_book.specs.CallsToBook.{Registered}
 use Rattle.jb_book.proofs.Marked.{marked-taken}
 use Rattle.jb_book.proofs.Registers.{kept-take}
 use Rattle.jb_book.proofs.register.Register.take.Goals as goal

@@ -2,7 +2,7 @@ use Rattle.std.proofs.Common.{rules, ◌≡◌, ◌++◌, length, slice_get, sli
 use Rattle.std.proofs.lemmas.List.{get_or_default}
 use Rattle.jb_cost.specs.Cut.{RisesTo}
 use Rattle.jb_core.specs.Line.{Line}
-use Rattle.jb_core.specs.Parted.{IsParted}
+use Rattle.jb_core.specs.SplitEnds.{IsParted}
 use Rattle.jb_core.proofs.Moves.{no-group, group-inside, group-is}
 use Rattle.jb_core.proofs.stops.Stops.group.Goals as goal
 

@@ -1,7 +1,7 @@
 use Rattle.std.proofs.Common.{◌≡◌, ◌+◌, ◌∷◌, ◌++◌, not, [], length, sym, ap, subst, ◌∙◌, arith, length-append, nat_cmp}
 use Rattle.std.specs.BTreeMap.{get}
 use Rattle.std.specs.FinMap as map
-use Rattle.jb_cost.specs.Owned.{later_touch, copies_of, frees_of, left_copy}
+use Rattle.jb_cost.specs.LastTouch.{later_touch, copies_of, frees_of, left_copy}
 use Rattle.jb_cost.specs.Starts.{AreLeast, priced_of}
 use Rattle.jb_cost.specs.Spans.{AreBest, FitOwned}
 use Rattle.jb_cost.proofs.Following.{follows-more, leasts-more}

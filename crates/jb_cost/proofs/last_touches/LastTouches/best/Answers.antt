@@ -1,6 +1,6 @@
 use Rattle.std.proofs.Common.{length, sym, ap, subst, refl, ◌∙◌, arith}
 use Rattle.jb_cost.specs.Cut.{piece_cost}
-use Rattle.jb_cost.specs.Owned.{owned_cost}
+use Rattle.jb_cost.specs.LastTouch.{owned_cost}
 use Rattle.jb_cost.specs.Spans.{FitPrices}
 use Rattle.jb_cost.specs.Starts.{BestStart}
 use Rattle.jb_cost.proofs.Following.{cost-piece}

@@ -1,18 +1,18 @@
 use Rattle.std.proofs.Common.{rules, ℕ, All, ◌≡◌, ◌<◌, List, Option, Some, Err, Result, length, refl, ap, sym, subst, ◌∙◌, arith}
 use Rattle.jb_handle.specs.Word.{WordMap}
 use Rattle.jb_plan.specs.Batch.{Gathered}
-use Rattle.jb_plan.specs.Prepared.{Planned}
+use Rattle.jb_plan.specs.Prepare.{Planned}
 use Rattle.jb_disk.specs.declared.disk.Disk.{Ghosts as Disks}
 use Rattle.jb_board.specs.Steps.{raised_settled}
 use Rattle.jb_deck.specs.declared.batched.BatchFault.{BatchFault}
 use Rattle.jb_deck.specs.declared.batched.BatchFault.TheVariants.{DeviceFault, WrongTicket, OtherShape, NumbersSpent}
 use Rattle.jb_deck.specs.declared.done.Done.{Done}
 use Rattle.jb_book.specs.Journal.{EndsRound, RefusesRound}
-use Rattle.jb_book.specs.Led.{IsInHistory}
+use Rattle.jb_book.specs.CallsToBook.{IsInHistory}
 use Rattle.jb_book.specs.Origin.{Begun}
 use Rattle.jb_book.specs.Rounds.{CommitsAs}
 use Rattle.jb_book.specs.SinceMark.{MarksSettled}
-use Rattle.jb_book.specs.Tied.{TellsFirst}
+use Rattle.jb_book.specs.MachineTie.{TellsFirst}
 use Rattle.jb_desk.specs.Journal.{CommitsRound}
 use Rattle.jb_desk.specs.Out.{IsOut}
 use Rattle.jb_desk.specs.Rounds.{seat_of}

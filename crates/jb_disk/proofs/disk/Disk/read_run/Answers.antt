@@ -1,6 +1,6 @@
 use Rattle.std.proofs.Common.{◌≡◌, ◌<◌, ◌≤◌, ◌*◌, ◌+◌, ◌-◌, length, refl, ◌∙◌, sym, ap, subst, rules, arith, IsOk}
 use borrow.Rule.Slice.PartMut.{put_mid}
-use Rattle.jb_disk.specs.Called.{Reads}
+use Rattle.jb_disk.specs.OneCall.{Reads}
 use Rattle.jb_disk.specs.Image.{block, Same}
 use Rattle.jb_disk.specs.Runs.{ReadsRun}
 use Rattle.jb_disk.proofs.Counts.{kept_ok}

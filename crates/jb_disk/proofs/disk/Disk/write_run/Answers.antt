@@ -1,5 +1,5 @@
 use Rattle.std.proofs.Common.{◌+◌, set, refl, ◌∙◌, sym, ap, subst, arith, IsOk}
-use Rattle.jb_disk.specs.Called.{Writes}
+use Rattle.jb_disk.specs.OneCall.{Writes}
 use Rattle.jb_disk.specs.Image.{HasShape}
 use Rattle.jb_disk.specs.Runs.{part}
 use Rattle.jb_disk.proofs.Counts.{kept_ok}

@@ -1,6 +1,6 @@
 use Rattle.std.proofs.Common.{◌≡◌, ◌+◌, ◌*◌, length, refl, sym, subst, rules, is_ok}
 use Rattle.jb_block.specs.Size.{bytes_of}
-use Rattle.jb_disk.specs.Called.{Reads}
+use Rattle.jb_disk.specs.OneCall.{Reads}
 use Rattle.jb_disk.specs.Faults.{CountsOne}
 use Rattle.jb_disk.specs.File.{faults_of}
 use Rattle.jb_disk.proofs.FileCalls.{found_run}

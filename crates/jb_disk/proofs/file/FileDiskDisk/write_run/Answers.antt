@@ -1,7 +1,7 @@
 use Rattle.std.proofs.Common.{◌+◌, length, refl, sym, subst, is_ok}
 use Rattle.jb_block.specs.Size.{bytes_of}
-use Rattle.jb_disk.specs.Agreeing.{left_from_only}
-use Rattle.jb_disk.specs.Called.{Writes}
+use Rattle.jb_disk.specs.RecordLaws.{left_from_only}
+use Rattle.jb_disk.specs.OneCall.{Writes}
 use Rattle.jb_disk.specs.Events.{Leaves, LeftFrom, write_event}
 use Rattle.jb_disk.specs.Faults.{CountsOne}
 use Rattle.jb_disk.specs.File.{faults_of, size_of_blocks, events_of}

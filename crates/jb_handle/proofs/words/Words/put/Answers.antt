@@ -1,6 +1,6 @@
 use Rattle.std.proofs.Common.{sym, ap, ◌∙◌, nat_cmp}
 use Rattle.std.specs.FinMap as map
-use Rattle.jb_handle.specs.Placed.{StandsAt, GoesTo}
+use Rattle.jb_handle.specs.HomeSearch.{StandsAt, GoesTo}
 use Rattle.jb_block.proofs.Refusals.{on-refusal}
 use Rattle.jb_handle.proofs.Listed.{put-words}
 use Rattle.jb_handle.proofs.Rising.{put-stands, put-goes, view-put, find-goes}

@@ -4,7 +4,7 @@ use Rattle.std.proofs.lemmas.List.Elements.{All-push, All-weaker}
 use Rattle.std.proofs.lemmas.Iterator.Consumers.{YieldsList-end}
 use Rattle.std.proofs.lemmas.Iterator.Adapters.{YieldsList-from_vec}
 use Rattle.jb_desk.specs.Seats.{made_left}
-use Rattle.jb_journal.specs.Running.{HasAllSeen, answer_of, stops_of_worked}
+use Rattle.jb_journal.specs.Run.{HasAllSeen, answer_of, stops_of_worked}
 use Rattle.jb_journal.specs.declared.threads.Worked.{Worked}
 use Rattle.jb_journal.proofs.Noting.{sees-trans}
 use Rattle.jb_journal.proofs.gather.Gathered.add_all.Goals as goal

@@ -1,6 +1,6 @@
 use Rattle.std.proofs.Common.{◌≡◌, ◌++◌, All, Some, map}
 use Rattle.jb_desk.specs.Seats.{made_left}
-use Rattle.jb_journal.specs.Running.{HasAllSeen, answer_of, stops_of_worked}
+use Rattle.jb_journal.specs.Run.{HasAllSeen, answer_of, stops_of_worked}
 use Rattle.jb_journal.proofs.gather.Gathered.add_all.Given as goal
 
 -- the answers of the workers so far are added, and what their seats left

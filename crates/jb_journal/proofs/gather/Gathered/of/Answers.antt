@@ -1,6 +1,6 @@
 use Rattle.std.proofs.Common.{[], ◌∷◌, ◌++◌, map, ap, ◌∙◌}
 use Rattle.jb_desk.specs.Seats.{made_left}
-use Rattle.jb_journal.specs.Running.{stops_of_worked}
+use Rattle.jb_journal.specs.Run.{stops_of_worked}
 use Rattle.jb_journal.proofs.gather.Gathered.of.Goals as goal
 
 pub returns-clause-gathered : goal.returns-clause-gathered

@@ -1,6 +1,6 @@
 use Rattle.std.proofs.Common.{None, get_or, take, sym, ap, ◌∙◌}
 use Rattle.std.proofs.lemmas.List.{take_more}
-use Rattle.jb_tool.specs.Gathering.{earlier_refused, first_after}
+use Rattle.jb_tool.specs.FirstRefused.{earlier_refused, first_after}
 use Rattle.jb_tool.proofs.Adding.{first-more}
 use Rattle.jb_tool.proofs.loading.counting.first_of.Goals as goal
 

@@ -1,5 +1,5 @@
 use Rattle.std.proofs.Common.{◌≡◌, take}
-use Rattle.jb_tool.specs.Gathering.{first_refused}
+use Rattle.jb_tool.specs.FirstRefused.{first_refused}
 use Rattle.jb_tool.proofs.loading.counting.first_of.Given as goal
 
 -- the earliest of those so far

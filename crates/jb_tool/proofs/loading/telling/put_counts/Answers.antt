@@ -1,4 +1,4 @@
-use Rattle.jb_tool.specs.Telling.{counts_line}
+use Rattle.jb_tool.specs.LoadLines.{counts_line}
 use Rattle.jb_tool.proofs.loading.telling.put_counts.Goals as goal
 
 pub returns : goal.returns

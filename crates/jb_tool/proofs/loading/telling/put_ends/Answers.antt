@@ -1,6 +1,6 @@
 use Rattle.std.proofs.Common.{Some, codes}
 use Rattle.jb_text.proofs.PartByPart.{part_first, puts_after}
-use Rattle.jb_tool.specs.Telling.{aborted_word, thread_end_line, ends_text}
+use Rattle.jb_tool.specs.LoadLines.{aborted_word, thread_end_line, ends_text}
 use Rattle.jb_tool.proofs.loading.telling.put_ends.Goals as goal
 
 pub returns-in-Ok : goal.returns-in-Ok

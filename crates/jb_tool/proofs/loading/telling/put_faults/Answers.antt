@@ -1,5 +1,5 @@
 use Rattle.jb_text.proofs.PartByPart.{part_first, puts_after}
-use Rattle.jb_tool.specs.Telling.{ends_text, faults_text, refused_text}
+use Rattle.jb_tool.specs.LoadLines.{ends_text, faults_text, refused_text}
 use Rattle.jb_tool.proofs.loading.telling.put_faults.Goals as goal
 
 pub returns-in-Ok : goal.returns-in-Ok

@@ -1,6 +1,6 @@
 use Rattle.std.proofs.Common.{decimal, sym, subst, ◌∙◌}
 use Rattle.jb_text.specs.Puts.{Puts}
-use Rattle.jb_tool.specs.Telling.{name_of, refused_parts}
+use Rattle.jb_tool.specs.LoadLines.{name_of, refused_parts}
 use Rattle.jb_tool.proofs.loading.telling.put_refused.Goals as goal
 
 pub returns-in-Some-number : goal.returns-in-Some-number

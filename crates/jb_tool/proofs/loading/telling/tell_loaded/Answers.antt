@@ -1,6 +1,6 @@
 use Rattle.std.proofs.Common.{sym, ap, ◌∙◌}
 use Rattle.jb_text.proofs.PartByPart.{partly}
-use Rattle.jb_tool.specs.Telling.{faults_text, status_if}
+use Rattle.jb_tool.specs.LoadLines.{faults_text, status_if}
 use Rattle.jb_tool.proofs.loading.telling.tell_loaded.Goals as goal
 
 pub returns-then-is_whole : goal.returns-then-is_whole

@@ -6,7 +6,7 @@ use Rattle.jb_disk.specs.File.{content_of, count_of, events_of, faults_of, size_
 use Rattle.jb_disk.specs.Image.{Image, Only}
 use Rattle.jb_disk.specs.declared.file.FileDisk.{FileDisk}
 use Rattle.jb_disk.specs.declared.start.Start.{Ghosts as Starts}
-use Rattle.jb_image.specs.Making.{WasMade}
+use Rattle.jb_image.specs.Create.{WasMade}
 use Rattle.jb_image.specs.declared.geometry.Geometry.{Geometry}
 use Rattle.jb_recover.specs.Outcomes.{RecoversAs}
 use Rattle.jb_recover.specs.Passes.{PassFaults}

@@ -1,5 +1,5 @@
 -- Why a journal was not run.
-use Rattle.jb_book.specs.Opened.{NotOpened, WasOpened}
+use Rattle.jb_book.specs.OpenDisk.{NotOpened, WasOpened}
 use Rattle.jb_disk.specs.declared.disk.Disk.{Ghosts}
 use Rattle.jb_handle.specs.declared.shape.Shape.{Shape}
 use Rattle.jb_journal.specs.declared.fault.RunFault.{RunFault}

@@ -17,7 +17,7 @@ use Rattle.jb_book.specs.declared.origin.Origin.{Ghosts}
 use Rattle.jb_book.specs.declared.sights.Sights.{Sights}
 use Rattle.jb_board.specs.declared.place.Place.{Ghosts as Places}
 use Rattle.jb_journal.specs.Notes.{changed_by}
-use Rattle.jb_journal.specs.Running.{HasAllSeen, answer_of, stops_of_worked}
+use Rattle.jb_journal.specs.Run.{HasAllSeen, answer_of, stops_of_worked}
 use Rattle.jb_journal.specs.declared.fault.RunFault.{RunFault}
 use Rattle.jb_journal.specs.declared.gather.Gathered.{Gathered}
 use Rattle.jb_journal.specs.declared.ran.Ran.{Ran}

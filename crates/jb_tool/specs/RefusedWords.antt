@@ -2,7 +2,7 @@
 use Rattle.std.specs.Prelude.{◌≡◌, ◌≢◌, ◌⊎◌, [], Option, None, Err}
 use Rattle.jb_text.specs.Puts.{PutsPart}
 use Rattle.jb_args.specs.Faults.{HasKind, Kinds, kind_of}
-use Rattle.jb_args.specs.Wanted.{Wanted}
+use Rattle.jb_args.specs.Command.{Wanted}
 use Rattle.jb_args.specs.declared.Error.{Error}
 use Rattle.jb_args.specs.declared.ErrorKind.{ErrorKind}
 use Rattle.jb_args.specs.declared.ErrorKind.TheVariants.{DisplayHelp, DisplayVersion, OutOfMemory}

@@ -3,7 +3,7 @@ use Rattle.std.specs.Prelude.{ℕ, Bool, List, Option, codes, if◌then◌else�
 use Rattle.std.specs.Str.{bytes_eq}
 use Rattle.clap.specs.Words.{Row, Text, subcommand_of}
 use Rattle.jb_args.specs.App.{jb_app}
-use Rattle.jb_args.specs.Named.{Asked, asked, asks, file_in, flag_in, image_in, journal_asked, number_in}
+use Rattle.jb_args.specs.PlainCommand.{Asked, asked, asks, file_in, flag_in, image_in, journal_asked, number_in}
 use Rattle.jb_args.specs.declared.command.LoadWords.{LoadWords}
 use Rattle.jb_args.specs.declared.command.Words.{Words}
 use Rattle.jb_args.specs.declared.command.Words.TheVariants.{Load, Plain}

@@ -2,10 +2,10 @@
 use Rattle.std.specs.Prelude.{◌≡◌, ◌⊎◌, ℕ, ◌≤◌, All, List, [], ◌∷◌, ◌++◌, length, Result, Ok, Err}
 use Rattle.jb_journal.specs.Client.{one_block}
 use Rattle.jb_journal.specs.Notes.{Note, AreInNotes, IsInNotes, Known, Stop}
-use Rattle.jb_journal.specs.Running.{RanOn}
+use Rattle.jb_journal.specs.Run.{RanOn}
 use Rattle.jb_journal.specs.Names.{Ghosts}
-use Rattle.jb_journal.specs.Starting.{started_on}
-use Rattle.jb_journal.specs.Staying.{HandleStays}
+use Rattle.jb_journal.specs.Start.{started_on}
+use Rattle.jb_journal.specs.Stays.{HandleStays}
 use Rattle.jb_journal.specs.declared.ran.Ran.{Ran}
 use Rattle.example_store.specs.declared.failed.Failed.{Failed}
 

@@ -6,7 +6,7 @@ use Rattle.jb_deck.specs.declared.done.Entry.{Entry}
 use Rattle.jb_handle.specs.Tickets.{TicketsFrom}
 use Rattle.jb_handle.specs.Word.{WordMap}
 use Rattle.jb_handle.specs.declared.stopped.Stopped.{Stopped}
-use Rattle.jb_plan.specs.Prepared.{Planned, IsPlanned}
+use Rattle.jb_plan.specs.Prepare.{Planned, IsPlanned}
 use Rattle.jb_deck.specs.Done.{first_ticket, entries_of}
 use Rattle.jb_deck.specs.declared.done.Done.{Done}
 use Rattle.jb_handle.specs.declared.shape.Shape.{Shape}
@@ -15,7 +15,7 @@ use Rattle.jb_core.specs.Machine.{Machine}
 use Rattle.jb_core.specs.Ran.{Ran}
 use Rattle.jb_book.specs.Account.{Account, CanStop, Settles, failed_of, queued, settled_to}
 use Rattle.jb_book.specs.Calls.{Call, CallsMake, AreOfFirst, IsCutOf, handles_in, out_of, stops_of}
-use Rattle.jb_book.specs.Tied.{AreAccepted}
+use Rattle.jb_book.specs.MachineTie.{AreAccepted}
 use Rattle.jb_book.specs.declared.fault.WrongBatch.{WrongBatch}
 use Rattle.jb_board.specs.HistoryRule.{StandsIn}
 

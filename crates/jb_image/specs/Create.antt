@@ -10,7 +10,7 @@ use Rattle.jb_disk.specs.declared.disk.Disk.{Ghosts as Disks}
 use Rattle.jb_disk.specs.declared.file.FileDisk.{FileDisk}
 use Rattle.jb_disk.specs.declared.start.Start.{Ghosts as Starts}
 use Rattle.jb_image.specs.Files.{as_file}
-use Rattle.jb_format.specs.Formatted.{FormatFaults, new_block}
+use Rattle.jb_format.specs.Format.{FormatFaults, new_block}
 use Rattle.jb_format.specs.declared.fault.FormatFault.{FormatFault}
 use Rattle.jb_format.specs.declared.fault.FormatFault.TheVariants.{DeviceFault}
 use Rattle.jb_image.specs.declared.geometry.Geometry.{Geometry}

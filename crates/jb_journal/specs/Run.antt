@@ -16,7 +16,7 @@ use Rattle.jb_desk.specs.Seats.{made_by, made_left}
 use Rattle.jb_book.specs.declared.origin.Origin.{Ghosts}
 use Rattle.jb_board.specs.declared.place.Place.{Ghosts as Places}
 use Rattle.jb_book.specs.Marks.{SeesMore}
-use Rattle.jb_book.specs.Opened.{WasOpened}
+use Rattle.jb_book.specs.OpenDisk.{WasOpened}
 use Rattle.jb_book.specs.declared.sights.Sights.{Sights}
 use Rattle.jb_journal.specs.Client.{AreHonest, known_in}
 use Rattle.jb_journal.specs.Notes.{Known, KnownLasts, Stop, changed_by}

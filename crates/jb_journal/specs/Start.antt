@@ -1,6 +1,6 @@
 -- The start that a journal's run is judged by.
 use Rattle.std.specs.Prelude.{◌⊎◌}
-use Rattle.jb_deck.specs.Opening.{recovered_home, FollowsEntry}
+use Rattle.jb_deck.specs.Open.{recovered_home, FollowsEntry}
 use Rattle.jb_book.specs.Origin.{Begun, own_on}
 use Rattle.jb_disk.specs.declared.disk.Disk.{Ghosts}
 

@@ -14,8 +14,8 @@ use Rattle.jb_handle.specs.Word.{WordMap}
 use Rattle.jb_cost.specs.Pieces.{pieces}
 use Rattle.jb_plan.specs.Batch.{gathered}
 use Rattle.jb_block.specs.declared.stamp.Stamp.{Stamp}
-use Rattle.jb_plan.specs.Prepared.{Planned, IsPlanned}
-use Rattle.jb_deck.specs.Committing.{AnswersBatch}
+use Rattle.jb_plan.specs.Prepare.{Planned, IsPlanned}
+use Rattle.jb_deck.specs.CommitBatch.{AnswersBatch}
 use Rattle.jb_deck.specs.Deck.{OpenDeck}
 use Rattle.jb_deck.specs.Done.{entries_of}
 use Rattle.jb_deck.specs.declared.batched.BatchFault.{BatchFault}

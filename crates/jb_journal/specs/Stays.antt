@@ -4,7 +4,7 @@ use Rattle.jb_disk.specs.declared.disk.Disk.{Ghosts}
 use Rattle.jb_handle.specs.declared.shape.Shape.{Shape}
 use Rattle.jb_book.specs.Origin.{Begun}
 use Rattle.jb_journal.specs.Notes.{Known, Note, IsInNotes, Stop, StaysSince}
-use Rattle.jb_journal.specs.Running.{RanAll}
+use Rattle.jb_journal.specs.Run.{RanAll}
 use Rattle.jb_journal.specs.declared.ran.Ran.{Ran}
 
 module _ {T D : Type 0} (G : Ghosts D) (b : Begun) (may : Type 0 → ℕ → ℕ → List Stop → Known → T → Type 0) (workers : ℕ) (shape : Shape) (ran : Ran T D)

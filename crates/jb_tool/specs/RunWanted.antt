@@ -1,7 +1,7 @@
 -- What a whole run did, by what the words ask for.
 use Rattle.std.specs.Prelude.{ℕ, Bool, false, List, Option}
-use Rattle.jb_args.specs.Wanted.{Wanted}
-use Rattle.jb_args.specs.Wanted.Wanted.{WantsLoad, WantsPlain}
+use Rattle.jb_args.specs.Command.{Wanted}
+use Rattle.jb_args.specs.Command.Wanted.{WantsLoad, WantsPlain}
 use Rattle.jb_commands.specs.Runs.{Runs, reads_input}
 use Rattle.jb_commands.specs.Said.{Outputs}
 use Rattle.jb_commands.specs.declared.ended.Ended.{Ended}

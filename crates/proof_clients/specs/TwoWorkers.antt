@@ -3,9 +3,9 @@ use Rattle.std.specs.Prelude.{◌≡◌, ℕ, List, [], ◌∷◌, Some, slice_g
 use Rattle.jb_journal.specs.Client.{one_block}
 use Rattle.jb_journal.specs.Names.{Begun, Ghosts}
 use Rattle.jb_journal.specs.Notes.{IsInNotes, Known, ReadsAs, Stop}
-use Rattle.jb_journal.specs.Running.{RanOn}
-use Rattle.jb_journal.specs.Starting.{started_on}
-use Rattle.jb_journal.specs.Staying.{HandleStays}
+use Rattle.jb_journal.specs.Run.{RanOn}
+use Rattle.jb_journal.specs.Start.{started_on}
+use Rattle.jb_journal.specs.Stays.{HandleStays}
 use Rattle.jb_journal.specs.declared.ran.Ran.{Ran}
 use Rattle.proof_clients.specs.declared.telling.Found.{Found}
 use Rattle.proof_clients.specs.declared.telling.Found.TheVariants.{Wrote, Read, Failed}

@@ -13,7 +13,7 @@ use Rattle.jb_image.specs.declared.extents_fault.ExtentsFault.{ExtentsFault}
 use Rattle.jb_image.specs.declared.extents_fault.ExtentsFault.TheVariants.{Home, NoJournal, Overlap, PastEnd, Short}
 use Rattle.jb_format.specs.Front.{homes_in}
 use Rattle.jb_super.specs.Superblock.{Superblock}
-use Rattle.jb_args.specs.Named.{CatWords, RecoverWords}
+use Rattle.jb_args.specs.PlainCommand.{CatWords, RecoverWords}
 use Rattle.jb_image.specs.Files.{as_files}
 use Rattle.jb_image.specs.Images.{is_within}
 use Rattle.jb_image.specs.declared.image.ImageDisk.{ImageDisk}
