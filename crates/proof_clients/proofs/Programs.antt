@@ -1,8 +1,6 @@
 -- What a program has done so far, and what a crash leaves of it.
-use Rattle.std.proofs.Common.{◌≡◌, ℕ, ◌+◌, Bool, true, false, nat_eq, List, refl, ap, ap₂, subst, ◌∙◌, ◌⊎◌, [], ◌++◌, inl, inr, ⊎_elim, sym, arith, ◌-◌, ◌^◌, min, if◌then◌else◌}
+use Rattle.std.proofs.Common.{◌≡◌, ℕ, ◌+◌, Bool, true, false, not, nat_eq, List, refl, ap, ap₂, subst, ◌∙◌, ◌⊎◌, [], ◌++◌, inl, inr, ⊎_elim, sym, arith, ◌-◌, ◌^◌, min, if◌then◌else◌}
 use Rattle.std.proofs.lemmas.Nat.{and_or_apart}
-use Rattle.jb_block.specs.Width.{is_wide}
-use Rattle.jb_block.specs.declared.width.Width.TheVariants.{Narrow, Wide}
 use Rattle.jb_disk.specs.Image.{Image, block}
 use Rattle.jb_super.specs.Superblock.{Superblock}
 use Rattle.jb_handle.specs.declared.stopped.Stopped.{Stopped}
@@ -52,7 +50,7 @@ wide-revoking sb = go (has_revoke sb)
   where
     go : (b : Bool) → wide_in (revoking_if b sb) ≡ wide_in sb
     go true = refl
-    go false = ap (λ m. is_wide (if nat_eq m 0 then Narrow else Wide)) (and_or_apart 2 sb.incompat 1 refl)
+    go false = ap (λ m. not (nat_eq m 0)) (and_or_apart 2 sb.incompat 1 refl)
 
 -- what has not changed, by the superblock at first
 pub keeps-own : (l : Log) (sb : Superblock) (shape : Shape) (count : ℕ) (base c : Image) → l ≡ opened_log sb → IsShapeOf l.sb count shape → KeepsOutside l.sb.first (l.sb.maxlen + shape.homes) base c → KeepsFrame sb count base c
