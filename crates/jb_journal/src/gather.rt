@@ -27,11 +27,11 @@ pub(crate) struct Gathered<T, D: Disk, H: Origin, N: Ledger> {
 }
 
 impl<T: Drop, D: Disk, H: Origin, N: Ledger> Gathered<T, D, H, N> {
-    ghost use Rattle.std.specs.Prelude.{◌≡◌, ◌++◌, ◌∷◌, [], map, All, Some, IfOk, OnOk, IfErr, ◌⊎◌};
+    ghost use Rattle.std.specs.Prelude.{◌≡◌, ◌++◌, ◌∷◌, [], map, All, Some, Err, IfOk, OnOk, IfErr, ◌⊎◌};
     ghost use Rattle.jb_book.specs.Marks.{SeesMore};
     ghost use Rattle.jb_journal.specs.Leaving.{IsGatheredFrom};
     ghost use Rattle.jb_journal.specs.Running.{HasAllSeen, answer_of, stops_left_by, stops_of_worked};
-    ghost use Rattle.jb_journal.specs.declared.fault.RunFault.TheVariants.{Accounts, NoThread, Memory as OutOfMemory};
+    ghost use Rattle.jb_journal.specs.declared.fault.RunFault.TheVariants.{Accounts, Memory as OutOfMemory};
 
     /// Nothing but what is seen by now. Takes no memory.
     fn new(alloc: Global, seen: Sights<D, H>) -> Gathered<T, D, H, N>
@@ -142,9 +142,8 @@ impl<T: Drop, D: Disk, H: Origin, N: Ledger> Gathered<T, D, H, N> {
         desk: &Desk<D, C, H, N>,
         ran: Result<Threaded<T, D, H, N>, RunFault>,
     ) -> Result<(Gathered<T, D, H, N>, Ended), RunFault>
-        requires { IfErr ran (λ fault. (fault ≡ OutOfMemory) ⊎ ((fault ≡ Accounts) ⊎ (fault ≡ NoThread))) }
         ensures gathered { IfOk result (IsGatheredFrom ran) }
-        ensures faults { IfErr result (λ fault. (fault ≡ OutOfMemory) ⊎ ((fault ≡ Accounts) ⊎ (fault ≡ NoThread))) }
+        ensures faults { IfErr result (λ fault. (fault ≡ OutOfMemory) ⊎ ((fault ≡ Accounts) ⊎ (ran ≡ Err fault))) }
     {
         let Threaded {
             workers,

@@ -1,14 +1,15 @@
 //! A journal is run.
-ghost use Rattle.std.specs.Prelude.{◌≡◌, ◌+◌, ◌^◌, ◌≤◌, ◌⊎◌, [], false, IfErr, IfOk, IfSome};
+ghost use Rattle.std.specs.Prelude.{◌≡◌, ◌+◌, ◌^◌, ◌≤◌, [], false, IfErr, IfOk, IfSome};
 ghost use Rattle.jb_desk.specs.Desks.{shape_in};
 ghost use Rattle.jb_desk.specs.History.{history_in};
 ghost use Rattle.jb_book.specs.Since.{EndsSince, IsBegunOn, IsSince};
 ghost use Rattle.jb_handle.specs.Word.{WordMap};
 ghost use Rattle.jb_board.specs.History.{history_id};
-ghost use Rattle.jb_journal.specs.Refusing.{RefusesRun};
+ghost use Rattle.jb_journal.specs.Refusing.{HasNoAnswer, RefusesRun};
 ghost use Rattle.jb_journal.specs.Running.{EndsRun, RanAll, RanOn};
 ghost use Rattle.jb_journal.specs.Starting.{started_on};
-ghost use Rattle.jb_journal.specs.declared.fault.RunFault.TheVariants.{Accounts, NoThread, Memory as OutOfMemory};
+ghost use Rattle.jb_journal.specs.declared.fault.RunFault.TheVariants.{NoThread};
+ghost use Rattle.jb_journal.specs.declared.options.Commits.TheVariants.{Meanwhile};
 
 use crate::closing::close;
 use crate::fault::RunFault;
@@ -43,7 +44,7 @@ const PARTS: u64 = (1 << 61) + 1;
 /// - `Memory` where there was none for the desk, a thread's answer or what the threads leave; handles may have been
 ///   committed then, or the disk may have failed.
 /// - `NoThread` where the system makes no thread for each worker, for what commits and for what writes home within ten
-///   seconds: no worker was called. It is only so with `Commits::Meanwhile`.
+///   seconds: no worker was called. So only with `Commits::Meanwhile`.
 /// - `Accounts` where the desk's sums do not agree, or its journal has another shape at the end, which cannot happen.
 pub fn run<
     T: Drop + Send,
@@ -58,6 +59,7 @@ pub fn run<
     ensures ends { IfOk result (EndsRun options.checkpoint) }
     ensures since { IfOk result (λ ran. EndsSince D.Disk (started_on D.Disk disk) ran.disk ran.trail.items) }
     ensures refused { IfErr result (RefusesRun D.Disk disk) }
+    ensures threads { IfErr result (λ fault. fault ≡ NoThread → options.commits ≡ Meanwhile) }
 {
     run_on::<T, W, D, C, R, Brand>(rt, rt.alloc(), disk, clock, options, worker)
 }
@@ -88,6 +90,7 @@ pub fn run_on<
     ensures ends { IfOk result (EndsRun options.checkpoint) }
     ensures since { IfOk result (λ ran. EndsSince D.Disk H.begun ran.disk ran.trail.items) }
     ensures refused { IfErr result (RefusesRun D.Disk disk) }
+    ensures threads { IfErr result (λ fault. fault ≡ NoThread → options.commits ≡ Meanwhile) }
 {
     match jb_desk::open::<D, H>(alloc, disk) {
         Ok(deck) => {
@@ -121,7 +124,7 @@ fn run_deck<
     ensures ran { IfOk result (RanAll D.Disk H.begun (W.answers worker.now H.begun shape) options.workers shape) }
     ensures ends { IfOk result (EndsRun options.checkpoint) }
     ensures since { IfOk result (λ ran. EndsSince D.Disk H.begun ran.disk ran.trail.items) }
-    ensures faults { IfErr result (λ fault. (fault ≡ OutOfMemory) ⊎ ((fault ≡ Accounts) ⊎ (fault ≡ NoThread))) }
+    ensures faults { IfErr result (HasNoAnswer options.commits) }
 {
     let changes = Blank::new(PARTS);
     let Some((handles, marks)) = histories(alloc) else {
@@ -172,7 +175,7 @@ fn run_open<
     ensures ran { IfOk result (RanAll D.Disk H.begun (W.answers worker.now H.begun shape) options.workers shape) }
     ensures ends { IfOk result (EndsRun options.checkpoint) }
     ensures since { IfOk result (λ ran. EndsSince D.Disk H.begun ran.disk ran.trail.items) }
-    ensures faults { IfErr result (λ fault. (fault ≡ OutOfMemory) ⊎ ((fault ≡ Accounts) ⊎ (fault ≡ NoThread))) }
+    ensures faults { IfErr result (HasNoAnswer options.commits) }
 {
     let Some(desk) = start::<D, C, H, N>(alloc, handles, changes, marks, deck, clock) else {
         return Err(RunFault::Memory);
@@ -221,7 +224,7 @@ fn run_at<
     ensures ran { IfOk result (RanAll D.Disk H.begun (W.answers worker.now H.begun shape) options.workers shape) }
     ensures ends { IfOk result (EndsRun options.checkpoint) }
     ensures since { IfOk result (λ ran. EndsSince D.Disk H.begun ran.disk ran.trail.items) }
-    ensures faults { IfErr result (λ fault. (fault ≡ OutOfMemory) ⊎ ((fault ≡ Accounts) ⊎ (fault ≡ NoThread))) }
+    ensures faults { IfErr result (HasNoAnswer options.commits) }
 {
     let (ran, checkpoint) = run_all(rt, alloc, &desk, shape, options, worker);
     let (gathered, commit) = Gathered::of(rt, alloc, &desk, ran)?;

@@ -1,8 +1,8 @@
 //! The threads of a journal: its workers, its committer and its checkpointer.
-ghost use Rattle.std.specs.Prelude.{◌≡◌, ◌<◌, ◌≤◌, ◌⊎◌, true, IfErr, IfOk, IfSome, Ok, Some};
+ghost use Rattle.std.specs.Prelude.{◌≡◌, ◌<◌, ◌≤◌, true, IfErr, IfOk, IfSome, Ok, Some};
 ghost use Rattle.jb_handle.specs.Word.{WordMap};
-ghost use Rattle.jb_journal.specs.declared.fault.RunFault.TheVariants.{Accounts, NoThread, Memory as OutOfMemory};
 ghost use Rattle.jb_desk.specs.Desks.{shape_in};
+ghost use Rattle.jb_journal.specs.Refusing.{HasNoAnswer};
 ghost use Rattle.jb_journal.specs.Running.{HasThreaded, HaveWorked, EndsChecked};
 ghost use Rattle.jb_journal.specs.Client.{AreHonest};
 ghost use Rattle.jb_journal.specs.Running.{known_of_worked, marks_of_worked, stops_of_worked};
@@ -67,7 +67,7 @@ pub(crate) fn run_all<
     requires shape { shape ≡ shape_in desk.now }
     requires work { (1 ≤ options.workers) × (options.workers ≤ 64) × ((words : WordMap) → H.begun.stops words) }
     ensures ran { IfOk result.0 (HasThreaded D.Disk (W.answers worker.now H.begun shape) options.workers) }
-    ensures faults { IfErr result.0 (λ fault. (fault ≡ OutOfMemory) ⊎ ((fault ≡ Accounts) ⊎ (fault ≡ NoThread))) }
+    ensures faults { IfErr result.0 (HasNoAnswer options.commits) }
     ensures ended { EndsChecked options.checkpoint result.1 }
 {
     let gate = Gate::new(threads_of(options));
@@ -87,8 +87,8 @@ pub(crate) fn run_all<
     (ran, Some(checkpoint))
 }
 
-/// How many threads have to be there before a worker is called: the workers' own, that of the committer, and that of the
-/// checkpointer where there is one. None, but where commits are made only while the workers are at work.
+/// How many threads have to be there before a worker is called: the workers' own, that of the committer, and that of
+/// the checkpointer where there is one. None, but where commits are made only while the workers are at work.
 fn threads_of(options: Options) -> usize {
     match options.commits {
         Commits::Meanwhile => {}
@@ -132,7 +132,7 @@ fn run_workers<
     requires shape { shape ≡ shape_in desk.now }
     requires work { (1 ≤ options.workers) × (options.workers ≤ 64) × ((words : WordMap) → H.begun.stops words) }
     ensures ran { IfOk result (HasThreaded D.Disk (W.answers worker.now H.begun shape) options.workers) }
-    ensures faults { IfErr result (λ fault. (fault ≡ OutOfMemory) ⊎ ((fault ≡ Accounts) ⊎ (fault ≡ NoThread))) }
+    ensures faults { IfErr result (HasNoAnswer options.commits) }
 {
     let Some(seat) = CountedSeat::at(rt, desk) else {
         desk.shut(rt);
@@ -146,7 +146,7 @@ fn run_workers<
     } = options;
     if commits == Commits::After {
         let ran = work(rt, alloc, desk, shape, gate, workers, worker);
-        return put_threads(Some(commit_all(rt, desk, delay, seat)), ran, false);
+        return put_threads(Some(commit_all(rt, desk, delay, seat)), ran, commits, false);
     }
     // the committer is first, since the first closure runs last where no thread can be made
     let mut place = Some(seat);
@@ -163,7 +163,7 @@ fn run_workers<
             let _left = seat.leave(rt, desk);
             Err(RunFault::Accounts)
         }
-        None => put_threads(committed, ran, gate.is_given_up(rt)),
+        None => put_threads(committed, ran, commits, gate.is_given_up(rt)),
     }
 }
 
@@ -171,16 +171,19 @@ fn run_workers<
 fn put_threads<T: Drop, D: Disk, H: Origin, N: Ledger>(
     committed: Option<(CountedLeft<H, N>, Ended)>,
     ran: Result<Vec<Worked<T, D, H, N>>, Memory>,
+    commits: Commits,
     given_up: bool,
 ) -> Result<Threaded<T, D, H, N>, RunFault>
     ensures ran { IfOk result (λ left. (ran ≡ Ok left.workers) × (committed ≡ Some (left.committer, left.commit))) }
-    ensures faults { IfErr result (λ fault. (fault ≡ OutOfMemory) ⊎ ((fault ≡ Accounts) ⊎ (fault ≡ NoThread))) }
+    ensures faults { IfErr result (HasNoAnswer commits) }
 {
     let Some((committer, commit)) = committed else {
         return Err(RunFault::Accounts);
     };
-    if given_up {
-        return Err(RunFault::NoThread);
+    match commits {
+        Commits::Meanwhile if given_up => return Err(RunFault::NoThread),
+        // no other run has a gate
+        Commits::Meanwhile | Commits::MeanwhileOrAfter | Commits::After => {}
     }
     Ok(Threaded {
         workers: ran?,

@@ -1,5 +1,6 @@
-use Rattle.std.proofs.Common.{inl, inr}
+use Rattle.std.proofs.Common.{sym, subst}
 use Rattle.std.proofs.lemmas.Result.{IfErr-weaker, IfOk-weaker}
+use Rattle.jb_journal.specs.Refusing.{HasNoAnswer}
 use Rattle.jb_journal.proofs.Leaving.{ran-all}
 use Rattle.jb_journal.proofs.running.run_at.Goals as goal
 
@@ -13,5 +14,5 @@ returns g c =
           closed.closed;
       ends = IfOk-weaker c.close.result _ _ (λ told ends. ends c.args.options.checkpoint c.run_all-ran.ensures.ended) closed.ends;
       since = closed.since;
-      faults = IfErr-weaker c.close.result _ _ (λ fault is. inr (inl is)) closed.faults;
+      faults = IfErr-weaker c.close.result _ _ (λ fault is. subst (HasNoAnswer c.args.options.commits) (sym is) tt) closed.faults;
     }
