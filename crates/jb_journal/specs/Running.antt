@@ -101,11 +101,11 @@ pub record EndsRun {T D : Type 0} (checkpoint : Bool) (ran : Ran T D) : Type 0 w
 abbrev pub AllSettled : {T D : Type 0} → Ran T D → Type 0
 AllSettled ran = ran.settled ≡ ran.handles
 
--- What was run: there are the handles that each worker's client has stopped, and what it knew and had seen of the journal, with which it answered what it may. The handles are
--- all of one history, of as many as are reported, and each is there once; the home blocks that they changed, each handle's added up, are as many as are reported. The
+-- What was run: there are the handles that each worker's client has stopped, and what it knew and had seen of the journal, with which it answered what it may. The handles
+-- are all of one history, of as many as are reported, and each is there once; the home blocks that they changed, each handle's added up, are as many as are reported. The
 -- journal that the disk is left with has this shape, by which its groups have cost what its trail says, and was given the first of this history; and the machine of
--- handles accepts a list of events in which they stopped in this order, and whose settled groups are those of the trail. What a client knew to be committed at some moment, what a crash at any time since then leaves has. Where the disk that is
--- given back is honest, it was so at all that any client has seen
+-- handles accepts a list of events in which they stopped in this order, and whose settled groups are those of the trail. What a client knew to be committed at some
+-- moment, what a crash at any time since then leaves has. Where the disk that is given back is honest, it was so at all that any client has seen
 pub record RanAll {T D : Type 0} (G : Disks D) (b : Begun) (may : Type 0 → ℕ → ℕ → List Stop → Known → T → Type 0) (workers : ℕ) (shape : Shape) (ran : Ran T D) : Type 0 where
   pub stopped : List (List Stop)
   pub known : List Known
