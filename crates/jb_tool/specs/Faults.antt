@@ -36,7 +36,7 @@ not_stopped change.Aborted = Aborted
 not_stopped change.NotOpen = NotOpen
 not_stopped change.Memory = Memory
 
--- why a queue was not loaded, where its journal was not run or has no answer; a load waits for no thread, so that it needs none
+-- why a queue was not loaded, where its journal was not run or has no answer; for want of a thread a load has always one
 abbrev pub not_run : RunFault → LoadFault
 not_run (run.Open fault) = load.Open fault
 not_run run.Memory = load.Memory

@@ -1,6 +1,8 @@
-ghost use Rattle.std.specs.Prelude.{◌≡◌, ◌≤◌};
+ghost use Rattle.std.specs.Prelude.{◌≡◌, ◌≢◌, ◌≤◌};
 ghost use Rattle.jb_book.specs.Since.{IsBegunOn};
 ghost use Rattle.jb_handle.specs.Word.{WordMap};
+ghost use Rattle.jb_journal.specs.declared.fault.RunFault.TheVariants.{NoThread};
+ghost use Rattle.jb_journal.specs.declared.options.Commits.TheVariants.{Meanwhile};
 ghost use Rattle.jb_queue.specs.QueueLines.{handles_of};
 ghost use Rattle.jb_tool.specs.Faults.{not_run};
 ghost use Rattle.jb_tool.specs.Loads.{AnswersLoad};
@@ -64,7 +66,8 @@ pub fn load_on<
 
 /// How the journal is run: no worker waits for what commits, so that it may come after them.
 fn run_options(options: LoadOptions) -> Options
-    ensures { (result.workers ≡ options.threads) × (result.checkpoint ≡ options.checkpoint) }
+    ensures asked { (result.workers ≡ options.threads) × (result.checkpoint ≡ options.checkpoint) }
+    ensures threads { result.commits ≢ Meanwhile }
 {
     let commits = if options.hold {
         Commits::After
@@ -80,11 +83,13 @@ fn run_options(options: LoadOptions) -> Options
 
 /// Why a queue was not loaded, where its journal was not run or has no answer.
 fn fault_of(fault: RunFault) -> LoadFault
+    requires threads { fault ≢ NoThread }
     ensures { result ≡ not_run fault }
 {
     match fault {
         RunFault::Open(fault) => LoadFault::Open(fault),
         RunFault::Memory => LoadFault::Memory,
-        RunFault::NoThread | RunFault::Accounts => LoadFault::Accounts,
+        RunFault::Accounts => LoadFault::Accounts,
+        RunFault::NoThread => unreachable!(),
     }
 }

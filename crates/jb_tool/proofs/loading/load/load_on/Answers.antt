@@ -10,7 +10,7 @@ returns-in-Ok g c = record {
       let run = c.run_options-run in
       let counted = c.count_up.ensures in
       answers-run g.D.Disk g.H.Origin.begun c.args.disk c.args.queue.now.bs (handles_of c.args.queue.now) c.args.options (omega arith)
-      c.in-Ok.ran run.result.workers run.ensures.0 run.result.checkpoint run.ensures.1 c.in-Ok.ensures.ran c.in-Ok.ensures.ends
+      c.in-Ok.ran run.result.workers run.ensures.asked.0 run.result.checkpoint run.ensures.asked.1 c.in-Ok.ensures.ran c.in-Ok.ensures.ends
       c.len.result c.len.ensures.value c.count_up.result counted.counts counted.disk counted.follows counted.faults;
 }
 
