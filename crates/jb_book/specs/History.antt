@@ -17,8 +17,8 @@ use Rattle.jb_book.specs.Since.{IsSinceOf}
 abbrev pub IsStop : Begun → List WordMap → Stopped → Type 0
 IsStop b log h = b.stops h.words × IsInHistory log h
 
--- These stops, each with its ticket and its words, are all of the history, and each of them once: however stops are weighed, they weigh
--- as much as the history
+-- These stops, each with its ticket and its words, are all of the history, and each of them once: any weights add
+-- up to the same
 pub record AreAllStops (log : List WordMap) (stops : List (ℕ × WordMap)) : Type 0 where
   pub stand : All (StandsIn log) stops
   pub once : (weight : ℕ × WordMap → ℕ) → sum_by weight stops ≡ sum_by weight (with_places 0 log)

@@ -17,8 +17,8 @@ use Rattle.jb_deck.specs.Since.{LiveOf, deck_homes}
 use Rattle.jb_deck.specs.declared.done.Entry.{Entry}
 use Rattle.jb_book.specs.Origin.{Begun, own_on}
 
--- an image of the journal of the start that recovery takes, and that is recovered to the homes of the start with a first part of
--- these handles, so many at least; of the numbers after that of the start no more are taken than it has handles
+-- an image of the journal of the start that recovery accepts, and that is recovered to the homes of the start with the first of these
+-- handles, at least `least`; of the numbers after that of the start no more are used than there are handles
 pub record HasFirst (b : Begun) (given : List Stopped) (least : ℕ) (c : Image) : Type 0 where
   pub many : ℕ
   pub from : least ≤ many
@@ -42,9 +42,8 @@ abbrev pub NumberedFrom : ℕ → List Entry → Type 0
 NumberedFrom number [] = Unit {0}
 NumberedFrom number (e ∷ es) = (e.number ≡ number) × NumberedFrom (number + 1) es
 
--- The handles that a journal was given, in the order of their tickets, of each of which this is known: those that its trail has settled, each group
--- with what its handles cost, and on a journal that has failed the batch in hand after them. The numbers of the trail rise by one, up to the journal's
--- next one
+-- The handles that a journal was given, by ticket, each as `is` says: those settled in its trail, each group with its cost, and on a journal that has
+-- failed the batch in hand after them. The numbers of the trail rise by one, up to the journal's next one
 pub record WasGiven {D : Type 0} (is : Stopped → Type 0) (given : List Stopped) (d : OpenDeck D) : Type 0 where
   pub stopped : All is given
   pub tickets : TicketsFrom 0 given
@@ -55,7 +54,7 @@ pub record WasGiven {D : Type 0} (is : Stopped → Type 0) (given : List Stopped
   pub numbers : NumberedFrom first d.trail
   pub next : first + length d.trail ≡ d.log.next
 
--- The journal of the start, on its disk, since then, when it was given these handles. While it has not failed its homes stand as they say, those
+-- The journal of the start, on its disk, after it was given these handles. While it has not failed its homes stand as they say, those
 -- that are free aside.
 pub record Since {D : Type 0} (G : Ghosts D) (b : Begun) (given : List Stopped) (d : OpenDeck D) : Type 0 where
   pub same_size : G.size d.disk ≡ b.size
@@ -64,9 +63,9 @@ pub record Since {D : Type 0} (G : Ghosts D) (b : Begun) (given : List Stopped) 
   pub no_fewer : b.faults ≤ G.faults d.disk
   pub up : b.faults < 2 ^ 64 - 1 → G.faults d.disk ≡ b.faults → d.aborted ≡ false
   pub same : SameJournal b.own d.log.sb
-  -- no more numbers are taken than there are handles
+  -- no more numbers are used than there are handles
   pub number : d.log.next ≤ b.own.sequence + 1 + length given
-  -- the first group has the number after that of the start; a trail from whose front entries were taken begins at a later ticket
+  -- a trail from which nothing was removed begins with the number after that of the start
   pub began : start_of d.trail ≡ 0 → d.log.next ≡ b.own.sequence + 1 + length d.trail
   pub stood : d.aborted ≡ false → (home : ℕ) → StandsBy (word given home) (b.homes home) (deck_homes G.newest d home)
   pub live : d.aborted ≡ false → LiveOf given d.groups
@@ -76,7 +75,7 @@ pub record Since {D : Type 0} (G : Ghosts D) (b : Begun) (given : List Stopped) 
   pub later : b.since ≤ G.moment d.disk
   pub ever : (c : Image) → G.left_since d.disk b.since c → b.left c ⊎ HasFirst b given 0 c
 
--- the journal was given handles, each as `is` says (`WasGiven`), and where the start is known and the disk is honest now, it stands as it must since then (`Since`)
+-- the journal was given handles, each as `is` says (`WasGiven`), and where the start is known and the disk is honest now, `Since` holds of it
 pub record IsSinceOf {D : Type 0} (G : Ghosts D) (b : Begun) (is : Stopped → Type 0) (d : OpenDeck D) : Type 0 where
   pub given : List Stopped
   pub has : WasGiven is given d

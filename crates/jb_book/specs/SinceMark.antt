@@ -19,7 +19,7 @@ use Rattle.jb_book.specs.Origin.{Begun}
 use Rattle.jb_book.specs.History.{AreAllStops, EndsWith, IsStop}
 use Rattle.jb_book.specs.Since.{HasFirst, IsSinceOf}
 
--- each of the entries has a ticket, and none after those of the list
+-- each of the entries has at least one ticket, and none past the last one's
 abbrev pub Within : List Entry → Type 0
 Within es = (e : Entry) → HasEntry es e → (e.first < e.past) × (e.past ≤ past_after 0 es)
 
@@ -52,10 +52,10 @@ MarksSettled marks (Err (batch.NumbersSpent back)) = Unit {0}
 MarksSettled marks (Err (batch.Memory back)) = Unit {0}
 MarksSettled marks (Err (batch.DeviceFault settled)) = All (IsMarked marks) (entries_of settled) × HasFailedMark marks
 
--- How a desk ends of which these stops and these marks were seen: the stops are the first of its history, and each of the marks lasts
-pub record EndsMarked {D : Type 0} (G : Ghosts D) (b : Begun) (stops : List (List (ℕ × WordMap))) (handles : ℕ) (shape : Shape) (disk : D) (trail : List Entry) (known : List WordMap) (marks : List (OpenDeck D)) : Type 0 where
+-- How a desk ends of whose history and marks this was seen: its history begins with what was seen of it, and each of the marks lasts
+pub record EndsMarked {D : Type 0} (G : Ghosts D) (b : Begun) (stops : List (List (ℕ × WordMap))) (handles : ℕ) (shape : Shape) (disk : D) (trail : List Entry) (seen : List WordMap) (marks : List (OpenDeck D)) : Type 0 where
   pub ends : EndsWith G b stops handles shape disk trail
-  pub knows : IsFirstPart known ends.log
+  pub knows : IsFirstPart seen ends.log
   pub last : All (Lasts G b ends.since.given ends.deck) marks
 
 -- ---- what follows for a ticket that was shown

@@ -15,5 +15,5 @@ pub record Goes {D : Type 0} (may_leave : D → Image → Type 0) (moment : D �
 pub record LeavesOnly {D : Type 0} (moment : D → ℕ) (left_since : D → ℕ → Image → Type 0) (old new : D) (P : Image → Type 0) : Type 0 where
   pub later : moment old ≤ moment new
   pub each : (c : Image) → left_since new (moment old) c → P c
-  -- for a run that began earlier
+  -- of moments before this run
   pub before : (t : ℕ) (c : Image) → t ≤ moment old → left_since new t c → left_since old t c ⊎ P c

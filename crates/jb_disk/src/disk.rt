@@ -39,7 +39,7 @@ pub trait Disk {
     /// The moment, as a number that does not fall.
     ghost moment: { Self → ℕ };
 
-    /// The images that a crash at some moment from that one on might have left.
+    /// The images that a crash at that moment or later might have left.
     ghost left_since: { Self → ℕ → Image → Type 0 };
 
     /// The next read, write or sync fails and is not tried.
