@@ -19,9 +19,9 @@ use std::sync::Wait;
 use std::thread::Threads;
 use std::time;
 
-/// Runs the handles of a queue through the journal on a disk, and commits them. Worker k of T runs the handles k, k + T,
-/// k + 2T and so on, each with as many credits as it touches blocks, up to the first that is refused. Gives the disk
-/// back, with what the load did.
+/// Runs the handles of a queue through the journal on a disk, and commits them. Worker k of T runs the handles k,
+/// k + T, k + 2T and so on, each with as many credits as it touches blocks, up to the first that is refused. Gives the
+/// disk back, with what the load did.
 ///
 /// The caller picks the start (`H.begun`) that the disk is compared with.
 ///
