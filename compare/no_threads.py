@@ -1,7 +1,8 @@
 #!/usr/bin/env python3
-"""Runs the examples where the system makes no thread: each ends with a fault, and changes nothing.
+"""Runs the examples where the system makes no thread: each ends with a fault, and changes nothing. A load ends well: its workers run one
+after the other, and what they stopped is committed after them.
 
-    compare/no_threads.py STORE ACCOUNTS
+    compare/no_threads.py STORE ACCOUNTS JB
 
 The stack of a new thread is set to more than the memory that the process may have, so that no thread is made; with two threads' worth of memory some of
 several are made. Each program has to say within twenty seconds that it gets no thread, and the image has to be what it was. Started again without a limit it ends well."""
@@ -45,8 +46,23 @@ def end(p):
         return b"it waits for ever", None
 
 
+def load_alone(jb):
+    """A load of two workers that has no thread: its counts are those with --hold, and each home has the change with the highest ticket."""
+    with open("queue", "w", encoding="ascii") as it:
+        it.write("bs 1024\nlimit 8\nh w1=01 w2=02 w3=03\nh w3=04 w4=05 w5=06\nh w1=07 w2=08\n")
+    for name, words, stack in [("held", ["--hold"], None), ("alone", [], 4096)]:
+        subprocess.run([jb, "format", name, "--bs", "1024", "--journal", "33", "--homes", "16"], check=True, stdout=subprocess.DEVNULL)
+        found = end(begin([jb, "load", name, "queue", "--threads", "2", *words], b"", stack))
+        expect("a load (%s)" % name, found == (b"handles 3 changes 8 settled 3 groups 1 blocks 7\n", 0), found)
+        subprocess.run([jb, "recover", name], check=True, stdout=subprocess.DEVNULL)
+    with open("alone", "rb") as it:
+        homes = list(it.read()[33 * 1024::1024])
+    # the first worker has run the first and the third handle, and then the second worker the second one
+    expect("the homes of a load without threads", homes == [0, 7, 8, 4, 5, 6] + [0] * 10, homes)
+
+
 def main():
-    store, accounts = (os.path.abspath(word) for word in sys.argv[1:3])
+    store, accounts, jb = (os.path.abspath(word) for word in sys.argv[1:4])
     here = os.getcwd()
     with tempfile.TemporaryDirectory() as folder:
         os.chdir(folder)
@@ -70,8 +86,9 @@ def main():
             expect("the image of %s (%d)" % (name, stack), open(image, "rb").read()[64 * 1024:] == before[64 * 1024:])
             found = end(begin(words, given))
             expect("%s with threads again" % name, found == (line, 0), found)
+        load_alone(jb)
         os.chdir(here)
-    print("no_threads.py: %d runs, %d wrong" % (len(rows), wrong))
+    print("no_threads.py: %d runs, %d wrong" % (len(rows) + 1, wrong))
     return 1 if wrong else 0
 
 
