@@ -57,8 +57,8 @@ def load_alone(jb):
         subprocess.run([jb, "recover", name], check=True, stdout=subprocess.DEVNULL)
     with open("alone", "rb") as it:
         homes = list(it.read()[33 * 1024::1024])
-    # the first worker has run the first and the third handle, and then the second worker the second one
-    expect("the homes of a load without threads", homes == [0, 7, 8, 4, 5, 6] + [0] * 10, homes)
+    # one worker has run the first and the third handle, and the other, before or after it, the second one
+    expect("the homes of a load without threads", homes in [[0, 7, 8, shared, 5, 6] + [0] * 10 for shared in (3, 4)], homes)
 
 
 def main():
