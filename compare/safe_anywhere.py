@@ -16,52 +16,8 @@ import subprocess
 import sys
 import tempfile
 
-JB = os.path.realpath(sys.argv[1])
-SIZES = ["--bs", "1024", "--journal", "33", "--homes", "16"]
-QUEUE = b"bs 1024\nlimit 8\nh w1=0102 r2\nh w3\n"
-bad = 0
-
-
-def expect(what, is_so, *more):
-    global bad
-    if not is_so:
-        bad += 1
-        print("WRONG:", what, *more)
-
-
-def run(words, closed=(), stdin=b"", before=None, wait=20):
-    """A run of jb: its status (None where it did not end), standard output and standard error, b"" where that is closed."""
-
-    def child():
-        for fd in closed:
-            os.close(fd)
-        if before:
-            before()
-
-    with tempfile.TemporaryFile() as given:
-        given.write(stdin)
-        given.seek(0)
-        p = subprocess.Popen([JB, *words], stdin=given, stdout=subprocess.PIPE, stderr=subprocess.PIPE, preexec_fn=child)
-        try:
-            out, err = p.communicate(timeout=wait)
-            return p.returncode, out, err
-        except subprocess.TimeoutExpired:
-            p.kill()
-            p.communicate()
-            return None, b"", b""
-
-
-def fresh(files):
-    """The folder as it is before each run."""
-    for name in os.listdir("."):
-        os.remove(name)
-    for name, content in files.items():
-        with open(name, "wb") as f:
-            f.write(content)
-
-
-def all_files():
-    return {name: open(name, "rb").read() for name in sorted(os.listdir("."))}
+from anywhere import JB, QUEUE, SIZES, all_files, expect, fresh, made, run, wrong
+from anywhere_mounts import device, read_only
 
 
 def closed_sets(files, commands):
@@ -86,15 +42,6 @@ def closed_sets(files, commands):
             expect("closed %s: jb %s" % (closed, " ".join(words)), got == want, got, want)
             expect("closed %s: files of jb %s" % (closed, " ".join(words)), all_files() == left)
     print("closed descriptors: %d runs of %d commands" % (runs, len(commands)))
-
-
-def made(words=()):
-    """The bytes of a new image, and of one with two committed handles."""
-    fresh({"queue": QUEUE})
-    assert run(["format", "image", *SIZES, *words])[0] == 0
-    new = open("image", "rb").read()
-    assert run(["load", "image", "queue", "--hold"])[0] == 0
-    return new, open("image", "rb").read()
 
 
 def kinds():
@@ -124,75 +71,6 @@ def kinds():
         expect(words + " of standard input", got == want, got, want)
         runs += 2
     print("kinds of files: %d runs" % runs)
-
-
-def device():
-    """Each command over a block device gives what it gives over a file of the same bytes."""
-    new, loaded = made()
-    for commands, content in [
-        ([["dump"], ["cat", "1"], ["recover"], ["renumber"], ["widen"], ["dump"]], loaded),
-        ([["load", "queue", "--hold", "--threads", "1"], ["recover"], ["dump"]], new),  # one group, whatever the timing
-    ]:
-        fresh({"file": content, "backing": content, "queue": QUEUE})
-        made_device = subprocess.run(["losetup", "--find", "--show", "backing"], stdout=subprocess.PIPE, stderr=subprocess.PIPE)
-        if made_device.returncode != 0:
-            why = made_device.stderr.decode().strip()
-            print("block device: not tried, as none can be made here (%s)" % why)
-            ends = []
-            for words in commands:
-                ends.append(run([words[0], "file", *words[1:]])[0])
-            expect("a file in its place", ends == [0] * len(commands), ends)
-            return
-        name = made_device.stdout.decode().strip()
-        try:
-            for words in commands:
-                want = run([words[0], "file", *words[1:]])
-                got = run([words[0], name, *words[1:]])
-                expect("%s of a block device" % words, got == want and got[0] == 0, got, want)
-        finally:
-            subprocess.run(["losetup", "--detach", name])
-        expect("the bytes of the block device", open("backing", "rb").read() == open("file", "rb").read())
-    print("block device: compared with a file")
-    mounted(loaded)
-
-
-def mounted(loaded):
-    """A device that is mounted is read, and not changed; the same of the file that its loop device is over, by each of its names. A file
-    within what is mounted is changed, and so is that file once it is not mounted any more, though the loop device has it."""
-    fresh({"backing": bytes(4 << 20), "journal": loaded[: 33 * 1024]})
-    os.link("backing", "linked")
-    name = subprocess.run(["losetup", "--find", "--show", "backing"], stdout=subprocess.PIPE).stdout.decode().strip()
-    try:
-        with tempfile.TemporaryDirectory() as room:
-            made = subprocess.run(["mke2fs", "-q", "-F", "-b", "1024", name], stderr=subprocess.DEVNULL).returncode
-            # to be read alone at first, since the kernel writes the superblock of one that may be written, whenever it likes
-            if made != 0 or subprocess.run(["mount", "-o", "ro", name, room], stderr=subprocess.DEVNULL).returncode != 0:
-                print("a mounted device: not tried, as none can be mounted here")
-                return
-            try:
-                before = open(name, "rb").read()
-                for image in [name, "backing", "linked"]:
-                    for words in [["recover", image], ["recover", image, "--journal", "journal"], ["renumber", image], ["widen", image]]:
-                        got = run(words)
-                        expect("mounted: %s" % words, got == (2, b"", b"jb: in use %s\n" % image.encode()), got)
-                    got = run(["cat", image, "1", "--journal", "journal"])
-                    expect("mounted: cat %s" % image, got[0] == 0 and len(got[1]) == 1024, got)
-                expect("a mounted device is as it was", open(name, "rb").read() == before)
-                subprocess.run(["mount", "-o", "remount,rw", room], check=True)
-                got = run(["recover", name])
-                expect("mounted to be written", got == (2, b"", b"jb: in use %s\n" % name.encode()), got)
-                inside = os.path.join(room, "inside")
-                with open(inside, "wb") as file:
-                    file.write(loaded)
-                got = run(["recover", inside])
-                expect("a file within what is mounted", got[0] == 0, got)
-            finally:
-                subprocess.run(["umount", room])
-            got = run(["widen", "backing"])
-            expect("not mounted any more", got == (1, b"", b"jb: Super NoMagic\n"), got)
-    finally:
-        subprocess.run(["losetup", "--detach", name])
-    print("a mounted device, and its file: 18 runs")
 
 
 def making():
@@ -264,36 +142,6 @@ def locked():
     expect("at once: refused", all(err == b"jb: in use image\n" for err in refused), refused)
     expect("at once: done", done.count(b"transactions 2 copies 2 revoked 0 next 5\n") + done.count(b"transactions 1 copies 2 revoked 0 next 4\n") == 1, done)
     print("locks: 16 at once, %d done one after the other, %d refused" % (len(done), len(refused)))
-
-
-def read_only():
-    """On a file system that is mounted to be read alone, cat shows what it shows elsewhere, and what writes is refused."""
-    new, loaded = made()
-    fresh({"image": loaded, "journal": loaded[: 33 * 1024], "homes": loaded[33 * 1024 :]})
-    commands = [["cat", "image", "1", "-n", "3"], ["cat", "homes", "1", "--hex", "--journal", "journal"], ["dump", "image"]]
-    wants = [run(words) for words in commands]
-    here = os.getcwd()
-    with tempfile.TemporaryDirectory() as room:
-        if subprocess.run(["mount", "-t", "tmpfs", "none", room], stderr=subprocess.DEVNULL).returncode != 0:
-            print("a mount to be read alone: not tried, as nothing can be mounted here")
-            return
-        try:
-            for name in os.listdir("."):
-                shutil.copy(name, room)
-            subprocess.run(["mount", "-o", "remount,ro", room], check=True)
-            os.chdir(room)
-            for words, want in zip(commands, wants):
-                got = run(words)
-                expect("read alone: %s" % words, got == want and got[0] == 0, got, want)
-            for words in [["recover", "image"], ["renumber", "image"], ["widen", "image"]]:
-                got = run(words)
-                expect("read alone: %s" % words, got == (2, b"", b"jb: cannot read image\n"), got)
-            got = run(["recover", "homes", "--journal", "journal"])
-            expect("read alone: recover --journal", got == (2, b"", b"jb: cannot read journal\n"), got)
-        finally:
-            os.chdir(here)
-            subprocess.run(["umount", room])
-    print("a mount to be read alone: 7 runs")
 
 
 def one_write():
@@ -395,5 +243,5 @@ with tempfile.TemporaryDirectory() as folder:
     both_synced()
     one_write()
     os.chdir("/")
-print("safe_anywhere.py: %d wrong" % bad)
-sys.exit(bad != 0)
+print("safe_anywhere.py: %d wrong" % len(wrong))
+sys.exit(len(wrong) != 0)

@@ -2,8 +2,9 @@
 import re
 
 from images import BS, ESCAPE, LAST_TAG, commit, data, descriptor, group, image, padded, revoke, superblock
-from rows import BASIC, BLOCK_5, DUMP, DUMPED, FOLDER, FOUR, HANDLE, LARGE, MADE, MISSING, NOTHING, ONE, SPLIT, THERE
-from rows import dated, dated_image, over, parted, queue, row, system, within, xxd
+from rows import BASIC, BLOCK_5, DUMP, DUMPED, FOLDER, FOUR, HANDLE, LARGE, MADE, MISSING, ONE, THERE, queue, row
+from rows_load import NOTHING
+from rows_places import SPLIT, dated, dated_image, over, parted, system, within, xxd
 
 LAST = 2**32 - 1
 # a journal whose log has a transaction, and its image without home blocks

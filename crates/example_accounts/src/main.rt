@@ -16,8 +16,8 @@ use crate::accounts::{ACCOUNTS, Balances, OPENING, SIZE, total};
 use crate::moving::Moving;
 use crate::opening::{Opening, read_all};
 use jb_journal::{
-    Disk, Geometry, JournalFault, MemoryDisk, Options, SystemClock, Width, format, open_or_create,
-    run,
+    Disk, ImageGeometry, JournalFault, MemoryDisk, Options, SystemClock, Width, format,
+    open_or_create, run,
 };
 use std::env;
 use std::fs::File;
@@ -76,7 +76,7 @@ fn run_words<R: Files<File = File> + AllocGlobal + Threads + Wait + Clock + Sync
 ) -> Result<u64, JournalFault> {
     match (image, moves) {
         (Some(image), Some(moves)) => {
-            let geometry = Geometry::new(SIZE, JOURNAL, ACCOUNTS as u64);
+            let geometry = ImageGeometry::new(SIZE, JOURNAL, ACCOUNTS as u64);
             let disk = open_or_create(rt, &image, geometry)?;
             run_accounts(rt, disk, moves.parse().unwrap_or(0))
         }

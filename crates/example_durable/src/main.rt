@@ -19,7 +19,7 @@ mod times;
 use crate::handles::{Durable, HOMES, SIZE};
 use crate::times::{Times, Waited};
 use jb_journal::{
-    Delay, Disk, Geometry, JournalFault, MemoryDisk, Options, SystemClock, Width, format,
+    Delay, Disk, ImageGeometry, JournalFault, MemoryDisk, Options, SystemClock, Width, format,
     open_or_create, run,
 };
 use std::env;
@@ -112,7 +112,7 @@ fn run_in_file<R: Files<File = File> + AllocGlobal + Threads + Wait + Clock + Sy
     image: &str,
     load: Load,
 ) -> Result<Times, JournalFault> {
-    let geometry = Geometry::new(SIZE, JOURNAL, HOMES);
+    let geometry = ImageGeometry::new(SIZE, JOURNAL, HOMES);
     let disk = open_or_create(rt, image, geometry)?;
     run_handles(rt, disk, load)
 }

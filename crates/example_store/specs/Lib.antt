@@ -1,1 +1,1 @@
-pub mod Acknowledged
+pub mod AcknowledgedPuts

@@ -18,8 +18,8 @@ use crate::command::{Command, parse};
 use crate::failed::Failed;
 use crate::serving::Serving;
 use jb_journal::{
-    BlockSize, Disk, Geometry, JournalFault, MemoryDisk, Options, Ran, SystemClock, Width, format,
-    open_or_create, run,
+    BlockSize, Disk, ImageGeometry, JournalFault, MemoryDisk, Options, Ran, SystemClock, Width,
+    format, open_or_create, run,
 };
 use std::alloc::Global;
 use std::env;
@@ -38,7 +38,7 @@ const SIZE: BlockSize = BlockSize::OneKib;
 const JOURNAL: u32 = 256;
 
 ghost use Rattle.std.specs.Prelude.{IfOk};
-ghost use Rattle.example_store.specs.Acknowledged.{Keeps};
+ghost use Rattle.example_store.specs.AcknowledgedPuts.{Keeps};
 
 /// Runs the worker on a journal. What it has acknowledged stays, whenever a crash comes, where the disk that is given
 /// back is honest.
@@ -67,7 +67,7 @@ fn serve_on<R: Files<File = File> + AllocGlobal + Threads + Wait + Clock + Sync>
     image: Option<String>,
     serving: &Serving,
 ) -> Result<(), Failed> {
-    let geometry = Geometry::new(SIZE, JOURNAL, store::HOMES);
+    let geometry = ImageGeometry::new(SIZE, JOURNAL, store::HOMES);
     match image {
         Some(image) => answered(serve(rt, open_or_create(rt, &image, geometry)?, serving)?),
         None => answered(serve(rt, in_memory(rt.alloc())?, serving)?),

@@ -24,7 +24,7 @@ pub struct Serving {
 impl Worker<Result<(), Failed>> for Serving {
     ghost use Rattle.std.specs.Prelude.{◌≡◌, []};
     ghost use Rattle.jb_journal.specs.Client.{IsClient, client_known, client_stops};
-    ghost use Rattle.example_store.specs.Acknowledged.{Acknowledges};
+    ghost use Rattle.example_store.specs.AcknowledgedPuts.{Acknowledges};
 
     ghost answers = { λ serving begun shape sure workers at stops known answer. Acknowledges stops known.notes answer };
 
@@ -48,7 +48,7 @@ impl Worker<Result<(), Failed>> for Serving {
 impl Serving {
     ghost use Rattle.jb_journal.specs.Client.{IsClient, client_known, client_stops};
     ghost use Rattle.jb_journal.specs.Notes.{AreInNotes};
-    ghost use Rattle.example_store.specs.Acknowledged.{Acknowledges};
+    ghost use Rattle.example_store.specs.AcknowledgedPuts.{Acknowledges};
 
     /// Obeys a command, and answers it by a line once what it did stays after a crash.
     fn obey<'a, D: Disk, C: Clock, R: Wait + time::Clock, H: Origin, N: Ledger>(

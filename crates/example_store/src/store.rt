@@ -12,7 +12,7 @@ pub const HOMES: u64 = 32;
 ghost use Rattle.std.specs.Prelude.{◌≡◌, ◌%◌};
 ghost use Rattle.jb_journal.specs.Client.{IsClient, client_known, client_stops};
 ghost use Rattle.jb_journal.specs.Notes.{KnowsMore};
-ghost use Rattle.example_store.specs.Acknowledged.{PutsHome, PutsBlock};
+ghost use Rattle.example_store.specs.AcknowledgedPuts.{PutsHome, PutsBlock};
 
 /// PutsHome a value at a key. Once this is done a crash at any time leaves it.
 ///

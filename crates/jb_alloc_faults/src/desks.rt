@@ -8,7 +8,7 @@ use crate::met::{Met, ample, must, refusing, tried};
 use jb_block::Memory;
 use jb_board::Opened;
 use jb_deck::Deck;
-use jb_desk::{Closed, Desk, Left, Origin, Seat, Stops};
+use jb_desk::{Closed, Desk, Left, Origin, Seat, StopLedger};
 use jb_disk::{FixedClock, MemoryDisk};
 use jb_recover::recover;
 use std::alloc::Global;
@@ -35,7 +35,7 @@ pub type Sums = (u64, u64, usize, u32);
 
 /// Whether a ledger and a history are made.
 fn is_made(alloc: Global) -> Result<bool, Memory> {
-    let _stops = Stops::new(alloc, PARTS)?;
+    let _stops = StopLedger::new(alloc, PARTS)?;
     Ok(true)
 }
 
@@ -46,7 +46,7 @@ pub fn stops_row(rt: &impl Files<File = File>, alloc: Global) -> Option<Met> {
 
 /// What a desk is started with, when it is handed back.
 type Parts = (
-    Stops,
+    StopLedger,
     Blank,
     Opened<Deck<MemoryDisk>>,
     Deck<MemoryDisk>,
@@ -56,7 +56,7 @@ type Parts = (
 /// Starts a desk over a journal, of which nothing is known at the start.
 fn start<H: Origin, N: Ledger>(
     alloc: Global,
-    handles: Stops,
+    handles: StopLedger,
     changes: Blank,
     marks: Opened<Deck<MemoryDisk>>,
     deck: Deck<MemoryDisk>,
@@ -77,7 +77,7 @@ fn start<H: Origin, N: Ledger>(
 pub fn started<R: Files<File = File>, H: Origin, N: Ledger>(
     rt: &R,
     alloc: Global,
-    handles: Stops,
+    handles: StopLedger,
     changes: Blank,
     marks: Opened<Deck<MemoryDisk>>,
     is_refused: bool,

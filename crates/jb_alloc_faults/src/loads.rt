@@ -7,7 +7,7 @@ use jb_deck::OpenFault;
 use jb_desk::Ended;
 use jb_disk::{Disk, FixedClock};
 use jb_queue::{QueueLines, read_lines};
-use jb_tool::{HandleFault, LoadFault, LoadOptions, Loaded, load_on};
+use jb_tool::{LoadFault, LoadOptions, Loaded, QueueHandleFault, load_on};
 use std::alloc::Global;
 use std::fs::File;
 use std::marker::Brand;
@@ -67,7 +67,7 @@ fn met_by(answer: &Result<Loaded, LoadFault>) -> Option<Met> {
             let is_settled = loaded.settled == loaded.handles;
             (
                 Met::Memory,
-                is_settled && refused.fault == HandleFault::Memory,
+                is_settled && refused.fault == QueueHandleFault::Memory,
             )
         }
         _ => return None,

@@ -3,7 +3,7 @@ ghost use Rattle.std.specs.Prelude.{◌≡◌, All, IfOk, length};
 
 use crate::met::{Met, tried};
 use jb_block::{BlockSize, Memory, Width};
-use jb_scan::{Block, Piece, ReadFault, Seen, read_transactions};
+use jb_scan::{Block, Piece, ScanFault, Seen, read_transactions};
 use std::alloc::Global;
 use std::fs::File;
 use std::rt::Files;
@@ -58,7 +58,7 @@ fn is_read(alloc: Global, log: &Vec<Block>) -> Result<bool, Memory>
 {
     match read_transactions(alloc, log, BlockSize::OneKib, 2, Width::Narrow) {
         Ok(seen) => Ok(is_whole(&seen)),
-        Err(ReadFault::Memory) => Err(Memory),
+        Err(ScanFault::Memory) => Err(Memory),
         Err(_) => Ok(false),
     }
 }

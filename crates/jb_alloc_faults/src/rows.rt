@@ -11,7 +11,7 @@ use crate::{
 };
 use jb_board::Opened;
 use jb_deck::Deck;
-use jb_desk::{Origin, Stops};
+use jb_desk::{Origin, StopLedger};
 use jb_disk::MemoryDisk;
 use std::alloc::Global;
 use std::fs::File;
@@ -62,7 +62,7 @@ fn shared_row<R: Files<File = File> + Threads + Wait + Clock + Sync>(
         "Deck::take_trail" => decks::take_trail_row(rt, alloc),
         "Book::open" => books::open_row(rt, alloc),
         "Book::enqueue" => books::enqueue_row(rt, alloc),
-        "Stops::new" => desks::stops_row(rt, alloc),
+        "StopLedger::new" => desks::stops_row(rt, alloc),
         "load_on" => loads::load_row(rt, alloc),
         _ => desk_row(rt, alloc, of_desk(name)?),
     }
@@ -106,7 +106,7 @@ fn desk_row<R: Files<File = File> + Threads + Wait + Clock + Sync>(
     alloc: Global,
     row: OfDesk,
 ) -> Option<Met> {
-    let (handles, changes) = (Stops::new(alloc, PARTS).ok()?, Blank::new(PARTS));
+    let (handles, changes) = (StopLedger::new(alloc, PARTS).ok()?, Blank::new(PARTS));
     let marks = Opened::new(alloc).ok()?;
     run_row::<R, Brand, Brand>(rt, alloc, row, handles, changes, marks)
 }
@@ -120,7 +120,7 @@ fn run_row<
     rt: &R,
     alloc: Global,
     row: OfDesk,
-    handles: Stops,
+    handles: StopLedger,
     changes: Blank,
     marks: Opened<Deck<MemoryDisk>>,
 ) -> Option<Met>

@@ -4,8 +4,8 @@ use Rattle.std.specs.Prelude.{ℕ, ℤ, List, [], ◌∷◌, codes, decimal, map
 use Rattle.jb_text.specs.TextParts.{spelled}
 use Rattle.jb_args.specs.contracts.hint.Hint as hints
 use Rattle.jb_args.specs.contracts.option_name.OptionName as options
-use Rattle.jb_args.specs.declared.hint.Beside.{Beside}
-use Rattle.jb_args.specs.declared.hint.Beside.TheVariants.{Nothing, BadOption, System, Homes}
+use Rattle.jb_args.specs.declared.hint.HintArg.{HintArg}
+use Rattle.jb_args.specs.declared.hint.HintArg.TheVariants.{Nothing, BadOption, System, Homes}
 use Rattle.jb_args.specs.declared.hint.Hint.{Hint}
 use Rattle.jb_args.specs.declared.hint.Hint.TheVariants as hint
 use Rattle.jb_args.specs.declared.option_name.OptionName.{OptionName}
@@ -24,17 +24,17 @@ unfoldable pub option_range : OptionName → List ℕ
 option_range option = slice_index_or (map (λ row. row.1.now) OPTIONS.now) (tag_of options.the_type option) []
 
 -- what is said of a number of the system's, where there is one
-abbrev pub of_code : Option ℤ → Beside
+abbrev pub of_code : Option ℤ → HintArg
 of_code None = Nothing
 of_code (Some code) = System code
 
 -- what is said of the number of home blocks, where it is known
-abbrev pub of_homes : Option ℕ → Beside
+abbrev pub of_homes : Option ℕ → HintArg
 of_homes None = Nothing
 of_homes (Some homes) = Homes homes
 
 -- what is said beside the words of a hint
-abbrev pub beside_of : Hint → Beside
+abbrev pub beside_of : Hint → HintArg
 beside_of (hint.BadOption option) = BadOption option
 beside_of (hint.CannotMake code) = of_code code
 beside_of (hint.CannotRead code) = of_code code
@@ -44,7 +44,7 @@ beside_of (hint.HandleOutOfRange homes) = Homes homes
 beside_of _ = Nothing
 
 -- the second line of these words, with what it says beside them: a bad option and what that may be, the system's text, a number
-abbrev pub line_with : List ℕ → List ℕ → Beside → List ℕ
+abbrev pub line_with : List ℕ → List ℕ → HintArg → List ℕ
 line_with system words Nothing = spelled (codes "jb:  " ∷ words ∷ codes "\n" ∷ [])
 line_with system words (BadOption option) =
     spelled (codes "jb:  " ∷ words ∷ codes ": " ∷ option_text option ∷ codes " is " ∷ option_range option ∷ codes "\n" ∷ [])

@@ -5,8 +5,8 @@ use Rattle.clap.specs.Words.{Row, Text, subcommand_of}
 use Rattle.jb_args.specs.App.{jb_app}
 use Rattle.jb_args.specs.PlainCommand.{Asked, asked, asks, file_in, flag_in, image_in, journal_asked, number_in}
 use Rattle.jb_args.specs.declared.command.LoadWords.{LoadWords}
-use Rattle.jb_args.specs.declared.command.Words.{Words}
-use Rattle.jb_args.specs.declared.command.Words.TheVariants.{Load, Plain}
+use Rattle.jb_args.specs.declared.command.CommandLine.{CommandLine}
+use Rattle.jb_args.specs.declared.command.CommandLine.TheVariants.{Load, Plain}
 
 -- the words and options of `load` as they were given
 pub record Loading : Type 0 where
@@ -29,7 +29,7 @@ load_said l =
     record { image = l.image.now; file = l.file.now; journal = option_map (λ word. word.now) l.journal; threads = l.threads; hold = l.hold; stamp = l.stamp; checkpoint = l.checkpoint }
 
 -- what a value of the program's own type asks for
-abbrev pub wants : Words → Wanted
+abbrev pub wants : CommandLine → Wanted
 wants (Plain plain) = WantsPlain (asks plain)
 wants (Load load) = WantsLoad (load_said load)
 

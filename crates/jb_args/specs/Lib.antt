@@ -1,5 +1,5 @@
 pub mod Advice
 pub mod App
+pub mod Command
 pub mod Faults
 pub mod PlainCommand
-pub mod Command

@@ -2,7 +2,7 @@ use crate::plain::Plain;
 
 /// What the words after the program's name ask for.
 #[derive(Clone, Copy)]
-pub enum Words<'a> {
+pub enum CommandLine<'a> {
     /// A command that runs by itself, without threads.
     Plain(Plain<'a>),
     /// `jb load IMAGE FILE ..`: the handles of a queue text, run by threads and committed to an image.

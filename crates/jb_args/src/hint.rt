@@ -116,7 +116,7 @@ pub enum Hint {
 
 /// What a second line says beside the words of the table.
 #[derive(Clone, Copy)]
-pub(crate) enum Beside {
+pub(crate) enum HintArg {
     /// Nothing.
     Nothing,
     /// An option that is bad.
@@ -149,15 +149,15 @@ impl Hint {
     }
 
     /// What is said beside the words of the table.
-    pub(crate) fn beside(self) -> Beside
+    pub(crate) fn beside(self) -> HintArg
         ensures { result ≡ beside_of self }
     {
         match self {
-            Hint::BadOption(option) => Beside::BadOption(option),
-            Hint::CannotMake(Some(code)) | Hint::CannotRead(Some(code)) => Beside::System(code),
-            Hint::HomeOutOfRange(Some(homes)) | Hint::NoHome(Some(homes)) => Beside::Homes(homes),
-            Hint::HandleOutOfRange(homes) => Beside::Homes(homes),
-            _ => Beside::Nothing,
+            Hint::BadOption(option) => HintArg::BadOption(option),
+            Hint::CannotMake(Some(code)) | Hint::CannotRead(Some(code)) => HintArg::System(code),
+            Hint::HomeOutOfRange(Some(homes)) | Hint::NoHome(Some(homes)) => HintArg::Homes(homes),
+            Hint::HandleOutOfRange(homes) => HintArg::Homes(homes),
+            _ => HintArg::Nothing,
         }
     }
 }

@@ -13,7 +13,7 @@ mod words;
 
 pub use clap::Error;
 pub use clap::error::ErrorKind;
-pub use command::{LoadWords, Words};
+pub use command::{CommandLine, LoadWords};
 pub use hint::Hint;
 pub use option_name::OptionName;
 pub use plain::{CatOptions, DumpOptions, FormatOptions, Plain, RecoverOptions};

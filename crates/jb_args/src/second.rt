@@ -2,9 +2,9 @@
 ghost use Rattle.std.specs.Prelude.{ℕ, List, []};
 ghost use Rattle.jb_text.specs.Puts.{Puts};
 ghost use Rattle.jb_args.specs.Advice.{hint_line, line_with};
-ghost use Rattle.jb_args.specs.declared.hint.Beside.TheVariants.{BadOption};
+ghost use Rattle.jb_args.specs.declared.hint.HintArg.TheVariants.{BadOption};
 
-use crate::hint::{Beside, Hint};
+use crate::hint::{Hint, HintArg};
 use crate::option_name::OptionName;
 use arrayvec::ArrayVec;
 use itoa::Buffer;
@@ -27,21 +27,21 @@ pub fn put_hint<W: Write>(writer: &mut W, hint: Hint) -> Result<(), WriteFault>
 }
 
 /// Writes these words as a second line, with what it says beside them.
-fn put_words<W: Write>(writer: &mut W, words: &str, beside: Beside) -> Result<(), WriteFault>
+fn put_words<W: Write>(writer: &mut W, words: &str, beside: HintArg) -> Result<(), WriteFault>
     ensures { (system : List ℕ) × Puts (W.contents writer.old) (W.contents writer.new)
         (line_with system words.entry.now beside) result }
 {
     match beside {
-        Beside::Nothing => put_parts(writer, &["jb:  ", words, "\n"]),
-        Beside::BadOption(option) => put_option(writer, words, option),
-        Beside::System(code) => {
+        HintArg::Nothing => put_parts(writer, &["jb:  ", words, "\n"]),
+        HintArg::BadOption(option) => put_option(writer, words, option),
+        HintArg::System(code) => {
             let mut room = ArrayVec::new();
             put_parts(
                 writer,
                 &["jb:  ", words, ": ", system_text(code, &mut room), "\n"],
             )
         }
-        Beside::Homes(homes) => {
+        HintArg::Homes(homes) => {
             let mut digits = Buffer::new();
             put_parts(writer, &["jb:  ", words, ": ", digits.format(homes), "\n"])
         }

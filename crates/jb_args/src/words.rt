@@ -7,7 +7,7 @@ ghost use Rattle.jb_args.specs.PlainCommand.{asked, asks, cat_in, check_in, dump
 ghost use Rattle.jb_args.specs.PlainCommand.{flag_in, format_in, number_in, options_in, options_said, recover_in};
 ghost use Rattle.jb_args.specs.Command.{load_in, load_said, wanted_in, wanted_of, wants};
 
-use crate::command::{LoadWords, Words};
+use crate::command::{CommandLine, LoadWords};
 use crate::commands::jb_command;
 use crate::plain::{CatOptions, DumpOptions, FormatOptions, Plain, RecoverOptions};
 use clap::error::ErrorKind;
@@ -20,7 +20,7 @@ use std::io::Write;
 ///
 /// # Errors
 /// What clap says of the words: help and the version too, and out of memory as `ErrorKind::OutOfMemory`.
-pub fn parse<'a, S: AsStr>(alloc: Global, words: &'a [S]) -> Result<Words<'a>, Error>
+pub fn parse<'a, S: AsStr>(alloc: Global, words: &'a [S]) -> Result<CommandLine<'a>, Error>
     ensures asked { IfOk result (λ found. wanted_in (map S.text words.entry.now) ≡ Some (wants found)) }
     ensures taken { IfOk result (λ _. fault_kinds (map S.text words.entry.now) ≡ []) }
     ensures refused { IfErr result (λ error. HasKind (fault_kinds (map S.text words.entry.now)) error
@@ -72,14 +72,14 @@ fn matches_of<'a, S: AsStr>(command: Command<'a>, words: &'a [S]) -> Result<ArgM
 }
 
 /// The command that clap found, with its words.
-fn words_of<'a>(matches: &ArgMatches<'a>) -> Option<Words<'a>>
+fn words_of<'a>(matches: &ArgMatches<'a>) -> Option<CommandLine<'a>>
     ensures { option_map wants result ≡ wanted_of (subcommand_rows_of matches.now) }
 {
     let (name, found) = matches.subcommand()?;
     if name == "load" {
-        Some(Words::Load(load_of(found)?))
+        Some(CommandLine::Load(load_of(found)?))
     } else {
-        Some(Words::Plain(plain_of(name, found)?))
+        Some(CommandLine::Plain(plain_of(name, found)?))
     }
 }
 

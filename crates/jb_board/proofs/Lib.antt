@@ -1,3 +1,3 @@
-pub mod Keeps
-pub mod KeepsHistory
-pub mod Placed
+pub mod BoardKeeps
+pub mod EntryPlaces
+pub mod HistoryKeeps

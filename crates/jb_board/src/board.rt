@@ -3,7 +3,8 @@ ghost use Rattle.std.specs.Prelude.{◌≡◌, ◌≤◌, [], IfOk};
 use crate::front::Front;
 use crate::rule::{Counts, SETTLED, STOPPED, TAKEN};
 use crate::steps::{
-    Entry, Kept, LoadSettled, LoadStopped, LoadTaken, RaiseSettled, RaiseStopped, RaiseTaken, Same,
+    Kept, LoadSettled, LoadStopped, LoadTaken, NewSeat, RaiseSettled, RaiseStopped, RaiseTaken,
+    Same,
 };
 use crate::tickets::Tickets;
 use atomic_table::{Seat, Table};
@@ -16,13 +17,13 @@ use std::sync::ledger::Ledger;
 /// those that the ledger `L` counts.
 #[derive(Drop)]
 pub struct Board<L: Ledger> {
-    words: Words,
+    words: CountTable,
     ledger: PhantomData<L>,
 }
 
 /// The three words.
 #[derive(Drop)]
-struct Words {
+struct CountTable {
     table: Table<(), Front, (), Counts, Global>,
     ghost three_words: { table.shared.table_id.words ≡ 3 },
 }
@@ -52,7 +53,7 @@ impl<L: Ledger> Board<L> {
     {
         let (table, seat) = Table::of_words(alloc, &[0, 0, 0], &())?;
         let board = Board {
-            words: Words { table },
+            words: CountTable { table },
             ledger: PhantomData,
         };
         Ok((board, BoardSeat { seat }))
@@ -63,7 +64,7 @@ impl<L: Ledger> Board<L> {
         ensures board { seat_board result ≡ board_id self.now }
         ensures view { seat_view result ≡ front 0 0 0 }
     {
-        let (_, seat) = self.words.table.shared.load_new_seat::<Entry>(STOPPED);
+        let (_, seat) = self.words.table.shared.load_new_seat::<NewSeat>(STOPPED);
         BoardSeat { seat }
     }
 

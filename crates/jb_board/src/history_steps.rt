@@ -21,9 +21,9 @@ impl<E> Play<E, View<E>> for Add {
 }
 
 /// A seat sees the history as it is.
-pub struct Look;
+pub struct Observe;
 
-impl<E> Play<E, View<E>> for Look {
+impl<E> Play<E, View<E>> for Observe {
     ghost use Rattle.jb_board.specs.HistorySteps.{Looks};
 
     ghost then = { Looks };
@@ -41,9 +41,9 @@ impl<E> Split<View<E>> for Entries {
 }
 
 /// What was seen goes to one more seat.
-pub struct Sights;
+pub struct ShareSeen;
 
-impl<E> Split<View<E>> for Sights {
+impl<E> Split<View<E>> for ShareSeen {
     ghost use Rattle.jb_board.specs.View.{only_seen};
 
     ghost left = { λ v. v };

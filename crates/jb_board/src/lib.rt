@@ -19,4 +19,4 @@ pub use front::Front;
 pub use history::{History, Opened};
 pub use place::Place;
 pub use tickets::Tickets;
-pub use tokens::{Made, Scribe, Sight};
+pub use tokens::{Appender, OwnEntries, Prefix};

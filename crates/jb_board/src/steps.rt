@@ -7,9 +7,9 @@ use crate::front::Front;
 use atomic_table::{Join, Play, Split};
 
 /// A new seat has seen nothing.
-pub struct Entry;
+pub struct NewSeat;
 
-impl Play<(), Front> for Entry {
+impl Play<(), Front> for NewSeat {
     ghost then = { Enters };
 }
 

@@ -8,12 +8,12 @@ use std::marker::{Model, PhantomData};
 
 /// The right to add entries. To a contract it is the whole history.
 #[derive(Drop)]
-pub struct Scribe<E, L: Place> {
+pub struct Appender<E, L: Place> {
     pub(crate) seat: Seat<E, View<E>>,
     pub(crate) place: PhantomData<L>,
 }
 
-impl<E, L: Place> Model for Scribe<E, L> {
+impl<E, L: Place> Model for Appender<E, L> {
     ghost Value = { List E };
 
     ghost view = { λ s. s.seat.me.0.seen };
@@ -24,12 +24,12 @@ impl<E, L: Place> Model for Scribe<E, L> {
 
 /// A first part of the history, which was seen.
 #[derive(Drop)]
-pub struct Sight<E, L: Place> {
+pub struct Prefix<E, L: Place> {
     pub(crate) seat: Seat<E, View<E>>,
     pub(crate) place: PhantomData<L>,
 }
 
-impl<E, L: Place> Model for Sight<E, L> {
+impl<E, L: Place> Model for Prefix<E, L> {
     ghost Value = { List E };
 
     ghost view = { λ s. s.seat.me.0.seen };
@@ -39,12 +39,12 @@ impl<E, L: Place> Model for Sight<E, L> {
 
 /// The entries that were made for it, each with its place in the history.
 #[derive(Drop)]
-pub struct Made<E, L: Place> {
+pub struct OwnEntries<E, L: Place> {
     pub(crate) seat: Seat<E, View<E>>,
     pub(crate) place: PhantomData<L>,
 }
 
-impl<E, L: Place> Model for Made<E, L> {
+impl<E, L: Place> Model for OwnEntries<E, L> {
     ghost Value = { List (ℕ × E) };
 
     ghost view = { λ s. s.seat.me.0.mine };

@@ -10,20 +10,20 @@ use Rattle.std.proofs.lemmas.List.Sums.{sum_by-append, sum_by-take-drop}
 use Rattle.std.proofs.lemmas.Map.Views.{All-values-insert_entry, All-map-remove_entry, IfSome-lookup_from_All}
 use Rattle.std.proofs.Math.Seq.{drop-nil}
 use Rattle.jb_handle.specs.declared.stopped.Stopped.{Stopped}
-use Rattle.jb_handle.specs.Held.{Fits}
+use Rattle.jb_handle.specs.HeldChanges.{Fits}
 use Rattle.jb_handle.specs.Size.{IsWithinSize}
 use Rattle.jb_handle.specs.Word.{WordMap}
 use Rattle.jb_handle.proofs.Tickets.{tickets-append}
 use Rattle.jb_cost.specs.Credits.{Covers}
-use Rattle.jb_cost.proofs.Granted.{covers-append, covers-weight}
-use Rattle.jb_core.proofs.Accepted.{found-none, first-false, still-up}
-use Rattle.jb_core.proofs.Entries.{sum-insert, length-insert_entry, length-remove_entry}
+use Rattle.jb_cost.proofs.WithinCredits.{covers-append, covers-weight}
+use Rattle.jb_core.proofs.AcceptedEvents.{found-none, first-false, still-up}
+use Rattle.jb_core.proofs.MapEntries.{sum-insert, length-insert_entry, length-remove_entry}
 use Rattle.jb_deck.specs.declared.done.Entry.{Entry}
 use Rattle.jb_deck.specs.Done.{Follow, start_of}
 use Rattle.jb_book.specs.declared.fault.BeginFault.TheVariants.{Aborted, Closed, Busy, TooManyCredits, Full}
 use Rattle.jb_book.specs.Account.{Account, InLine, IsAccountSound, IsLost, granted_to, dropped_of, queued, taken_all, settled_to, failed_of, has_no_room, begin_refusal, IsOpenFor, CanTake, Settles, touched_in}
 use Rattle.jb_book.specs.Shadow.{credits_at, lost, reserved_in, settled_by, took}
-use Rattle.jb_book.proofs.Follows.{follow-length, follow-on}
+use Rattle.jb_book.proofs.TrailEntries.{follow-length, follow-on}
 use Rattle.std.specs.FinMap as map
 
 -- ---- the credits of the seats: without a seat, its credits are left over

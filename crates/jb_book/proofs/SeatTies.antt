@@ -14,30 +14,30 @@ use Rattle.jb_handle.specs.declared.changes.TouchFault.TheVariants.{NoCredit, Ou
 use Rattle.jb_handle.specs.declared.shape.Shape.{Shape}
 use Rattle.jb_handle.specs.declared.word.Word.{Word}
 use Rattle.jb_handle.specs.declared.word.Word.TheVariants.{Copy, Free}
-use Rattle.jb_handle.specs.Held.{Held, held, FitsWord, Fits, first_of, is_spent, is_misfit, home_of, word_of}
+use Rattle.jb_handle.specs.HeldChanges.{Held, held, FitsWord, Fits, first_of, is_spent, is_misfit, home_of, word_of}
 use Rattle.jb_handle.specs.Word.{WordMap}
-use Rattle.jb_handle.proofs.Listed.{each-entry}
+use Rattle.jb_handle.proofs.EachWord.{each-entry}
 use Rattle.jb_core.specs.declared.event.Event.TheVariants.{Touch, Open, Stop, Abandon}
 use Rattle.jb_core.specs.declared.event.Reply.TheVariants.{Plain, Ticket}
 use Rattle.jb_core.specs.Lives.{Log}
 use Rattle.jb_core.specs.Machine.{Machine, handle_at, held_at, event_refusal, after_event, reserved, is_full}
-use Rattle.jb_core.specs.Ran.{Ran}
-use Rattle.jb_core.proofs.Accepted.{there-at, still-up}
-use Rattle.jb_core.proofs.Runs.{sounds}
+use Rattle.jb_core.specs.MachineRuns.{Ran}
+use Rattle.jb_core.proofs.AcceptedEvents.{there-at, still-up}
+use Rattle.jb_core.proofs.SoundRuns.{sounds}
 use Rattle.jb_book.specs.Events.{shadow_of, granted_in}
 use Rattle.jb_book.specs.MachineTie.{AreAccepted, op_for, IsUntouched, HasHandle, Tied, TiedBy, touches_of}
 use Rattle.jb_cost.specs.declared.geometry.Geometry.{Geometry}
 use Rattle.jb_cost.specs.Cost.{worst_cost_of}
 use Rattle.jb_cost.specs.Credits.{IsMost}
 use Rattle.jb_plan.specs.Costs.{geometry_of}
-use Rattle.jb_core.proofs.Sounds.{granted-at}
+use Rattle.jb_core.proofs.SoundEvents.{granted-at}
 use Rattle.jb_book.specs.Account.{Account, IsAccountSound, IsNewBook, granted_to, dropped_of, queued, CanStop}
 use Rattle.jb_book.specs.Shadow.{Shadow, credits_at, begun, dropped, stopped}
 use Rattle.jb_book.proofs.Shadows.{shadowed, lookup-map}
 use Rattle.jb_book.proofs.Accounts.{passed}
-use Rattle.jb_book.proofs.Limits.{limits, same-reserved, no-handle, some-handle, gone-none}
+use Rattle.jb_book.proofs.MachineLimits.{limits, same-reserved, no-handle, some-handle, gone-none}
 use Rattle.std.specs.FinMap as words
-use Rattle.jb_handle.specs.Held as handle
+use Rattle.jb_handle.specs.HeldChanges as handle
 use Rattle.jb_book.specs.Account as book
 use Rattle.jb_book.specs.Shadow as shadow
 

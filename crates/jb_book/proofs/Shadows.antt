@@ -5,10 +5,10 @@ use Rattle.std.specs.BTreeMap.{insert_entry, is_at}
 use Rattle.std.specs.Map.{lookup, set_value, remove_entry}
 use Rattle.std.specs.FinMap as map_of
 use Rattle.jb_handle.specs.declared.shape.Shape.{Shape}
-use Rattle.jb_handle.specs.Held.{Held, held}
-use Rattle.jb_handle.specs.Held as handle
+use Rattle.jb_handle.specs.HeldChanges.{Held, held}
+use Rattle.jb_handle.specs.HeldChanges as handle
 use Rattle.jb_cost.specs.Pieces.{joined, pieces}
-use Rattle.jb_cost.proofs.Joined.{joined-append, cut-joined}
+use Rattle.jb_cost.proofs.ListPieces.{joined-append, cut-joined}
 use Rattle.jb_core.specs.declared.event.Event.{Event}
 use Rattle.jb_core.specs.declared.event.Event.TheVariants.{Open, Touch, Stop, Abandon, Take, Settle, Checkpoint, Crash, Restart}
 use Rattle.jb_core.specs.declared.event.Reply.{Reply}
@@ -19,8 +19,8 @@ use Rattle.jb_core.specs.Lives.{settled_now}
 use Rattle.jb_core.specs.Machine.{Machine, handle_at, held_at, event_refusal, after_event}
 use Rattle.jb_core.specs.Sound.{IsMachineSound}
 use Rattle.jb_core.specs.Steps.{MachineSteps, IsLeast}
-use Rattle.jb_core.proofs.Accepted.{found-some, first-false, none-taken, accepted, restarted, there-at}
-use Rattle.jb_core.proofs.Groups.{more-settled}
+use Rattle.jb_core.proofs.AcceptedEvents.{found-some, first-false, none-taken, accepted, restarted, there-at}
+use Rattle.jb_core.proofs.SettledGroups.{more-settled}
 use Rattle.jb_book.specs.Events.{granted_in, shadow_of, after_shadow, StepsShadow}
 
 -- ---- the seats

@@ -6,13 +6,13 @@ use Rattle.jb_deck.specs.Deck.{OpenDeck}
 use Rattle.jb_deck.specs.Done.{past_after}
 use Rattle.jb_handle.specs.Word.{WordMap}
 use Rattle.jb_handle.specs.declared.stopped.Stopped.{Stopped}
-use Rattle.jb_board.proofs.Placed.{placed_on}
+use Rattle.jb_board.proofs.EntryPlaces.{placed_on}
 use Rattle.jb_book.specs.CallsToBook.{IsInHistory}
 use Rattle.jb_book.specs.History.{IsStop}
 use Rattle.jb_book.specs.Origin.{Begun}
 use Rattle.jb_book.specs.Origin.{AreStops}
 use Rattle.jb_book.specs.Since.{IsSince, IsSinceOf, may_stop}
-use Rattle.jb_book.proofs.Sincing.{given-as}
+use Rattle.jb_book.proofs.SinceNoHandles.{given-as}
 
 -- what stands in a first part of the history stands in the whole
 pub stop-on : (b : Begun) (xs ys : List WordMap) → IsPrefix xs ys → (h : Stopped) → IsStop b xs h → IsStop b ys h

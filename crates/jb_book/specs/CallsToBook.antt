@@ -12,7 +12,7 @@ use Rattle.jb_deck.specs.declared.done.Done.{Done}
 use Rattle.jb_handle.specs.declared.shape.Shape.{Shape}
 use Rattle.jb_core.specs.Lives.{Log, handles_of_order, stop_order}
 use Rattle.jb_core.specs.Machine.{Machine}
-use Rattle.jb_core.specs.Ran.{Ran}
+use Rattle.jb_core.specs.MachineRuns.{Ran}
 use Rattle.jb_book.specs.Account.{Account, CanStop, Settles, failed_of, queued, settled_to}
 use Rattle.jb_book.specs.Calls.{Call, CallsMake, AreOfFirst, IsCutOf, handles_in, out_of, stops_of}
 use Rattle.jb_book.specs.MachineTie.{AreAccepted}

@@ -1,6 +1,6 @@
 -- What a book has of a machine, and what each event makes of it there.
 use Rattle.std.specs.Prelude.{◌≡◌, ℕ, ◌+◌, map, length, take, None, Result, Ok, Err}
-use Rattle.jb_handle.specs.Held.{Held}
+use Rattle.jb_handle.specs.HeldChanges.{Held}
 use Rattle.jb_core.specs.declared.event.Event.{Event}
 use Rattle.jb_core.specs.declared.event.Event.TheVariants.{Open, Touch, Stop, Abandon, Take, Settle, Checkpoint, Crash, Restart}
 use Rattle.jb_core.specs.declared.event.Reply.{Reply}

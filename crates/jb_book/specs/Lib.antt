@@ -1,10 +1,12 @@
 pub mod Account
 pub mod Book
 pub mod Calls
+pub mod CallsToBook
 pub mod Events
 pub mod History
 pub mod Journal
-pub mod CallsToBook
+pub mod JournalValue
+pub mod MachineTie
 pub mod Marks
 pub mod OpenDisk
 pub mod Origin
@@ -12,5 +14,3 @@ pub mod Rounds
 pub mod Shadow
 pub mod Since
 pub mod SinceMark
-pub mod MachineTie
-pub mod Works

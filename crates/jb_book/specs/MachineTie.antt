@@ -9,7 +9,7 @@ use Rattle.jb_handle.specs.declared.shape.Shape.{Shape}
 use Rattle.jb_handle.specs.declared.stopped.Stopped.{Stopped}
 use Rattle.jb_handle.specs.declared.word.Word.{Word}
 use Rattle.jb_handle.specs.declared.word.Word.TheVariants.{Copy, Free}
-use Rattle.jb_handle.specs.Held.{Held}
+use Rattle.jb_handle.specs.HeldChanges.{Held}
 use Rattle.jb_handle.specs.Word.{WordMap}
 use Rattle.jb_cost.specs.Pieces.{pieces}
 use Rattle.jb_plan.specs.Batch.{gathered}
@@ -26,7 +26,7 @@ use Rattle.jb_core.specs.declared.event.Event.TheVariants as event
 use Rattle.jb_core.specs.declared.event.Reply.TheVariants.{Plain, Ticket}
 use Rattle.jb_core.specs.Lives.{Log, handles_of_order, stop_order}
 use Rattle.jb_core.specs.Machine.{Machine, after_event}
-use Rattle.jb_core.specs.Ran.{Ran}
+use Rattle.jb_core.specs.MachineRuns.{Ran}
 use Rattle.jb_book.specs.Account.{Account, IsAccountSound, IsNewBook, granted_to, dropped_of, queued, taken_all, settled_to, failed_of, begin_refusal, CanStop, CanTake, Settles}
 use Rattle.jb_book.specs.Calls.{Call, CallsMake, AreOfFirst, IsCutOf, KeepsWhole, stops_of, out_of, settled_of}
 use Rattle.jb_book.specs.Events.{shadow_of}

@@ -33,7 +33,7 @@ pub fn step_shadowed(state: &mut State, event: Event) -> Result<Reply, CoreFault
 /// account after the call is such a part again. A stop is a change of each home that the handle touched, and
 /// then a Stop. A `settle` is the Settle of as many groups where its entries are those of the first groups
 /// that are out.
-#[tactic(auto, using(crate::proofs::Ties::tied))]
+#[tactic(auto, using(crate::proofs::CallTies::tied))]
 pub fn tied()
     ensures { BookIsTied }
 {}
@@ -47,14 +47,14 @@ pub fn every_run()
 
 /// A batch that has a cut, as each batch of a book, has a least one. So a list of calls may name one for each
 /// `take`, also where the batch is never committed.
-#[tactic(auto, using(crate::proofs::Least::has_least))]
+#[tactic(auto, using(crate::proofs::LeastCut::has_least))]
 pub fn takes_least()
     ensures { TakesLeast }
 {}
 
 /// The entries of a `Done` that a commit gives are those of the first groups of its batch's cut: of all, or
 /// after a fault of the disk of some. So `settle` may take it, as the law of every run asks.
-#[tactic(auto, using(crate::proofs::Telling::commit_tells))]
+#[tactic(auto, using(crate::proofs::CommitEntries::commit_tells))]
 pub fn commit_tells<D: Disk>()
     ensures { CommitTells D }
 {}

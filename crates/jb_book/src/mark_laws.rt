@@ -11,8 +11,8 @@ pub fn stays<D: Disk, H: Origin>()
     ensures { ShownStays D.Disk H.begun }
 {}
 
-/// A read ([`Works::read`](crate::Works::read)) after such a wait sees the handle: it is one of those that the journal
-/// which is read was given and has settled, with the words that it stopped with.
+/// A read ([`JournalState::read`](crate::JournalState::read)) after such a wait sees the handle: it is one of those
+/// that the journal which is read was given and has settled, with the words that it stopped with.
 pub fn shown_is_given<D: Disk, H: Origin>()
     ensures { ShownIsGiven D.Disk H.begun }
 {}

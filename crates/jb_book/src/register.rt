@@ -13,7 +13,7 @@ use crate::book::Book;
 use crate::fault::{BeginFault, EnqueueFault};
 use crate::origin::{Marks, Origin};
 use crate::sights::{Histories, Sights};
-use jb_board::{History, Made, Scribe, Sight};
+use jb_board::{Appender, History, OwnEntries, Prefix};
 use jb_deck::{Batch, Deck, Entry};
 use jb_disk::Disk;
 use jb_handle::{Handle, Shape, Words};
@@ -26,8 +26,8 @@ use std::marker::Model;
 #[derive(Drop)]
 pub struct Register<D: Disk, S: Origin> {
     book: Book<S>,
-    scribe: Scribe<Words, S>,
-    seen: Sight<Deck<D>, Marks<S>>,
+    appender: Appender<Words, S>,
+    seen: Prefix<Deck<D>, Marks<S>>,
 }
 
 impl<D: Disk, S: Origin> Model for Register<D, S> {
@@ -40,9 +40,9 @@ impl<D: Disk, S: Origin> Model for Register<D, S> {
 
     ghost coded = { Prim.hlevel (codes, words_code) };
 
-    ghost view = { λ r. registered r.book r.scribe };
+    ghost view = { λ r. registered r.book r.appender };
 
-    ghost invariant = { λ r. IsRegistered r.book r.scribe × AreOfBook r.seen r.book };
+    ghost invariant = { λ r. IsRegistered r.book r.appender × AreOfBook r.seen r.book };
 }
 
 impl<D: Disk, S: Origin> Register<D, S> {
@@ -59,17 +59,21 @@ impl<D: Disk, S: Origin> Register<D, S> {
         alloc: Global,
         shape: Shape,
         usable: u64,
-        scribe: Scribe<Words, S>,
-        seen: Sight<Deck<D>, Marks<S>>,
+        appender: Appender<Words, S>,
+        seen: Prefix<Deck<D>, Marks<S>>,
     ) -> Register<D, S>
         requires few { usable ≤ 2147483646 }
         requires journal { HasShapeMark seen shape }
-        requires fresh { scribe ≡ [] }
+        requires fresh { appender ≡ [] }
         ensures book { IsNewBook shape usable result.book }
         ensures log { result.log ≡ [] }
     {
         let book = Book::new(alloc, shape, usable);
-        Register { book, scribe, seen }
+        Register {
+            book,
+            appender,
+            seen,
+        }
     }
 
     /// A seat begins a handle of so many credits.
@@ -96,8 +100,8 @@ impl<D: Disk, S: Origin> Register<D, S> {
     pub fn stop<T>(
         &mut self,
         history: &History<Words, S>,
-        made: &mut Made<Words, S>,
-        sight: &mut Sight<Words, S>,
+        made: &mut OwnEntries<Words, S>,
+        sight: &mut Prefix<Words, S>,
         seat: u64,
         handle: Handle<T>,
     ) -> Result<(T, u64), (Handle<T>, EnqueueFault)>
@@ -111,11 +115,11 @@ impl<D: Disk, S: Origin> Register<D, S> {
     {
         // for the proof alone: only the clause of a method says that the book is sound
         let _reserved = self.book.reserved();
-        look(history, &mut self.scribe, sight);
+        look(history, &mut self.appender, sight);
         match self.book.enqueue(seat, handle) {
             Ok(given) => {
-                self.book.record_last(history, &mut self.scribe, made);
-                let mut all = history.show(&mut self.scribe);
+                self.book.record_last(history, &mut self.appender, made);
+                let mut all = history.show(&mut self.appender);
                 history.learn(sight, &mut all);
                 Ok(given)
             }
@@ -133,7 +137,7 @@ impl<D: Disk, S: Origin> Register<D, S> {
 
     /// Takes the whole queue as a batch, with a sight that has its handles. `None` where nothing is queued, where a
     /// batch is out, or where the book has failed.
-    pub fn take(&mut self, history: &History<Words, S>) -> Option<(Batch, Sight<Words, S>)>
+    pub fn take(&mut self, history: &History<Words, S>) -> Option<(Batch, Prefix<Words, S>)>
         ensures batch { IfSome result (λ taken. taken.0 ≡ gathered self.old.book.shadow.taken
             self.old.book.shadow.queue self.old.book.shape) }
         ensures cut { IfSome result (λ _. HasCut self.old.book.shape self.old.book.shadow.queue) }
@@ -145,7 +149,7 @@ impl<D: Disk, S: Origin> Register<D, S> {
     {
         // for the proof alone: only the clause of a method says that the book is sound
         let _reserved = self.book.reserved();
-        let sight = history.show(&mut self.scribe);
+        let sight = history.show(&mut self.appender);
         match self.book.take() {
             Some(batch) => Some((batch, sight)),
             None => None,
@@ -165,12 +169,12 @@ impl<D: Disk, S: Origin> Register<D, S> {
 
     /// A batch whose handles stopped, as was seen, is lost, and the queue with it: nobody could settle its tickets any
     /// more.
-    pub fn give_up(&mut self, history: &History<Words, S>, sight: Sight<Words, S>, batch: Batch)
+    pub fn give_up(&mut self, history: &History<Words, S>, sight: Prefix<Words, S>, batch: Batch)
         requires { All (IsInHistory sight) batch.handles }
         ensures book { self.new.book ≡ failed_of self.old.book }
         ensures log { self.new.log ≡ self.old.log }
     {
-        history.check(&mut self.scribe, sight);
+        history.check(&mut self.appender, sight);
         let _lost = batch.end();
         self.book.fail();
     }
@@ -198,7 +202,7 @@ impl<D: Disk, S: Origin> Register<D, S> {
         ensures kept { self.new ≡ self.old }
     {
         Sights {
-            stops: histories.stops.show(&mut self.scribe),
+            stops: histories.stops.show(&mut self.appender),
             marks: histories.marks.again(&mut self.seen),
         }
     }
@@ -215,7 +219,7 @@ impl<D: Disk, S: Origin> Register<D, S> {
     /// Takes it apart, into the book's trail, the right to add to the history, and the marks that were seen, at one of
     /// which the journal had the book's shape. The stops in the history and the groups of the trail are those of events
     /// that the machine of handles accepts.
-    pub fn end(self) -> (Vec<Entry>, Scribe<Words, S>, Sight<Deck<D>, Marks<S>>)
+    pub fn end(self) -> (Vec<Entry>, Appender<Words, S>, Prefix<Deck<D>, Marks<S>>)
         ensures parts { (result.0.items ≡ self.book.trail) × (result.1 ≡ self.log) }
         ensures counted { length result.1 ≡ self.book.shadow.next }
         ensures tiles { (past : ℕ) × Follow (start_of result.0.items) 0 past result.0.items
@@ -225,21 +229,25 @@ impl<D: Disk, S: Origin> Register<D, S> {
     {
         // for the proof alone: only the clause of a method says that the book is sound
         let _reserved = self.book.reserved();
-        let Register { book, scribe, seen } = self;
-        (book.into_trail(), scribe, seen)
+        let Register {
+            book,
+            appender,
+            seen,
+        } = self;
+        (book.into_trail(), appender, seen)
     }
 }
 
 /// Looks at the history, which has all that a sight of it has.
 fn look<S: Origin>(
     history: &History<Words, S>,
-    scribe: &mut Scribe<Words, S>,
-    sight: &mut Sight<Words, S>,
+    appender: &mut Appender<Words, S>,
+    sight: &mut Prefix<Words, S>,
 )
-    ensures seen { IsFirstPart sight.old scribe.old }
-    ensures kept { (scribe.new ≡ scribe.old) × (sight.new ≡ sight.old) }
+    ensures seen { IsFirstPart sight.old appender.old }
+    ensures kept { (appender.new ≡ appender.old) × (sight.new ≡ sight.old) }
 {
-    let mut seen = history.show(scribe);
+    let mut seen = history.show(appender);
     history.learn(&mut seen, sight);
-    history.check(scribe, seen);
+    history.check(appender, seen);
 }

@@ -3,7 +3,7 @@ ghost use Rattle.std.specs.Prelude.{◌≡◌};
 ghost use Rattle.jb_board.specs.HistoryRule.{with_last};
 
 use crate::origin::{Marks, Origin};
-use jb_board::{History, Scribe, Sight};
+use jb_board::{Appender, History, Prefix};
 use jb_deck::Deck;
 use jb_disk::Disk;
 use jb_handle::Words;
@@ -23,9 +23,9 @@ pub struct Histories<D: Disk, S: Origin> {
 #[derive(Drop)]
 pub struct Sights<D: Disk, S: Origin> {
     /// Of the handles that stopped.
-    pub stops: Sight<Words, S>,
+    pub stops: Prefix<Words, S>,
     /// Of the marks.
-    pub marks: Sight<Deck<D>, Marks<S>>,
+    pub marks: Prefix<Deck<D>, Marks<S>>,
 }
 
 impl<D: Disk, S: Origin> Histories<D, S> {
@@ -34,15 +34,15 @@ impl<D: Disk, S: Origin> Histories<D, S> {
     /// Marks a journal as it is now, and sees all marks.
     pub fn mark(
         &self,
-        scribe: &mut Scribe<Deck<D>, Marks<S>>,
+        appender: &mut Appender<Deck<D>, Marks<S>>,
         deck: &Deck<D>,
-    ) -> Sight<Deck<D>, Marks<S>>
-        ensures whole { scribe.new ≡ with_last scribe.old deck.now }
-        ensures sight { result ≡ scribe.new }
+    ) -> Prefix<Deck<D>, Marks<S>>
+        ensures whole { appender.new ≡ with_last appender.old deck.now }
+        ensures sight { result ≡ appender.new }
     {
         let mut made = self.marks.enter();
-        self.marks.add(scribe, &mut made, deck);
-        self.marks.show(scribe)
+        self.marks.add(appender, &mut made, deck);
+        self.marks.show(appender)
     }
 
     /// Sees what another has seen, too.

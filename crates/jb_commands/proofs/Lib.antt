@@ -1,9 +1,9 @@
-mod Lines
-pub mod Best
-pub mod Cats
+pub mod BestCert
+pub mod CatBlocks
+pub mod CertLength
+pub mod CommandEnds
 pub mod Judgement
-pub mod Lengths
-pub mod Light
-pub mod Told
+pub mod LineByLine
+mod LineParts
+pub mod QueueWeight
 pub mod Verdicts
-pub mod Written

@@ -12,7 +12,7 @@ use Rattle.jb_price.specs.declared.certificate.Cert.{Cert}
 use Rattle.jb_price.specs.declared.verdict.Verdict.{Verdict}
 use Rattle.jb_price.specs.declared.verdict.Verdict.TheVariants.{Accepted}
 use Rattle.jb_commands.specs.Check.{CheckSays, IsVerdictOn, SaysCheck, verdict_text}
-use Rattle.jb_commands.specs.Faulty.{queue_fault}
+use Rattle.jb_commands.specs.QueueFaults.{queue_fault}
 use Rattle.jb_commands.specs.Plan.{IsGeometryOf}
 use Rattle.jb_commands.specs.AnswerSaid.{Said}
 

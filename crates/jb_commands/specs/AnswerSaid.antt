@@ -1,7 +1,7 @@
 -- What a command says.
 use Rattle.std.specs.Prelude.{ℕ, List, Option, string_bytes}
 use Rattle.jb_args.specs.declared.hint.Hint.{Hint}
-use Rattle.jb_commands.specs.declared.answer.Answer.{Answer}
+use Rattle.jb_commands.specs.declared.command_output.CommandOutput.{CommandOutput}
 
 -- an exit status, the bytes for standard output and for standard error, and what a second line is about where there is one
 pub record Said : Type 0 where
@@ -11,5 +11,5 @@ pub record Said : Type 0 where
   pub hint : Option Hint
 
 -- what an answer says
-abbrev pub said : Answer → Said
+abbrev pub said : CommandOutput → Said
 said answer = record { status = answer.status; out = string_bytes answer.out; err = string_bytes answer.err; hint = answer.hint }

@@ -15,7 +15,7 @@ use Rattle.jb_price.specs.declared.verdict.Reason.{Reason}
 use Rattle.jb_price.specs.declared.verdict.Reason.TheVariants.{OpeningPrice, Undercut, NotACut, OverLimit, TotalDiffers, EndPrice}
 use Rattle.jb_price.specs.declared.verdict.Verdict.{Verdict}
 use Rattle.jb_price.specs.declared.verdict.Verdict.TheVariants.{Accepted, Refused}
-use Rattle.jb_commands.specs.Faulty.{queue_fault}
+use Rattle.jb_commands.specs.QueueFaults.{queue_fault}
 use Rattle.jb_commands.specs.Plan.{IsGeometryOf}
 use Rattle.jb_commands.specs.AnswerSaid.{Said}
 

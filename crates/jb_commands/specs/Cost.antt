@@ -8,7 +8,7 @@ use Rattle.jb_block.specs.Width.{is_wide}
 use Rattle.jb_queue.specs.Queue.{Queue, queue_of}
 use Rattle.jb_handle.specs.Words.{copies, frees}
 use Rattle.jb_queue.specs.declared.fault.QueueFault.{QueueFault}
-use Rattle.jb_commands.specs.Faulty.{queue_fault}
+use Rattle.jb_commands.specs.QueueFaults.{queue_fault}
 use Rattle.jb_commands.specs.AnswerSaid.{Said}
 
 -- how many tags a full descriptor of the queue's journal holds

@@ -7,7 +7,7 @@ use Rattle.jb_disk.specs.declared.start.Start.{Ghosts as Starts}
 use Rattle.jb_format.specs.Front.{homes_in}
 use Rattle.jb_format.specs.declared.change.ChangeFault.{ChangeFault}
 use Rattle.jb_image.specs.Create.{WasMade}
-use Rattle.jb_image.specs.declared.geometry.Geometry.{Geometry}
+use Rattle.jb_image.specs.declared.image_geometry.ImageGeometry.{ImageGeometry}
 use Rattle.jb_image.specs.Files.{as_files}
 use Rattle.jb_image.specs.Pair.{back_disk, front_disk, past_states}
 use Rattle.jb_image.specs.declared.image.ImageDisk.{ImageDisk}
@@ -108,13 +108,13 @@ IsBadFormat o _ = ⊥
 module _ {S T : Type 0} {start : Starts S} {other : Starts T} where
   -- the new image is one file, in which a journal was made since it was opened, and its limit is the end. If the file is honest, the
   -- journal stands in it
-  abbrev pub IsMade : Geometry → ImageDisk (FileDisk S start) (FileDisk T other) → Result Report CommandFault → Type 0
+  abbrev pub IsMade : ImageGeometry → ImageDisk (FileDisk S start) (FileDisk T other) → Result Report CommandFault → Type 0
   IsMade g (One new) end = WasMade g new × (end ≡ Ok (Formatted (new_limit_of g)))
   IsMade g (Two pair) end = ⊥
   IsMade g (Within disk) end = ⊥
 
   -- the image of this name was made, or it was not
-  abbrev pub EndsOfMaking : List ℕ → Geometry → Option (ImageDisk (FileDisk S start) (FileDisk T other)) → Result Report CommandFault → Type 0
+  abbrev pub EndsOfMaking : List ℕ → ImageGeometry → Option (ImageDisk (FileDisk S start) (FileDisk T other)) → Result Report CommandFault → Type 0
   EndsOfMaking name g None end = (fault : CommandFault) × (end ≡ Err fault) × IsNotMade name fault
   EndsOfMaking name g (Some new) end = IsMade g new end
 
@@ -122,4 +122,4 @@ module _ {S T : Type 0} {start : Starts S} {other : Starts T} where
   abbrev pub EndsOfFormat : List ℕ → Options → Option (ImageDisk (FileDisk S start) (FileDisk T other)) → Result Report CommandFault → Type 0
   EndsOfFormat name o image end =
       ((fault : CommandFault) × (end ≡ Err fault) × IsBadFormat o fault × (image ≡ None))
-      ⊎ (AreGood o × IsJournalLength o.journal × ((g : Geometry) × IsAskedBy o g × EndsOfMaking name g image end))
+      ⊎ (AreGood o × IsJournalLength o.journal × ((g : ImageGeometry) × IsAskedBy o g × EndsOfMaking name g image end))

@@ -2,7 +2,7 @@
 use Rattle.std.specs.Prelude.{ℕ, List, [], ◌∷◌, codes, decimal}
 use Rattle.jb_block.specs.Size.{bytes_of}
 use Rattle.jb_block.specs.Width.{is_wide}
-use Rattle.jb_image.specs.declared.geometry.Geometry.{Geometry}
+use Rattle.jb_image.specs.declared.image_geometry.ImageGeometry.{ImageGeometry}
 use Rattle.jb_text.specs.TextParts.{spelled}
 use Rattle.jb_super.specs.Features.{of_width}
 use Rattle.jb_super.specs.Geometry.{limit_of}
@@ -13,5 +13,5 @@ abbrev pub formatted_line : ℕ → List ℕ
 formatted_line limit = spelled (codes "formatted limit " ∷ decimal limit ∷ codes "\n" ∷ [])
 
 -- the most log blocks of a transaction of such a journal
-abbrev pub new_limit_of : Geometry → ℕ
+abbrev pub new_limit_of : ImageGeometry → ℕ
 new_limit_of g = limit_of (of_width (is_wide g.width) (new_super (bytes_of g.block_size) g.journal g.max_transaction g.uuid))

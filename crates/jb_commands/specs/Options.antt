@@ -7,7 +7,7 @@ use Rattle.jb_args.specs.declared.option_name.OptionName.TheVariants.{Bs, Homes,
 use Rattle.jb_block.specs.Size.{bytes_of, IsBlockSize}
 use Rattle.jb_block.specs.Width.{is_wide}
 use Rattle.jb_args.specs.PlainCommand.{Options}
-use Rattle.jb_image.specs.declared.geometry.Geometry.{Geometry}
+use Rattle.jb_image.specs.declared.image_geometry.ImageGeometry.{ImageGeometry}
 
 -- as many blocks as a journal may have
 abbrev pub IsJournalLength : ℕ → Type 0
@@ -40,7 +40,7 @@ IsFirstBad o told =
     (IsFirst told Homes (IsFileLength o) ⊥))))
 
 -- the image that the options ask for
-pub record IsAskedBy (o : Options) (g : Geometry) : Type 0 where
+pub record IsAskedBy (o : Options) (g : ImageGeometry) : Type 0 where
   pub size : bytes_of g.block_size ≡ o.bs
   pub journal : g.journal ≡ o.journal
   pub homes : g.homes ≡ o.homes

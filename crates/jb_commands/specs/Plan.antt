@@ -12,7 +12,7 @@ use Rattle.jb_price.specs.declared.certificate.Cert.{Cert}
 use Rattle.jb_price.specs.declared.certificate.CertAnswer.{CertAnswer}
 use Rattle.jb_price.specs.declared.certificate.CertAnswer.TheVariants.{Cut, NoCut}
 use Rattle.jb_commands.specs.Cost.{full_entries, full_tags}
-use Rattle.jb_commands.specs.Faulty.{queue_fault}
+use Rattle.jb_commands.specs.QueueFaults.{queue_fault}
 use Rattle.jb_commands.specs.AnswerSaid.{Said}
 
 -- the geometry is that of the queue's blocks

@@ -5,14 +5,14 @@ use Rattle.jb_commands.specs.Ends.{with_status}
 use Rattle.jb_commands.specs.Foresee.{foreseen_text}
 use Rattle.jb_commands.specs.Format.{formatted_line}
 use Rattle.jb_commands.specs.Recover.{recovered_line}
-use Rattle.jb_commands.specs.Said.{TellsLine}
-use Rattle.jb_commands.specs.declared.ended.Ended.{Ended}
+use Rattle.jb_commands.specs.Outputs.{TellsLine}
+use Rattle.jb_commands.specs.declared.program_end.ProgramEnd.{ProgramEnd}
 use Rattle.jb_commands.specs.declared.fault.CommandFault.{CommandFault}
 use Rattle.jb_commands.specs.declared.report.Report.{Report}
 use Rattle.jb_commands.specs.declared.report.Report.TheVariants.{Said, Formatted, Foreseen, Recovered, Renumbered, Widened}
 
 -- it is on standard output, with status 0, or standard output failed part of the way; of a command that has said all itself, its end
-abbrev pub TellsReport : Report → Option (List ℕ) → Option (List ℕ) → Result Ended CommandFault → Type 0
+abbrev pub TellsReport : Report → Option (List ℕ) → Option (List ℕ) → Result ProgramEnd CommandFault → Type 0
 TellsReport (Said ended) out_old out_new end = (end ≡ Ok ended) × (out_new ≡ out_old)
 TellsReport (Formatted limit) out_old out_new end = TellsLine (formatted_line limit) out_old out_new end
 TellsReport (Recovered done) out_old out_new end = TellsLine (recovered_line done) out_old out_new end
@@ -21,12 +21,12 @@ TellsReport (Renumbered done) out_old out_new end = TellsLine (renumbered_line d
 TellsReport (Widened done) out_old out_new end = TellsLine (widened_line done) out_old out_new end
 
 -- what a command ended with is reported, or it ended with a fault, and then nothing is written
-abbrev pub TellsEnd : Result Report CommandFault → Option (List ℕ) → Option (List ℕ) → Result Ended CommandFault → Type 0
+abbrev pub TellsEnd : Result Report CommandFault → Option (List ℕ) → Option (List ℕ) → Result ProgramEnd CommandFault → Type 0
 TellsEnd (Ok report) out_old out_new end = TellsReport report out_old out_new end
 TellsEnd (Err fault) out_old out_new end = (end ≡ Err fault) × (out_new ≡ out_old)
 
 -- the end of a command that has said all itself, and ends so
-abbrev pub said_end : Result Ended CommandFault → Result Report CommandFault
+abbrev pub said_end : Result ProgramEnd CommandFault → Result Report CommandFault
 said_end (Ok ended) = Ok (Said ended)
 said_end (Err fault) = Err fault
 

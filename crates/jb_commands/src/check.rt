@@ -5,7 +5,7 @@ ghost use Rattle.jb_price.specs.declared.verdict.Verdict.TheVariants.{Accepted, 
 ghost use Rattle.jb_commands.specs.Check.{IsVerdictOn, SaysCheck, cert_fault, reason_text, verdict_text};
 ghost use Rattle.jb_commands.specs.AnswerSaid.{said};
 
-use crate::answer::Answer;
+use crate::command_output::CommandOutput;
 use jb_args::Hint;
 use jb_block::Memory;
 use jb_cost::Geometry;
@@ -18,7 +18,7 @@ use std::alloc::Global;
 ///
 /// # Errors
 /// `Memory` where memory ran out.
-pub fn check_answer(alloc: Global, queue: &QueueText, claim: &[u8]) -> Result<Answer, Memory>
+pub fn check_answer(alloc: Global, queue: &QueueText, claim: &[u8]) -> Result<CommandOutput, Memory>
     requires { IsWithinSize queue.now.handles.items }
     ensures said { IfOk result (λ answer. SaysCheck (value_of queue.now) claim.now (said answer)) }
 {
@@ -42,7 +42,7 @@ fn verdict_on(alloc: Global, queue: &QueueText, cert: &Cert) -> Result<Verdict, 
 }
 
 /// The line of a verdict.
-fn verdict_told(alloc: Global, verdict: Verdict) -> Result<Answer, Memory>
+fn verdict_told(alloc: Global, verdict: Verdict) -> Result<CommandOutput, Memory>
     ensures said { IfOk result (λ answer. said answer ≡ verdict_text verdict) }
 {
     match verdict {
@@ -52,11 +52,11 @@ fn verdict_told(alloc: Global, verdict: Verdict) -> Result<Answer, Memory>
 }
 
 /// The line of a certificate that is accepted.
-fn accepted(alloc: Global) -> Result<Answer, Memory>
+fn accepted(alloc: Global) -> Result<CommandOutput, Memory>
     ensures said { IfOk result (λ answer. said answer ≡ verdict_text Accepted) }
 {
     let out = format!(in alloc; "accepted\n")?;
-    Ok(Answer {
+    Ok(CommandOutput {
         status: 0,
         out,
         err: String::new(alloc),
@@ -65,11 +65,11 @@ fn accepted(alloc: Global) -> Result<Answer, Memory>
 }
 
 /// The line of one that is refused for this.
-fn refused(alloc: Global, reason: Reason) -> Result<Answer, Memory>
+fn refused(alloc: Global, reason: Reason) -> Result<CommandOutput, Memory>
     ensures said { IfOk result (λ answer. said answer ≡ verdict_text (Refused reason)) }
 {
     let out = reason_line(alloc, reason)?;
-    Ok(Answer {
+    Ok(CommandOutput {
         status: 1,
         out,
         err: String::new(alloc),
@@ -92,7 +92,7 @@ fn reason_line(alloc: Global, reason: Reason) -> Result<String, Memory>
 }
 
 /// The line for a text that is no certificate of the queue.
-fn cert_fault_told(alloc: Global, fault: CertFault) -> Result<Answer, Memory>
+fn cert_fault_told(alloc: Global, fault: CertFault) -> Result<CommandOutput, Memory>
     ensures said { IfOk result (λ answer. cert_fault fault ≡ Some (said answer)) }
 {
     let (err, hint) = match fault {
@@ -106,7 +106,7 @@ fn cert_fault_told(alloc: Global, fault: CertFault) -> Result<Answer, Memory>
         ),
         CertFault::Memory => return Err(Memory),
     };
-    Ok(Answer {
+    Ok(CommandOutput {
         status: 2,
         out: String::new(alloc),
         err,

@@ -2,7 +2,7 @@ ghost use Rattle.std.specs.Prelude.{◌≡◌, ◌^◌, ◌<◌, IfOk, Some, len
 ghost use Rattle.jb_commands.specs.AnswerSaid.{said};
 ghost use Rattle.jb_commands.specs.Cost.{cost_line, cost_said};
 
-use crate::answer::Answer;
+use crate::command_output::CommandOutput;
 use crate::queue_fault::fault_answer;
 use jb_block::Memory;
 use jb_cost::{Geometry, group_cost};
@@ -14,7 +14,7 @@ use std::alloc::Global;
 ///
 /// # Errors
 /// `Memory` where memory ran out.
-pub fn cost_answer(alloc: Global, text: &[u8]) -> Result<Answer, Memory>
+pub fn cost_answer(alloc: Global, text: &[u8]) -> Result<CommandOutput, Memory>
     requires { length text.now < 2 ^ 63 }
     ensures said { IfOk result (λ answer. cost_said text.now ≡ Some (said answer)) }
 {
@@ -29,12 +29,12 @@ pub fn cost_answer(alloc: Global, text: &[u8]) -> Result<Answer, Memory>
 }
 
 /// The line about a cost and a limit.
-fn cost_told(alloc: Global, cost: u64, limit: u32) -> Result<Answer, Memory>
+fn cost_told(alloc: Global, cost: u64, limit: u32) -> Result<CommandOutput, Memory>
     ensures said { IfOk result (λ answer. said answer ≡ cost_line cost limit) }
 {
     if cost <= u64::from(limit) {
         let out = format!(in alloc; "cost {cost} limit {limit} fits\n")?;
-        Ok(Answer {
+        Ok(CommandOutput {
             status: 0,
             out,
             err: String::new(alloc),
@@ -42,7 +42,7 @@ fn cost_told(alloc: Global, cost: u64, limit: u32) -> Result<Answer, Memory>
         })
     } else {
         let out = format!(in alloc; "cost {cost} limit {limit} over\n")?;
-        Ok(Answer {
+        Ok(CommandOutput {
             status: 1,
             out,
             err: String::new(alloc),

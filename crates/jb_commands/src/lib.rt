@@ -2,27 +2,26 @@
 //! answer is a value.
 #![tactic(auto)]
 
-mod answer;
 mod check;
+mod command_end;
+mod command_output;
 mod cost;
-mod done;
-mod ended;
 mod fault;
 mod files;
 pub mod laws;
 mod names;
 mod options;
 mod plan;
+mod program_end;
 mod queue_fault;
 mod report;
 mod running;
 mod streams;
 
-pub use answer::Answer;
 pub use check::check_answer;
+pub use command_end::CommandEnd;
+pub use command_output::CommandOutput;
 pub use cost::cost_answer;
-pub use done::Done;
-pub use ended::Ended;
 pub use fault::CommandFault;
 pub use files::{
     Opening, cat_file, format_file, open_counted, read_file, recover_file, renumber_file,
@@ -31,6 +30,7 @@ pub use files::{
 pub use jb_args::Plain;
 pub use names::TwoFiles;
 pub use plan::plan_answer;
+pub use program_end::ProgramEnd;
 pub use queue_fault::fault_answer;
 pub use report::Report;
 pub use running::{close, perform, run_plain};

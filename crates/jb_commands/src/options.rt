@@ -9,7 +9,7 @@ ghost use Rattle.jb_commands.specs.Options.{AreGood, IsAskedBy, IsFirstBad};
 use hex::FromHex;
 use jb_args::{FormatOptions, OptionName};
 use jb_block::{BlockSize, Width};
-use jb_image::Geometry;
+use jb_image::ImageGeometry;
 
 /// The image that the options ask for.
 ///
@@ -17,7 +17,7 @@ use jb_image::Geometry;
 /// The first option that is bad, in this order: `--bs` is not 1024, 2048 or 4096; `--journal` or `--max` is
 /// above 2^32 - 1; `--uuid` is not 32 hexadecimal digits; or with `--homes` the file has 2^63 bytes or more, or
 /// without `--wide` more home blocks than 32 bits number.
-pub(crate) fn new_file(options: FormatOptions<'_>) -> Result<Geometry, OptionName>
+pub(crate) fn new_file(options: FormatOptions<'_>) -> Result<ImageGeometry, OptionName>
     ensures good { IfOk result (λ _. AreGood (options_said options.entry)) }
     ensures asked { IfOk result (IsAskedBy (options_said options.entry)) }
     ensures bad { IfErr result (λ option. IsFirstBad (options_said options.entry) option) }
@@ -40,7 +40,7 @@ pub(crate) fn new_file(options: FormatOptions<'_>) -> Result<Geometry, OptionNam
     if !options.wide && options.homes > 1 << 32 {
         return Err(OptionName::Homes);
     }
-    Ok(Geometry {
+    Ok(ImageGeometry {
         block_size: size,
         journal,
         homes: options.homes,

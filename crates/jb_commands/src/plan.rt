@@ -4,7 +4,7 @@ ghost use Rattle.jb_handle.specs.Size.{IsWithinSize};
 ghost use Rattle.jb_commands.specs.AnswerSaid.{said};
 ghost use Rattle.jb_commands.specs.Plan.{IsBestCertOf, PlanSays, SaysPlan, status_of_plan, told_as};
 
-use crate::answer::Answer;
+use crate::command_output::CommandOutput;
 use crate::queue_fault::fault_answer;
 use jb_block::Memory;
 use jb_cost::Geometry;
@@ -18,7 +18,7 @@ use std::alloc::Global;
 ///
 /// # Errors
 /// `Memory` where memory ran out.
-pub fn plan_answer(alloc: Global, text: &[u8]) -> Result<Answer, Memory>
+pub fn plan_answer(alloc: Global, text: &[u8]) -> Result<CommandOutput, Memory>
     requires { length text.now < 2 ^ 63 }
     ensures said { IfOk result (λ answer. PlanSays text.now (said answer)) }
 {
@@ -29,13 +29,13 @@ pub fn plan_answer(alloc: Global, text: &[u8]) -> Result<Answer, Memory>
 }
 
 /// The text of a queue's best certificate.
-fn plan_told(alloc: Global, queue: &QueueText) -> Result<Answer, Memory>
+fn plan_told(alloc: Global, queue: &QueueText) -> Result<CommandOutput, Memory>
     requires { IsWithinSize queue.now.handles.items }
     ensures said { IfOk result (λ answer. SaysPlan (Ok (value_of queue.now)) (said answer)) }
 {
     let cert = best_cert(alloc, queue)?;
     let out = print_cert(alloc, &cert)?;
-    Ok(Answer {
+    Ok(CommandOutput {
         status: status_of(&cert.answer),
         out,
         err: String::new(alloc),

@@ -1,8 +1,8 @@
 ghost use Rattle.std.specs.Prelude.{◌≡◌, IfOk, Some, option_map};
-ghost use Rattle.jb_commands.specs.Faulty.{cause_told, queue_fault};
+ghost use Rattle.jb_commands.specs.QueueFaults.{cause_told, queue_fault};
 ghost use Rattle.jb_commands.specs.AnswerSaid.{said};
 
-use crate::answer::Answer;
+use crate::command_output::CommandOutput;
 use jb_args::Hint;
 use jb_block::Memory;
 use jb_queue::{Cause, QueueFault};
@@ -12,7 +12,7 @@ use std::alloc::Global;
 ///
 /// # Errors
 /// `Memory` where that is the fault, and where memory ran out.
-pub fn fault_answer(alloc: Global, fault: QueueFault) -> Result<Answer, Memory>
+pub fn fault_answer(alloc: Global, fault: QueueFault) -> Result<CommandOutput, Memory>
     ensures said { IfOk result (λ answer. queue_fault fault ≡ Some (said answer)) }
 {
     let line = fault.line;
@@ -20,7 +20,7 @@ pub fn fault_answer(alloc: Global, fault: QueueFault) -> Result<Answer, Memory>
         return Err(Memory);
     };
     let err = format!(in alloc; "jb: queue line {line}: {cause}\n")?;
-    Ok(Answer {
+    Ok(CommandOutput {
         status: 2,
         out: String::new(alloc),
         err,

@@ -2,8 +2,8 @@
 ghost use Rattle.std.specs.Prelude.{◌≡◌};
 ghost use Rattle.jb_commands.specs.Reports.{said_end as ends_saying, status_end as ends_so};
 
-use crate::ended::Ended;
 use crate::fault::CommandFault;
+use crate::program_end::ProgramEnd;
 use crate::streams::{
     tell_foreseen, tell_formatted, tell_recovered, tell_renumbered, tell_widened,
 };
@@ -16,7 +16,7 @@ use std::io::Write;
 #[derive(Drop)]
 pub enum Report {
     /// It has written all that it had to say, and ends so.
-    Said(Ended),
+    Said(ProgramEnd),
     /// A journal was made, with so many log blocks of a transaction at most.
     Formatted(u32),
     /// A journal was recovered.
@@ -31,13 +31,13 @@ pub enum Report {
 
 impl Report {
     ghost use Rattle.jb_commands.specs.Reports.{TellsReport};
-    ghost use Rattle.jb_commands.specs.Said.{line_end};
+    ghost use Rattle.jb_commands.specs.Outputs.{line_end};
 
     /// Writes its line, or its lines, and gives the end of the program.
     ///
     /// # Errors
     /// `CommandFault::WriteFault` where `out` took only the beginning of the text.
-    pub fn tell<'a, O: Write>(&self, out: &mut O) -> Result<Ended, CommandFault<'a>>
+    pub fn tell<'a, O: Write>(&self, out: &mut O) -> Result<ProgramEnd, CommandFault<'a>>
         ensures { TellsReport self.now (O.contents out.old) (O.contents out.new) result }
     {
         match self.put(out) {
@@ -47,7 +47,7 @@ impl Report {
     }
 
     /// The same as a writer's answer.
-    fn put<O: Write>(&self, out: &mut O) -> Result<Ended, WriteFault>
+    fn put<O: Write>(&self, out: &mut O) -> Result<ProgramEnd, WriteFault>
         ensures { TellsReport self.now (O.contents out.old) (O.contents out.new) (line_end result) }
     {
         match self {
@@ -62,7 +62,9 @@ impl Report {
 }
 
 /// The end of a command that has written all that it had to say, and ends so.
-pub(crate) fn said_end<'a>(end: Result<Ended, CommandFault<'a>>) -> Result<Report, CommandFault<'a>>
+pub(crate) fn said_end<'a>(
+    end: Result<ProgramEnd, CommandFault<'a>>,
+) -> Result<Report, CommandFault<'a>>
     ensures { result ≡ ends_saying end.entry }
 {
     match end {
@@ -76,7 +78,7 @@ pub(crate) fn status_end<'a>(end: Result<u8, CommandFault<'a>>) -> Result<Report
     ensures { result ≡ ends_so end.entry }
 {
     match end {
-        Ok(status) => Ok(Report::Said(Ended::with_status(status))),
+        Ok(status) => Ok(Report::Said(ProgramEnd::with_status(status))),
         Err(fault) => Err(fault),
     }
 }

@@ -9,14 +9,14 @@ ghost use Rattle.jb_commands.specs.Plan.{PlanSays};
 ghost use Rattle.jb_commands.specs.Lines.{names_said};
 ghost use Rattle.jb_commands.specs.Runs.{Closes, Ends, EndsAsked, EndsOfClaim, EndsOfTwo, Runs, reads_input};
 
-use crate::done::Done;
-use crate::ended::Ended;
+use crate::command_end::CommandEnd;
 use crate::fault::CommandFault;
 use crate::files::{
     cat_file, choice_of, dump_named, format_file, read_file, read_file_within, read_text,
     recover_file, renumber_file, widen_file,
 };
 use crate::names::{TwoFiles, files_of};
+use crate::program_end::ProgramEnd;
 use crate::streams::{CERT_LIMIT, told};
 use crate::{check_answer, cost_answer, fault_answer, plan_answer};
 use jb_args::Plain;
@@ -29,7 +29,7 @@ use std::rt::Files;
 /// Runs a command: reads its files, or `input` for `-` and for nothing else, and works on its image. A command over
 /// texts, `dump` and `cat` write as they go; what the others have to say is in the answer, with the image, still open.
 ///
-/// `S` and `T` are what is supposed of the image's files ([`Done`]).
+/// `S` and `T` are what is supposed of the image's files ([`CommandEnd`]).
 pub fn perform<
     'a,
     S: Start,
@@ -38,18 +38,18 @@ pub fn perform<
     I: Read,
     O: Write,
     E: Write,
->(rt: &R, plain: Plain<'a>, input: &mut I, out: &mut O, err: &mut E) -> Done<'a, S, T>
+>(rt: &R, plain: Plain<'a>, input: &mut I, out: &mut O, err: &mut E) -> CommandEnd<'a, S, T>
     ensures ends { EndsAsked (asks plain.entry) (I.remaining input.old)
         (record { out = O.contents out.old; err = E.contents err.old })
         (record { out = O.contents out.new; err = E.contents err.new }) result.image result.end }
     ensures unread { reads_input (asks plain.entry) ≡ false → input.new ≡ input.old }
 {
     match plain {
-        Plain::Cost { file } => Done::said(perform_cost(rt, file, input, out, err)),
-        Plain::Plan { file } => Done::said(perform_plan(rt, file, input, out, err)),
-        Plain::Check { file, cert } => Done::said(perform_check(rt, file, cert, out, err)),
+        Plain::Cost { file } => CommandEnd::said(perform_cost(rt, file, input, out, err)),
+        Plain::Plan { file } => CommandEnd::said(perform_plan(rt, file, input, out, err)),
+        Plain::Check { file, cert } => CommandEnd::said(perform_check(rt, file, cert, out, err)),
         Plain::Dump { file, options } => {
-            Done::status(dump_named(rt, file, choice_of(options), input, out))
+            CommandEnd::status(dump_named(rt, file, choice_of(options), input, out))
         }
         Plain::Format { image, options } => format_file(rt, image, options),
         Plain::Cat { image, options } => cat_file(rt, image, options, out),
@@ -66,7 +66,7 @@ fn perform_cost<'a, R: Files + AllocGlobal, I: Read, O: Write, E: Write>(
     input: &mut I,
     out: &mut O,
     err: &mut E,
-) -> Result<Ended, CommandFault<'a>>
+) -> Result<ProgramEnd, CommandFault<'a>>
     ensures ends { Ends (λ text words. cost_said text ≡ Some words) file.entry.now (I.remaining input.old)
         (record { out = O.contents out.old; err = E.contents err.old })
         (record { out = O.contents out.new; err = E.contents err.new }) result }
@@ -85,7 +85,7 @@ fn perform_plan<'a, R: Files + AllocGlobal, I: Read, O: Write, E: Write>(
     input: &mut I,
     out: &mut O,
     err: &mut E,
-) -> Result<Ended, CommandFault<'a>>
+) -> Result<ProgramEnd, CommandFault<'a>>
     ensures ends { Ends PlanSays file.entry.now (I.remaining input.old)
         (record { out = O.contents out.old; err = E.contents err.old })
         (record { out = O.contents out.new; err = E.contents err.new }) result }
@@ -104,7 +104,7 @@ fn perform_check<'a, R: Files + AllocGlobal, O: Write, E: Write>(
     cert: &'a str,
     out: &mut O,
     err: &mut E,
-) -> Result<Ended, CommandFault<'a>>
+) -> Result<ProgramEnd, CommandFault<'a>>
     ensures ends { EndsOfTwo CheckSays file.entry.now cert.entry.now
         (record { out = O.contents out.old; err = E.contents err.old })
         (record { out = O.contents out.new; err = E.contents err.new }) result }
@@ -122,7 +122,7 @@ fn check_texts<'a, R: Files + AllocGlobal, O: Write, E: Write>(
     cert: &'a str,
     out: &mut O,
     err: &mut E,
-) -> Result<Ended, CommandFault<'a>>
+) -> Result<ProgramEnd, CommandFault<'a>>
     requires { length text.now < 2 ^ 63 }
     ensures ends { EndsOfClaim (CheckSays text.now) cert.entry.now
         (record { out = O.contents out.old; err = E.contents err.old })
@@ -141,7 +141,7 @@ fn check_file<'a, R: Files + AllocGlobal, O: Write, E: Write>(
     cert: &'a str,
     out: &mut O,
     err: &mut E,
-) -> Result<Ended, CommandFault<'a>>
+) -> Result<ProgramEnd, CommandFault<'a>>
     requires { IsWithinSize queue.now.handles.items }
     ensures ends { EndsOfClaim (SaysCheck (value_of queue.now)) cert.entry.now
         (record { out = O.contents out.old; err = E.contents err.old })
@@ -160,7 +160,7 @@ pub fn run_plain<R: Files<File = File> + AllocGlobal, I: Read, O: Write, E: Writ
     input: &mut I,
     out: &mut O,
     err: &mut E,
-) -> Ended
+) -> ProgramEnd
     ensures runs { Runs (asks plain.entry) (I.remaining input.old)
         (record { out = O.contents out.old; err = E.contents err.old })
         (record { out = O.contents out.new; err = E.contents err.new }) result }
@@ -174,10 +174,10 @@ pub fn run_plain<R: Files<File = File> + AllocGlobal, I: Read, O: Write, E: Writ
 /// The program's end at the end of a command, over these files where they are two; of one that ended without an answer
 /// the line is written to `err`.
 pub fn close<E: Write>(
-    end: Result<Ended, CommandFault<'_>>,
+    end: Result<ProgramEnd, CommandFault<'_>>,
     files: Option<TwoFiles<'_>>,
     err: &mut E,
-) -> Ended
+) -> ProgramEnd
     ensures { (out_old : Option (List ℕ)) → Closes (names_said files.entry) end.entry
         (record { out = out_old; err = E.contents err.old })
         (record { out = out_old; err = E.contents err.new }) result }
@@ -186,7 +186,7 @@ pub fn close<E: Write>(
         Ok(ended) => ended,
         Err(fault) => {
             fault.tell(files, err);
-            Ended::of_fault(fault)
+            ProgramEnd::of_fault(fault)
         }
     }
 }

@@ -2,11 +2,11 @@
 use Rattle.std.proofs.Common.{◌≡◌, ◌≢◌, ℕ, false, ◌==◌, ◌∙◌, arith}
 use Rattle.std.proofs.lemmas.Bool.Decides.{nat_tests}
 use Rattle.std.specs.Cmp.{unsigned_tied}
-use Rattle.jb_handle.specs.Held.{Held}
+use Rattle.jb_handle.specs.HeldChanges.{Held}
 use Rattle.jb_core.specs.Lives.{is_seat}
 use Rattle.jb_core.specs.SeatLaw.{AreMap, SeatsAreMap}
 use Rattle.jb_core.proofs.Seats.{set-same, set-other, change-same, change-other, drop-same, drop-other}
-use Rattle.jb_core.proofs.Wholes.{once-ran}
+use Rattle.jb_core.proofs.WholeLives.{once-ran}
 
 apart : (a b : ℕ) → a ≢ b → is_seat a b ≡ false
 apart a b other = unsigned_tied a b ∙ (let test : (a == b) ≡ false = grind (arith, nat_tests, other) in test)

@@ -8,13 +8,13 @@ use Rattle.std.specs.BTreeMap.{is_at}
 use Rattle.std.specs.Map.{lookup}
 use Rattle.std.specs.FinMap as map
 use Rattle.std.specs.FinMap.Entries.{find-put}
-use Rattle.jb_handle.specs.Held.{Held}
+use Rattle.jb_handle.specs.HeldChanges.{Held}
 use Rattle.jb_handle.specs.LastOp.{words_by}
 use Rattle.jb_handle.proofs.Trees.{insert-puts, find-looks}
 use Rattle.jb_core.specs.Lives.{Log, is_seat, ops_of}
 use Rattle.jb_core.specs.SeatLaw.{changed}
 use Rattle.jb_core.specs.Seats.{get, set, change, drop, Once}
-use Rattle.jb_core.proofs.Entries.{missed}
+use Rattle.jb_core.proofs.MapEntries.{missed}
 
 -- ---- seats
 

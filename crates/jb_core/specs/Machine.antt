@@ -8,8 +8,8 @@ use Rattle.jb_handle.specs.declared.shape.Shape.{Shape}
 use Rattle.jb_handle.specs.declared.stopped.Stopped.{Stopped}
 use Rattle.jb_handle.specs.declared.changes.TouchFault.{TouchFault}
 use Rattle.jb_handle.specs.declared.changes.TouchFault.TheVariants as touch
-use Rattle.jb_handle.specs.Held.{Held, held, first_of}
-use Rattle.jb_handle.specs.Held as handle
+use Rattle.jb_handle.specs.HeldChanges.{Held, held, first_of}
+use Rattle.jb_handle.specs.HeldChanges as handle
 use Rattle.jb_cost.specs.declared.geometry.Geometry.{Geometry}
 use Rattle.jb_cost.specs.Pieces.{pieces}
 use Rattle.jb_core.specs.declared.event.Event.{Event}

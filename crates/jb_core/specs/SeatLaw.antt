@@ -1,10 +1,10 @@
 -- What the words on seats say of what a seat holds.
 use Rattle.std.specs.Prelude.{◌≡◌, ◌≢◌, ℕ, List, Option, Some, None}
 use Rattle.jb_handle.specs.declared.shape.Shape.{Shape}
-use Rattle.jb_handle.specs.Held.{Held}
+use Rattle.jb_handle.specs.HeldChanges.{Held}
 use Rattle.jb_core.specs.Lives.{Log}
 use Rattle.jb_core.specs.Machine.{Machine}
-use Rattle.jb_core.specs.Ran.{Ran}
+use Rattle.jb_core.specs.MachineRuns.{Ran}
 use Rattle.jb_core.specs.Seats.{get, set, change, drop, Once}
 
 -- what is held after a change: the new value, if anything was held

@@ -3,7 +3,7 @@ use Rattle.std.specs.Prelude.{◌≡◌, ℕ, ◌+◌, ◌^◌, ◌≤◌, true,
 use Rattle.std.specs.Map.{values_of}
 use Rattle.jb_handle.specs.declared.shape.Shape.{Shape}
 use Rattle.jb_handle.specs.declared.stopped.Stopped.{Stopped}
-use Rattle.jb_handle.specs.Held.{Held, Fits, IsKept}
+use Rattle.jb_handle.specs.HeldChanges.{Held, Fits, IsKept}
 use Rattle.jb_handle.specs.Tickets.{TicketsFrom}
 use Rattle.jb_cost.specs.Credits.{IsMost, Covers}
 use Rattle.jb_cost.specs.Pieces.{joined}

@@ -1,7 +1,7 @@
 -- One event on the machine, with its answer.
 use Rattle.std.specs.Prelude.{◌≡◌, ℕ, false, length, List, Some, None, Result, Ok, Err}
 use Rattle.std.specs.FinMap as map
-use Rattle.jb_handle.specs.Held.{home_of}
+use Rattle.jb_handle.specs.HeldChanges.{home_of}
 use Rattle.jb_cost.specs.Cut.{IsLeastCut, piece_cost}
 use Rattle.jb_core.specs.declared.event.Event.{Event}
 use Rattle.jb_core.specs.declared.event.Event.TheVariants.{Open, Touch, Stop, Take}

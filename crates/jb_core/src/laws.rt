@@ -2,13 +2,13 @@
 ghost use Rattle.jb_handle.specs.declared.shape.Shape.{Shape};
 ghost use Rattle.jb_core.specs.Machine.{Machine};
 ghost use Rattle.jb_core.specs.Lives.{Log};
-ghost use Rattle.jb_core.specs.Ran.{Ran};
+ghost use Rattle.jb_core.specs.MachineRuns.{Ran};
 ghost use Rattle.jb_core.specs.SeatLaw.{SeatsAreMap};
 ghost use Rattle.jb_core.specs.Sound.{IsMachineSound};
 
 /// Every machine that a run reaches is sound: each handle is within the most credits and the shape, what is reserved
 /// is within the largest log, and the tickets of the current life are 0 up to the next one.
-#[tactic(auto, using(crate::proofs::Runs::sounds))]
+#[tactic(auto, using(crate::proofs::SoundRuns::sounds))]
 pub fn sound()
     ensures { (shape : Shape) (log : Log) (m : Machine) → Ran shape log m → IsMachineSound m }
 {}

@@ -1,7 +1,7 @@
 ghost use Rattle.std.specs.Prelude.{◌≡◌, ◌<◌, [], length, All, IfOk, OnErr};
 ghost use Rattle.jb_core.specs.Steps.{MachineSteps};
 ghost use Rattle.jb_core.specs.Lives.{log_from, IsKnown, IsWhole};
-ghost use Rattle.jb_core.specs.Ran.{Ran};
+ghost use Rattle.jb_core.specs.MachineRuns.{Ran};
 
 use crate::event::{CoreFault, Event, Reply};
 use crate::state::State;
@@ -37,7 +37,7 @@ pub fn step(state: &mut State, event: Event) -> Result<Reply, CoreFault>
     }
 }
 
-#[tactic(auto, using(crate::proofs::Wholes::whole))]
+#[tactic(auto, using(crate::proofs::WholeLives::whole))]
 /// Lets a list of events happen to a new machine, one after the other, and gives the machine and an
 /// answer for each event.
 ///

@@ -51,7 +51,7 @@ impl Model for State {
 impl State {
     ghost use Rattle.jb_core.specs.Machine.{is_full};
     ghost use Rattle.jb_core.specs.Steps.{MachineSteps, StepsTake};
-    ghost use Rattle.jb_core.specs.Ran.{IsNewMachine};
+    ghost use Rattle.jb_core.specs.MachineRuns.{IsNewMachine};
     ghost use Rattle.jb_core.specs.Sound.{IsMachineSound};
     ghost use Rattle.jb_core.specs.declared.event.Event.TheVariants.{Open, Touch, Stop, Abandon};
     ghost use Rattle.jb_core.specs.declared.event.Event.TheVariants.{Settle, Checkpoint, Crash, Restart};

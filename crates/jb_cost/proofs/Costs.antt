@@ -9,7 +9,7 @@ use Rattle.jb_handle.specs.Words.{copies, frees}
 use Rattle.jb_cost.specs.declared.geometry.Geometry.{Geometry}
 use Rattle.jb_cost.specs.Cost.{blocks_of, cost, worst_cost_of}
 use Rattle.jb_cost.proofs.Ceilings.{ceil-mono, ceil-self}
-use Rattle.jb_cost.proofs.Left.{len-copies, len-frees, few}
+use Rattle.jb_cost.proofs.HandleInFront.{len-copies, len-frees, few}
 
 -- more copies and more frees take no fewer blocks
 pub blocks-mono : (g : Geometry) (c f d e : ℕ) → c ≤ d → f ≤ e → blocks_of g c f ≤ blocks_of g d e

@@ -1,7 +1,9 @@
 -- Which handle touched each home last, and how many homes each handle owns by that.
-use Rattle.std.specs.Prelude.{◌≡◌, ℕ, ◌+◌, Bool, ◌&&◌, not, cond, nat_le, List, drop, slice_index_or, Option, Some, None}
+use Rattle.std.specs.Prelude.{◌≡◌, ℕ, ◌+◌, ◌<◌, ◌≤◌, Bool, ◌&&◌, not, cond, nat_le, if◌then◌else◌, List, length, drop, slice_index_or, Option, Some, None, unwrap_or}
+use Rattle.std.specs.Option.{option_map}
 use Rattle.std.specs.List.{sum_by}
-use Rattle.std.specs.BTreeMap.{BTreeMap, values}
+use Rattle.std.specs.Ordering.{nat_cmp}
+use Rattle.std.specs.BTreeMap.{BTreeMap, IsOrdered, get, values}
 use Rattle.jb_handle.specs.declared.word.Word.{Word}
 use Rattle.jb_handle.specs.Word.{is_copy}
 use Rattle.jb_cost.specs.declared.geometry.Geometry.{Geometry}
@@ -17,6 +19,10 @@ owned_at os k = slice_index_or os k (record { copies = 0; frees = 0 })
 abbrev pub IsIdle : Owned → Type 0
 IsIdle o = (o.copies ≡ 0) × (o.frees ≡ 0)
 
+-- a handle owns no more than it did
+abbrev pub OwnsNoMore : Owned → Owned → Type 0
+OwnsNoMore was now = (now.copies ≤ was.copies) × (now.frees ≤ was.frees)
+
 -- a count of the homes that the handles from i on own
 abbrev pub owned_from : (Owned → ℕ) → List Owned → ℕ → ℕ
 owned_from count os i = sum_by count (drop i os)
@@ -28,6 +34,10 @@ copies_of o = o.copies
 -- the homes that a handle freed and still owns
 abbrev pub frees_of : Owned → ℕ
 frees_of o = o.frees
+
+-- the homes that all handles own
+abbrev pub all_owned : List Owned → ℕ
+all_owned os = owned_from copies_of os 0 + owned_from frees_of os 0
 
 -- what the handles from i on cost as one group, by the homes that they own
 abbrev pub owned_cost : Geometry → List Owned → ℕ → ℕ
@@ -49,14 +59,22 @@ left_copy copy = copy
 abbrev pub Counts : (Owned → ℕ) → (Bool → Bool) → List Owned → BTreeMap ℕ Touch → Type 0
 Counts count kind os last = (i : ℕ) → owned_from count os i ≡ sum_by (counts_since kind i) (values last)
 
--- the same, where handle n has taken over some homes and is not in the list
-abbrev pub CountsBut : (Owned → ℕ) → (Bool → Bool) → ℕ → ℕ → List Owned → BTreeMap ℕ Touch → Type 0
-CountsBut count kind n extra os last = (i : ℕ) → owned_from count os i + cond (nat_le i n) extra 0 ≡ sum_by (counts_since kind i) (values last)
+-- each home is owned by the handle that touched it last
+pub record AreOwners (os : List Owned) (last : BTreeMap ℕ Touch) : Type 0 where
+  pub ordered : IsOrdered nat_cmp last
+  pub below : (q : ℕ) (t : Touch) → get nat_cmp last q ≡ Some t → t.handle < length os
+  pub copies : Counts copies_of left_copy os last
+  pub frees : Counts frees_of not os last
 
--- both counts of the homes that the handles own, where handle n has gained these and is not in the list
-pub record Gains (n : ℕ) (gained : Owned) (os : List Owned) (last : BTreeMap ℕ Touch) : Type 0 where
-  pub copies : CountsBut copies_of left_copy n gained.copies os last
-  pub frees : CountsBut frees_of not n gained.frees os last
+-- the handle of a touch owns a home that it left so
+pub record Owns (os : List Owned) (t : Touch) : Type 0 where
+  pub inside : t.handle < length os
+  pub copies : (if t.copy then 1 else 0) ≤ (owned_at os t.handle).copies
+  pub frees : (if t.copy then 0 else 1) ≤ (owned_at os t.handle).frees
+
+-- for each i, the handles from i on own one home of a kind less, if one of them had touched it last
+abbrev pub Lose : (Owned → ℕ) → (Bool → Bool) → Option Touch → List Owned → List Owned → Type 0
+Lose count kind before os now = (i : ℕ) → owned_from count now i + unwrap_or (option_map (counts_since kind i) before) 0 ≡ owned_from count os i
 
 -- the last touch of a home, once handle n has this word there
 abbrev pub later_touch : ℕ → Option Word → Option Touch → Option Touch

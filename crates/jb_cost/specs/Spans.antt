@@ -1,10 +1,10 @@
 -- Spans of eight handles, over which a search goes in one step, and the shortcuts of a search.
-use Rattle.std.specs.Prelude.{◌≡◌, ℕ, ◌+◌, ◌-◌, ◌*◌, ◌/◌, ◌^◌, ◌≤◌, List, length, slice_index_or, Option, Some, None}
+use Rattle.std.specs.Prelude.{◌≡◌, ℕ, ◌+◌, ◌-◌, ◌*◌, ◌/◌, ◌^◌, ◌<◌, ◌≤◌, List, length, slice_index_or, Option, Some, None}
 use Rattle.jb_cost.specs.declared.owned.Owned.{Owned}
-use Rattle.jb_cost.specs.declared.found.Found.{Found}
+use Rattle.jb_cost.specs.declared.group_start.GroupStart.{GroupStart}
 use Rattle.jb_cost.specs.declared.span.Span.{Span}
 use Rattle.jb_cost.specs.declared.shortcuts.Shortcuts.{Shortcuts}
-use Rattle.jb_cost.specs.LastTouch.{owned_from, copies_of, frees_of}
+use Rattle.jb_cost.specs.LastTouch.{owned_at, owned_from, copies_of, frees_of}
 use Rattle.jb_cost.specs.Starts.{BestStart, AreIdle, GoBack, AreLeast}
 
 -- the homes with a copy that the handles from i up to an end own
@@ -12,8 +12,8 @@ abbrev pub copies_until : List Owned → ℕ → ℕ → ℕ
 copies_until os end i = owned_from copies_of os i - owned_from copies_of os end
 
 -- a start, if there is one, whose group costs no more
-abbrev pub CostsWithin : ℕ → Option Found → Type 0
-CostsWithin most found = (f : Found) → found ≡ Some f → f.cost ≤ most
+abbrev pub CostsWithin : ℕ → Option GroupStart → Type 0
+CostsWithin most found = (f : GroupStart) → found ≡ Some f → f.cost ≤ most
 
 -- what the handles of the span before an end own; those before the eight are idle
 pub record IsSpan (os : List Owned) (end : ℕ) (s : Span) : Type 0 where
@@ -40,6 +40,15 @@ AreSpans os xs = (k : ℕ) (s : Span) → span_at xs k ≡ Some s → IsSpan os 
 abbrev pub AreBest : List (Option ℕ) → List Owned → List (Option Span) → Type 0
 AreBest ps os xs = (k : ℕ) (s : Span) → span_at xs k ≡ Some s → IsBestOf ps os (8 * k + 8) s
 
+-- the handles from one up to another own what they did
+abbrev pub OwnTheSame : List Owned → List Owned → ℕ → ℕ → Type 0
+OwnTheSame os now from end = (j : ℕ) → from ≤ j → j < end → owned_at now j ≡ owned_at os j
+
+-- as many places, and each span that is known now was known before, and its handles own what they did
+pub record KeepSpans (os now : List Owned) (xs ys : List (Option Span)) : Type 0 where
+  pub places : length ys ≡ length xs
+  pub known : (k : ℕ) (s : Span) → span_at ys k ≡ Some s → (span_at xs k ≡ Some s) × OwnTheSame os now s.from (8 * k + 8)
+
 -- a stretch for each handle and a place for each eight of them, and each fits what the handles own
 pub record FitOwned (os : List Owned) (k : Shortcuts) : Type 0 where
   pub number : length k.stretches.items ≡ length os
@@ -51,3 +60,8 @@ pub record FitOwned (os : List Owned) (k : Shortcuts) : Type 0 where
 pub record FitPrices (ps : List (Option ℕ)) (os : List Owned) (k : Shortcuts) : Type 0 where
   pub leasts : AreLeast ps k.stretches.items (length os)
   pub bests : AreBest ps os k.spans.items
+
+-- the shortcuts still fit what the handles own, and the prices that they were of
+pub record StillFit (os : List Owned) (was now : Shortcuts) : Type 0 where
+  pub owned : FitOwned os now
+  pub prices : (ps : List (Option ℕ)) → FitPrices ps os was → FitPrices ps os now

@@ -3,7 +3,7 @@
 use Rattle.std.specs.Prelude.{◌≡◌, ℕ, ◌+◌, ◌<◌, ◌≤◌, nat_lt, if◌then◌else◌, List, length, slice_index_or, Option, Some, None}
 use Rattle.jb_cost.specs.declared.stretch.Priced.{Priced}
 use Rattle.jb_cost.specs.declared.stretch.Stretch.{Stretch}
-use Rattle.jb_cost.specs.declared.found.Found.{Found}
+use Rattle.jb_cost.specs.declared.group_start.GroupStart.{GroupStart}
 use Rattle.jb_cost.specs.declared.owned.Owned.{Owned}
 use Rattle.jb_cost.specs.Cut.{price}
 use Rattle.jb_cost.specs.LastTouch.{IsIdle, owned_at}
@@ -20,17 +20,17 @@ lesser_of (Some first) None = Some first
 lesser_of (Some first) (Some later) = if nat_lt later.price first.price then Some later else Some first
 
 -- a start whose group costs so much, if there is one
-abbrev pub found_start : Option Priced → ℕ → Option Found
+abbrev pub found_start : Option Priced → ℕ → Option GroupStart
 found_start None cost = None
 found_start (Some s) cost = Some (record { from = s.from; price = s.price; cost = cost })
 
 -- the same start, where the group costs so much more
-abbrev pub dearer_by : ℕ → Option Found → Option Found
+abbrev pub dearer_by : ℕ → Option GroupStart → Option GroupStart
 dearer_by more None = None
 dearer_by more (Some s) = Some (record { from = s.from; price = s.price; cost = s.cost + more })
 
 -- the better of the best start so far and an earlier one; the earlier one where they are equal
-abbrev pub better_of : Option Found → Option Found → Option Found
+abbrev pub better_of : Option GroupStart → Option GroupStart → Option GroupStart
 better_of best None = best
 better_of None (Some s) = Some s
 better_of (Some best) (Some s) = if nat_lt (best.price + best.cost) (s.price + s.cost) then Some best else Some s
@@ -51,7 +51,7 @@ module _ (ps : List (Option ℕ)) (low high : ℕ) where
 
 module _ (c : ℕ → ℕ) (limit : ℕ) (ps : List (Option ℕ)) (low end : ℕ) where
   -- the group from this start fits, no start from low on has a smaller sum, and none before it has the same
-  pub record IsBestStart (s : Found) : Type 0 where
+  pub record IsBestStart (s : GroupStart) : Type 0 where
     pub above : low ≤ s.from
     pub before : s.from < end
     pub fits : c s.from ≤ limit
@@ -61,7 +61,7 @@ module _ (c : ℕ → ℕ) (limit : ℕ) (ps : List (Option ℕ)) (low end : ℕ
     pub first : (i p : ℕ) → low ≤ i → i < s.from → c i ≤ limit → price ps i ≡ Some p → s.price + s.cost < p + c i
 
   -- the best start from low on, or that no start there has a price and fits
-  abbrev pub BestStart : Option Found → Type 0
+  abbrev pub BestStart : Option GroupStart → Type 0
   BestStart None = (i p : ℕ) → low ≤ i → i < end → c i ≤ limit → price ps i ≡ Some p → ⊥
   BestStart (Some s) = IsBestStart s
 

@@ -1,25 +1,25 @@
-ghost use Rattle.std.specs.Prelude.{◌≡◌, ℕ, ◌+◌, ◌^◌, ◌<◌, ◌≤◌, List, Option, length, IfSome, IfNone};
-ghost use Rattle.jb_cost.specs.LastTouch.{owned_from, copies_of, frees_of, owned_cost};
+ghost use Rattle.std.specs.Prelude.{ℕ, ◌^◌, ◌<◌, ◌≤◌, List, Option, length, IfSome, IfNone};
+ghost use Rattle.jb_cost.specs.LastTouch.{all_owned, owned_cost};
 ghost use Rattle.jb_cost.specs.Starts.{BestStart};
-ghost use Rattle.jb_cost.specs.Spans.{FitOwned, FitPrices};
-ghost use Rattle.jb_cost.specs.Search.{IsWalk, GoesEarlier, BestSoFar, AreBeyondLimit};
+ghost use Rattle.jb_cost.specs.Spans.{FitOwned, FitPrices, StillFit};
+ghost use Rattle.jb_cost.specs.Search.{IsWalk, GoesEarlier, StaysBest, AreBeyondLimit};
 
-use crate::found::Found;
 use crate::geometry::Geometry;
+use crate::group_size::GroupSize;
+use crate::group_start::GroupStart;
 use crate::owned::Owned;
 use crate::shortcuts::Shortcuts;
 use crate::span::{SPAN, span_end};
-use crate::tally::Tally;
 
 /// A search as far as it has come: what the handles from `low` on take as one group, and the best of
 /// their starts.
 #[derive(Clone, Copy)]
-pub(crate) struct Walk {
-    tally: Tally,
+pub(crate) struct StartSearch {
+    tally: GroupSize,
     low: usize,
     /// The handles from `low` up to this one are idle.
     until: usize,
-    best: Option<Found>,
+    best: Option<GroupStart>,
 }
 
 /// The best start of a group that ends with the last handle. It goes leftwards, over a span in one
@@ -30,16 +30,15 @@ pub(crate) fn best_start(
     owned: &[Owned],
     shortcuts: &mut Shortcuts,
     limit: u32,
-) -> Option<Found>
-    requires few { owned_from copies_of owned.now 0 + owned_from frees_of owned.now 0 ≤ 2 ^ 62 }
+) -> Option<GroupStart>
+    requires few { all_owned owned.now ≤ 2 ^ 62 }
     requires fit { FitOwned owned.now shortcuts.old }
-    ensures fit { FitOwned owned.now shortcuts.new }
+    ensures fit { StillFit owned.now shortcuts.old shortcuts.new }
     ensures best { (ps : List (Option ℕ)) → FitPrices ps owned.now shortcuts.old →
-        FitPrices ps owned.now shortcuts.new
-        × BestStart (owned_cost geometry owned.now) limit ps 0 (length owned.now) result }
+        BestStart (owned_cost geometry owned.now) limit ps 0 (length owned.now) result }
 {
-    let mut walk = Walk {
-        tally: Tally::none(geometry),
+    let mut walk = StartSearch {
+        tally: GroupSize::none(geometry),
         low: owned.len(),
         until: owned.len(),
         best: None,
@@ -54,16 +53,18 @@ pub(crate) fn best_start(
 }
 
 /// The search one step further, or `None` where the next group is over the limit.
-fn further(walk: Walk, owned: &[Owned], shortcuts: &mut Shortcuts, limit: u32) -> Option<Walk>
-    requires few { owned_from copies_of owned.now 0 + owned_from frees_of owned.now 0 ≤ 2 ^ 62 }
+fn further(
+    walk: StartSearch,
+    owned: &[Owned],
+    shortcuts: &mut Shortcuts,
+    limit: u32,
+) -> Option<StartSearch>
+    requires few { all_owned owned.now ≤ 2 ^ 62 }
     requires fit { FitOwned owned.now shortcuts.old }
     requires walk { IsWalk owned.now walk × (0 < walk.low) }
-    ensures fit { FitOwned owned.now shortcuts.new }
+    ensures fit { StillFit owned.now shortcuts.old shortcuts.new }
     ensures next { IfSome result (GoesEarlier owned.now walk) }
-    ensures best { (ps : List (Option ℕ)) → FitPrices ps owned.now shortcuts.old →
-        FitPrices ps owned.now shortcuts.new
-        × (BestSoFar walk.tally.geometry owned.now limit ps walk →
-        IfSome result (BestSoFar walk.tally.geometry owned.now limit ps)) }
+    ensures best { StaysBest owned.now limit shortcuts.old walk result }
     ensures over { IfNone result (AreBeyondLimit walk.tally.geometry owned.now limit walk.low) }
 {
     if let Some(next) = over_span(walk, owned, shortcuts, limit) {
@@ -75,16 +76,18 @@ fn further(walk: Walk, owned: &[Owned], shortcuts: &mut Shortcuts, limit: u32) -
 /// The search beyond the span of the handle before it, where those of the span that it has gone over are idle,
 /// the groups from all of its starts are within the limit, and each of these has as many descriptors and
 /// revoke blocks as the group so far.
-fn over_span(walk: Walk, owned: &[Owned], shortcuts: &mut Shortcuts, limit: u32) -> Option<Walk>
-    requires few { owned_from copies_of owned.now 0 + owned_from frees_of owned.now 0 ≤ 2 ^ 62 }
+fn over_span(
+    walk: StartSearch,
+    owned: &[Owned],
+    shortcuts: &mut Shortcuts,
+    limit: u32,
+) -> Option<StartSearch>
+    requires few { all_owned owned.now ≤ 2 ^ 62 }
     requires fit { FitOwned owned.now shortcuts.old }
     requires walk { IsWalk owned.now walk × (0 < walk.low) }
-    ensures fit { FitOwned owned.now shortcuts.new }
+    ensures fit { StillFit owned.now shortcuts.old shortcuts.new }
     ensures next { IfSome result (GoesEarlier owned.now walk) }
-    ensures best { (ps : List (Option ℕ)) → FitPrices ps owned.now shortcuts.old →
-        FitPrices ps owned.now shortcuts.new
-        × (BestSoFar walk.tally.geometry owned.now limit ps walk →
-        IfSome result (BestSoFar walk.tally.geometry owned.now limit ps)) }
+    ensures best { StaysBest owned.now limit shortcuts.old walk result }
 {
     let Some(end) = span_end(walk.low, walk.until) else {
         return None
@@ -101,25 +104,27 @@ fn over_span(walk: Walk, owned: &[Owned], shortcuts: &mut Shortcuts, limit: u32)
         Some(least) => Some(least.dearer(walk.tally.cost())),
         None => None,
     };
-    Some(Walk {
+    Some(StartSearch {
         tally,
         low: span.from,
         until: end - SPAN,
-        best: Found::better(walk.best, earlier),
+        best: GroupStart::better(walk.best, earlier),
     })
 }
 
 /// The search beyond the stretch before it, or `None` where the group is over the limit.
-fn over_stretch(walk: Walk, owned: &[Owned], shortcuts: &mut Shortcuts, limit: u32) -> Option<Walk>
-    requires few { owned_from copies_of owned.now 0 + owned_from frees_of owned.now 0 ≤ 2 ^ 62 }
+fn over_stretch(
+    walk: StartSearch,
+    owned: &[Owned],
+    shortcuts: &mut Shortcuts,
+    limit: u32,
+) -> Option<StartSearch>
+    requires few { all_owned owned.now ≤ 2 ^ 62 }
     requires fit { FitOwned owned.now shortcuts.old }
     requires walk { IsWalk owned.now walk × (0 < walk.low) }
-    ensures fit { FitOwned owned.now shortcuts.new }
+    ensures fit { StillFit owned.now shortcuts.old shortcuts.new }
     ensures next { IfSome result (GoesEarlier owned.now walk) }
-    ensures best { (ps : List (Option ℕ)) → FitPrices ps owned.now shortcuts.old →
-        FitPrices ps owned.now shortcuts.new
-        × (BestSoFar walk.tally.geometry owned.now limit ps walk →
-        IfSome result (BestSoFar walk.tally.geometry owned.now limit ps)) }
+    ensures best { StaysBest owned.now limit shortcuts.old walk result }
     ensures over { IfNone result (AreBeyondLimit walk.tally.geometry owned.now limit walk.low) }
 {
     let start = walk.low - 1;
@@ -129,10 +134,10 @@ fn over_stretch(walk: Walk, owned: &[Owned], shortcuts: &mut Shortcuts, limit: u
         return None;
     }
     let stretch = shortcuts.stretch(owned, start);
-    Some(Walk {
+    Some(StartSearch {
         tally,
         low: stretch.from,
         until: start,
-        best: Found::better(walk.best, Found::of(stretch.least, cost)),
+        best: GroupStart::better(walk.best, GroupStart::of(stretch.least, cost)),
     })
 }

@@ -6,7 +6,7 @@ ghost use Rattle.jb_cost.specs.Cost.{cost};
 ghost use Rattle.jb_cost.specs.Footprint.{covered_by};
 
 use crate::geometry::Geometry;
-use crate::met::{meet, part};
+use crate::new_homes::{meet, part};
 use jb_block::Memory;
 use jb_handle::Stopped;
 use std::alloc::Global;

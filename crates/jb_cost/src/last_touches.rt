@@ -1,6 +1,6 @@
 use crate::best_start::best_start;
-use crate::found::Found;
 use crate::geometry::Geometry;
+use crate::group_start::GroupStart;
 use crate::owned::{Owned, Touch};
 use crate::shortcuts::Shortcuts;
 use crate::stretch::Priced;
@@ -62,8 +62,7 @@ impl LastTouches {
     {
         let from = self.owned.len();
         let spans = &mut self.shortcuts.spans;
-        let gained = take_over(&mut self.last, &mut self.owned, spans, &handle.words)?;
-        self.owned.push(gained)?;
+        take_over(&mut self.last, &mut self.owned, spans, &handle.words)?;
         let least = Priced::of(from, start);
         self.shortcuts.push(from, least)?;
         Ok(())
@@ -72,7 +71,7 @@ impl LastTouches {
     /// The best start of a group that ends with the last handle: of those with a price, from which
     /// the group takes at most `limit` log blocks, the one with the least sum of price and cost. Of
     /// several with the same sum it is the first.
-    pub fn best(&mut self, limit: u32) -> Option<Found>
+    pub fn best(&mut self, limit: u32) -> Option<GroupStart>
         requires sound { PartsFit self.old }
         requires few { homes_owned self.old ≤ 2 ^ 62 }
         ensures sound { PartsFit self.new }

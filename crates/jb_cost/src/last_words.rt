@@ -4,7 +4,7 @@ ghost use Rattle.std.specs.FinMap as map;
 ghost use Rattle.std.specs.BTreeSet.{contains, IsEmpty};
 ghost use Rattle.jb_handle.specs.Word.{is_copy};
 ghost use Rattle.jb_handle.specs.Words.{is_copied, is_freed};
-ghost use Rattle.jb_cost.specs.Met.{later};
+ghost use Rattle.jb_cost.specs.NewHomes.{later};
 
 use jb_block::Memory;
 use jb_handle::{Word, Words};

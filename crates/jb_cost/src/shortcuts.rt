@@ -1,4 +1,4 @@
-use crate::found::Found;
+use crate::group_start::GroupStart;
 use crate::join::joined;
 use crate::owned::Owned;
 use crate::span::{SPAN, Span};
@@ -20,9 +20,9 @@ impl Shortcuts {
     ghost use Rattle.std.specs.Prelude.{◌≡◌, ℕ, [], ◌∷◌, ◌++◌, ◌+◌, ◌*◌, ◌/◌, ◌%◌, ◌^◌};
     ghost use Rattle.std.specs.Prelude.{◌<◌, ◌≤◌, List, Option, Some, length, OnOk};
     ghost use Rattle.jb_cost.specs.declared.span.Span.{Span as SpanValue};
-    ghost use Rattle.jb_cost.specs.LastTouch.{owned_from, copies_of, frees_of};
+    ghost use Rattle.jb_cost.specs.LastTouch.{all_owned};
     ghost use Rattle.jb_cost.specs.Starts.{LeastPrice, BestStart, AreIdle, GoBack, AreLeast, stretch_at};
-    ghost use Rattle.jb_cost.specs.Spans.{IsSpan, IsBestOf, span_at, FitOwned, FitPrices};
+    ghost use Rattle.jb_cost.specs.Spans.{IsSpan, IsBestOf, span_at, FitOwned, FitPrices, StillFit};
 
     /// Those of no handles. Takes no memory.
     pub(crate) fn new(alloc: Global) -> Shortcuts
@@ -56,11 +56,11 @@ impl Shortcuts {
     pub(crate) fn stretch(&mut self, owned: &[Owned], start: usize) -> Stretch
         requires inside { start < length owned.now }
         requires fit { FitOwned owned.now self.old }
-        ensures fit { FitOwned owned.now self.new }
+        ensures fit { StillFit owned.now self.old self.new }
         ensures back { result.from ≤ start }
         ensures idle { AreIdle owned.now result.from start }
         ensures least { (ps : List (Option ℕ)) → FitPrices ps owned.now self.old →
-            FitPrices ps owned.now self.new × LeastPrice ps result.from (start + 1) result.least }
+            LeastPrice ps result.from (start + 1) result.least }
     {
         let stretch = joined(owned, &self.stretches, start);
         self.stretches[start] = stretch;
@@ -69,14 +69,14 @@ impl Shortcuts {
 
     /// The span before a handle, where one ends.
     pub(crate) fn span(&mut self, owned: &[Owned], end: usize) -> Span
-        requires few { owned_from copies_of owned.now 0 + owned_from frees_of owned.now 0 ≤ 2 ^ 62 }
+        requires few { all_owned owned.now ≤ 2 ^ 62 }
         requires inside { (0 < end) × (end ≤ length owned.now) }
         requires whole { end % 8 ≡ 0 }
         requires fit { FitOwned owned.now self.old }
-        ensures fit { FitOwned owned.now self.new }
+        ensures fit { StillFit owned.now self.old self.new }
         ensures span { IsSpan owned.now end result }
         ensures best { (ps : List (Option ℕ)) → FitPrices ps owned.now self.old →
-            FitPrices ps owned.now self.new × IsBestOf ps owned.now end result }
+            IsBestOf ps owned.now end result }
     {
         let place = end / SPAN - 1;
         if let Some(span) = self.spans[place] {
@@ -89,13 +89,13 @@ impl Shortcuts {
 
     /// The span before a handle, by a walk over its stretches.
     fn counted(&mut self, owned: &[Owned], end: usize) -> Span
-        requires few { owned_from copies_of owned.now 0 + owned_from frees_of owned.now 0 ≤ 2 ^ 62 }
+        requires few { all_owned owned.now ≤ 2 ^ 62 }
         requires inside { (8 ≤ end) × (end ≤ length owned.now) }
         requires fit { FitOwned owned.now self.old }
-        ensures fit { FitOwned owned.now self.new }
+        ensures fit { StillFit owned.now self.old self.new }
         ensures span { IsSpan owned.now end result }
         ensures best { (ps : List (Option ℕ)) → FitPrices ps owned.now self.old →
-            FitPrices ps owned.now self.new × IsBestOf ps owned.now end result }
+            IsBestOf ps owned.now end result }
     {
         let mut sum = Owned::none();
         let mut least = None;
@@ -104,7 +104,7 @@ impl Shortcuts {
             let start = low - 1;
             sum = sum.plus(owned[start]);
             let stretch = self.stretch(owned, start);
-            least = Found::better(least, Found::of(stretch.least, sum.copies));
+            least = GroupStart::better(least, GroupStart::of(stretch.least, sum.copies));
             low = stretch.from;
         }
         Span {

@@ -2,7 +2,7 @@ ghost use Rattle.std.specs.Prelude.{◌≡◌, ◌≢◌, ℕ, ◌+◌, ◌/◌,
 ghost use Rattle.jb_cost.specs.declared.span.Span.{Span as SpanValue};
 ghost use Rattle.jb_cost.specs.Spans.{span_at};
 
-use crate::found::Found;
+use crate::group_start::GroupStart;
 use crate::owned::Owned;
 
 /// The handles of a span.
@@ -17,7 +17,7 @@ pub(crate) struct Span {
     pub(crate) copies: u64,
     pub(crate) frees: u64,
     /// The best start among them, where a group costs as much as there are copies.
-    pub(crate) least: Option<Found>,
+    pub(crate) least: Option<GroupStart>,
 }
 
 impl Span {

@@ -1,6 +1,6 @@
-pub mod Closings
-pub mod Histories
-pub mod Rising
-pub mod Rounds
-pub mod Seen
-pub mod Stopping
+pub mod CloseDesk
+pub mod RefusedStop
+pub mod RisingCounts
+pub mod RoundCounts
+pub mod SeatStops
+pub mod SettledBatch

@@ -3,8 +3,8 @@ use Rattle.std.specs.Prelude.{◌≡◌, ◌≢◌}
 use Rattle.std.specs.Global.{Vec}
 use Rattle.jb_desk.specs.Desks.{desk_id, shape_in}
 use Rattle.jb_desk.specs.declared.seat.Left.{Left}
-use Rattle.jb_desk.specs.declared.counter.Counter.{Counter}
-use Rattle.jb_book.specs.Works.{Worked}
+use Rattle.jb_desk.specs.declared.queue_state.QueueState.{QueueState}
+use Rattle.jb_book.specs.JournalValue.{Worked}
 use Rattle.jb_book.specs.Marks.{SeesSame}
 use Rattle.jb_book.specs.declared.sights.Sights.{Sights}
 use Rattle.jb_disk.specs.declared.disk.Disk.{Ghosts as Disks}
@@ -20,6 +20,6 @@ IsNotClosed desk lefts seen (SeatsOut back kept sights) = (desk_id back ≡ desk
 IsNotClosed desk lefts seen (TrailsDiffer deck clock book) = deck.trail ≢ book.items
 
 -- the journal and the book of what the locks guarded, which have settled different groups
-abbrev pub DiffersAs : {D C H N : Type 0} {Q : Disks D} {O : Ghosts H} {P : Places H} → Counter D H N Q O P → Worked D C → CloseFault D C H N Q O P → Type 0
+abbrev pub DiffersAs : {D C H N : Type 0} {Q : Disks D} {O : Ghosts H} {P : Places H} → QueueState D H N Q O P → Worked D C → CloseFault D C H N Q O P → Type 0
 DiffersAs counter works (SeatsOut back kept sights) = ⊥
 DiffersAs counter works (TrailsDiffer deck clock book) = (deck ≡ works.deck) × (clock ≡ works.clock) × (book.items ≡ counter.register.book.trail) × (deck.trail ≢ book.items)

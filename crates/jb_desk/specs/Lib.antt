@@ -1,3 +1,4 @@
+pub mod BatchOut
 pub mod Close
 pub mod Delays
 pub mod Desks
@@ -5,7 +6,6 @@ pub mod Ends
 pub mod History
 pub mod Journal
 pub mod Marks
-pub mod Out
 pub mod Parts
 pub mod Progress
 pub mod Refusals

@@ -1,7 +1,7 @@
 -- How far a book has come.
 use Rattle.std.specs.Prelude.{◌≡◌, false, IfSome, IfNone}
 use Rattle.jb_book.specs.Account.{Account, IsOver}
-use Rattle.jb_desk.specs.declared.counter.progress.Progress.{Progress}
+use Rattle.jb_desk.specs.declared.queue_state.progress.Progress.{Progress}
 
 -- what is settled, that nothing more can happen where that is so, and whether the journal has failed
 pub record HasCome (a : Account) (p : Progress) : Type 0 where

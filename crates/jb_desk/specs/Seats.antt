@@ -1,8 +1,10 @@
 -- What contracts say of a seat and of what it leaves: which board it is of, what it has seen, and what it has counted.
-use Rattle.std.specs.Prelude.{◌≡◌, ℕ, ◌^◌, ◌≤◌, List}
+use Rattle.std.specs.Prelude.{◌≡◌, ℕ, ◌+◌, ◌^◌, ◌≤◌, List, [], ◌∷◌, ◌++◌}
 use Rattle.std.specs.List.{sum_by}
+use Rattle.jb_handle.specs.HeldChanges.{Held, touched_count}
 use Rattle.jb_handle.specs.Word.{WordMap}
 use Rattle.jb_board.specs.Seats.{BoardId, seat_board, seat_view}
+use Rattle.jb_board.specs.Steps.{raised_stopped}
 use Rattle.jb_board.specs.declared.front.Front.{Front}
 use Rattle.jb_book.specs.declared.origin.Origin.{Ghosts}
 use Rattle.jb_board.specs.declared.place.Place.{Ghosts as Places}
@@ -54,6 +56,20 @@ pub record KeepsSeat {H N : Type 0} {O : Ghosts H} {P : Places H} (old new : Sea
   pub desk : desk_of new ≡ desk_of old
   pub number : seat_number new ≡ seat_number old
   pub counted : KeepsStops old new
+
+-- one handle more stopped with the seat: under this ticket and with these changes
+pub record AddsStop {H N : Type 0} {O : Ghosts H} {P : Places H} (ticket : ℕ) (handle : Held) (old new : Seat H N O P) : Type 0 where
+  pub stopped : stops new ≡ stops old + 1
+  pub touched : changes new ≡ changes old + touched_count handle
+  pub made : made_by new ≡ made_by old ++ (ticket, handle.words) ∷ []
+
+-- the seat is the same but for the handle that stopped with it: it counts the handle, and is sure that the tickets up to
+-- the handle's have stopped
+pub record CountsStop {H N : Type 0} {O : Ghosts H} {P : Places H} (ticket : ℕ) (handle : Held) (old new : Seat H N O P) : Type 0 where
+  pub desk : desk_of new ≡ desk_of old
+  pub number : seat_number new ≡ seat_number old
+  pub counted : AddsStop ticket handle old new
+  pub view : view_of new ≡ raised_stopped (view_of old) (ticket + 1)
 
 -- what seats have left adds up to so many handles, and to so many home blocks that these had touched; neither is above 2 ^ 61
 pub record AddsUp {H N : Type 0} {O : Ghosts H} {P : Places H} (lefts : List (Left H N O P)) (handles touched : ℕ) : Type 0 where

@@ -1,10 +1,9 @@
 -- What a stop makes of a handle, its seat and the book.
-use Rattle.std.specs.Prelude.{◌≡◌, ℕ, ◌+◌, ◌^◌, ◌≤◌, true, [], ◌∷◌, ◌++◌}
+use Rattle.std.specs.Prelude.{◌≡◌, ℕ, ◌^◌, ◌≤◌, true}
 use Rattle.jb_handle.specs.Handle.{holder, changes_of}
-use Rattle.jb_handle.specs.Held.{touched_count}
 use Rattle.jb_handle.specs.declared.handle.Handle.{Handle}
 use Rattle.jb_book.specs.Account.{Account, queued, dropped_of, CanStop, RefusesStop}
-use Rattle.jb_desk.specs.Seats.{stops, changes, made_by}
+use Rattle.jb_desk.specs.Seats.{AddsStop}
 use Rattle.jb_book.specs.declared.fault.EnqueueFault.TheVariants as book
 use Rattle.jb_book.specs.declared.origin.Origin.{Ghosts}
 use Rattle.jb_board.specs.declared.place.Place.{Ghosts as Places}
@@ -20,9 +19,7 @@ pub record IsStopped {H N : Type 0} {O : Ghosts H} {P : Places H} (handle : Hand
   pub queued_as : new ≡ queued seat.number (changes_of handle).words old
   pub next : ticket ≡ old.shadow.next
   pub few : ticket ≤ 2 ^ 61
-  pub made : made_by seat ≡ made_by (holder handle) ++ (ticket, (changes_of handle).words) ∷ []
-  pub counted : stops seat ≡ stops (holder handle) + 1
-  pub touching : changes seat ≡ changes (holder handle) + touched_count (changes_of handle)
+  pub counted : AddsStop ticket (changes_of handle) (holder handle) seat
 
 -- why it has not, and what stands
 abbrev pub RefusesStopOf : {H N : Type 0} {O : Ghosts H} {P : Places H} → Handle (Seat H N O P) → Account → StopFault H N O P → Account → Type 0

@@ -1,8 +1,8 @@
 //! What commits, and how one round of it ends.
 ghost use Rattle.std.specs.Prelude.{◌≡◌, None, Some};
 
-use crate::counter::NoBatch;
-use crate::held::Held;
+use crate::held_batch::HeldBatch;
+use crate::queue_state::NothingToTake;
 use crate::seat::Seat;
 use jb_book::Origin;
 use jb_deck::Done;
@@ -15,12 +15,12 @@ use thiserror::Error;
 #[must_use]
 pub struct Committer<H: Origin, N: Ledger> {
     pub(crate) seat: Seat<H, N>,
-    pub(crate) batch: Option<Held<H>>,
+    pub(crate) batch: Option<HeldBatch<H>>,
 }
 
 impl<H: Origin, N: Ledger> Committer<H, N> {
     /// Holds a batch until the next round.
-    pub(crate) fn hold(&mut self, batch: Held<H>)
+    pub(crate) fn hold(&mut self, batch: HeldBatch<H>)
         requires { self.old.batch ≡ None }
         ensures { (self.new.seat ≡ self.old.seat) × (self.new.batch ≡ Some batch) }
     {
@@ -38,7 +38,7 @@ impl<H: Origin, N: Ledger> Committer<H, N> {
 #[derive(Debug, Drop)]
 pub enum Round {
     /// There was nothing to commit when a book was looked at.
-    Idle(NoBatch),
+    Idle(NothingToTake),
     /// A batch is committed, and its handles are settled.
     Committed(Done),
 }

@@ -1,9 +1,8 @@
-ghost use Rattle.std.specs.Prelude.{◌≡◌, ◌+◌, ◌<◌, ◌^◌, [], ◌∷◌, ◌++◌, false, IfOk, IfErr, OnOk};
+ghost use Rattle.std.specs.Prelude.{◌≡◌, ◌+◌, ◌<◌, ◌^◌, [], false, IfOk, IfErr, OnOk};
 ghost use Rattle.std.specs.FinMap as map;
 ghost use Rattle.jb_handle.specs.Handle.{holder, changes_of};
-ghost use Rattle.jb_handle.specs.Held.{held, touched_count};
+ghost use Rattle.jb_handle.specs.HeldChanges.{held};
 ghost use Rattle.jb_board.specs.Front.{front, InOrder, IsWithin};
-ghost use Rattle.jb_board.specs.Steps.{raised_stopped};
 ghost use Rattle.jb_board.specs.History.{history_id};
 
 mod checkpoints;
@@ -16,17 +15,17 @@ mod rounds;
 mod taking;
 mod waiting;
 
-use crate::counter::Counter;
+use crate::fair_queue::FairQueue;
 use crate::fault::{SeatFault, StopFault, WaitFault};
+use crate::queue_state::QueueState;
 use crate::seat::{Left, Seat};
 use crate::shown::Shown;
 use crate::signals::Signals;
-use crate::stops::Stops;
-use crate::turns::Turns;
+use crate::stop_ledger::StopLedger;
 use crate::waits::Waits;
 pub use closing::{CloseFault, Closed};
 use jb_board::{Board, Front, Opened};
-use jb_book::{BeginFault, Histories, Marks, Origin, Register, Sights, Works};
+use jb_book::{BeginFault, Histories, JournalState, Marks, Origin, Register, Sights};
 use jb_deck::Deck;
 use jb_disk::{Clock, Disk};
 use jb_handle::{Handle, Shape};
@@ -40,10 +39,10 @@ use std::sync::{Mutex, Wait};
 /// the disk is at work.
 #[derive(Drop)]
 pub struct Desk<D: Disk, C: Clock, H: Origin, N: Ledger> {
-    counter: Mutex<Counter<D, H, N>>,
-    works: Mutex<Works<D, C, H>>,
+    counter: Mutex<QueueState<D, H, N>>,
+    works: Mutex<JournalState<D, C, H>>,
     signals: Signals,
-    turns: Turns,
+    turns: FairQueue,
     waits: Waits,
     board: Shown<H>,
     histories: Histories<D, H>,
@@ -53,7 +52,7 @@ pub struct Desk<D: Disk, C: Clock, H: Origin, N: Ledger> {
 
 impl<D: Disk, C: Clock, H: Origin, N: Ledger> Desk<D, C, H, N> {
     ghost use Rattle.jb_desk.specs.Desks.{desk_id, shape_in};
-    ghost use Rattle.jb_desk.specs.Seats.{KeepsStops, stops, changes, made_by, seat_number};
+    ghost use Rattle.jb_desk.specs.Seats.{CountsStop, KeepsSeat, stops, changes, made_by};
     ghost use Rattle.jb_desk.specs.Seats.{desk_of, view_of, stops_left, changes_left, made_left};
     ghost use Rattle.jb_desk.specs.History.{history_in};
     ghost use Rattle.jb_book.specs.Marks.{SeesMore, SeesSame, SeesStop, Shows};
@@ -73,12 +72,12 @@ impl<D: Disk, C: Clock, H: Origin, N: Ledger> Desk<D, C, H, N> {
     /// All five parts, where there is no memory for the board.
     pub fn start(
         alloc: Global,
-        handles: Stops,
+        handles: StopLedger,
         changes: Blank,
         marks: Opened<Deck<D>>,
         deck: Deck<D>,
         clock: C,
-    ) -> Result<Desk<D, C, H, N>, (Stops, Blank, Opened<Deck<D>>, Deck<D>, C)>
+    ) -> Result<Desk<D, C, H, N>, (StopLedger, Blank, Opened<Deck<D>>, Deck<D>, C)>
         requires handles { (handles.tickets.name ≡ H.name) × (handles.tickets.parts ≡ H.parts)
             × (H.parts ≡ 2 ^ 61 + 1) }
         requires histories { (history_in handles ≡ H.history) × (history_id marks ≡ H.marks) }
@@ -93,18 +92,18 @@ impl<D: Disk, C: Clock, H: Origin, N: Ledger> Desk<D, C, H, N> {
             return Err((handles, changes, marks, deck, clock));
         };
         let shape = deck.shape();
-        let Stops { tickets, history } = handles;
-        let (stops, mut scribe) = history.named::<H>();
-        let sight = stops.show(&mut scribe);
+        let StopLedger { tickets, history } = handles;
+        let (stops, mut appender) = history.named::<H>();
+        let sight = stops.show(&mut appender);
         let (marks, mut marking) = marks.named::<Marks<H>>();
         let histories = Histories { stops, marks };
         let seen = histories.mark(&mut marking, &deck);
-        let register = Register::new(alloc, shape, u64::from(deck.usable()), scribe, seen);
+        let register = Register::new(alloc, shape, u64::from(deck.usable()), appender, seen);
         Ok(Desk {
-            counter: Mutex::new(Counter::new(register, tickets, changes)),
-            works: Mutex::new(Works::new(deck, clock, sight, marking)),
+            counter: Mutex::new(QueueState::new(register, tickets, changes)),
+            works: Mutex::new(JournalState::new(deck, clock, sight, marking)),
             signals: Signals::new(),
-            turns: Turns::new(),
+            turns: FairQueue::new(),
             waits: Waits::new(),
             board: Shown::new(board),
             histories,
@@ -183,16 +182,10 @@ impl<D: Disk, C: Clock, H: Origin, N: Ledger> Desk<D, C, H, N> {
     ) -> Result<(Seat<H, N>, u64), StopFault<H, N>>
         requires seat { desk_of (holder handle) ≡ desk_id self.now }
         requires words { H.begun.stops (changes_of handle).words }
-        ensures seat { IfOk result (λ given. (desk_of given.0 ≡ desk_id self.now)
-            × (seat_number given.0 ≡ seat_number (holder handle))) }
-        ensures counted { IfOk result (λ given. (stops given.0 ≡ stops (holder handle) + 1)
-            × (changes given.0 ≡ changes (holder handle) + touched_count (changes_of handle))) }
-        ensures made { IfOk result (λ given. made_by given.0 ≡ made_by (holder handle)
-            ++ (given.1, (changes_of handle).words) ∷ []) }
+        ensures seat { IfOk result (λ given. CountsStop given.1 (changes_of handle) (holder handle) given.0) }
         ensures sees { IfOk result (λ given. SeesStop seen.old.stops seen.new.stops given.1 (changes_of handle).words) }
         ensures marks { seen.new.marks ≡ seen.old.marks }
         ensures stopped { IfOk result (λ given. given.1 < (view_of given.0).stopped) }
-        ensures view { IfOk result (λ given. view_of given.0 ≡ raised_stopped (view_of (holder handle)) (given.1 + 1)) }
         ensures refused { IfErr result (λ fault. HandsBack handle fault × (seen.new.stops ≡ seen.old.stops)) }
     {
         let mut counter = self.counter.lock(rt);
@@ -218,11 +211,10 @@ impl<D: Disk, C: Clock, H: Origin, N: Ledger> Desk<D, C, H, N> {
     /// How far the handles have come. It waits for nobody, and never falls for the same seat.
     pub fn front(&self, seat: &mut Seat<H, N>) -> Front
         requires { desk_of seat.old ≡ desk_id self.now }
-        ensures desk { (desk_of seat.new ≡ desk_of seat.old) × (seat_number seat.new ≡ seat_number seat.old) }
+        ensures seat { KeepsSeat seat.old seat.new }
         ensures view { view_of seat.new ≡ result }
         ensures ordered { InOrder result }
         ensures rises { IsWithin (view_of seat.old) result }
-        ensures counted { KeepsStops seat.old seat.new }
     {
         self.board.look(&mut seat.board)
     }
@@ -259,14 +251,13 @@ impl<D: Disk, C: Clock, H: Origin, N: Ledger> Desk<D, C, H, N> {
         ticket: u64,
     ) -> Result<u32, WaitFault>
         requires { desk_of seat.old ≡ desk_id self.now }
-        ensures desk { (desk_of seat.new ≡ desk_of seat.old) × (seat_number seat.new ≡ seat_number seat.old) }
+        ensures seat { KeepsSeat seat.old seat.new }
         ensures settled { IfOk result (λ _. ticket < (view_of seat.new).settled) }
         ensures shown { IfOk result (Shows seen.new.marks ticket) }
         ensures taken { IfErr result (ShowsTaken seen.new.marks ticket) }
         ensures begins { SeesMore seen.old seen.new }
         ensures view { OnOk result (view_of seat.new ≡ with_settled (ticket + 1) (view_of seat.old)) }
         ensures refused { IfErr result (RefusesWait ticket seat.old seat.new) }
-        ensures counted { KeepsStops seat.old seat.new }
     {
         self.waits.come(rt);
         let counter = self.counter.lock(rt);

@@ -1,10 +1,10 @@
-use crate::counter::Over;
+use crate::queue_state::Drained;
 
 /// Why a committer or a checkpointer has ended.
 #[derive(Clone, Copy, Debug, PartialEq, Eq)]
 pub enum Ended {
     /// A desk was over when its book was looked at: shut, with all that stopped done. It does not say which desk.
-    Shut(Over),
+    Shut(Drained),
     /// The journal has failed.
     Aborted,
     /// There was no memory for a batch.

@@ -2,23 +2,22 @@
 #![tactic(auto)]
 
 mod committer;
-mod counter;
 mod delay;
 mod desk;
 mod ended;
+mod fair_queue;
 mod fault;
 mod follow;
-mod held;
+mod held_batch;
 pub mod laws;
+mod queue_state;
 mod seat;
 mod shown;
 mod signals;
-mod stops;
-mod turns;
+mod stop_ledger;
 mod waits;
 
 pub use committer::{Committer, Round, RoundFault};
-pub use counter::{NoBatch, Over};
 pub use delay::Delay;
 pub use desk::{CloseFault, Closed, Desk};
 pub use ended::Ended;
@@ -27,5 +26,6 @@ pub use jb_book::{
     BeginFault, Book, CheckpointRound, EnqueueFault, Marks, Origin, Sights, WrongBatch, open,
 };
 pub use jb_handle::Ticket;
+pub use queue_state::{Drained, NothingToTake};
 pub use seat::{Left, Seat};
-pub use stops::Stops;
+pub use stop_ledger::StopLedger;

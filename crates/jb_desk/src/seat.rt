@@ -1,7 +1,7 @@
 //! What a thread has of a desk, and what it leaves there.
 ghost use Rattle.std.specs.Prelude.{◌≡◌, length};
 
-use jb_board::{BoardSeat, Made};
+use jb_board::{BoardSeat, OwnEntries};
 use jb_book::Origin;
 use jb_handle::Words;
 use std::sync::ledger::{Ledger, Share};
@@ -16,7 +16,7 @@ pub struct Seat<H: Origin, N: Ledger> {
     pub(crate) board: BoardSeat,
     pub(crate) handles: Share<H>,
     pub(crate) changes: Share<N>,
-    pub(crate) made: Made<Words, H>,
+    pub(crate) made: OwnEntries<Words, H>,
     ghost part_of_handles: { handles.parts ≡ 1 },
     ghost part_of_changes: { changes.parts ≡ 1 },
     ghost all_made: { length made ≡ handles.amount },
@@ -27,7 +27,7 @@ pub struct Seat<H: Origin, N: Ledger> {
 pub struct Left<H: Origin, N: Ledger> {
     pub(crate) handles: Share<H>,
     pub(crate) changes: Share<N>,
-    pub(crate) made: Made<Words, H>,
+    pub(crate) made: OwnEntries<Words, H>,
     ghost part_of_handles: { handles.parts ≡ 1 },
     ghost part_of_changes: { changes.parts ≡ 1 },
     ghost all_made: { length made ≡ handles.amount },

@@ -4,7 +4,7 @@ ghost use Rattle.jb_board.specs.Front.{front, InOrder, IsWithin};
 ghost use Rattle.jb_board.specs.Seats.{board_id, given_by, seat_board, seat_view};
 ghost use Rattle.jb_board.specs.Steps.{raised_settled, raised_stopped, raised_taken};
 
-use crate::counter::Seen;
+use crate::queue_state::BookCounts;
 use jb_board::{Board, BoardSeat, Front, Tickets};
 use jb_book::Origin;
 
@@ -53,7 +53,7 @@ impl<H: Origin> Shown<H> {
     }
 
     /// The tickets below this one are taken: so they were when the book was seen.
-    pub fn raise_taken(&self, seat: &mut BoardSeat, count: u64, seen: &Seen)
+    pub fn raise_taken(&self, seat: &mut BoardSeat, count: u64, seen: &BookCounts)
         requires here { seat_board seat.old ≡ board_id self.now.board }
         requires stopped { count ≤ (seat_view seat.old).stopped }
         requires seen { count ≤ seen.now.taken }
@@ -66,7 +66,7 @@ impl<H: Origin> Shown<H> {
     }
 
     /// The tickets below this one are settled: so they were when the book was seen.
-    pub fn raise_settled(&self, seat: &mut BoardSeat, count: u64, seen: &Seen)
+    pub fn raise_settled(&self, seat: &mut BoardSeat, count: u64, seen: &BookCounts)
         requires here { seat_board seat.old ≡ board_id self.now.board }
         requires taken { count ≤ (seat_view seat.old).taken }
         requires seen { count ≤ seen.now.settled }

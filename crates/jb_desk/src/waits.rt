@@ -7,7 +7,7 @@ use std::sync::{Condvar, Mutex, Wait};
 /// the next one; so those of two batches are awaited at a time, and what is awaited of one is apart from the other.
 #[derive(Drop)]
 pub(crate) struct Waits {
-    waiting: Mutex<Waiting>,
+    waiting: Mutex<WaitCount>,
     /// a batch of even number is settled, or none will be any more
     even: Condvar,
     /// a batch of odd number is
@@ -16,7 +16,7 @@ pub(crate) struct Waits {
 
 /// How many wait.
 #[derive(Drop)]
-struct Waiting {
+struct WaitCount {
     now: u64,
     /// how many did when a batch was last settled
     woken: u64,
@@ -26,7 +26,7 @@ impl Waits {
     /// Nobody waits.
     pub(crate) fn new() -> Waits {
         Waits {
-            waiting: Mutex::new(Waiting { now: 0, woken: 0 }),
+            waiting: Mutex::new(WaitCount { now: 0, woken: 0 }),
             even: Condvar::new(),
             odd: Condvar::new(),
         }

@@ -5,7 +5,7 @@ use Rattle.jb_disk.specs.Image.{Image, block, Torn, HasShape}
 use Rattle.jb_disk.specs.Runs.{ReadsRun, TornRun}
 use Rattle.jb_disk.specs.Events.{Event, InBlocks, Makes, Agree, LeftBy, Leaves, IsHonestFile, read, write_event, sync_event}
 use Rattle.jb_disk.specs.RecordLaws.{torn_of_wrote, newest_left}
-use Rattle.jb_disk.proofs.Noted.{read_one, torn_one, wrote_one}
+use Rattle.jb_disk.proofs.NotedCalls.{read_one, torn_one, wrote_one}
 use Rattle.jb_disk.specs.declared.fault.Fault.{Fault}
 
 -- what holds of a call that succeeded

@@ -5,7 +5,7 @@ use Rattle.std.proofs.lemmas.Slice.{drop-put_mid}
 use borrow.Rule.Slice.PartMut.{put_mid}
 use Rattle.jb_disk.specs.Image.{sector}
 use Rattle.jb_disk.specs.CrashWrites.{put_sector}
-use Rattle.jb_disk.proofs.Running.{part-before, part-put}
+use Rattle.jb_disk.proofs.RunReads.{part-before, part-put}
 
 -- what a copy over the part of a slice makes of it
 pub put_mid-sector : (k m : ℕ) (to from ys : List ℕ) → m ≡ 512 → ys ≡ take m (drop (512 * k) from) → put_mid (512 * k) m to ys ≡ put_sector k from to

@@ -1,6 +1,5 @@
-pub mod RecordLaws
-pub mod OneCall
 pub mod Calls
+pub mod CrashWrites
 pub mod Events
 pub mod Faults
 pub mod File
@@ -12,10 +11,11 @@ pub mod KeptOn
 pub mod Laws
 pub mod Lives
 pub mod Memory
-pub mod CrashWrites
 pub mod Once
+pub mod OneCall
 pub mod OneFault
 pub mod ReadAhead
+pub mod RecordLaws
 pub mod Runs
 pub mod Stays
 pub mod Steps

@@ -1,10 +1,18 @@
 -- Blocks in a row that are read or written by one call.
-use Rattle.std.specs.Prelude.{◌≡◌, ◌≢◌, ◌<◌, ◌⊎◌, ℕ, ◌+◌, ◌*◌, List, length, take, drop}
+use Rattle.std.specs.Prelude.{◌≡◌, ◌≢◌, ◌<◌, ◌≤◌, ◌⊎◌, ℕ, ◌+◌, ◌*◌, ◌^◌, List, length, take, drop}
 use Rattle.jb_disk.specs.Image.{Image, block, sector}
 
 -- the k-th of the blocks of so many bytes that a buffer holds
 abbrev pub part : ℕ → ℕ → List ℕ → List ℕ
 part size k bytes = take size (drop (size * k) bytes)
+
+-- n blocks from a place on, one at least, are on a disk with blocks of this size and so many of them, no place of them wraps, and so many
+-- bytes have their length
+pub record IsRunOn (size count place n bytes : ℕ) : Type 0 where
+  pub some : 0 < n
+  pub within : place + n ≤ count
+  pub range : place + n < 2 ^ 64
+  pub long : bytes ≡ size * n
 
 -- the first n blocks of a buffer are those of an image, from a place on
 abbrev pub ReadsRun : ℕ → ℕ → ℕ → Image → List ℕ → Type 0

@@ -1,8 +1,9 @@
 -- A buffer that holds blocks which are still to be written to places in a row.
-use Rattle.std.specs.Prelude.{◌<◌, ◌≤◌, ◌≡◌, ◌^◌, ℕ, ◌+◌, ◌*◌}
+use Rattle.std.specs.Prelude.{◌<◌, ◌≤◌, ◌≡◌, ◌^◌, ℕ, ◌+◌, ◌*◌, Result, OnOk}
 use Rattle.jb_block.specs.Size.{bytes_of}
 use Rattle.jb_disk.specs.Image.{Image}
 use Rattle.jb_disk.specs.Runs.{WroteRun, TornRun}
+use Rattle.jb_disk.specs.Steps.{Steps}
 use Rattle.jb_disk.specs.declared.disk.Disk.{Ghosts}
 use Rattle.jb_disk.specs.declared.write_behind.WriteBehind.{WriteBehind}
 
@@ -39,6 +40,19 @@ Owes b old new = WroteRun (size_behind b) b.count b.first b.run old new
 -- some sectors of the blocks that the buffer holds, or none, are written to the old image, which makes the new one of it
 abbrev pub OwesTorn : WriteBehind → Image → Image → Type 0
 OwesTorn b old new = TornRun (size_behind b) b.count b.first b.run old new
+
+-- once it is written, what the buffer then holds makes of the new image what this change makes of the image that the blocks of before
+-- would have made of the old one
+abbrev pub OwesThen : WriteBehind → WriteBehind → (Image → Image) → Image → Image → Type 0
+OwesThen b b' change old new = (c : Image) → Owes b old c → Owes b' new (change c)
+
+-- A call has written some of the blocks that the buffer held, or sectors of them, or none, whatever a crash leaves meanwhile. Where it
+-- succeeded, this is said of the images before and after it.
+pub record WritesHeld {D T E : Type 0} (G : Ghosts D) (result : Result T E) (b : WriteBehind) (Done : Image → Image → Type 0)
+    (old new : D) : Type 0 where
+  pub done : OnOk result (Done (G.newest old) (G.newest new))
+  pub torn : OwesTorn b (G.newest old) (G.newest new)
+  pub steps : Steps G.may_leave G.moment G.left_since (OwesTorn b) old new
 
 -- the buffer has room for one block more, and that one is for this place
 pub record HasRoomAt (b : WriteBehind) (p : ℕ) : Type 0 where

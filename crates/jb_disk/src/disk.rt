@@ -1,13 +1,12 @@
 //! What is assumed of a disk: whole blocks of 512-byte sectors, and what a crash may leave of them.
-ghost use Rattle.std.specs.Prelude.{Bool, true, false, is_ok, IsTrue, IsErr, ◌≡◌, ◌<◌, ◌≤◌};
-ghost use Rattle.std.specs.Prelude.{◌^◌, ◌+◌, ◌*◌, ℕ, length, OnOk, set};
+ghost use Rattle.std.specs.Prelude.{Bool, true, false, is_ok, IsTrue, IsErr, ◌≡◌, ◌<◌, ◌≤◌, ◌+◌, ℕ, length, OnOk, set};
 ghost use Rattle.jb_block.specs.Size.{bytes_of, IsBlockSize};
 ghost use Rattle.jb_disk.specs.Image.{Image, block, Torn, Same, Only, HasShape};
 ghost use Rattle.jb_disk.specs.Time.{Goes};
 ghost use Rattle.jb_disk.specs.OneCall.{AreMade, Called, Reads, Writes, Syncs};
 ghost use Rattle.jb_disk.specs.Faults.{CountsFault};
 ghost use Rattle.jb_disk.specs.Kept.{Kept, Untouched};
-ghost use Rattle.jb_disk.specs.Runs.{part, ReadsRun, TornRun, WroteRun};
+ghost use Rattle.jb_disk.specs.Runs.{part, IsRunOn, ReadsRun, TornRun, WroteRun};
 ghost use Rattle.jb_disk.specs.Steps.{Steps};
 
 use crate::Fault;
@@ -102,10 +101,7 @@ pub trait Disk {
     /// Reads `blocks` blocks from the one at `place` on into `buf`, which has their length: one at least. Most
     /// disks make one call of `read` for each of them. After a fault `buf` may hold anything.
     fn read_run(&mut self, place: u64, blocks: usize, buf: &mut [u8]) -> Result<(), Fault>
-        requires some { 0 < blocks }
-        requires place { place + blocks ≤ count self.old }
-        requires range { place + blocks < 2 ^ 64 }
-        requires block { length buf.old ≡ size self.old * blocks }
+        requires run { IsRunOn (size self.old) (count self.old) place blocks (length buf.old) }
         ensures kept { Kept size count faults honest (CountsFault result) self.old self.new }
         ensures spent { IsTrue (fails_next self.old) → IsErr result
             × Untouched newest may_leave moment self.old self.new }
@@ -128,10 +124,7 @@ pub trait Disk {
     /// sector of them as it was or as it is written, whatever it leaves of the others; after a fault a read may
     /// find either, too.
     fn write_run(&mut self, place: u64, blocks: usize, bytes: &[u8]) -> Result<(), Fault>
-        requires some { 0 < blocks }
-        requires place { place + blocks ≤ count self.old }
-        requires range { place + blocks < 2 ^ 64 }
-        requires block { length bytes.now ≡ size self.old * blocks }
+        requires run { IsRunOn (size self.old) (count self.old) place blocks (length bytes.now) }
         ensures kept { Kept size count faults honest (CountsFault result) self.old self.new }
         ensures spent { IsTrue (fails_next self.old) → IsErr result
             × Untouched newest may_leave moment self.old self.new }

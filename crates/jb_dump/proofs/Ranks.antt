@@ -1,6 +1,6 @@
 -- The first rows by their rank.
 use Rattle.std.proofs.Common.{◌≡◌, ℕ, zero, suc, Bool, true, false, List, [], ◌∷◌, take, refl, sym, ap, ◌∙◌, arith, take-take, nat_lt, if◌then◌else◌}
-use Rattle.jb_dump.specs.Written.{ranked, ranked_among}
+use Rattle.jb_dump.specs.MostWritten.{ranked, ranked_among}
 
 take-behind : {A : Type 0} (n : ℕ) (x : A) (xs : List A) → take n (x ∷ take n xs) ≡ take n (x ∷ xs)
 take-behind zero x xs = refl

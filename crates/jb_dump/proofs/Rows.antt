@@ -7,7 +7,7 @@ use Rattle.std.specs.Map.{lookup}
 use Rattle.std.proofs.lemmas.Bool.Decides.{nat_tests}
 use Rattle.std.proofs.lemmas.Bool.{cases_eq, cases_order, eq-eqb, le-ltb, lt-ltb, ne_eqb}
 use Rattle.std.proofs.lemmas.List.Sums.{sum_by_push}
-use Rattle.jb_dump.specs.Written.{copies_to, counted_up, home_among, homes_among, once_more, written_rows, writes_of}
+use Rattle.jb_dump.specs.MostWritten.{copies_to, counted_up, home_among, homes_among, once_more, written_rows, writes_of}
 
 -- ---- a home among others
 

@@ -9,7 +9,7 @@ use Rattle.jb_scan.specs.declared.transaction.Piece.TheVariants.{Revokes, Run}
 use Rattle.jb_scan.specs.declared.transaction.Transaction.{Transaction}
 use Rattle.jb_dump.specs.Dates.{date_text}
 use Rattle.jb_dump.specs.Lines.{clean_line, home_in}
-use Rattle.jb_dump.specs.Written.{foremost, written_rows}
+use Rattle.jb_dump.specs.MostWritten.{foremost, written_rows}
 
 -- what the committed transactions of a log come to: how many blocks each takes, the homes of all their copies, how many
 -- homes their revoke blocks name, and when each was committed, in seconds since 1970; all in the order of the log

@@ -4,13 +4,13 @@ ghost use Rattle.jb_dump.specs.Dates.{date_text};
 ghost use Rattle.jb_dump.specs.Summary.{Summary, clean_said, contents_text, copies_line, ends_line, written_line};
 ghost use Rattle.jb_dump.specs.Summary.{written_lines, revokes_line, room_line, room_text, glance_text, sizes_line};
 ghost use Rattle.jb_dump.specs.Summary.{times_line};
-ghost use Rattle.jb_dump.specs.Tallies.{IsTallyOf};
+ghost use Rattle.jb_dump.specs.LogTotals.{IsTallyOf};
 
 use crate::contents::Contents;
 use crate::date::put_date;
 use crate::lines::put_clean;
+use crate::log_totals::LogTotals;
 use crate::ranking::foremost_of;
-use crate::tally::Tally;
 use jb_block::Memory;
 use jb_super::Super;
 use std::alloc::Global;
@@ -111,12 +111,12 @@ fn date(alloc: Global, sec: u64) -> Result<String, Memory>
 }
 
 /// Puts what is said of some transactions beside their room and ends.
-fn put_contents(alloc: Global, text: &mut String, tally: Tally) -> Result<(), Memory>
+fn put_contents(alloc: Global, text: &mut String, tally: LogTotals) -> Result<(), Memory>
     requires some { 0 < tally.count }
     ensures { OnOk result ((sum : Summary) → IsTallyOf sum tally
         → string_bytes text.new ≡ string_bytes text.old ++ contents_text sum) }
 {
-    let Tally {
+    let LogTotals {
         count,
         least,
         most,
@@ -144,7 +144,7 @@ pub(crate) fn put_summary(
     alloc: Global,
     text: &mut String,
     sb: &Super,
-    tally: Tally,
+    tally: LogTotals,
 ) -> Result<(), Memory>
     ensures { OnOk result ((sum : Summary) → IsTallyOf sum tally
         → string_bytes text.new ≡ string_bytes text.old ++ glance_text sb.now sum) }

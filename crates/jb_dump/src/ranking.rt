@@ -1,6 +1,6 @@
 //! The home blocks that are written most.
 ghost use Rattle.std.specs.Prelude.{◌≡◌, ◌≤◌, ◌++◌, ◌∷◌, length, take, drop, IfOk, OnOk};
-ghost use Rattle.jb_dump.specs.Written.{foremost, ranked_among};
+ghost use Rattle.jb_dump.specs.MostWritten.{foremost, ranked_among};
 
 use jb_block::Memory;
 use std::alloc::Global;

@@ -3,7 +3,7 @@ use Rattle.std.proofs.Common.{◌≡◌, ℕ, cond, ◌==◌, List, [], ◌∷�
 use Rattle.std.specs.Cmp.{nat_cmp_total, unsigned_tied}
 use Rattle.std.specs.FinMap as map
 use Rattle.jb_handle.specs.declared.op.Op.{Op}
-use Rattle.jb_handle.specs.Held.{home_of, word_of}
+use Rattle.jb_handle.specs.HeldChanges.{home_of, word_of}
 use Rattle.jb_handle.specs.LastOp.{last_word, words_by}
 
 pub word_by_last : (ops : List Op) (home : ℕ) → map.get (words_by ops) home ≡ last_word ops home

@@ -1,11 +1,11 @@
-pub mod Admitted
-pub mod Front
-pub mod Gathering
+pub mod AdmittedChange
+pub mod EachWord
+pub mod GatherWords
 pub mod LastOp
 pub mod LastWord
-pub mod Listed
 pub mod Options
-pub mod Rising
+pub mod PayloadFront
+pub mod RisingHomes
 pub mod Tickets
-pub mod Touched
+pub mod TouchedHomes
 pub mod Trees

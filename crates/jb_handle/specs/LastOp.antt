@@ -4,7 +4,7 @@ use Rattle.std.specs.FinMap as map
 use Rattle.jb_handle.specs.declared.word.Word.{Word}
 use Rattle.jb_handle.specs.declared.op.Op.{Op}
 use Rattle.jb_handle.specs.Word.{WordMap}
-use Rattle.jb_handle.specs.Held.{home_of, word_of}
+use Rattle.jb_handle.specs.HeldChanges.{home_of, word_of}
 
 -- the word that the last change of a home leaves. The newest change is first
 abbrev pub last_word : List Op → ℕ → Option Word

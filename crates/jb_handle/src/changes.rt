@@ -51,7 +51,7 @@ pub struct Changes {
 impl Model for Changes {
     ghost use Rattle.std.specs.Coded.{codes};
     ghost use Rattle.jb_handle.specs.Word.{words_code};
-    ghost use Rattle.jb_handle.specs.Held.{Held, held, IsKept};
+    ghost use Rattle.jb_handle.specs.HeldChanges.{Held, held, IsKept};
 
     ghost Value = { Held };
 
@@ -63,8 +63,9 @@ impl Model for Changes {
 }
 
 impl Changes {
-    ghost use Rattle.jb_handle.specs.Held.{Held, held, touched_count, IsKept, len_in, put_at, after, home_of, refusal};
-    ghost use Rattle.jb_handle.specs.Held.{refusal_at};
+    ghost use Rattle.jb_handle.specs.HeldChanges.{Held, held, touched_count, IsKept, len_in, put_at, after};
+    ghost use Rattle.jb_handle.specs.HeldChanges.{home_of, refusal};
+    ghost use Rattle.jb_handle.specs.HeldChanges.{refusal_at};
     ghost use Rattle.jb_handle.specs.Word.{is_copy};
     ghost use Rattle.jb_handle.specs.declared.op.Op.TheVariants.{Write, Revoke};
     ghost use Rattle.jb_handle.specs.declared.changes.TouchFault.TheVariants.{Memory as OutOfMemory};

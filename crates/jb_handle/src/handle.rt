@@ -18,7 +18,8 @@ pub struct Handle<S> {
 
 impl<S> Handle<S> {
     ghost use Rattle.jb_handle.specs.Handle.{holder, changes_of};
-    ghost use Rattle.jb_handle.specs.Held.{held, touched_count, len_in, put_at, after, refusal, refusal_at, IsKept};
+    ghost use Rattle.jb_handle.specs.HeldChanges.{held, touched_count, len_in, put_at, after, refusal};
+    ghost use Rattle.jb_handle.specs.HeldChanges.{refusal_at, IsKept};
     ghost use Rattle.jb_handle.specs.Word.{is_copy};
     ghost use Rattle.jb_handle.specs.declared.op.Op.TheVariants.{Write, Revoke};
     ghost use Rattle.jb_handle.specs.declared.changes.TouchFault.TheVariants.{Memory};

@@ -2,9 +2,9 @@ ghost use Rattle.std.specs.Prelude.{◌≡◌, ◌<◌, IfOk, OnErr};
 ghost use Rattle.std.specs.FinMap as map;
 ghost use Rattle.jb_handle.specs.Words.{words_of};
 
-use crate::gathered::Gathered;
 use crate::stopped::Stopped;
 use crate::words::Words;
+use crate::words_builder::WordsBuilder;
 use jb_block::Memory;
 use std::alloc::Global;
 
@@ -19,7 +19,7 @@ impl Words {
         ensures ok { IfOk result (λ words. words ≡ words_of handles.now) }
         ensures err { OnErr result (0 < map.len (words_of handles.now)) }
     {
-        let mut gathered = Gathered::new(alloc);
+        let mut gathered = WordsBuilder::new(alloc);
         for at in (0..handles.len()).rev() {
             gathered.add_all(&handles[at].words)?;
         }

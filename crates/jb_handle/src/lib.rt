@@ -2,7 +2,6 @@
 #![tactic(auto)]
 
 mod changes;
-mod gathered;
 mod handle;
 mod joined;
 pub mod laws;
@@ -13,9 +12,9 @@ mod size;
 mod stopped;
 mod word;
 mod words;
+mod words_builder;
 
 pub use changes::{Changes, TouchFault};
-pub use gathered::Gathered;
 pub use handle::Handle;
 pub use op::Op;
 pub use payload::Payload;
@@ -24,3 +23,4 @@ pub use size::is_within_size;
 pub use stopped::{Stopped, Ticket};
 pub use word::Word;
 pub use words::Words;
+pub use words_builder::WordsBuilder;

@@ -16,7 +16,7 @@ pub enum Word {
 
 impl Word {
     ghost use Rattle.jb_handle.specs.Word.{is_copy, HasBytes};
-    ghost use Rattle.jb_handle.specs.Held.{FitsWord, len_in};
+    ghost use Rattle.jb_handle.specs.HeldChanges.{FitsWord, len_in};
 
     /// Whether it is a copy.
     pub fn is_copy(&self) -> bool

@@ -33,7 +33,7 @@ impl Model for Words {
 }
 
 impl Words {
-    ghost use Rattle.jb_handle.specs.Held.{Fits};
+    ghost use Rattle.jb_handle.specs.HeldChanges.{Fits};
 
     /// No words. Takes no memory.
     pub fn new(alloc: Global) -> Words

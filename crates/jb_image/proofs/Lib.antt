@@ -1,7 +1,7 @@
-mod Images
-mod Joined
-mod Passing
-pub mod Listed
-pub mod Opened
-pub mod Placing
-pub mod Taken
+pub mod ExtentPlaces
+mod ImageCalls
+mod JoinedImages
+pub mod OpenedFile
+mod PairCalls
+pub mod TakenWords
+pub mod WordBytes

@@ -13,22 +13,22 @@ use Rattle.jb_image.specs.Files.{as_file}
 use Rattle.jb_format.specs.Format.{FormatFaults, new_block}
 use Rattle.jb_format.specs.declared.fault.FormatFault.{FormatFault}
 use Rattle.jb_format.specs.declared.fault.FormatFault.TheVariants.{DeviceFault}
-use Rattle.jb_image.specs.declared.geometry.Geometry.{Geometry}
+use Rattle.jb_image.specs.declared.image_geometry.ImageGeometry.{ImageGeometry}
 
 -- the journal has as many blocks as one may have, the image a length that a file may have, and each home block a number of the journal's width
-pub record MakesImage (g : Geometry) : Type 0 where
+pub record MakesImage (g : ImageGeometry) : Type 0 where
   pub least : 9 ≤ g.journal
   pub most : g.journal < 2 ^ 31
   pub len : (g.journal + g.homes) * bytes_of g.block_size < 2 ^ 63
   pub numbers : is_wide g.width ≡ false → g.homes ≤ 2 ^ 32
 
 -- block 0 of the journal that is asked for, in blocks of this size
-abbrev pub block_made : ℕ → Geometry → List ℕ
+abbrev pub block_made : ℕ → ImageGeometry → List ℕ
 block_made size g = new_block (is_wide g.width) size g.journal g.max_transaction g.uuid
 
 -- A journal was formatted on a disk, with this answer: no block has changed but block 0, which is that of the new journal then, and
 -- nothing is pending. A crash in its midst leaves what the disk might have left, with some new sectors of block 0.
-pub record FormatsOn {D : Type 0} (G : Disks D) (g : Geometry) (old new : D) (answer : Result Unit FormatFault) : Type 0 where
+pub record FormatsOn {D : Type 0} (G : Disks D) (g : ImageGeometry) (old new : D) (answer : Result Unit FormatFault) : Type 0 where
   pub kept : KeptOn G (FormatFaults answer) old new
   pub written : G.honest new → OnOk answer (G.newest new ≡ set (G.newest old) 0 (block_made (G.size old) g))
   pub torn : G.honest new → Torn 0 (block_made (G.size old) g) (G.newest old) (G.newest new)
@@ -36,7 +36,7 @@ pub record FormatsOn {D : Type 0} (G : Disks D) (g : Geometry) (old new : D) (an
   pub durable : G.honest new → OnOk answer (Only (G.newest new) (G.may_leave new))
 
 -- the same of a file of the blocks that were asked for, which was asked its length and nothing else before
-pub record IsFormatted {S : Type 0} {start : Starts S} (g : Geometry) (old new : FileDisk S start) (answer : Result Unit FormatFault) : Type 0 where
+pub record IsFormatted {S : Type 0} {start : Starts S} (g : ImageGeometry) (old new : FileDisk S start) (answer : Result Unit FormatFault) : Type 0 where
   pub size : size_of_blocks old ≡ g.block_size
   pub count : count_of old ≡ g.journal + g.homes
   pub measured : IsMeasured old
@@ -44,10 +44,10 @@ pub record IsFormatted {S : Type 0} {start : Starts S} (g : Geometry) (old new :
 
 module _ {S : Type 0} {start : Starts S} where
   -- the journal was made in a file since that was opened
-  abbrev pub WasMade : Geometry → FileDisk S start → Type 0
+  abbrev pub WasMade : ImageGeometry → FileDisk S start → Type 0
   WasMade g new = (old : FileDisk S start) × IsFormatted g old new (Ok tt)
 
 module _ {S : Type 0} (start : Starts S) where
   -- a call of a file failed while a journal was made in it
-  abbrev pub MakingFailed : Geometry → Type 0
+  abbrev pub MakingFailed : ImageGeometry → Type 0
   MakingFailed g = (old new : FileDisk S start) × IsFormatted g old new (Err DeviceFault)

@@ -6,7 +6,7 @@ use Rattle.jb_disk.specs.Faults.{counted}
 use Rattle.jb_disk.specs.Image.{Image, HasShape}
 use Rattle.jb_disk.specs.declared.disk.Disk.{Ghosts}
 use Rattle.jb_image.specs.Disks.{ExtentsCalled, extents_of, refused_calls, journal_blocks, own_in, spread_count, whole_disk}
-use Rattle.jb_image.specs.Spread.{IsHonestWithin, WithinLeaves, WithinLeft, within, within-shape}
+use Rattle.jb_image.specs.ExtentImage.{IsHonestWithin, WithinLeaves, WithinLeft, within, within-shape}
 use Rattle.jb_image.specs.Laws.{counts_both, has_both_shapes, leaves_newest, only_both, since_has_both_shapes}
 use Rattle.jb_image.specs.Pair.{back_disk, front_disk, joined_count, past_states, IsHonestPair, PairCalled, PairLeaves, PairLeftSince}
 use Rattle.jb_image.specs.declared.image.ImageDisk.{ImageDisk}

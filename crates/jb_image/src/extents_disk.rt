@@ -62,7 +62,7 @@ impl<D: Disk> ExtentsDisk<D> {
 /// where the image is honest and no block is in two of the extents: each place holds the block of the image that it is.
 impl<D: Disk> Disk for ExtentsDisk<D> {
     ghost use Rattle.std.proofs.Common.{refl};
-    ghost use Rattle.jb_image.specs.Spread.{IsHonestWithin, WithinLeaves, WithinLeft, within, within-shape};
+    ghost use Rattle.jb_image.specs.ExtentImage.{IsHonestWithin, WithinLeaves, WithinLeft, within, within-shape};
 
     ghost size = { λ d. D.size d.disk };
 

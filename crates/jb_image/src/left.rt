@@ -1,6 +1,6 @@
 //! What a process that is killed may leave of an image that it makes.
 ghost use Rattle.std.specs.Prelude.{◌≡◌};
-ghost use Rattle.jb_image.specs.Left.{is_unused_front};
+ghost use Rattle.jb_image.specs.LeftDraft.{is_unused_front};
 
 use crate::system::FRONT;
 use jb_super::Super;

@@ -8,7 +8,7 @@ ghost use Rattle.jb_image.specs.declared.fault.MakeFault.TheVariants.{DeviceFaul
 
 use crate::draft::Draft;
 use crate::fault::{ImageFault, MakeFault, SystemFault};
-use crate::geometry::Geometry;
+use crate::image_geometry::ImageGeometry;
 use jb_block::BlockSize;
 use jb_disk::{Disk, FileDisk, Start};
 use jb_format::{FormatFault, format};
@@ -31,7 +31,7 @@ use std::rt::Files;
 pub fn create_image<R: Files<File = File> + AllocGlobal>(
     rt: &R,
     name: &str,
-    geometry: Geometry,
+    geometry: ImageGeometry,
 ) -> Result<FileDisk, MakeFault>
     ensures geometry { (result ≡ Err NoGeometry) ↔ (MakesImage geometry → ⊥) }
     ensures made { IfOk result (WasMade geometry) }
@@ -47,7 +47,7 @@ pub fn create_image<R: Files<File = File> + AllocGlobal>(
 pub fn create_holding<S: Start, R: Files<File = File> + AllocGlobal>(
     rt: &R,
     name: &str,
-    geometry: Geometry,
+    geometry: ImageGeometry,
 ) -> Result<FileDisk<S>, MakeFault>
     ensures geometry { (result ≡ Err NoGeometry) ↔ (MakesImage geometry → ⊥) }
     ensures made { IfOk result (WasMade geometry) }
@@ -64,7 +64,7 @@ fn make<S: Start, R: Files<File = File> + AllocGlobal>(
     rt: &R,
     name: &str,
     len: u64,
-    geometry: Geometry,
+    geometry: ImageGeometry,
 ) -> Result<FileDisk<S>, MakeFault>
     requires geometry { MakesImage geometry }
     requires len { len ≡ (geometry.journal + geometry.homes) * bytes_of geometry.block_size }
@@ -96,7 +96,11 @@ fn make<S: Start, R: Files<File = File> + AllocGlobal>(
 ///
 /// # Errors
 /// `Image` with `System` where the system refuses a call; `DeviceFault` where the journal was not written.
-fn fill<S: Start>(draft: &Draft<'_>, len: u64, geometry: Geometry) -> Result<FileDisk<S>, MakeFault>
+fn fill<S: Start>(
+    draft: &Draft<'_>,
+    len: u64,
+    geometry: ImageGeometry,
+) -> Result<FileDisk<S>, MakeFault>
     requires geometry { MakesImage geometry }
     requires len { len ≡ (geometry.journal + geometry.homes) * bytes_of geometry.block_size }
     ensures never { result ≡ Err NoGeometry → ⊥ }
@@ -104,7 +108,7 @@ fn fill<S: Start>(draft: &Draft<'_>, len: u64, geometry: Geometry) -> Result<Fil
     ensures failed { result ≡ Err DeviceFault → MakingFailed S.Start geometry }
 {
     let mut disk = disk_of(draft.handle()?, len, geometry)?;
-    let Geometry {
+    let ImageGeometry {
         journal,
         max_transaction,
         uuid,
@@ -122,7 +126,11 @@ fn fill<S: Start>(draft: &Draft<'_>, len: u64, geometry: Geometry) -> Result<Fil
 ///
 /// # Errors
 /// `System` where the system refuses a call, or another length is found.
-fn disk_of<S: Start>(file: File, len: u64, geometry: Geometry) -> Result<FileDisk<S>, ImageFault>
+fn disk_of<S: Start>(
+    file: File,
+    len: u64,
+    geometry: ImageGeometry,
+) -> Result<FileDisk<S>, ImageFault>
     requires { len ≡ (geometry.journal + geometry.homes) * bytes_of geometry.block_size }
     ensures size { IfOk result (λ disk. size_of_blocks disk ≡ geometry.block_size) }
     ensures count { IfOk result (λ disk. count_of disk ≡ geometry.journal + geometry.homes) }

@@ -19,7 +19,7 @@ use Rattle.jb_board.specs.declared.place.Place.{Ghosts as Places}
 use Rattle.jb_journal.specs.Notes.{changed_by}
 use Rattle.jb_journal.specs.Run.{HasAllSeen, answer_of, stops_of_worked}
 use Rattle.jb_journal.specs.declared.fault.RunFault.{RunFault}
-use Rattle.jb_journal.specs.declared.gather.Gathered.{Gathered}
+use Rattle.jb_journal.specs.declared.thread_results.ThreadResults.{ThreadResults}
 use Rattle.jb_journal.specs.declared.ran.Ran.{Ran}
 use Rattle.jb_journal.specs.declared.threads.Threaded.{Threaded}
 
@@ -34,7 +34,7 @@ module _ {D H N : Type 0} {O : Ghosts H} {P : Places H} where
 
 module _ {T D H N : Type 0} {Q : Disks D} {O : Ghosts H} {P : Places H} where
   -- what the threads left is put together: what each worker has answered, what the committer's seat and those of the workers left, and all that is seen
-  pub record IsGatheredFrom (ran : Result (Threaded T D H N O P) RunFault) (all : Gathered T D H N Q O P × Ended) : Type 0 where
+  pub record IsGatheredFrom (ran : Result (Threaded T D H N O P) RunFault) (all : ThreadResults T D H N Q O P × Ended) : Type 0 where
     pub of : Threaded T D H N O P
     pub is : ran ≡ Ok of
     pub answers : map (λ (x : T). Some x) all.0.answers.items ≡ map answer_of of.workers.items
@@ -43,7 +43,7 @@ module _ {T D H N : Type 0} {Q : Disks D} {O : Ghosts H} {P : Places H} where
 
   -- a desk was closed with what was put together: the answers are given on, the changes are those of the stops of all seats, and the journal, of this shape, ends with these and
   -- the marks that were seen
-  pub record IsClosed (G : Disks D) (b : Begun) (all : Gathered T D H N Q O P) (shape : Shape) (ran : Ran T D) : Type 0 where
+  pub record IsClosed (G : Disks D) (b : Begun) (all : ThreadResults T D H N Q O P) (shape : Shape) (ran : Ran T D) : Type 0 where
     pub answers : ran.answers ≡ all.answers
     pub changes : ran.changes ≡ sum_by changed_by (joined (map made_left all.lefts.items))
     pub ends : EndsMarked G b (map made_left all.lefts.items) ran.handles shape ran.disk ran.trail.items all.seen.stops all.seen.marks

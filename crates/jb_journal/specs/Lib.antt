@@ -1,11 +1,11 @@
 pub mod Change
 pub mod Client
-pub mod Homes
 pub mod Gather
+pub mod Homes
 pub mod Names
 pub mod Notes
 pub mod OpenFile
-pub mod RunFaults
 pub mod Run
+pub mod RunFaults
 pub mod Start
 pub mod Stays

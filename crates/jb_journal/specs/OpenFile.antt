@@ -7,7 +7,7 @@ use Rattle.jb_disk.specs.Image.{Image, Only}
 use Rattle.jb_disk.specs.declared.file.FileDisk.{FileDisk}
 use Rattle.jb_disk.specs.declared.start.Start.{Ghosts as Starts}
 use Rattle.jb_image.specs.Create.{WasMade}
-use Rattle.jb_image.specs.declared.geometry.Geometry.{Geometry}
+use Rattle.jb_image.specs.declared.image_geometry.ImageGeometry.{ImageGeometry}
 use Rattle.jb_recover.specs.Outcomes.{RecoversAs}
 use Rattle.jb_recover.specs.Passes.{PassFaults}
 use Rattle.jb_recover.specs.Recovers.{Recovers}
@@ -39,5 +39,5 @@ RefusesImage start size (Recover fault) = WasRefused start size fault
 RefusesImage start size _ = Unit {0}
 
 -- it was recovered, or its journal was made since it was opened
-abbrev pub WasRecoveredOrMade : {S : Type 0} {start : Starts S} → Geometry → FileDisk S start → Type 0
+abbrev pub WasRecoveredOrMade : {S : Type 0} {start : Starts S} → ImageGeometry → FileDisk S start → Type 0
 WasRecoveredOrMade g f = WasRecovered g.block_size f ⊎ WasMade g f

@@ -3,7 +3,7 @@ ghost use Rattle.std.specs.Prelude.{◌≡◌, ◌<◌, IfOk};
 ghost use Rattle.std.specs.FinMap as map;
 ghost use Rattle.std.specs.Fn.{FnOnceReturnsAtMut};
 ghost use Rattle.std.specs.List.{sum_by};
-ghost use Rattle.jb_handle.specs.Held.{held};
+ghost use Rattle.jb_handle.specs.HeldChanges.{held};
 ghost use Rattle.jb_desk.specs.Desks.{desk_id, shape_in};
 ghost use Rattle.jb_desk.specs.Seats.{changes, made_by, desk_of, view_of};
 ghost use Rattle.jb_handle.specs.Handle.{holder, changes_of};

@@ -1,7 +1,7 @@
 //! What a worker has of the journal.
 ghost use Rattle.std.specs.Prelude.{◌≡◌, ◌<◌, ◌≤◌, [], None, Some, IfErr, IfOk, OnOk, length};
 ghost use Rattle.std.specs.FinMap as map;
-ghost use Rattle.jb_handle.specs.Held.{held};
+ghost use Rattle.jb_handle.specs.HeldChanges.{held};
 ghost use Rattle.jb_desk.specs.Desks.{desk_id, shape_in};
 ghost use Rattle.jb_desk.specs.Seats.{made_by, desk_of};
 ghost use Rattle.jb_desk.specs.declared.fault.WaitFault.TheVariants.{Taken};

@@ -7,8 +7,8 @@ ghost use Rattle.jb_journal.specs.Run.{EndsChecked, EndsRun};
 ghost use Rattle.jb_journal.specs.declared.fault.RunFault.TheVariants.{Accounts};
 
 use crate::fault::RunFault;
-use crate::gather::Gathered;
 use crate::ran::Ran;
+use crate::thread_results::ThreadResults;
 use jb_deck::Entry;
 use jb_desk::{Closed, Desk, Ended, Left, Origin, Sights};
 use jb_disk::{Clock, Disk};
@@ -19,7 +19,7 @@ use std::sync::ledger::Ledger;
 pub(crate) fn close<T: Drop, D: Disk + Drop, C: Clock + Drop, H: Origin, N: Ledger>(
     desk: Desk<D, C, H, N>,
     shape: Shape,
-    gathered: Gathered<T, D, H, N>,
+    gathered: ThreadResults<T, D, H, N>,
     commit: Ended,
     checkpoint: Option<Ended>,
 ) -> Result<Ran<T, D>, RunFault>
@@ -29,7 +29,7 @@ pub(crate) fn close<T: Drop, D: Disk + Drop, C: Clock + Drop, H: Origin, N: Ledg
     ensures since { IfOk result (λ ran. EndsSince D.Disk H.begun ran.disk ran.trail.items) }
     ensures faults { IfErr result (λ fault. fault ≡ Accounts) }
 {
-    let Gathered {
+    let ThreadResults {
         lefts,
         seen,
         answers,

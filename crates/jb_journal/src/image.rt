@@ -14,7 +14,7 @@ use crate::fault::HomeFault;
 use crate::journal_fault::JournalFault;
 use jb_block::{BlockSize, MOST_BYTES};
 use jb_disk::{Disk, FileDisk, Start};
-use jb_image::{Geometry, ImageFault, MakeFault, Opening, create_holding};
+use jb_image::{ImageFault, ImageGeometry, MakeFault, Opening, create_holding};
 use jb_recover::{PeekFault, peek, recover};
 use std::fs::File;
 use std::rt::Files;
@@ -71,7 +71,7 @@ pub fn open_holding<S: Start, R: Files<File = File> + AllocGlobal>(
 pub fn open_or_create<R: Files<File = File> + AllocGlobal>(
     rt: &R,
     name: &str,
-    geometry: Geometry,
+    geometry: ImageGeometry,
 ) -> Result<FileDisk, JournalFault>
     ensures size { IfOk result (λ disk. bytes_of (size_of_blocks disk) ≡ bytes_of geometry.block_size) }
     ensures ready { IfOk result (WasRecoveredOrMade geometry) }
@@ -86,7 +86,7 @@ pub fn open_or_create<R: Files<File = File> + AllocGlobal>(
 pub fn open_or_create_holding<S: Start, R: Files<File = File> + AllocGlobal>(
     rt: &R,
     name: &str,
-    geometry: Geometry,
+    geometry: ImageGeometry,
 ) -> Result<FileDisk<S>, JournalFault>
     ensures size { IfOk result (λ disk. bytes_of (size_of_blocks disk) ≡ bytes_of geometry.block_size) }
     ensures ready { IfOk result (WasRecoveredOrMade geometry) }
@@ -116,7 +116,7 @@ fn is_missing(fault: JournalFault) -> bool {
 fn open_whole<S: Start, R: Files<File = File> + AllocGlobal>(
     rt: &R,
     name: &str,
-    geometry: Geometry,
+    geometry: ImageGeometry,
 ) -> Result<FileDisk<S>, JournalFault>
     ensures opened { IfOk result (WasRecovered geometry.block_size) }
 {

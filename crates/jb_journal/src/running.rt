@@ -13,14 +13,14 @@ ghost use Rattle.jb_journal.specs.declared.options.Commits.TheVariants.{Meanwhil
 
 use crate::closing::close;
 use crate::fault::RunFault;
-use crate::gather::Gathered;
 use crate::options::Options;
 use crate::ran::Ran;
+use crate::thread_results::ThreadResults;
 use crate::threads::run_all;
 use crate::worker::Worker;
 use jb_board::Opened;
 use jb_deck::Deck;
-use jb_desk::{Desk, Origin, Stops};
+use jb_desk::{Desk, Origin, StopLedger};
 use jb_disk::{Clock, Disk};
 use jb_handle::Shape;
 use std::alloc::Global;
@@ -137,10 +137,10 @@ fn run_deck<
 
 /// A new ledger of handles, with its history, and a new history of a journal's commits; `None` where there is no memory
 /// for them.
-fn histories<D: Disk>(alloc: Global) -> Option<(Stops, Opened<Deck<D>>)>
+fn histories<D: Disk>(alloc: Global) -> Option<(StopLedger, Opened<Deck<D>>)>
     ensures { IfSome result (λ made. made.0.tickets.parts ≡ 2 ^ 61 + 1) }
 {
-    let handles = Stops::new(alloc, PARTS).ok()?;
+    let handles = StopLedger::new(alloc, PARTS).ok()?;
     let marks = Opened::new(alloc).ok()?;
     Some((handles, marks))
 }
@@ -158,7 +158,7 @@ fn run_open<
 >(
     rt: &R,
     alloc: Global,
-    handles: Stops,
+    handles: StopLedger,
     changes: Blank,
     marks: Opened<Deck<D>>,
     deck: Deck<D>,
@@ -186,7 +186,7 @@ fn run_open<
 /// A desk over a journal that was just opened; `None` where there is no memory for it.
 fn start<D: Disk + Drop, C: Clock + Drop, H: Origin, N: Ledger>(
     alloc: Global,
-    handles: Stops,
+    handles: StopLedger,
     changes: Blank,
     marks: Opened<Deck<D>>,
     deck: Deck<D>,
@@ -227,6 +227,6 @@ fn run_at<
     ensures faults { IfErr result (HasNoAnswer options.commits) }
 {
     let (ran, checkpoint) = run_all(rt, alloc, &desk, shape, options, worker);
-    let (gathered, commit) = Gathered::of(rt, alloc, &desk, ran)?;
+    let (gathered, commit) = ThreadResults::of(rt, alloc, &desk, ran)?;
     close(desk, shape, gathered, commit, checkpoint)
 }

@@ -1,5 +1,5 @@
-pub mod Belonging
-pub mod Founds
-pub mod Planning
+pub mod BatchHandles
+pub mod BestStep
+pub mod PlannedBatch
 pub mod SameCosts
-pub mod Steps
+pub mod StepTable

@@ -3,7 +3,7 @@ use Rattle.std.specs.Prelude.{◌≡◌, ℕ, ◌+◌, ◌*◌, ◌<◌, ◌≤�
 use Rattle.jb_handle.specs.declared.stopped.Stopped.{Stopped}
 use Rattle.jb_handle.specs.Size.{weight}
 use Rattle.jb_cost.specs.Cut.{price}
-use Rattle.jb_cost.specs.declared.found.Found.{Found}
+use Rattle.jb_cost.specs.declared.group_start.GroupStart.{GroupStart}
 
 -- the last group of a cut: where it begins, and what the whole cut takes
 pub record LastGroup : Type 0 where
@@ -28,7 +28,7 @@ BestFrom c limit ps low end None = (i p : ℕ) → low ≤ i → i < end → c i
 BestFrom c limit ps low end (Some s) = IsBest c limit ps low end s
 
 -- the step from a start that was found
-abbrev pub step_from : Option Found → Option LastGroup
+abbrev pub step_from : Option GroupStart → Option LastGroup
 step_from None = None
 step_from (Some s) = Some (record { from = s.from; price = s.price + s.cost })
 

@@ -8,7 +8,7 @@ mod fitting;
 mod planned;
 mod planner;
 mod prepared;
-mod table;
+mod price_table;
 
 pub use batch::Batch;
 pub use fitting::is_batch;

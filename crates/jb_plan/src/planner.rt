@@ -5,7 +5,7 @@ ghost use Rattle.jb_plan.specs.Plan.{Answers};
 
 use crate::bounds::bounds_to;
 use crate::planned::{Answer, Planned};
-use crate::table::table_of;
+use crate::price_table::table_of;
 use jb_block::Memory;
 use jb_cost::Geometry;
 use jb_handle::Stopped;

@@ -1,7 +1,7 @@
 -- The first fault of a certificate's text is the one at which reading ends.
 use Rattle.std.proofs.Common.{◌≡◌, ◌↔◌, ◌∙◌, sym, ap, ℕ, ◌+◌, ◌==◌, false, List, [], ◌∷◌, length, refl, Option, Some, None, Err, inl, inr, ne_eqb}
 use Rattle.jb_text.specs.Parts.{◌>>=◌, lines}
-use Rattle.jb_text.proofs.Readings.{wrong-is}
+use Rattle.jb_text.proofs.ReadSteps.{wrong-is}
 use Rattle.std.proofs.lemmas.Result.{MatchResult-at_err}
 use Rattle.jb_price.specs.declared.fault.CertFault.{CertFault}
 use Rattle.jb_price.specs.declared.fault.CertFault.TheVariants.{Syntax, Length}

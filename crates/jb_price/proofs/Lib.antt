@@ -1,5 +1,5 @@
 pub mod FaultyCert
 pub mod ReadBack
 pub mod SpelledCert
-pub mod Undercutting
+pub mod UndercutSteps
 pub mod Verdicts

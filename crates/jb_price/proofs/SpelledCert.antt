@@ -9,7 +9,7 @@ use Rattle.jb_text.specs.Lines.{AreLines}
 use Rattle.jb_text.proofs.Joins.{literal-without}
 use Rattle.jb_text.proofs.Numerals.{number-is_decimal}
 use Rattle.jb_text.proofs.Grammar.{spaced-words, lines-are, are-lines, IsLine}
-use Rattle.jb_text.proofs.Readings.{FirstFails, FirstGives, first-says, behind-read, then-says, if-says}
+use Rattle.jb_text.proofs.ReadSteps.{FirstFails, FirstGives, first-says, behind-read, then-says, if-says}
 use Rattle.jb_price.specs.declared.fault.CertFault.{CertFault}
 use Rattle.jb_price.specs.declared.fault.CertFault.TheVariants.{Length}
 use Rattle.jb_price.specs.Certificate.{price_text}

@@ -3,7 +3,7 @@ use Rattle.std.proofs.Common.{◌≡◌, ℕ, ◌+◌, ◌≤◌, List, [], ◌�
 use Rattle.std.specs.declared.alloc.AllocError.{AllocError}
 use Rattle.std.proofs.lemmas.Bool.{cases_lt}
 use Rattle.jb_cost.specs.Cut.{EachFrom, EachPiece, total, price, IsPrice, ArePrices, Hold}
-use Rattle.jb_cost.proofs.Bounds.{lower, exact-hold}
+use Rattle.jb_cost.proofs.PriceBounds.{lower, exact-hold}
 use Rattle.jb_price.specs.declared.certificate.CertAnswer.{CertAnswer}
 use Rattle.jb_price.specs.declared.certificate.CertAnswer.TheVariants.{Cut, NoCut}
 use Rattle.jb_price.specs.declared.verdict.Verdict.{Verdict}

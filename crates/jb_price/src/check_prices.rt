@@ -1,12 +1,12 @@
 ghost use Rattle.std.specs.Prelude.{◌≡◌, ◌+◌, ◌<◌, ◌≤◌, ◌↔◌, ℕ, length, IfOk, OnErr, Some, IsTrue};
 ghost use Rattle.jb_handle.specs.Size.{IsWithinSize};
-ghost use Rattle.jb_cost.specs.declared.found.Found.{Found as FoundValue};
+ghost use Rattle.jb_cost.specs.declared.group_start.GroupStart.{GroupStart as GroupStartValue};
 ghost use Rattle.jb_cost.specs.Cut.{piece_cost};
 ghost use Rattle.jb_price.specs.Verdict.{IsDearer};
 ghost use Rattle.jb_price.specs.FirstUndercut.{LeastTo, FirstAmong, earlier_of};
 
 use jb_block::Memory;
-use jb_cost::{Footprint, Found, Geometry, LastTouches};
+use jb_cost::{Footprint, Geometry, GroupStart, LastTouches};
 use jb_handle::Stopped;
 use std::alloc::Global;
 
@@ -38,8 +38,8 @@ pub(crate) fn first_undercut(
 }
 
 /// Whether the best start costs less than the price of the end. If it does not, none does.
-fn undercuts(best: Option<Found>, end: Option<u64>) -> bool
-    ensures { IsTrue result ↔ ((s : FoundValue) × (best ≡ Some s) × IsDearer end (s.price + s.cost)) }
+fn undercuts(best: Option<GroupStart>, end: Option<u64>) -> bool
+    ensures { IsTrue result ↔ ((s : GroupStartValue) × (best ≡ Some s) × IsDearer end (s.price + s.cost)) }
 {
     match best {
         Some(best) => is_below(best.price, best.cost, end),

@@ -1,26 +1,27 @@
 -- The first wrong line of a handle is the one at which reading ends.
 use Rattle.std.proofs.Common.{subst, ◌≡◌, ◌⊎◌, ◌∙◌, sym, ap, ℕ, ◌==◌, Bool, true, false, cond, if◌then◌else◌, List, [], ◌∷◌, ◌++◌, fold, refl, arith, inl, inr, Option, Some, None, Ok, Err, ◌+◌, length, Result, codes, MatchResult, eqb-true}
 use Rattle.std.specs.Option.{option_or}
-use Rattle.std.specs.List.{AllByRecursion}
+use Rattle.std.specs.List.{AllZip, AllByRecursion}
 use Rattle.std.proofs.lemmas.Result.{MatchResult-at_ok, MatchResult-weaker, MatchResult-at_err}
 use Rattle.std.specs.Ordering.{nat_cmp, eq_by_cmp}
 use Rattle.std.specs.Cmp.{nat_cmp_total}
 use Rattle.std.specs.FinMap.{nat_cmp-IsAntisymmetric}
 use Rattle.std.proofs.lemmas.Bool.Decides.{nat_tests}
+use Rattle.std.proofs.lemmas.Slice.Zip.{AllZip-long}
 use Rattle.jb_queue.specs.declared.fault.Cause.{Cause}
 use Rattle.jb_queue.specs.declared.fault.Cause.TheVariants.{HandleLine, OpWord, DataWord}
 use Rattle.jb_handle.specs.declared.word.Word.{Word}
 use Rattle.jb_text.specs.Parts.{words, spaced}
 use Rattle.jb_queue.specs.Queue.{op_of, after_ops, behind_h, handle_of, after_lines}
-use Rattle.jb_queue.specs.Grammar.{Entry, Each, SpellsOp, SpellsHandle, last_op}
+use Rattle.jb_queue.specs.Grammar.{Entry, SpellsOp, SpellsHandle, last_op}
 use Rattle.jb_handle.specs.Word.{WordMap}
 use Rattle.jb_handle.proofs.Options.{or-assoc, or-nothing}
 use Rattle.jb_text.proofs.Grammar.{spaced-words}
 use Rattle.jb_text.proofs.Joins.{Without, words-spaced}
-use Rattle.jb_text.proofs.Readings.{if-says, wrong-is}
+use Rattle.jb_text.proofs.ReadSteps.{if-says, wrong-is}
 use Rattle.jb_queue.specs.Faults.{HasWrongWord, FirstWrongWord, IsNoHandle, IsWrongLine, FirstWrongLine}
 use Rattle.jb_queue.specs.declared.fault.QueueFault.{QueueFault}
-use Rattle.jb_queue.proofs.Walks.{each-map, walk-goes, walk-says, each-length, walk-fails}
+use Rattle.jb_queue.proofs.Walks.{each-map, walk-goes, walk-says, walk-fails}
 use Rattle.jb_queue.proofs.Ops.{put_op, ops-walk}
 use Rattle.jb_queue.proofs.FaultyOps.{ops-fault, ops-wrong, op-is, op-from, op-clear, IsDelimiter, space-delimits}
 use Rattle.jb_queue.proofs.Weights.{put_handle, put-length, lines-walk}
@@ -84,7 +85,7 @@ handle-is size line now is = MatchResult-at_ok (SpellsHandle size line) (IsFault
 same-words : (ops : List Entry) (now : WordMap) → ((b : ℕ) → map.get now b ≡ last_op ops b) → fold put_op map.empty ops ≡ now
 same-words ops now left = map.same_map nat_cmp_total nat_cmp-IsAntisymmetric (fold put_op map.empty ops) now (λ b. ops-left ops b ∙ sym (left b))
 
-pub texts-clear : (size delimiter : ℕ) (is : IsDelimiter delimiter) (texts : List (List ℕ)) (ops : List Entry) → Each (SpellsOp size) texts ops → AllByRecursion (Without delimiter) texts
+pub texts-clear : (size delimiter : ℕ) (is : IsDelimiter delimiter) (texts : List (List ℕ)) (ops : List Entry) → AllZip (SpellsOp size) texts ops → AllByRecursion (Without delimiter) texts
 texts-clear size delimiter is [] [] each = tt
 texts-clear size delimiter is (text ∷ texts) (op ∷ ops) each = (op-clear size delimiter is text op each.0, texts-clear size delimiter is texts ops each.1)
 texts-clear size delimiter is texts ops each = absurd each
@@ -92,7 +93,7 @@ texts-clear size delimiter is texts ops each = absurd each
 pub handle-from : (size : ℕ) (line : List ℕ) (now : WordMap) → SpellsHandle size line now → handle_of size line ≡ Ok now
 handle-from size line now spells = ap (handle_of size) spells.spelled ∙ from spells.texts spells.ops spells.each ∙ ap Ok (same-words spells.ops now spells.left)
   where
-    from : (texts : List (List ℕ)) (ops : List Entry) → Each (SpellsOp size) texts ops → handle_of size (codes "h" ++ spaced texts) ≡ Ok (fold put_op map.empty ops)
+    from : (texts : List (List ℕ)) (ops : List Entry) → AllZip (SpellsOp size) texts ops → handle_of size (codes "h" ++ spaced texts) ≡ Ok (fold put_op map.empty ops)
     from [] [] each = refl
     from [] (op ∷ ops) each = absurd each
     from (text ∷ texts) ops each =
@@ -142,7 +143,7 @@ handle-wrong size line cause wrong = elim wrong [
 pub lines-fault : (size : ℕ) (left : List (List ℕ)) (fault : QueueFault) → after_lines size [] left ≡ Err fault → FirstWrongLine size 3 left fault
 lines-fault size left fault fails =
     let stops = MatchResult-at_err _ _ fault fails (walk-says (lines-walk size) [] left) in
-    let number = each-length (λ line words. handle_of size line ≡ Ok words) stops.0.earlier stops.0.ys stops.0.each in
+    let number = AllZip-long (λ line words. handle_of size line ≡ Ok words) stops.0.earlier stops.0.ys stops.0.each in
     record {
       earlier = stops.0.earlier;
       handles = stops.0.ys;
@@ -157,7 +158,7 @@ lines-fault size left fault fails =
 pub lines-wrong : (size : ℕ) (left : List (List ℕ)) (fault : QueueFault) → FirstWrongLine size 3 left fault → after_lines size [] left ≡ Err fault
 lines-wrong size left fault first =
     let reads = each-map (SpellsHandle size) (λ line words. handle_of size line ≡ Ok words) (handle-from size) first.earlier first.handles first.each in
-    let number = each-length (SpellsHandle size) first.earlier first.handles first.each in
+    let number = AllZip-long (SpellsHandle size) first.earlier first.handles first.each in
     let here : length (fold put_handle [] first.handles) + 3 ≡ fault.line = omega (arith, first.at, number, put-length [] first.handles) in
     ap (after_lines size []) first.parts
     ∙ walk-fails (lines-walk size) [] first.earlier first.handles first.line first.later fault.cause reads (handle-wrong size first.line fault.cause first.wrong)

@@ -17,7 +17,7 @@ use Rattle.jb_text.specs.Parts.{◌>>=◌, before, onward, number_of}
 use Rattle.jb_queue.specs.Queue.{home_named, or_cause, data_in_word, decoded_block, op_of, after_ops}
 use Rattle.jb_queue.specs.Grammar.{Entry, SpellsOp}
 use Rattle.jb_queue.specs.Faults.{HasNoData, IsNoOp, IsWrongWord, FirstWrongWord}
-use Rattle.jb_text.proofs.Readings.{then-says, if-says, wrong-is}
+use Rattle.jb_text.proofs.ReadSteps.{then-says, if-says, wrong-is}
 use Rattle.jb_text.proofs.Joins.{Without, is_clear, literal-without, without-append, before-put, onward-put, before-whole, onward-none, decimal-without}
 use Rattle.jb_text.proofs.Numerals.{number-is_decimal, decimal-is_number}
 use Rattle.jb_text.proofs.Splits.{parted, onward-nil, onward-goes, onward-ends}

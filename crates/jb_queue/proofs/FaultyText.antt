@@ -11,7 +11,7 @@ use Rattle.jb_queue.specs.Faults.{HasNoFormat, HasNoLimit, FirstFaultOf, FirstFa
 use Rattle.jb_queue.proofs.FaultyLines.{lines-wrong}
 use Rattle.jb_queue.proofs.SpelledText.{behind_limit, behind_format, read, SpellsLines, read-says, format-from, limit-is, limit-from}
 use Rattle.std.proofs.lemmas.Result.{MatchResult-at_err}
-use Rattle.jb_text.proofs.Readings.{FirstFails, FirstGives, first-says, wrong-is}
+use Rattle.jb_text.proofs.ReadSteps.{FirstFails, FirstGives, first-says, wrong-is}
 
 read-fault : (all : List (List ℕ)) (fault : QueueFault) → read all ≡ Err fault → FirstFaultOf all fault
 read-fault all fault is = MatchResult-at_err (SpellsLines all) (FirstFaultOf all) fault is (read-says all)

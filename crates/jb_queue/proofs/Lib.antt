@@ -1,10 +1,10 @@
-pub mod Data
+pub mod DataDigits
+pub mod DigitTable
 pub mod FaultyLines
 pub mod FaultyOps
 pub mod FaultyText
 pub mod Ops
-pub mod Placed
+pub mod QueueHandles
 pub mod SpelledText
-pub mod Table
 pub mod Walks
 pub mod Weights

@@ -20,44 +20,47 @@ pub ops-walk : (size : ℕ) → IsWalk (op_of size) put_op same_cause (after_ops
 unfolding after_ops
 ops-walk size = record { ends = λ had. refl; goes = λ had text texts op is. rw is refl; fails = λ had text texts cause is. rw is refl }
 
--- the loop over the words: what is left gives the whole, after what was gathered
-module _ (size : ℕ) (had : WordMap) (rest : Option (Bor (List ℕ))) (text : Bor (List ℕ)) (word : List ℕ) (behind : List (List ℕ)) (whole : Result WordMap Cause)
-    (is : rest ≡ Some text) (parts : words text.now ≡ word ∷ behind) (so_far : after_ops size had (words_in (option_copied rest)) ≡ whole) where
-  from_word : after_ops size had (word ∷ behind) ≡ whole
-  from_word = ap (after_ops size had) (sym parts) ∙ ap (λ r. after_ops size had (words_in (option_copied r))) (sym is) ∙ so_far
+-- the words of a line are those that the rest leaves after what was gathered; the first of them is of the form, if the first of the rest is
+pub record ReadTo (size : ℕ) (line : List ℕ) (had : WordMap) (rest : Option (Bor (List ℕ))) : Type 0 where
+  pub reads : after_ops size had (words_in (option_copied rest)) ≡ after_ops size map.empty (words line)
+  pub first : FirstReads size (words_in (option_copied rest)) → FirstReads size (words line)
 
-  pub op-goes : (op : ℕ × Word) → op_of size word ≡ Ok op → after_ops size (map.insert had op.0 op.1) behind ≡ whole
-  op-goes op step = sym ((ops-walk size).goes had word behind op step) ∙ from_word
+-- the next word
+module _ (size : ℕ) (line : List ℕ) (had : WordMap) (rest : Option (Bor (List ℕ))) (text : Bor (List ℕ)) (word : List ℕ) (behind : Option (Bor (List ℕ)))
+    (is : rest ≡ Some text) (parts : words text.now ≡ word ∷ words_in (option_copied behind)) (so : ReadTo size line had rest) where
+  left_is : words_in (option_copied rest) ≡ word ∷ words_in (option_copied behind)
+  left_is = ap (λ r. words_in (option_copied r)) is ∙ parts
 
-  pub op-fails : (cause : Cause) → op_of size word ≡ Err cause → whole ≡ Err cause
-  op-fails cause step = sym from_word ∙ (ops-walk size).fails had word behind cause step
+  from_word : after_ops size had (word ∷ words_in (option_copied behind)) ≡ after_ops size map.empty (words line)
+  from_word = ap (after_ops size had) (sym left_is) ∙ so.reads
+
+  pub op-fails : (cause : Cause) → op_of size word ≡ Err cause → after_ops size map.empty (words line) ≡ Err cause
+  op-fails cause step = sym from_word ∙ (ops-walk size).fails had word (words_in (option_copied behind)) cause step
+
+  pub op-first : IsOk (op_of size word) → FirstReads size (words line)
+  op-first reads = so.first (rw left_is reads)
+
+  pub op-goes : (op : ℕ × Word) → op_of size word ≡ Ok op → ReadTo size line (map.insert had op.0 op.1) behind
+  op-goes op step = record {
+    reads = sym ((ops-walk size).goes had word (words_in (option_copied behind)) op step) ∙ from_word;
+    first = λ later. op-first (rw step refl);
+  }
+
+-- no word is left
+pub ops-whole : (size : ℕ) (line : List ℕ) (had : WordMap) (rest : Option (Bor (List ℕ))) → ((text : Bor (List ℕ)) → rest ≡ Some text → ⊥) → ReadTo size line had rest
+    → (after_ops size map.empty (words line) ≡ Ok had) × FirstReads size (words line)
+ops-whole size line had None ended so = (sym so.reads ∙ (ops-walk size).ends had, so.first tt)
+ops-whole size line had (Some text) ended so = absurd (ended text refl)
 
 -- a fault of a part is one of the whole
 pub gives-on : {A B : Type 0} (cause : Cause) (part : Result A Cause) (whole : Result B Cause) → ((cause' : Cause) → part ≡ Err cause' → whole ≡ Err cause') → Gives {A = A} (Err cause) part → Gives {A = B} (Err cause) whole
 gives-on Memory part whole on given = tt
 gives-on cause part whole on given = on cause given
 
--- the last word was the last
-pub ops-whole : (size : ℕ) (had : WordMap) (rest : Option (Bor (List ℕ))) (whole : Result WordMap Cause) → ((text : Bor (List ℕ)) → rest ≡ Some text → ⊥) → after_ops size had (words_in (option_copied rest)) ≡ whole → whole ≡ Ok had
-ops-whole size had None whole ended so_far = sym so_far ∙ (ops-walk size).ends had
-ops-whole size had (Some text) whole ended so_far = absurd (ended text refl)
-
 -- what is read where a test holds, and else is a fault
 pub tested : (test : Bool) (cause : Cause) (x : Result WordMap Cause) (now : WordMap) → (if test then x else Err cause) ≡ Ok now → (test ≡ true) × (x ≡ Ok now)
 tested true cause x now is = (refl, is)
 tested false cause x now is = cc
-
--- the first of the words that are left is of the form
-pub first-here : (size : ℕ) (rest : Option (Bor (List ℕ))) (text : Bor (List ℕ)) (word : List ℕ) (behind : List (List ℕ)) → rest ≡ Some text → words text.now ≡ word ∷ behind → IsOk (op_of size word) → FirstReads size (words_in (option_copied rest))
-first-here size rest text word behind is parts reads = rw (is, parts) reads
-
-pub first-read : (size : ℕ) (rest : Option (Bor (List ℕ))) (text : Bor (List ℕ)) (word : List ℕ) (behind : List (List ℕ)) (op : ℕ × Word) → rest ≡ Some text → words text.now ≡ word ∷ behind → op_of size word ≡ Ok op → FirstReads size (words_in (option_copied rest))
-first-read size rest text word behind op is parts read = first-here size rest text word behind is parts (rw read refl)
-
--- where none is left there is no first
-pub first-none : (size : ℕ) (rest : Option (Bor (List ℕ))) → ((text : Bor (List ℕ)) → rest ≡ Some text → ⊥) → FirstReads size (words_in (option_copied rest))
-first-none size None ended = tt
-first-none size (Some text) ended = absurd (ended text refl)
 
 -- words that are read begin with one of the form
 ops-first : (size : ℕ) (had : WordMap) (texts : List (List ℕ)) (now : WordMap) → after_ops size had texts ≡ Ok now → FirstReads size texts

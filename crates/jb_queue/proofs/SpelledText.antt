@@ -1,6 +1,6 @@
 -- A queue text is read exactly where it spells a queue, and else has a first fault.
 use Rattle.std.proofs.Common.{subst, ◌↔◌, ◌≡◌, ◌∙◌, sym, ap, ap₂, ℕ, ◌^◌, ◌<◌, ◌≤◌, ◌&&◌, nat_le, Bool, true, false, if◌then◌else◌, List, [], ◌∷◌, ◌++◌, length, length-append, refl, arith, append_assoc, Option, Some, None, Result, Ok, Err, inl, inr, codes, decimal, option_and_then, MatchOption, MatchResult, bytes_eq, append-nil}
-use Rattle.std.specs.List.{AllByRecursion}
+use Rattle.std.specs.List.{AllZip, AllByRecursion}
 use Rattle.std.proofs.lemmas.Result.{MatchResult-at_ok, MatchResult-weaker}
 use Rattle.std.proofs.lemmas.Option.{option_and_then_some}
 use Rattle.std.proofs.lemmas.Bool.Decides.{nat_tests}
@@ -16,10 +16,10 @@ use Rattle.jb_handle.specs.declared.stopped.Stopped.{Stopped}
 use Rattle.jb_text.specs.Parts.{◌>>=◌, before, onward, lines, spaced, read_first, behind_word, number_of, and_then}
 use Rattle.jb_queue.specs.Queue.{Queue, at_line, both_of, or_cause, where_true, format_behind, format_of, limit_in_line, size_of_bytes, width_behind, handle_of, after_lines, queue_of}
 use Rattle.jb_text.specs.Lines.{AreLines}
-use Rattle.jb_queue.specs.Grammar.{width_text, format_line, Each, SpellsHandle, Spells}
+use Rattle.jb_queue.specs.Grammar.{width_text, format_line, SpellsHandle, Spells}
 use Rattle.jb_handle.specs.Tickets.{TicketsFrom}
 use Rattle.jb_handle.specs.Word.{WordMap}
-use Rattle.jb_text.proofs.Readings.{FirstFails, FirstGives, first-says, behind-read}
+use Rattle.jb_text.proofs.ReadSteps.{FirstFails, FirstGives, first-says, behind-read}
 use Rattle.jb_queue.specs.Faults.{HasNoFormat, HasNoLimit, HandleFault, FirstFaultOf}
 use Rattle.jb_queue.proofs.Walks.{each-map}
 use Rattle.jb_queue.proofs.FaultyLines.{lines-fault, handle-is, handle-from, texts-clear}
@@ -112,7 +112,7 @@ limit-from limit least most =
     rw (decimal-is_number limit (omega arith), holds) refl
 
 -- what spells handles is read to them
-handles-from : (size : ℕ) (had : List Stopped) (left : List (List ℕ)) (handles : List Stopped) → Each (λ line handle. SpellsHandle size line handle.words) left handles → TicketsFrom (length had) handles → after_lines size had left ≡ Ok (had ++ handles)
+handles-from : (size : ℕ) (had : List Stopped) (left : List (List ℕ)) (handles : List Stopped) → AllZip (λ line handle. SpellsHandle size line handle.words) left handles → TicketsFrom (length had) handles → after_lines size had left ≡ Ok (had ++ handles)
 handles-from size had [] [] each tickets = (lines-walk size).ends had ∙ ap Ok (sym (append-nil had))
 handles-from size had (line ∷ more) (h ∷ hs) each tickets =
     (lines-walk size).goes had line more h.words (handle-from size line h.words each.0)
@@ -138,7 +138,7 @@ pub record SpellsLines (all : List (List ℕ)) (queue : Queue) : Type 0 where
   pub parts : all ≡ format_line queue.size queue.width ∷ (codes "limit " ++ decimal queue.limit) ∷ more
   pub least : 3 ≤ queue.limit
   pub most : queue.limit ≤ 2147483646
-  pub each : Each (λ line handle. SpellsHandle (bytes_of queue.size) line handle.words) more queue.handles
+  pub each : AllZip (λ line handle. SpellsHandle (bytes_of queue.size) line handle.words) more queue.handles
   pub tickets : TicketsFrom 0 queue.handles
 
 handles-say : (all : List (List ℕ)) (format : BlockSize × Width) (limit : ℕ) (more : List (List ℕ)) → all ≡ format_line format.0 format.1 ∷ (codes "limit " ++ decimal limit) ∷ more → 3 ≤ limit → limit ≤ 2147483646
@@ -155,7 +155,7 @@ handles-say all format limit more parts least most = by (after_lines (bytes_of f
           parts = parts;
           least = least;
           most = most;
-          each = subst (Each (λ line handle. SpellsHandle (bytes_of format.0) line handle.words) more) (sym are.whole) spells;
+          each = subst (AllZip (λ line handle. SpellsHandle (bytes_of format.0) line handle.words) more) (sym are.whole) spells;
           tickets = subst (TicketsFrom 0) (sym are.whole) are.tickets;
         }
     by (Err fault) fails = record {
@@ -214,7 +214,7 @@ handle-line size line words spells =
     let clear = texts-clear size 10 feed-delimits spells.texts spells.ops spells.each in
     subst IsLine (sym spells.spelled) (omega arith, without-append 10 (codes "h") (spaced spells.texts) (literal-without 10 (codes "h") refl) (spaced-without 10 spells.texts (λ same. cc) clear))
 
-handle-lines : (size : ℕ) (left : List (List ℕ)) (handles : List Stopped) → Each (λ line handle. SpellsHandle size line handle.words) left handles → AllByRecursion IsLine left
+handle-lines : (size : ℕ) (left : List (List ℕ)) (handles : List Stopped) → AllZip (λ line handle. SpellsHandle size line handle.words) left handles → AllByRecursion IsLine left
 handle-lines size [] [] each = tt
 handle-lines size (line ∷ more) (h ∷ hs) each = (handle-line size line h.words each.0, handle-lines size more hs each.1)
 handle-lines size left handles each = absurd each

@@ -1,22 +1,17 @@
 -- A list that is read item by item, up to the first that cannot be read.
-use Rattle.std.proofs.Common.{◌≡◌, ◌⊎◌, ◌∙◌, sym, ap, suc, List, [], ◌∷◌, ◌++◌, length, fold, refl, Result, Ok, Err, inl, inr, MatchResult}
-use Rattle.jb_queue.specs.Grammar.{Each}
+use Rattle.std.proofs.Common.{◌≡◌, ◌⊎◌, ◌∙◌, sym, ap, List, [], ◌∷◌, ◌++◌, fold, refl, Result, Ok, Err, inl, inr, MatchResult}
+use Rattle.std.specs.List.{AllZip}
 
 -- two lists whose items belong together also do so by what follows of each two
-pub each-map : {A B : Type 0} (R Q : A → B → Type 0) → ((x : A) (y : B) → R x y → Q x y) → (xs : List A) (ys : List B) → Each R xs ys → Each Q xs ys
+pub each-map : {A B : Type 0} (R Q : A → B → Type 0) → ((x : A) (y : B) → R x y → Q x y) → (xs : List A) (ys : List B) → AllZip R xs ys → AllZip Q xs ys
 each-map R Q then [] [] each = tt
 each-map R Q then (x ∷ xs) (y ∷ ys) each = (then x y each.0, each-map R Q then xs ys each.1)
 each-map R Q then xs ys each = absurd each
 
-pub each-length : {A B : Type 0} (R : A → B → Type 0) (xs : List A) (ys : List B) → Each R xs ys → length xs ≡ length ys
-each-length R [] [] each = refl
-each-length R (x ∷ xs) (y ∷ ys) each = ap suc (each-length R xs ys each.1)
-each-length R xs ys each = absurd each
-
 -- all items were read
 pub record ReadsAll {X Y E : Type 0} (read : X → Result Y E) (xs : List X) : Type 0 where
   pub ys : List Y
-  pub each : Each (λ x y. read x ≡ Ok y) xs ys
+  pub each : AllZip (λ x y. read x ≡ Ok y) xs ys
 
 -- all items before one were read, and that one cannot be
 pub record StopsAt {X Y E : Type 0} (read : X → Result Y E) (xs : List X) : Type 0 where
@@ -26,7 +21,7 @@ pub record StopsAt {X Y E : Type 0} (read : X → Result Y E) (xs : List X) : Ty
   pub later : List X
   pub fault : E
   pub parts : xs ≡ earlier ++ item ∷ later
-  pub each : Each (λ x y. read x ≡ Ok y) earlier ys
+  pub each : AllZip (λ x y. read x ≡ Ok y) earlier ys
   pub wrong : read item ≡ Err fault
 
 either : {X Y E : Type 0} (read : X → Result Y E) (xs : List X) → ReadsAll read xs ⊎ StopsAt read xs
@@ -54,12 +49,12 @@ pub record IsWalk {S X Y E F : Type 0} (read : X → Result Y E) (put : S → Y 
   pub fails : (had : S) (x : X) (xs : List X) (e : E) → read x ≡ Err e → walk had (x ∷ xs) ≡ Err (blame had e)
 
 module _ {S X Y E F : Type 0} {read : X → Result Y E} {put : S → Y → S} {blame : S → E → F} {walk : S → List X → Result S F} (is : IsWalk read put blame walk) where
-  pub walk-goes : (had : S) (xs : List X) (ys : List Y) → Each (λ x y. read x ≡ Ok y) xs ys → walk had xs ≡ Ok (fold put had ys)
+  pub walk-goes : (had : S) (xs : List X) (ys : List Y) → AllZip (λ x y. read x ≡ Ok y) xs ys → walk had xs ≡ Ok (fold put had ys)
   walk-goes had [] [] each = is.ends had
   walk-goes had (x ∷ xs) (y ∷ ys) each = is.goes had x xs y each.0 ∙ walk-goes (put had y) xs ys each.1
   walk-goes had xs ys each = absurd each
 
-  pub walk-fails : (had : S) (earlier : List X) (ys : List Y) (x : X) (later : List X) (e : E) → Each (λ x y. read x ≡ Ok y) earlier ys → read x ≡ Err e → walk had (earlier ++ x ∷ later) ≡ Err (blame (fold put had ys) e)
+  pub walk-fails : (had : S) (earlier : List X) (ys : List Y) (x : X) (later : List X) (e : E) → AllZip (λ x y. read x ≡ Ok y) earlier ys → read x ≡ Err e → walk had (earlier ++ x ∷ later) ≡ Err (blame (fold put had ys) e)
   walk-fails had [] [] x later e each wrong = is.fails had x later e wrong
   walk-fails had (first ∷ earlier) (y ∷ ys) x later e each wrong = is.goes had first (earlier ++ x ∷ later) y each.0 ∙ walk-fails (put had y) earlier ys x later e each.1 wrong
   walk-fails had earlier ys x later e each wrong = absurd each

@@ -1,5 +1,6 @@
 -- A queue weighs at most half as much as its text is long.
 use Rattle.std.proofs.Common.{◌≡◌, ◌∙◌, sym, ap, subst, ℕ, ◌+◌, ◌≤◌, List, [], ◌∷◌, ◌++◌, length, fold, length-append, arith, refl, Result, Ok, Err, ◌*◌, ◌<◌, ◌==◌, Option, option_map, Some, None, inl, inr, append_assoc, append-nil, nat_cmp}
+use Rattle.std.specs.List.{AllZip}
 use Rattle.std.proofs.lemmas.Result.{MatchResult-at_err}
 use Rattle.std.specs.Cmp.{nat_cmp_total}
 use Rattle.std.proofs.lemmas.Bool.{cases_eq}
@@ -12,7 +13,6 @@ use Rattle.jb_text.specs.Parts.{lines, FirstLine, grow, words, read_first}
 use Rattle.jb_queue.specs.Queue.{Gives, Reports, BeginsHandle, MayGrow, handle_of, after_lines, op_of, after_ops, behind_h}
 use Rattle.jb_handle.specs.Word.{WordMap}
 use Rattle.jb_handle.specs.Tickets.{TicketsFrom}
-use Rattle.jb_queue.specs.Grammar.{Each}
 use Rattle.jb_handle.specs.declared.word.Word.{Word}
 use Rattle.jb_handle.specs.Size.{weight}
 use Rattle.jb_text.proofs.Splits.{lines-nil, lines-feed, lines-goes, words-nil, words-space, words-goes}
@@ -44,7 +44,7 @@ put-length had (words ∷ each) =
 pub record ReadsLines (size : ℕ) (had now : List Stopped) (left : List (List ℕ)) : Type 0 where
   pub handles : List Stopped
   pub whole : now ≡ had ++ handles
-  pub each : Each (λ line handle. handle_of size line ≡ Ok handle.words) left handles
+  pub each : AllZip (λ line handle. handle_of size line ≡ Ok handle.words) left handles
   pub tickets : TicketsFrom (length had) handles
 
 pub handles-are : (size : ℕ) (had now : List Stopped) (left : List (List ℕ)) → after_lines size had left ≡ Ok now → ReadsLines size had now left

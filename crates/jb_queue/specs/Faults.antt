@@ -1,5 +1,6 @@
 -- The first fault of a queue text in the words of its grammar: what is of the form before it, and what is not there.
 use Rattle.std.specs.Prelude.{◌≡◌, ℕ, ◌+◌, ◌^◌, ◌<◌, ◌≤◌, ◌⊎◌, List, ◌∷◌, ◌++◌, length, codes, decimal, Ok}
+use Rattle.std.specs.List.{AllZip}
 use Rattle.hex.specs.Hex.{decode_of}
 use Rattle.jb_block.specs.declared.size.BlockSize.{BlockSize}
 use Rattle.jb_block.specs.declared.width.Width.{Width}
@@ -9,7 +10,7 @@ use Rattle.jb_text.specs.Parts.{lines, words}
 use Rattle.jb_queue.specs.declared.fault.Cause.{Cause}
 use Rattle.jb_queue.specs.declared.fault.Cause.TheVariants.{BlockSizeLine, LimitLine, HandleLine, OpWord, DataWord}
 use Rattle.jb_queue.specs.declared.fault.QueueFault.{QueueFault}
-use Rattle.jb_queue.specs.Grammar.{Each, Entry, SpellsOp, SpellsHandle, format_line}
+use Rattle.jb_queue.specs.Grammar.{Entry, SpellsOp, SpellsHandle, format_line}
 
 -- up to its first `=`, a word is not `w` or `r` and the number of a home block; or it is an `r` word with an `=`
 pub record IsNoOp (text : List ℕ) : Type 0 where
@@ -36,7 +37,7 @@ pub record FirstWrongWord (size : ℕ) (texts : List (List ℕ)) (cause : Cause)
   pub word : List ℕ
   pub later : List (List ℕ)
   pub parts : texts ≡ earlier ++ word ∷ later
-  pub each : Each (SpellsOp size) earlier ops
+  pub each : AllZip (SpellsOp size) earlier ops
   pub wrong : IsWrongWord size word cause
 
 -- a line that is no handle's: it is not `h`, and does not begin with `h` and a space
@@ -61,7 +62,7 @@ pub record FirstWrongLine (size number : ℕ) (all : List (List ℕ)) (fault : Q
   pub line : List ℕ
   pub later : List (List ℕ)
   pub parts : all ≡ earlier ++ line ∷ later
-  pub each : Each (SpellsHandle size) earlier handles
+  pub each : AllZip (SpellsHandle size) earlier handles
   pub at : fault.line ≡ number + length earlier
   pub wrong : IsWrongLine size line fault.cause
 

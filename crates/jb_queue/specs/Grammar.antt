@@ -1,5 +1,6 @@
 -- The grammar of a queue text in its own words: which text spells which queue.
 use Rattle.std.specs.Prelude.{◌≡◌, ℕ, ◌^◌, ◌<◌, ◌≤◌, ◌==◌, ◌⊎◌, if◌then◌else◌, List, [], ◌∷◌, ◌++◌, length, codes, decimal, Option, Some, None, Ok}
+use Rattle.std.specs.List.{AllZip}
 use Rattle.std.specs.Option.{option_or}
 use Rattle.std.specs.FinMap as map
 use Rattle.hex.specs.Hex.{decode_of}
@@ -43,13 +44,6 @@ pub record SpellsOp (size : ℕ) (text : List ℕ) (op : Entry) : Type 0 where
   pub home : op.0 < 2 ^ 64
   pub form : SpellsZeros size text op ⊎ (SpellsBytes size text op ⊎ SpellsFree text op)
 
--- two lists of one length, whose items belong together
-abbrev pub Each : {A B : Type 0} → (A → B → Type 0) → List A → List B → Type 0
-Each R [] [] = Unit {0}
-Each R [] (y ∷ ys) = ⊥
-Each R (x ∷ xs) [] = ⊥
-Each R (x ∷ xs) (y ∷ ys) = R x y × Each R xs ys
-
 -- the word of the last op on home b
 abbrev pub last_op : List Entry → ℕ → Option Word
 last_op [] b = None
@@ -60,7 +54,7 @@ pub record SpellsHandle (size : ℕ) (line : List ℕ) (words : WordMap) : Type 
   pub texts : List (List ℕ)
   pub ops : List Entry
   pub spelled : line ≡ codes "h" ++ spaced texts
-  pub each : Each (SpellsOp size) texts ops
+  pub each : AllZip (SpellsOp size) texts ops
   pub left : (b : ℕ) → map.get words b ≡ last_op ops b
 
 -- what follows the block size: nothing, or ` wide` where block numbers have 64 bits
@@ -78,5 +72,5 @@ pub record Spells (text : List ℕ) (queue : Queue) : Type 0 where
   pub spelled : AreLines (format_line queue.size queue.width ∷ (codes "limit " ++ decimal queue.limit) ∷ handle_lines) text
   pub least : 3 ≤ queue.limit
   pub most : queue.limit ≤ 2147483646
-  pub each : Each (λ line handle. SpellsHandle (bytes_of queue.size) line handle.words) handle_lines queue.handles
+  pub each : AllZip (λ line handle. SpellsHandle (bytes_of queue.size) line handle.words) handle_lines queue.handles
   pub tickets : TicketsFrom 0 queue.handles

@@ -1,5 +1,5 @@
 pub mod Faults
+pub mod Grammar
 pub mod Queue
 pub mod QueueLines
 pub mod QueueText
-pub mod Grammar

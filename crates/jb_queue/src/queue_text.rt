@@ -17,7 +17,7 @@ use crate::fault::{Cause, QueueFault};
 use crate::op_text::read_op;
 use crate::queue_lines::{QueueLines, count_handles};
 use jb_block::{BlockSize, Width};
-use jb_handle::{Gathered, Stopped, Words};
+use jb_handle::{Stopped, Words, WordsBuilder};
 use jb_text::{next_line, next_word, number, part};
 use std::alloc::Global;
 
@@ -216,7 +216,7 @@ fn read_ops(alloc: Global, text: &[u8], bs: BlockSize) -> Result<Words, Cause>
     ensures gives { Gives result (after_ops (bytes_of bs) map.empty (words text.now)) }
     ensures first { result ≡ Err OutOfMemory → FirstReads (bytes_of bs) (words text.now) }
 {
-    let mut gathered = Gathered::new(alloc);
+    let mut gathered = WordsBuilder::new(alloc);
     let mut rest = Some(text);
     while let Some(text) = rest {
         let (word, behind) = next_word(text);

@@ -1,9 +1,9 @@
+pub mod CutReader
 pub mod Grammar
 pub mod Joins
-pub mod Left
+pub mod LineLeft
 pub mod Numerals
 pub mod PartByPart
-pub mod Readings
+pub mod PutBytes
+pub mod ReadSteps
 pub mod Splits
-pub mod Taken
-pub mod Written

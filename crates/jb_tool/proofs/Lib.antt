@@ -1,7 +1,7 @@
-pub mod Adding
-pub mod Answering
-pub mod Reading
-pub mod Refusals
-pub mod Stepping
-pub mod Tallying
+pub mod EarliestRefused
+pub mod HandleRefusals
+pub mod LoadAnswers
+pub mod NextHandle
+pub mod TrailBlocks
 pub mod WordRefusals
+pub mod WorkerSteps

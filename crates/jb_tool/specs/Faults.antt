@@ -7,13 +7,13 @@ use Rattle.jb_handle.specs.declared.changes.TouchFault.{TouchFault}
 use Rattle.jb_handle.specs.declared.changes.TouchFault.TheVariants as touch
 use Rattle.jb_book.specs.declared.fault.BeginFault.{BeginFault}
 use Rattle.jb_book.specs.declared.fault.BeginFault.TheVariants as begin
-use Rattle.jb_tool.specs.declared.loading.fault.HandleFault.{HandleFault}
-use Rattle.jb_tool.specs.declared.loading.fault.HandleFault.TheVariants.{Aborted, Closed, Busy, TooManyCredits, Full, NoCredit, OutOfRange, Length, NotOpen, Memory}
+use Rattle.jb_tool.specs.declared.loading.fault.QueueHandleFault.{QueueHandleFault}
+use Rattle.jb_tool.specs.declared.loading.fault.QueueHandleFault.TheVariants.{Aborted, Closed, Busy, TooManyCredits, Full, NoCredit, OutOfRange, Length, NotOpen, Memory}
 use Rattle.jb_tool.specs.declared.loading.fault.LoadFault.{LoadFault}
 use Rattle.jb_tool.specs.declared.loading.fault.LoadFault.TheVariants as load
 
 -- why a handle was not begun
-abbrev pub not_begun : BeginFault → HandleFault
+abbrev pub not_begun : BeginFault → QueueHandleFault
 not_begun begin.Aborted = Aborted
 not_begun begin.Closed = Closed
 not_begun begin.Busy = Busy
@@ -22,14 +22,14 @@ not_begun (begin.Full reserved) = Full reserved
 not_begun begin.Memory = Memory
 
 -- why a word was not written
-abbrev pub not_touched : TouchFault → HandleFault
+abbrev pub not_touched : TouchFault → QueueHandleFault
 not_touched (touch.NoCredit credits) = NoCredit credits
 not_touched (touch.OutOfRange home) = OutOfRange home
 not_touched touch.Length = Length
 not_touched touch.Memory = Memory
 
 -- why a handle of the queue did not stop
-abbrev pub not_stopped : ChangeFault TouchFault → HandleFault
+abbrev pub not_stopped : ChangeFault TouchFault → QueueHandleFault
 not_stopped (change.Begin fault) = not_begun fault
 not_stopped (change.Refused fault) = not_touched fault
 not_stopped change.Aborted = Aborted

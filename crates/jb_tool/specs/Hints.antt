@@ -4,8 +4,8 @@ use Rattle.jb_args.specs.declared.hint.Hint.{Hint}
 use Rattle.jb_args.specs.declared.hint.Hint.TheVariants as hint
 use Rattle.jb_desk.specs.declared.ended.Ended.{Ended}
 use Rattle.jb_desk.specs.declared.ended.Ended.TheVariants as ended
-use Rattle.jb_tool.specs.declared.loading.fault.HandleFault.{HandleFault}
-use Rattle.jb_tool.specs.declared.loading.fault.HandleFault.TheVariants.{Aborted, Busy, Closed, Full, Length, Memory, NoCredit, NotOpen, OutOfRange, TooManyCredits}
+use Rattle.jb_tool.specs.declared.loading.fault.QueueHandleFault.{QueueHandleFault}
+use Rattle.jb_tool.specs.declared.loading.fault.QueueHandleFault.TheVariants.{Aborted, Busy, Closed, Full, Length, Memory, NoCredit, NotOpen, OutOfRange, TooManyCredits}
 use Rattle.jb_tool.specs.declared.loading.loaded.Loaded.{Loaded}
 use Rattle.jb_tool.specs.declared.loading.loaded.Refused.{Refused}
 
@@ -18,7 +18,7 @@ aborted_hint (ended.Shut over) = hint.HandleAborted
 
 -- a handle that was refused, in an image of so many home blocks, where the committer ended so; the table has no row for a fault that
 -- no text has
-abbrev pub handle_hint : ℕ → Ended → HandleFault → Option Hint
+abbrev pub handle_hint : ℕ → Ended → QueueHandleFault → Option Hint
 handle_hint homes commit (TooManyCredits most) = Some hint.HandleTooManyCredits
 handle_hint homes commit (OutOfRange home) = Some (hint.HandleOutOfRange homes)
 handle_hint homes commit (Full reserved) = Some hint.HandleFull

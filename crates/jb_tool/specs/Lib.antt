@@ -2,10 +2,10 @@ pub mod Faults
 pub mod FirstRefused
 pub mod Hints
 pub mod Load
+pub mod LoadLines
 pub mod Loads
 pub mod Program
-pub mod RefusedWords
 pub mod RefusedHandle
-pub mod Runs
-pub mod LoadLines
+pub mod RefusedWords
 pub mod RunWanted
+pub mod Runs

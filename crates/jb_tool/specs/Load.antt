@@ -2,9 +2,9 @@
 use Rattle.std.specs.Prelude.{◌≡◌, ◌⊎◌, ◌≤◌, ℕ, false, List, Option, None, Result, Ok, Err, Some}
 use Rattle.jb_args.specs.declared.hint.Hint.{Hint}
 use Rattle.jb_args.specs.declared.option_name.OptionName.TheVariants.{Threads}
-use Rattle.jb_commands.specs.Faulty.{queue_fault}
+use Rattle.jb_commands.specs.QueueFaults.{queue_fault}
 use Rattle.jb_commands.specs.AnswerSaid.{said}
-use Rattle.jb_commands.specs.declared.answer.Answer.{Answer}
+use Rattle.jb_commands.specs.declared.command_output.CommandOutput.{CommandOutput}
 use Rattle.jb_deck.specs.declared.fault.OpenFault.{OpenFault}
 use Rattle.jb_deck.specs.declared.fault.OpenFault.TheVariants as opening
 use Rattle.jb_disk.specs.declared.disk.Disk.{Ghosts as Disks}
@@ -27,9 +27,9 @@ use Rattle.jb_commands.specs.Files.{IsImageOpened, IsShut}
 use Rattle.jb_commands.specs.Lines.{names_with}
 use Rattle.jb_commands.specs.JournalPlace.{JudgesBeside, is_apart}
 use Rattle.jb_commands.specs.Runs.{Closes}
-use Rattle.jb_commands.specs.Said.{Outputs, Tells}
+use Rattle.jb_commands.specs.Outputs.{Outputs, Tells}
 use Rattle.jb_commands.specs.Texts.{HasNoText, IsText}
-use Rattle.jb_commands.specs.declared.ended.Ended.{Ended}
+use Rattle.jb_commands.specs.declared.program_end.ProgramEnd.{ProgramEnd}
 use Rattle.jb_tool.specs.Hints.{load_hint}
 use Rattle.jb_tool.specs.declared.load_report.LoadReport.{LoadReport}
 use Rattle.jb_tool.specs.declared.load_report.LoadReport.TheVariants.{Loaded as ReportsLoaded, Text as ReportsText}
@@ -62,18 +62,18 @@ load_fault loading.Memory = Memory
 load_fault loading.Accounts = Accounts
 
 -- how a command ends by what the telling of a load answers, and with this hint
-abbrev pub end_with_hint : Option Hint → Result ℕ WriteFault → Result Ended CommandFault
+abbrev pub end_with_hint : Option Hint → Result ℕ WriteFault → Result ProgramEnd CommandFault
 end_with_hint hint (Ok status) = Ok (record { status = status; hint = hint })
 end_with_hint hint (Err fault) = Err CommandWriteFault
 
 -- what a load has to say is told: its lines, or the line of its text's first fault
-abbrev pub TellsLoadReport : LoadReport → Outputs → Outputs → Result Ended CommandFault → Type 0
+abbrev pub TellsLoadReport : LoadReport → Outputs → Outputs → Result ProgramEnd CommandFault → Type 0
 TellsLoadReport (ReportsLoaded loaded homes) old new end =
     (told : Result ℕ WriteFault) × (end ≡ end_with_hint (load_hint homes loaded) told) × TellsLoad loaded old.out new.out old.err new.err told
 TellsLoadReport (ReportsText answer) old new end = Tells (said answer) old new end
 
 -- what a load ended with is told, or it ended with a fault, and then nothing is written
-abbrev pub TellsLoadEnd : Result LoadReport CommandFault → Outputs → Outputs → Result Ended CommandFault → Type 0
+abbrev pub TellsLoadEnd : Result LoadReport CommandFault → Outputs → Outputs → Result ProgramEnd CommandFault → Type 0
 TellsLoadEnd (Ok report) old new end = TellsLoadReport report old new end
 TellsLoadEnd (Err fault) old new end = (end ≡ Err fault) × (new ≡ old)
 
@@ -96,7 +96,7 @@ module _ {S T : Type 0} {start : Starts S} {other : Starts T} where
   abbrev pub LoadsRead : LoadOptions → ℕ → ImageDisk (FileDisk S start) (FileDisk T other) → Result Queue QueueFault → Option (ImageDisk (FileDisk S start) (FileDisk T other)) → Result LoadReport CommandFault → Type 0
   LoadsRead options homes disk (Ok queue) image end = LoadsQueue options homes disk queue image end
   LoadsRead options homes disk (Err fault) image end =
-      (image ≡ Some disk) × ((answer : Answer) × (queue_fault fault ≡ Some (said answer)) × (end ≡ Ok (ReportsText answer)))
+      (image ≡ Some disk) × ((answer : CommandOutput) × (queue_fault fault ≡ Some (said answer)) × (end ≡ Ok (ReportsText answer)))
 
   -- the text of the file of this name was not had, or there was no memory for its fault, and the image is as it was opened; or it was had,
   -- and what it holds is loaded or refused
@@ -134,7 +134,7 @@ module _ {S T : Type 0} {start : Starts S} {other : Starts T} where
       × ((options : LoadOptions) × AreOptionsOf load options × LoadsOpened load options homes disk image end)))
 
 -- the whole run of a load
-abbrev pub RunsLoad : Loading → Outputs → Outputs → Ended → Type 0
+abbrev pub RunsLoad : Loading → Outputs → Outputs → ProgramEnd → Type 0
 RunsLoad load old new ended =
     (image : Option FileImage) × (end : Result LoadReport CommandFault) × EndsOfLoad load image end
-    × ((told : Result Ended CommandFault) × (mid : Outputs) × TellsLoadEnd end old mid told × Closes (names_with load.image load.journal) told mid new ended)
+    × ((told : Result ProgramEnd CommandFault) × (mid : Outputs) × TellsLoadEnd end old mid told × Closes (names_with load.image load.journal) told mid new ended)

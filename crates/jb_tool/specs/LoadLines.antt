@@ -7,8 +7,8 @@ use Rattle.jb_text.specs.declared.putting.WriteFault.{WriteFault}
 use Rattle.jb_desk.specs.Ends.{is_shut}
 use Rattle.jb_desk.specs.declared.ended.Ended.{Ended}
 use Rattle.jb_desk.specs.declared.ended.Ended.TheVariants as ended
-use Rattle.jb_tool.specs.declared.loading.fault.HandleFault.{HandleFault}
-use Rattle.jb_tool.specs.declared.loading.fault.HandleFault.TheVariants.{Aborted, Closed, Busy, TooManyCredits, Full, NoCredit, OutOfRange, Length, NotOpen, Memory}
+use Rattle.jb_tool.specs.declared.loading.fault.QueueHandleFault.{QueueHandleFault}
+use Rattle.jb_tool.specs.declared.loading.fault.QueueHandleFault.TheVariants.{Aborted, Closed, Busy, TooManyCredits, Full, NoCredit, OutOfRange, Length, NotOpen, Memory}
 use Rattle.jb_tool.specs.declared.loading.loaded.Refused.{Refused}
 use Rattle.jb_tool.specs.declared.loading.loaded.Loaded.{Loaded}
 
@@ -19,7 +19,7 @@ counts_line l = spelled (
     ∷ codes " groups " ∷ decimal l.groups ∷ codes " blocks " ∷ decimal l.blocks ∷ codes "\n" ∷ [])
 
 -- the name of a fault
-abbrev pub name_of : HandleFault → List ℕ
+abbrev pub name_of : QueueHandleFault → List ℕ
 name_of Aborted = codes "Aborted"
 name_of Closed = codes "Closed"
 name_of Busy = codes "Busy"
@@ -32,7 +32,7 @@ name_of NotOpen = codes "NotOpen"
 name_of Memory = codes "Memory"
 
 -- the number that a fault names, where it names one
-abbrev pub number_named : HandleFault → Option ℕ
+abbrev pub number_named : QueueHandleFault → Option ℕ
 number_named Aborted = None
 number_named Closed = None
 number_named Busy = None

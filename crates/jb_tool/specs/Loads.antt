@@ -1,5 +1,6 @@
 -- What a load answers, and what it has left on its disk.
-use Rattle.std.specs.Prelude.{◌≡◌, ◌≢◌, ℕ, List, length, Option, Result, Ok, Err}
+use Rattle.std.specs.Prelude.{◌≡◌, ◌≢◌, ℕ, Bool, true, false, List, length, Option, Result, Ok, Err}
+use Rattle.std.specs.Duration.{as_nanos}
 use Rattle.std.specs.List.{sum_by}
 use Rattle.jb_block.specs.Size.{bytes_of}
 use Rattle.jb_block.specs.declared.size.BlockSize.{BlockSize}
@@ -10,6 +11,9 @@ use Rattle.jb_deck.specs.Done.{Follow}
 use Rattle.jb_book.specs.OpenDisk.{NotOpened, WasOpened}
 use Rattle.jb_book.specs.Origin.{Begun}
 use Rattle.jb_journal.specs.Run.{EndsRun, RanOn}
+use Rattle.jb_journal.specs.declared.options.Commits.{Commits}
+use Rattle.jb_journal.specs.declared.options.Commits.TheVariants.{MeanwhileOrAfter, After}
+use Rattle.jb_journal.specs.declared.options.Options.{Options}
 use Rattle.jb_journal.specs.declared.ran.Ran.{Ran}
 use Rattle.jb_tool.specs.FirstRefused.{first_refused}
 use Rattle.jb_tool.specs.Runs.{IsRun}
@@ -18,6 +22,20 @@ use Rattle.jb_tool.specs.declared.loading.fault.LoadFault.TheVariants as fault
 use Rattle.jb_tool.specs.declared.loading.loaded.Loaded.{Loaded}
 use Rattle.jb_tool.specs.declared.loading.loaded.Refused.{Refused}
 use Rattle.jb_tool.specs.declared.loading.options.LoadOptions.{LoadOptions}
+
+-- when the handles of a load are committed: after its workers where they are held, and else meanwhile, if the system makes the threads
+abbrev pub commits_of : Bool → Commits
+commits_of true = After
+commits_of false = MeanwhileOrAfter
+
+-- how the journal of a load is run: no commit is put off, and a group that is written home is so as soon as it is committed
+pub record IsRunBy (options : LoadOptions) (run : Options) : Type 0 where
+  pub workers : run.workers ≡ options.threads
+  pub commits : run.commits ≡ commits_of options.hold
+  pub checkpoint : run.checkpoint ≡ options.checkpoint
+  pub level : run.level ≡ 0
+  pub time : as_nanos run.delay.time ≡ 0
+  pub handles : run.delay.handles ≡ 0
 
 -- the counts are those of a run, for a queue of so many handles: the groups are those of its trail, with their blocks, and the refused handle is the earliest of those that its
 -- workers have refused

@@ -11,14 +11,14 @@ use Rattle.jb_args.specs.Command.{wanted_in}
 use Rattle.jb_commands.specs.Ends.{of_fault, with_status}
 use Rattle.jb_commands.specs.Faults.{line_of, not_utf8}
 use Rattle.jb_commands.specs.Runs.{Closes, Runs}
-use Rattle.jb_commands.specs.Said.{Outputs}
-use Rattle.jb_commands.specs.declared.ended.Ended.{Ended}
+use Rattle.jb_commands.specs.Outputs.{Outputs}
+use Rattle.jb_commands.specs.declared.program_end.ProgramEnd.{ProgramEnd}
 use Rattle.jb_commands.specs.declared.fault.CommandFault.TheVariants.{Memory}
 use Rattle.jb_tool.specs.RefusedWords.{RefusesWords}
 use Rattle.jb_tool.specs.RunWanted.{RunsWanted}
 
 -- what `run` says of a run with these words
-pub record RunsWords {S : Type 0} (text : S → List ℕ) (words : List S) (input : Option (List ℕ)) (old new : Outputs) (ended : Ended) : Type 0 where
+pub record RunsWords {S : Type 0} (text : S → List ℕ) (words : List S) (input : Option (List ℕ)) (old new : Outputs) (ended : ProgramEnd) : Type 0 where
   pub bare : words ≡ [] → Runs (AsksCost (codes "-")) input old new ended
   pub asked : words ≢ [] → fault_kinds (map text words) ≡ []
       → IfSome (wanted_in (map text words)) (λ wanted. RunsWanted wanted input old new ended ⊎ Closes None (Err Memory) old new ended)
@@ -26,16 +26,16 @@ pub record RunsWords {S : Type 0} (text : S → List ℕ) (words : List S) (inpu
       → RefusesWords (fault_kinds (map text words)) (wanted_in (map text words)) old new ended
 
 -- the help is on standard error, with status 2, or there was no memory for it
-abbrev pub Helps : Option (List ℕ) → Option (List ℕ) → Ended → Type 0
+abbrev pub Helps : Option (List ℕ) → Option (List ℕ) → ProgramEnd → Type 0
 Helps err_old err_new ended = (ended ≡ with_status 2) ⊎ ((ended ≡ of_fault Memory) × PutsPart err_old err_new (line_of None Memory))
 
 -- what the program answers to its words: at a terminal its help where there are none, and else a run with them
-pub record AnswersWords {S : Type 0} (text : S → List ℕ) (words : List S) (at_terminal : Bool) (input : Option (List ℕ)) (old new : Outputs) (ended : Ended) : Type 0 where
+pub record AnswersWords {S : Type 0} (text : S → List ℕ) (words : List S) (at_terminal : Bool) (input : Option (List ℕ)) (old new : Outputs) (ended : ProgramEnd) : Type 0 where
   pub help : words ≡ [] → at_terminal ≡ true → Helps old.err new.err ended × (new.out ≡ old.out)
   pub run : (words ≢ []) ⊎ (at_terminal ≡ false) → RunsWords text words input old new ended
 
 -- what it answers where the system has not handed its words over: a word that is no text, or no memory
-pub record RefusesKind (kind : ErrorKind) (old new : Outputs) (ended : Ended) : Type 0 where
+pub record RefusesKind (kind : ErrorKind) (old new : Outputs) (ended : ProgramEnd) : Type 0 where
   pub text : kind ≡ InvalidData → (ended ≡ with_status 2) × PutsPart old.err new.err not_utf8
   pub memory : kind ≢ InvalidData → (ended ≡ of_fault Memory) × PutsPart old.err new.err (line_of None Memory)
   pub out : new.out ≡ old.out
@@ -47,6 +47,6 @@ Advises true None err_old err_new = err_new ≡ err_old
 Advises false hint err_old err_new = err_new ≡ err_old
 
 -- the program's status and outputs by what it answered: the status is the answer's, and on a terminal the second line follows
-abbrev pub EndsProgram : Bool → (Outputs → Outputs → Ended → Type 0) → Outputs → Outputs → ℕ → Type 0
+abbrev pub EndsProgram : Bool → (Outputs → Outputs → ProgramEnd → Type 0) → Outputs → Outputs → ℕ → Type 0
 EndsProgram on_terminal Answers old new status =
-    (ended : Ended) × (mid : Outputs) × Answers old mid ended × (status ≡ ended.status) × (new.out ≡ mid.out) × Advises on_terminal ended.hint mid.err new.err
+    (ended : ProgramEnd) × (mid : Outputs) × Answers old mid ended × (status ≡ ended.status) × (new.out ≡ mid.out) × Advises on_terminal ended.hint mid.err new.err

@@ -7,8 +7,8 @@ use Rattle.jb_handle.specs.Word.{WordMap}
 use Rattle.jb_handle.specs.declared.shape.Shape.{Shape}
 use Rattle.jb_handle.specs.declared.word.Word.{Word}
 use Rattle.jb_handle.specs.declared.word.Word.TheVariants.{Copy, Free}
-use Rattle.jb_tool.specs.declared.loading.fault.HandleFault.{HandleFault}
-use Rattle.jb_tool.specs.declared.loading.fault.HandleFault.TheVariants.{Aborted, Closed, Busy, TooManyCredits, Full, NoCredit, OutOfRange, Length, NotOpen, Memory}
+use Rattle.jb_tool.specs.declared.loading.fault.QueueHandleFault.{QueueHandleFault}
+use Rattle.jb_tool.specs.declared.loading.fault.QueueHandleFault.TheVariants.{Aborted, Closed, Busy, TooManyCredits, Full, NoCredit, OutOfRange, Length, NotOpen, Memory}
 
 -- a copy that is shorter or longer than a block
 abbrev pub IsMisfit : Shape → Word → Type 0
@@ -17,7 +17,7 @@ IsMisfit shape Free = ⊥
 
 -- A handle with these words may be refused for this in a journal of this shape. Of what the desk refuses nothing more is known
 -- than that too many credits are more than the most
-abbrev pub IsRefusedFor : Shape → WordMap → HandleFault → Type 0
+abbrev pub IsRefusedFor : Shape → WordMap → QueueHandleFault → Type 0
 IsRefusedFor shape words Aborted = Unit {0}
 IsRefusedFor shape words Closed = Unit {0}
 IsRefusedFor shape words Busy = Unit {0}

@@ -3,8 +3,8 @@ use Rattle.std.specs.Prelude.{ℕ, Bool, false, List, Option}
 use Rattle.jb_args.specs.Command.{Wanted}
 use Rattle.jb_args.specs.Command.Wanted.{WantsLoad, WantsPlain}
 use Rattle.jb_commands.specs.Runs.{Runs, reads_input}
-use Rattle.jb_commands.specs.Said.{Outputs}
-use Rattle.jb_commands.specs.declared.ended.Ended.{Ended}
+use Rattle.jb_commands.specs.Outputs.{Outputs}
+use Rattle.jb_commands.specs.declared.program_end.ProgramEnd.{ProgramEnd}
 use Rattle.jb_tool.specs.Load.{RunsLoad}
 
 -- whether the command that is wanted reads standard input
@@ -13,6 +13,6 @@ wants_input (WantsPlain asked) = reads_input asked
 wants_input (WantsLoad load) = false
 
 -- the whole run of the command that is wanted
-abbrev pub RunsWanted : Wanted → Option (List ℕ) → Outputs → Outputs → Ended → Type 0
+abbrev pub RunsWanted : Wanted → Option (List ℕ) → Outputs → Outputs → ProgramEnd → Type 0
 RunsWanted (WantsPlain asked) input old new ended = Runs asked input old new ended
 RunsWanted (WantsLoad load) input old new ended = RunsLoad load old new ended

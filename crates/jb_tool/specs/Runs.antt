@@ -5,7 +5,7 @@ use Rattle.jb_handle.specs.declared.shape.Shape.{Shape}
 use Rattle.jb_handle.specs.declared.stopped.Stopped.{Stopped}
 use Rattle.jb_journal.specs.Notes.{Stop}
 use Rattle.jb_tool.specs.RefusedHandle.{IsRefusedFor}
-use Rattle.jb_tool.specs.declared.loading.fault.HandleFault.{HandleFault}
+use Rattle.jb_tool.specs.declared.loading.fault.QueueHandleFault.{QueueHandleFault}
 use Rattle.jb_tool.specs.declared.loading.loaded.Refused.{Refused}
 
 -- the handle at a place of the queue
@@ -29,6 +29,6 @@ pub record IsRun (shape : Shape) (queue : List Stopped) (step from : ℕ) (stops
   pub why : IfSome refused (λ r. IsRefusedFor shape (queued_at queue r.handle).words r.fault)
 
 -- the handle at a place of the queue was run: it stopped with its words, after these, or it was refused for what its fault says, and none stopped
-abbrev pub RunsAt : Shape → List Stopped → ℕ → List Stop → List Stop → Result ℕ HandleFault → Type 0
+abbrev pub RunsAt : Shape → List Stopped → ℕ → List Stop → List Stop → Result ℕ QueueHandleFault → Type 0
 RunsAt shape queue at old new (Ok ticket) = new ≡ old ++ (ticket, (queued_at queue at).words) ∷ []
 RunsAt shape queue at old new (Err fault) = (new ≡ old) × IsRefusedFor shape (queued_at queue at).words fault

@@ -11,8 +11,8 @@ ghost use Rattle.jb_tool.specs.RefusedWords.{RefusesWords};
 ghost use Rattle.jb_tool.specs.RunWanted.{RunsWanted, wants_input};
 
 use crate::load_command::run_load;
-use jb_args::{Error, ErrorKind, Plain, Words, parse};
-use jb_commands::{CommandFault, Ended, run_plain};
+use jb_args::{CommandLine, Error, ErrorKind, Plain, parse};
+use jb_commands::{CommandFault, ProgramEnd, run_plain};
 use std::convert::AsStr;
 use std::fs::File;
 use std::io::{Read, Write};
@@ -30,7 +30,7 @@ pub fn run<
     I: Read,
     O: Write,
     E: Write,
->(rt: &R, words: &[S], input: &mut I, out: &mut O, err: &mut E) -> Ended
+>(rt: &R, words: &[S], input: &mut I, out: &mut O, err: &mut E) -> ProgramEnd
     ensures bare { words.now ≡ [] → Runs (AsksCost (codes "-")) (I.remaining input.old)
         (record { out = O.contents out.old; err = E.contents err.old })
         (record { out = O.contents out.new; err = E.contents err.new }) result }
@@ -52,14 +52,14 @@ pub fn run<
         return run_plain(rt, Plain::Cost { file: "-" }, input, out, err);
     }
     match parse(rt.alloc(), words) {
-        Ok(Words::Plain(plain)) => run_plain(rt, plain, input, out, err),
-        Ok(Words::Load(load)) => run_load(rt, load, out, err),
+        Ok(CommandLine::Plain(plain)) => run_plain(rt, plain, input, out, err),
+        Ok(CommandLine::Load(load)) => run_load(rt, load, out, err),
         Err(error) => tell_refusal(&error, out, err),
     }
 }
 
 /// Writes what clap says of the words, and gives the end of the program.
-fn tell_refusal<O: Write, E: Write>(error: &Error, out: &mut O, err: &mut E) -> Ended
+fn tell_refusal<O: Write, E: Write>(error: &Error, out: &mut O, err: &mut E) -> ProgramEnd
     ensures memory { kind_of error.now ≡ ErrorKind.OutOfMemory → Closes None (Err CommandMemory)
         (record { out = O.contents out.old; err = E.contents err.old })
         (record { out = O.contents out.new; err = E.contents err.new }) result }
@@ -73,15 +73,15 @@ fn tell_refusal<O: Write, E: Write>(error: &Error, out: &mut O, err: &mut E) -> 
 {
     if error.kind() == ErrorKind::OutOfMemory {
         CommandFault::Memory.tell(None, err);
-        return Ended::of_fault(CommandFault::Memory);
+        return ProgramEnd::of_fault(CommandFault::Memory);
     }
     if error.use_stderr() {
         let _ignored = write!(err, "{error}");
-        return Ended::with_status(2);
+        return ProgramEnd::with_status(2);
     }
     if write!(out, "{error}").is_err() || out.flush().is_err() {
         CommandFault::WriteFault.tell(None, err);
-        return Ended::of_fault(CommandFault::WriteFault);
+        return ProgramEnd::of_fault(CommandFault::WriteFault);
     }
-    Ended::with_status(0)
+    ProgramEnd::with_status(0)
 }

@@ -4,7 +4,7 @@ ghost use Rattle.jb_tool.specs.Hints.{aborted_hint as aborted_hinted};
 ghost use Rattle.jb_tool.specs.Hints.{checkpoint_hint as checkpoint_hinted, commit_hint as commit_hinted};
 ghost use Rattle.jb_tool.specs.Hints.{handle_hint as handle_hinted, load_hint as load_hinted};
 
-use crate::{HandleFault, Loaded};
+use crate::{Loaded, QueueHandleFault};
 use jb_args::Hint;
 use jb_journal::Ended;
 
@@ -22,17 +22,17 @@ pub(crate) fn load_hint(loaded: &Loaded, homes: u64) -> Option<Hint>
 
 /// The same of a handle that was refused, where the committer ended so; the table has no row for a fault that no text
 /// has.
-fn handle_hint(fault: HandleFault, commit: Ended, homes: u64) -> Option<Hint>
+fn handle_hint(fault: QueueHandleFault, commit: Ended, homes: u64) -> Option<Hint>
     ensures { result ≡ handle_hinted homes commit fault }
 {
     match fault {
-        HandleFault::TooManyCredits(_) => Some(Hint::HandleTooManyCredits),
-        HandleFault::OutOfRange(_) => Some(Hint::HandleOutOfRange(homes)),
-        HandleFault::Full(_) => Some(Hint::HandleFull),
-        HandleFault::Memory => Some(Hint::HandleMemory),
-        HandleFault::Aborted => Some(aborted_hint(commit)),
-        HandleFault::Closed | HandleFault::Busy | HandleFault::NoCredit(_) => None,
-        HandleFault::Length | HandleFault::NotOpen => None,
+        QueueHandleFault::TooManyCredits(_) => Some(Hint::HandleTooManyCredits),
+        QueueHandleFault::OutOfRange(_) => Some(Hint::HandleOutOfRange(homes)),
+        QueueHandleFault::Full(_) => Some(Hint::HandleFull),
+        QueueHandleFault::Memory => Some(Hint::HandleMemory),
+        QueueHandleFault::Aborted => Some(aborted_hint(commit)),
+        QueueHandleFault::Closed | QueueHandleFault::Busy | QueueHandleFault::NoCredit(_) => None,
+        QueueHandleFault::Length | QueueHandleFault::NotOpen => None,
     }
 }
 

@@ -11,11 +11,13 @@ mod program;
 
 pub use command_line::run;
 pub use jb_commands::{
-    CommandFault, Done, Ended, Plain, Report, TEXT_LIMIT, TwoFiles, cat_file, dump_from,
+    CommandEnd, CommandFault, Plain, ProgramEnd, Report, TEXT_LIMIT, TwoFiles, cat_file, dump_from,
     format_file, perform, recover_file, recover_on, refuse_words, renumber_file, renumber_on,
     run_plain, widen_file, widen_on,
 };
 pub use load_command::load_files;
 pub use load_report::{LoadDone, LoadReport};
-pub use loading::{HandleFault, LoadFault, LoadOptions, Loaded, Refused, load_on, tell_loaded};
+pub use loading::{
+    LoadFault, LoadOptions, Loaded, QueueHandleFault, Refused, load_on, tell_loaded,
+};
 pub use program::{Terminals, run_program};

@@ -10,7 +10,8 @@ use crate::{LoadFault, LoadOptions, load_on};
 use jb_args::{LoadWords, OptionName};
 use jb_block::Stamp;
 use jb_commands::{
-    CommandFault, Ended, Opening, TwoFiles, close, fault_answer, judge_on, open_counted, read_file,
+    CommandFault, Opening, ProgramEnd, TwoFiles, close, fault_answer, judge_on, open_counted,
+    read_file,
 };
 use jb_disk::{Disk, FileDisk, FixedClock, Start, Unknown};
 use jb_image::ImageDisk;
@@ -32,7 +33,7 @@ pub(crate) fn run_load<
     R: Files<File = File> + AllocGlobal + Threads + Wait + Clock + Sync,
     O: Write,
     E: Write,
->(rt: &R, load: LoadWords<'_>, out: &mut O, err: &mut E) -> Ended
+>(rt: &R, load: LoadWords<'_>, out: &mut O, err: &mut E) -> ProgramEnd
     ensures runs { RunsLoad (load_said load.entry) (record { out = O.contents out.old; err = E.contents err.old })
         (record { out = O.contents out.new; err = E.contents err.new }) result }
 {

@@ -3,7 +3,7 @@ ghost use Rattle.jb_tool.specs.Load.{TellsLoadReport};
 
 use crate::hints::load_hint;
 use crate::{Loaded, tell_loaded};
-use jb_commands::{Answer, CommandFault, Ended, tell};
+use jb_commands::{CommandFault, CommandOutput, ProgramEnd, tell};
 use jb_disk::{FileDisk, Start, Unknown};
 use jb_image::ImageDisk;
 use std::io::Write;
@@ -14,7 +14,7 @@ pub enum LoadReport {
     /// What it did, to an image of so many home blocks.
     Loaded(Loaded, u64),
     /// The first fault of its text.
-    Text(Answer),
+    Text(CommandOutput),
 }
 
 /// How a load has ended. `S` and `T` are what is supposed of the image's files, of that with the home blocks and of
@@ -39,7 +39,7 @@ impl<'a, S: Start, T: Start> LoadDone<'a, S, T> {
         self,
         out: &mut O,
         err: &mut E,
-    ) -> Result<Ended, CommandFault<'a>>
+    ) -> Result<ProgramEnd, CommandFault<'a>>
         ensures tells { TellsLoadEnd self.entry.end (record { out = O.contents out.old; err = E.contents err.old })
             (record { out = O.contents out.new; err = E.contents err.new }) result }
     {
@@ -61,14 +61,14 @@ fn tell_report<'a, O: Write, E: Write>(
     report: &LoadReport,
     out: &mut O,
     err: &mut E,
-) -> Result<Ended, CommandFault<'a>>
+) -> Result<ProgramEnd, CommandFault<'a>>
     ensures tells { TellsLoadReport report.now (record { out = O.contents out.old; err = E.contents err.old })
         (record { out = O.contents out.new; err = E.contents err.new }) result }
 {
     match report {
         LoadReport::Loaded(loaded, homes) => {
             let status = tell_loaded(loaded, out, err)?;
-            Ok(Ended {
+            Ok(ProgramEnd {
                 status,
                 hint: load_hint(loaded, *homes),
             })

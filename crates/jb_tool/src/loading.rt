@@ -10,7 +10,7 @@ mod telling;
 mod words;
 mod worker;
 
-pub use fault::{HandleFault, LoadFault};
+pub use fault::{LoadFault, QueueHandleFault};
 pub use load::load_on;
 pub use loaded::{Loaded, Refused};
 pub use options::LoadOptions;

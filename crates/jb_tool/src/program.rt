@@ -4,7 +4,7 @@ ghost use Rattle.jb_tool.specs.Program.{Advises, AnswersWords, EndsProgram, Help
 
 use crate::command_line::run;
 use jb_args::{put_hint, show_help};
-use jb_commands::{CommandFault, Ended, refuse_words};
+use jb_commands::{CommandFault, ProgramEnd, refuse_words};
 use std::alloc::Global;
 use std::convert::AsStr;
 use std::fs::File;
@@ -50,7 +50,7 @@ pub fn run_program<
 }
 
 /// Writes on a terminal the second line that an end has, and gives the exit status. A fault of the writer is ignored.
-fn finish<E: Write>(ended: Ended, on_terminal: bool, err: &mut E) -> u8
+fn finish<E: Write>(ended: ProgramEnd, on_terminal: bool, err: &mut E) -> u8
     ensures status { result ≡ ended.status }
     ensures advises { Advises on_terminal ended.hint (E.contents err.old) (E.contents err.new) }
 {
@@ -61,7 +61,7 @@ fn finish<E: Write>(ended: Ended, on_terminal: bool, err: &mut E) -> u8
 }
 
 /// Writes the second line that an end has.
-fn advise<E: Write>(ended: Ended, err: &mut E)
+fn advise<E: Write>(ended: ProgramEnd, err: &mut E)
     ensures advises { Advises true ended.hint (E.contents err.old) (E.contents err.new) }
 {
     match ended.hint {
@@ -86,7 +86,7 @@ fn answered<
     input: &mut I,
     out: &mut O,
     err: &mut E,
-) -> Ended
+) -> ProgramEnd
     ensures answers { MatchResult words.entry
         (λ words. AnswersWords S.text words.now at_terminal (I.remaining input.old)
         (record { out = O.contents out.old; err = E.contents err.old })
@@ -108,7 +108,7 @@ fn answered_words<
     I: Read,
     O: Write,
     E: Write,
->(rt: &R, words: &[S], at_terminal: bool, input: &mut I, out: &mut O, err: &mut E) -> Ended
+>(rt: &R, words: &[S], at_terminal: bool, input: &mut I, out: &mut O, err: &mut E) -> ProgramEnd
     ensures answers { AnswersWords S.text words.now at_terminal (I.remaining input.old)
         (record { out = O.contents out.old; err = E.contents err.old })
         (record { out = O.contents out.new; err = E.contents err.new }) result }
@@ -120,14 +120,14 @@ fn answered_words<
 }
 
 /// Writes the short help, as clap does where words are missing, and gives the end of the program.
-fn help<E: Write>(alloc: Global, err: &mut E) -> Ended
+fn help<E: Write>(alloc: Global, err: &mut E) -> ProgramEnd
     ensures helps { Helps (E.contents err.old) (E.contents err.new) result }
 {
     match show_help(alloc, err) {
-        Ok(()) => Ended::with_status(2),
+        Ok(()) => ProgramEnd::with_status(2),
         Err(_) => {
             CommandFault::Memory.tell(None, err);
-            Ended::of_fault(CommandFault::Memory)
+            ProgramEnd::of_fault(CommandFault::Memory)
         }
     }
 }

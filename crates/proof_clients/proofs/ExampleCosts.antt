@@ -11,12 +11,12 @@ use Rattle.jb_handle.specs.declared.word.Word.{Word}
 use Rattle.jb_handle.specs.declared.word.Word.TheVariants.{Copy}
 use Rattle.jb_handle.specs.Word.{is_copy, is_free}
 use Rattle.jb_handle.specs.Words.{word, touched, copies, frees}
-use Rattle.jb_handle.proofs.Touched.{contains-touched}
+use Rattle.jb_handle.proofs.TouchedHomes.{contains-touched}
 use Rattle.jb_cost.specs.declared.geometry.Geometry.{Geometry}
 use Rattle.jb_cost.specs.Cost.{blocks_of, cost}
 use Rattle.jb_cost.specs.Pieces.{joined}
-use Rattle.jb_cost.specs.Met.{is_new, new_homes}
-use Rattle.jb_cost.proofs.Left.{len-copies, len-frees, no-copies, no-frees}
+use Rattle.jb_cost.specs.NewHomes.{is_new, new_homes}
+use Rattle.jb_cost.proofs.HandleInFront.{len-copies, len-frees, no-copies, no-frees}
 use Rattle.proof_clients.specs.Examples.{copies_at, wrote, wrote_from}
 
 -- whether a home is one of these

@@ -8,7 +8,7 @@ use Rattle.jb_cost.specs.Cut.{piece_cost}
 use Rattle.jb_plan.specs.Costs.{cost_in, geometry_of}
 use Rattle.proof_clients.specs.Examples.{three, six, four, best, prices, four_prices}
 use Rattle.proof_clients.proofs.ExampleCosts.{cost-wrote}
-use Rattle.jb_cost.proofs.Bounds.{hold-fewer, price-exact}
+use Rattle.jb_cost.proofs.PriceBounds.{hold-fewer, price-exact}
 
 -- what holds of the six groups of three handles holds of each
 six-ends : (P : ℕ → ℕ → Type 0) → P 0 1 → P 1 2 → P 2 3 → P 0 2 → P 1 3 → P 0 3 → (i j : ℕ) → i < j → j ≤ 3 → P i j

@@ -9,7 +9,7 @@ use Rattle.jb_handle.specs.declared.stopped.Stopped.{Stopped}
 use Rattle.jb_board.specs.HistoryRule.{with_places}
 use Rattle.jb_book.specs.Origin.{Begun}
 use Rattle.jb_book.specs.History.{IsStop}
-use Rattle.jb_journal.proofs.Staying.{ticket-at}
+use Rattle.jb_journal.proofs.KnownStays.{ticket-at}
 
 -- 1 for the first place, and 0 for each other one
 abbrev pub at_first : ℕ × WordMap → ℕ

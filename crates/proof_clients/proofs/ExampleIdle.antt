@@ -19,7 +19,7 @@ use Rattle.jb_core.specs.declared.event.Event.TheVariants.{Open, Stop, Take, Set
 use Rattle.jb_core.specs.declared.event.Reply.TheVariants.{Plain, Ticket}
 use Rattle.jb_core.specs.Lives.{Log}
 use Rattle.jb_core.specs.Machine.{Machine, after_event, after_take}
-use Rattle.jb_core.specs.Ran.{IsNewMachine, Ran}
+use Rattle.jb_core.specs.MachineRuns.{IsNewMachine, Ran}
 use Rattle.jb_deck.specs.Deck.{OpenDeck}
 use Rattle.jb_board.specs.HistoryRule.{StandsIn}
 use Rattle.jb_book.specs.Origin.{unknown}

@@ -1,12 +1,12 @@
-mod Heard
-pub mod Cut
+pub mod CutOfTwo
 pub mod ExampleCosts
 pub mod ExampleCrashes
 pub mod ExampleCuts
 pub mod ExampleEnds
 pub mod ExampleIdle
 pub mod ExampleMarks
-pub mod Going
-pub mod Living
-pub mod Parts
+pub mod OneLife
+pub mod ProgramCalls
+pub mod ProgramParts
 pub mod Programs
+mod WorkerReads

@@ -13,20 +13,20 @@ use Rattle.jb_deck.specs.Deck.{IsShapeOf, OpenDeck}
 use Rattle.jb_deck.specs.Open.{opened_log, FollowsEntry, IsNew, Opens, recovered_home}
 use Rattle.jb_log.specs.declared.log.Log.{Log}
 use Rattle.jb_deck.specs.Calls.{IsRecoveredTo, OpeningIsRecovered, Reaches}
-use Rattle.jb_deck.proofs.Opened.{revoking-same}
+use Rattle.jb_deck.proofs.OpenedJournal.{revoking-same}
 use Rattle.jb_plan.specs.Prepare.{Planned}
 use Rattle.jb_disk.specs.declared.disk.Disk.{Ghosts}
 use Rattle.jb_disk.specs.Faults.{CountsAny}
 use Rattle.jb_disk.specs.KeptOn.{KeptOn}
 use Rattle.jb_disk.specs.Throughout.{AllHave}
 use Rattle.jb_disk.specs.Time.{LeavesOnly}
-use Rattle.jb_disk.proofs.Moments.{weaken}
+use Rattle.jb_disk.proofs.CallRuns.{weaken}
 use Rattle.jb_recover.specs.Outcomes.{recovered}
 use Rattle.jb_deck.specs.Changes.{Change, HoldsAfter, settled_in}
 use Rattle.jb_deck.specs.CallsSinceOpen.{CrashKeeps}
 use Rattle.jb_deck.specs.Since.{CrashHolds, IsEnded, IsLeft, LeftInCommit, SinceIsRecovered, deck_homes}
 use Rattle.proof_clients.specs.Programs.{HasChanges, IsPartOf, LeftByProgram, Part, all_changes, all_groups, no_more}
-use Rattle.proof_clients.proofs.Parts.{part-on}
+use Rattle.proof_clients.proofs.ProgramParts.{part-on}
 
 -- ---- the journal that was opened, and the one that the disk had at first
 

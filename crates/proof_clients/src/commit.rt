@@ -18,7 +18,7 @@ use jb_plan::Prepared;
 
 /// A batch was refused, or a call of the disk failed.
 #[derive(Drop)]
-pub(crate) struct Refused;
+pub(crate) struct CommitFailed;
 
 /// Gives up a batch.
 pub(crate) fn give_up(batch: Prepared)
@@ -45,7 +45,7 @@ pub(crate) fn commit<D: Disk>(
     deck: &mut Deck<D>,
     batch: Prepared,
     stamp: Stamp,
-) -> Result<(), Refused>
+) -> Result<(), CommitFailed>
     ensures planned { IsPlanned batch }
     ensures kept { KeptOn D.Disk CountsAny deck.old.disk deck.new.disk }
     ensures up { OnOk result ((deck.old.aborted ≡ false) × (deck.new.aborted ≡ false)) }
@@ -66,7 +66,7 @@ pub(crate) fn commit<D: Disk>(
         Ok(_) => Ok(()),
         Err(fault) => {
             give_up_refused(fault);
-            Err(Refused)
+            Err(CommitFailed)
         }
     }
 }

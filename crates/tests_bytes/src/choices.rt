@@ -3,7 +3,7 @@
 use crate::checks::By;
 use crate::dumped::{SESSION, SESSION_TEXT};
 use crate::journals::{CLEAN_TEXT, WRAPPED, WRAPPED_TEXT, by_hand, journal_of};
-use jb_dump::{Choice, DumpFault, dump_chosen};
+use jb_dump::{DumpFault, DumpFilter, dump_chosen};
 use jb_super::SuperFault;
 use std::alloc::Global;
 use tests_support::{Must, Test, check_at, check_in};
@@ -73,7 +73,7 @@ fn lines_of(test: &impl Test, alloc: Global, text: &str, numbers: &[usize]) -> V
 /// What a dump of the lines that are asked for answers, and what it writes.
 fn told(alloc: Global, journal: &[u8], taken: &Taken) -> (Result<(), DumpFault>, Vec<u8>) {
     let (home, last, superblock, _) = *taken;
-    let choice = Choice {
+    let choice = DumpFilter {
         home,
         last,
         superblock,

@@ -5,7 +5,7 @@ use crate::blocks::{COMMIT, DATA, DESCRIPTOR, REVOKE, WIDE_DESCRIPTOR, WIDE_REVO
 use crate::checks::By;
 use crate::stepped::found_stepwise;
 use jb_block::{BlockSize, Stamp, Width};
-use jb_group::{Piece, ReadFault, Seen, Transaction, read_transactions};
+use jb_group::{Piece, ScanFault, Seen, Transaction, read_transactions};
 use jb_scan::Block;
 use jb_tags::Tag;
 use std::alloc::Global;
@@ -23,7 +23,7 @@ enum Part {
 type Wanted = (u32, Stamp, &'static [Part]);
 
 /// What a log is found to hold: its transactions, and the number that is expected after them.
-type Found = Result<(&'static [Wanted], u32), ReadFault>;
+type Found = Result<(&'static [Wanted], u32), ScanFault>;
 
 /// A log, by the bytes with which its blocks begin, its first number, its width, and what it is found to hold.
 type Log = (&'static [&'static [u8]], u32, Width, Found);
@@ -158,13 +158,13 @@ static LOGS: [Log; 9] = [
         &[&BAD_REVOKE, &COMMIT],
         2,
         Width::Narrow,
-        Err(ReadFault::BadRevoke(0)),
+        Err(ScanFault::BadRevoke(0)),
     ),
     (
         &[&REVOKE, &COMMIT, &BAD_REVOKE_3, &COMMIT_3],
         2,
         Width::Narrow,
-        Err(ReadFault::BadRevoke(2)),
+        Err(ScanFault::BadRevoke(2)),
     ),
 ];
 

@@ -3,13 +3,13 @@
 use crate::checks::By;
 use crate::dumped::SESSION;
 use crate::journals::{WRAPPED, by_hand, journal_of};
-use jb_dump::{Choice, DumpFault, dump_chosen};
+use jb_dump::{DumpFault, DumpFilter, dump_chosen};
 use jb_super::SuperFault;
 use std::alloc::Global;
 use tests_support::{Must, Test, check, check_at, put_text};
 
 /// What is asked for: the journal at a glance.
-const GLANCE: Choice = Choice {
+const GLANCE: DumpFilter = DumpFilter {
     home: None,
     last: None,
     superblock: false,
@@ -105,7 +105,7 @@ static BY_HAND: [(&str, Result<&str, DumpFault>); 6] = [
 ];
 
 /// What is answered for a journal at a glance, and what is written.
-fn glanced(alloc: Global, journal: &[u8], choice: Choice) -> (Result<(), DumpFault>, Vec<u8>) {
+fn glanced(alloc: Global, journal: &[u8], choice: DumpFilter) -> (Result<(), DumpFault>, Vec<u8>) {
     let (mut rest, mut text) = (journal, Vec::new(alloc));
     let answer = dump_chosen(alloc, &mut rest, &mut text, choice);
     (answer, text)
@@ -150,7 +150,7 @@ fn check_several(test: &impl Test, alloc: Global) {
 /// Checks that the other choices change nothing at a glance.
 fn check_alone(test: &impl Test, alloc: Global) {
     let journal = by_hand(test, alloc, WRAPPED);
-    let choice = Choice {
+    let choice = DumpFilter {
         home: Some(7),
         last: Some(0),
         superblock: true,

@@ -6,17 +6,17 @@ ghost use Rattle.jb_board.specs.History.{history_id};
 use crate::journal::{CLOCK, PARTS, Small, Still, formatted, opened};
 use jb_board::Opened;
 use jb_deck::Deck;
-use jb_desk::{Desk, Origin, Stops};
+use jb_desk::{Desk, Origin, StopLedger};
 use jb_disk::{Disk, MemoryDisk};
 use std::alloc::Global;
 use std::process::Abort;
 use std::sync::ledger::{Blank, Ledger};
 
 /// A new ledger for the handles that will stop, and a new history of them.
-pub fn stops(rt: &impl Abort, alloc: Global) -> Stops
+pub fn stops(rt: &impl Abort, alloc: Global) -> StopLedger
     ensures { result.tickets.parts ≡ 2 ^ 61 + 1 }
 {
-    Stops::new(alloc, PARTS).expect(rt, "memory")
+    StopLedger::new(alloc, PARTS).expect(rt, "memory")
 }
 
 /// A new history of a journal's marks.
@@ -28,7 +28,7 @@ pub fn marks<D: Disk>(rt: &impl Abort, alloc: Global) -> Opened<Deck<D>> {
 pub fn start<D: Disk + Drop, H: Origin, N: Ledger>(
     rt: &impl Abort,
     alloc: Global,
-    handles: Stops,
+    handles: StopLedger,
     changes: Blank,
     marks: Opened<Deck<D>>,
     deck: Deck<D>,
@@ -49,7 +49,7 @@ pub fn start<D: Disk + Drop, H: Origin, N: Ledger>(
 pub fn small<H: Origin, N: Ledger>(
     rt: &impl Abort,
     alloc: Global,
-    handles: Stops,
+    handles: StopLedger,
     changes: Blank,
     marks: Opened<Deck<MemoryDisk>>,
 ) -> Small<H, N>

@@ -14,7 +14,7 @@ use crate::journal::{
 };
 use jb_board::Opened;
 use jb_deck::{Checked, CheckpointFault, Deck, ReadHomeFault};
-use jb_desk::{BeginFault, Ended, Origin, RoundFault, Seat, Stops, WaitFault};
+use jb_desk::{BeginFault, Ended, Origin, RoundFault, Seat, StopLedger, WaitFault};
 use jb_disk::{Disk, MemoryDisk, OneFaultDisk};
 use std::alloc::Global;
 use std::marker::Brand;
@@ -105,7 +105,7 @@ fn failing<R: Abort + Wait, H: Origin, N: Ledger>(
     rt: &R,
     alloc: Global,
     call: u64,
-    handles: Stops,
+    handles: StopLedger,
     changes: Blank,
     marks: Opened<Deck<OneFaultDisk<MemoryDisk>>>,
 ) -> Option<Found>
@@ -256,7 +256,14 @@ fn ends_with_no_group<
     R: Abort + Threads + Wait + Sync,
     H: Origin + Send + Sync,
     N: Ledger + Send + Sync,
->(rt: &R, alloc: Global, race: u64, handles: Stops, changes: Blank, marks: Opened<Deck<MemoryDisk>>)
+>(
+    rt: &R,
+    alloc: Global,
+    race: u64,
+    handles: StopLedger,
+    changes: Blank,
+    marks: Opened<Deck<MemoryDisk>>,
+)
     requires blind { H.begun.is_known → ⊥ }
     requires any { (words : WordMap) → H.begun.stops words }
     requires handles { (handles.tickets.name ≡ H.name) × (handles.tickets.parts ≡ H.parts) × (H.parts ≡ 2 ^ 61 + 1) }

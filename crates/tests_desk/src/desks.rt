@@ -12,7 +12,7 @@ use crate::closing::{check_close, check_close_twice, is_closed, left, over_at};
 use crate::journal::{PARTS, SHAPE, Small, begun, refused, seated, stop};
 use jb_board::{Front, Opened};
 use jb_deck::{CheckpointFault, Deck};
-use jb_desk::{BeginFault, EnqueueFault, Left, Origin, Seat, Stops, WaitFault};
+use jb_desk::{BeginFault, EnqueueFault, Left, Origin, Seat, StopLedger, WaitFault};
 use jb_disk::MemoryDisk;
 use jb_handle::Handle;
 use std::alloc::Global;
@@ -197,7 +197,7 @@ fn rows<R: Abort + Wait, H: Origin, N: Ledger>(
     rt: &R,
     alloc: Global,
     row: Row,
-    handles: Stops,
+    handles: StopLedger,
     changes: Blank,
     marks: Opened<Deck<MemoryDisk>>,
 )

@@ -12,7 +12,7 @@ use crate::closing::{check_close, is_closed, left, over_at};
 use crate::journal::{PARTS, Small, refused, retired, seated, write};
 use jb_board::{Front, Opened};
 use jb_deck::{CheckpointFault, Deck};
-use jb_desk::{Origin, Seat, Stops};
+use jb_desk::{Origin, Seat, StopLedger};
 use jb_disk::MemoryDisk;
 use std::alloc::Global;
 use std::marker::Brand;
@@ -80,7 +80,7 @@ fn end<R: Abort + Wait + Clock, H: Origin, N: Ledger>(
 fn desk_ended<R: Abort + Wait + Clock, H: Origin, N: Ledger>(
     rt: &R,
     alloc: Global,
-    handles: Stops,
+    handles: StopLedger,
     changes: Blank,
     marks: Opened<Deck<MemoryDisk>>,
 )

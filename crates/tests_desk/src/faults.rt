@@ -13,7 +13,7 @@ use crate::journal::{
 };
 use jb_board::Opened;
 use jb_deck::Deck;
-use jb_desk::{BeginFault, EnqueueFault, Origin, RoundFault, Stops};
+use jb_desk::{BeginFault, EnqueueFault, Origin, RoundFault, StopLedger};
 use jb_disk::{Disk, MemoryDisk, OneFaultDisk};
 use jb_recover::recover;
 use std::alloc::Global;
@@ -111,7 +111,7 @@ fn failing<R: Abort + Wait, H: Origin, N: Ledger>(
     rt: &R,
     alloc: Global,
     call: u64,
-    handles: Stops,
+    handles: StopLedger,
     changes: Blank,
     marks: Opened<Deck<OneFaultDisk<MemoryDisk>>>,
 ) -> Option<Found>

@@ -14,7 +14,7 @@ use crate::journal::{
 use jb_block::BlockSize;
 use jb_board::Opened;
 use jb_deck::Deck;
-use jb_desk::{Left, Origin, Stops};
+use jb_desk::{Left, Origin, StopLedger};
 use jb_disk::{Disk, Fault, MemoryDisk};
 use std::alloc::Global;
 use std::marker::Brand;
@@ -236,7 +236,7 @@ fn gated<
     rt: &'a R,
     alloc: Global,
     gate: &'a Gate,
-    handles: Stops,
+    handles: StopLedger,
     changes: Blank,
     marks: Opened<Deck<GateDisk<'a, MemoryDisk, R>>>,
 )

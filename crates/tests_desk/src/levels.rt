@@ -12,7 +12,7 @@ use crate::closing::{closed, left};
 use crate::journal::{PARTS, Small, Still, commit, home, seated};
 use jb_board::Opened;
 use jb_deck::{CheckedRun, CheckpointFault, Deck};
-use jb_desk::{CheckpointRound, Origin, Seat, Stops};
+use jb_desk::{CheckpointRound, Origin, Seat, StopLedger};
 use jb_disk::{Disk, MemoryDisk};
 use std::alloc::Global;
 use std::marker::Brand;
@@ -76,7 +76,7 @@ fn level<R: Abort + Wait, H: Origin, N: Ledger>(
     alloc: Global,
     number: u64,
     row: &Row,
-    handles: Stops,
+    handles: StopLedger,
     changes: Blank,
     marks: Opened<Deck<MemoryDisk>>,
 )
@@ -184,7 +184,7 @@ fn beside<
     R: Abort + Threads + Wait + Clock + Sync,
     H: Origin + Send + Sync,
     N: Ledger + Send + Sync,
->(rt: &R, alloc: Global, handles: Stops, changes: Blank, marks: Opened<Deck<MemoryDisk>>)
+>(rt: &R, alloc: Global, handles: StopLedger, changes: Blank, marks: Opened<Deck<MemoryDisk>>)
     requires blind { H.begun.is_known → ⊥ }
     requires any { (words : WordMap) → H.begun.stops words }
     requires handles { (handles.tickets.name ≡ H.name) × (handles.tickets.parts ≡ H.parts) × (H.parts ≡ 2 ^ 61 + 1) }

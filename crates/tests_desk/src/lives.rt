@@ -13,7 +13,7 @@ use crate::journal::{PARTS, Small, Still, commit, seated};
 use jb_block::Memory;
 use jb_board::Opened;
 use jb_deck::{Deck, Entry};
-use jb_desk::{Origin, Seat, Stops, WaitFault};
+use jb_desk::{Origin, Seat, StopLedger, WaitFault};
 use jb_disk::{Disk, MemoryDisk};
 use std::alloc::Global;
 use std::marker::Brand;
@@ -181,7 +181,7 @@ fn live<R: Abort + Wait, H: Origin, N: Ledger>(
     alloc: Global,
     number: u64,
     row: &(Life, Lived),
-    handles: Stops,
+    handles: StopLedger,
     changes: Blank,
     marks: Opened<Deck<MemoryDisk>>,
 )

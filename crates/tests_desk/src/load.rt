@@ -15,7 +15,7 @@ use crate::threads::{Reports, Worked, work_all};
 use jb_block::{BlockSize, Width};
 use jb_board::Opened;
 use jb_deck::{Deck, Entry};
-use jb_desk::{Left, Origin, Stops};
+use jb_desk::{Left, Origin, StopLedger};
 use jb_disk::{FuseDisk, MemoryDisk};
 use jb_format::format;
 use jb_recover::recover;
@@ -154,7 +154,7 @@ fn outcome_of<
     rt: &R,
     alloc: Global,
     load: Load,
-    handles: Stops,
+    handles: StopLedger,
     changes: Blank,
     marks: Opened<Deck<FuseDisk<MemoryDisk>>>,
 ) -> Option<Outcome>

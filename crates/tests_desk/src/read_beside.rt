@@ -11,7 +11,7 @@ use crate::journal::{PARTS, Still, opened, round_of, seated, write};
 use crate::reads::filled;
 use jb_board::Opened;
 use jb_deck::Deck;
-use jb_desk::{Origin, Stops};
+use jb_desk::{Origin, StopLedger};
 use jb_disk::{Disk, MemoryDisk};
 use std::alloc::Global;
 use std::marker::Brand;
@@ -87,7 +87,7 @@ fn beside<
     rt: &'a R,
     alloc: Global,
     gate: &'a Gate,
-    handles: Stops,
+    handles: StopLedger,
     changes: Blank,
     marks: Opened<Deck<GateDisk<'a, MemoryDisk, R>>>,
 )

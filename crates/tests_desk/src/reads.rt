@@ -11,7 +11,7 @@ use crate::checks::{check, check_at, check_in, fail};
 use crate::journal::{Came, PARTS, Small, Still, begun, formatted, opened, round_of, seated, stop};
 use jb_board::Opened;
 use jb_deck::{Deck, ReadHomeFault};
-use jb_desk::{Origin, Seat, Stops};
+use jb_desk::{Origin, Seat, StopLedger};
 use jb_disk::{Disk, MemoryDisk, OneFaultDisk};
 use std::alloc::Global;
 use std::marker::Brand;
@@ -175,7 +175,7 @@ fn check_steps<R: Abort + Wait, D: Disk, H: Origin, N: Ledger>(rt: &R, desk: &St
 fn stepped<R: Abort + Wait, H: Origin, N: Ledger>(
     rt: &R,
     alloc: Global,
-    handles: Stops,
+    handles: StopLedger,
     changes: Blank,
     marks: Opened<Deck<MemoryDisk>>,
 )
@@ -235,7 +235,7 @@ fn failing<R: Abort + Wait, H: Origin, N: Ledger>(
     rt: &R,
     alloc: Global,
     call: u64,
-    handles: Stops,
+    handles: StopLedger,
     changes: Blank,
     marks: Opened<Deck<OneFaultDisk<MemoryDisk>>>,
 ) -> bool

@@ -15,7 +15,7 @@ use crate::journal::{
 };
 use jb_board::{Front, Opened};
 use jb_deck::{Checked, CheckpointFault, Deck};
-use jb_desk::{BeginFault, Origin, RoundFault, Seat, Stops, WaitFault};
+use jb_desk::{BeginFault, Origin, RoundFault, Seat, StopLedger, WaitFault};
 use jb_disk::MemoryDisk;
 use std::alloc::Global;
 use std::marker::Brand;
@@ -205,7 +205,7 @@ fn rows<R: Abort + Wait + Clock, H: Origin, N: Ledger>(
     rt: &R,
     alloc: Global,
     is_last: bool,
-    handles: Stops,
+    handles: StopLedger,
     changes: Blank,
     marks: Opened<Deck<MemoryDisk>>,
 )

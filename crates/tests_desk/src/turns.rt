@@ -8,7 +8,7 @@ use crate::checks::check_at;
 use crate::journal::{PARTS, Small, seated};
 use jb_board::Opened;
 use jb_deck::Deck;
-use jb_desk::{Origin, Stops};
+use jb_desk::{Origin, StopLedger};
 use jb_disk::MemoryDisk;
 use std::alloc::Global;
 use std::marker::Brand;
@@ -55,7 +55,7 @@ fn order<
 >(
     rt: &R,
     alloc: Global,
-    handles: Stops,
+    handles: StopLedger,
     changes: Blank,
     marks: Opened<Deck<MemoryDisk>>,
 ) -> Vec<usize>

@@ -12,7 +12,7 @@ use crate::gate::{await_flag, has_come};
 use crate::journal::{PARTS, Small, formatted, numbered, opened, retired, round, seated, write};
 use jb_board::Opened;
 use jb_deck::Deck;
-use jb_desk::{Origin, Seat, Stops, WaitFault};
+use jb_desk::{Origin, Seat, StopLedger, WaitFault};
 use jb_disk::MemoryDisk;
 use std::alloc::Global;
 use std::marker::Brand;
@@ -123,7 +123,7 @@ fn waited<
     rt: &R,
     alloc: Global,
     is_lost: bool,
-    handles: Stops,
+    handles: StopLedger,
     changes: Blank,
     marks: Opened<Deck<MemoryDisk>>,
 )

@@ -1,7 +1,7 @@
 //! The file of an image, and how many blocks it has once it is opened or made.
 use crate::checks::{By, FileHost};
 use jb_image::{ImageFault, MakeFault, Opening, create_image, open_image};
-use jb_journal::{BlockSize, Disk, FileDisk, Geometry, JournalFault, open, open_or_create};
+use jb_journal::{BlockSize, Disk, FileDisk, ImageGeometry, JournalFault, open, open_or_create};
 use std::fs;
 use tests_support::Must;
 
@@ -11,8 +11,8 @@ pub const NAME: &str = "image.img";
 pub const UNFINISHED: &str = "image.img.jb-unfinished";
 
 /// A journal of 33 blocks, and sixteen homes.
-pub fn geometry() -> Geometry {
-    Geometry::new(BlockSize::OneKib, 33, 16)
+pub fn geometry() -> ImageGeometry {
+    ImageGeometry::new(BlockSize::OneKib, 33, 16)
 }
 
 /// Removes what a test before may have left.
@@ -43,7 +43,7 @@ pub fn opened(rt: &impl FileHost) -> Result<u64, JournalFault> {
 }
 
 /// Opens the image for a journal, or makes it.
-pub fn opened_or_made(rt: &impl FileHost, geometry: Geometry) -> Result<u64, JournalFault> {
+pub fn opened_or_made(rt: &impl FileHost, geometry: ImageGeometry) -> Result<u64, JournalFault> {
     blocks_of(open_or_create(rt, NAME, geometry))
 }
 
@@ -53,6 +53,6 @@ pub fn looked_at(rt: &impl FileHost, opening: Opening) -> Result<u64, ImageFault
 }
 
 /// Makes the image.
-pub fn made(rt: &impl FileHost, geometry: Geometry) -> Result<u64, MakeFault> {
+pub fn made(rt: &impl FileHost, geometry: ImageGeometry) -> Result<u64, MakeFault> {
     blocks_of(create_image(rt, NAME, geometry))
 }

@@ -5,8 +5,8 @@ use crate::files::{
 };
 use jb_image::{ImageFault, MakeFault, Opening, create_image, open_image};
 use jb_journal::{
-    BlockSize, Disk, Geometry, HomeFault, JournalFault, PeekFault, RecoverFault, Unknown, open,
-    open_holding, open_or_create_holding, read_home,
+    BlockSize, Disk, HomeFault, ImageGeometry, JournalFault, PeekFault, RecoverFault, Unknown,
+    open, open_holding, open_or_create_holding, read_home,
 };
 use jb_super::SuperFault;
 use std::fs;
@@ -117,7 +117,7 @@ fn check_unfit(rt: &impl FileHost) {
         "an image is not made",
     );
     for (row, (size, homes, fault)) in (0..).zip(&UNFIT) {
-        let answer = opened_or_made(rt, Geometry::new(*size, 33, *homes));
+        let answer = opened_or_made(rt, ImageGeometry::new(*size, 33, *homes));
         check_at(&test, answer == Err(*fault), "the answer of row", row);
     }
     check(

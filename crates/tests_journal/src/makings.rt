@@ -2,7 +2,7 @@
 use crate::checks::{By, FileHost};
 use crate::files::{NAME, UNFINISHED, exists, fresh, geometry, made};
 use jb_image::{ImageFault, MakeFault, SystemFault};
-use jb_journal::{BlockSize, Geometry};
+use jb_journal::{BlockSize, ImageGeometry};
 use std::fs;
 use std::fs::File;
 use tests_support::{Must, check, check_at};
@@ -15,7 +15,7 @@ static UNMADE: [(u32, u64); 3] = [(8, 16), (33, u64::MAX), (33, (1 << 32) + 1)];
 fn check_unmade(rt: &impl FileHost) {
     let test = By(rt, rt.alloc());
     for (row, (journal, homes)) in (0..).zip(&UNMADE) {
-        let answer = made(rt, Geometry::new(BlockSize::OneKib, *journal, *homes));
+        let answer = made(rt, ImageGeometry::new(BlockSize::OneKib, *journal, *homes));
         check_at(
             &test,
             answer == Err(MakeFault::Geometry),
@@ -24,7 +24,7 @@ fn check_unmade(rt: &impl FileHost) {
         );
     }
     // most file systems have no file of 2^62 bytes: what was made is there when that is found out, and goes
-    let vast = made(rt, Geometry::new(BlockSize::OneKib, 33, 1 << 52)).is_ok();
+    let vast = made(rt, ImageGeometry::new(BlockSize::OneKib, 33, 1 << 52)).is_ok();
     check(&test, exists(rt, NAME) == vast, "a vast image");
     check(
         &test,

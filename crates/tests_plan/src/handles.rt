@@ -2,7 +2,9 @@
 
 use crate::checks::By;
 use jb_block::{BlockSize, Memory, Width};
-use jb_handle::{Changes, Gathered, Handle, Op, Payload, Shape, Stopped, TouchFault, Word, Words};
+use jb_handle::{
+    Changes, Handle, Op, Payload, Shape, Stopped, TouchFault, Word, Words, WordsBuilder,
+};
 use std::alloc::Global;
 use tests_support::{Must, Test, check, check_at};
 
@@ -117,7 +119,7 @@ fn two_handles(alloc: Global) -> Result<[Stopped; 2], Memory> {
     first.put(7, Word::Free)?;
     first.put(5, Word::Free)?;
     first.put(7, Word::Copy(Payload::of(alloc, b"abcd")?))?;
-    let mut second = Gathered::new(alloc);
+    let mut second = WordsBuilder::new(alloc);
     second.put(9, Word::Free)?;
     second.put(3, Word::Copy(Payload::padded(vec![in alloc; 1]?, 4)))?;
     second.put(5, Word::Free)?;
@@ -144,7 +146,7 @@ fn is_copied(test: &impl Test, word: &Word, bytes: [u8; 4]) -> bool {
 
 /// Checks copies of words, which go to home blocks that have none.
 fn check_gathered(test: &impl Test, alloc: Global, words: &Words) {
-    let mut gathered = Gathered::new(alloc);
+    let mut gathered = WordsBuilder::new(alloc);
     gathered.put(5, Word::Free).must(test, "memory");
     gathered.add_all(words).must(test, "memory");
     let all = gathered.into_words(alloc).must(test, "memory");

@@ -2,7 +2,7 @@
 ghost use Rattle.std.specs.Prelude.{◌≡◌, ◌<◌, ◌^◌, length};
 ghost use Rattle.jb_handle.specs.Size.{IsWithinSize};
 
-use jb_commands::{Answer, check_answer};
+use jb_commands::{CommandOutput, check_answer};
 use jb_handle::is_within_size;
 use jb_queue::{QueueText, read_queue};
 use std::alloc::Global;
@@ -38,7 +38,13 @@ pub fn queue_of(test: &impl Test, alloc: Global, text: &[u8]) -> QueueText
 pub type Told<'a> = (u8, &'a str, &'a str);
 
 /// Checks that an answer has this status and just these two texts.
-pub fn check_told(test: &impl Test, answer: &Answer, told: Told<'_>, what: &'static str, row: u64) {
+pub fn check_told(
+    test: &impl Test,
+    answer: &CommandOutput,
+    told: Told<'_>,
+    what: &'static str,
+    row: u64,
+) {
     let (status, out, err) = told;
     check_at(test, answer.out.as_str() == out, what, row);
     check_at(test, answer.err.as_str() == err, what, row);

@@ -2,7 +2,7 @@
 ghost use Rattle.std.specs.Prelude.{◌≡◌};
 ghost use Rattle.jb_board.specs.History.{history_id};
 
-use jb_board::{History, Made, Opened, Place, Scribe};
+use jb_board::{Appender, History, Opened, OwnEntries, Place};
 use std::alloc::Global;
 use std::marker::Brand;
 use std::sync::{Mutex, Wait};
@@ -13,20 +13,20 @@ use std::thread::Threads;
 #[derive(Drop)]
 struct Put<L: Place> {
     numbers: Vec<u64>,
-    scribe: Scribe<u64, L>,
-    ghost same: { numbers.items ≡ scribe },
+    appender: Appender<u64, L>,
+    ghost same: { numbers.items ≡ appender },
 }
 
 impl<L: Place> Put<L> {
     /// One more number. Nothing where there is no memory.
-    fn put(&mut self, history: &History<u64, L>, made: &mut Made<u64, L>, number: u64) {
+    fn put(&mut self, history: &History<u64, L>, made: &mut OwnEntries<u64, L>, number: u64) {
         let Put {
             numbers,
-            scribe,
+            appender,
             ..
         } = self;
         if numbers.push(number).is_ok() {
-            history.add(scribe, made, &number);
+            history.add(appender, made, &number);
         }
     }
 }
@@ -39,10 +39,10 @@ fn both_put<R: Threads + Wait + Sync, L: Place + Send + Sync>(
 ) -> usize
     requires { history_id opened ≡ L.history }
 {
-    let (history, scribe) = opened.named::<L>();
+    let (history, appender) = opened.named::<L>();
     let put = Mutex::new(Put {
         numbers: Vec::new(alloc),
-        scribe,
+        appender,
     });
     let (one, other) = thread::join(
         rt,
@@ -53,14 +53,14 @@ fn both_put<R: Threads + Wait + Sync, L: Place + Send + Sync>(
     history.join(&mut all, other);
     let Put {
         numbers,
-        mut scribe,
+        mut appender,
         ..
     } = put.into_inner();
-    let mut sight = history.show(&mut scribe);
-    let mut early = history.show(&mut scribe);
+    let mut sight = history.show(&mut appender);
+    let mut early = history.show(&mut appender);
     history.learn(&mut early, &mut sight);
-    history.check(&mut scribe, early);
-    history.audit(&mut scribe, all);
+    history.check(&mut appender, early);
+    history.audit(&mut appender, all);
     numbers.len()
 }
 
@@ -69,7 +69,7 @@ fn put_all<R: Wait, L: Place>(
     rt: &R,
     history: &History<u64, L>,
     put: &Mutex<Put<L>>,
-) -> Made<u64, L> {
+) -> OwnEntries<u64, L> {
     let mut made = history.enter();
     for number in 0..100 {
         put.lock(rt).put(history, &mut made, number);

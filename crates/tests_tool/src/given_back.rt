@@ -5,7 +5,9 @@ use crate::files::remove;
 use crate::runs::Host;
 use jb_args::{CatOptions, FormatOptions, Plain, RecoverOptions};
 use jb_disk::{Disk, Unknown};
-use jb_tool::{Done, cat_file, format_file, perform, recover_file, renumber_file, widen_file};
+use jb_tool::{
+    CommandEnd, cat_file, format_file, perform, recover_file, renumber_file, widen_file,
+};
 
 const NAME: &str = "given.img";
 
@@ -37,7 +39,7 @@ const CAT: CatOptions<'static> = CatOptions {
 /// Checks how many blocks the image has that a command gives back, if it gives one, and what the command has to say.
 fn check_done(
     rt: &impl Host,
-    done: Done<'_, Unknown, Unknown>,
+    done: CommandEnd<'_, Unknown, Unknown>,
     blocks: Option<u64>,
     wanted: &str,
     at: usize,

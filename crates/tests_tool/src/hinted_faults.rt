@@ -8,7 +8,7 @@ use jb_desk::Ended;
 use jb_disk::Unknown;
 use jb_image::{ExtentsFault, FileSystemFault};
 use jb_super::SuperFault;
-use jb_tool::{CommandFault, HandleFault, LoadDone, LoadReport, Loaded, Refused};
+use jb_tool::{CommandFault, LoadDone, LoadReport, Loaded, QueueHandleFault, Refused};
 
 /// Each fault of a command, with what the second line says beside the words of its row.
 static FAULTS: [(CommandFault<'static>, &str); 39] = [
@@ -71,7 +71,7 @@ static FAULTS: [(CommandFault<'static>, &str); 39] = [
 /// Why a handle was refused, if one was, how the commits and the checkpoints ended, and what the second line says
 /// beside the words of its row, if there is to be one.
 type Load = (
-    Option<HandleFault>,
+    Option<QueueHandleFault>,
     Ended,
     Option<Ended>,
     Option<&'static str>,
@@ -79,31 +79,51 @@ type Load = (
 
 static LOADS: [Load; 17] = [
     (
-        Some(HandleFault::TooManyCredits(8)),
+        Some(QueueHandleFault::TooManyCredits(8)),
         Ended::Refused,
         None,
         Some(""),
     ),
     (
-        Some(HandleFault::OutOfRange(20)),
+        Some(QueueHandleFault::OutOfRange(20)),
         Ended::Refused,
         None,
         Some(": 16"),
     ),
-    (Some(HandleFault::Full(8)), Ended::Memory, None, Some("")),
-    (Some(HandleFault::Memory), Ended::Aborted, None, Some("")),
     (
-        Some(HandleFault::Aborted),
+        Some(QueueHandleFault::Full(8)),
+        Ended::Memory,
+        None,
+        Some(""),
+    ),
+    (
+        Some(QueueHandleFault::Memory),
+        Ended::Aborted,
+        None,
+        Some(""),
+    ),
+    (
+        Some(QueueHandleFault::Aborted),
         Ended::Aborted,
         Some(Ended::Aborted),
         Some(""),
     ),
-    (Some(HandleFault::Full(8)), Ended::Refused, None, Some("")),
-    (Some(HandleFault::Closed), Ended::Aborted, None, None),
-    (Some(HandleFault::Busy), Ended::Aborted, None, None),
-    (Some(HandleFault::NoCredit(8)), Ended::Aborted, None, None),
-    (Some(HandleFault::Length), Ended::Aborted, None, None),
-    (Some(HandleFault::NotOpen), Ended::Aborted, None, None),
+    (
+        Some(QueueHandleFault::Full(8)),
+        Ended::Refused,
+        None,
+        Some(""),
+    ),
+    (Some(QueueHandleFault::Closed), Ended::Aborted, None, None),
+    (Some(QueueHandleFault::Busy), Ended::Aborted, None, None),
+    (
+        Some(QueueHandleFault::NoCredit(8)),
+        Ended::Aborted,
+        None,
+        None,
+    ),
+    (Some(QueueHandleFault::Length), Ended::Aborted, None, None),
+    (Some(QueueHandleFault::NotOpen), Ended::Aborted, None, None),
     (None, Ended::Aborted, None, Some("")),
     (None, Ended::Aborted, Some(Ended::Aborted), Some("")),
     (None, Ended::Memory, None, Some("")),
@@ -114,10 +134,20 @@ static LOADS: [Load; 17] = [
 
 /// The same of loads in which the commits had stopped the handle that was refused: it is about their line.
 static STOPPED: [Load; 3] = [
-    (Some(HandleFault::Aborted), Ended::Refused, None, Some("")),
-    (Some(HandleFault::Aborted), Ended::Memory, None, Some("")),
     (
-        Some(HandleFault::Aborted),
+        Some(QueueHandleFault::Aborted),
+        Ended::Refused,
+        None,
+        Some(""),
+    ),
+    (
+        Some(QueueHandleFault::Aborted),
+        Ended::Memory,
+        None,
+        Some(""),
+    ),
+    (
+        Some(QueueHandleFault::Aborted),
         Ended::Refused,
         Some(Ended::Refused),
         Some(""),
@@ -133,7 +163,7 @@ fn check_fault(rt: &impl Host, fault: CommandFault<'static>, beside: &str, row: 
 }
 
 /// A load of three handles that ended so.
-fn loaded(refused: Option<HandleFault>, commit: Ended, checkpoint: Option<Ended>) -> Loaded {
+fn loaded(refused: Option<QueueHandleFault>, commit: Ended, checkpoint: Option<Ended>) -> Loaded {
     Loaded {
         queued: 3,
         handles: 2,

@@ -2,7 +2,7 @@
 //! order of the handles.
 
 use crate::small::{FOUR, HOMES, formatted, load_lent, recovered};
-use jb_tool::{HandleFault, LoadOptions, Loaded, Refused};
+use jb_tool::{LoadOptions, Loaded, QueueHandleFault, Refused};
 use std::alloc::Global;
 use std::fmt::Write;
 use std::test::Fail;
@@ -78,7 +78,7 @@ fn a_full_journal_is_waited_for(rt: HostRuntime) -> Result<(), Fail> {
     let rows = [
         (1, 100, 0, false, 0, None, 100),
         (64, 200, 2, false, 20, None, 200),
-        (8, 40, 0, true, 0, Some(HandleFault::Full(32)), 32),
+        (8, 40, 0, true, 0, Some(QueueHandleFault::Full(32)), 32),
     ];
     for (threads, handles, more, hold, slow, fault, stopped) in rows {
         let options = LoadOptions {

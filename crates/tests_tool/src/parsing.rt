@@ -2,39 +2,39 @@
 
 use crate::checks::check_text;
 use crate::runs::{Host, words_of};
-use jb_args::{Plain, Words, parse, show_help};
+use jb_args::{CommandLine, Plain, parse, show_help};
 use std::alloc::Global;
 
 /// What these words ask for, if they are taken: the command, its words and its options, in the order of `Plain` and
 /// `LoadWords`.
 fn asked(alloc: Global, words: &[&str]) -> Option<String> {
     let asked = match parse(alloc, words).ok()? {
-        Words::Plain(Plain::Cost { file }) => format!(in alloc; "cost {file}"),
-        Words::Plain(Plain::Plan { file }) => format!(in alloc; "plan {file}"),
-        Words::Plain(Plain::Check { file, cert }) => format!(in alloc; "check {file} {cert}"),
-        Words::Plain(Plain::Dump { file, options: of }) => {
+        CommandLine::Plain(Plain::Cost { file }) => format!(in alloc; "cost {file}"),
+        CommandLine::Plain(Plain::Plan { file }) => format!(in alloc; "plan {file}"),
+        CommandLine::Plain(Plain::Check { file, cert }) => format!(in alloc; "check {file} {cert}"),
+        CommandLine::Plain(Plain::Dump { file, options: of }) => {
             let (home, last, superblock) = (of.home, of.last, of.superblock);
             let summary = of.summary;
             format!(in alloc; "dump {file} {home:?} {last:?} {superblock} {summary}")
         }
-        Words::Plain(Plain::Format { image, options: of }) => {
+        CommandLine::Plain(Plain::Format { image, options: of }) => {
             let (bs, journal, homes, max) = (of.bs, of.journal, of.homes, of.max);
             let (uuid, wide) = (of.uuid, of.wide);
             format!(in alloc; "format {image} {bs} {journal} {homes} {max} {uuid} {wide}")
         }
-        Words::Plain(Plain::Cat { image, options: of }) => {
+        CommandLine::Plain(Plain::Cat { image, options: of }) => {
             let (home, count, hex) = (of.home, of.count, of.hex);
             let (journal, extents) = (of.journal.unwrap_or("-"), of.extents.unwrap_or("-"));
             format!(in alloc; "cat {image} {home} {count} {hex} {journal} {extents}")
         }
-        Words::Plain(Plain::Recover { image, options: of }) => {
+        CommandLine::Plain(Plain::Recover { image, options: of }) => {
             let (journal, extents) = (of.journal.unwrap_or("-"), of.extents.unwrap_or("-"));
             let (force, dry_run, list) = (of.force, of.dry_run, of.list);
             format!(in alloc; "recover {image} {journal} {extents} {force} {dry_run} {list}")
         }
-        Words::Plain(Plain::Renumber { image }) => format!(in alloc; "renumber {image}"),
-        Words::Plain(Plain::Widen { image }) => format!(in alloc; "widen {image}"),
-        Words::Load(of) => {
+        CommandLine::Plain(Plain::Renumber { image }) => format!(in alloc; "renumber {image}"),
+        CommandLine::Plain(Plain::Widen { image }) => format!(in alloc; "widen {image}"),
+        CommandLine::Load(of) => {
             let (image, file, threads, stamp) = (of.image, of.file, of.threads, of.stamp);
             let (hold, checkpoint) = (of.hold, of.checkpoint);
             format!(in alloc; "load {image} {file} {threads} {stamp} {hold} {checkpoint}")

@@ -1,7 +1,7 @@
 //! Runs of the program, and how they end.
 
 use crate::checks::check_text;
-use jb_tool::{Ended, run};
+use jb_tool::{ProgramEnd, run};
 use std::fs::File;
 use std::io::Read;
 use std::process::Abort;
@@ -24,7 +24,7 @@ pub type End = (u8, &'static str, &'static str);
 /// How a run ended, and what it wrote.
 #[derive(Drop)]
 pub struct Outcome {
-    pub ended: Ended,
+    pub ended: ProgramEnd,
     pub out: Vec<u8>,
     pub err: Vec<u8>,
 }
@@ -48,7 +48,7 @@ pub fn ran_from<I: Read>(rt: &impl Host, line: &str, input: &mut I) -> Outcome {
 }
 
 /// Checks the status with which a run ended. `at` is which run it is, as the row of a table.
-pub fn check_status(rt: &impl Abort, ended: Ended, wanted: u8, what: &str, at: usize) {
+pub fn check_status(rt: &impl Abort, ended: ProgramEnd, wanted: u8, what: &str, at: usize) {
     let is = ended.status;
     assert!(rt;
         is == wanted,

@@ -1,4 +1,4 @@
-use Rattle.example_store.proofs.Keeping.{keeps-by}
+use Rattle.example_store.proofs.StoreKeeps.{keeps-by}
 use Rattle.example_store.proofs.serve.Goals as goal
 
 pub returns : goal.returns

@@ -2,7 +2,7 @@
 use crate::book::Book;
 use crate::follow::number_in;
 use crate::origin::Origin;
-use jb_board::{History, Made, Scribe};
+use jb_board::{Appender, History, OwnEntries};
 use jb_deck::Entry;
 use jb_handle::{Shape, Words};
 
@@ -122,14 +122,14 @@ impl<S: Origin> Book<S> {
     pub(crate) fn record_last(
         &self,
         history: &History<Words, S>,
-        scribe: &mut Scribe<Words, S>,
-        made: &mut Made<Words, S>,
+        appender: &mut Appender<Words, S>,
+        made: &mut OwnEntries<Words, S>,
     )
         requires { 0 < length self.now.shadow.queue }
         ensures { (before : List Stopped) (last : Stopped) → self.now.shadow.queue ≡ before ++ last ∷ []
-            → (scribe.new ≡ with_last scribe.old last.words)
-            × (made.new ≡ with_last made.old (length scribe.old, last.words)) }
+            → (appender.new ≡ with_last appender.old last.words)
+            × (made.new ≡ with_last made.old (length appender.old, last.words)) }
     {
-        history.add(scribe, made, &self.queue[self.queue.len() - 1].words);
+        history.add(appender, made, &self.queue[self.queue.len() - 1].words);
     }
 }

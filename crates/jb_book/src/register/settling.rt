@@ -37,7 +37,7 @@ impl<D: Disk, S: Origin> Register<D, S> {
     {
         // for the proof alone: only the clause of a method says that the book is sound
         let _reserved = self.book.reserved();
-        look(&histories.stops, &mut self.scribe, &mut seen.stops);
+        look(&histories.stops, &mut self.appender, &mut seen.stops);
         histories.marks.learn(&mut self.seen, &mut seen.marks);
         if !self.is_whole(done, end, shape) {
             self.book.fail();
@@ -75,7 +75,7 @@ impl<D: Disk, S: Origin> Register<D, S> {
     {
         // for the proof alone: only the clause of a method says that the book is sound
         let _reserved = self.book.reserved();
-        look(&histories.stops, &mut self.scribe, &mut seen.stops);
+        look(&histories.stops, &mut self.appender, &mut seen.stops);
         histories.marks.learn(&mut self.seen, &mut seen.marks);
         if !self.is_out(done.first(), end, shape) {
             self.book.fail();

@@ -5,7 +5,7 @@ ghost use Rattle.jb_commands.specs.Files.{EndsOfChange};
 ghost use Rattle.jb_commands.specs.declared.report.Report.TheVariants.{Renumbered as ReportsRenumbered};
 ghost use Rattle.jb_commands.specs.declared.report.Report.TheVariants.{Widened as ReportsWidened};
 
-use crate::done::Done;
+use crate::command_end::CommandEnd;
 use crate::files::opening::{Opening, open_counted};
 use crate::streams::{renumber_on, widen_on};
 use jb_disk::Start;
@@ -19,19 +19,19 @@ use std::rt::Files;
 pub fn renumber_file<'a, S: Start, T: Start, R: Files<File = File> + AllocGlobal>(
     rt: &R,
     image: &'a str,
-) -> Done<'a, S, T>
+) -> CommandEnd<'a, S, T>
     ensures ends { EndsOfChange Renumbers IsRenumbering RenumbersAs ReportsRenumbered image.entry.now result.image
         result.end }
 {
     match open_counted(rt, image, None, Opening::Change) {
         Ok((mut disk, _homes)) => {
             let end = renumber_on(&mut disk);
-            Done {
+            CommandEnd {
                 image: Some(disk),
                 end,
             }
         }
-        Err(fault) => Done {
+        Err(fault) => CommandEnd {
             image: None,
             end: Err(fault),
         },
@@ -45,18 +45,18 @@ pub fn renumber_file<'a, S: Start, T: Start, R: Files<File = File> + AllocGlobal
 pub fn widen_file<'a, S: Start, T: Start, R: Files<File = File> + AllocGlobal>(
     rt: &R,
     image: &'a str,
-) -> Done<'a, S, T>
+) -> CommandEnd<'a, S, T>
     ensures ends { EndsOfChange Widens IsWidened WidensAs ReportsWidened image.entry.now result.image result.end }
 {
     match open_counted(rt, image, None, Opening::Change) {
         Ok((mut disk, _homes)) => {
             let end = widen_on(&mut disk);
-            Done {
+            CommandEnd {
                 image: Some(disk),
                 end,
             }
         }
-        Err(fault) => Done {
+        Err(fault) => CommandEnd {
             image: None,
             end: Err(fault),
         },

@@ -2,7 +2,7 @@
 ghost use Rattle.jb_args.specs.PlainCommand.{cat_said};
 ghost use Rattle.jb_commands.specs.JournalPlace.{EndsOfCat};
 
-use crate::done::Done;
+use crate::command_end::CommandEnd;
 use crate::files::opening::Opening;
 use crate::files::placed::open_placed;
 use crate::report::status_end;
@@ -22,7 +22,7 @@ pub fn cat_file<'a, S: Start, T: Start, R: Files<File = File> + AllocGlobal, O: 
     image: &'a str,
     options: CatOptions<'a>,
     out: &mut O,
-) -> Done<'a, S, T>
+) -> CommandEnd<'a, S, T>
     ensures ends { EndsOfCat image.entry.now (cat_said options.entry) (O.contents out.old) (O.contents out.new)
         result.image result.end }
 {
@@ -30,12 +30,12 @@ pub fn cat_file<'a, S: Start, T: Start, R: Files<File = File> + AllocGlobal, O: 
     match open_placed(rt, image, options.journal, options.extents, Opening::Read) {
         Ok((mut disk, homes)) => {
             let told = show_on(rt.alloc(), &mut disk, home, count, hex, Some(homes), out);
-            Done {
+            CommandEnd {
                 image: Some(disk),
                 end: status_end(told),
             }
         }
-        Err(fault) => Done {
+        Err(fault) => CommandEnd {
             image: None,
             end: Err(fault),
         },

@@ -5,16 +5,16 @@ ghost use Rattle.jb_commands.specs.Dump.{DumpsFile, DumpsNamed, choice_of};
 use crate::fault::CommandFault;
 use crate::streams::dump_from;
 use jb_args::DumpOptions;
-use jb_dump::Choice;
+use jb_dump::DumpFilter;
 use std::fs::File;
 use std::io::{ErrorKind, Read, Write};
 use std::rt::Files;
 
 /// The lines that the options ask for.
-pub(crate) fn choice_of(options: DumpOptions) -> Choice
+pub(crate) fn choice_of(options: DumpOptions) -> DumpFilter
     ensures { result ≡ choice_of options }
 {
-    Choice {
+    DumpFilter {
         home: options.home,
         last: options.last,
         superblock: options.superblock,
@@ -30,7 +30,7 @@ pub(crate) fn choice_of(options: DumpOptions) -> Choice
 pub(crate) fn dump_named<'a, R: Files + AllocGlobal, I: Read, O: Write>(
     rt: &R,
     name: &'a str,
-    choice: Choice,
+    choice: DumpFilter,
     input: &mut I,
     out: &mut O,
 ) -> Result<u8, CommandFault<'a>>
@@ -53,7 +53,7 @@ pub(crate) fn dump_named<'a, R: Files + AllocGlobal, I: Read, O: Write>(
 fn dump_file<'a, R: Files + AllocGlobal, O: Write>(
     rt: &R,
     file: &'a str,
-    choice: Choice,
+    choice: DumpFilter,
     out: &mut O,
 ) -> Result<u8, CommandFault<'a>>
     ensures ends { DumpsFile choice file.entry.now (O.contents out.old) (O.contents out.new) result }

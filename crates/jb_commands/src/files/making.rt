@@ -6,13 +6,13 @@ ghost use Rattle.jb_commands.specs.Files.{EndsOfFormat, EndsOfMaking, IsUnnamed}
 ghost use Rattle.jb_commands.specs.Format.{new_limit_of};
 ghost use Rattle.jb_commands.specs.Options.{IsJournalLength};
 
-use crate::done::Done;
+use crate::command_end::CommandEnd;
 use crate::fault::CommandFault;
 use crate::options::new_file;
 use crate::report::Report;
 use jb_args::FormatOptions;
 use jb_disk::Start;
-use jb_image::{Geometry, ImageDisk, ImageFault, MakeFault, create_holding};
+use jb_image::{ImageDisk, ImageFault, ImageGeometry, MakeFault, create_holding};
 use jb_super::Super;
 use std::fs::File;
 use std::rt::Files;
@@ -33,20 +33,20 @@ pub fn format_file<'a, S: Start, T: Start, R: Files<File = File> + AllocGlobal>(
     rt: &R,
     image: &'a str,
     options: FormatOptions<'_>,
-) -> Done<'a, S, T>
+) -> CommandEnd<'a, S, T>
     ensures ends { EndsOfFormat image.entry.now (options_said options.entry) result.image result.end }
 {
     let new = match new_file(options) {
         Ok(new) => new,
         Err(option) => {
-            return Done {
+            return CommandEnd {
                 image: None,
                 end: Err(CommandFault::BadOption(option)),
             };
         }
     };
     let Some(limit) = limit_of(new) else {
-        return Done {
+        return CommandEnd {
             image: None,
             end: Err(CommandFault::Geometry),
         };
@@ -55,11 +55,11 @@ pub fn format_file<'a, S: Start, T: Start, R: Files<File = File> + AllocGlobal>(
 }
 
 /// The most log blocks of a transaction of a new journal, or `None` where a journal may not have so many blocks.
-fn limit_of(new: Geometry) -> Option<u32>
+fn limit_of(new: ImageGeometry) -> Option<u32>
     ensures good { IsSome result ↔ IsJournalLength new.journal }
     ensures value { IfSome result (λ limit. limit ≡ new_limit_of new) }
 {
-    let Geometry {
+    let ImageGeometry {
         block_size,
         journal,
         max_transaction,
@@ -78,16 +78,16 @@ fn limit_of(new: Geometry) -> Option<u32>
 fn make_file<'a, S: Start, T: Start, R: Files<File = File> + AllocGlobal>(
     rt: &R,
     name: &'a str,
-    geometry: Geometry,
+    geometry: ImageGeometry,
     limit: u32,
-) -> Done<'a, S, T>
+) -> CommandEnd<'a, S, T>
     requires geometry { MakesImage geometry }
     requires limit { limit ≡ new_limit_of geometry }
     ensures ends { EndsOfMaking name.entry.now geometry result.image result.end }
 {
     let fault = match create_holding(rt, name, geometry) {
         Ok(disk) => {
-            return Done {
+            return CommandEnd {
                 image: Some(ImageDisk::One(disk)),
                 end: Ok(Report::Formatted(limit)),
             };
@@ -97,7 +97,7 @@ fn make_file<'a, S: Start, T: Start, R: Files<File = File> + AllocGlobal>(
         Err(MakeFault::Exists) => CommandFault::CannotMake(name, Some(EXISTS)),
         Err(MakeFault::Image(fault)) => unnamed(name, fault),
     };
-    Done {
+    CommandEnd {
         image: None,
         end: Err(fault),
     }

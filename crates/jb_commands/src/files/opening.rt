@@ -4,7 +4,7 @@ ghost use Rattle.jb_disk.specs.File.{IsMeasured, count_of, size_of_blocks};
 ghost use Rattle.jb_format.specs.Front.{homes_in};
 ghost use Rattle.jb_image.specs.Pair.{back_disk, front_disk, joined_count, past_states};
 ghost use Rattle.jb_commands.specs.Files.{IsImageOpened, IsShut, SaysSuper};
-ghost use Rattle.jb_commands.specs.Shut.{IsFileShut, IsFront, IsPairShut};
+ghost use Rattle.jb_commands.specs.OpenRefusals.{IsFileShut, IsFront, IsPairShut};
 
 use crate::fault::CommandFault;
 use crate::files::shut::{FileFault, PairFault, named, named_pair};

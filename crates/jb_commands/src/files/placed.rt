@@ -5,7 +5,8 @@ ghost use Rattle.jb_image.specs.Disks.{whole_disk};
 ghost use Rattle.jb_image.specs.Lists.{extents_in, list_of, shared_in};
 ghost use Rattle.jb_commands.specs.Files.{SaysSuper};
 ghost use Rattle.jb_commands.specs.JournalPlace.{IsNoPlaceFor, IsOpenedAt, IsOpenedWithin, IsShutAt};
-ghost use Rattle.jb_commands.specs.Shut.{IsFileShut, IsFront, IsListShut, IsOpenedOver, IsSpreadShut, JoinsFile};
+ghost use Rattle.jb_commands.specs.OpenRefusals.{IsFileShut, IsFront, IsListShut, IsOpenedOver};
+ghost use Rattle.jb_commands.specs.OpenRefusals.{IsSpreadShut, JoinsFile};
 
 use crate::fault::CommandFault;
 use crate::files::opening::{Opening, counted, disk_of, front_of, open_counted, open_image};

@@ -6,7 +6,7 @@ ghost use Rattle.jb_commands.specs.Foresee.{foreseen_end as foreseen_so, own_che
 ghost use Rattle.jb_commands.specs.JournalPlace.{EndsOfRecover, is_apart as stands_apart, is_beside as stands_beside};
 ghost use Rattle.jb_commands.specs.JournalPlace.{ChecksOwn, ForeseesImage, JudgesBeside, RecoversImage, RecoversOpened};
 
-use crate::done::Done;
+use crate::command_end::CommandEnd;
 use crate::fault::CommandFault;
 use crate::files::opening::Opening;
 use crate::files::placed::open_placed;
@@ -30,11 +30,11 @@ pub fn recover_file<'a, S: Start, T: Start, R: Files<File = File> + AllocGlobal>
     rt: &R,
     image: &'a str,
     options: RecoverOptions<'a>,
-) -> Done<'a, S, T>
+) -> CommandEnd<'a, S, T>
     ensures ends { EndsOfRecover image.entry.now (recover_said options.entry) result.image result.end }
 {
     if options.list && !options.dry_run {
-        return Done {
+        return CommandEnd {
             image: None,
             end: Err(CommandFault::BadOption(OptionName::List)),
         };
@@ -43,12 +43,12 @@ pub fn recover_file<'a, S: Start, T: Start, R: Files<File = File> + AllocGlobal>
     match open_placed(rt, image, options.journal, options.extents, opening) {
         Ok((mut disk, homes)) => {
             let end = recover_opened(rt.alloc(), &mut disk, homes, options);
-            Done {
+            CommandEnd {
                 image: Some(disk),
                 end,
             }
         }
-        Err(fault) => Done {
+        Err(fault) => CommandEnd {
             image: None,
             end: Err(fault),
         },

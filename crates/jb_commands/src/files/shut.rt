@@ -3,7 +3,7 @@
 ghost use Rattle.std.specs.Prelude.{◌≡◌, IfErr, IfOk, List, Some, ℕ};
 ghost use Rattle.jb_commands.specs.Files.{IsShut, IsUnread};
 ghost use Rattle.jb_commands.specs.JournalPlace.{IsShutWithin};
-ghost use Rattle.jb_commands.specs.Shut.{IsFileShut, IsListShut, IsPairShut};
+ghost use Rattle.jb_commands.specs.OpenRefusals.{IsFileShut, IsListShut, IsPairShut};
 
 use crate::fault::CommandFault;
 use jb_args::OptionName;

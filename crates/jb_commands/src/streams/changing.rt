@@ -2,12 +2,12 @@ ghost use Rattle.std.specs.Prelude.{◌≡◌};
 ghost use Rattle.jb_format.specs.Renumber.{IsRenumbering, Renumbers, RenumbersAs};
 ghost use Rattle.jb_format.specs.Widen.{IsWidened, Widens, WidensAs};
 ghost use Rattle.jb_commands.specs.Change.{ChangesOn, change_end, renumbered_line, widened_line};
-ghost use Rattle.jb_commands.specs.Said.{TellsLine, line_end};
+ghost use Rattle.jb_commands.specs.Outputs.{TellsLine, line_end};
 ghost use Rattle.jb_commands.specs.declared.report.Report.TheVariants.{Renumbered as ReportsRenumbered};
 ghost use Rattle.jb_commands.specs.declared.report.Report.TheVariants.{Widened as ReportsWidened};
 
-use crate::ended::Ended;
 use crate::fault::CommandFault;
+use crate::program_end::ProgramEnd;
 use crate::report::Report;
 use crate::streams::telling::tell_line;
 use itoa::Buffer;
@@ -64,7 +64,10 @@ fn widening_end<'a>(answer: Result<Widened, ChangeFault>) -> Result<Report, Comm
 }
 
 /// Writes the line of a renumbering.
-pub(crate) fn tell_renumbered<O: Write>(done: Renumbered, out: &mut O) -> Result<Ended, WriteFault>
+pub(crate) fn tell_renumbered<O: Write>(
+    done: Renumbered,
+    out: &mut O,
+) -> Result<ProgramEnd, WriteFault>
     ensures { TellsLine (renumbered_line done) (O.contents out.old) (O.contents out.new) (line_end result) }
 {
     let (mut blocks, mut next) = (Buffer::new(), Buffer::new());
@@ -73,7 +76,7 @@ pub(crate) fn tell_renumbered<O: Write>(done: Renumbered, out: &mut O) -> Result
 }
 
 /// Writes the line of a widening.
-pub(crate) fn tell_widened<O: Write>(done: Widened, out: &mut O) -> Result<Ended, WriteFault>
+pub(crate) fn tell_widened<O: Write>(done: Widened, out: &mut O) -> Result<ProgramEnd, WriteFault>
     ensures { TellsLine (widened_line done) (O.contents out.old) (O.contents out.new) (line_end result) }
 {
     let mut digits = Buffer::new();

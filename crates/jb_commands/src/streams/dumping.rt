@@ -1,7 +1,7 @@
 ghost use Rattle.jb_commands.specs.Dump.{DumpsOn};
 
 use crate::fault::CommandFault;
-use jb_dump::{Choice, dump_chosen};
+use jb_dump::{DumpFilter, dump_chosen};
 use std::alloc::Global;
 use std::io::{Read, Write};
 
@@ -15,7 +15,7 @@ use std::io::{Read, Write};
 pub fn dump_from<'a, I: Read, O: Write>(
     alloc: Global,
     journal: &mut I,
-    choice: Choice,
+    choice: DumpFilter,
     out: &mut O,
 ) -> Result<u8, CommandFault<'a>>
     ensures dumps { DumpsOn choice (I.remaining journal.old) (I.remaining journal.new) (O.contents out.old)

@@ -1,7 +1,7 @@
 ghost use Rattle.jb_commands.specs.Foresee.{foreseen_text, homes_lines};
-ghost use Rattle.jb_commands.specs.Said.{TellsLine, line_end};
+ghost use Rattle.jb_commands.specs.Outputs.{TellsLine, line_end};
 
-use crate::ended::Ended;
+use crate::program_end::ProgramEnd;
 use crate::streams::recovering::tell_recovered;
 use crate::streams::telling::tell_line;
 use itoa::Buffer;
@@ -14,7 +14,7 @@ pub(crate) fn tell_foreseen<O: Write>(
     told: &Foreseen,
     list: bool,
     out: &mut O,
-) -> Result<Ended, WriteFault>
+) -> Result<ProgramEnd, WriteFault>
     ensures { TellsLine (foreseen_text list told.now) (O.contents out.old) (O.contents out.new) (line_end result) }
 {
     let ended = tell_recovered(told.counts, out)?;
@@ -25,12 +25,12 @@ pub(crate) fn tell_foreseen<O: Write>(
 }
 
 /// Writes home blocks, a line each.
-fn tell_homes<O: Write>(homes: &[u64], out: &mut O) -> Result<Ended, WriteFault>
+fn tell_homes<O: Write>(homes: &[u64], out: &mut O) -> Result<ProgramEnd, WriteFault>
     ensures { TellsLine (homes_lines homes.now) (O.contents out.old) (O.contents out.new) (line_end result) }
 {
     for home in homes {
         let mut digits = Buffer::new();
         let _ended = tell_line(out, &["home ", digits.format(*home), "\n"])?;
     }
-    Ok(Ended::with_status(0))
+    Ok(ProgramEnd::with_status(0))
 }

@@ -14,7 +14,7 @@ use std::io::Write;
 const GATHERED: usize = 4096;
 
 /// The bytes of a line that is gathered.
-type Line = ArrayVec<u8, GATHERED>;
+type LineBuffer = ArrayVec<u8, GATHERED>;
 
 /// Writes a line of these words, with the name of a file after them where there is one, as far as the writer takes it.
 pub(crate) fn put_line<W: Write>(writer: &mut W, words: &[&str], name: Option<&str>)
@@ -28,7 +28,7 @@ pub(crate) fn put_line<W: Write>(writer: &mut W, words: &[&str], name: Option<&s
 }
 
 /// A line of these words and this name, or `None` where it is longer than what is written at once.
-fn gathered(words: &[&str], name: Option<&str>) -> Option<Line>
+fn gathered(words: &[&str], name: Option<&str>) -> Option<LineBuffer>
     ensures { IfSome result (λ line. line.items
         ≡ line_naming (map (λ word. word.now) words.now) (option_map (λ name. name.now) name.entry)) }
 {
@@ -40,7 +40,7 @@ fn gathered(words: &[&str], name: Option<&str>) -> Option<Line>
 }
 
 /// Adds words to a line; `None` where they have no room.
-fn add_words(line: &mut Line, words: &[&str]) -> Option<()>
+fn add_words(line: &mut LineBuffer, words: &[&str]) -> Option<()>
     ensures { IfSome result (λ _. line.new.items ≡ line.old.items ++ spelled (map (λ word. word.now) words.now)) }
 {
     for word in words {
@@ -50,7 +50,7 @@ fn add_words(line: &mut Line, words: &[&str]) -> Option<()>
 }
 
 /// Adds a space and a name to a line, where there is one; `None` where it has no room.
-fn add_name(line: &mut Line, name: Option<&str>) -> Option<()>
+fn add_name(line: &mut LineBuffer, name: Option<&str>) -> Option<()>
     ensures { IfSome result (λ _. line.new.items
         ≡ line.old.items ++ after_words (option_map (λ name. name.now) name.entry)) }
 {
@@ -62,7 +62,7 @@ fn add_name(line: &mut Line, name: Option<&str>) -> Option<()>
 }
 
 /// Adds a name as it is shown; `None` where it has no room.
-fn add_shown(line: &mut Line, name: &[u8]) -> Option<()>
+fn add_shown(line: &mut LineBuffer, name: &[u8]) -> Option<()>
     ensures { IfSome result (λ _. line.new.items ≡ line.old.items ++ shown_name name.now) }
 {
     for at in 0..name.len() {
@@ -72,7 +72,7 @@ fn add_shown(line: &mut Line, name: &[u8]) -> Option<()>
 }
 
 /// Adds bytes to a line; `None` where they have no room.
-fn add(line: &mut Line, bytes: &[u8]) -> Option<()>
+fn add(line: &mut LineBuffer, bytes: &[u8]) -> Option<()>
     ensures { IfSome result (λ _. line.new.items ≡ line.old.items ++ bytes.now) }
 {
     line.try_extend_from_slice(bytes).ok()

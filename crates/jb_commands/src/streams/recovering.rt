@@ -1,9 +1,9 @@
 ghost use Rattle.std.specs.Prelude.{◌≡◌};
 ghost use Rattle.jb_commands.specs.Recover.{RecoversOn, recovered_line, recovery_end as ends_so};
-ghost use Rattle.jb_commands.specs.Said.{TellsLine, line_end};
+ghost use Rattle.jb_commands.specs.Outputs.{TellsLine, line_end};
 
-use crate::ended::Ended;
 use crate::fault::CommandFault;
+use crate::program_end::ProgramEnd;
 use crate::report::Report;
 use crate::streams::telling::tell_line;
 use itoa::Buffer;
@@ -46,7 +46,10 @@ fn recovery_end<'a>(
 }
 
 /// Writes the line of a recovery.
-pub(crate) fn tell_recovered<O: Write>(done: Recovered, out: &mut O) -> Result<Ended, WriteFault>
+pub(crate) fn tell_recovered<O: Write>(
+    done: Recovered,
+    out: &mut O,
+) -> Result<ProgramEnd, WriteFault>
     ensures { TellsLine (recovered_line done) (O.contents out.old) (O.contents out.new) (line_end result) }
 {
     let (mut transactions, mut copies) = (Buffer::new(), Buffer::new());

@@ -4,14 +4,14 @@ ghost use Rattle.jb_commands.specs.Ends.{of_fault, with_status};
 ghost use Rattle.jb_commands.specs.Faults.{line_of, not_utf8};
 ghost use Rattle.jb_commands.specs.declared.fault.CommandFault.TheVariants.{Memory};
 
-use crate::ended::Ended;
 use crate::fault::CommandFault;
+use crate::program_end::ProgramEnd;
 use crate::streams::putting::put_line;
 use std::io::{ErrorKind, Write};
 
 /// Answers words that the system could not hand over: a word that is not UTF-8, or out of memory. Gives the end of the
 /// program.
-pub fn refuse_words<E: Write>(kind: ErrorKind, err: &mut E) -> Ended
+pub fn refuse_words<E: Write>(kind: ErrorKind, err: &mut E) -> ProgramEnd
     ensures text { kind ≡ ErrorKind.InvalidData → (result ≡ with_status 2)
         × PutsPart (E.contents err.old) (E.contents err.new) not_utf8 }
     ensures memory { kind ≢ ErrorKind.InvalidData → (result ≡ of_fault Memory)
@@ -23,8 +23,8 @@ pub fn refuse_words<E: Write>(kind: ErrorKind, err: &mut E) -> Ended
             &["error: invalid UTF-8 was detected in one or more arguments"],
             None,
         );
-        return Ended::with_status(2);
+        return ProgramEnd::with_status(2);
     }
     CommandFault::Memory.tell(None, err);
-    Ended::of_fault(CommandFault::Memory)
+    ProgramEnd::of_fault(CommandFault::Memory)
 }

@@ -1,11 +1,11 @@
 ghost use Rattle.std.specs.Prelude.{IfErr, IfOk, map};
 ghost use Rattle.jb_text.specs.TextParts.{spelled};
 ghost use Rattle.jb_commands.specs.AnswerSaid.{said};
-ghost use Rattle.jb_commands.specs.Said.{Tells, TellsLine, TellsNone, line_end};
+ghost use Rattle.jb_commands.specs.Outputs.{Tells, TellsLine, TellsNone, line_end};
 
-use crate::Answer;
-use crate::ended::Ended;
+use crate::CommandOutput;
 use crate::fault::CommandFault;
+use crate::program_end::ProgramEnd;
 use jb_block::Memory;
 use jb_text::{WriteFault, put, put_parts};
 use std::io::Write;
@@ -16,17 +16,17 @@ use std::io::Write;
 /// `CommandFault::WriteFault` where standard output took only the beginning of its text, and never where there is
 /// none for it.
 pub fn tell<'a, O: Write, E: Write>(
-    answer: &Answer,
+    answer: &CommandOutput,
     out: &mut O,
     err: &mut E,
-) -> Result<Ended, CommandFault<'a>>
+) -> Result<ProgramEnd, CommandFault<'a>>
     ensures { Tells (said answer.now) (record { out = O.contents out.old; err = E.contents err.old })
         (record { out = O.contents out.new; err = E.contents err.new }) result }
 {
     match put(out, answer.out.as_bytes()) {
         Ok(()) => {
             let _ignored = put(err, answer.err.as_bytes());
-            Ok(Ended {
+            Ok(ProgramEnd {
                 status: answer.status,
                 hint: answer.hint,
             })
@@ -40,10 +40,10 @@ pub fn tell<'a, O: Write, E: Write>(
 /// # Errors
 /// `CommandFault::Memory` where there was none, and those of `tell`.
 pub(crate) fn told<'a, O: Write, E: Write>(
-    answer: Result<Answer, Memory>,
+    answer: Result<CommandOutput, Memory>,
     out: &mut O,
     err: &mut E,
-) -> Result<Ended, CommandFault<'a>>
+) -> Result<ProgramEnd, CommandFault<'a>>
     ensures tells { IfOk answer (λ answer. Tells (said answer)
         (record { out = O.contents out.old; err = E.contents err.old })
         (record { out = O.contents out.new; err = E.contents err.new }) result) }
@@ -61,12 +61,12 @@ pub(crate) fn told<'a, O: Write, E: Write>(
 ///
 /// # Errors
 /// `WriteFault` where the writer took only the beginning of the line.
-pub(crate) fn tell_line<O: Write>(out: &mut O, parts: &[&str]) -> Result<Ended, WriteFault>
+pub(crate) fn tell_line<O: Write>(out: &mut O, parts: &[&str]) -> Result<ProgramEnd, WriteFault>
     ensures { TellsLine (spelled (map (λ part. part.now) parts.now)) (O.contents out.old) (O.contents out.new)
         (line_end result) }
 {
     match put_parts(out, parts) {
-        Ok(()) => Ok(Ended::with_status(0)),
+        Ok(()) => Ok(ProgramEnd::with_status(0)),
         Err(fault) => Err(fault),
     }
 }

@@ -1,7 +1,7 @@
 //! Committed groups are brought home.
-use crate::counter::Progress;
 use crate::desk::Desk;
 use crate::ended::Ended;
+use crate::queue_state::Progress;
 use jb_book::{CheckpointRound, Origin};
 use jb_deck::{Checked, CheckpointFault};
 use jb_disk::{Clock, Disk};

@@ -1,6 +1,5 @@
 //! A desk is closed.
 ghost use Rattle.std.specs.Prelude.{◌≡◌, ℕ, ◌+◌, ◌≤◌, ◌^◌, IfOk, IfErr, vec_len, map};
-ghost use Rattle.std.specs.List.{sum_by};
 ghost use Rattle.jb_deck.specs.Done.{Follow, start_of};
 ghost use Rattle.jb_desk.specs.Seats.{AddsUp, made_left};
 ghost use Rattle.jb_book.specs.History.{CameAbout};
@@ -8,11 +7,11 @@ ghost use Rattle.jb_book.specs.SinceMark.{EndsMarked};
 ghost use Rattle.jb_desk.specs.Close.{DiffersAs};
 ghost use Rattle.jb_desk.specs.Parts.{ledger_parts};
 
-use crate::counter::Counter;
 use crate::desk::Desk;
 use crate::follow::are_same;
+use crate::queue_state::QueueState;
 use crate::seat::Left;
-use jb_book::{Histories, Origin, Sights, Works};
+use jb_book::{Histories, JournalState, Origin, Sights};
 use jb_deck::{Deck, Entry};
 use jb_disk::{Clock, Disk};
 use jb_handle::Shape;
@@ -72,7 +71,6 @@ impl<D: Disk, C: Clock, H: Origin, N: Ledger> fmt::Display for CloseFault<D, C, 
 }
 
 impl<D: Disk + Drop, C: Clock, H: Origin, N: Ledger> Desk<D, C, H, N> {
-    ghost use Rattle.jb_desk.specs.Seats.{stops_left, changes_left, made_left};
     ghost use Rattle.jb_book.specs.History.{CameAbout};
     ghost use Rattle.jb_book.specs.SinceMark.{EndsMarked};
     ghost use Rattle.jb_desk.specs.Close.{IsNotClosed};
@@ -91,10 +89,7 @@ impl<D: Disk + Drop, C: Clock, H: Origin, N: Ledger> Desk<D, C, H, N> {
         seen: Sights<D, H>,
     ) -> Result<Closed<D, C>, CloseFault<D, C, H, N>>
         requires parts { (H.parts ≡ 2 ^ 61 + 1) × (N.parts ≡ 2 ^ 61 + 1) }
-        ensures handles { IfOk result (λ closed. (closed.handles ≡ sum_by stops_left lefts.items)
-            × (closed.handles ≤ 2 ^ 61)) }
-        ensures changes { IfOk result (λ closed. (closed.changes ≡ sum_by changes_left lefts.items)
-            × (closed.changes ≤ 2 ^ 61)) }
+        ensures sums { IfOk result (λ closed. AddsUp lefts.items closed.handles closed.changes) }
         ensures trail { IfOk result (λ closed. (past : ℕ) × Follow (start_of closed.trail.items) 0 past
             closed.trail.items × (past ≤ closed.handles)) }
         ensures since { IfOk result (λ closed. EndsSince D.Disk H.begun closed.disk closed.trail.items) }
@@ -137,8 +132,8 @@ impl<D: Disk + Drop, C: Clock, H: Origin, N: Ledger> Desk<D, C, H, N> {
 /// Closes what the two locks guarded, where every seat that was given has left.
 fn close_parts<D: Disk + Drop, C: Clock, H: Origin, N: Ledger>(
     histories: &Histories<D, H>,
-    counter: Counter<D, H, N>,
-    works: Works<D, C, H>,
+    counter: QueueState<D, H, N>,
+    works: JournalState<D, C, H>,
     lefts: Vec<Left<H, N>>,
     seen: Sights<D, H>,
 ) -> Result<Closed<D, C>, CloseFault<D, C, H, N>>
@@ -156,12 +151,15 @@ fn close_parts<D: Disk + Drop, C: Clock, H: Origin, N: Ledger>(
         × (closed.handles ≡ counter.register.book.shadow.next) × (closed.changes ≡ counter.register.book.changes)) }
     ensures refused { IfErr result (DiffersAs counter works) }
 {
-    let (trail, handles, changes, mut scribe, mut known) = counter.totals(&histories.stops, lefts);
+    let (trail, handles, changes, mut appender, mut known) = counter.totals(
+        &histories.stops,
+        lefts,
+    );
     let Sights { stops, mut marks } = seen;
     histories.marks.learn(&mut marks, &mut known);
     let (deck, clock, sight) = works.end(histories, marks);
-    histories.stops.check(&mut scribe, sight);
-    histories.stops.check(&mut scribe, stops);
+    histories.stops.check(&mut appender, sight);
+    histories.stops.check(&mut appender, stops);
     if !are_same(&trail, deck.trail()) {
         return Err(CloseFault::TrailsDiffer {
             deck,

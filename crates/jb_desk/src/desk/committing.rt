@@ -2,11 +2,11 @@
 ghost use Rattle.std.specs.Prelude.{◌≡◌};
 
 use crate::committer::{Committer, Round, RoundFault};
-use crate::counter::Over;
 use crate::delay::Delay;
 use crate::desk::Desk;
 use crate::desk::gathering::Pace;
 use crate::ended::Ended;
+use crate::queue_state::Drained;
 use jb_book::Origin;
 use jb_disk::{Clock, Disk};
 use std::sync::Wait;
@@ -17,7 +17,7 @@ impl<D: Disk, C: Clock, H: Origin, N: Ledger> Desk<D, C, H, N> {
     ghost use Rattle.jb_desk.specs.Desks.{desk_id};
     ghost use Rattle.jb_desk.specs.Ends.{EndsHolding};
     ghost use Rattle.jb_desk.specs.Rounds.{seat_of, held_by};
-    ghost use Rattle.jb_desk.specs.Seats.{KeepsStops, seat_number, desk_of, view_of};
+    ghost use Rattle.jb_desk.specs.Seats.{KeepsSeat, desk_of, view_of};
     ghost use Rattle.jb_board.specs.Front.{IsWithin};
 
     /// Commits what stops, round after round, until the desk is over, or until a round fails.
@@ -27,11 +27,9 @@ impl<D: Disk, C: Clock, H: Origin, N: Ledger> Desk<D, C, H, N> {
         committer: Committer<H, N>,
     ) -> (Committer<H, N>, Ended)
         requires { desk_of (seat_of committer) ≡ desk_id self.now }
-        ensures desk { (desk_of (seat_of result.0) ≡ desk_of (seat_of committer))
-            × (seat_number (seat_of result.0) ≡ seat_number (seat_of committer)) }
+        ensures seat { KeepsSeat (seat_of committer) (seat_of result.0) }
         ensures rises { IsWithin (view_of (seat_of committer)) (view_of (seat_of result.0)) }
         ensures held { EndsHolding result.1 (held_by result.0) }
-        ensures counted { KeepsStops (seat_of committer) (seat_of result.0) }
     {
         self.run_committer_after(rt, committer, Delay::none())
     }
@@ -44,11 +42,9 @@ impl<D: Disk, C: Clock, H: Origin, N: Ledger> Desk<D, C, H, N> {
         delay: Delay,
     ) -> (Committer<H, N>, Ended)
         requires { desk_of (seat_of committer) ≡ desk_id self.now }
-        ensures desk { (desk_of (seat_of result.0) ≡ desk_of (seat_of committer))
-            × (seat_number (seat_of result.0) ≡ seat_number (seat_of committer)) }
+        ensures seat { KeepsSeat (seat_of committer) (seat_of result.0) }
         ensures rises { IsWithin (view_of (seat_of committer)) (view_of (seat_of result.0)) }
         ensures held { EndsHolding result.1 (held_by result.0) }
-        ensures counted { KeepsStops (seat_of committer) (seat_of result.0) }
     {
         let (mut committer, mut pace) = (committer, Pace::new(delay));
         for _ in rt.forever() {
@@ -72,7 +68,7 @@ impl<D: Disk, C: Clock, H: Origin, N: Ledger> Desk<D, C, H, N> {
 
     /// Waits until there is a batch to take, or none can come any more, as the desk is over or the journal has
     /// failed.
-    fn await_work<R: Wait>(&self, rt: &R) -> Option<Over> {
+    fn await_work<R: Wait>(&self, rt: &R) -> Option<Drained> {
         let counter = self.counter.lock(rt);
         let counter = self
             .signals

@@ -4,11 +4,11 @@ ghost use Rattle.jb_deck.specs.Done.{first_ticket, entries_of, past_after};
 ghost use Rattle.jb_desk.specs.Seats.{view_of};
 
 use crate::committer::{Committer, Round, RoundFault};
-use crate::counter::Seen;
 use crate::desk::Desk;
-use crate::held::Held;
+use crate::held_batch::HeldBatch;
+use crate::queue_state::BookCounts;
 use crate::seat::Seat;
-use jb_board::{Sight, Tickets};
+use jb_board::{Prefix, Tickets};
 use jb_book::{Origin, Sights, end_of};
 use jb_deck::{Batch, BatchFault, Done, PrepareFault, Prepared, prepare};
 use jb_disk::{Clock, Disk};
@@ -21,10 +21,10 @@ impl<D: Disk, C: Clock, H: Origin, N: Ledger> Desk<D, C, H, N> {
     ghost use Rattle.jb_desk.specs.Journal.{CommitsRound};
     ghost use Rattle.jb_book.specs.Rounds.{end_of as end_in};
     ghost use Rattle.jb_desk.specs.Rounds.{seat_of, held_by, AnswersRound, IdleKeeps};
-    ghost use Rattle.jb_desk.specs.Seats.{KeepsSeat, KeepsStops, seat_number, desk_of};
-    ghost use Rattle.jb_desk.specs.Out.{IsOut};
+    ghost use Rattle.jb_desk.specs.Seats.{KeepsSeat, desk_of};
+    ghost use Rattle.jb_desk.specs.BatchOut.{IsOut};
     ghost use Rattle.jb_book.specs.CallsToBook.{IsSettling};
-    ghost use Rattle.jb_book.specs.Marks.{HasFailedMark, IsMarked, SeesSame};
+    ghost use Rattle.jb_book.specs.Marks.{HasFailedMark, IsMarked};
     ghost use Rattle.jb_desk.specs.Views.{SeesCommit, SeesRound};
     ghost use Rattle.jb_board.specs.Seats.{given_by};
     ghost use Rattle.jb_board.specs.Steps.{raised_settled};
@@ -45,14 +45,12 @@ impl<D: Disk, C: Clock, H: Origin, N: Ledger> Desk<D, C, H, N> {
         committer: &mut Committer<H, N>,
     ) -> Result<Round, RoundFault>
         requires { desk_of (seat_of committer.old) ≡ desk_id self.now }
-        ensures desk { (desk_of (seat_of committer.new) ≡ desk_of (seat_of committer.old))
-            × (seat_number (seat_of committer.new) ≡ seat_number (seat_of committer.old)) }
+        ensures seat { KeepsSeat (seat_of committer.old) (seat_of committer.new) }
         ensures answers { AnswersRound (held_by committer.old) (held_by committer.new)
             (view_of (seat_of committer.new)).settled result }
         ensures idle { IdleKeeps (seat_of committer.old) (seat_of committer.new) result }
         ensures view { SeesRound (held_by committer.old) (held_by committer.new) (view_of (seat_of committer.old))
             (view_of (seat_of committer.new)) result }
-        ensures counted { KeepsStops (seat_of committer.old) (seat_of committer.new) }
         ensures round { CommitsRound D.Disk H.begun (held_by committer.old) (held_by committer.new)
             (view_of (seat_of committer.new)).settled result }
     {
@@ -71,7 +69,7 @@ impl<D: Disk, C: Clock, H: Origin, N: Ledger> Desk<D, C, H, N> {
         match prepare(self.alloc, batch) {
             Ok(prepared) => self.commit(rt, committer, prepared, (tickets, sight, seen)),
             Err((batch, fault)) => {
-                committer.hold(Held::of(batch, tickets, sight, seen));
+                committer.hold(HeldBatch::of(batch, tickets, sight, seen));
                 match fault {
                     PrepareFault::Memory => Err(RoundFault::Memory),
                     // a batch of a book has a cut
@@ -87,7 +85,7 @@ impl<D: Disk, C: Clock, H: Origin, N: Ledger> Desk<D, C, H, N> {
         rt: &R,
         committer: &mut Committer<H, N>,
         prepared: Prepared,
-        held: (Tickets<H>, Sight<Words, H>, Seen),
+        held: (Tickets<H>, Prefix<Words, H>, BookCounts),
     ) -> Result<Round, RoundFault>
         requires desk { desk_of (seat_of committer.old) ≡ desk_id self.now }
         requires free { held_by committer.old ≡ None }
@@ -123,19 +121,19 @@ impl<D: Disk, C: Clock, H: Origin, N: Ledger> Desk<D, C, H, N> {
                 Err(RoundFault::Aborted)
             }
             Err(BatchFault::Memory(prepared)) => {
-                committer.hold(Held::of(prepared.back(), tickets, seen.stops, taken));
+                committer.hold(HeldBatch::of(prepared.back(), tickets, seen.stops, taken));
                 Err(RoundFault::Memory)
             }
             Err(BatchFault::WrongTicket(prepared, _)) => {
-                committer.hold(Held::of(prepared.back(), tickets, seen.stops, taken));
+                committer.hold(HeldBatch::of(prepared.back(), tickets, seen.stops, taken));
                 Err(RoundFault::Refused)
             }
             Err(BatchFault::OtherShape(prepared)) => {
-                committer.hold(Held::of(prepared.back(), tickets, seen.stops, taken));
+                committer.hold(HeldBatch::of(prepared.back(), tickets, seen.stops, taken));
                 Err(RoundFault::Refused)
             }
             Err(BatchFault::NumbersSpent(prepared)) => {
-                committer.hold(Held::of(prepared.back(), tickets, seen.stops, taken));
+                committer.hold(HeldBatch::of(prepared.back(), tickets, seen.stops, taken));
                 Err(RoundFault::Refused)
             }
         }

@@ -2,7 +2,7 @@
 ghost use Rattle.std.specs.Prelude.{◌≡◌, IfOk, IfErr, IfSome};
 ghost use Rattle.std.specs.FinMap as map;
 ghost use Rattle.jb_handle.specs.Handle.{holder, changes_of};
-ghost use Rattle.jb_handle.specs.Held.{held};
+ghost use Rattle.jb_handle.specs.HeldChanges.{held};
 
 use crate::desk::Desk;
 use crate::seat::Seat;
@@ -96,7 +96,7 @@ impl<D: Disk, C: Clock, H: Origin, N: Ledger> Desk<D, C, H, N> {
         ensures back { IfErr result.0 (λ back. back.0 ≡ seat) }
         ensures refused { IfErr result.0 (λ back. IsTooMany credits back.1) }
     {
-        let (mut seat, mut since) = (seat, Since::new());
+        let (mut seat, mut since) = (seat, StallTimer::new());
         for _ in rt.forever() {
             let mut counter = self.counter.lock(rt);
             counter.want_room(false);
@@ -123,15 +123,15 @@ impl<D: Disk, C: Clock, H: Origin, N: Ledger> Desk<D, C, H, N> {
 
 /// Since when a number of settled handles is the same.
 #[derive(Drop)]
-struct Since {
+struct StallTimer {
     settled: Option<u64>,
     start: Option<Instant>,
 }
 
-impl Since {
+impl StallTimer {
     /// No number was seen.
-    fn new() -> Since {
-        Since {
+    fn new() -> StallTimer {
+        StallTimer {
             settled: None,
             start: None,
         }

@@ -1,5 +1,5 @@
 use jb_handle::TouchFault;
-use jb_journal::{BeginFault, HandleFault as ChangeFault, OpenFault};
+use jb_journal::{BeginFault, HandleFault, OpenFault};
 
 /// Why nothing was loaded, or why it is not known what was.
 #[derive(Clone, Copy, Debug, PartialEq, Eq)]
@@ -16,7 +16,7 @@ pub enum LoadFault {
 
 /// Why a handle of the queue did not stop.
 #[derive(Clone, Copy, Debug, PartialEq, Eq)]
-pub enum HandleFault {
+pub enum QueueHandleFault {
     /// The journal has failed.
     Aborted,
     /// The desk is shut.
@@ -39,58 +39,58 @@ pub enum HandleFault {
     Memory,
 }
 
-impl From<BeginFault> for HandleFault {
+impl From<BeginFault> for QueueHandleFault {
     ghost use Rattle.std.specs.Prelude.{◌≡◌};
     ghost use Rattle.jb_tool.specs.Faults.{not_begun};
 
     ghost from_gives = { λ fault given. given ≡ not_begun fault };
 
-    fn from(fault: BeginFault) -> HandleFault {
+    fn from(fault: BeginFault) -> QueueHandleFault {
         match fault {
-            BeginFault::Aborted => HandleFault::Aborted,
-            BeginFault::Closed => HandleFault::Closed,
-            BeginFault::Busy => HandleFault::Busy,
-            BeginFault::TooManyCredits(most) => HandleFault::TooManyCredits(most),
-            BeginFault::Full(reserved) => HandleFault::Full(reserved),
-            BeginFault::Memory => HandleFault::Memory,
+            BeginFault::Aborted => QueueHandleFault::Aborted,
+            BeginFault::Closed => QueueHandleFault::Closed,
+            BeginFault::Busy => QueueHandleFault::Busy,
+            BeginFault::TooManyCredits(most) => QueueHandleFault::TooManyCredits(most),
+            BeginFault::Full(reserved) => QueueHandleFault::Full(reserved),
+            BeginFault::Memory => QueueHandleFault::Memory,
         }
     }
 }
 
-impl From<TouchFault> for HandleFault {
+impl From<TouchFault> for QueueHandleFault {
     ghost use Rattle.std.specs.Prelude.{◌≡◌};
     ghost use Rattle.jb_tool.specs.Faults.{not_touched};
 
     ghost from_gives = { λ fault given. given ≡ not_touched fault };
 
-    fn from(fault: TouchFault) -> HandleFault {
+    fn from(fault: TouchFault) -> QueueHandleFault {
         match fault {
-            TouchFault::NoCredit(credits) => HandleFault::NoCredit(credits),
-            TouchFault::OutOfRange(home) => HandleFault::OutOfRange(home),
-            TouchFault::Length => HandleFault::Length,
-            TouchFault::Memory => HandleFault::Memory,
+            TouchFault::NoCredit(credits) => QueueHandleFault::NoCredit(credits),
+            TouchFault::OutOfRange(home) => QueueHandleFault::OutOfRange(home),
+            TouchFault::Length => QueueHandleFault::Length,
+            TouchFault::Memory => QueueHandleFault::Memory,
         }
     }
 }
 
-impl From<ChangeFault<TouchFault>> for HandleFault {
+impl From<HandleFault<TouchFault>> for QueueHandleFault {
     ghost use Rattle.std.specs.Prelude.{◌≡◌};
     ghost use Rattle.jb_tool.specs.Faults.{not_stopped};
 
     ghost from_gives = { λ fault given. given ≡ not_stopped fault };
 
-    fn from(fault: ChangeFault<TouchFault>) -> HandleFault {
+    fn from(fault: HandleFault<TouchFault>) -> QueueHandleFault {
         match fault {
-            ChangeFault::Begin(fault) => HandleFault::from(fault),
-            ChangeFault::Refused(fault) => HandleFault::from(fault),
-            ChangeFault::Aborted => HandleFault::Aborted,
-            ChangeFault::NotOpen => HandleFault::NotOpen,
-            ChangeFault::Memory => HandleFault::Memory,
+            HandleFault::Begin(fault) => QueueHandleFault::from(fault),
+            HandleFault::Refused(fault) => QueueHandleFault::from(fault),
+            HandleFault::Aborted => QueueHandleFault::Aborted,
+            HandleFault::NotOpen => QueueHandleFault::NotOpen,
+            HandleFault::Memory => QueueHandleFault::Memory,
         }
     }
 }
 
-impl HandleFault {
+impl QueueHandleFault {
     ghost use Rattle.std.specs.Prelude.{◌≡◌};
     ghost use Rattle.jb_tool.specs.LoadLines.{name_of, number_named};
 
@@ -99,16 +99,16 @@ impl HandleFault {
         ensures { result.now ≡ name_of self }
     {
         match self {
-            HandleFault::Aborted => "Aborted",
-            HandleFault::Closed => "Closed",
-            HandleFault::Busy => "Busy",
-            HandleFault::TooManyCredits(_) => "TooManyCredits",
-            HandleFault::Full(_) => "Full",
-            HandleFault::NoCredit(_) => "NoCredit",
-            HandleFault::OutOfRange(_) => "OutOfRange",
-            HandleFault::Length => "Length",
-            HandleFault::NotOpen => "NotOpen",
-            HandleFault::Memory => "Memory",
+            QueueHandleFault::Aborted => "Aborted",
+            QueueHandleFault::Closed => "Closed",
+            QueueHandleFault::Busy => "Busy",
+            QueueHandleFault::TooManyCredits(_) => "TooManyCredits",
+            QueueHandleFault::Full(_) => "Full",
+            QueueHandleFault::NoCredit(_) => "NoCredit",
+            QueueHandleFault::OutOfRange(_) => "OutOfRange",
+            QueueHandleFault::Length => "Length",
+            QueueHandleFault::NotOpen => "NotOpen",
+            QueueHandleFault::Memory => "Memory",
         }
     }
 
@@ -117,12 +117,12 @@ impl HandleFault {
         ensures { result ≡ number_named self }
     {
         match self {
-            HandleFault::TooManyCredits(credits) | HandleFault::NoCredit(credits) => {
+            QueueHandleFault::TooManyCredits(credits) | QueueHandleFault::NoCredit(credits) => {
                 Some(u64::from(credits))
             }
-            HandleFault::Full(number) | HandleFault::OutOfRange(number) => Some(number),
-            HandleFault::Aborted | HandleFault::Closed | HandleFault::Busy => None,
-            HandleFault::Length | HandleFault::NotOpen | HandleFault::Memory => None,
+            QueueHandleFault::Full(number) | QueueHandleFault::OutOfRange(number) => Some(number),
+            QueueHandleFault::Aborted | QueueHandleFault::Closed | QueueHandleFault::Busy => None,
+            QueueHandleFault::Length | QueueHandleFault::NotOpen | QueueHandleFault::Memory => None,
         }
     }
 }

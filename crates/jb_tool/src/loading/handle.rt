@@ -3,7 +3,7 @@ ghost use Rattle.std.specs.Prelude.{◌≡◌, ◌++◌, ◌∷◌, [], IfOk, If
 ghost use Rattle.jb_journal.specs.Client.{IsClient, client_stops, shape_of};
 ghost use Rattle.jb_tool.specs.RefusedHandle.{IsRefusedFor};
 
-use crate::loading::fault::HandleFault;
+use crate::loading::fault::QueueHandleFault;
 use crate::loading::words::put_words;
 use jb_handle::{Handle, TouchFault, Words};
 use jb_journal::{Client, Clock, Disk, Origin};
@@ -15,7 +15,7 @@ use std::time;
 pub(crate) fn run_handle<'a, D: Disk, C: Clock, R: Wait + time::Clock, H: Origin, N: Ledger>(
     client: &mut Client<'a, D, C, R, H, N>,
     words: &Words,
-) -> Result<u64, HandleFault>
+) -> Result<u64, QueueHandleFault>
     requires client { IsClient H.begun client.old }
     ensures client { IsClient H.begun client.new }
     ensures shape { shape_of client.new ≡ shape_of client.old }
@@ -32,6 +32,6 @@ pub(crate) fn run_handle<'a, D: Disk, C: Clock, R: Wait + time::Clock, H: Origin
     );
     match changed {
         Ok((_, ticket)) => Ok(ticket),
-        Err(fault) => Err(HandleFault::from(fault)),
+        Err(fault) => Err(QueueHandleFault::from(fault)),
     }
 }

@@ -2,10 +2,9 @@ ghost use Rattle.std.specs.Prelude.{◌≡◌, ◌≢◌, ◌≤◌};
 ghost use Rattle.jb_book.specs.Since.{IsBegunOn};
 ghost use Rattle.jb_handle.specs.Word.{WordMap};
 ghost use Rattle.jb_journal.specs.declared.fault.RunFault.TheVariants.{NoThread};
-ghost use Rattle.jb_journal.specs.declared.options.Commits.TheVariants.{Meanwhile};
 ghost use Rattle.jb_queue.specs.QueueLines.{handles_of};
 ghost use Rattle.jb_tool.specs.Faults.{not_run};
-ghost use Rattle.jb_tool.specs.Loads.{AnswersLoad};
+ghost use Rattle.jb_tool.specs.Loads.{AnswersLoad, IsRunBy};
 
 use crate::loading::counting::count_up;
 use crate::loading::fault::LoadFault;
@@ -66,8 +65,7 @@ pub fn load_on<
 
 /// How the journal is run: no worker waits for what commits, so that it may come after them.
 fn run_options(options: LoadOptions) -> Options
-    ensures asked { (result.workers ≡ options.threads) × (result.checkpoint ≡ options.checkpoint) }
-    ensures threads { result.commits ≢ Meanwhile }
+    ensures { IsRunBy options result }
 {
     let commits = if options.hold {
         Commits::After

@@ -1,4 +1,4 @@
-use crate::loading::fault::HandleFault;
+use crate::loading::fault::QueueHandleFault;
 use jb_journal::Ended;
 
 /// A handle that was not run to its end.
@@ -7,7 +7,7 @@ pub struct Refused {
     /// Its place in the queue, from 0 on.
     pub handle: u64,
     /// Why.
-    pub fault: HandleFault,
+    pub fault: QueueHandleFault,
 }
 
 /// What a load did.

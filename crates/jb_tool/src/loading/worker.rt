@@ -5,7 +5,7 @@ ghost use Rattle.jb_journal.specs.Client.{IsClient, client_stops, shape_of};
 ghost use Rattle.jb_queue.specs.QueueLines.{StandsAfter, handles_of};
 ghost use Rattle.jb_tool.specs.Runs.{IsRun, RunsAt};
 
-use crate::loading::fault::HandleFault;
+use crate::loading::fault::QueueHandleFault;
 use crate::loading::handle::run_handle;
 use crate::loading::loaded::Refused;
 use jb_journal::{Client, Clock, Disk, Origin, Worker};
@@ -63,7 +63,7 @@ fn run_next<'a, D: Disk, C: Clock, R: Wait + time::Clock, H: Origin, N: Ledger>(
     client: &mut Client<'a, D, C, R, H, N>,
     reader: &mut HandleReader<'_>,
     passed: usize,
-) -> Result<u64, HandleFault>
+) -> Result<u64, QueueHandleFault>
     requires client { IsClient H.begun client.old }
     ensures client { IsClient H.begun client.new }
     ensures shape { shape_of client.new ≡ shape_of client.old }
@@ -75,6 +75,6 @@ fn run_next<'a, D: Disk, C: Clock, R: Wait + time::Clock, H: Origin, N: Ledger>(
     match reader.read(alloc, passed) {
         Ok(Some(words)) => run_handle(client, &words),
         // a place that the queue has is never `None`
-        Ok(None) | Err(_) => Err(HandleFault::Memory),
+        Ok(None) | Err(_) => Err(QueueHandleFault::Memory),
     }
 }

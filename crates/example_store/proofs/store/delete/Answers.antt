@@ -1,4 +1,4 @@
-use Rattle.example_store.proofs.Keeping.{puts_home}
+use Rattle.example_store.proofs.StoreKeeps.{puts_home}
 use Rattle.example_store.proofs.store.delete.Goals as goal
 
 pub returns-clause-puts : goal.returns-clause-puts

@@ -1,6 +1,6 @@
 use Rattle.std.proofs.Common.{rules, subst}
 use Rattle.jb_journal.specs.Client.{client_stops}
-use Rattle.example_store.specs.Acknowledged.{MayHaveStopped}
+use Rattle.example_store.specs.AcknowledgedPuts.{MayHaveStopped}
 use Rattle.example_store.proofs.store.put.Goals as goal
 
 pub returns-in_err-write-clause-puts : goal.returns-in_err-write-clause-puts

@@ -1,6 +1,6 @@
 use Rattle.std.proofs.Common.{rules, inr, ◌∙◌}
 use Rattle.jb_journal.specs.Client.{client_stops}
-use Rattle.example_store.specs.Acknowledged.{MayHaveStopped}
+use Rattle.example_store.specs.AcknowledgedPuts.{MayHaveStopped}
 use Rattle.example_store.proofs.store.write.Goals as goal
 
 pub returns-in_err-wait-clause-puts : goal.returns-in_err-wait-clause-puts

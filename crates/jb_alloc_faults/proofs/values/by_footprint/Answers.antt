@@ -1,7 +1,7 @@
 use Rattle.std.proofs.Common.{◌≡◌, ◌-◌, ◌<◌, ◌^◌, ◌≤◌, ◌∷◌, suc, length, drop, subst, arith}
 use Rattle.jb_handle.specs.Size.{weight}
 use Rattle.jb_cost.proofs.Costs.{weight-from}
-use Rattle.jb_cost.proofs.Covers.{room-left}
+use Rattle.jb_cost.proofs.Footprints.{room-left}
 use Rattle.jb_alloc_faults.proofs.values.by_footprint.Goals as goal
 
 pub add_left-requires : goal.add_left-requires

@@ -1,6 +1,6 @@
 use Rattle.std.proofs.Common.{ap, ◌∙◌}
 use Rattle.jb_deck.specs.Done.{past_after, first_ticket}
-use Rattle.jb_deck.proofs.Gathered.{last-past}
+use Rattle.jb_deck.proofs.GatherGroups.{last-past}
 use Rattle.jb_book.proofs.follow.end_of.Goals as goal
 
 pub returns-in-Some : goal.returns-in-Some

@@ -3,7 +3,7 @@ use Rattle.std.proofs.lemmas.List.Sorted.{IsPartitionPoint-from_clause, IsPartit
 use Rattle.jb_deck.specs.declared.done.Entry.{Entry}
 use Rattle.jb_deck.specs.Done.{start_of}
 use Rattle.jb_book.specs.Account.{IsSettledBy}
-use Rattle.jb_book.proofs.Follows.{pasts-rise, settled-at, none-at}
+use Rattle.jb_book.proofs.TrailEntries.{pasts-rise, settled-at, none-at}
 use Rattle.jb_book.proofs.follow.number_in.Goals as goal
 
 pub returns-clause-some : goal.returns-clause-some

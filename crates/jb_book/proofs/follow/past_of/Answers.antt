@@ -2,7 +2,7 @@ use Rattle.std.proofs.Common.{◌≡◌, ◌+◌, ◌<◌, ◌≤◌, length, ge
 use Rattle.std.proofs.lemmas.List.{get_or_default}
 use Rattle.jb_deck.specs.declared.done.Entry.{Entry}
 use Rattle.jb_deck.specs.Done.{Follow, least_after}
-use Rattle.jb_book.proofs.Follows.{at-entry, from-entry, least-entry}
+use Rattle.jb_book.proofs.TrailEntries.{at-entry, from-entry, least-entry}
 use Rattle.jb_book.proofs.follow.past_of.Goals as goal
 
 pub loop-entry-preserved : goal.loop-entry-preserved

@@ -1,4 +1,4 @@
-use Rattle.jb_book.proofs.Registers.{every_run}
+use Rattle.jb_book.proofs.RegisterCalls.{every_run}
 use Rattle.jb_book.proofs.laws.every_run.Goals as goal
 
 pub returns : goal.returns

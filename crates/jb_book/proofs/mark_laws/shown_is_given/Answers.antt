@@ -1,4 +1,4 @@
-use Rattle.jb_book.proofs.Staying.{shown_is_given}
+use Rattle.jb_book.proofs.ShownTickets.{shown_is_given}
 use Rattle.jb_book.proofs.mark_laws.shown_is_given.Goals as goal
 
 pub returns : goal.returns

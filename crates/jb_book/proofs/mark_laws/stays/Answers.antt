@@ -1,4 +1,4 @@
-use Rattle.jb_book.proofs.Staying.{stays}
+use Rattle.jb_book.proofs.ShownTickets.{stays}
 use Rattle.jb_book.proofs.mark_laws.stays.Goals as goal
 
 pub returns : goal.returns

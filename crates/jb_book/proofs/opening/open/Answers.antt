@@ -1,4 +1,4 @@
-use Rattle.jb_book.proofs.Begins.{open-opened, open-since}
+use Rattle.jb_book.proofs.OpenedJournal.{open-opened, open-since}
 use Rattle.jb_book.proofs.opening.open.Goals as goal
 
 pub returns-clause-opened : goal.returns-clause-opened

@@ -1,4 +1,4 @@
-use Rattle.jb_commands.proofs.Lengths.{plans-readable, plans-within}
+use Rattle.jb_commands.proofs.CertLength.{plans-readable, plans-within}
 use Rattle.jb_commands.proofs.laws.plans_are_within.Goals as goal
 
 pub returns-clause-nine : goal.returns-clause-nine

@@ -1,6 +1,6 @@
 use Rattle.std.proofs.Common.{length}
 use Rattle.jb_cost.specs.Cut.{piece_cost}
-use Rattle.jb_commands.proofs.Best.{told_best}
+use Rattle.jb_commands.proofs.BestCert.{told_best}
 use Rattle.jb_commands.proofs.plan.best_cert.Goals as goal
 
 pub returns : goal.returns

@@ -1,6 +1,6 @@
 use Rattle.jb_queue.specs.QueueText.{value_of}
 use Rattle.jb_commands.specs.Check.{SaysCheck}
-use Rattle.jb_commands.proofs.Told.{ends_of_claim}
+use Rattle.jb_commands.proofs.CommandEnds.{ends_of_claim}
 use Rattle.jb_commands.proofs.running.check_file.Goals as goal
 
 pub returns-in-Ok : goal.returns-in-Ok

@@ -2,8 +2,8 @@ use Rattle.std.proofs.Common.{◌≡◌, [], Some, arith}
 use Rattle.jb_queue.specs.QueueText.{value_of}
 use Rattle.jb_commands.specs.AnswerSaid.{said}
 use Rattle.jb_commands.specs.Check.{CheckSays, SaysCheck}
-use Rattle.jb_commands.specs.Faulty.{queue_fault}
-use Rattle.jb_commands.proofs.Told.{ends_of_claim, ends_of_more}
+use Rattle.jb_commands.specs.QueueFaults.{queue_fault}
+use Rattle.jb_commands.proofs.CommandEnds.{ends_of_claim, ends_of_more}
 use Rattle.jb_commands.proofs.Verdicts.{if_ok_then, says_of_fault, says_of_queue}
 use Rattle.jb_commands.proofs.running.check_texts.Goals as goal
 

@@ -1,5 +1,5 @@
 use Rattle.jb_commands.specs.Check.{CheckSays}
-use Rattle.jb_commands.proofs.Told.{ends_of_two}
+use Rattle.jb_commands.proofs.CommandEnds.{ends_of_two}
 use Rattle.jb_commands.proofs.running.perform_check.Goals as goal
 
 pub returns-in-Ok : goal.returns-in-Ok

@@ -1,6 +1,6 @@
 use Rattle.std.proofs.Common.{◌≡◌, Some}
 use Rattle.jb_commands.specs.Cost.{cost_said}
-use Rattle.jb_commands.proofs.Told.{ends_of_answer}
+use Rattle.jb_commands.proofs.CommandEnds.{ends_of_answer}
 use Rattle.jb_commands.proofs.running.perform_cost.Goals as goal
 
 pub returns-in-Ok-clause-ends : goal.returns-in-Ok-clause-ends

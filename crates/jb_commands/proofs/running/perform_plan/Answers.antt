@@ -1,5 +1,5 @@
 use Rattle.jb_commands.specs.Plan.{PlanSays}
-use Rattle.jb_commands.proofs.Told.{ends_of_answer}
+use Rattle.jb_commands.proofs.CommandEnds.{ends_of_answer}
 use Rattle.jb_commands.proofs.running.perform_plan.Goals as goal
 
 pub returns-in-Ok-clause-ends : goal.returns-in-Ok-clause-ends

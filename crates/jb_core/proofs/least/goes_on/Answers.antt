@@ -1,6 +1,6 @@
 use Rattle.std.proofs.Common.{rules, length, arith}
 use Rattle.jb_cost.specs.Cut.{piece_cost}
-use Rattle.jb_core.proofs.Exact.{piece-size, next-to, next-from, on-rises, on-fits}
+use Rattle.jb_core.proofs.CutBounds.{piece-size, next-to, next-from, on-rises, on-fits}
 use Rattle.jb_core.proofs.least.goes_on.Goals as goal
 
 pub returns-then-end-start : goal.returns-then-end-start

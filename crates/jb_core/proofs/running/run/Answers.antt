@@ -1,8 +1,8 @@
 use Rattle.std.proofs.Common.{rules, ◌≡◌, true, false, [], ◌∷◌, ◌++◌, length, sym, ap, subst, ◌∙◌, arith, length-append}
 use Rattle.std.proofs.lemmas.List.Elements.{All-push}
 use Rattle.jb_core.specs.Lives.{Log, IsKnown}
-use Rattle.jb_core.specs.Ran.{Ran}
-use Rattle.jb_core.proofs.Wholes.{log-more}
+use Rattle.jb_core.specs.MachineRuns.{Ran}
+use Rattle.jb_core.proofs.WholeLives.{log-more}
 use Rattle.jb_core.proofs.running.run.Goals as goal
 
 pub loop-event-preserved : goal.loop-event-preserved

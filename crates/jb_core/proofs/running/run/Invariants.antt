@@ -1,6 +1,6 @@
 use Rattle.std.proofs.Common.{◌≡◌, [], length, All}
 use Rattle.jb_core.specs.Lives.{log_from, IsKnown}
-use Rattle.jb_core.specs.Ran.{Ran}
+use Rattle.jb_core.specs.MachineRuns.{Ran}
 use Rattle.jb_core.proofs.running.run.Given as goal
 
 abbrev pub invariant-loop-event : goal.invariant-loop-event

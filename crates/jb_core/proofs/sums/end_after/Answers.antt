@@ -1,7 +1,7 @@
 use Rattle.std.proofs.Common.{◌≡◌, ◌+◌, ◌-◌, suc, sym, refl, ap, ◌∙◌, subst, drop, slice_index_or, arith, get_or-drop}
 use Rattle.jb_core.specs.SplitEnds.{IsParted}
 use Rattle.jb_cost.proofs.Cuts.{rises-le}
-use Rattle.jb_core.proofs.Parts.{rises-part}
+use Rattle.jb_core.proofs.RisingEnds.{rises-part}
 use Rattle.jb_core.proofs.sums.end_after.Goals as goal
 
 pub returns-then-n-eq0 : goal.returns-then-n-eq0

@@ -2,19 +2,10 @@ use Rattle.std.proofs.Common.{rules, ◌≡◌, ◌+◌, ◌^◌, ◌≤◌, ◌
 use Rattle.jb_cost.specs.Cost.{blocks_of}
 use Rattle.jb_cost.specs.LastTouch.{owned_from, copies_of, frees_of}
 use Rattle.jb_cost.specs.Starts.{dearer_by}
-use Rattle.jb_cost.proofs.Leaping.{leap-best, leap-sums, span-room}
-use Rattle.jb_cost.proofs.Searching.{idle-sums}
+use Rattle.jb_cost.proofs.SpanSearch.{leap-best, leap-sums, span-room}
+use Rattle.jb_cost.proofs.StretchSearch.{idle-sums}
 use Rattle.jb_cost.proofs.best_start.over_span.Goals as goal
 use Rattle.jb_cost.proofs.best_start.over_span.Goals.{After-span-span, in-Some-least, in-None}
-
-pub returns-in_default-clause-best : goal.returns-in_default-clause-best
-returns-in_default-clause-best c ps fit = (fit, λ _. tt)
-
-pub returns-then-cost-from-clause-best : goal.returns-then-cost-from-clause-best
-returns-then-cost-from-clause-best c ps fit = ((c.span-span.ensures.best ps fit).0, λ _. tt)
-
-pub returns-then-not-names_as-clause-best : goal.returns-then-not-names_as-clause-best
-returns-then-not-names_as-clause-best c ps fit = ((c.span-span.ensures.best ps fit).0, λ _. tt)
 
 -- the sums so far are those of the handles from the span's end on
 sums : (c : After-span-span) → (c.args.walk.tally.copies.entries ≡ owned_from copies_of c.args.owned.now c.in-Some.end) × (c.args.walk.tally.frees.entries ≡ owned_from frees_of c.args.owned.now c.in-Some.end)
@@ -62,25 +53,21 @@ returns-clause-next c =
     }
 
 pub returns-clause-best : goal.returns-clause-best
-returns-clause-best c ps fit =
+returns-clause-best c ps fit tried =
     let os = c.args.owned.now in
     let is = c.requires.walk.0 in
     let to = c.in-Some.ensures in
     let s = c.span-span.result in
     let walk = c.args.walk.tally in
-    let span = c.span-span.ensures.best ps fit in
     let so_far = sums (goal.at.returns-clause-best c).After-span-span in
     let named : IsTrue c.names_as.result = search rules in
     let cost = blocks_of walk.geometry walk.copies.entries walk.frees.entries in
     let earlier : c.match-span.earlier ≡ dearer_by cost s.least = elim c.match-span.branch [
       | in-Some-least w ↦ w.earlier-is ∙ w.dearer.ensures ∙ (λ i. dearer_by (w.cost-in-Some-least.ensures i) (sym w.in-Some-least.is i))
       | in-None w ↦ w.earlier-is ∙ ap (dearer_by cost) (sym w.in-None.is)
-    ] in (
-      span.0,
-      λ tried.
-          rw c.better.ensures
-          (leap-best os walk c.plus-tally.result c.in-Some.end s c.span-span.ensures.span so_far.0 so_far.1 c.plus-tally.ensures.geometry
-          (c.plus-tally.ensures.copies ∙ ap (λ n. walk.copies.entries + n) c.owned.ensures.copies) (c.plus-tally.ensures.frees ∙ ap (λ n. walk.frees.entries + n) c.owned.ensures.frees)
-          c.args.limit c.args.walk.low (length os) (omega (arith, c.span-span.ensures.span.back, to.end.1)) to.inside.0 (c.names_as.ensures.0 named)
-          (omega (arith, c.if-cost-from.false, c.from.ensures, c.cost.ensures)) (omega (arith, c.requires.few)) (omega (arith, to.inside.1, is.order.1)) ps c.args.walk.best c.match-span.earlier earlier span.1 tried),
-    )
+    ] in
+    rw c.better.ensures
+    (leap-best os walk c.plus-tally.result c.in-Some.end s c.span-span.ensures.span so_far.0 so_far.1 c.plus-tally.ensures.geometry
+    (c.plus-tally.ensures.copies ∙ ap (λ n. walk.copies.entries + n) c.owned.ensures.copies) (c.plus-tally.ensures.frees ∙ ap (λ n. walk.frees.entries + n) c.owned.ensures.frees)
+    c.args.limit c.args.walk.low (length os) (omega (arith, c.span-span.ensures.span.back, to.end.1)) to.inside.0 (c.names_as.ensures.0 named)
+    (omega (arith, c.if-cost-from.false, c.from.ensures, c.cost.ensures)) (omega (arith, c.requires.few)) (omega (arith, to.inside.1, is.order.1)) ps c.args.walk.best c.match-span.earlier earlier (c.span-span.ensures.best ps fit) tried)

@@ -1,6 +1,6 @@
 use Rattle.std.proofs.Common.{◌∙◌, length, ap, arith}
 use Rattle.jb_cost.specs.Cost.{blocks_of}
-use Rattle.jb_cost.proofs.Searching.{stretch-over, stretch-sums, stretch-best, room-one}
+use Rattle.jb_cost.proofs.StretchSearch.{stretch-over, stretch-sums, stretch-best, room-one}
 use Rattle.jb_cost.proofs.best_start.over_stretch.Goals as goal
 
 pub plus-tally-requires : goal.plus-tally-requires
@@ -39,14 +39,10 @@ returns-clause-next c =
     }
 
 pub returns-clause-best : goal.returns-clause-best
-returns-clause-best c ps fit =
+returns-clause-best c ps fit tried =
     let is = c.requires.walk.0 in
     let stretch = c.stretch-stretch in
-    let least = stretch.ensures.least ps fit in
-    let cost = c.cost-cost.ensures ∙ ap (λ g. blocks_of g c.plus-tally.result.copies.entries c.plus-tally.result.frees.entries) c.plus-tally.ensures.geometry in (
-      least.0,
-      λ tried.
-          rw (c.better.ensures, c.of.ensures)
-          (stretch-best c.args.walk.tally.geometry c.args.owned.now c.args.walk.low _ _ is.within is.copies is.frees c.requires.walk.1 _ _ c.plus-tally.ensures.copies c.plus-tally.ensures.frees stretch.result.from stretch.ensures.back stretch.ensures.idle
-          c.args.limit c.cost-cost.result (length c.args.owned.now) cost (omega (arith, c.if-cost-from.false, c.from.ensures)) is.within ps c.args.walk.best stretch.result.least least.1 tried),
-    )
+    let cost = c.cost-cost.ensures ∙ ap (λ g. blocks_of g c.plus-tally.result.copies.entries c.plus-tally.result.frees.entries) c.plus-tally.ensures.geometry in
+    rw (c.better.ensures, c.of.ensures)
+    (stretch-best c.args.walk.tally.geometry c.args.owned.now c.args.walk.low _ _ is.within is.copies is.frees c.requires.walk.1 _ _ c.plus-tally.ensures.copies c.plus-tally.ensures.frees stretch.result.from stretch.ensures.back stretch.ensures.idle
+    c.args.limit c.cost-cost.result (length c.args.owned.now) cost (omega (arith, c.if-cost-from.false, c.from.ensures)) is.within ps c.args.walk.best stretch.result.least (stretch.ensures.least ps fit) tried)

@@ -1,7 +1,7 @@
 use Rattle.std.proofs.Common.{◌≡◌, ◌+◌, ◌-◌, ◌≤◌, sym, ap, subst, ◌∙◌, arith}
 use Rattle.std.specs.Int.{div_ceil}
 use Rattle.jb_cost.specs.Cost.{worst_cost_of}
-use Rattle.jb_cost.proofs.Worst.{most-fits, most-least}
+use Rattle.jb_cost.proofs.WorstCosts.{most-fits, most-least}
 use Rattle.jb_cost.proofs.credits.most_credits.Goals as goal
 
 pub returns-clause-within : goal.returns-clause-within

@@ -1,6 +1,6 @@
 use Rattle.std.proofs.Common.{◌≤◌, [], ◌∷◌, sym, ap, subst, ◌∙◌}
 use Rattle.jb_cost.specs.Cost.{cost, worst_cost_of}
-use Rattle.jb_cost.proofs.Worst.{blocks-copies, worst-bound, worst-reached}
+use Rattle.jb_cost.proofs.WorstCosts.{blocks-copies, worst-bound, worst-reached}
 use Rattle.jb_cost.proofs.credits.worst_cost.Goals as goal
 
 pub returns-clause-value : goal.returns-clause-value

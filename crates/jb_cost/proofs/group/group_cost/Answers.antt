@@ -3,10 +3,10 @@ use Rattle.std.specs.FinSet as set
 use Rattle.std.proofs.lemmas.List.{get_or_read}
 use Rattle.jb_handle.specs.Words.{is_copied, is_freed, copies, frees}
 use Rattle.jb_cost.specs.Cost.{blocks_of}
-use Rattle.jb_cost.proofs.Later.{later-handle}
-use Rattle.jb_cost.proofs.Left.{few}
-use Rattle.jb_cost.proofs.Sizes.{len-of_words}
-use Rattle.jb_handle.proofs.Touched.{contains-copies, contains-frees}
+use Rattle.jb_cost.proofs.HandleWords.{later-handle}
+use Rattle.jb_cost.proofs.HandleInFront.{few}
+use Rattle.jb_cost.proofs.HomeCount.{len-of_words}
+use Rattle.jb_handle.proofs.TouchedHomes.{contains-copies, contains-frees}
 use Rattle.jb_block.proofs.Refusals.{on-refusal}
 use Rattle.jb_cost.proofs.group.group_cost.Goals as goal
 use Rattle.jb_cost.proofs.group.group_cost.Goals.{After-len-2}

@@ -1,4 +1,4 @@
-use Rattle.jb_cost.proofs.Searching.{Joins}
+use Rattle.jb_cost.proofs.StretchSearch.{Joins}
 use Rattle.jb_cost.proofs.join.joined.Given as goal
 
 abbrev pub invariant-loop-earlier : goal.invariant-loop-earlier

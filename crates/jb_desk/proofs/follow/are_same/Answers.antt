@@ -1,5 +1,5 @@
 use Rattle.std.proofs.lemmas.Slice.Eq.{slice_eq-Decides}
-use Rattle.jb_book.proofs.Follows.{entry-Decides}
+use Rattle.jb_book.proofs.TrailEntries.{entry-Decides}
 use Rattle.jb_desk.proofs.follow.are_same.Goals as goal
 
 pub returns : goal.returns

@@ -5,8 +5,8 @@ use Rattle.jb_disk.specs.Calls.{image_of}
 use Rattle.jb_disk.specs.Image.{block, sector}
 use Rattle.jb_disk.specs.CrashWrites.{table_of, bytes_of_writes}
 use Rattle.jb_disk.specs.Versions.{one_if_any, version}
-use Rattle.jb_disk.proofs.Buffers.{buffer_at}
-use Rattle.jb_disk.proofs.Choices.{AreChosen, chosen-none, chosen-some, written_back, writes_here, none_here, some_here}
+use Rattle.jb_disk.proofs.MemoryBuffers.{buffer_at}
+use Rattle.jb_disk.proofs.ImageVersions.{AreChosen, chosen-none, chosen-some, written_back, writes_here, none_here, some_here}
 use Rattle.jb_disk.proofs.sector.choose.Goals as goal
 use Rattle.jb_disk.proofs.sector.choose.Goals.{then-not-is_empty, else-not-is_empty}
 

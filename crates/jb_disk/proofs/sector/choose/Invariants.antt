@@ -1,7 +1,7 @@
 use Rattle.std.proofs.Common.{length}
 use Rattle.jb_disk.specs.Calls.{image_of}
 use Rattle.jb_disk.specs.CrashWrites.{table_of}
-use Rattle.jb_disk.proofs.Choices.{AreChosen}
+use Rattle.jb_disk.proofs.ImageVersions.{AreChosen}
 use Rattle.jb_disk.proofs.sector.choose.Given as goal
 
 abbrev pub invariant-loop-place : goal.invariant-loop-place

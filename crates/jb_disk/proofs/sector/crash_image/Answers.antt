@@ -4,11 +4,11 @@ use Rattle.jb_disk.specs.Calls.{steps_of, image_of}
 use Rattle.jb_disk.specs.Image.{HasShape, block, sector}
 use Rattle.jb_disk.specs.CrashWrites.{table_of, writes_at, any_below}
 use Rattle.jb_disk.specs.Versions.{written, written_below, version, versions}
-use Rattle.jb_disk.proofs.Buffers.{buffers_count}
-use Rattle.jb_disk.proofs.Choices.{written_back}
-use Rattle.jb_disk.proofs.Crashes.{rest_of_calls, whole_sectors, written_whole, chosen_by_history}
+use Rattle.jb_disk.proofs.MemoryBuffers.{buffers_count}
+use Rattle.jb_disk.proofs.ImageVersions.{written_back}
+use Rattle.jb_disk.proofs.CrashImage.{rest_of_calls, whole_sectors, written_whole, chosen_by_history}
 use Rattle.jb_block.proofs.Refusals.{on-refusal}
-use Rattle.jb_disk.proofs.Replays.{replaying_shape, whole-take, whole-drop}
+use Rattle.jb_disk.proofs.ReplayCalls.{replaying_shape, whole-take, whole-drop}
 use Rattle.jb_disk.proofs.sector.crash_image.Goals as goal
 use Rattle.jb_disk.proofs.sector.crash_image.Goals.{After-choose, After-deref, In_ok-image}
 

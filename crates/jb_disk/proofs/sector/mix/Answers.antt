@@ -1,7 +1,7 @@
 use Rattle.std.proofs.Common.{◌≡◌, ◌≤◌, ◌+◌, ◌*◌, ◌∷◌, length, arith, sym, ◌∙◌, ap}
 use Rattle.jb_disk.specs.CrashWrites.{bytes_of_writes}
 use Rattle.jb_disk.specs.Versions.{version}
-use Rattle.jb_disk.proofs.Mixes.{mixed-keep, mixed-put, version-size}
+use Rattle.jb_disk.proofs.BlockVersions.{mixed-keep, mixed-put, version-size}
 use Rattle.jb_disk.proofs.sector.mix.Goals as goal
 use Rattle.jb_disk.proofs.sector.mix.Goals.{in-Some, in_default}
 

@@ -1,5 +1,5 @@
 use Rattle.jb_disk.specs.CrashWrites.{bytes_of_writes}
-use Rattle.jb_disk.proofs.Mixes.{IsMixed}
+use Rattle.jb_disk.proofs.BlockVersions.{IsMixed}
 use Rattle.jb_disk.proofs.sector.mix.Given as goal
 
 abbrev pub invariant-loop-k : goal.invariant-loop-k

@@ -1,5 +1,5 @@
 use Rattle.std.proofs.Common.{[]}
-use Rattle.jb_disk.proofs.Mixes.{version-later}
+use Rattle.jb_disk.proofs.BlockVersions.{version-later}
 use Rattle.jb_disk.proofs.sector.pick.Goals as goal
 
 pub returns : goal.returns

@@ -1,8 +1,8 @@
 use Rattle.std.proofs.Common.{◌<◌, length, arith, take, sym, ◌∙◌, ap, vec_len}
 use Rattle.jb_disk.specs.Calls.{steps_of, image_of}
 use Rattle.jb_disk.specs.History.{replay}
-use Rattle.jb_disk.proofs.Buffers.{buffer_at}
-use Rattle.jb_disk.proofs.Replays.{write_at, replaying_shape, replay-write, replay-sync}
+use Rattle.jb_disk.proofs.MemoryBuffers.{buffer_at}
+use Rattle.jb_disk.proofs.ReplayCalls.{write_at, replaying_shape, replay-write, replay-sync}
 use Rattle.jb_disk.proofs.sector.replay_calls.Goals as goal
 use Rattle.jb_disk.proofs.sector.replay_calls.Goals.{in-Write, in_default}
 

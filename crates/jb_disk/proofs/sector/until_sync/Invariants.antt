@@ -1,5 +1,5 @@
 use Rattle.std.proofs.Common.{take}
-use Rattle.jb_disk.proofs.Syncs.{IsLastSync}
+use Rattle.jb_disk.proofs.LastSync.{IsLastSync}
 use Rattle.jb_disk.proofs.sector.until_sync.Given as goal
 
 abbrev pub invariant-loop-i : goal.invariant-loop-i

@@ -2,8 +2,8 @@ use Rattle.std.proofs.Common.{◌≡◌, ◌+◌, ◌∷◌, arith, take, set, s
 use Rattle.jb_disk.specs.Calls.{history_step, steps_of}
 use Rattle.jb_disk.specs.History.{Wrote}
 use Rattle.jb_block.proofs.Refusals.{on-refusal}
-use Rattle.jb_disk.proofs.Replays.{write_at, steps_of-more}
-use Rattle.jb_disk.proofs.Tables.{IsTable, table-write, no_sync}
+use Rattle.jb_disk.proofs.ReplayCalls.{write_at, steps_of-more}
+use Rattle.jb_disk.proofs.WritesByPlace.{IsTable, table-write, no_sync}
 use Rattle.jb_disk.proofs.sector.writes_by_place.Goals as goal
 use Rattle.jb_disk.proofs.sector.writes_by_place.Goals.{in-Write+in_ok-push, in_default}
 

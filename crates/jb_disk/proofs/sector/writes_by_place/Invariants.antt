@@ -1,6 +1,6 @@
 use Rattle.std.proofs.Common.{take}
 use Rattle.jb_disk.specs.Calls.{steps_of}
-use Rattle.jb_disk.proofs.Tables.{IsTable}
+use Rattle.jb_disk.proofs.WritesByPlace.{IsTable}
 use Rattle.jb_disk.proofs.sector.writes_by_place.Given as goal
 
 abbrev pub invariant-loop-call : goal.invariant-loop-call

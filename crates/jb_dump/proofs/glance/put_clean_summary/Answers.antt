@@ -1,5 +1,5 @@
 use Rattle.std.proofs.Common.{string_bytes}
-use Rattle.jb_dump.proofs.Addings.{two-parts}
+use Rattle.jb_dump.proofs.SumByBlock.{two-parts}
 use Rattle.jb_dump.proofs.glance.put_clean_summary.Goals as goal
 
 pub returns : goal.returns

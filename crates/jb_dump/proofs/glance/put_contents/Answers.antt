@@ -1,7 +1,7 @@
 use Rattle.std.proofs.Common.{◌≡◌, ◌∙◌, string_bytes}
-use Rattle.jb_dump.specs.Written.{written_rows}
+use Rattle.jb_dump.specs.MostWritten.{written_rows}
 use Rattle.jb_dump.proofs.Rows.{rows-written}
-use Rattle.jb_dump.proofs.Addings.{five-parts}
+use Rattle.jb_dump.proofs.SumByBlock.{five-parts}
 use Rattle.jb_dump.proofs.glance.put_contents.Goals as goal
 
 pub returns : goal.returns

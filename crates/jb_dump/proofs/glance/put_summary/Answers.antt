@@ -1,6 +1,6 @@
 use Rattle.std.proofs.Common.{◌++◌, length, sym, ap, ◌∙◌, arith, append-nil, string_bytes}
 use Rattle.jb_dump.specs.Summary.{contents_text}
-use Rattle.jb_dump.proofs.Addings.{none-said, some-said, three-parts}
+use Rattle.jb_dump.proofs.SumByBlock.{none-said, some-said, three-parts}
 use Rattle.jb_dump.proofs.glance.put_summary.Goals as goal
 
 pub returns-then-tally-eq0 : goal.returns-then-tally-eq0

@@ -1,5 +1,5 @@
 use Rattle.std.proofs.Common.{length, take, sym, ap, ◌∙◌, arith, length-take}
-use Rattle.jb_dump.specs.Written.{ranked, ranked_among}
+use Rattle.jb_dump.specs.MostWritten.{ranked, ranked_among}
 use Rattle.jb_dump.proofs.Ranks.{take-ranked}
 use Rattle.jb_dump.proofs.ranking.foremost_of.Goals as goal
 

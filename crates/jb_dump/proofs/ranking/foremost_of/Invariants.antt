@@ -1,5 +1,5 @@
 use Rattle.std.proofs.Common.{◌≡◌, ◌≤◌, [], length, take}
-use Rattle.jb_dump.specs.Written.{ranked}
+use Rattle.jb_dump.specs.MostWritten.{ranked}
 use Rattle.jb_dump.proofs.ranking.foremost_of.Given as goal
 
 -- with the rows that are left, the first are those of all

@@ -1,5 +1,5 @@
 use Rattle.std.proofs.Common.{length, ◌-◌, ◌≡◌, ◌≤◌, ◌++◌, take, drop}
-use Rattle.jb_dump.specs.Written.{ranked_among}
+use Rattle.jb_dump.specs.MostWritten.{ranked_among}
 use Rattle.jb_dump.proofs.ranking.rank_of.Given as goal
 
 -- the rows up to here come before it

@@ -1,6 +1,6 @@
 use Rattle.std.proofs.Common.{rules}
 use Rattle.std.proofs.lemmas.List.Sorted.{answers_always}
-use Rattle.jb_handle.proofs.Rising.{searched}
+use Rattle.jb_handle.proofs.RisingHomes.{searched}
 use Rattle.jb_handle.proofs.words.place_of.Goals as goal
 
 pub returns : goal.returns

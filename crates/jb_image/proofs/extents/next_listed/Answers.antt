@@ -1,5 +1,5 @@
 use Rattle.std.proofs.Common.{rules}
-use Rattle.jb_image.proofs.Listed.{word-ends, word-goes, word-last, word-opens}
+use Rattle.jb_image.proofs.WordBytes.{word-ends, word-goes, word-last, word-opens}
 use Rattle.jb_image.proofs.extents.next_listed.Goals as goal
 
 pub loop-at-init : goal.loop-at-init

@@ -1,6 +1,6 @@
 use Rattle.std.proofs.Common.{◌≡◌, take, drop}
 use Rattle.jb_image.specs.Lists.{listed}
-use Rattle.jb_image.proofs.Listed.{fronted}
+use Rattle.jb_image.proofs.WordBytes.{fronted}
 use Rattle.jb_image.proofs.extents.next_listed.Given as goal
 
 abbrev pub invariant-loop-at : goal.invariant-loop-at

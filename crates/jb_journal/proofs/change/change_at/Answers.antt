@@ -3,7 +3,7 @@ use Rattle.std.specs.Fn.{FnOnceReturnsAtMut}
 use Rattle.jb_desk.specs.Seats.{made_by}
 use Rattle.jb_handle.specs.Handle.{changes_of}
 use Rattle.jb_journal.specs.Change.{Stops}
-use Rattle.jb_journal.proofs.Changing.{stopped-as}
+use Rattle.jb_journal.proofs.ChangeAnswers.{stopped-as}
 use Rattle.jb_journal.proofs.change.change_at.Goals as goal
 
 pub returns-in-Ok-answer-clause-changed : goal.returns-in-Ok-answer-clause-changed

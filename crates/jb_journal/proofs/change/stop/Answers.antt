@@ -1,5 +1,5 @@
-use Rattle.std.proofs.Common.{refl}
-use Rattle.jb_journal.proofs.Changing.{sees-stop}
+use Rattle.std.proofs.Common.{refl, ◌∙◌}
+use Rattle.jb_journal.proofs.ChangeAnswers.{sees-stop}
 use Rattle.jb_journal.proofs.change.stop.Goals as goal
 
 pub stop-requires-clause-seat : goal.stop-requires-clause-seat
@@ -9,10 +9,10 @@ pub returns-in-Ok : goal.returns-in-Ok
 returns-in-Ok g c =
     let is = c.in-Ok.ensures in
     record {
-      desk = is.seat.0;
-      answer = (refl, is.made);
+      desk = is.seat.desk ∙ c.requires.desk;
+      answer = (refl, is.seat.counted.made);
       stopped = is.stopped;
-      sees = sees-stop _ _ c.args.seen.now c.stop.new.seen c.args.answer c.in-Ok.ticket _ is.made is.sees is.marks;
+      sees = sees-stop _ _ c.args.seen.now c.stop.new.seen c.args.answer c.in-Ok.ticket _ is.seat.counted.made is.sees is.marks;
     }
 
 pub returns-in-Err-Aborted-clause-stopped : goal.returns-in-Err-Aborted-clause-stopped

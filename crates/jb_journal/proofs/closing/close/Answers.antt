@@ -1,6 +1,6 @@
 use Rattle.std.proofs.Common.{ap}
 use Rattle.std.proofs.lemmas.Result.{IfOk-weaker}
-use Rattle.jb_journal.proofs.Leaving.{closed-as, since-as}
+use Rattle.jb_journal.proofs.RunLeaves.{closed-as, since-as}
 use Rattle.jb_journal.proofs.closing.close.Goals as goal
 
 pub tell-requires : goal.tell-requires

@@ -1,4 +1,4 @@
-use Rattle.jb_deck.proofs.Gathered.{last-past}
+use Rattle.jb_deck.proofs.GatherGroups.{last-past}
 use Rattle.jb_journal.proofs.closing.settled_handles.Goals as goal
 
 pub returns-in-Some : goal.returns-in-Some

@@ -4,7 +4,7 @@ use Rattle.std.proofs.lemmas.Grind.{common_steps}
 use Rattle.jb_deck.proofs.Shapes.{shape-same}
 use Rattle.jb_deck.specs.Done.{past_after}
 use Rattle.jb_desk.specs.Ends.{is_shut}
-use Rattle.jb_journal.proofs.Ending.{settled-as}
+use Rattle.jb_journal.proofs.RunEnds.{settled-as}
 use Rattle.jb_journal.proofs.closing.tell.Goals as goal
 use Rattle.jb_journal.proofs.closing.tell.Goals.{else-is_shut-via-then-is_shut+else-settled-handles, else-is_shut-via-else-is_shut}
 

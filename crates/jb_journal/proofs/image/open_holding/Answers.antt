@@ -1,11 +1,11 @@
 use Rattle.std.proofs.Common.{ap, subst}
 use Rattle.jb_block.specs.Size.{bytes_of}
 use Rattle.jb_disk.specs.File.{faults_of}
-use Rattle.jb_image.proofs.Opened.{opened-holds}
+use Rattle.jb_image.proofs.OpenedFile.{opened-holds}
 use Rattle.jb_recover.specs.Passes.{PassFaults}
 use Rattle.jb_recover.specs.declared.recovered.Recovered.{Recovered}
 use Rattle.std.specs.Prelude.{Err}
-use Rattle.jb_journal.proofs.Opening.{recovers-held, was-recovered}
+use Rattle.jb_journal.proofs.RecoveredFile.{recovers-held, was-recovered}
 use Rattle.jb_journal.proofs.image.open_holding.Goals as goal
 
 pub returns-in-Ok-recover-clause-opened : goal.returns-in-Ok-recover-clause-opened

@@ -1,4 +1,4 @@
-use Rattle.jb_journal.proofs.Opening.{still-recovered}
+use Rattle.jb_journal.proofs.RecoveredFile.{still-recovered}
 use Rattle.jb_journal.proofs.image.open_whole.Goals as goal
 
 pub returns-in-Ok : goal.returns-in-Ok

@@ -1,7 +1,7 @@
 use Rattle.std.proofs.Common.{sym, subst}
 use Rattle.std.proofs.lemmas.Result.{IfErr-weaker, IfOk-weaker}
 use Rattle.jb_journal.specs.RunFaults.{HasNoAnswer}
-use Rattle.jb_journal.proofs.Leaving.{ran-all}
+use Rattle.jb_journal.proofs.RunLeaves.{ran-all}
 use Rattle.jb_journal.proofs.running.run_at.Goals as goal
 
 pub returns : goal.returns

@@ -1,5 +1,5 @@
 use Rattle.std.proofs.lemmas.Result.{IfOk-weaker}
-use Rattle.jb_journal.proofs.Refusing.{only-meanwhile, refuses-as}
+use Rattle.jb_journal.proofs.RunRefusals.{only-meanwhile, refuses-as}
 use Rattle.jb_journal.proofs.running.run_on.Goals as goal
 
 pub returns-in-Ok : goal.returns-in-Ok

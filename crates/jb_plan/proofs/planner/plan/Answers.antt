@@ -1,7 +1,7 @@
 use Rattle.std.proofs.Common.{◌≡◌, length, slice_index, None, sym, ◌∙◌, subst, arith}
 use Rattle.std.proofs.lemmas.List.{get_or_read}
 use Rattle.jb_cost.specs.Cut.{piece_cost, EachPiece}
-use Rattle.jb_plan.proofs.Steps.{prices-steps, answers-cut, answers-none}
+use Rattle.jb_plan.proofs.StepTable.{prices-steps, answers-cut, answers-none}
 use Rattle.jb_plan.proofs.planner.plan.Goals as goal
 use Rattle.jb_plan.proofs.planner.plan.Goals.{in-Some+in_ok-bounds-in-Some, in-None}
 

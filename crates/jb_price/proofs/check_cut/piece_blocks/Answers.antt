@@ -1,5 +1,5 @@
 use Rattle.std.proofs.Common.{arith}
-use Rattle.jb_cost.proofs.Pieces.{weight-part}
+use Rattle.jb_cost.proofs.PieceCosts.{weight-part}
 use Rattle.jb_price.proofs.check_cut.piece_blocks.Goals as goal
 
 pub group_cost-requires : goal.group_cost-requires

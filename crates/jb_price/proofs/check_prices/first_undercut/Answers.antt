@@ -1,8 +1,8 @@
 use Rattle.std.proofs.Common.{◌≡◌, ◌+◌, Bool, true, false, None, length, refl, sym, subst, ◌∙◌, arith}
 use Rattle.jb_cost.specs.Cut.{piece_cost}
-use Rattle.jb_cost.proofs.Following.{homes-few}
+use Rattle.jb_cost.proofs.TouchCosts.{homes-few}
 use Rattle.jb_price.specs.FirstUndercut.{FirstAmong}
-use Rattle.jb_price.proofs.Undercutting.{first-start, first-more, none-cheaper}
+use Rattle.jb_price.proofs.UndercutSteps.{first-start, first-more, none-cheaper}
 use Rattle.jb_price.proofs.check_prices.first_undercut.Goals as goal
 use Rattle.jb_price.proofs.check_prices.first_undercut.Goals.{then-undercuts+in_ok-found, else-undercuts}
 

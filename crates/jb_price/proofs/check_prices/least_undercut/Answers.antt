@@ -1,9 +1,9 @@
 use Rattle.std.proofs.Common.{◌≡◌, ◌-◌, Bool, true, false, length, slice_range, subst, refl, arith}
 use Rattle.jb_cost.specs.Cut.{piece_cost}
-use Rattle.jb_cost.proofs.Pieces.{piece-dearer}
-use Rattle.jb_cost.proofs.Walk.{room-left, stepped-left}
+use Rattle.jb_cost.proofs.PieceCosts.{piece-dearer}
+use Rattle.jb_cost.proofs.FootprintWalk.{room-left, stepped-left}
 use Rattle.jb_price.specs.FirstUndercut.{LeastTo}
-use Rattle.jb_price.proofs.Undercutting.{least-cheaper, least-kept, least-all}
+use Rattle.jb_price.proofs.UndercutSteps.{least-cheaper, least-kept, least-all}
 use Rattle.jb_price.proofs.check_prices.least_undercut.Goals as goal
 use Rattle.jb_price.proofs.check_prices.least_undercut.Goals.{else-loop-from-test, then-loop-from-test+in_ok-cost+then-cost-from}
 

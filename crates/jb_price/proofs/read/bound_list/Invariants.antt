@@ -1,6 +1,6 @@
 use Rattle.std.proofs.Common.{◌≡◌, [], option_copied}
 use Rattle.jb_text.specs.Parts.{words, words_in, number_of}
-use Rattle.jb_text.proofs.Left.{left}
+use Rattle.jb_text.proofs.LineLeft.{left}
 use Rattle.jb_price.specs.Claims.{after_each}
 use Rattle.jb_price.proofs.read.bound_list.Given as goal
 

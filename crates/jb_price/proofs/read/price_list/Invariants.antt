@@ -1,6 +1,6 @@
 use Rattle.std.proofs.Common.{◌≡◌, [], option_copied}
 use Rattle.jb_text.specs.Parts.{words, words_in}
-use Rattle.jb_text.proofs.Left.{left}
+use Rattle.jb_text.proofs.LineLeft.{left}
 use Rattle.jb_price.specs.Claims.{after_each, price_in_word}
 use Rattle.jb_price.proofs.ReadBack.{Begun}
 use Rattle.jb_price.proofs.read.price_list.Given as goal

@@ -1,6 +1,6 @@
 use Rattle.std.proofs.Common.{◌*◌, arith, ◌∙◌, refl}
 use Rattle.hex.proofs.Pairs.{decode_step, decode_done, decode_err, decode_sized-pairs}
-use Rattle.jb_queue.proofs.Table.{err-of}
+use Rattle.jb_queue.proofs.DigitTable.{err-of}
 use Rattle.jb_queue.proofs.digits.decode.Goals as goal
 
 pub bytes-preserved : goal.bytes-preserved

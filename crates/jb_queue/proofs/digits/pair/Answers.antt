@@ -1,5 +1,5 @@
 use Rattle.std.proofs.Common.{sym}
-use Rattle.jb_queue.proofs.Table.{pair-both}
+use Rattle.jb_queue.proofs.DigitTable.{pair-both}
 use Rattle.jb_queue.proofs.digits.pair.Goals as goal
 
 pub returns : goal.returns

@@ -1,7 +1,7 @@
 use Rattle.std.proofs.Common.{◌<◌, ◌≤◌, get_or, refl, arith}
 use Rattle.std.proofs.lemmas.Bool.Decides.{nat_tests}
 use Rattle.jb_queue.specs.declared.digits.TheConstants.{VALUES}
-use Rattle.jb_queue.proofs.Table.{digit-some, digit-none}
+use Rattle.jb_queue.proofs.DigitTable.{digit-some, digit-none}
 use Rattle.jb_queue.proofs.digits.value.Goals as goal
 
 pub returns-then-value-lt16-clause-value : goal.returns-then-value-lt16-clause-value

@@ -1,4 +1,4 @@
-use Rattle.jb_queue.proofs.Data.{no_data}
+use Rattle.jb_queue.proofs.DataDigits.{no_data}
 use Rattle.jb_queue.proofs.op_text.read_payload.Goals as goal
 
 pub returns-then-len-eq0-clause-gives : goal.returns-then-len-eq0-clause-gives

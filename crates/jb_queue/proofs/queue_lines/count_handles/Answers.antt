@@ -4,7 +4,7 @@ use Rattle.jb_block.specs.Size.{bytes_of}
 use Rattle.jb_text.specs.Parts.{lines}
 use Rattle.jb_queue.specs.Queue.{handle_of}
 use Rattle.jb_queue.proofs.Weights.{line-goes, line-reports, passed-line}
-use Rattle.jb_queue.proofs.Placed.{count-all, ok-value}
+use Rattle.jb_queue.proofs.QueueHandles.{count-all, ok-value}
 use Rattle.jb_queue.proofs.queue_lines.count_handles.Goals as goal
 
 pub returns-in-Err-clause-err : goal.returns-in-Err-clause-err

@@ -1,6 +1,6 @@
 use Rattle.std.proofs.Common.{sym, ◌∙◌, arith}
 use Rattle.jb_text.specs.Parts.{lines}
-use Rattle.jb_queue.proofs.Placed.{drop-more, drop-past}
+use Rattle.jb_queue.proofs.QueueHandles.{drop-more, drop-past}
 use Rattle.jb_queue.proofs.queue_lines.pass_lines.Goals as goal
 
 pub lines-preserved : goal.lines-preserved

@@ -4,7 +4,7 @@ use Rattle.jb_handle.specs.Size.{weight}
 use Rattle.jb_text.specs.Parts.{lines}
 use Rattle.jb_queue.specs.Queue.{IsCount, after_lines, format_of, handles_of_text, limit_in_line}
 use Rattle.jb_queue.specs.QueueLines.{handles_of}
-use Rattle.jb_queue.proofs.Placed.{counted-are, counted-number, counted-ok, second-off}
+use Rattle.jb_queue.proofs.QueueHandles.{counted-are, counted-number, counted-ok, second-off}
 use Rattle.jb_queue.proofs.Weights.{first-total, number-weight, queue-weight}
 use Rattle.jb_queue.proofs.queue_text.read_lines.Goals as goal
 

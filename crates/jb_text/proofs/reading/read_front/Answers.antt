@@ -1,5 +1,5 @@
 use Rattle.std.proofs.Common.{rules}
-use Rattle.jb_text.proofs.Taken.{beginning}
+use Rattle.jb_text.proofs.CutReader.{beginning}
 use Rattle.jb_text.proofs.reading.read_front.Goals as goal
 
 pub returns-in-Ok-clause-front : goal.returns-in-Ok-clause-front

@@ -1,10 +1,10 @@
 use Rattle.std.proofs.Common.{◌≡◌, ◌+◌, List, [], ◌∷◌, ◌++◌, map, subst, ◌∙◌, ap, arith, add-zero, append-nil}
 use Rattle.jb_deck.specs.Changes.{Change, settled_in, settles}
 use Rattle.jb_deck.specs.GroupsOfBatch.{groups_in}
-use Rattle.jb_deck.proofs.Changed.{settled-map}
+use Rattle.jb_deck.proofs.HomeChanges.{settled-map}
 use Rattle.proof_clients.specs.Programs.{commits}
 use Rattle.proof_clients.proofs.Programs.{SoFar, left-to, opening-runs}
-use Rattle.proof_clients.proofs.Going.{begun, closed-has, closed-left, commit-on, commit-runs}
+use Rattle.proof_clients.proofs.ProgramCalls.{begun, closed-has, closed-left, commit-on, commit-runs}
 use Rattle.proof_clients.proofs.closed.commit_and_close.Given.{Over}
 use Rattle.proof_clients.proofs.closed.commit_and_close.Goals.{After-commit}
 use Rattle.proof_clients.proofs.closed.commit_and_close.Goals as goal

@@ -1,5 +1,5 @@
 use Rattle.std.proofs.Common.{◌≡◌, true, Ok, List, [], ◌∷◌, sym, subst, ◌∙◌, add-zero}
-use Rattle.jb_disk.proofs.Moments.{at_the_end}
+use Rattle.jb_disk.proofs.CallRuns.{at_the_end}
 use Rattle.jb_disk.specs.Throughout.{AllHave}
 use Rattle.jb_disk.specs.Time.{LeavesOnly}
 use Rattle.jb_super.specs.Superblock.{Superblock}
@@ -9,9 +9,9 @@ use Rattle.jb_deck.specs.Deck.{IsShapeOf}
 use Rattle.jb_deck.specs.GroupsOfBatch.{groups_in}
 use Rattle.proof_clients.specs.Lives.{IsBatchOf, LeftByLife, of_batch}
 use Rattle.proof_clients.specs.Programs.{all_changes, commits}
-use Rattle.proof_clients.proofs.Living.{LifeLeft, batch-opened, left-whole, life-runs as runs-of, none-runs}
+use Rattle.proof_clients.proofs.OneLife.{LifeLeft, batch-opened, left-whole, life-runs as runs-of, none-runs}
 use Rattle.proof_clients.proofs.Programs.{Has, LeftNow, Runs, SoFar, opening-runs}
-use Rattle.proof_clients.proofs.Going.{begun, closed-has, commit-on, commit-runs, idle-runs, still-has}
+use Rattle.proof_clients.proofs.ProgramCalls.{begun, closed-has, commit-on, commit-runs, idle-runs, still-has}
 use Rattle.proof_clients.proofs.life.run.Given.{Over}
 use Rattle.proof_clients.proofs.life.run.Goals.{After-commit, In-Ok-commit}
 use Rattle.proof_clients.proofs.life.run.Goals as goal

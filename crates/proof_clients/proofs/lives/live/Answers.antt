@@ -3,10 +3,10 @@ use Rattle.jb_block.specs.Size.{bytes_of}
 use Rattle.jb_disk.specs.History.{History, IsHistorySound, MayLeave, newest_of, replay}
 use Rattle.jb_disk.specs.Image.{Only}
 use Rattle.jb_disk.specs.Lives.{left_since_now}
-use Rattle.jb_format.proofs.Entering.{entry-as}
+use Rattle.jb_format.proofs.CallEntry.{entry-as}
 use Rattle.jb_recover.specs.Outcomes.{RecoversAs, recovered}
 use Rattle.proof_clients.specs.Lives.{HoldsChanges, HoldsLife, IsAtRest, LeftByLife}
-use Rattle.proof_clients.proofs.Living.{fresh-only, life-more, rested}
+use Rattle.proof_clients.proofs.OneLife.{fresh-only, life-more, rested}
 use Rattle.proof_clients.proofs.lives.live.Goals as goal
 
 pub returns-clause-rest : goal.returns-clause-rest

@@ -2,12 +2,12 @@ use Rattle.std.proofs.Common.{◌≡◌, [], ◌∷◌, ◌++◌, map, refl, sym
 use Rattle.std.proofs.lemmas.List.{map-append}
 use Rattle.jb_block.specs.Size.{bytes_of}
 use Rattle.jb_disk.specs.History.{newest_of}
-use Rattle.jb_format.proofs.Entering.{entry-as}
+use Rattle.jb_format.proofs.CallEntry.{entry-as}
 use Rattle.jb_recover.specs.Outcomes.{recovered}
 use Rattle.jb_deck.specs.Open.{recovered_home}
 use Rattle.proof_clients.specs.Lives.{HasLives, HoldsChanges, HoldsLife}
 use Rattle.proof_clients.specs.declared.lives.Life.{Life}
-use Rattle.proof_clients.proofs.Living.{lives-more, lives-none, rested}
+use Rattle.proof_clients.proofs.OneLife.{lives-more, lives-none, rested}
 use Rattle.proof_clients.proofs.lives.run_lives.Goals as goal
 
 pub loop-life-init : goal.loop-life-init

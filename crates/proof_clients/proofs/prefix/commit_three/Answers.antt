@@ -6,11 +6,11 @@ use Rattle.jb_deck.specs.Changes.{Change, settled_in, settles}
 use Rattle.jb_deck.specs.GroupsOfBatch.{groups_in}
 use Rattle.jb_deck.specs.Since.{in_commit}
 use Rattle.jb_deck.specs.GroupByGroup.{handles_to}
-use Rattle.jb_deck.proofs.Changed.{settled-append, settled-map}
+use Rattle.jb_deck.proofs.HomeChanges.{settled-append, settled-map}
 use Rattle.proof_clients.specs.Client.{HasPrefix}
 use Rattle.proof_clients.specs.Programs.{all_changes, commits}
 use Rattle.proof_clients.proofs.Programs.{LeftIn, SoFar, before, left-to, opening-runs}
-use Rattle.proof_clients.proofs.Going.{begun, commit-on, commit-runs, idle-on, idle-runs}
+use Rattle.proof_clients.proofs.ProgramCalls.{begun, commit-on, commit-runs, idle-on, idle-runs}
 use Rattle.proof_clients.proofs.prefix.commit_three.Given.{Over}
 use Rattle.proof_clients.proofs.prefix.commit_three.Goals.{After-commit, After-checkpoint_one, After-commit-3}
 use Rattle.proof_clients.proofs.prefix.commit_three.Goals as goal

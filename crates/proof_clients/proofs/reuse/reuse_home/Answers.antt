@@ -2,9 +2,9 @@ use Rattle.std.proofs.Common.{◌≡◌, [], ◌∷◌, map, ap, subst, ◌∙�
 use Rattle.jb_deck.specs.Changes.{settles}
 use Rattle.jb_deck.specs.Deck.{OpenDeck}
 use Rattle.proof_clients.specs.Programs.{commits, writes}
-use Rattle.proof_clients.proofs.Parts.{filled}
+use Rattle.proof_clients.proofs.ProgramParts.{filled}
 use Rattle.proof_clients.proofs.Programs.{SoFar, before, opening-runs}
-use Rattle.proof_clients.proofs.Going.{begun, closed-has, commit-on, commit-runs, idle-runs, read-on, take-on, write-on, write-runs}
+use Rattle.proof_clients.proofs.ProgramCalls.{begun, closed-has, commit-on, commit-runs, idle-runs, read-on, take-on, write-on, write-runs}
 use Rattle.proof_clients.proofs.reuse.reuse_home.Given.{Over}
 use Rattle.proof_clients.proofs.reuse.reuse_home.Goals.{After-commit, After-read_home, After-commit-2}
 use Rattle.proof_clients.proofs.reuse.reuse_home.Goals as goal

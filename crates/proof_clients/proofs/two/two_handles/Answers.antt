@@ -2,7 +2,7 @@ use Rattle.std.proofs.Common.{◌≤◌, [], ◌∷◌, Ok, subst, arith}
 use Rattle.jb_handle.specs.Handle.{changes_of}
 use Rattle.jb_book.specs.Calls.{Opened, Enqueued, CallsMake}
 use Rattle.proof_clients.specs.BookClient.{Stand}
-use Rattle.proof_clients.proofs.Cut.{begun, stand}
+use Rattle.proof_clients.proofs.CutOfTwo.{begun, stand}
 use Rattle.proof_clients.proofs.two.two_handles.Goals as goal
 
 pub returns : goal.returns

@@ -2,10 +2,10 @@ use Rattle.std.proofs.Common.{◌≡◌, ◌++◌, length, sym, ◌∙◌, ap, a
 use Rattle.jb_block.specs.Size.{bytes_of}
 use Rattle.jb_disk.specs.File.{FileLeaves, IsHonest, content_of, size_of_blocks}
 use Rattle.jb_disk.specs.Image.{Only}
-use Rattle.jb_format.proofs.Entering.{entry-as}
+use Rattle.jb_format.proofs.CallEntry.{entry-as}
 use Rattle.jb_image.specs.Pair.{front_disk, past_states}
 use Rattle.proof_clients.specs.Files.{FilesLeave, FilesLeft, files_content}
-use Rattle.jb_image.proofs.Opened.{opened-holds, opened-leaves}
+use Rattle.jb_image.proofs.OpenedFile.{opened-holds, opened-leaves}
 use Rattle.jb_recover.specs.Outcomes.{RecoversAs}
 use Rattle.proof_clients.proofs.two_files.recover_files.Goals as goal
 

@@ -1,4 +1,4 @@
-use Rattle.proof_clients.proofs.Heard.{told-of}
+use Rattle.proof_clients.proofs.WorkerReads.{told-of}
 use Rattle.proof_clients.proofs.workers.two_workers.Goals as goal
 
 pub returns : goal.returns

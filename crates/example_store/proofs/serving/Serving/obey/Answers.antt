@@ -1,7 +1,7 @@
 use Rattle.std.proofs.Common.{rules}
 use Rattle.jb_journal.specs.Client.{client_known, client_stops}
-use Rattle.example_store.specs.Acknowledged.{AreInNotesButOne}
-use Rattle.example_store.proofs.Keeping.{ack, but_one, put_noted, same_noted}
+use Rattle.example_store.specs.AcknowledgedPuts.{AreInNotesButOne}
+use Rattle.example_store.proofs.StoreKeeps.{ack, but_one, put_noted, same_noted}
 use Rattle.example_store.proofs.serving.Serving.obey.Goals as goal
 
 pub returns-in_err-put-in-Put-clause-acknowledged : goal.returns-in_err-put-in-Put-clause-acknowledged

@@ -1,5 +1,5 @@
 use Rattle.std.proofs.Common.{rules}
-use Rattle.jb_board.proofs.Keeps.{enters}
+use Rattle.jb_board.proofs.BoardKeeps.{enters}
 use Rattle.jb_board.proofs.board.Board.enter.Goals as goal
 
 pub load_new_seat-seat-requires : goal.load_new_seat-seat-requires

@@ -1,5 +1,5 @@
 use Rattle.std.proofs.Common.{rules}
-use Rattle.jb_board.proofs.Keeps.{joins}
+use Rattle.jb_board.proofs.BoardKeeps.{joins}
 use Rattle.jb_board.proofs.board.Board.join.Goals as goal
 
 pub join_seat-requires : goal.join_seat-requires

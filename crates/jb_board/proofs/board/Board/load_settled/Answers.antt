@@ -1,5 +1,5 @@
 use Rattle.std.proofs.Common.{rules}
-use Rattle.jb_board.proofs.Keeps.{loads_settled}
+use Rattle.jb_board.proofs.BoardKeeps.{loads_settled}
 use Rattle.jb_board.proofs.board.Board.load_settled.Goals as goal
 
 pub load-requires : goal.load-requires

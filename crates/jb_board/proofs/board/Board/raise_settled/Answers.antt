@@ -1,5 +1,5 @@
 use Rattle.std.proofs.Common.{rules}
-use Rattle.jb_board.proofs.Keeps.{raises_settled}
+use Rattle.jb_board.proofs.BoardKeeps.{raises_settled}
 use Rattle.jb_board.proofs.board.Board.raise_settled.Goals as goal
 
 pub fetch_max-requires : goal.fetch_max-requires

@@ -1,5 +1,5 @@
 use Rattle.std.proofs.Common.{rules}
-use Rattle.jb_board.proofs.Keeps.{raises_taken}
+use Rattle.jb_board.proofs.BoardKeeps.{raises_taken}
 use Rattle.jb_board.proofs.board.Board.raise_taken.Goals as goal
 
 pub fetch_max-requires : goal.fetch_max-requires

@@ -1,5 +1,5 @@
 use Rattle.std.proofs.Common.{sym, ◌∙◌, arith}
-use Rattle.jb_board.proofs.KeepsHistory.{splits_sights}
+use Rattle.jb_board.proofs.HistoryKeeps.{splits_sights}
 use Rattle.jb_board.proofs.history.History.again.Goals as goal
 
 pub split_seat-seat-requires : goal.split_seat-seat-requires

@@ -1,5 +1,5 @@
 use Rattle.std.proofs.Common.{arith}
-use Rattle.jb_board.proofs.KeepsHistory.{enters}
+use Rattle.jb_board.proofs.HistoryKeeps.{enters}
 use Rattle.jb_board.proofs.history.History.enter.Goals as goal
 
 pub load_new_seat-seat-requires : goal.load_new_seat-seat-requires

@@ -1,5 +1,5 @@
 use Rattle.std.proofs.Common.{sym, ◌∙◌, arith}
-use Rattle.jb_board.proofs.KeepsHistory.{joins}
+use Rattle.jb_board.proofs.HistoryKeeps.{joins}
 use Rattle.jb_board.proofs.history.History.join.Goals as goal
 
 pub join_seat-requires : goal.join_seat-requires

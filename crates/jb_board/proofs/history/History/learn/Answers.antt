@@ -1,5 +1,5 @@
 use Rattle.std.proofs.Common.{sym, ap, ◌∙◌, arith}
-use Rattle.jb_board.proofs.KeepsHistory.{joins, looks, splits_sights}
+use Rattle.jb_board.proofs.HistoryKeeps.{joins, looks, splits_sights}
 use Rattle.jb_board.proofs.history.History.learn.Goals as goal
 
 pub split_seat-seat-requires : goal.split_seat-seat-requires

@@ -1,4 +1,4 @@
-use Rattle.jb_board.proofs.KeepsHistory.{starts}
+use Rattle.jb_board.proofs.HistoryKeeps.{starts}
 use Rattle.jb_board.proofs.history.Opened.new.Goals as goal
 
 pub of_words-requires : goal.of_words-requires

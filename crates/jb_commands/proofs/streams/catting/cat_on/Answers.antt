@@ -1,7 +1,7 @@
 use Rattle.std.proofs.Common.{rules, sym, ◌≡◌, ◌+◌, ◌%◌, ◌^◌, length, None, Err, refl, subst}
 use Rattle.jb_recover.specs.Peeks.{IsPeeked, peek_refusal}
 use Rattle.jb_commands.specs.Cat.{CatsOn, IsUnpeeked}
-use Rattle.jb_commands.proofs.Cats.{catting-start, catting-more, cats-refused, cats-stopped, unpeeked-by}
+use Rattle.jb_commands.proofs.CatBlocks.{catting-start, catting-more, cats-refused, cats-stopped, unpeeked-by}
 use Rattle.jb_commands.proofs.streams.catting.cat_on.Goals as goal
 
 pub loop-i-init : goal.loop-i-init

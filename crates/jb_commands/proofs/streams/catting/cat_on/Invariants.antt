@@ -1,4 +1,4 @@
-use Rattle.jb_commands.proofs.Cats.{Catting}
+use Rattle.jb_commands.proofs.CatBlocks.{Catting}
 use Rattle.jb_commands.proofs.streams.catting.cat_on.Given as goal
 
 abbrev pub invariant-loop-i : goal.invariant-loop-i

@@ -2,7 +2,7 @@ use Rattle.std.specs.Prelude.{codes, map}
 use Rattle.hex.specs.Hex.{encode_lower}
 use Rattle.jb_commands.specs.Cat.{pair_text, shown_as}
 use Rattle.jb_commands.specs.Lines.{upto}
-use Rattle.jb_commands.proofs.Cats.{six_texts}
+use Rattle.jb_commands.proofs.CatBlocks.{six_texts}
 use Rattle.jb_commands.proofs.streams.catting.put_row.Goals as goal
 
 pub returns : goal.returns

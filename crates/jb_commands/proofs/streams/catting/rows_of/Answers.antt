@@ -1,6 +1,6 @@
 use Rattle.std.proofs.Common.{◌≡◌, ◌+◌, ◌-◌, ◌*◌, ◌%◌, ◌^◌, ◌++◌, take, drop, ap, sym, ◌∙◌, arith}
 use Rattle.jb_commands.specs.Cat.{row_text, rows_text}
-use Rattle.jb_commands.proofs.Cats.{upto-more}
+use Rattle.jb_commands.proofs.CatBlocks.{upto-more}
 use Rattle.jb_commands.proofs.streams.catting.rows_of.Goals as goal
 
 pub loop-k-preserved : goal.loop-k-preserved

@@ -2,9 +2,9 @@ use Rattle.std.proofs.Common.{◌≡◌, ap, rules, [], Ok, Err}
 use Rattle.std.specs.Prelude.{if◌then◌else◌}
 use Rattle.jb_commands.specs.Foresee.{homes_lines}
 use Rattle.jb_commands.specs.Recover.{recovered_line}
-use Rattle.jb_commands.specs.Said.{line_end}
+use Rattle.jb_commands.specs.Outputs.{line_end}
 use Rattle.jb_commands.specs.declared.fault.CommandFault.TheVariants.{WriteFault}
-use Rattle.jb_commands.proofs.Written.{tells_after, tells_alone, tells_first}
+use Rattle.jb_commands.proofs.LineByLine.{tells_after, tells_alone, tells_first}
 use Rattle.jb_commands.proofs.streams.foreseeing.tell_foreseen.Goals as goal
 
 pub returns-in_err-ended : goal.returns-in_err-ended

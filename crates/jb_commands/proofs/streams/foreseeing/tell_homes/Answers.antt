@@ -2,9 +2,9 @@ use Rattle.std.proofs.Common.{◌≡◌, ◌+◌, ap, rules, refl, codes, [], �
 use Rattle.jb_text.specs.TextParts.{spelled}
 use Rattle.jb_text.proofs.PartByPart.{spelled_next, spelled_none}
 use Rattle.jb_commands.specs.Foresee.{home_line}
-use Rattle.jb_commands.specs.Said.{TellsLine, line_end}
+use Rattle.jb_commands.specs.Outputs.{TellsLine, line_end}
 use Rattle.jb_commands.specs.declared.fault.CommandFault.TheVariants.{WriteFault}
-use Rattle.jb_commands.proofs.Written.{tells_after, tells_first, tells_none}
+use Rattle.jb_commands.proofs.LineByLine.{tells_after, tells_first, tells_none}
 use Rattle.jb_commands.proofs.streams.foreseeing.tell_homes.Goals as goal
 
 pub returns-in_err-_ended : goal.returns-in_err-_ended

@@ -2,7 +2,7 @@ use Rattle.std.proofs.Common.{rules, ◌≡◌, ◌++◌, [], ◌∷◌, Err, ma
 use Rattle.jb_text.specs.TextParts.{spelled}
 use Rattle.jb_text.proofs.PartByPart.{part_after, part_first, puts_after}
 use Rattle.jb_commands.specs.Lines.{after_words}
-use Rattle.jb_commands.proofs.Lines.{puts-failed}
+use Rattle.jb_commands.proofs.LineParts.{puts-failed}
 use Rattle.jb_commands.proofs.streams.putting.put_each.Goals as goal
 
 pub returns-in_err-put_parts : goal.returns-in_err-put_parts

@@ -1,7 +1,7 @@
 use Rattle.std.proofs.Common.{rules, ◌≡◌, [], ◌∷◌, Err}
 use Rattle.jb_text.proofs.PartByPart.{part_first, puts_after}
 use Rattle.jb_commands.specs.Lines.{shown_name}
-use Rattle.jb_commands.proofs.Lines.{puts-failed}
+use Rattle.jb_commands.proofs.LineParts.{puts-failed}
 use Rattle.jb_commands.proofs.streams.putting.put_name.Goals as goal
 
 pub returns-in_err-put : goal.returns-in_err-put

@@ -3,8 +3,8 @@ use Rattle.std.specs.Io.KnownBytes.{Appends}
 use Rattle.std.proofs.KnownBytes.{Appends-trans}
 use Rattle.jb_text.specs.Puts.{PutsPart}
 use Rattle.jb_commands.specs.Lines.{shown_at, shown_name, upto}
-use Rattle.jb_commands.proofs.Cats.{upto-more}
-use Rattle.jb_commands.proofs.Lines.{puts-failed, upto-part}
+use Rattle.jb_commands.proofs.CatBlocks.{upto-more}
+use Rattle.jb_commands.proofs.LineParts.{puts-failed, upto-part}
 use Rattle.jb_commands.proofs.streams.putting.put_shown.Goals as goal
 
 pub returns-in_err-put : goal.returns-in_err-put

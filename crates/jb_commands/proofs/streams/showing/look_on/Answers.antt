@@ -1,6 +1,6 @@
 use Rattle.std.proofs.Common.{sym, Err, subst}
 use Rattle.jb_commands.specs.Cat.{LooksOn}
-use Rattle.jb_commands.proofs.Cats.{looks-refused, looks-well, unpeeked-by}
+use Rattle.jb_commands.proofs.CatBlocks.{looks-refused, looks-well, unpeeked-by}
 use Rattle.jb_commands.proofs.streams.showing.look_on.Goals as goal
 
 pub returns-in-Ok : goal.returns-in-Ok

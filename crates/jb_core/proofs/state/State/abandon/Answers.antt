@@ -2,8 +2,8 @@ use Rattle.std.proofs.Common.{rules, ◌≡◌, ◌-◌, true, Some, ap, ◌∙�
 use Rattle.jb_core.specs.Machine.{Machine, handle_at, reserved, after_event}
 use Rattle.jb_core.specs.State.{machine_of}
 use Rattle.jb_core.specs.declared.event.Event.TheVariants.{Abandon}
-use Rattle.jb_core.proofs.Runs.{kept-by}
-use Rattle.jb_core.proofs.Sounds.{abandon-sound, gone-reserved}
+use Rattle.jb_core.proofs.SoundRuns.{kept-by}
+use Rattle.jb_core.proofs.SoundEvents.{abandon-sound, gone-reserved}
 use Rattle.jb_core.proofs.state.State.abandon.Goals as goal
 
 pub overflow_sub-self : goal.overflow_sub-self

@@ -2,8 +2,8 @@ use Rattle.std.proofs.Common.{rules, ◌≡◌, ◌+◌, true, None, ap, ◌∙�
 use Rattle.jb_core.specs.Machine.{Machine, handle_at, reserved, after_event}
 use Rattle.jb_core.specs.State.{machine_of}
 use Rattle.jb_core.specs.declared.event.Event.TheVariants.{Open}
-use Rattle.jb_core.proofs.Runs.{kept-by}
-use Rattle.jb_core.proofs.Sounds.{open-sound, open-reserved}
+use Rattle.jb_core.proofs.SoundRuns.{kept-by}
+use Rattle.jb_core.proofs.SoundEvents.{open-sound, open-reserved}
 use Rattle.jb_core.proofs.state.State.open.Goals as goal
 
 pub invariant_of-self : goal.invariant_of-self

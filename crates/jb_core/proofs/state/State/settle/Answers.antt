@@ -2,8 +2,8 @@ use Rattle.std.proofs.Common.{rules, ◌≡◌, ◌-◌, true, ap, ◌∙◌, ar
 use Rattle.jb_core.specs.Machine.{Machine, reserved, after_event}
 use Rattle.jb_core.specs.State.{machine_of}
 use Rattle.jb_core.specs.declared.event.Event.TheVariants.{Settle}
-use Rattle.jb_core.proofs.Runs.{kept-by}
-use Rattle.jb_core.proofs.Sounds.{settle-sound, settle-reserved}
+use Rattle.jb_core.proofs.SoundRuns.{kept-by}
+use Rattle.jb_core.proofs.SoundEvents.{settle-sound, settle-reserved}
 use Rattle.jb_core.proofs.state.State.settle.Goals as goal
 
 pub invariant_of-self : goal.invariant_of-self

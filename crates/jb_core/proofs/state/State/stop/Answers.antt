@@ -2,8 +2,8 @@ use Rattle.std.proofs.Common.{rules, ◌≡◌, true, Some, ap, ◌∙◌, arith
 use Rattle.jb_core.specs.Machine.{Machine, handle_at, reserved, after_event}
 use Rattle.jb_core.specs.State.{machine_of}
 use Rattle.jb_core.specs.declared.event.Event.TheVariants.{Stop}
-use Rattle.jb_core.proofs.Runs.{kept-by}
-use Rattle.jb_core.proofs.Sounds.{stop-sound, stop-reserved}
+use Rattle.jb_core.proofs.SoundRuns.{kept-by}
+use Rattle.jb_core.proofs.SoundEvents.{stop-sound, stop-reserved}
 use Rattle.jb_core.proofs.state.State.stop.Goals as goal
 
 pub invariant_of-self-2 : goal.invariant_of-self-2

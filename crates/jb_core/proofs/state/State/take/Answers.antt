@@ -3,9 +3,9 @@ use Rattle.jb_handle.specs.declared.stopped.Stopped.{Stopped}
 use Rattle.jb_cost.specs.Cut.{IsCut, IsLeastCut, piece_cost}
 use Rattle.jb_core.specs.Machine.{Machine, after_take}
 use Rattle.jb_core.specs.State.{machine_of}
-use Rattle.jb_core.proofs.Accepted.{none-left}
-use Rattle.jb_core.proofs.Sounds.{take-sound}
-use Rattle.jb_core.proofs.Runs.{kept-by, queue-size}
+use Rattle.jb_core.proofs.AcceptedEvents.{none-left}
+use Rattle.jb_core.proofs.SoundEvents.{take-sound}
+use Rattle.jb_core.proofs.SoundRuns.{kept-by, queue-size}
 use Rattle.jb_core.proofs.state.State.take.Goals as goal
 
 pub is_least-requires : goal.is_least-requires

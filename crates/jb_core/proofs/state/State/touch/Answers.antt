@@ -2,13 +2,13 @@ use Rattle.std.proofs.Common.{rules, ◌≡◌, true, Some, Err, sym, ap, ◌∙
 use Rattle.jb_core.specs.Machine.{Machine, fault_of, handle_at, held_at, reserved, after_event}
 use Rattle.jb_core.specs.State.{machine_of}
 use Rattle.std.specs.FinMap as map
-use Rattle.jb_handle.specs.Held.{held, after as held_after}
+use Rattle.jb_handle.specs.HeldChanges.{held, after as held_after}
 use Rattle.std.specs.BTreeMap.{is_at}
 use Rattle.std.proofs.lemmas.Map.Steps.{set_value_same}
 use Rattle.jb_core.specs.declared.event.Event.TheVariants.{Touch}
-use Rattle.jb_core.proofs.Touches.{touch-refused}
-use Rattle.jb_core.proofs.Runs.{kept-by}
-use Rattle.jb_core.proofs.Sounds.{touch-sound, touch-reserved}
+use Rattle.jb_core.proofs.TouchRefusals.{touch-refused}
+use Rattle.jb_core.proofs.SoundRuns.{kept-by}
+use Rattle.jb_core.proofs.SoundEvents.{touch-sound, touch-reserved}
 use Rattle.jb_core.proofs.state.State.touch.Goals as goal
 
 pub invariant_of-self-in_err-apply : goal.invariant_of-self-in_err-apply

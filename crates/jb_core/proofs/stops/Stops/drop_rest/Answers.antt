@@ -1,6 +1,6 @@
 use Rattle.std.proofs.Common.{refl, ap, ◌∙◌}
 use Rattle.jb_core.specs.Line.{Line}
-use Rattle.jb_core.proofs.Moves.{cut-kept, cut-settled}
+use Rattle.jb_core.proofs.LineMoves.{cut-kept, cut-settled}
 use Rattle.jb_core.proofs.stops.Stops.drop_rest.Goals as goal
 
 pub invariant_of-self : goal.invariant_of-self

@@ -3,7 +3,7 @@ use Rattle.std.proofs.lemmas.List.{get_or_default}
 use Rattle.jb_cost.specs.Cut.{RisesTo}
 use Rattle.jb_core.specs.Line.{Line}
 use Rattle.jb_core.specs.SplitEnds.{IsParted}
-use Rattle.jb_core.proofs.Moves.{no-group, group-inside, group-is}
+use Rattle.jb_core.proofs.LineMoves.{no-group, group-inside, group-is}
 use Rattle.jb_core.proofs.stops.Stops.group.Goals as goal
 
 pub returns-then-i-len : goal.returns-then-i-len

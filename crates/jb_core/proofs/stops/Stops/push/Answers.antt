@@ -2,7 +2,7 @@ use Rattle.std.proofs.Common.{refl, subst}
 use Rattle.jb_core.specs.Line.{Line, IsPushed}
 use Rattle.jb_core.specs.Stops.{line_of_stops}
 use Rattle.jb_core.specs.declared.stops.Stops.TheInside.{Inside}
-use Rattle.jb_core.proofs.Moves.{push-line}
+use Rattle.jb_core.proofs.LineMoves.{push-line}
 use Rattle.jb_core.proofs.stops.Stops.push.Goals as goal
 
 pub returns : goal.returns

@@ -1,7 +1,7 @@
 use Rattle.std.proofs.Common.{◌≡◌, ◌≤◌, length, take, sum, slice_range, ap, subst, ◌∙◌, arith, length-drop}
 use Rattle.jb_core.specs.Line.{Line, IsSettled, count}
 use Rattle.jb_core.specs.Stops.{line_of_stops}
-use Rattle.jb_core.proofs.Moves.{taken_ends, settled_to, groups-there, parts-of, settled-kept, settled-line, settled-credits}
+use Rattle.jb_core.proofs.LineMoves.{taken_ends, settled_to, groups-there, parts-of, settled-kept, settled-line, settled-credits}
 use Rattle.jb_core.proofs.stops.Stops.settle.Goals as goal
 
 pub end_after-end-requires : goal.end_after-end-requires

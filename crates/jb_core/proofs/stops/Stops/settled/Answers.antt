@@ -1,6 +1,6 @@
 use Rattle.std.proofs.Common.{length, take, sym, ap, ◌∙◌, length-take-le}
 use Rattle.jb_core.specs.Line.{Line}
-use Rattle.jb_cost.proofs.Joined.{length-pieces}
+use Rattle.jb_cost.proofs.ListPieces.{length-pieces}
 use Rattle.jb_core.proofs.stops.Stops.settled.Goals as goal
 
 pub returns : goal.returns

@@ -4,7 +4,7 @@ use Rattle.jb_cost.specs.Cut.{IsCut}
 use Rattle.jb_core.specs.Line.{Line, IsTaken}
 use Rattle.jb_core.specs.Stops.{line_of_stops}
 use Rattle.jb_core.specs.declared.stops.Stops.TheInside.{Inside}
-use Rattle.jb_core.proofs.Moves.{rises-below, cut-rises, take-kept, take-line}
+use Rattle.jb_core.proofs.LineMoves.{rises-below, cut-rises, take-kept, take-line}
 use Rattle.jb_core.proofs.stops.Stops.take.Goals as goal
 
 pub push_ends-requires : goal.push_ends-requires

@@ -1,6 +1,6 @@
 use Rattle.std.proofs.Common.{rules, ◌≡◌, ◌-◌, length, drop, sym, ap, ◌∙◌, length-drop}
 use Rattle.jb_core.specs.Line.{Line}
-use Rattle.jb_cost.proofs.Joined.{length-pieces}
+use Rattle.jb_cost.proofs.ListPieces.{length-pieces}
 use Rattle.jb_core.proofs.stops.Stops.taken.Goals as goal
 
 pub returns : goal.returns

@@ -1,7 +1,7 @@
 use Rattle.std.proofs.Common.{◌≡◌, refl, ap, ◌∙◌, arith}
 use Rattle.std.specs.FinSet as set
-use Rattle.jb_cost.proofs.Covers.{added-left}
-use Rattle.jb_cost.proofs.Fresh.{out-set}
+use Rattle.jb_cost.proofs.Footprints.{added-left}
+use Rattle.jb_cost.proofs.MeetHomes.{out-set}
 use Rattle.jb_cost.specs.Footprint.{Covered, covered_by}
 use Rattle.jb_cost.proofs.footprint.Footprint.add_left.Goals as goal
 

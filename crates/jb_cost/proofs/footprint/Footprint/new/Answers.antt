@@ -1,4 +1,4 @@
-use Rattle.jb_cost.proofs.Covers.{covers-none}
+use Rattle.jb_cost.proofs.Footprints.{covers-none}
 use Rattle.jb_cost.proofs.footprint.Footprint.new.Goals as goal
 
 pub returns : goal.returns

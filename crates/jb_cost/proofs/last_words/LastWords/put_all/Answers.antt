@@ -1,10 +1,10 @@
 use Rattle.std.proofs.Common.{◌<◌, T, Some, length, sym, ap, subst, ◌∙◌, arith, nat_cmp}
 use Rattle.std.specs.FinMap as map
 use Rattle.jb_handle.specs.Words.{is_copied, is_freed}
-use Rattle.jb_cost.proofs.Later.{next-is}
-use Rattle.jb_handle.proofs.Touched.{copied-is_of, freed-is_of}
-use Rattle.jb_cost.specs.Met.{later}
-use Rattle.jb_handle.proofs.Rising.{find-whole}
+use Rattle.jb_cost.proofs.HandleWords.{next-is}
+use Rattle.jb_handle.proofs.TouchedHomes.{copied-is_of, freed-is_of}
+use Rattle.jb_cost.specs.NewHomes.{later}
+use Rattle.jb_handle.proofs.RisingHomes.{find-whole}
 use Rattle.std.specs.BTreeSet.{contains}
 use Rattle.jb_block.proofs.Refusals.{on-refusal}
 use Rattle.jb_cost.proofs.last_words.LastWords.put_all.Goals as goal

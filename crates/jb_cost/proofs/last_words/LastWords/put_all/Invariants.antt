@@ -2,7 +2,7 @@ use Rattle.std.proofs.Common.{◌≡◌, ℕ, take, nat_cmp}
 use Rattle.std.specs.BTreeSet.{contains}
 use Rattle.std.specs.FinMap as map
 use Rattle.jb_handle.specs.Words.{is_copied, is_freed}
-use Rattle.jb_cost.specs.Met.{later}
+use Rattle.jb_cost.specs.NewHomes.{later}
 use Rattle.jb_cost.proofs.last_words.LastWords.put_all.Given as goal
 
 abbrev pub invariant-loop-home : goal.invariant-loop-home

@@ -1,12 +1,9 @@
 use Rattle.std.proofs.lemmas.Result.{IfOk-weaker}
-use Rattle.jb_desk.proofs.Closings.{ends-since, not-closed}
+use Rattle.jb_desk.proofs.CloseDesk.{ends-since, not-closed}
 use Rattle.jb_desk.proofs.desk.Desk.close.Goals as goal
 
-pub returns-clause-handles : goal.returns-clause-handles
-returns-clause-handles g c = IfOk-weaker c.close_parts.result _ _ (λ closed sums. (sums.all_handles, sums.few_handles)) c.close_parts.ensures.sums
-
-pub returns-clause-changes : goal.returns-clause-changes
-returns-clause-changes g c = IfOk-weaker c.close_parts.result _ _ (λ closed sums. (sums.all_touched, sums.few_touched)) c.close_parts.ensures.sums
+pub returns-clause-sums : goal.returns-clause-sums
+returns-clause-sums g c = c.close_parts.ensures.sums
 
 pub returns-clause-since : goal.returns-clause-since
 returns-clause-since g c = IfOk-weaker c.close_parts.result _ _ (λ closed ends. ends-since g.D.Disk g.H.Origin.begun _ _ _ _ _ _ _ ends) c.close_parts.ensures.stops

@@ -14,12 +14,12 @@ use Rattle.jb_book.specs.Rounds.{CommitsAs}
 use Rattle.jb_book.specs.SinceMark.{MarksSettled}
 use Rattle.jb_book.specs.MachineTie.{TellsFirst}
 use Rattle.jb_desk.specs.Journal.{CommitsRound}
-use Rattle.jb_desk.specs.Out.{IsOut}
+use Rattle.jb_desk.specs.BatchOut.{IsOut}
 use Rattle.jb_desk.specs.Rounds.{seat_of}
 use Rattle.jb_desk.specs.Seats.{view_of}
 use Rattle.jb_desk.specs.declared.committer.RoundFault.TheVariants as round
-use Rattle.jb_desk.proofs.Rounds.{settles-whole, whole-past}
-use Rattle.jb_desk.proofs.Seen.{keeps-same, settled-by}
+use Rattle.jb_desk.proofs.SettledBatch.{settles-whole, whole-past}
+use Rattle.jb_desk.proofs.RoundCounts.{keeps-same, settled-by}
 use Rattle.jb_desk.proofs.desk.Desk.commit.Goals as goal
 
 -- a batch that is handed back as it was is out as it was

@@ -4,11 +4,11 @@ use Rattle.jb_board.specs.Seats.{given_by, seat_view}
 use Rattle.jb_board.specs.Steps.{raised_taken}
 use Rattle.jb_board.specs.declared.front.Front.{Front}
 use Rattle.jb_book.specs.Rounds.{end_of as end_in}
-use Rattle.jb_desk.specs.Out.{IsOut}
+use Rattle.jb_desk.specs.BatchOut.{IsOut}
 use Rattle.jb_desk.specs.Rounds.{held_by, seat_of}
-use Rattle.jb_desk.specs.Seats.{changes, desk_of, made_by, seat_number, stops, view_of}
+use Rattle.jb_desk.specs.Seats.{view_of}
 use Rattle.jb_desk.specs.Views.{TakesUp, with_taken}
-use Rattle.jb_desk.proofs.Seen.{answers-held, answers-up, gives-none, lost-answers, lost-by, lost-idle, lost-round, lost-sees, never-idle, reached, round-up, sees-held, sees-taken, takes-up}
+use Rattle.jb_desk.proofs.RoundCounts.{answers-held, answers-up, gives-none, keeps-same, lost-answers, lost-by, lost-idle, lost-round, lost-sees, never-idle, reached, round-up, sees-held, sees-taken, takes-up}
 use Rattle.jb_desk.proofs.desk.Desk.commit_round.Given.{Over}
 use Rattle.jb_desk.proofs.desk.Desk.commit_round.Goals.{After-raise_taken}
 use Rattle.jb_desk.proofs.desk.Desk.commit_round.Goals as goal
@@ -65,12 +65,12 @@ returns-in-Ok g c =
     let now = view_of (seat_of c.commit.new.committer) in
     let same = c.in-Ok.ensures.batch in
     let is = up g at _ same in
+    let kept = c.commit.ensures.seat in
     record {
-      desk = (c.commit.ensures.seat.desk ∙ c.raise_taken.ensures.board ∙ c.raise_stopped.ensures.board, c.commit.ensures.seat.number);
+      seat = record { desk = kept.desk ∙ c.raise_taken.ensures.board ∙ c.raise_stopped.ensures.board; number = kept.number; counted = kept.counted };
       answers = answers-up held after c.in-Ok.prepared.batch now.settled c.commit.result is c.commit.ensures.answers;
       idle = never-idle c.in-Ok.prepared.batch _ now _ _ c.commit.result c.commit.ensures.view;
       view = sees-taken held after c.in-Ok.prepared.batch (view_of (seat_of c.args.committer.now)) _ now c.commit.result is (taken g at _ same) c.commit.ensures.answers c.commit.ensures.view;
-      counted = c.commit.ensures.seat.counted;
       round = round-up g.D.Disk g.H.Origin.begun held after c.in-Ok.prepared.batch now.settled c.commit.result is c.commit.ensures.round;
     }
 
@@ -90,12 +90,12 @@ returns-in-Memory g c =
     let same = c.in-Err.ensures.back in
     let is = up g at _ same in
     let again = c.hold.ensures.1 ∙ ap (λ (x : Gathered). Some x) c.of.ensures in
+    let kept = keeps-same _ _ c.hold.ensures.0 in
     record {
-      desk = (ap (λ s. desk_of s) c.hold.ensures.0 ∙ c.raise_taken.ensures.board ∙ c.raise_stopped.ensures.board, ap (λ s. seat_number s) c.hold.ensures.0);
+      seat = record { desk = kept.desk ∙ c.raise_taken.ensures.board ∙ c.raise_stopped.ensures.board; number = kept.number; counted = kept.counted };
       answers = answers-held held after c.in-Err.batch (view_of (seat_of c.hold.new.self)).settled is again;
       idle = tt;
       view = sees-held held after c.in-Err.batch (view_of (seat_of c.args.committer.now)) (view_of (seat_of c.hold.new.self)) is again (ap (λ s. view_of s) c.hold.ensures.0 ∙ taken g at _ same);
-      counted = (ap (λ s. stops s) c.hold.ensures.0, ap (λ s. changes s) c.hold.ensures.0, ap (λ s. made_by s) c.hold.ensures.0);
       round = tt;
     }
 
@@ -103,11 +103,10 @@ returns-in-Memory g c =
 
 pub returns-in_default : goal.returns-in_default
 returns-in_default g c = record {
-  desk = (refl, refl);
+  seat = keeps-same _ _ refl;
   answers = (sym c.take-held.ensures.value ∙ gives-none _ _ c.take-held.result c.in_ok-held.field-0 c.in_default.is c.in_ok-held.ensures.batch, c.take-held.ensures.after);
   idle = refl;
   view = inl (tt, refl);
-  counted = (refl, refl, refl);
   round = tt;
 }
 
@@ -118,10 +117,9 @@ returns-in_err-held g c =
     let fails : c.from_residual.result ≡ Err c.in_err-held.field-0.0 = search rules in
     let lost = lost-by c.from_residual.result c.in_err-held.field-0.0 fails c.in_err-held.ensures.batch.0 in
     record {
-      desk = (refl, refl);
+      seat = keeps-same _ _ refl;
       answers = lost-answers _ _ _ c.from_residual.result lost c.take-held.ensures.after;
       idle = lost-idle _ _ c.from_residual.result lost;
       view = lost-sees _ _ _ _ c.from_residual.result lost refl;
-      counted = (refl, refl, refl);
       round = lost-round g.D.Disk g.H.Origin.begun _ _ _ c.from_residual.result lost;
     }

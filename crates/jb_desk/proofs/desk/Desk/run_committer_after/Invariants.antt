@@ -1,13 +1,10 @@
-use Rattle.std.proofs.Common.{◌≡◌}
 use Rattle.jb_board.specs.Front.{IsWithin}
 use Rattle.jb_desk.specs.Rounds.{seat_of}
-use Rattle.jb_desk.specs.Seats.{KeepsStops, seat_number, desk_of, view_of}
+use Rattle.jb_desk.specs.Seats.{KeepsSeat, view_of}
 use Rattle.jb_desk.proofs.desk.Desk.run_committer_after.Given as goal
 
 abbrev pub invariant-loop : goal.invariant-loop
 invariant-loop g l =
     (goal.iterator-loop g).can_next l.iterator' × (goal.iterator-loop g).is_finite l.iterator'
-    × (desk_of (seat_of l.committer) ≡ desk_of (seat_of l.initial.committer))
-    × (seat_number (seat_of l.committer) ≡ seat_number (seat_of l.initial.committer))
+    × KeepsSeat (seat_of l.initial.committer) (seat_of l.committer)
     × IsWithin (view_of (seat_of l.initial.committer)) (view_of (seat_of l.committer))
-    × KeepsStops (seat_of l.initial.committer) (seat_of l.committer)

@@ -1,6 +1,6 @@
 use Rattle.std.proofs.Common.{rules, ◌≡◌, refl, arith}
-use Rattle.jb_desk.proofs.Rounds.{settled-seen}
-use Rattle.jb_desk.proofs.Seen.{keeps-same}
+use Rattle.jb_desk.proofs.SettledBatch.{settled-seen}
+use Rattle.jb_desk.proofs.RoundCounts.{keeps-same}
 use Rattle.jb_desk.proofs.desk.Desk.settle.Goals as goal
 
 pub raise_settled-requires-clause-seen : goal.raise_settled-requires-clause-seen

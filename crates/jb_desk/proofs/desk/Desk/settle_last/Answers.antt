@@ -1,6 +1,6 @@
 use Rattle.std.proofs.Common.{rules, ◌≡◌, refl, arith}
-use Rattle.jb_desk.proofs.Rounds.{failed-seen}
-use Rattle.jb_desk.proofs.Seen.{keeps-same}
+use Rattle.jb_desk.proofs.SettledBatch.{failed-seen}
+use Rattle.jb_desk.proofs.RoundCounts.{keeps-same}
 use Rattle.jb_desk.proofs.desk.Desk.settle_last.Goals as goal
 
 pub raise_settled-requires-clause-seen : goal.raise_settled-requires-clause-seen

@@ -1,7 +1,7 @@
 use Rattle.std.proofs.Common.{List, length, subst, sym, ◌∙◌}
 use Rattle.jb_book.specs.Marks.{HasShapeMark}
 use Rattle.jb_deck.specs.Deck.{OpenDeck}
-use Rattle.jb_board.proofs.Placed.{get_last}
+use Rattle.jb_board.proofs.EntryPlaces.{get_last}
 use Rattle.jb_desk.proofs.desk.Desk.start.Goals as goal
 
 -- the journal as it is has its shape

@@ -1,7 +1,7 @@
 use Rattle.std.proofs.Common.{rules, ◌+◌, ◌≤◌, Result, Ok, Err, OnOk, refl, ap, sym, subst, ◌∙◌}
 use Rattle.jb_board.specs.Steps.{raised_settled, raised_taken}
 use Rattle.jb_board.specs.declared.front.Front.{Front}
-use Rattle.jb_desk.proofs.Seen.{reached}
+use Rattle.jb_desk.proofs.RoundCounts.{reached}
 use Rattle.jb_desk.proofs.desk.Desk.wait.Goals as goal
 
 -- what holds whatever was answered
@@ -24,14 +24,11 @@ raise_settled-requires-clause-here g c = c.raise_taken.ensures.board ∙ c.raise
 pub raise_settled-requires-clause-taken : goal.raise_settled-requires-clause-taken
 raise_settled-requires-clause-taken g c = subst (λ (f : Front). c.args.ticket + 1 ≤ f.taken) (sym c.raise_taken.ensures.view) (reached _ (c.args.ticket + 1))
 
-pub returns-clause-desk : goal.returns-clause-desk
-returns-clause-desk g c = (c.raise_settled.ensures.board ∙ c.raise_taken.ensures.board ∙ c.raise_stopped.ensures.board, refl)
+pub returns-clause-seat : goal.returns-clause-seat
+returns-clause-seat g c = record { desk = c.raise_settled.ensures.board ∙ c.raise_taken.ensures.board ∙ c.raise_stopped.ensures.board; number = refl; counted = (refl, refl, refl) }
 
 pub returns-clause-view : goal.returns-clause-view
 returns-clause-view g c = holds _ c.ok_or.result (c.raise_settled.ensures.view ∙ ap (λ x. raised_settled x (c.args.ticket + 1)) (c.raise_taken.ensures.view ∙ ap (λ x. raised_taken x (c.args.ticket + 1)) c.raise_stopped.ensures.view))
 
 pub returns-clause-begins : goal.returns-clause-begins
 returns-clause-begins g c = search rules
-
-pub returns-clause-counted : goal.returns-clause-counted
-returns-clause-counted g c = (refl, refl, refl)

@@ -2,14 +2,14 @@ use Rattle.std.proofs.Common.{rules, sym, subst, ◌∙◌}
 use mathlib.Core.List.{IsPrefix}
 use Rattle.jb_handle.specs.Word.{WordMap}
 use Rattle.std.specs.Prelude.{List}
-use Rattle.jb_board.proofs.Placed.{placed_on}
+use Rattle.jb_board.proofs.EntryPlaces.{placed_on}
 use Rattle.jb_book.specs.History.{IsStop}
 use Rattle.jb_book.specs.SinceMark.{Lasts}
 use Rattle.jb_book.proofs.StopHistories.{stop-on}
-use Rattle.jb_book.proofs.Lasting.{first-marks}
-use Rattle.jb_book.proofs.LastingMarks.{marked-weaker}
-use Rattle.jb_book.proofs.Shaped.{of-begun}
-use Rattle.jb_book.proofs.Staying.{of-mark}
+use Rattle.jb_book.proofs.MarksLast.{first-marks}
+use Rattle.jb_book.proofs.WeakerMarks.{marked-weaker}
+use Rattle.jb_book.proofs.StartShape.{of-begun}
+use Rattle.jb_book.proofs.ShownTickets.{of-mark}
 use Rattle.jb_desk.proofs.desk.closing.close_parts.Goals as goal
 
 pub returns-clause-sums : goal.returns-clause-sums

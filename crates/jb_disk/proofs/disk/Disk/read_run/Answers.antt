@@ -3,9 +3,9 @@ use borrow.Rule.Slice.PartMut.{put_mid}
 use Rattle.jb_disk.specs.OneCall.{Reads}
 use Rattle.jb_disk.specs.Image.{block, Same}
 use Rattle.jb_disk.specs.Runs.{ReadsRun}
-use Rattle.jb_disk.proofs.Counts.{kept_ok}
-use Rattle.jb_disk.proofs.Running.{made-more, not_spent, reads-more}
-use Rattle.jb_disk.proofs.Stepping.{goes-on}
+use Rattle.jb_disk.proofs.KeptOverCalls.{kept_ok}
+use Rattle.jb_disk.proofs.RunReads.{made-more, not_spent, reads-more}
+use Rattle.jb_disk.proofs.CallSteps.{goes-on}
 use Rattle.jb_disk.proofs.disk.Disk.read_run.Goals as goal
 
 pub loop-k-preserved : goal.loop-k-preserved
@@ -19,7 +19,7 @@ loop-k-preserved g c =
     let buf = c.loop-k.buf in
     let size : bytes ≡ G.size old = c.bytes-size.ensures.value ∙ c.block_size.ensures in
     let long : length c.read.new.buf ≡ bytes = search rules in
-    let room : length buf ≡ bytes * c.args.blocks = c.loop-k.auto.buf ∙ c.requires.block ∙ ap (λ s. s * c.args.blocks) (sym size) in
+    let room : length buf ≡ bytes * c.args.blocks = c.loop-k.auto.buf ∙ c.requires.run.long ∙ ap (λ s. s * c.args.blocks) (sym size) in
     let below : k < c.args.blocks = omega (arith, c.loop-k-test.true) in
     let within : bytes * k + bytes ≤ length buf = grind (arith, room, below) in
     record {

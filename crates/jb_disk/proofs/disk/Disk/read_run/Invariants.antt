@@ -1,4 +1,4 @@
-use Rattle.jb_disk.proofs.Running.{ReadSoFar}
+use Rattle.jb_disk.proofs.RunReads.{ReadSoFar}
 use Rattle.jb_disk.proofs.disk.Disk.read_run.Given as goal
 
 abbrev pub invariant-loop-k : goal.invariant-loop-k

@@ -2,8 +2,8 @@ use Rattle.std.proofs.Common.{◌+◌, set, refl, ◌∙◌, sym, ap, subst, ari
 use Rattle.jb_disk.specs.OneCall.{Writes}
 use Rattle.jb_disk.specs.Image.{HasShape}
 use Rattle.jb_disk.specs.Runs.{part}
-use Rattle.jb_disk.proofs.Counts.{kept_ok}
-use Rattle.jb_disk.proofs.Running.{made-more, not_spent}
+use Rattle.jb_disk.proofs.KeptOverCalls.{kept_ok}
+use Rattle.jb_disk.proofs.RunReads.{made-more, not_spent}
 use Rattle.jb_disk.proofs.RunWrites.{part-slice, torn_run-more, torn_run-next, wrote_run-more, steps-run}
 use Rattle.jb_disk.proofs.disk.Disk.write_run.Goals as goal
 
@@ -47,7 +47,7 @@ loop-k-preserved g c =
           let now_honest = c.write.ensures.kept.was_honest honest in
           let shape : HasShape (G.count now) (G.size now) (G.newest now) = g.met.Self.Disk.has_shape now (G.newest now) now_honest (g.met.Self.Disk.newest_may_stay now now_honest) in
           wrote_run-more (G.size old) k place bytes (G.newest old) (G.newest now) (G.newest new)
-          (omega (arith, shape.blocks, so.kept.same_count, c.loop-k-test.true, c.requires.place))
+          (omega (arith, shape.blocks, so.kept.same_count, c.loop-k-test.true, c.requires.run.within))
           (so.written now_honest)
           (c.in_ok-write.ensures.written honest ∙ ap (λ b. set (G.newest now) (place + k) b) slice);
       torn = λ honest. torn_run-more (G.size old) k place bytes (G.newest old) (G.newest now) (G.newest new) (so.torn (c.write.ensures.kept.was_honest honest))

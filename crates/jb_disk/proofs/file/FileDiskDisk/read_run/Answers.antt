@@ -4,7 +4,7 @@ use Rattle.jb_disk.specs.OneCall.{Reads}
 use Rattle.jb_disk.specs.Faults.{CountsOne}
 use Rattle.jb_disk.specs.File.{faults_of}
 use Rattle.jb_disk.proofs.FileCalls.{found_run}
-use Rattle.jb_disk.proofs.Running.{made-once}
+use Rattle.jb_disk.proofs.RunReads.{made-once}
 use Rattle.jb_disk.proofs.file.FileDiskDisk.read_run.Goals as goal
 
 pub returns-clause-found : goal.returns-clause-found
@@ -20,4 +20,4 @@ pub returns-clause-own : goal.returns-clause-own
 returns-clause-own g c = λ _.
     let old = c.args.self.now in
     let one : CountsOne (is_ok c.settle.result) old.faults c.settle.new.faults = subst (λ ok. CountsOne ok old.faults c.settle.new.faults) (sym c.settle.ensures.variant) c.settle.ensures.one in
-    made-once (λ _ old new ok. CountsOne ok (faults_of old) (faults_of new)) (λ k. Reads (c.args.place + k)) c.args._blocks old _ (is_ok c.settle.result) c.requires.some (λ k. refl) (λ k. one)
+    made-once (λ _ old new ok. CountsOne ok (faults_of old) (faults_of new)) (λ k. Reads (c.args.place + k)) c.args._blocks old _ (is_ok c.settle.result) c.requires.run.some (λ k. refl) (λ k. one)

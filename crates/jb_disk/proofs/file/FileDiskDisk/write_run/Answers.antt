@@ -8,9 +8,9 @@ use Rattle.jb_disk.specs.File.{faults_of, size_of_blocks, events_of}
 use Rattle.jb_disk.specs.Runs.{part, TornRun}
 use Rattle.jb_disk.proofs.FileCalls.{torn_file}
 use Rattle.jb_disk.proofs.RunWrites.{torn_run-same}
-use Rattle.jb_disk.proofs.Running.{made-once}
-use Rattle.jb_disk.proofs.Stepping.{steps-goes}
-use Rattle.jb_disk.proofs.Noted.{goes_event}
+use Rattle.jb_disk.proofs.RunReads.{made-once}
+use Rattle.jb_disk.proofs.CallSteps.{steps-goes}
+use Rattle.jb_disk.proofs.NotedCalls.{goes_event}
 use Rattle.jb_disk.proofs.file.FileDiskDisk.write_run.Goals as goal
 
 pub returns-clause-steps : goal.returns-clause-steps
@@ -28,16 +28,16 @@ returns-clause-steps g c = λ honest.
     (λ d left. left_from_only size content f.host.log.events d left)
     (goes_event (λ d. bytes_of (size_of_blocks d)) content events_of (TornRun size n place bytes) f _
     (write_event c.offset_of-at.result c.write_at-succeeded.result bytes) refl c.write_at-succeeded.ensures
-    (λ d left. (left.0, left.1, left.3 place n here c.requires.block)))
+    (λ d left. (left.0, left.1, left.3 place n here c.requires.run.long)))
 
 pub returns-clause-torn : goal.returns-clause-torn
 returns-clause-torn g c = λ honest.
     let f = c.args.self.now in
     torn_file (bytes_of f.size) f.blocks g.S.Start.content f.host.log.events c.write_at-succeeded.new.self.log.events
-    c.args.place c.args._blocks c.offset_of-at.result c.write_at-succeeded.result c.args.bytes.now c.offset_of-at.ensures c.requires.block c.write_at-succeeded.ensures honest
+    c.args.place c.args._blocks c.offset_of-at.result c.write_at-succeeded.result c.args.bytes.now c.offset_of-at.ensures c.requires.run.long c.write_at-succeeded.ensures honest
 
 pub returns-clause-own : goal.returns-clause-own
 returns-clause-own g c = λ _.
     let old = c.args.self.now in
     let one : CountsOne (is_ok c.settle.result) old.faults c.settle.new.faults = subst (λ ok. CountsOne ok old.faults c.settle.new.faults) (sym c.settle.ensures.variant) c.settle.ensures.one in
-    made-once (λ _ old new ok. CountsOne ok (faults_of old) (faults_of new)) (λ k. Writes (c.args.place + k) (part (bytes_of old.size) k c.args.bytes.now)) c.args._blocks old _ (is_ok c.settle.result) c.requires.some (λ k. refl) (λ k. one)
+    made-once (λ _ old new ok. CountsOne ok (faults_of old) (faults_of new)) (λ k. Writes (c.args.place + k) (part (bytes_of old.size) k c.args.bytes.now)) c.args._blocks old _ (is_ok c.settle.result) c.requires.run.some (λ k. refl) (λ k. one)

@@ -1,6 +1,6 @@
 use Rattle.std.proofs.Common.{◌∙◌, ◌∷◌, ap, subst}
 use Rattle.jb_disk.specs.History.{Synced, IsHistorySound}
-use Rattle.jb_disk.proofs.Goings.{goes_synced}
+use Rattle.jb_disk.proofs.MemoryCalls.{goes_synced}
 use Rattle.jb_disk.proofs.memory.MemoryDiskDisk.sync.Goals as goal
 
 pub returns-in-Ok-clause-goes : goal.returns-in-Ok-clause-goes

@@ -2,7 +2,7 @@ use Rattle.std.proofs.Common.{◌≡◌, ◌<◌, ◌≤◌, ◌*◌, ◌+◌, �
 use borrow.Rule.Slice.PartMut.{post_of}
 use Rattle.jb_disk.specs.Image.{block}
 use Rattle.jb_disk.specs.Runs.{part}
-use Rattle.jb_disk.proofs.Running.{part-append}
+use Rattle.jb_disk.proofs.RunReads.{part-append}
 use Rattle.jb_disk.proofs.read_ahead.ReadAhead.fetch.Goals as goal
 
 pub returns-clause-ahead : goal.returns-clause-ahead

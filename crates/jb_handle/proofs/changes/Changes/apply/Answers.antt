@@ -1,6 +1,6 @@
 use Rattle.std.proofs.Common.{sym}
 use Rattle.jb_handle.specs.declared.word.Word.TheVariants.{Copy}
-use Rattle.jb_handle.proofs.Admitted.{word-kept}
+use Rattle.jb_handle.proofs.AdmittedChange.{word-kept}
 use Rattle.jb_handle.proofs.changes.Changes.apply.Goals as goal
 
 pub keep-requires : goal.keep-requires

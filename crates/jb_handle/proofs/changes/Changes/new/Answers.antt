@@ -1,4 +1,4 @@
-use Rattle.jb_handle.proofs.Admitted.{kept-new}
+use Rattle.jb_handle.proofs.AdmittedChange.{kept-new}
 use Rattle.jb_handle.proofs.changes.Changes.new.Goals as goal
 
 pub invariant_of-result : goal.invariant_of-result

@@ -1,5 +1,5 @@
 use Rattle.std.proofs.Common.{sym}
-use Rattle.jb_handle.proofs.Admitted.{word-kept}
+use Rattle.jb_handle.proofs.AdmittedChange.{word-kept}
 use Rattle.jb_handle.proofs.changes.Changes.put.Goals as goal
 
 pub keep-requires : goal.keep-requires

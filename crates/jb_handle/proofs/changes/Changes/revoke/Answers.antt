@@ -1,5 +1,5 @@
 use Rattle.jb_handle.specs.declared.word.Word.TheVariants.{Free}
-use Rattle.jb_handle.proofs.Admitted.{word-kept}
+use Rattle.jb_handle.proofs.AdmittedChange.{word-kept}
 use Rattle.jb_handle.proofs.changes.Changes.revoke.Goals as goal
 
 pub keep-requires : goal.keep-requires

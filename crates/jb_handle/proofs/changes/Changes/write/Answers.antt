@@ -1,5 +1,5 @@
 use Rattle.jb_handle.specs.declared.word.Word.TheVariants.{Copy}
-use Rattle.jb_handle.proofs.Admitted.{word-kept}
+use Rattle.jb_handle.proofs.AdmittedChange.{word-kept}
 use Rattle.jb_handle.proofs.changes.Changes.write.Goals as goal
 
 pub keep-requires : goal.keep-requires

@@ -1,5 +1,5 @@
 use Rattle.std.proofs.Common.{◌≡◌, ap, ◌∙◌, sym, subst, ◌≤◌, ◌++◌, drop, take, replicate, length, min, ◌-◌, rules, vec_len}
-use Rattle.jb_handle.proofs.Front.{take-padded, length-filled}
+use Rattle.jb_handle.proofs.PayloadFront.{take-padded, length-filled}
 use Rattle.jb_handle.proofs.payload.Payload.front.Goals as goal
 
 pub returns : goal.returns

@@ -1,6 +1,6 @@
 use Rattle.std.proofs.Common.{◌≡◌, sym, subst, ◌-◌, ◌++◌, length, replicate, rules}
 use Rattle.jb_block.specs.Fields.{AreBytes}
-use Rattle.jb_handle.proofs.Front.{filled-bytes}
+use Rattle.jb_handle.proofs.PayloadFront.{filled-bytes}
 use Rattle.jb_handle.proofs.payload.Payload.holds_bytes.Goals as goal
 
 pub returns : goal.returns

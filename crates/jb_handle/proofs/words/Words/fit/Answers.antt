@@ -1,6 +1,6 @@
 use Rattle.std.proofs.Common.{All, refl, ◌∙◌, sym, subst, arith, IsTrue, take_all}
-use Rattle.jb_handle.specs.Held.{FitsWord, Fits}
-use Rattle.jb_handle.proofs.Listed.{all-more, each-word, each-entry}
+use Rattle.jb_handle.specs.HeldChanges.{FitsWord, Fits}
+use Rattle.jb_handle.proofs.EachWord.{all-more, each-word, each-entry}
 use Rattle.jb_handle.proofs.words.Words.fit.Goals as goal
 use Rattle.jb_handle.proofs.words.Words.fit.Goals.{Then-not-fits}
 

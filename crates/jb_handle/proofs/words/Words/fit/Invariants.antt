@@ -1,5 +1,5 @@
 use Rattle.std.proofs.Common.{All, take}
-use Rattle.jb_handle.specs.Held.{FitsWord}
+use Rattle.jb_handle.specs.HeldChanges.{FitsWord}
 use Rattle.jb_handle.proofs.words.Words.fit.Given as goal
 
 -- there is room for each word so far

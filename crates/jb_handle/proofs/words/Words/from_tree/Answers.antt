@@ -2,7 +2,7 @@ use Rattle.std.proofs.Common.{◌≡◌, [], ap, All, rules, sym, ◌∙◌, sub
 use Rattle.std.specs.FinMap as map
 use Rattle.std.proofs.lemmas.List.{nil_from_length}
 use Rattle.jb_handle.specs.Word.{EntryHasBytes}
-use Rattle.jb_handle.proofs.Rising.{view-empty, ordered-rise}
+use Rattle.jb_handle.proofs.RisingHomes.{view-empty, ordered-rise}
 use Rattle.jb_handle.proofs.words.Words.from_tree.Goals as goal
 
 pub invariant_of-result : goal.invariant_of-result

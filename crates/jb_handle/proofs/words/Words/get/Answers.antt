@@ -1,6 +1,6 @@
 use Rattle.std.proofs.Common.{Some, sym, ap, ◌∙◌, nat_cmp}
 use Rattle.std.specs.FinMap as map
-use Rattle.jb_handle.proofs.Rising.{find-stands, find-goes}
+use Rattle.jb_handle.proofs.RisingHomes.{find-stands, find-goes}
 use Rattle.jb_handle.specs.HomeSearch.{StandsAt, GoesTo}
 use Rattle.jb_handle.proofs.words.Words.get.Goals as goal
 

@@ -6,7 +6,7 @@ use Rattle.jb_handle.specs.declared.stopped.Stopped.{Stopped}
 use Rattle.jb_handle.specs.Word.{WordMap}
 use Rattle.jb_handle.specs.Words.{word, words_of}
 use Rattle.jb_block.proofs.Refusals.{on-refusal}
-use Rattle.jb_handle.proofs.Gathering.{handle-earlier, handles-whole, some-words}
+use Rattle.jb_handle.proofs.GatherWords.{handle-earlier, handles-whole, some-words}
 use Rattle.jb_handle.proofs.words.Words.joined.Goals as goal
 use Rattle.jb_handle.proofs.words.Words.joined.Goals.{After-into_words}
 

@@ -1,8 +1,8 @@
 use Rattle.std.proofs.Common.{◌≡◌, [], rules, subst, sym, ap, ◌∙◌, nat_cmp}
 use Rattle.std.specs.FinMap as map
-use Rattle.jb_handle.proofs.Listed.{no-words}
+use Rattle.jb_handle.proofs.EachWord.{no-words}
 use Rattle.jb_handle.specs.Word.{AreWords}
-use Rattle.jb_handle.proofs.Rising.{view-empty}
+use Rattle.jb_handle.proofs.RisingHomes.{view-empty}
 use Rattle.jb_handle.proofs.words.Words.new.Goals as goal
 
 pub invariant_of-result : goal.invariant_of-result

@@ -2,8 +2,8 @@ use Rattle.std.proofs.Common.{sym, ap, ◌∙◌, nat_cmp}
 use Rattle.std.specs.FinMap as map
 use Rattle.jb_handle.specs.HomeSearch.{StandsAt, GoesTo}
 use Rattle.jb_block.proofs.Refusals.{on-refusal}
-use Rattle.jb_handle.proofs.Listed.{put-words}
-use Rattle.jb_handle.proofs.Rising.{put-stands, put-goes, view-put, find-goes}
+use Rattle.jb_handle.proofs.EachWord.{put-words}
+use Rattle.jb_handle.proofs.RisingHomes.{put-stands, put-goes, view-put, find-goes}
 use Rattle.jb_handle.proofs.words.Words.put.Goals as goal
 
 -- the word takes the place of the one that stood there

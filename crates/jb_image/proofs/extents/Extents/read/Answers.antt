@@ -1,7 +1,7 @@
 use Rattle.std.proofs.Common.{ap, ◌∙◌, rules, ◌≡◌, [], Err}
 use Rattle.std.specs.Option.{option_copied}
 use Rattle.jb_image.specs.Lists.{listed_in}
-use Rattle.jb_image.proofs.Taken.{taken-ends, taken-fails, taken-goes, taken-none}
+use Rattle.jb_image.proofs.TakenWords.{taken-ends, taken-fails, taken-goes, taken-none}
 use Rattle.jb_image.proofs.extents.Extents.read.Goals as goal
 
 pub loop-left-init : goal.loop-left-init

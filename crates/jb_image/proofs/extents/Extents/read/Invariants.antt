@@ -1,6 +1,6 @@
 use Rattle.std.specs.Option.{option_copied}
 use Rattle.jb_image.specs.Lists.{listed_in}
-use Rattle.jb_image.proofs.Taken.{AreTaken, left_len}
+use Rattle.jb_image.proofs.TakenWords.{AreTaken, left_len}
 use Rattle.jb_image.proofs.extents.Extents.read.Given as goal
 
 abbrev pub invariant-loop-left : goal.invariant-loop-left

@@ -1,7 +1,7 @@
 use Rattle.std.proofs.Common.{◌≡◌, Some, ◌∙◌, sym}
 use Rattle.std.proofs.lemmas.Result.{on_ok_weaker}
 use Rattle.jb_image.specs.Disks.{at_block}
-use Rattle.jb_image.proofs.Placing.{found-at, given-here}
+use Rattle.jb_image.proofs.ExtentPlaces.{found-at, given-here}
 use Rattle.jb_image.proofs.extents_disk.ExtentsDiskDisk.read.Goals as goal
 
 pub returns-in-Some-clause-found : goal.returns-in-Some-clause-found

@@ -2,11 +2,11 @@ use Rattle.std.proofs.Common.{◌≡◌, ◌<◌, Some, length, ◌∙◌, refl,
 use Rattle.std.proofs.lemmas.Result.{on_ok_weaker}
 use Rattle.jb_disk.specs.Image.{Image, Same, Torn}
 use Rattle.jb_disk.specs.Writes.{torn_same}
-use Rattle.jb_disk.proofs.Stepping.{goes-none}
+use Rattle.jb_disk.proofs.CallSteps.{goes-none}
 use Rattle.jb_image.specs.Disks.{at_block}
-use Rattle.jb_image.specs.Spread.{spread, within}
+use Rattle.jb_image.specs.ExtentImage.{spread, within}
 use Rattle.jb_image.specs.declared.extents_disk.ExtentsDisk.{ExtentsDisk}
-use Rattle.jb_image.proofs.Placing.{found-at, given-set, given-torn, goes-within}
+use Rattle.jb_image.proofs.ExtentPlaces.{found-at, given-set, given-torn, goes-within}
 use Rattle.jb_image.proofs.extents_disk.ExtentsDiskDisk.write.Given.{Over}
 use Rattle.jb_image.proofs.extents_disk.ExtentsDiskDisk.write.Goals as goal
 use Rattle.jb_image.proofs.extents_disk.ExtentsDiskDisk.write.Goals.{After-write, In-Some}

@@ -1,5 +1,5 @@
 use Rattle.jb_disk.specs.Image.{Same}
-use Rattle.jb_image.proofs.Images.{goes-two, goes-within}
+use Rattle.jb_image.proofs.ImageCalls.{goes-two, goes-within}
 use Rattle.jb_image.proofs.image.ImageDiskDisk.read_run.Goals as goal
 
 pub returns-in-Two-clause-goes : goal.returns-in-Two-clause-goes

@@ -1,9 +1,9 @@
 use Rattle.std.proofs.Common.{OnOk, sym, subst}
 use Rattle.jb_disk.specs.Image.{Only, Same}
-use Rattle.jb_image.specs.Spread.{WithinLeaves}
+use Rattle.jb_image.specs.ExtentImage.{WithinLeaves}
 use Rattle.jb_image.specs.Images.{image_newest}
 use Rattle.jb_image.specs.Pair.{PairLeaves}
-use Rattle.jb_image.proofs.Images.{goes-two, goes-within}
+use Rattle.jb_image.proofs.ImageCalls.{goes-two, goes-within}
 use Rattle.jb_image.proofs.image.ImageDiskDisk.sync.Goals as goal
 
 pub returns-in-Two-clause-goes : goal.returns-in-Two-clause-goes

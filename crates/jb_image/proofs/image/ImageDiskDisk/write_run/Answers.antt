@@ -1,5 +1,5 @@
 use Rattle.jb_disk.specs.Runs.{TornRun}
-use Rattle.jb_image.proofs.Images.{steps-two, steps-within}
+use Rattle.jb_image.proofs.ImageCalls.{steps-two, steps-within}
 use Rattle.jb_image.proofs.image.ImageDiskDisk.write_run.Goals as goal
 
 pub returns-in-Two-clause-steps : goal.returns-in-Two-clause-steps

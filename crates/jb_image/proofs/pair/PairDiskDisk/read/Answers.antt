@@ -1,6 +1,6 @@
 use Rattle.std.proofs.Common.{◌++◌, ap}
 use Rattle.jb_disk.specs.Image.{Same}
-use Rattle.jb_image.proofs.Passing.{goes-front, goes-back}
+use Rattle.jb_image.proofs.PairCalls.{goes-front, goes-back}
 use Rattle.jb_image.proofs.pair.PairDiskDisk.read.Goals as goal
 
 pub returns-then-place-front-clause-goes : goal.returns-then-place-front-clause-goes

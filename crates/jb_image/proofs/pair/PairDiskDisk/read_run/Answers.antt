@@ -3,8 +3,8 @@ use Rattle.std.proofs.lemmas.Result.{on_ok_weaker}
 use Rattle.jb_disk.specs.Image.{Same}
 use Rattle.jb_image.specs.Laws.{counts_both}
 use Rattle.jb_image.specs.Pair.{IsHonestPair}
-use Rattle.jb_image.proofs.Joined.{Halves, reads-both}
-use Rattle.jb_image.proofs.Passing.{goes-front, goes-back, goes-both}
+use Rattle.jb_image.proofs.JoinedImages.{Halves, reads-both}
+use Rattle.jb_image.proofs.PairCalls.{goes-front, goes-back, goes-both}
 use Rattle.jb_image.proofs.pair.PairDiskDisk.read_run.Goals as goal
 
 pub returns-then-place-blocks-clause-goes : goal.returns-then-place-blocks-clause-goes

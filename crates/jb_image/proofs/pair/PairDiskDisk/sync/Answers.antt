@@ -2,7 +2,7 @@ use Rattle.std.proofs.Common.{◌++◌, ap, rules}
 use Rattle.jb_disk.specs.Image.{Same}
 use Rattle.jb_image.specs.Laws.{counts_both}
 use Rattle.jb_image.specs.Pair.{IsHonestPair}
-use Rattle.jb_image.proofs.Passing.{goes-front, goes-both}
+use Rattle.jb_image.proofs.PairCalls.{goes-front, goes-both}
 use Rattle.jb_image.proofs.pair.PairDiskDisk.sync.Goals as goal
 
 pub returns-in_err-sync-clause-goes : goal.returns-in_err-sync-clause-goes

@@ -2,8 +2,8 @@ use Rattle.std.proofs.Common.{◌<◌, ◌-◌, ◌++◌, ◌∙◌, sym, ap, le
 use Rattle.std.proofs.lemmas.List.{set-append_left, set-append_right}
 use Rattle.std.proofs.lemmas.Result.{on_ok_weaker}
 use Rattle.jb_disk.specs.Image.{Torn}
-use Rattle.jb_image.proofs.Joined.{in-front, in-back, torn_block}
-use Rattle.jb_image.proofs.Passing.{goes-front, goes-back}
+use Rattle.jb_image.proofs.JoinedImages.{in-front, in-back, torn_block}
+use Rattle.jb_image.proofs.PairCalls.{goes-front, goes-back}
 use Rattle.jb_image.proofs.pair.PairDiskDisk.write.Goals as goal
 
 pub returns-then-place-front-clause-written : goal.returns-then-place-front-clause-written

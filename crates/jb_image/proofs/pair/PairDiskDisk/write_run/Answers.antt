@@ -3,8 +3,8 @@ use Rattle.std.proofs.lemmas.Result.{on_ok_weaker}
 use Rattle.std.proofs.lemmas.List.{take-append-drop}
 use Rattle.jb_disk.specs.Runs.{TornRun}
 use Rattle.jb_disk.proofs.RunWrites.{torn_run-same}
-use Rattle.jb_image.proofs.Joined.{Halves, in-front, in-back, torn_blocks, torn-both, written_blocks, wrote-both}
-use Rattle.jb_image.proofs.Passing.{steps-front, steps-back, steps-both}
+use Rattle.jb_image.proofs.JoinedImages.{Halves, in-front, in-back, torn_blocks, torn-both, written_blocks, wrote-both}
+use Rattle.jb_image.proofs.PairCalls.{steps-front, steps-back, steps-both}
 use Rattle.jb_image.proofs.pair.PairDiskDisk.write_run.Given.{Over}
 use Rattle.jb_image.proofs.pair.PairDiskDisk.write_run.Goals as goal
 use Rattle.jb_image.proofs.pair.PairDiskDisk.write_run.Goals.{After-blocks-front, After-split_at}

@@ -1,5 +1,5 @@
 use Rattle.std.proofs.Common.{◌≡◌, Some, rules}
-use Rattle.jb_journal.proofs.Changing.{own-again}
+use Rattle.jb_journal.proofs.ChangeAnswers.{own-again}
 use Rattle.jb_journal.proofs.client.Client.change.Goals as goal
 
 pub returns-clause-client : goal.returns-clause-client

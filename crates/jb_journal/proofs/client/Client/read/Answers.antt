@@ -1,5 +1,5 @@
 use Rattle.std.proofs.Common.{refl}
-use Rattle.jb_journal.proofs.Noting.{goes-on, reads-as}
+use Rattle.jb_journal.proofs.ClientNotes.{goes-on, reads-as}
 use Rattle.jb_journal.proofs.client.Client.read.Goals as goal
 
 pub returns-clause-reads : goal.returns-clause-reads

@@ -1,6 +1,6 @@
 use Rattle.std.proofs.Common.{refl}
 use Rattle.std.proofs.lemmas.Result.{IfErr-weaker, IfOk-weaker}
-use Rattle.jb_journal.proofs.Noting.{goes-on, noted-by, taken-of}
+use Rattle.jb_journal.proofs.ClientNotes.{goes-on, noted-by, taken-of}
 use Rattle.jb_journal.proofs.client.Client.wait.Goals as goal
 
 pub returns-clause-noted : goal.returns-clause-noted

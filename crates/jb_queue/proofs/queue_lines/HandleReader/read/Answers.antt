@@ -3,7 +3,7 @@ use Rattle.jb_block.specs.Size.{bytes_of}
 use Rattle.jb_text.specs.Parts.{lines}
 use Rattle.jb_queue.specs.Queue.{after_lines}
 use Rattle.jb_queue.proofs.Weights.{lines-walk}
-use Rattle.jb_queue.proofs.Placed.{IsAt, next-is, none-left, same-words}
+use Rattle.jb_queue.proofs.QueueHandles.{IsAt, next-is, none-left, same-words}
 use Rattle.jb_queue.proofs.queue_lines.HandleReader.read.Goals as goal
 
 pub returns-in_default : goal.returns-in_default

@@ -1,5 +1,5 @@
 use Rattle.std.proofs.Common.{refl, arith}
-use Rattle.jb_tool.proofs.Tallying.{few-more, goes-more, sum-more}
+use Rattle.jb_tool.proofs.TrailBlocks.{few-more, goes-more, sum-more}
 use Rattle.jb_tool.proofs.loading.counting.blocks_of.Goals as goal
 
 pub loop-entry-init : goal.loop-entry-init

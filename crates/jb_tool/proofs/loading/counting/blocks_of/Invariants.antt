@@ -1,7 +1,7 @@
 use Rattle.std.proofs.Common.{◌≡◌, ℕ, drop, take}
 use Rattle.std.specs.List.{sum_by}
 use Rattle.jb_deck.specs.Done.{Follow}
-use Rattle.jb_tool.proofs.Tallying.{Goes}
+use Rattle.jb_tool.proofs.TrailBlocks.{Goes}
 use Rattle.jb_tool.proofs.loading.counting.blocks_of.Given as goal
 
 -- the groups so far are added up, and the others follow them

@@ -1,7 +1,7 @@
 use Rattle.std.proofs.Common.{None, get_or, take, sym, ap, ◌∙◌}
 use Rattle.std.proofs.lemmas.List.{take_more}
 use Rattle.jb_tool.specs.FirstRefused.{earlier_refused, first_after}
-use Rattle.jb_tool.proofs.Adding.{first-more}
+use Rattle.jb_tool.proofs.EarliestRefused.{first-more}
 use Rattle.jb_tool.proofs.loading.counting.first_of.Goals as goal
 
 pub loop-refused-preserved : goal.loop-refused-preserved

@@ -1,8 +1,11 @@
 use Rattle.std.proofs.Common.{Err, arith, subst, sym}
 use Rattle.jb_queue.specs.QueueLines.{handles_of}
 use Rattle.jb_tool.specs.Loads.{AnswersLoad}
-use Rattle.jb_tool.proofs.Answering.{answers-fault, answers-run}
+use Rattle.jb_tool.proofs.LoadAnswers.{answers-fault, answers-run, not-meanwhile}
 use Rattle.jb_tool.proofs.loading.load.load_on.Goals as goal
+
+pub fault_of-requires : goal.fault_of-requires
+fault_of-requires g c = record { threads = λ none. not-meanwhile c.args.options.hold c.run_options-run.result.commits c.run_options-run.ensures.commits (c.in-Err.ensures.threads none) }
 
 pub returns-in-Ok : goal.returns-in-Ok
 returns-in-Ok g c = record {
@@ -10,7 +13,7 @@ returns-in-Ok g c = record {
       let run = c.run_options-run in
       let counted = c.count_up.ensures in
       answers-run g.D.Disk g.H.Origin.begun c.args.disk c.args.queue.now.bs (handles_of c.args.queue.now) c.args.options (omega arith)
-      c.in-Ok.ran run.result.workers run.ensures.asked.0 run.result.checkpoint run.ensures.asked.1 c.in-Ok.ensures.ran c.in-Ok.ensures.ends
+      c.in-Ok.ran run.result.workers run.ensures.workers run.result.checkpoint run.ensures.checkpoint c.in-Ok.ensures.ran c.in-Ok.ensures.ends
       c.len.result c.len.ensures.value c.count_up.result counted.counts counted.disk counted.follows counted.faults;
 }
 

@@ -5,11 +5,11 @@ use Rattle.std.specs.FinMap as map
 use Rattle.jb_handle.specs.Handle.{holder, changes_of}
 use Rattle.jb_handle.specs.Word.{WordMap}
 use Rattle.jb_handle.specs.declared.word.Word.{Word}
-use Rattle.jb_handle.proofs.Gathering.{word-more, words-whole}
+use Rattle.jb_handle.proofs.GatherWords.{word-more, words-whole}
 use Rattle.jb_handle.specs.declared.changes.TouchFault.{TouchFault}
 use Rattle.jb_tool.specs.Faults.{not_touched}
 use Rattle.jb_tool.specs.RefusedHandle.{IsRefusedFor}
-use Rattle.jb_tool.proofs.Refusals.{few-more, not-touched}
+use Rattle.jb_tool.proofs.HandleRefusals.{few-more, not-touched}
 use Rattle.jb_handle.proofs.Options.{or-nothing}
 use Rattle.jb_tool.proofs.loading.words.put_words.Goals as goal
 

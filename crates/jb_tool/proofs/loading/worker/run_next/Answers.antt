@@ -1,6 +1,6 @@
 use Rattle.std.proofs.Common.{◌≡◌, ◌+◌, Ok, Some, rules}
 use Rattle.jb_journal.specs.Client.{client_stops, shape_of}
-use Rattle.jb_tool.proofs.Reading.{ran-at, words-read}
+use Rattle.jb_tool.proofs.NextHandle.{ran-at, words-read}
 use Rattle.jb_tool.proofs.loading.worker.run_next.Goals as goal
 
 pub returns-in-Ok-Some-clause-ran : goal.returns-in-Ok-Some-clause-ran

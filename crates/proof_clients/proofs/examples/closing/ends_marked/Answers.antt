@@ -8,7 +8,7 @@ use Rattle.proof_clients.specs.ExampleMarks.{first, second, third}
 use Rattle.proof_clients.proofs.ExampleEnds.{at_first, one-first, inside}
 use Rattle.proof_clients.proofs.ExampleMarks.{first-third}
 use Rattle.proof_clients.proofs.ExampleIdle.{ends-idle}
-use Rattle.proof_clients.proofs.Heard.{ones}
+use Rattle.proof_clients.proofs.WorkerReads.{ones}
 use Rattle.proof_clients.proofs.examples.closing.ends_marked.Goals as goal
 
 pub returns-clause-meets : goal.returns-clause-meets

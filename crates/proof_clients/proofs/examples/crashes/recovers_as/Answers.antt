@@ -2,8 +2,8 @@ use Rattle.std.proofs.Common.{◌≡◌, ◌+◌, Some, None, refl, sym, ap, ◌
 use Rattle.jb_disk.specs.Image.{block}
 use Rattle.jb_scan.specs.Effect.{effect}
 use Rattle.jb_recover.specs.Outcomes.{recovered}
-use Rattle.jb_recover.proofs.Outcomes.{recovered-is, recovered-dirty, recovers-recovered}
-use Rattle.jb_recover.proofs.Crashing.{recovers-same}
+use Rattle.jb_recover.proofs.RecoveredImage.{recovered-is, recovered-dirty, recovers-recovered}
+use Rattle.jb_recover.proofs.RecoverCrash.{recovers-same}
 use Rattle.proof_clients.proofs.examples.crashes.recovers_as.Goals as goal
 
 pub returns-clause-meets : goal.returns-clause-meets

@@ -1,7 +1,7 @@
 use Rattle.std.proofs.Common.{◌+◌, ◌<◌, Some, length, subst, ◌∙◌, arith}
 use Rattle.jb_journal.specs.Client.{client_stops, shape_of}
 use Rattle.jb_queue.specs.QueueLines.{handles_of}
-use Rattle.jb_tool.proofs.Stepping.{ran-until, stepped-more}
+use Rattle.jb_tool.proofs.WorkerSteps.{ran-until, stepped-more}
 use Rattle.jb_tool.specs.Runs.{IsRun, RunsAt}
 use Rattle.jb_tool.proofs.loading.worker.LoaderWorkerOptionRefused.work.Goals as goal
 

@@ -1,7 +1,7 @@
 use Rattle.std.proofs.Common.{◌≡◌, ℕ, ◌+◌, ◌-◌, length}
 use Rattle.jb_journal.specs.Client.{IsClient, client_stops, shape_of}
 use Rattle.jb_queue.specs.QueueLines.{StandsAfter, handles_of}
-use Rattle.jb_tool.proofs.Stepping.{Stepped}
+use Rattle.jb_tool.proofs.WorkerSteps.{Stepped}
 use Rattle.jb_tool.proofs.loading.worker.LoaderWorkerOptionRefused.work.Given as goal
 
 -- the first handles have stopped, up to the next one, which is so many after the place of the reader

@@ -1,0 +1,281 @@
+-- A journal since its desk was started: what a batch that is given to it keeps.
+use Rattle.std.proofs.Common.{◌≡◌, ℕ, ◌+◌, ◌≤◌, List, [], ◌∷◌, ◌++◌, All, length, take, sym, ap, ◌∙◌, arith, false, ◌<◌, slice_index, Result, Ok, Err, OnOk, refl, subst, slice_range, length-append, length-take-le, take_all}
+use Rattle.std.proofs.Math.Seq.{drop-append-add}
+use Rattle.std.proofs.lemmas.Grind.{common_steps}
+use Rattle.std.proofs.lemmas.List.Elements.{All-append, All-cons, All-nil, All-take, All-weaker}
+use Rattle.jb_plan.specs.Costs.{cost_in, geometry_of}
+use Rattle.jb_cost.specs.Cost.{cost}
+use Rattle.jb_cost.specs.Cut.{IsCut, RisesTo}
+use Rattle.jb_cost.proofs.Cuts.{rises-le}
+use Rattle.jb_handle.specs.declared.shape.Shape.{Shape}
+use Rattle.jb_handle.specs.declared.stopped.Stopped.{Stopped}
+use Rattle.jb_deck.specs.GroupsOfBatch.{entries_for, entries_from, groups_in}
+use Rattle.jb_deck.specs.declared.done.Entry.{Entry}
+use Rattle.jb_book.specs.Since.{IsCosted, NumberedFrom, HasFirst, Since, WasGiven}
+use Rattle.jb_plan.specs.Prepare.{Planned, IsPlanned}
+use Rattle.jb_block.specs.declared.stamp.Stamp.{Stamp}
+use Rattle.jb_disk.specs.Image.{Image}
+use Rattle.jb_disk.specs.Faults.{CountsAny}
+use Rattle.jb_disk.specs.KeptOn.{KeptOn}
+use Rattle.jb_disk.specs.declared.disk.Disk.{Ghosts}
+use Rattle.jb_disk.specs.Time.{LeavesOnly}
+use Rattle.jb_disk.proofs.CallRuns.{weaken}
+use Rattle.jb_handle.specs.Tickets.{TicketsFrom}
+use Rattle.jb_handle.proofs.Tickets.{tickets-append}
+use Rattle.jb_deck.specs.Calls.{IsCall}
+use Rattle.jb_deck.specs.CommitBatch.{AnswersBatch, CommitsBatch, CommitsOnDisk, FindsLive, LeavesGroups, RefusesBatch, SettlesSome, TakesBatch}
+use Rattle.jb_deck.specs.Deck.{OpenDeck}
+use Rattle.jb_deck.specs.Done.{entries_of, past_after, start_of}
+use Rattle.jb_deck.specs.GroupByGroup.{FollowsSome}
+use Rattle.jb_deck.specs.declared.batched.BatchFault.{BatchFault}
+use Rattle.jb_deck.specs.declared.done.Done.{Done}
+use Rattle.jb_super.specs.Journal.{SameJournal}
+use Rattle.jb_log.proofs.OwnSuperblock.{same-then}
+use Rattle.jb_deck.specs.Since.{LiveOf, committed, deck_homes}
+use Rattle.jb_deck.proofs.HomesSinceOpen.{ended-is-call}
+use Rattle.jb_deck.proofs.HomesStand.{call-stood}
+use Rattle.jb_book.specs.Journal.{EndsRound, RefusesRound}
+use Rattle.jb_book.specs.Origin.{Begun}
+use Rattle.jb_book.specs.SinceMark.{IsMarkedOf}
+use Rattle.jb_book.proofs.CutEntries.{cut-last, cut-within, for-length, for-past, past-append}
+use Rattle.jb_book.proofs.MarksLast.{ever-on, kept-all, first-longer, first-some}
+use Rattle.jb_book.proofs.SinceTakeTrail.{numbered-first, numbered-for, numbered-on, start-more}
+use Rattle.jb_book.proofs.SinceNoHandles.{more-counted, plain-is}
+use Rattle.jb_deck.specs.declared.batched.BatchFault.TheVariants as batch
+
+-- ---- the entries of a trail have what their handles cost
+
+range-before : {A : Type 0} (xs ys : List A) (i j : ℕ) → i ≤ j → j ≤ length xs → slice_range (xs ++ ys) i j ≡ slice_range xs i j
+range-before xs ys i j up within = grind (arith, common_steps)
+
+range-after : {A : Type 0} (xs ys : List A) (i j : ℕ) → slice_range (xs ++ ys) (length xs + i) (length xs + j) ≡ slice_range ys i j
+range-after xs ys i j = grind (arith, common_steps, drop-append-add xs ys i)
+
+module _ (shape : Shape) (given hs : List Stopped) where
+  costed-before : (e : Entry) → IsCosted shape given e → IsCosted shape (given ++ hs) e
+  costed-before e is = record {
+    some = is.some;
+    within = (let both = length-append given hs in omega (arith, both));
+    blocks = is.blocks ∙ ap (cost (geometry_of shape)) (sym (range-before given hs e.first e.past (omega arith) is.within));
+  }
+
+  costed-from : (number a : ℕ) (bs : List ℕ) → RisesTo (length hs) a bs → All (IsCosted shape (given ++ hs)) (entries_from (cost_in shape hs) (length given) number a bs)
+  costed-from number a [] rises = All-nil (IsCosted shape (given ++ hs))
+  costed-from number a (b ∷ bs) rises =
+      All-cons (IsCosted shape (given ++ hs)) (record { first = length given + a; past = length given + b; number = number; blocks = cost_in shape hs a b })
+      (entries_from (cost_in shape hs) (length given) (number + 1) b bs)
+      (record {
+        some = (omega arith);
+        within = (let high = rises-le (length hs) b bs rises.1 in let both = length-append given hs in omega (arith, high, both));
+        blocks = ap (cost (geometry_of shape)) (sym (range-after given hs a b));
+      })
+      (costed-from (number + 1) b bs rises.1)
+
+  costed-for : (number : ℕ) (bounds : List ℕ) → IsCut (length hs) bounds → All (IsCosted shape (given ++ hs)) (entries_for (cost_in shape hs) (length given) number bounds)
+  costed-for number [] cut = absurd cut
+  costed-for number (a ∷ bs) cut = costed-from number a bs cut.1
+
+  -- the entries before, and the first ones of a batch
+  pub costed-more : (number k : ℕ) (bounds : List ℕ) (trail : List Entry) → IsCut (length hs) bounds → All (IsCosted shape given) trail
+      → All (IsCosted shape (given ++ hs)) (trail ++ take k (entries_for (cost_in shape hs) (length given) number bounds))
+  costed-more number k bounds trail cut all =
+      All-append (IsCosted shape (given ++ hs)) trail (take k (entries_for (cost_in shape hs) (length given) number bounds))
+      (All-weaker (IsCosted shape given) (IsCosted shape (given ++ hs)) costed-before trail all)
+      (All-take (IsCosted shape (given ++ hs)) k (entries_for (cost_in shape hs) (length given) number bounds) (costed-for number bounds cut))
+
+-- ---- A journal since its desk was started: what a batch that is given to it keeps
+
+module _ {D : Type 0} (G : Ghosts D) (b : Begun) (known : Stopped → Type 0) (p : Planned) (stamp : Stamp) (old new : OpenDeck D) (planned : IsPlanned p) (tickets : TicketsFrom p.batch.first p.batch.handles) (stopped : All known p.batch.handles) (kept : KeptOn G CountsAny old.disk new.disk) where
+  abbrev hs : List Stopped
+  hs = p.batch.handles
+
+  abbrev cut : IsCut (length hs) p.groups
+  cut = planned.least.fitting.cut
+
+  abbrev Left : ℕ → ℕ → Image → Type 0
+  Left least most c = FollowsSome old.log.sb old.log.next (G.size old.disk) (G.count old.disk) (deck_homes G.newest old) hs p.groups least most c
+
+  -- the entries of its groups, for a batch that begins at this ticket
+  abbrev entries : ℕ → List Entry
+  entries ticket = entries_for (cost_in p.batch.shape hs) ticket old.log.next p.groups
+
+  -- so many groups of the batch are settled, by these entries: all, or the journal has failed
+  record Settles (k : ℕ) (es : List Entry) : Type 0 where
+    within : k ≤ groups_in p.groups
+    told : es ≡ take k (entries p.batch.first)
+    trail : new.trail ≡ old.trail ++ es
+    next : new.log.next ≡ old.log.next + k
+    moved : SameJournal old.log.sb new.log.sb
+    shape : new.shape ≡ old.shape
+    whole : new.aborted ≡ false → k ≡ groups_in p.groups
+    no_fewer : G.faults old.disk ≤ G.faults new.disk
+
+  all-settled : (done : Done) → G.faults new.disk ≡ G.faults old.disk → CommitsBatch p stamp old new done → Settles (groups_in p.groups) (entries_of done)
+  all-settled done counted commits =
+      let long = for-length (cost_in p.batch.shape hs) p.batch.first old.log.next p.groups in
+      let within : groups_in p.groups ≤ groups_in p.groups = omega arith in
+      let told : entries_of done ≡ take (groups_in p.groups) (entries p.batch.first) = commits.entries ∙ sym (take_all (groups_in p.groups) (entries p.batch.first) (omega (arith, long))) in
+      let no_fewer : G.faults old.disk ≤ G.faults new.disk = omega arith in
+      assumption
+
+  some-settled : (settled : Done) → G.faults old.disk ≤ G.faults new.disk → (some : SettlesSome p stamp old new settled) → Settles some.groups (entries_of settled)
+  some-settled settled more some =
+      let within : some.groups ≤ groups_in p.groups = omega arith in
+      let whole : new.aborted ≡ false → some.groups ≡ groups_in p.groups = λ on. cc (some.aborted, on) in
+      assumption
+
+  abbrev Leaves : Type 0
+  Leaves = old.aborted ≡ false → G.honest new.disk → LeavesOnly G.moment G.left_since old.disk new.disk (Left 0 (groups_in p.groups))
+
+  -- ---- what the batch makes of a journal that was given handles, where so many groups are settled
+
+  module _ (takes : TakesBatch old p) (k : ℕ) (es : List Entry) (st : Settles k es) where
+    long : length es ≡ k
+    long =
+        let all = for-length (cost_in p.batch.shape hs) p.batch.first old.log.next p.groups in
+        ap length st.told ∙ length-take-le k (entries p.batch.first) (omega (arith, all))
+
+    module _ (given : List Stopped) (has : WasGiven known given old) where
+      at : p.batch.first ≡ length given
+      at = takes.ticket ∙ sym (has.all takes.up)
+
+      told : es ≡ take k (entries (length given))
+      told = st.told ∙ ap (λ n. take k (entries n)) at
+
+      past : past_after 0 new.trail ≡ length given + slice_index p.groups k
+      past =
+          ap (past_after 0) st.trail ∙ past-append 0 old.trail es ∙ ap (λ n. past_after n es) (sym (has.all takes.up)) ∙ ap (past_after (length given)) told
+          ∙ for-past (cost_in p.batch.shape hs) (length hs) (length given) old.log.next k p.groups cut st.within
+
+      given-more : WasGiven known (given ++ hs) new
+      given-more =
+          let all = length-append given hs in
+          let last = cut-last (length hs) p.groups cut in
+          record {
+            stopped = All-append known given hs has.stopped stopped;
+            tickets = tickets-append 0 given hs has.tickets (subst (λ n. TicketsFrom n hs) (let same = at in let h : p.batch.first ≡ 0 + length given = omega (arith, same) in h) tickets);
+            settled = let ends = past in let few = cut-within (length hs) p.groups k cut st.within in omega (arith, ends, all, few.1);
+            all = λ on. (let ends = past in let whole = ap (slice_index p.groups) (st.whole on) in omega (arith, ends, all, whole, last));
+            costs = subst (λ (x : Shape × List Entry). All (IsCosted x.0 (given ++ hs)) x.1) (λ i. ((takes.shape ∙ sym st.shape) i, (ap (λ es. old.trail ++ es) (sym told) ∙ sym st.trail) i))
+                (costed-more p.batch.shape given hs old.log.next k p.groups old.trail cut (subst (λ (x : Shape). All (IsCosted x given) old.trail) (sym takes.shape) has.costs));
+            first = has.first;
+            numbers = subst (NumberedFrom has.first) (sym st.trail)
+                (numbered-on has.first old.trail es has.numbers (subst (λ (x : ℕ × List Entry). NumberedFrom x.0 x.1) (λ i. (sym has.next i, sym told i))
+                (numbered-first old.log.next k (entries (length given)) (numbered-for (cost_in p.batch.shape hs) (length given) old.log.next p.groups))));
+            next = let both = length-append old.trail es in let more = ap length st.trail in let size = long in omega (arith, both, more, size, has.next, st.next);
+          }
+
+      module _ (s : Since G b given old) (leaves : LeavesOnly G.moment G.left_since old.disk new.disk (Left 0 (groups_in p.groups))) where
+        has-some : (least most low : ℕ) (x : Image) → most ≤ groups_in p.groups → low ≤ length given + slice_index p.groups least → Left least most x → HasFirst b (given ++ hs) low x
+        has-some least most low x = first-some b old.log.sb s.same (G.size old.disk) (G.count old.disk) s.same_size s.same_count given (deck_homes G.newest old) (s.stood takes.up) hs p.groups least most low old.log.next x s.number cut
+
+        first-leaves : LeavesOnly G.moment G.left_since old.disk new.disk (HasFirst b (given ++ hs) (past_after 0 old.trail))
+        first-leaves =
+            weaken G.moment G.left_since old.disk new.disk (Left 0 (groups_in p.groups)) (HasFirst b (given ++ hs) (past_after 0 old.trail))
+            (λ x f. has-some 0 (groups_in p.groups) (past_after 0 old.trail) x (omega arith) (omega arith) f) leaves
+
+        -- a trail that begins at the ticket 0 is whole
+        began-more : start_of new.trail ≡ 0 → new.log.next ≡ b.own.sequence + 1 + length new.trail
+        began-more starts =
+            let both = length-append old.trail es in
+            let more : length new.trail ≡ length (old.trail ++ es) = ap length st.trail in
+            let size = long in
+            let before : old.log.next ≡ b.own.sequence + 1 + length old.trail = start-more old.trail es (λ n. old.log.next ≡ b.own.sequence + 1 + n) (λ none. s.began (ap start_of none) ∙ ap (λ es. b.own.sequence + 1 + length es) none) s.began (ap start_of (sym st.trail) ∙ starts) in
+            omega (arith, both, more, before, size)
+
+        since-more : (b.faults < 18446744073709551615 → G.faults new.disk ≡ b.faults → new.aborted ≡ false) → (new.aborted ≡ false → IsCall given (deck_homes G.newest old) hs (deck_homes G.newest new) × LiveOf (given ++ hs) new.groups)
+            → (most : ℕ) → most ≤ groups_in p.groups → ((x : Image) → G.may_leave new.disk x → Left k most x) → Since G b (given ++ hs) new
+        since-more fails called most few now = record {
+          same_size = kept.same_size ∙ s.same_size;
+          same_count = kept.same_count ∙ s.same_count;
+          no_fewer = omega arith;
+          up = fails;
+          same = same-then b.own old.log.sb new.log.sb s.same st.moved;
+          number = let all = length-append given hs in let few = cut-within (length hs) p.groups k cut st.within in omega (arith, all, few);
+          began = began-more;
+          stood = λ on. call-stood given hs b.homes (deck_homes G.newest old) (deck_homes G.newest new) (s.stood takes.up) (called on).0;
+          live = λ on. (called on).1;
+          now = λ x may. has-some k most (past_after 0 new.trail) x few (let ends = past in omega (arith, ends)) (now x may);
+          later = omega (arith, leaves.later);
+          ever = ever-on G b given (given ++ hs) (past_after 0 old.trail) old new (first-longer b given hs) s first-leaves;
+        }
+
+    more-marked : (ms : List (OpenDeck D)) → (b.faults ≤ G.faults old.disk → b.faults < 18446744073709551615 → G.faults new.disk ≡ b.faults → new.aborted ≡ false)
+        → (G.honest new.disk → (given : List Stopped) → LiveOf given old.groups → new.aborted ≡ false → IsCall given (deck_homes G.newest old) hs (deck_homes G.newest new) × LiveOf (given ++ hs) new.groups)
+        → (most : ℕ) → most ≤ groups_in p.groups → (G.honest new.disk → (x : Image) → G.may_leave new.disk x → Left k most x) → Leaves → IsMarkedOf G b known ms old → IsMarkedOf G b known ms new
+    more-marked ms fails called most few now leaves is =
+        let given = is.since.given in
+        let has = is.since.has in
+        let before = λ (known_start : b.is_known) (held : G.honest new.disk). is.since.since known_start (kept.was_honest held) in
+        let ends = past given has in
+        record {
+          since = record {
+            given = given ++ hs;
+            has = given-more given has;
+            since = λ known_start held. (let s = before known_start held in since-more given has s (leaves takes.up held) (fails s.no_fewer) (called held given (s.live takes.up)) most few (now held));
+          };
+          marks_last = kept-all G b given (given ++ hs) old new st.shape kept.was_honest (omega (arith, ends)) (first-longer b given hs) (λ known_start held. first-leaves given has (before known_start held) (leaves takes.up held)) ms is.marks_last;
+        }
+
+  -- ---- whatever the commit answered
+
+  abbrev Now : Result Done BatchFault → Type 0
+  Now r = old.aborted ≡ false → G.honest new.disk → (c : Image) → G.may_leave new.disk c → LeavesGroups old.log.sb old.log.next (G.size old.disk) (G.count old.disk) (deck_homes G.newest old) p r c
+
+  pub commit-marked : (ms : List (OpenDeck D)) (r : Result Done BatchFault) → AnswersBatch (G.faults old.disk) (G.faults new.disk) p stamp old new r → (G.honest new.disk → OnOk r (CommitsOnDisk G.newest p stamp old new)) → Leaves → Now r → IsMarkedOf G b known ms old → IsMarkedOf G b known ms new
+  commit-marked ms (Ok done) answers on_disk leaves now is =
+      let commits = answers.2 in
+      more-marked answers.0 (groups_in p.groups) (entries_of done) (all-settled done answers.1 commits) ms (λ low few none. commits.up)
+      (λ held given live on. ended-is-call G.newest given old hs new live (committed p stamp done new planned commits (on_disk held)))
+      (groups_in p.groups) (omega arith) (now answers.0.up) leaves is
+  commit-marked ms (Err (batch.Aborted back)) answers on_disk leaves now is = subst (IsMarkedOf G b known ms) (sym answers.2) is
+  commit-marked ms (Err (batch.WrongTicket back expected)) answers on_disk leaves now is = subst (IsMarkedOf G b known ms) (sym answers.4) is
+  commit-marked ms (Err (batch.OtherShape back)) answers on_disk leaves now is = subst (IsMarkedOf G b known ms) (sym answers.4) is
+  commit-marked ms (Err (batch.NumbersSpent back)) answers on_disk leaves now is = subst (IsMarkedOf G b known ms) (sym answers.5) is
+  commit-marked ms (Err (batch.Memory back)) answers on_disk leaves now is = subst (IsMarkedOf G b known ms) (sym answers.3) is
+  commit-marked ms (Err (batch.DeviceFault settled)) answers on_disk leaves now is =
+      let some = answers.2 in
+      let st = some-settled settled answers.1.no_fewer some in
+      more-marked answers.0 some.groups (entries_of settled) st ms
+      (λ low few none. absurd (more-counted b.faults (G.faults old.disk) (G.faults new.disk) low answers.1 few none))
+      (λ held given live on. cc (some.aborted, on))
+      (some.groups + 1) (omega arith) (λ held x may. subst (λ n. Left n (n + 1) x) (long answers.0 some.groups (entries_of settled) st) (now answers.0.up held x may)) leaves is
+
+  module _ (plain : (h : Stopped) → known h → b.stops h.words) (ms : List (OpenDeck D)) where
+    -- the journal that refuses a batch is as it was
+    refuses-round : (fault : BatchFault) → old.aborted ≡ false → RefusesBatch old p fault → IsMarkedOf G b known ms old → RefusesRound G b p fault
+    refuses-round fault up refuses is = record { planned = planned; deck = old; since = plain-is G b known plain old is.since; up = up; refuses = refuses }
+
+    pub commit-ends : (r : Result Done BatchFault) → AnswersBatch (G.faults old.disk) (G.faults new.disk) p stamp old new r → (G.honest new.disk → OnOk r (CommitsOnDisk G.newest p stamp old new)) → (G.honest new.disk → OnOk r (FindsLive (G.size old.disk) (G.count old.disk) new.log new.groups (G.newest new.disk))) → Leaves → Now r → IsMarkedOf G b known ms old → EndsRound G b p r
+    unfolding commit-marked more-marked
+    commit-ends (Ok done) answers on_disk finds leaves now is = record {
+      planned = planned;
+      stamp = stamp;
+      old = old;
+      new = new;
+      same_disk = kept;
+      takes = answers.0;
+      commits = answers.2;
+      on_disk = λ known_start held. on_disk held;
+      finds = λ known_start held. finds held;
+      before = plain-is G b known plain old is.since;
+      after = plain-is G b known plain new (commit-marked ms (Ok done) answers on_disk leaves now is).since;
+      adds = refl;
+    }
+    commit-ends (Err (batch.Aborted back)) answers on_disk finds leaves now is = record { deck = old; since = plain-is G b known plain old is.since; failed = answers.0 }
+    commit-ends (Err (batch.WrongTicket back expected)) answers on_disk finds leaves now is = refuses-round (batch.WrongTicket back expected) answers.0 (answers.0, answers.1, answers.2, answers.3) is
+    commit-ends (Err (batch.OtherShape back)) answers on_disk finds leaves now is = refuses-round (batch.OtherShape back) answers.0 (answers.0, answers.1, answers.2, answers.3) is
+    commit-ends (Err (batch.NumbersSpent back)) answers on_disk finds leaves now is = refuses-round (batch.NumbersSpent back) answers.0 (answers.0, answers.1, answers.2, answers.3, answers.4) is
+    commit-ends (Err (batch.Memory back)) answers on_disk finds leaves now is = tt
+    commit-ends (Err (batch.DeviceFault settled)) answers on_disk finds leaves now is = record {
+      planned = planned;
+      stamp = stamp;
+      old = old;
+      new = new;
+      same_disk = kept;
+      takes = answers.0;
+      settles = answers.2;
+      before = plain-is G b known plain old is.since;
+      after = plain-is G b known plain new (commit-marked ms (Err (batch.DeviceFault settled)) answers on_disk leaves now is).since;
+      adds = refl;
+    }

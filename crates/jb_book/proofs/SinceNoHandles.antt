@@ -1,0 +1,217 @@
+-- A journal since its desk was started: with other things known of its handles, and what a call keeps by which it is given none.
+use Rattle.std.proofs.Common.{◌≡◌, ℕ, Bool, true, false, ◌+◌, ◌<◌, ◌≤◌, List, [], ◌∷◌, length, take, All, Result, Ok, Err, OnOk, refl, ap, sym, subst, ◌∙◌, arith, append-nil}
+use Rattle.std.proofs.lemmas.List.Elements.{All-weaker}
+use Rattle.jb_disk.specs.Faults.{MoreFaults}
+use Rattle.jb_disk.specs.Image.{Image}
+use Rattle.jb_disk.specs.Faults.{CountsAny}
+use Rattle.jb_disk.specs.KeptOn.{KeptOn}
+use Rattle.jb_disk.specs.declared.disk.Disk.{Ghosts}
+use Rattle.jb_disk.specs.Time.{LeavesOnly}
+use Rattle.jb_disk.proofs.CallRuns.{weaken}
+use Rattle.jb_handle.specs.Words.{word}
+use Rattle.jb_handle.specs.declared.shape.Shape.{Shape}
+use Rattle.jb_handle.specs.declared.stopped.Stopped.{Stopped}
+use Rattle.jb_scan.specs.Found.{log_blocks}
+use Rattle.jb_super.specs.Journal.{SameJournal}
+use Rattle.jb_deck.specs.Checkpoints.{AnswersCheckpoint, AnswersRun, Checkpoints}
+use Rattle.jb_group.specs.declared.group.Group.{Group}
+use Rattle.jb_deck.specs.Deck.{OpenDeck}
+use Rattle.jb_deck.specs.Done.{past_after, start_of}
+use Rattle.jb_log.specs.Follows.{FollowsNone, StandsBy}
+use Rattle.jb_log.specs.Log.{transactions}
+use Rattle.jb_deck.specs.declared.checked.Checked.{Checked}
+use Rattle.jb_deck.specs.declared.checked.CheckedRun.{CheckedRun}
+use Rattle.jb_deck.specs.declared.checked.CheckpointFault.{CheckpointFault}
+use Rattle.jb_deck.specs.declared.checked.CheckpointFault.TheVariants as checkpoint
+use Rattle.jb_deck.specs.declared.done.Entry.{Entry}
+use Rattle.jb_log.proofs.OwnSuperblock.{same-then}
+use Rattle.jb_deck.specs.Since.{LiveOf, checkpointed, deck_homes}
+use Rattle.jb_deck.proofs.HomesSinceOpen.{ended-is-call}
+use Rattle.jb_book.specs.Journal.{blocks_in_use, most_at_once, ChecksAt, ChecksRound}
+use Rattle.jb_book.specs.declared.checkpoint.CheckpointRound.{CheckpointRound}
+use Rattle.jb_book.specs.declared.checkpoint.CheckpointRound.TheVariants.{Home}
+use Rattle.jb_book.specs.Origin.{Begun}
+use Rattle.jb_book.specs.Since.{NumberedFrom, HasFirst, IsCosted, IsSince, IsSinceOf, Since, WasGiven, may_stop}
+use Rattle.jb_book.specs.SinceMark.{IsMarkedOf}
+use Rattle.jb_book.proofs.MarksLast.{CountsNow, ever-on, kept-all, first-none}
+
+-- what a round answers of what the journal answers
+abbrev pub round_of : Result CheckedRun CheckpointFault → Result CheckpointRound CheckpointFault
+round_of (Ok run) = Ok (Home run)
+round_of (Err fault) = Err fault
+
+-- of no groups the first ones are none
+none-first : (gs : List Group) → take most_at_once gs ≡ [] → gs ≡ []
+none-first [] none = refl
+none-first (g ∷ gs) none = cc
+
+-- a call of the disk that failed is counted, unless the count was at its top
+pub more-counted : (start before after : ℕ) → start ≤ before → MoreFaults before after → start < 18446744073709551615 → after ≡ start → ⊥
+more-counted start before after low more few same = omega (arith, low, few, same)
+
+-- ---- what is known of the handles
+
+-- the same handles, of each of which this is known
+pub given-as : {D : Type 0} (known less : Stopped → Type 0) (given : List Stopped) (d : OpenDeck D) → All less given → WasGiven known given d → WasGiven less given d
+given-as known less given d stopped has = record {
+  stopped = stopped;
+  tickets = has.tickets;
+  settled = has.settled;
+  all = has.all;
+  costs = has.costs;
+  first = has.first;
+  numbers = has.numbers;
+  next = has.next;
+}
+
+-- the same journal, where less is known of each of the handles
+abbrev pub is-weaker : {D : Type 0} (G : Ghosts D) (b : Begun) (known less : Stopped → Type 0) → ((h : Stopped) → known h → less h) → (d : OpenDeck D) → IsSinceOf G b known d → IsSinceOf G b less d
+is-weaker G b known less weaker d is = record { given = is.given; has = given-as known less is.given d (All-weaker known less weaker is.given is.has.stopped) is.has; since = is.since }
+
+-- where no more is known than that the handle stopped with words that a handle may stop with
+abbrev pub plain-is : {D : Type 0} (G : Ghosts D) (b : Begun) (known : Stopped → Type 0) → ((h : Stopped) → known h → b.stops h.words) → (d : OpenDeck D) → IsSinceOf G b known d → IsSince G b d
+plain-is G b known plain d is = is-weaker G b known (may_stop b) plain d is
+
+-- ---- a call by which nothing is given
+
+-- the journal knows what it knew, but which groups are live, and that it may have failed
+pub record IsStill {D : Type 0} (G : Ghosts D) (old new : OpenDeck D) : Type 0 where
+  pub shape : new.shape ≡ old.shape
+  pub trail : new.trail ≡ old.trail
+  pub next : new.log.next ≡ old.log.next
+  pub same : SameJournal old.log.sb new.log.sb
+  pub no_fewer : G.faults old.disk ≤ G.faults new.disk
+
+pub still-as : {D : Type 0} (G : Ghosts D) (old new : OpenDeck D) (failed : Bool) → new ≡ record old { disk = new.disk; aborted = failed } → G.faults old.disk ≤ G.faults new.disk → IsStill G old new
+still-as {D = D} G old new failed is more = record {
+  shape = cc;
+  trail = cc;
+  next = ap (λ (d : OpenDeck D). d.log.next) is;
+  same = subst (λ (d : OpenDeck D). SameJournal old.log.sb d.log.sb) (sym is) refl;
+  no_fewer = more;
+}
+
+module _ {D : Type 0} (G : Ghosts D) (counts_now : CountsNow G) (b : Begun) (known : Stopped → Type 0) (old new : OpenDeck D) (kept : KeptOn G CountsAny old.disk new.disk) where
+  abbrev pub None : Image → Type 0
+  None c = FollowsNone old.log.sb old.log.next (G.size old.disk) (G.count old.disk) (deck_homes G.newest old) c
+
+  abbrev pub LeavesNone : Type 0
+  LeavesNone = old.aborted ≡ false → G.honest new.disk → LeavesOnly G.moment G.left_since old.disk new.disk None
+
+  -- unless it fails, the homes stand as they did, and the live groups have the last words of what was given
+  abbrev pub Stays : Type 0
+  Stays = (given : List Stopped) → LiveOf given old.groups → new.aborted ≡ false → ((home : ℕ) → deck_homes G.newest new home ≡ deck_homes G.newest old home) × LiveOf given new.groups
+
+  module _ (up : old.aborted ≡ false) (still : IsStill G old new) where
+    given-still : (given : List Stopped) → WasGiven known given old → WasGiven known given new
+    given-still given has = record {
+      stopped = has.stopped;
+      tickets = has.tickets;
+      settled = subst (λ es. past_after 0 es ≤ length given) (sym still.trail) has.settled;
+      all = λ on. has.all up ∙ ap (past_after 0) (sym still.trail);
+      costs = subst (λ (x : Shape × List Entry). All (IsCosted x.0 given) x.1) (λ i. (sym still.shape i, sym still.trail i)) has.costs;
+      first = has.first;
+      numbers = subst (NumberedFrom has.first) (sym still.trail) has.numbers;
+      next = ap (λ es. has.first + length es) still.trail ∙ has.next ∙ sym still.next;
+    }
+
+    module _ (leaves : LeavesNone) (given : List Stopped) (settled : past_after 0 old.trail ≤ length given) (s : Since G b given old) (held : G.honest new.disk) where
+      -- each image that a crash leaves has all that were settled
+      first-still : LeavesOnly G.moment G.left_since old.disk new.disk (HasFirst b given (past_after 0 old.trail))
+      first-still =
+          weaken G.moment G.left_since old.disk new.disk None (HasFirst b given (past_after 0 old.trail))
+          (λ c f. first-none b old.log.sb s.same (G.size old.disk) (G.count old.disk) s.same_size s.same_count given (deck_homes G.newest old) (s.stood up) (past_after 0 old.trail) old.log.next c settled s.number f)
+          (leaves up held)
+
+      since-still : (b.faults < 18446744073709551615 → G.faults new.disk ≡ b.faults → new.aborted ≡ false) → Stays → Since G b given new
+      since-still fails stays = record {
+        same_size = kept.same_size ∙ s.same_size;
+        same_count = kept.same_count ∙ s.same_count;
+        no_fewer = omega arith;
+        up = fails;
+        same = same-then b.own old.log.sb new.log.sb s.same still.same;
+        number = omega arith;
+        began = λ starts. still.next ∙ s.began (ap start_of (sym still.trail) ∙ starts) ∙ ap (λ es. b.own.sequence + 1 + length es) (sym still.trail);
+        stood = λ on home. subst (StandsBy (word given home) (b.homes home)) (sym ((stays given (s.live up) on).0 home)) (s.stood up home);
+        live = λ on. (stays given (s.live up) on).1;
+        now = λ c may. subst (λ es. HasFirst b given (past_after 0 es) c) (sym still.trail) (first-still.each c (counts_now new.disk (G.moment old.disk) c held first-still.later may));
+        later = let on = first-still.later in omega (arith, on);
+        ever = ever-on G b given given (past_after 0 old.trail) old new (λ least c f. f) s first-still;
+      }
+
+    pub still-marked : (ms : List (OpenDeck D)) → (b.faults ≤ G.faults old.disk → b.faults < 18446744073709551615 → G.faults new.disk ≡ b.faults → new.aborted ≡ false) → (G.honest new.disk → Stays) → LeavesNone → IsMarkedOf G b known ms old → IsMarkedOf G b known ms new
+    still-marked ms fails stays leaves is =
+        let given = is.since.given in
+        let past : past_after 0 new.trail ≡ past_after 0 old.trail = ap (past_after 0) still.trail in
+        let before = λ (known_start : b.is_known) (held : G.honest new.disk). is.since.since known_start (kept.was_honest held) in
+        record {
+          since = record {
+            given = given;
+            has = given-still given is.since.has;
+            since = λ known_start held. (let s = before known_start held in since-still leaves given is.since.has.settled s held (fails s.no_fewer) (stays held));
+          };
+          marks_last = kept-all G b given given old new still.shape kept.was_honest (omega (arith, past)) (λ least c f. f) (λ known_start held. first-still leaves given is.since.has.settled (before known_start held) held) ms is.marks_last;
+        }
+
+  -- ---- the oldest groups go home
+
+  pub checkpoint-marked : (ms : List (OpenDeck D)) (most : ℕ) (r : Result CheckedRun CheckpointFault) → AnswersRun most (G.faults old.disk) (G.faults new.disk) old new r → (G.honest new.disk → OnOk r (Checkpoints G.newest old new)) → LeavesNone → IsMarkedOf G b known ms old → IsMarkedOf G b known ms new
+  checkpoint-marked ms most (Ok run) answers checkpoints leaves is =
+      let takes = answers.2 in
+      let still : IsStill G old new = record {
+        shape = takes.shape;
+        trail = takes.trail;
+        next = ap (λ l. l.next) takes.log;
+        same = subst (λ l. SameJournal old.log.sb l.sb) (sym takes.log) refl;
+        no_fewer = omega arith;
+      } in
+      still-marked answers.0 still ms (λ low few none. takes.live)
+      (λ held given live on. ((checkpoints held).standing, subst (λ hs. LiveOf hs new.groups) (append-nil given) (ended-is-call G.newest given old [] new live (checkpointed most run new takes (checkpoints held))).1))
+      leaves is
+  checkpoint-marked ms most (Err checkpoint.Aborted) answers checkpoints leaves is = subst (IsMarkedOf G b known ms) (sym answers.1) is
+  checkpoint-marked ms most (Err checkpoint.Nothing) answers checkpoints leaves is = subst (IsMarkedOf G b known ms) (sym answers.2) is
+  checkpoint-marked ms most (Err checkpoint.DeviceFault) answers checkpoints leaves is =
+      still-marked answers.0 (still-as G old new true answers.3 answers.2.no_fewer) ms
+      (λ low few none. absurd (more-counted b.faults (G.faults old.disk) (G.faults new.disk) low answers.2 few none))
+      (λ held given live on. cc (answers.3, on))
+      leaves is
+
+-- ---- what a round says
+
+module _ {D : Type 0} (G : Ghosts D) (b : Begun) (known : Stopped → Type 0) (plain : (h : Stopped) → known h → b.stops h.words) (old new : OpenDeck D) (kept : KeptOn G CountsAny old.disk new.disk) (is : IsSinceOf G b known old) (after : IsSinceOf G b known new) where
+  pub checkpoint-round : (r : Result Checked CheckpointFault) → AnswersCheckpoint (G.faults old.disk) (G.faults new.disk) old new r → (G.honest new.disk → OnOk r (Checkpoints G.newest old new)) → ChecksRound G b r
+  checkpoint-round (Ok checked) answers checkpoints = record {
+    old = old;
+    new = new;
+    same_disk = kept;
+    up = answers.0;
+    takes = answers.2;
+    checkpoints = λ known_start held. checkpoints held;
+    before = plain-is G b known plain old is;
+    after = plain-is G b known plain new after;
+  }
+  checkpoint-round (Err checkpoint.Aborted) answers checkpoints = record { deck = old; since = plain-is G b known plain old is; failed = answers.0 }
+  checkpoint-round (Err checkpoint.Nothing) answers checkpoints = record { deck = old; since = plain-is G b known plain old is; up = answers.0; none = answers.1 }
+  checkpoint-round (Err checkpoint.DeviceFault) answers checkpoints = record { deck = new; since = plain-is G b known plain new after; failed = cc (answers.3) }
+
+  -- the same at a level, where as many blocks were in use unless the journal had failed
+  pub round-at : (level : ℕ) (high : old.aborted ≡ false → level ≤ blocks_in_use old) (r : Result CheckedRun CheckpointFault) → AnswersRun most_at_once (G.faults old.disk) (G.faults new.disk) old new r → (G.honest new.disk → OnOk r (Checkpoints G.newest old new))
+      → ChecksAt G b level (round_of r)
+  round-at level high (Ok run) answers checkpoints = record {
+    old = old;
+    new = new;
+    same_disk = kept;
+    up = answers.0;
+    high = high answers.0;
+    takes = answers.2;
+    checkpoints = λ known_start held. checkpoints held;
+    before = plain-is G b known plain old is;
+    after = plain-is G b known plain new after;
+  }
+  round-at level high (Err checkpoint.Aborted) answers checkpoints = record { deck = old; since = plain-is G b known plain old is; failed = answers.0 }
+  round-at level high (Err checkpoint.Nothing) answers checkpoints =
+      let empty = none-first old.groups answers.1 in
+      let none : blocks_in_use old ≡ 0 = ap (λ gs. log_blocks (transactions old.log gs)) empty in
+      let some : level ≤ blocks_in_use old = high answers.0 in
+      (omega (arith, none, some), record { deck = old; since = plain-is G b known plain old is; up = answers.0; none = empty })
+  round-at level high (Err checkpoint.DeviceFault) answers checkpoints = record { deck = new; since = plain-is G b known plain new after; failed = cc (answers.3) }

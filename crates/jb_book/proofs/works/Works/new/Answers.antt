@@ -1,6 +1,0 @@
-use Rattle.jb_book.specs.History.{IsStop}
-use Rattle.jb_book.proofs.LastingMarks.{new-marked}
-use Rattle.jb_book.proofs.works.Works.new.Goals as goal
-
-pub invariant_of-result : goal.invariant_of-result
-invariant_of-result g c = new-marked g.D.Disk g.met.D.Disk.only_now g.S.Origin.begun (IsStop g.S.Origin.begun c.args.sight) c.args.scribe c.args.deck c.requires.marked c.requires.fresh c.requires.running c.requires.begun

@@ -1,0 +1,219 @@
+-- Home blocks that are peeked at and written, one after the other, for any disk.
+use Rattle.std.proofs.Common.{◌≡◌, suc, ◌+◌, ◌<◌, ◌≤◌, ℕ, Bool, true, List, [], ◌∷◌, ◌++◌, length, get_or, Option, Some, None, Result, Ok, Err, refl, ap, sym, ◌∙◌, subst, inl, inr, arith, length-append, append_assoc, append-nil}
+use Rattle.std.proofs.Math.Decide.{ℕ_discrete}
+use Rattle.std.proofs.Math.Seq.{get_or-append_seam}
+use Rattle.std.proofs.lemmas.List.{get_or_append_left}
+use Rattle.std.specs.Io.KnownBytes.{Appends}
+use Rattle.std.proofs.KnownBytes.{Appends-trans}
+use Rattle.jb_disk.specs.Faults.{CountsNone, MoreFaults}
+use Rattle.jb_disk.specs.Image.{Image, Same}
+use Rattle.jb_disk.specs.KeptOn.{KeptOn}
+use Rattle.jb_disk.specs.Time.{Goes}
+use Rattle.jb_disk.proofs.KeptOverCalls.{kept_as, kept_on, kept_same}
+use Rattle.jb_disk.proofs.CallSteps.{goes-none, goes-on}
+use Rattle.jb_text.specs.Puts.{PutsPart}
+use Rattle.jb_text.proofs.PartByPart.{part_after}
+use Rattle.jb_recover.specs.Peeks.{IsPeeked, Peeks, PeekFaults, peek_refusal}
+use Rattle.jb_recover.specs.declared.fault.PeekFault.{PeekFault}
+use Rattle.jb_recover.specs.declared.fault.PeekFault.TheVariants as peeking
+use Rattle.jb_commands.specs.Cat.{ArePeeked, block_text, blocks_text, CatFaults, CatsOn, LooksOn, home_at, IsUnpeeked, offset_after, offset_behind, PutsText}
+use Rattle.jb_commands.specs.Lines.{upto}
+use Rattle.jb_commands.specs.Faults.{peek_fault}
+use Rattle.jb_commands.specs.declared.fault.CommandFault.{CommandFault}
+use Rattle.jb_commands.specs.declared.fault.CommandFault.TheVariants.{Memory, WriteFault}
+use Rattle.jb_disk.specs.declared.disk.Disk.{Ghosts as Disks}
+
+-- nothing is written
+appends-none : (out : Option (List ℕ)) → Appends out out []
+appends-none None = tt
+appends-none (Some xs) = sym (append-nil xs)
+
+-- ---- one more block
+
+offset-more : (at : ℕ) (blocks : List (List ℕ)) (bytes : List ℕ) → offset_after at (blocks ++ bytes ∷ []) ≡ offset_behind (offset_after at blocks) bytes
+offset-more at [] bytes = refl
+offset-more at (b ∷ blocks) bytes = offset-more (offset_behind at b) blocks bytes
+
+text-more : (hex : Bool) (at : ℕ) (blocks : List (List ℕ)) (bytes : List ℕ) → blocks_text hex at (blocks ++ bytes ∷ []) ≡ blocks_text hex at blocks ++ block_text hex (offset_after at blocks) bytes
+text-more hex at [] bytes = append-nil (block_text hex at bytes)
+text-more hex at (b ∷ blocks) bytes = ap (λ rest. block_text hex at b ++ rest) (text-more hex (offset_behind at b) blocks bytes) ∙ sym (append_assoc (block_text hex at b) (blocks_text hex (offset_behind at b) blocks) (block_text hex (offset_after (offset_behind at b) blocks) bytes))
+
+peeked-more : (size count : ℕ) (c : Image) (first : ℕ) (blocks : List (List ℕ)) (bytes : List ℕ) → ArePeeked size count c first blocks
+    → (peek_refusal size count c (home_at first (length blocks)) ≡ None) × IsPeeked size count c (home_at first (length blocks)) bytes → ArePeeked size count c first (blocks ++ bytes ∷ [])
+peeked-more size count c first blocks bytes before here k within = elim (ℕ_discrete k (length blocks)) [
+  | yes is ↦ subst (λ j. (peek_refusal size count c (home_at first j) ≡ None) × IsPeeked size count c (home_at first j) (get_or (blocks ++ bytes ∷ []) j [])) (sym is)
+      (here.0, subst (IsPeeked size count c (home_at first (length blocks))) (sym (get_or-append_seam blocks bytes [] [])) here.1)
+  | no other ↦ (let len = length-append blocks (bytes ∷ []) in let inside : k < length blocks = omega (arith, len, within, other) in
+      let known = before k inside in (known.0, subst (IsPeeked size count c (home_at first k)) (sym (get_or_append_left blocks (bytes ∷ []) [] k inside)) known.1))
+]
+
+-- a peek that stopped
+pub unpeeked-by : (size count : ℕ) (c : Image) (home : ℕ) (before after : List ℕ) (stop : PeekFault) → Peeks size count c home before after (Err stop) → IsUnpeeked size count c home stop
+unpeeked-by size count c home before after peeking.DeviceFault told = tt
+unpeeked-by size count c home before after (peeking.Super fault) told = told.0
+unpeeked-by size count c home before after (peeking.BadRevoke at) told = told.0
+unpeeked-by size count c home before after (peeking.HomeOutOfRange other) told = told.0
+
+-- the count after a peek that stopped
+peek-counted : (homes : Option ℕ) (stop : PeekFault) (old mid new : ℕ) → mid ≡ old → PeekFaults {T = Unit} (Err stop) mid new → CatFaults (Err (peek_fault homes stop)) old new
+peek-counted homes peeking.DeviceFault old mid new before told = subst (λ n. MoreFaults n new) before told
+peek-counted homes (peeking.Super fault) old mid new before told = told ∙ before
+peek-counted homes (peeking.BadRevoke at) old mid new before told = told ∙ before
+peek-counted homes (peeking.HomeOutOfRange other) old mid new before told = told ∙ before
+
+module _ {D : Type 0} (G : Disks D) (first : ℕ) (hex : Bool) where
+  -- so many blocks are written, and the next one has this offset
+  pub record Catting (old now : D) (out_old out_now : Option (List ℕ)) (i at : ℕ) : Type 0 where
+    pub blocks : List (List ℕ)
+    pub done : length blocks ≡ i
+    pub kept : KeptOn G CountsNone old now
+    pub same : G.honest now → G.newest now ≡ G.newest old
+    pub idle : G.honest now → Goes G.may_leave G.moment G.left_since Same old now
+    pub peeked : G.honest now → ArePeeked (G.size old) (G.count old) (G.newest old) first blocks
+    pub offset : at ≡ offset_after 0 blocks
+    pub text : Appends out_old out_now (blocks_text hex 0 blocks)
+
+  pub catting-start : (old : D) (out : Option (List ℕ)) → Catting old old out out 0 0
+  catting-start old out = record {
+    blocks = [];
+    done = refl;
+    kept = kept_same old refl;
+    same = λ held. refl;
+    idle = λ held. goes-none G.may_leave G.moment G.left_since old;
+    peeked = λ held k within. absurd (let h : ⊥ = omega (arith, within) in h);
+    offset = refl;
+    text = appends-none out;
+  }
+
+  module _ {counts : ℕ → ℕ → Type 0} (old now next : D) (out_old out_now : Option (List ℕ)) (i at : ℕ) (state : Catting old now out_old out_now i at)
+      (kept : KeptOn G counts now next) (same : G.honest next → G.newest next ≡ G.newest now) (idle : G.honest next → Goes G.may_leave G.moment G.left_since Same now next)
+      (counts_now : (t : ℕ) (c : Image) → G.honest old → t ≤ G.moment old → G.may_leave old c → G.left_since old t c) where
+    kept-next : (both : ℕ → ℕ → Type 0) → both (G.faults old) (G.faults next) → KeptOn G both old next
+    kept-next both counted = kept_on state.kept kept counted
+
+    same-next : G.honest next → G.newest next ≡ G.newest old
+    same-next held = same held ∙ state.same (kept.was_honest held)
+
+    idle-next : G.honest next → Goes G.may_leave G.moment G.left_since Same old next
+    idle-next held =
+        let was = kept.was_honest held in
+        goes-on G.may_leave G.moment G.left_since Same old now next (λ t c earlier left. counts_now t c (state.kept.was_honest was) earlier left) (state.idle was) (idle held)
+
+    peeked-still : G.honest next → ArePeeked (G.size old) (G.count old) (G.newest old) first state.blocks
+    peeked-still held = state.peeked (kept.was_honest held)
+
+    -- what is known of a peek on the disk as it is now is known of it as it was
+    as-before : (P : ℕ → ℕ → Image → Type 0) → (G.honest next → P (G.size now) (G.count now) (G.newest now)) → G.honest next → P (G.size old) (G.count old) (G.newest old)
+    as-before P told held =
+        subst (λ s. P s (G.count old) (G.newest old)) state.kept.same_size
+        (subst (λ n. P (G.size now) n (G.newest old)) state.kept.same_count
+        (subst (P (G.size now) (G.count now)) (state.same (kept.was_honest held)) (told held)))
+
+    -- there was no memory for the rows of the block
+    cats-starved : G.faults next ≡ G.faults now → (homes : Option ℕ) (n : ℕ) → hex ≡ true → i < n → CatsOn G homes first n hex old next out_old out_now (Err Memory)
+    cats-starved none homes n rows more = record {
+      blocks = state.blocks;
+      kept = kept-next (CatFaults (Err Memory)) (none ∙ state.kept.counted);
+      same = same-next;
+      idle = idle-next;
+      peeked = peeked-still;
+      told = inr (inl (refl, rows, let done = state.done in omega (arith, more, done), state.text));
+    }
+
+    module _ (none : G.faults next ≡ G.faults now) (bytes : List ℕ) (told : G.honest next → (peek_refusal (G.size now) (G.count now) (G.newest now) (home_at first i) ≡ None) × IsPeeked (G.size now) (G.count now) (G.newest now) (home_at first i) bytes) where
+      abbrev more : List (List ℕ)
+      more = state.blocks ++ bytes ∷ []
+
+      one_more : length more ≡ i + 1
+      one_more = let len = length-append state.blocks (bytes ∷ []) in let done = state.done in omega (arith, len, done)
+
+      peeked-next : G.honest next → ArePeeked (G.size old) (G.count old) (G.newest old) first more
+      peeked-next held =
+          peeked-more (G.size old) (G.count old) (G.newest old) first state.blocks bytes (peeked-still held)
+          (subst (λ k. (peek_refusal (G.size old) (G.count old) (G.newest old) (home_at first k) ≡ None) × IsPeeked (G.size old) (G.count old) (G.newest old) (home_at first k) bytes) (sym state.done)
+          (as-before (λ s n c. (peek_refusal s n c (home_at first i) ≡ None) × IsPeeked s n c (home_at first i) bytes) told held))
+
+      text-next : blocks_text hex 0 more ≡ blocks_text hex 0 state.blocks ++ block_text hex at bytes
+      text-next = text-more hex 0 state.blocks bytes ∙ ap (λ offset. blocks_text hex 0 state.blocks ++ block_text hex offset bytes) (sym state.offset)
+
+      pub catting-more : (out_next : Option (List ℕ)) (at_next : ℕ) → Appends out_now out_next (block_text hex at bytes) → at_next ≡ offset_behind at bytes → Catting old next out_old out_next (i + 1) at_next
+      catting-more out_next at_next written offset = record {
+        blocks = more;
+        done = one_more;
+        kept = kept-next CountsNone (none ∙ state.kept.counted);
+        same = same-next;
+        idle = idle-next;
+        peeked = peeked-next;
+        offset = offset ∙ ap (λ o. offset_behind o bytes) state.offset ∙ sym (offset-more 0 state.blocks bytes);
+        text = subst (Appends out_old out_next) (sym text-next) (Appends-trans out_old out_now out_next (blocks_text hex 0 state.blocks) (block_text hex at bytes) state.text written);
+      }
+
+      -- the block was written in part
+      pub cats-cut : (homes : Option ℕ) (n : ℕ) (out_next : Option (List ℕ)) → PutsPart out_now out_next (block_text hex at bytes) → CatsOn G homes first n hex old next out_old out_next (Err WriteFault)
+      cats-cut homes n out_next part = record {
+        blocks = more;
+        kept = kept-next (CatFaults (Err WriteFault)) (none ∙ state.kept.counted);
+        same = same-next;
+        idle = idle-next;
+        peeked = peeked-next;
+        told = inl (refl, subst (PutsPart out_old out_next) (sym text-next) (part_after out_old out_now out_next (blocks_text hex 0 state.blocks) (block_text hex at bytes) state.text part));
+      }
+
+      -- the block was not written whole
+      pub cats-stopped : (homes : Option ℕ) (n : ℕ) (out_next : Option (List ℕ)) (fault : CommandFault) (end : Result ℕ CommandFault) → end ≡ Err fault → (fault ≡ Memory → hex ≡ true) → i < n → PutsText (block_text hex at bytes) out_now out_next (Err fault) → CatsOn G homes first n hex old next out_old out_next end
+      cats-stopped homes n out_next WriteFault end is rows more puts = subst (CatsOn G homes first n hex old next out_old out_next) (sym is) (cats-cut homes n out_next puts)
+      cats-stopped homes n out_next Memory end is rows more puts =
+          subst (CatsOn G homes first n hex old next out_old out_next) (sym is)
+          (subst (λ o. CatsOn G homes first n hex old next out_old o (Err Memory)) (sym puts) (cats-starved none homes n (rows refl) more))
+      cats-stopped homes n out_next _ end is rows more puts = absurd puts
+
+    -- the peek was refused
+    pub cats-refused : (homes : Option ℕ) (n : ℕ) (stop : PeekFault) → PeekFaults {T = Unit} (Err stop) (G.faults now) (G.faults next) → i < n → (G.honest next → IsUnpeeked (G.size now) (G.count now) (G.newest now) (home_at first i) stop) → CatsOn G homes first n hex old next out_old out_now (Err (peek_fault homes stop))
+    cats-refused homes n stop counted more told = record {
+      blocks = state.blocks;
+      kept = kept-next (CatFaults (Err (peek_fault homes stop))) (peek-counted homes stop (G.faults old) (G.faults now) (G.faults next) state.kept.counted counted);
+      same = same-next;
+      idle = idle-next;
+      peeked = peeked-still;
+      told = inr (inr (stop, refl, let done = state.done in omega (arith, more, done), λ held. subst (λ k. IsUnpeeked (G.size old) (G.count old) (G.newest old) (home_at first k) stop) (sym state.done) (as-before (λ s c b. IsUnpeeked s c b (home_at first i) stop) told held), state.text));
+    }
+
+-- ---- no block is asked for
+
+module _ {D : Type 0} (G : Disks D) (homes : Option ℕ) (home : ℕ) (old new : D)
+    (same : G.honest new → G.newest new ≡ G.newest old) (idle : G.honest new → Goes G.may_leave G.moment G.left_since Same old new) where
+  -- the peek was not refused
+  pub looks-well : KeptOn G CountsNone old new → (G.honest new → peek_refusal (G.size old) (G.count old) (G.newest old) home ≡ None) → LooksOn G homes home old new (Ok 0)
+  looks-well kept told = record {
+    kept = kept_as kept kept.counted;
+    same = same;
+    idle = idle;
+    looked = (refl, told);
+  }
+
+  -- the peek was refused
+  pub looks-refused : (stop : PeekFault) → KeptOn G (PeekFaults {T = Unit} (Err stop)) old new → (G.honest new → IsUnpeeked (G.size old) (G.count old) (G.newest old) home stop) → LooksOn G homes home old new (Err (peek_fault homes stop))
+  looks-refused stop kept told = record {
+    kept = kept_as kept (peek-counted homes stop (G.faults old) (G.faults old) (G.faults new) refl kept.counted);
+    same = same;
+    idle = idle;
+    looked = (stop, refl, told);
+  }
+
+-- ---- rows
+
+-- one more text
+pub upto-more : (text : ℕ → List ℕ) (n : ℕ) → upto text (n + 1) ≡ upto text n ++ text n
+upto-more text n = let is : n + 1 ≡ suc n = omega arith in ap (upto text) is
+
+-- texts one after the other
+grows : (old a b x y : List ℕ) → x ≡ old ++ a → y ≡ x ++ b → y ≡ old ++ (a ++ b)
+grows old a b x y first more = more ∙ ap (λ front. front ++ b) first ∙ append_assoc old a b
+
+pub six_texts : (old a b p d s e t1 t2 t3 t4 t5 t6 : List ℕ) → t1 ≡ old ++ a → t2 ≡ t1 ++ b → t3 ≡ t2 ++ p → t4 ≡ t3 ++ d → t5 ≡ t4 ++ s → t6 ≡ t5 ++ e → t6 ≡ old ++ (((((a ++ b) ++ p) ++ d) ++ s) ++ e)
+six_texts old a b p d s e t1 t2 t3 t4 t5 t6 e1 e2 e3 e4 e5 e6 =
+    let two : t2 ≡ old ++ (a ++ b) = grows old a b t1 t2 e1 e2 in
+    let three : t3 ≡ old ++ ((a ++ b) ++ p) = grows old (a ++ b) p t2 t3 two e3 in
+    let four : t4 ≡ old ++ (((a ++ b) ++ p) ++ d) = grows old ((a ++ b) ++ p) d t3 t4 three e4 in
+    let five : t5 ≡ old ++ ((((a ++ b) ++ p) ++ d) ++ s) = grows old (((a ++ b) ++ p) ++ d) s t4 t5 four e5 in
+    grows old ((((a ++ b) ++ p) ++ d) ++ s) e t5 t6 five e6

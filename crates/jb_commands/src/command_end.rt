@@ -1,0 +1,63 @@
+//! How a command has ended, with the image that it was over.
+ghost use Rattle.std.specs.Prelude.{◌≡◌, None};
+
+use crate::fault::CommandFault;
+use crate::program_end::ProgramEnd;
+use crate::report::{Report, said_end, status_end};
+use jb_disk::{FileDisk, Start, Unknown};
+use jb_image::ImageDisk;
+use std::io::Write;
+
+/// How a command has ended. `S` and `T` are what is supposed of the image's files, of that with the home blocks and of
+/// that with the journal alone.
+#[derive(Drop)]
+pub struct CommandEnd<'a, S: Start = Unknown, T: Start = Unknown> {
+    /// The image that the command was over, as it has left it; `None` where none was opened.
+    pub image: Option<ImageDisk<FileDisk<S>, FileDisk<T>>>,
+    /// What it has to say, or why it ends without an answer.
+    pub end: Result<Report, CommandFault<'a>>,
+}
+
+impl<'a, S: Start, T: Start> CommandEnd<'a, S, T> {
+    ghost use Rattle.std.specs.Prelude.{◌≡◌, None};
+    ghost use Rattle.jb_commands.specs.Reports.{TellsEnd, said_end as ends_saying, status_end as ends_so};
+
+    /// The end of a command that has no image open and has written all that it had to say, and ends so.
+    pub(crate) fn said(end: Result<ProgramEnd, CommandFault<'a>>) -> CommandEnd<'a, S, T>
+        ensures image { result.image ≡ None }
+        ensures end { result.end ≡ ends_saying end.entry }
+    {
+        CommandEnd {
+            image: None,
+            end: said_end(end),
+        }
+    }
+
+    /// The same of one that ends with this status.
+    pub(crate) fn status(end: Result<u8, CommandFault<'a>>) -> CommandEnd<'a, S, T>
+        ensures image { result.image ≡ None }
+        ensures end { result.end ≡ ends_so end.entry }
+    {
+        CommandEnd {
+            image: None,
+            end: status_end(end),
+        }
+    }
+
+    /// Closes the image, and then writes what there is to say, and gives the end of the program.
+    ///
+    /// # Errors
+    /// The fault of a command that ended without an answer, and then nothing was written; `CommandFault::WriteFault`
+    /// where `out` took only the beginning of the text.
+    pub fn tell<O: Write>(self, out: &mut O) -> Result<ProgramEnd, CommandFault<'a>>
+        ensures { TellsEnd self.entry.end (O.contents out.old) (O.contents out.new) result }
+    {
+        let CommandEnd { image, end } = self;
+        // no line is written while an image is open
+        drop(image);
+        match end {
+            Ok(report) => report.tell(out),
+            Err(fault) => Err(fault),
+        }
+    }
+}

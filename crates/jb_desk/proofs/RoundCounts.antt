@@ -1,0 +1,125 @@
+-- What a round makes of the counts that its seat is sure of.
+use Rattle.std.proofs.Common.{◌≡◌, ℕ, ◌<◌, ◌≤◌, max, length, is_some, Option, Some, None, Result, Ok, Err, inl, inr, refl, ap, sym, subst, ◌∙◌, arith}
+use Rattle.jb_plan.specs.Batch.{Gathered}
+use Rattle.jb_board.specs.Steps.{raised_settled}
+use Rattle.jb_board.specs.declared.front.Front.{Front}
+use Rattle.jb_disk.specs.declared.disk.Disk.{Ghosts as Disks}
+use Rattle.jb_book.specs.Account.{Account}
+use Rattle.jb_desk.specs.Journal.{CommitsRound}
+use Rattle.jb_book.specs.Origin.{Begun}
+use Rattle.jb_book.specs.Rounds.{end_of}
+use Rattle.jb_desk.specs.Rounds.{AnswersRound, GivesBatch, IdleKeeps}
+use Rattle.jb_desk.specs.Seats.{KeepsSeat, changes, desk_of, made_by, seat_number, stops}
+use Rattle.jb_desk.specs.Views.{IsOneHeld, SeesCommit, SeesRound, TakesUp, with_taken}
+use Rattle.jb_board.specs.declared.place.Place.{Ghosts as Places}
+use Rattle.jb_book.specs.declared.origin.Origin.{Ghosts}
+use Rattle.jb_desk.specs.declared.seat.Seat.{Seat}
+use Rattle.jb_desk.specs.declared.committer.Round.{Round}
+use Rattle.jb_desk.specs.declared.committer.Round.TheVariants.{Idle, Committed}
+use Rattle.jb_desk.specs.declared.committer.RoundFault.{RoundFault}
+use Rattle.jb_desk.specs.declared.committer.RoundFault.TheVariants as round
+
+-- ---- the counts
+
+-- after a batch was taken, its commit is the round's
+pub sees-taken : (held after : Option Gathered) (b : Gathered) (v u w : Front) (r : Result Round RoundFault) → TakesUp held b → u ≡ with_taken (end_of b) v → AnswersRound (Some b) after w.settled r → SeesCommit b u w r → SeesRound held after v w r
+sees-taken held after b v u w r up taken answers is = inr (b, up, answers, subst (λ x. SeesCommit b x w r) taken is)
+
+-- the batch that a book gives is the one that was held, where there was one
+gives-held : (held given : Option Gathered) (out : Gathered) (old new : Account) → given ≡ Some out → GivesBatch (Ok given) held old new → IsOneHeld held out
+gives-held None given out old new is gives = tt
+gives-held (Some h) given out old new is gives = let same : ◌≡◌ {A = Option Gathered} (Some out) (Some h) = sym is ∙ gives.1 in let eq : out ≡ h = cc in eq
+
+-- so it is the one that is taken up, as it has a handle
+pub takes-up : (held taken given : Option Gathered) (out b : Gathered) (old new : Account) → taken ≡ held → given ≡ Some out → b ≡ out → 0 < length b.handles → GivesBatch (Ok given) taken old new → TakesUp held b
+takes-up held taken given out b old new was is same some gives = record {
+  same = subst (λ h. IsOneHeld h b) was (subst (IsOneHeld taken) (sym same) (gives-held taken given out old new is gives));
+  some = some;
+}
+
+-- a batch that was taken and is held again, as memory ran out
+pub sees-held : (held after : Option Gathered) (b : Gathered) (v w : Front) → TakesUp held b → after ≡ Some b → w ≡ with_taken (end_of b) v → SeesRound held after v w (Err round.Memory)
+sees-held held after b v w up again taken = inr (b, up, again, taken)
+
+-- nothing is taken up only where nothing is held
+pub gives-none : (old new : Account) (held given : Option Gathered) → given ≡ None → GivesBatch (Ok given) held old new → held ≡ None
+gives-none old new None given is gives = refl
+gives-none old new (Some h) given is gives = let same : ◌≡◌ {A = Option Gathered} None (Some h) = sym is ∙ gives.1 in absurd (let never : ⊥ = cc in never)
+
+-- such a batch is held on
+pub answers-held : (held after : Option Gathered) (b : Gathered) (n : ℕ) → TakesUp held b → after ≡ Some b → AnswersRound held after n (Err round.Memory)
+answers-held None after b n up again = ap is_some again
+answers-held (Some h) after b n up again = again ∙ ap (λ x. Some x) up.same
+
+-- what is answered of the batch that is taken up is the round's answer
+pub answers-up : (held after : Option Gathered) (b : Gathered) (n : ℕ) (r : Result Round RoundFault) → TakesUp held b → AnswersRound (Some b) after n r → AnswersRound held after n r
+answers-up (Some h) after b n r up is = subst (λ (x : Gathered). AnswersRound (Some x) after n r) up.same is
+answers-up None after b n (Ok (Idle seen)) up is = (refl, is.1)
+answers-up None after b n (Ok (Committed done)) up is = (is.0, (is.1.0, is.1.1, is.1.2, is.1.3, tt))
+answers-up None after b n (Err round.Aborted) up is = is
+answers-up None after b n (Err round.DeviceFault) up is = is
+answers-up None after b n (Err round.Memory) up is = ap is_some is
+answers-up None after b n (Err round.Refused) up is = ap is_some is
+
+-- what is done with the batch that is taken up is done in the round
+up-again : (held : Option Gathered) (b x : Gathered) → TakesUp held b → TakesUp (Some b) x → TakesUp held x
+up-again held b x up again = record { same = subst (IsOneHeld held) (sym again.same) up.same; some = again.some }
+
+pub round-up : {D : Type 0} (G : Disks D) (begun : Begun) (held after : Option Gathered) (b : Gathered) (reached : ℕ) (r : Result Round RoundFault)
+    → TakesUp held b → CommitsRound G begun (Some b) after reached r → CommitsRound G begun held after reached r
+round-up G begun held after b reached (Ok (Idle seen)) up is = tt
+round-up G begun held after b reached (Ok (Committed done)) up is = (is.0, up-again held b is.0.batch up is.1, is.2)
+round-up G begun held after b reached (Err round.Aborted) up is = tt
+round-up G begun held after b reached (Err round.DeviceFault) up is = (is.0, is.1, up-again held b is.0.batch up is.2, is.3, is.4)
+round-up G begun held after b reached (Err round.Memory) up is = tt
+round-up G begun held after b reached (Err round.Refused) up is = (is.0, is.1, up-again held b is.0.batch up is.2, is.3, is.4)
+
+-- a batch that was taken up is committed, so the round is not idle
+pub never-idle : {H N : Type 0} {O : Ghosts H} {P : Places H} (b : Gathered) (u w : Front) (old new : Seat H N O P) (r : Result Round RoundFault) → SeesCommit b u w r → IdleKeeps old new r
+never-idle b u w old new (Ok (Idle seen)) is = absurd is
+never-idle b u w old new (Ok (Committed done)) is = tt
+never-idle b u w old new (Err fault) is = tt
+
+-- ---- where the journal has failed before
+
+pub lost-by : (r : Result Round RoundFault) (f : RoundFault) → r ≡ Err f → f ≡ round.Aborted → r ≡ Err round.Aborted
+lost-by r f is aborted = cc
+
+pub lost-answers : (held after : Option Gathered) (n : ℕ) (r : Result Round RoundFault) → r ≡ Err round.Aborted → after ≡ None → AnswersRound held after n r
+lost-answers held after n r is none = subst (λ (x : Result Round RoundFault). AnswersRound held after n x) (sym is) none
+
+pub lost-sees : (held after : Option Gathered) (v w : Front) (r : Result Round RoundFault) → r ≡ Err round.Aborted → w ≡ v → SeesRound held after v w r
+lost-sees held after v w r is same = subst (λ (x : Result Round RoundFault). SeesRound held after v w x) (sym is) (inl (tt, same))
+
+pub lost-round : {D : Type 0} (G : Disks D) (begun : Begun) (held after : Option Gathered) (n : ℕ) (r : Result Round RoundFault) → r ≡ Err round.Aborted → CommitsRound G begun held after n r
+lost-round G begun held after n r is = subst (λ (x : Result Round RoundFault). CommitsRound G begun held after n x) (sym is) tt
+
+pub lost-idle : {H N : Type 0} {O : Ghosts H} {P : Places H} (old new : Seat H N O P) (r : Result Round RoundFault) → r ≡ Err round.Aborted → IdleKeeps old new r
+lost-idle old new r is = subst (λ (x : Result Round RoundFault). IdleKeeps old new x) (sym is) tt
+
+-- ---- a raise
+
+-- a count that was raised is at least so high
+pub reached : (old count : ℕ) → count ≤ max old count
+reached old count = omega arith
+
+-- so are the settled ones of a seat that has raised them
+pub settled-by : (old new : Front) (count : ℕ) → new ≡ raised_settled old count → count ≤ new.settled
+settled-by old new count is = subst (λ (f : Front). count ≤ f.settled) (sym is) (reached old.settled count)
+
+-- ---- a seat that is as it was
+
+pub keeps-same : {H N : Type 0} {O : Ghosts H} {P : Places H} (old new : Seat H N O P) → new ≡ old → KeepsSeat old new
+keeps-same {H} {N} {O} {P} old new is = record {
+  desk = ap (λ (s : Seat H N O P). desk_of s) is;
+  number = ap (λ (s : Seat H N O P). seat_number s) is;
+  counted = (ap (λ (s : Seat H N O P). stops s) is, ap (λ (s : Seat H N O P). changes s) is, ap (λ (s : Seat H N O P). made_by s) is);
+}
+
+-- what two calls keep of it, one after the other
+pub keeps-on : {H N : Type 0} {O : Ghosts H} {P : Places H} (old mid new : Seat H N O P) → KeepsSeat old mid → KeepsSeat mid new → KeepsSeat old new
+keeps-on old mid new first second = record {
+  desk = second.desk ∙ first.desk;
+  number = second.number ∙ first.number;
+  counted = (second.counted.0 ∙ first.counted.0, second.counted.1 ∙ first.counted.1, second.counted.2 ∙ first.counted.2);
+}

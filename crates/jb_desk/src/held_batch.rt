@@ -1,0 +1,79 @@
+//! A batch that a committer holds.
+ghost use Rattle.std.specs.Prelude.{◌≡◌};
+
+use crate::queue_state::BookCounts;
+use jb_board::{Prefix, Tickets};
+use jb_book::Origin;
+use jb_deck::Batch;
+use jb_handle::Words;
+use std::marker::Model;
+
+/// A batch of one handle at least, which has a cut within the journal's limit, and whose handles stopped with words
+/// that a handle may stop with (`S.begun`); that its tickets were given and taken; and a first part of the history of
+/// stops that has its handles. It must be used up, as the batch in it.
+#[must_use]
+pub struct HeldBatch<S: Origin> {
+    batch: Batch,
+    tickets: Tickets<S>,
+    sight: Prefix<Words, S>,
+    seen: BookCounts,
+}
+
+impl<S: Origin> Model for HeldBatch<S> {
+    ghost use Rattle.std.specs.Coded.{codes};
+    ghost use Rattle.jb_board.specs.Seats.{given_by};
+    ghost use Rattle.jb_handle.specs.Word.{words_code};
+    ghost use Rattle.jb_plan.specs.Batch.{Gathered};
+    ghost use Rattle.jb_desk.specs.BatchOut.{IsOut};
+
+    ghost Value = { Gathered };
+
+    ghost coded = { Prim.hlevel (codes, words_code) };
+
+    ghost view = { λ h. h.batch };
+
+    ghost invariant = { λ h. IsOut S.begun h.batch (given_by h.tickets) h.sight h.seen.taken };
+}
+
+impl<S: Origin> HeldBatch<S> {
+    ghost use Rattle.jb_board.specs.Seats.{given_by};
+    ghost use Rattle.jb_desk.specs.BatchOut.{IsOut};
+
+    /// A batch to be held.
+    pub(crate) fn of(
+        batch: Batch,
+        tickets: Tickets<S>,
+        sight: Prefix<Words, S>,
+        seen: BookCounts,
+    ) -> HeldBatch<S>
+        requires { IsOut S.begun batch (given_by tickets) sight seen.taken }
+        ensures { result ≡ batch }
+    {
+        HeldBatch {
+            batch,
+            tickets,
+            sight,
+            seen,
+        }
+    }
+
+    /// The batch again, that its tickets were given, what has its handles, and that it was taken.
+    pub(crate) fn end(self) -> (Batch, Tickets<S>, Prefix<Words, S>, BookCounts)
+        ensures batch { result.0 ≡ self }
+        ensures out { IsOut S.begun result.0 (given_by result.1) result.2 result.3.taken }
+    {
+        let HeldBatch {
+            batch,
+            tickets,
+            sight,
+            seen,
+        } = self;
+        (batch, tickets, sight, seen)
+    }
+
+    /// The batch is lost.
+    pub(crate) fn lose(self) {
+        let (batch, _, _, _) = self.end();
+        let _lost = batch.end();
+    }
+}

@@ -1,0 +1,42 @@
+//! That a desk is over.
+ghost use Rattle.std.specs.Prelude.{◌≡◌, false, IfSome, IfNone};
+
+use crate::queue_state::QueueState;
+use jb_book::Origin;
+use jb_disk::Disk;
+use std::sync::ledger::Ledger;
+
+/// A desk is over: it is shut, no handle is open, queued or taken, and the journal has not failed. Only a look
+/// at a desk's book under its lock gives one; it says neither of which desk nor when. A desk that is over stays so
+/// until its journal fails.
+#[derive(Clone, Copy, Debug, PartialEq, Eq)]
+pub struct Drained {
+    settled: u64,
+}
+
+impl Drained {
+    /// How many handles had stopped, all of which are settled.
+    pub fn settled(&self) -> u64
+        ensures { result ≡ self.now.settled }
+    {
+        self.settled
+    }
+}
+
+impl<D: Disk, H: Origin, N: Ledger> QueueState<D, H, N> {
+    ghost use Rattle.jb_book.specs.Account.{IsOver};
+
+    /// That the desk is over, where it is.
+    pub fn over(&self) -> Option<Drained>
+        ensures some { IfSome result (λ over. IsOver self.now.register.book × (self.now.register.book.aborted ≡ false)
+            × (over.settled ≡ self.now.register.book.shadow.settled)) }
+        ensures none { IfNone result (IsOver self.now.register.book → self.now.register.book.aborted ≡ false → ⊥) }
+    {
+        if self.register.book().is_aborted() || !self.register.book().is_over() {
+            return None;
+        }
+        Some(Drained {
+            settled: self.register.book().settled(),
+        })
+    }
+}

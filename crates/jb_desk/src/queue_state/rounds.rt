@@ -1,0 +1,143 @@
+//! The book's part in a round of a committer.
+ghost use Rattle.std.specs.Prelude.{◌≡◌, ◌↔◌, IsTrue, true, false, All, OnOk, IfErr, IfOk, IfNone};
+
+use crate::committer::RoundFault;
+use crate::held_batch::HeldBatch;
+use crate::queue_state::QueueState;
+use jb_board::History;
+use jb_book::{Histories, Origin, Sights, WrongBatch};
+use jb_deck::Done;
+use jb_disk::Disk;
+use jb_handle::{Shape, Words};
+use std::sync::ledger::Ledger;
+
+impl<D: Disk, H: Origin, N: Ledger> QueueState<D, H, N> {
+    ghost use Rattle.jb_book.specs.Account.{failed_of, CanTake};
+    ghost use Rattle.jb_desk.specs.Rounds.{GivesBatch, GivesUp, Rests};
+    ghost use Rattle.jb_book.specs.CallsToBook.{FailsAfter, IsSettling, SettlesOrFails};
+    ghost use Rattle.jb_book.specs.Marks.{HasFailedMark, IsMarked, SeesSame};
+    ghost use Rattle.jb_deck.specs.Done.{entries_of};
+
+    /// The batch of a round: the one that the committer holds, or else the whole queue. `None` where there is
+    /// nothing to take.
+    ///
+    /// # Errors
+    ///
+    /// `Aborted` where the journal has failed. A batch that is held is lost, so that none is committed then.
+    pub fn next_batch(
+        &mut self,
+        history: &History<Words, H>,
+        held: Option<HeldBatch<H>>,
+    ) -> Result<Option<HeldBatch<H>>, RoundFault>
+        ensures batch { GivesBatch result held self.old.register.book self.new.register.book }
+        ensures none { IfOk result (λ given. IfNone given
+            ((self.new.register.book.aborted ≡ false) × (CanTake self.new.register.book → ⊥))) }
+    {
+        match held {
+            Some(batch) if self.register.book().is_aborted() => {
+                batch.lose();
+                Err(RoundFault::Aborted)
+            }
+            None if self.register.book().is_aborted() => Err(RoundFault::Aborted),
+            Some(batch) => Ok(Some(batch)),
+            None => match self.register.take(history) {
+                Some((batch, sight)) => {
+                    self.is_odd = !self.is_odd;
+                    let (tickets, seen) = (self.tickets(), self.seen());
+                    Ok(Some(HeldBatch::of(batch, tickets, sight, seen)))
+                }
+                None => Ok(None),
+            },
+        }
+    }
+
+    /// Settles a batch that is committed whole: one of this shape that ends at this ticket, whose handles were seen,
+    /// and its groups at a mark.
+    ///
+    /// # Errors
+    ///
+    /// `WrongBatch` where it is not the batch that is out: the book has failed then.
+    pub fn settle(
+        &mut self,
+        histories: &Histories<D, H>,
+        seen: &mut Sights<D, H>,
+        done: &Done,
+        end: u64,
+        shape: Shape,
+    ) -> Result<(), WrongBatch>
+        requires settling { IsSettling seen.old.stops end shape done.now }
+        requires marked { All (IsMarked seen.old.marks) (entries_of done.now) }
+        ensures settles { SettlesOrFails end shape done.now self.old.register.book result self.new.register.book }
+        ensures kept { SeesSame seen.old seen.new }
+    {
+        self.register.settle(histories, seen, done, end, shape)
+    }
+
+    /// Settles the groups that were committed before the journal failed, as was seen at a mark, and fails with it.
+    ///
+    /// # Errors
+    ///
+    /// `WrongBatch` where they are not of the batch that is out: the book has failed without them then.
+    pub fn settle_last(
+        &mut self,
+        histories: &Histories<D, H>,
+        seen: &mut Sights<D, H>,
+        done: &Done,
+        end: u64,
+        shape: Shape,
+    ) -> Result<(), WrongBatch>
+        requires settling { IsSettling seen.old.stops end shape done.now }
+        requires marked { All (IsMarked seen.old.marks) (entries_of done.now) }
+        requires failed { HasFailedMark seen.old.marks }
+        ensures fails { FailsAfter end shape done.now self.old.register.book result self.new.register.book }
+        ensures kept { SeesSame seen.old seen.new }
+    {
+        self.register.settle_last(histories, seen, done, end, shape)
+    }
+
+    /// The journal has failed, as was seen at a mark: what is queued or taken is lost.
+    pub fn fail(&mut self, histories: &Histories<D, H>, seen: &mut Sights<D, H>)
+        requires { HasFailedMark seen.old.marks }
+        ensures book { self.new.register.book ≡ failed_of self.old.register.book }
+        ensures kept { SeesSame seen.old seen.new }
+    {
+        self.register.fail(histories, seen);
+    }
+
+    /// Lets a batch that is held go where the journal has failed.
+    ///
+    /// # Errors
+    ///
+    /// The batch, where it has not.
+    pub fn release(&self, batch: HeldBatch<H>) -> Result<(), HeldBatch<H>>
+        ensures lost { OnOk result (self.now.register.book.aborted ≡ true) }
+        ensures back { IfErr result (λ back. (self.now.register.book.aborted ≡ false) × (back ≡ batch)) }
+    {
+        if !self.register.book().is_aborted() {
+            return Err(batch);
+        }
+        batch.lose();
+        Ok(())
+    }
+
+    /// A committer gives up. A batch that it holds is lost, and the book has failed then: nobody could settle the
+    /// batch's tickets any more.
+    pub fn give_up(&mut self, history: &History<Words, H>, held: Option<HeldBatch<H>>)
+        ensures { GivesUp held self.old.register.book self.new.register.book }
+    {
+        let Some(held) = held else {
+            return;
+        };
+        let (batch, _, sight, _) = held.end();
+        self.register.give_up(history, sight, batch);
+    }
+
+    /// Whether a committer has nothing to do yet.
+    pub fn rests(&self) -> bool
+        ensures { IsTrue result ↔ Rests self.now.register.book }
+    {
+        !self.register.book().is_aborted()
+            && !self.register.book().can_take()
+            && !self.register.book().is_over()
+    }
+}

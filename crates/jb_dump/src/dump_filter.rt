@@ -1,0 +1,44 @@
+/// Which lines of a journal's text are written: those that each of these lets stay.
+#[derive(Clone, Copy, Debug, PartialEq, Eq)]
+pub struct DumpFilter {
+    /// Where there is one, the lines alone that speak of this home block: its copies, and the descriptor blocks and
+    /// revoke blocks that name it, which say the number of the transaction.
+    pub home: Option<u64>,
+    /// Where there is a number, no line of a transaction before so many last ones.
+    pub last: Option<u64>,
+    /// Whether the lines of the superblock alone.
+    pub superblock: bool,
+    /// Whether in place of all lines those of the journal at a glance are written. The others change nothing then.
+    pub summary: bool,
+}
+
+impl DumpFilter {
+    ghost use Rattle.std.specs.Prelude.{◌≡◌, ◌||◌};
+    ghost use Rattle.jb_dump.specs.Choices.{every_line, takes_end};
+
+    /// Every line.
+    pub fn every_line() -> DumpFilter
+        ensures value { result ≡ every_line }
+    {
+        DumpFilter {
+            home: None,
+            last: None,
+            superblock: false,
+            summary: false,
+        }
+    }
+
+    /// Whether the last line is written: it speaks of no home block, and is not the superblock's.
+    pub(crate) fn takes_end(self) -> bool
+        ensures { result ≡ takes_end self }
+    {
+        self.home.is_none() && !self.is_head()
+    }
+
+    /// Whether no line after the superblock's is written.
+    pub(crate) fn is_head(self) -> bool
+        ensures { result ≡ (self.superblock || self.summary) }
+    {
+        self.superblock || self.summary
+    }
+}

@@ -1,6 +1,0 @@
-use Rattle.std.proofs.Common.{sym, ◌∙◌}
-use Rattle.jb_handle.proofs.Gathering.{put-added}
-use Rattle.jb_handle.proofs.gathered.Gathered.add.Goals as goal
-
-pub returns-clause-ok : goal.returns-clause-ok
-returns-clause-ok c = put-added c.put.result c.args.self.now c.put.new.self c.args.home c.in_ok-try_clone.field-0 c.args.word.now c.in_ok-try_clone.ensures.same (sym c.has.ensures ∙ c.if-has.false) c.put.ensures.ok

@@ -1,0 +1,86 @@
+-- A file that was recovered, and then read.
+use Rattle.std.proofs.Common.{◌≡◌, ◌≤◌, ℕ, length, Ok, refl, sym, ◌∙◌, ap, subst, ⊎_elim, arith}
+use Rattle.jb_block.specs.Size.{bytes_of}
+use Rattle.jb_block.specs.declared.size.BlockSize.{BlockSize}
+use Rattle.jb_disk.specs.RecordLaws.{left_from_now}
+use Rattle.jb_disk.specs.Faults.{CountsNone}
+use Rattle.jb_disk.specs.File.{content_of, count_of, events_of, faults_of, size_of_blocks, FileLeaves, FileLeft, IsHonest, IsMeasured}
+use Rattle.jb_disk.specs.Image.{Image, Only, Same}
+use Rattle.jb_disk.specs.Kept.{Kept}
+use Rattle.jb_disk.specs.Time.{Goes, LeavesOnly}
+use Rattle.jb_disk.specs.declared.file.FileDisk.{FileDisk}
+use Rattle.jb_disk.specs.declared.start.Start.{Ghosts as Starts}
+use Rattle.jb_format.proofs.CallEntry.{entry-as}
+use Rattle.jb_image.proofs.OpenedFile.{opened-holds, opened-leaves}
+use Rattle.jb_recover.specs.Outcomes.{RecoversAs}
+use Rattle.jb_recover.specs.Recovers.{Recovers}
+use Rattle.jb_recover.specs.declared.fault.RecoverFault.{RecoverFault}
+use Rattle.jb_recover.specs.declared.recovered.Recovered.{Recovered}
+use Rattle.std.specs.Prelude.{Result}
+use Rattle.jb_journal.specs.OpenFile.{WasRecovered}
+
+module _ {S : Type 0} {start : Starts S} where
+  -- how many calls of a file were made
+  abbrev pub moment : FileDisk S start → ℕ
+  moment f = length (events_of f)
+
+  -- what a call keeps of a file, with this of its counts of faults
+  abbrev pub Keeps : (ℕ → ℕ → Type 0) → FileDisk S start → FileDisk S start → Type 0
+  Keeps counts old new = Kept (λ f. bytes_of (size_of_blocks f)) count_of faults_of IsHonest counts old new
+
+  module _ (size : BlockSize) (old new : FileDisk S start) where
+    -- what a recovery says of the files is said of what the file held when it was opened
+    pub recovers-held : (answer : Result Recovered RecoverFault) → bytes_of (size_of_blocks old) ≡ bytes_of size → count_of new ≡ count_of old → content_of old ≡ start.content 0
+        → Recovers (bytes_of (size_of_blocks old)) (count_of old) (content_of old) (content_of new) answer
+        → Recovers (bytes_of size) (count_of new) (start.content 0) (content_of new) answer
+    recovers-held answer sized same held done = entry-as (λ s n d. Recovers s n d (content_of new) answer) _ _ _ _ _ _ sized (sym same) held done
+
+    -- nothing is pending in a file that was asked its length and nothing else
+    pub measured-only : IsMeasured old → IsHonest old → Only (content_of old) (FileLeaves old)
+    measured-only asked honest = λ c left. opened-leaves old asked.0 asked.1 c left ∙ sym (opened-holds old asked.0 asked.1 honest)
+
+    -- a file that was asked its length and nothing else, and then recovered
+    pub was-recovered : (done : Recovered) → size_of_blocks old ≡ size → faults_of old ≡ 0 → IsMeasured old → Keeps CountsNone old new
+        → (IsHonest new → Recovers (bytes_of (size_of_blocks old)) (count_of old) (content_of old) (content_of new) (Ok done))
+        → (IsHonest new → Only (content_of old) (FileLeaves old)
+        → LeavesOnly moment FileLeft old new (RecoversAs (bytes_of (size_of_blocks old)) (count_of old) (content_of old)))
+        → (IsHonest new → Only (content_of new) (FileLeaves new)) → WasRecovered size new
+    was-recovered done sized fresh asked kept recovers settled durable =
+        let once : length (events_of old) ≡ 1 = ap length asked.1 in
+        let same : bytes_of (size_of_blocks old) ≡ bytes_of size = ap bytes_of sized in
+        let held : IsHonest new → content_of old ≡ start.content 0 = λ honest. opened-holds old asked.0 asked.1 (kept.was_honest honest) in
+        let run : IsHonest new → LeavesOnly moment FileLeft old new (RecoversAs (bytes_of (size_of_blocks old)) (count_of old) (content_of old))
+        = λ honest. settled honest (measured-only asked (kept.was_honest honest)) in
+        record {
+          sized = kept.same_size ∙ same;
+          fresh = kept.counted ∙ fresh;
+          asked = λ honest. subst (λ n. n ≤ length (events_of new)) once (run honest).later;
+          recovers = λ honest. (done, recovers-held (Ok done) same kept.same_count (held honest) (recovers honest));
+          crash = λ honest c left. entry-as (λ s n d. RecoversAs s n d c) _ _ _ _ _ _ same (sym kept.same_count) (held honest)
+              ((run honest).each c (subst (λ n. FileLeft new n c) (sym once) left));
+          durable = durable;
+        }
+
+    -- a file that was recovered is so after a read
+    pub still-recovered : WasRecovered size old → Keeps CountsNone old new → (IsHonest new → content_of new ≡ content_of old)
+        → (IsHonest new → Goes FileLeaves moment FileLeft Same old new) → WasRecovered size new
+    still-recovered was kept same reads =
+        let before : IsHonest new → IsHonest old = kept.was_honest in
+        let left_before : (honest : IsHonest new) → (c : Image) → FileLeaves new c → FileLeaves old c
+        = λ honest c left. let from = (reads honest).crash c left in subst (FileLeaves old) (sym from.2) from.1 in
+        let left_then : (honest : IsHonest new) → (c : Image) → FileLeft new 1 c → FileLeft old 1 c
+        = λ honest c left. ⊎_elim (λ then. then)
+        (λ now. left_from_now (bytes_of (size_of_blocks old)) start.content (events_of old) 1 c (was.asked (before honest)) (left_before honest c now))
+        ((reads honest).nothing_else 1 c (was.asked (before honest)) left) in
+        record {
+          sized = kept.same_size ∙ was.sized;
+          fresh = kept.counted ∙ was.fresh;
+          asked = λ honest. omega (arith, was.asked (before honest), (reads honest).later);
+          recovers = λ honest. let done = was.recovers (before honest) in (
+            done.0,
+            entry-as (λ s n d. Recovers s n (start.content 0) d (Ok done.0)) _ _ _ _ _ _ refl (sym kept.same_count) (sym (same honest)) done.1,
+          );
+          crash = λ honest c left. subst (λ n. RecoversAs (bytes_of size) n (start.content 0) c) (sym kept.same_count)
+              (was.crash (before honest) c (left_then honest c left));
+          durable = λ honest c left. was.durable (before honest) c (left_before honest c left) ∙ sym (same honest);
+        }

@@ -1,0 +1,55 @@
+-- What a load answers, by what the run of its journal answers.
+use Rattle.std.proofs.Common.{◌≡◌, ◌≢◌, ℕ, Bool, true, false, List, length, Result, Ok, Err, Option, IfOk, IfErr, subst, sym}
+use Rattle.jb_block.specs.Size.{bytes_of}
+use Rattle.jb_block.specs.declared.size.BlockSize.{BlockSize}
+use Rattle.jb_deck.specs.Done.{Follow}
+use Rattle.jb_disk.specs.declared.disk.Disk.{Ghosts}
+use Rattle.jb_handle.specs.declared.stopped.Stopped.{Stopped}
+use Rattle.jb_book.specs.Origin.{Begun}
+use Rattle.jb_journal.specs.RunFaults.{RefusesRun}
+use Rattle.jb_journal.specs.Run.{EndsRun, RanOn}
+use Rattle.jb_journal.specs.declared.fault.RunFault.{RunFault}
+use Rattle.jb_journal.specs.declared.fault.RunFault.TheVariants.{Open, Memory, NoThread, Accounts}
+use Rattle.jb_journal.specs.declared.options.Commits.{Commits}
+use Rattle.jb_journal.specs.declared.options.Commits.TheVariants.{Meanwhile}
+use Rattle.jb_journal.specs.declared.ran.Ran.{Ran}
+use Rattle.jb_tool.specs.Faults.{not_run}
+use Rattle.jb_tool.specs.Loads.{AnswersLoad, CountsRun, commits_of}
+use Rattle.jb_tool.specs.Runs.{IsRun}
+use Rattle.jb_tool.specs.declared.loading.fault.LoadFault.{LoadFault}
+use Rattle.jb_tool.specs.declared.loading.fault.LoadFault.TheVariants as load
+use Rattle.jb_tool.specs.declared.loading.loaded.Loaded.{Loaded}
+use Rattle.jb_tool.specs.declared.loading.loaded.Refused.{Refused}
+use Rattle.jb_tool.specs.declared.loading.options.LoadOptions.{LoadOptions}
+
+-- a load never asks that its handles are committed meanwhile
+pub not-meanwhile : (hold : Bool) (commits : Commits) → commits ≡ commits_of hold → commits ≢ Meanwhile
+not-meanwhile true commits is = λ same. let h : ⊥ = cc in h
+not-meanwhile false commits is = λ same. let h : ⊥ = cc in h
+
+module _ {D : Type 0} (G : Ghosts D) (b : Begun) (disk : D) (bs : BlockSize) (queue : List Stopped) (options : LoadOptions) (same : bytes_of bs ≡ G.size disk) where
+  -- it has no answer
+  pub answers-fault : (fault : RunFault) → RefusesRun G disk fault → AnswersLoad G b disk bs queue options (Err (not_run fault))
+  answers-fault (Open why) lost = (same, lost)
+  answers-fault Memory opened = (same, opened)
+  answers-fault NoThread opened = (same, opened)
+  answers-fault Accounts opened = (same, opened)
+
+  -- it was run, and counted up
+  pub answers-run : (ran : Ran (Option Refused) D) (workers : ℕ) → workers ≡ options.threads → (checkpoint : Bool) → checkpoint ≡ options.checkpoint
+      → RanOn G disk b (λ shape sure workers at stops known refused. IsRun shape queue workers at stops refused) workers ran → EndsRun checkpoint ran
+      → (queued : ℕ) → queued ≡ length queue → (r : Result (Loaded × D) LoadFault) → IfOk r (λ told. CountsRun queued ran told.0) → IfOk r (λ told. told.1 ≡ ran.disk)
+      → IfOk r (λ told. Follow 0 0 ran.settled ran.trail.items) → IfErr r (λ fault. fault ≡ load.Accounts) → AnswersLoad G b disk bs queue options r
+  answers-run ran workers threads checkpoint asked on ends queued many (Ok told) counts back follows none = (
+    same,
+    record {
+      ran = ran;
+      on = subst (λ n. RanOn G disk b (λ shape sure workers at stops known refused. IsRun shape queue workers at stops refused) n ran) threads on;
+      ends = subst (λ c. EndsRun c ran) asked ends;
+      follows = follows;
+      same_disk = sym back;
+      counts = subst (λ n. CountsRun n ran told.0) many counts;
+    },
+  )
+  answers-run ran workers threads checkpoint asked on ends queued many (Err fault) none back follows is =
+      subst (λ (x : LoadFault). AnswersLoad G b disk bs queue options (Err x)) (sym is) (same, (on.shape, on.opened))
