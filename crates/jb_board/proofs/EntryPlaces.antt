@@ -26,9 +26,6 @@ module _ {E : Type 0} where
   pub placed_on : (xs ys : List E) → IsPrefix xs ys → (e : ℕ × E) → StandsIn xs e → StandsIn ys e
   placed_on xs ys p e at = subst (λ l. slice_get l e.0 ≡ Some e.1) p.1 (get_before xs p.0 e.0 e.1 at)
 
-  placed_snoc : (n : ℕ) (es : List E) (e : E) → with_places n (es ++ e ∷ []) ≡ with_places n es ++ (n + length es, e) ∷ []
+  pub placed_snoc : (n : ℕ) (es : List E) (e : E) → with_places n (es ++ e ∷ []) ≡ with_places n es ++ (n + length es, e) ∷ []
   placed_snoc n [] e = ap (λ k. (k, e) ∷ []) (omega arith)
   placed_snoc n (x ∷ xs) e = ap (λ l. (n, x) ∷ l) (placed_snoc (suc n) xs e ∙ ap (λ k. with_places (suc n) xs ++ (k, e) ∷ []) (omega arith))
-
-  pub placed_end : (es : List E) (e : E) → with_places 0 (es ++ e ∷ []) ≡ with_places 0 es ++ (length es, e) ∷ []
-  placed_end es e = placed_snoc 0 es e ∙ ap (λ k. with_places 0 es ++ (k, e) ∷ []) (omega arith)
