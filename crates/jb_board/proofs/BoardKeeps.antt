@@ -74,7 +74,8 @@ loads_taken slots id me = loads slots id me 1 (SeesTaken (step slots 1 0 0 none)
     (saw_taken me.0 now.taken, (within.0, le_refl now.taken, max-le within.2 ordered.1), (within.1, refl)))
 
 pub loads_stopped : (slots id : ℕ) (me : Me (Unit {0}) Front) → Allows Holds slots id me 0 (λ n. n) (SeesStopped (step slots 0 0 0 none) me)
-loads_stopped slots id me = loads slots id me 0 (SeesStopped (step slots 0 0 0 none) me) (λ now ordered within. (saw_stopped me.0 now.stopped, (within.0, within.1, le_refl now.stopped), (within.2, refl)))
+loads_stopped slots id me = loads slots id me 0 (SeesStopped (step slots 0 0 0 none) me) (λ now ordered within.
+    (saw_stopped me.0 now.stopped, (within.0, within.1, le_refl now.stopped), (within.2, refl)))
 
 -- where one count is raised to k, the larger of two counts stays the larger
 max_within : {a b : ℕ} (k : ℕ) → a ≤ b → max a k ≤ max b k

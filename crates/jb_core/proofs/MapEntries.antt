@@ -31,8 +31,4 @@ length-insert_entry (e ∷ es) k v =
 
 pub length-remove_entry : {V : Type 0} (test : ℕ → Bool) (es : List (ℕ × V)) (v : V) → lookup test es ≡ Some v → length (remove_entry test es) + 1 ≡ length es
 length-remove_entry test [] v is = absurd (let h : ⊥ = cc in h)
-length-remove_entry test (e ∷ es) v is =
-    elim (test e.0) as (λ b. cond b (Some e.1) (lookup test es) ≡ Some v → length (cond b es (e ∷ remove_entry test es)) + 1 ≡ suc (length es)) [
-      | true ↦ λ _. omega arith
-      | false ↦ λ later. let rest = length-remove_entry test es v later in omega arith
-    ] is
+length-remove_entry test (e ∷ es) v is = grind (arith, length-remove_entry test es v)

@@ -6,7 +6,7 @@ use Rattle.std.specs.BTreeMap.{is_at}
 use Rattle.std.specs.Map.{lookup, set_value, remove_entry, values_of}
 use Rattle.std.proofs.lemmas.Bool.{or_parts}
 use Rattle.std.proofs.lemmas.Bool.Decides.{nat_tests}
-use Rattle.std.proofs.lemmas.List.Elements.{All-nil, All-push, All-drop, All-same}
+use Rattle.std.proofs.lemmas.List.Elements.{All-nil, All-push, All-drop}
 use Rattle.std.proofs.Math.Seq.{drop-length}
 use Rattle.std.proofs.lemmas.Map.{length-set_value}
 use Rattle.std.proofs.lemmas.Map.Views.{All-values-insert_entry, All-values-set_value, All-map-remove_entry, IfSome-lookup_from_All}
@@ -15,7 +15,6 @@ use Rattle.jb_core.specs.declared.event.Event.TheVariants.{Open, Stop, Settle, T
 use Rattle.jb_core.specs.Line.{count}
 use Rattle.jb_core.specs.Machine.{Machine, handle_at, held_at, reserved, after_event, is_full, refusal_up, stopped_at, after_take}
 use Rattle.jb_handle.specs.declared.op.Op.{Op}
-use Rattle.jb_handle.specs.declared.stopped.Stopped.{Stopped}
 use Rattle.jb_handle.specs.Tickets.{TicketsFrom}
 use Rattle.jb_handle.proofs.AdmittedChange.{kept-new, word-kept, passed}
 use Rattle.jb_handle.proofs.Tickets.{tickets-append, tickets-first}
@@ -148,8 +147,7 @@ module _ (m : Machine) (sound : IsMachineSound m) where
           All-push (λ credits. credits ≤ m.most) m.credits (held_at m seat).credits sound.few granted.few,
           subst (Covers (m.credits ++ (held_at m seat).credits ∷ [])) line
               (covers-append m.credits ((held_at m seat).credits ∷ []) (waiting m) (stopped_at m seat ∷ []) sound.covered (granted.kept.within, tt)),
-          All-same (λ h. Fits m.shape h.words) _ _ (sym line) (All-push (λ h. Fits m.shape h.words) (waiting m) (stopped_at m seat) sound.fits
-              (subst (λ shape. Fits shape (held_at m seat).words) granted.same_shape granted.kept.fits)),
+          subst (All (λ h. Fits m.shape h.words)) line (All-push (λ h. Fits m.shape h.words) (waiting m) (stopped_at m seat) sound.fits (subst (λ shape. Fits shape (held_at m seat).words) granted.same_shape granted.kept.fits)),
           subst (TicketsFrom 0) all (tickets-append 0 (stopped_now m) (stopped_at m seat ∷ []) sound.numbered (omega arith, tt)),
           never-down (after_event m (Stop seat)),
         )
@@ -159,7 +157,8 @@ module _ (m : Machine) (sound : IsMachineSound m) where
         let line : waiting m ≡ joined (pieces bounds m.queue) ++ [] = ap (λ gs. joined gs ++ m.queue) none ∙ sym (cut-joined bounds m.queue cut) ∙ sym (append-nil (joined (pieces bounds m.queue))) in
         let all : stopped_now m ≡ stopped_now (after_take m bounds) = ap (λ hs. settled_now m ++ hs) line in
         let counted : m.up ≡ true → length (stopped_now (after_take m bounds)) ≡ m.next = λ is. sym (ap length all) ∙ sound.counted is in
-        assumption (subst (Covers m.credits) line sound.covered, All-same (λ (h : Stopped). Fits m.shape h.words) _ _ (sym line) sound.fits, subst (TicketsFrom 0) all sound.numbered, never-down (after_take m bounds))
+        let fits = subst (All (λ h. Fits m.shape h.words)) line sound.fits in
+        assumption (subst (Covers m.credits) line sound.covered, fits, subst (TicketsFrom 0) all sound.numbered, never-down (after_take m bounds))
 
     pub settle-sound : (n : ℕ) → IsMachineSound (after_event m (Settle n))
     settle-sound n =
@@ -174,7 +173,7 @@ module _ (m : Machine) (sound : IsMachineSound m) where
         assumption (
           All-drop (λ credits. credits ≤ m.most) (count (take n m.taken)) m.credits sound.few,
           subst (Covers (drop (count (take n m.taken)) m.credits)) line (covers-drop (count (take n m.taken)) m.credits (waiting m) sound.covered),
-          All-same (λ (h : Stopped). Fits m.shape h.words) _ _ (sym line) (All-drop (λ (h : Stopped). Fits m.shape h.words) (count (take n m.taken)) (waiting m) sound.fits),
+          subst (All (λ h. Fits m.shape h.words)) line (All-drop (λ h. Fits m.shape h.words) (count (take n m.taken)) (waiting m) sound.fits),
           subst (TicketsFrom 0) all sound.numbered,
           never-down (after_event m (Settle n)),
         )

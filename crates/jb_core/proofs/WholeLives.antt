@@ -20,7 +20,7 @@ use Rattle.jb_core.specs.Sound.{HasOnlySettled}
 use Rattle.jb_core.specs.Steps.{MachineSteps, IsLeast}
 use Rattle.jb_core.specs.Lives.{Log, Answer, ops_of, ticket_in, stop_order, past_orders, stopped_by, handles_of_order, settled_now, PastKept, IsWhole, log_from}
 use Rattle.jb_core.specs.MachineRuns.{IsNewMachine, Ran}
-use Rattle.jb_core.proofs.AcceptedEvents.{found-none, found-some, first-false, none-taken, accepted, restarted, still-up, there-at}
+use Rattle.jb_core.proofs.AcceptedEvents.{new-is, found-none, found-some, first-false, none-taken, accepted, restarted, still-up, there-at}
 use Rattle.jb_core.proofs.SettledGroups.{more-settled, parts-joined}
 use Rattle.jb_core.specs.Seats.{set, change, Once}
 use Rattle.jb_core.specs.SeatLaw.{changed}
@@ -54,9 +54,9 @@ module _ (log : Log) (m : Machine) (s : Stands log m) where
   same-past n = subst (PastKept (past_orders log)) (sym (take-append-le m.earlier m.settled (take n m.taken) s.lives)) s.whole.past
 
   -- one after which the machine is up
-  still : (next : Log) (n : Machine) → n.up ≡ true → AreBy next n.handles → Once n.handles → n.earlier ≤ length n.settled
+  still : {next : Log} {n : Machine} → n.up ≡ true → AreBy next n.handles → Once n.handles → n.earlier ≤ length n.settled
       → settled_now n ++ (joined n.taken ++ n.queue) ≡ handles_of_order (stop_order next) → PastKept (past_orders next) (take n.earlier n.settled) → Stands next n
-  still next n up by once lives all past = record { handles = by; once = once; lives = lives; bare = still-up n.up up; whole = record { up = λ _. all; crashed = still-up n.up up; past = past } }
+  still {next} {n} up by once lives all past = record { handles = by; once = once; lives = lives; bare = still-up n.up up; whole = record { up = λ _. all; crashed = still-up n.up up; past = past } }
 
   -- one that a machine which is up accepts
   module _ (up : m.up ≡ true) where
@@ -65,14 +65,14 @@ module _ (log : Log) (m : Machine) (s : Stands log m) where
         let tests = passed (is_some (handle_at m seat)) (nat_lt m.most credits) (is_full m credits) Busy (TooManyCredits m.most) (Full (reserved m)) none in
         let free = found-none (handle_at m seat) tests.0 in
         let new = held credits m.shape map.empty in
-        still ((Open seat credits, Ok reply) ∷ log) (after_event m (Open seat credits)) up
+        still up
         (by-changed log ((Open seat credits, Ok reply) ∷ log) seat m.handles (set m.handles seat new) new (λ x apart. rw apart refl) (λ x apart. set-other seat new x m.handles apart) (set-same seat new m.handles) (rw (seat-self seat) refl) s.handles)
         (once-set seat new m.handles free s.once) s.lives (s.whole.up up) s.whole.past
     accepts (Touch seat op) reply none least is =
         let found = found-some (handle_at m seat) (first-false (is_none (handle_at m seat)) NoHandle _ none).0 in
         let words = held-by log m seat found.0 found.1 s.handles in
         let new = handle.after (held_at m seat) op in
-        still ((Touch seat op, Ok reply) ∷ log) (after_event m (Touch seat op)) up
+        still up
         (by-changed log ((Touch seat op, Ok reply) ∷ log) seat m.handles (change m.handles seat new) new (λ x apart. rw apart refl) (λ x apart. change-other seat new x m.handles apart)
         (change-same seat new m.handles ∙ ap (λ had. changed had new) found.1) (rw (seat-self seat) (ap (λ ws. map.insert ws (home_of op) (word_of op)) words)) s.handles)
         (once-change seat new m.handles s.once) s.lives (s.whole.up up) s.whole.past
@@ -81,7 +81,7 @@ module _ (log : Log) (m : Machine) (s : Stands log m) where
         let words = held-by log m seat found.0 found.1 s.handles in
         let ticket : m.next ≡ ticket_in reply = ap ticket_in (sym is) in
         let one : stopped_at m seat ≡ stopped_by (ticket_in reply, ops_of seat log) = λ i. record { ticket = ticket i; words = words i } in
-        still ((Stop seat, Ok reply) ∷ log) (after_event m (Stop seat)) up (by-dropped log seat m.handles s.once s.handles) (once-drop seat m.handles s.once) s.lives
+        still up (by-dropped log seat m.handles s.once s.handles) (once-drop seat m.handles s.once) s.lives
         (ap (λ xs. settled_now m ++ xs) (sym (append_assoc (joined m.taken) m.queue (stopped_at m seat ∷ [])))
         ∙ sym (append_assoc (settled_now m) (joined m.taken ++ m.queue) (stopped_at m seat ∷ []))
         ∙ ap (λ xs. xs ++ stopped_at m seat ∷ []) (s.whole.up up)
@@ -89,16 +89,17 @@ module _ (log : Log) (m : Machine) (s : Stands log m) where
         ∙ sym (map-append stopped_by (stop_order log) ((ticket_in reply, ops_of seat log) ∷ [])))
         s.whole.past
     accepts (Abandon seat) reply none least is =
-        still ((Abandon seat, Ok reply) ∷ log) (after_event m (Abandon seat)) up (by-dropped log seat m.handles s.once s.handles) (once-drop seat m.handles s.once) s.lives (s.whole.up up) s.whole.past
+        still up (by-dropped log seat m.handles s.once s.handles) (once-drop seat m.handles s.once) s.lives (s.whole.up up) s.whole.past
     accepts (Take bounds) reply none least is =
-        still ((Take bounds, Ok reply) ∷ log) (after_event m (Take bounds)) up s.handles s.once s.lives
-        (ap (λ xs. settled_now m ++ xs) (append-nil (joined (pieces bounds.items m.queue)) ∙ cut-joined bounds.items m.queue least.fitting.cut ∙ ap (λ gs. joined gs ++ m.queue) (sym (none-taken m none))) ∙ s.whole.up up)
+        let free = none-taken m none in
+        still up s.handles s.once s.lives
+        (ap (λ xs. settled_now m ++ xs) (append-nil (joined (pieces bounds.items m.queue)) ∙ cut-joined bounds.items m.queue least.fitting.cut ∙ ap (λ gs. joined gs ++ m.queue) (sym free)) ∙ s.whole.up up)
         s.whole.past
     accepts (Settle n) reply none least is =
-        still ((Settle n, Ok reply) ∷ log) (after_event m (Settle n)) up s.handles s.once (longer n) (same-all n ∙ s.whole.up up) (same-past n)
-    accepts Checkpoint reply none least is = still ((Checkpoint, Ok reply) ∷ log) (after_event m Checkpoint) up s.handles s.once s.lives (s.whole.up up) s.whole.past
+        still up s.handles s.once (longer n) (same-all n ∙ s.whole.up up) (same-past n)
+    accepts Checkpoint reply none least is = still up s.handles s.once s.lives (s.whole.up up) s.whole.past
     accepts (Crash n) reply none least is = record {
-      handles = λ x h is. absurd (let never : ⊥ = cc in never);
+      handles = λ x h is. cc;
       once = tt;
       lives = longer n;
       bare = λ down. record { handles = refl; taken = refl; queue = refl; credits = refl };
@@ -108,14 +109,14 @@ module _ (log : Log) (m : Machine) (s : Stands log m) where
         past = same-past n;
       };
     }
-    accepts Restart reply none least is = absurd (let never : ⊥ = cc in never)
+    accepts Restart reply none least is = absurd (cc)
 
   happens : (e : Event) (reply : Reply) → event_refusal m e ≡ None → IsLeast m e → reply ≡ reply_of m e → Stands ((e, Ok reply) ∷ log) (after_event m e)
   happens Restart reply none least is =
       let down = restarted m none in
       let bare = s.bare down in
       let prefix = s.whole.crashed down in
-      still ((Restart, Ok reply) ∷ log) (after_event m Restart) refl s.handles s.once (le_refl (length m.settled))
+      still refl s.handles s.once (le_refl (length m.settled))
       (rw (drop-length m.settled, bare.taken, bare.queue) refl) (subst (PastKept (stop_order log ∷ past_orders log)) (sym (take-length m.settled)) (m.earlier, prefix.0, prefix.1, s.whole.past))
   happens e reply none least is = let granted = accepted m e refl none in accepts granted.0 e reply granted.1 least is
 
@@ -126,17 +127,13 @@ module _ (log : Log) (m : Machine) (s : Stands log m) where
 -- ---- runs
 
 begun : (shape : Shape) (m : Machine) → IsNewMachine shape m → Stands [] m
-begun shape m start = record {
-  handles = subst (AreBy []) (sym start.handles) (λ x h is. absurd (let never : ⊥ = cc in never));
-  once = subst Once (sym start.handles) tt;
-  lives = let none = start.earlier in omega arith;
-  bare = still-up m.up start.up;
-  whole = record {
-    up = λ up. rw (start.settled, start.earlier, start.taken, start.queue) refl;
-    crashed = still-up m.up start.up;
-    past = rw (start.settled, start.earlier) refl;
-  };
-}
+begun shape m start = subst (Stands []) (new-is shape m start) (record {
+  handles = λ x h is. cc;
+  once = tt;
+  lives = omega arith;
+  bare = still-up true refl;
+  whole = record { up = λ up. refl; crashed = still-up true refl; past = refl };
+})
 
 stands : (shape : Shape) (log : Log) (m : Machine) → Ran shape log m → Stands log m
 stands shape [] m start = begun shape m start
@@ -151,6 +148,6 @@ whole shape log m ran = (stands shape log m ran).whole
 -- one event more
 pub log-more : (log : Log) (events : List Event) (answers : List Answer) (e : Event) (a : Answer) → length events ≡ length answers → log_from log (events ++ e ∷ []) (answers ++ a ∷ []) ≡ (e, a) ∷ log_from log events answers
 log-more log [] [] e a same = refl
-log-more log [] (b ∷ answers) e a same = absurd (let h : ⊥ = omega arith in h)
-log-more log (d ∷ events) [] e a same = absurd (let h : ⊥ = omega arith in h)
+log-more log [] (b ∷ answers) e a same = absurd (omega (arith, same))
+log-more log (d ∷ events) [] e a same = absurd (omega (arith, same))
 log-more log (d ∷ events) (b ∷ answers) e a same = log-more ((d, b) ∷ log) events answers e a (omega arith)
