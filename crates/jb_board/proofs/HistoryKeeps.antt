@@ -22,8 +22,7 @@ sum_set f [] i v w at = absurd (some-ne-none v (sym at))
 sum_set f (x ∷ xs) zero v w at = let e : f x ≡ f v = ap f (some-injective x v at) in omega (arith, e, sum_by-cons f w xs, sum_by-cons f x xs)
 sum_set f (x ∷ xs) (suc i) v w at = let r = sum_set f xs i v w at in omega (arith, r, sum_by-cons f x (set xs i w), sum_by-cons f x xs)
 
--- so many are counted one by one
-pub ones : {X : Type 0} (xs : List X) → sum_by (λ (x : X). 1) xs ≡ length xs
+ones : {X : Type 0} (xs : List X) → sum_by (λ (x : X). 1) xs ≡ length xs
 ones [] = refl
 ones (x ∷ xs) = let s = sum_by-cons (λ y. 1) x xs in let r = ones xs in omega (arith, s, r)
 
@@ -194,7 +193,7 @@ module _ {E : Type 0} where
 
   -- ---- what a look tells the writer
 
-  pub placed_length : (n : ℕ) (es : List E) → length (with_places n es) ≡ length es
+  placed_length : (n : ℕ) (es : List E) → length (with_places n es) ≡ length es
   placed_length n [] = refl
   placed_length n (e ∷ es) = ap suc (placed_length (suc n) es)
 

@@ -1,9 +1,9 @@
 -- Each event leaves the machine sound.
-use Rattle.std.proofs.Common.{◌≡◌, ℕ, ◌+◌, [], ◌∷◌, take, sum, Some, None, ap, arith, ◌^◌, ◌<◌, ◌≤◌, true, false, nat_lt, nat_le, List, ◌++◌, length, drop, is_some, is_none, All, IfSome, sym, refl, subst, ◌∙◌, le_refl, sum_by, unwrap_or, option_map, nat_cmp, length-append, append_assoc, append-nil}
+use Rattle.std.proofs.Common.{◌≡◌, ℕ, ◌+◌, [], ◌∷◌, take, sum, Some, None, ap, arith, ◌^◌, ◌<◌, ◌≤◌, true, false, nat_lt, nat_le, List, ◌++◌, length, drop, is_some, is_none, All, IfSome, sym, refl, subst, ◌∙◌, le_refl, sum_by, nat_cmp, length-append, append_assoc, append-nil}
 use Rattle.std.proofs.lemmas.List.Sums.{sum_by-append, sum_by-take-drop}
-use Rattle.std.proofs.lemmas.Map.Entries.{sum_by-remove_entry, sum_by-set_value}
+use Rattle.std.proofs.lemmas.Map.Entries.{sum_by-set_value}
 use Rattle.std.specs.BTreeMap.{is_at}
-use Rattle.std.specs.Map.{lookup, set_value, remove_entry, values_of}
+use Rattle.std.specs.Map.{set_value, remove_entry, values_of}
 use Rattle.std.proofs.lemmas.Bool.{or_parts}
 use Rattle.std.proofs.lemmas.Bool.Decides.{nat_tests}
 use Rattle.std.proofs.lemmas.List.Elements.{All-nil, All-push, All-drop}
@@ -27,7 +27,7 @@ use Rattle.jb_core.specs.declared.event.CoreFault.TheVariants.{Busy, NoHandle, T
 use Rattle.jb_core.specs.Lives.{settled_now}
 use Rattle.jb_core.specs.Sound.{waiting, stopped_now, IsGranted, HasOnlySettled, IsMachineSound}
 use Rattle.jb_core.proofs.AcceptedEvents.{there-at, found-none, found-some, first-false, still-up}
-use Rattle.jb_core.proofs.MapEntries.{sum-insert, length-insert_entry, length-remove_entry}
+use Rattle.jb_core.proofs.MapEntries.{sum-insert, sum-remove, length-insert_entry, length-remove_entry}
 use Rattle.jb_core.proofs.SettledGroups.{more-settled, parts-joined}
 use Rattle.std.specs.FinMap as map
 use Rattle.jb_handle.specs.HeldChanges as handle
@@ -48,10 +48,7 @@ module _ (m : Machine) where
 
   -- without a handle, its credits are left over
   pub gone-reserved : (seat : ℕ) (h : Held) → handle_at m seat ≡ Some h → sum_by credits_of (values_of (remove_entry (is_at (nat_cmp seat)) m.handles)) + h.credits ≡ sum_by credits_of (values_of m.handles)
-  gone-reserved seat h there =
-      let all = sum_by-remove_entry credits_of (is_at (nat_cmp seat)) m.handles in
-      let before : unwrap_or (option_map credits_of (lookup (is_at (nat_cmp seat)) m.handles)) 0 ≡ h.credits = ap (λ found. unwrap_or (option_map credits_of found) 0) there in
-      omega (arith, all, before)
+  gone-reserved seat h there = sum-remove credits_of (is_at (nat_cmp seat)) m.handles h there
 
   -- a handle that stops keeps its credits
   pub stop-reserved : (seat : ℕ) (h : Held) → handle_at m seat ≡ Some h → reserved (after_event m (Stop seat)) ≡ reserved m

@@ -33,6 +33,7 @@ piece-size hs a n size =
     let rest = sum_by-take-drop (λ (h : Stopped). map.len h.words + 1) hs a in
     omega (arith, part, rest, size)
 
+-- what is not so is refused
 no : {P : Type 0} → (P → ⊥) → IsTrue false ↔ P
 no never = (λ yes. absurd (let h : ⊥ = cc in h), λ p. absurd (never p))
 
