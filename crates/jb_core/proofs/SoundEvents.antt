@@ -132,6 +132,7 @@ module _ (m : Machine) (sound : IsMachineSound m) where
         let granted = granted-held seat found.0 found.1 in
         let line : waiting m ++ stopped_at m seat ∷ [] ≡ joined m.taken ++ (m.queue ++ stopped_at m seat ∷ []) = append_assoc (joined m.taken) m.queue (stopped_at m seat ∷ []) in
         let all : stopped_now m ++ stopped_at m seat ∷ [] ≡ stopped_now (after_event m (Stop seat)) = append_assoc (settled_now m) (waiting m) (stopped_at m seat ∷ []) ∙ ap (λ hs. settled_now m ++ hs) line in
+        let fits = subst (λ shape. Fits shape (held_at m seat).words) granted.same_shape granted.kept.fits in
         let was = sound.counted up in
         let longer = length-append (stopped_now m) (stopped_at m seat ∷ []) in
         let fewer = length-remove_entry (is_at (nat_cmp seat)) m.handles found.0 found.1 in
@@ -144,7 +145,7 @@ module _ (m : Machine) (sound : IsMachineSound m) where
           All-push (λ credits. credits ≤ m.most) m.credits (held_at m seat).credits sound.few granted.few,
           subst (Covers (m.credits ++ (held_at m seat).credits ∷ [])) line
               (covers-append m.credits ((held_at m seat).credits ∷ []) (waiting m) (stopped_at m seat ∷ []) sound.covered (granted.kept.within, tt)),
-          subst (All (λ h. Fits m.shape h.words)) line (All-push (λ h. Fits m.shape h.words) (waiting m) (stopped_at m seat) sound.fits (subst (λ shape. Fits shape (held_at m seat).words) granted.same_shape granted.kept.fits)),
+          subst (All (λ h. Fits m.shape h.words)) line (All-push (λ h. Fits m.shape h.words) (waiting m) (stopped_at m seat) sound.fits fits),
           subst (TicketsFrom 0) all (tickets-append 0 (stopped_now m) (stopped_at m seat ∷ []) sound.numbered (omega arith, tt)),
           never-down (after_event m (Stop seat)),
         )

@@ -93,7 +93,8 @@ module _ (log : Log) (m : Machine) (s : Stands log m) where
     accepts (Take bounds) reply none least is =
         let free = none-taken m none in
         still up s.handles s.once s.lives
-        (ap (λ xs. settled_now m ++ xs) (append-nil (joined (pieces bounds.items m.queue)) ∙ cut-joined bounds.items m.queue least.fitting.cut ∙ ap (λ gs. joined gs ++ m.queue) (sym free)) ∙ s.whole.up up)
+        (ap (λ xs. settled_now m ++ xs)
+        (append-nil (joined (pieces bounds.items m.queue)) ∙ cut-joined bounds.items m.queue least.fitting.cut ∙ ap (λ gs. joined gs ++ m.queue) (sym free)) ∙ s.whole.up up)
         s.whole.past
     accepts (Settle n) reply none least is =
         still up s.handles s.once (longer n) (same-all n ∙ s.whole.up up) (same-past n)

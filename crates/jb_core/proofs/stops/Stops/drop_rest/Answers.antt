@@ -8,4 +8,5 @@ invariant_of-self c = cut-kept c.self.inside c.self.invariant _ c.truncate-3.new
 
 pub returns-clause-settled : goal.returns-clause-settled
 returns-clause-settled c =
-    cut-settled c.self.inside c.self.invariant c.truncate-2.new.self c.truncate-3.new.self c.truncate.new.self c.truncate-2.ensures.items c.truncate.ensures.items ∙ ap (λ (l : Line). l.settled) c.self.view_is
+    cut-settled c.self.inside c.self.invariant c.truncate-2.new.self c.truncate-3.new.self c.truncate.new.self c.truncate-2.ensures.items c.truncate.ensures.items
+    ∙ ap (λ (l : Line). l.settled) c.self.view_is
